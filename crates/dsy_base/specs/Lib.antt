@@ -1,0 +1,10 @@
+pub mod Bytes
+pub mod Counts
+pub mod Maps
+pub mod Files
+pub mod Folders
+pub mod Faults
+pub mod Ranges
+pub mod Trees
+pub mod Slots
+pub mod MemFiles

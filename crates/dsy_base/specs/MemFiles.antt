@@ -1,0 +1,33 @@
+-- What files and folders in memory tell.
+use Rattle.std.specs.Prelude.{ℕ, List, String}
+use Rattle.std.specs.BTreeMap.{BTreeMap}
+use Rattle.std.specs.Option.{option_map}
+use Rattle.dsy_base.specs.declared.mem_files.MemFiles.{MemFiles}
+use Rattle.dsy_base.specs.declared.mem_folder.MemFolder.{MemFolder}
+use Rattle.dsy_base.specs.declared.mem_target.MemFile.{MemFile}
+use Rattle.dsy_base.specs.declared.slots.Slot.{Slot}
+use Rattle.dsy_base.specs.Maps.{Map}
+use Rattle.dsy_base.specs.Slots.{held_in, counts_in}
+use Rattle.dsy_base.specs.Trees.{map_of}
+
+-- the bytes of the files in slots, and the files of the folders in slots
+abbrev pub files_in : {Y : Type 0} → BTreeMap (String Y) (Slot MemFile) → Map (List ℕ)
+files_in slots q = option_map (λ f. f.bytes.items) (held_in slots q)
+
+abbrev pub folders_in : {Y : Type 0} → BTreeMap (String Y) (Slot MemFolder) → Map (Map (List ℕ))
+folders_in slots q = option_map (λ f. map_of f.files) (held_in slots q)
+
+-- the bytes of each file by its name
+abbrev pub files_of : MemFiles → Map (List ℕ)
+files_of s = files_in s.files
+
+-- the files of each folder by its name
+abbrev pub folders_of : MemFiles → Map (Map (List ℕ))
+folders_of s = folders_in s.folders
+
+-- the number of each file name, and of each folder name, that was used
+abbrev pub file_counts_of : MemFiles → Map ℕ
+file_counts_of s = counts_in s.files
+
+abbrev pub folder_counts_of : MemFiles → Map ℕ
+folder_counts_of s = counts_in s.folders

@@ -1,0 +1,48 @@
+//! Which calls of a form in memory are to fail. Calls are numbered from 0.
+
+ghost use Rattle.std.specs.Prelude.{◌≡◌, nat_eq, IfOk};
+ghost use Rattle.std.specs.List.{list_any};
+ghost use Rattle.dsy_base.specs.Counts.{raised};
+
+use crate::fault::raise;
+use std::alloc::{AllocError, Global};
+
+/// The numbers of the calls that are to fail.
+pub type Fails = Vec<u64>;
+
+/// The calls of one object: those that are to fail, and how many there were. The number of calls stays at its
+/// greatest value.
+#[derive(Debug, Drop)]
+pub struct Calls {
+    fails: Vec<u64>,
+    so_far: u64,
+}
+
+impl Calls {
+    pub fn new(fails: Fails) -> Calls
+        ensures kept { result.fails ≡ fails }
+        ensures counts { result.so_far ≡ 0 }
+    {
+        Calls { fails, so_far: 0 }
+    }
+
+    /// Whether the call that is made now is to fail.
+    pub fn next_fails(&mut self) -> bool
+        ensures value { result ≡ list_any (nat_eq self.old.so_far) self.old.fails.items }
+        ensures kept { self.new.fails ≡ self.old.fails }
+        ensures counts { self.new.so_far ≡ raised self.old.so_far 1 }
+    {
+        let call = self.so_far;
+        self.so_far = raise(call, 1);
+        self.fails.contains(&call)
+    }
+
+    /// The same list, with no call made yet.
+    pub(crate) fn again(&self, alloc: Global) -> Result<Calls, AllocError>
+        ensures kept { IfOk result (λ c. c.fails.items ≡ self.now.fails.items) }
+        ensures counts { IfOk result (λ c. c.so_far ≡ 0) }
+    {
+        let fails = Vec::from_slice(alloc, &self.fails)?;
+        Ok(Calls { fails, so_far: 0 })
+    }
+}

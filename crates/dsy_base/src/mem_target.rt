@@ -1,0 +1,151 @@
+//! Bytes in memory that can be written, with stated calls that fail. Offsets are bytes from 0, ends are exclusive.
+
+ghost use Rattle.std.specs.Prelude.{◌≡◌, ◌+◌, ◌≤◌, [], length, OnOk, OnErr};
+ghost use Rattle.dsy_base.specs.Bytes.{written, resized};
+
+use crate::fault::{Failed, IoFault, raise};
+use crate::name::Name;
+use crate::ranges::{RangeFails, next_fails};
+use crate::view::{Part, Target, View};
+use std::alloc::{AllocError, Global};
+
+/// A file in memory at rest, and the calls on it that are to fail.
+#[derive(Debug, Drop)]
+pub(crate) struct MemFile {
+    pub bytes: Vec<u8>,
+    pub fails: RangeFails,
+}
+
+/// Bytes in memory that can be written. A write that fails fills its range with the byte 0xee.
+#[derive(Debug, Drop)]
+pub struct MemTarget {
+    bytes: Vec<u8>,
+    fails: RangeFails,
+    faults: u64,
+    name: Name,
+}
+
+impl MemTarget {
+    pub fn new(alloc: Global, bytes: Vec<u8>, fails: RangeFails) -> MemTarget
+        ensures bytes { result.bytes ≡ bytes }
+        ensures said { result.fails ≡ fails }
+        ensures faults { result.faults ≡ 0 }
+        ensures named { result.name ≡ [] }
+    {
+        MemTarget {
+            bytes,
+            fails,
+            faults: 0,
+            name: Name::empty(alloc),
+        }
+    }
+
+    pub fn bytes(&self) -> &[u8]
+        ensures { result.now ≡ self.now.bytes.items }
+    {
+        self.bytes.as_slice()
+    }
+
+    pub(crate) fn of(name: Name, file: MemFile) -> MemTarget
+        ensures bytes { result.bytes ≡ file.bytes }
+        ensures faults { result.faults ≡ 0 }
+        ensures named { result.name ≡ name }
+    {
+        MemTarget {
+            bytes: file.bytes,
+            fails: file.fails,
+            faults: 0,
+            name,
+        }
+    }
+
+    /// The file, and how often a call on it has failed.
+    pub(crate) fn into_file(self) -> (MemFile, u64)
+        ensures bytes { result.0.bytes ≡ self.bytes }
+        ensures faults { result.1 ≡ self.faults }
+    {
+        let file = MemFile {
+            bytes: self.bytes,
+            fails: self.fails,
+        };
+        (file, self.faults)
+    }
+}
+
+impl View for MemTarget {
+    ghost use Rattle.std.specs.Prelude.{Some, vec_len, true, false, refl};
+    ghost use Rattle.std.proofs.Common.{rules};
+
+    ghost held = { λ t. record { bytes = Some t.bytes.items; size = vec_len t.bytes; name = t.name } };
+
+    ghost faults = { λ t. t.faults };
+
+    ghost tells = { true };
+
+    ghost never_fails = { false };
+
+    fn size(&self) -> u64 {
+        self.bytes.len() as u64
+    }
+
+    fn read_at(&mut self, at: u64, out: &mut [u8]) -> Result<(), Failed> {
+        let start = at as usize;
+        let end = start + out.len();
+        if next_fails(&mut self.fails.reads, at, end as u64) {
+            self.faults = raise(self.faults, 1);
+            return Err(Failed);
+        }
+        out.copy_from_slice(&self.bytes[start..end]);
+        Ok(())
+    }
+
+    ghost told = { λ _. refl };
+
+    ghost sized = { Prim.search rules };
+
+    ghost sure = { Prim.search rules };
+}
+
+impl Part for MemTarget {
+    fn write_at(&mut self, at: u64, b: &[u8]) -> Result<(), Failed> {
+        let start = at as usize;
+        let end = start + b.len();
+        if next_fails(&mut self.fails.writes, at, end as u64) {
+            self.bytes[start..end].fill(0xee);
+            self.faults = raise(self.faults, 1);
+            return Err(Failed);
+        }
+        write_over(&mut self.bytes, start, b);
+        Ok(())
+    }
+}
+
+impl Target for MemTarget {
+    fn set_len(&mut self, n: u64) -> Result<(), IoFault> {
+        if 0 < self.fails.set_len {
+            self.fails.set_len -= 1;
+            self.faults = raise(self.faults, 1);
+            return Err(IoFault::Failed);
+        }
+        match resize(&mut self.bytes, n as usize) {
+            Ok(()) => Ok(()),
+            Err(_) => Err(IoFault::Memory),
+        }
+    }
+}
+
+/// Writes `b` over the bytes from offset `at` on.
+pub fn write_over(bytes: &mut [u8], at: usize, b: &[u8])
+    requires { at + length b.now ≤ length bytes.old }
+    ensures { bytes.new ≡ written bytes.old at b.now }
+{
+    bytes[at..at + b.len()].copy_from_slice(b);
+}
+
+/// Cuts off the end, or fills up with zeros, to `n` bytes.
+pub fn resize(bytes: &mut Vec<u8>, n: usize) -> Result<(), AllocError>
+    ensures ok { OnOk result (bytes.new.items ≡ resized bytes.old.items n) }
+    ensures err { OnErr result (bytes.new.items ≡ bytes.old.items) }
+{
+    bytes.resize(n, 0)
+}

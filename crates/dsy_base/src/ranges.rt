@@ -1,0 +1,57 @@
+//! Which calls on a range of bytes are to fail. Offsets are bytes from 0, ends are exclusive.
+
+ghost use Rattle.std.specs.Prelude.{◌≡◌, []};
+ghost use Rattle.std.specs.List.{position};
+ghost use Rattle.dsy_base.specs.Ranges.{covers, fails_at, after_call};
+
+use std::alloc::Global;
+
+/// The calls on a file in memory that are to fail.
+#[derive(Debug, Drop)]
+pub struct RangeFails {
+    /// A read that covers the offset fails so many times.
+    pub reads: Vec<(u64, u32)>,
+    /// A write that covers the offset fails so many times.
+    pub writes: Vec<(u64, u32)>,
+    /// So many changes of the length fail first.
+    pub set_len: u32,
+}
+
+impl RangeFails {
+    /// No call fails.
+    pub fn none(alloc: Global) -> RangeFails
+        ensures reads { result.reads.items ≡ [] }
+        ensures writes { result.writes.items ≡ [] }
+        ensures set_len { result.set_len ≡ 0 }
+    {
+        RangeFails {
+            reads: Vec::new(alloc),
+            writes: Vec::new(alloc),
+            set_len: 0,
+        }
+    }
+}
+
+// The first pair that makes a call on the range fail.
+fn covering(pairs: &[(u64, u32)], at: u64, end: u64) -> Option<usize>
+    ensures { result ≡ position (covers at end) pairs.now }
+{
+    pairs
+        .iter()
+        .position(|pair| at <= pair.0 && pair.0 < end && 0 < pair.1)
+}
+
+/// Whether a call on the range is to fail. If so, its pair fails one time less from then on.
+pub(crate) fn next_fails(pairs: &mut [(u64, u32)], at: u64, end: u64) -> bool
+    ensures value { result ≡ fails_at pairs.old at end }
+    ensures changed { pairs.new ≡ after_call pairs.old at end }
+{
+    let found = covering(pairs, at, end);
+    match found {
+        Some(i) => {
+            pairs[i].1 = pairs[i].1.saturating_sub(1);
+            true
+        }
+        None => false,
+    }
+}

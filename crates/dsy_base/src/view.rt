@@ -1,0 +1,67 @@
+//! Bytes that are read and written by place. Offsets are bytes from 0, ends are exclusive.
+
+ghost use Rattle.std.specs.Prelude.{◌≡◌, ℕ, Bool, IsTrue, List, ◌+◌, ◌≤◌, length, slice_range, is_some, IfSome, OnOk, OnErr};
+ghost use Rattle.dsy_base.specs.Bytes.{Held, held_written, held_resized};
+ghost use Rattle.dsy_base.specs.Counts.{Rose};
+
+use crate::fault::{Failed, IoFault};
+
+/// Bytes that can be read by place.
+pub trait View: Drop {
+    /// What it holds. Its size is always known, its bytes where the type tells them.
+    ghost held: { Self → Held };
+
+    /// How often a call on it has failed.
+    ghost faults: { Self → ℕ };
+
+    /// Whether the type tells contracts its bytes.
+    ghost tells: { Bool };
+
+    /// Whether the type never fails.
+    ghost never_fails: { Bool };
+
+    /// The number of bytes.
+    fn size(&self) -> u64
+        ensures { result ≡ (held self.now).size };
+
+    /// Fills `out` with the bytes from offset `at` on. After a refusal `out` holds any bytes.
+    fn read_at(&mut self, at: u64, out: &mut [u8]) -> Result<(), Failed>
+        requires { at + length out.old ≤ (held self.old).size }
+        ensures bytes { OnOk result (IfSome (held self.old).bytes
+            (λ t. out.new ≡ slice_range t at (at + length out.old))) }
+        ensures kept { held self.new ≡ held self.old }
+        ensures faults { faults self.old ≤ faults self.new }
+        ensures cause { OnErr result (Rose (faults self.old) (faults self.new)) };
+
+    /// The bytes are told exactly where the type tells.
+    ghost told: { (v : Self) → is_some (held v).bytes ≡ tells };
+
+    /// Told bytes are as many as the size says.
+    ghost sized: { (v : Self) → IfSome (held v).bytes (λ t. length t ≡ (held v).size) };
+
+    /// A type that never fails counts no fault.
+    ghost sure: { (v : Self) → IsTrue never_fails → faults v ≡ 0 };
+}
+
+/// Bytes that can be written by place too.
+pub trait Part: View {
+    /// Writes `b` over the bytes from offset `at` on.
+    fn write_at(&mut self, at: u64, b: &[u8]) -> Result<(), Failed>
+        requires { at + length b.now ≤ (Self.held self.old).size }
+        ensures ok { OnOk result (Self.held self.new ≡ held_written (Self.held self.old) at b.now) }
+        // The range holds any bytes, and all else stays.
+        ensures err { OnErr result ((x : List ℕ) × (length x ≡ length b.now)
+            × (Self.held self.new ≡ held_written (Self.held self.old) at x)) }
+        ensures faults { Self.faults self.old ≤ Self.faults self.new }
+        ensures cause { OnErr result (Rose (Self.faults self.old) (Self.faults self.new)) };
+}
+
+/// Bytes whose number can be changed.
+pub trait Target: Part {
+    /// Cuts off the end, or fills up with zeros, to `n` bytes.
+    fn set_len(&mut self, n: u64) -> Result<(), IoFault>
+        ensures ok { OnOk result (Self.held self.new ≡ held_resized (Self.held self.old) n) }
+        ensures err { OnErr result (Self.held self.new ≡ Self.held self.old) }
+        ensures faults { Self.faults self.old ≤ Self.faults self.new }
+        ensures cause { result ≡ Err IoFault.Failed → Rose (Self.faults self.old) (Self.faults self.new) };
+}
