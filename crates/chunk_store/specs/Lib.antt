@@ -1,0 +1,6 @@
+pub mod Names
+pub mod Paths
+pub mod Said
+pub mod Gets
+pub mod Giving
+pub mod Folders

@@ -1,0 +1,10 @@
+//! Chunks: their ids, which are the digests of their bytes, and the stores that hold them.
+#![tactic(auto)]
+
+pub mod id;
+pub mod laws;
+pub mod path;
+pub mod shows;
+pub mod store;
+#[cfg(test)]
+mod tests;

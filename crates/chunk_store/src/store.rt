@@ -1,0 +1,105 @@
+//! Stores of chunks by their ids.
+
+ghost use Rattle.std.specs.Prelude.{◌≡◌, ◌≢◌, ℕ, Bool, true, false, IsTrue, List, ◌≤◌, Option, Some, IsSome, IfSome, IfOk, OnOk, OnErr, is_some, length, take};
+ghost use Rattle.std.specs.Option.{option_map};
+ghost use Rattle.chunk_store.specs.Gets.{GetGives};
+ghost use Rattle.chunk_store.specs.Said.{Said, KeepsOf, SaysMap, AskedOnce};
+ghost use Rattle.dsy_base.specs.Counts.{Rose};
+ghost use Rattle.dsy_base.specs.Maps.{Map, at_name};
+
+use crate::id::ChunkId;
+use dsy_base::fault::IoFault;
+
+/// Why a store gives no chunk.
+#[derive(Clone, Copy, Debug, PartialEq, Eq)]
+pub enum GetFault {
+    /// It holds nothing under the id.
+    Missing,
+    /// It holds more bytes than were lent.
+    Longer,
+    Failed,
+    Memory,
+}
+
+/// A store of chunks by their ids. It may hold any bytes under an id: who asks names what it got.
+pub trait Store: Drop {
+    /// What it holds under each id, where this store tells it. No call changes whether it does.
+    ghost holds: { Self → Option (Map (List ℕ)) };
+
+    /// What it has denied, shown and taken.
+    ghost said: { Self → Said };
+
+    /// How often it was asked for each id, as far as it knows.
+    ghost asked: { Self → List ℕ → ℕ };
+
+    /// How often a call on it has failed.
+    ghost faults: { Self → ℕ };
+
+    /// The name that its folder was taken under, if it has one. No call changes it.
+    ghost place: { Self → List ℕ };
+
+    /// Whether each store of the type tells what it holds.
+    ghost tells: { Bool };
+
+    /// Whether the type never fails.
+    ghost never_fails: { Bool };
+
+    /// Whether `get` and `has` may answer that there was no memory.
+    ghost may_lack_memory: { Bool };
+
+    /// Fills the front of `out` with the bytes held under the id, and answers their number.
+    fn get(&mut self, id: &ChunkId, out: &mut [u8]) -> Result<usize, GetFault>
+        ensures bytes { IfSome (holds self.old) (λ m. GetGives (m id.now.0) result out.new) }
+
+        // No answer but with what it has said.
+        ensures ok { IfOk result (λ n. (n ≤ length out.new) × (said self.new).shown id.now.0 (take n out.new)) }
+        ensures absent { result ≡ Err GetFault.Missing → (said self.new).denied id.now.0 }
+        ensures longer { result ≡ Err GetFault.Longer → (said self.new).longer id.now.0 (length out.new) }
+        ensures only { result ≡ Err GetFault.Memory → IsTrue may_lack_memory }
+
+        ensures kept { holds self.new ≡ holds self.old }
+        ensures place { place self.new ≡ place self.old }
+        ensures said { (q : List ℕ) → KeepsOf (said self.old) (said self.new) q }
+        ensures asks { AskedOnce (asked self.old) (asked self.new) id.now.0 }
+        ensures faults { faults self.old ≤ faults self.new }
+        ensures cause { result ≡ Err GetFault.Failed → Rose (faults self.old) (faults self.new) };
+
+    /// Whether something is held under the id.
+    fn has(&mut self, id: &ChunkId) -> Result<bool, IoFault>
+        ensures found { IfOk result (λ b. IfSome (holds self.old) (λ m. b ≡ is_some (m id.now.0))) }
+        ensures absent { result ≡ Ok false → (said self.new).denied id.now.0 }
+        ensures only { result ≡ Err IoFault.Memory → IsTrue may_lack_memory }
+
+        ensures kept { holds self.new ≡ holds self.old }
+        ensures place { place self.new ≡ place self.old }
+        ensures said { (q : List ℕ) → KeepsOf (said self.old) (said self.new) q }
+        ensures asks { asked self.new ≡ asked self.old }
+        ensures faults { faults self.old ≤ faults self.new }
+        ensures cause { result ≡ Err IoFault.Failed → Rose (faults self.old) (faults self.new) };
+
+    /// A told map denies what it doesn't hold, and has shown and taken what it holds.
+    ghost says: { (s : Self) → IfSome (holds s) (SaysMap (said s)) };
+
+    /// A store that tells is asked for nothing that counts.
+    ghost unasked: { (s : Self) → IfSome (holds s) (λ _. (q : List ℕ) → asked s q ≡ 0) };
+
+    /// Each store of a type that tells, tells.
+    ghost told: { (s : Self) → IsTrue tells → IsSome (holds s) };
+
+    /// A type that never fails counts no fault.
+    ghost sure: { (s : Self) → IsTrue never_fails → faults s ≡ 0 };
+}
+
+/// A store that takes chunks.
+pub trait StoreWrite: Store {
+    /// Puts `b` under the id, in the place of what was there.
+    fn put(&mut self, id: &ChunkId, b: &[u8]) -> Result<(), IoFault>
+        ensures ok { OnOk result (Self.holds self.new ≡ option_map (λ m. at_name m id.now.0 (Some b.now)) (Self.holds self.old)) }
+        ensures taken { OnOk result ((Self.said self.new).taken id.now.0 b.now) }
+        ensures err { OnErr result (Self.holds self.new ≡ Self.holds self.old) }
+        ensures place { Self.place self.new ≡ Self.place self.old }
+        ensures said { (q : List ℕ) → q ≢ id.now.0 → KeepsOf (Self.said self.old) (Self.said self.new) q }
+        ensures asks { Self.asked self.new ≡ Self.asked self.old }
+        ensures faults { Self.faults self.old ≤ Self.faults self.new }
+        ensures cause { result ≡ Err IoFault.Failed → Rose (Self.faults self.old) (Self.faults self.new) };
+}

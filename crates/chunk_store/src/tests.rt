@@ -1,0 +1,55 @@
+//! Ids by vectors of their digests.
+
+use crate::id::{ChunkId, DigestKind, NotHex};
+use std::test::Fail;
+
+// From FIPS 180-4's examples and another program.
+const ABC_512_256: &str = "53048e2681941ef99b2e29b76b4c7dabe4c2d0c634fc6d46e0e2f13107e7af23";
+
+const NOTHING_512_256: &str = "c672b8d1ef56ed28ab87c3622c5114069bdd3ad7b8f9737498d0c01ecef0967a";
+
+const ABC_256: &str = "ba7816bf8f01cfea414140de5dae2223b00361a396177a9cb410ff61f20015ad";
+
+#[test]
+fn names_have_the_digests_digits(rt: HostRuntime) -> Result<(), Fail> {
+    let cases: [(DigestKind, &[u8], &str); 3] = [
+        (DigestKind::Sha512T256, b"abc", ABC_512_256),
+        (DigestKind::Sha512T256, b"", NOTHING_512_256),
+        (DigestKind::Sha256, b"abc", ABC_256),
+    ];
+    for (kind, bytes, text) in cases {
+        let id = ChunkId::of(kind, bytes);
+        assert_eq!(rt; id.to_hex().as_slice(), text.as_bytes(), "{text}");
+        assert_eq!(rt; ChunkId::from_hex(text), Ok(id), "{text}");
+        assert!(rt; id.is_of(kind, bytes));
+        assert!(rt; !id.is_of(kind, b"abd"));
+    }
+    Ok(())
+}
+
+#[test]
+fn a_path_has_four_digits_then_all(rt: HostRuntime) {
+    let path = ChunkId::of(DigestKind::Sha512T256, b"abc").path();
+    assert_eq!(rt;
+        path.as_str(),
+        "5304/53048e2681941ef99b2e29b76b4c7dabe4c2d0c634fc6d46e0e2f13107e7af23"
+    );
+}
+
+#[test]
+fn only_64_digits_are_an_id(rt: HostRuntime) {
+    let upper = "53048E2681941EF99B2E29B76B4C7DABE4C2D0C634FC6D46E0E2F13107E7AF23";
+    let id = ChunkId::of(DigestKind::Sha512T256, b"abc");
+    assert_eq!(rt; ChunkId::from_hex(upper), Ok(id));
+    let others = [
+        "",
+        "5304",
+        "53048e2681941ef99b2e29b76b4c7dabe4c2d0c634fc6d46e0e2f13107e7af2",
+        "53048e2681941ef99b2e29b76b4c7dabe4c2d0c634fc6d46e0e2f13107e7af230",
+        "53048e2681941ef99b2e29b76b4c7dabe4c2d0c634fc6d46e0e2f13107e7af2g",
+        "53048e2681941ef99b2e29b76b4c7dabe4c2d0c634fc6d46e0e2f13107e7af2 ",
+    ];
+    for text in others {
+        assert_eq!(rt; ChunkId::from_hex(text), Err(NotHex), "{text}");
+    }
+}
