@@ -1,0 +1,132 @@
+-- From what was read to what is answered.
+use Rattle.std.proofs.Common.{◌≡◌, ◌≢◌, ℕ, ◌+◌, ◌≤◌, Bool, true, false, cond, List, [], ◌++◌, length, Some, None, Result, Ok, Err, refl, sym, ap, subst, ◌∙◌, arith, lit≤}
+use Rattle.std.specs.Prelude.{OnOk}
+use Rattle.caibx_codec.specs.declared.fault.IndexFault.{IndexFault}
+use Rattle.caibx_codec.specs.declared.fault.IndexFault.TheVariants as faults
+use Rattle.caibx_codec.specs.declared.field.Field.{Field}
+use Rattle.caibx_codec.specs.declared.field.Field.TheVariants as field
+use Rattle.caibx_codec.specs.declared.reading.ReadFault.{ReadFault}
+use Rattle.caibx_codec.specs.declared.reading.ReadFault.TheVariants as errors
+use Rattle.caibx_codec.specs.Judge.{Judged}
+use Rattle.caibx_codec.specs.Listing.{Listing}
+use Rattle.caibx_codec.specs.Spelling.{IsIndexFile}
+use Rattle.caibx_codec.specs.Answers.{Goes, Judges, Ends, FindsIndex}
+use Rattle.caibx_codec.specs.Reading.{Read, place_of, reads, start, listing_of, is_whole, first_fault, fault_in_read, index_in, ◌>>=◌}
+use Rattle.caibx_codec.specs.Standing.{bytes_of, Stands, StandsFor}
+use Rattle.caibx_codec.proofs.Again.{file_read}
+use Rattle.caibx_codec.proofs.Pieces.{reads-append}
+use Rattle.caibx_codec.proofs.Steps.{IsBytes, ok_is}
+use Rattle.caibx_codec.proofs.Taken.{stands_on, start_stands, start_bytes, no_longer, whole_file, bytes_length}
+use Rattle.caibx_codec.proofs.Valid.{no_fault}
+
+pub start_for : StandsFor start []
+start_for = record { stands = start_stands; is = start_bytes; size = lit≤ tt }
+
+-- reading goes on from where it stands
+read_on : (r : Read) (xs : List ℕ) → Stands r → reads start (bytes_of r ++ xs) ≡ reads r xs
+read_on r xs stands = reads-append start (bytes_of r) xs ∙ ap (λ a. a >>= λ s. reads s xs) stands.reads
+
+pub judges_more : {A : Type 0} (r t : Read) (xs : List ℕ) (answer : Result A ReadFault) → Stands r → Goes (reads r xs) answer t → Judges (bytes_of r ++ xs) answer
+unfolding first_fault
+judges_more r t xs (Ok x) stands h = ap fault_in_read (read_on r xs stands ∙ h)
+judges_more r t xs (Err (errors.Bad f)) stands h = ap fault_in_read (read_on r xs stands ∙ h)
+judges_more r t xs (Err errors.Memory) stands h = tt
+judges_more r t xs (Err errors.Over) stands h = h
+
+pub stands_more : {A : Type 0} (r t : Read) (xs : List ℕ) (answer : Result A ReadFault) → IsBytes xs → Stands r → Goes (reads r xs) answer t → OnOk answer (StandsFor t (bytes_of r ++ xs))
+stands_more r t xs (Ok x) fits stands h =
+    let on = stands_on r t xs fits stands h in
+    record { stands = on.0; is = on.1; size = subst (λ b. length b ≤ 167772264) on.1 (no_longer t on.0.good) }
+stands_more r t xs (Err e) fits stands h = tt
+
+-- ---- the end of the file
+
+is_nothing : (f : Field) → f ≡ field.Nothing → is_whole f ≡ true
+is_nothing field.Nothing h = refl
+is_nothing _ h = absurd (cc)
+
+not_nothing : (f : Field) → f ≢ field.Nothing → is_whole f ≡ false
+not_nothing field.Nothing h = absurd (h refl)
+not_nothing _ h = refl
+
+pub cut_short : (r : Read) (at : ℕ) → Stands r → at ≡ length (bytes_of r) → r.fields.next ≢ field.Nothing → index_in (bytes_of r) ≡ Err (faults.Truncated at)
+unfolding index_in
+cut_short r at stands is h =
+    ap (λ a. a >>= λ s. cond (is_whole s.fields.next) (Ok (listing_of s)) (Err (faults.Truncated (length (bytes_of r))))) stands.reads
+    ∙ ap (λ b. cond b (Ok (listing_of r)) (Err (faults.Truncated (length (bytes_of r))))) (not_nothing r.fields.next h)
+    ∙ ap (λ n. Err (faults.Truncated n)) (sym is)
+
+whole_read : (r : Read) → Stands r → r.fields.next ≡ field.Nothing → index_in (bytes_of r) ≡ Ok (listing_of r)
+unfolding index_in
+whole_read r stands h =
+    ap (λ a. a >>= λ s. cond (is_whole s.fields.next) (Ok (listing_of s)) (Err (faults.Truncated (length (bytes_of r))))) stands.reads
+    ∙ ap (λ b. cond b (Ok (listing_of r)) (Err (faults.Truncated (length (bytes_of r))))) (is_nothing r.fields.next h)
+
+-- as the code comes to it, which sees the fields
+pub whole_index : (r : Read) (made : Result Listing IndexFault) (i : Listing) → Stands r → r.fields.next ≡ field.Nothing → Judged (listing_of r) made → made ≡ Ok i → index_in (bytes_of r) ≡ Ok i
+whole_index r (Ok m) i stands h judged is = whole_read r stands h ∙ ap (λ l. Ok l) (sym judged.1) ∙ is
+whole_index r (Err f) i stands h judged is = absurd (cc)
+
+pub no_fault_left : {P : Type 0} (r : Read) (made : Result Listing IndexFault) (f : IndexFault) → Stands r → Judged (listing_of r) made → made ≡ Err f → P
+no_fault_left r (Ok m) f stands judged is = absurd (cc)
+no_fault_left r (Err g) f stands judged is =
+    let none = no_fault (listing_of r) stands.good.sound.valid in
+    let some : None ≡ Some g = sym none ∙ judged in
+    absurd (cc)
+
+-- ---- right answers
+
+end_chosen : (b : Bool) (l i : Listing) (e : IndexFault) → cond b (Ok l) (Err e) ≡ Ok i → (b ≡ true) × (l ≡ i)
+end_chosen true l i e h = (refl, ok_is l i h)
+end_chosen false l i e h = absurd (cc)
+
+found : (bytes : List ℕ) (i : Listing) (r : Read) → StandsFor r bytes → index_in bytes ≡ Ok i → IsIndexFile bytes i
+unfolding index_in
+found bytes i r for h =
+    let read : reads start bytes ≡ Ok r = subst (λ b. reads start b ≡ Ok r) for.is for.stands.reads in
+    let end : cond (is_whole r.fields.next) (Ok (listing_of r)) (Err (faults.Truncated (length bytes))) ≡ Ok i = ap (λ a. a >>= λ s. cond (is_whole s.fields.next) (Ok (listing_of s)) (Err (faults.Truncated (length bytes)))) (sym read) ∙ h in
+    let g = end_chosen (is_whole r.fields.next) (listing_of r) i (faults.Truncated (length bytes)) end in
+    subst (λ l. IsIndexFile bytes l) g.1 (subst (λ b. IsIndexFile b (listing_of r)) for.is (whole_file r for.stands.good g.0))
+
+-- the bytes of a reader that stands for them are a file only of what they are read as
+pub finds : (bytes : List ℕ) (answer : Result Listing ReadFault) → (r : Read) → StandsFor r bytes → Ends bytes answer → FindsIndex bytes answer
+finds bytes (Ok i) r stands h = found bytes i r stands h
+finds bytes (Err (errors.Bad f)) r stands h = λ l file. let both : Ok l ≡ Err f = sym (file_read bytes l file) ∙ h in absurd (cc)
+finds bytes (Err errors.Memory) r stands h = tt
+finds bytes (Err errors.Over) r stands h = tt
+
+-- the number of bytes, as the code counts it
+pub length_is : (r seen : Read) → seen ≡ r → (n k part : ℕ) → Stands r → n ≡ place_of seen.fields.next k → k ≡ length seen.entries → part ≡ length seen.part → n + part ≡ length (bytes_of r)
+length_is r seen is n k part stands place counted filled =
+    let at : n ≡ place_of seen.fields.next (length seen.entries) = place ∙ ap (place_of seen.fields.next) counted in
+    let all = bytes_length r stands.good in
+    let same : place_of seen.fields.next (length seen.entries) + length seen.part ≡ length (bytes_of r) = subst (λ (x : Read). place_of x.fields.next (length x.entries) + length x.part ≡ length (bytes_of r)) (sym is) (sym all) in
+    omega (arith, same, at, filled)
+
+-- ---- the end as the code comes to it, which has opened the reader
+
+stands_for : (r : Read) → Stands r → StandsFor r (bytes_of r)
+stands_for r stands = record { stands = stands; is = refl; size = no_longer r stands.good }
+
+abbrev AnswersBoth : Read → Result Listing ReadFault → Type 0
+AnswersBoth r answer = Ends (bytes_of r) answer × FindsIndex (bytes_of r) answer
+
+module _ (r seen : Read) (is : seen ≡ r) (stands : Stands r) where
+  next_is : seen.fields.next ≡ r.fields.next
+  next_is = ap (λ x. x.fields.next) is
+
+  both : (answer : Result Listing ReadFault) → Ends (bytes_of r) answer → AnswersBoth r answer
+  both answer h = (h, finds (bytes_of r) answer r (stands_for r stands) h)
+
+  pub ends_cut : (at : ℕ) → at ≡ length (bytes_of r) → seen.fields.next ≢ field.Nothing → AnswersBoth r (Err (errors.Bad (faults.Truncated at)))
+  ends_cut at counted h = both (Err (errors.Bad (faults.Truncated at))) (cut_short r at stands counted (λ n. h (next_is ∙ n)))
+
+  module _ (made : Result Listing IndexFault) (judged : Judged (listing_of seen) made) where
+    judged_there : Judged (listing_of r) made
+    judged_there = subst (λ x. Judged (listing_of x) made) is judged
+
+    pub ends_whole : (i : Listing) → seen.fields.next ≡ field.Nothing → made ≡ Ok i → AnswersBoth r (Ok i)
+    ends_whole i h ok = both (Ok i) (whole_index r made i stands (sym next_is ∙ h) judged_there ok)
+
+    pub ends_never : (f : IndexFault) → made ≡ Err f → AnswersBoth r (Err (errors.Bad f))
+    ends_never f err = no_fault_left r made f stands judged_there err

@@ -1,0 +1,11 @@
+pub mod Cuts
+pub mod Fields
+pub mod Pieces
+pub mod Steps
+pub mod Taken
+pub mod Again
+pub mod Answered
+pub mod Views
+pub mod Written
+pub mod Valid
+pub mod Rules

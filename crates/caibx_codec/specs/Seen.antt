@@ -1,0 +1,23 @@
+-- What contracts see of an index and of a front of its file.
+use Rattle.std.specs.Prelude.{ℕ, ◌<◌, List, map, take}
+use Rattle.caibx_codec.specs.declared.index.Entry.{Entry}
+use Rattle.caibx_codec.specs.declared.index.Index.TheInside.{Inside}
+use Rattle.caibx_codec.specs.declared.partial.Partial.TheInside as partial
+use Rattle.caibx_codec.specs.Listing.{Listing}
+use Rattle.caibx_codec.specs.Reading.{Read, need}
+
+abbrev pub pair : Entry → ℕ × List ℕ
+pair e = (e.end, e.id.0)
+
+abbrev pub pairs : List Entry → List (ℕ × List ℕ)
+pairs es = map pair es
+
+abbrev pub seen : Inside → Listing
+seen i = record { flags = i.flags; least = i.min; average = i.avg; greatest = i.max; entries = pairs i.entries.items }
+
+abbrev pub read_of : partial.Inside → Read
+read_of p = record { fields = p.fields; entries = pairs p.entries.items; part = take p.filled p.part }
+
+-- less than the next field is there
+abbrev pub HasRoom : partial.Inside → Type 0
+HasRoom p = p.filled < need p.fields.next

@@ -1,0 +1,167 @@
+//! A front of an index file, read without a fault: the words and items that stand whole in it,
+//! and the bytes of the field that comes next.
+
+ghost use Rattle.std.specs.Prelude.{◌≡◌, ◌≢◌, ◌<◌, ◌++◌, ℕ, [], length, OnOk};
+ghost use Rattle.caibx_codec.specs.Answers.{Ends, FindsIndex, Goes, Judges};
+ghost use Rattle.caibx_codec.specs.Reading.{need, judge, push, reads, start};
+ghost use Rattle.caibx_codec.specs.Standing.{bytes_of, Stands, StandsFor};
+ghost use Rattle.std.specs.Int.{w64, from_le_bytes};
+
+use crate::fault::IndexFault;
+use crate::field::{Field, Fields, judge_word, place, width};
+use crate::index::{Entry, Index};
+use crate::reading::ReadFault;
+use chunk_store::id::ChunkId;
+use std::alloc::Global;
+use std::marker::Model;
+
+/// What was read of an index file.
+#[derive(Debug, Drop)]
+pub struct Partial {
+    fields: Fields,
+    entries: Vec<Entry>,
+    part: [u8; 32],
+    filled: usize,
+}
+
+impl Model for Partial {
+    ghost use Rattle.caibx_codec.specs.Reading.{Read};
+
+    ghost Value = { Read };
+
+    ghost use Rattle.caibx_codec.specs.Seen.{read_of, HasRoom};
+
+    ghost view = { λ p. read_of p };
+
+    ghost invariant = { λ p. HasRoom p };
+}
+
+// The number that the bytes of a word are.
+fn number(bytes: &[u8]) -> u64
+    requires { length bytes.now ≡ 8 }
+    ensures { result ≡ from_le_bytes w64 bytes.now }
+{
+    u64::from_le_bytes([
+        bytes[0], bytes[1], bytes[2], bytes[3], bytes[4], bytes[5], bytes[6], bytes[7],
+    ])
+}
+
+impl Partial {
+    /// Nothing was read yet.
+    #[tactic(auto, unfolding(crate::specs::Reading::start), using(crate::proofs::Answered::start_for))]
+    pub fn new(alloc: Global) -> Partial
+        ensures value { result ≡ start }
+        ensures ok { StandsFor result [] }
+    {
+        Partial {
+            fields: Fields {
+                next: Field::HeadSize,
+                flags: 0x2000_0000_0000_0000,
+                min: 0,
+                avg: 0,
+                max: 0,
+                end: 0,
+                offset: 0,
+                size: 0,
+            },
+            entries: Vec::new(alloc),
+            part: [0; 32],
+            filled: 0,
+        }
+    }
+
+    // Judges all bytes of the next field.
+    #[tactic(auto, using(crate::proofs::Fields::need_least, crate::proofs::Fields::judge_id, crate::proofs::Fields::judge_nothing))]
+    fn judge(&mut self, bytes: &[u8]) -> Result<(), ReadFault>
+        requires { length bytes.now ≡ need self.old.fields.next }
+        ensures { Goes (judge self.old bytes.now) result self.new }
+    {
+        self.filled = 0;
+        match self.fields.next {
+            Field::Id => {
+                let mut id = [0; 32];
+                id.copy_from_slice(bytes);
+                self.entries.push(Entry {
+                    end: self.fields.end,
+                    id: ChunkId(id),
+                })?;
+                self.fields.next = Field::End;
+            }
+            Field::Nothing => return Err(ReadFault::Bad(IndexFault::Trailing)),
+            _ => {
+                match judge_word(self.fields, self.entries.len(), number(bytes)) {
+                    Ok(fields) => self.fields = fields,
+                    Err(fault) => return Err(ReadFault::Bad(fault)),
+                }
+            }
+        }
+        Ok(())
+    }
+
+    // Takes one byte more.
+    #[tactic(auto, using(crate::proofs::Fields::need_most), unfolding(crate::specs::Reading::push))]
+    fn push(&mut self, byte: u8) -> Result<(), ReadFault>
+        ensures { Goes (push self.old byte) result self.new }
+    {
+        let filled = self.filled;
+        self.part[filled] = byte;
+        if filled + 1 < width(self.fields.next) {
+            self.filled = filled + 1;
+            return Ok(());
+        }
+        let part = self.part;
+        self.judge(&part[..filled + 1])
+    }
+
+    // Takes more bytes.
+    fn take(&mut self, piece: &[u8]) -> Result<(), ReadFault>
+        ensures { Goes (reads self.old piece.now) result self.new }
+    {
+        for byte in piece {
+            self.push(*byte)?;
+        }
+        Ok(())
+    }
+
+    /// Takes more bytes. After a refusal nothing is known of what was read.
+    pub fn feed(&mut self, piece: &[u8]) -> Result<(), ReadFault>
+        requires { Stands self.old }
+        ensures first { Judges (bytes_of self.old ++ piece.now) result }
+        ensures only { (n : ℕ) → result ≢ Err (ReadFault.Bad (IndexFault.Truncated n)) }
+        ensures ok { OnOk result (StandsFor self.new (bytes_of self.old ++ piece.now)) }
+    {
+        self.take(piece)
+    }
+
+    // The number of bytes that were read.
+    fn len(&self) -> u64
+        requires { Stands self.now }
+        ensures { result ≡ length (bytes_of self.now) }
+    {
+        let part = &self.part[..self.filled];
+        place(self.fields.next, self.entries.len()) + part.len() as u64
+    }
+
+    /// The index, where the bytes end.
+    pub fn finish(self) -> Result<Index, ReadFault>
+        requires { Stands self }
+        ensures first { Ends (bytes_of self) result }
+        ensures exactly { FindsIndex (bytes_of self) result }
+    {
+        let at = self.len();
+        let Field::Nothing = self.fields.next else {
+            return Err(ReadFault::Bad(IndexFault::Truncated { at }));
+        };
+        let Fields {
+            flags,
+            min,
+            avg,
+            max,
+            ..
+        } = self.fields;
+        match Index::new(flags, min, avg, max, self.entries) {
+            Ok(index) => Ok(index),
+            Err(fault) => Err(ReadFault::Bad(fault)),
+        }
+    }
+}
