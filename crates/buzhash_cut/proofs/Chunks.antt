@@ -1,0 +1,89 @@
+-- What the index of an image says of each chunk by its number.
+use Rattle.std.proofs.Common.{◌≡◌, ℕ, zero, suc, ◌-◌, ◌<◌, ◌≤◌, ◌==◌, if◌then◌else◌, List, [], ◌∷◌, length, slice_index_or, slice_range, refl, sym, ap, subst, ◌∙◌, arith, Result, Ok, Err, IfOk}
+use Rattle.std.proofs.lemmas.Bool.Decides.{nat_tests}
+use Rattle.buzhash_cut.proofs.Cutting.{length-named_from}
+use Rattle.buzhash_cut.specs.Cuts.{AreCuts}
+use Rattle.buzhash_cut.specs.Image.{named_from, listing_of, IsIndexOfImage, IndexGiven}
+use Rattle.buzhash_cut.specs.declared.image.CutFault.{CutFault}
+use Rattle.caibx_codec.specs.Right.{IsRight}
+use Rattle.buzhash_cut.specs.Sizes.{Sizes}
+use Rattle.caibx_codec.specs.Listing.{Listing, count_of, start_of, end_of, id_of, slice_of, image_length}
+use Rattle.chunk_store.specs.Names.{name_of}
+use Rattle.chunk_store.specs.declared.id.DigestKind.{DigestKind}
+use Rattle.chunk_store.specs.declared.id.DigestKind.TheVariants as kinds
+
+abbrev end_at : List (ℕ × List ℕ) → ℕ → ℕ
+end_at es i = (slice_index_or es i (0, [])).0
+
+abbrev id_at : List (ℕ × List ℕ) → ℕ → List ℕ
+id_at es i = (slice_index_or es i (0, [])).1
+
+abbrev start_at : ℕ → List (ℕ × List ℕ) → ℕ → ℕ
+start_at start es i = if i == 0 then start else end_at es (i - 1)
+
+start_at-suc : (start : ℕ) (es : List (ℕ × List ℕ)) (i : ℕ) → start_at start es (suc i) ≡ end_at es i
+start_at-suc start es i = grind (arith, nat_tests)
+
+-- a chunk begins where the one before it ends
+pub start_of-suc : (l : Listing) (i : ℕ) → start_of l (suc i) ≡ end_of l i
+start_of-suc l i = start_at-suc 0 l.entries i
+
+module _ (s : Sizes) (kind : DigestKind) (image : List ℕ) where
+  -- a chunk after the first begins where it begins among the rest
+  later : (start end : ℕ) (ends : List ℕ) (i : ℕ) → start_at start (named_from kind image start (end ∷ ends)) (suc (suc i)) ≡ start_at end (named_from kind image end ends) (suc i)
+  later start end ends i =
+      let here : start_at start (named_from kind image start (end ∷ ends)) (suc (suc i)) ≡ end_at (named_from kind image end ends) i = start_at-suc start (named_from kind image start (end ∷ ends)) (suc i) in
+      here ∙ sym (start_at-suc end (named_from kind image end ends) i)
+
+  pub id_named : (start : ℕ) (ends : List ℕ) (i : ℕ) → i < length ends
+      → id_at (named_from kind image start ends) i ≡ name_of kind (slice_range image (start_at start (named_from kind image start ends) i) (end_at (named_from kind image start ends) i))
+  id_named start [] i lt = absurd (omega arith)
+  id_named start (end ∷ ends) zero lt = refl
+  id_named start (end ∷ ends) (suc zero) lt = id_named end ends zero (omega arith)
+  id_named start (end ∷ ends) (suc (suc i)) lt =
+      id_named end ends (suc i) (omega arith)
+      ∙ ap (λ a. name_of kind (slice_range image a (end_at (named_from kind image end ends) (suc i)))) (sym (later start end ends i))
+
+  pub ends_rise : (start : ℕ) (ends : List ℕ) → AreCuts s image start ends → (i : ℕ) → i < length ends
+      → start_at start (named_from kind image start ends) i ≤ end_at (named_from kind image start ends) i
+  ends_rise start [] cuts i lt = absurd (omega arith)
+  ends_rise start (end ∷ ends) cuts zero lt = omega (arith, cuts.2)
+  ends_rise start (end ∷ ends) cuts (suc zero) lt = ends_rise end ends cuts.3 zero (omega arith)
+  ends_rise start (end ∷ ends) cuts (suc (suc i)) lt =
+      let rest = ends_rise end ends cuts.3 (suc i) (omega arith) in
+      omega (arith, rest, later start end ends i)
+
+  -- the last chunk ends with the image
+  pub last_end : (start : ℕ) (ends : List ℕ) → AreCuts s image start ends → start_at start (named_from kind image start ends) (length ends) ≡ length image
+  last_end start [] cuts = cuts
+  last_end start (end ∷ []) cuts = cuts.3
+  last_end start (end ∷ next ∷ ends) cuts = later start end (next ∷ ends) (length ends) ∙ last_end end (next ∷ ends) cuts.3
+
+-- what is said of each chunk of the index of an image by its number
+pub record AreNamed (image : List ℕ) (l : Listing) : Type 0 where
+  pub rises : (i : ℕ) → i < count_of l → start_of l i ≤ end_of l i
+  pub named : (i : ℕ) → i < count_of l → name_of kinds.Sha512T256 (slice_of l image i) ≡ id_of l i
+  pub whole : image_length l ≡ length image
+
+listed_named : (s : Sizes) (image ends : List ℕ) → AreCuts s image 0 ends → AreNamed image (listing_of s image ends)
+listed_named s image ends cuts =
+    let count = length-named_from kinds.Sha512T256 image 0 ends in
+    record {
+      rises = λ i lt. ends_rise s kinds.Sha512T256 image 0 ends cuts i (omega (arith, lt, count));
+      named = λ i lt. sym (id_named s kinds.Sha512T256 image 0 ends i (omega (arith, lt, count)));
+      whole = ap (start_of (listing_of s image ends)) count ∙ last_end s kinds.Sha512T256 image 0 ends cuts;
+    }
+
+pub index_named : (s : Sizes) (image : List ℕ) (l : Listing) → IsIndexOfImage s image l → AreNamed image l
+index_named s image l is = subst (AreNamed image) (sym is.lists) (listed_named s image is.ends is.cuts)
+
+-- an image is what its index lists
+pub image_right : (s : Sizes) (image : List ℕ) (l : Listing) → IsIndexOfImage s image l → IsRight image l
+image_right s image l is =
+    let named = index_named s image l is in
+    record { size = sym named.whole; entries = named.named }
+
+-- the index of an image has its length
+pub given_size : (s : Sizes) (image : List ℕ) (r : Result Listing CutFault) → IndexGiven s image r → IfOk r (λ l. image_length l ≡ length image)
+given_size s image (Ok l) is = sym (image_right s image l is).size
+given_size s image (Err f) is = tt

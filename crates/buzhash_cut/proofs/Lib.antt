@@ -1,0 +1,5 @@
+pub mod Windows
+pub mod Cutting
+pub mod Uniqueness
+pub mod Chunks
+pub mod Twins

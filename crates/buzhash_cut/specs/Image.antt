@@ -1,0 +1,52 @@
+-- The index of an image: its chunks by their ends, each with its name.
+use Rattle.std.specs.Prelude.{◌≡◌, ℕ, ◌<◌, ◌≤◌, List, [], ◌∷◌, length, slice_index, slice_range, Result, Ok, Err}
+use Rattle.buzhash_cut.specs.Cuts.{AreCuts}
+use Rattle.buzhash_cut.specs.Sizes.{Sizes}
+use Rattle.buzhash_cut.specs.declared.image.CutFault.{CutFault}
+use Rattle.buzhash_cut.specs.declared.image.CutFault.TheVariants as faults
+use Rattle.caibx_codec.specs.Listing.{Listing}
+use Rattle.dsy_base.specs.Counts.{Rose}
+use Rattle.chunk_store.specs.Names.{name_of}
+use Rattle.chunk_store.specs.declared.id.DigestKind.{DigestKind}
+use Rattle.chunk_store.specs.declared.id.DigestKind.TheVariants as kinds
+
+-- each end, from the chunk on that begins at `start`, with the name of its chunk
+abbrev pub named_from : DigestKind → List ℕ → ℕ → List ℕ → List (ℕ × List ℕ)
+named_from kind image start [] = []
+named_from kind image start (end ∷ ends) = (end, name_of kind (slice_range image start end)) ∷ named_from kind image end ends
+
+-- the index that lists these ends
+abbrev pub listing_of : Sizes → List ℕ → List ℕ → Listing
+listing_of s image ends = record {
+  flags = 0xa000000000000000;
+  least = s.least;
+  average = s.average;
+  greatest = s.greatest;
+  entries = named_from kinds.Sha512T256 image 0 ends;
+}
+
+-- l is the index of the image cut by these sizes
+pub record IsIndexOfImage (s : Sizes) (image : List ℕ) (l : Listing) : Type 0 where
+  pub ends : List ℕ
+  pub cuts : AreCuts s image 0 ends
+  pub lists : l ≡ listing_of s image ends
+
+-- the image is cut into more chunks than an index may list
+pub record HasTooManyCuts (s : Sizes) (image : List ℕ) : Type 0 where
+  pub ends : List ℕ
+  pub cuts : AreCuts s image 0 ends
+  pub many : 4194304 < length ends
+
+-- what making the index of an image may answer
+abbrev pub IndexGiven : Sizes → List ℕ → Result Listing CutFault → Type 0
+IndexGiven s image (Ok l) = IsIndexOfImage s image l
+IndexGiven s image (Err faults.TooManyItems) = HasTooManyCuts s image
+IndexGiven s image (Err faults.ImageFault) = Unit {0}
+IndexGiven s image (Err faults.Memory) = Unit {0}
+
+-- of several counts of faults none fell, and some rose
+abbrev pub NoneFell : List ℕ → List ℕ → Type 0
+NoneFell old new = (i : ℕ) → slice_index old i ≤ slice_index new i
+
+abbrev pub SomeRose : List ℕ → List ℕ → Type 0
+SomeRose old new = (i : ℕ) × (i < length old) × Rose (slice_index old i) (slice_index new i)

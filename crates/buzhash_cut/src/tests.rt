@@ -1,0 +1,162 @@
+//! Cutting by vectors, and by what another program answers. Offsets and sizes are in bytes.
+
+use crate::cuts::ends_of;
+use crate::image::index_view;
+use crate::sizes::{CutSizes, SizeFault};
+use crate::table::TABLE;
+use crate::window::window_hash;
+use chunk_store::id::{ChunkId, DigestKind};
+use dsy_base::fault::Failed;
+use dsy_base::view::View;
+use std::alloc::Global;
+use std::process::Abort;
+use std::test::Fail;
+
+// The SHA-256 of the table's words, low byte first, by another program.
+const TABLE_DIGEST: &str = "5b52080d38287da9d2e278466e3e0db7ec98e5e8b226f50612a56fa012b1f660";
+
+#[test]
+fn the_table_has_its_words(rt: HostRuntime) -> Result<(), Fail> {
+    let mut bytes = Vec::new(rt.alloc());
+    for word in &TABLE {
+        for byte in word.to_le_bytes() {
+            bytes.push(byte)?;
+        }
+    }
+    let digest = ChunkId::of(DigestKind::Sha256, bytes.as_slice());
+    assert_eq!(rt; digest.to_hex().as_slice(), TABLE_DIGEST.as_bytes());
+    Ok(())
+}
+
+#[test]
+fn windows_have_their_hashes(rt: HostRuntime) {
+    assert_eq!(rt; window_hash(&[0; 48]), 0x9e48_9e48);
+    assert_eq!(rt; window_hash(&[0xff; 48]), 0xfdc4_023b);
+    let mut rising = [0; 48];
+    for i in 0..48u8 {
+        rising[i as usize] = i;
+    }
+    assert_eq!(rt; window_hash(&rising), 0x6b67_dec6);
+}
+
+#[test]
+fn sizes_have_their_faults_and_discriminators(rt: HostRuntime) {
+    let cases = [
+        (47, 40, 30, Err(SizeFault::MinTooSmall)),
+        (48, 47, 100, Err(SizeFault::Order)),
+        (48, 101, 100, Err(SizeFault::Order)),
+        (48, 4_194_305, 67_108_865, Err(SizeFault::AvgTooLarge)),
+        (48, 48, 67_108_865, Err(SizeFault::MaxTooLarge)),
+        (48, 48, 48, Ok(36)),
+        (48, 63, 100, Ok(47)),
+        (16_384, 65_536, 262_144, Ok(49_535)),
+        (4_194_304, 4_194_304, 67_108_864, Ok(5_721_670)),
+    ];
+    for (min, avg, max, want) in cases {
+        let got = CutSizes::new(min, avg, max).map(|sizes| sizes.discriminator());
+        assert_eq!(rt; got, want, "{min} {avg} {max}");
+    }
+}
+
+fn sizes_of(rt: &impl Abort, min: u64, avg: u64, max: u64) -> CutSizes {
+    CutSizes::new(min, avg, max).expect(rt, "sizes")
+}
+
+#[test]
+fn images_are_cut_by_their_bytes(rt: HostRuntime) -> Result<(), Fail> {
+    let alloc = rt.alloc();
+    let small = sizes_of(&rt, 48, 63, 100);
+    let cases: [(u8, usize, &[u64]); 6] = [
+        (0xff, 0, &[]),
+        (0xff, 47, &[47]),
+        (0xff, 48, &[48]),
+        (0xff, 100, &[48, 96, 100]),
+        (0, 100, &[100]),
+        (0, 200, &[100, 200]),
+    ];
+    for (byte, length, want) in cases {
+        let image = vec![in alloc; byte; length]?;
+        let ends = ends_of(alloc, &small, image.as_slice())?;
+        assert_eq!(rt; ends.as_slice(), want, "{length} times {byte}");
+    }
+    let zeros = vec![in alloc; 0u8; 600_000]?;
+    let usual = sizes_of(&rt, 16_384, 65_536, 262_144);
+    let ends = ends_of(alloc, &usual, zeros.as_slice())?;
+    assert_eq!(rt; ends.as_slice(), [262_144, 524_288, 600_000].as_slice());
+    Ok(())
+}
+
+// An image in memory, which is always read.
+#[derive(Drop)]
+struct Image {
+    bytes: Vec<u8>,
+}
+
+impl View for Image {
+    ghost use Rattle.std.specs.Prelude.{length, Some, true, [], refl};
+    ghost use Rattle.dsy_base.specs.Bytes.{Held};
+
+    ghost held = { λ v. record { bytes = Some v.bytes.items; size = length v.bytes.items; name = [] } };
+
+    ghost faults = { λ _. 0 };
+
+    ghost tells = { true };
+
+    ghost never_fails = { true };
+
+    fn size(&self) -> u64 {
+        self.bytes.len() as u64
+    }
+
+    fn read_at(&mut self, at: u64, out: &mut [u8]) -> Result<(), Failed> {
+        let at = at as usize;
+        out.copy_from_slice(&self.bytes[at..at + out.len()]);
+        Ok(())
+    }
+
+    ghost told = { λ _. refl };
+
+    ghost sized = { λ _. refl };
+
+    ghost sure = { λ _ _. refl };
+}
+
+// Bytes without a pattern, from a linear congruence.
+fn mixed(alloc: Global, length: usize) -> Result<Image, Fail> {
+    let mut bytes = Vec::new(alloc);
+    let mut state = 1u64;
+    for _ in 0..length {
+        state = state.wrapping_mul(1_103_515_245).wrapping_add(12_345) % 0x8000_0000;
+        bytes.push((state >> 16 & 0xff) as u8)?;
+    }
+    Ok(Image { bytes })
+}
+
+// The ends are those of another program.
+#[test]
+fn an_index_names_each_chunk(rt: HostRuntime) -> Result<(), Fail> {
+    let alloc = rt.alloc();
+    let want = [
+        109, 220, 360, 483, 602, 724, 1236, 1399, 1631, 1715, 1850, 1946, 2031, 2154, 2243, 2392,
+        2496, 2652, 2775, 2872, 2945, 3000,
+    ];
+    let mut views = Vec::new(alloc);
+    views.push(mixed(alloc, 3000)?)?;
+    assert_eq!(rt; views.len(), 1);
+    let (views, answer) = index_view(alloc, views, &sizes_of(&rt, 64, 128, 512));
+    let index = answer?;
+    assert_eq!(rt; views.len(), 1);
+    assert_eq!(rt; index.flags(), 0xa000_0000_0000_0000);
+    assert_eq!(rt; (index.min(), index.avg(), index.max()), (64, 128, 512));
+    assert_eq!(rt; index.count(), want.len());
+    let mut start = 0;
+    for i in 0..want.len() {
+        assert_eq!(rt; index.end(i), want[i]);
+        let end = want[i] as usize;
+        assert!(rt; start <= end && end <= views[0].bytes.len());
+        let slice = &views[0].bytes[start..end];
+        assert!(rt; index.id(i).is_of(DigestKind::Sha512T256, slice), "{i}");
+        start = end;
+    }
+    Ok(())
+}
