@@ -1,0 +1,4 @@
+pub mod Chunks
+pub mod Sending
+pub mod Distinct
+pub mod InfoText

@@ -1,0 +1,4 @@
+pub mod Checks
+pub mod Texts
+pub mod Blocks
+pub mod Figures

@@ -1,0 +1,59 @@
+//! The ids of an index as text, a line an entry.
+
+ghost use Rattle.std.specs.Prelude.{◌≡◌, ◌≤◌, [], ◌∷◌, ◌++◌, OnOk, OnErr};
+ghost use Rattle.hex.specs.Hex.{encode_lower};
+ghost use Rattle.dsy_base.specs.Counts.{Rose};
+ghost use Rattle.verify_tool.specs.Texts.{text_of_chunks, Puts};
+ghost use Rattle.verify_tool.specs.Blocks.{Sends};
+
+use caibx_codec::index::Index;
+use chunk_store::id::ChunkId;
+use dsy_base::fault::IoFault;
+use dsy_base::sink::Sink;
+use std::alloc::{AllocError, Global};
+
+/// How many bytes are gathered before they are put: 512 lines.
+const BLOCK: usize = 33_280;
+
+// Appends the line of an id.
+fn push_line(block: &mut Vec<u8>, id: &ChunkId) -> Result<(), AllocError>
+    ensures ok { OnOk result (block.new.items ≡ block.old.items ++ (encode_lower id.now.0 ++ 10 ∷ [])) }
+{
+    block.extend_from_slice(id.to_hex().as_slice())?;
+    block.push(b'\n')?;
+    Ok(())
+}
+
+// Puts the block once it is full, and begins it anew.
+fn put_full<S: Sink>(out: &mut S, block: &mut Vec<u8>) -> Result<(), IoFault>
+    ensures bytes { Sends block.old.items (S.taken out.old) (S.taken out.new) block.new.items result }
+    ensures faults { S.faults out.old ≤ S.faults out.new }
+    ensures cause { result ≡ Err IoFault.Failed → Rose (S.faults out.old) (S.faults out.new) }
+{
+    if block.len() < BLOCK {
+        return Ok(());
+    }
+    out.put(block)?;
+    block.clear();
+    Ok(())
+}
+
+/// Puts the id of each entry on a line of its own, in order, repeats included.
+pub fn list_chunks<S: Sink>(alloc: Global, index: &Index, out: &mut S) -> Result<(), IoFault>
+    ensures bytes { Puts (text_of_chunks index.now) (S.taken out.old) (S.taken out.new) result }
+    ensures faults { S.faults out.old ≤ S.faults out.new }
+    ensures cause { result ≡ Err IoFault.Failed → Rose (S.faults out.old) (S.faults out.new) }
+{
+    let mut block = Vec::new(alloc);
+    for i in 0..index.count() {
+        match put_full(out, &mut block) {
+            Ok(()) => {}
+            Err(fault) => return Err(fault),
+        }
+        match push_line(&mut block, &index.id(i)) {
+            Ok(()) => {}
+            Err(_) => return Err(IoFault::Memory),
+        }
+    }
+    out.put(&block)
+}

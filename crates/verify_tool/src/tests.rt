@@ -1,0 +1,150 @@
+//! Small indexes, checked, listed and described. The names are from FIPS 180-4's example and another program.
+
+use crate::check::{CheckFault, verify_index};
+use crate::info::info;
+use crate::list::list_chunks;
+use caibx_codec::index::{Entry, Index};
+use chunk_store::id::ChunkId;
+use dsy_base::fault::IoFault;
+use dsy_base::mem_sink::MemSink;
+use dsy_base::mem_view::MemView;
+use std::alloc::Global;
+use std::test::Fail;
+
+const ABC: &str = "53048e2681941ef99b2e29b76b4c7dabe4c2d0c634fc6d46e0e2f13107e7af23";
+
+const ABX: &str = "69b9fe464181451d00de83054c5fd4017d2537e0c35399e228a72f14ec546a03";
+
+const DEF: &str = "f391834ba55302124fbcfc8df6831a666e468b310e99295e1fce0abf8ef9ec3f";
+
+const DEX: &str = "99fd98af64dbf7b52833a40d79bb5d8719070460665c2be3a01a01a88c57b2ef";
+
+fn id_of(text: &str) -> Result<ChunkId, Fail> {
+    Ok(ChunkId::from_hex(text)?)
+}
+
+// The index of chunks of three bytes with these names.
+fn index_of(alloc: Global, names: &[&str]) -> Result<Index, Fail> {
+    let mut entries = Vec::new(alloc);
+    let mut end = 0u64;
+    for name in names {
+        end = end.saturating_add(3);
+        let id = id_of(name)?;
+        entries.push(Entry { end, id })?;
+    }
+    Ok(Index::new(0xa000_0000_0000_0000, 16_384, 65_536, 262_144, entries)?)
+}
+
+// The numbers of the calls that fail: the one with this number.
+fn fails(alloc: Global, call: u64) -> Result<Vec<u64>, Fail> {
+    Ok(vec![in alloc; call]?)
+}
+
+#[test]
+fn the_first_wrong_chunk_is_named(rt: HostRuntime) -> Result<(), Fail> {
+    let alloc = rt.alloc();
+    let one = index_of(alloc, &[ABC])?;
+    let two = index_of(alloc, &[ABC, DEF])?;
+    let none = index_of(alloc, &[])?;
+    let abx = Err(CheckFault::Mismatch {
+        entry: 0,
+        got: id_of(ABX)?,
+    });
+    let dex = Err(CheckFault::Mismatch {
+        entry: 1,
+        got: id_of(DEX)?,
+    });
+    let cases: [(&Index, &[u8], Result<(), CheckFault>); 6] = [
+        (&one, b"abc", Ok(())),
+        (&one, b"abX", abx),
+        (&one, b"abcd", Err(CheckFault::Length { size: 4 })),
+        (&two, b"abcdeX", dex),
+        (&two, b"abXdeX", abx),
+        (&none, b"", Ok(())),
+    ];
+    for (index, image, want) in cases {
+        let bytes = Vec::from_slice(alloc, image)?;
+        let mut view = MemView::new(alloc, bytes, Vec::new(alloc));
+        assert_eq!(rt; verify_index(alloc, index, &mut view), want);
+    }
+    Ok(())
+}
+
+#[test]
+fn a_failed_read_is_no_mismatch(rt: HostRuntime) -> Result<(), Fail> {
+    let alloc = rt.alloc();
+    let two = index_of(alloc, &[ABC, DEF])?;
+    let image = Vec::from_slice(alloc, b"abcdeX")?;
+    let mut view = MemView::new(alloc, image, fails(alloc, 1)?);
+    assert_eq!(rt;
+        verify_index(alloc, &two, &mut view),
+        Err(CheckFault::ImageFault)
+    );
+    Ok(())
+}
+
+#[test]
+fn each_entry_has_a_line(rt: HostRuntime) -> Result<(), Fail> {
+    let alloc = rt.alloc();
+    let index = index_of(alloc, &[ABC, DEF, ABC])?;
+    let text = format!(in alloc; "{ABC}\n{DEF}\n{ABC}\n")?;
+    let mut sink = MemSink::new(alloc, Vec::new(alloc));
+    assert_eq!(rt; list_chunks(alloc, &index, &mut sink), Ok(()));
+    assert_eq!(rt; sink.taken(), text.as_bytes());
+
+    let mut failing = MemSink::new(alloc, fails(alloc, 0)?);
+    assert_eq!(rt;
+        list_chunks(alloc, &index, &mut failing),
+        Err(IoFault::Failed)
+    );
+    assert_eq!(rt; failing.taken(), b"".as_slice());
+    Ok(())
+}
+
+#[test]
+fn long_lists_are_put_in_blocks(rt: HostRuntime) -> Result<(), Fail> {
+    let alloc = rt.alloc();
+    let names = vec![in alloc; DEF; 1_000]?;
+    let index = index_of(alloc, names.as_slice())?;
+    let mut sink = MemSink::new(alloc, Vec::new(alloc));
+    assert_eq!(rt; list_chunks(alloc, &index, &mut sink), Ok(()));
+    assert_eq!(rt; sink.taken().len(), 65_000);
+
+    let mut failing = MemSink::new(alloc, fails(alloc, 1)?);
+    assert_eq!(rt;
+        list_chunks(alloc, &index, &mut failing),
+        Err(IoFault::Failed)
+    );
+    assert_eq!(rt; failing.taken().len(), 33_280);
+    Ok(())
+}
+
+#[test]
+fn figures_are_one_line(rt: HostRuntime) -> Result<(), Fail> {
+    let alloc = rt.alloc();
+    let one = index_of(alloc, &[ABC])?;
+    let three = index_of(alloc, &[ABC, DEF, ABC])?;
+    let cases = [
+        (
+            &one,
+            Some(1),
+            ",\"in-store\":1,\"size\":3,\"total\":1,\"unique\":1",
+        ),
+        (&one, None, ",\"size\":3,\"total\":1,\"unique\":1"),
+        (
+            &three,
+            Some(0),
+            ",\"in-store\":0,\"size\":9,\"total\":3,\"unique\":2",
+        ),
+    ];
+    for (index, in_store, rest) in cases {
+        let sizes = "\"chunk-size-avg\":65536,\"chunk-size-max\":262144,\"chunk-size-min\":16384";
+        let text = format!(in alloc; "{{{sizes}{rest}}}\n")?;
+        let mut sink = MemSink::new(alloc, Vec::new(alloc));
+        assert_eq!(rt; info(alloc, index, in_store, &mut sink), Ok(()));
+        assert_eq!(rt; sink.taken(), text.as_bytes(), "{rest}");
+    }
+    let mut failing = MemSink::new(alloc, fails(alloc, 0)?);
+    assert_eq!(rt; info(alloc, &one, None, &mut failing), Err(IoFault::Failed));
+    Ok(())
+}
