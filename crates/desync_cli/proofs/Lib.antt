@@ -1,0 +1,13 @@
+pub mod Writes
+pub mod Steps
+pub mod Walked
+pub mod Texts
+pub mod Extracted
+pub mod Numbers
+pub mod Done
+pub mod Puts
+pub mod Kept
+pub mod Views
+pub mod Made
+pub mod IsMade
+pub mod Unread

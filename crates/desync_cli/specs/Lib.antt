@@ -1,0 +1,14 @@
+pub mod Right
+pub mod Lacks
+pub mod Walks
+pub mod Words
+pub mod Stores
+pub mod Assemblies
+pub mod Extracts
+pub mod Loads
+pub mod Statuses
+pub mod Keeps
+pub mod Makes
+pub mod ErrorLines
+pub mod Help
+pub mod Made

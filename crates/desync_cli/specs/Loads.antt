@@ -1,0 +1,15 @@
+-- How reading an index file by its name may end.
+use Rattle.std.specs.Prelude.{◌≡◌, ℕ, List, Some, None, Result, Ok, Err}
+use Rattle.caibx_codec.specs.Listing.{Listing}
+use Rattle.caibx_codec.specs.Spelling.{IsIndexFile}
+use Rattle.dsy_base.specs.Maps.{Map}
+use Rattle.desync_cli.specs.Extracts.{IsBad}
+use Rattle.desync_cli.specs.declared.extract.LoadFault.{LoadFault}
+use Rattle.desync_cli.specs.declared.extract.LoadFault.TheVariants as load
+
+abbrev pub LoadEnds : Map (List ℕ) → List ℕ → Result Listing LoadFault → Type 0
+LoadEnds files index (Ok l) = (b : List ℕ) × (files index ≡ Some b) × IsIndexFile b l
+LoadEnds files index (Err load.NoFile) = files index ≡ None
+LoadEnds files index (Err (load.Bad f)) = (b : List ℕ) × (files index ≡ Some b) × IsBad b f
+LoadEnds files index (Err load.Failed) = Unit {0}
+LoadEnds files index (Err load.Memory) = Unit {0}

@@ -1,0 +1,76 @@
+//! The assembly of an image: the length, then each entry.
+
+ghost use Rattle.std.specs.Prelude.{◌≡◌, ℕ, List, ◌<◌, ◌≤◌, length, IfSome, IfOk, IfErr};
+ghost use Rattle.caibx_codec.specs.Listing.{count_of, size_of, image_length};
+ghost use Rattle.desync_cli.specs.Assemblies.{Assembles, HaltLacks, HaltVerdict, IsTargetFault, IsStoreFault};
+ghost use Rattle.dsy_base.specs.Bytes.{resized};
+ghost use Rattle.dsy_base.specs.Counts.{Rose, Quiet};
+
+use crate::walk::{Stop, settle_all};
+use caibx_codec::index::Index;
+use chunk_store::store::Store;
+use dsy_base::fault::IoFault;
+use dsy_base::view::{Target, View};
+use std::alloc::{AllocError, Global};
+
+/// Why an assembly ended early.
+#[derive(Clone, Copy, Debug, PartialEq, Eq)]
+pub enum Halt {
+    /// The length couldn't be set.
+    Length(IoFault),
+    /// An entry couldn't be made right.
+    Entry(Stop),
+}
+
+// The number of bytes of the largest entry.
+fn largest(index: &Index) -> usize
+    ensures inside { (i : ℕ) → i < count_of index.now → size_of index.now i ≤ result }
+{
+    let mut most = 0;
+    for i in 0..index.count() {
+        let size = index.size(i);
+        if most < size {
+            most = size;
+        }
+    }
+    most
+}
+
+/// Room for the largest entry.
+pub fn room_for(alloc: Global, index: &Index) -> Result<Vec<u8>, AllocError>
+    ensures inside { IfOk result (λ v. (i : ℕ) → i < count_of index.now → size_of index.now i ≤ length v.items) }
+{
+    let size = largest(index);
+    vec![in alloc; 0u8; size]
+}
+
+/// Makes the target the image that the index lists. `buf` has room for the largest entry.
+pub fn assemble<T: Target, S: Store>(
+    index: &Index,
+    target: &mut T,
+    store: &mut S,
+    buf: &mut [u8],
+) -> Result<(), Halt>
+    requires inside { (i : ℕ) → i < count_of index.now → size_of index.now i ≤ length buf.old }
+    ensures bytes { IfSome (T.held target.old).bytes (λ old. IfSome (T.held target.new).bytes
+        (λ t. Assembles index.now old t result)) }
+    ensures absent { IfSome (S.holds store.old) (λ m. IfErr result (HaltLacks index.now m)) }
+    ensures first { IfSome (T.held target.old).bytes (λ old. IfSome (S.holds store.old) (λ m.
+        Quiet (T.faults target.old) (T.faults target.new) → Quiet (S.faults store.old) (S.faults store.new) →
+        HaltVerdict index.now (resized old (image_length index.now)) m result)) }
+    ensures named { (T.held target.new).name ≡ (T.held target.old).name }
+    ensures place { S.place store.new ≡ S.place store.old }
+    ensures target_faults { T.faults target.old ≤ T.faults target.new }
+    ensures store_faults { S.faults store.old ≤ S.faults store.new }
+    ensures target_cause { IfErr result (λ h. IsTargetFault h → Rose (T.faults target.old) (T.faults target.new)) }
+    ensures store_cause { IfErr result (λ h. IsStoreFault h → Rose (S.faults store.old) (S.faults store.new)) }
+{
+    match target.set_len(index.length()) {
+        Ok(()) => {}
+        Err(fault) => return Err(Halt::Length(fault)),
+    }
+    match settle_all(index, target, store, buf) {
+        Ok(()) => Ok(()),
+        Err(stop) => Err(Halt::Entry(stop)),
+    }
+}

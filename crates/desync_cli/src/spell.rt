@@ -1,0 +1,56 @@
+//! The bytes of an index file, in memory.
+
+ghost use Rattle.std.specs.Prelude.{◌≡◌, IfOk};
+ghost use Rattle.caibx_codec.specs.Spelling.{file_of};
+
+use caibx_codec::index::Index;
+use caibx_codec::writing::write_index;
+use dsy_base::fault::IoFault;
+use dsy_base::sink::Sink;
+use std::alloc::{AllocError, Global};
+
+// A sink that keeps what it takes, and never fails.
+#[derive(Drop)]
+struct Kept {
+    bytes: Vec<u8>,
+}
+
+impl Sink for Kept {
+    ghost use Rattle.std.specs.Prelude.{Some, true, refl};
+
+    ghost taken = { λ s. Some s.bytes.items };
+
+    ghost faults = { λ _. 0 };
+
+    ghost tells = { true };
+
+    ghost never_fails = { true };
+
+    fn put(&mut self, b: &[u8]) -> Result<(), IoFault> {
+        match self.bytes.extend_from_slice(b) {
+            Ok(()) => Ok(()),
+            Err(_) => Err(IoFault::Memory),
+        }
+    }
+
+    ghost told = { λ _. refl };
+
+    ghost sure = { λ _ _. refl };
+}
+
+/// The bytes of the index's file.
+pub fn spell(alloc: Global, index: &Index) -> Result<Vec<u8>, AllocError>
+    ensures ok { IfOk result (λ v. v.items ≡ file_of index.now) }
+{
+    let mut sink = Kept {
+        bytes: Vec::new(alloc),
+    };
+    match write_index(alloc, index, &mut sink) {
+        Ok(()) => {
+            let Kept { bytes } = sink;
+            Ok(bytes)
+        }
+        Err(IoFault::Memory) => Err(AllocError),
+        Err(IoFault::Failed) => unreachable!(),
+    }
+}
