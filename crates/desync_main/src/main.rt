@@ -1,0 +1,48 @@
+//! The program `desync`: files and folders of the operating system under the commands.
+#![tactic(auto)]
+
+mod real_files;
+mod real_folder;
+mod real_sink;
+mod real_target;
+mod real_view;
+#[cfg(test)]
+mod tests;
+
+use desync_cli::error_line::put_error_line;
+use desync_cli::run::desync;
+use real_files::RealFiles;
+use real_sink::RealSink;
+use std::env::Env;
+use std::io::ErrorKind;
+use std::process::ExitCode;
+use std::{env, io};
+
+// The words after the program's name.
+fn words_of<R: Env + AllocGlobal>(rt: &R) -> io::Result<Vec<String>> {
+    let mut all = env::args(rt)?;
+    let _program = all.next();
+    Ok(all.collect(rt.alloc())?)
+}
+
+// Tells standard error where a word is no text. Want of memory is told by the status alone.
+fn refuse(rt: &impl Eprint, error: &io::Error) -> ExitCode {
+    if error.kind() == ErrorKind::InvalidData {
+        let _ = rt.eprintln("desync: a word is no text in UTF-8");
+    }
+    ExitCode::FAILURE
+}
+
+fn main(rt: HostRuntime) -> ExitCode {
+    let words = match words_of(&rt) {
+        Ok(words) => words,
+        Err(error) => return refuse(&rt, &error),
+    };
+    let mut files = RealFiles::new(&rt, rt.alloc());
+    let ended = desync(rt.alloc(), &words, &mut files);
+    let stderr = rt.stderr();
+    let mut err = RealSink::new(io::writer(&stderr));
+    // How it ended stands already, whether the line is put or not.
+    let _ = put_error_line(rt.alloc(), &ended.outcome, &mut err);
+    ExitCode::from(ended.status)
+}

@@ -1,0 +1,242 @@
+//! Files and folders of the operating system by their names. They don't tell contracts what they hold.
+
+ghost use Rattle.std.specs.Prelude.{◌≡◌, IfOk, IsSome, OnOk};
+ghost use Rattle.std.specs.Map.{count_at};
+ghost use Rattle.dsy_base.specs.Counts.{Rose, Counted};
+ghost use Rattle.dsy_base.specs.Slots.{counts_in};
+
+use crate::real_folder::{RealFolder, put_file};
+use crate::real_target::RealTarget;
+use crate::real_view::RealView;
+use dsy_base::fault::{IoFault, OpenFault};
+use dsy_base::files::Files;
+use dsy_base::name::Name;
+use dsy_base::slots::{Slots, claim, count};
+use std::alloc::{AllocError, Global};
+use std::collections::BTreeMap;
+use std::fs::{File, OpenOptions};
+use std::io::ErrorKind;
+use std::rt::Files as System;
+use std::{fs, io};
+
+/// Files and folders of the operating system. For each name that was used it keeps how often calls on it have failed.
+#[derive(Drop)]
+pub struct RealFiles<'a, R: System<File = File>> {
+    rt: &'a R,
+    alloc: Global,
+    files: Slots<()>,
+    folders: Slots<()>,
+}
+
+/// What stands under a name.
+enum Found {
+    /// A file of so many bytes.
+    File(u64),
+    Folder,
+    Nothing,
+    /// What is neither, or can't be reached.
+    Other,
+}
+
+// What stands under the name. Symbolic links are followed.
+fn stat<R: System<File = File>>(rt: &R, name: &str) -> Found {
+    match fs::metadata(rt, name) {
+        Ok(metadata) if metadata.is_file() => Found::File(metadata.len()),
+        Ok(metadata) if metadata.is_dir() => Found::Folder,
+        Ok(_) => Found::Other,
+        Err(error) => match error.kind() {
+            ErrorKind::NotFound | ErrorKind::NotADirectory => Found::Nothing,
+            _ => Found::Other,
+        },
+    }
+}
+
+// The size of the file, which is made where there is none.
+fn open_file<R: System<File = File>>(rt: &R, name: &str, fresh: bool) -> io::Result<u64> {
+    let file = OpenOptions::new()
+        .write(true)
+        .create(true)
+        .truncate(fresh)
+        .open(rt, name)?;
+    Ok(file.metadata()?.len())
+}
+
+// The path of a temporary file beside the file of this name, which doesn't grow with the name.
+fn temporary_beside(alloc: Global, name: &str) -> Result<String, AllocError> {
+    let mut path = String::new(alloc);
+    if let Some((folder, _)) = name.rsplit_once('/') {
+        path.push_str(folder)?;
+        path.push('/')?;
+    }
+    path.push_str(".tmp-desync")?;
+    Ok(path)
+}
+
+// Puts `b` in the place of the file, or of the file that the name links to.
+fn replace_file<R: System<File = File> + AllocGlobal>(
+    rt: &R,
+    name: &str,
+    b: &[u8],
+) -> io::Result<()> {
+    match stat(rt, name) {
+        Found::File(_) | Found::Nothing => {}
+        Found::Folder | Found::Other => return Err(io::Error::from(ErrorKind::Other)),
+    }
+    let is_link = match fs::symlink_metadata(rt, name) {
+        Ok(metadata) => metadata.is_symlink(),
+        Err(_) => false,
+    };
+    if is_link {
+        let path = fs::canonicalize(rt, name)?;
+        let temporary = temporary_beside(rt.alloc(), path.as_str())?;
+        put_file(rt, rt.alloc(), path.as_str(), temporary.as_str(), b)?;
+        return Ok(());
+    }
+    let temporary = temporary_beside(rt.alloc(), name)?;
+    put_file(rt, rt.alloc(), name, temporary.as_str(), b)?;
+    Ok(())
+}
+
+// Makes room for the name's number.
+fn named(alloc: Global, slots: &mut Slots<()>, name: &str) -> Result<Name, AllocError>
+    ensures named { IfOk result (λ n. n ≡ name.now) }
+    ensures counts { Counted (counts_in slots.old) (counts_in slots.new) name.now }
+    ensures known { OnOk result (IsSome (counts_in slots.new name.now)) }
+{
+    claim(alloc, slots, name)?;
+    Name::of(alloc, name)
+}
+
+// Counts a fault of the name.
+fn fail(slots: &mut Slots<()>, name: &str)
+    requires { IsSome (counts_in slots.old name.now) }
+    ensures counts { Counted (counts_in slots.old) (counts_in slots.new) name.now }
+    ensures cause { Rose (count_at (counts_in slots.old) name.now) (count_at (counts_in slots.new) name.now) }
+{
+    count(slots, name, 1);
+}
+
+impl<'a, R: System<File = File>> RealFiles<'a, R> {
+    pub fn new(rt: &'a R, alloc: Global) -> RealFiles<'a, R> {
+        RealFiles {
+            rt,
+            alloc,
+            files: BTreeMap::new(alloc),
+            folders: BTreeMap::new(alloc),
+        }
+    }
+}
+
+impl<'a, R: System<File = File> + AllocGlobal + Clone + Drop> Files for RealFiles<'a, R> {
+    type View = RealView<'a, R>;
+
+    type Target = RealTarget<'a, R>;
+
+    type Look = RealFolder<'a, R>;
+
+    type Folder = RealFolder<'a, R>;
+
+    ghost use Rattle.std.specs.Prelude.{None, false, refl};
+    ghost use Rattle.std.proofs.Common.{rules};
+    ghost use Rattle.dsy_base.specs.Slots.{counts_in};
+
+    ghost files = { λ _. None };
+
+    ghost folders = { λ _. None };
+
+    ghost file_counts = { λ s. counts_in s.files };
+
+    ghost folder_counts = { λ s. counts_in s.folders };
+
+    ghost tells = { false };
+
+    ghost never_fails = { false };
+
+    fn view(&mut self, name: &str) -> Result<RealView<'a, R>, OpenFault> {
+        let Ok(label) = named(self.alloc, &mut self.files, name) else {
+            return Err(OpenFault::Memory);
+        };
+        match stat(self.rt, name) {
+            Found::File(size) => Ok(RealView::new(self.rt, label, size)),
+            Found::Nothing => Err(OpenFault::Absent),
+            Found::Folder | Found::Other => {
+                fail(&mut self.files, name);
+                Err(OpenFault::Failed)
+            }
+        }
+    }
+
+    fn end_view(&mut self, v: RealView<'a, R>) {
+        let (label, faults) = v.into_parts();
+        count(&mut self.files, label.as_str(), faults);
+    }
+
+    fn take(&mut self, name: &str, fresh: bool) -> Result<RealTarget<'a, R>, IoFault> {
+        let Ok(label) = named(self.alloc, &mut self.files, name) else {
+            return Err(IoFault::Memory);
+        };
+        let opened = match stat(self.rt, name) {
+            Found::File(_) | Found::Nothing => open_file(self.rt, name, fresh).ok(),
+            Found::Folder | Found::Other => None,
+        };
+        match opened {
+            Some(size) => Ok(RealTarget::new(self.rt, label, size)),
+            None => {
+                fail(&mut self.files, name);
+                Err(IoFault::Failed)
+            }
+        }
+    }
+
+    fn give(&mut self, name: &str, t: RealTarget<'a, R>) {
+        let faults = t.into_faults();
+        count(&mut self.files, name, faults);
+    }
+
+    fn replace(&mut self, name: &str, b: &[u8]) -> Result<(), IoFault> {
+        if claim(self.alloc, &mut self.files, name).is_err() {
+            return Err(IoFault::Memory);
+        }
+        match replace_file(self.rt, name, b) {
+            Ok(()) => Ok(()),
+            Err(_) => {
+                fail(&mut self.files, name);
+                Err(IoFault::Failed)
+            }
+        }
+    }
+
+    fn look(&mut self, name: &str) -> Result<RealFolder<'a, R>, OpenFault> {
+        let Ok(label) = named(self.alloc, &mut self.folders, name) else {
+            return Err(OpenFault::Memory);
+        };
+        match stat(self.rt, name) {
+            Found::Folder => Ok(RealFolder::new(self.rt, self.alloc, label)),
+            Found::Nothing | Found::File(_) => Err(OpenFault::Absent),
+            Found::Other => {
+                fail(&mut self.folders, name);
+                Err(OpenFault::Failed)
+            }
+        }
+    }
+
+    fn end_look(&mut self, l: RealFolder<'a, R>) {
+        let (label, faults) = l.into_parts();
+        count(&mut self.folders, label.as_str(), faults);
+    }
+
+    fn take_folder(&mut self, name: &str) -> Result<RealFolder<'a, R>, OpenFault> {
+        self.look(name)
+    }
+
+    fn give_folder(&mut self, name: &str, d: RealFolder<'a, R>) {
+        let (_, faults) = d.into_parts();
+        count(&mut self.folders, name, faults);
+    }
+
+    ghost told = { λ _. (refl, refl) };
+
+    ghost sure = { Prim.search rules };
+
+    ghost alike = { Prim.search rules };
+}

@@ -1,0 +1,114 @@
+//! Files of the operating system that are written. Offsets are bytes from 0.
+
+ghost use Rattle.std.specs.Prelude.{◌≡◌};
+
+use crate::real_view::read_at;
+use dsy_base::fault::{Failed, IoFault, raise};
+use dsy_base::name::Name;
+use dsy_base::view::{Part, Target, View};
+use std::fs::{File, OpenOptions};
+use std::io;
+use std::os::unix::fs::FileExt;
+use std::rt::Files;
+
+/// A file that is written. Each call opens it anew.
+#[derive(Drop)]
+pub struct RealTarget<'a, R: Files<File = File>> {
+    rt: &'a R,
+    name: Name,
+    size: u64,
+    faults: u64,
+}
+
+fn write_at<R: Files<File = File>>(rt: &R, name: &str, at: u64, b: &[u8]) -> io::Result<()> {
+    let file = OpenOptions::new().write(true).open(rt, name)?;
+    file.write_all_at(b, at)
+}
+
+fn set_len<R: Files<File = File>>(rt: &R, name: &str, n: u64) -> io::Result<()> {
+    let file = OpenOptions::new().write(true).open(rt, name)?;
+    file.set_len(n)
+}
+
+impl<'a, R: Files<File = File>> RealTarget<'a, R> {
+    /// The file, which has `size` bytes.
+    pub fn new(rt: &'a R, name: Name, size: u64) -> RealTarget<'a, R>
+        ensures size { result.size ≡ size }
+        ensures named { result.name ≡ name }
+        ensures faults { result.faults ≡ 0 }
+    {
+        RealTarget {
+            rt,
+            name,
+            size,
+            faults: 0,
+        }
+    }
+
+    /// How often a call on it has failed.
+    pub fn into_faults(self) -> u64
+        ensures { result ≡ self.entry.faults }
+    {
+        self.faults
+    }
+}
+
+impl<R: Files<File = File>> View for RealTarget<'_, R> {
+    ghost use Rattle.std.specs.Prelude.{None, false, refl};
+    ghost use Rattle.std.proofs.Common.{rules};
+
+    ghost held = { λ t. record { bytes = None; size = t.size; name = t.name } };
+
+    ghost faults = { λ t. t.faults };
+
+    ghost tells = { false };
+
+    ghost never_fails = { false };
+
+    fn size(&self) -> u64 {
+        self.size
+    }
+
+    fn read_at(&mut self, at: u64, out: &mut [u8]) -> Result<(), Failed> {
+        match read_at(self.rt, self.name.as_str(), at, out) {
+            Ok(()) => Ok(()),
+            Err(_) => {
+                self.faults = raise(self.faults, 1);
+                Err(Failed)
+            }
+        }
+    }
+
+    ghost told = { λ _. refl };
+
+    ghost sized = { λ _. tt };
+
+    ghost sure = { Prim.search rules };
+}
+
+impl<R: Files<File = File>> Part for RealTarget<'_, R> {
+    fn write_at(&mut self, at: u64, b: &[u8]) -> Result<(), Failed> {
+        match write_at(self.rt, self.name.as_str(), at, b) {
+            Ok(()) => Ok(()),
+            Err(_) => {
+                self.faults = raise(self.faults, 1);
+                Err(Failed)
+            }
+        }
+    }
+}
+
+impl<R: Files<File = File>> Target for RealTarget<'_, R> {
+    fn set_len(&mut self, n: u64) -> Result<(), IoFault> {
+        match set_len(self.rt, self.name.as_str(), n) {
+            Ok(()) => {
+                self.size = n;
+                Ok(())
+            }
+            Err(_) => {
+                self.faults = raise(self.faults, 1);
+                Err(IoFault::Failed)
+            }
+        }
+    }
+}

@@ -1,0 +1,86 @@
+//! The adapters over real files, in a folder of their own under the system's temporary folder.
+
+use crate::real_files::RealFiles;
+use dsy_base::fault::OpenFault;
+use dsy_base::files::Files;
+use dsy_base::folder::Folder;
+use dsy_base::look::Look;
+use dsy_base::view::{Part, Target, View};
+use std::alloc::AllocError;
+use std::test::Fail;
+use std::time::SystemTime;
+use std::{env, fs};
+
+// A new folder of this name under the temporary folder.
+fn fresh_folder(rt: &HostRuntime, name: &str) -> Result<String, Fail> {
+    let since = SystemTime::now(rt)?.duration_since(SystemTime::UNIX_EPOCH)?;
+    let (seconds, nanoseconds) = (since.as_secs(), since.subsec_nanos());
+    let temporary = env::temp_dir(rt)?;
+    let base = temporary.as_str();
+    let path = format!(in rt.alloc(); "{base}/desync-{name}-{seconds}-{nanoseconds}")?;
+    fs::create_dir(rt, path.as_str())?;
+    Ok(path)
+}
+
+fn inside(rt: &HostRuntime, folder: &str, name: &str) -> Result<String, AllocError> {
+    format!(in rt.alloc(); "{folder}/{name}")
+}
+
+#[test]
+fn a_file_holds_what_was_written(rt: HostRuntime) -> Result<(), Fail> {
+    let folder = fresh_folder(&rt, "written")?;
+    let name = inside(&rt, folder.as_str(), "file")?;
+    let mut files = RealFiles::new(&rt, rt.alloc());
+    let mut target = files.take(name.as_str(), false).ok().ok_or("not taken")?;
+    assert!(rt; target.set_len(6).is_ok());
+    assert_eq!(rt; target.size(), 6);
+    assert!(rt; target.write_at(0, b"abcdef").is_ok());
+    let mut middle = [0; 3];
+    assert_eq!(rt; target.size(), 6);
+    assert!(rt; target.read_at(2, &mut middle).is_ok());
+    assert_eq!(rt; middle, *b"cde");
+    files.give(name.as_str(), target);
+    assert!(rt; files.replace(name.as_str(), b"xyz").is_ok());
+    let mut view = files.view(name.as_str()).ok().ok_or("no view")?;
+    assert_eq!(rt; view.size(), 3);
+    let mut all = [0; 3];
+    assert!(rt; view.read_at(0, &mut all).is_ok());
+    assert_eq!(rt; all, *b"xyz");
+    files.end_view(view);
+    fs::remove_dir_all(&rt, folder.as_str())?;
+    Ok(())
+}
+
+#[test]
+fn a_folder_holds_what_was_put(rt: HostRuntime) -> Result<(), Fail> {
+    let path = fresh_folder(&rt, "put")?;
+    let mut files = RealFiles::new(&rt, rt.alloc());
+    let mut folder = files.take_folder(path.as_str()).ok().ok_or("not taken")?;
+    assert!(rt; folder.put("ab/cd", b"one").is_ok());
+    assert!(rt; folder.put("ab/cd", b"two").is_ok());
+    let mut bytes = [0; 4];
+    assert_eq!(rt; folder.read("ab/cd", &mut bytes), Ok(3));
+    assert_eq!(rt; bytes, *b"two\0");
+    assert_eq!(rt; folder.has("ab"), Ok(false));
+    let names = folder.names().ok().ok_or("no names")?;
+    assert_eq!(rt; names.len(), 1);
+    assert_eq!(rt; folder.remove("ab/cd"), Ok(true));
+    assert_eq!(rt; folder.remove("ab/cd"), Ok(false));
+    files.give_folder(path.as_str(), folder);
+    fs::remove_dir_all(&rt, path.as_str())?;
+    Ok(())
+}
+
+#[test]
+fn what_stands_under_a_name_decides(rt: HostRuntime) -> Result<(), Fail> {
+    let folder = fresh_folder(&rt, "names")?;
+    let absent = inside(&rt, folder.as_str(), "absent")?;
+    let mut files = RealFiles::new(&rt, rt.alloc());
+    assert!(rt; matches!(files.view(absent.as_str()), Err(OpenFault::Absent)));
+    assert!(rt; matches!(files.look(absent.as_str()), Err(OpenFault::Absent)));
+    assert!(rt; matches!(files.view(folder.as_str()), Err(OpenFault::Failed)));
+    assert!(rt; files.replace(absent.as_str(), b"").is_ok());
+    assert!(rt; matches!(files.look(absent.as_str()), Err(OpenFault::Absent)));
+    fs::remove_dir_all(&rt, folder.as_str())?;
+    Ok(())
+}
