@@ -1,0 +1,176 @@
+"""Cases, each in a folder of its own, counted as passed, failed or skipped; and what a folder holds."""
+
+import contextlib
+import os
+import shutil
+import stat
+import sys
+import tempfile
+import traceback
+
+import program
+
+# Files up to this many bytes are compared byte by byte, longer ones by size, times and number.
+WHOLE = 1 << 20
+
+
+def expect(holds, text):
+    if not holds:
+        raise AssertionError(text)
+
+
+def expect_equal(got, wanted, what):
+    if got != wanted:
+        raise AssertionError(f'{what} is {shown(got)}, and not {shown(wanted)}{first_difference(got, wanted)}')
+
+
+def first_difference(got, wanted):
+    if not isinstance(got, bytes) or not isinstance(wanted, bytes):
+        return ''
+    both = min(len(got), len(wanted))
+    place = next((at for at in range(both) if got[at] != wanted[at]), both)
+    return f', from byte {place} on'
+
+
+def shown(value):
+    if isinstance(value, (bytes, bytearray)) and len(value) > 40:
+        return f'{bytes(value[:40])!r}.. ({len(value)} bytes)'
+    return repr(value)
+
+
+def expect_said(ended):
+    """The program ended by itself, printed nothing, and its error lines are as the environment says."""
+    expect(ended.status in (0, 1), f'the status is {ended.status}')
+    expect_equal(ended.out, b'', 'standard output')
+    if program.ERROR_LINES == 'none':
+        expect_equal(ended.err, b'', 'standard error')
+    if program.ERROR_LINES == 'one':
+        lines = ended.err.splitlines()
+        expect_equal(len(lines), ended.status, 'the number of lines on standard error')
+        expect(all(line.startswith(b'desync: ') for line in lines), 'a line lacks "desync: "')
+
+
+class Skip(Exception):
+    """This case can't be tried on this machine: the text says why."""
+
+
+class Cases:
+    """The cases of one script. Call `end` last: it prints the count and gives the exit status."""
+
+    def __init__(self, name):
+        self.name = name
+        self.passed = self.failed = self.skipped = 0
+        self.top = tempfile.mkdtemp(prefix='desync-tests-')
+        os.chmod(self.top, 0o755)
+        self.number = 0
+
+    @contextlib.contextmanager
+    def case(self, what):
+        """A case in a fresh folder, which goes afterwards."""
+        self.number += 1
+        folder = os.path.join(self.top, str(self.number))
+        os.mkdir(folder)
+        try:
+            yield folder
+            self.passed += 1
+        except (Skip, program.NoUser) as why:
+            self.skip(what, why)
+        except AssertionError as why:
+            self.fail(what, why)
+        except Exception:
+            self.fail(what, traceback.format_exc())
+        finally:
+            remove(folder)
+
+    def fail(self, what, why):
+        self.failed += 1
+        print(f'FAILED {what}: {why}', flush=True)
+
+    def skip(self, what, why):
+        self.skipped += 1
+        print(f'SKIPPED {what}: {why}', flush=True)
+
+    def end(self):
+        remove(self.top)
+        more = f', {self.skipped} skipped' if self.skipped else ''
+        print(f'{self.name}: {self.passed} passed, {self.failed} failed{more}', flush=True)
+        return 1 if self.failed else 0
+
+
+def needs_program(name):
+    """Ends the script as failed where the program isn't built."""
+    if not program.is_built():
+        print(f'FAILED: {program.DESYNC} isn\'t there: run ./build first')
+        print(f'{name}: 0 passed, 1 failed')
+        sys.exit(1)
+
+
+def remove(folder):
+    """Removes a folder, whatever rights a case has taken away in it."""
+    os.chmod(folder, 0o755)
+    for path, folders, _ in os.walk(folder):
+        for name in folders:
+            inner = os.path.join(path, name)
+            if not os.path.islink(inner):
+                os.chmod(inner, 0o755)
+    shutil.rmtree(folder, ignore_errors=True)
+
+
+def put_file(path, data):
+    os.makedirs(os.path.dirname(path), exist_ok=True)
+    with open(path, 'wb') as file:
+        file.write(data)
+
+
+def file_bytes(path):
+    """The bytes of a file, or None where none is there."""
+    try:
+        with open(path, 'rb') as file:
+            return file.read()
+    except FileNotFoundError:
+        return None
+
+
+# What a folder holds
+
+def snapshot(folder):
+    """All below a folder: for each path its kind, rights, number, size, times and, up to a length, bytes."""
+    seen = {'.': _seen(folder)}
+    for path, folders, files in os.walk(folder):
+        for name in folders + files:
+            full = os.path.join(path, name)
+            seen[os.path.relpath(full, folder)] = _seen(full)
+    return seen
+
+
+def _seen(path):
+    facts = os.lstat(path)
+    data = None
+    if stat.S_ISLNK(facts.st_mode):
+        data = os.readlink(path)
+    elif stat.S_ISREG(facts.st_mode) and facts.st_size <= WHOLE:
+        with contextlib.suppress(PermissionError):
+            with open(path, 'rb') as file:
+                data = file.read()
+    size = 0 if stat.S_ISDIR(facts.st_mode) else facts.st_size
+    return facts.st_mode, facts.st_ino, size, facts.st_mtime_ns, facts.st_ctime_ns, data
+
+
+def _kind_and_number(seen, path):
+    return seen[path][:2] if path in seen else None
+
+
+def expect_untouched(before, after, but=()):
+    """Nothing changed but the named paths; a folder's times count where none of them came, went or was replaced."""
+    but = {os.path.normpath(path) for path in but}
+    moved = {path for path in but if _kind_and_number(before, path) != _kind_and_number(after, path)}
+    parents = {os.path.dirname(path) or '.' for path in moved}
+    for path in sorted(set(before) | set(after)):
+        if path in but or any(path.startswith(name + os.sep) for name in but):
+            continue
+        expect(path in before, f'{path!r} has come')
+        expect(path in after, f'{path!r} has gone')
+        if path in parents:
+            expect_equal(after[path][:3], before[path][:3], f'{path!r} (mode, number, size)')
+        else:
+            expect_equal(after[path], before[path], f'{path!r} (mode, number, size, times, bytes)')

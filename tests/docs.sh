@@ -1,0 +1,51 @@
+#!/bin/bash
+# What must never stand in the repository, and what must: tags and names of planning papers, paths of one
+# machine, files that are too long, and crates that crates.txt or README.md leaves out.
+cd "$(dirname "$0")/.." || exit 1
+passed=0
+failed=0
+
+# check WHAT FOUND: passes where nothing was found, else prints what was.
+check() {
+    if [ -z "$2" ]; then
+        passed=$((passed + 1))
+    else
+        failed=$((failed + 1))
+        printf 'FAILED %s:\n%s\n' "$1" "$(printf '%s\n' "$2" | head -20)"
+    fi
+}
+
+# The files of the repository: those that git keeps, and new ones that it would keep.
+files() {
+    if git rev-parse --is-inside-work-tree > /dev/null 2>&1; then
+        git ls-files -z --cached --others --exclude-standard
+    else
+        find . \( -name .git -o -name out -o -name bin -o -name __pycache__ \) -prune -o -type f -print0
+    fi
+}
+
+# Lines of text files that match an extended regular expression.
+lines() { files | xargs -0 -r grep -nHIE -- "$1" 2> /dev/null; }
+
+crates() { for folder in crates/*/; do [ -d "$folder" ] && basename "$folder"; done; }
+
+listed() { sed -n -E 's/^([a-z][a-z0-9_]*)[ :].*/\1/p' crates.txt; }
+
+check 'tags of a planning paper' "$(lines '\<(def|promise|step|example|wrong)[:][A-Za-z]')"
+check 'names of planning papers' "$(lines '\<(scope|promises|roadmap|formats|settled)[.]md|[.][.]/shared')"
+check 'paths of one machine' "$(lines '(^|[^A-Za-z0-9_.~-])/(opt|work|root)[/]')"
+check 'files of more than 800 lines' "$(files | xargs -0 -r wc -l 2> /dev/null |
+    awk '$2 ~ /^(\.\/)?crates\// && $1 > 800')"
+check 'files that are built' "$(files | tr '\0' '\n' | grep -E '(^|/)(out|bin|__pycache__)/')"
+check 'crates that crates.txt leaves out' "$(comm -23 <(crates | sort) <(listed | sort))"
+check 'crates of crates.txt that are not there' "$(comm -13 <(crates | sort) <(listed | sort))"
+if [ -f README.md ]; then
+    check 'crates that README.md leaves out' "$(crates | while read -r name; do
+        grep -qw -- "$name" README.md || echo "$name"
+    done)"
+else
+    check 'README.md' 'it is not there'
+fi
+
+echo "docs: $passed passed, $failed failed"
+[ "$failed" -eq 0 ]

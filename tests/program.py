@@ -1,0 +1,124 @@
+"""The built program, run on real files: its status, what it printed, its time and its peak memory.
+
+The program is bin/desync of this checkout, or the file that the environment variable DESYNC names.
+Times are seconds, memory is KiB. Linux alone.
+"""
+
+import os
+import resource
+import shutil
+import signal
+import subprocess
+import sys
+import time
+
+TOP = os.path.dirname(os.path.dirname(os.path.abspath(__file__)))
+DESYNC = os.path.abspath(os.environ.get('DESYNC', os.path.join(TOP, 'bin', 'desync')))
+TIME_LIMIT = 600
+NOBODY = 65534
+ADDRESS_LIMIT = 16 << 30
+
+# How many error lines a refusal prints: 'none' or 'one' are compared, anything else isn't.
+ERROR_LINES = os.environ.get('DESYNC_ERROR_LINES', 'any')
+
+
+class Ended:
+    """How a run ended; a status below 0 is the number of a signal."""
+
+    def __init__(self, status, out, err):
+        self.status = status
+        self.out = out
+        self.err = err
+
+
+def is_built():
+    return os.access(DESYNC, os.X_OK)
+
+
+def run(words, folder):
+    """Runs the program in a folder."""
+    return _ended(subprocess.Popen([DESYNC, *words], cwd=folder, **_streams()))
+
+
+def start(words, folder):
+    """Starts the program in a folder; `ended` waits for it."""
+    return subprocess.Popen([DESYNC, *words], cwd=folder, **_streams())
+
+
+def ended(process):
+    return _ended(process)
+
+
+def run_with_file_limit(words, folder, limit):
+    """Runs the program where no file may grow past a length: such a write or cut is refused, not fatal."""
+    def lower():
+        signal.signal(signal.SIGXFSZ, signal.SIG_IGN)
+        resource.setrlimit(resource.RLIMIT_FSIZE, (limit, limit))
+    return _ended(subprocess.Popen([DESYNC, *words], cwd=folder, preexec_fn=lower,
+                                   restore_signals=False, **_streams()))
+
+
+class NoUser(Exception):
+    """Permissions can't be tried here: the text says why."""
+
+
+def run_without_rights(words, folder):
+    """Runs the program as a user whom permissions bind: the caller, or nobody where the caller is root.
+
+    Nobody gets a copy of the program, since the checkout may lie where nobody comes.
+    """
+    if os.geteuid() != 0:
+        return run(words, folder)
+    copy = os.path.join(os.path.dirname(folder), 'desync-for-nobody')
+    shutil.copy(DESYNC, copy)
+    os.chmod(copy, 0o755)
+    try:
+        process = subprocess.Popen([copy, *words], cwd=folder, user=NOBODY, group=NOBODY,
+                                   extra_groups=[], **_streams())
+    except (PermissionError, TypeError) as why:
+        raise NoUser(f'the caller is root and nobody can\'t run the program: {why}') from why
+    return _ended(process)
+
+
+# Runs the words after the limit with that much address space, and prints status and peak memory.
+MEASURER = """
+import os, resource, sys
+limit = int(sys.argv[1])
+number = os.fork()
+if number == 0:
+    resource.setrlimit(resource.RLIMIT_AS, (limit, limit))
+    null = os.open(os.devnull, os.O_RDWR)
+    for stream in range(3):
+        os.dup2(null, stream)
+    os.execvp(sys.argv[2], sys.argv[2:])
+_, status, usage = os.wait4(number, 0)
+print(os.waitstatus_to_exitcode(status), usage.ru_maxrss)
+"""
+
+
+def run_measured(words, folder, program=DESYNC):
+    """Runs a program with a bound on its address space: its status, its seconds and its peak memory in KiB.
+
+    A bare Python starts it. The kernel counts a child's memory from its parent's, so a peak below that
+    of a bare Python, some 9 MiB, isn't seen.
+    """
+    begun = time.monotonic()
+    measured = subprocess.run([sys.executable, '-I', '-S', '-c', MEASURER, str(ADDRESS_LIMIT), program, *words],
+                              cwd=folder, stdin=subprocess.DEVNULL, stdout=subprocess.PIPE, check=True)
+    seconds = time.monotonic() - begun
+    status, peak = measured.stdout.split()
+    return int(status), seconds, int(peak)
+
+
+def _streams():
+    return {'stdin': subprocess.DEVNULL, 'stdout': subprocess.PIPE, 'stderr': subprocess.PIPE}
+
+
+def _ended(process):
+    try:
+        out, err = process.communicate(timeout=TIME_LIMIT)
+    except subprocess.TimeoutExpired:
+        process.kill()
+        process.communicate()
+        raise AssertionError(f'still at work after {TIME_LIMIT} seconds')
+    return Ended(process.returncode, out, err)
