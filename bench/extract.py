@@ -1,0 +1,64 @@
+#!/usr/bin/env python3
+"""`desync extract -k` of an image of random bytes in chunks of 16 to 256 KiB, beside openssl's digest of it.
+
+Into an absent output every byte is read from the store, named, written and, before that, read from the output
+and named; over an output that is right already every byte is read and named once. Needs three times the
+image's size under the temporary folder.
+"""
+
+import filecmp
+import os
+import random
+import sys
+
+import side_by_side
+import formats
+
+LEAST, GREATEST = 16 * 1024, 256 * 1024
+
+
+def write_image(folder, size):
+    """Writes the image, its index and its store, chunk by chunk. Answers the number of chunks."""
+    chance = random.Random(512)
+    entries, end = [], 0
+    with open(os.path.join(folder, 'image'), 'wb') as image:
+        while end < size:
+            chunk = chance.randbytes(min(chance.randint(LEAST, GREATEST), size - end))
+            end += len(chunk)
+            entries.append((end, formats.name_of(chunk)))
+            formats.write_chunk(os.path.join(folder, 'store'), entries[-1][1], chunk)
+            image.write(chunk)
+    with open(os.path.join(folder, 'image.caibx'), 'wb') as index:
+        index.write(formats.spell_index(formats.Index(entries)))
+    return len(entries)
+
+
+def main():
+    options = side_by_side.arguments(__doc__, 512)
+    size = options.size * side_by_side.MIB
+    with side_by_side.work_folder() as folder:
+        count = write_image(folder, size)
+        image, output = os.path.join(folder, 'image'), os.path.join(folder, 'output')
+
+        def remove_output():
+            if os.path.exists(output):
+                os.remove(output)
+
+        words = ['extract', '-k', '-s', 'store', 'image.caibx', 'output']
+        rows = [side_by_side.openssl(image),
+                side_by_side.Row('extract -k, output absent', words, remove_output, at_most=4),
+                side_by_side.Row('extract -k, output right already', words, at_most=2)]
+        side_by_side.measure(rows, folder, options.runs)
+        if not filecmp.cmp(image, output, shallow=False):
+            sys.exit('the output is not the image')
+
+        print(f'an image of {size} bytes, {count} chunks, an index of '
+              f'{os.path.getsize(os.path.join(folder, "image.caibx"))} bytes; medians of {options.runs} runs')
+        side_by_side.print_table(rows, size)
+        print('Peak memory is wanted at most 16384 KiB beside the index.')
+        for row in rows[1:]:
+            side_by_side.print_openings(row, folder, output)
+
+
+if __name__ == '__main__':
+    main()
