@@ -12,6 +12,7 @@ use crate::fault::IndexFault;
 use crate::format::{DIGEST_FLAG, ITEM_LIMIT, SIZE_LIMIT};
 use chunk_store::id::{ChunkId, DigestKind};
 use chunk_store::laws::id_has_32_bytes;
+use std::alloc::{AllocError, Global};
 use std::marker::Model;
 
 /// A chunk of an image: the offset at which it ends, and its id.
@@ -200,5 +201,27 @@ impl Index {
     {
         let n = self.entries.len();
         if n == 0 { 0 } else { self.entries[n - 1].end }
+    }
+
+    /// The number of bytes of the largest chunk, or 0 where there is none.
+    pub fn largest(&self) -> usize
+        ensures inside { (i : ℕ) → i < count_of self.now → size_of self.now i ≤ result }
+    {
+        let mut most = 0;
+        for i in 0..self.count() {
+            let size = self.size(i);
+            if most < size {
+                most = size;
+            }
+        }
+        most
+    }
+
+    /// A buffer that any one of its chunks fits into.
+    pub fn room(&self, alloc: Global) -> Result<Vec<u8>, AllocError>
+        ensures inside { IfOk result (λ v. (i : ℕ) → i < count_of self.now → size_of self.now i ≤ length v.items) }
+    {
+        let size = self.largest();
+        vec![in alloc; 0u8; size]
     }
 }

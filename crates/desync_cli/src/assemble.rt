@@ -1,6 +1,6 @@
 //! The assembly of an image: the length, then each entry.
 
-ghost use Rattle.std.specs.Prelude.{◌≡◌, ℕ, List, ◌<◌, ◌≤◌, length, IfSome, IfOk, IfErr};
+ghost use Rattle.std.specs.Prelude.{◌≡◌, ℕ, List, ◌<◌, ◌≤◌, length, IfSome, IfErr};
 ghost use Rattle.caibx_codec.specs.Listing.{count_of, size_of, image_length};
 ghost use Rattle.desync_cli.specs.Assemblies.{Assembles, HaltLacks, HaltVerdict, IsTargetFault, IsStoreFault};
 ghost use Rattle.dsy_base.specs.Bytes.{resized};
@@ -11,7 +11,6 @@ use caibx_codec::index::Index;
 use chunk_store::store::Store;
 use dsy_base::fault::IoFault;
 use dsy_base::view::{Target, View};
-use std::alloc::{AllocError, Global};
 
 /// Why an assembly ended early.
 #[derive(Clone, Copy, Debug, PartialEq, Eq)]
@@ -20,28 +19,6 @@ pub enum Halt {
     Length(IoFault),
     /// An entry couldn't be made right.
     Entry(Stop),
-}
-
-// The number of bytes of the largest entry.
-fn largest(index: &Index) -> usize
-    ensures inside { (i : ℕ) → i < count_of index.now → size_of index.now i ≤ result }
-{
-    let mut most = 0;
-    for i in 0..index.count() {
-        let size = index.size(i);
-        if most < size {
-            most = size;
-        }
-    }
-    most
-}
-
-/// Room for the largest entry.
-pub fn room_for(alloc: Global, index: &Index) -> Result<Vec<u8>, AllocError>
-    ensures inside { IfOk result (λ v. (i : ℕ) → i < count_of index.now → size_of index.now i ≤ length v.items) }
-{
-    let size = largest(index);
-    vec![in alloc; 0u8; size]
 }
 
 /// Makes the target the image that the index lists. `buf` has room for the largest entry.

@@ -11,7 +11,7 @@ ghost use Rattle.desync_cli.specs.declared.outcome.UsageWhy.{UsageWhy};
 ghost use Rattle.dsy_base.specs.Bytes.{resized};
 ghost use Rattle.dsy_base.specs.Counts.{Rose, Counted, Quiet, AllQuiet};
 
-use crate::assemble::{Halt, assemble, room_for};
+use crate::assemble::{Halt, assemble};
 use crate::dir_store::DirStore;
 use crate::obtain::Why;
 use crate::outcome::Outcome;
@@ -138,7 +138,7 @@ pub fn extract<F: Files>(alloc: Global, files: &mut F, names: Extract) -> Outcom
         Err(LoadFault::Failed) => return Outcome::FileFault { name: index },
         Err(LoadFault::Memory) => return Outcome::Memory,
     };
-    let Ok(mut buf) = room_for(alloc, &listed) else {
+    let Ok(mut buf) = listed.room(alloc) else {
         return Outcome::Memory;
     };
     let look = match files.look(folder.as_str()) {

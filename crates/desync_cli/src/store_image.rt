@@ -7,7 +7,6 @@ ghost use Rattle.desync_cli.specs.Keeps.{HoldsAll, Stands, PutsEnd};
 ghost use Rattle.desync_cli.specs.Makes.{default_sizes, Indexes, IsOfCutting, IsOfStoring, StoresImage};
 ghost use Rattle.dsy_base.specs.Counts.{Rose};
 
-use crate::assemble::room_for;
 use crate::dir_store::DirStore;
 use crate::put_chunks::{MakeFault, put_chunks};
 use crate::spell::spell;
@@ -88,10 +87,10 @@ fn store_chunks<V: View, F: Folder>(
     ensures image_cause { result.1 ≡ Err MakeFault.ImageFault → Rose (V.faults image.old) (V.faults image.new) }
     ensures store_cause { result.1 ≡ Err MakeFault.StoreFault → Rose (F.faults folder) (F.faults result.0) }
 {
-    let Ok(mut chunk) = room_for(alloc, index) else {
+    let Ok(mut chunk) = index.room(alloc) else {
         return (folder, Err(MakeFault::Memory));
     };
-    let Ok(mut room) = room_for(alloc, index) else {
+    let Ok(mut room) = index.room(alloc) else {
         return (folder, Err(MakeFault::Memory));
     };
     let mut store = DirStore::new(folder);

@@ -1,15 +1,12 @@
 -- What holding an image against an index may answer.
 use Rattle.std.specs.Prelude.{◌≡◌, ◌≢◌, ℕ, ◌<◌, List, length, Result, Ok, Err}
 use Rattle.caibx_codec.specs.Listing.{Listing, count_of, id_of, kind_of, slice_of, image_length}
+use Rattle.caibx_codec.specs.Right.{IsRightAt}
 use Rattle.chunk_store.specs.Names.{name_of}
 use Rattle.verify_tool.specs.declared.check.CheckFault.{CheckFault}
 use Rattle.verify_tool.specs.declared.check.CheckFault.TheVariants as check
 
--- chunk i of t has the listed id
-abbrev pub IsRightAt : List ℕ → Listing → ℕ → Type 0
-IsRightAt t l i = name_of (kind_of l) (slice_of l t i) ≡ id_of l i
-
--- so has each chunk below k
+-- each chunk of t below k has the listed id
 abbrev pub AreRightBelow : List ℕ → Listing → ℕ → Type 0
 AreRightBelow t l k = (i : ℕ) → i < k → IsRightAt t l i
 

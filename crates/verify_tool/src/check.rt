@@ -34,28 +34,6 @@ impl From<AllocError> for CheckFault {
     }
 }
 
-// The number of bytes of the largest entry.
-fn largest(index: &Index) -> usize
-    ensures inside { (i : ℕ) → i < count_of index.now → size_of index.now i ≤ result }
-{
-    let mut most = 0;
-    for i in 0..index.count() {
-        let size = index.size(i);
-        if most < size {
-            most = size;
-        }
-    }
-    most
-}
-
-// Room for the largest entry.
-fn room_for(alloc: Global, index: &Index) -> Result<Vec<u8>, AllocError>
-    ensures inside { IfOk result (λ v. (i : ℕ) → i < count_of index.now → size_of index.now i ≤ length v.items) }
-{
-    let size = largest(index);
-    vec![in alloc; 0u8; size]
-}
-
 // Whether the two ids are one.
 fn is_same(a: &ChunkId, b: &ChunkId) -> bool
     ensures named { result ≡ true → a.now.0 ≡ b.now.0 }
@@ -122,6 +100,6 @@ pub fn verify_index<V: View>(alloc: Global, index: &Index, view: &mut V) -> Resu
     if size != index.length() {
         return Err(CheckFault::Length { size });
     }
-    let mut buf = room_for(alloc, index)?;
+    let mut buf = index.room(alloc)?;
     check_chunks(index, view, &mut buf)
 }
