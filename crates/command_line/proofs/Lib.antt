@@ -1,0 +1,4 @@
+pub mod Lists
+pub mod Located
+pub mod Places
+pub mod Schemes

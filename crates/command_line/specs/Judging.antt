@@ -1,0 +1,126 @@
+-- How the words of a command are judged. The words are those after the command; places count the command too.
+use Rattle.std.specs.Prelude.{◌≡◌, ℕ, ◌+◌, ◌==◌, ◌||◌, Bool, not, List, [], ◌∷◌, ◌++◌, length, Option, Some, None, is_some, Result, Ok, Err, if◌then◌else◌, nat_lt}
+use Rattle.command_line.specs.declared.command.Location.{Location}
+use Rattle.command_line.specs.declared.command.Location.TheVariants as location
+use Rattle.command_line.specs.declared.judge.Refusal.{Refusal}
+use Rattle.command_line.specs.declared.judge.Refusal.TheVariants as refusal
+use Rattle.command_line.specs.declared.location.NoLocation.{NoLocation}
+use Rattle.command_line.specs.declared.location.NoLocation.TheVariants as no
+use Rattle.command_line.specs.declared.option_table.CommandKind.{CommandKind}
+use Rattle.command_line.specs.declared.option_table.OptionKind.{OptionKind}
+use Rattle.command_line.specs.declared.option_table.OptionKind.TheVariants as option
+use Rattle.command_line.specs.declared.roles.Mood.{Mood}
+use Rattle.command_line.specs.declared.roles.Mood.TheVariants as mood
+use Rattle.command_line.specs.declared.roles.Role.{Role}
+use Rattle.command_line.specs.declared.roles.Role.TheVariants as role
+use Rattle.command_line.specs.declared.usage.UsageWhy.{UsageWhy}
+use Rattle.command_line.specs.declared.usage.UsageWhy.TheVariants as why
+use Rattle.command_line.specs.declared.usage.WordsFault.{WordsFault}
+use Rattle.command_line.specs.declared.usage.WordsFault.TheVariants as fault
+use Rattle.command_line.specs.Locations.{location_of}
+use Rattle.command_line.specs.OptionTable.{command_row, times_in}
+use Rattle.command_line.specs.Roles.{role_of, mood_after, count_of}
+use Rattle.command_line.specs.Values.{number_of, workers_of, sizes_of, listen_of, is_seed}
+
+-- ---- one word
+
+abbrev pub unless : Bool → UsageWhy → Option Refusal
+unless right y = if right then None else Some (refusal.Why y)
+
+abbrev pub is_empty : List ℕ → Bool
+is_empty w = length w == 0
+
+-- a location that was read, or why not
+abbrev pub store_refusal : Bool → Result Location NoLocation → Option Refusal
+store_refusal needs_folder (Ok (location.Folder name)) = None
+store_refusal needs_folder (Ok (location.Http host port prefix)) = unless (not needs_folder) why.NeedsFolder
+store_refusal needs_folder (Err no.Bad) = Some (refusal.Why why.BadLocation)
+store_refusal needs_folder (Err no.Memory) = Some refusal.Memory
+
+-- a name that may not be empty, and is to pass the test
+abbrev pub name_refusal : Bool → Bool → UsageWhy → Option Refusal
+name_refusal empty right y = if empty then Some (refusal.Why why.Empty) else unless right y
+
+-- the value of an option
+abbrev pub value_refusal : CommandKind → OptionKind → List ℕ → Option Refusal
+value_refusal k option.Store w = if is_empty w then Some (refusal.Why why.Empty) else store_refusal (command_row k).takes.needs_folder (location_of w)
+value_refusal k option.ChunkSize w = unless (is_some (sizes_of w)) why.BadSizes
+value_refusal k option.Concurrency w = unless (is_some (workers_of w)) why.BadNumber
+value_refusal k option.Cache w = unless (not (is_empty w)) why.Empty
+value_refusal k option.InPlace w = None
+value_refusal k option.Seed w = name_refusal (is_empty w) (is_seed w) why.BadSeed
+value_refusal k option.Repair w = None
+value_refusal k option.Yes w = None
+value_refusal k option.Listen w = unless (is_some (listen_of w)) why.BadListen
+value_refusal k option.Writable w = None
+
+-- the operand that has n before it
+abbrev pub name_operand_refusal : CommandKind → ℕ → List ℕ → Option Refusal
+name_operand_refusal k n w = name_refusal (is_empty w) (nat_lt n (command_row k).takes.operands.greatest) why.Operands
+
+-- those of `demo` are a number and a size
+abbrev pub number_refusal : ℕ → List ℕ → Option Refusal
+number_refusal most w = name_refusal (is_empty w) (is_some (number_of 0 most w)) why.BadNumber
+
+abbrev pub demo_operand_refusal : ℕ → List ℕ → Option Refusal
+demo_operand_refusal n w =
+    if n == 0 then number_refusal 18446744073709551615 w
+    else (if n == 1 then number_refusal 536870912 w else Some (refusal.Why why.Operands))
+
+abbrev pub operand_refusal : CommandKind → ℕ → List ℕ → Option Refusal
+operand_refusal k n w = if (command_row k).takes.takes_numbers then demo_operand_refusal n w else name_operand_refusal k n w
+
+-- a word of a role, after words of the roles before it
+abbrev pub refusal_of : CommandKind → List Role → Role → List ℕ → Option Refusal
+refusal_of k before role.Dashes w = None
+refusal_of k before role.Unknown w = Some (refusal.Why why.UnknownOption)
+refusal_of k before (role.Given o) w = unless (nat_lt (count_of (role.Given o) before) (times_in (command_row k).takes o).greatest) why.TooMany
+refusal_of k before (role.Value o) w = value_refusal k o w
+refusal_of k before role.Operand w = operand_refusal k (count_of role.Operand before) w
+
+-- ---- all words
+
+abbrev pub fault_at : ℕ → Refusal → WordsFault
+fault_at place (refusal.Why y) = fault.Usage place y
+fault_at place refusal.Memory = fault.Memory
+
+-- after the last word no value is missing
+abbrev pub ended : Mood → ℕ → List Role → Result (List Role) WordsFault
+ended mood.Free place roles = Ok roles
+ended mood.Ended place roles = Ok roles
+ended (mood.Wants o) place roles = Err (fault.Usage place why.NoValue)
+
+abbrev pub go_on : Option Refusal → ℕ → Result (List Role) WordsFault → Result (List Role) WordsFault
+go_on (Some r) place later = Err (fault_at place r)
+go_on None place later = later
+
+-- the roles of the words from left to right, or the first refusal with its place
+abbrev pub roles_of : CommandKind → List Role → Mood → ℕ → List (List ℕ) → Result (List Role) WordsFault
+roles_of k before m place [] = ended m place before
+roles_of k before m place (w ∷ words) =
+    go_on (refusal_of k before (role_of k m w) w) place
+    (roles_of k (before ++ role_of k m w ∷ []) (mood_after m (role_of k m w)) (place + 1) words)
+
+-- the option stands less often than the command needs it
+abbrev pub lacks : CommandKind → List Role → OptionKind → Bool
+lacks k roles o = nat_lt (count_of (role.Given o) roles) (times_in (command_row k).takes o).least
+
+-- what is missing once all words have passed
+abbrev pub missing : CommandKind → List Role → Option UsageWhy
+missing k roles =
+    if lacks k roles option.Store || (lacks k roles option.Cache || lacks k roles option.Listen) then Some why.MissingOption
+    else (if lacks k roles option.Yes then Some why.NeedsYes
+    else (if nat_lt (count_of role.Operand roles) (command_row k).takes.operands.least then Some why.Operands
+    else None))
+
+-- ---- what the functions may answer: want of memory is free
+
+abbrev pub Refuses : Option Refusal → Result Unit Refusal → Type 0
+Refuses expected (Ok u) = expected ≡ None
+Refuses expected (Err (refusal.Why y)) = expected ≡ Some (refusal.Why y)
+Refuses expected (Err refusal.Memory) = Unit {0}
+
+abbrev pub AnswersBy : {T U : Type 0} → (T → U) → Result U WordsFault → Result T WordsFault → Type 0
+AnswersBy view expected (Ok x) = expected ≡ Ok (view x)
+AnswersBy view expected (Err (fault.Usage place y)) = expected ≡ Err (fault.Usage place y)
+AnswersBy view expected (Err fault.Memory) = Unit {0}

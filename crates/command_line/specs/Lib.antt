@@ -1,0 +1,6 @@
+pub mod OptionTable
+pub mod Values
+pub mod Locations
+pub mod Roles
+pub mod Judging
+pub mod CommandLine

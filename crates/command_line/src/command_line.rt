@@ -1,0 +1,75 @@
+//! Reading the words of the command line, those after the program's name. A place is a word's, from
+//! 0 for the command.
+
+ghost use Rattle.std.specs.Prelude.{◌≡◌, ◌<◌, ◌+◌, ◌^◌, ℕ, List, length, map, string_bytes, codes};
+ghost use Rattle.command_line.specs.CommandLine.{Reads, command_with, command_or_help, is_alone};
+ghost use Rattle.command_line.specs.Judging.{AnswersBy};
+ghost use Rattle.command_line.specs.OptionTable.{command_named};
+
+use crate::command::Command;
+use crate::judge::{missing, roles_of};
+use crate::option_table::{CommandKind, command_named};
+use crate::roles::word;
+use crate::said::command_of;
+use crate::usage::{UsageWhy, WordsFault};
+use std::alloc::Global;
+
+// Whether the words are this one alone.
+fn is_alone(words: &[String], only: &str) -> bool
+    ensures { result ≡ is_alone (map string_bytes words.now) only.now }
+{
+    words.len() == 1 && word(words, 0) == only
+}
+
+// Reads the words after a command.
+fn read_with(alloc: Global, kind: CommandKind, words: &[String]) -> Result<Command, WordsFault>
+    requires { length words.now + 1 < 2 ^ 64 }
+    ensures { AnswersBy (λ c. c) (command_with kind (map string_bytes words.now)) result }
+{
+    let roles = roles_of(alloc, kind, words)?;
+    if let Some(why) = missing(kind, roles.as_slice()) {
+        let place = words.len() as u64 + 1;
+        return Err(WordsFault::Usage { place, why });
+    }
+    command_of(alloc, kind, roles.as_slice(), words).map_err(|_| WordsFault::Memory)
+}
+
+// Reads the words after the command that was named, if one was.
+fn read_named(
+    alloc: Global,
+    kind: Option<CommandKind>,
+    words: &[String],
+) -> Result<Command, WordsFault>
+    requires { length words.now + 1 < 2 ^ 64 }
+    ensures { AnswersBy (λ c. c) (command_or_help kind (map string_bytes words.now)) result }
+{
+    let Some(kind) = kind else {
+        return Err(WordsFault::Usage {
+            place: 0,
+            why: UsageWhy::UnknownCommand,
+        });
+    };
+    if is_alone(words, "--help") {
+        return Ok(Command::HelpOn(kind));
+    }
+    read_with(alloc, kind, words)
+}
+
+/// The command that the words are.
+pub fn read_command_line(alloc: Global, words: &[String]) -> Result<Command, WordsFault>
+    ensures exactly { Reads (map string_bytes words.now) result }
+{
+    let Some((first, rest)) = words.split_first() else {
+        return Err(WordsFault::Usage {
+            place: 0,
+            why: UsageWhy::NoCommand,
+        });
+    };
+    if is_alone(words, "--help") {
+        return Ok(Command::Help);
+    }
+    if is_alone(words, "--version") {
+        return Ok(Command::Version);
+    }
+    read_named(alloc, command_named(first.as_str()), rest)
+}

@@ -1,0 +1,216 @@
+//! Judging the words of a command, from left to right. Words are counted from 0, the first word
+//! after the command; places count the command too.
+
+ghost use Rattle.std.specs.Prelude.{◌≡◌, ◌<◌, ◌+◌, ◌^◌, ℕ, List, [], length, map, string_bytes, Result, Ok, Err, Some, None, IfOk};
+ghost use Rattle.command_line.specs.Judging.{Refuses, AnswersBy, number_refusal, unless, is_empty, store_refusal, name_refusal, value_refusal, name_operand_refusal, demo_operand_refusal, operand_refusal, refusal_of, fault_at, ended, roles_of, lacks, missing};
+ghost use Rattle.command_line.specs.Locations.{location_of};
+ghost use Rattle.command_line.specs.OptionTable.{command_row, times_in};
+ghost use Rattle.command_line.specs.declared.roles.Mood.TheVariants.{Free};
+
+use crate::command::Location;
+use crate::location::{NoLocation, read_location};
+use crate::option_table::{CommandKind, OptionKind};
+use crate::roles::{Mood, Role, count_of, mood_after, role_of, word};
+use crate::usage::{UsageWhy, WordsFault};
+use crate::values::{is_seed, listen, number, sizes, workers};
+use std::alloc::Global;
+
+/// Why a word is refused.
+#[derive(Clone, Copy, Debug, PartialEq, Eq)]
+pub enum Refusal {
+    Why(UsageWhy),
+    Memory,
+}
+
+// Refuses unless it is right.
+fn unless(right: bool, why: UsageWhy) -> Result<(), Refusal>
+    ensures { Refuses (unless right why) result }
+{
+    if right {
+        Ok(())
+    } else {
+        Err(Refusal::Why(why))
+    }
+}
+
+// Judges a name that may not be empty.
+fn judge_name(empty: bool, right: bool, why: UsageWhy) -> Result<(), Refusal>
+    ensures { Refuses (name_refusal empty right why) result }
+{
+    if empty {
+        return Err(Refusal::Why(UsageWhy::Empty));
+    }
+    unless(right, why)
+}
+
+// Judges a location.
+fn judge_location(alloc: Global, needs_folder: bool, word: &str) -> Result<(), Refusal>
+    ensures { Refuses (store_refusal needs_folder (location_of word.now)) result }
+{
+    match read_location(alloc, word) {
+        Ok(Location::Folder(_)) => Ok(()),
+        Ok(Location::Http { .. }) => unless(!needs_folder, UsageWhy::NeedsFolder),
+        Err(NoLocation::Bad) => Err(Refusal::Why(UsageWhy::BadLocation)),
+        Err(NoLocation::Memory) => Err(Refusal::Memory),
+    }
+}
+
+// Judges the value of -s.
+fn judge_store(alloc: Global, kind: CommandKind, word: &str) -> Result<(), Refusal>
+    ensures { Refuses (value_refusal kind OptionKind.Store word.now) result }
+{
+    if word.is_empty() {
+        return Err(Refusal::Why(UsageWhy::Empty));
+    }
+    judge_location(alloc, kind.row().takes.needs_folder, word)
+}
+
+// Judges the value of an option.
+fn judge_value(
+    alloc: Global,
+    kind: CommandKind,
+    option: OptionKind,
+    word: &str,
+) -> Result<(), Refusal>
+    ensures { Refuses (value_refusal kind option word.now) result }
+{
+    let bytes = word.as_bytes();
+    match option {
+        OptionKind::Store => judge_store(alloc, kind, word),
+        OptionKind::ChunkSize => unless(sizes(bytes).is_some(), UsageWhy::BadSizes),
+        OptionKind::Concurrency => unless(workers(bytes).is_some(), UsageWhy::BadNumber),
+        OptionKind::Cache => unless(!word.is_empty(), UsageWhy::Empty),
+        OptionKind::Seed => judge_name(word.is_empty(), is_seed(bytes), UsageWhy::BadSeed),
+        OptionKind::Listen => unless(listen(word).is_some(), UsageWhy::BadListen),
+        OptionKind::InPlace | OptionKind::Repair | OptionKind::Yes | OptionKind::Writable => Ok(()),
+    }
+}
+
+/// The greatest size that `demo` makes, in bytes.
+pub const GREATEST_DEMO: u64 = 536_870_912;
+
+// Judges an operand that is a number.
+fn judge_number(most: u64, word: &str) -> Result<(), Refusal>
+    ensures { Refuses (number_refusal most word.now) result }
+{
+    let right = number(0, most, word.as_bytes()).is_some();
+    judge_name(word.is_empty(), right, UsageWhy::BadNumber)
+}
+
+// Judges an operand of `demo` that has so many before it: a number and a size.
+fn judge_demo_operand(before: usize, word: &str) -> Result<(), Refusal>
+    ensures { Refuses (demo_operand_refusal before word.now) result }
+{
+    if before == 0 {
+        return judge_number(u64::MAX, word);
+    }
+    if before == 1 {
+        return judge_number(GREATEST_DEMO, word);
+    }
+    Err(Refusal::Why(UsageWhy::Operands))
+}
+
+// Judges an operand that is a name and has so many before it.
+fn judge_name_operand(kind: CommandKind, before: usize, word: &str) -> Result<(), Refusal>
+    ensures { Refuses (name_operand_refusal kind before word.now) result }
+{
+    let right = before < kind.row().takes.operands.greatest;
+    judge_name(word.is_empty(), right, UsageWhy::Operands)
+}
+
+// Judges an operand that has so many before it.
+fn judge_operand(kind: CommandKind, before: usize, word: &str) -> Result<(), Refusal>
+    ensures { Refuses (operand_refusal kind before word.now) result }
+{
+    if kind.row().takes.takes_numbers {
+        judge_demo_operand(before, word)
+    } else {
+        judge_name_operand(kind, before, word)
+    }
+}
+
+// Judges a word of a role, after words of these roles.
+fn judge_word(
+    alloc: Global,
+    kind: CommandKind,
+    before: &[Role],
+    role: Role,
+    word: &str,
+) -> Result<(), Refusal>
+    ensures { Refuses (refusal_of kind before.now role word.now) result }
+{
+    match role {
+        Role::Dashes => Ok(()),
+        Role::Unknown => Err(Refusal::Why(UsageWhy::UnknownOption)),
+        Role::Operand => judge_operand(kind, count_of(Role::Operand, before), word),
+        Role::Given(option) => {
+            let right = count_of(Role::Given(option), before) < kind.times(option).greatest;
+            unless(right, UsageWhy::TooMany)
+        }
+        Role::Value(option) => judge_value(alloc, kind, option, word),
+    }
+}
+
+// The fault of a refusal at a place.
+fn fault_at(place: u64, refusal: Refusal) -> WordsFault
+    ensures { result ≡ fault_at place refusal }
+{
+    match refusal {
+        Refusal::Why(why) => WordsFault::Usage { place, why },
+        Refusal::Memory => WordsFault::Memory,
+    }
+}
+
+/// The roles of the words, where each has passed.
+pub fn roles_of(alloc: Global, kind: CommandKind, words: &[String]) -> Result<Vec<Role>, WordsFault>
+    requires { length words.now + 1 < 2 ^ 64 }
+    ensures exactly { AnswersBy (λ v. v.items) (roles_of kind [] Free 1 (map string_bytes words.now)) result }
+    ensures size { IfOk result (λ v. length v.items ≡ length words.now) }
+{
+    let mut roles = Vec::new(alloc);
+    let mut mood = Mood::Free;
+    for i in 0..words.len() {
+        let word = word(words, i);
+        let role = role_of(kind, mood, word);
+        if let Err(refusal) = judge_word(alloc, kind, roles.as_slice(), role, word) {
+            return Err(fault_at(i as u64 + 1, refusal));
+        }
+        if roles.push(role).is_err() {
+            return Err(WordsFault::Memory);
+        }
+        mood = mood_after(mood, role);
+    }
+    match mood {
+        Mood::Free | Mood::Ended => Ok(roles),
+        Mood::Wants(_) => Err(WordsFault::Usage {
+            place: words.len() as u64 + 1,
+            why: UsageWhy::NoValue,
+        }),
+    }
+}
+
+// Whether the option stands less often than the command needs it.
+fn lacks(kind: CommandKind, roles: &[Role], option: OptionKind) -> bool
+    ensures { result ≡ lacks kind roles.now option }
+{
+    count_of(Role::Given(option), roles) < kind.times(option).least
+}
+
+/// What is missing once all words have passed.
+pub fn missing(kind: CommandKind, roles: &[Role]) -> Option<UsageWhy>
+    ensures { result ≡ missing kind roles.now }
+{
+    if lacks(kind, roles, OptionKind::Store)
+        || lacks(kind, roles, OptionKind::Cache)
+        || lacks(kind, roles, OptionKind::Listen)
+    {
+        return Some(UsageWhy::MissingOption);
+    }
+    if lacks(kind, roles, OptionKind::Yes) {
+        return Some(UsageWhy::NeedsYes);
+    }
+    if count_of(Role::Operand, roles) < kind.row().takes.operands.least {
+        return Some(UsageWhy::Operands);
+    }
+    None
+}

@@ -1,0 +1,14 @@
+//! The words of the command line: what they say, or the first fault in them and its place.
+#![tactic(auto)]
+
+pub mod command;
+pub mod command_line;
+mod judge;
+#[cfg(test)]
+mod line_tests;
+pub mod location;
+pub mod option_table;
+pub mod roles;
+mod said;
+pub mod usage;
+pub mod values;
