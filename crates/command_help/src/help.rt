@@ -1,0 +1,66 @@
+//! Printing how the program is called.
+
+ghost use Rattle.std.specs.Prelude.{◌≡◌, ◌++◌, ◌≤◌, OnOk};
+ghost use Rattle.std.specs.Option.{option_map};
+ghost use Rattle.caibx_codec.specs.Answers.{PutsFront};
+ghost use Rattle.command_help.specs.Help.{help_text};
+ghost use Rattle.dsy_base.specs.Counts.{Rose};
+
+use crate::texts::{
+    CACHE, CHOP, CHUNK_SERVER, DEMO, EXTRACT, HELP, INFO, LIST_CHUNKS, MAKE, PRUNE, VERIFY,
+    VERIFY_INDEX, VERSION,
+};
+use command_line::option_table::CommandKind;
+use dsy_base::fault::IoFault;
+use dsy_base::sink::Sink;
+
+/// What a text tells of: all commands, the version, or one command.
+#[derive(Clone, Copy, Debug, Drop)]
+pub enum Topic {
+    All,
+    Version,
+    Command(CommandKind),
+}
+
+// The text on a command.
+fn command_text(kind: CommandKind) -> &'static str
+    ensures { result.now ≡ help_text (Topic.Command kind) }
+{
+    match kind {
+        CommandKind::Make => MAKE,
+        CommandKind::Extract => EXTRACT,
+        CommandKind::VerifyIndex => VERIFY_INDEX,
+        CommandKind::Chop => CHOP,
+        CommandKind::Cache => CACHE,
+        CommandKind::ListChunks => LIST_CHUNKS,
+        CommandKind::Info => INFO,
+        CommandKind::Verify => VERIFY,
+        CommandKind::Prune => PRUNE,
+        CommandKind::ChunkServer => CHUNK_SERVER,
+        CommandKind::Demo => DEMO,
+    }
+}
+
+// The text on a topic.
+fn text_on(topic: Topic) -> &'static str
+    ensures { result.now ≡ help_text topic }
+{
+    match topic {
+        Topic::All => HELP,
+        Topic::Version => VERSION,
+        Topic::Command(kind) => command_text(kind),
+    }
+}
+
+/// Prints the text on a topic.
+pub fn put_help<O: Sink>(topic: Topic, out: &mut O) -> Result<(), IoFault>
+    ensures ok { OnOk result (O.taken out.new ≡ option_map (λ t. t ++ help_text topic) (O.taken out.old)) }
+    // A front of the text was put.
+    ensures err { result ≡ Err IoFault.Failed → PutsFront (help_text topic) (O.taken out.old) (O.taken out.new) }
+    ensures kept { result ≡ Err IoFault.Memory → O.taken out.new ≡ O.taken out.old }
+    ensures faults { O.faults out.old ≤ O.faults out.new }
+    ensures cause { result ≡ Err IoFault.Failed → Rose (O.faults out.old) (O.faults out.new) }
+{
+    let text = text_on(topic);
+    out.put(text.as_bytes())
+}

@@ -1,0 +1,7 @@
+//! How the program is called: the texts of `--help`, `COMMAND --help` and `--version`.
+#![tactic(auto)]
+
+pub mod help;
+#[cfg(test)]
+mod tests;
+pub mod texts;

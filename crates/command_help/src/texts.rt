@@ -1,0 +1,167 @@
+//! The texts that tell how the program is called, as constants. Sizes of chunks are told in KiB, each 1,024 bytes.
+
+/// The text of `--version`: the version, and the toolchain it is built with.
+pub const VERSION: &str = "desync 0.1.0 (rattle-kit-13f)\n";
+
+/// The text of `--help`: how each command is called, and what it does.
+pub const HELP: &str = "\
+desync keeps images as chunks in a store, and an index of each image.
+
+  desync make -s FOLDER [-m MIN:AVG:MAX] [-n WORKERS] INDEX IMAGE
+      cut an image into chunks, store them and write its index
+  desync extract -k -s FOLDER.. [-n WORKERS] INDEX OUT
+      make a file the image that an index lists
+  desync verify-index [-n WORKERS] INDEX IMAGE
+      check that a file is the image that an index lists
+  desync list-chunks INDEX
+      print the id of each chunk that an index lists
+  desync info [-s FOLDER..] INDEX
+      print how many chunks an index lists, their sizes, and how many are there
+
+Options and names may be mixed; `--` ends options. MIN, AVG and MAX are sizes
+in KiB. These commands are read and not built yet: chop, cache, verify, prune,
+chunk-server, demo.
+
+`desync COMMAND --help` tells more of a command, `desync --version` the version.
+";
+
+/// The text of `make --help`.
+pub const MAKE: &str = "\
+usage: desync make -s FOLDER [-m MIN:AVG:MAX] [-n WORKERS] INDEX IMAGE
+
+Cuts IMAGE into chunks, puts each into the store and writes the file INDEX,
+which lists them. What the store holds already is left where it is right.
+
+  -s, --store FOLDER            the store: the folder that takes the chunks
+  -m, --chunk-size MIN:AVG:MAX  sizes of chunks in KiB, 16:64:256 if not given;
+                                the last chunk may be smaller than MIN
+  -n, --concurrency WORKERS     1 to 32 workers; for now one does all
+
+example: desync make -s chunks disk.caibx disk.img
+";
+
+/// The text of `extract --help`.
+pub const EXTRACT: &str = "\
+usage: desync extract -k -s FOLDER.. [-n WORKERS] INDEX OUT
+
+Makes the file OUT the image that INDEX lists. What OUT holds already is kept
+where it is right. A call without -k, with --seed or with -c is read and not
+built yet.
+
+  -k, --in-place                write OUT in place
+  -s, --store FOLDER            a store of chunks; 1 to 16, asked in order
+  -n, --concurrency WORKERS     1 to 32 workers; for now one does all
+
+example: desync extract -k -s near -s chunks disk.caibx disk.img
+";
+
+/// The text of `verify-index --help`.
+pub const VERIFY_INDEX: &str = "\
+usage: desync verify-index [-n WORKERS] INDEX IMAGE
+
+Checks that IMAGE is the image that INDEX lists: its length, then each chunk.
+
+  -n, --concurrency WORKERS     1 to 32 workers; for now one does all
+
+example: desync verify-index disk.caibx disk.img
+";
+
+/// The text of `chop --help`.
+pub const CHOP: &str = "\
+usage: desync chop -s FOLDER [-n WORKERS] INDEX IMAGE
+
+Puts the chunks of IMAGE that INDEX lists into the store. Not built yet.
+
+  -s, --store FOLDER            the store: the folder that takes the chunks
+  -n, --concurrency WORKERS     1 to 32 workers; for now one does all
+
+example: desync chop -s chunks disk.caibx disk.img
+";
+
+/// The text of `cache --help`.
+pub const CACHE: &str = "\
+usage: desync cache -s FOLDER.. -c CACHE [-n WORKERS] INDEX..
+
+Copies the chunks that each INDEX lists from the stores into a cache. Not built
+yet.
+
+  -s, --store FOLDER            a store; 1 to 16, asked in order
+  -c, --cache CACHE             the folder that takes the chunks
+  -n, --concurrency WORKERS     1 to 32 workers; for now one does all
+
+example: desync cache -s chunks -c near disk.caibx
+";
+
+/// The text of `list-chunks --help`.
+pub const LIST_CHUNKS: &str = "\
+usage: desync list-chunks INDEX
+
+Prints the id of each chunk that INDEX lists, a line each, in the order of the
+image and as often as it stands there. There are no options.
+
+example: desync list-chunks disk.caibx
+";
+
+/// The text of `info --help`.
+pub const INFO: &str = "\
+usage: desync info [-s FOLDER..] INDEX
+
+Prints a line of JSON: the average, greatest and least size of chunks and the
+size of the image, in bytes, and the numbers of chunks in all, of different ones
+and, where stores are given, of those that some store has.
+
+  -s, --store FOLDER            a store of chunks; 0 to 16, asked in order
+
+example: desync info -s chunks disk.caibx
+";
+
+/// The text of `verify --help`.
+pub const VERIFY: &str = "\
+usage: desync verify -s FOLDER [-r] [-n WORKERS]
+
+Prints each chunk of the store that isn't what its name says. Not built yet.
+
+  -s, --store FOLDER            the store
+  -r, --repair                  remove such chunks
+  -n, --concurrency WORKERS     1 to 32 workers; for now one does all
+
+example: desync verify -s chunks
+";
+
+/// The text of `prune --help`.
+pub const PRUNE: &str = "\
+usage: desync prune -s FOLDER -y INDEX..
+
+Removes the chunks of the store that no INDEX lists. Not built yet.
+
+  -s, --store FOLDER            the store
+  -y, --yes                     they are removed for good
+
+example: desync prune -s chunks -y disk.caibx
+";
+
+/// The text of `chunk-server --help`.
+pub const CHUNK_SERVER: &str = "\
+usage: desync chunk-server -s FOLDER -l HOST:PORT [-w] [-n WORKERS]
+
+Serves the chunks of the store over HTTP. Not built yet.
+
+  -s, --store FOLDER            the store
+  -l, --listen HOST:PORT        the address; no HOST means all addresses
+  -w, --writeable               take chunks too
+  -n, --concurrency WORKERS     1 to 32 workers; for now one does all
+
+example: desync chunk-server -s chunks -l localhost:8080
+";
+
+/// The text of `demo --help`.
+pub const DEMO: &str = "\
+usage: desync demo [-n WORKERS] NUMBER SIZE
+
+Cuts, stores and extracts SIZE bytes in memory, which NUMBER determines. Not
+built yet.
+
+  -n, --concurrency WORKERS     1 to 32 workers; for now one does all
+
+example: desync demo 7 1048576
+";

@@ -1,0 +1,5 @@
+//! How a command ends, and the line that tells it.
+#![tactic(auto)]
+
+pub mod error_line;
+pub mod outcome;
