@@ -1,0 +1,5 @@
+pub mod Components
+pub mod Ids
+pub mod Lists
+pub mod Order
+pub mod Puts

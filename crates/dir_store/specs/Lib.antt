@@ -1,0 +1,4 @@
+pub mod Stores
+pub mod Puts
+pub mod Names
+pub mod Lists

@@ -1,0 +1,173 @@
+//! The chunk files of a folder as a store. Sizes are in bytes.
+
+ghost use Rattle.std.specs.Prelude.{◌≡◌, ◌≤◌, IfSome, IfOk, IsTrue, OnOk, OnErr, is_some, length};
+ghost use Rattle.std.specs.Option.{option_map};
+ghost use Rattle.chunk_store.specs.Folders.{chunks};
+ghost use Rattle.chunk_store.specs.Gets.{GetGives};
+ghost use Rattle.chunk_store.specs.Paths.{path_of};
+ghost use Rattle.dir_store.specs.Names.{is_temporary};
+ghost use Rattle.dir_store.specs.Puts.{Puts, LeavesTemporary, Removes};
+ghost use Rattle.dsy_base.specs.Counts.{Rose};
+ghost use Rattle.dsy_base.specs.Maps.{IsNamesOf, at_name};
+
+use crate::laws::chunk_is_no_temporary;
+use chunk_store::id::ChunkId;
+use chunk_store::laws::{id_has_32_bytes, path_names_one_id, temporary_is_no_path};
+use chunk_store::store::{GetFault, Store, StoreWrite};
+use dsy_base::fault::{FileFault, IoFault};
+use dsy_base::folder::Folder;
+use dsy_base::look::Look;
+use dsy_base::name::Name;
+use std::marker::Model;
+
+/// The chunk files of a folder, as a store. Contracts see it as the folder.
+#[derive(Drop)]
+pub struct DirStore<F: Look> {
+    folder: F,
+}
+
+impl<F: Look> Model for DirStore<F> {
+    ghost Value = { F };
+
+    ghost view = { λ s. s.folder };
+}
+
+impl<F: Look> DirStore<F> {
+    pub fn new(folder: F) -> DirStore<F>
+        ensures { result ≡ folder }
+    {
+        DirStore { folder }
+    }
+
+    pub fn into_inner(self) -> F
+        ensures { result ≡ self }
+    {
+        self.folder
+    }
+
+    // The names of all files that the folder lists.
+    pub(crate) fn names(&mut self) -> Result<Vec<Name>, IoFault>
+        ensures found { IfOk result (λ v. IfSome (F.files self.old) (λ m. IsNamesOf m v.items)) }
+        ensures kept { F.files self.new ≡ F.files self.old }
+        ensures place { F.place self.new ≡ F.place self.old }
+        ensures faults { F.faults self.old ≤ F.faults self.new }
+        ensures cause { result ≡ Err IoFault.Failed → Rose (F.faults self.old) (F.faults self.new) }
+    {
+        self.folder.names()
+    }
+
+    /// Fills the front of `out` with the file of this id, and answers the number of its bytes.
+    pub fn read(&mut self, id: &ChunkId, out: &mut [u8]) -> Result<usize, GetFault>
+        ensures bytes { IfSome (F.files self.old) (λ m. GetGives (chunks m id.now.0) result out.new) }
+        ensures size { IfOk result (λ n. n ≤ length out.new) }
+        ensures kept { F.files self.new ≡ F.files self.old }
+        ensures place { F.place self.new ≡ F.place self.old }
+        ensures faults { F.faults self.old ≤ F.faults self.new }
+        ensures cause { result ≡ Err GetFault.Failed → Rose (F.faults self.old) (F.faults self.new) }
+    {
+        let path = id.path();
+        match self.folder.read(path.as_str(), out) {
+            Ok(n) => Ok(n),
+            Err(FileFault::Absent) => Err(GetFault::Missing),
+            Err(FileFault::Longer) => Err(GetFault::Longer),
+            Err(FileFault::Failed) => Err(GetFault::Failed),
+            Err(FileFault::Memory) => Err(GetFault::Memory),
+        }
+    }
+}
+
+impl<F: Folder> DirStore<F> {
+    /// Writes the file of this id.
+    pub fn write(&mut self, id: &ChunkId, b: &[u8]) -> Result<(), IoFault>
+        ensures ok { OnOk result (Puts id.now.0 b.now (F.files self.old) (F.files self.new)) }
+        ensures err { OnErr result (LeavesTemporary id.now.0 (F.files self.old) (F.files self.new)) }
+        ensures place { F.place self.new ≡ F.place self.old }
+        ensures faults { F.faults self.old ≤ F.faults self.new }
+        ensures cause { result ≡ Err IoFault.Failed → Rose (F.faults self.old) (F.faults self.new) }
+    {
+        let path = id.path();
+        self.folder.put(path.as_str(), b)
+    }
+
+    /// Removes the file of this id, and answers whether there was one.
+    pub fn remove(&mut self, id: &ChunkId) -> Result<bool, IoFault>
+        ensures found { IfOk result (λ b. IfSome (F.files self.old) (λ m. b ≡ is_some (chunks m id.now.0))) }
+        ensures ok { OnOk result (Removes (path_of id.now.0) (F.files self.old) (F.files self.new)) }
+        ensures holds { OnOk result (option_map chunks (F.files self.new)
+            ≡ option_map (λ m. at_name m id.now.0 None) (option_map chunks (F.files self.old))) }
+        ensures err { OnErr result (F.files self.new ≡ F.files self.old) }
+        ensures place { F.place self.new ≡ F.place self.old }
+        ensures faults { F.faults self.old ≤ F.faults self.new }
+        ensures cause { result ≡ Err IoFault.Failed → Rose (F.faults self.old) (F.faults self.new) }
+    {
+        id_has_32_bytes(id);
+        path_names_one_id();
+        let path = id.path();
+        self.folder.remove(path.as_str())
+    }
+
+    /// Removes the temporary file of this name, and answers whether there was one.
+    pub fn remove_temporary(&mut self, name: &str) -> Result<bool, IoFault>
+        requires named { IsTrue (is_temporary name.now) }
+        ensures found { IfOk result (λ b. IfSome (F.files self.old) (λ m. b ≡ is_some (m name.now))) }
+        ensures ok { OnOk result (Removes name.now (F.files self.old) (F.files self.new)) }
+        ensures holds { option_map chunks (F.files self.new) ≡ option_map chunks (F.files self.old) }
+        ensures err { OnErr result (F.files self.new ≡ F.files self.old) }
+        ensures place { F.place self.new ≡ F.place self.old }
+        ensures faults { F.faults self.old ≤ F.faults self.new }
+        ensures cause { result ≡ Err IoFault.Failed → Rose (F.faults self.old) (F.faults self.new) }
+    {
+        chunk_is_no_temporary();
+        self.folder.remove(name)
+    }
+}
+
+impl<F: Look> Store for DirStore<F> {
+    ghost use Rattle.std.specs.Prelude.{true};
+    ghost use Rattle.std.specs.Option.{option_map};
+    ghost use Rattle.chunk_store.specs.Folders.{chunks};
+    ghost use Rattle.chunk_store.specs.Said.{said_by, says_map};
+    ghost use Rattle.dir_store.specs.Stores.{unasked_map, told_map};
+
+    ghost holds = { λ s. option_map chunks (F.files s) };
+
+    ghost said = { λ s. said_by (option_map chunks (F.files s)) };
+
+    ghost asked = { λ _ _. 0 };
+
+    ghost faults = { λ s. F.faults s };
+
+    ghost place = { λ s. F.place s };
+
+    ghost tells = { F.tells };
+
+    ghost never_fails = { F.never_fails };
+
+    ghost may_lack_memory = { true };
+
+    fn get(&mut self, id: &ChunkId, out: &mut [u8]) -> Result<usize, GetFault> {
+        self.read(id, out)
+    }
+
+    fn has(&mut self, id: &ChunkId) -> Result<bool, IoFault> {
+        let path = id.path();
+        self.folder.has(path.as_str())
+    }
+
+    ghost says = { λ s. says_map (option_map chunks (F.files s)) };
+
+    ghost unasked = { λ s. unasked_map (option_map chunks (F.files s)) };
+
+    ghost told = { λ s t. told_map F.tells (F.files s) (F.told s) t };
+
+    ghost sure = { λ s t. F.sure s t };
+}
+
+impl<F: Folder> StoreWrite for DirStore<F> {
+    fn put(&mut self, id: &ChunkId, b: &[u8]) -> Result<(), IoFault> {
+        id_has_32_bytes(id);
+        path_names_one_id();
+        temporary_is_no_path();
+        self.write(id, b)
+    }
+}
