@@ -1,0 +1,92 @@
+-- What a call on a chain says, from what its stores said when they were asked in turn. A primed name is the same value as the
+-- chain's contract spells it.
+use Rattle.std.proofs.Common.{◌≡◌, ℕ, ◌≤◌, List, ◌++◌, length, map, take, drop, Option, Some, Bool, Ok, Err, Result, IfSome, IfOk, IfErr, slice_index, sym, subst, ap, ◌∙◌}
+use Rattle.std.proofs.lemmas.List.{take-append-le}
+use Rattle.std.proofs.Math.Seq.{take-append_seam}
+use Rattle.std.specs.List.{AllZip}
+use Rattle.chunk_store.specs.Said.{Said, SaysMap, AskedOnce}
+use Rattle.dsy_base.specs.Counts.{Rose, raised}
+use Rattle.dsy_base.specs.Maps.{Map}
+use Rattle.store_chain.specs.Chains.{Chained, AsksOnce}
+use Rattle.store_chain.specs.Faults.{EachQuiet}
+use Rattle.store_chain.specs.Giving.{LacksAll, GivesFirst, Obtains}
+use Rattle.store_chain.specs.Refusals.{Lacked, LackedOrFailed, GivenBy, Refuses, RefusesFrom}
+use Rattle.store_chain.specs.Wants.{IsGiven}
+use Rattle.store_chain.specs.declared.refused.Refused.{Refused}
+use Rattle.store_chain.specs.declared.refused.Refused.TheVariants as refused
+use Rattle.store_chain.specs.declared.want.Want.{Want}
+use Rattle.store_chain.proofs.Told.{lacks_all, obtains, refuses}
+use Rattle.store_chain.proofs.Pairs.{rose_at}
+
+-- a list that was written in the place of one of its length
+pub written_back : {S : Type 0} (new old : List S) (n : ℕ) → length new ≡ n → take n (new ++ drop (length new) old) ≡ new
+written_back {S} new old n size = let P : ℕ → Type 0 = λ k. take k (new ++ drop (length new) old) ≡ new in subst P size (take-append_seam new (drop (length new) old))
+
+module _ {S : Type 0} (said : S → Said) (faults : S → ℕ) (lacks_memory : Bool) (w w' : Want) (same : w ≡ w') (old old' new new' : List S) (same_old : old ≡ old') (same_new : new ≡ new') where
+  pub found_in : (r : Result ℕ Refused) (lent rest : List ℕ) → IfOk r (λ n. IsGiven w n lent) → IfOk r (λ n. GivenBy said faults lacks_memory w (take n lent) old new)
+      → IfOk r (λ n. GivenBy said faults lacks_memory w' (take n (lent ++ rest)) old' new')
+  found_in (Err e) lent rest given found = tt
+  found_in (Ok n) lent rest given found =
+      let inside : n ≤ length lent = given.inside in
+      let b : take n lent ≡ take n (lent ++ rest) = rw take-append-le in
+      let P : List ℕ → Type 0 = λ l. GivenBy said faults lacks_memory w' l old' new' in
+      let Q : Want → Type 0 = λ v. GivenBy said faults lacks_memory v (take n lent) old' new' in
+      let R : List S → Type 0 = λ l. GivenBy said faults lacks_memory w (take n lent) l new' in
+      let T : List S → Type 0 = λ l. GivenBy said faults lacks_memory w (take n lent) old l in
+      subst P b (subst Q same (subst R same_old (subst T same_new found)))
+
+  pub cause_in : (r : Result ℕ Refused) (s : ℕ) → IfErr r (RefusesFrom said faults lacks_memory w 0 old new) → r ≡ Err (refused.StoreFault s)
+      → Rose (slice_index (map faults old') s) (slice_index (map faults new') s)
+  cause_in r s told is =
+      let K : Result ℕ Refused → Type 0 = λ x. IfErr x (RefusesFrom said faults lacks_memory w 0 old new) in
+      let P : List S → Type 0 = λ l. Rose (slice_index (map faults l) s) (slice_index (map faults new') s) in
+      let Q : List S → Type 0 = λ l. Rose (slice_index (map faults old) s) (slice_index (map faults l) s) in
+      let from_zero = refuses said faults lacks_memory w old new (refused.StoreFault s) (subst K is told) in
+      subst P same_old (subst Q same_new (rose_at faults (Lacked said faults lacks_memory w) (LackedOrFailed said faults lacks_memory w) s old new from_zero))
+
+  module _ (holds : S → Option (Map (List ℕ))) (says : (s : S) → IfSome (holds s) (SaysMap (said s))) (kept : map holds new ≡ map holds old) (maps : List (Map (List ℕ))) (told : map holds old' ≡ map Some maps) where
+    told_new : map holds new ≡ map Some maps
+    told_new = kept ∙ (ap (λ (l : List S). map holds l) same_old ∙ told)
+
+    pub first_in : (r : Result ℕ Refused) → IfErr r (RefusesFrom said faults lacks_memory w 0 old new) → IfErr r (LacksAll w' maps)
+    first_in (Ok n) lacks = tt
+    first_in (Err e) lacks =
+        let P : Want → Type 0 = λ v. LacksAll v maps e in
+        subst P same (lacks_all said faults lacks_memory w holds says old new maps kept told_new e (refuses said faults lacks_memory w old new e lacks))
+
+    refused_by : (r : Result ℕ Refused) → IfErr r (RefusesFrom said faults lacks_memory w 0 old new) → IfErr r (Refuses said faults lacks_memory w old new)
+    refused_by (Ok n) lacks = tt
+    refused_by (Err e) lacks = refuses said faults lacks_memory w old new e lacks
+
+    on_all : (r : Result ℕ Refused) (lent rest : List ℕ) → IfOk r (λ n. IsGiven w n lent) → Obtains lacks_memory w maps r lent → Obtains lacks_memory w maps r (lent ++ rest)
+    on_all (Ok n) lent rest given h =
+        let inside : n ≤ length lent = given.inside in
+        let b : take n lent ≡ take n (lent ++ rest) = rw take-append-le in
+        let P : List ℕ → Type 0 = λ l. GivesFirst lacks_memory w maps l in
+        subst P b h
+    on_all (Err refused.Missing) lent rest given h = h
+    on_all (Err (refused.Damaged s x)) lent rest given h = h
+    on_all (Err (refused.StoreFault s)) lent rest given h = h
+    on_all (Err refused.Memory) lent rest given h = h
+
+    pub exactly_in : (r : Result ℕ Refused) (lent rest : List ℕ) → EachQuiet (map faults old') (map faults new') → IfOk r (λ n. IsGiven w n lent)
+        → IfOk r (λ n. GivenBy said faults lacks_memory w (take n lent) old new) → IfErr r (RefusesFrom said faults lacks_memory w 0 old new)
+        → Obtains lacks_memory w' maps r (lent ++ rest)
+    exactly_in r lent rest quiet given found lacks =
+        let P : Want → Type 0 = λ v. Obtains lacks_memory v maps r (lent ++ rest) in
+        let Q : List S → Type 0 = λ l. EachQuiet (map faults l) (map faults new) in
+        let R : List S → Type 0 = λ l. EachQuiet (map faults old') (map faults l) in
+        subst P same (on_all r lent rest given (obtains said faults lacks_memory w holds says old new maps kept told_new r lent
+        (subst Q (sym same_old) (subst R (sym same_new) quiet)) found (refused_by r lacks)))
+
+-- the chain after the call
+pub asks_in : {S : Type 0} (asked : S → List ℕ → ℕ) (id id' : List ℕ) (old new : Chained S) (stores stores' : List S) (n : ℕ) → id ≡ id' → stores ≡ old.stores → stores' ≡ new.stores
+    → n ≡ old.asks → new.asks ≡ raised n 1 → AllZip (λ a b. AskedOnce (asked a) (asked b) id) stores stores' → AsksOnce asked id' old new
+asks_in {S} asked id id' old new stores stores' n same_id same same_new before after each = record {
+  stores =
+      let P : List S → Type 0 = λ l. AllZip (λ a b. AskedOnce (asked a) (asked b) id') l new.stores in
+      let Q : List S → Type 0 = λ l. AllZip (λ a b. AskedOnce (asked a) (asked b) id') stores l in
+      let R : List ℕ → Type 0 = λ q. AllZip (λ a b. AskedOnce (asked a) (asked b) q) stores stores' in
+      subst P same (subst Q same_new (subst R same_id each));
+  calls = after ∙ ap (λ k. raised k 1) before;
+}

@@ -1,0 +1,5 @@
+pub mod Pairs
+pub mod Turns
+pub mod Told
+pub mod Chained
+pub mod Had

@@ -1,0 +1,28 @@
+use Rattle.store_chain.proofs.Had.{found_first, found_in_rest, found_after, fails_in_rest, fails_after}
+use Rattle.store_chain.proofs.Turns.{said_on}
+use Rattle.store_chain.proofs.has.+has_each.Goals as goal
+
+pub returns-in-Ok-true-clause-found : goal.returns-in-Ok-true-clause-found
+returns-in-Ok-true-clause-found g t c =
+    found_first g.S.Store.holds c.args.id.now.0 c.in-Some.first.now c.in-Some.rest.now c.args.stores.now c.in-Some.ensures.cases.0 c.in-Ok-true.field-0 c.in-Ok-true.field-0-test c.in-Ok-true.ensures.found
+
+pub returns-in-Ok-true-clause-said : goal.returns-in-Ok-true-clause-said
+returns-in-Ok-true-clause-said g t c =
+    said_on g.S.Store.said c.in-Some.first.now c.has_one.new.store c.in-Some.rest.now c.args.stores.now c.in-Some.ensures.cases.0 c.has_one.ensures.said
+
+pub returns-in-Ok-false-clause-found : goal.returns-in-Ok-false-clause-found
+returns-in-Ok-false-clause-found g t c =
+    found_in_rest g.S.Store.holds c.args.id.now.0 c.in-Some.first.now c.in-Some.rest.now c.args.stores.now c.in-Some.ensures.cases.0 c.in-Ok-false.field-0 c.has_each.result c.in-Ok-false.field-0-test c.in-Ok-false.ensures.found c.has_each.ensures.found
+
+pub returns-in-Ok-false-clause-err : goal.returns-in-Ok-false-clause-err
+returns-in-Ok-false-clause-err g t c =
+    fails_in_rest g.S.Store.said g.S.Store.faults c.args.id.now.0 g.S.Store.may_lack_memory c.args.number c.in-Some.first.now c.has_one.new.store c.in-Some.rest.now c.has_each.new.stores c.args.stores.now c.in-Some.ensures.cases.0 c.has_each.result
+    (c.has_one.ensures.absent (let is = c.in-Ok-false.is in let test = c.in-Ok-false.field-0-test in cc)) c.has_each.ensures.err
+
+pub returns-in-Err-clause-found : goal.returns-in-Err-clause-found
+returns-in-Err-clause-found g t c =
+    found_after g.S.Store.holds c.args.id.now.0 c.in-Some.first.now c.in-Some.rest.now c.args.stores.now c.in-Some.ensures.cases.0 c.in-Err.fault c.has_each-then.result c.before-in-Err.result c.before-in-Err.ensures c.has_each-then.ensures.found
+
+pub returns-in-Err-clause-err : goal.returns-in-Err-clause-err
+returns-in-Err-clause-err g t c =
+    fails_after g.S.Store.said g.S.Store.faults c.args.id.now.0 g.S.Store.may_lack_memory c.args.number c.in-Some.first.now c.has_one.new.store c.in-Some.rest.now c.has_each-then.new.stores c.args.stores.now c.in-Some.ensures.cases.0 c.in-Err.fault c.has_each-then.result c.before-in-Err.result c.before-in-Err.ensures c.in-Err.ensures.err c.has_each-then.ensures.absent c.has_each-then.ensures.err

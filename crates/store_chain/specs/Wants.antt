@@ -1,0 +1,35 @@
+-- What is asked of stores, and what bytes show that aren't it.
+use Rattle.std.specs.Prelude.{◌≡◌, ◌≢◌, ℕ, ◌<◌, ◌≤◌, List, length, take, Option, IfSome, IsSomeAnd, unwrap_or}
+use Rattle.chunk_store.specs.Names.{name_of}
+use Rattle.chunk_store.specs.declared.id.ChunkId.{ChunkId}
+use Rattle.chunk_store.specs.declared.id.DigestKind.{DigestKind}
+use Rattle.chunk_store.specs.declared.id.DigestKind.TheVariants as kinds
+use Rattle.chunk_store.specs.declared.shows.Shows.{Shows}
+use Rattle.chunk_store.specs.declared.shows.Shows.TheVariants as shows
+use Rattle.store_chain.specs.declared.want.Want.{Want}
+
+-- the chunk of this id, of this size where one is given, into so much room. Where a size is given only so much is lent
+abbrev pub want_of : DigestKind → ChunkId → Option ℕ → ℕ → Want
+want_of kind id size room = record { kind = kind; id = id; size = size; lent = unwrap_or size room }
+
+-- what `obtain` asks of each store, for an id, a size and a room
+abbrev pub wanted : ChunkId → Option ℕ → ℕ → Want
+wanted id size room = want_of kinds.Sha512T256 id size room
+
+-- the bytes are what is wanted
+pub record IsWanted (w : Want) (b : List ℕ) : Type 0 where
+  pub named : name_of w.kind b ≡ w.id.0
+  pub sized : IfSome w.size (λ n. length b ≡ n)
+  pub fits : length b ≤ w.lent
+
+-- the first n bytes of a buffer are what is wanted
+pub record IsGiven (w : Want) (n : ℕ) (out : List ℕ) : Type 0 where
+  pub inside : n ≤ length out
+  pub wanted : IsWanted w (take n out)
+
+-- what bytes show that aren't what is wanted: more bytes than were lent, or else another name, or else another length
+abbrev pub ShowsElse : Want → List ℕ → Shows → Type 0
+ShowsElse w b shows.Longer = w.lent < length b
+ShowsElse w b (shows.Digest x) = (length b ≤ w.lent) × (x.0 ≡ name_of w.kind b) × (x.0 ≢ w.id.0)
+ShowsElse w b (shows.Length n) =
+    (length b ≤ w.lent) × (name_of w.kind b ≡ w.id.0) × (n ≡ length b) × IsSomeAnd w.size (λ k. n ≢ k)
