@@ -15,7 +15,7 @@ rest_is ids i d above inside =
     let back : suc (i - 1) ≡ i = omega arith in
     drop-cons ids (i - 1) d (omega arith) ∙ ap (λ k. get_or ids (i - 1) d ∷ drop k ids) back
 
-same_either_way : (xs ys : List ℕ) → bytes_eq xs ys ≡ bytes_eq ys xs
+pub same_either_way : (xs ys : List ℕ) → bytes_eq xs ys ≡ bytes_eq ys xs
 same_either_way xs ys =
     let there = bytes_eq-Decides xs ys in
     let back = bytes_eq-Decides ys xs in

@@ -1,4 +1,6 @@
 pub mod Chunks
 pub mod Sending
 pub mod Distinct
+pub mod Counted
+pub mod Asked
 pub mod InfoText

@@ -1,4 +1,5 @@
 pub mod Checks
 pub mod Texts
+pub mod Counts
 pub mod Blocks
 pub mod Figures

@@ -2,6 +2,7 @@
 #![tactic(auto)]
 
 pub mod check;
+pub mod count;
 pub mod info;
 pub mod list;
 #[cfg(test)]

@@ -1,15 +1,20 @@
-//! Small indexes, checked, listed and described. The names are from FIPS 180-4's example and another program.
+//! Small indexes, checked, listed, described and looked for in stores. The names are from FIPS 180-4's example and
+//! another program.
 
 use crate::check::{CheckFault, verify_index};
+use crate::count::count_in_store;
 use crate::info::info;
 use crate::list::list_chunks;
 use caibx_codec::index::{Entry, Index};
 use chunk_store::id::ChunkId;
-use dsy_base::fault::IoFault;
+use chunk_store::store::{GetFault, Store};
+use dsy_base::fault::{IoFault, raise};
 use dsy_base::mem_sink::MemSink;
 use dsy_base::mem_view::MemView;
-use std::alloc::Global;
+use std::alloc::{AllocError, Global};
 use std::test::Fail;
+use store_chain::chain::Chain;
+use store_chain::refused::HasFault;
 
 const ABC: &str = "53048e2681941ef99b2e29b76b4c7dabe4c2d0c634fc6d46e0e2f13107e7af23";
 
@@ -146,5 +151,121 @@ fn figures_are_one_line(rt: HostRuntime) -> Result<(), Fail> {
     }
     let mut failing = MemSink::new(alloc, fails(alloc, 0)?);
     assert_eq!(rt; info(alloc, &one, None, &mut failing), Err(IoFault::Failed));
+    Ok(())
+}
+
+// What a store has.
+#[derive(Clone, Copy)]
+enum Held {
+    Nothing,
+    One(ChunkId),
+    Fault,
+}
+
+// A store that counts how often it was asked, and gives nothing.
+#[derive(Drop)]
+struct Told {
+    held: Held,
+    calls: u64,
+    faults: u64,
+}
+
+impl Store for Told {
+    ghost use Rattle.std.specs.Prelude.{None, [], true, false};
+    ghost use Rattle.std.proofs.Common.{rules};
+    ghost use Rattle.chunk_store.specs.Said.{said_by};
+
+    ghost holds = { λ _. None };
+
+    ghost said = { λ _. said_by None };
+
+    ghost asked = { λ _ _. 0 };
+
+    ghost faults = { λ s. s.faults };
+
+    ghost place = { λ _. [] };
+
+    ghost tells = { false };
+
+    ghost never_fails = { false };
+
+    ghost may_lack_memory = { true };
+
+    fn get(&mut self, _id: &ChunkId, _out: &mut [u8]) -> Result<usize, GetFault> {
+        Err(GetFault::Missing)
+    }
+
+    fn has(&mut self, id: &ChunkId) -> Result<bool, IoFault> {
+        self.calls = raise(self.calls, 1);
+        match self.held {
+            Held::Nothing => Ok(false),
+            Held::One(held) => Ok(held == *id),
+            Held::Fault => {
+                self.faults = raise(self.faults, 1);
+                Err(IoFault::Failed)
+            }
+        }
+    }
+
+    ghost says = { λ _. tt };
+
+    ghost unasked = { λ _. tt };
+
+    ghost told = { λ _ t. t };
+
+    ghost sure = { Prim.search rules };
+}
+
+fn store_of(held: Held) -> Told {
+    Told {
+        held,
+        calls: 0,
+        faults: 0,
+    }
+}
+
+fn chain_of(alloc: Global, first: Held, second: Held) -> Result<Chain<Told>, AllocError> {
+    let stores = vec![in alloc; store_of(first), store_of(second)]?;
+    Ok(Chain::new(stores))
+}
+
+#[test]
+fn an_id_counts_once_where_some_store_has_it(rt: HostRuntime) -> Result<(), Fail> {
+    let alloc = rt.alloc();
+    let index = index_of(alloc, &[ABC, DEF, ABC])?;
+    let abc = Held::One(id_of(ABC)?);
+    let def = Held::One(id_of(DEF)?);
+    let fault = |store: u32| Err(HasFault::StoreFault { store });
+    let cases: [(Held, Held, Result<u64, HasFault>); 7] = [
+        (abc, Held::Nothing, Ok(1)),
+        (abc, abc, Ok(1)),
+        (Held::Nothing, def, Ok(1)),
+        (def, abc, Ok(2)),
+        (Held::Nothing, Held::Nothing, Ok(0)),
+        (Held::Nothing, Held::Fault, fault(1)),
+        (Held::Fault, abc, fault(0)),
+    ];
+    for (i, (first, second, wanted)) in cases.into_iter().enumerate() {
+        let mut chain = chain_of(alloc, first, second)?;
+        assert_eq!(rt;
+            count_in_store(alloc, &index, &mut chain),
+            wanted,
+            "case {i}"
+        );
+        assert_eq!(rt; chain.asks(), 0, "case {i}");
+    }
+    Ok(())
+}
+
+#[test]
+fn each_id_is_asked_for_once(rt: HostRuntime) -> Result<(), Fail> {
+    let alloc = rt.alloc();
+    let index = index_of(alloc, &[ABC, DEF, ABC, DEF, ABC])?;
+    let mut chain = chain_of(alloc, Held::Nothing, Held::Nothing)?;
+    assert_eq!(rt; count_in_store(alloc, &index, &mut chain), Ok(0));
+    let stores = chain.into_stores();
+    for store in stores.iter() {
+        assert_eq!(rt; store.calls, 2);
+    }
     Ok(())
 }
