@@ -3,9 +3,9 @@ use Rattle.std.proofs.Common.{◌≡◌, ℕ, List, true, false, Option, Some, N
 use Rattle.std.proofs.lemmas.Slice.Eq.{bytes_eq-Decides}
 use Rattle.dsy_base.specs.Maps.{Map, at_name}
 use Rattle.desync_cli.specs.Extracts.{Ends, IsExtracted}
-use Rattle.desync_cli.specs.declared.outcome.Outcome.{Outcome}
-use Rattle.desync_cli.specs.declared.outcome.Outcome.TheVariants as ends
-use Rattle.desync_cli.specs.declared.words.Extract.{Extract}
+use Rattle.command_outcome.specs.declared.outcome.Outcome.{Outcome}
+use Rattle.command_outcome.specs.declared.outcome.Outcome.TheVariants as ends
+use Rattle.desync_cli.specs.declared.task.Extract.{Extract}
 
 pub at_same : {X : Type 0} (m : Map X) (name : List ℕ) (w : Option X) → at_name m name w name ≡ w
 at_same m name w = ap (λ b. cond b w (m name)) ((bytes_eq-Decides name name).1 refl)
@@ -27,7 +27,3 @@ done_extracts x o None ds fn told e done = tt
 done_extracts x o (Some before) None fn told e done = let impossible : true ≡ false = told in absurd (cc)
 done_extracts x o (Some before) (Some folders) None told e done = tt
 done_extracts x o (Some before) (Some folders) (Some after) told e done = extracted before folders after x (subst (λ (r : Outcome). Ends before folders after x r) done e)
-
-pub if_some : {X : Type 0} (o : Option X) (P Q : X → Type 0) → ((x : X) → P x → Q x) → IfSome o P → IfSome o Q
-if_some None P Q f h = tt
-if_some (Some x) P Q f h = f x h

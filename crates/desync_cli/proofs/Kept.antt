@@ -19,7 +19,7 @@ use Rattle.desync_cli.specs.Keeps.{KeepsFiles, HoldsNamed, HoldsAll, IsStored, I
 use Rattle.caibx_codec.specs.Right.{IsRightAt}
 use Rattle.desync_cli.specs.declared.put_chunks.MakeFault.{MakeFault}
 use Rattle.desync_cli.specs.declared.put_chunks.MakeFault.TheVariants as faults
-use Rattle.desync_cli.proofs.Puts.{other_name, chunks_left, chunks_put}
+use Rattle.desync_cli.proofs.Puts.{other_name}
 
 pub equal_or_not : (a b : List ℕ) → (a ≡ b) ⊎ (a ≢ b)
 equal_or_not a b = go (bytes_eq a b) refl where
@@ -87,7 +87,14 @@ module _ (l : Listing) (t : List ℕ) where
 
 -- ---- the chunks that are held
 
-module _ (l : Listing) (i : ℕ) (is : IsId (id_of l i)) (one : (a b : List ℕ) → IsId b → path_of a ≡ path_of b → a ≡ b) (none : (q x : List ℕ) → temporary_of q ≢ path_of x) where
+-- a chunk's file that is put changes what is held under its id alone, and its temporary file nothing of that
+abbrev pub PutsOne : Type 0
+PutsOne = (id b : List ℕ) (m : Map (List ℕ)) → IsId id → chunks (put_in m (path_of id) b) ≡ at_name (chunks m) id (Some b)
+
+abbrev pub LeavesAll : Type 0
+LeavesAll = (id : List ℕ) (x : Option (List ℕ)) (m : Map (List ℕ)) → chunks (at_name m (temporary_of (path_of id)) x) ≡ chunks m
+
+module _ (l : Listing) (i : ℕ) (is : IsId (id_of l i)) (puts : PutsOne) (leaves : LeavesAll) where
   -- another id holds what it held
   OthersStay : Map (List ℕ) → Map (List ℕ) → Type 0
   OthersStay old new = (q : List ℕ) → (q ≡ id_of l i) ⊎ (chunks new q ≡ chunks old q)
@@ -95,7 +102,7 @@ module _ (l : Listing) (i : ℕ) (is : IsId (id_of l i)) (one : (a b : List ℕ)
   stay_put : (m : Map (List ℕ)) (b : List ℕ) (q : List ℕ) → (q ≡ id_of l i) ⊎ (chunks (put_in m (path_of (id_of l i)) b) q ≡ chunks m q)
   stay_put m b q = elim (equal_or_not (id_of l i) q) [
     | inl same ↦ inl (sym same)
-    | inr other ↦ inr (ap (λ (f : Map (List ℕ)). f q) (chunks_put (id_of l i) is one none m b) ∙ other_name (chunks m) (id_of l i) q (Some b) other)
+    | inr other ↦ inr (ap (λ (f : Map (List ℕ)). f q) (puts (id_of l i) b m is) ∙ other_name (chunks m) (id_of l i) q (Some b) other)
   ]
 
   held_on : (old new : Map (List ℕ)) → ((q : List ℕ) → (q ≡ id_of l i) ⊎ (chunks new q ≡ chunks old q)) → HoldsNamed (kind_of l) (id_of l i) (chunks new (id_of l i)) → HoldsAll l i old → HoldsAll l (i + 1) new
@@ -121,7 +128,7 @@ module _ (l : Listing) (i : ℕ) (is : IsId (id_of l i)) (one : (a b : List ℕ)
   holds_more b now new (inr (inr left)) here held = subst (λ (o : Option (Map (List ℕ))). IfSome o (λ m. HoldsNamed (kind_of l) (id_of l i) (chunks m (id_of l i))) → IfSome o (λ m. HoldsAll l (i + 1) m)) (sym left.1) (go now held) here where
     go : (o : Option (Map (List ℕ))) → IfSome o (λ m. HoldsAll l i m) → IfSome (option_map (λ m. at_name m (temporary_of (path_of (id_of l i))) left.0) o) (λ m. HoldsNamed (kind_of l) (id_of l i) (chunks m (id_of l i))) → IfSome (option_map (λ m. at_name m (temporary_of (path_of (id_of l i))) left.0) o) (λ m. HoldsAll l (i + 1) m)
     go None k h = tt
-    go (Some m) k h = held_on m (at_name m (temporary_of (path_of (id_of l i))) left.0) (λ q. inr (ap (λ (f : Map (List ℕ)). f q) (chunks_left (id_of l i) is one none m left.0))) h k
+    go (Some m) k h = held_on m (at_name m (temporary_of (path_of (id_of l i))) left.0) (λ q. inr (ap (λ (f : Map (List ℕ)). f q) (leaves (id_of l i) left.0 m))) h k
 
 -- ---- the ids that were seen
 
@@ -197,12 +204,12 @@ pub stands_on : (l : Listing) (i : ℕ) (told : Option (List ℕ)) (old now new 
 stands_on l i None old now new keeps h = tt
 stands_on l i (Some t) old now new keeps h = stands_more l t i old now new keeps h
 
-pub holds_on : (l : Listing) (i : ℕ) → IsId (id_of l i) → ((a b : List ℕ) → IsId b → path_of a ≡ path_of b → a ≡ b) → ((q x : List ℕ) → temporary_of q ≢ path_of x)
+pub holds_on : (l : Listing) (i : ℕ) → IsId (id_of l i) → PutsOne → LeavesAll
     → (told : Option (List ℕ)) (now new : Option (Map (List ℕ))) → IfSome told (λ t. KeepsFiles (kind_of l) (id_of l i) (slice_of l t i) now new)
     → IfSome new (λ m. HoldsNamed (kind_of l) (id_of l i) (chunks m (id_of l i)))
     → IfSome told (λ t. IfSome now (λ m. HoldsAll l i m)) → IfSome told (λ t. IfSome new (λ m. HoldsAll l (i + 1) m))
-holds_on l i is one none None now new keeps here held = tt
-holds_on l i is one none (Some t) now new keeps here held = holds_more l i is one none (slice_of l t i) now new keeps here held
+holds_on l i is puts leaves None now new keeps here held = tt
+holds_on l i is puts leaves (Some t) now new keeps here held = holds_more l i is puts leaves (slice_of l t i) now new keeps here held
 
 pub holds_again : (l : Listing) (i : ℕ) (id : List ℕ) (seen : BTreeSet (List ℕ)) (told : Option (List ℕ)) (now : Option (Map (List ℕ))) → id ≡ id_of l i → false ≡ not (contains (slice_cmp nat_cmp) seen id)
     → AreSeen l i seen → IfSome told (λ t. IfSome now (λ m. HoldsAll l i m)) → IfSome told (λ t. IfSome now (λ m. HoldsAll l (i + 1) m))

@@ -1,7 +1,6 @@
 pub mod Writes
 pub mod Steps
 pub mod Walked
-pub mod Texts
 pub mod Extracted
 pub mod Numbers
 pub mod Done
@@ -10,4 +9,11 @@ pub mod Kept
 pub mod Views
 pub mod Made
 pub mod IsMade
-pub mod Unread
+pub mod Tasks
+pub mod Quiets
+pub mod ReadOnly
+pub mod Counting
+pub mod Lent
+pub mod Obtained
+pub mod FolderNames
+pub mod Opened

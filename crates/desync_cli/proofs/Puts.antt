@@ -1,20 +1,11 @@
--- A chunk's file that is put changes what is held under its id alone.
-use Rattle.std.proofs.Common.{◌≡◌, ◌≢◌, ℕ, List, Bool, true, false, Option, Some, None, cond, refl, sym, ap, subst, ◌∙◌, Result, Ok, Err, OnOk, OnErr, ◌||◌}
+-- What a put leaves: other names, and ids that were seen before.
+use Rattle.std.proofs.Common.{◌≡◌, ◌≢◌, ℕ, List, Bool, true, false, Option, cond, refl, ap, ◌∙◌, ◌||◌}
 use Rattle.std.proofs.lemmas.Map.Text.{is_eq-slice_cmp}
 use Rattle.std.proofs.lemmas.Slice.Eq.{bytes_eq-Decides}
-use Rattle.std.specs.Cmp.{both_ways}
 use Rattle.std.specs.Cmp.Lexicographic.{slice_cmp}
-use Rattle.std.specs.Option.{option_map}
 use Rattle.std.specs.Ordering.{nat_cmp, is_eq}
 use Rattle.std.specs.Str.{bytes_eq}
-use Rattle.chunk_store.specs.Folders.{chunks}
-use Rattle.chunk_store.specs.Names.{IsId}
-use Rattle.chunk_store.specs.Paths.{path_of}
-use Rattle.chunk_store.specs.Said.{KeepsOf, said_by}
-use Rattle.dsy_base.specs.Folders.{temporary_of, put_in}
 use Rattle.dsy_base.specs.Maps.{Map, at_name}
-use Rattle.dsy_base.specs.declared.fault.IoFault.{IoFault}
-use Rattle.desync_cli.specs.Keeps.{Puts, LeavesTemporary}
 
 is_false : (b : Bool) → (b ≡ true → ⊥) → b ≡ false
 is_false true differ = absurd (differ refl)
@@ -25,56 +16,6 @@ apart_is a b differ = is_false (bytes_eq a b) (λ h. differ ((bytes_eq-Decides a
 
 pub other_name : {X : Type 0} (m : Map X) (name q : List ℕ) (w : Option X) → name ≢ q → at_name m name w q ≡ m q
 other_name m name q w differ = ap (λ b. cond b w (m q)) (apart_is name q differ)
-
-module _ (id : List ℕ) (is : IsId id) (one : (a b : List ℕ) → IsId b → path_of a ≡ path_of b → a ≡ b) (none : (q x : List ℕ) → temporary_of q ≢ path_of x) where
-  same_test : (q : List ℕ) → bytes_eq (path_of id) (path_of q) ≡ bytes_eq id q
-  same_test q = both_ways (bytes_eq (path_of id) (path_of q)) (bytes_eq id q)
-      (λ h. (bytes_eq-Decides id q).1 (sym (one q id is (sym ((bytes_eq-Decides (path_of id) (path_of q)).0 h)))))
-      (λ h. (bytes_eq-Decides (path_of id) (path_of q)).1 (ap path_of ((bytes_eq-Decides id q).0 h)))
-
-  pub chunks_left : (m : Map (List ℕ)) (x : Option (List ℕ)) → chunks (at_name m (temporary_of (path_of id)) x) ≡ chunks m
-  chunks_left m x = λ i q. (other_name m (temporary_of (path_of id)) (path_of q) x (none (path_of id) q)) i
-
-  pub chunks_put : (m : Map (List ℕ)) (b : List ℕ) → chunks (put_in m (path_of id) b) ≡ at_name (chunks m) id (Some b)
-  chunks_put m b = λ i q. (here q) i where
-    here : (q : List ℕ) → put_in m (path_of id) b (path_of q) ≡ at_name (chunks m) id (Some b) q
-    here q =
-        ap (λ (r : Option (List ℕ)). cond (bytes_eq (path_of id) (path_of q)) (Some b) r) (other_name m (temporary_of (path_of id)) (path_of q) None (none (path_of id) q))
-        ∙ ap (λ t. cond t (Some b) (m (path_of q))) (same_test q)
-
-  holds_put : (b : List ℕ) (old new : Option (Map (List ℕ))) → Puts id b old new → option_map chunks new ≡ option_map (λ m. at_name m id (Some b)) (option_map chunks old)
-  holds_put b old new put = ap (option_map chunks) put ∙ go old where
-    go : (o : Option (Map (List ℕ))) → option_map chunks (option_map (λ m. put_in m (path_of id) b) o) ≡ option_map (λ m. at_name m id (Some b)) (option_map chunks o)
-    go None = refl
-    go (Some m) = ap Some (chunks_put m b)
-
-  holds_left : (old new : Option (Map (List ℕ))) → LeavesTemporary id old new → option_map chunks new ≡ option_map chunks old
-  holds_left old new left = ap (option_map chunks) left.1 ∙ go old where
-    go : (o : Option (Map (List ℕ))) → option_map chunks (option_map (λ m. at_name m (temporary_of (path_of id)) left.0) o) ≡ option_map chunks o
-    go None = refl
-    go (Some m) = ap Some (chunks_left m left.0)
-
-  pub put_holds : (b : List ℕ) (old new : Option (Map (List ℕ))) (r : Result Unit IoFault) → OnOk r (Puts id b old new) → OnOk r (option_map chunks new ≡ option_map (λ m. at_name m id (Some b)) (option_map chunks old))
-  put_holds b old new (Ok r) put = holds_put b old new put
-  put_holds b old new (Err e) put = tt
-
-  pub put_leaves : (old new : Option (Map (List ℕ))) (r : Result Unit IoFault) → OnErr r (LeavesTemporary id old new) → OnErr r (option_map chunks new ≡ option_map chunks old)
-  put_leaves old new (Ok r) left = tt
-  put_leaves old new (Err e) left = holds_left old new left
-
-  said_put : (b q : List ℕ) → q ≢ id → (old : Option (Map (List ℕ))) → KeepsOf (said_by old) (said_by (option_map (λ m. at_name m id (Some b)) old)) q
-  said_put b q differ None = record { denied = λ h. h; shown = λ x h. h; longer = λ n h. h; taken = λ x h. h }
-  said_put b q differ (Some m) =
-      let other = other_name m id q (Some b) (λ h. differ (sym h)) in
-      record { denied = λ h. other ∙ h; shown = λ x h. other ∙ h; longer = λ n h. (h.0, other ∙ h.1, h.2); taken = λ x h. other ∙ h }
-
-  said_same : (q : List ℕ) (old : Option (Map (List ℕ))) → KeepsOf (said_by old) (said_by old) q
-  said_same q old = record { denied = λ h. h; shown = λ x h. h; longer = λ n h. h; taken = λ x h. h }
-
-  pub put_said : (b : List ℕ) (old new : Option (Map (List ℕ))) (r : Result Unit IoFault) → OnOk r (Puts id b old new) → OnErr r (LeavesTemporary id old new) → (q : List ℕ) → q ≢ id
-      → KeepsOf (said_by (option_map chunks old)) (said_by (option_map chunks new)) q
-  put_said b old new (Ok r) put left q differ = subst (λ (h : Option (Map (List ℕ))). KeepsOf (said_by (option_map chunks old)) (said_by h) q) (sym (holds_put b old new put)) (said_put b q differ (option_map chunks old))
-  put_said b old new (Err e) put left q differ = subst (λ (h : Option (Map (List ℕ))). KeepsOf (said_by (option_map chunks old)) (said_by h) q) (sym (holds_left old new left)) (said_same q (option_map chunks old))
 
 -- ---- ids that were seen
 

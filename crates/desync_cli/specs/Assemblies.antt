@@ -11,8 +11,8 @@ use Rattle.desync_cli.specs.declared.assemble.Halt.TheVariants as halt
 use Rattle.chunk_store.specs.declared.id.ChunkId.{ChunkId}
 use Rattle.desync_cli.specs.declared.obtain.Why.{Why}
 use Rattle.desync_cli.specs.declared.obtain.Why.TheVariants as why
-use Rattle.desync_cli.specs.declared.outcome.Outcome.{Outcome}
-use Rattle.desync_cli.specs.declared.outcome.Outcome.TheVariants as ends
+use Rattle.command_outcome.specs.declared.outcome.Outcome.{Outcome}
+use Rattle.command_outcome.specs.declared.outcome.Outcome.TheVariants as ends
 
 -- the bytes t after it: where the length couldn't be set they are as before
 abbrev pub Assembles : Listing → List ℕ → List ℕ → Result Unit Halt → Type 0
@@ -20,17 +20,17 @@ Assembles l old t (Ok r) = IsRight t l
 Assembles l old t (Err (halt.Length f)) = t ≡ old
 Assembles l old t (Err (halt.Entry s)) = Walks l (resized old (image_length l)) t (Err s)
 
--- what the store lacked
-abbrev pub HaltLacks : Listing → Map (List ℕ) → Halt → Type 0
-HaltLacks l m (halt.Length f) = Unit {0}
-HaltLacks l m (halt.Entry s) = StopLacks l m s
+-- what the stores lacked
+abbrev pub HaltLacks : Listing → List (Map (List ℕ)) → Halt → Type 0
+HaltLacks l maps (halt.Length f) = Unit {0}
+HaltLacks l maps (halt.Entry s) = StopLacks l maps s
 
 -- how it ends where nothing fails
-abbrev pub HaltVerdict : Listing → List ℕ → Map (List ℕ) → Result Unit Halt → Type 0
-HaltVerdict l base m (Ok r) = AllHad l base m (count_of l)
-HaltVerdict l base m (Err (halt.Length io.Failed)) = ⊥
-HaltVerdict l base m (Err (halt.Length io.Memory)) = Unit {0}
-HaltVerdict l base m (Err (halt.Entry s)) = StopsFirst l base m s.entry s.why
+abbrev pub HaltVerdict : Listing → List ℕ → List (Map (List ℕ)) → Result Unit Halt → Type 0
+HaltVerdict l base maps (Ok r) = AllHad l base maps (count_of l)
+HaltVerdict l base maps (Err (halt.Length io.Failed)) = ⊥
+HaltVerdict l base maps (Err (halt.Length io.Memory)) = Unit {0}
+HaltVerdict l base maps (Err (halt.Entry s)) = StopsFirst l base maps s.entry s.why
 
 -- whose fault it was
 abbrev pub IsTargetFault : Halt → Type 0
@@ -38,15 +38,15 @@ IsTargetFault (halt.Length io.Failed) = Unit {0}
 IsTargetFault (halt.Length io.Memory) = ⊥
 IsTargetFault (halt.Entry s) = s.why ≡ why.TargetFault
 
-abbrev pub IsStoreFault : Halt → Type 0
-IsStoreFault (halt.Length f) = ⊥
-IsStoreFault (halt.Entry s) = s.why ≡ why.StoreFault
+abbrev pub IsStoreFault : ℕ → Halt → Type 0
+IsStoreFault store (halt.Length f) = ⊥
+IsStoreFault store (halt.Entry s) = s.why ≡ why.StoreFault store
 
 -- the outcome of an assembly
 abbrev pub outcome_at : ℕ → ChunkId → Why → Outcome
 outcome_at k id why.Missing = ends.Missing k id
-outcome_at k id (why.Damaged shows) = ends.Damaged k id 0 shows
-outcome_at k id why.StoreFault = ends.StoreFault 0
+outcome_at k id (why.Damaged store shows) = ends.Damaged k id store shows
+outcome_at k id (why.StoreFault store) = ends.StoreFault store
 outcome_at k id why.TargetFault = ends.TargetFault
 outcome_at k id why.Memory = ends.Memory
 

@@ -1,25 +1,17 @@
 -- What seeing to the chunks of an image does to a folder's files. l lists the chunks, t are the image's bytes.
 use Rattle.std.specs.Prelude.{◌≡◌, ◌≢◌, ◌⊎◌, ℕ, ◌<◌, List, Option, Some, IfSome}
-use Rattle.std.specs.Option.{option_map}
 use Rattle.caibx_codec.specs.Listing.{Listing, count_of, id_of, kind_of, slice_of}
 use Rattle.chunk_store.specs.Folders.{chunks}
 use Rattle.chunk_store.specs.Names.{name_of}
 use Rattle.chunk_store.specs.Paths.{path_of}
 use Rattle.chunk_store.specs.declared.id.ChunkId.{ChunkId}
 use Rattle.chunk_store.specs.declared.id.DigestKind.{DigestKind}
-use Rattle.dsy_base.specs.Folders.{temporary_of, put_in}
-use Rattle.dsy_base.specs.Maps.{Map, at_name}
+use Rattle.dsy_base.specs.Folders.{temporary_of}
+use Rattle.dsy_base.specs.Maps.{Map}
 use Rattle.caibx_codec.specs.Right.{IsRightAt}
+use Rattle.dir_store.specs.Puts.{Puts, LeavesTemporary}
 use Rattle.desync_cli.specs.declared.put_chunks.MakeFault.{MakeFault}
 use Rattle.desync_cli.specs.declared.put_chunks.MakeFault.TheVariants as faults
-
--- the files once b is put under the id
-abbrev pub Puts : List ℕ → List ℕ → Option (Map (List ℕ)) → Option (Map (List ℕ)) → Type 0
-Puts id b old new = new ≡ option_map (λ m. put_in m (path_of id) b) old
-
--- the files are as before but for the id's temporary file
-abbrev pub LeavesTemporary : List ℕ → Option (Map (List ℕ)) → Option (Map (List ℕ)) → Type 0
-LeavesTemporary id old new = (x : Option (List ℕ)) × (new ≡ option_map (λ m. at_name m (temporary_of (path_of id)) x) old)
 
 -- what seeing to the chunk b may do to the files: nothing, or b is put under its id, or a temporary file is left
 abbrev pub KeepsFiles : DigestKind → List ℕ → List ℕ → Option (Map (List ℕ)) → Option (Map (List ℕ)) → Type 0

@@ -7,8 +7,8 @@ use Rattle.chunk_store.specs.Folders.{chunks}
 use Rattle.chunk_store.specs.Names.{IsId}
 use Rattle.dsy_base.specs.Maps.{Map}
 use Rattle.desync_cli.specs.Keeps.{HoldsAll}
-use Rattle.desync_cli.specs.Makes.{default_sizes}
-use Rattle.desync_cli.specs.declared.words.Make.{Make}
+use Rattle.desync_cli.specs.Makes.{sizes_of}
+use Rattle.desync_cli.specs.declared.task.Make.{Make}
 
 -- INDEX holds the index file of the image that IMAGE held, and the folder holds under each listed id bytes of that name,
 -- and under each other id what it held
@@ -16,7 +16,7 @@ pub record IsMade (files files_after : Map (List ℕ)) (folders folders_after : 
   pub image : List ℕ
   pub image_was : files x.image ≡ Some image
   pub listing : Listing
-  pub index : IsIndexOfImage default_sizes image listing
+  pub index : IsIndexOfImage (sizes_of x) image listing
   pub file : files_after x.index ≡ Some (file_of listing)
   pub held : Map (List ℕ)
   pub folder_was : folders x.folder ≡ Some held

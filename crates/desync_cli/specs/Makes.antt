@@ -1,8 +1,8 @@
 -- How `make` may end. A name is its bytes; t are the image's bytes.
-use Rattle.std.specs.Prelude.{◌≡◌, ◌≢◌, ◌⊎◌, ℕ, List, Some, None, Result, Ok, Err}
+use Rattle.std.specs.Prelude.{◌≡◌, ◌≢◌, ◌⊎◌, ℕ, List, slice_index, Some, None, Result, Ok, Err}
 use Rattle.std.specs.Map.{count_at}
 use Rattle.buzhash_cut.specs.Image.{IsIndexOfImage, HasTooManyCuts}
-use Rattle.buzhash_cut.specs.Sizes.{Sizes}
+use Rattle.buzhash_cut.specs.Sizes.{Sizes, size_fault}
 use Rattle.caibx_codec.specs.Listing.{Listing, count_of}
 use Rattle.caibx_codec.specs.Spelling.{file_of}
 use Rattle.dsy_base.specs.Counts.{Rose}
@@ -10,24 +10,24 @@ use Rattle.dsy_base.specs.Maps.{Map, at_name}
 use Rattle.dsy_base.specs.declared.fault.OpenFault.{OpenFault}
 use Rattle.dsy_base.specs.declared.fault.OpenFault.TheVariants as opens
 use Rattle.desync_cli.specs.Keeps.{HoldsAll, Stands}
-use Rattle.desync_cli.specs.declared.outcome.Outcome.{Outcome}
-use Rattle.desync_cli.specs.declared.outcome.Outcome.TheVariants as ends
+use Rattle.command_outcome.specs.declared.outcome.Outcome.{Outcome}
+use Rattle.command_outcome.specs.declared.outcome.Outcome.TheVariants as ends
 use Rattle.desync_cli.specs.declared.put_chunks.MakeFault.{MakeFault}
 use Rattle.desync_cli.specs.declared.put_chunks.MakeFault.TheVariants as faults
-use Rattle.desync_cli.specs.declared.words.Make.{Make}
+use Rattle.desync_cli.specs.declared.task.Make.{Make}
 
--- the sizes by which an image is cut where the words name none
-abbrev pub default_sizes : Sizes
-default_sizes = record { least = 16384; average = 65536; greatest = 262144 }
+-- the sizes by which the image is to be cut
+abbrev pub sizes_of : Make → Sizes
+sizes_of x = record { least = slice_index x.sizes 0; average = slice_index x.sizes 1; greatest = slice_index x.sizes 2 }
 
 -- what indexing an image may answer
-abbrev pub Indexes : List ℕ → Result Listing MakeFault → Type 0
-Indexes t (Ok l) = IsIndexOfImage default_sizes t l
-Indexes t (Err faults.TooManyItems) = HasTooManyCuts default_sizes t
-Indexes t (Err faults.ImageFault) = Unit {0}
-Indexes t (Err faults.Memory) = Unit {0}
-Indexes t (Err faults.StoreFault) = ⊥
-Indexes t (Err (faults.Changed k was got)) = ⊥
+abbrev pub Indexes : Sizes → List ℕ → Result Listing MakeFault → Type 0
+Indexes s t (Ok l) = IsIndexOfImage s t l
+Indexes s t (Err faults.TooManyItems) = HasTooManyCuts s t
+Indexes s t (Err faults.ImageFault) = Unit {0}
+Indexes s t (Err faults.Memory) = Unit {0}
+Indexes s t (Err faults.StoreFault) = ⊥
+Indexes s t (Err (faults.Changed k was got)) = ⊥
 
 -- a fault of cutting
 abbrev pub IsOfCutting : MakeFault → Type 0
@@ -41,25 +41,25 @@ IsOfStoring (faults.Changed k was got) = was.0 ≢ got.0
 IsOfStoring other = Unit {0}
 
 -- some of the image's chunks may have been put into the folder
-abbrev pub PutsSome : List ℕ → Map (List ℕ) → Map (List ℕ) → Type 0
-PutsSome t old new = (new ≡ old) ⊎ ((l : Listing) × IsIndexOfImage default_sizes t l × Stands l t (count_of l) old new)
+abbrev pub PutsSome : Sizes → List ℕ → Map (List ℕ) → Map (List ℕ) → Type 0
+PutsSome s t old new = (new ≡ old) ⊎ ((l : Listing) × IsIndexOfImage s t l × Stands l t (count_of l) old new)
 
 -- what storing an image may answer, over a folder's files
-abbrev pub StoresImage : {A : Type 0} → (A → List ℕ) → List ℕ → Map (List ℕ) → Map (List ℕ) → Result A MakeFault → Type 0
-StoresImage bytes_of t old new (Ok v) =
-    (l : Listing) × IsIndexOfImage default_sizes t l × HoldsAll l (count_of l) new × Stands l t (count_of l) old new × (bytes_of v ≡ file_of l)
-StoresImage bytes_of t old new (Err faults.TooManyItems) = (new ≡ old) × HasTooManyCuts default_sizes t
-StoresImage bytes_of t old new (Err faults.ImageFault) = PutsSome t old new
-StoresImage bytes_of t old new (Err faults.StoreFault) = PutsSome t old new
-StoresImage bytes_of t old new (Err faults.Memory) = PutsSome t old new
-StoresImage bytes_of t old new (Err (faults.Changed k was got)) = ⊥
+abbrev pub StoresImage : {A : Type 0} → Sizes → (A → List ℕ) → List ℕ → Map (List ℕ) → Map (List ℕ) → Result A MakeFault → Type 0
+StoresImage s bytes_of t old new (Ok v) =
+    (l : Listing) × IsIndexOfImage s t l × HoldsAll l (count_of l) new × Stands l t (count_of l) old new × (bytes_of v ≡ file_of l)
+StoresImage s bytes_of t old new (Err faults.TooManyItems) = (new ≡ old) × HasTooManyCuts s t
+StoresImage s bytes_of t old new (Err faults.ImageFault) = PutsSome s t old new
+StoresImage s bytes_of t old new (Err faults.StoreFault) = PutsSome s t old new
+StoresImage s bytes_of t old new (Err faults.Memory) = PutsSome s t old new
+StoresImage s bytes_of t old new (Err (faults.Changed k was got)) = ⊥
 
 -- the folder was there, and it alone has changed: l is the image's index, and each name in it holds what it held, or is
 -- the path of a listed chunk and holds the image's slice, or is such a chunk's temporary file
-pub record PutIn (before after : Map (Map (List ℕ))) (folder t : List ℕ) (l : Listing) : Type 0 where
+pub record PutIn (s : Sizes) (before after : Map (Map (List ℕ))) (folder t : List ℕ) (l : Listing) : Type 0 where
   pub held : Map (List ℕ)
   pub there : before folder ≡ Some held
-  pub index : IsIndexOfImage default_sizes t l
+  pub index : IsIndexOfImage s t l
   pub now : Map (List ℕ)
   pub is : after ≡ at_name before folder (Some now)
   pub stands : Stands l t (count_of l) held now
@@ -69,60 +69,58 @@ abbrev pub IsThere : {X : Type 0} → Map X → List ℕ → Type 0
 IsThere {X} m name = (x : X) × (m name ≡ Some x)
 
 -- the folders stand as before, or some of the image's chunks were put into the one
-abbrev pub Left : Map (List ℕ) → Map (Map (List ℕ)) → Map (Map (List ℕ)) → List ℕ → List ℕ → Type 0
-Left files before after image folder =
-    (after ≡ before) ⊎ ((t : List ℕ) × (files image ≡ Some t) × ((l : Listing) × PutIn before after folder t l))
+abbrev pub Left : Sizes → Map (List ℕ) → Map (Map (List ℕ)) → Map (Map (List ℕ)) → List ℕ → List ℕ → Type 0
+Left s files before after image folder =
+    (after ≡ before) ⊎ ((t : List ℕ) × (files image ≡ Some t) × ((l : Listing) × PutIn s before after folder t l))
 
 -- each refusal comes only so, and leaves the folders so
-abbrev pub Refused : Map (List ℕ) → Map (Map (List ℕ)) → Map (Map (List ℕ)) → List ℕ → List ℕ → Outcome → Type 0
-Refused files before after image folder (ends.NoFile name) = (after ≡ before) × (name ≡ image) × (files image ≡ None)
-Refused files before after image folder (ends.NoFolder name) =
+abbrev pub Refused : Sizes → Map (List ℕ) → Map (Map (List ℕ)) → Map (Map (List ℕ)) → List ℕ → List ℕ → Outcome → Type 0
+Refused s files before after image folder (ends.NoFile name) = (after ≡ before) × (name ≡ image) × (files image ≡ None)
+Refused s files before after image folder (ends.NoFolder name) =
     (after ≡ before) × (name ≡ folder) × (before folder ≡ None) × IsThere files image
-Refused files before after image folder ends.TooManyItems =
-    (after ≡ before) × IsThere before folder × ((t : List ℕ) × (files image ≡ Some t) × HasTooManyCuts default_sizes t)
-Refused files before after image folder ends.ImageFault = Left files before after image folder
-Refused files before after image folder (ends.StoreFault store) = (store ≡ 0) × Left files before after image folder
-Refused files before after image folder (ends.FileFault name) = Left files before after image folder
-Refused files before after image folder ends.Memory = Left files before after image folder
-Refused files before after image folder ends.Done = ⊥
-Refused files before after image folder (ends.Usage place reason) = ⊥
-Refused files before after image folder (ends.BadIndex name fault) = ⊥
-Refused files before after image folder (ends.Missing k id) = ⊥
-Refused files before after image folder (ends.Damaged k id store shows) = ⊥
-Refused files before after image folder (ends.Changed k was got) = ⊥
-Refused files before after image folder ends.TargetFault = ⊥
+Refused s files before after image folder ends.TooManyItems =
+    (after ≡ before) × IsThere before folder × ((t : List ℕ) × (files image ≡ Some t) × HasTooManyCuts s t)
+Refused s files before after image folder ends.ImageFault = Left s files before after image folder
+Refused s files before after image folder (ends.StoreFault store) = (store ≡ 0) × Left s files before after image folder
+Refused s files before after image folder (ends.FileFault name) = Left s files before after image folder
+Refused s files before after image folder ends.Memory = Left s files before after image folder
+Refused s files before after image folder other = ⊥
 
 -- the image is there, its chunks are in the folder, and the bytes are the file of its index
-abbrev pub IsStoredAs : Map (List ℕ) → Map (Map (List ℕ)) → Map (Map (List ℕ)) → List ℕ → List ℕ → List ℕ → Type 0
-IsStoredAs files before after image folder bytes =
-    (t : List ℕ) × (files image ≡ Some t) × ((l : Listing) × (p : PutIn before after folder t l) × HoldsAll l (count_of l) p.now × (bytes ≡ file_of l))
+abbrev pub IsStoredAs : Sizes → Map (List ℕ) → Map (Map (List ℕ)) → Map (Map (List ℕ)) → List ℕ → List ℕ → List ℕ → Type 0
+IsStoredAs s files before after image folder bytes =
+    (t : List ℕ) × (files image ≡ Some t) × ((l : Listing) × (p : PutIn s before after folder t l) × HoldsAll l (count_of l) p.now × (bytes ≡ file_of l))
 
-abbrev pub Stored : {A : Type 0} → (A → List ℕ) → Map (List ℕ) → Map (Map (List ℕ)) → Map (Map (List ℕ)) → List ℕ → List ℕ → Result A Outcome → Type 0
-Stored bytes_of files before after image folder (Ok v) = IsStoredAs files before after image folder (bytes_of v)
-Stored bytes_of files before after image folder (Err o) = Refused files before after image folder o
+abbrev pub Stored : {A : Type 0} → Sizes → (A → List ℕ) → Map (List ℕ) → Map (Map (List ℕ)) → Map (Map (List ℕ)) → List ℕ → List ℕ → Result A Outcome → Type 0
+Stored s bytes_of files before after image folder (Ok v) = IsStoredAs s files before after image folder (bytes_of v)
+Stored s bytes_of files before after image folder (Err o) = Refused s files before after image folder o
 
 -- each outcome comes only so, and leaves the files and folders so
 abbrev pub MakeEnds : Map (List ℕ) → Map (Map (List ℕ)) → Map (List ℕ) → Map (Map (List ℕ)) → Make → Outcome → Type 0
 MakeEnds files folders files_after folders_after x ends.Done =
-    (bytes : List ℕ) × (files_after ≡ at_name files x.index (Some bytes)) × IsStoredAs files folders folders_after x.image x.folder bytes
-MakeEnds files folders files_after folders_after x other = (files_after ≡ files) × Refused files folders folders_after x.image x.folder other
+    (bytes : List ℕ) × (files_after ≡ at_name files x.index (Some bytes)) × IsStoredAs (sizes_of x) files folders folders_after x.image x.folder bytes
+MakeEnds files folders files_after folders_after x (ends.Sizes fault) = (files_after ≡ files) × (folders_after ≡ folders)
+MakeEnds files folders files_after folders_after x other =
+    (files_after ≡ files) × Refused (sizes_of x) files folders folders_after x.image x.folder other
 
--- the outcomes of `make`. What is named as changed has another name
-abbrev pub IsOfMake : Outcome → Type 0
-IsOfMake (ends.Usage place reason) = ⊥
-IsOfMake (ends.BadIndex name fault) = ⊥
-IsOfMake (ends.Missing k id) = ⊥
-IsOfMake (ends.Damaged k id store shows) = ⊥
-IsOfMake ends.TargetFault = ⊥
-IsOfMake (ends.Changed k was got) = was.0 ≢ got.0
-IsOfMake other = Unit {0}
+-- the outcomes of storing an image and writing its index. What is named as changed has another name
+abbrev pub IsOfStored : Outcome → Type 0
+IsOfStored ends.Done = Unit {0}
+IsOfStored (ends.NoFile name) = Unit {0}
+IsOfStored (ends.NoFolder name) = Unit {0}
+IsOfStored (ends.Changed k was got) = was.0 ≢ got.0
+IsOfStored (ends.StoreFault store) = Unit {0}
+IsOfStored (ends.FileFault name) = Unit {0}
+IsOfStored ends.ImageFault = Unit {0}
+IsOfStored ends.TooManyItems = Unit {0}
+IsOfStored ends.Memory = Unit {0}
+IsOfStored other = ⊥
 
--- where no number rises, no call fails
-abbrev pub MakeExactly : Outcome → Type 0
-MakeExactly ends.ImageFault = ⊥
-MakeExactly (ends.StoreFault store) = ⊥
-MakeExactly (ends.FileFault name) = ⊥
-MakeExactly other = Unit {0}
+-- the outcomes of `make`: the sizes are refused exactly by their first fault. Want of memory is free
+abbrev pub IsOfMake : Make → Outcome → Type 0
+IsOfMake x (ends.Sizes fault) = size_fault (sizes_of x) ≡ Some fault
+IsOfMake x ends.Memory = Unit {0}
+IsOfMake x other = (size_fault (sizes_of x) ≡ None) × IsOfStored other
 
 -- whose fault it was
 abbrev pub IsImageFault : Map ℕ → Map ℕ → List ℕ → Outcome → Type 0
@@ -164,8 +162,8 @@ no_folder folder opens.Failed = ends.FileFault folder
 no_folder folder opens.Memory = ends.Memory
 
 -- what storing an image of the bytes t into a folder may answer
-abbrev pub StoresIn : {A : Type 0} → (A → List ℕ) → List ℕ → Map (Map (List ℕ)) → Map (Map (List ℕ)) → List ℕ → Result A Outcome → Type 0
-StoresIn bytes_of t before after folder r = (files : Map (List ℕ)) (image : List ℕ) → files image ≡ Some t → Stored bytes_of files before after image folder r
+abbrev pub StoresIn : {A : Type 0} → Sizes → (A → List ℕ) → List ℕ → Map (Map (List ℕ)) → Map (Map (List ℕ)) → List ℕ → Result A Outcome → Type 0
+StoresIn s bytes_of t before after folder r = (files : Map (List ℕ)) (image : List ℕ) → files image ≡ Some t → Stored s bytes_of files before after image folder r
 
 -- the file was written, or stands as before
 abbrev pub IsWritten : Map (List ℕ) → Map (List ℕ) → List ℕ → List ℕ → Outcome → Type 0

@@ -1,12 +1,12 @@
--- How a walk through the entries of an index may end. The base is the target's bytes before it, m what the store holds.
+-- How a walk through the entries of an index may end. The base is the target's bytes before it, `maps` are what the
+-- stores hold.
 use Rattle.std.specs.Prelude.{◌≡◌, ◌⊎◌, ℕ, ◌+◌, ◌<◌, List, length, Result, Ok, Err}
 use Rattle.caibx_codec.specs.Listing.{Listing, count_of, start_of, end_of, id_of, size_of, kind_of}
-use Rattle.chunk_store.specs.Giving.{GivesChunk}
 use Rattle.chunk_store.specs.Names.{name_of}
 use Rattle.chunk_store.specs.declared.id.DigestKind.{DigestKind}
 use Rattle.dsy_base.specs.Bytes.{Held, held_written}
 use Rattle.dsy_base.specs.Maps.{Map}
-use Rattle.desync_cli.specs.Lacks.{Lacks}
+use Rattle.desync_cli.specs.Lacks.{Lacks, SomeGives}
 use Rattle.caibx_codec.specs.Right.{IsRightAt, IsRight}
 use Rattle.desync_cli.specs.Right.{StopsAt}
 use Rattle.desync_cli.specs.declared.obtain.Why.{Why}
@@ -22,26 +22,26 @@ WritesRange old new at n = (b : List ℕ) × (length b ≡ n) × (new ≡ held_w
 abbrev pub WritesOnly : Held → Held → ℕ → ℕ → Result Unit Why → Type 0
 WritesOnly old new at n (Ok r) = (new ≡ old) ⊎ WritesRange old new at n
 WritesOnly old new at n (Err why.TargetFault) = WritesRange old new at n
-WritesOnly old new at n (Err why.StoreFault) = new ≡ old
+WritesOnly old new at n (Err (why.StoreFault s)) = new ≡ old
 WritesOnly old new at n (Err why.Missing) = new ≡ old
-WritesOnly old new at n (Err (why.Damaged x)) = new ≡ old
+WritesOnly old new at n (Err (why.Damaged s x)) = new ≡ old
 WritesOnly old new at n (Err why.Memory) = new ≡ old
 
 -- why it answered so, where nothing failed and the range held the bytes b before
-abbrev pub Settles : DigestKind → List ℕ → ℕ → List ℕ → Map (List ℕ) → Result Unit Why → Type 0
-Settles kind id size b m (Ok r) = (name_of kind b ≡ id) ⊎ GivesChunk kind id size (m id)
-Settles kind id size b m (Err why.Missing) = name_of kind b ≡ id → ⊥
-Settles kind id size b m (Err (why.Damaged x)) = name_of kind b ≡ id → ⊥
-Settles kind id size b m (Err why.StoreFault) = ⊥
-Settles kind id size b m (Err why.TargetFault) = ⊥
-Settles kind id size b m (Err why.Memory) = Unit {0}
+abbrev pub Settles : DigestKind → List ℕ → ℕ → List ℕ → List (Map (List ℕ)) → Result Unit Why → Type 0
+Settles kind id size b maps (Ok r) = (name_of kind b ≡ id) ⊎ SomeGives kind id size maps
+Settles kind id size b maps (Err why.Missing) = name_of kind b ≡ id → ⊥
+Settles kind id size b maps (Err (why.Damaged s x)) = name_of kind b ≡ id → ⊥
+Settles kind id size b maps (Err (why.StoreFault s)) = ⊥
+Settles kind id size b maps (Err why.TargetFault) = ⊥
+Settles kind id size b maps (Err why.Memory) = Unit {0}
 
 -- from which offset on the base still stands where the walk stopped at entry k: a failed write may have changed the entry
 abbrev pub kept_from : Listing → ℕ → Why → ℕ
 kept_from l k why.TargetFault = end_of l k
-kept_from l k why.StoreFault = start_of l k
+kept_from l k (why.StoreFault s) = start_of l k
 kept_from l k why.Missing = start_of l k
-kept_from l k (why.Damaged x) = start_of l k
+kept_from l k (why.Damaged s x) = start_of l k
 kept_from l k why.Memory = start_of l k
 
 -- the bytes t after the walk: right, or stopped at an entry
@@ -49,30 +49,30 @@ abbrev pub Walks : Listing → List ℕ → List ℕ → Result Unit Stop → Ty
 Walks l base t (Ok r) = IsRight t l
 Walks l base t (Err s) = (s.entry < count_of l) × (s.id.0 ≡ id_of l s.entry) × StopsAt s.entry (kept_from l s.entry s.why) base t l
 
--- what the store lacked at the entry at which the walk stopped
-abbrev pub StopLacks : Listing → Map (List ℕ) → Stop → Type 0
-StopLacks l m s = Lacks (kind_of l) s.id.0 (size_of l s.entry) (m s.id.0) s.why
+-- what the stores lacked at the entry at which the walk stopped
+abbrev pub StopLacks : Listing → List (Map (List ℕ)) → Stop → Type 0
+StopLacks l maps s = Lacks s.id (size_of l s.entry) maps s.why
 
--- an entry can be had: it is right in the base at its own place, or the store gives it
-abbrev pub IsHad : Listing → List ℕ → Map (List ℕ) → ℕ → Type 0
-IsHad l base m i = IsRightAt base l i ⊎ GivesChunk (kind_of l) (id_of l i) (size_of l i) (m (id_of l i))
+-- an entry can be had: it is right in the base at its own place, or some store gives it
+abbrev pub IsHad : Listing → List ℕ → List (Map (List ℕ)) → ℕ → Type 0
+IsHad l base maps i = IsRightAt base l i ⊎ SomeGives (kind_of l) (id_of l i) (size_of l i) maps
 
 -- all entries below k can be had
-abbrev pub AllHad : Listing → List ℕ → Map (List ℕ) → ℕ → Type 0
-AllHad l base m k = (i : ℕ) → i < k → IsHad l base m i
+abbrev pub AllHad : Listing → List ℕ → List (Map (List ℕ)) → ℕ → Type 0
+AllHad l base maps k = (i : ℕ) → i < k → IsHad l base maps i
 
 -- how the walk ends where nothing fails: all entries can be had, or the first that can't be had is named. Want of
 -- memory is free
-abbrev pub StopsFirst : Listing → List ℕ → Map (List ℕ) → ℕ → Why → Type 0
-StopsFirst l base m k why.Missing = AllHad l base m k × (IsRightAt base l k → ⊥)
-StopsFirst l base m k (why.Damaged x) = AllHad l base m k × (IsRightAt base l k → ⊥)
-StopsFirst l base m k why.StoreFault = ⊥
-StopsFirst l base m k why.TargetFault = ⊥
-StopsFirst l base m k why.Memory = Unit {0}
+abbrev pub StopsFirst : Listing → List ℕ → List (Map (List ℕ)) → ℕ → Why → Type 0
+StopsFirst l base maps k why.Missing = AllHad l base maps k × (IsRightAt base l k → ⊥)
+StopsFirst l base maps k (why.Damaged s x) = AllHad l base maps k × (IsRightAt base l k → ⊥)
+StopsFirst l base maps k (why.StoreFault s) = ⊥
+StopsFirst l base maps k why.TargetFault = ⊥
+StopsFirst l base maps k why.Memory = Unit {0}
 
-abbrev pub Verdict : Listing → List ℕ → Map (List ℕ) → Result Unit Stop → Type 0
-Verdict l base m (Ok r) = AllHad l base m (count_of l)
-Verdict l base m (Err s) = StopsFirst l base m s.entry s.why
+abbrev pub Verdict : Listing → List ℕ → List (Map (List ℕ)) → Result Unit Stop → Type 0
+Verdict l base maps (Ok r) = AllHad l base maps (count_of l)
+Verdict l base maps (Err s) = StopsFirst l base maps s.entry s.why
 
 -- the call that makes entry i right is made with its digest's kind, its id, its offset and its size
 pub record IsEntry (l : Listing) (i : ℕ) (kind : DigestKind) (id : List ℕ) (at n : ℕ) : Type 0 where

@@ -1,88 +1,61 @@
-//! `extract -k -s FOLDER INDEX OUT`: OUT becomes the image that INDEX lists, with chunks from FOLDER.
+//! `extract -k -s FOLDER.. INDEX OUT`: OUT becomes the image that INDEX lists, with chunks from 1 to 16 folders.
 
-ghost use Rattle.std.specs.Prelude.{◌≡◌, ◌≢◌, ℕ, ◌<◌, ◌≤◌, IfSome, IfErr, length};
+ghost use Rattle.std.specs.Prelude.{◌≡◌, ℕ, List, ◌<◌, ◌≤◌, map, Some, IfSome, IfErr, length, vec_len, slice_index};
 ghost use Rattle.std.specs.Map.{count_at};
 ghost use Rattle.caibx_codec.specs.Listing.{count_of, size_of, image_length};
 ghost use Rattle.chunk_store.specs.Folders.{chunks};
 ghost use Rattle.desync_cli.specs.Assemblies.{Assembles, HaltLacks, HaltVerdict, IsTargetFault, IsStoreFault, outcome_of};
-ghost use Rattle.desync_cli.specs.Extracts.{Ends, Exactly, IsFileFault};
-ghost use Rattle.desync_cli.specs.Loads.{LoadEnds};
-ghost use Rattle.desync_cli.specs.declared.outcome.UsageWhy.{UsageWhy};
+ghost use Rattle.desync_cli.specs.Extracts.{Ends, Exactly, IsFileFault, IsOfExtract};
+ghost use Rattle.desync_cli.specs.Openings.{IsNumbered, name_at, not_opened, not_taken};
 ghost use Rattle.dsy_base.specs.Bytes.{resized};
 ghost use Rattle.dsy_base.specs.Counts.{Rose, Counted, Quiet, AllQuiet};
+ghost use Rattle.dsy_base.specs.Maps.{Map};
+ghost use Rattle.store_chain.specs.Faults.{EachQuiet};
 
 use crate::assemble::{Halt, assemble};
-use crate::dir_store::DirStore;
+use crate::folders::Folders;
+use crate::load::{load, not_loaded};
 use crate::obtain::Why;
-use crate::outcome::Outcome;
+use crate::opening::{FoldersFault, end_all, open_all};
+use crate::task::Extract;
 use crate::walk::Stop;
-use crate::words::Extract;
-use caibx_codec::fault::IndexFault;
 use caibx_codec::index::Index;
-use caibx_codec::reading::{ViewFault, read_index};
-use dsy_base::fault::{IoFault, OpenFault};
+use command_outcome::outcome::Outcome;
+use dir_store::store::DirStore;
+use dsy_base::fault::IoFault;
 use dsy_base::files::Files;
 use dsy_base::look::Look;
 use dsy_base::view::{Target, View};
 use std::alloc::Global;
-
-/// Why no index was read from a file.
-#[derive(Clone, Copy, Debug, PartialEq, Eq)]
-pub enum LoadFault {
-    NoFile,
-    Bad(IndexFault),
-    Failed,
-    Memory,
-}
-
-/// Reads the index file of this name.
-pub fn load<F: Files>(alloc: Global, files: &mut F, name: &str) -> Result<Index, LoadFault>
-    ensures exactly { IfSome (F.files files.old) (λ m. LoadEnds m name.now result) }
-    ensures files { F.files files.new ≡ F.files files.old }
-    ensures folders { F.folders files.new ≡ F.folders files.old }
-    ensures counts { Counted (F.file_counts files.old) (F.file_counts files.new) name.now }
-    ensures folder_counts { F.folder_counts files.new ≡ F.folder_counts files.old }
-    ensures cause { result ≡ Err LoadFault.Failed →
-        Rose (count_at (F.file_counts files.old) name.now) (count_at (F.file_counts files.new) name.now) }
-{
-    let mut view = match files.view(name) {
-        Ok(view) => view,
-        Err(OpenFault::Absent) => return Err(LoadFault::NoFile),
-        Err(OpenFault::Failed) => return Err(LoadFault::Failed),
-        Err(OpenFault::Memory) => return Err(LoadFault::Memory),
-    };
-    let read = read_index(alloc, &mut view);
-    files.end_view(view);
-    match read {
-        Ok(index) => Ok(index),
-        Err(ViewFault::Bad(fault)) => Err(LoadFault::Bad(fault)),
-        Err(ViewFault::Failed) => Err(LoadFault::Failed),
-        Err(ViewFault::Memory) => Err(LoadFault::Memory),
-    }
-}
+use store_chain::chain::Chain;
 
 // Assembles over what was taken already, and hands it back.
 fn extract_taken<F: Files>(
     index: &Index,
-    look: F::Look,
+    stores: Vec<DirStore<F::Look>>,
     mut target: F::Target,
     buf: &mut [u8],
-) -> (F::Look, F::Target, Result<(), Halt>)
+) -> (Vec<DirStore<F::Look>>, F::Target, Result<(), Halt>)
+    requires size { (1 ≤ vec_len stores) × (vec_len stores ≤ 16) }
     requires inside { (i : ℕ) → i < count_of index.now → size_of index.now i ≤ length buf.old }
     ensures bytes { IfSome (F.Target.held target).bytes (λ old. IfSome (F.Target.held result.1).bytes
         (λ t. Assembles index.now old t result.2)) }
-    ensures absent { IfSome (F.Look.files look) (λ f. IfErr result.2 (HaltLacks index.now (chunks f))) }
-    ensures first { IfSome (F.Target.held target).bytes (λ old. IfSome (F.Look.files look) (λ f.
-        Quiet (F.Target.faults target) (F.Target.faults result.1) → Quiet (F.Look.faults look) (F.Look.faults result.0) →
-        HaltVerdict index.now (resized old (image_length index.now)) (chunks f) result.2)) }
+    ensures absent { (fs : List (Map (List ℕ))) → map F.Look.files stores.items ≡ map Some fs →
+        IfErr result.2 (HaltLacks index.now (map chunks fs)) }
+    ensures first { IfSome (F.Target.held target).bytes (λ old.
+        (fs : List (Map (List ℕ))) → map F.Look.files stores.items ≡ map Some fs →
+        Quiet (F.Target.faults target) (F.Target.faults result.1) →
+        EachQuiet (map F.Look.faults stores.items) (map F.Look.faults result.0.items) →
+        HaltVerdict index.now (resized old (image_length index.now)) (map chunks fs) result.2) }
     ensures named { (F.Target.held result.1).name ≡ (F.Target.held target).name }
-    ensures place { F.Look.place result.0 ≡ F.Look.place look }
+    ensures place { map F.Look.place result.0.items ≡ map F.Look.place stores.items }
     ensures target_cause { IfErr result.2 (λ h. IsTargetFault h → Rose (F.Target.faults target) (F.Target.faults result.1)) }
-    ensures store_cause { IfErr result.2 (λ h. IsStoreFault h → Rose (F.Look.faults look) (F.Look.faults result.0)) }
+    ensures store_cause { IfErr result.2 (λ h. (s : ℕ) → IsStoreFault s h →
+        Rose (slice_index (map F.Look.faults stores.items) s) (slice_index (map F.Look.faults result.0.items) s)) }
 {
-    let mut store = DirStore::new(look);
-    let ended = assemble(index, &mut target, &mut store, buf);
-    (store.into_inner(), target, ended)
+    let mut chain = Chain::new(stores);
+    let ended = assemble(index, &mut target, &mut chain, buf);
+    (chain.into_stores(), target, ended)
 }
 
 // The outcome of an assembly.
@@ -97,19 +70,48 @@ fn outcome_of(ended: Result<(), Halt>) -> Outcome
     };
     match why {
         Why::Missing => Outcome::Missing { entry, id },
-        Why::Damaged(shows) => Outcome::Damaged {
+        Why::Damaged { store, shows } => Outcome::Damaged {
             entry,
             id,
-            store: 0,
+            store,
             shows,
         },
-        Why::StoreFault => Outcome::StoreFault { store: 0 },
+        Why::StoreFault { store } => Outcome::StoreFault { store },
         Why::TargetFault => Outcome::TargetFault,
         Why::Memory => Outcome::Memory,
     }
 }
 
-/// Makes OUT the image that INDEX lists. What OUT holds already is kept where it is right.
+/// The outcome where the folders weren't opened.
+pub fn not_opened(folders: Folders, fault: FoldersFault) -> Outcome
+    requires inside { IsNumbered (length folders) fault }
+    ensures { result ≡ not_opened folders fault }
+{
+    match fault {
+        FoldersFault::Absent { number } => {
+            let name = folders.into_name(number);
+            Outcome::NoFolder { name }
+        }
+        FoldersFault::Failed { number } => {
+            let name = folders.into_name(number);
+            Outcome::FileFault { name }
+        }
+        FoldersFault::Memory => Outcome::Memory,
+    }
+}
+
+// The outcome where OUT wasn't taken.
+fn not_taken(fault: IoFault) -> Outcome
+    ensures { result ≡ not_taken fault }
+{
+    match fault {
+        IoFault::Failed => Outcome::TargetFault,
+        IoFault::Memory => Outcome::Memory,
+    }
+}
+
+/// Makes OUT the image that INDEX lists, with chunks from the folders, which are asked in order. What OUT holds already
+/// is kept where it is right.
 pub fn extract<F: Files>(alloc: Global, files: &mut F, names: Extract) -> Outcome
     ensures ends { IfSome (F.files files.old) (λ before. IfSome (F.folders files.old) (λ folders.
         IfSome (F.files files.new) (λ after. Ends before folders after names result))) }
@@ -117,49 +119,41 @@ pub fn extract<F: Files>(alloc: Global, files: &mut F, names: Extract) -> Outcom
         AllQuiet (F.file_counts files.old) (F.file_counts files.new) →
         AllQuiet (F.folder_counts files.old) (F.folder_counts files.new) →
         Exactly before folders names result)) }
-    ensures only { (p : ℕ) (w : UsageWhy) → result ≢ Outcome.Usage p w }
+    ensures only { IsOfExtract result }
     ensures folders { F.folders files.new ≡ F.folders files.old }
     ensures store_cause { (s : ℕ) → result ≡ Outcome.StoreFault s →
-        Rose (count_at (F.folder_counts files.old) names.folder) (count_at (F.folder_counts files.new) names.folder) }
+        Rose (count_at (F.folder_counts files.old) (name_at names.folders s))
+        (count_at (F.folder_counts files.new) (name_at names.folders s)) }
     ensures target_cause { result ≡ Outcome.TargetFault →
         Rose (count_at (F.file_counts files.old) names.target) (count_at (F.file_counts files.new) names.target) }
     ensures file_cause { IsFileFault (F.file_counts files.old) (F.file_counts files.new)
         (F.folder_counts files.old) (F.folder_counts files.new) names result }
 {
     let Extract {
-        folder,
+        folders,
         index,
         target,
     } = names;
     let listed = match load(alloc, files, index.as_str()) {
         Ok(listed) => listed,
-        Err(LoadFault::NoFile) => return Outcome::NoFile { name: index },
-        Err(LoadFault::Bad(fault)) => return Outcome::BadIndex { name: index, fault },
-        Err(LoadFault::Failed) => return Outcome::FileFault { name: index },
-        Err(LoadFault::Memory) => return Outcome::Memory,
+        Err(fault) => return not_loaded(index, fault),
     };
     let Ok(mut buf) = listed.room(alloc) else {
         return Outcome::Memory;
     };
-    let look = match files.look(folder.as_str()) {
-        Ok(look) => look,
-        Err(OpenFault::Absent) => return Outcome::NoFolder { name: folder },
-        Err(OpenFault::Failed) => return Outcome::FileFault { name: folder },
-        Err(OpenFault::Memory) => return Outcome::Memory,
+    let stores = match open_all(alloc, files, folders.as_slice()) {
+        Ok(stores) => stores,
+        Err(fault) => return not_opened(folders, fault),
     };
     let taken = match files.take(target.as_str(), false) {
         Ok(taken) => taken,
-        Err(IoFault::Failed) => {
-            files.end_look(look);
-            return Outcome::TargetFault;
-        }
-        Err(IoFault::Memory) => {
-            files.end_look(look);
-            return Outcome::Memory;
+        Err(fault) => {
+            end_all(files, stores);
+            return not_taken(fault);
         }
     };
-    let (look, taken, ended) = extract_taken::<F>(&listed, look, taken, &mut buf);
-    files.end_look(look);
+    let (stores, taken, ended) = extract_taken::<F>(&listed, stores, taken, &mut buf);
+    end_all(files, stores);
     files.give(target.as_str(), taken);
     outcome_of(ended)
 }

@@ -2,21 +2,25 @@
 #![tactic(auto)]
 
 mod assemble;
-mod dir_store;
-pub mod error_line;
+#[cfg(test)]
+mod cases;
 mod extract;
-pub mod help;
+pub mod folders;
 pub mod in_memory;
+mod info;
+mod load;
 mod make;
 #[cfg(test)]
 mod make_tests;
 mod obtain;
-pub mod outcome;
+mod opening;
+mod print;
 mod put_chunks;
 pub mod run;
 mod spell;
 mod store_image;
+pub mod task;
 #[cfg(test)]
 mod tests;
+mod verify;
 mod walk;
-pub mod words;

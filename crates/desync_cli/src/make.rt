@@ -2,13 +2,14 @@
 
 ghost use Rattle.std.specs.Prelude.{◌≡◌, ℕ, List, ◌≤◌, IfSome, IfErr, IsSome};
 ghost use Rattle.std.specs.Map.{count_at};
-ghost use Rattle.desync_cli.specs.Makes.{StoresIn, Stored, MakeEnds, IsOfMake, MakeExactly, IsImageFault, IsFolderFault, IsMakeFileFault, IsStoreFaultOf, IsNameFault, no_folder, outcome_of_fault, IsWritten};
-ghost use Rattle.dsy_base.specs.Counts.{Rose, AllQuiet};
+ghost use Rattle.desync_cli.specs.Makes.{StoresIn, Stored, MakeEnds, IsOfMake, IsOfStored, sizes_of, IsImageFault, IsFolderFault, IsMakeFileFault, IsStoreFaultOf, IsNameFault, no_folder, outcome_of_fault, IsWritten};
+ghost use Rattle.dsy_base.specs.Counts.{Rose};
 
-use crate::outcome::Outcome;
 use crate::put_chunks::MakeFault;
 use crate::store_image::store_image;
-use crate::words::Make;
+use crate::task::Make;
+use buzhash_cut::sizes::CutSizes;
+use command_outcome::outcome::Outcome;
 use dsy_base::fault::{IoFault, OpenFault};
 use dsy_base::files::Files;
 use dsy_base::folder::Folder;
@@ -46,14 +47,15 @@ fn outcome_of(fault: MakeFault) -> Outcome
 fn store_from<F: Files>(
     alloc: Global,
     files: &mut F,
+    sizes: &CutSizes,
     view: F::View,
     folder: Name,
 ) -> Result<Vec<u8>, Outcome>
     requires known { IsSome (F.file_counts files.old (F.View.held view).name) }
     requires fresh { F.View.faults view ≡ 0 }
     ensures exactly { IfSome (F.View.held view).bytes (λ t. IfSome (F.folders files.old) (λ before.
-        IfSome (F.folders files.new) (λ after. StoresIn (λ v. v.items) t before after folder result))) }
-    ensures only { IfErr result IsOfMake }
+        IfSome (F.folders files.new) (λ after. StoresIn sizes.now (λ v. v.items) t before after folder result))) }
+    ensures only { IfErr result IsOfStored }
     ensures files { F.files files.new ≡ F.files files.old }
     ensures counts { (q : List ℕ) → count_at (F.file_counts files.old) q ≤ count_at (F.file_counts files.new) q }
     ensures image_cause { IfErr result (IsImageFault (F.file_counts files.old) (F.file_counts files.new) (F.View.held view).name) }
@@ -66,7 +68,7 @@ fn store_from<F: Files>(
             return Err(no_folder(folder, fault));
         }
     };
-    let (view, taken, stored) = store_image(alloc, view, taken);
+    let (view, taken, stored) = store_image(alloc, sizes, view, taken);
     files.end_view(view);
     files.give_folder(folder.as_str(), taken);
     match stored {
@@ -79,19 +81,20 @@ fn store_from<F: Files>(
 fn store<F: Files>(
     alloc: Global,
     files: &mut F,
+    sizes: &CutSizes,
     folder: Name,
     image: Name,
 ) -> Result<Vec<u8>, Outcome>
     ensures exactly { IfSome (F.files files.old) (λ m. IfSome (F.folders files.old) (λ before.
-        IfSome (F.folders files.new) (λ after. Stored (λ v. v.items) m before after image folder result))) }
-    ensures only { IfErr result IsOfMake }
+        IfSome (F.folders files.new) (λ after. Stored sizes.now (λ v. v.items) m before after image folder result))) }
+    ensures only { IfErr result IsOfStored }
     ensures files { F.files files.new ≡ F.files files.old }
     ensures counts { (q : List ℕ) → count_at (F.file_counts files.old) q ≤ count_at (F.file_counts files.new) q }
     ensures image_cause { IfErr result (IsImageFault (F.file_counts files.old) (F.file_counts files.new) image) }
     ensures folder_cause { IfErr result (IsFolderFault (F.folder_counts files.old) (F.folder_counts files.new) folder) }
 {
     match files.view(image.as_str()) {
-        Ok(view) => store_from(alloc, files, view, folder),
+        Ok(view) => store_from(alloc, files, sizes, view, folder),
         Err(OpenFault::Absent) => Err(Outcome::NoFile { name: image }),
         Err(OpenFault::Failed) => Err(Outcome::ImageFault),
         Err(OpenFault::Memory) => Err(Outcome::Memory),
@@ -102,7 +105,7 @@ fn store<F: Files>(
 fn write_file<F: Files>(files: &mut F, name: Name, bytes: &[u8]) -> Outcome
     ensures exactly { IfSome (F.files files.old) (λ before. IfSome (F.files files.new) (λ after.
         IsWritten before after name bytes.now result)) }
-    ensures only { IsOfMake result }
+    ensures only { IsOfStored result }
     ensures folders { F.folders files.new ≡ F.folders files.old }
     ensures folder_counts { F.folder_counts files.new ≡ F.folder_counts files.old }
     ensures counts { (q : List ℕ) → count_at (F.file_counts files.old) q ≤ count_at (F.file_counts files.new) q }
@@ -115,12 +118,13 @@ fn write_file<F: Files>(files: &mut F, name: Name, bytes: &[u8]) -> Outcome
     }
 }
 
-/// Makes INDEX the index of IMAGE, and puts its chunks into FOLDER. What FOLDER holds already is left where it is right.
+/// Makes INDEX the index of IMAGE, cut by the sizes, and puts its chunks into FOLDER. What FOLDER holds already is left
+/// where it is right.
 pub fn make<F: Files>(alloc: Global, files: &mut F, names: Make) -> Outcome
     ensures ends { IfSome (F.files files.old) (λ before. IfSome (F.folders files.old) (λ folders.
         IfSome (F.files files.new) (λ after. IfSome (F.folders files.new) (λ folders_after.
         MakeEnds before folders after folders_after names result)))) }
-    ensures only { IsOfMake result }
+    ensures only { IsOfMake names result }
     ensures image_cause { IsImageFault (F.file_counts files.old) (F.file_counts files.new) names.image result }
     ensures store_cause { IsStoreFaultOf (F.folder_counts files.old) (F.folder_counts files.new) names.folder result }
     ensures file_cause { IsMakeFileFault (F.file_counts files.old) (F.file_counts files.new)
@@ -128,10 +132,15 @@ pub fn make<F: Files>(alloc: Global, files: &mut F, names: Make) -> Outcome
 {
     let Make {
         folder,
+        sizes,
         index,
         image,
     } = names;
-    match store(alloc, files, folder, image) {
+    let sizes = match CutSizes::new(sizes[0], sizes[1], sizes[2]) {
+        Ok(sizes) => sizes,
+        Err(fault) => return Outcome::Sizes(fault),
+    };
+    match store(alloc, files, &sizes, folder, image) {
         Ok(bytes) => write_file(files, index, &bytes),
         Err(outcome) => outcome,
     }

@@ -1,146 +1,122 @@
 //! Making over files in memory: the index file, byte by byte, and what the store holds.
 
-use crate::in_memory::desync_in_memory;
-use crate::outcome::Outcome;
+use crate::cases::{ABC_INDEX, EMPTY_INDEX, ends, store_of};
+use crate::put_chunks::MakeFault;
+use crate::store_image::store_image;
+use buzhash_cut::sizes::CutSizes;
 use chunk_store::id::{ChunkId, DigestKind};
+use dsy_base::fault::{Failed, raise};
 use dsy_base::files::Files;
-use dsy_base::folder::Folder;
 use dsy_base::look::Look;
 use dsy_base::mem_files::MemFiles;
 use dsy_base::mem_folder::MemFolder;
+use dsy_base::name::Name;
 use dsy_base::ranges::RangeFails;
-use std::alloc::{AllocError, Global};
+use dsy_base::view::View;
+use std::alloc::Global;
+use std::process::Abort;
 use std::test::Fail;
 
-// The index file of "abc", by casync's format.
-const ABC_INDEX: &str =
-    "3000000000000000f99f127b9c4d829600000000000000a0004000000000000000000100000000000000040000000000ffffffffffffffff7d41172f119e5be7030000000000000053048e2681941ef99b2e29b76b4c7dabe4c2d0c634fc6d46e0e2f13107e7af230000000000000000000000000000000030000000000000006000000000000000d1ec49550e054f4b";
+const MAKE: &str = "make -s st i img";
 
-// The index file of an image with no bytes.
-const EMPTY_INDEX: &str =
-    "3000000000000000f99f127b9c4d829600000000000000a0004000000000000000000100000000000000040000000000ffffffffffffffff7d41172f119e5be70000000000000000000000000000000030000000000000003800000000000000d1ec49550e054f4b";
-
-fn words_of(alloc: Global, words: &[&str]) -> Result<Vec<String>, AllocError> {
-    let mut all = Vec::new(alloc);
-    for word in words {
-        all.push(String::from_str(alloc, word)?)?;
-    }
-    Ok(all)
-}
-
-// A store whose calls fail as stated.
-fn store_of(alloc: Global, fails: &[u64]) -> Result<MemFolder, AllocError> {
-    Ok(MemFolder::new(alloc, Vec::from_slice(alloc, fails)?))
-}
-
-// What `make -s st i img` makes of these, where INDEX was there.
-fn made(
+// Makes the index of the image over an older one, and compares the line, INDEX and what the store holds of "abc".
+fn make_case(
+    rt: &impl Abort,
     alloc: Global,
     image: &[u8],
-    reads: RangeFails,
     store: MemFolder,
-    fails: &[u64],
-) -> Option<(Outcome, MemFiles)> {
-    let mut files = MemFiles::new(alloc, Vec::from_slice(alloc, fails).ok()?);
-    files
-        .set_file("img", Vec::from_slice(alloc, image).ok()?, reads)
-        .ok()?;
-    files
-        .set_file(
-            "i",
-            Vec::from_slice(alloc, b"old").ok()?,
-            RangeFails::none(alloc),
-        )
-        .ok()?;
-    files.set_folder("st", store).ok()?;
-    let words = words_of(alloc, &["make", "-s", "st", "i", "img"]).ok()?;
-    let ended = desync_in_memory(alloc, &words, &mut files);
-    Some((ended.outcome, files))
-}
-
-// How many files the store has, and what stands under the name of "abc".
-fn stored(alloc: Global, files: &mut MemFiles) -> Option<(usize, Option<Vec<u8>>)> {
-    let mut look = files.look("st").ok()?;
-    let count = look.names().ok()?.len();
+    index: &str,
+    held: &[u8],
+) -> Result<(), Fail> {
+    let mut files = MemFiles::new(alloc, Vec::new(alloc));
+    files.set_file(
+        "img",
+        Vec::from_slice(alloc, image)?,
+        RangeFails::none(alloc),
+    )?;
+    files.set_file(
+        "i",
+        Vec::from_slice(alloc, b"old")?,
+        RangeFails::none(alloc),
+    )?;
+    files.set_folder("st", store)?;
+    ends(rt, alloc, MAKE, &mut files, "", "")?;
+    let bytes = hex::decode(alloc, index).ok().ok_or("no digits")?;
+    assert_eq!(rt; files.file("i"), Some(bytes.as_slice()));
+    let mut look = files.look("st").ok().ok_or("no folder")?;
     let path = ChunkId::of(DigestKind::Sha512T256, b"abc").path();
     let mut room = [0u8; 8];
-    let held = match look.read(path.as_str(), &mut room) {
-        Ok(n) => Some(Vec::from_slice(alloc, &room[..n]).ok()?),
-        Err(_) => None,
-    };
-    Some((count, held))
-}
-
-fn kind_of(outcome: &Outcome) -> &'static str {
-    match outcome {
-        Outcome::Done => "done",
-        Outcome::StoreFault { .. } => "store fault",
-        Outcome::FileFault { .. } => "file fault",
-        Outcome::ImageFault => "image fault",
-        _ => "another",
-    }
+    let n = look.read(path.as_str(), &mut room).unwrap_or(0);
+    let (front, _) = room.split_at(n);
+    assert_eq!(rt; front, held);
+    Ok(())
 }
 
 #[test]
+#[rattlefmt::skip]
 fn an_image_becomes_its_index_and_its_chunks(rt: HostRuntime) -> Result<(), Fail> {
     let alloc = rt.alloc();
-    let mut damaged = store_of(alloc, &[])?;
-    let path = ChunkId::of(DigestKind::Sha512T256, b"abc").path();
-    if damaged.put(path.as_str(), b"abX").is_err() {
-        return Err(Fail::from("no memory"));
-    }
-    let none: &[u8] = b"";
-    for (about, image, store, index, held) in [
-        (
-            "one chunk",
-            b"abc".as_slice(),
-            store_of(alloc, &[])?,
-            ABC_INDEX,
-            Some(b"abc".as_slice()),
-        ),
-        ("no bytes", none, store_of(alloc, &[])?, EMPTY_INDEX, None),
-        (
-            "a damaged chunk",
-            b"abc".as_slice(),
-            damaged,
-            ABC_INDEX,
-            Some(b"abc".as_slice()),
-        ),
-    ] {
-        let (ended, mut files) = made(alloc, image, RangeFails::none(alloc), store, &[]).ok_or(
-            "no memory",
-        )?;
-        assert_eq!(rt; kind_of(&ended), "done", "{about}");
-        let bytes = hex::decode(alloc, index).ok().ok_or("no digits")?;
-        assert_eq!(rt; files.file("i"), Some(bytes.as_slice()), "{about}");
-        let (count, found) = stored(alloc, &mut files).ok_or("no memory")?;
-        assert_eq!(rt; found.as_ref().map(|v| v.as_slice()), held, "{about}");
-        assert_eq!(rt; count, if held.is_some() { 1 } else { 0 }, "{about}");
-    }
+    make_case(&rt, alloc, b"abc", store_of(alloc, &[]).ok_or("no memory")?, ABC_INDEX, b"abc")?;
+    make_case(&rt, alloc, b"", store_of(alloc, &[]).ok_or("no memory")?, EMPTY_INDEX, b"")?;
+    make_case(&rt, alloc, b"abc", store_of(alloc, &[(b"abc", b"abX")]).ok_or("no memory")?, ABC_INDEX, b"abc")
+}
+
+// Makes with calls on the image's range, the store and the files that fail, and compares the line and INDEX.
+fn refused(
+    rt: &impl Abort,
+    alloc: Global,
+    reads: &[(u64, u32)],
+    store: &[u64],
+    calls: &[u64],
+    line: &str,
+) -> Result<(), Fail> {
+    let mut files = MemFiles::new(alloc, Vec::from_slice(alloc, calls)?);
+    let mut fails = RangeFails::none(alloc);
+    fails.reads.extend_from_slice(reads)?;
+    files.set_file("img", Vec::from_slice(alloc, b"abc")?, fails)?;
+    files.set_file(
+        "i",
+        Vec::from_slice(alloc, b"old")?,
+        RangeFails::none(alloc),
+    )?;
+    files.set_folder("st", MemFolder::new(alloc, Vec::from_slice(alloc, store)?))?;
+    ends(rt, alloc, MAKE, &mut files, "", line)?;
+    assert_eq!(rt; files.file("i"), Some(b"old".as_slice()));
     Ok(())
 }
 
 #[test]
+#[rattlefmt::skip]
 fn a_refusal_leaves_the_index(rt: HostRuntime) -> Result<(), Fail> {
     let alloc = rt.alloc();
-    let cases: [(&str, &[(u64, u32)], &[u64], &[u64], &str); 4] = [
-        ("the image isn't read", &[(1, 1)], &[], &[], "image fault"),
-        ("the store isn't asked", &[], &[0], &[], "store fault"),
-        ("the chunk isn't put", &[], &[1], &[], "store fault"),
-        ("the index isn't written", &[], &[], &[2], "file fault"),
-    ];
-    for (about, reads, store, calls, outcome) in cases {
-        let mut fails = RangeFails::none(alloc);
-        for pair in reads {
-            fails.reads.push(*pair)?;
-        }
-        let (ended, files) = made(alloc, b"abc", fails, store_of(alloc, store)?, calls).ok_or(
-            "no memory",
-        )?;
-        assert_eq!(rt; kind_of(&ended), outcome, "{about}");
-        assert_eq!(rt; files.file("i"), Some(b"old".as_slice()), "{about}");
-    }
-    Ok(())
+    refused(&rt, alloc, &[(1, 1)], &[], &[], "desync: the image failed\n")?;
+    refused(&rt, alloc, &[], &[0], &[], "desync: store 0 failed\n")?;
+    refused(&rt, alloc, &[], &[1], &[], "desync: store 0 failed\n")?;
+    refused(&rt, alloc, &[], &[], &[2], "desync: i: failed\n")
+}
+
+#[test]
+fn sizes_that_cannot_be_are_refused(rt: HostRuntime) -> Result<(), Fail> {
+    let alloc = rt.alloc();
+    let mut files = MemFiles::new(alloc, Vec::new(alloc));
+    let order = "desync: bad chunk sizes: Order\n";
+    ends(
+        &rt,
+        alloc,
+        "make -s st -m 64:16:256 i img",
+        &mut files,
+        "",
+        order,
+    )?;
+    let small = "desync: bad chunk sizes: MinTooSmall\n";
+    ends(
+        &rt,
+        alloc,
+        "make -s st -m 0:64:256 i img",
+        &mut files,
+        "",
+        small,
+    )
 }
 
 #[test]
@@ -149,18 +125,90 @@ fn what_was_made_is_extracted_again(rt: HostRuntime) -> Result<(), Fail> {
     let mut image = vec![in alloc; 0u8; 300_000]?;
     image[7] = 1;
     image[280_000] = 2;
-    let (ended, mut files) = made(
-        alloc,
-        &image,
+    let mut files = MemFiles::new(alloc, Vec::new(alloc));
+    files.set_file(
+        "img",
+        Vec::from_slice(alloc, &image)?,
         RangeFails::none(alloc),
-        store_of(alloc, &[])?,
-        &[],
-    )
-    .ok_or("no memory")?;
-    assert_eq!(rt; kind_of(&ended), "done");
-    let words = words_of(alloc, &["extract", "-k", "-s", "st", "i", "o"])?;
-    let ended = desync_in_memory(alloc, &words, &mut files);
-    assert_eq!(rt; kind_of(&ended.outcome), "done");
+    )?;
+    files.set_folder("st", MemFolder::new(alloc, Vec::new(alloc)))?;
+    ends(&rt, alloc, MAKE, &mut files, "", "")?;
+    ends(&rt, alloc, "extract -k -s st i o", &mut files, "", "")?;
     assert_eq!(rt; files.file("o"), Some(image.as_slice()));
+    Ok(())
+}
+
+// A view whose bytes are others, or can't be read, after its first reading.
+#[derive(Drop)]
+struct ChangingView {
+    now: Vec<u8>,
+    then: Option<Vec<u8>>,
+    faults: u64,
+    name: Name,
+}
+
+impl View for ChangingView {
+    ghost use Rattle.std.specs.Prelude.{None, false, refl, vec_len};
+    ghost use Rattle.std.proofs.Common.{rules};
+
+    ghost held = { λ v. record { bytes = None; size = 3; name = v.name } };
+
+    ghost faults = { λ v. v.faults };
+
+    ghost tells = { false };
+
+    ghost never_fails = { false };
+
+    fn size(&self) -> u64 {
+        3
+    }
+
+    fn read_at(&mut self, at: u64, out: &mut [u8]) -> Result<(), Failed> {
+        let start = at as usize;
+        let end = start.saturating_add(out.len());
+        if self.now.len() < end {
+            self.faults = raise(self.faults, 1);
+            return Err(Failed);
+        }
+        out.copy_from_slice(&self.now[start..end]);
+        if let Some(then) = self.then.take() {
+            self.now = then;
+        }
+        Ok(())
+    }
+
+    ghost told = { λ _. refl };
+
+    ghost sized = { λ _. tt };
+
+    ghost sure = { Prim.search rules };
+}
+
+// Stores "abc" where the second reading gives other bytes or none.
+fn stored_twice(alloc: Global, then: &[u8]) -> Result<Result<(), MakeFault>, Fail> {
+    let view = ChangingView {
+        now: Vec::from_slice(alloc, b"abc")?,
+        then: Some(Vec::from_slice(alloc, then)?),
+        faults: 0,
+        name: Name::empty(alloc),
+    };
+    let folder = MemFolder::new(alloc, Vec::new(alloc));
+    let sizes = CutSizes::new(48, 48, 48).ok().ok_or("no sizes")?;
+    let (_view, mut folder, stored) = store_image(alloc, &sizes, view, folder);
+    if folder.names().ok().ok_or("no names")?.len() > 0 {
+        return Err(Fail::from("something was stored"));
+    }
+    Ok(stored.map(|_| ()))
+}
+
+#[test]
+fn an_image_that_changes_is_told_and_not_stored(rt: HostRuntime) -> Result<(), Fail> {
+    let changed = MakeFault::Changed {
+        entry: 0,
+        was: ChunkId::of(DigestKind::Sha512T256, b"abc"),
+        got: ChunkId::of(DigestKind::Sha512T256, b"abX"),
+    };
+    assert_eq!(rt; stored_twice(rt.alloc(), b"abX")?, Err(changed));
+    assert_eq!(rt; stored_twice(rt.alloc(), b"")?, Err(MakeFault::ImageFault));
     Ok(())
 }

@@ -12,11 +12,12 @@ ghost use Rattle.chunk_store.specs.Names.{IsId, name_of};
 ghost use Rattle.desync_cli.specs.Keeps.{KeepsFiles, HoldsNamed, HoldsAll, Stands, Ended, Rereads, PutsEnd};
 ghost use Rattle.dsy_base.specs.Counts.{Rose};
 
-use crate::dir_store::DirStore;
 use caibx_codec::index::Index;
 use chunk_store::id::{ChunkId, DigestKind};
-use chunk_store::laws::{id_has_32_bytes, path_names_one_id, temporary_is_no_path};
+use chunk_store::laws::id_has_32_bytes;
 use chunk_store::store::GetFault;
+use dir_store::laws::put_changes_one_chunk;
+use dir_store::store::DirStore;
 use dsy_base::fault::{Failed, IoFault};
 use dsy_base::folder::Folder;
 use dsy_base::look::Look;
@@ -226,8 +227,7 @@ pub fn put_chunks<V: View, F: Folder>(
     ensures image_cause { result ≡ Err MakeFault.ImageFault → Rose (V.faults image.old) (V.faults image.new) }
     ensures store_cause { result ≡ Err MakeFault.StoreFault → Rose (F.faults store.old) (F.faults store.new) }
 {
-    path_names_one_id();
-    temporary_is_no_path();
+    put_changes_one_chunk();
     let mut seen = BTreeSet::new(alloc);
     for i in 0..index.count() {
         let id = index.id(i);

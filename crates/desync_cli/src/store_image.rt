@@ -4,30 +4,20 @@ ghost use Rattle.std.specs.Prelude.{◌≡◌, ◌≤◌, ℕ, IfSome, IfOk, IfE
 ghost use Rattle.buzhash_cut.specs.Image.{IndexGiven};
 ghost use Rattle.caibx_codec.specs.Listing.{count_of, image_length};
 ghost use Rattle.desync_cli.specs.Keeps.{HoldsAll, Stands, PutsEnd};
-ghost use Rattle.desync_cli.specs.Makes.{default_sizes, Indexes, IsOfCutting, IsOfStoring, StoresImage};
+ghost use Rattle.desync_cli.specs.Makes.{Indexes, IsOfCutting, IsOfStoring, StoresImage};
 ghost use Rattle.dsy_base.specs.Counts.{Rose};
 
-use crate::dir_store::DirStore;
 use crate::put_chunks::{MakeFault, put_chunks};
 use crate::spell::spell;
 use buzhash_cut::image::{CutFault, index_view};
 use buzhash_cut::laws::image_is_right;
 use buzhash_cut::sizes::CutSizes;
 use caibx_codec::index::Index;
+use dir_store::store::DirStore;
 use dsy_base::folder::Folder;
 use dsy_base::look::Look;
 use dsy_base::view::View;
 use std::alloc::Global;
-
-// The sizes by which images are cut, in bytes.
-fn default_sizes() -> CutSizes
-    ensures value { result ≡ default_sizes }
-{
-    let Ok(sizes) = CutSizes::new(16_384, 65_536, 262_144) else {
-        unreachable!();
-    };
-    sizes
-}
 
 // Indexes the image behind one view, and hands the view back.
 fn index_one<V: View>(alloc: Global, view: V, sizes: &CutSizes) -> (V, Result<Index, CutFault>)
@@ -48,17 +38,16 @@ fn index_one<V: View>(alloc: Global, view: V, sizes: &CutSizes) -> (V, Result<In
     (view, made)
 }
 
-// Indexes the image by the default sizes.
-fn index_of<V: View>(alloc: Global, view: V) -> (V, Result<Index, MakeFault>)
-    ensures exactly { IfSome (V.held view).bytes (λ t. Indexes t result.1) }
+// Indexes the image, with the faults of `make`.
+fn index_of<V: View>(alloc: Global, view: V, sizes: &CutSizes) -> (V, Result<Index, MakeFault>)
+    ensures exactly { IfSome (V.held view).bytes (λ t. Indexes sizes.now t result.1) }
     ensures size { IfOk result.1 (λ l. image_length l ≡ (V.held view).size) }
     ensures only { IfErr result.1 IsOfCutting }
     ensures kept { V.held result.0 ≡ V.held view }
     ensures faults { V.faults view ≤ V.faults result.0 }
     ensures cause { result.1 ≡ Err MakeFault.ImageFault → Rose (V.faults view) (V.faults result.0) }
 {
-    let sizes = default_sizes();
-    let (view, made) = index_one(alloc, view, &sizes);
+    let (view, made) = index_one(alloc, view, sizes);
     match made {
         Ok(index) => (view, Ok(index)),
         Err(CutFault::ImageFault) => (view, Err(MakeFault::ImageFault)),
@@ -98,15 +87,16 @@ fn store_chunks<V: View, F: Folder>(
     (store.into_inner(), put)
 }
 
-/// Stores the image behind the view in the folder, and gives the bytes of its index file. View and folder come back,
-/// whatever the answer is.
+/// Stores the image behind the view, cut by these sizes, in the folder, and gives the bytes of its index file. View and
+/// folder come back, whatever the answer is.
 pub fn store_image<V: View, F: Folder>(
     alloc: Global,
+    sizes: &CutSizes,
     view: V,
     folder: F,
 ) -> (V, F, Result<Vec<u8>, MakeFault>)
     ensures exactly { IfSome (V.held view).bytes (λ t. IfSome (F.files folder) (λ old.
-        IfSome (F.files result.1) (λ new. StoresImage (λ v. v.items) t old new result.2))) }
+        IfSome (F.files result.1) (λ new. StoresImage sizes.now (λ v. v.items) t old new result.2))) }
     ensures only { IfErr result.2 IsOfStoring }
     ensures kept { V.held result.0 ≡ V.held view }
     ensures place { F.place result.1 ≡ F.place folder }
@@ -116,7 +106,7 @@ pub fn store_image<V: View, F: Folder>(
     ensures store_cause { result.2 ≡ Err MakeFault.StoreFault → Rose (F.faults folder) (F.faults result.1) }
 {
     image_is_right();
-    let (mut view, made) = index_of(alloc, view);
+    let (mut view, made) = index_of(alloc, view, sizes);
     let index = match made {
         Ok(index) => index,
         Err(fault) => return (view, folder, Err(fault)),

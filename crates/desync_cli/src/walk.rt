@@ -1,8 +1,9 @@
 //! The walk through the entries of an index, which makes each range of a target right. Offsets are bytes from 0.
 
-ghost use Rattle.std.specs.Prelude.{◌≡◌, ◌≢◌, ℕ, List, ◌+◌, ◌-◌, ◌<◌, ◌≤◌, length, IfSome, IfErr, OnOk, slice_range, true, false};
+ghost use Rattle.std.specs.Prelude.{◌≡◌, ◌≢◌, ℕ, List, ◌+◌, ◌-◌, ◌<◌, ◌≤◌, length, map, Some, IfSome, IfErr, OnOk, slice_range, slice_index, true, false};
 ghost use Rattle.caibx_codec.specs.Listing.{count_of, start_of, end_of, size_of, id_of, kind_of, slice_of, image_length};
 ghost use Rattle.chunk_store.specs.Names.{name_of};
+ghost use Rattle.chunk_store.specs.declared.id.DigestKind.TheVariants as kinds;
 ghost use Rattle.desync_cli.specs.Lacks.{Lacks};
 ghost use Rattle.caibx_codec.specs.Right.{IsRightAt, IsRight};
 ghost use Rattle.desync_cli.specs.Right.{StopsAt};
@@ -10,6 +11,8 @@ ghost use Rattle.desync_cli.specs.Walks.{WritesOnly, Settles, Walks, StopLacks, 
 ghost use Rattle.desync_cli.specs.declared.obtain.Why.{Why};
 ghost use Rattle.desync_cli.specs.declared.walk.Stop.{Stop};
 ghost use Rattle.dsy_base.specs.Counts.{Rose, Quiet};
+ghost use Rattle.dsy_base.specs.Maps.{Map};
+ghost use Rattle.store_chain.specs.Faults.{NoneFalls, EachQuiet};
 
 use crate::obtain::{Why, obtain};
 use caibx_codec::index::Index;
@@ -17,6 +20,7 @@ use chunk_store::id::{ChunkId, DigestKind};
 use chunk_store::store::Store;
 use dsy_base::fault::Failed;
 use dsy_base::view::{Part, View};
+use store_chain::chain::Chain;
 
 /// Where a walk stopped, and why.
 #[derive(Clone, Copy, Debug, PartialEq, Eq)]
@@ -52,31 +56,35 @@ fn has_name<T: View>(
 // Makes the range at `start` right, and leaves all else.
 fn settle<T: Part, S: Store>(
     target: &mut T,
-    store: &mut S,
-    kind: DigestKind,
+    stores: &mut Chain<S>,
     id: &ChunkId,
     start: u64,
     chunk: &mut [u8],
 ) -> Result<(), Why>
     requires inside { start + length chunk.old ≤ (T.held target.old).size }
     ensures ok { OnOk result (IfSome (T.held target.new).bytes
-        (λ t. name_of kind (slice_range t start (start + length chunk.old)) ≡ id.now.0)) }
+        (λ t. name_of kinds.Sha512T256 (slice_range t start (start + length chunk.old)) ≡ id.now.0)) }
     ensures changed { WritesOnly (T.held target.old) (T.held target.new) start (length chunk.old) result }
-    ensures absent { IfSome (S.holds store.old) (λ m. IfErr result (Lacks kind id.now.0 (length chunk.old) (m id.now.0))) }
-    ensures first { IfSome (T.held target.old).bytes (λ t. IfSome (S.holds store.old) (λ m.
-        Quiet (T.faults target.old) (T.faults target.new) → Quiet (S.faults store.old) (S.faults store.new) →
-        Settles kind id.now.0 (length chunk.old) (slice_range t start (start + length chunk.old)) m result)) }
-    ensures holds { S.holds store.new ≡ S.holds store.old }
-    ensures place { S.place store.new ≡ S.place store.old }
+    ensures absent { (maps : List (Map (List ℕ))) → map S.holds stores.old.stores ≡ map Some maps →
+        IfErr result (Lacks id.now (length chunk.old) maps) }
+    ensures first { IfSome (T.held target.old).bytes (λ t.
+        (maps : List (Map (List ℕ))) → map S.holds stores.old.stores ≡ map Some maps →
+        Quiet (T.faults target.old) (T.faults target.new) →
+        EachQuiet (map S.faults stores.old.stores) (map S.faults stores.new.stores) →
+        Settles kinds.Sha512T256 id.now.0 (length chunk.old) (slice_range t start (start + length chunk.old)) maps result) }
+    ensures holds { map S.holds stores.new.stores ≡ map S.holds stores.old.stores }
+    ensures place { map S.place stores.new.stores ≡ map S.place stores.old.stores }
     ensures target_faults { T.faults target.old ≤ T.faults target.new }
-    ensures store_faults { S.faults store.old ≤ S.faults store.new }
+    ensures store_faults { NoneFalls (map S.faults stores.old.stores) (map S.faults stores.new.stores) }
     ensures target_cause { result ≡ Err Why.TargetFault → Rose (T.faults target.old) (T.faults target.new) }
-    ensures store_cause { result ≡ Err Why.StoreFault → Rose (S.faults store.old) (S.faults store.new) }
+    ensures store_cause { (s : ℕ) → result ≡ Err (Why.StoreFault s) →
+        Rose (slice_index (map S.faults stores.old.stores) s) (slice_index (map S.faults stores.new.stores) s) }
 {
+    let kind = stores.kind();
     if has_name(target, kind, id, start, chunk) {
         return Ok(());
     }
-    obtain(store, kind, id, chunk)?;
+    obtain(stores, id, chunk)?;
     match target.write_at(start, chunk) {
         Ok(()) => Ok(()),
         Err(Failed) => Err(Why::TargetFault),
@@ -87,32 +95,35 @@ fn settle<T: Part, S: Store>(
 pub fn settle_all<T: Part, S: Store>(
     index: &Index,
     target: &mut T,
-    store: &mut S,
+    stores: &mut Chain<S>,
     buf: &mut [u8],
 ) -> Result<(), Stop>
     requires size { (T.held target.old).size ≡ image_length index.now }
     requires room { (i : ℕ) → i < count_of index.now → size_of index.now i ≤ length buf.old }
     ensures bytes { IfSome (T.held target.old).bytes (λ base. IfSome (T.held target.new).bytes
         (λ t. Walks index.now base t result)) }
-    ensures absent { IfSome (S.holds store.old) (λ m. IfErr result (StopLacks index.now m)) }
-    ensures first { IfSome (T.held target.old).bytes (λ base. IfSome (S.holds store.old) (λ m.
-        Quiet (T.faults target.old) (T.faults target.new) → Quiet (S.faults store.old) (S.faults store.new) →
-        Verdict index.now base m result)) }
+    ensures absent { (maps : List (Map (List ℕ))) → map S.holds stores.old.stores ≡ map Some maps →
+        IfErr result (StopLacks index.now maps) }
+    ensures first { IfSome (T.held target.old).bytes (λ base.
+        (maps : List (Map (List ℕ))) → map S.holds stores.old.stores ≡ map Some maps →
+        Quiet (T.faults target.old) (T.faults target.new) →
+        EachQuiet (map S.faults stores.old.stores) (map S.faults stores.new.stores) →
+        Verdict index.now base maps result) }
     ensures named { (T.held target.new).name ≡ (T.held target.old).name }
-    ensures place { S.place store.new ≡ S.place store.old }
+    ensures place { map S.place stores.new.stores ≡ map S.place stores.old.stores }
     ensures target_faults { T.faults target.old ≤ T.faults target.new }
-    ensures store_faults { S.faults store.old ≤ S.faults store.new }
+    ensures store_faults { NoneFalls (map S.faults stores.old.stores) (map S.faults stores.new.stores) }
     ensures target_cause { IfErr result (λ s. s.why ≡ Why.TargetFault → Rose (T.faults target.old) (T.faults target.new)) }
-    ensures store_cause { IfErr result (λ s. s.why ≡ Why.StoreFault → Rose (S.faults store.old) (S.faults store.new)) }
+    ensures store_cause { IfErr result (λ e. (s : ℕ) → e.why ≡ Why.StoreFault s →
+        Rose (slice_index (map S.faults stores.old.stores) s) (slice_index (map S.faults stores.new.stores) s)) }
 {
     index.rules();
-    let kind = index.kind();
     for i in 0..index.count() {
         let start = index.start(i);
         let size = index.size(i);
         let id = index.id(i);
         let (chunk, _) = buf.split_at_mut(size);
-        match settle(target, store, kind, &id, start, chunk) {
+        match settle(target, stores, &id, start, chunk) {
             Ok(()) => {}
             Err(why) => {
                 let entry = i as u64;

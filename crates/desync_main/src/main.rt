@@ -9,7 +9,6 @@ mod real_view;
 #[cfg(test)]
 mod tests;
 
-use desync_cli::error_line::put_error_line;
 use desync_cli::run::desync;
 use real_files::RealFiles;
 use real_sink::RealSink;
@@ -38,11 +37,10 @@ fn main(rt: HostRuntime) -> ExitCode {
         Ok(words) => words,
         Err(error) => return refuse(&rt, &error),
     };
+    let (stdout, stderr) = (rt.stdout(), rt.stderr());
     let mut files = RealFiles::new(&rt, rt.alloc());
-    let ended = desync(rt.alloc(), &words, &mut files);
-    let stderr = rt.stderr();
+    let mut out = RealSink::new(io::writer(&stdout));
     let mut err = RealSink::new(io::writer(&stderr));
-    // How it ended stands already, whether the line is put or not.
-    let _ = put_error_line(rt.alloc(), &ended.outcome, &mut err);
+    let ended = desync(rt.alloc(), &words, &mut files, &mut out, &mut err);
     ExitCode::from(ended.status)
 }

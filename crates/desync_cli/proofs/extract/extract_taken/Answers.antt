@@ -1,13 +1,16 @@
-use Rattle.caibx_codec.specs.Listing.{image_length}
-use Rattle.dsy_base.specs.Bytes.{resized}
-use Rattle.dsy_base.specs.Counts.{Quiet}
-use Rattle.desync_cli.specs.Assemblies.{HaltVerdict}
-use Rattle.desync_cli.proofs.Extracted.{over_files}
+use Rattle.std.proofs.Common.{map}
+use Rattle.chunk_store.specs.Folders.{chunks}
+use Rattle.desync_cli.proofs.Counting.{held_maps, over_told}
 use Rattle.desync_cli.proofs.extract.extract_taken.Goals as goal
+
+pub returns-clause-absent : goal.returns-clause-absent
+returns-clause-absent g c = λ fs told.
+    (rw c.new-chain.ensures.value at c.assemble-ended.ensures.absent) (map chunks fs) (held_maps g.F.Look.Look.files c.args.stores.items fs told)
 
 pub returns-clause-first : goal.returns-clause-first
 returns-clause-first g c =
-    let l = c.args.index.now in
-    rw c.into_inner.ensures (over_files (g.F.Target.View.held c.args.target).bytes (g.F.Look.Look.files c.args.look)
-    (λ old m. Quiet (g.F.Target.View.faults c.args.target) (g.F.Target.View.faults c.assemble-ended.new.target) → Quiet (g.F.Look.Look.faults c.args.look) (g.F.Look.Look.faults c.assemble-ended.new.store) → HaltVerdict l (resized old (image_length l)) m c.assemble-ended.result)
-    (rw c.new-store.ensures at c.assemble-ended.ensures.first))
+    rw c.into_stores.ensures.value (over_told (g.F.Target.View.held c.args.target).bytes g.F.Look.Look.files c.args.stores.items _
+    (rw c.new-chain.ensures.value at c.assemble-ended.ensures.first))
+
+pub returns-clause-store_cause : goal.returns-clause-store_cause
+returns-clause-store_cause g c = rw c.into_stores.ensures.value (rw c.new-chain.ensures.value at c.assemble-ended.ensures.store_cause)

@@ -36,7 +36,7 @@ loop-i-preserved g c =
           let store = ap (λ s. g.F.Look.files s) w.store-is in
           record {
             seen = seen_on l i c.id-id.result.0 c.loop-i.seen c.is_new.new.seen c.id-id.ensures c.in_ok-is_new.ensures.changed c.loop-i.invariant.seen;
-            holds = subst (λ (o : Option (Map (List ℕ))). IfSome told (λ t. IfSome o (λ m. HoldsAll l (i + 1) m))) (sym store) (holds_on l i w.in_ok-put_entry.ensures.named c.path_names_one_id.ensures.named c.temporary_is_no_path.ensures.only told now new keeps w.in_ok-put_entry.ensures.ok c.loop-i.invariant.holds);
+            holds = subst (λ (o : Option (Map (List ℕ))). IfSome told (λ t. IfSome o (λ m. HoldsAll l (i + 1) m))) (sym store) (holds_on l i w.in_ok-put_entry.ensures.named c.put_changes_one_chunk.ensures.holds c.put_changes_one_chunk.ensures.kept told now new keeps w.in_ok-put_entry.ensures.ok c.loop-i.invariant.holds);
             stands = subst (λ (o : Option (Map (List ℕ))). IfSome told (λ t. IfSome first (λ a. IfSome o (λ b. Stands l t (i + 1) a b)))) (sym store) (stands_on l i told first now new keeps c.loop-i.invariant.stands);
             image = ap (λ s. g.V.View.held s) w.image-is ∙ w.in_ok-put_entry.ensures.kept ∙ c.loop-i.invariant.image;
             place = ap (λ s. g.F.Look.place s) w.store-is ∙ w.in_ok-put_entry.ensures.place ∙ c.loop-i.invariant.place;

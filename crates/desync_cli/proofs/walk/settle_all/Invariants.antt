@@ -1,6 +1,8 @@
-use Rattle.std.proofs.Common.{◌≡◌, ◌≤◌, IfSome}
+use Rattle.std.proofs.Common.{◌≡◌, ◌≤◌, ℕ, List, map, Some, IfSome}
 use Rattle.caibx_codec.specs.Listing.{start_of, image_length}
 use Rattle.dsy_base.specs.Counts.{Quiet}
+use Rattle.dsy_base.specs.Maps.{Map}
+use Rattle.store_chain.specs.Faults.{NoneFalls, EachQuiet}
 use Rattle.desync_cli.specs.Walks.{AllHad}
 use Rattle.desync_cli.proofs.Walked.{Stopped}
 use Rattle.desync_cli.proofs.walk.settle_all.Given as goal
@@ -9,14 +11,15 @@ abbrev pub invariant-loop-i : goal.invariant-loop-i
 invariant-loop-i g l =
     let held = g.T.View.held in
     let faults = g.T.View.faults in
-    let holds = g.S.Store.holds in
+    let counts = λ (s : List g.row.S.Denot). map g.S.Store.faults s in
     record {
       at : Stopped l.i (start_of l.index l.i) (held l.fn.target).bytes (held l.target).bytes l.index;
-      had : IfSome (held l.fn.target).bytes (λ base. IfSome (holds l.fn.store) (λ m. Quiet (faults l.fn.target) (faults l.target) → Quiet (g.S.Store.faults l.fn.store) (g.S.Store.faults l.store) → AllHad l.index base m l.i));
+      had : IfSome (held l.fn.target).bytes (λ base. (maps : List (Map (List ℕ))) → map g.S.Store.holds l.fn.stores.stores ≡ map Some maps →
+          Quiet (faults l.fn.target) (faults l.target) → EachQuiet (counts l.fn.stores.stores) (counts l.stores.stores) → AllHad l.index base maps l.i);
       size : (held l.target).size ≡ image_length l.index;
       name : (held l.target).name ≡ (held l.fn.target).name;
-      holds : holds l.store ≡ holds l.fn.store;
-      place : g.S.Store.place l.store ≡ g.S.Store.place l.fn.store;
+      holds : map g.S.Store.holds l.stores.stores ≡ map g.S.Store.holds l.fn.stores.stores;
+      place : map g.S.Store.place l.stores.stores ≡ map g.S.Store.place l.fn.stores.stores;
       target_faults : faults l.fn.target ≤ faults l.target;
-      store_faults : g.S.Store.faults l.fn.store ≤ g.S.Store.faults l.store;
+      store_faults : NoneFalls (counts l.fn.stores.stores) (counts l.stores.stores);
     }

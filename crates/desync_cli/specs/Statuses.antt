@@ -1,8 +1,0 @@
--- The status that a program ends with.
-use Rattle.std.specs.Prelude.{ℕ}
-use Rattle.desync_cli.specs.declared.outcome.Outcome.{Outcome}
-use Rattle.desync_cli.specs.declared.outcome.Outcome.TheVariants as ends
-
-abbrev pub status_of : Outcome → ℕ
-status_of ends.Done = 0
-status_of other = 1
