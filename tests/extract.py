@@ -591,6 +591,16 @@ def random_old(chance, image):
     return bytes(old)
 
 
+def other_orders(cases):
+    """Words of another order or spelling that say the same."""
+    for words in (['extract', '-s', STORE, '-k', INDEX, OUT], ['extract', '-k', '--store', STORE, INDEX, OUT],
+                  ['extract', INDEX, '-n', '32', '--in-place', '-s', STORE, '--', OUT]):
+        with cases.case(f'the words {words}') as folder:
+            lay_out(folder, old=b'old')
+            expect_equal(program.run(words, folder).status, 0, 'the status')
+            expect_equal(file_bytes(os.path.join(folder, OUT)), b'abc', 'the output')
+
+
 def no_commands(cases):
     """Words that the program refuses; the folder holds all that a command could want."""
     right = ['extract', '-k', '-s', STORE, INDEX, OUT]
@@ -606,10 +616,8 @@ def no_commands(cases):
         ['extract', '-k', 'a', 'b'], [b'\xff', *right[1:]], [*right[:5], b'\xff'],
     ]
     not_yet = [
-        ['extract', '-s', STORE, INDEX, OUT], ['extract', '-s', STORE, '-k', INDEX, OUT],
-        ['extract', '-k', '-s', 'a|b', INDEX, OUT], ['extract', '-k', '--store', STORE, INDEX, OUT],
-        ['extract', '-k', '-s', STORE, '--', INDEX, OUT], ['chop', '-s', STORE, INDEX, OUT],
-        ['verify', '-s', STORE], ['prune', '-s', STORE, '-y', INDEX],
+        ['extract', '-s', STORE, INDEX, OUT], ['extract', '-k', '-s', 'a|b', INDEX, OUT],
+        ['chop', '-s', STORE, INDEX, OUT], ['verify', '-s', STORE], ['prune', '-s', STORE, '-y', INDEX],
     ]
     for words in never + not_yet:
         with cases.case(f'the words {words}') as folder:
@@ -626,7 +634,8 @@ def main():
     needs_program('extract')
     cases = Cases('extract')
     for group in (worked_examples, bad_indexes, cut_short, changed_bytes, files_and_folders, links_and_names,
-                  chunks, no_rights, writes_refused, random_cases, no_commands, huge_files, many_entries):
+                  chunks, no_rights, writes_refused, random_cases, other_orders, no_commands, huge_files,
+                  many_entries):
         group(cases)
     return cases.end()
 

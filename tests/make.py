@@ -1,13 +1,12 @@
 #!/usr/bin/env python3
 """`desync make -s FOLDER INDEX IMAGE` over real files, compared with tests/formats.py; and make, then extract.
 
-Where the program has no `make` yet, it says so, skips all and counts no failure. DESYNC names another program.
+DESYNC names another program.
 """
 
 import json
 import os
 import random
-import re
 import shutil
 import signal
 import subprocess
@@ -114,22 +113,6 @@ def extracts(folder, image, words=(STORE, INDEX, OUT)):
     expect_equal(file_bytes(os.path.join(folder, words[2])), image, 'what extract gives')
 
 
-# Whether the program has make
-
-def has_make(folder):
-    """False where the program refuses a plain make and leaves everything alone."""
-    lay_out(folder, b'abc')
-    before = snapshot(folder)
-    ended = program.run(['make', '-s', STORE, INDEX, IMAGE], folder)
-    return ended.status != 1 or snapshot(folder) != before
-
-
-def must_have_make():
-    """Whether crates.txt says that the program stands on the crate that cuts images."""
-    with open(os.path.join(program.TOP, 'crates.txt'), encoding='utf-8') as file:
-        return re.search(r'^desync_cli\b.*:.*\bbuzhash_cut\b', file.read(), re.MULTILINE) is not None
-
-
 # Cases
 
 def images(cases):
@@ -195,6 +178,42 @@ def change_image(folder, first, changed, at_most):
     expect_equal(came, {name.hex() for name in second.names() - first.names()}, 'the new chunks')
     expect(0 < len(came) <= at_most, f'{len(came)} chunks are new, not 1 to {at_most}')
     extracts(folder, changed, (STORE, 'b.caibx', 'p'))
+
+
+def changed_while_it_runs(cases):
+    """The last byte of an image changes once it was read, while it is being cut."""
+    with cases.case('the image changes between its two readings') as folder:
+        image = random.Random(8).randbytes(24 << 20)
+        lay_out(folder, image, OLD_INDEX)
+        process = program.start(['make', '-s', STORE, INDEX, IMAGE], folder)
+        wait_until_read(process, len(image))
+        with open(os.path.join(folder, IMAGE), 'r+b') as file:
+            file.seek(-1, os.SEEK_END)
+            file.write(bytes([image[-1] ^ 255]))
+        ended = program.ended(process)
+        expect_equal(ended.status, 1, f'the status (standard error {ended.err!r})')
+        expect(ended.err.startswith(b'desync: the image changed at entry '), f'standard error is {ended.err!r}')
+        expect_equal(file_bytes(os.path.join(folder, INDEX)), OLD_INDEX, 'INDEX')
+        expect_right_names(folder, {IMAGE, INDEX}, snapshot(folder))
+        entry = int(ended.err.split()[-1])
+        expect_equal(entry, sum(len(files) for _, _, files in os.walk(os.path.join(folder, STORE))),
+                     'the entry, which is the number of chunks that were stored before it')
+
+
+def wait_until_read(process, size):
+    """Waits until a program has read so many bytes."""
+    until = time.monotonic() + program.TIME_LIMIT
+    while time.monotonic() < until:
+        try:
+            with open(f'/proc/{process.pid}/io', encoding='utf-8') as file:
+                counts = dict(line.split(': ') for line in file)
+        except OSError as why:
+            process.kill()
+            process.communicate()
+            raise Skip(f'what a program has read can\'t be seen here: {why}') from why
+        if int(counts['rchar']) >= size:
+            return
+        time.sleep(0.001)
 
 
 def file_system_image(cases):
@@ -532,14 +551,9 @@ def main():
         return small_disk(sys.argv[2])
     needs_program('make')
     cases = Cases('make')
-    with cases.case('the program has make') as folder:
-        if not has_make(folder):
-            expect(not must_have_make(), 'a plain make is refused, though desync_cli stands on buzhash_cut')
-            raise Skip('the program has no make yet: nothing of it is tried')
-    if cases.passed:
-        for group in (images, changed_in_the_middle, file_system_image, chunks_there, two_at_once, interrupted,
-                      odd_places, bad_input, no_commands, full_disk):
-            group(cases)
+    for group in (images, changed_in_the_middle, changed_while_it_runs, file_system_image, chunks_there, two_at_once,
+                  interrupted, odd_places, bad_input, no_commands, full_disk):
+        group(cases)
     return cases.end()
 
 
