@@ -3,8 +3,9 @@
 
 Two runs are timed: into an empty store, and into a store that has all chunks but for the first, which is
 damaged. So both write the first chunk, and its file's time tells when the cutting was over: what comes after
-it is the reading again, naming and storing of all others. Needs three times the image's size under the
-temporary folder.
+it is the reading again, naming and storing of all others. The store that is empty is a new folder each time,
+and nothing is removed between the runs: a file system may take far longer to find room for new files right
+after it has removed others. Needs the image's size under the temporary folder for each run, and four times more.
 """
 
 import os
@@ -12,6 +13,7 @@ import random
 import shutil
 import statistics
 import sys
+import tempfile
 import time
 
 import side_by_side
@@ -62,18 +64,19 @@ def main():
         image = os.path.join(folder, 'image')
         write_image(image, size)
 
-        def clear():
-            shutil.rmtree(empty, ignore_errors=True)
+        def put_aside():
+            if os.path.isdir(empty):
+                os.rename(empty, tempfile.mkdtemp(dir=folder))
             os.mkdir(empty)
 
         def damage():
             formats.write_chunk(full, into_full.first, b'damaged')
 
-        Make('the first make', empty, clear).run(folder)
+        Make('the first make', empty, put_aside).run(folder)
         shutil.copytree(empty, full)
         index = check(folder, full, size)
 
-        into_empty = Make('make, store empty', empty, clear)
+        into_empty = Make('make, store empty', empty, put_aside)
         into_full = Make('make, store has all chunks', full, damage)
         makes = [into_empty, into_full]
         for row in makes:

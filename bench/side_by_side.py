@@ -41,13 +41,14 @@ class Row:
     """One command that is measured: its words, and what is done right before and right after each run."""
 
     def __init__(self, what, words, prepare=lambda: None, after=lambda: None, at_most=None,
-                 command=program.DESYNC):
+                 command=program.DESYNC, wanted=0):
         self.what = what
         self.words = words
         self.prepare = prepare
         self.after = after
         self.at_most = at_most
         self.command = command
+        self.wanted = wanted
         self.seconds = []
         self.peak = 0
 
@@ -56,7 +57,7 @@ class Row:
         os.sync()
         status, seconds, peak = program.run_measured(self.words, folder, self.command)
         self.after()
-        if status != 0:
+        if status != self.wanted:
             sys.exit(f'{self.what}: status {status}')
         self.seconds.append(seconds)
         self.peak = max(self.peak, peak)

@@ -1,0 +1,69 @@
+#!/usr/bin/env python3
+"""`desync` reading an index of the greatest number of entries, and holding an image against its index, each beside
+openssl's digest of the same file.
+
+The long index is read by `verify-index` with an image that isn't there, so that the run ends where the index stands
+in memory. The image is of random bytes, cut every 64 KiB. Needs the image's size and 168 MB under the temporary
+folder.
+"""
+
+import os
+import random
+
+import side_by_side
+import formats
+
+CHUNK = 65536
+BLOCK = 1 << 16
+
+
+def write_long_index(path):
+    """The index of 2^22 chunks of one byte each."""
+    with open(path, 'wb') as file:
+        file.write(formats.spell_head(formats.WRITTEN_FLAGS, formats.DEFAULT_SIZES))
+        for start in range(0, formats.ITEM_LIMIT, BLOCK):
+            ends = range(start + 1, start + BLOCK + 1)
+            file.write(b''.join(end.to_bytes(8, 'little') + bytes(32) for end in ends))
+        file.write(formats.spell_tail(formats.ITEM_LIMIT))
+
+
+def write_image(folder, size):
+    """An image of random bytes, and the index that lists it in chunks of one size."""
+    chance = random.Random(512)
+    entries = []
+    with open(os.path.join(folder, 'image'), 'wb') as image:
+        for start in range(0, size, CHUNK):
+            piece = chance.randbytes(min(CHUNK, size - start))
+            image.write(piece)
+            entries.append((start + len(piece), formats.name_of(piece)))
+    with open(os.path.join(folder, 'image.caibx'), 'wb') as file:
+        file.write(formats.spell_index(formats.Index(entries)))
+
+
+def show(what, rows, folder, size, runs):
+    side_by_side.measure(rows, folder, runs)
+    print(f'{what} of {size} bytes; medians of {runs} runs')
+    side_by_side.print_table(rows, size)
+
+
+def main():
+    options = side_by_side.arguments(__doc__, 512)
+    with side_by_side.work_folder() as folder:
+        long_index = os.path.join(folder, 'long.caibx')
+        write_long_index(long_index)
+        size = os.path.getsize(long_index)
+        reading = side_by_side.Row('an index is read', ['verify-index', long_index, 'absent'], at_most=3, wanted=1)
+        show('an index', [side_by_side.openssl(long_index), reading], folder, size, options.runs)
+        print(f'memory: {reading.peak * 1024 / size:.2f} times the size of the file, at most 2.50\n')
+
+        size = options.size * side_by_side.MIB
+        write_image(folder, size)
+        verifying = side_by_side.Row('verify-index', ['verify-index', 'image.caibx', 'image'], at_most=2)
+        image = os.path.join(folder, 'image')
+        show('an image', [side_by_side.openssl(image), verifying], folder, size, options.runs)
+        index = os.path.getsize(os.path.join(folder, 'image.caibx'))
+        print(f'memory: {verifying.peak} KiB, the index has {index // 1024}; at most 16384 beside it')
+
+
+if __name__ == '__main__':
+    main()
