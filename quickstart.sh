@@ -1,6 +1,7 @@
 #!/bin/bash
 # Makes the index and the chunk store of an image, assembles the image from them over a damaged and too long
-# old output, on real files, and compares every byte. Works in a folder of its own under the system's temporary folder, which it removes.
+# old output, on real files, and compares every byte. Works in a folder of its own under the system's temporary
+# folder, which it removes.
 set -euo pipefail
 top=$(cd "$(dirname "$0")" && pwd)
 size=$((6 * 1024 * 1024))
