@@ -1,3 +1,5 @@
+pub mod Following
+pub mod Judged
 pub mod Lists
 pub mod Located
 pub mod Places

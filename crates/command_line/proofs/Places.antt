@@ -1,14 +1,10 @@
--- The place of the last such byte, and the rows of the tables from a place on.
-use Rattle.std.proofs.Common.{◌≡◌, ◌≢◌, ℕ, zero, suc, ◌+◌, ◌<◌, ◌≤◌, inl, inr, List, length, get_or, drop, sym, ap, ◌∙◌, arith, refl, eq-eqb, ne_eqb, false, ◌||◌, Option, Some, None, MatchOption}
-use Rattle.std.specs.Str.{bytes_eq, IsCharBoundary}
+-- The place of the last such byte.
+use Rattle.std.proofs.Common.{◌≡◌, ◌≢◌, ℕ, zero, suc, ◌<◌, ◌≤◌, inl, inr, List, length, get_or, sym, ap, ◌∙◌, arith, refl, eq-eqb, ne_eqb, Option, Some, None, MatchOption}
+use Rattle.std.specs.Str.{IsCharBoundary}
 use Rattle.std.specs.Str.Pattern.{RFindsChar}
 use Rattle.std.specs.Path.{rfind_below}
 use Rattle.std.proofs.lemmas.Bool.{cond-true, cond-false, cases_eq}
-use Rattle.std.proofs.lemmas.List.{drop_more}
 use Rattle.std.proofs.lemmas.Str.Pattern.{rfind_char}
-use Rattle.command_line.specs.OptionTable.{named_among, option_among, command_row, option_row}
-use Rattle.command_line.specs.declared.option_table.CommandKind.{CommandKind}
-use Rattle.command_line.specs.declared.option_table.OptionKind.{OptionKind}
 
 below_none : (c : ℕ) (text : List ℕ) (n : ℕ) → ((i : ℕ) → i < n → get_or text i 0 ≢ c) → rfind_below c text n ≡ None
 below_none c text zero h = refl
@@ -32,14 +28,3 @@ pub last_is : (c : ℕ) (text : List ℕ) (r : Option ℕ)
     → MatchOption r (RFindsChar c text None) (λ i. (j : ℕ) × RFindsChar c text (Some (i, j)) × (i ≤ j) × IsCharBoundary text i × IsCharBoundary text j)
     → c < 128 → r ≡ rfind_below c text (length text)
 last_is c text r h low = found c text r (rfind_char c text r h low)
-
--- ---- the rows from a place on, of which the first isn't it
-
-pub named_later : (w : List ℕ) (ks : List CommandKind) (i : ℕ) (d : CommandKind) → i < length ks → bytes_eq w (command_row (get_or ks i d)).name ≡ false
-    → named_among w (drop (i + 1) ks) ≡ named_among w (drop i ks)
-named_later w ks i d lt other = sym (ap (named_among w) (drop_more ks i d lt) ∙ cond-false _ _ _ other)
-
-pub spelled_later : (w : List ℕ) (os : List OptionKind) (i : ℕ) (d : OptionKind) → i < length os
-    → (bytes_eq w (option_row (get_or os i d)).short || bytes_eq w (option_row (get_or os i d)).long) ≡ false
-    → option_among w (drop (i + 1) os) ≡ option_among w (drop i os)
-spelled_later w os i d lt other = sym (ap (option_among w) (drop_more os i d lt) ∙ cond-false _ _ _ other)

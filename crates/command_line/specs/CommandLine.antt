@@ -10,14 +10,13 @@ use Rattle.command_line.specs.declared.option_table.CommandKind.{CommandKind}
 use Rattle.command_line.specs.declared.option_table.CommandKind.TheVariants as command
 use Rattle.command_line.specs.declared.option_table.OptionKind.{OptionKind}
 use Rattle.command_line.specs.declared.option_table.OptionKind.TheVariants as option
-use Rattle.command_line.specs.declared.roles.Mood.TheVariants as mood
 use Rattle.command_line.specs.declared.roles.Role.{Role}
 use Rattle.command_line.specs.declared.roles.Role.TheVariants as role
 use Rattle.command_line.specs.declared.usage.UsageWhy.{UsageWhy}
 use Rattle.command_line.specs.declared.usage.UsageWhy.TheVariants as why
 use Rattle.command_line.specs.declared.usage.WordsFault.{WordsFault}
 use Rattle.command_line.specs.declared.usage.WordsFault.TheVariants as fault
-use Rattle.command_line.specs.Judging.{roles_of, missing, AnswersBy}
+use Rattle.command_line.specs.Judging.{judged, missing, AnswersBy}
 use Rattle.command_line.specs.Locations.{location_of}
 use Rattle.command_line.specs.OptionTable.{command_named}
 use Rattle.command_line.specs.Roles.{count_of, words_as, word_as}
@@ -87,7 +86,7 @@ command_by k words (Ok roles) = complete (missing k roles) (length words + 1) (c
 
 -- the words after a command
 abbrev pub command_with : CommandKind → List (List ℕ) → Result Command WordsFault
-command_with k words = command_by k words (roles_of k [] mood.Free 1 words)
+command_with k words = command_by k words (judged k words)
 
 abbrev pub is_alone : List (List ℕ) → List ℕ → Bool
 is_alone words w = (length words == 1) && bytes_eq (slice_index_or words 0 []) w

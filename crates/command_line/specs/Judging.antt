@@ -1,5 +1,6 @@
 -- How the words of a command are judged. The words are those after the command; places count the command too.
-use Rattle.std.specs.Prelude.{◌≡◌, ℕ, ◌+◌, ◌==◌, ◌||◌, Bool, not, List, [], ◌∷◌, ◌++◌, length, Option, Some, None, is_some, Result, Ok, Err, if◌then◌else◌, nat_lt}
+use Rattle.std.specs.Prelude.{◌≡◌, ℕ, ◌+◌, ◌==◌, ◌||◌, Bool, not, List, [], length, find, take, slice_index_or, Option, Some, None, is_some, option_map, Result, Ok, Err, if◌then◌else◌, nat_lt}
+use Rattle.std.specs.List.{range_with_len}
 use Rattle.command_line.specs.declared.command.Location.{Location}
 use Rattle.command_line.specs.declared.command.Location.TheVariants as location
 use Rattle.command_line.specs.declared.judge.Refusal.{Refusal}
@@ -9,8 +10,6 @@ use Rattle.command_line.specs.declared.location.NoLocation.TheVariants as no
 use Rattle.command_line.specs.declared.option_table.CommandKind.{CommandKind}
 use Rattle.command_line.specs.declared.option_table.OptionKind.{OptionKind}
 use Rattle.command_line.specs.declared.option_table.OptionKind.TheVariants as option
-use Rattle.command_line.specs.declared.roles.Mood.{Mood}
-use Rattle.command_line.specs.declared.roles.Mood.TheVariants as mood
 use Rattle.command_line.specs.declared.roles.Role.{Role}
 use Rattle.command_line.specs.declared.roles.Role.TheVariants as role
 use Rattle.command_line.specs.declared.usage.UsageWhy.{UsageWhy}
@@ -18,8 +17,8 @@ use Rattle.command_line.specs.declared.usage.UsageWhy.TheVariants as why
 use Rattle.command_line.specs.declared.usage.WordsFault.{WordsFault}
 use Rattle.command_line.specs.declared.usage.WordsFault.TheVariants as fault
 use Rattle.command_line.specs.Locations.{location_of}
-use Rattle.command_line.specs.OptionTable.{command_row, times_in}
-use Rattle.command_line.specs.Roles.{role_of, mood_after, count_of}
+use Rattle.command_line.specs.OptionTable.{takes_of, times_of}
+use Rattle.command_line.specs.Roles.{awaited, role_of, roles_of, count_of}
 use Rattle.command_line.specs.Values.{number_of, workers_of, sizes_of, listen_of, is_seed}
 
 -- ---- one word
@@ -43,7 +42,7 @@ name_refusal empty right y = if empty then Some (refusal.Why why.Empty) else unl
 
 -- the value of an option
 abbrev pub value_refusal : CommandKind → OptionKind → List ℕ → Option Refusal
-value_refusal k option.Store w = if is_empty w then Some (refusal.Why why.Empty) else store_refusal (command_row k).takes.needs_folder (location_of w)
+value_refusal k option.Store w = if is_empty w then Some (refusal.Why why.Empty) else store_refusal (takes_of k).needs_folder (location_of w)
 value_refusal k option.ChunkSize w = unless (is_some (sizes_of w)) why.BadSizes
 value_refusal k option.Concurrency w = unless (is_some (workers_of w)) why.BadNumber
 value_refusal k option.Cache w = unless (not (is_empty w)) why.Empty
@@ -56,7 +55,7 @@ value_refusal k option.Writable w = None
 
 -- the operand that has n before it
 abbrev pub name_operand_refusal : CommandKind → ℕ → List ℕ → Option Refusal
-name_operand_refusal k n w = name_refusal (is_empty w) (nat_lt n (command_row k).takes.operands.greatest) why.Operands
+name_operand_refusal k n w = name_refusal (is_empty w) (nat_lt n (takes_of k).operands.greatest) why.Operands
 
 -- those of `demo` are a number and a size
 abbrev pub number_refusal : ℕ → List ℕ → Option Refusal
@@ -68,13 +67,13 @@ demo_operand_refusal n w =
     else (if n == 1 then number_refusal 536870912 w else Some (refusal.Why why.Operands))
 
 abbrev pub operand_refusal : CommandKind → ℕ → List ℕ → Option Refusal
-operand_refusal k n w = if (command_row k).takes.takes_numbers then demo_operand_refusal n w else name_operand_refusal k n w
+operand_refusal k n w = if (takes_of k).takes_numbers then demo_operand_refusal n w else name_operand_refusal k n w
 
 -- a word of a role, after words of the roles before it
 abbrev pub refusal_of : CommandKind → List Role → Role → List ℕ → Option Refusal
 refusal_of k before role.Dashes w = None
 refusal_of k before role.Unknown w = Some (refusal.Why why.UnknownOption)
-refusal_of k before (role.Given o) w = unless (nat_lt (count_of (role.Given o) before) (times_in (command_row k).takes o).greatest) why.TooMany
+refusal_of k before (role.Given o) w = unless (nat_lt (count_of (role.Given o) before) (times_of k o).greatest) why.TooMany
 refusal_of k before (role.Value o) w = value_refusal k o w
 refusal_of k before role.Operand w = operand_refusal k (count_of role.Operand before) w
 
@@ -84,33 +83,40 @@ abbrev pub fault_at : ℕ → Refusal → WordsFault
 fault_at place (refusal.Why y) = fault.Usage place y
 fault_at place refusal.Memory = fault.Memory
 
--- after the last word no value is missing
-abbrev pub ended : Mood → ℕ → List Role → Result (List Role) WordsFault
-ended mood.Free place roles = Ok roles
-ended mood.Ended place roles = Ok roles
-ended (mood.Wants o) place roles = Err (fault.Usage place why.NoValue)
+-- why a word is refused after the words before it, if it is
+abbrev pub refusal_after : CommandKind → List (List ℕ) → List ℕ → Option Refusal
+refusal_after k before w = refusal_of k (roles_of k before) (role_of k (roles_of k before) w) w
 
-abbrev pub go_on : Option Refusal → ℕ → Result (List Role) WordsFault → Result (List Role) WordsFault
-go_on (Some r) place later = Err (fault_at place r)
-go_on None place later = later
+-- why the word at i is refused, if it is: what comes after it doesn't matter
+abbrev pub refusal_at : CommandKind → List (List ℕ) → ℕ → Option Refusal
+refusal_at k words i = refusal_after k (take i words) (slice_index_or words i [])
 
--- the roles of the words from left to right, or the first refusal with its place
-abbrev pub roles_of : CommandKind → List Role → Mood → ℕ → List (List ℕ) → Result (List Role) WordsFault
-roles_of k before m place [] = ended m place before
-roles_of k before m place (w ∷ words) =
-    go_on (refusal_of k before (role_of k m w) w) place
-    (roles_of k (before ++ role_of k m w ∷ []) (mood_after m (role_of k m w)) (place + 1) words)
+-- the first word that is refused, from 0
+abbrev pub first_refused : CommandKind → List (List ℕ) → Option ℕ
+first_refused k words = find (λ i. is_some (refusal_at k words i)) (range_with_len 0 (length words))
+
+abbrev pub fault_by : CommandKind → List (List ℕ) → Option ℕ → Option WordsFault
+fault_by k words None = if is_some (awaited (roles_of k words)) then Some (fault.Usage (length words + 1) why.NoValue) else None
+fault_by k words (Some i) = option_map (fault_at (i + 1)) (refusal_at k words i)
+
+-- the fault of the first word that is refused, or that the last one's value is missing
+abbrev pub first_fault : CommandKind → List (List ℕ) → Option WordsFault
+first_fault k words = fault_by k words (first_refused k words)
+
+-- the roles of the words, unless there is a fault
+abbrev pub judged : CommandKind → List (List ℕ) → Result (List Role) WordsFault
+judged k words = elim (first_fault k words) [ Some e ↦ Err e | None ↦ Ok (roles_of k words) ]
 
 -- the option stands less often than the command needs it
 abbrev pub lacks : CommandKind → List Role → OptionKind → Bool
-lacks k roles o = nat_lt (count_of (role.Given o) roles) (times_in (command_row k).takes o).least
+lacks k roles o = nat_lt (count_of (role.Given o) roles) (times_of k o).least
 
 -- what is missing once all words have passed
 abbrev pub missing : CommandKind → List Role → Option UsageWhy
 missing k roles =
     if lacks k roles option.Store || (lacks k roles option.Cache || lacks k roles option.Listen) then Some why.MissingOption
     else (if lacks k roles option.Yes then Some why.NeedsYes
-    else (if nat_lt (count_of role.Operand roles) (command_row k).takes.operands.least then Some why.Operands
+    else (if nat_lt (count_of role.Operand roles) (takes_of k).operands.least then Some why.Operands
     else None))
 
 -- ---- what the functions may answer: want of memory is free

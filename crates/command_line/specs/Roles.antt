@@ -1,49 +1,56 @@
 -- What each word of a command is. The words are those after the command, and a word is its bytes.
-use Rattle.std.specs.Prelude.{ℕ, ◌+◌, ◌==◌, List, [], ◌∷◌, codes, count_by, Option, Some, None, if◌then◌else◌, nat_eq, nat_lt, slice_index_or}
-use Rattle.std.specs.List.{starts_with}
+use Rattle.std.specs.Prelude.{ℕ, ◌+◌, ◌-◌, ◌*◌, ◌==◌, List, [], ◌∷◌, ◌++◌, length, codes, count_by, fold, Option, Some, None, if◌then◌else◌, nat_eq, nat_lt, slice_index_or}
+use Rattle.std.specs.List.{slice_get, starts_with}
 use Rattle.std.specs.Str.{bytes_eq}
 use Rattle.command_line.specs.declared.option_table.CommandKind.{CommandKind}
 use Rattle.command_line.specs.declared.option_table.OptionKind.{OptionKind}
-use Rattle.command_line.specs.declared.roles.Mood.{Mood}
-use Rattle.command_line.specs.declared.roles.Mood.TheVariants as mood
 use Rattle.command_line.specs.declared.roles.Role.{Role}
 use Rattle.command_line.specs.declared.roles.Role.TheVariants as role
-use Rattle.command_line.specs.OptionTable.{option_named, option_number, option_row, command_row, times_in}
+use Rattle.command_line.specs.OptionTable.{option_named, option_number, takes_value, times_of}
 
 -- the option of the command that is spelled so
 abbrev pub option_of : CommandKind → List ℕ → Option OptionKind
-option_of k w = elim (option_named w) [ None ↦ None | Some o ↦ if nat_lt 0 (times_in (command_row k).takes o).greatest then Some o else None ]
+option_of k w = elim (option_named w) [ None ↦ None | Some o ↦ if nat_lt 0 (times_of k o).greatest then Some o else None ]
 
-abbrev pub option_role : Option OptionKind → Role
+abbrev option_role : Option OptionKind → Role
 option_role None = role.Unknown
 option_role (Some o) = role.Given o
 
--- what a word is: the value of the option before it, whatever it is; after `--` an operand, whatever it is; else `--`
--- itself, an option where it begins with `-`, or an operand
-abbrev pub role_of : CommandKind → Mood → List ℕ → Role
-role_of k (mood.Wants o) w = role.Value o
-role_of k mood.Ended w = role.Operand
-role_of k mood.Free w = if bytes_eq w (codes "--") then role.Dashes else (if starts_with nat_eq w (codes "-") then option_role (option_of k w) else role.Operand)
+-- what a word is by itself: `--`, an option where it begins with `-`, else an operand
+abbrev pub spelled_role : CommandKind → List ℕ → Role
+spelled_role k w = if bytes_eq w (codes "--") then role.Dashes else (if starts_with nat_eq w (codes "-") then option_role (option_of k w) else role.Operand)
 
--- what is to come after a word: a value, operands alone, or anything
-abbrev pub mood_after : Mood → Role → Mood
-mood_after m role.Dashes = mood.Ended
-mood_after m role.Unknown = mood.Free
-mood_after m role.Operand = m
-mood_after m (role.Given o) = if (option_row o).takes_value then mood.Wants o else mood.Free
-mood_after m (role.Value o) = mood.Free
+-- the option of the role, where its value is the next word
+abbrev pub opens : Role → Option OptionKind
+opens role.Dashes = None
+opens role.Unknown = None
+opens role.Operand = None
+opens (role.Given o) = if takes_value o then Some o else None
+opens (role.Value o) = None
+
+-- the option whose value is to come after words of these roles
+abbrev pub awaited : List Role → Option OptionKind
+awaited roles = elim (slice_get roles (length roles - 1)) [ None ↦ None | Some r ↦ opens r ]
 
 -- by which roles are told apart
 abbrev pub role_number : Role → ℕ
 role_number role.Dashes = 0
 role_number role.Unknown = 1
 role_number role.Operand = 2
-role_number (role.Given o) = 3 + option_number o
-role_number (role.Value o) = 13 + option_number o
+role_number (role.Given o) = 3 + 2 * option_number o
+role_number (role.Value o) = 4 + 2 * option_number o
 
 -- how many words have the role
 abbrev pub count_of : Role → List Role → ℕ
 count_of r roles = count_by (λ q. role_number q == role_number r) roles
+
+-- what a word is after words of these roles: the value that is to come, after `--` an operand, else what it is by itself
+abbrev pub role_of : CommandKind → List Role → List ℕ → Role
+role_of k before w = elim (awaited before) [ Some o ↦ role.Value o | None ↦ if nat_lt 0 (count_of role.Dashes before) then role.Operand else spelled_role k w ]
+
+-- the roles of the words, each by those before it
+abbrev pub roles_of : CommandKind → List (List ℕ) → List Role
+roles_of k words = fold (λ before w. before ++ role_of k before w ∷ []) [] words
 
 -- the words that have the role, in order
 abbrev pub words_as : Role → List Role → List (List ℕ) → List (List ℕ)

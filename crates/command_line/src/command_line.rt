@@ -7,7 +7,7 @@ ghost use Rattle.command_line.specs.Judging.{AnswersBy};
 ghost use Rattle.command_line.specs.OptionTable.{command_named};
 
 use crate::command::Command;
-use crate::judge::{missing, roles_of};
+use crate::judge::{judged, missing};
 use crate::option_table::{CommandKind, command_named};
 use crate::roles::word;
 use crate::said::command_of;
@@ -26,7 +26,7 @@ fn read_with(alloc: Global, kind: CommandKind, words: &[String]) -> Result<Comma
     requires { length words.now + 1 < 2 ^ 64 }
     ensures { AnswersBy (λ c. c) (command_with kind (map string_bytes words.now)) result }
 {
-    let roles = roles_of(alloc, kind, words)?;
+    let roles = judged(alloc, kind, words)?;
     if let Some(why) = missing(kind, roles.as_slice()) {
         let place = words.len() as u64 + 1;
         return Err(WordsFault::Usage { place, why });

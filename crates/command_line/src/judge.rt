@@ -2,15 +2,14 @@
 //! after the command; places count the command too.
 
 ghost use Rattle.std.specs.Prelude.{◌≡◌, ◌<◌, ◌+◌, ◌^◌, ℕ, List, [], length, map, string_bytes, Result, Ok, Err, Some, None, IfOk};
-ghost use Rattle.command_line.specs.Judging.{Refuses, AnswersBy, number_refusal, unless, is_empty, store_refusal, name_refusal, value_refusal, name_operand_refusal, demo_operand_refusal, operand_refusal, refusal_of, fault_at, ended, roles_of, lacks, missing};
+ghost use Rattle.command_line.specs.Judging.{Refuses, AnswersBy, number_refusal, unless, is_empty, store_refusal, name_refusal, value_refusal, name_operand_refusal, demo_operand_refusal, operand_refusal, refusal_of, fault_at, judged, lacks, missing};
 ghost use Rattle.command_line.specs.Locations.{location_of};
-ghost use Rattle.command_line.specs.OptionTable.{command_row, times_in};
-ghost use Rattle.command_line.specs.declared.roles.Mood.TheVariants.{Free};
+ghost use Rattle.command_line.specs.OptionTable.{takes_of, times_of};
 
 use crate::command::Location;
 use crate::location::{NoLocation, read_location};
 use crate::option_table::{CommandKind, OptionKind};
-use crate::roles::{Mood, Role, count_of, mood_after, role_of, word};
+use crate::roles::{Role, awaited, count_of, role_of, word};
 use crate::usage::{UsageWhy, WordsFault};
 use crate::values::{is_seed, listen, number, sizes, workers};
 use std::alloc::Global;
@@ -62,7 +61,7 @@ fn judge_store(alloc: Global, kind: CommandKind, word: &str) -> Result<(), Refus
     if word.is_empty() {
         return Err(Refusal::Why(UsageWhy::Empty));
     }
-    judge_location(alloc, kind.row().takes.needs_folder, word)
+    judge_location(alloc, kind.takes().needs_folder, word)
 }
 
 // Judges the value of an option.
@@ -114,7 +113,7 @@ fn judge_demo_operand(before: usize, word: &str) -> Result<(), Refusal>
 fn judge_name_operand(kind: CommandKind, before: usize, word: &str) -> Result<(), Refusal>
     ensures { Refuses (name_operand_refusal kind before word.now) result }
 {
-    let right = before < kind.row().takes.operands.greatest;
+    let right = before < kind.takes().operands.greatest;
     judge_name(word.is_empty(), right, UsageWhy::Operands)
 }
 
@@ -122,7 +121,7 @@ fn judge_name_operand(kind: CommandKind, before: usize, word: &str) -> Result<()
 fn judge_operand(kind: CommandKind, before: usize, word: &str) -> Result<(), Refusal>
     ensures { Refuses (operand_refusal kind before word.now) result }
 {
-    if kind.row().takes.takes_numbers {
+    if kind.takes().takes_numbers {
         judge_demo_operand(before, word)
     } else {
         judge_name_operand(kind, before, word)
@@ -144,7 +143,7 @@ fn judge_word(
         Role::Unknown => Err(Refusal::Why(UsageWhy::UnknownOption)),
         Role::Operand => judge_operand(kind, count_of(Role::Operand, before), word),
         Role::Given(option) => {
-            let right = count_of(Role::Given(option), before) < kind.times(option).greatest;
+            let right = count_of(Role::Given(option), before) < kind.times_of(option).greatest;
             unless(right, UsageWhy::TooMany)
         }
         Role::Value(option) => judge_value(alloc, kind, option, word),
@@ -161,39 +160,38 @@ fn fault_at(place: u64, refusal: Refusal) -> WordsFault
     }
 }
 
-/// The roles of the words, where each has passed.
-pub fn roles_of(alloc: Global, kind: CommandKind, words: &[String]) -> Result<Vec<Role>, WordsFault>
+/// The roles of the words, where each has passed and no value is missing.
+pub fn judged(alloc: Global, kind: CommandKind, words: &[String]) -> Result<Vec<Role>, WordsFault>
     requires { length words.now + 1 < 2 ^ 64 }
-    ensures exactly { AnswersBy (λ v. v.items) (roles_of kind [] Free 1 (map string_bytes words.now)) result }
+    ensures exactly { AnswersBy (λ v. v.items) (judged kind (map string_bytes words.now)) result }
     ensures size { IfOk result (λ v. length v.items ≡ length words.now) }
 {
     let mut roles = Vec::new(alloc);
-    let mut mood = Mood::Free;
     for i in 0..words.len() {
         let word = word(words, i);
-        let role = role_of(kind, mood, word);
-        if let Err(refusal) = judge_word(alloc, kind, roles.as_slice(), role, word) {
+        let before = roles.as_slice();
+        let role = role_of(kind, before, word);
+        if let Err(refusal) = judge_word(alloc, kind, before, role, word) {
             return Err(fault_at(i as u64 + 1, refusal));
         }
         if roles.push(role).is_err() {
             return Err(WordsFault::Memory);
         }
-        mood = mood_after(mood, role);
     }
-    match mood {
-        Mood::Free | Mood::Ended => Ok(roles),
-        Mood::Wants(_) => Err(WordsFault::Usage {
+    if awaited(roles.as_slice()).is_some() {
+        return Err(WordsFault::Usage {
             place: words.len() as u64 + 1,
             why: UsageWhy::NoValue,
-        }),
+        });
     }
+    Ok(roles)
 }
 
 // Whether the option stands less often than the command needs it.
 fn lacks(kind: CommandKind, roles: &[Role], option: OptionKind) -> bool
     ensures { result ≡ lacks kind roles.now option }
 {
-    count_of(Role::Given(option), roles) < kind.times(option).least
+    count_of(Role::Given(option), roles) < kind.times_of(option).least
 }
 
 /// What is missing once all words have passed.
@@ -209,7 +207,7 @@ pub fn missing(kind: CommandKind, roles: &[Role]) -> Option<UsageWhy>
     if lacks(kind, roles, OptionKind::Yes) {
         return Some(UsageWhy::NeedsYes);
     }
-    if count_of(Role::Operand, roles) < kind.row().takes.operands.least {
+    if count_of(Role::Operand, roles) < kind.takes().operands.least {
         return Some(UsageWhy::Operands);
     }
     None

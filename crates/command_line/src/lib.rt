@@ -4,6 +4,7 @@
 pub mod command;
 pub mod command_line;
 mod judge;
+pub mod laws;
 #[cfg(test)]
 mod line_tests;
 pub mod location;

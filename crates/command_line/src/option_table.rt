@@ -1,12 +1,13 @@
 //! The commands and the options, a row each: how they are spelled, and which command takes which
-//! option how often. A new one is a variant, its place among `OPTIONS` or `COMMANDS`, and its row; a
-//! new option is also a column of `Takes`. The same rows stand in specs/OptionTable.antt.
+//! option how often. A new option is a variant and its row, and stands in the rows of the commands
+//! that take it; a new command is a variant and its row. The contracts read the same two tables.
 
-ghost use Rattle.std.specs.Prelude.{◌≡◌, ◌<◌, true, false};
-ghost use Rattle.command_line.specs.OptionTable.{option_number, option_row, command_row, times_in, command_named, option_named, option_rows, command_rows, named_among, option_among};
+ghost use Rattle.std.specs.Prelude.{◌≡◌, ◌<◌, false, length, unwrap_or};
+ghost use Rattle.std.specs.Str.{bytes_eq};
+ghost use Rattle.command_line.specs.OptionTable.{first, same_option, same_command, option_number, takes_value, short_named, long_named, option_named, command_named, times_among, times_of, takes_of};
 
 /// An option of a command.
-#[derive(Clone, Copy, Debug, Drop)]
+#[derive(Clone, Copy, Debug, PartialEq, Eq, Drop)]
 pub enum OptionKind {
     Store,
     ChunkSize,
@@ -21,7 +22,7 @@ pub enum OptionKind {
 }
 
 /// A command.
-#[derive(Clone, Copy, Debug, Drop)]
+#[derive(Clone, Copy, Debug, PartialEq, Eq, Drop)]
 pub enum CommandKind {
     Make,
     Extract,
@@ -43,30 +44,9 @@ pub struct Times {
     pub greatest: usize,
 }
 
-/// How an option is spelled, and whether it has a value.
-#[derive(Clone, Copy, Debug, Drop)]
-pub struct OptionRow {
-    /// The spelling in one letter, where there is one, else the only spelling.
-    pub short: &'static str,
-    /// The spelling in words.
-    pub long: &'static str,
-    /// The next word is its value.
-    pub takes_value: bool,
-}
-
-/// What a command takes: each option so often, and so many operands.
+/// What a command takes beside its options.
 #[derive(Clone, Copy, Debug, Drop)]
 pub struct Takes {
-    pub store: Times,
-    pub chunk_size: Times,
-    pub concurrency: Times,
-    pub cache: Times,
-    pub in_place: Times,
-    pub seed: Times,
-    pub repair: Times,
-    pub yes: Times,
-    pub listen: Times,
-    pub writable: Times,
     pub operands: Times,
     /// The store has to be a folder.
     pub needs_folder: bool,
@@ -74,12 +54,17 @@ pub struct Takes {
     pub takes_numbers: bool,
 }
 
-/// The word that a command is called by, and what it takes.
-#[derive(Clone, Copy, Debug, Drop)]
-pub struct CommandRow {
-    pub name: &'static str,
-    pub takes: Takes,
-}
+/// An option, its spelling in one letter, where there is one, its spelling in words, and whether the
+/// next word is its value.
+pub type OptionRow = (OptionKind, &'static str, &'static str, bool);
+
+/// A command, the word that it is called by, the options that it takes and how often, and what else.
+pub type CommandRow = (
+    CommandKind,
+    &'static str,
+    &'static [(OptionKind, Times)],
+    Takes,
+);
 
 const NEVER: Times = Times {
     least: 0,
@@ -101,202 +86,186 @@ const TWICE: Times = Times {
     greatest: 2,
 };
 
-// A command that takes nothing.
 const NOTHING: Takes = Takes {
-    store: NEVER,
-    chunk_size: NEVER,
-    concurrency: NEVER,
-    cache: NEVER,
-    in_place: NEVER,
-    seed: NEVER,
-    repair: NEVER,
-    yes: NEVER,
-    listen: NEVER,
-    writable: NEVER,
     operands: NEVER,
     needs_folder: false,
     takes_numbers: false,
 };
 
-/// Each option once.
-pub static OPTIONS: [OptionKind; 10] = [
-    OptionKind::Store,
-    OptionKind::ChunkSize,
-    OptionKind::Concurrency,
-    OptionKind::Cache,
-    OptionKind::InPlace,
-    OptionKind::Seed,
-    OptionKind::Repair,
-    OptionKind::Yes,
-    OptionKind::Listen,
-    OptionKind::Writable,
+/// The options.
+#[rattlefmt::skip]
+pub static OPTIONS: [OptionRow; 10] = [
+    (OptionKind::Store, "-s", "--store", true),
+    (OptionKind::ChunkSize, "-m", "--chunk-size", true),
+    (OptionKind::Concurrency, "-n", "--concurrency", true),
+    (OptionKind::Cache, "-c", "--cache", true),
+    (OptionKind::InPlace, "-k", "--in-place", false),
+    (OptionKind::Seed, "--seed", "--seed", true),
+    (OptionKind::Repair, "-r", "--repair", false),
+    (OptionKind::Yes, "-y", "--yes", false),
+    (OptionKind::Listen, "-l", "--listen", true),
+    (OptionKind::Writable, "-w", "--writeable", false),
 ];
 
-/// Each command once.
-pub static COMMANDS: [CommandKind; 11] = [
-    CommandKind::Make,
-    CommandKind::Extract,
-    CommandKind::VerifyIndex,
-    CommandKind::Chop,
-    CommandKind::Cache,
-    CommandKind::ListChunks,
-    CommandKind::Info,
-    CommandKind::Verify,
-    CommandKind::Prune,
-    CommandKind::ChunkServer,
-    CommandKind::Demo,
+/// The commands.
+#[rattlefmt::skip]
+pub static COMMANDS: [CommandRow; 11] = [
+    (CommandKind::Make, "make",
+        &[(OptionKind::Store, ONCE), (OptionKind::ChunkSize, AT_MOST_ONCE), (OptionKind::Concurrency, AT_MOST_ONCE)],
+        Takes { operands: TWICE, ..NOTHING }),
+    (CommandKind::Extract, "extract",
+        &[(OptionKind::Store, Times { least: 1, greatest: 16 }), (OptionKind::Seed, Times { least: 0, greatest: 64 }),
+            (OptionKind::Cache, AT_MOST_ONCE), (OptionKind::InPlace, AT_MOST_ONCE), (OptionKind::Concurrency, AT_MOST_ONCE)],
+        Takes { operands: TWICE, ..NOTHING }),
+    (CommandKind::VerifyIndex, "verify-index",
+        &[(OptionKind::Concurrency, AT_MOST_ONCE)],
+        Takes { operands: TWICE, ..NOTHING }),
+    (CommandKind::Chop, "chop",
+        &[(OptionKind::Store, ONCE), (OptionKind::Concurrency, AT_MOST_ONCE)],
+        Takes { operands: TWICE, ..NOTHING }),
+    (CommandKind::Cache, "cache",
+        &[(OptionKind::Store, Times { least: 1, greatest: 16 }), (OptionKind::Cache, ONCE), (OptionKind::Concurrency, AT_MOST_ONCE)],
+        Takes { operands: Times { least: 1, greatest: 64 }, ..NOTHING }),
+    (CommandKind::ListChunks, "list-chunks",
+        &[],
+        Takes { operands: ONCE, ..NOTHING }),
+    (CommandKind::Info, "info",
+        &[(OptionKind::Store, Times { least: 0, greatest: 16 })],
+        Takes { operands: ONCE, ..NOTHING }),
+    (CommandKind::Verify, "verify",
+        &[(OptionKind::Store, ONCE), (OptionKind::Repair, AT_MOST_ONCE), (OptionKind::Concurrency, AT_MOST_ONCE)],
+        Takes { needs_folder: true, ..NOTHING }),
+    (CommandKind::Prune, "prune",
+        &[(OptionKind::Store, ONCE), (OptionKind::Yes, ONCE)],
+        Takes { operands: Times { least: 1, greatest: 64 }, needs_folder: true, ..NOTHING }),
+    (CommandKind::ChunkServer, "chunk-server",
+        &[(OptionKind::Store, ONCE), (OptionKind::Listen, ONCE), (OptionKind::Writable, AT_MOST_ONCE), (OptionKind::Concurrency, AT_MOST_ONCE)],
+        Takes { needs_folder: true, ..NOTHING }),
+    (CommandKind::Demo, "demo",
+        &[(OptionKind::Concurrency, AT_MOST_ONCE)],
+        Takes { operands: TWICE, takes_numbers: true, ..NOTHING }),
 ];
+
+fn short_among(rows: &[OptionRow], word: &str) -> Option<OptionKind>
+    ensures { result ≡ first (λ row. bytes_eq word.now row.1.now) (λ row. row.0) rows.now }
+{
+    let row = rows.iter().find(|row| word == row.1)?;
+    Some(row.0)
+}
+
+fn long_among(rows: &[OptionRow], word: &str) -> Option<OptionKind>
+    ensures { result ≡ first (λ row. bytes_eq word.now row.2.now) (λ row. row.0) rows.now }
+{
+    let row = rows.iter().find(|row| word == row.2)?;
+    Some(row.0)
+}
+
+fn value_among(rows: &[OptionRow], option: OptionKind) -> bool
+    ensures { result ≡ unwrap_or (first (λ row. same_option row.0 option) (λ row. row.3) rows.now) false }
+{
+    match rows.iter().find(|row| row.0 == option) {
+        Some(row) => row.3,
+        None => false,
+    }
+}
+
+fn command_among(rows: &[CommandRow], word: &str) -> Option<CommandKind>
+    ensures { result ≡ first (λ row. bytes_eq word.now row.1.now) (λ row. row.0) rows.now }
+{
+    let row = rows.iter().find(|row| word == row.1)?;
+    Some(row.0)
+}
+
+fn times_among(option: OptionKind, options: &[(OptionKind, Times)]) -> Times
+    ensures { result ≡ times_among option options.now }
+{
+    match options.iter().find(|pair| pair.0 == option) {
+        Some(pair) => pair.1,
+        None => NEVER,
+    }
+}
+
+fn times_by(rows: &[CommandRow], kind: CommandKind, option: OptionKind) -> Times
+    ensures { result ≡ unwrap_or (first (λ row. same_command row.0 kind) (λ row. times_among option row.2.now) rows.now) NEVER }
+{
+    match rows.iter().find(|row| row.0 == kind) {
+        Some(row) => times_among(option, row.2),
+        None => NEVER,
+    }
+}
+
+fn takes_by(rows: &[CommandRow], kind: CommandKind) -> Takes
+    ensures { result ≡ unwrap_or (first (λ row. same_command row.0 kind) (λ row. row.3) rows.now) NOTHING }
+{
+    match rows.iter().find(|row| row.0 == kind) {
+        Some(row) => row.3,
+        None => NOTHING,
+    }
+}
 
 impl OptionKind {
-    /// The place in the table, from 0.
+    /// A number of its own, from 0.
     pub fn number(self) -> u8
         ensures value { result ≡ option_number self }
-        ensures size { result < 10 }
+        ensures size { result < length OPTIONS }
     {
         self as u8
     }
 
-    /// Its row.
-    pub fn row(self) -> OptionRow
-        ensures short { result.short.now ≡ (option_row self).short }
-        ensures long { result.long.now ≡ (option_row self).long }
-        ensures takes_value { result.takes_value ≡ (option_row self).takes_value }
+    /// Whether the next word is its value.
+    #[tactic(auto, unfolding(crate::specs::OptionTable::takes_value))]
+    pub fn takes_value(self) -> bool
+        ensures { result ≡ takes_value self }
     {
-        match self {
-            OptionKind::Store => with_value("-s", "--store"),
-            OptionKind::ChunkSize => with_value("-m", "--chunk-size"),
-            OptionKind::Concurrency => with_value("-n", "--concurrency"),
-            OptionKind::Cache => with_value("-c", "--cache"),
-            OptionKind::InPlace => flag("-k", "--in-place"),
-            OptionKind::Seed => with_value("--seed", "--seed"),
-            OptionKind::Repair => flag("-r", "--repair"),
-            OptionKind::Yes => flag("-y", "--yes"),
-            OptionKind::Listen => with_value("-l", "--listen"),
-            OptionKind::Writable => flag("-w", "--writeable"),
-        }
+        value_among(&OPTIONS, self)
     }
 }
 
 impl CommandKind {
-    /// Its row.
-    #[rattlefmt::skip]
-    pub fn row(self) -> CommandRow
-        ensures name { result.name.now ≡ (command_row self).name }
-        ensures takes { result.takes ≡ (command_row self).takes }
-    {
-        match self {
-            CommandKind::Make => called("make", Takes {
-                store: ONCE, chunk_size: AT_MOST_ONCE, concurrency: AT_MOST_ONCE, operands: TWICE, ..NOTHING
-            }),
-            CommandKind::Extract => called("extract", Takes {
-                store: up_to(1, 16), seed: up_to(0, 64), cache: AT_MOST_ONCE, in_place: AT_MOST_ONCE,
-                concurrency: AT_MOST_ONCE, operands: TWICE, ..NOTHING
-            }),
-            CommandKind::VerifyIndex => called("verify-index", Takes {
-                concurrency: AT_MOST_ONCE, operands: TWICE, ..NOTHING
-            }),
-            CommandKind::Chop => called("chop", Takes {
-                store: ONCE, concurrency: AT_MOST_ONCE, operands: TWICE, ..NOTHING
-            }),
-            CommandKind::Cache => called("cache", Takes {
-                store: up_to(1, 16), cache: ONCE, concurrency: AT_MOST_ONCE, operands: up_to(1, 64), ..NOTHING
-            }),
-            CommandKind::ListChunks => called("list-chunks", Takes { operands: ONCE, ..NOTHING }),
-            CommandKind::Info => called("info", Takes { store: up_to(0, 16), operands: ONCE, ..NOTHING }),
-            CommandKind::Verify => called("verify", Takes {
-                store: ONCE, needs_folder: true, repair: AT_MOST_ONCE, concurrency: AT_MOST_ONCE, ..NOTHING
-            }),
-            CommandKind::Prune => called("prune", Takes {
-                store: ONCE, needs_folder: true, yes: ONCE, operands: up_to(1, 64), ..NOTHING
-            }),
-            CommandKind::ChunkServer => called("chunk-server", Takes {
-                store: ONCE, needs_folder: true, listen: ONCE, writable: AT_MOST_ONCE,
-                concurrency: AT_MOST_ONCE, ..NOTHING
-            }),
-            CommandKind::Demo => called("demo", Takes {
-                concurrency: AT_MOST_ONCE, takes_numbers: true, operands: TWICE, ..NOTHING
-            }),
-        }
-    }
-
     /// How often it takes the option.
-    pub fn times(self, option: OptionKind) -> Times
-        ensures { result ≡ times_in (command_row self).takes option }
+    #[tactic(auto, unfolding(crate::specs::OptionTable::times_of))]
+    pub fn times_of(self, option: OptionKind) -> Times
+        ensures { result ≡ times_of self option }
     {
-        let takes = self.row().takes;
-        match option {
-            OptionKind::Store => takes.store,
-            OptionKind::ChunkSize => takes.chunk_size,
-            OptionKind::Concurrency => takes.concurrency,
-            OptionKind::Cache => takes.cache,
-            OptionKind::InPlace => takes.in_place,
-            OptionKind::Seed => takes.seed,
-            OptionKind::Repair => takes.repair,
-            OptionKind::Yes => takes.yes,
-            OptionKind::Listen => takes.listen,
-            OptionKind::Writable => takes.writable,
-        }
+        times_by(&COMMANDS, self, option)
+    }
+
+    /// What it takes beside its options.
+    #[tactic(auto, unfolding(crate::specs::OptionTable::takes_of))]
+    pub fn takes(self) -> Takes
+        ensures { result ≡ takes_of self }
+    {
+        takes_by(&COMMANDS, self)
     }
 }
 
-fn up_to(least: usize, greatest: usize) -> Times
-    ensures { result ≡ record { least = least; greatest = greatest } }
+// The option of this spelling in one letter, or else its only one.
+#[tactic(auto, unfolding(crate::specs::OptionTable::short_named))]
+fn short_named(word: &str) -> Option<OptionKind>
+    ensures { result ≡ short_named word.now }
 {
-    Times { least, greatest }
+    short_among(&OPTIONS, word)
 }
 
-fn with_value(short: &'static str, long: &'static str) -> OptionRow
-    ensures short { result.short.now ≡ short.now }
-    ensures long { result.long.now ≡ long.now }
-    ensures takes_value { result.takes_value ≡ true }
+// The option of this spelling in words.
+#[tactic(auto, unfolding(crate::specs::OptionTable::long_named))]
+fn long_named(word: &str) -> Option<OptionKind>
+    ensures { result ≡ long_named word.now }
 {
-    OptionRow {
-        short,
-        long,
-        takes_value: true,
-    }
-}
-
-fn flag(short: &'static str, long: &'static str) -> OptionRow
-    ensures short { result.short.now ≡ short.now }
-    ensures long { result.long.now ≡ long.now }
-    ensures takes_value { result.takes_value ≡ false }
-{
-    OptionRow {
-        short,
-        long,
-        takes_value: false,
-    }
-}
-
-fn called(name: &'static str, takes: Takes) -> CommandRow
-    ensures name { result.name.now ≡ name.now }
-    ensures takes { result.takes ≡ takes }
-{
-    CommandRow { name, takes }
-}
-
-/// The command of this name.
-pub fn command_named(word: &str) -> Option<CommandKind>
-    ensures { result ≡ command_named word.now }
-{
-    for kind in &COMMANDS {
-        if word == kind.row().name {
-            return Some(*kind);
-        }
-    }
-    None
+    long_among(&OPTIONS, word)
 }
 
 /// The option of this spelling.
 pub fn option_named(word: &str) -> Option<OptionKind>
     ensures { result ≡ option_named word.now }
 {
-    for option in &OPTIONS {
-        let row = option.row();
-        if word == row.short || word == row.long {
-            return Some(*option);
-        }
-    }
-    None
+    short_named(word).or(long_named(word))
+}
+
+/// The command of this name.
+#[tactic(auto, unfolding(crate::specs::OptionTable::command_named))]
+pub fn command_named(word: &str) -> Option<CommandKind>
+    ensures { result ≡ command_named word.now }
+{
+    command_among(&COMMANDS, word)
 }

@@ -1,24 +1,12 @@
 //! What each word of a command is. Words are counted from 0, the first word after the command.
 
 ghost use Rattle.std.specs.Prelude.{◌≡◌, ◌<◌, ℕ, List, [], length, map, string_bytes, slice_index_or, IfOk};
-ghost use Rattle.command_line.specs.Roles.{option_of, option_role, role_of, mood_after, role_number, count_of, words_as, word_as};
-ghost use Rattle.command_line.specs.OptionTable.{times_in, command_row};
+ghost use Rattle.command_line.specs.Roles.{option_of, spelled_role, opens, awaited, role_of, role_number, count_of, words_as, word_as};
 
 use crate::command::Names;
 use crate::option_table::{CommandKind, OptionKind, option_named};
 use dsy_base::name::Name;
 use std::alloc::{AllocError, Global};
-
-/// What may come next.
-#[derive(Clone, Copy, Debug, Drop)]
-pub enum Mood {
-    /// An option or an operand.
-    Free,
-    /// Operands alone, after `--`.
-    Ended,
-    /// The value of this option.
-    Wants(OptionKind),
-}
 
 /// What a word is.
 #[derive(Clone, Copy, Debug, Drop)]
@@ -51,8 +39,8 @@ impl Role {
             Role::Dashes => 0,
             Role::Unknown => 1,
             Role::Operand => 2,
-            Role::Given(option) => 3 + option.number(),
-            Role::Value(option) => 13 + option.number(),
+            Role::Given(option) => 3 + 2 * option.number(),
+            Role::Value(option) => 4 + 2 * option.number(),
         }
     }
 }
@@ -62,46 +50,60 @@ fn option_of(kind: CommandKind, word: &str) -> Option<OptionKind>
     ensures { result ≡ option_of kind word.now }
 {
     let option = option_named(word)?;
-    if kind.times(option).greatest > 0 {
+    if kind.times_of(option).greatest > 0 {
         Some(option)
     } else {
         None
     }
 }
 
-/// What the word is.
-pub fn role_of(kind: CommandKind, mood: Mood, word: &str) -> Role
-    ensures { result ≡ role_of kind mood word.now }
+// What the word is where it may be an option.
+fn spelled_role(kind: CommandKind, word: &str) -> Role
+    ensures { result ≡ spelled_role kind word.now }
 {
-    match mood {
-        Mood::Wants(option) => Role::Value(option),
-        Mood::Ended => Role::Operand,
-        Mood::Free => {
-            if word == "--" {
-                return Role::Dashes;
-            }
-            if !word.as_bytes().starts_with(b"-") {
-                return Role::Operand;
-            }
-            match option_of(kind, word) {
-                Some(option) => Role::Given(option),
-                None => Role::Unknown,
-            }
-        }
+    if word == "--" {
+        return Role::Dashes;
+    }
+    if !word.as_bytes().starts_with(b"-") {
+        return Role::Operand;
+    }
+    match option_of(kind, word) {
+        Some(option) => Role::Given(option),
+        None => Role::Unknown,
     }
 }
 
-/// What may come after a word of the role.
-pub fn mood_after(mood: Mood, role: Role) -> Mood
-    ensures { result ≡ mood_after mood role }
+// The option of the role, where its value is the next word.
+fn opens(role: Role) -> Option<OptionKind>
+    ensures { result ≡ opens role }
 {
     match role {
-        Role::Dashes => Mood::Ended,
-        Role::Unknown => Mood::Free,
-        Role::Operand => mood,
-        Role::Given(option) if option.row().takes_value => Mood::Wants(option),
-        Role::Given(_) | Role::Value(_) => Mood::Free,
+        Role::Given(option) if option.takes_value() => Some(option),
+        _ => None,
     }
+}
+
+/// The option whose value is to come after words of these roles.
+pub fn awaited(roles: &[Role]) -> Option<OptionKind>
+    ensures { result ≡ awaited roles.now }
+{
+    match roles.last() {
+        Some(role) => opens(*role),
+        None => None,
+    }
+}
+
+/// What the word is after words of these roles.
+pub fn role_of(kind: CommandKind, before: &[Role], word: &str) -> Role
+    ensures { result ≡ role_of kind before.now word.now }
+{
+    if let Some(option) = awaited(before) {
+        return Role::Value(option);
+    }
+    if count_of(Role::Dashes, before) > 0 {
+        return Role::Operand;
+    }
+    spelled_role(kind, word)
 }
 
 /// How many words have the role.
