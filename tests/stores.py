@@ -224,6 +224,11 @@ def figures(cases):
             ended = program.run(['info', *words, INDEX], folder)
             expect_equal((ended.status, ended.out.decode(), ended.err), (0, line, b''), '(status, output, errors)')
             expect_untouched(before, snapshot(folder))
+    for what, stores, line in (('a folder in a chunk\'s place', [RIGHT[:1], [(b'abc', b'abc'), (b'defgh', None)]], 'desync: store 1 failed\n'),
+                               ('the next store has it', [[(b'defgh', None)], RIGHT], '')):
+        with cases.case(f'info: {what}') as folder:
+            ended = program.run(['info', *lay_out(folder, stores), INDEX], folder)
+            expect_equal((ended.status, ended.err.decode()), (1 if line else 0, line), '(status, standard error)')
 
 
 def main():

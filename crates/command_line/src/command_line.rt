@@ -56,7 +56,7 @@ fn read_named(
 }
 
 /// The command that the words are.
-pub fn read_command_line(alloc: Global, words: &[String]) -> Result<Command, WordsFault>
+pub fn read_words(alloc: Global, words: &[String]) -> Result<Command, WordsFault>
     ensures exactly { Reads (map string_bytes words.now) result }
 {
     let Some((first, rest)) = words.split_first() else {

@@ -1,7 +1,7 @@
 //! Words that are refused, with their places, and words that are read.
 
 use crate::command::{Command, Location};
-use crate::command_line::read_command_line;
+use crate::command_line::read_words;
 use crate::usage::{UsageWhy, WordsFault};
 use std::alloc::{AllocError, Global};
 use std::process::Abort;
@@ -17,7 +17,7 @@ fn words_of(alloc: Global, words: &[&str]) -> Result<Vec<String>, AllocError> {
 
 fn read(alloc: Global, words: &[&str]) -> Result<Command, WordsFault> {
     match words_of(alloc, words) {
-        Ok(words) => read_command_line(alloc, &words),
+        Ok(words) => read_words(alloc, &words),
         Err(_) => Err(WordsFault::Memory),
     }
 }
@@ -110,7 +110,7 @@ fn many(alloc: Global, stores: usize, seeds: usize) -> Result<Vec<String>, Alloc
 
 fn read_many(alloc: Global, stores: usize, seeds: usize) -> Result<Command, WordsFault> {
     match many(alloc, stores, seeds) {
-        Ok(words) => read_command_line(alloc, &words),
+        Ok(words) => read_words(alloc, &words),
         Err(_) => Err(WordsFault::Memory),
     }
 }

@@ -9,17 +9,17 @@ use Rattle.chunk_store.specs.declared.id.ChunkId.{ChunkId}
 use Rattle.dsy_base.specs.Bytes.{resized}
 use Rattle.dsy_base.specs.Maps.{Map, at_name}
 use Rattle.dsy_base.specs.declared.fault.IoFault.TheVariants as io
-use Rattle.desync_cli.specs.Assemblies.{Assembles, HaltLacks, HaltVerdict, outcome_of, outcome_at, IsTargetFault, IsStoreFault}
-use Rattle.desync_cli.specs.Extracts.{IsListed, Given, old_of, base_of, Leaves, StopsIn, Ends, Exactly, IsOfExtract}
-use Rattle.desync_cli.specs.Lacks.{Lacks}
+use Rattle.assembler.specs.Assemblies.{Assembles, HaltLacks, HaltVerdict, IsTargetFault, IsStoreFault}
+use Rattle.desync_cli.specs.Extracts.{IsListed, Given, old_of, base_of, Leaves, StopsIn, Ends, Exactly, IsOfExtract, outcome_of, outcome_at}
+use Rattle.assembler.specs.Lacks.{Lacks}
 use Rattle.desync_cli.specs.Openings.{not_opened}
 use Rattle.desync_cli.specs.Loads.{LoadEnds}
-use Rattle.desync_cli.specs.Right.{StopsAt}
-use Rattle.desync_cli.specs.Walks.{kept_from, StopsFirst}
-use Rattle.desync_cli.specs.declared.assemble.Halt.{Halt}
-use Rattle.desync_cli.specs.declared.assemble.Halt.TheVariants as halt
-use Rattle.desync_cli.specs.declared.obtain.Why.{Why}
-use Rattle.desync_cli.specs.declared.obtain.Why.TheVariants as why
+use Rattle.assembler.specs.Stops.{StopsAt}
+use Rattle.assembler.specs.Walks.{kept_from, StopsFirst}
+use Rattle.assembler.specs.declared.assemble.Halt.{Halt}
+use Rattle.assembler.specs.declared.assemble.Halt.TheVariants as halt
+use Rattle.assembler.specs.declared.obtain.Why.{Why}
+use Rattle.assembler.specs.declared.obtain.Why.TheVariants as why
 use Rattle.command_outcome.specs.declared.outcome.Outcome.TheVariants as ends
 use Rattle.desync_cli.specs.declared.opening.FoldersFault.{FoldersFault}
 use Rattle.desync_cli.specs.declared.opening.FoldersFault.TheVariants as faults

@@ -6,7 +6,7 @@ use Rattle.chunk_store.specs.Names.{IsId}
 use Rattle.chunk_store.specs.Paths.{path_of}
 use Rattle.dsy_base.specs.Folders.{temporary_of}
 use Rattle.dsy_base.specs.Maps.{Map}
-use Rattle.desync_cli.specs.Keeps.{Stands}
+use Rattle.image_store.specs.Keeps.{Stands}
 use Rattle.desync_cli.specs.Made.{IsMade}
 use Rattle.desync_cli.specs.Makes.{MakeEnds}
 use Rattle.command_outcome.specs.declared.outcome.Outcome.{Outcome}

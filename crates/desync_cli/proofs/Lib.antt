@@ -1,12 +1,6 @@
-pub mod Writes
-pub mod Steps
-pub mod Walked
 pub mod Extracted
 pub mod Numbers
 pub mod Done
-pub mod Puts
-pub mod Kept
-pub mod Views
 pub mod Made
 pub mod IsMade
 pub mod Tasks
@@ -14,6 +8,5 @@ pub mod Quiets
 pub mod ReadOnly
 pub mod Counting
 pub mod Lent
-pub mod Obtained
 pub mod FolderNames
 pub mod Opened

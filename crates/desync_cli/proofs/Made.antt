@@ -1,26 +1,25 @@
 -- What storing an image into a folder that was taken makes of the outcome.
-use Rattle.std.proofs.Common.{◌≡◌, ℕ, List, true, false, Option, Some, None, IfSome, is_some, unwrap_or, refl, sym, ap, ◌∙◌, inl, inr, Result, Ok, Err}
+use Rattle.std.proofs.Common.{◌≡◌, ℕ, List, Bool, cond, true, false, Option, Some, None, IfSome, is_some, unwrap_or, refl, sym, ap, ◌∙◌, inl, inr, Result, Ok, Err}
+use Rattle.std.proofs.lemmas.Slice.Eq.{bytes_eq-Decides}
 use Rattle.std.specs.Option.{option_map}
+use Rattle.std.specs.Str.{bytes_eq}
 use Rattle.buzhash_cut.specs.Sizes.{Sizes}
 use Rattle.dsy_base.specs.Maps.{Map, at_name}
-use Rattle.desync_cli.specs.Makes.{sizes_of, PutsSome, StoresImage, Left, IsStoredAs, Stored, StoresIn, MakeEnds, IsWritten, outcome_of_fault}
+use Rattle.desync_cli.specs.Makes.{sizes_of, Left, IsStoredAs, Stored, StoresIn, MakeEnds, IsWritten, outcome_of_fault}
+use Rattle.image_store.specs.Storing.{PutsSome, StoresImage}
 use Rattle.command_outcome.specs.declared.outcome.Outcome.{Outcome}
 use Rattle.command_outcome.specs.declared.outcome.Outcome.TheVariants as ends
-use Rattle.desync_cli.specs.declared.put_chunks.MakeFault.{MakeFault}
-use Rattle.desync_cli.specs.declared.put_chunks.MakeFault.TheVariants as faults
+use Rattle.image_store.specs.declared.put_chunks.MakeFault.{MakeFault}
+use Rattle.image_store.specs.declared.put_chunks.MakeFault.TheVariants as faults
 use Rattle.desync_cli.specs.declared.task.Make.{Make}
 use Rattle.desync_cli.proofs.Extracted.{at_name_twice}
-use Rattle.desync_cli.proofs.Kept.{equal_or_not, same_name}
-use Rattle.desync_cli.proofs.Puts.{other_name}
 
 -- what is put back as it was
 put_back : {X : Type 0} (m : Map X) (name : List ℕ) (x : X) → m name ≡ Some x → at_name m name (Some x) ≡ m
-put_back {X} m name x there = λ i q. (here q) i where
-  here : (q : List ℕ) → at_name m name (Some x) q ≡ m q
-  here q = elim (equal_or_not name q) [
-    | inl same ↦ same_name m name q (Some x) same ∙ sym there ∙ ap m same
-    | inr other ↦ other_name m name q (Some x) other
-  ]
+put_back {X} m name x there = λ i q. (here q (bytes_eq name q) refl) i where
+  here : (q : List ℕ) (same : Bool) → bytes_eq name q ≡ same → cond same (Some x) (m q) ≡ m q
+  here q true is = sym there ∙ ap m ((bytes_eq-Decides name q).0 is)
+  here q false is = refl
 
 -- the answer of a command that stored an image so
 abbrev pub answer_of : {A : Type 0} → Result A MakeFault → Result A Outcome

@@ -1,5 +1,5 @@
 -- How `extract` may end. A name is its bytes; `files` and `folders` are what stands under the names before the call.
-use Rattle.std.specs.Prelude.{◌≡◌, ◌⊎◌, ℕ, ◌<◌, List, [], length, map, Some, None, Err, unwrap_or}
+use Rattle.std.specs.Prelude.{◌≡◌, ◌⊎◌, ℕ, ◌<◌, List, [], length, map, Some, None, Result, Ok, Err, unwrap_or}
 use Rattle.std.specs.List.{Contains}
 use Rattle.std.specs.Map.{count_at}
 use Rattle.caibx_codec.specs.Listing.{Listing, count_of, id_of, size_of, image_length}
@@ -11,15 +11,18 @@ use Rattle.chunk_store.specs.declared.id.ChunkId.{ChunkId}
 use Rattle.dsy_base.specs.Bytes.{resized}
 use Rattle.dsy_base.specs.Counts.{Rose}
 use Rattle.dsy_base.specs.Maps.{Map, at_name}
-use Rattle.desync_cli.specs.Lacks.{Lacks}
+use Rattle.assembler.specs.Lacks.{Lacks}
 use Rattle.desync_cli.specs.Openings.{IsFirstAbsent}
 use Rattle.caibx_codec.specs.Right.{IsRight}
-use Rattle.desync_cli.specs.Right.{StopsAt}
-use Rattle.desync_cli.specs.Walks.{kept_from, AllHad, StopsFirst}
-use Rattle.desync_cli.specs.declared.obtain.Why.{Why}
-use Rattle.desync_cli.specs.declared.obtain.Why.TheVariants as why
+use Rattle.assembler.specs.Stops.{StopsAt}
+use Rattle.assembler.specs.Walks.{kept_from, AllHad, StopsFirst}
+use Rattle.assembler.specs.declared.obtain.Why.{Why}
+use Rattle.assembler.specs.declared.obtain.Why.TheVariants as why
 use Rattle.command_outcome.specs.declared.outcome.Outcome.{Outcome}
 use Rattle.command_outcome.specs.declared.outcome.Outcome.TheVariants as ends
+use Rattle.assembler.specs.declared.assemble.Halt.{Halt}
+use Rattle.assembler.specs.declared.assemble.Halt.TheVariants as halt
+use Rattle.dsy_base.specs.declared.fault.IoFault.TheVariants as io
 use Rattle.desync_cli.specs.declared.task.Extract.{Extract}
 
 -- INDEX is there and is the index file of this index
@@ -134,3 +137,17 @@ pub record IsExtracted (before after : Map (List ℕ)) (x : Extract) : Type 0 wh
   pub image : List ℕ
   pub holds : after x.target ≡ Some image
   pub right : IsRight image listing
+
+-- the outcome of an assembly
+abbrev pub outcome_at : ℕ → ChunkId → Why → Outcome
+outcome_at k id why.Missing = ends.Missing k id
+outcome_at k id (why.Damaged store shows) = ends.Damaged k id store shows
+outcome_at k id (why.StoreFault store) = ends.StoreFault store
+outcome_at k id why.TargetFault = ends.TargetFault
+outcome_at k id why.Memory = ends.Memory
+
+abbrev pub outcome_of : Result Unit Halt → Outcome
+outcome_of (Ok r) = ends.Done
+outcome_of (Err (halt.Length io.Failed)) = ends.TargetFault
+outcome_of (Err (halt.Length io.Memory)) = ends.Memory
+outcome_of (Err (halt.Entry s)) = outcome_at s.entry s.id s.why

@@ -1,12 +1,7 @@
-pub mod Right
 pub mod Openings
-pub mod Lacks
-pub mod Walks
 pub mod Tasks
-pub mod Assemblies
 pub mod Extracts
 pub mod Loads
-pub mod Keeps
 pub mod Makes
 pub mod Reads
 pub mod Infos

@@ -6,7 +6,7 @@ use Rattle.caibx_codec.specs.Spelling.{file_of}
 use Rattle.chunk_store.specs.Folders.{chunks}
 use Rattle.chunk_store.specs.Names.{IsId}
 use Rattle.dsy_base.specs.Maps.{Map}
-use Rattle.desync_cli.specs.Keeps.{HoldsAll}
+use Rattle.image_store.specs.Keeps.{HoldsAll}
 use Rattle.desync_cli.specs.Makes.{sizes_of}
 use Rattle.desync_cli.specs.declared.task.Make.{Make}
 

@@ -4,21 +4,21 @@ ghost use Rattle.std.specs.Prelude.{◌≡◌, ℕ, List, ◌<◌, ◌≤◌, ma
 ghost use Rattle.std.specs.Map.{count_at};
 ghost use Rattle.caibx_codec.specs.Listing.{count_of, size_of, image_length};
 ghost use Rattle.chunk_store.specs.Folders.{chunks};
-ghost use Rattle.desync_cli.specs.Assemblies.{Assembles, HaltLacks, HaltVerdict, IsTargetFault, IsStoreFault, outcome_of};
-ghost use Rattle.desync_cli.specs.Extracts.{Ends, Exactly, IsFileFault, IsOfExtract};
+ghost use Rattle.assembler.specs.Assemblies.{Assembles, HaltLacks, HaltVerdict, IsTargetFault, IsStoreFault};
+ghost use Rattle.desync_cli.specs.Extracts.{Ends, Exactly, IsFileFault, IsOfExtract, outcome_of};
 ghost use Rattle.desync_cli.specs.Openings.{IsNumbered, name_at, not_opened, not_taken};
 ghost use Rattle.dsy_base.specs.Bytes.{resized};
 ghost use Rattle.dsy_base.specs.Counts.{Rose, Counted, Quiet, AllQuiet};
 ghost use Rattle.dsy_base.specs.Maps.{Map};
 ghost use Rattle.store_chain.specs.Faults.{EachQuiet};
 
-use crate::assemble::{Halt, assemble};
 use crate::folders::Folders;
 use crate::load::{load, not_loaded};
-use crate::obtain::Why;
 use crate::opening::{FoldersFault, end_all, open_all};
 use crate::task::Extract;
-use crate::walk::Stop;
+use assembler::assemble::{Halt, assemble};
+use assembler::obtain::Why;
+use assembler::walk::Stop;
 use caibx_codec::index::Index;
 use command_outcome::outcome::Outcome;
 use dir_store::store::DirStore;

@@ -5,8 +5,6 @@ ghost use Rattle.std.specs.Map.{count_at};
 ghost use Rattle.desync_cli.specs.Makes.{StoresIn, Stored, MakeEnds, IsOfMake, IsOfStored, sizes_of, IsImageFault, IsFolderFault, IsMakeFileFault, IsStoreFaultOf, IsNameFault, no_folder, outcome_of_fault, IsWritten};
 ghost use Rattle.dsy_base.specs.Counts.{Rose};
 
-use crate::put_chunks::MakeFault;
-use crate::store_image::store_image;
 use crate::task::Make;
 use buzhash_cut::sizes::CutSizes;
 use command_outcome::outcome::Outcome;
@@ -16,6 +14,8 @@ use dsy_base::folder::Folder;
 use dsy_base::look::Look;
 use dsy_base::name::Name;
 use dsy_base::view::View;
+use image_store::put_chunks::MakeFault;
+use image_store::store_image::store_image;
 use std::alloc::Global;
 
 // The outcome where the folder wasn't taken.

@@ -1,18 +1,12 @@
 //! Making over files in memory: the index file, byte by byte, and what the store holds.
 
 use crate::cases::{ABC_INDEX, EMPTY_INDEX, ends, store_of};
-use crate::put_chunks::MakeFault;
-use crate::store_image::store_image;
-use buzhash_cut::sizes::CutSizes;
 use chunk_store::id::{ChunkId, DigestKind};
-use dsy_base::fault::{Failed, raise};
 use dsy_base::files::Files;
 use dsy_base::look::Look;
 use dsy_base::mem_files::MemFiles;
 use dsy_base::mem_folder::MemFolder;
-use dsy_base::name::Name;
 use dsy_base::ranges::RangeFails;
-use dsy_base::view::View;
 use std::alloc::Global;
 use std::process::Abort;
 use std::test::Fail;
@@ -135,80 +129,5 @@ fn what_was_made_is_extracted_again(rt: HostRuntime) -> Result<(), Fail> {
     ends(&rt, alloc, MAKE, &mut files, "", "")?;
     ends(&rt, alloc, "extract -k -s st i o", &mut files, "", "")?;
     assert_eq!(rt; files.file("o"), Some(image.as_slice()));
-    Ok(())
-}
-
-// A view whose bytes are others, or can't be read, after its first reading.
-#[derive(Drop)]
-struct ChangingView {
-    now: Vec<u8>,
-    then: Option<Vec<u8>>,
-    faults: u64,
-    name: Name,
-}
-
-impl View for ChangingView {
-    ghost use Rattle.std.specs.Prelude.{None, false, refl, vec_len};
-    ghost use Rattle.std.proofs.Common.{rules};
-
-    ghost held = { λ v. record { bytes = None; size = 3; name = v.name } };
-
-    ghost faults = { λ v. v.faults };
-
-    ghost tells = { false };
-
-    ghost never_fails = { false };
-
-    fn size(&self) -> u64 {
-        3
-    }
-
-    fn read_at(&mut self, at: u64, out: &mut [u8]) -> Result<(), Failed> {
-        let start = at as usize;
-        let end = start.saturating_add(out.len());
-        if self.now.len() < end {
-            self.faults = raise(self.faults, 1);
-            return Err(Failed);
-        }
-        out.copy_from_slice(&self.now[start..end]);
-        if let Some(then) = self.then.take() {
-            self.now = then;
-        }
-        Ok(())
-    }
-
-    ghost told = { λ _. refl };
-
-    ghost sized = { λ _. tt };
-
-    ghost sure = { Prim.search rules };
-}
-
-// Stores "abc" where the second reading gives other bytes or none.
-fn stored_twice(alloc: Global, then: &[u8]) -> Result<Result<(), MakeFault>, Fail> {
-    let view = ChangingView {
-        now: Vec::from_slice(alloc, b"abc")?,
-        then: Some(Vec::from_slice(alloc, then)?),
-        faults: 0,
-        name: Name::empty(alloc),
-    };
-    let folder = MemFolder::new(alloc, Vec::new(alloc));
-    let sizes = CutSizes::new(48, 48, 48).ok().ok_or("no sizes")?;
-    let (_view, mut folder, stored) = store_image(alloc, &sizes, view, folder);
-    if folder.names().ok().ok_or("no names")?.len() > 0 {
-        return Err(Fail::from("something was stored"));
-    }
-    Ok(stored.map(|_| ()))
-}
-
-#[test]
-fn an_image_that_changes_is_told_and_not_stored(rt: HostRuntime) -> Result<(), Fail> {
-    let changed = MakeFault::Changed {
-        entry: 0,
-        was: ChunkId::of(DigestKind::Sha512T256, b"abc"),
-        got: ChunkId::of(DigestKind::Sha512T256, b"abX"),
-    };
-    assert_eq!(rt; stored_twice(rt.alloc(), b"abX")?, Err(changed));
-    assert_eq!(rt; stored_twice(rt.alloc(), b"")?, Err(MakeFault::ImageFault));
     Ok(())
 }

@@ -17,7 +17,7 @@ use crate::print::{help, list_chunks};
 use crate::task::{Task, built};
 use crate::verify::verify;
 use chunk_store::laws::{path_names_one_id, temporary_is_no_path};
-use command_line::command_line::read_command_line;
+use command_line::command_line::read_words;
 use command_line::usage::{UsageWhy, WordsFault};
 use command_outcome::error_line::put_error_line;
 use command_outcome::outcome::{Ended, Outcome};
@@ -68,7 +68,7 @@ fn run<F: Files, O: Sink>(alloc: Global, words: &[String], files: &mut F, out: &
         TaskCauses task (F.file_counts files.old) (F.file_counts files.new) (F.folder_counts files.old)
         (F.folder_counts files.new) (O.faults out.old) (O.faults out.new) result) }
 {
-    let command = match read_command_line(alloc, words) {
+    let command = match read_words(alloc, words) {
         Ok(command) => command,
         Err(WordsFault::Usage { place, why }) => return Outcome::Usage { place, why },
         Err(WordsFault::Memory) => return Outcome::Memory,

@@ -63,10 +63,11 @@ fn read_whole<R: Files<File = File>>(rt: &R, path: &str, out: &mut [u8]) -> Resu
     }
 }
 
-// Whether the path is that of a file.
+// Whether a file is there. What else stands there can't be read as one, so that is a fault.
 fn is_file<R: Files<File = File>>(rt: &R, path: &str) -> Result<bool, IoFault> {
     match fs::metadata(rt, path) {
-        Ok(metadata) => Ok(metadata.is_file()),
+        Ok(metadata) if metadata.is_file() => Ok(true),
+        Ok(_) => Err(IoFault::Failed),
         Err(error) if is_absence(&error) => Ok(false),
         Err(_) => Err(IoFault::Failed),
     }

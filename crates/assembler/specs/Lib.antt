@@ -1,0 +1,4 @@
+pub mod Lacks
+pub mod Stops
+pub mod Walks
+pub mod Assemblies

@@ -1,0 +1,8 @@
+//! Storing an image: its index, and each of its chunks in a folder store.
+#![tactic(auto)]
+
+pub mod put_chunks;
+mod spell;
+pub mod store_image;
+#[cfg(test)]
+mod tests;
