@@ -1,5 +1,5 @@
 -- How the words of a command are judged. The words are those after the command; places count the command too.
-use Rattle.std.specs.Prelude.{◌≡◌, ℕ, ◌+◌, ◌==◌, ◌||◌, Bool, not, List, [], length, find, take, slice_index_or, Option, Some, None, is_some, option_map, Result, Ok, Err, if◌then◌else◌, nat_lt}
+use Rattle.std.specs.Prelude.{◌≡◌, ℕ, ◌+◌, ◌==◌, ◌||◌, Bool, false, not, List, [], length, find, take, slice_index_or, Option, Some, None, is_some, option_map, Result, Ok, Err, if◌then◌else◌, nat_lt}
 use Rattle.std.specs.List.{range_with_len}
 use Rattle.command_line.specs.declared.command.Location.{Location}
 use Rattle.command_line.specs.declared.command.Location.TheVariants as location
@@ -64,7 +64,7 @@ number_refusal most w = name_refusal (is_empty w) (is_some (number_of 0 most w))
 abbrev pub demo_operand_refusal : ℕ → List ℕ → Option Refusal
 demo_operand_refusal n w =
     if n == 0 then number_refusal 18446744073709551615 w
-    else (if n == 1 then number_refusal 536870912 w else Some (refusal.Why why.Operands))
+    else (if n == 1 then number_refusal 536870912 w else name_refusal (is_empty w) false why.Operands)
 
 abbrev pub operand_refusal : CommandKind → ℕ → List ℕ → Option Refusal
 operand_refusal k n w = if (takes_of k).takes_numbers then demo_operand_refusal n w else name_operand_refusal k n w

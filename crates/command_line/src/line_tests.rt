@@ -28,7 +28,7 @@ type Refused<'a> = (&'a [&'a str], u64, UsageWhy);
 #[test]
 #[rattlefmt::skip]
 fn words_are_refused_at_their_places(rt: HostRuntime) -> Result<(), Fail> {
-    let cases: [Refused; 52] = [
+    let cases: [Refused; 53] = [
         (&[], 0, UsageWhy::NoCommand),
         (&["frob"], 0, UsageWhy::UnknownCommand),
         (&["--help", "x"], 0, UsageWhy::UnknownCommand),
@@ -78,7 +78,8 @@ fn words_are_refused_at_their_places(rt: HostRuntime) -> Result<(), Fail> {
         (&["demo", "1", "536870913"], 2, UsageWhy::BadNumber),
         (&["demo", "18446744073709551616", "1"], 1, UsageWhy::BadNumber),
         (&["demo", "", "1"], 1, UsageWhy::Empty),
-        (&["demo", "1", "1", ""], 3, UsageWhy::Operands),
+        (&["demo", "1", "1", ""], 3, UsageWhy::Empty),
+        (&["demo", "1", "1", "1"], 3, UsageWhy::Operands),
         (&["info", "--", "-s", "x"], 3, UsageWhy::Operands),
         (&["info"], 1, UsageWhy::Operands),
     ];

@@ -1,0 +1,258 @@
+#!/usr/bin/env python3
+"""The words of the command line, compared with a second reading of docs/FORMATS.md.
+
+The tables of options and commands stand here once more, by the document and not by the program. Words are laid out from
+them: each option once too often, each spelling, and random words. The program runs in an empty folder, so words that
+are taken end with a name that isn't there, or as not built, and nothing is ever written.
+"""
+
+import os
+import random
+import re
+import sys
+from collections import Counter
+
+import program
+from checks import Cases, expect, expect_equal, needs_program
+
+# An option's two spellings and what its value is, where it has one.
+OPTIONS = [('store', ['-s', '--store'], 'location'), ('sizes', ['-m', '--chunk-size'], 'sizes'),
+           ('workers', ['-n', '--concurrency'], 'workers'), ('cache', ['-c', '--cache'], 'folder'),
+           ('in place', ['-k', '--in-place'], None), ('seed', ['--seed'], 'seed'),
+           ('repair', ['-r', '--repair'], None), ('yes', ['-y', '--yes'], None),
+           ('listen', ['-l', '--listen'], 'address'), ('writable', ['-w', '--writeable'], None)]
+NAMED = {spelling: option for option, spellings, _ in OPTIONS for spelling in spellings}
+SPELLED = {option: spellings for option, spellings, _ in OPTIONS}
+VALUES = {option: value for option, _, value in OPTIONS if value}
+
+# A command's options with the least and the greatest number of times, and its operands alike.
+N = {'workers': (0, 1)}
+COMMANDS = {
+    'make': ({'store': (1, 1), 'sizes': (0, 1), **N}, (2, 2)),
+    'extract': ({'store': (1, 16), 'seed': (0, 64), 'cache': (0, 1), 'in place': (0, 1), **N}, (2, 2)),
+    'verify-index': (N, (2, 2)),
+    'chop': ({'store': (1, 1), **N}, (2, 2)),
+    'cache': ({'store': (1, 16), 'cache': (1, 1), **N}, (1, 64)),
+    'list-chunks': ({}, (1, 1)),
+    'info': ({'store': (0, 16)}, (1, 1)),
+    'verify': ({'store': (1, 1), 'repair': (0, 1), **N}, (0, 0)),
+    'prune': ({'store': (1, 1), 'yes': (1, 1)}, (1, 64)),
+    'chunk-server': ({'store': (1, 1), 'listen': (1, 1), 'writable': (0, 1), **N}, (0, 0)),
+    'demo': (N, (2, 2)),
+}
+FOLDERS_ALONE = ('verify', 'prune', 'chunk-server')
+
+# Locations, and what each is.
+LOCATIONS = {'st': 'folder', 'a b': 'folder', '-s': 'folder', '--': 'folder', 'http:/h': 'folder', ':': 'folder',
+             'http://localhost': 'url', 'http://localhost:8080/a/b/': 'url', 'http://127.0.0.1/': 'url',
+             'https://h/': 'bad', 'ftp://h/': 'bad', 'http://u@h/': 'bad', 'http://u:p@h/': 'bad', 'http://h/?q': 'bad',
+             'http://h/#f': 'bad', 'http://h:x/': 'bad', 'http://': 'bad', '://': 'bad', 'a|b': 'bad',
+             'http://h/|': 'bad'}
+
+
+# The second reading
+
+def number(word, least, most):
+    return re.fullmatch('0|[1-9][0-9]*', word) is not None and least <= int(word) <= most
+
+
+def location(word):
+    """What a location is: one of the list, or a word that isn't read as a URL."""
+    if word not in LOCATIONS:
+        expect('://' not in word, f'{word} isn\'t on the list')
+        return 'bad' if '|' in word else 'folder'
+    return LOCATIONS[word]
+
+
+def why_not_value(command, option, word):
+    """Why the word can't be the option's value, by the first reason of the table."""
+    kind = VALUES[option]
+    if kind in ('location', 'folder', 'seed') and word == '':
+        return 'Empty'
+    if kind == 'location':
+        what = location(word)
+        return {'bad': 'BadLocation', 'url': 'NeedsFolder' if command in FOLDERS_ALONE else None, 'folder': None}[what]
+    if kind == 'workers':
+        return None if number(word, 1, 32) else 'BadNumber'
+    if kind == 'sizes':
+        parts = word.split(':')
+        return None if len(parts) == 3 and all(number(part, 0, 9_999_999) for part in parts) else 'BadSizes'
+    if kind == 'seed':
+        return None if word.endswith('.caibx') and word != '.caibx' else 'BadSeed'
+    if kind == 'address':
+        host, colon, port = word.rpartition(':')
+        return None if colon and number(port, 1, 65535) else 'BadListen'
+    return None
+
+
+def why_not_operand(command, before, most, word):
+    if word == '':
+        return 'Empty'
+    if before == most:
+        return 'Operands'
+    if command == 'demo' and not number(word, 0, ((1 << 64) - 1, 1 << 29)[before]):
+        return 'BadNumber'
+    return None
+
+
+def fault_of(words):
+    """The place of the first word that isn't taken and why, or None."""
+    if not words:
+        return 0, 'NoCommand'
+    if words in (['--help'], ['--version']):
+        return None
+    command = words[0]
+    if command not in COMMANDS:
+        return 0, 'UnknownCommand'
+    if words[1:] == ['--help']:
+        return None
+    takes, (least, most) = COMMANDS[command]
+    given, operands, ended = Counter(), 0, False
+    rest = iter(enumerate(words[1:], 1))
+    for place, word in rest:
+        if not ended and word == '--':
+            ended = True
+        elif not ended and word.startswith('-'):
+            option = NAMED.get(word)
+            if option not in takes:
+                return place, 'UnknownOption'
+            given[option] += 1
+            if takes[option][1] < given[option]:
+                return place, 'TooMany'
+            if option in VALUES:
+                place, value = next(rest, (None, None))
+                if place is None:
+                    return len(words), 'NoValue'
+                why = why_not_value(command, option, value)
+                if why:
+                    return place, why
+        else:
+            why = why_not_operand(command, operands, most, word)
+            if why:
+                return place, why
+            operands += 1
+    for missing, why in ((('store', 'cache', 'listen'), 'MissingOption'), (('yes',), 'NeedsYes')):
+        if any(given[option] < takes.get(option, (0, 0))[0] for option in missing):
+            return len(words), why
+    return (len(words), 'Operands') if operands < least else None
+
+
+# Cases
+
+def agrees(words, folder):
+    """Runs the words, and compares the line with the second reading; says what that was."""
+    fault = fault_of(words)
+    ended = program.run(words, folder)
+    if fault:
+        place, why = fault
+        expect_equal((ended.status, ended.err, ended.out), (1, f'desync: word {place}: {why}\n'.encode(), b''),
+                     f'(status, standard error, standard output) of {words}')
+        return why
+    expect(ended.status in (0, 1) and (ended.err == b'desync: word 0: NotYet\n' or not ended.err.startswith(b'desync: word ')),
+           f'{words} end with status {ended.status} and {ended.err!r}')
+    expect_equal(os.listdir(folder), [], f'the folder after {words}')
+    return 'taken'
+
+
+GOOD = {'location': 'st', 'sizes': '16:64:256', 'workers': '4', 'folder': 'near', 'seed': 'old.caibx',
+        'address': 'localhost:8080'}
+
+
+def fewest(command, but=()):
+    """The fewest words of a command that are taken, but for some of its options; its operands come last."""
+    takes, (least, _) = COMMANDS[command]
+    words = [command]
+    for option, (times, _) in takes.items():
+        if option not in but:
+            words += times * ([SPELLED[option][0]] + ([GOOD[VALUES[option]]] if option in VALUES else []))
+    return words, least * ['7']
+
+
+def tables(cases):
+    """Each command with each option: in each spelling, as often as it may stand, and once more."""
+    for command, (takes, (least, most)) in COMMANDS.items():
+        with cases.case(f'{command}: how often its options and operands may stand') as folder:
+            whole = fewest(command)
+            expect_equal(agrees(whole[0] + whole[1], folder), 'taken', 'the fewest words')
+            for option, spellings in SPELLED.items():
+                value = [GOOD[VALUES[option]]] if option in VALUES else []
+                front, operands = fewest(command, but=[option])
+                least_times, times = takes.get(option, (0, 0))
+                for spelling in spellings:
+                    words = front + times * [spelling, *value] + operands
+                    expect_equal(agrees(words, folder), 'taken', f'{times} times {spelling}')
+                    wanted = 'TooMany' if times else 'UnknownOption'
+                    expect_equal(agrees(front + (times + 1) * [spelling, *value] + operands, folder), wanted, spelling)
+                if least_times:
+                    agrees(front + operands, folder)
+            expect_equal(agrees(whole[0] + most * ['7'], folder), 'taken', 'the most operands')
+            expect_equal(agrees(whole[0] + (most + 1) * ['7'], folder), 'Operands', 'an operand too many')
+            if least:
+                expect_equal(agrees(whole[0] + (least - 1) * ['7'], folder), 'Operands', 'an operand too few')
+
+
+def random_value(chance, option):
+    kind = VALUES[option]
+    if kind == 'location':
+        return chance.choice([*LOCATIONS, ''])
+    if kind == 'sizes':
+        part = ['0', '1', '16', '64', '256', '9999999', '10000000', '01', '', '-1', ' 1', 'x']
+        return ':'.join(chance.choice(part[:6] if chance.random() < .7 else part) for _ in range(chance.choice([3] * 8 + [1, 2, 4])))
+    if kind == 'workers':
+        return chance.choice(['1', '32', '10', '0', '33', '01', '', '+1', '4294967297', 'x', '1 ', '--', '٣'])
+    if kind == 'seed':
+        return chance.choice(['a.caibx', 'x/y.caibx', '-.caibx', '.caibx', '', 'a.caibx ', 'a.CAIBX', 'a'])
+    if kind == 'address':
+        return chance.choice(['h:1', ':65535', '::1:80', 'h:0', 'h:65536', 'h', '', ':', 'h:080', 'h:1x', '-l:5'])
+    return chance.choice(['near', '', '--', '-c', '/a'])
+
+
+def random_words(chance):
+    """Words of a random command, most of which it takes, in a random order."""
+    command = chance.choice(list(COMMANDS))
+    takes, (least, most) = COMMANDS[command]
+    parts = []
+    for option, (fewest_times, times) in takes.items():
+        for _ in range(chance.choice([fewest_times] * 4 + [min(times, 2)] * 2 + [0, min(times, 16), times + 1])):
+            good = chance.random() < .8
+            value = ([GOOD[VALUES[option]] if good else random_value(chance, option)] if option in VALUES else [])
+            parts.append([chance.choice(SPELLED[option]), *value])
+    for _ in range(chance.choice([least] * 6 + [min(most, 3), 0, least + 1])):
+        parts.append([chance.choice(['7', '0', 'a', 'a.caibx', '18446744073709551615', '536870912'] if chance.random() < .9
+                                    else ['', '07', '18446744073709551616', '536870913', '٣'])])
+    if chance.random() < .15:
+        parts.append([chance.choice(list(NAMED))])
+    if chance.random() < .1:
+        parts.append([chance.choice(['-', '--help', '-x', '--stor', '-S', '--store=st', '-sst', '--', 'é'])])
+    chance.shuffle(parts)
+    if chance.random() < .15:
+        parts.insert(chance.randint(0, len(parts)), ['--'])
+    words = [command] + [word for part in parts for word in part]
+    if chance.random() < .05:
+        del words[chance.randrange(len(words))]
+    return words
+
+
+def at_random(cases):
+    told = Counter()
+    for round_number in range(20):
+        with cases.case(f'random words, round {round_number}') as folder:
+            chance = random.Random(f'words {round_number}')
+            for _ in range(100):
+                told[agrees(random_words(chance), folder)] += 1
+    with cases.case('the random words had each fault, and some were taken'):
+        for why in ('taken', 'UnknownOption', 'TooMany', 'NoValue', 'Empty', 'BadNumber', 'BadSizes', 'BadLocation',
+                    'NeedsFolder', 'BadSeed', 'BadListen', 'MissingOption', 'NeedsYes', 'Operands'):
+            expect(told[why] > 4, f'{why} came {told[why]} times')
+
+
+def main():
+    needs_program('words')
+    cases = Cases('words')
+    for group in (tables, at_random):
+        group(cases)
+    return cases.end()
+
+
+if __name__ == '__main__':
+    sys.exit(main())
