@@ -1,7 +1,7 @@
 //! The adapters over real files, in a folder of their own under the system's temporary folder.
 
 use crate::real_files::RealFiles;
-use dsy_base::fault::OpenFault;
+use dsy_base::fault::{IoFault, OpenFault};
 use dsy_base::files::Files;
 use dsy_base::folder::Folder;
 use dsy_base::look::Look;
@@ -61,7 +61,10 @@ fn a_folder_holds_what_was_put(rt: HostRuntime) -> Result<(), Fail> {
     let mut bytes = [0; 4];
     assert_eq!(rt; folder.read("ab/cd", &mut bytes), Ok(3));
     assert_eq!(rt; bytes, *b"two\0");
-    assert_eq!(rt; folder.has("ab"), Ok(false));
+    assert_eq!(rt; folder.has("ab/cd"), Ok(true));
+    assert_eq!(rt; folder.has("ab/ce"), Ok(false));
+    // A folder stands there, which can't be read as a file.
+    assert_eq!(rt; folder.has("ab"), Err(IoFault::Failed));
     let names = folder.names().ok().ok_or("no names")?;
     assert_eq!(rt; names.len(), 1);
     assert_eq!(rt; folder.remove("ab/cd"), Ok(true));
