@@ -230,6 +230,8 @@ def random_words(chance):
     words = [command] + [word for part in parts for word in part]
     if chance.random() < .05:
         del words[chance.randrange(len(words))]
+    if chance.random() < .1:
+        words.append(chance.choice(SPELLED[chance.choice(list(VALUES))]))
     return words
 
 
