@@ -7,8 +7,8 @@ use crate::reader::IndexReader;
 use crate::reading::{ReadFault, ViewFault, read_index};
 use crate::writing::write_index;
 use chunk_store::id::{ChunkId, DigestKind};
-use dsy_base::mem_sink::MemSink;
-use dsy_base::mem_view::MemView;
+use dsy_forms::mem_sink::MemSink;
+use dsy_forms::mem_view::MemView;
 use std::alloc::{AllocError, Global};
 use std::test::Fail;
 

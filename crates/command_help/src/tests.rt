@@ -2,7 +2,7 @@
 
 use crate::help::{Topic, put_help};
 use command_line::option_table::CommandKind;
-use dsy_base::mem_sink::MemSink;
+use dsy_forms::mem_sink::MemSink;
 use std::alloc::Global;
 use std::process::Abort;
 use std::test::Fail;

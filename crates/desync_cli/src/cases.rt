@@ -3,9 +3,9 @@
 use crate::in_memory::desync_in_memory;
 use chunk_store::id::{ChunkId, DigestKind};
 use dsy_base::folder::Folder;
-use dsy_base::mem_files::MemFiles;
-use dsy_base::mem_folder::MemFolder;
-use dsy_base::mem_sink::MemSink;
+use dsy_forms::mem_files::MemFiles;
+use dsy_forms::mem_folder::MemFolder;
+use dsy_forms::mem_sink::MemSink;
 use std::alloc::{AllocError, Global};
 use std::process::Abort;
 use std::test::Fail;

@@ -6,12 +6,12 @@ ghost use Rattle.desync_cli.specs.Extracts.{IsExtracted};
 ghost use Rattle.desync_cli.specs.Made.{IsMade};
 ghost use Rattle.desync_cli.specs.Tasks.{extract_of, make_of, task_of};
 ghost use Rattle.dsy_base.specs.Counts.{AllQuiet};
-ghost use Rattle.dsy_base.specs.MemFiles.{files_of, folders_of, file_counts_of, folder_counts_of};
+ghost use Rattle.dsy_forms.specs.MemFiles.{files_of, folders_of, file_counts_of, folder_counts_of};
 
 use crate::run::desync;
 use command_outcome::outcome::{Ended, Outcome};
-use dsy_base::mem_files::MemFiles;
-use dsy_base::mem_sink::MemSink;
+use dsy_forms::mem_files::MemFiles;
+use dsy_forms::mem_sink::MemSink;
 use std::alloc::Global;
 
 /// Does what the words say. Here each clause of `desync` speaks of what stands under the names, with nothing left open.

@@ -1,8 +1,8 @@
 //! Extraction over files in memory: the outcome, and each byte of OUT.
 
 use crate::cases::{ends, index_of, store_of};
-use dsy_base::mem_files::MemFiles;
-use dsy_base::ranges::RangeFails;
+use dsy_forms::mem_files::MemFiles;
+use dsy_forms::ranges::RangeFails;
 use std::alloc::Global;
 use std::process::Abort;
 use std::test::Fail;

@@ -4,7 +4,4 @@ pub mod Maps
 pub mod Files
 pub mod Folders
 pub mod Faults
-pub mod Ranges
-pub mod Trees
 pub mod Slots
-pub mod MemFiles

@@ -3,8 +3,8 @@
 ghost use Rattle.std.specs.Prelude.{◌≡◌, []};
 
 use crate::calls::{Calls, Fails};
-use crate::fault::{IoFault, raise};
-use crate::sink::Sink;
+use dsy_base::fault::{IoFault, raise};
+use dsy_base::sink::Sink;
 use std::alloc::Global;
 
 /// A sink in memory. A put that fails appends nothing.

@@ -6,14 +6,14 @@ ghost use Rattle.std.specs.List.{filter};
 ghost use Rattle.std.specs.String.{string_cmp};
 ghost use Rattle.dsy_base.specs.Counts.{Rose};
 ghost use Rattle.dsy_base.specs.Maps.{IsNamesOf, ReadGives, at_name, is_listed};
-ghost use Rattle.dsy_base.specs.Trees.{map_of};
+ghost use Rattle.dsy_forms.specs.Trees.{map_of};
 
 use crate::calls::{Calls, Fails};
-use crate::fault::{FileFault, IoFault, raise};
-use crate::folder::Folder;
-use crate::look::Look;
-use crate::name::Name;
-use crate::temporary::temporary_name;
+use dsy_base::fault::{FileFault, IoFault, raise};
+use dsy_base::folder::Folder;
+use dsy_base::look::Look;
+use dsy_base::name::Name;
+use dsy_base::temporary::temporary_name;
 use std::alloc::{AllocError, Global};
 use std::collections::BTreeMap;
 
@@ -123,7 +123,7 @@ impl MemLook {
 impl Look for MemFolder {
     ghost use Rattle.std.specs.Prelude.{Some, true, false, refl};
     ghost use Rattle.std.proofs.Common.{rules};
-    ghost use Rattle.dsy_base.specs.Trees.{map_of};
+    ghost use Rattle.dsy_forms.specs.Trees.{map_of};
 
     ghost files = { λ l. Some (map_of l.files) };
 
@@ -194,7 +194,7 @@ impl Folder for MemFolder {
 impl Look for MemLook {
     ghost use Rattle.std.specs.Prelude.{Some, true, false, refl};
     ghost use Rattle.std.proofs.Common.{rules};
-    ghost use Rattle.dsy_base.specs.Trees.{map_of};
+    ghost use Rattle.dsy_forms.specs.Trees.{map_of};
 
     ghost files = { λ l. Some (map_of l.folder.files) };
 

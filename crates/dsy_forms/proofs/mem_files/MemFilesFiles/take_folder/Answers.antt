@@ -1,8 +1,8 @@
 use Rattle.std.proofs.Common.{ap, arith}
 use Rattle.std.proofs.lemmas.Grind.{common_steps}
 use Rattle.std.specs.Option.{option_map}
-use Rattle.dsy_base.specs.Trees.{map_of}
-use Rattle.dsy_base.proofs.mem_files.MemFilesFiles.take_folder.Goals as goal
+use Rattle.dsy_forms.specs.Trees.{map_of}
+use Rattle.dsy_forms.proofs.mem_files.MemFilesFiles.take_folder.Goals as goal
 
 -- the folder stood in the slot before the call, too
 pub returns-in-Some-clause-found : goal.returns-in-Some-clause-found

@@ -3,10 +3,10 @@
 ghost use Rattle.std.specs.Prelude.{◌≡◌, ◌+◌, ◌≤◌, [], length, OnOk, OnErr};
 ghost use Rattle.dsy_base.specs.Bytes.{written, resized};
 
-use crate::fault::{Failed, IoFault, raise};
-use crate::name::Name;
 use crate::ranges::{RangeFails, next_fails};
-use crate::view::{Part, Target, View};
+use dsy_base::fault::{Failed, IoFault, raise};
+use dsy_base::name::Name;
+use dsy_base::view::{Part, Target, View};
 use std::alloc::{AllocError, Global};
 
 /// A file in memory at rest, and the calls on it that are to fail.

@@ -3,10 +3,10 @@
 ghost use Rattle.std.specs.Prelude.{◌≡◌, []};
 
 use crate::calls::{Calls, Fails};
-use crate::fault::{Failed, raise};
-use crate::name::Name;
 use crate::ranges::next_fails;
-use crate::view::View;
+use dsy_base::fault::{Failed, raise};
+use dsy_base::name::Name;
+use dsy_base::view::View;
 use std::alloc::Global;
 
 /// Bytes in memory that can only be read. Reads fail by their number, and those of a file's view by their range.

@@ -7,19 +7,19 @@ ghost use Rattle.std.specs.Option.{option_map};
 ghost use Rattle.dsy_base.specs.Counts.{Rose, Counted, GivenBack};
 ghost use Rattle.dsy_base.specs.Files.{OpenGives};
 ghost use Rattle.dsy_base.specs.Maps.{at_name};
-ghost use Rattle.dsy_base.specs.MemFiles.{files_in, folders_in, files_of, folders_of, file_counts_of, folder_counts_of};
+ghost use Rattle.dsy_forms.specs.MemFiles.{files_in, folders_in, files_of, folders_of, file_counts_of, folder_counts_of};
 ghost use Rattle.dsy_base.specs.Slots.{counts_in, held_in};
-ghost use Rattle.dsy_base.specs.Trees.{map_of};
+ghost use Rattle.dsy_forms.specs.Trees.{map_of};
 
 use crate::calls::{Calls, Fails};
-use crate::fault::{IoFault, Memory, OpenFault};
-use crate::files::Files;
 use crate::mem_folder::{MemFolder, MemLook};
 use crate::mem_target::{MemFile, MemTarget};
 use crate::mem_view::MemView;
-use crate::name::Name;
 use crate::ranges::RangeFails;
-use crate::slots::{Slots, claim, count, put_back, take_out};
+use dsy_base::fault::{IoFault, Memory, OpenFault};
+use dsy_base::files::Files;
+use dsy_base::name::Name;
+use dsy_base::slots::{Slots, claim, count, put_back, take_out};
 use std::alloc::{AllocError, Global};
 use std::collections::BTreeMap;
 
@@ -138,7 +138,7 @@ impl Files for MemFiles {
 
     ghost use Rattle.std.specs.Prelude.{Some, true, false, refl};
     ghost use Rattle.std.proofs.Common.{rules};
-    ghost use Rattle.dsy_base.specs.MemFiles.{files_of, folders_of, file_counts_of, folder_counts_of};
+    ghost use Rattle.dsy_forms.specs.MemFiles.{files_of, folders_of, file_counts_of, folder_counts_of};
 
     ghost files = { λ s. Some (files_of s) };
 

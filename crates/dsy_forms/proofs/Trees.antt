@@ -18,7 +18,7 @@ use Rattle.std.specs.String.{string_cmp}
 use Rattle.std.proofs.lemmas.Map.Made.{is_some-lookup}
 use Rattle.std.proofs.lemmas.Map.Text.{is_eq-slice_cmp}
 use Rattle.dsy_base.specs.Maps.{IsNamesOf, is_listed}
-use Rattle.dsy_base.specs.Trees.{map_of}
+use Rattle.dsy_forms.specs.Trees.{map_of}
 
 is_some-option_map : {A B : Type 0} (f : A → B) (o : Option A) → is_some (option_map f o) ≡ is_some o
 is_some-option_map f None = refl

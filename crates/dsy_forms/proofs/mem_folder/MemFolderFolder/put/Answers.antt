@@ -1,8 +1,8 @@
 use Rattle.std.proofs.Common.{ap, sym, Some, ◌∙◌}
-use Rattle.dsy_base.proofs.Counts.{at_self, at_spelled}
+use Rattle.dsy_forms.proofs.Counts.{at_self, at_spelled}
 use Rattle.dsy_base.specs.Folders.{temporary_of}
-use Rattle.dsy_base.specs.Trees.{map_of}
-use Rattle.dsy_base.proofs.mem_folder.MemFolderFolder.put.Goals as goal
+use Rattle.dsy_forms.specs.Trees.{map_of}
+use Rattle.dsy_forms.proofs.mem_folder.MemFolderFolder.put.Goals as goal
 
 -- the temporary name has what it had
 pub returns-in_default-clause-err : goal.returns-in_default-clause-err

@@ -4,7 +4,7 @@ ghost use Rattle.std.specs.Prelude.{◌≡◌, nat_eq, IfOk};
 ghost use Rattle.std.specs.List.{list_any};
 ghost use Rattle.dsy_base.specs.Counts.{raised};
 
-use crate::fault::raise;
+use dsy_base::fault::raise;
 use std::alloc::{AllocError, Global};
 
 /// The numbers of the calls that are to fail.

@@ -2,13 +2,13 @@
 use Rattle.std.specs.Prelude.{ℕ, List, String}
 use Rattle.std.specs.BTreeMap.{BTreeMap}
 use Rattle.std.specs.Option.{option_map}
-use Rattle.dsy_base.specs.declared.mem_files.MemFiles.{MemFiles}
-use Rattle.dsy_base.specs.declared.mem_folder.MemFolder.{MemFolder}
-use Rattle.dsy_base.specs.declared.mem_target.MemFile.{MemFile}
+use Rattle.dsy_forms.specs.declared.mem_files.MemFiles.{MemFiles}
+use Rattle.dsy_forms.specs.declared.mem_folder.MemFolder.{MemFolder}
+use Rattle.dsy_forms.specs.declared.mem_target.MemFile.{MemFile}
 use Rattle.dsy_base.specs.declared.slots.Slot.{Slot}
 use Rattle.dsy_base.specs.Maps.{Map}
 use Rattle.dsy_base.specs.Slots.{held_in, counts_in}
-use Rattle.dsy_base.specs.Trees.{map_of}
+use Rattle.dsy_forms.specs.Trees.{map_of}
 
 -- the bytes of the files in slots, and the files of the folders in slots
 abbrev pub files_in : {Y : Type 0} → BTreeMap (String Y) (Slot MemFile) → Map (List ℕ)

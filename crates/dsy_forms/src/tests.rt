@@ -3,19 +3,19 @@
 ghost use Rattle.std.specs.Prelude.{◌≡◌};
 
 use crate::calls::Fails;
-use crate::fault::{FileFault, IoFault, OpenFault};
-use crate::files::Files;
-use crate::folder::Folder;
-use crate::look::Look;
 use crate::mem_files::MemFiles;
 use crate::mem_folder::MemFolder;
 use crate::mem_sink::MemSink;
 use crate::mem_target::MemTarget;
 use crate::mem_view::MemView;
 use crate::ranges::RangeFails;
-use crate::sink::Sink;
-use crate::temporary::temporary_name;
-use crate::view::{Part, Target, View};
+use dsy_base::fault::{FileFault, IoFault, OpenFault};
+use dsy_base::files::Files;
+use dsy_base::folder::Folder;
+use dsy_base::look::Look;
+use dsy_base::sink::Sink;
+use dsy_base::temporary::temporary_name;
+use dsy_base::view::{Part, Target, View};
 use std::alloc::Global;
 use std::process::Abort;
 use std::test::Fail;
