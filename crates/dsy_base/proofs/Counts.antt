@@ -1,12 +1,11 @@
--- Numbers by name.
-use Rattle.std.proofs.Common.{◌≡◌, ◌≢◌, ℕ, ◌≤◌, List, Option, Some, refl, sym, ap, ◌∙◌, Bool, Decides}
+-- Numbers by name, and how they rise.
+use Rattle.std.proofs.Common.{◌≡◌, ◌≢◌, ℕ, ◌≤◌, List, Option, Some, refl, sym, ap, ◌∙◌, inl, inr, arith}
 use Rattle.std.specs.Map.{count_at}
-use Rattle.std.specs.Str.{bytes_eq}
 use Rattle.std.proofs.lemmas.Bool.{false_from_ne_true}
 use Rattle.std.proofs.lemmas.Slice.Eq.{bytes_eq-Decides}
-use Rattle.dsy_base.specs.Counts.{Counted, GivenBack, raised}
+use Rattle.dsy_base.specs.Counts.{Counted, GivenBack, Rose, raised}
 use Rattle.dsy_base.specs.Maps.{Map, at_name}
-use mathlib.Core.Bool.{cond, true, false}
+use mathlib.Core.Bool.{cond}
 
 -- what stands under the name itself, and under another
 pub at_same : {X : Type 0} (m : Map X) (name : List ℕ) (w : Option X) → at_name m name w name ≡ w
@@ -29,3 +28,8 @@ given_back m n name k h le = record {
   counted = counted m n name _ h le;
   added = rw (h name, at_same m name (Some (raised (count_at m name) k))) refl;
 }
+
+-- a rise of a number that hadn't fallen before
+pub rose_later : (a b c : ℕ) → a ≤ b → Rose b c → Rose a c
+rose_later a b c le (inl more) = inl (omega arith)
+rose_later a b c le (inr full) = inr full

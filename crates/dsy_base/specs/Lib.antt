@@ -1,6 +1,8 @@
 pub mod Bytes
 pub mod Counts
 pub mod Maps
+pub mod Disk
+pub mod Texts
 pub mod Files
 pub mod Folders
 pub mod Faults

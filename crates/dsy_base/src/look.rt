@@ -1,7 +1,7 @@
 //! A folder as one reads it. Names are relative to it, with `/` between components.
 
 ghost use Rattle.std.specs.Prelude.{◌≡◌, ℕ, Bool, IsTrue, List, ◌≤◌, Option, IfSome, IfOk, is_some, length};
-ghost use Rattle.dsy_base.specs.Counts.{Rose};
+ghost use Rattle.dsy_base.specs.Counts.{CountsFaults};
 ghost use Rattle.dsy_base.specs.Maps.{Map, IsNamesOf, ReadGives};
 
 use crate::fault::{FileFault, IoFault};
@@ -30,24 +30,21 @@ pub trait Look: Drop {
         ensures size { IfOk result (λ n. n ≤ length out.new) }
         ensures kept { files self.new ≡ files self.old }
         ensures place { place self.new ≡ place self.old }
-        ensures faults { faults self.old ≤ faults self.new }
-        ensures cause { result ≡ Err FileFault.Failed → Rose (faults self.old) (faults self.new) };
+        ensures faults { CountsFaults FileFault.Failed FileFault.Memory (faults self.old) (faults self.new) result };
 
     /// Whether there is a file of this name.
     fn has(&mut self, name: &str) -> Result<bool, IoFault>
         ensures found { IfOk result (λ b. IfSome (files self.old) (λ m. b ≡ is_some (m name.now))) }
         ensures kept { files self.new ≡ files self.old }
         ensures place { place self.new ≡ place self.old }
-        ensures faults { faults self.old ≤ faults self.new }
-        ensures cause { result ≡ Err IoFault.Failed → Rose (faults self.old) (faults self.new) };
+        ensures faults { CountsFaults IoFault.Failed IoFault.Memory (faults self.old) (faults self.new) result };
 
     /// The names of all files that have at most one `/`, each once, in the order of their bytes.
     fn names(&mut self) -> Result<Vec<Name>, IoFault>
         ensures found { IfOk result (λ v. IfSome (files self.old) (λ m. IsNamesOf m v.items)) }
         ensures kept { files self.new ≡ files self.old }
         ensures place { place self.new ≡ place self.old }
-        ensures faults { faults self.old ≤ faults self.new }
-        ensures cause { result ≡ Err IoFault.Failed → Rose (faults self.old) (faults self.new) };
+        ensures faults { CountsFaults IoFault.Failed IoFault.Memory (faults self.old) (faults self.new) result };
 
     /// The files are told exactly where the type tells.
     ghost told: { (l : Self) → is_some (files l) ≡ tells };

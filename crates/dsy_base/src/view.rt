@@ -1,8 +1,9 @@
 //! Bytes that are read and written by place. Offsets are bytes from 0, ends are exclusive.
 
-ghost use Rattle.std.specs.Prelude.{◌≡◌, ℕ, Bool, IsTrue, List, ◌+◌, ◌≤◌, length, slice_range, is_some, IfSome, OnOk, OnErr};
+ghost use Rattle.std.specs.Prelude.{◌≡◌, ℕ, Bool, IsTrue, List, ◌+◌, ◌≤◌, length, slice_range, is_some, IfSome, OnOk};
+ghost use Rattle.std.specs.Prelude.{OnErr};
 ghost use Rattle.dsy_base.specs.Bytes.{Held, held_written, held_resized};
-ghost use Rattle.dsy_base.specs.Counts.{Rose};
+ghost use Rattle.dsy_base.specs.Counts.{CountsFaults, CountsRefusals};
 
 use crate::fault::{Failed, IoFault};
 
@@ -30,8 +31,7 @@ pub trait View: Drop {
         ensures bytes { OnOk result (IfSome (held self.old).bytes
             (λ t. out.new ≡ slice_range t at (at + length out.old))) }
         ensures kept { held self.new ≡ held self.old }
-        ensures faults { faults self.old ≤ faults self.new }
-        ensures cause { OnErr result (Rose (faults self.old) (faults self.new)) };
+        ensures faults { CountsRefusals (faults self.old) (faults self.new) result };
 
     /// The bytes are told exactly where the type tells.
     ghost told: { (v : Self) → is_some (held v).bytes ≡ tells };
@@ -52,8 +52,7 @@ pub trait Part: View {
         // The range holds any bytes, and all else stays.
         ensures err { OnErr result ((x : List ℕ) × (length x ≡ length b.now)
             × (Self.held self.new ≡ held_written (Self.held self.old) at x)) }
-        ensures faults { Self.faults self.old ≤ Self.faults self.new }
-        ensures cause { OnErr result (Rose (Self.faults self.old) (Self.faults self.new)) };
+        ensures faults { CountsRefusals (Self.faults self.old) (Self.faults self.new) result };
 }
 
 /// Bytes whose number can be changed.
@@ -62,6 +61,6 @@ pub trait Target: Part {
     fn set_len(&mut self, n: u64) -> Result<(), IoFault>
         ensures ok { OnOk result (Self.held self.new ≡ held_resized (Self.held self.old) n) }
         ensures err { OnErr result (Self.held self.new ≡ Self.held self.old) }
-        ensures faults { Self.faults self.old ≤ Self.faults self.new }
-        ensures cause { result ≡ Err IoFault.Failed → Rose (Self.faults self.old) (Self.faults self.new) };
+        ensures faults { CountsFaults IoFault.Failed IoFault.Memory (Self.faults self.old) (Self.faults self.new)
+            result };
 }

@@ -1,3 +1,4 @@
 pub mod Ranges
 pub mod Trees
 pub mod MemFiles
+pub mod MemSinks

@@ -1,11 +1,12 @@
 -- What files and folders in memory tell.
-use Rattle.std.specs.Prelude.{ℕ, List, String}
+use Rattle.std.specs.Prelude.{ℕ, List, Some, String}
 use Rattle.std.specs.BTreeMap.{BTreeMap}
 use Rattle.std.specs.Option.{option_map}
 use Rattle.dsy_forms.specs.declared.mem_files.MemFiles.{MemFiles}
 use Rattle.dsy_forms.specs.declared.mem_folder.MemFolder.{MemFolder}
 use Rattle.dsy_forms.specs.declared.mem_target.MemFile.{MemFile}
 use Rattle.dsy_base.specs.declared.slots.Slot.{Slot}
+use Rattle.dsy_base.specs.Disk.{Disk}
 use Rattle.dsy_base.specs.Maps.{Map}
 use Rattle.dsy_base.specs.Slots.{held_in, counts_in}
 use Rattle.dsy_forms.specs.Trees.{map_of}
@@ -31,3 +32,12 @@ file_counts_of s = counts_in s.files
 
 abbrev pub folder_counts_of : MemFiles → Map ℕ
 folder_counts_of s = counts_in s.folders
+
+-- all of it
+abbrev pub disk_of : MemFiles → Disk
+disk_of s = record {
+  files = Some (files_of s);
+  folders = Some (folders_of s);
+  file_counts = file_counts_of s;
+  folder_counts = folder_counts_of s;
+}

@@ -1,5 +1,6 @@
 -- Pairs of an offset and the number of times that a call on a range with that offset fails.
-use Rattle.std.specs.Prelude.{ℕ, ◌-◌, List, Option, Some, None, Bool, nat_lt, nat_le, ◌&&◌, is_some, slice_index_or, slice_set}
+use Rattle.std.specs.Prelude.{ℕ, ◌-◌, List, Option, Some, None, Bool, nat_lt, nat_le, ◌&&◌, is_some, slice_index_or}
+use Rattle.std.specs.Prelude.{slice_set}
 use Rattle.std.specs.List.{position}
 
 -- whether the pair makes a call on the range fail

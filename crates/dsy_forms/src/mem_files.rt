@@ -1,13 +1,15 @@
 //! Files and folders in memory by their names, with stated calls that fail.
 
-ghost use Rattle.std.specs.Prelude.{◌≡◌, ◌≢◌, ℕ, List, [], None, Some, IsSome, IfOk, OnOk, OnErr, if◌then◌else◌, unwrap_or};
+ghost use Rattle.std.specs.Prelude.{◌≡◌, ◌≢◌, ℕ, List, [], None, Some, IsSome, IfOk, OnOk, OnErr, if◌then◌else◌};
+ghost use Rattle.std.specs.Prelude.{unwrap_or};
 ghost use Rattle.std.specs.BTreeMap.{get_by_text};
 ghost use Rattle.std.specs.Map.{count_at};
 ghost use Rattle.std.specs.Option.{option_map};
-ghost use Rattle.dsy_base.specs.Counts.{Rose, Counted, GivenBack};
+ghost use Rattle.dsy_base.specs.Counts.{Counted, CountsFaults};
 ghost use Rattle.dsy_base.specs.Files.{OpenGives};
 ghost use Rattle.dsy_base.specs.Maps.{at_name};
-ghost use Rattle.dsy_forms.specs.MemFiles.{files_in, folders_in, files_of, folders_of, file_counts_of, folder_counts_of};
+ghost use Rattle.dsy_forms.specs.MemFiles.{files_in, folders_in, files_of, folders_of, file_counts_of};
+ghost use Rattle.dsy_forms.specs.MemFiles.{folder_counts_of};
 ghost use Rattle.dsy_base.specs.Slots.{counts_in, held_in};
 ghost use Rattle.dsy_forms.specs.Trees.{map_of};
 
@@ -138,15 +140,9 @@ impl Files for MemFiles {
 
     ghost use Rattle.std.specs.Prelude.{Some, true, false, refl};
     ghost use Rattle.std.proofs.Common.{rules};
-    ghost use Rattle.dsy_forms.specs.MemFiles.{files_of, folders_of, file_counts_of, folder_counts_of};
+    ghost use Rattle.dsy_forms.specs.MemFiles.{disk_of};
 
-    ghost files = { λ s. Some (files_of s) };
-
-    ghost folders = { λ s. Some (folders_of s) };
-
-    ghost file_counts = { file_counts_of };
-
-    ghost folder_counts = { folder_counts_of };
+    ghost disk = { disk_of };
 
     ghost tells = { true };
 
@@ -231,10 +227,12 @@ impl Files for MemFiles {
     ghost sure = { Prim.search rules };
 
     ghost alike = { Prim.search rules };
+
+    ghost unnamed = { (refl, refl, refl) };
 }
 
 // Makes a call on a name: makes room for its number, and fails if the call is to fail.
-#[tactic(auto, using(crate::proofs::Counts::counted))]
+#[tactic(auto, using(dsy_base::proofs::Counts::counted))]
 fn call_on<V: Drop>(
     alloc: Global,
     slots: &mut Slots<V>,
@@ -244,8 +242,9 @@ fn call_on<V: Drop>(
     ensures kept { (q : List ℕ) → held_in slots.new q ≡ held_in slots.old q }
     ensures counts { Counted (counts_in slots.old) (counts_in slots.new) name.now }
     ensures known { OnOk result (IsSome (counts_in slots.new name.now)) }
-    ensures cause { result ≡ Err IoFault.Failed →
-        Rose (count_at (counts_in slots.old) name.now) (count_at (counts_in slots.new) name.now) }
+    ensures ok { OnOk result (count_at (counts_in slots.new) name.now ≡ count_at (counts_in slots.old) name.now) }
+    ensures faults { CountsFaults IoFault.Failed IoFault.Memory (count_at (counts_in slots.old) name.now)
+        (count_at (counts_in slots.new) name.now) result }
 {
     if claim(alloc, slots, name).is_err() {
         return Err(IoFault::Memory);

@@ -1,6 +1,7 @@
 //! Folders in memory, with stated calls that fail. Names are relative, with `/` between components.
 
-ghost use Rattle.std.specs.Prelude.{◌≡◌, ◌≢◌, ◌≤◌, ◌==◌, ℕ, List, [], None, Some, IfOk, OnOk, OnErr, IsTrue, is_some, map, string_bytes};
+ghost use Rattle.std.specs.Prelude.{◌≡◌, ◌≢◌, ◌≤◌, ◌==◌, ℕ, List, [], None, Some, IfOk, OnOk, OnErr, true, false};
+ghost use Rattle.std.specs.Prelude.{is_some, map, string_bytes};
 ghost use Rattle.std.specs.BTreeMap.{keys, IsOrdered};
 ghost use Rattle.std.specs.List.{filter};
 ghost use Rattle.std.specs.String.{string_cmp};
@@ -93,7 +94,8 @@ impl MemFolder {
     fn fails_now(&mut self) -> bool
         ensures kept { (self.new.files ≡ self.old.files) × (self.new.name ≡ self.old.name) }
         ensures faults { self.old.faults ≤ self.new.faults }
-        ensures cause { IsTrue result → Rose self.old.faults self.new.faults }
+        ensures cause { result ≡ true → Rose self.old.faults self.new.faults }
+        ensures only { result ≡ false → self.new.faults ≡ self.old.faults }
     {
         if self.calls.next_fails() {
             self.faults = raise(self.faults, 1);
@@ -169,7 +171,7 @@ impl Look for MemFolder {
 
 impl Folder for MemFolder {
     fn put(&mut self, name: &str, b: &[u8]) -> Result<(), IoFault> {
-        let fails = self.fails_now();
+        let fails = self.calls.next_fails();
         let Ok(temporary) = temporary_name(self.alloc, name) else {
             return Err(IoFault::Memory);
         };
@@ -177,6 +179,7 @@ impl Folder for MemFolder {
             let Ok(()) = put_file(self.alloc, &mut self.files, temporary.as_str(), b) else {
                 return Err(IoFault::Memory);
             };
+            self.faults = raise(self.faults, 1);
             return Err(IoFault::Failed);
         }
         remove_file(&mut self.files, temporary.as_str());

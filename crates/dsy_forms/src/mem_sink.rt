@@ -36,12 +36,11 @@ impl MemSink {
 }
 
 impl Sink for MemSink {
-    ghost use Rattle.std.specs.Prelude.{Some, true, false, refl};
+    ghost use Rattle.std.specs.Prelude.{true, false, refl};
+    ghost use Rattle.dsy_forms.specs.MemSinks.{output_of};
     ghost use Rattle.std.proofs.Common.{rules};
 
-    ghost taken = { λ s. Some s.taken.items };
-
-    ghost faults = { λ s. s.faults };
+    ghost output = { output_of };
 
     ghost tells = { true };
 
