@@ -1,5 +1,5 @@
 -- Paths of ids: 69 ASCII bytes with one `/`, from which the id can be read, and which no temporary file has.
-use Rattle.std.proofs.Common.{◌≡◌, ◌≢◌, ℕ, suc, ◌+◌, ◌*◌, ◌/◌, ◌%◌, ◌<◌, ◌≤◌, ◌==◌, List, [], ◌∷◌, ◌++◌, length, take, drop, slice_index, Bool, true, false, not, nat_le, nat_lt, refl, sym, ap, ◌∙◌, arith, inl, inr, length-append, codes, Option, Some, None, unwrap_or}
+use Rattle.std.proofs.Common.{◌≡◌, ◌≢◌, ℕ, suc, ◌+◌, ◌*◌, ◌/◌, ◌%◌, ◌<◌, ◌≤◌, ◌==◌, List, [], ◌∷◌, ◌++◌, length, take, drop, slice_index, Bool, true, false, not, nat_le, nat_lt, refl, sym, ap, ◌∙◌, arith, inl, inr, length-append, codes, Some, unwrap_or}
 use Rattle.std.specs.List.{count_by}
 use Rattle.std.specs.Str.{IsAscii}
 use Rattle.std.proofs.lemmas.Bool.{cases_lt, ltb-true}

@@ -36,13 +36,20 @@ impl ChunkId {
         }
     }
 
+    /// Whether the two ids are one.
+    pub fn is(&self, other: &ChunkId) -> bool
+        ensures same { result ≡ true → self.now.0 ≡ other.now.0 }
+        ensures only { result ≡ false → self.now.0 ≢ other.now.0 }
+    {
+        self.0.as_slice() == other.0.as_slice()
+    }
+
     /// Whether this is the id of the bytes.
     pub fn is_of(&self, kind: DigestKind, bytes: &[u8]) -> bool
         ensures named { result ≡ true → name_of kind bytes.now ≡ self.now.0 }
         ensures only { result ≡ false → name_of kind bytes.now ≢ self.now.0 }
     {
-        let name = ChunkId::of(kind, bytes);
-        name.0.as_slice() == self.0.as_slice()
+        ChunkId::of(kind, bytes).is(self)
     }
 
     /// The id as a text: 64 hexadecimal digits in lower case.

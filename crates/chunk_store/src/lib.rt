@@ -4,6 +4,7 @@
 pub mod id;
 pub mod laws;
 pub mod path;
+pub mod range;
 pub mod shows;
 pub mod store;
 #[cfg(test)]

@@ -1,10 +1,12 @@
 //! Stores of chunks by their ids.
 
-ghost use Rattle.std.specs.Prelude.{◌≡◌, ◌≢◌, ℕ, Bool, true, false, IsTrue, List, ◌≤◌, Option, Some, IsSome, IfSome, IfOk, OnOk, OnErr, is_some, length, take};
+ghost use Rattle.std.specs.Prelude.{◌≡◌, ◌≢◌, ℕ, Bool, true, false, IsTrue, List, ◌≤◌, Option, Some, None, IsSome};
+ghost use Rattle.std.specs.Prelude.{IfSome, IfOk, OnOk, OnErr, is_some, length, take};
 ghost use Rattle.std.specs.Option.{option_map};
+ghost use Rattle.chunk_store.specs.Folders.{KeepsOthers, chunks};
 ghost use Rattle.chunk_store.specs.Gets.{GetGives};
 ghost use Rattle.chunk_store.specs.Said.{Said, KeepsOf, SaysMap, AskedOnce};
-ghost use Rattle.dsy_base.specs.Counts.{Rose};
+ghost use Rattle.dsy_base.specs.Counts.{CountsFaults};
 ghost use Rattle.dsy_base.specs.Maps.{Map, at_name};
 
 use crate::id::ChunkId;
@@ -26,11 +28,17 @@ pub trait Store: Drop {
     /// What it holds under each id, where this store tells it. No call changes whether it does.
     ghost holds: { Self → Option (Map (List ℕ)) };
 
+    /// The files of the folder that its chunks lie in, where it has one and tells them.
+    ghost folder: { Self → Option (Map (List ℕ)) } = { λ _. None };
+
     /// What it has denied, shown and taken.
     ghost said: { Self → Said };
 
-    /// How often it was asked for each id, as far as it knows.
+    /// How often it was asked for the chunk of each id, as far as it knows.
     ghost asked: { Self → List ℕ → ℕ };
+
+    /// How often it was asked whether it has something under each id, as far as it knows.
+    ghost queried: { Self → List ℕ → ℕ };
 
     /// How often a call on it has failed.
     ghost faults: { Self → ℕ };
@@ -58,11 +66,12 @@ pub trait Store: Drop {
         ensures only { result ≡ Err GetFault.Memory → IsTrue may_lack_memory }
 
         ensures kept { holds self.new ≡ holds self.old }
+        ensures files { folder self.new ≡ folder self.old }
         ensures place { place self.new ≡ place self.old }
         ensures said { (q : List ℕ) → KeepsOf (said self.old) (said self.new) q }
         ensures asks { AskedOnce (asked self.old) (asked self.new) id.now.0 }
-        ensures faults { faults self.old ≤ faults self.new }
-        ensures cause { result ≡ Err GetFault.Failed → Rose (faults self.old) (faults self.new) };
+        ensures queries { queried self.new ≡ queried self.old }
+        ensures faults { CountsFaults GetFault.Failed GetFault.Memory (faults self.old) (faults self.new) result };
 
     /// Whether something is held under the id.
     fn has(&mut self, id: &ChunkId) -> Result<bool, IoFault>
@@ -71,17 +80,21 @@ pub trait Store: Drop {
         ensures only { result ≡ Err IoFault.Memory → IsTrue may_lack_memory }
 
         ensures kept { holds self.new ≡ holds self.old }
+        ensures files { folder self.new ≡ folder self.old }
         ensures place { place self.new ≡ place self.old }
         ensures said { (q : List ℕ) → KeepsOf (said self.old) (said self.new) q }
         ensures asks { asked self.new ≡ asked self.old }
-        ensures faults { faults self.old ≤ faults self.new }
-        ensures cause { result ≡ Err IoFault.Failed → Rose (faults self.old) (faults self.new) };
+        ensures queries { AskedOnce (queried self.old) (queried self.new) id.now.0 }
+        ensures faults { CountsFaults IoFault.Failed IoFault.Memory (faults self.old) (faults self.new) result };
 
     /// A told map denies what it doesn't hold, and has shown and taken what it holds.
     ghost says: { (s : Self) → IfSome (holds s) (SaysMap (said s)) };
 
+    /// What lies in a told folder under the paths of chunks is what it holds.
+    ghost lies: { (s : Self) → IfSome (folder s) (λ m. holds s ≡ Some (chunks m)) };
+
     /// A store that tells is asked for nothing that counts.
-    ghost unasked: { (s : Self) → IfSome (holds s) (λ _. (q : List ℕ) → asked s q ≡ 0) };
+    ghost unasked: { (s : Self) → IfSome (holds s) (λ _. (q : List ℕ) → (asked s q ≡ 0) × (queried s q ≡ 0)) };
 
     /// Each store of a type that tells, tells.
     ghost told: { (s : Self) → IsTrue tells → IsSome (holds s) };
@@ -94,12 +107,16 @@ pub trait Store: Drop {
 pub trait StoreWrite: Store {
     /// Puts `b` under the id, in the place of what was there.
     fn put(&mut self, id: &ChunkId, b: &[u8]) -> Result<(), IoFault>
-        ensures ok { OnOk result (Self.holds self.new ≡ option_map (λ m. at_name m id.now.0 (Some b.now)) (Self.holds self.old)) }
+        ensures ok { OnOk result (Self.holds self.new
+            ≡ option_map (λ m. at_name m id.now.0 (Some b.now)) (Self.holds self.old)) }
         ensures taken { OnOk result ((Self.said self.new).taken id.now.0 b.now) }
         ensures err { OnErr result (Self.holds self.new ≡ Self.holds self.old) }
+        // Of its folder's files at most the chunk's own and its temporary one change.
+        ensures files { KeepsOthers id.now.0 (Self.folder self.old) (Self.folder self.new) }
         ensures place { Self.place self.new ≡ Self.place self.old }
         ensures said { (q : List ℕ) → q ≢ id.now.0 → KeepsOf (Self.said self.old) (Self.said self.new) q }
         ensures asks { Self.asked self.new ≡ Self.asked self.old }
-        ensures faults { Self.faults self.old ≤ Self.faults self.new }
-        ensures cause { result ≡ Err IoFault.Failed → Rose (Self.faults self.old) (Self.faults self.new) };
+        ensures queries { Self.queried self.new ≡ Self.queried self.old }
+        ensures faults { CountsFaults IoFault.Failed IoFault.Memory
+            (Self.faults self.old) (Self.faults self.new) result };
 }

@@ -1,6 +1,9 @@
 //! Ids by vectors of their digests.
 
 use crate::id::{ChunkId, DigestKind, NotHex};
+use crate::range::name_range;
+use dsy_base::fault::{Failed, raise};
+use dsy_base::view::View;
 use std::test::Fail;
 
 // From FIPS 180-4's examples and another program.
@@ -51,5 +54,78 @@ fn only_64_digits_are_an_id(rt: HostRuntime) {
     ];
     for text in others {
         assert_eq!(rt; ChunkId::from_hex(text), Err(NotHex), "{text}");
+    }
+}
+
+// A view of the bytes `abc`, of which each read fails or none.
+#[derive(Drop)]
+struct Letters {
+    fail: bool,
+    faults: u64,
+}
+
+impl View for Letters {
+    ghost use Rattle.std.specs.Prelude.{None, [], false, refl};
+    ghost use Rattle.std.proofs.Common.{rules};
+
+    ghost held = { λ _. record { bytes = None; size = 3; name = [] } };
+
+    ghost faults = { λ v. v.faults };
+
+    ghost tells = { false };
+
+    ghost never_fails = { false };
+
+    fn size(&self) -> u64 {
+        3
+    }
+
+    fn read_at(&mut self, at: u64, out: &mut [u8]) -> Result<(), Failed> {
+        if self.fail {
+            self.faults = raise(self.faults, 1);
+            return Err(Failed);
+        }
+        for (place, letter) in out.iter_mut().zip(b"abc".iter().skip(at as usize)) {
+            *place = *letter;
+        }
+        Ok(())
+    }
+
+    ghost told = { λ _. refl };
+
+    ghost sized = { λ _. tt };
+
+    ghost sure = { Prim.search rules };
+}
+
+#[test]
+fn a_range_is_named_by_its_bytes(rt: HostRuntime) {
+    let kind = DigestKind::Sha512T256;
+    let mut out = [0; 2];
+    for (at, bytes) in [(0, b"ab"), (1, b"bc")] {
+        let mut letters = Letters {
+            fail: false,
+            faults: 0,
+        };
+        let name = name_range(&mut letters, kind, at, &mut out);
+        assert_eq!(rt; name, Ok(ChunkId::of(kind, bytes)));
+        assert_eq!(rt; out, *bytes);
+    }
+    let mut letters = Letters {
+        fail: true,
+        faults: 0,
+    };
+    assert_eq!(rt; name_range(&mut letters, kind, 1, &mut out), Err(Failed));
+    assert_eq!(rt; letters.faults, 1);
+}
+
+#[test]
+fn ids_are_one_where_all_their_bytes_are(rt: HostRuntime) {
+    let id = ChunkId([7; 32]);
+    assert!(rt; id.is(&ChunkId([7; 32])));
+    for place in 0..32 {
+        let mut other = [7; 32];
+        other[place] = 8;
+        assert!(rt; !id.is(&ChunkId(other)));
     }
 }

@@ -1,5 +1,6 @@
 -- Which names are the paths of ids.
 use Rattle.std.proofs.Common.{◌≡◌, ℕ, ◌<◌, ◌≤◌, ◌==◌, List, [], ◌∷◌, length, drop, get_or, Bool, true, false, ◌&&◌, ◌||◌, Option, Some, None, if◌then◌else◌, unwrap_or, Result, Ok, Err, refl, sym, ap, subst, ◌∙◌, arith, eq-eqb, eqb-true}
+use Rattle.std.proofs.lemmas.Bool.{false_from_ne_true}
 use Rattle.std.proofs.lemmas.Slice.Eq.{bytes_eq-Decides}
 use Rattle.std.proofs.lemmas.Str.{IsCharBoundary-after_ascii}
 use Rattle.std.specs.Cmp.{both_ways}
@@ -91,15 +92,11 @@ no_id q h = none_of (id_at_path q) (λ id e. let p = id_is q id e in h id p.0 p.
 
 -- ---- the ids of many names
 
-is_false : (b : Bool) → (b ≡ true → ⊥) → b ≡ false
-is_false true h = absurd (h refl)
-is_false false h = refl
-
 module _ (q : List ℕ) (is : IsId q) where
   member_on : (n : List ℕ) (ns : List (List ℕ)) (o : Option (List ℕ)) → id_at_path n ≡ o → is_member bytes_eq (filter_map id_at_path ns) q ≡ is_member bytes_eq ns (path_of q)
       → is_member bytes_eq (cons_option o (filter_map id_at_path ns)) q ≡ (bytes_eq (path_of q) n || is_member bytes_eq ns (path_of q))
   member_on n ns None e rest =
-      let apart : bytes_eq (path_of q) n ≡ false = is_false (bytes_eq (path_of q) n) (λ h. let there : None ≡ Some q = sym e ∙ is_id n q is ((bytes_eq-Decides (path_of q) n).0 h) in absurd (cc)) in
+      let apart : bytes_eq (path_of q) n ≡ false = false_from_ne_true (bytes_eq (path_of q) n) (λ h. let there : None ≡ Some q = sym e ∙ is_id n q is ((bytes_eq-Decides (path_of q) n).0 h) in absurd (cc)) in
       rest ∙ rw apart refl
   member_on n ns (Some x) e rest =
       let x_is = id_is n x e in

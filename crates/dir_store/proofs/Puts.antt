@@ -4,28 +4,20 @@ use Rattle.std.proofs.lemmas.Slice.Eq.{bytes_eq-Decides}
 use Rattle.std.specs.Cmp.{both_ways}
 use Rattle.std.specs.Option.{option_map}
 use Rattle.std.specs.Str.{bytes_eq}
-use Rattle.chunk_store.specs.Folders.{chunks}
+use Rattle.chunk_store.specs.Folders.{chunks, KeepsOthers}
 use Rattle.chunk_store.specs.Names.{IsId}
 use Rattle.chunk_store.specs.Paths.{path_of}
 use Rattle.chunk_store.specs.Said.{KeepsOf, said_by}
+use Rattle.chunk_store.proofs.Said.{keeps_itself}
+use Rattle.dsy_base.proofs.Counts.{at_other}
 use Rattle.dsy_base.specs.Folders.{temporary_of, put_in}
 use Rattle.dsy_base.specs.Maps.{Map, at_name}
 use Rattle.dsy_base.specs.declared.fault.IoFault.{IoFault}
 use Rattle.dir_store.specs.Names.{is_temporary}
 use Rattle.dir_store.specs.Puts.{Puts, LeavesTemporary, Removes}
 
-is_false : (b : Bool) → (b ≡ true → ⊥) → b ≡ false
-is_false true differ = absurd (differ refl)
-is_false false differ = refl
-
-apart_is : (a b : List ℕ) → a ≢ b → bytes_eq a b ≡ false
-apart_is a b differ = is_false (bytes_eq a b) (λ h. differ ((bytes_eq-Decides a b).0 h))
-
-other_name : {X : Type 0} (m : Map X) (name q : List ℕ) (w : Option X) → name ≢ q → at_name m name w q ≡ m q
-other_name m name q w differ = ap (λ b. cond b w (m q)) (apart_is name q differ)
-
 pub chunks_left : ((q x : List ℕ) → temporary_of q ≢ path_of x) → (id : List ℕ) (m : Map (List ℕ)) (x : Option (List ℕ)) → chunks (at_name m (temporary_of (path_of id)) x) ≡ chunks m
-chunks_left none id m x = λ i q. (other_name m (temporary_of (path_of id)) (path_of q) x (none (path_of id) q)) i
+chunks_left none id m x = λ i q. (at_other m (temporary_of (path_of id)) x (path_of q) (λ h. none (path_of id) q (sym h))) i
 
 module _ (id : List ℕ) (is : IsId id) (one : (a b : List ℕ) → IsId b → path_of a ≡ path_of b → a ≡ b) where
   same_test : (q : List ℕ) → bytes_eq (path_of id) (path_of q) ≡ bytes_eq id q
@@ -51,7 +43,7 @@ module _ (id : List ℕ) (is : IsId id) (one : (a b : List ℕ) → IsId b → p
     chunks_put m b = λ i q. (here q) i where
       here : (q : List ℕ) → put_in m (path_of id) b (path_of q) ≡ at_name (chunks m) id (Some b) q
       here q =
-          ap (λ (r : Option (List ℕ)). cond (bytes_eq (path_of id) (path_of q)) (Some b) r) (other_name m (temporary_of (path_of id)) (path_of q) None (none (path_of id) q))
+          ap (λ (r : Option (List ℕ)). cond (bytes_eq (path_of id) (path_of q)) (Some b) r) (at_other m (temporary_of (path_of id)) None (path_of q) (λ h. none (path_of id) q (sym h)))
           ∙ ap (λ t. cond t (Some b) (m (path_of q))) (same_test q)
 
     holds_put : (b : List ℕ) (old new : Option (Map (List ℕ))) → Puts id b old new → option_map chunks new ≡ option_map (λ m. at_name m id (Some b)) (option_map chunks old)
@@ -74,19 +66,33 @@ module _ (id : List ℕ) (is : IsId id) (one : (a b : List ℕ) → IsId b → p
     put_leaves old new (Ok r) left = tt
     put_leaves old new (Err e) left = holds_left old new left
 
-    said_put : (b q : List ℕ) → q ≢ id → (old : Option (Map (List ℕ))) → KeepsOf (said_by old) (said_by (option_map (λ m. at_name m id (Some b)) old)) q
-    said_put b q differ None = record { denied = λ h. h; shown = λ x h. h; longer = λ n h. h; taken = λ x h. h }
-    said_put b q differ (Some m) =
-        let other = other_name m id q (Some b) (λ h. differ (sym h)) in
-        record { denied = λ h. other ∙ h; shown = λ x h. other ∙ h; longer = λ n h. (h.0, other ∙ h.1, h.2); taken = λ x h. other ∙ h }
+    others_put : (b : List ℕ) (old : Option (Map (List ℕ))) → KeepsOthers id old (option_map (λ m. put_in m (path_of id) b) old)
+    others_put b None = record { told = refl; files = tt }
+    others_put b (Some m) = record {
+      told = refl;
+      files = λ q path temporary.
+          at_other (at_name m (temporary_of (path_of id)) None) (path_of id) (Some b) q path
+          ∙ at_other m (temporary_of (path_of id)) None q temporary;
+    }
 
-    said_same : (q : List ℕ) (old : Option (Map (List ℕ))) → KeepsOf (said_by old) (said_by old) q
-    said_same q old = record { denied = λ h. h; shown = λ x h. h; longer = λ n h. h; taken = λ x h. h }
+    others_left : (x : Option (List ℕ)) (old : Option (Map (List ℕ))) → KeepsOthers id old (option_map (λ m. at_name m (temporary_of (path_of id)) x) old)
+    others_left x None = record { told = refl; files = tt }
+    others_left x (Some m) = record { told = refl; files = λ q path temporary. at_other m (temporary_of (path_of id)) x q temporary }
+
+    pub put_others : (b : List ℕ) (old new : Option (Map (List ℕ))) (r : Result Unit IoFault) → OnOk r (Puts id b old new) → OnErr r (LeavesTemporary id old new) → KeepsOthers id old new
+    put_others b old new (Ok r) put left = subst (KeepsOthers id old) (sym put) (others_put b old)
+    put_others b old new (Err e) put left = subst (KeepsOthers id old) (sym left.1) (others_left left.0 old)
+
+    said_put : (b q : List ℕ) → q ≢ id → (old : Option (Map (List ℕ))) → KeepsOf (said_by old) (said_by (option_map (λ m. at_name m id (Some b)) old)) q
+    said_put b q differ None = keeps_itself (said_by None) q
+    said_put b q differ (Some m) =
+        let other = at_other m id (Some b) q differ in
+        record { denied = λ h. other ∙ h; shown = λ x h. other ∙ h; longer = λ n h. (h.0, other ∙ h.1, h.2); taken = λ x h. other ∙ h }
 
     pub put_said : (b : List ℕ) (old new : Option (Map (List ℕ))) (r : Result Unit IoFault) → OnOk r (Puts id b old new) → OnErr r (LeavesTemporary id old new) → (q : List ℕ) → q ≢ id
         → KeepsOf (said_by (option_map chunks old)) (said_by (option_map chunks new)) q
     put_said b old new (Ok r) put left q differ = subst (λ (h : Option (Map (List ℕ))). KeepsOf (said_by (option_map chunks old)) (said_by h) q) (sym (holds_put b old new put)) (said_put b q differ (option_map chunks old))
-    put_said b old new (Err e) put left q differ = subst (λ (h : Option (Map (List ℕ))). KeepsOf (said_by (option_map chunks old)) (said_by h) q) (sym (holds_left old new left)) (said_same q (option_map chunks old))
+    put_said b old new (Err e) put left q differ = subst (λ (h : Option (Map (List ℕ))). KeepsOf (said_by (option_map chunks old)) (said_by h) q) (sym (holds_left old new left)) (keeps_itself (said_by (option_map chunks old)) q)
 
 -- ---- a file that is removed and was no chunk's
 
@@ -96,7 +102,7 @@ module _ (name : List ℕ) (named : IsTrue (is_temporary name)) (only : (id : Li
 
   same_chunks : (o : Option (Map (List ℕ))) → option_map chunks (option_map (λ m. at_name m name None) o) ≡ option_map chunks o
   same_chunks None = refl
-  same_chunks (Some m) = ap Some (λ i q. (other_name m name (path_of q) None (no_path q)) i)
+  same_chunks (Some m) = ap Some (λ i q. (at_other m name None (path_of q) (λ h. no_path q (sym h))) i)
 
   pub temporary_holds : (old new : Option (Map (List ℕ))) (r : Result Bool IoFault) → OnOk r (Removes name old new) → OnErr r (new ≡ old) → option_map chunks new ≡ option_map chunks old
   temporary_holds old new (Ok b) gone kept = ap (option_map chunks) gone ∙ same_chunks old

@@ -1,5 +1,6 @@
 -- What a file of a folder store is, by its name.
-use Rattle.std.specs.Prelude.{ℕ, ◌==◌, ◌&&◌, Bool, not, List, length, drop, codes, nat_eq, if◌then◌else◌, is_none, Option, Some, None, Result, Ok, Err}
+use Rattle.std.specs.Prelude.{ℕ, ◌==◌, ◌&&◌, Bool, not, List, length, drop, codes, nat_eq, if◌then◌else◌, is_none}
+use Rattle.std.specs.Prelude.{Option, Some, None, Result, Ok, Err}
 use Rattle.std.specs.List.{after_last, starts_with}
 use Rattle.std.specs.Str.{bytes_eq}
 use Rattle.chunk_store.specs.Paths.{path_of}

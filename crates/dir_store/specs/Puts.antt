@@ -11,7 +11,8 @@ Puts id b old new = new ≡ option_map (λ m. put_in m (path_of id) b) old
 
 -- the files are as before but for the id's temporary file
 abbrev pub LeavesTemporary : List ℕ → Option (Map (List ℕ)) → Option (Map (List ℕ)) → Type 0
-LeavesTemporary id old new = (x : Option (List ℕ)) × (new ≡ option_map (λ m. at_name m (temporary_of (path_of id)) x) old)
+LeavesTemporary id old new =
+    (x : Option (List ℕ)) × (new ≡ option_map (λ m. at_name m (temporary_of (path_of id)) x) old)
 
 -- the files without what stood under the name
 abbrev pub Removes : List ℕ → Option (Map (List ℕ)) → Option (Map (List ℕ)) → Type 0

@@ -5,10 +5,16 @@ use Rattle.std.specs.Option.{option_map}
 use Rattle.chunk_store.specs.Folders.{chunks}
 use Rattle.dsy_base.specs.Maps.{Map}
 
-pub unasked_map : (holds : Option (Map (List ℕ))) → IfSome holds (λ _. (q : List ℕ) → ◌≡◌ {A = ℕ} 0 0)
-unasked_map None = tt
-unasked_map (Some m) = λ q. refl
+pub lies_map : (files : Option (Map (List ℕ))) → IfSome files (λ m. option_map chunks files ≡ Some (chunks m))
+lies_map None = tt
+lies_map (Some m) = refl
 
-pub told_map : (tells : Bool) (files : Option (Map (List ℕ))) → is_some files ≡ tells → IsTrue tells → IsSome (option_map chunks files)
+pub unasked_map : (holds : Option (Map (List ℕ)))
+    → IfSome holds (λ _. (q : List ℕ) → (◌≡◌ {A = ℕ} 0 0) × (◌≡◌ {A = ℕ} 0 0))
+unasked_map None = tt
+unasked_map (Some m) = λ q. (refl, refl)
+
+pub told_map : (tells : Bool) (files : Option (Map (List ℕ))) → is_some files ≡ tells → IsTrue tells
+    → IsSome (option_map chunks files)
 told_map tells None told t = told ∙ t
 told_map tells (Some m) told t = refl

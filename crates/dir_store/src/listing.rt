@@ -1,10 +1,10 @@
 //! The lists of what lies in a folder store, in the order of their bytes.
 
-ghost use Rattle.std.specs.Prelude.{◌≡◌, ◌≤◌, IfSome, IfOk, List, ℕ, map};
+ghost use Rattle.std.specs.Prelude.{◌≡◌, IfSome, IfOk, List, ℕ, map};
 ghost use Rattle.std.specs.List.{filter, filter_map};
 ghost use Rattle.dir_store.specs.Lists.{IsIdsOf, IsNamesWhere};
 ghost use Rattle.dir_store.specs.Names.{id_at_path, is_stranger, is_temporary};
-ghost use Rattle.dsy_base.specs.Counts.{Rose};
+ghost use Rattle.dsy_base.specs.Counts.{CountsFaults};
 
 use crate::names::{id_at_path, is_stranger, is_temporary};
 use crate::store::DirStore;
@@ -48,8 +48,7 @@ impl<F: Look> DirStore<F> {
         ensures found { IfOk result (λ v. IfSome (F.files self.old) (λ m. IsIdsOf m v.items)) }
         ensures kept { F.files self.new ≡ F.files self.old }
         ensures place { F.place self.new ≡ F.place self.old }
-        ensures faults { F.faults self.old ≤ F.faults self.new }
-        ensures cause { result ≡ Err IoFault.Failed → Rose (F.faults self.old) (F.faults self.new) }
+        ensures faults { CountsFaults IoFault.Failed IoFault.Memory (F.faults self.old) (F.faults self.new) result }
     {
         path_is_listed();
         let names = self.names()?;
@@ -64,8 +63,7 @@ impl<F: Look> DirStore<F> {
         ensures found { IfOk result (λ v. IfSome (F.files self.old) (λ m. IsNamesWhere is_temporary m v.items)) }
         ensures kept { F.files self.new ≡ F.files self.old }
         ensures place { F.place self.new ≡ F.place self.old }
-        ensures faults { F.faults self.old ≤ F.faults self.new }
-        ensures cause { result ≡ Err IoFault.Failed → Rose (F.faults self.old) (F.faults self.new) }
+        ensures faults { CountsFaults IoFault.Failed IoFault.Memory (F.faults self.old) (F.faults self.new) result }
     {
         let mut names = self.names()?;
         keep_temporaries(&mut names);
@@ -77,8 +75,7 @@ impl<F: Look> DirStore<F> {
         ensures found { IfOk result (λ v. IfSome (F.files self.old) (λ m. IsNamesWhere is_stranger m v.items)) }
         ensures kept { F.files self.new ≡ F.files self.old }
         ensures place { F.place self.new ≡ F.place self.old }
-        ensures faults { F.faults self.old ≤ F.faults self.new }
-        ensures cause { result ≡ Err IoFault.Failed → Rose (F.faults self.old) (F.faults self.new) }
+        ensures faults { CountsFaults IoFault.Failed IoFault.Memory (F.faults self.old) (F.faults self.new) result }
     {
         let mut names = self.names()?;
         keep_strangers(&mut names);

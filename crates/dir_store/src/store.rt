@@ -1,13 +1,12 @@
 //! The chunk files of a folder as a store. Sizes are in bytes.
 
-ghost use Rattle.std.specs.Prelude.{◌≡◌, ◌≤◌, IfSome, IfOk, IsTrue, OnOk, OnErr, is_some, length};
+ghost use Rattle.std.specs.Prelude.{◌≡◌, IfSome, IfOk, IsTrue, OnOk, OnErr, is_some};
 ghost use Rattle.std.specs.Option.{option_map};
 ghost use Rattle.chunk_store.specs.Folders.{chunks};
-ghost use Rattle.chunk_store.specs.Gets.{GetGives};
 ghost use Rattle.chunk_store.specs.Paths.{path_of};
 ghost use Rattle.dir_store.specs.Names.{is_temporary};
 ghost use Rattle.dir_store.specs.Puts.{Puts, LeavesTemporary, Removes};
-ghost use Rattle.dsy_base.specs.Counts.{Rose};
+ghost use Rattle.dsy_base.specs.Counts.{CountsFaults};
 ghost use Rattle.dsy_base.specs.Maps.{IsNamesOf, at_name};
 
 use crate::laws::chunk_is_no_temporary;
@@ -50,40 +49,19 @@ impl<F: Look> DirStore<F> {
         ensures found { IfOk result (λ v. IfSome (F.files self.old) (λ m. IsNamesOf m v.items)) }
         ensures kept { F.files self.new ≡ F.files self.old }
         ensures place { F.place self.new ≡ F.place self.old }
-        ensures faults { F.faults self.old ≤ F.faults self.new }
-        ensures cause { result ≡ Err IoFault.Failed → Rose (F.faults self.old) (F.faults self.new) }
+        ensures faults { CountsFaults IoFault.Failed IoFault.Memory (F.faults self.old) (F.faults self.new) result }
     {
         self.folder.names()
-    }
-
-    /// Fills the front of `out` with the file of this id, and answers the number of its bytes.
-    pub fn read(&mut self, id: &ChunkId, out: &mut [u8]) -> Result<usize, GetFault>
-        ensures bytes { IfSome (F.files self.old) (λ m. GetGives (chunks m id.now.0) result out.new) }
-        ensures size { IfOk result (λ n. n ≤ length out.new) }
-        ensures kept { F.files self.new ≡ F.files self.old }
-        ensures place { F.place self.new ≡ F.place self.old }
-        ensures faults { F.faults self.old ≤ F.faults self.new }
-        ensures cause { result ≡ Err GetFault.Failed → Rose (F.faults self.old) (F.faults self.new) }
-    {
-        let path = id.path();
-        match self.folder.read(path.as_str(), out) {
-            Ok(n) => Ok(n),
-            Err(FileFault::Absent) => Err(GetFault::Missing),
-            Err(FileFault::Longer) => Err(GetFault::Longer),
-            Err(FileFault::Failed) => Err(GetFault::Failed),
-            Err(FileFault::Memory) => Err(GetFault::Memory),
-        }
     }
 }
 
 impl<F: Folder> DirStore<F> {
-    /// Writes the file of this id.
-    pub fn write(&mut self, id: &ChunkId, b: &[u8]) -> Result<(), IoFault>
+    // Writes the file of this id.
+    fn write(&mut self, id: &ChunkId, b: &[u8]) -> Result<(), IoFault>
         ensures ok { OnOk result (Puts id.now.0 b.now (F.files self.old) (F.files self.new)) }
         ensures err { OnErr result (LeavesTemporary id.now.0 (F.files self.old) (F.files self.new)) }
         ensures place { F.place self.new ≡ F.place self.old }
-        ensures faults { F.faults self.old ≤ F.faults self.new }
-        ensures cause { result ≡ Err IoFault.Failed → Rose (F.faults self.old) (F.faults self.new) }
+        ensures faults { CountsFaults IoFault.Failed IoFault.Memory (F.faults self.old) (F.faults self.new) result }
     {
         let path = id.path();
         self.folder.put(path.as_str(), b)
@@ -97,8 +75,7 @@ impl<F: Folder> DirStore<F> {
             ≡ option_map (λ m. at_name m id.now.0 None) (option_map chunks (F.files self.old))) }
         ensures err { OnErr result (F.files self.new ≡ F.files self.old) }
         ensures place { F.place self.new ≡ F.place self.old }
-        ensures faults { F.faults self.old ≤ F.faults self.new }
-        ensures cause { result ≡ Err IoFault.Failed → Rose (F.faults self.old) (F.faults self.new) }
+        ensures faults { CountsFaults IoFault.Failed IoFault.Memory (F.faults self.old) (F.faults self.new) result }
     {
         id_has_32_bytes(id);
         path_names_one_id();
@@ -114,8 +91,7 @@ impl<F: Folder> DirStore<F> {
         ensures holds { option_map chunks (F.files self.new) ≡ option_map chunks (F.files self.old) }
         ensures err { OnErr result (F.files self.new ≡ F.files self.old) }
         ensures place { F.place self.new ≡ F.place self.old }
-        ensures faults { F.faults self.old ≤ F.faults self.new }
-        ensures cause { result ≡ Err IoFault.Failed → Rose (F.faults self.old) (F.faults self.new) }
+        ensures faults { CountsFaults IoFault.Failed IoFault.Memory (F.faults self.old) (F.faults self.new) result }
     {
         chunk_is_no_temporary();
         self.folder.remove(name)
@@ -127,13 +103,17 @@ impl<F: Look> Store for DirStore<F> {
     ghost use Rattle.std.specs.Option.{option_map};
     ghost use Rattle.chunk_store.specs.Folders.{chunks};
     ghost use Rattle.chunk_store.specs.Said.{said_by, says_map};
-    ghost use Rattle.dir_store.specs.Stores.{unasked_map, told_map};
+    ghost use Rattle.dir_store.specs.Stores.{lies_map, unasked_map, told_map};
 
     ghost holds = { λ s. option_map chunks (F.files s) };
+
+    ghost folder = { λ s. F.files s };
 
     ghost said = { λ s. said_by (option_map chunks (F.files s)) };
 
     ghost asked = { λ _ _. 0 };
+
+    ghost queried = { λ _ _. 0 };
 
     ghost faults = { λ s. F.faults s };
 
@@ -146,7 +126,14 @@ impl<F: Look> Store for DirStore<F> {
     ghost may_lack_memory = { true };
 
     fn get(&mut self, id: &ChunkId, out: &mut [u8]) -> Result<usize, GetFault> {
-        self.read(id, out)
+        let path = id.path();
+        match self.folder.read(path.as_str(), out) {
+            Ok(n) => Ok(n),
+            Err(FileFault::Absent) => Err(GetFault::Missing),
+            Err(FileFault::Longer) => Err(GetFault::Longer),
+            Err(FileFault::Failed) => Err(GetFault::Failed),
+            Err(FileFault::Memory) => Err(GetFault::Memory),
+        }
     }
 
     fn has(&mut self, id: &ChunkId) -> Result<bool, IoFault> {
@@ -155,6 +142,8 @@ impl<F: Look> Store for DirStore<F> {
     }
 
     ghost says = { λ s. says_map (option_map chunks (F.files s)) };
+
+    ghost lies = { λ s. lies_map (F.files s) };
 
     ghost unasked = { λ s. unasked_map (option_map chunks (F.files s)) };
 

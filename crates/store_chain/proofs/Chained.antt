@@ -3,11 +3,10 @@
 use Rattle.std.proofs.Common.{◌≡◌, ℕ, ◌≤◌, List, ◌++◌, length, map, take, drop, Option, Some, Bool, Ok, Err, Result, IfSome, IfOk, IfErr, slice_index, sym, subst, ap, ◌∙◌}
 use Rattle.std.proofs.lemmas.List.{take-append-le}
 use Rattle.std.proofs.Math.Seq.{take-append_seam}
-use Rattle.std.specs.List.{AllZip}
-use Rattle.chunk_store.specs.Said.{Said, SaysMap, AskedOnce}
-use Rattle.dsy_base.specs.Counts.{Rose, raised}
+use Rattle.chunk_store.specs.Said.{Said, SaysMap}
+use Rattle.dsy_base.specs.Counts.{Rose}
 use Rattle.dsy_base.specs.Maps.{Map}
-use Rattle.store_chain.specs.Chains.{Chained, AsksOnce}
+use Rattle.store_chain.specs.Chains.{KeepsStores, EachOnce}
 use Rattle.store_chain.specs.Faults.{EachQuiet}
 use Rattle.store_chain.specs.Giving.{LacksAll, GivesFirst, Obtains}
 use Rattle.store_chain.specs.Refusals.{Lacked, LackedOrFailed, GivenBy, Refuses, RefusesFrom}
@@ -34,6 +33,14 @@ module _ {S : Type 0} (said : S → Said) (faults : S → ℕ) (lacks_memory : B
       let R : List S → Type 0 = λ l. GivenBy said faults lacks_memory w (take n lent) l new' in
       let T : List S → Type 0 = λ l. GivenBy said faults lacks_memory w (take n lent) old l in
       subst P b (subst Q same (subst R same_old (subst T same_new found)))
+
+  pub absent_in : (r : Result ℕ Refused) → IfErr r (RefusesFrom said faults lacks_memory w 0 old new) → IfErr r (Refuses said faults lacks_memory w' old' new')
+  absent_in (Ok n) told = tt
+  absent_in (Err e) told =
+      let P : Want → Type 0 = λ v. Refuses said faults lacks_memory v old' new' e in
+      let Q : List S → Type 0 = λ l. Refuses said faults lacks_memory w l new' e in
+      let R : List S → Type 0 = λ l. Refuses said faults lacks_memory w old l e in
+      subst P same (subst Q same_old (subst R same_new (refuses said faults lacks_memory w old new e told)))
 
   pub cause_in : (r : Result ℕ Refused) (s : ℕ) → IfErr r (RefusesFrom said faults lacks_memory w 0 old new) → r ≡ Err (refused.StoreFault s)
       → Rose (slice_index (map faults old') s) (slice_index (map faults new') s)
@@ -80,13 +87,19 @@ module _ {S : Type 0} (said : S → Said) (faults : S → ℕ) (lacks_memory : B
         (subst Q (sym same_old) (subst R (sym same_new) quiet)) found (refused_by r lacks)))
 
 -- the chain after the call
-pub asks_in : {S : Type 0} (asked : S → List ℕ → ℕ) (id id' : List ℕ) (old new : Chained S) (stores stores' : List S) (n : ℕ) → id ≡ id' → stores ≡ old.stores → stores' ≡ new.stores
-    → n ≡ old.asks → new.asks ≡ raised n 1 → AllZip (λ a b. AskedOnce (asked a) (asked b) id) stores stores' → AsksOnce asked id' old new
-asks_in {S} asked id id' old new stores stores' n same_id same same_new before after each = record {
-  stores =
-      let P : List S → Type 0 = λ l. AllZip (λ a b. AskedOnce (asked a) (asked b) id') l new.stores in
-      let Q : List S → Type 0 = λ l. AllZip (λ a b. AskedOnce (asked a) (asked b) id') stores l in
-      let R : List ℕ → Type 0 = λ q. AllZip (λ a b. AskedOnce (asked a) (asked b) q) stores stores' in
-      subst P same (subst Q same_new (subst R same_id each));
-  calls = after ∙ ap (λ k. raised k 1) before;
-}
+module _ {S : Type 0} (old old' new new' : List S) (same_old : old ≡ old') (same_new : new ≡ new') where
+  pub kept_in : (holds folder : S → Option (Map (List ℕ))) (place : S → List ℕ) (said : S → Said) (faults : S → ℕ) → KeepsStores holds folder place said faults old new
+      → KeepsStores holds folder place said faults old' new'
+  kept_in holds folder place said faults kept =
+      let P : List S → Type 0 = λ l. KeepsStores holds folder place said faults l new' in
+      let Q : List S → Type 0 = λ l. KeepsStores holds folder place said faults old l in
+      subst P same_old (subst Q same_new kept)
+
+  pub once_in : (count : S → List ℕ → ℕ) (id : List ℕ) → EachOnce count id old new → EachOnce count id old' new'
+  once_in count id each =
+      let P : List S → Type 0 = λ l. EachOnce count id l new' in
+      let Q : List S → Type 0 = λ l. EachOnce count id old l in
+      subst P same_old (subst Q same_new each)
+
+  pub same_in : {Y : Type 0} (f : S → Y) → map f new ≡ map f old → map f new' ≡ map f old'
+  same_in f same = ap (λ l. map f l) (sym same_new) ∙ (same ∙ ap (λ l. map f l) same_old)

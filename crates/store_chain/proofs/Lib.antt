@@ -1,4 +1,5 @@
 pub mod Pairs
+pub mod Kept
 pub mod Turns
 pub mod Told
 pub mod Chained

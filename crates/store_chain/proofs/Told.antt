@@ -83,7 +83,7 @@ module _ {S : Type 0} (said : S → Said) (faults : S → ℕ) (lacks_memory : B
   unfolding Skipped
   skipped x y quiet (inl lacked) = inl lacked
   skipped x y quiet (inr (inl failed)) = absurd (rose_not _ _ quiet failed)
-  skipped x y quiet (inr (inr memory)) = inr memory
+  skipped x y quiet (inr (inr memory)) = inr memory.0
 
   passed_quiet : (A C : S × S → Type 0) (n : ℕ) (old new : List S) → EachQuiet (map faults old) (map faults new)
       → FirstAt (Passed said faults lacks_memory w) A C n (zip old new) → FirstAt Skipped A C n (zip old new)
@@ -103,7 +103,7 @@ module _ {S : Type 0} (said : S → Said) (faults : S → ℕ) (lacks_memory : B
       let P : ℕ → Type 0 = λ k. FirstAt (Lacked said faults lacks_memory w) (Failed faults) (LackedOrFailed said faults lacks_memory w) k (zip old new) in
       let e : h.0 ≡ s = omega (arith, h.1) in
       subst P e h.2
-  refuses old new refused.Memory h = tt
+  refuses old new refused.Memory h = h.1
 
   module _ (holds : S → Option (Map (List ℕ))) (says : (s : S) → IfSome (holds s) (SaysMap (said s))) (old new : List S) (maps : List (Map (List ℕ)))
       (kept : map holds new ≡ map holds old) (told : map holds new ≡ map Some maps) where

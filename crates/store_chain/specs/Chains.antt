@@ -1,20 +1,43 @@
--- What contracts see of a chain.
-use Rattle.std.specs.Prelude.{◌≡◌, ℕ, List, map}
+-- What contracts see of a chain, and what a call on it leaves.
+use Rattle.std.specs.Prelude.{◌≡◌, ℕ, ◌<◌, ◌^◌, List, map, Option}
 use Rattle.std.specs.List.{AllZip}
-use Rattle.chunk_store.specs.Said.{AskedOnce}
+use Rattle.chunk_store.specs.Said.{Said, KeepsOf, AskedOnce}
+use Rattle.chunk_store.specs.declared.id.DigestKind.{DigestKind}
 use Rattle.dsy_base.specs.Counts.{raised}
+use Rattle.dsy_base.specs.Maps.{Map}
+use Rattle.store_chain.specs.Faults.{NoneFalls}
 
--- the stores in their order, and the number of calls of `obtain`
+-- the stores in their order, the number of calls of `obtain`, and the digest that names the chunks
 pub record Chained (S : Type 0) : Type 0 where
   pub stores : List S
   pub asks : ℕ
+  pub kind : DigestKind
 
--- each store was asked at most once more, for this id alone, and the chain counts one call more
-pub record AsksOnce {S : Type 0} (asked : S → List ℕ → ℕ) (id : List ℕ) (old new : Chained S) : Type 0 where
-  pub stores : AllZip (λ a b. AskedOnce (asked a) (asked b) id) old.stores new.stores
+-- stores that are only asked: each holds what it held, and lies where it lay, it says still what it has said, and its
+-- count of faults hasn't fallen
+pub record KeepsStores {S : Type 0} (holds folder : S → Option (Map (List ℕ))) (place : S → List ℕ) (said : S → Said)
+    (faults : S → ℕ) (old new : List S) : Type 0 where
+  pub held : map holds new ≡ map holds old
+  pub files : map folder new ≡ map folder old
+  pub places : map place new ≡ map place old
+  pub says : AllZip (λ a b. (q : List ℕ) → KeepsOf (said a) (said b) q) old new
+  pub never_fall : NoneFalls (map faults old) (map faults new)
+
+-- each store counts at most one question more, and for this id alone
+abbrev pub EachOnce : {S : Type 0} → (S → List ℕ → ℕ) → List ℕ → List S → List S → Type 0
+EachOnce count id old new = AllZip (λ a b. AskedOnce (count a) (count b) id) old new
+
+-- each store was asked for a chunk at most once more, for this id alone, and none whether it has one; the chain counts
+-- one call more
+pub record AsksOnce {S : Type 0} (asked queried : S → List ℕ → ℕ) (id : List ℕ) (old new : Chained S) : Type 0 where
+  pub stores : EachOnce asked id old.stores new.stores
+  pub queries : map queried new.stores ≡ map queried old.stores
   pub calls : new.asks ≡ raised old.asks 1
+  pub below : old.asks < 2 ^ 64
+  pub kind : new.kind ≡ old.kind
 
 -- no store was asked for a chunk, and the chain counts no call
 pub record AsksNone {S : Type 0} (asked : S → List ℕ → ℕ) (old new : Chained S) : Type 0 where
   pub stores : map asked new.stores ≡ map asked old.stores
   pub calls : new.asks ≡ old.asks
+  pub kind : new.kind ≡ old.kind

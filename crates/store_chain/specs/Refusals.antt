@@ -1,5 +1,6 @@
 -- What stores tell where they give no chunk. A pair is a store before a call and after it.
-use Rattle.std.specs.Prelude.{◌≡◌, ◌⊎◌, ℕ, ◌+◌, nat_lt, if◌then◌else◌, List, Bool, true, false, Result, Ok, Err, IsTrue, All}
+use Rattle.std.specs.Prelude.{◌≡◌, ◌⊎◌, ℕ, ◌+◌, nat_lt, if◌then◌else◌, List, Bool, true, false, Result, Ok, Err, IsTrue}
+use Rattle.std.specs.Prelude.{All}
 use Rattle.std.specs.List.{zip}
 use Rattle.chunk_store.specs.Said.{Said}
 use Rattle.chunk_store.specs.declared.shows.Shows.{Shows}
@@ -40,9 +41,12 @@ HasShown w (shows.Length n) s = (b : List ℕ) × s.shown w.id.0 b × ShowsElse 
 abbrev pub Lacks : Want → Said → Type 0
 Lacks w s = s.denied w.id.0 ⊎ ((x : Shows) × HasShown w x s)
 
--- the store of a pair has failed in the call
+-- the store of a pair has failed in the call; it hasn't, since its count is as it was
 abbrev pub Failed : {S : Type 0} → (S → ℕ) → S × S → Type 0
 Failed faults p = Rose (faults p.0) (faults p.1)
+
+abbrev pub Unfailed : {S : Type 0} → (S → ℕ) → S × S → Type 0
+Unfailed faults p = faults p.1 ≡ faults p.0
 
 module _ {S : Type 0} (said : S → Said) (faults : S → ℕ) (lacks_memory : Bool) (w : Want) where
   -- the store of the pair has denied the id; has shown this under it; lacks the chunk
@@ -55,16 +59,20 @@ module _ {S : Type 0} (said : S → Said) (faults : S → ℕ) (lacks_memory : B
   abbrev pub Lacked : S × S → Type 0
   Lacked p = Lacks w (said p.1)
 
+  -- it had no memory, and didn't fail
+  abbrev pub NoMemory : S × S → Type 0
+  NoMemory p = IsTrue lacks_memory × Unfailed faults p
+
   -- one store, which has this number, refused so
   abbrev pub Tells : ℕ → S → S → Refused → Type 0
   Tells number old new refused.Missing = Denied (old, new)
   Tells number old new (refused.Damaged s x) = (s ≡ number) × Showed x (old, new)
   Tells number old new (refused.StoreFault s) = (s ≡ number) × Failed faults (old, new)
-  Tells number old new refused.Memory = IsTrue lacks_memory
+  Tells number old new refused.Memory = NoMemory (old, new)
 
   -- a store before the one that gave: it lacks the chunk, or failed, or had no memory
   abbrev pub Passed : S × S → Type 0
-  Passed p = Lacked p ⊎ (Failed faults p ⊎ IsTrue lacks_memory)
+  Passed p = Lacked p ⊎ (Failed faults p ⊎ NoMemory p)
 
   -- one of the stores has shown the bytes under the id, each before it was passed, and each after it is as before
   abbrev pub GivenBy : List ℕ → List S → List S → Type 0
@@ -75,13 +83,13 @@ module _ {S : Type 0} (said : S → Said) (faults : S → ℕ) (lacks_memory : B
   LackedOrFailed p = Lacked p ⊎ Failed faults p
 
   -- the stores refused so: all have denied the id; or this is the first that has shown something under it, and all lack
-  -- the chunk; or this is the first that failed, and all others lack the chunk or failed too. Want of
-  -- memory is free
+  -- the chunk; or this is the first that failed, and all others lack the chunk or failed too; or one had no memory, and
+  -- each other lacks the chunk, failed, or had none either
   abbrev pub Refuses : List S → List S → Refused → Type 0
   Refuses old new refused.Missing = All Denied (zip old new)
   Refuses old new (refused.Damaged s x) = FirstAt Denied (Showed x) Lacked s (zip old new)
   Refuses old new (refused.StoreFault s) = FirstAt Lacked (Failed faults) LackedOrFailed s (zip old new)
-  Refuses old new refused.Memory = Unit {0}
+  Refuses old new refused.Memory = (k : ℕ) × FirstAt LackedOrFailed NoMemory Passed k (zip old new)
 
   -- so it is where the first of the stores has this number
   abbrev pub RefusesFrom : ℕ → List S → List S → Refused → Type 0
@@ -90,7 +98,7 @@ module _ {S : Type 0} (said : S → Said) (faults : S → ℕ) (lacks_memory : B
       (k : ℕ) × (s ≡ from + k) × FirstAt Denied (Showed x) Lacked k (zip old new)
   RefusesFrom from old new (refused.StoreFault s) =
       (k : ℕ) × (s ≡ from + k) × FirstAt Lacked (Failed faults) LackedOrFailed k (zip old new)
-  RefusesFrom from old new refused.Memory = IsTrue lacks_memory
+  RefusesFrom from old new refused.Memory = IsTrue lacks_memory × Refuses old new refused.Memory
 
 -- the same of the answers of `has` for an id
 module _ {S : Type 0} (said : S → Said) (faults : S → ℕ) (id : List ℕ) where
@@ -101,18 +109,19 @@ module _ {S : Type 0} (said : S → Said) (faults : S → ℕ) (id : List ℕ) w
   abbrev pub DeniedOrFailed : S × S → Type 0
   DeniedOrFailed p = HasDenied p ⊎ Failed faults p
 
-  -- the stores answered so: this is the first that failed, and all others have denied the id or failed too. Want of
-  -- memory is free
+  -- the stores answered so: this is the first that failed, and all others have denied the id or failed too; or one had
+  -- no memory, and didn't fail, and each other has denied the id, failed, or had none either
   abbrev pub HasFails : List S → List S → HasFault → Type 0
   HasFails old new (has.StoreFault s) = FirstAt HasDenied (Failed faults) DeniedOrFailed s (zip old new)
-  HasFails old new has.Memory = Unit {0}
+  HasFails old new has.Memory =
+      (k : ℕ) × FirstAt DeniedOrFailed (Unfailed faults) (λ p. DeniedOrFailed p ⊎ Unfailed faults p) k (zip old new)
 
   -- one store, which has this number, answered so, and stores of which the first has it
   abbrev pub HasTells : Bool → ℕ → S → S → HasFault → Type 0
   HasTells lacks_memory number old new (has.StoreFault s) = (s ≡ number) × Failed faults (old, new)
-  HasTells lacks_memory number old new has.Memory = IsTrue lacks_memory
+  HasTells lacks_memory number old new has.Memory = IsTrue lacks_memory × Unfailed faults (old, new)
 
   abbrev pub HasFailsFrom : Bool → ℕ → List S → List S → HasFault → Type 0
   HasFailsFrom lacks_memory from old new (has.StoreFault s) =
       (k : ℕ) × (s ≡ from + k) × FirstAt HasDenied (Failed faults) DeniedOrFailed k (zip old new)
-  HasFailsFrom lacks_memory from old new has.Memory = IsTrue lacks_memory
+  HasFailsFrom lacks_memory from old new has.Memory = IsTrue lacks_memory × HasFails old new has.Memory

@@ -3,7 +3,6 @@ use Rattle.std.specs.Prelude.{◌≡◌, ◌≢◌, ℕ, ◌<◌, ◌≤◌, Lis
 use Rattle.chunk_store.specs.Names.{name_of}
 use Rattle.chunk_store.specs.declared.id.ChunkId.{ChunkId}
 use Rattle.chunk_store.specs.declared.id.DigestKind.{DigestKind}
-use Rattle.chunk_store.specs.declared.id.DigestKind.TheVariants as kinds
 use Rattle.chunk_store.specs.declared.shows.Shows.{Shows}
 use Rattle.chunk_store.specs.declared.shows.Shows.TheVariants as shows
 use Rattle.store_chain.specs.declared.want.Want.{Want}
@@ -11,10 +10,6 @@ use Rattle.store_chain.specs.declared.want.Want.{Want}
 -- the chunk of this id, of this size where one is given, into so much room. Where a size is given only so much is lent
 abbrev pub want_of : DigestKind → ChunkId → Option ℕ → ℕ → Want
 want_of kind id size room = record { kind = kind; id = id; size = size; lent = unwrap_or size room }
-
--- what `obtain` asks of each store, for an id, a size and a room
-abbrev pub wanted : ChunkId → Option ℕ → ℕ → Want
-wanted id size room = want_of kinds.Sha512T256 id size room
 
 -- the bytes are what is wanted
 pub record IsWanted (w : Want) (b : List ℕ) : Type 0 where

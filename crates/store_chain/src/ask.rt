@@ -1,10 +1,8 @@
 //! Asking stores for a chunk, in turn. What a store gives is named before it is used.
 
 ghost use Rattle.std.specs.Prelude.{◌≡◌, ℕ, List, ◌+◌, ◌^◌, ◌<◌, ◌≤◌, length, take, map, IfOk, IfErr};
-ghost use Rattle.std.specs.List.{AllZip};
 ghost use Rattle.chunk_store.specs.Said.{KeepsOf, AskedOnce};
-ghost use Rattle.dsy_base.specs.Counts.{Rose};
-ghost use Rattle.store_chain.specs.Faults.{NoneFalls};
+ghost use Rattle.store_chain.specs.Chains.{EachOnce, KeepsStores};
 ghost use Rattle.store_chain.specs.Wants.{IsGiven};
 ghost use Rattle.store_chain.specs.Refusals.{Tells, GivenBy, RefusesFrom};
 
@@ -20,9 +18,11 @@ fn ask<S: Store>(store: &mut S, number: u32, want: &Want, out: &mut [u8]) -> Res
         (take n out.new)) }
     ensures err { IfErr result (Tells S.said S.faults S.may_lack_memory want.now number store.old store.new) }
     ensures kept { S.holds store.new ≡ S.holds store.old }
+    ensures files { S.folder store.new ≡ S.folder store.old }
     ensures place { S.place store.new ≡ S.place store.old }
     ensures said { (q : List ℕ) → KeepsOf (S.said store.old) (S.said store.new) q }
     ensures asks { AskedOnce (S.asked store.old) (S.asked store.new) want.now.id.0 }
+    ensures queries { S.queried store.new ≡ S.queried store.old }
     ensures faults { S.faults store.old ≤ S.faults store.new }
 {
     match store.get(&want.id, out) {
@@ -59,11 +59,9 @@ pub fn ask_each<S: Store>(
     ensures found { IfOk result (λ n. GivenBy S.said S.faults S.may_lack_memory want.now (take n out.new)
         stores.old stores.new) }
     ensures err { IfErr result (RefusesFrom S.said S.faults S.may_lack_memory want.now number stores.old stores.new) }
-    ensures kept { map S.holds stores.new ≡ map S.holds stores.old }
-    ensures place { map S.place stores.new ≡ map S.place stores.old }
-    ensures said { AllZip (λ a b. (q : List ℕ) → KeepsOf (S.said a) (S.said b) q) stores.old stores.new }
-    ensures asks { AllZip (λ a b. AskedOnce (S.asked a) (S.asked b) want.now.id.0) stores.old stores.new }
-    ensures faults { NoneFalls (map S.faults stores.old) (map S.faults stores.new) }
+    ensures kept { KeepsStores S.holds S.folder S.place S.said S.faults stores.old stores.new }
+    ensures asks { EachOnce S.asked want.now.id.0 stores.old stores.new }
+    ensures queries { map S.queried stores.new ≡ map S.queried stores.old }
 {
     let Some((first, rest)) = stores.split_first_mut() else {
         return Err(Refused::Missing);

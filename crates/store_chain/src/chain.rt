@@ -1,16 +1,16 @@
 //! Chains of stores, which are asked in order. Stores are numbered from 0, sizes are in bytes.
 
-ghost use Rattle.std.specs.Prelude.{◌≡◌, ℕ, List, ◌≤◌, length, take, map, Option, Some, IfSome, IfOk, IfErr, IsTrue, vec_len, slice_index, is_some, false};
-ghost use Rattle.std.specs.List.{All, AllZip, list_any};
-ghost use Rattle.chunk_store.specs.Said.{KeepsOf};
+ghost use Rattle.std.specs.Prelude.{◌≡◌, ℕ, List, ◌<◌, ◌≤◌, ◌^◌, length, take, map, Option, Some, IfSome, IfOk, IfErr};
+ghost use Rattle.std.specs.Prelude.{IsTrue, vec_len, slice_index, is_some, false};
+ghost use Rattle.std.specs.List.{All, list_any};
 ghost use Rattle.chunk_store.specs.declared.id.DigestKind.TheVariants as kinds;
 ghost use Rattle.dsy_base.specs.Counts.{Rose};
 ghost use Rattle.dsy_base.specs.Maps.{Map};
-ghost use Rattle.store_chain.specs.Chains.{AsksOnce, AsksNone};
-ghost use Rattle.store_chain.specs.Faults.{NoneFalls, EachQuiet};
+ghost use Rattle.store_chain.specs.Chains.{KeepsStores, AsksOnce, AsksNone, EachOnce};
+ghost use Rattle.store_chain.specs.Faults.{EachQuiet};
 ghost use Rattle.store_chain.specs.Giving.{LacksAll, Obtains};
 ghost use Rattle.store_chain.specs.Refusals.{GivenBy, Refuses, HasFails};
-ghost use Rattle.store_chain.specs.Wants.{IsGiven, wanted};
+ghost use Rattle.store_chain.specs.Wants.{IsGiven, want_of};
 
 use crate::ask::ask_each;
 use crate::has::has_each;
@@ -26,6 +26,7 @@ use std::marker::Model;
 pub struct Chain<S: Store> {
     stores: Vec<S>,
     asks: u64,
+    kind: DigestKind,
 }
 
 impl<S: Store> Model for Chain<S> {
@@ -34,36 +35,42 @@ impl<S: Store> Model for Chain<S> {
 
     ghost Value = { Chained S };
 
-    ghost view = { λ c. record { stores = c.stores.items; asks = c.asks } };
+    ghost view = { λ c. record { stores = c.stores.items; asks = c.asks; kind = c.kind } };
 
     ghost invariant = { λ c. (1 ≤ length c.stores.items) × (length c.stores.items ≤ 16) };
 }
 
 impl<S: Store> Chain<S> {
+    /// Chunks are named by SHA-512/256.
     pub fn new(stores: Vec<S>) -> Chain<S>
         requires size { (1 ≤ vec_len stores) × (vec_len stores ≤ 16) }
-        ensures value { result ≡ record { stores = stores.items; asks = 0 } }
+        ensures value { result ≡ record { stores = stores.items; asks = 0; kind = kinds.Sha512T256 } }
     {
-        Chain { stores, asks: 0 }
+        Chain {
+            stores,
+            asks: 0,
+            kind: DigestKind::Sha512T256,
+        }
     }
 
     pub fn into_stores(self) -> Vec<S>
         ensures value { result.items ≡ self.stores }
     {
-        let Chain { stores, asks: _ } = self;
+        let Chain { stores, .. } = self;
         stores
     }
 
     /// Which digest names the chunks.
     pub fn kind(&self) -> DigestKind
-        ensures value { result ≡ kinds.Sha512T256 }
+        ensures value { result ≡ self.now.kind }
     {
-        DigestKind::Sha512T256
+        self.kind
     }
 
     /// The number of calls of `obtain` so far. It stays at its greatest value.
     pub fn asks(&self) -> u64
         ensures value { result ≡ self.now.asks }
+        ensures below { self.now.asks < 2 ^ 64 }
     {
         self.asks
     }
@@ -77,32 +84,29 @@ impl<S: Store> Chain<S> {
         out: &mut [u8],
     ) -> Result<usize, Refused>
         requires inside { IfSome size (λ n. n ≤ length out.old) }
-        ensures ok { IfOk result (λ n. IsGiven (wanted id.now size (length out.old)) n out.new) }
+        ensures ok { IfOk result (λ n. IsGiven (want_of self.old.kind id.now size (length out.old)) n out.new) }
 
         // What the stores have told: of the chunk, or of want of it.
         ensures found { IfOk result (λ n. GivenBy S.said S.faults S.may_lack_memory
-            (wanted id.now size (length out.old)) (take n out.new) self.old.stores self.new.stores) }
+            (want_of self.old.kind id.now size (length out.old)) (take n out.new) self.old.stores self.new.stores) }
         ensures absent { IfErr result (Refuses S.said S.faults S.may_lack_memory
-            (wanted id.now size (length out.old)) self.old.stores self.new.stores) }
+            (want_of self.old.kind id.now size (length out.old)) self.old.stores self.new.stores) }
 
         // What stores hold that tell it.
         ensures first { (maps : List (Map (List ℕ))) → map S.holds self.old.stores ≡ map Some maps →
-            IfErr result (LacksAll (wanted id.now size (length out.old)) maps) }
+            IfErr result (LacksAll (want_of self.old.kind id.now size (length out.old)) maps) }
         ensures exactly { (maps : List (Map (List ℕ))) → map S.holds self.old.stores ≡ map Some maps →
             EachQuiet (map S.faults self.old.stores) (map S.faults self.new.stores) →
-            Obtains S.may_lack_memory (wanted id.now size (length out.old)) maps result out.new }
+            Obtains S.may_lack_memory (want_of self.old.kind id.now size (length out.old)) maps result out.new }
 
         ensures only { result ≡ Err Refused.Memory → IsTrue S.may_lack_memory }
         ensures cause { (s : ℕ) → result ≡ Err (Refused.StoreFault s) →
             Rose (slice_index (map S.faults self.old.stores) s) (slice_index (map S.faults self.new.stores) s) }
 
-        ensures kept { map S.holds self.new.stores ≡ map S.holds self.old.stores }
-        ensures place { map S.place self.new.stores ≡ map S.place self.old.stores }
-        ensures said { AllZip (λ a b. (q : List ℕ) → KeepsOf (S.said a) (S.said b) q) self.old.stores self.new.stores }
-        ensures asks { AsksOnce S.asked id.now.0 self.old self.new }
-        ensures faults { NoneFalls (map S.faults self.old.stores) (map S.faults self.new.stores) }
+        ensures kept { KeepsStores S.holds S.folder S.place S.said S.faults self.old.stores self.new.stores }
+        ensures asks { AsksOnce S.asked S.queried id.now.0 self.old self.new }
     {
-        let want = Want::of(self.kind(), id, size, out.len());
+        let want = Want::of(self.kind, id, size, out.len());
         self.asks = raise(self.asks, 1);
         let (lent, _) = out.split_at_mut(want.lent);
         ask_each(self.stores.as_mut_slice(), 0, &want, lent)
@@ -119,11 +123,9 @@ impl<S: Store> Chain<S> {
         ensures cause { (s : ℕ) → result ≡ Err (HasFault.StoreFault s) →
             Rose (slice_index (map S.faults self.old.stores) s) (slice_index (map S.faults self.new.stores) s) }
 
-        ensures kept { map S.holds self.new.stores ≡ map S.holds self.old.stores }
-        ensures place { map S.place self.new.stores ≡ map S.place self.old.stores }
-        ensures said { AllZip (λ a b. (q : List ℕ) → KeepsOf (S.said a) (S.said b) q) self.old.stores self.new.stores }
+        ensures kept { KeepsStores S.holds S.folder S.place S.said S.faults self.old.stores self.new.stores }
         ensures asks { AsksNone S.asked self.old self.new }
-        ensures faults { NoneFalls (map S.faults self.old.stores) (map S.faults self.new.stores) }
+        ensures queries { EachOnce S.queried id.now.0 self.old.stores self.new.stores }
     {
         has_each(self.stores.as_mut_slice(), 0, id)
     }

@@ -1,10 +1,11 @@
 //! Asking stores whether they have a chunk, in turn.
 
-ghost use Rattle.std.specs.Prelude.{◌≡◌, ℕ, List, ◌+◌, ◌^◌, ◌<◌, ◌≤◌, length, map, Some, IfSome, IfOk, IfErr, is_some, false};
-ghost use Rattle.std.specs.List.{All, AllZip, list_any};
-ghost use Rattle.chunk_store.specs.Said.{KeepsOf};
+ghost use Rattle.std.specs.Prelude.{◌≡◌, ℕ, List, ◌+◌, ◌^◌, ◌<◌, ◌≤◌, length, map, Some, IfSome, IfOk, IfErr, is_some};
+ghost use Rattle.std.specs.Prelude.{false};
+ghost use Rattle.std.specs.List.{All, list_any};
+ghost use Rattle.chunk_store.specs.Said.{KeepsOf, AskedOnce};
 ghost use Rattle.dsy_base.specs.Maps.{Map};
-ghost use Rattle.store_chain.specs.Faults.{NoneFalls};
+ghost use Rattle.store_chain.specs.Chains.{EachOnce, KeepsStores};
 ghost use Rattle.store_chain.specs.Refusals.{HasTells, HasFailsFrom};
 
 use crate::refused::HasFault;
@@ -18,9 +19,11 @@ fn has_one<S: Store>(store: &mut S, number: u32, id: &ChunkId) -> Result<bool, H
     ensures absent { result ≡ Ok false → (S.said store.new).denied id.now.0 }
     ensures err { IfErr result (HasTells S.said S.faults id.now.0 S.may_lack_memory number store.old store.new) }
     ensures kept { S.holds store.new ≡ S.holds store.old }
+    ensures files { S.folder store.new ≡ S.folder store.old }
     ensures place { S.place store.new ≡ S.place store.old }
     ensures said { (q : List ℕ) → KeepsOf (S.said store.old) (S.said store.new) q }
     ensures asks { S.asked store.new ≡ S.asked store.old }
+    ensures queries { AskedOnce (S.queried store.old) (S.queried store.new) id.now.0 }
     ensures faults { S.faults store.old ≤ S.faults store.new }
 {
     match store.has(id) {
@@ -37,11 +40,9 @@ pub fn has_each<S: Store>(stores: &mut [S], number: u32, id: &ChunkId) -> Result
         IfOk result (λ b. b ≡ list_any (λ m. is_some (m id.now.0)) maps) }
     ensures absent { result ≡ Ok false → All (λ s. (S.said s).denied id.now.0) stores.new }
     ensures err { IfErr result (HasFailsFrom S.said S.faults id.now.0 S.may_lack_memory number stores.old stores.new) }
-    ensures kept { map S.holds stores.new ≡ map S.holds stores.old }
-    ensures place { map S.place stores.new ≡ map S.place stores.old }
-    ensures said { AllZip (λ a b. (q : List ℕ) → KeepsOf (S.said a) (S.said b) q) stores.old stores.new }
+    ensures kept { KeepsStores S.holds S.folder S.place S.said S.faults stores.old stores.new }
     ensures asks { map S.asked stores.new ≡ map S.asked stores.old }
-    ensures faults { NoneFalls (map S.faults stores.old) (map S.faults stores.new) }
+    ensures queries { EachOnce S.queried id.now.0 stores.old stores.new }
 {
     let Some((first, rest)) = stores.split_first_mut() else {
         return Ok(false);

@@ -41,6 +41,8 @@ impl Store for Told {
 
     ghost asked = { λ _ _. 0 };
 
+    ghost queried = { λ _ _. 0 };
+
     ghost faults = { λ s. s.faults };
 
     ghost place = { λ _. [] };
@@ -82,6 +84,8 @@ impl Store for Told {
     }
 
     ghost says = { λ _. tt };
+
+    ghost lies = { λ _. tt };
 
     ghost unasked = { λ _. tt };
 
