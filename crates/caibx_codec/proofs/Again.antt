@@ -1,5 +1,5 @@
 -- What is spelled so is read: the bytes of an index file are read without a fault, to the end.
-use Rattle.std.proofs.Common.{◌≡◌, ◌≢◌, ℕ, ◌+◌, ◌-◌, ◌*◌, ◌^◌, ◌<◌, ◌≤◌, true, false, cond, eqb, nat_lt, nat_le, bit_and, List, [], ◌∷◌, ◌++◌, length, Ok, Err, refl, sym, ap, ◌∙◌, arith, append_assoc, lit<}
+use Rattle.std.proofs.Common.{◌≡◌, ℕ, ◌+◌, ◌-◌, ◌*◌, ◌^◌, ◌<◌, ◌≤◌, true, false, cond, eqb, nat_lt, nat_le, bit_and, List, [], ◌∷◌, ◌++◌, length, Ok, Err, refl, sym, ap, ◌∙◌, arith, append_assoc, lit<}
 use Rattle.std.specs.Int.{w64, from_le_bytes}
 use Rattle.std.specs.List.{AllByRecursion}
 use Rattle.std.proofs.lemmas.Bool.Decides.{nat_tests}
@@ -14,7 +14,7 @@ use Rattle.caibx_codec.specs.Listing.{Listing, IsValid, AreChunks}
 use Rattle.caibx_codec.specs.Spelling.{word, words, item, items, spelling, IsIndexFile, front_words, tail_words}
 use Rattle.caibx_codec.specs.Reading.{Read, need, word_at, end_judged, judge, judge_at, push, reads, start, listing_of, is_whole, index_in, ◌>>=◌}
 use Rattle.caibx_codec.specs.Standing.{last_end}
-use Rattle.caibx_codec.proofs.Fields.{judge_word, judge_id}
+use Rattle.caibx_codec.proofs.Fields.{judge_word, judge_id, no_id, no_end}
 use Rattle.caibx_codec.proofs.Pieces.{reads_one, reads_none}
 use Rattle.caibx_codec.proofs.Steps.{ok_is}
 
@@ -51,10 +51,10 @@ abbrev at : Fields → List (ℕ × List ℕ) → Read
 at s es = record { fields = s; entries = es; part = [] }
 
 -- a word that is right
-reads_word : (s t : Fields) (es : List (ℕ × List ℕ)) (w : ℕ) (rest : List ℕ) → need s.next ≡ 8 → s.next ≢ field.Id → s.next ≢ field.Nothing → w < 2 ^ 64 → word_at s.next s (length es) w ≡ Ok t → reads (at s es) (word w ++ rest) ≡ reads (at t es) rest
-reads_word s t es w rest wide not_id not_nothing small right =
+reads_word : (s t : Fields) (es : List (ℕ × List ℕ)) (w : ℕ) (rest : List ℕ) → need s.next ≡ 8 → w < 2 ^ 64 → word_at s.next s (length es) w ≡ Ok t → reads (at s es) (word w ++ rest) ≡ reads (at t es) rest
+reads_word s t es w rest wide small right =
     let again : from_le_bytes w64 (word w) ≡ w = from_le_bytes-to_le_bytes_8 w small in
-    let made : judge (at s es) (word w) ≡ Ok (at t es) = judge_word (at s es) (word w) not_id not_nothing ∙ ap (λ n. word_at s.next s (length es) n >>= λ u. Ok (at u es)) again ∙ ap (λ a. a >>= λ u. Ok (at u es)) right in
+    let made : judge (at s es) (word w) ≡ Ok (at t es) = judge_word (at s es) (word w) (no_id s.next wide) (no_end s.next wide) ∙ ap (λ n. word_at s.next s (length es) n >>= λ u. Ok (at u es)) again ∙ ap (λ a. a >>= λ u. Ok (at u es)) right in
     reads_field (at s es) _ _ rest (sym wide) ∙ ap (λ a. a >>= λ u. reads u rest) made
 
 -- ---- the items
@@ -91,7 +91,7 @@ module _ (flags min avg max : ℕ) (small : max ≤ 67108864) where
   reads_items done [] from rest chunks ids few bound =
       ap (reads (at (fields field.End from) done)) (none_left rest) ∙ ap (λ es. reads (at (fields field.End from) es) rest) (sym (append-nil done))
   reads_items done (e ∷ es) from rest chunks ids few bound =
-      let end = reads_word (fields field.End from) (fields field.Id e.0) done e.0 (e.1 ++ (items es ++ rest)) refl (λ h. (cc)) (λ h. (cc)) (omega (arith, chunks.1, small)) (end_right done from e.0 (omega arith) chunks.0 chunks.1) in
+      let end = reads_word (fields field.End from) (fields field.Id e.0) done e.0 (e.1 ++ (items es ++ rest)) refl (omega (arith, chunks.1, small)) (end_right done from e.0 (omega arith) chunks.0 chunks.1) in
       let id = reads_id done e.0 e.1 (items es ++ rest) ids.0.size in
       let more : length (done ++ (e.0, e.1) ∷ []) + length es ≤ 4194304 = omega (arith, length-append done ((e.0, e.1) ∷ [])) in
       let others = reads_items (done ++ (e.0, e.1) ∷ []) es e.0 rest chunks.2 ids.1 more (omega (arith, chunks.1, small)) in
@@ -121,30 +121,23 @@ reads_front : (l : Listing) → IsValid l → (rest : List ℕ) → reads start 
 unfolding start word_at
 reads_front l valid rest =
     let dig : ℕ = 0x2000000000000000 in
-    let w1 = words (0x96824d9c7b129ff9 ∷ l.flags ∷ l.least ∷ l.average ∷ l.greatest ∷ 0xffffffffffffffff ∷ 0xe75b9e112f17417d ∷ []) ++ rest in
-    let w2 = words (l.flags ∷ l.least ∷ l.average ∷ l.greatest ∷ 0xffffffffffffffff ∷ 0xe75b9e112f17417d ∷ []) ++ rest in
-    let w3 = words (l.least ∷ l.average ∷ l.greatest ∷ 0xffffffffffffffff ∷ 0xe75b9e112f17417d ∷ []) ++ rest in
-    let w4 = words (l.average ∷ l.greatest ∷ 0xffffffffffffffff ∷ 0xe75b9e112f17417d ∷ []) ++ rest in
-    let w5 = words (l.greatest ∷ 0xffffffffffffffff ∷ 0xe75b9e112f17417d ∷ []) ++ rest in
-    let w6 = words (0xffffffffffffffff ∷ 0xe75b9e112f17417d ∷ []) ++ rest in
-    let w7 = words (0xe75b9e112f17417d ∷ []) ++ rest in
-    reads_word (head field.HeadSize dig 0 0 0) (head field.HeadType dig 0 0 0) [] 48 w1 refl (λ h. (cc)) (λ h. (cc)) (lit< tt) refl
-    ∙ reads_word (head field.HeadType dig 0 0 0) (head field.Flags dig 0 0 0) [] 0x96824d9c7b129ff9 w2 refl (λ h. (cc)) (λ h. (cc)) (lit< tt) refl
-    ∙ reads_word (head field.Flags dig 0 0 0) (head field.Min l.flags 0 0 0) [] l.flags w3 refl (λ h. (cc)) (λ h. (cc)) valid.flags (flags_right l.flags valid.digest)
-    ∙ reads_word (head field.Min l.flags 0 0 0) (head field.Avg l.flags l.least 0 0) [] l.least w4 refl (λ h. (cc)) (λ h. (cc)) valid.least refl
-    ∙ reads_word (head field.Avg l.flags l.least 0 0) (head field.Max l.flags l.least l.average 0) [] l.average w5 refl (λ h. (cc)) (λ h. (cc)) valid.average refl
-    ∙ reads_word (head field.Max l.flags l.least l.average 0) (head field.TableSize l.flags l.least l.average l.greatest) [] l.greatest w6 refl (λ h. (cc)) (λ h. (cc)) (omega (arith, valid.size)) (max_right l.flags l.least l.average l.greatest valid.size)
-    ∙ reads_word (head field.TableSize l.flags l.least l.average l.greatest) (head field.TableType l.flags l.least l.average l.greatest) [] 0xffffffffffffffff w7 refl (λ h. (cc)) (λ h. (cc)) (lit< tt) refl
-    ∙ reads_word (head field.TableType l.flags l.least l.average l.greatest) (head field.End l.flags l.least l.average l.greatest) [] 0xe75b9e112f17417d rest refl (λ h. (cc)) (λ h. (cc)) (lit< tt) refl
+    reads_word (head field.HeadSize dig 0 0 0) (head field.HeadType dig 0 0 0) [] 48 _ refl (lit< tt) refl
+    ∙ reads_word (head field.HeadType dig 0 0 0) (head field.Flags dig 0 0 0) [] 0x96824d9c7b129ff9 _ refl (lit< tt) refl
+    ∙ reads_word (head field.Flags dig 0 0 0) (head field.Min l.flags 0 0 0) [] l.flags _ refl valid.flags (flags_right l.flags valid.digest)
+    ∙ reads_word (head field.Min l.flags 0 0 0) (head field.Avg l.flags l.least 0 0) [] l.least _ refl valid.least refl
+    ∙ reads_word (head field.Avg l.flags l.least 0 0) (head field.Max l.flags l.least l.average 0) [] l.average _ refl valid.average refl
+    ∙ reads_word (head field.Max l.flags l.least l.average 0) (head field.TableSize l.flags l.least l.average l.greatest) [] l.greatest _ refl (omega (arith, valid.size)) (max_right l.flags l.least l.average l.greatest valid.size)
+    ∙ reads_word (head field.TableSize l.flags l.least l.average l.greatest) (head field.TableType l.flags l.least l.average l.greatest) [] 0xffffffffffffffff _ refl (lit< tt) refl
+    ∙ reads_word (head field.TableType l.flags l.least l.average l.greatest) (head field.End l.flags l.least l.average l.greatest) [] 0xe75b9e112f17417d rest refl (lit< tt) refl
 
 reads_tail : (l : Listing) (offset size : ℕ) → offset < 2 ^ 64 → size < 2 ^ 64 → reads (at (tail field.End l 0 0) l.entries) (words (tail_words offset size)) ≡ Ok (at (tail field.Nothing l offset size) l.entries)
 unfolding word_at end_judged
 reads_tail l offset size offset_fits size_fits =
-    reads_word (tail field.End l 0 0) (tail field.Zero l 0 0) l.entries 0 (words (0 ∷ offset ∷ size ∷ 0x4b4f050e5549ecd1 ∷ [])) refl (λ h. (cc)) (λ h. (cc)) (lit< tt) refl
-    ∙ reads_word (tail field.Zero l 0 0) (tail field.Offset l 0 0) l.entries 0 (words (offset ∷ size ∷ 0x4b4f050e5549ecd1 ∷ [])) refl (λ h. (cc)) (λ h. (cc)) (lit< tt) refl
-    ∙ reads_word (tail field.Offset l 0 0) (tail field.Size l offset 0) l.entries offset (words (size ∷ 0x4b4f050e5549ecd1 ∷ [])) refl (λ h. (cc)) (λ h. (cc)) offset_fits refl
-    ∙ reads_word (tail field.Size l offset 0) (tail field.Marker l offset size) l.entries size (words (0x4b4f050e5549ecd1 ∷ [])) refl (λ h. (cc)) (λ h. (cc)) size_fits refl
-    ∙ reads_word (tail field.Marker l offset size) (tail field.Nothing l offset size) l.entries 0x4b4f050e5549ecd1 [] refl (λ h. (cc)) (λ h. (cc)) (lit< tt) refl
+    reads_word (tail field.End l 0 0) (tail field.Zero l 0 0) l.entries 0 _ refl (lit< tt) refl
+    ∙ reads_word (tail field.Zero l 0 0) (tail field.Offset l 0 0) l.entries 0 _ refl (lit< tt) refl
+    ∙ reads_word (tail field.Offset l 0 0) (tail field.Size l offset 0) l.entries offset _ refl offset_fits refl
+    ∙ reads_word (tail field.Size l offset 0) (tail field.Marker l offset size) l.entries size _ refl size_fits refl
+    ∙ reads_word (tail field.Marker l offset size) (tail field.Nothing l offset size) l.entries 0x4b4f050e5549ecd1 [] refl (lit< tt) refl
     ∙ reads_none (at (tail field.Nothing l offset size) l.entries)
 
 reads_spelling : (l : Listing) (offset size : ℕ) → IsValid l → offset < 2 ^ 64 → size < 2 ^ 64 → reads start (spelling l offset size) ≡ Ok (at (tail field.Nothing l offset size) l.entries)

@@ -1,5 +1,5 @@
 -- The fields and their judgement, case by case.
-use Rattle.std.proofs.Common.{◌≡◌, ◌≢◌, ℕ, ◌<◌, ◌≤◌, List, [], ◌∷◌, ◌++◌, length, Result, Ok, Err, refl, sym, ap, subst, ◌∙◌, lit<, lit≤}
+use Rattle.std.proofs.Common.{◌≡◌, ◌≢◌, ℕ, ◌<◌, ◌≤◌, List, [], ◌∷◌, ◌++◌, length, Result, Ok, Err, refl, sym, ap, subst, ◌∙◌, lit<, lit≤, arith}
 use Rattle.std.specs.Int.{w64, from_le_bytes}
 use Rattle.caibx_codec.specs.declared.fault.IndexFault.{IndexFault}
 use Rattle.caibx_codec.specs.declared.fault.IndexFault.TheVariants as faults
@@ -17,6 +17,15 @@ pub need_most : (f : Field) → need f ≤ 32
 need_most field.Id = lit≤ tt
 need_most field.Nothing = lit≤ tt
 need_most _ = lit≤ tt
+
+-- a field of eight bytes is a word
+pub no_id : (f : Field) → need f ≡ 8 → f ≢ field.Id
+no_id field.Id wide h = absurd (omega arith)
+no_id _ wide h = absurd (cc)
+
+pub no_end : (f : Field) → need f ≡ 8 → f ≢ field.Nothing
+no_end field.Nothing wide h = absurd (omega arith)
+no_end _ wide h = absurd (cc)
 
 judge_id_at : (f : Field) (r : Read) (b : List ℕ) → f ≡ field.Id → judge_at f r b ≡ Ok (record { fields = to r.fields field.End; entries = r.entries ++ (r.fields.end, b) ∷ []; part = [] })
 unfolding judge_at
@@ -65,3 +74,6 @@ module _ (r seen : Read) (is : seen ≡ r) (b : List ℕ) (k w : ℕ) (counted :
 -- an id, as the code does it
 pub id_passes : (r seen : Read) → seen ≡ r → (b : List ℕ) → seen.fields.next ≡ field.Id → (es : List (ℕ × List ℕ)) → es ≡ seen.entries ++ (seen.fields.end, b) ∷ [] → judge r b ≡ Ok (record { fields = to seen.fields field.End; entries = es; part = [] })
 id_passes r seen is b next es more = subst (λ x. judge x b ≡ Ok (record { fields = to seen.fields field.End; entries = es; part = [] })) is (rw more (judge_id seen b next))
+
+-- what a field that stands whole is judged by
+pub ruleset judging = (need_least, judge_id, judge_nothing)

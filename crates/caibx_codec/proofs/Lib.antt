@@ -3,9 +3,11 @@ pub mod Fields
 pub mod Pieces
 pub mod Steps
 pub mod Taken
+pub mod Continued
 pub mod Again
 pub mod Answered
 pub mod Views
 pub mod Written
 pub mod Valid
 pub mod Rules
+pub mod Largest

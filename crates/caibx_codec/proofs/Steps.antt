@@ -62,6 +62,10 @@ fixed f s es n w e made t step h =
 free : (f : Field) (s : Fields) (es : List (ℕ × List ℕ)) (w : ℕ) (made t : Fields) → Step f s es w made → (let r : Result Fields IndexFault = Ok made in r) ≡ Ok t → Step f s es w t
 free f s es w made t step h = subst (λ x. Step f s es w x) (ok_is made t h) step
 
+-- what was read before field f is sound before field g too, where the end that was read last fits there
+moved : (f g : Field) (s : Fields) (es : List (ℕ × List ℕ)) → IsSound f s es → EndFits g (to s g) es → IsSound g (to s g) es
+moved f g s es sound fits = record { valid = sound.valid; end = fits; offset = sound.offset; size = sound.size }
+
 no_chunks : (g : ℕ) (es : List (ℕ × List ℕ)) → es ≡ [] → AreChunks g 0 es
 no_chunks g es h = subst (λ x. AreChunks g 0 x) (sym h) tt
 
@@ -84,7 +88,7 @@ end_step : (s : Fields) (es : List (ℕ × List ℕ)) (w : ℕ) (t : Fields) →
 unfolding end_judged before EndFits
 end_step s es w t small sound h =
     chosen (eqb w 0) (to s field.Zero) t _ (Step field.End s es w) h
-    (λ is. let same : w ≡ 0 = eqb-true w 0 is in subst (λ x. Step field.End s es x (to s field.Zero)) (sym same) (refl, record { valid = sound.valid; end = sound.end; offset = sound.offset; size = sound.size }))
+    (λ is. let same : w ≡ 0 = eqb-true w 0 is in subst (λ x. Step field.End s es x (to s field.Zero)) (sym same) (refl, moved field.End field.Zero s es sound sound.end))
     (λ is more.
     let room = guard_ok (nat_le 4194304 (length es)) faults.Items _ t more in
     let above = guard_ok (nat_le w s.end) (faults.Order (length es)) _ t room.1 in
@@ -99,9 +103,9 @@ end_step s es w t small sound h =
 word_step : (f : Field) (s : Fields) (es : List (ℕ × List ℕ)) (w : ℕ) (t : Fields) → w < 2 ^ 64 → IsSound f s es → word_at f s (length es) w ≡ Ok t → Step f s es w t
 unfolding word_at before EndFits
 word_step field.HeadSize s es w t small sound h =
-    fixed field.HeadSize s es 48 w faults.Head (to s field.HeadType) t (refl, record { valid = sound.valid; end = sound.end; offset = sound.offset; size = sound.size }) h
+    fixed field.HeadSize s es 48 w faults.Head (to s field.HeadType) t (refl, moved field.HeadSize field.HeadType s es sound sound.end) h
 word_step field.HeadType s es w t small sound h =
-    fixed field.HeadType s es 0x96824d9c7b129ff9 w faults.Head (to s field.Flags) t (refl, record { valid = sound.valid; end = sound.end; offset = sound.offset; size = sound.size }) h
+    fixed field.HeadType s es 0x96824d9c7b129ff9 w faults.Head (to s field.Flags) t (refl, moved field.HeadType field.Flags s es sound sound.end) h
 word_step field.Flags s es w t small sound h =
     let g = guard_ok (nat_le (bit_and w 0x2000000000000000) 0) (faults.Digest w) _ t h in
     let v = sound.valid in
@@ -117,20 +121,20 @@ word_step field.Max s es w t small sound h =
     let v = sound.valid in
     free field.Max s es w (record s { next = field.TableSize; max = w }) t (refl, record { valid = record { digest = v.digest; size = no_more 67108864 w g.0; few = v.few; chunks = no_chunks w es sound.end.0; ids = v.ids; flags = v.flags; least = v.least; average = v.average }; end = sound.end; offset = sound.offset; size = sound.size }) g.1
 word_step field.TableSize s es w t small sound h =
-    fixed field.TableSize s es 0xffffffffffffffff w faults.Table (to s field.TableType) t (refl, record { valid = sound.valid; end = sound.end; offset = sound.offset; size = sound.size }) h
+    fixed field.TableSize s es 0xffffffffffffffff w faults.Table (to s field.TableType) t (refl, moved field.TableSize field.TableType s es sound sound.end) h
 word_step field.TableType s es w t small sound h =
     let last : s.end ≡ last_end 0 es = subst (λ x. s.end ≡ last_end 0 x) (sym sound.end.0) sound.end.1 in
-    fixed field.TableType s es 0xe75b9e112f17417d w faults.Table (to s field.End) t (items_begin (front s) es sound.end.0, record { valid = sound.valid; end = last; offset = sound.offset; size = sound.size }) h
+    fixed field.TableType s es 0xe75b9e112f17417d w faults.Table (to s field.End) t (items_begin (front s) es sound.end.0, moved field.TableType field.End s es sound last) h
 word_step field.End s es w t small sound h = end_step s es w t small sound h
 word_step field.Id s es w t small sound h = absurd (cc)
 word_step field.Zero s es w t small sound h =
-    fixed field.Zero s es 0 w faults.Tail (to s field.Offset) t (sym (append_assoc (front s ++ items es) (words (0 ∷ [])) (word 0)), record { valid = sound.valid; end = sound.end; offset = sound.offset; size = sound.size }) h
+    fixed field.Zero s es 0 w faults.Tail (to s field.Offset) t (sym (append_assoc (front s ++ items es) (words (0 ∷ [])) (word 0)), moved field.Zero field.Offset s es sound sound.end) h
 word_step field.Offset s es w t small sound h =
     free field.Offset s es w (record s { next = field.Size; offset = w }) t (sym (append_assoc (front s ++ items es) (words (0 ∷ 0 ∷ [])) (word w)), record { valid = sound.valid; end = sound.end; offset = small; size = sound.size }) h
 word_step field.Size s es w t small sound h =
     free field.Size s es w (record s { next = field.Marker; size = w }) t (sym (append_assoc (front s ++ items es) (words (0 ∷ 0 ∷ s.offset ∷ [])) (word w)), record { valid = sound.valid; end = sound.end; offset = sound.offset; size = small }) h
 word_step field.Marker s es w t small sound h =
-    fixed field.Marker s es 0x4b4f050e5549ecd1 w faults.Tail (to s field.Nothing) t (sym (append_assoc (front s ++ items es) (words (0 ∷ 0 ∷ s.offset ∷ s.size ∷ [])) (word 0x4b4f050e5549ecd1)), record { valid = sound.valid; end = sound.end; offset = sound.offset; size = sound.size }) h
+    fixed field.Marker s es 0x4b4f050e5549ecd1 w faults.Tail (to s field.Nothing) t (sym (append_assoc (front s ++ items es) (words (0 ∷ 0 ∷ s.offset ∷ s.size ∷ [])) (word 0x4b4f050e5549ecd1)), moved field.Marker field.Nothing s es sound sound.end) h
 word_step field.Nothing s es w t small sound h = absurd (cc)
 
 -- ---- an item more
@@ -155,7 +159,7 @@ pub item_is : (end : ℕ) (id : List ℕ) → item (end, id) ≡ word end ++ id
 unfolding item
 item_is end id = refl
 
-id_step : (s : Fields) (es : List (ℕ × List ℕ)) (id : List ℕ) → IsId id → IsSound field.Id s es → (before field.End (to s field.End) (es ++ (s.end, id) ∷ []) ≡ before field.Id s es ++ id) × IsSound field.End (to s field.End) (es ++ (s.end, id) ∷ [])
+pub id_step : (s : Fields) (es : List (ℕ × List ℕ)) (id : List ℕ) → IsId id → IsSound field.Id s es → (before field.End (to s field.End) (es ++ (s.end, id) ∷ []) ≡ before field.Id s es ++ id) × IsSound field.End (to s field.End) (es ++ (s.end, id) ∷ [])
 unfolding before EndFits
 id_step s es id is sound =
     let more : items (es ++ (s.end, id) ∷ []) ≡ items es ++ (word s.end ++ id) = items_more es (s.end, id) ∙ ap (λ x. items es ++ x) (item_is s.end id) in
@@ -207,19 +211,7 @@ judged_at field.Id r b t len fits sound h =
     let step = id_step r.fields r.entries b (record { bytes = fits; size = len }) sound in
     subst (Judged field.Id r b) (ok_is made t h) (record { bytes = step.0; sound = step.1; none = refl })
 judged_at field.Nothing r b t len fits sound h = absurd (cc)
-judged_at field.HeadSize r b t len fits sound h = judged_word field.HeadSize r b t len fits sound h
-judged_at field.HeadType r b t len fits sound h = judged_word field.HeadType r b t len fits sound h
-judged_at field.Flags r b t len fits sound h = judged_word field.Flags r b t len fits sound h
-judged_at field.Min r b t len fits sound h = judged_word field.Min r b t len fits sound h
-judged_at field.Avg r b t len fits sound h = judged_word field.Avg r b t len fits sound h
-judged_at field.Max r b t len fits sound h = judged_word field.Max r b t len fits sound h
-judged_at field.TableSize r b t len fits sound h = judged_word field.TableSize r b t len fits sound h
-judged_at field.TableType r b t len fits sound h = judged_word field.TableType r b t len fits sound h
-judged_at field.End r b t len fits sound h = judged_word field.End r b t len fits sound h
-judged_at field.Zero r b t len fits sound h = judged_word field.Zero r b t len fits sound h
-judged_at field.Offset r b t len fits sound h = judged_word field.Offset r b t len fits sound h
-judged_at field.Size r b t len fits sound h = judged_word field.Size r b t len fits sound h
-judged_at field.Marker r b t len fits sound h = judged_word field.Marker r b t len fits sound h
+judged_at f r b t len fits sound h = judged_word f r b t len fits sound h
 
 pub judged : (r : Read) (b : List ℕ) (t : Read) → length b ≡ need r.fields.next → IsBytes b → IsSound r.fields.next r.fields r.entries → judge r b ≡ Ok t → Judged r.fields.next r b t
 judged r b t len fits sound h = judged_at r.fields.next r b t len fits sound h

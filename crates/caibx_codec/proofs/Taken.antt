@@ -1,5 +1,5 @@
 -- What was read is spelled so: bytes that are read without a fault are those that the reader stands for.
-use Rattle.std.proofs.Common.{◌≡◌, ℕ, zero, suc, ◌+◌, ◌*◌, ◌<◌, ◌≤◌, Bool, true, false, cond, nat_lt, List, [], ◌∷◌, ◌++◌, length, Result, Ok, refl, sym, ap, subst, ◌∙◌, arith, append_assoc, lit<, lit≤}
+use Rattle.std.proofs.Common.{◌≡◌, ℕ, zero, suc, ◌+◌, ◌*◌, ◌<◌, ◌≤◌, Bool, true, false, cond, nat_lt, List, [], ◌∷◌, ◌++◌, length, take, Result, Ok, refl, sym, ap, subst, ◌∙◌, arith, append_assoc, lit<, lit≤}
 use Rattle.std.specs.List.{AllByRecursion}
 use Rattle.std.proofs.lemmas.Bool.Decides.{nat_tests}
 use Rattle.std.proofs.lemmas.List.{append-nil, length-append, nil_from_length}
@@ -8,8 +8,8 @@ use Rattle.caibx_codec.specs.declared.fault.IndexFault.{IndexFault}
 use Rattle.caibx_codec.specs.declared.field.Field.{Field}
 use Rattle.caibx_codec.specs.declared.field.Field.TheVariants as field
 use Rattle.caibx_codec.specs.declared.field.Fields.{Fields}
-use Rattle.caibx_codec.specs.Spelling.{word, words, item, items, spelling, IsIndexFile}
-use Rattle.caibx_codec.specs.Reading.{Read, need, place_of, judge, push, reads, start, listing_of, is_whole, ◌>>=◌}
+use Rattle.caibx_codec.specs.Spelling.{word, words, item, items, tail_words, spelling, IsIndexFile}
+use Rattle.caibx_codec.specs.Reading.{Read, need, place_of, judge, push, reads, start, listing, listing_of, is_whole, ◌>>=◌}
 use Rattle.caibx_codec.specs.Standing.{front, before, bytes_of, EndFits, IsSound, IsGood, Stands}
 use Rattle.caibx_codec.proofs.Fields.{need_least}
 use Rattle.caibx_codec.proofs.Pieces.{reads-append, reads_one, reads_none}
@@ -89,7 +89,7 @@ start_bytes = refl
 
 -- ---- the whole file
 
-whole_at : (f : Field) (s : Fields) (es : List (ℕ × List ℕ)) (part : List ℕ) → is_whole f ≡ true → IsSound f s es → length part < need f → before f s es ++ part ≡ spelling (record { flags = s.flags; least = s.min; average = s.avg; greatest = s.max; entries = es }) s.offset s.size
+whole_at : (f : Field) (s : Fields) (es : List (ℕ × List ℕ)) (part : List ℕ) → is_whole f ≡ true → IsSound f s es → length part < need f → before f s es ++ part ≡ spelling (listing s es) s.offset s.size
 unfolding before spelling
 whole_at field.Nothing s es part h sound small =
     let none : part ≡ [] = nil_from_length part (omega arith) in
@@ -125,7 +125,7 @@ around a b es m n front_long back_long ids =
     omega (arith, length-append (a ++ items es) b, length-append a (items es), items_length es ids)
 
 -- a field begins after the bytes before it
-placed : (f : Field) (s : Fields) (es : List (ℕ × List ℕ)) → IsSound f s es → length (before f s es) ≡ place_of f (length es)
+pub placed : (f : Field) (s : Fields) (es : List (ℕ × List ℕ)) → IsSound f s es → length (before f s es) ≡ place_of f (length es)
 unfolding before
 placed field.HeadSize s es sound = refl
 placed field.HeadType s es sound = refl
@@ -137,11 +137,11 @@ placed field.TableSize s es sound = refl
 placed field.TableType s es sound = refl
 placed field.End s es sound = omega (arith, length-append (front s) (items es), items_length es sound.valid.ids)
 placed field.Id s es sound = around (front s) (words (s.end ∷ [])) es 64 8 refl refl sound.valid.ids
-placed field.Zero s es sound = around (front s) (words (0 ∷ [])) es 64 8 refl refl sound.valid.ids
-placed field.Offset s es sound = around (front s) (words (0 ∷ 0 ∷ [])) es 64 16 refl refl sound.valid.ids
-placed field.Size s es sound = around (front s) (words (0 ∷ 0 ∷ s.offset ∷ [])) es 64 24 refl refl sound.valid.ids
-placed field.Marker s es sound = around (front s) (words (0 ∷ 0 ∷ s.offset ∷ s.size ∷ [])) es 64 32 refl refl sound.valid.ids
-placed field.Nothing s es sound = around (front s) (words (0 ∷ 0 ∷ s.offset ∷ s.size ∷ 0x4b4f050e5549ecd1 ∷ [])) es 64 40 refl refl sound.valid.ids
+placed field.Zero s es sound = around (front s) (words (take 1 (tail_words s.offset s.size))) es 64 8 refl refl sound.valid.ids
+placed field.Offset s es sound = around (front s) (words (take 2 (tail_words s.offset s.size))) es 64 16 refl refl sound.valid.ids
+placed field.Size s es sound = around (front s) (words (take 3 (tail_words s.offset s.size))) es 64 24 refl refl sound.valid.ids
+placed field.Marker s es sound = around (front s) (words (take 4 (tail_words s.offset s.size))) es 64 32 refl refl sound.valid.ids
+placed field.Nothing s es sound = around (front s) (words (tail_words s.offset s.size)) es 64 40 refl refl sound.valid.ids
 
 pub bytes_length : (r : Read) → IsGood r → length (bytes_of r) ≡ place_of r.fields.next (length r.entries) + length r.part
 unfolding bytes_of

@@ -7,7 +7,9 @@ use Rattle.std.proofs.Math.Seq.{take-add, take-append-add, take-length}
 use Rattle.std.proofs.lemmas.Grind.{flat_map-append}
 use Rattle.caibx_codec.specs.declared.fault.IndexFault.{IndexFault}
 use Rattle.caibx_codec.specs.declared.index.Entry.{Entry}
-use Rattle.caibx_codec.specs.Answers.{PutsFront}
+use Rattle.dsy_base.specs.Disk.{PutsFront}
+use Rattle.dsy_base.specs.Texts.{Puts}
+use Rattle.dsy_base.specs.declared.fault.IoFault.{IoFault}
 use Rattle.caibx_codec.specs.Listing.{Listing, IsValid}
 use Rattle.caibx_codec.specs.Reading.{reads, start, first_fault, fault_in_read, index_in, ◌>>=◌}
 use Rattle.caibx_codec.specs.Seen.{pair, pairs}
@@ -107,6 +109,10 @@ pub all_put : (es : List Entry) (at : ℕ) (old new : Option (List ℕ)) → len
 all_put es at old new le put = put ∙ ap (λ x. option_map (λ t. t ++ items (pairs x)) old) (take_all at es le)
 
 -- what was put where an error came, whichever it is
+pub stops_with : (r : Result Unit IoFault) (e : IoFault) (b : List ℕ) (old new : Option (List ℕ)) → r ≡ Err e → PutsFront b old new → Puts b old new r
+stops_with (Ok x) e b old new is h = absurd (cc)
+stops_with (Err f) e b old new is h = h
+
 pub on_error : {A E : Type 0} (r : Result A E) (P : Type 0) → P → OnErr r P
 on_error (Ok x) P h = tt
 on_error (Err e) P h = h
@@ -150,10 +156,10 @@ module _ (l : Listing) (old one new : Option (List ℕ)) where
           put_both old two new (front ++ items l.entries) back so_far third ∙ ap (λ x. option_map (λ t. t ++ x) old) all
 
 -- the last part, whichever way it went
-pub on_err : {A E : Type 0} (r : Result A E) (P Q : Type 0) → (P → Q) → OnErr r P → OnErr r Q
-on_err (Ok x) P Q go h = tt
-on_err (Err e) P Q go h = go h
+pub last_err : (r : Result Unit IoFault) (b : List ℕ) (two new : Option (List ℕ)) (Q : Type 0) → (PutsFront b two new → Q) → Puts b two new r → OnErr r Q
+last_err (Ok x) b two new Q go h = tt
+last_err (Err e) b two new Q go h = go h
 
-pub on_ok : {A E : Type 0} (r : Result A E) (P Q : Type 0) → (P → Q) → OnOk r P → OnOk r Q
-on_ok (Ok x) P Q go h = go h
-on_ok (Err e) P Q go h = tt
+pub last_ok : (r : Result Unit IoFault) (b : List ℕ) (two new : Option (List ℕ)) (Q : Type 0) → (new ≡ option_map (λ t. t ++ b) two → Q) → Puts b two new r → OnOk r Q
+last_ok (Ok x) b two new Q go h = go h
+last_ok (Err e) b two new Q go h = tt

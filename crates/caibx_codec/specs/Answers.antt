@@ -1,6 +1,5 @@
 -- What calls that read an index may answer.
-use Rattle.std.specs.Prelude.{◌≡◌, ℕ, ◌≤◌, List, ◌++◌, length, take, Result, Ok, Err, Option, Some, None}
-use Rattle.std.specs.Option.{option_map}
+use Rattle.std.specs.Prelude.{◌≡◌, ℕ, List, Result, Ok, Err, Some, None}
 use Rattle.caibx_codec.specs.declared.fault.IndexFault.{IndexFault}
 use Rattle.caibx_codec.specs.declared.reading.ReadFault.{ReadFault}
 use Rattle.caibx_codec.specs.declared.reading.ReadFault.TheVariants as errors
@@ -74,7 +73,3 @@ ReadsIndex bytes (Ok i) = IsIndexFile bytes i
 ReadsIndex bytes (Err (viewed.Bad f)) = (l : Listing) → IsIndexFile bytes l → ⊥
 ReadsIndex bytes (Err viewed.Memory) = Unit {0}
 ReadsIndex bytes (Err viewed.Failed) = Unit {0}
-
--- a sink that had taken `old` has taken a front of the bytes besides
-abbrev pub PutsFront : List ℕ → Option (List ℕ) → Option (List ℕ) → Type 0
-PutsFront bytes old new = (n : ℕ) × (n ≤ length bytes) × (new ≡ option_map (λ t. t ++ take n bytes) old)

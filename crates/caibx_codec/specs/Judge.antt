@@ -1,8 +1,9 @@
 -- The first fault of an index.
-use Rattle.std.specs.Prelude.{◌≡◌, ℕ, ◌+◌, ◌-◌, List, [], ◌∷◌, length, nat_lt, nat_le, if◌then◌else◌, Option, Some, None, Result, Ok, Err, bit_and}
+use Rattle.std.specs.Prelude.{◌≡◌, ℕ, ◌+◌, ◌-◌, List, [], ◌∷◌, length, nat_lt, nat_le, if◌then◌else◌, Option, Some}
+use Rattle.std.specs.Prelude.{None, Result, Ok, Err, bit_and}
 use Rattle.caibx_codec.specs.declared.fault.IndexFault.{IndexFault}
 use Rattle.caibx_codec.specs.declared.fault.IndexFault.TheVariants as faults
-use Rattle.caibx_codec.specs.Listing.{Listing}
+use Rattle.caibx_codec.specs.Listing.{Listing, digest_flag, size_limit, item_limit}
 
 -- of the entries from number k on, after one that ends at `start`
 abbrev pub entry_fault : ℕ → ℕ → ℕ → List (ℕ × List ℕ) → Option IndexFault
@@ -15,9 +16,9 @@ entry_fault greatest k start (e ∷ es) =
 -- of a whole index, in the order in which its fields are judged
 abbrev pub fault_of : Listing → Option IndexFault
 fault_of l =
-    if nat_le (bit_and l.flags 0x2000000000000000) 0 then Some (faults.Digest l.flags)
-    else if nat_lt 67108864 l.greatest then Some (faults.MaxSize l.greatest)
-    else if nat_lt 4194304 (length l.entries) then Some faults.Items
+    if nat_le (bit_and l.flags digest_flag) 0 then Some (faults.Digest l.flags)
+    else if nat_lt size_limit l.greatest then Some (faults.MaxSize l.greatest)
+    else if nat_lt item_limit (length l.entries) then Some faults.Items
     else entry_fault l.greatest 0 0 l.entries
 
 -- an index is made of what has no fault, and else its first fault is the answer

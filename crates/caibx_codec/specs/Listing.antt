@@ -1,9 +1,21 @@
 -- What an index lists.
-use Rattle.std.specs.Prelude.{◌≡◌, ℕ, ◌+◌, ◌^◌, ◌<◌, ◌≤◌, List, [], ◌∷◌, length, slice_index_or, slice_range, ◌-◌, ◌==◌, if◌then◌else◌, bit_and}
+use Rattle.std.specs.Prelude.{◌≡◌, ℕ, ◌+◌, ◌^◌, ◌<◌, ◌≤◌, List, [], ◌∷◌, ◌⊎◌, length, slice_index_or, slice_range, ◌-◌}
+use Rattle.std.specs.Prelude.{◌==◌, if◌then◌else◌, bit_and}
 use Rattle.std.specs.List.{AllByRecursion}
 use Rattle.chunk_store.specs.Names.{IsId}
 use Rattle.chunk_store.specs.declared.id.DigestKind.{DigestKind}
 use Rattle.chunk_store.specs.declared.id.DigestKind.TheVariants as kinds
+
+-- the flag of indexes whose ids are SHA-512/256
+abbrev pub digest_flag : ℕ
+digest_flag = 0x2000000000000000
+
+-- the greatest size that a chunk may have, and the greatest number of chunks
+abbrev pub size_limit : ℕ
+size_limit = 67108864
+
+abbrev pub item_limit : ℕ
+item_limit = 4194304
 
 -- an index: its flags, the three sizes of chunks, and for each chunk where it ends and its digest
 pub record Listing : Type 0 where
@@ -30,6 +42,10 @@ image_length l = start_of l (count_of l)
 abbrev pub size_of : Listing → ℕ → ℕ
 size_of l i = end_of l i - start_of l i
 
+-- n is the size of a listed chunk, or 0 where none is listed
+abbrev pub IsListedSize : Listing → ℕ → Type 0
+IsListedSize l n = ((i : ℕ) × (i < count_of l) × (size_of l i ≡ n)) ⊎ ((count_of l ≡ 0) × (n ≡ 0))
+
 -- which digest names its chunks
 abbrev pub kind_of : Listing → DigestKind
 kind_of l = kinds.Sha512T256
@@ -48,9 +64,9 @@ AreChunks greatest start (e ∷ es) = (start < e.0) × (e.0 ≤ start + greatest
 
 -- an index that can be used
 pub record IsValid (l : Listing) : Type 0 where
-  pub digest : 0 < bit_and l.flags 0x2000000000000000
-  pub size : l.greatest ≤ 67108864
-  pub few : length l.entries ≤ 4194304
+  pub digest : 0 < bit_and l.flags digest_flag
+  pub size : l.greatest ≤ size_limit
+  pub few : length l.entries ≤ item_limit
   pub chunks : AreChunks l.greatest 0 l.entries
   pub ids : AllByRecursion (λ e. IsId e.1) l.entries
   pub flags : l.flags < 2 ^ 64
@@ -59,8 +75,8 @@ pub record IsValid (l : Listing) : Type 0 where
 
 -- what the rules say of each chunk by its number
 pub record Rules (l : Listing) : Type 0 where
-  pub size : l.greatest ≤ 67108864
-  pub few : count_of l ≤ 4194304
+  pub size : l.greatest ≤ size_limit
+  pub few : count_of l ≤ item_limit
   pub rises : (i : ℕ) → i < count_of l → start_of l i < end_of l i
   pub fits : (i : ℕ) → i < count_of l → end_of l i ≤ start_of l i + l.greatest
   pub holds : (i : ℕ) → i < count_of l → 0 < size_of l i

@@ -1,13 +1,14 @@
 -- Reading an index file byte by byte, with the first fault that is met: each field is judged as soon as its bytes are
 -- there, in the order of the file.
-use Rattle.std.specs.Prelude.{ℕ, ◌+◌, ◌-◌, ◌*◌, List, [], ◌∷◌, ◌++◌, length, Result, Ok, Err, nat_lt, nat_le, ◌==◌, if◌then◌else◌, bit_and, Bool, true, false, Option, Some, None}
+use Rattle.std.specs.Prelude.{ℕ, ◌+◌, ◌-◌, ◌*◌, List, [], ◌∷◌, ◌++◌, length, Result, Ok, Err, nat_lt, nat_le, ◌==◌}
+use Rattle.std.specs.Prelude.{if◌then◌else◌, bit_and, Bool, true, false, Option, Some, None}
 use Rattle.std.specs.Int.{w64, from_le_bytes}
 use Rattle.caibx_codec.specs.declared.fault.IndexFault.{IndexFault}
 use Rattle.caibx_codec.specs.declared.fault.IndexFault.TheVariants as faults
 use Rattle.caibx_codec.specs.declared.field.Field.{Field}
 use Rattle.caibx_codec.specs.declared.field.Field.TheVariants as field
 use Rattle.caibx_codec.specs.declared.field.Fields.{Fields}
-use Rattle.caibx_codec.specs.Listing.{Listing}
+use Rattle.caibx_codec.specs.Listing.{Listing, digest_flag, size_limit, item_limit}
 
 infixl 10 ◌>>=◌
 abbrev pub ◌>>=◌ : {A B : Type 0} → Result A IndexFault → (A → Result B IndexFault) → Result B IndexFault
@@ -52,7 +53,7 @@ to s f = record s { next = f }
 unfoldable pub end_judged : Fields → ℕ → ℕ → Result Fields IndexFault
 end_judged s k w =
     if w == 0 then Ok (to s field.Zero)
-    else if nat_le 4194304 k then Err faults.Items
+    else if nat_le item_limit k then Err faults.Items
     else if nat_le w s.end then Err (faults.Order k)
     else if nat_lt s.max (w - s.end) then Err (faults.TooLarge k (w - s.end))
     else Ok (record s { next = field.Id; end = w })
@@ -62,12 +63,12 @@ unfoldable pub word_at : Field → Fields → ℕ → ℕ → Result Fields Inde
 word_at field.HeadSize s k w = if w == 48 then Ok (to s field.HeadType) else Err faults.Head
 word_at field.HeadType s k w = if w == 0x96824d9c7b129ff9 then Ok (to s field.Flags) else Err faults.Head
 word_at field.Flags s k w =
-    if nat_le (bit_and w 0x2000000000000000) 0 then Err (faults.Digest w)
+    if nat_le (bit_and w digest_flag) 0 then Err (faults.Digest w)
     else Ok (record s { next = field.Min; flags = w })
 word_at field.Min s k w = Ok (record s { next = field.Avg; min = w })
 word_at field.Avg s k w = Ok (record s { next = field.Max; avg = w })
 word_at field.Max s k w =
-    if nat_lt 67108864 w then Err (faults.MaxSize w) else Ok (record s { next = field.TableSize; max = w })
+    if nat_lt size_limit w then Err (faults.MaxSize w) else Ok (record s { next = field.TableSize; max = w })
 word_at field.TableSize s k w = if w == 0xffffffffffffffff then Ok (to s field.TableType) else Err faults.Table
 word_at field.TableType s k w = if w == 0xe75b9e112f17417d then Ok (to s field.End) else Err faults.Table
 word_at field.End s k w = end_judged s k w
@@ -105,7 +106,7 @@ unfoldable pub start : Read
 start = record {
   fields = record {
     next = field.HeadSize;
-    flags = 0x2000000000000000;
+    flags = digest_flag;
     min = 0;
     avg = 0;
     max = 0;
@@ -117,14 +118,12 @@ start = record {
   part = [];
 }
 
+-- what the fields and the items say
+abbrev pub listing : Fields → List (ℕ × List ℕ) → Listing
+listing s es = record { flags = s.flags; least = s.min; average = s.avg; greatest = s.max; entries = es }
+
 abbrev pub listing_of : Read → Listing
-listing_of r = record {
-  flags = r.fields.flags;
-  least = r.fields.min;
-  average = r.fields.avg;
-  greatest = r.fields.max;
-  entries = r.entries;
-}
+listing_of r = listing r.fields r.entries
 
 -- whether the marker was read
 abbrev pub is_whole : Field → Bool

@@ -3,7 +3,7 @@
 use Rattle.std.specs.Prelude.{◌≡◌, ℕ, ◌+◌, ◌*◌, ◌^◌, ◌<◌, List, [], ◌∷◌, ◌++◌, length}
 use Rattle.std.specs.Int.{w64, to_le_bytes}
 use Rattle.std.specs.List.{flat_map}
-use Rattle.caibx_codec.specs.Listing.{Listing, IsValid}
+use Rattle.caibx_codec.specs.Listing.{Listing, IsValid, item_limit}
 
 abbrev pub word : ℕ → List ℕ
 word n = to_le_bytes w64 n
@@ -33,6 +33,10 @@ tail_words offset size = 0 ∷ 0 ∷ offset ∷ size ∷ 0x4b4f050e5549ecd1 ∷ 
 unfoldable pub spelling : Listing → ℕ → ℕ → List ℕ
 spelling l offset size = (words (front_words l) ++ items l.entries) ++ words (tail_words offset size)
 
+-- the greatest number of bytes of a file: 104, and 40 for each chunk
+abbrev pub file_limit : ℕ
+file_limit = 104 + 40 * item_limit
+
 -- the file as it is written, with the offset of the table, and its size with its head and the tail
 abbrev pub file_of : Listing → List ℕ
 file_of l = spelling l 48 (56 + 40 * length l.entries)
@@ -52,3 +56,7 @@ pub record Spells (bytes : List ℕ) (l : Listing) : Type 0 where
 pub record IsIndexFile (bytes : List ℕ) (l : Listing) : Type 0 where
   pub spells : Spells bytes l
   pub valid : IsValid l
+
+-- the bytes are a front of some index file
+abbrev pub BeginsFile : List ℕ → Type 0
+BeginsFile bytes = (rest : List ℕ) × (l : Listing) × IsIndexFile (bytes ++ rest) l

@@ -1,33 +1,39 @@
 -- What a reader that has met no fault stands for.
-use Rattle.std.specs.Prelude.{◌≡◌, ℕ, ◌+◌, ◌^◌, ◌<◌, ◌≤◌, List, [], ◌∷◌, ◌++◌, length, slice_index, Ok}
+use Rattle.std.specs.Prelude.{◌≡◌, ℕ, ◌+◌, ◌^◌, ◌<◌, ◌≤◌, List, [], ◌∷◌, ◌++◌, length, take, slice_index, Ok}
 use Rattle.caibx_codec.specs.declared.field.Field.{Field}
 use Rattle.caibx_codec.specs.declared.field.Field.TheVariants as field
 use Rattle.caibx_codec.specs.declared.field.Fields.{Fields}
-use Rattle.caibx_codec.specs.Listing.{IsValid}
-use Rattle.caibx_codec.specs.Spelling.{words, items}
-use Rattle.caibx_codec.specs.Reading.{Read, need, reads, start}
+use Rattle.caibx_codec.specs.Listing.{IsValid, item_limit}
+use Rattle.caibx_codec.specs.Spelling.{file_limit, words, items, front_words, tail_words}
+use Rattle.caibx_codec.specs.Reading.{Read, need, reads, start, listing}
 
--- the eight words before the items
+-- the first n of the words before the items; all of them; the items, with the first n words of the tail
+abbrev pub head_part : Fields → ℕ → List ℕ
+head_part s n = words (take n (front_words (listing s [])))
+
 abbrev pub front : Fields → List ℕ
-front s = words (48 ∷ 0x96824d9c7b129ff9 ∷ s.flags ∷ s.min ∷ s.avg ∷ s.max ∷ 0xffffffffffffffff ∷ 0xe75b9e112f17417d ∷ [])
+front s = words (front_words (listing s []))
+
+abbrev pub tail_part : Fields → List (ℕ × List ℕ) → ℕ → List ℕ
+tail_part s es n = (front s ++ items es) ++ words (take n (tail_words s.offset s.size))
 
 -- the bytes before the field
 unfoldable pub before : Field → Fields → List (ℕ × List ℕ) → List ℕ
-before field.HeadSize s es = []
-before field.HeadType s es = words (48 ∷ [])
-before field.Flags s es = words (48 ∷ 0x96824d9c7b129ff9 ∷ [])
-before field.Min s es = words (48 ∷ 0x96824d9c7b129ff9 ∷ s.flags ∷ [])
-before field.Avg s es = words (48 ∷ 0x96824d9c7b129ff9 ∷ s.flags ∷ s.min ∷ [])
-before field.Max s es = words (48 ∷ 0x96824d9c7b129ff9 ∷ s.flags ∷ s.min ∷ s.avg ∷ [])
-before field.TableSize s es = words (48 ∷ 0x96824d9c7b129ff9 ∷ s.flags ∷ s.min ∷ s.avg ∷ s.max ∷ [])
-before field.TableType s es = words (48 ∷ 0x96824d9c7b129ff9 ∷ s.flags ∷ s.min ∷ s.avg ∷ s.max ∷ 0xffffffffffffffff ∷ [])
+before field.HeadSize s es = head_part s 0
+before field.HeadType s es = head_part s 1
+before field.Flags s es = head_part s 2
+before field.Min s es = head_part s 3
+before field.Avg s es = head_part s 4
+before field.Max s es = head_part s 5
+before field.TableSize s es = head_part s 6
+before field.TableType s es = head_part s 7
 before field.End s es = front s ++ items es
 before field.Id s es = (front s ++ items es) ++ words (s.end ∷ [])
-before field.Zero s es = (front s ++ items es) ++ words (0 ∷ [])
-before field.Offset s es = (front s ++ items es) ++ words (0 ∷ 0 ∷ [])
-before field.Size s es = (front s ++ items es) ++ words (0 ∷ 0 ∷ s.offset ∷ [])
-before field.Marker s es = (front s ++ items es) ++ words (0 ∷ 0 ∷ s.offset ∷ s.size ∷ [])
-before field.Nothing s es = (front s ++ items es) ++ words (0 ∷ 0 ∷ s.offset ∷ s.size ∷ 0x4b4f050e5549ecd1 ∷ [])
+before field.Zero s es = tail_part s es 1
+before field.Offset s es = tail_part s es 2
+before field.Size s es = tail_part s es 3
+before field.Marker s es = tail_part s es 4
+before field.Nothing s es = tail_part s es 5
 
 -- all bytes that were read
 unfoldable pub bytes_of : Read → List ℕ
@@ -48,12 +54,12 @@ EndFits field.Avg s es = (es ≡ []) × (s.end ≡ 0)
 EndFits field.Max s es = (es ≡ []) × (s.end ≡ 0)
 EndFits field.TableSize s es = (es ≡ []) × (s.end ≡ 0)
 EndFits field.TableType s es = (es ≡ []) × (s.end ≡ 0)
-EndFits field.Id s es = (last_end 0 es < s.end) × (s.end ≤ last_end 0 es + s.max) × (length es < 4194304)
+EndFits field.Id s es = (last_end 0 es < s.end) × (s.end ≤ last_end 0 es + s.max) × (length es < item_limit)
 EndFits _ s es = s.end ≡ last_end 0 es
 
 -- what was read before this field is valid
 pub record IsSound (f : Field) (s : Fields) (es : List (ℕ × List ℕ)) : Type 0 where
-  pub valid : IsValid (record { flags = s.flags; least = s.min; average = s.avg; greatest = s.max; entries = es })
+  pub valid : IsValid (listing s es)
   pub end : EndFits f s es
   pub offset : s.offset < 2 ^ 64
   pub size : s.size < 2 ^ 64
@@ -73,4 +79,4 @@ pub record Stands (r : Read) : Type 0 where
 pub record StandsFor (r : Read) (bytes : List ℕ) : Type 0 where
   pub stands : Stands r
   pub is : bytes_of r ≡ bytes
-  pub size : length bytes ≤ 167772264
+  pub size : length bytes ≤ file_limit

@@ -1,6 +1,7 @@
 //! The fields of an index file in their order, and how each of its words is judged.
 
 ghost use Rattle.std.specs.Prelude.{◌≡◌, ◌≤◌, ◌==◌, nat_le, nat_lt, bit_and, if◌then◌else◌};
+ghost use Rattle.caibx_codec.specs.Listing.{digest_flag, size_limit, item_limit};
 ghost use Rattle.caibx_codec.specs.Reading.{need, place_of, word_at, end_judged};
 
 use crate::fault::IndexFault;
@@ -58,7 +59,7 @@ pub fn width(field: Field) -> usize
 
 /// Where a field begins in the file, after so many items.
 pub fn place(field: Field, count: usize) -> u64
-    requires { count ≤ 4194304 }
+    requires { count ≤ item_limit }
     ensures { result ≡ place_of field count }
 {
     let items = 40 * count as u64;
@@ -128,7 +129,7 @@ fn expect(
 
 // The flags must say which digest names the chunks.
 fn judge_flags(fields: Fields, word: u64) -> Result<Fields, IndexFault>
-    ensures { result ≡ (if nat_le (bit_and word 0x2000000000000000) 0 then Err (IndexFault.Digest word)
+    ensures { result ≡ (if nat_le (bit_and word digest_flag) 0 then Err (IndexFault.Digest word)
         else Ok (record fields { next = Field.Min; flags = word })) }
 {
     if word & DIGEST_FLAG == 0 {
@@ -143,7 +144,7 @@ fn judge_flags(fields: Fields, word: u64) -> Result<Fields, IndexFault>
 
 // The greatest size must be within the limit.
 fn judge_max(fields: Fields, word: u64) -> Result<Fields, IndexFault>
-    ensures { result ≡ (if nat_lt 67108864 word then Err (IndexFault.MaxSize word)
+    ensures { result ≡ (if nat_lt size_limit word then Err (IndexFault.MaxSize word)
         else Ok (record fields { next = Field.TableSize; max = word })) }
 {
     if SIZE_LIMIT < word {

@@ -1,11 +1,12 @@
 //! Indexes: the chunks of an image, each with the offset at which it ends and its id. Offsets and
 //! sizes are in bytes, ends are exclusive, and chunks count from 0.
 
-ghost use Rattle.std.specs.Prelude.{◌≡◌, ◌<◌, ◌≤◌, ◌-◌, ◌^◌, length, map, IfOk, Ok, List, ℕ, []};
+ghost use Rattle.std.specs.Prelude.{◌≡◌, ◌<◌, ◌≤◌, ◌+◌, ◌-◌, ◌^◌, length, map, IfOk, Ok, List, ℕ, []};
 ghost use Rattle.std.specs.List.{AllByRecursion};
 ghost use Rattle.chunk_store.specs.Names.{IsId};
 ghost use Rattle.caibx_codec.specs.Judge.{entry_fault, Judged};
-ghost use Rattle.caibx_codec.specs.Listing.{IsValid, Listing, Rules, count_of, start_of, end_of, size_of, id_of, kind_of, image_length};
+ghost use Rattle.caibx_codec.specs.Listing.{IsValid, IsListedSize, Listing, Rules, count_of, start_of, end_of, size_of};
+ghost use Rattle.caibx_codec.specs.Listing.{id_of, kind_of, image_length};
 ghost use Rattle.caibx_codec.specs.Seen.{pairs};
 
 use crate::fault::IndexFault;
@@ -19,6 +20,14 @@ use std::marker::Model;
 #[derive(Clone, Copy, Debug, PartialEq, Eq)]
 pub struct Entry {
     pub end: u64,
+    pub id: ChunkId,
+}
+
+/// A chunk of an image as an index lists it: the offset at which it begins, its number of bytes, and its id.
+#[derive(Clone, Copy, Debug, PartialEq, Eq)]
+pub struct Listed {
+    pub start: u64,
+    pub size: usize,
     pub id: ChunkId,
 }
 
@@ -76,7 +85,14 @@ impl Index {
         max: u64,
         entries: Vec<Entry>,
     ) -> Result<Index, IndexFault>
-        ensures { Judged (record { flags = flags; least = min; average = avg; greatest = max; entries = pairs entries.items }) result }
+        ensures { Judged (record {
+          flags = flags;
+          least = min;
+          average = avg;
+          greatest = max;
+          entries = pairs
+              entries.items;
+        }) result }
     {
         if flags & DIGEST_FLAG == 0 {
             return Err(IndexFault::Digest { flags });
@@ -170,8 +186,8 @@ impl Index {
         self.entries[i].end
     }
 
-    /// The number of bytes of chunk i.
-    pub fn size(&self, i: usize) -> usize
+    // The number of bytes of chunk i.
+    fn size(&self, i: usize) -> usize
         requires { i < count_of self.now }
         ensures { result ≡ size_of self.now i }
     {
@@ -187,12 +203,30 @@ impl Index {
         self.entries[i].id
     }
 
-    /// The offset at which chunk i begins.
-    pub fn start(&self, i: usize) -> u64
+    // The offset at which chunk i begins.
+    fn start(&self, i: usize) -> u64
         requires { i < count_of self.now }
         ensures { result ≡ start_of self.now i }
     {
         if i == 0 { 0 } else { self.entries[i - 1].end }
+    }
+
+    /// Chunk i.
+    pub fn entry(&self, i: usize) -> Listed
+        requires { i < count_of self.now }
+        ensures start { result.start ≡ start_of self.now i }
+        ensures size { result.size ≡ size_of self.now i }
+        ensures end { result.start + result.size ≡ end_of self.now i }
+        ensures id { result.id.0 ≡ id_of self.now i }
+        ensures inside { result.start + result.size ≤ image_length self.now }
+        ensures fits { (0 < result.size) × (result.size ≤ self.now.greatest) }
+    {
+        self.rules();
+        Listed {
+            start: self.start(i),
+            size: self.size(i),
+            id: self.id(i),
+        }
     }
 
     /// The length of the image.
@@ -206,7 +240,9 @@ impl Index {
     /// The number of bytes of the largest chunk, or 0 where there is none.
     pub fn largest(&self) -> usize
         ensures inside { (i : ℕ) → i < count_of self.now → size_of self.now i ≤ result }
+        ensures exactly { IsListedSize self.now result }
     {
+        self.rules();
         let mut most = 0;
         for i in 0..self.count() {
             let size = self.size(i);
@@ -217,9 +253,10 @@ impl Index {
         most
     }
 
-    /// A buffer that any one of its chunks fits into.
+    /// A buffer of the size of its largest chunk.
     pub fn room(&self, alloc: Global) -> Result<Vec<u8>, AllocError>
         ensures inside { IfOk result (λ v. (i : ℕ) → i < count_of self.now → size_of self.now i ≤ length v.items) }
+        ensures exactly { IfOk result (λ v. IsListedSize self.now (length v.items)) }
     {
         let size = self.largest();
         vec![in alloc; 0u8; size]

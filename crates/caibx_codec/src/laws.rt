@@ -1,10 +1,10 @@
 //! Laws of index files, for the crates above. Nothing is done: each function's contract is the law.
 
-ghost use Rattle.std.specs.Prelude.{◌≡◌, ◌+◌, ◌*◌, ◌++◌, ℕ, List, Some, length};
+ghost use Rattle.std.specs.Prelude.{◌≡◌, ◌+◌, ◌*◌, ◌++◌, ℕ, List, Some, None, ◌<◌, length, slice_index};
 ghost use Rattle.caibx_codec.specs.declared.fault.IndexFault.{IndexFault};
 ghost use Rattle.caibx_codec.specs.Listing.{Listing, count_of};
 ghost use Rattle.caibx_codec.specs.Reading.{first_fault};
-ghost use Rattle.caibx_codec.specs.Spelling.{IsIndexFile, file_of};
+ghost use Rattle.caibx_codec.specs.Spelling.{BeginsFile, IsIndexFile, file_of};
 
 use crate::index::Index;
 
@@ -24,6 +24,13 @@ pub fn fault_stays()
         → first_fault (b ++ c) ≡ Some f }
     ensures only { (b c : List ℕ) (f : IndexFault) (l : Listing) → first_fault b ≡ Some f
         → IsIndexFile (b ++ c) l → ⊥ }
+{}
+
+/// Bytes in whole words that show no fault begin some index file: a fault is told with the word that shows it, and not
+/// with a later one.
+pub fn fault_is_told_at_once()
+    ensures exactly { (b : List ℕ) (n : ℕ) → ((i : ℕ) → slice_index b i < 256) → length b ≡ 8 * n
+        → first_fault b ≡ None → BeginsFile b }
 {}
 
 /// What is written is the file of the index, so it is read as that index again.

@@ -9,6 +9,7 @@ ghost use Rattle.std.specs.Int.{w64, from_le_bytes};
 
 use crate::fault::IndexFault;
 use crate::field::{Field, Fields, judge_word, place, width};
+use crate::format::DIGEST_FLAG;
 use crate::index::{Entry, Index};
 use crate::reading::ReadFault;
 use chunk_store::id::ChunkId;
@@ -56,7 +57,7 @@ impl Partial {
         Partial {
             fields: Fields {
                 next: Field::HeadSize,
-                flags: 0x2000_0000_0000_0000,
+                flags: DIGEST_FLAG,
                 min: 0,
                 avg: 0,
                 max: 0,
@@ -71,7 +72,7 @@ impl Partial {
     }
 
     // Judges all bytes of the next field.
-    #[tactic(auto, using(crate::proofs::Fields::need_least, crate::proofs::Fields::judge_id, crate::proofs::Fields::judge_nothing))]
+    #[tactic(auto, using(crate::proofs::Fields::judging))]
     fn judge(&mut self, bytes: &[u8]) -> Result<(), ReadFault>
         requires { length bytes.now ≡ need self.old.fields.next }
         ensures { Goes (judge self.old bytes.now) result self.new }

@@ -1,8 +1,10 @@
 //! Reading an index file in pieces.
 
-ghost use Rattle.std.specs.Prelude.{◌≡◌, ◌≢◌, ◌≤◌, ℕ, ◌++◌, [], length, Option, Some, None, IfSome, IfNone, OnOk, OnErr};
+ghost use Rattle.std.specs.Prelude.{◌≡◌, ◌≢◌, ◌≤◌, ℕ, ◌++◌, [], length, Option, Some, None, IfSome, IfNone, OnOk};
+ghost use Rattle.std.specs.Prelude.{OnErr};
 ghost use Rattle.std.specs.Option.{option_map};
 ghost use Rattle.caibx_codec.specs.Answers.{Ends, FindsIndex, Judges};
+ghost use Rattle.caibx_codec.specs.Spelling.{file_limit};
 
 use crate::fault::IndexFault;
 use crate::index::Index;
@@ -50,7 +52,7 @@ impl IndexReader {
         ensures only { (n : ℕ) → result ≢ Err (ReadFault.Bad (IndexFault.Truncated n)) }
         ensures ok { OnOk result (self.new ≡ option_map (λ t. t ++ piece.now) self.old) }
         ensures err { OnErr result (self.new ≡ None) }
-        ensures size { IfSome self.new (λ t. length t ≤ 167772264) }
+        ensures size { IfSome self.new (λ t. length t ≤ file_limit) }
     {
         let Some(mut partial) = self.partial.take() else {
             return Err(ReadFault::Over);

@@ -1,9 +1,11 @@
 //! Reading an index file.
 
-ghost use Rattle.std.specs.Prelude.{◌≡◌, ◌≢◌, ◌+◌, ◌++◌, ◌<◌, ◌≤◌, [], length, slice_range, take, Option, Some, IsSome, IfSome, OnOk, OnErr};
+ghost use Rattle.std.specs.Prelude.{◌≡◌, ◌≢◌, ◌+◌, ◌++◌, ◌<◌, ◌≤◌, [], length, slice_range, take, Option, Some, IsSome};
+ghost use Rattle.std.specs.Prelude.{IfSome, OnOk, OnErr};
 ghost use Rattle.std.specs.Option.{option_map};
-ghost use Rattle.dsy_base.specs.Counts.{Rose};
+ghost use Rattle.dsy_base.specs.Counts.{CountsFaults};
 ghost use Rattle.caibx_codec.specs.Answers.{FirstIn, ReadsIndex, ShowsFault, StopsIn};
+ghost use Rattle.caibx_codec.specs.Spelling.{file_limit};
 
 use crate::fault::IndexFault;
 use crate::format::FILE_LIMIT;
@@ -57,12 +59,11 @@ fn feed_from<V: View>(
     ensures ok { OnOk result (IfSome (V.held v.old).bytes (λ t. reader.new
         ≡ option_map (λ b. b ++ slice_range t at (at + length buffer.old)) reader.old)) }
     ensures fresh { OnOk result (IsSome reader.new) }
-    ensures size { OnOk result (IfSome reader.new (λ b. length b ≤ 167772264)) }
+    ensures size { OnOk result (IfSome reader.new (λ b. length b ≤ file_limit)) }
     ensures first { IfSome (V.held v.old).bytes (λ t. IfSome reader.old
         (λ b. ShowsFault (b ++ slice_range t at (at + length buffer.old)) result)) }
     ensures kept { V.held v.new ≡ V.held v.old }
-    ensures faults { V.faults v.old ≤ V.faults v.new }
-    ensures cause { result ≡ Err ViewFault.Failed → Rose (V.faults v.old) (V.faults v.new) }
+    ensures faults { CountsFaults ViewFault.Failed ViewFault.Memory (V.faults v.old) (V.faults v.new) result }
 {
     if v.read_at(at, buffer).is_err() {
         return Err(ViewFault::Failed);
@@ -86,11 +87,10 @@ fn feed_front<V: View>(
     requires size { 0 < length buffer.old }
     requires fresh { reader.old ≡ Some [] }
     ensures ok { OnOk result (IfSome (V.held v.old).bytes (λ t. reader.new ≡ Some (take end t))) }
-    ensures size { OnOk result (IfSome reader.new (λ b. length b ≤ 167772264)) }
+    ensures size { OnOk result (IfSome reader.new (λ b. length b ≤ file_limit)) }
     ensures first { IfSome (V.held v.old).bytes (λ t. StopsIn t result) }
     ensures kept { V.held v.new ≡ V.held v.old }
-    ensures faults { V.faults v.old ≤ V.faults v.new }
-    ensures cause { result ≡ Err ViewFault.Failed → Rose (V.faults v.old) (V.faults v.new) }
+    ensures faults { CountsFaults ViewFault.Failed ViewFault.Memory (V.faults v.old) (V.faults v.new) result }
 {
     let mut at = 0u64;
     while at < end {
@@ -121,8 +121,7 @@ fn read_by<V: View>(alloc: Global, v: &mut V, buffer: &mut [u8]) -> Result<Index
     ensures exactly { IfSome (V.held v.old).bytes (λ t. ReadsIndex t result) }
     ensures first { IfSome (V.held v.old).bytes (λ t. FirstIn t result) }
     ensures kept { V.held v.new ≡ V.held v.old }
-    ensures faults { V.faults v.old ≤ V.faults v.new }
-    ensures cause { result ≡ Err ViewFault.Failed → Rose (V.faults v.old) (V.faults v.new) }
+    ensures faults { CountsFaults ViewFault.Failed ViewFault.Memory (V.faults v.old) (V.faults v.new) result }
 {
     let end = v.size().min(FILE_LIMIT + 1);
     let mut reader = IndexReader::new(alloc);
@@ -138,8 +137,7 @@ pub fn read_index<V: View>(alloc: Global, v: &mut V) -> Result<Index, ViewFault>
     ensures exactly { IfSome (V.held v.old).bytes (λ t. ReadsIndex t result) }
     ensures first { IfSome (V.held v.old).bytes (λ t. FirstIn t result) }
     ensures kept { V.held v.new ≡ V.held v.old }
-    ensures faults { V.faults v.old ≤ V.faults v.new }
-    ensures cause { result ≡ Err ViewFault.Failed → Rose (V.faults v.old) (V.faults v.new) }
+    ensures faults { CountsFaults ViewFault.Failed ViewFault.Memory (V.faults v.old) (V.faults v.new) result }
 {
     match vec![in alloc; 0u8; PIECE] {
         Ok(mut buffer) => read_by(alloc, v, &mut buffer),

@@ -2,8 +2,9 @@
 
 ghost use Rattle.std.specs.Prelude.{◌≡◌, ◌++◌, ◌≤◌, IfOk, OnOk, OnErr};
 ghost use Rattle.std.specs.Option.{option_map};
-ghost use Rattle.dsy_base.specs.Counts.{Rose};
-ghost use Rattle.caibx_codec.specs.Answers.{PutsFront};
+ghost use Rattle.dsy_base.specs.Counts.{CountsFaults};
+ghost use Rattle.dsy_base.specs.Disk.{PutsFront};
+ghost use Rattle.dsy_base.specs.Texts.{Puts};
 ghost use Rattle.caibx_codec.specs.Seen.{pair, pairs};
 ghost use Rattle.caibx_codec.specs.Spelling.{words, item, items, front_words, written_tail, file_of};
 
@@ -29,22 +30,18 @@ fn words_in(alloc: Global, numbers: &[u64]) -> Result<Vec<u8>, AllocError>
 
 // Puts the bytes.
 fn put<S: Sink>(out: &mut S, bytes: &[u8]) -> Result<(), IoFault>
-    ensures ok { OnOk result (S.taken out.new ≡ option_map (λ t. t ++ bytes.now) (S.taken out.old)) }
-    ensures err { OnErr result (PutsFront bytes.now (S.taken out.old) (S.taken out.new)) }
-    ensures faults { S.faults out.old ≤ S.faults out.new }
-    ensures cause { result ≡ Err IoFault.Failed → Rose (S.faults out.old) (S.faults out.new) }
+    ensures bytes { Puts bytes.now (S.output out.old).taken (S.output out.new).taken result }
+    ensures faults { CountsFaults IoFault.Failed IoFault.Memory (S.output out.old).faults (S.output out.new).faults
+        result }
 {
     out.put(bytes)
 }
 
 // Puts the bytes of the numbers.
 fn put_words<S: Sink>(alloc: Global, numbers: &[u64], out: &mut S) -> Result<(), IoFault>
-    ensures ok { OnOk result (S.taken out.new
-        ≡ option_map (λ t. t ++ words numbers.now) (S.taken out.old)) }
-    ensures err { OnErr result
-        (PutsFront (words numbers.now) (S.taken out.old) (S.taken out.new)) }
-    ensures faults { S.faults out.old ≤ S.faults out.new }
-    ensures cause { result ≡ Err IoFault.Failed → Rose (S.faults out.old) (S.faults out.new) }
+    ensures bytes { Puts (words numbers.now) (S.output out.old).taken (S.output out.new).taken result }
+    ensures faults { CountsFaults IoFault.Failed IoFault.Memory (S.output out.old).faults (S.output out.new).faults
+        result }
 {
     match words_in(alloc, numbers) {
         Ok(bytes) => put(out, &bytes),
@@ -75,12 +72,9 @@ fn items_in(alloc: Global, entries: &[Entry]) -> Result<Vec<u8>, AllocError>
 
 // Puts these items at once.
 fn put_block<S: Sink>(alloc: Global, entries: &[Entry], out: &mut S) -> Result<(), IoFault>
-    ensures ok { OnOk result (S.taken out.new
-        ≡ option_map (λ t. t ++ items (pairs entries.now)) (S.taken out.old)) }
-    ensures err { OnErr result
-        (PutsFront (items (pairs entries.now)) (S.taken out.old) (S.taken out.new)) }
-    ensures faults { S.faults out.old ≤ S.faults out.new }
-    ensures cause { result ≡ Err IoFault.Failed → Rose (S.faults out.old) (S.faults out.new) }
+    ensures bytes { Puts (items (pairs entries.now)) (S.output out.old).taken (S.output out.new).taken result }
+    ensures faults { CountsFaults IoFault.Failed IoFault.Memory (S.output out.old).faults (S.output out.new).faults
+        result }
 {
     match items_in(alloc, entries) {
         Ok(bytes) => put(out, &bytes),
@@ -90,12 +84,9 @@ fn put_block<S: Sink>(alloc: Global, entries: &[Entry], out: &mut S) -> Result<(
 
 // Puts the items, a block at a time.
 fn put_items<S: Sink>(alloc: Global, entries: &[Entry], out: &mut S) -> Result<(), IoFault>
-    ensures ok { OnOk result (S.taken out.new
-        ≡ option_map (λ t. t ++ items (pairs entries.now)) (S.taken out.old)) }
-    ensures err { OnErr result
-        (PutsFront (items (pairs entries.now)) (S.taken out.old) (S.taken out.new)) }
-    ensures faults { S.faults out.old ≤ S.faults out.new }
-    ensures cause { result ≡ Err IoFault.Failed → Rose (S.faults out.old) (S.faults out.new) }
+    ensures bytes { Puts (items (pairs entries.now)) (S.output out.old).taken (S.output out.new).taken result }
+    ensures faults { CountsFaults IoFault.Failed IoFault.Memory (S.output out.old).faults (S.output out.new).faults
+        result }
 {
     let mut at = 0usize;
     while at < entries.len() {
@@ -133,24 +124,18 @@ fn tail_numbers(index: &Index) -> [u64; 5]
 
 // Puts the head and the table's head.
 fn put_front<S: Sink>(alloc: Global, index: &Index, out: &mut S) -> Result<(), IoFault>
-    ensures ok { OnOk result (S.taken out.new
-        ≡ option_map (λ t. t ++ words (front_words index.now)) (S.taken out.old)) }
-    ensures err { OnErr result
-        (PutsFront (words (front_words index.now)) (S.taken out.old) (S.taken out.new)) }
-    ensures faults { S.faults out.old ≤ S.faults out.new }
-    ensures cause { result ≡ Err IoFault.Failed → Rose (S.faults out.old) (S.faults out.new) }
+    ensures bytes { Puts (words (front_words index.now)) (S.output out.old).taken (S.output out.new).taken result }
+    ensures faults { CountsFaults IoFault.Failed IoFault.Memory (S.output out.old).faults (S.output out.new).faults
+        result }
 {
     put_words(alloc, &front_numbers(index), out)
 }
 
 // Puts the tail.
 fn put_tail<S: Sink>(alloc: Global, index: &Index, out: &mut S) -> Result<(), IoFault>
-    ensures ok { OnOk result (S.taken out.new
-        ≡ option_map (λ t. t ++ words (written_tail index.now)) (S.taken out.old)) }
-    ensures err { OnErr result
-        (PutsFront (words (written_tail index.now)) (S.taken out.old) (S.taken out.new)) }
-    ensures faults { S.faults out.old ≤ S.faults out.new }
-    ensures cause { result ≡ Err IoFault.Failed → Rose (S.faults out.old) (S.faults out.new) }
+    ensures bytes { Puts (words (written_tail index.now)) (S.output out.old).taken (S.output out.new).taken result }
+    ensures faults { CountsFaults IoFault.Failed IoFault.Memory (S.output out.old).faults (S.output out.new).faults
+        result }
 {
     put_words(alloc, &tail_numbers(index), out)
 }
@@ -158,12 +143,12 @@ fn put_tail<S: Sink>(alloc: Global, index: &Index, out: &mut S) -> Result<(), Io
 /// Puts the file of the index, as the one spelling that has the table's offset and size in its
 /// tail. It needs memory for some items at a time.
 pub fn write_index<S: Sink>(alloc: Global, index: &Index, out: &mut S) -> Result<(), IoFault>
-    ensures ok { OnOk result (S.taken out.new
-        ≡ option_map (λ t. t ++ file_of index.now) (S.taken out.old)) }
+    ensures ok { OnOk result ((S.output out.new).taken
+        ≡ option_map (λ t. t ++ file_of index.now) (S.output out.old).taken) }
     // A front of the file was put.
-    ensures err { OnErr result (PutsFront (file_of index.now) (S.taken out.old) (S.taken out.new)) }
-    ensures faults { S.faults out.old ≤ S.faults out.new }
-    ensures cause { result ≡ Err IoFault.Failed → Rose (S.faults out.old) (S.faults out.new) }
+    ensures err { OnErr result (PutsFront (file_of index.now) (S.output out.old).taken (S.output out.new).taken) }
+    ensures faults { CountsFaults IoFault.Failed IoFault.Memory (S.output out.old).faults (S.output out.new).faults
+        result }
 {
     put_front(alloc, index, out)?;
     put_items(alloc, index.entries(), out)?;

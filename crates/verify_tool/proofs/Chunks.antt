@@ -12,18 +12,18 @@ pub record IsOfChunk (l : Listing) (i : ℕ) (kind : DigestKind) (at n : ℕ) (i
   pub end_is : at + n ≡ end_of l i
   pub id_is : id ≡ id_of l i
 
-module _ (l : Listing) (i : ℕ) (kind : DigestKind) (at n : ℕ) (name id : List ℕ) (chunk : IsOfChunk l i kind at n id) where
-  name_here : (t : List ℕ) → name ≡ name_of kind (slice_range t at (at + n)) → name ≡ name_of (kind_of l) (slice_of l t i)
-  name_here t named =
+module _ (l : Listing) (i : ℕ) (kind : DigestKind) (at n : ℕ) (name id read : List ℕ) (chunk : IsOfChunk l i kind at n id) (named : name ≡ name_of kind read) where
+  name_here : (t : List ℕ) → read ≡ slice_range t at (at + n) → name ≡ name_of (kind_of l) (slice_of l t i)
+  name_here t filled =
       let a = chunk.kind_is in
       let b = chunk.at_is in
       let c = chunk.end_is in
       cc
 
-  pub right_more : (bytes : Option (List ℕ)) → name ≡ id → IfSome bytes (λ t. name ≡ name_of kind (slice_range t at (at + n))) → IfSome bytes (λ t. AreRightBelow t l i) → IfSome bytes (λ t. AreRightBelow t l (i + 1))
-  right_more None same named before = tt
-  right_more (Some t) same named before = below_more _ _ before (sym (name_here t named) ∙ same ∙ chunk.id_is)
+  pub right_more : (bytes : Option (List ℕ)) → name ≡ id → IfSome bytes (λ t. read ≡ slice_range t at (at + n)) → IfSome bytes (λ t. AreRightBelow t l i) → IfSome bytes (λ t. AreRightBelow t l (i + 1))
+  right_more None same filled before = tt
+  right_more (Some t) same filled before = below_more _ _ before (sym (name_here t filled) ∙ same ∙ chunk.id_is)
 
-  pub first_wrong : (bytes : Option (List ℕ)) → i < count_of l → (name ≢ id) → IfSome bytes (λ t. name ≡ name_of kind (slice_range t at (at + n))) → IfSome bytes (λ t. AreRightBelow t l i) → IfSome bytes (λ t. IsFirstWrong t l i name)
-  first_wrong None listed differ named before = tt
-  first_wrong (Some t) listed differ named before = record { listed = listed; before = before; named = name_here t named; wrong = λ e. differ (e ∙ sym chunk.id_is) }
+  pub first_wrong : (bytes : Option (List ℕ)) → i < count_of l → (name ≢ id) → IfSome bytes (λ t. read ≡ slice_range t at (at + n)) → IfSome bytes (λ t. AreRightBelow t l i) → IfSome bytes (λ t. IsFirstWrong t l i name)
+  first_wrong None listed differ filled before = tt
+  first_wrong (Some t) listed differ filled before = record { listed = listed; before = before; named = name_here t filled; wrong = λ e. differ (e ∙ sym chunk.id_is) }

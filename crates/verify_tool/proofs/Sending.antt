@@ -8,7 +8,9 @@ use Rattle.std.proofs.lemmas.Grind.{flat_map-append}
 use Rattle.dsy_base.specs.declared.fault.IoFault.{IoFault}
 use Rattle.dsy_base.specs.declared.fault.IoFault.TheVariants as io
 use Rattle.verify_tool.specs.Blocks.{Sent}
-use Rattle.verify_tool.specs.Texts.{line_of, PutPrefix, Puts}
+use Rattle.dsy_base.specs.Disk.{PutsFront}
+use Rattle.dsy_base.specs.Texts.{Puts}
+use Rattle.verify_tool.specs.Texts.{line_of}
 use Rattle.hex.specs.Hex.{encode_lower}
 
 -- one part after another
@@ -21,7 +23,7 @@ put_nothing None = refl
 put_nothing (Some t) = ap Some (append-nil t)
 
 -- a put says so of its text
-pub put_gives : (b : List ℕ) (old new : Option (List ℕ)) (result : Result Unit IoFault) → OnOk result (new ≡ option_map (λ t. t ++ b) old) → (result ≡ Err io.Failed → PutPrefix b old new) → (result ≡ Err io.Memory → new ≡ old) → Puts b old new result
+pub put_gives : (b : List ℕ) (old new : Option (List ℕ)) (result : Result Unit IoFault) → OnOk result (new ≡ option_map (λ t. t ++ b) old) → (result ≡ Err io.Failed → PutsFront b old new) → (result ≡ Err io.Memory → new ≡ old) → Puts b old new result
 put_gives b old new (Ok r) ok err kept = ok
 put_gives b old new (Err io.Failed) ok err kept = err refl
 put_gives b old new (Err io.Memory) ok err kept = (0, omega arith, kept refl ∙ sym (put_nothing old))
@@ -39,7 +41,7 @@ sent_on text old now new left rest (p, e, f) (q, d, h) =
     (p ++ q, e ∙ ap (λ t. p ++ t) d ∙ sym (append_assoc p q rest), h ∙ ap (λ o. option_map (λ t. t ++ q) o) f ∙ put_both old p q)
 
 -- what has gone is a prefix of the whole text
-pub prefix_sent : (text : List ℕ) (old new : Option (List ℕ)) (left more : List ℕ) → Sent text old new left → PutPrefix (text ++ more) old new
+pub prefix_sent : (text : List ℕ) (old new : Option (List ℕ)) (left more : List ℕ) → Sent text old new left → PutsFront (text ++ more) old new
 prefix_sent text old new left more (p, e, f) =
     let whole : text ++ more ≡ p ++ (left ++ more) = ap (λ t. t ++ more) e ∙ append_assoc p left more in
     let size : length p ≤ length (text ++ more) = omega (arith, ap length whole, length-append p (left ++ more)) in
@@ -47,7 +49,7 @@ prefix_sent text old new left more (p, e, f) =
     (length p, size, f ∙ ap (λ b. option_map (λ t. t ++ b) old) (sym cut))
 
 -- so is what has gone before a refusal
-pub prefix_cut : (text : List ℕ) (old now new : Option (List ℕ)) (left more : List ℕ) → Sent text old now left → PutPrefix left now new → PutPrefix (text ++ more) old new
+pub prefix_cut : (text : List ℕ) (old now new : Option (List ℕ)) (left more : List ℕ) → Sent text old now left → PutsFront left now new → PutsFront (text ++ more) old new
 prefix_cut text old now new left more (p, e, f) (n, fits, h) =
     let whole : text ++ more ≡ p ++ (left ++ more) = ap (λ t. t ++ more) e ∙ append_assoc p left more in
     let size : length p + n ≤ length (text ++ more) = omega (arith, fits, ap length whole, length-append p (left ++ more), length-append left more) in
@@ -66,14 +68,14 @@ module _ (es : List (ℕ × List ℕ)) (i : ℕ) (old now new : Option (List ℕ
   whole_is : flat_map line_of es ≡ flat_map line_of (take i es) ++ flat_map line_of (drop i es)
   whole_is = ap (flat_map line_of) (sym (take-append-drop i es)) ∙ flat_map-append line_of (take i es) (drop i es)
 
-  pub stops_in_put : PutPrefix left now new → PutPrefix (flat_map line_of es) old new
+  pub stops_in_put : PutsFront left now new → PutsFront (flat_map line_of es) old new
   stops_in_put cut =
-      let P : List ℕ → Type 0 = λ t. PutPrefix t old new in
+      let P : List ℕ → Type 0 = λ t. PutsFront t old new in
       subst P (sym whole_is) (prefix_cut _ old now new left (flat_map line_of (drop i es)) so_far cut)
 
-  pub stops_after_put : (rest : List ℕ) → Sent left now new rest → PutPrefix (flat_map line_of es) old new
+  pub stops_after_put : (rest : List ℕ) → Sent left now new rest → PutsFront (flat_map line_of es) old new
   stops_after_put rest gone =
-      let P : List ℕ → Type 0 = λ t. PutPrefix t old new in
+      let P : List ℕ → Type 0 = λ t. PutsFront t old new in
       let sent = sent_on (flat_map line_of (take i es)) old now new left rest so_far gone in
       subst P (sym whole_is) (prefix_sent _ old new rest (flat_map line_of (drop i es)) sent)
 

@@ -1,7 +1,7 @@
 -- Text that is put in blocks.
 use Rattle.std.specs.Prelude.{◌≡◌, ℕ, List, ◌++◌, Option, Result, Ok, Err, option_map}
 use Rattle.dsy_base.specs.declared.fault.IoFault.{IoFault}
-use Rattle.verify_tool.specs.Texts.{PutPrefix}
+use Rattle.dsy_base.specs.Disk.{PutsFront}
 
 -- of the text all but `left` at its end has gone to the sink
 abbrev pub Sent : List ℕ → Option (List ℕ) → Option (List ℕ) → List ℕ → Type 0
@@ -10,4 +10,4 @@ Sent text old new left = (p : List ℕ) × (text ≡ p ++ left) × (new ≡ opti
 -- so has it, or after a refusal a prefix
 abbrev pub Sends : List ℕ → Option (List ℕ) → Option (List ℕ) → List ℕ → Result Unit IoFault → Type 0
 Sends text old new left (Ok r) = Sent text old new left
-Sends text old new left (Err fault) = PutPrefix text old new
+Sends text old new left (Err fault) = PutsFront text old new

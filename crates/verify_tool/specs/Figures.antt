@@ -6,7 +6,14 @@ use Rattle.verify_tool.specs.Texts.{unique_count}
 use Rattle.verify_tool.specs.declared.info.Figures.{Figures}
 
 abbrev pub figures_of : Listing → Figures
-figures_of l = record { average = l.average; greatest = l.greatest; least = l.least; size = image_length l; total = count_of l; unique = unique_count l }
+figures_of l = record {
+  average = l.average;
+  greatest = l.greatest;
+  least = l.least;
+  size = image_length l;
+  total = count_of l;
+  unique = unique_count l;
+}
 
 -- the members before and after the one on a store
 abbrev pub first_members : Figures → Members → Members

@@ -1,11 +1,10 @@
 -- What is printed of an index. A line ends with a line feed, ids are 64 digits in lower case, numbers are decimal.
-use Rattle.std.specs.Prelude.{◌≡◌, ℕ, ◌≤◌, List, [], ◌∷◌, ◌++◌, length, map, take, codes, decimal, Option, Some, None, Result, Ok, Err, option_map}
+use Rattle.std.specs.Prelude.{ℕ, List, [], ◌∷◌, ◌++◌, map, codes, decimal, Option, Some, None}
 use Rattle.std.specs.List.{concat, flat_map}
 use Rattle.std.specs.Set.{distinct_count}
 use Rattle.std.specs.Str.{bytes_eq}
 use Rattle.hex.specs.Hex.{encode_lower}
 use Rattle.caibx_codec.specs.Listing.{Listing, count_of, image_length}
-use Rattle.dsy_base.specs.declared.fault.IoFault.{IoFault}
 
 -- the line of an entry: its id
 abbrev pub line_of : ℕ × List ℕ → List ℕ
@@ -15,9 +14,13 @@ line_of e = encode_lower e.1 ++ 10 ∷ []
 abbrev pub text_of_chunks : Listing → List ℕ
 text_of_chunks l = flat_map line_of l.entries
 
+-- the ids of the entries, in their order
+abbrev pub ids_of : Listing → List (List ℕ)
+ids_of l = map (λ e. e.1) l.entries
+
 -- how many ids are listed, each counted once
 abbrev pub unique_count : Listing → ℕ
-unique_count l = distinct_count bytes_eq (map (λ e. e.1) l.entries)
+unique_count l = distinct_count bytes_eq (ids_of l)
 
 -- the member on a store, where one was asked
 abbrev pub in_store_text : Option ℕ → List ℕ
@@ -35,12 +38,3 @@ text_of_info l in_store = concat (
     ∷ codes ",\"total\":" ∷ decimal (count_of l)
     ∷ codes ",\"unique\":" ∷ decimal (unique_count l)
     ∷ codes "}" ∷ (10 ∷ []) ∷ [])
-
--- a sink that had taken `old` has taken a prefix of the text too
-abbrev pub PutPrefix : List ℕ → Option (List ℕ) → Option (List ℕ) → Type 0
-PutPrefix text old new = (n : ℕ) × (n ≤ length text) × (new ≡ option_map (λ t. t ++ take n text) old)
-
--- it has taken all of the text, or after a refusal a prefix
-abbrev pub Puts : List ℕ → Option (List ℕ) → Option (List ℕ) → Result Unit IoFault → Type 0
-Puts text old new (Ok r) = new ≡ option_map (λ t. t ++ text) old
-Puts text old new (Err fault) = PutPrefix text old new

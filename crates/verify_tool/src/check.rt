@@ -1,13 +1,13 @@
 //! An image held against an index. Offsets and sizes are in bytes, entries are numbered from 0.
 
-ghost use Rattle.std.specs.Prelude.{◌≡◌, ◌≢◌, ℕ, ◌+◌, ◌<◌, ◌≤◌, length, slice_range, IfOk, IfErr, IfSome, OnErr, true, false};
+ghost use Rattle.std.specs.Prelude.{◌≡◌, ℕ, ◌<◌, ◌≤◌, length, IfErr, IfSome};
 ghost use Rattle.caibx_codec.specs.Listing.{count_of, size_of, image_length};
-ghost use Rattle.chunk_store.specs.Names.{name_of};
-ghost use Rattle.dsy_base.specs.Counts.{Rose};
+ghost use Rattle.dsy_base.specs.Counts.{CountsFaults};
 ghost use Rattle.verify_tool.specs.Checks.{TellsSize, TellsChunks, NamesEntry};
 
 use caibx_codec::index::Index;
-use chunk_store::id::{ChunkId, DigestKind};
+use chunk_store::id::ChunkId;
+use chunk_store::range::name_range;
 use dsy_base::fault::Failed;
 use dsy_base::view::View;
 use std::alloc::{AllocError, Global};
@@ -34,32 +34,6 @@ impl From<AllocError> for CheckFault {
     }
 }
 
-// Whether the two ids are one.
-fn is_same(a: &ChunkId, b: &ChunkId) -> bool
-    ensures named { result ≡ true → a.now.0 ≡ b.now.0 }
-    ensures only { result ≡ false → a.now.0 ≢ b.now.0 }
-{
-    a.0.as_slice() == b.0.as_slice()
-}
-
-// The name of the bytes from offset `at` on, which are read into `chunk`.
-fn name_at<V: View>(
-    view: &mut V,
-    kind: DigestKind,
-    at: u64,
-    chunk: &mut [u8],
-) -> Result<ChunkId, Failed>
-    requires inside { at + length chunk.old ≤ (V.held view.old).size }
-    ensures named { IfSome (V.held view.old).bytes (λ t. IfOk result (λ id.
-        id.0 ≡ name_of kind (slice_range t at (at + length chunk.old)))) }
-    ensures kept { V.held view.new ≡ V.held view.old }
-    ensures faults { V.faults view.old ≤ V.faults view.new }
-    ensures cause { OnErr result (Rose (V.faults view.old) (V.faults view.new)) }
-{
-    view.read_at(at, chunk)?;
-    Ok(ChunkId::of(kind, chunk))
-}
-
 // Names the chunks in order, up to the first that hasn't the listed name.
 fn check_chunks<V: View>(index: &Index, view: &mut V, buf: &mut [u8]) -> Result<(), CheckFault>
     requires size { (V.held view.old).size ≡ image_length index.now }
@@ -68,18 +42,19 @@ fn check_chunks<V: View>(index: &Index, view: &mut V, buf: &mut [u8]) -> Result<
     ensures exactly { IfSome (V.held view.old).bytes (λ t. TellsChunks index.now t result) }
     ensures inside { IfErr result (NamesEntry index.now) }
     ensures kept { V.held view.new ≡ V.held view.old }
-    ensures faults { V.faults view.old ≤ V.faults view.new }
-    ensures cause { result ≡ Err CheckFault.ImageFault → Rose (V.faults view.old) (V.faults view.new) }
+    ensures faults { CountsFaults CheckFault.ImageFault CheckFault.Memory (V.faults view.old) (V.faults view.new)
+        result }
 {
     index.rules();
     let kind = index.kind();
     for i in 0..index.count() {
-        let (chunk, _) = buf.split_at_mut(index.size(i));
-        let got = match name_at(view, kind, index.start(i), chunk) {
+        let listed = index.entry(i);
+        let (chunk, _) = buf.split_at_mut(listed.size);
+        let got = match name_range(view, kind, listed.start, chunk) {
             Ok(name) => name,
             Err(Failed) => return Err(CheckFault::ImageFault),
         };
-        if !is_same(&got, &index.id(i)) {
+        if !got.is(&listed.id) {
             let entry = i as u64;
             return Err(CheckFault::Mismatch { entry, got });
         }
@@ -93,8 +68,8 @@ pub fn verify_index<V: View>(alloc: Global, index: &Index, view: &mut V) -> Resu
     ensures exactly { IfSome (V.held view.old).bytes (λ t. TellsChunks index.now t result) }
     ensures inside { IfErr result (NamesEntry index.now) }
     ensures kept { V.held view.new ≡ V.held view.old }
-    ensures faults { V.faults view.old ≤ V.faults view.new }
-    ensures cause { result ≡ Err CheckFault.ImageFault → Rose (V.faults view.old) (V.faults view.new) }
+    ensures faults { CountsFaults CheckFault.ImageFault CheckFault.Memory (V.faults view.old) (V.faults view.new)
+        result }
 {
     let size = view.size();
     if size != index.length() {

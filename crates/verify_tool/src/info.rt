@@ -1,9 +1,10 @@
 //! An index in figures, as one line of JSON (RFC 8259). Sizes are in bytes.
 
-ghost use Rattle.std.specs.Prelude.{◌≡◌, ◌≤◌, IfOk, string_bytes};
-ghost use Rattle.dsy_base.specs.Counts.{Rose};
+ghost use Rattle.std.specs.Prelude.{◌≡◌, IfOk, string_bytes};
+ghost use Rattle.dsy_base.specs.Counts.{CountsFaults};
+ghost use Rattle.dsy_base.specs.Texts.{Puts};
 ghost use Rattle.serde_json.specs.View.{members_view, view};
-ghost use Rattle.verify_tool.specs.Texts.{text_of_info, Puts, unique_count};
+ghost use Rattle.verify_tool.specs.Texts.{text_of_info, unique_count};
 ghost use Rattle.verify_tool.specs.Figures.{members_of, data_of, figures_of};
 
 use caibx_codec::index::Index;
@@ -29,9 +30,7 @@ fn unique_ids(alloc: Global, index: &Index) -> Result<u64, AllocError>
     ensures value { IfOk result (λ n. n ≡ unique_count index.now) }
 {
     let mut ids = BTreeSet::new(alloc);
-    let mut i = index.count();
-    while 0 < i {
-        i -= 1;
+    for i in 0..index.count() {
         ids.insert(index.id(i).0)?;
     }
     Ok(ids.len() as u64)
@@ -98,9 +97,9 @@ pub fn info<S: Sink>(
     in_store: Option<u64>,
     out: &mut S,
 ) -> Result<(), IoFault>
-    ensures bytes { Puts (text_of_info index.now in_store) (S.taken out.old) (S.taken out.new) result }
-    ensures faults { S.faults out.old ≤ S.faults out.new }
-    ensures cause { result ≡ Err IoFault.Failed → Rose (S.faults out.old) (S.faults out.new) }
+    ensures bytes { Puts (text_of_info index.now in_store) (S.output out.old).taken (S.output out.new).taken result }
+    ensures faults { CountsFaults IoFault.Failed IoFault.Memory (S.output out.old).faults (S.output out.new).faults
+        result }
 {
     match line(alloc, index, in_store) {
         Ok(text) => out.put(text.as_bytes()),

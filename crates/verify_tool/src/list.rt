@@ -1,9 +1,10 @@
 //! The ids of an index as text, a line an entry.
 
-ghost use Rattle.std.specs.Prelude.{◌≡◌, ◌≤◌, [], ◌∷◌, ◌++◌, OnOk, OnErr};
+ghost use Rattle.std.specs.Prelude.{◌≡◌, [], ◌∷◌, ◌++◌, OnOk, OnErr};
 ghost use Rattle.hex.specs.Hex.{encode_lower};
-ghost use Rattle.dsy_base.specs.Counts.{Rose};
-ghost use Rattle.verify_tool.specs.Texts.{text_of_chunks, Puts};
+ghost use Rattle.dsy_base.specs.Counts.{CountsFaults};
+ghost use Rattle.dsy_base.specs.Texts.{Puts};
+ghost use Rattle.verify_tool.specs.Texts.{text_of_chunks};
 ghost use Rattle.verify_tool.specs.Blocks.{Sends};
 
 use caibx_codec::index::Index;
@@ -26,9 +27,9 @@ fn push_line(block: &mut Vec<u8>, id: &ChunkId) -> Result<(), AllocError>
 
 // Puts the block once it is full, and begins it anew.
 fn put_full<S: Sink>(out: &mut S, block: &mut Vec<u8>) -> Result<(), IoFault>
-    ensures bytes { Sends block.old.items (S.taken out.old) (S.taken out.new) block.new.items result }
-    ensures faults { S.faults out.old ≤ S.faults out.new }
-    ensures cause { result ≡ Err IoFault.Failed → Rose (S.faults out.old) (S.faults out.new) }
+    ensures bytes { Sends block.old.items (S.output out.old).taken (S.output out.new).taken block.new.items result }
+    ensures faults { CountsFaults IoFault.Failed IoFault.Memory (S.output out.old).faults (S.output out.new).faults
+        result }
 {
     if block.len() < BLOCK {
         return Ok(());
@@ -40,9 +41,9 @@ fn put_full<S: Sink>(out: &mut S, block: &mut Vec<u8>) -> Result<(), IoFault>
 
 /// Puts the id of each entry on a line of its own, in order, repeats included.
 pub fn list_chunks<S: Sink>(alloc: Global, index: &Index, out: &mut S) -> Result<(), IoFault>
-    ensures bytes { Puts (text_of_chunks index.now) (S.taken out.old) (S.taken out.new) result }
-    ensures faults { S.faults out.old ≤ S.faults out.new }
-    ensures cause { result ≡ Err IoFault.Failed → Rose (S.faults out.old) (S.faults out.new) }
+    ensures bytes { Puts (text_of_chunks index.now) (S.output out.old).taken (S.output out.new).taken result }
+    ensures faults { CountsFaults IoFault.Failed IoFault.Memory (S.output out.old).faults (S.output out.new).faults
+        result }
 {
     let mut block = Vec::new(alloc);
     for i in 0..index.count() {

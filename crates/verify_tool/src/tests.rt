@@ -8,7 +8,8 @@ use crate::list::list_chunks;
 use caibx_codec::index::{Entry, Index};
 use chunk_store::id::ChunkId;
 use chunk_store::store::{GetFault, Store};
-use dsy_base::fault::{IoFault, raise};
+use dsy_base::fault::{Failed, IoFault, raise};
+use dsy_base::view::View;
 use dsy_forms::mem_sink::MemSink;
 use dsy_forms::mem_view::MemView;
 use std::alloc::{AllocError, Global};
@@ -89,6 +90,21 @@ fn a_failed_read_is_no_mismatch(rt: HostRuntime) -> Result<(), Fail> {
 }
 
 #[test]
+fn a_wrong_length_is_told_before_any_read(rt: HostRuntime) -> Result<(), Fail> {
+    let alloc = rt.alloc();
+    let two = index_of(alloc, &[ABC, DEF])?;
+    let image = Vec::from_slice(alloc, b"abXdeXg")?;
+    let mut view = MemView::new(alloc, image, fails(alloc, 0)?);
+    assert_eq!(rt;
+        verify_index(alloc, &two, &mut view),
+        Err(CheckFault::Length { size: 7 })
+    );
+    // The first read fails, and it has not been made yet.
+    assert_eq!(rt; view.read_at(0, &mut [0; 7]), Err(Failed));
+    Ok(())
+}
+
+#[test]
 fn each_entry_has_a_line(rt: HostRuntime) -> Result<(), Fail> {
     let alloc = rt.alloc();
     let index = index_of(alloc, &[ABC, DEF, ABC])?;
@@ -160,6 +176,7 @@ enum Held {
     Nothing,
     One(ChunkId),
     Fault,
+    FaultAt(ChunkId),
 }
 
 // A store that counts how often it was asked, and gives nothing.
@@ -181,6 +198,8 @@ impl Store for Told {
 
     ghost asked = { λ _ _. 0 };
 
+    ghost queried = { λ _ _. 0 };
+
     ghost faults = { λ s. s.faults };
 
     ghost place = { λ _. [] };
@@ -197,17 +216,24 @@ impl Store for Told {
 
     fn has(&mut self, id: &ChunkId) -> Result<bool, IoFault> {
         self.calls = raise(self.calls, 1);
+        let fails = match self.held {
+            Held::Fault => true,
+            Held::FaultAt(at) => at == *id,
+            Held::Nothing | Held::One(_) => false,
+        };
+        if fails {
+            self.faults = raise(self.faults, 1);
+            return Err(IoFault::Failed);
+        }
         match self.held {
-            Held::Nothing => Ok(false),
             Held::One(held) => Ok(held == *id),
-            Held::Fault => {
-                self.faults = raise(self.faults, 1);
-                Err(IoFault::Failed)
-            }
+            _ => Ok(false),
         }
     }
 
     ghost says = { λ _. tt };
+
+    ghost lies = { λ _. tt };
 
     ghost unasked = { λ _. tt };
 
@@ -263,6 +289,22 @@ fn each_id_is_asked_for_once(rt: HostRuntime) -> Result<(), Fail> {
     let index = index_of(alloc, &[ABC, DEF, ABC, DEF, ABC])?;
     let mut chain = chain_of(alloc, Held::Nothing, Held::Nothing)?;
     assert_eq!(rt; count_in_store(alloc, &index, &mut chain), Ok(0));
+    let stores = chain.into_stores();
+    for store in stores.iter() {
+        assert_eq!(rt; store.calls, 2);
+    }
+    Ok(())
+}
+
+#[test]
+fn ids_are_asked_for_in_order_up_to_a_fault(rt: HostRuntime) -> Result<(), Fail> {
+    let alloc = rt.alloc();
+    let index = index_of(alloc, &[ABC, ABC, DEF, DEX, ABX])?;
+    let mut chain = chain_of(alloc, Held::Nothing, Held::FaultAt(id_of(DEF)?))?;
+    assert_eq!(rt;
+        count_in_store(alloc, &index, &mut chain),
+        Err(HasFault::StoreFault { store: 1 })
+    );
     let stores = chain.into_stores();
     for store in stores.iter() {
         assert_eq!(rt; store.calls, 2);

@@ -14,6 +14,6 @@ loop-at-preserved g c = record {
   fresh = c.in_ok-feed_from.ensures.fresh;
   size = c.in_ok-feed_from.ensures.size;
   kept = c.feed_from.ensures.kept ∙ c.loop-at.invariant.kept;
-  faults = omega (arith, c.feed_from.ensures.faults, c.loop-at.invariant.faults);
+  faults = c.in_ok-feed_from.ensures.faults.done ∙ c.loop-at.invariant.faults;
   inside = omega (arith, c.min-len.ensures);
 }

@@ -9,7 +9,7 @@ invariant-loop-at g l = record {
   fresh : IsSome l.reader;
   size : IfSome l.reader (λ b. length b ≤ 167772264);
   kept : g.V.View.held l.v ≡ g.V.View.held l.fn.v;
-  faults : g.V.View.faults l.fn.v ≤ g.V.View.faults l.v;
+  faults : g.V.View.faults l.v ≡ g.V.View.faults l.fn.v;
   inside : l.at ≤ l.end;
 }
 

@@ -7,8 +7,8 @@ use Rattle.caibx_codec.proofs.writing.put_items.Given as goal
 -- the items before `at` were put
 abbrev pub invariant-loop-at : goal.invariant-loop-at
 invariant-loop-at g l = record {
-  taken : g.S.Sink.taken l.out ≡ option_map (λ t. t ++ items (pairs (take l.at l.entries))) (g.S.Sink.taken l.fn.out);
-  faults : g.S.Sink.faults l.fn.out ≤ g.S.Sink.faults l.out;
+  taken : (g.S.Sink.output l.out).taken ≡ option_map (λ t. t ++ items (pairs (take l.at l.entries))) (g.S.Sink.output l.fn.out).taken;
+  faults : (g.S.Sink.output l.out).faults ≡ (g.S.Sink.output l.fn.out).faults;
   inside : l.at ≤ length l.entries;
 }
 

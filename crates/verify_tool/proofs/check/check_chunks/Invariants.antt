@@ -1,4 +1,4 @@
-use Rattle.std.proofs.Common.{◌≡◌, ◌≤◌, IfSome}
+use Rattle.std.proofs.Common.{◌≡◌, IfSome}
 use Rattle.caibx_codec.specs.Listing.{image_length}
 use Rattle.verify_tool.specs.Checks.{AreRightBelow}
 use Rattle.verify_tool.proofs.check.check_chunks.Given as goal
@@ -11,5 +11,5 @@ invariant-loop-i g l =
       size : (held l.view).size ≡ image_length l.index;
       before : IfSome (held l.fn.view).bytes (λ t. AreRightBelow t l.index l.i);
       kept : held l.view ≡ held l.fn.view;
-      faults : faults l.fn.view ≤ faults l.view;
+      faults : faults l.view ≡ faults l.fn.view;
     }

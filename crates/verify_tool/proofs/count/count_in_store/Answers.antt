@@ -1,59 +1,112 @@
-use Rattle.std.proofs.Common.{cond, Bool, true, false, ◌≡◌, ◌≤◌, ◌-◌, List, ℕ, [], map, length, get_or, arith, refl, sym, ◌∙◌}
+use Rattle.std.proofs.Common.{◌≡◌, ◌≤◌, ◌<◌, ◌+◌, cond, Bool, true, false, List, ℕ, [], length, get_or, arith, refl, sym, subst, ap, ◌∙◌, inl, inr}
 use Rattle.std.proofs.lemmas.List.{length-map, get_or-map}
-use Rattle.verify_tool.proofs.Asked.{said_still, said_on}
-use Rattle.verify_tool.proofs.Counted.{turn_at_most, turn_passes, few_counted, none_counted, none_asked}
-use Rattle.verify_tool.proofs.Distinct.{turn_holds}
+use Rattle.std.specs.BTreeSet.{contains}
+use Rattle.std.specs.Cmp.Lexicographic.{slice_cmp}
+use Rattle.std.specs.Ordering.{nat_cmp}
+use Rattle.caibx_codec.specs.Listing.{Listing, id_of, count_of}
+use Rattle.store_chain.proofs.Kept.{kept_still, kept_on}
+use Rattle.verify_tool.proofs.Asked.{asks_later, each_one_more, is_first, reaches_first, reaches_next}
+use Rattle.verify_tool.proofs.Counted.{turn_at_most, turn_holds, turn_passes, few_counted}
+use Rattle.store_chain.specs.Refusals.{HasFails}
+use Rattle.verify_tool.specs.Counts.{is_listed_before}
+use Rattle.verify_tool.specs.Texts.{ids_of}
 use Rattle.verify_tool.proofs.count.count_in_store.Goals as goal
 
 at_most_one : (b : Bool) → cond b 1 0 ≤ 1
 at_most_one true = omega arith
 at_most_one false = omega arith
 
-pub returns-in-Err-count_one-clause-said : goal.returns-in-Err-count_one-clause-said
-returns-in-Err-count_one-clause-said g c =
-    said_on g.S.Store.said c.args.chain.now.stores c.loop-i.chain.stores c.count_one.new.chain.stores c.loop-i.invariant.said c.in-Err-count_one.ensures.said
+all_ids : (l : Listing) → length (ids_of l) ≡ count_of l
+all_ids l = length-map _ _
 
-pub overflow_add-n : goal.overflow_add-n
-overflow_add-n g c =
-    let ids : List (List ℕ) = map (λ e. e.1) c.args.index.now.entries in
-    let few : c.loop-i.n ≤ length ids = few_counted ids c.loop-i.i c.loop-i.n c.loop-i.invariant.size in
-    let same : length ids ≡ length c.args.index.now.entries = length-map _ _ in
-    omega (arith, few, same, c.rules.ensures.few, c.in-Ok-count_one.ensures.size, at_most_one c.in-Ok.is_new)
+named : (l : Listing) (i : ℕ) (id : List ℕ) → i < count_of l → id ≡ id_of l i → id ≡ get_or (ids_of l) i []
+named l i id lt is = is ∙ sym (get_or-map _ l.entries i (0, []) [] lt)
 
 pub loop-i-init : goal.loop-i-init
 loop-i-init g c =
-    let ids : List (List ℕ) = map (λ e. e.1) c.args.index.now.entries in
-    let same : length ids ≡ length c.args.index.now.entries = length-map _ _ in
-    let all : length ids ≤ c.count-i.result = omega (arith, same, c.count-i.ensures) in
+    let S = g.S.Store in
+    let stores = c.args.chain.now.stores in
     record {
-      inside = omega (arith, c.count-i.ensures);
-      asked = λ q. none_asked _ q ids c.count-i.result all c.new-asked.ensures.empty;
-      value = λ maps told. none_counted _ ids c.count-i.result all;
+      asked = λ q. ap (λ ks. contains (slice_cmp nat_cmp) (record { keys = ks }) q) c.new-asked.ensures.empty;
+      value = λ maps told. refl;
       size = omega arith;
-      kept = refl;
-      place = refl;
-      said = said_still g.S.Store.said c.args.chain.now.stores;
-      asks = record { stores = refl; calls = refl };
-      faults = λ k. omega arith;
+      reaches = reaches_first S.holds S.said S.queried S.faults c.args.index.now stores;
+      kept = kept_still S.holds S.folder S.place S.said S.faults stores;
+      asks = record { stores = refl; calls = refl; kind = refl };
     }
+
+pub returns-in-Err-clause-first : goal.returns-in-Err-clause-first
+returns-in-Err-clause-first g c =
+    let S = g.S.Store in
+    let i = c.loop-i.i in
+    record {
+      entry = i;
+      listed = omega (arith, c.count-i-end.ensures);
+      before = c.loop-i.chain.stores;
+      reaches = c.loop-i.invariant.reaches;
+      ends = inr (refl, refl);
+      asked = asks_later S.queried c.args.index.now i (i + 1) (omega arith) c.args.chain.now.stores c.loop-i.chain.stores c.loop-i.invariant.reaches.asked;
+    }
+
+pub returns-in-Err-clause-queries : goal.returns-in-Err-clause-queries
+returns-in-Err-clause-queries g c =
+    asks_later g.S.Store.queried c.args.index.now c.loop-i.i _ (omega (arith, c.count-i-end.ensures)) c.args.chain.now.stores c.loop-i.chain.stores c.loop-i.invariant.reaches.asked
+
+pub returns-in-Err-count_one-clause-first : goal.returns-in-Err-count_one-clause-first
+returns-in-Err-count_one-clause-first g c =
+    let S = g.S.Store in
+    let l : Listing = c.args.index.now in
+    let i = c.loop-i.i in
+    let id = c.id-id.result.0 in
+    let lt : i < count_of l = omega (arith, c.count-i-end.ensures) in
+    let new_id : is_listed_before l i id ≡ false = is_first l i id _ c.in-Ok.is_new (c.loop-i.invariant.asked id) c.in-Ok.ensures.added c.in-Err-count_one.ensures.only in
+    let P : List ℕ → Type 0 = λ x. (is_listed_before l i x ≡ false) × HasFails S.said S.faults x c.loop-i.chain.stores c.count_one.new.chain.stores c.in-Err-count_one.fault in
+    record {
+      entry = i;
+      listed = lt;
+      before = c.loop-i.chain.stores;
+      reaches = c.loop-i.invariant.reaches;
+      ends = inl (subst P c.id-id.ensures (new_id, c.in-Err-count_one.ensures.first));
+      asked = each_one_more l i id (omega (arith, lt, all_ids l)) (named l i id lt c.id-id.ensures) new_id S.queried c.args.chain.now.stores c.loop-i.chain.stores c.count_one.new.chain.stores c.loop-i.invariant.reaches.asked c.in-Err-count_one.ensures.queries;
+    }
+
+pub returns-in-Err-count_one-clause-kept : goal.returns-in-Err-count_one-clause-kept
+returns-in-Err-count_one-clause-kept g c =
+    let S = g.S.Store in
+    kept_on S.holds S.folder S.place S.said S.faults c.args.chain.now.stores c.loop-i.chain.stores c.count_one.new.chain.stores c.loop-i.invariant.kept c.count_one.ensures.kept
+
+pub returns-in-Err-count_one-clause-queries : goal.returns-in-Err-count_one-clause-queries
+unfolding returns-in-Err-count_one-clause-first
+returns-in-Err-count_one-clause-queries g c =
+    let fails = returns-in-Err-count_one-clause-first g c in
+    asks_later g.S.Store.queried c.args.index.now (c.loop-i.i + 1) _ (omega (arith, c.count-i-end.ensures)) c.args.chain.now.stores c.count_one.new.chain.stores fails.asked
+
+pub overflow_add-n : goal.overflow_add-n
+overflow_add-n g c =
+    let few : c.loop-i.n ≤ c.loop-i.i = few_counted (ids_of c.args.index.now) c.loop-i.i c.loop-i.n c.loop-i.invariant.size in
+    omega (arith, few, c.in-Ok-count_one.ensures.size, at_most_one c.in-Ok.is_new)
 
 pub loop-i-preserved : goal.loop-i-preserved
 loop-i-preserved g c =
-    let ids : List (List ℕ) = map (λ e. e.1) c.args.index.now.entries in
+    let S = g.S.Store in
+    let l : Listing = c.args.index.now in
+    let ids : List (List ℕ) = ids_of l in
     let i = c.loop-i.i in
-    let same : length ids ≡ length c.args.index.now.entries = length-map _ _ in
-    let inside : i ≤ length ids = omega (arith, c.loop-i.invariant.inside, same) in
-    let named : c.id-id.result.0 ≡ get_or ids (i - 1) [] = c.id-id.ensures ∙ sym (get_or-map _ c.args.index.now.entries (i - 1) (0, []) [] (omega (arith, inside, same, c.loop-i-test.true))) in
+    let id = c.id-id.result.0 in
+    let old = c.args.chain.now.stores in
+    let mid = c.loop-i.chain.stores in
+    let new = c.count_one.new.chain.stores in
+    let before = c.loop-i.invariant in
     let one = c.in-Ok-count_one.ensures in
+    let lt : i < count_of l = omega (arith, c.count-i-end.ensures) in
+    let inside : i < length ids = omega (arith, lt, all_ids l) in
+    let is : id ≡ get_or ids i [] = named l i id lt c.id-id.ensures in
     record {
-      inside = omega (arith, c.loop-i.invariant.inside);
-      asked = λ q. turn_holds ids i c.id-id.result.0 c.loop-i-test.true inside named q _ _ (c.loop-i.invariant.asked q) (c.in-Ok.ensures.updates.0 q);
-      value = λ maps told. turn_passes ids i c.id-id.result.0 c.loop-i-test.true inside named _ c.in-Ok.is_new (c.loop-i.invariant.asked c.id-id.result.0) c.in-Ok.ensures.added _ c.loop-i.n c.in-Ok-count_one.more
-          (c.loop-i.invariant.value maps told) (one.value maps (c.loop-i.invariant.kept ∙ told));
-      size = turn_at_most ids i c.id-id.result.0 c.loop-i-test.true inside named _ c.in-Ok.is_new (c.loop-i.invariant.asked c.id-id.result.0) c.in-Ok.ensures.added c.loop-i.n c.in-Ok-count_one.more c.loop-i.invariant.size one.size;
-      kept = one.kept ∙ c.loop-i.invariant.kept;
-      place = one.place ∙ c.loop-i.invariant.place;
-      said = said_on g.S.Store.said c.args.chain.now.stores c.loop-i.chain.stores c.count_one.new.chain.stores c.loop-i.invariant.said one.said;
-      asks = record { stores = one.asks.stores ∙ c.loop-i.invariant.asks.stores; calls = one.asks.calls ∙ c.loop-i.invariant.asks.calls };
-      faults = λ k. omega (arith, c.loop-i.invariant.faults k, one.faults k);
+      asked = λ q. turn_holds ids i id inside is q _ _ (before.asked q) (c.in-Ok.ensures.updates.0 q);
+      value = λ maps told. turn_passes ids i id inside is _ c.in-Ok.is_new (before.asked id) c.in-Ok.ensures.added _ c.loop-i.n c.in-Ok-count_one.more (before.value maps told) (one.value maps (before.kept.held ∙ told));
+      size = turn_at_most ids i id inside is _ c.in-Ok.is_new (before.asked id) c.in-Ok.ensures.added c.loop-i.n c.in-Ok-count_one.more before.size one.size;
+      reaches = reaches_next S.holds S.said S.queried S.faults l old mid new i id inside is before.reaches _ c.in-Ok.is_new (before.asked id) c.in-Ok.ensures.added before.kept.held one.kept.says
+          one.ok (λ h. ap (λ x. x.stores) (one.absent h)) one.queries one.kept.never_fall;
+      kept = kept_on S.holds S.folder S.place S.said S.faults old mid new before.kept one.kept;
+      asks = record { stores = one.asks.stores ∙ before.asks.stores; calls = one.asks.calls ∙ before.asks.calls; kind = one.asks.kind ∙ before.asks.kind };
     }

@@ -1,5 +1,9 @@
-use Rattle.verify_tool.proofs.Asked.{said_still}
+use Rattle.store_chain.proofs.Kept.{kept_still, none_more}
 use Rattle.verify_tool.proofs.count.count_one.Goals as goal
 
-pub returns-then-not-is_new-clause-said : goal.returns-then-not-is_new-clause-said
-returns-then-not-is_new-clause-said g c = said_still g.S.Store.said c.args.chain.now.stores
+pub returns-then-not-is_new-clause-kept : goal.returns-then-not-is_new-clause-kept
+returns-then-not-is_new-clause-kept g c =
+    kept_still g.S.Store.holds g.S.Store.folder g.S.Store.place g.S.Store.said g.S.Store.faults c.args.chain.now.stores
+
+pub returns-then-not-is_new-clause-queries : goal.returns-then-not-is_new-clause-queries
+returns-then-not-is_new-clause-queries g c = none_more g.S.Store.queried c.args.id.now.0 c.args.chain.now.stores
