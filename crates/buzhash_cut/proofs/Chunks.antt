@@ -1,10 +1,12 @@
 -- What the index of an image says of each chunk by its number.
-use Rattle.std.proofs.Common.{◌≡◌, ℕ, zero, suc, ◌-◌, ◌<◌, ◌≤◌, ◌==◌, if◌then◌else◌, List, [], ◌∷◌, length, slice_index_or, slice_range, refl, sym, ap, subst, ◌∙◌, arith, Result, Ok, Err, IfOk}
+use Rattle.std.proofs.Common.{◌≡◌, ℕ, zero, suc, ◌-◌, ◌<◌, ◌≤◌, ◌==◌, if◌then◌else◌, List, [], ◌∷◌, length, slice_index_or, slice_range, refl, sym, ap, subst, ◌∙◌, arith, Option, Some, None, IfSome, Err}
 use Rattle.std.proofs.lemmas.Bool.Decides.{nat_tests}
 use Rattle.buzhash_cut.proofs.Cutting.{length-named_from}
 use Rattle.buzhash_cut.specs.Cuts.{AreCuts}
-use Rattle.buzhash_cut.specs.Image.{named_from, listing_of, IsIndexOfImage, IndexGiven}
+use Rattle.buzhash_cut.specs.Image.{named_from, listing_of, IsIndexOfImage, IndexGiven, HasTooManyCuts}
 use Rattle.buzhash_cut.specs.declared.image.CutFault.{CutFault}
+use Rattle.buzhash_cut.specs.declared.image.CutFault.TheVariants as faults
+use Rattle.buzhash_cut.specs.Entries.{ends_in, AllAreCut, AllAreNamed}
 use Rattle.caibx_codec.specs.Right.{IsRight}
 use Rattle.buzhash_cut.specs.Sizes.{Sizes}
 use Rattle.caibx_codec.specs.Listing.{Listing, count_of, start_of, end_of, id_of, slice_of, image_length}
@@ -83,7 +85,36 @@ image_right s image l is =
     let named = index_named s image l is in
     record { size = sym named.whole; entries = named.named }
 
--- the index of an image has its length
-pub given_size : (s : Sizes) (image : List ℕ) (r : Result Listing CutFault) → IndexGiven s image r → IfOk r (λ l. image_length l ≡ length image)
-given_size s image (Ok l) is = sym (image_right s image l is).size
-given_size s image (Err f) is = tt
+-- the last of all entries ends with the image
+entries_end : (s : Sizes) (image : List ℕ) (start : ℕ) (es : List (ℕ × List ℕ)) → AreCuts s image start (ends_in es) → start_at start es (length es) ≡ length image
+entries_end s image start [] cuts = cuts
+entries_end s image start (e ∷ []) cuts = cuts.3
+entries_end s image start (e ∷ next ∷ es) cuts =
+    let here : start_at start (e ∷ next ∷ es) (suc (suc (length es))) ≡ end_at (next ∷ es) (length es) = start_at-suc start (e ∷ next ∷ es) (suc (length es)) in
+    let there : start_at e.0 (next ∷ es) (suc (length es)) ≡ end_at (next ∷ es) (length es) = start_at-suc e.0 (next ∷ es) (length es) in
+    here ∙ sym there ∙ entries_end s image e.0 (next ∷ es) cuts.3
+
+abbrev made_of : ℕ → ℕ → ℕ → List (ℕ × List ℕ) → Listing
+made_of least average greatest es = record { flags = 0xa000000000000000; least = least; average = average; greatest = greatest; entries = es }
+
+module _ (s : Sizes) (image : List ℕ) (es : List (ℕ × List ℕ)) (least average greatest : ℕ) (l : Listing)
+    (is : l ≡ record { flags = 0xa000000000000000; least = least; average = average; greatest = greatest; entries = es }) (all : AllAreCut s image es) where
+  -- so the index has its length
+  pub listed_length : image_length l ≡ length image
+  listed_length = ap image_length is ∙ entries_end s image 0 es all.cuts
+
+  -- what lists all chunks with their names is the index
+  pub listed_index : (t : List ℕ) → image ≡ t → AllAreNamed t es → least ≡ s.least → average ≡ s.average → greatest ≡ s.greatest → IsIndexOfImage s t l
+  listed_index t same named a b c = record {
+    ends = ends_in es;
+    cuts = subst (λ (x : List ℕ). AreCuts s x 0 (ends_in es)) same all.cuts;
+    lists = is ∙ ap (λ (n : ℕ). made_of n average greatest es) a ∙ ap (λ (n : ℕ). made_of s.least n greatest es) b
+        ∙ ap (λ (n : ℕ). made_of s.least s.average n es) c ∙ ap (made_of s.least s.average s.greatest) named;
+  }
+
+-- what a fault says
+pub given_err : (o : Option (List ℕ)) (s : Sizes) (f : CutFault) → (f ≡ faults.TooManyItems → IfSome o (λ t. HasTooManyCuts s t)) → IfSome o (λ t. IndexGiven s t (Err f))
+given_err None s f many = tt
+given_err (Some t) s faults.TooManyItems many = many refl
+given_err (Some t) s faults.ImageFault many = tt
+given_err (Some t) s faults.Memory many = tt

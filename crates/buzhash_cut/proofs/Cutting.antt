@@ -4,15 +4,15 @@ use Rattle.std.proofs.lemmas.Bool.{cases_lt}
 use Rattle.std.proofs.lemmas.Bool.Decides.{nat_tests}
 use Rattle.std.proofs.lemmas.List.{length-take-le}
 use Rattle.buzhash_cut.specs.Cuts.{closes, IsCut, AreCuts}
-use Rattle.buzhash_cut.specs.Image.{named_from, listing_of}
+use Rattle.buzhash_cut.specs.Image.{named_from}
+use Rattle.buzhash_cut.specs.Entries.{ends_in, AllAreCut}
 use Rattle.buzhash_cut.specs.Sizes.{Sizes, AreSizes}
 use Rattle.caibx_codec.specs.Judge.{entry_fault, fault_of}
 use Rattle.caibx_codec.specs.declared.fault.IndexFault.{IndexFault}
 use Rattle.chunk_store.specs.declared.id.DigestKind.{DigestKind}
-use Rattle.chunk_store.specs.declared.id.DigestKind.TheVariants as kinds
 
 -- a chunk of the greatest size ends there
-closes_full : (s : Sizes) (chunk : List ℕ) → length chunk ≡ s.greatest → closes s chunk ≡ true
+pub closes_full : (s : Sizes) (chunk : List ℕ) → length chunk ≡ s.greatest → closes s chunk ≡ true
 unfolding closes
 closes_full s chunk full = rw (eq-eqb (length chunk) s.greatest full) refl
 
@@ -27,16 +27,16 @@ cut_at_most s rest n sizes cut = elim (cases_lt s.greatest n) [
   | inr at_least ↦ at_least
 ]
 
-entries_fine : (s : Sizes) (kind : DigestKind) (image : List ℕ) (k start : ℕ) (ends : List ℕ) → AreSizes s → AreCuts s image start ends
-    → entry_fault s.greatest k start (named_from kind image start ends) ≡ None
-entries_fine s kind image k start [] sizes cuts = refl
-entries_fine s kind image k start (end ∷ ends) sizes cuts =
+entries_fine : (s : Sizes) (image : List ℕ) (k start : ℕ) (es : List (ℕ × List ℕ)) → AreSizes s → AreCuts s image start (ends_in es)
+    → entry_fault s.greatest k start es ≡ None
+entries_fine s image k start [] sizes cuts = refl
+entries_fine s image k start (e ∷ es) sizes cuts =
     let some : 1 ≤ cuts.0 = cuts.1.some in
     let fits : cuts.0 ≤ s.greatest = cut_at_most s (drop start image) cuts.0 sizes cuts.1 in
-    let is : end ≡ start + cuts.0 = cuts.2 in
-    let above : nat_le end start ≡ false = grind (arith, nat_tests) in
-    let small : nat_lt s.greatest (end - start) ≡ false = grind (arith, nat_tests) in
-    rw (above, small) (entries_fine s kind image (k + 1) end ends sizes cuts.3)
+    let is : e.0 ≡ start + cuts.0 = cuts.2 in
+    let above : nat_le e.0 start ≡ false = grind (arith, nat_tests) in
+    let small : nat_lt s.greatest (e.0 - start) ≡ false = grind (arith, nat_tests) in
+    rw (above, small) (entries_fine s image (k + 1) e.0 es sizes cuts.3)
 
 -- each end is listed once
 pub length-named_from : (kind : DigestKind) (image : List ℕ) (start : ℕ) (ends : List ℕ) → length (named_from kind image start ends) ≡ length ends
@@ -44,24 +44,22 @@ length-named_from kind image start [] = refl
 length-named_from kind image start (end ∷ ends) = let e = length-named_from kind image end ends in omega (arith, e)
 
 -- the index of an image breaks no rule
-pub index_fine : (s : Sizes) (image ends : List ℕ) → AreSizes s → AreCuts s image 0 ends → length ends ≤ 4194304 → fault_of (listing_of s image ends) ≡ None
-index_fine s image ends sizes cuts few =
-    let none = entries_fine s kinds.Sha512T256 image 0 0 ends sizes cuts in
+index_fine : (s : Sizes) (image : List ℕ) (es : List (ℕ × List ℕ)) → AreSizes s → AllAreCut s image es
+    → fault_of (record { flags = 0xa000000000000000; least = s.least; average = s.average; greatest = s.greatest; entries = es }) ≡ None
+index_fine s image es sizes all =
+    let none = entries_fine s image 0 0 es sizes all.cuts in
     let small : nat_lt 67108864 s.greatest ≡ false = grind (arith, nat_tests, sizes.greatest) in
-    let count = length-named_from kinds.Sha512T256 image 0 ends in
-    let fits : nat_lt 4194304 (length (named_from kinds.Sha512T256 image 0 ends)) ≡ false = grind (arith, nat_tests) in
+    let fits : nat_lt 4194304 (length es) ≡ false = grind (arith, nat_tests, all.few) in
     rw (small, fits) none
 
 -- so it isn't refused
-pub index_taken : (s : Sizes) (image ends : List ℕ) (least average greatest : ℕ) (entries : List (ℕ × List ℕ)) (f : IndexFault)
-    → AreSizes s → AreCuts s image 0 ends → length ends ≤ 4194304
-    → least ≡ s.least → average ≡ s.average → greatest ≡ s.greatest → entries ≡ named_from kinds.Sha512T256 image 0 ends
-    → fault_of (record { flags = 0xa000000000000000; least = least; average = average; greatest = greatest; entries = entries }) ≡ Some f → ⊥
-index_taken s image ends least average greatest entries f sizes cuts few a b c d fault =
-    let fine = index_fine s image ends sizes cuts few in
-    let listed = λ (l m g : ℕ) (es : List (ℕ × List ℕ)). fault_of (record { flags = 0xa000000000000000; least = l; average = m; greatest = g; entries = es }) in
-    let same : listed least average greatest entries ≡ fault_of (listing_of s image ends) =
-    ap (λ x. listed x average greatest entries) a ∙ (ap (λ x. listed s.least x greatest entries) b
-    ∙ (ap (λ x. listed s.least s.average x entries) c ∙ ap (listed s.least s.average s.greatest) d)) in
+pub index_taken : (s : Sizes) (image : List ℕ) (es : List (ℕ × List ℕ)) (least average greatest : ℕ) (f : IndexFault) → AreSizes s → AllAreCut s image es
+    → least ≡ s.least → average ≡ s.average → greatest ≡ s.greatest
+    → fault_of (record { flags = 0xa000000000000000; least = least; average = average; greatest = greatest; entries = es }) ≡ Some f → ⊥
+index_taken s image es least average greatest f sizes all a b c fault =
+    let fine = index_fine s image es sizes all in
+    let listed = λ (l m g : ℕ). fault_of (record { flags = 0xa000000000000000; least = l; average = m; greatest = g; entries = es }) in
+    let same : listed least average greatest ≡ listed s.least s.average s.greatest =
+    ap (λ x. listed x average greatest) a ∙ (ap (λ x. listed s.least x greatest) b ∙ ap (listed s.least s.average) c) in
     let both : None ≡ Some f = sym fine ∙ (sym same ∙ fault) in
     cc

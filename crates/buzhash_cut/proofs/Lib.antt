@@ -1,5 +1,15 @@
+pub mod Words
 pub mod Windows
 pub mod Cutting
 pub mod Uniqueness
 pub mod Chunks
 pub mod Twins
+pub mod Rotations
+pub mod Divides
+pub mod RollLaw
+pub mod Places
+pub mod Seams
+pub mod Closed
+pub mod Feeds
+pub mod SoFar
+pub mod Pieces

@@ -1,5 +1,5 @@
 -- The index of an image: its chunks by their ends, each with its name.
-use Rattle.std.specs.Prelude.{◌≡◌, ℕ, ◌<◌, ◌≤◌, List, [], ◌∷◌, length, slice_index, slice_range, Result, Ok, Err}
+use Rattle.std.specs.Prelude.{◌≡◌, ℕ, ◌<◌, ◌≤◌, List, [], ◌∷◌, length, slice_index, slice_range, Result, Ok, Err, OnOk}
 use Rattle.buzhash_cut.specs.Cuts.{AreCuts}
 use Rattle.buzhash_cut.specs.Sizes.{Sizes}
 use Rattle.buzhash_cut.specs.declared.image.CutFault.{CutFault}
@@ -13,7 +13,8 @@ use Rattle.chunk_store.specs.declared.id.DigestKind.TheVariants as kinds
 -- each end, from the chunk on that begins at `start`, with the name of its chunk
 abbrev pub named_from : DigestKind → List ℕ → ℕ → List ℕ → List (ℕ × List ℕ)
 named_from kind image start [] = []
-named_from kind image start (end ∷ ends) = (end, name_of kind (slice_range image start end)) ∷ named_from kind image end ends
+named_from kind image start (end ∷ ends) =
+    (end, name_of kind (slice_range image start end)) ∷ named_from kind image end ends
 
 -- the index that lists these ends
 abbrev pub listing_of : Sizes → List ℕ → List ℕ → Listing
@@ -44,9 +45,14 @@ IndexGiven s image (Err faults.TooManyItems) = HasTooManyCuts s image
 IndexGiven s image (Err faults.ImageFault) = Unit {0}
 IndexGiven s image (Err faults.Memory) = Unit {0}
 
--- of several counts of faults none fell, and some rose
-abbrev pub NoneFell : List ℕ → List ℕ → Type 0
-NoneFell old new = (i : ℕ) → slice_index old i ≤ slice_index new i
-
+-- some of several counts of faults rose
 abbrev pub SomeRose : List ℕ → List ℕ → Type 0
 SomeRose old new = (i : ℕ) × (i < length old) × Rose (slice_index old i) (slice_index new i)
+
+-- how the counts of the views go over cutting: none falls, some rises where the image couldn't be read, and all stay
+-- where there is an index or no memory
+pub record CountsViews {A : Type 0} (old new : List ℕ) (result : Result A CutFault) : Type 0 where
+  pub never_falls : (i : ℕ) → slice_index old i ≤ slice_index new i
+  pub cause : result ≡ Err faults.ImageFault → SomeRose old new
+  pub done : OnOk result (new ≡ old)
+  pub unfailed : result ≡ Err faults.Memory → new ≡ old

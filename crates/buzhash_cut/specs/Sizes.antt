@@ -1,5 +1,6 @@
 -- The sizes of chunks, in bytes.
-use Rattle.std.specs.Prelude.{◌≡◌, ℕ, ◌-◌, ◌*◌, ◌/◌, ◌^◌, ◌≤◌, nat_lt, if◌then◌else◌, Option, Some, None, Result, Ok, Err}
+use Rattle.std.specs.Prelude.{◌≡◌, ℕ, ◌-◌, ◌*◌, ◌/◌, ◌^◌, ◌≤◌, nat_lt, if◌then◌else◌, Option, Some, None, Result, Ok}
+use Rattle.std.specs.Prelude.{Err}
 use Rattle.buzhash_cut.specs.declared.sizes.SizeFault.{SizeFault}
 use Rattle.buzhash_cut.specs.declared.sizes.SizeFault.TheVariants as faults
 

@@ -2,12 +2,18 @@
 use Rattle.std.specs.Prelude.{ℕ, ◌-◌, List, fold, map, slice_index, bit_xor}
 use Rattle.std.specs.Int.{w32, rotate_left}
 use Rattle.std.specs.List.{range_with_len}
-use Rattle.buzhash_cut.specs.declared.table.TheConstants.{TABLE}
+use Rattle.buzhash_cut.specs.Table.{table}
 
 -- what byte i adds: its word in the table, rotated left by 47 - i
 abbrev pub turned : List ℕ → ℕ → ℕ
-turned window i = rotate_left w32 (slice_index TABLE (slice_index window i)) (47 - i)
+turned window i = rotate_left w32 (slice_index table (slice_index window i)) (47 - i)
 
 -- the exclusive or of what the bytes add
 unfoldable pub window_hash : List ℕ → ℕ
 window_hash window = fold bit_xor 0 (map (turned window) (range_with_len 0 48))
+
+-- the hash of a window that has moved on by one byte, from the hash of the window before
+unfoldable pub roll_of : ℕ → ℕ → ℕ → ℕ
+roll_of hash leaving entering =
+    bit_xor (rotate_left w32 hash 1)
+    (bit_xor (rotate_left w32 (slice_index table leaving) 16) (slice_index table entering))

@@ -1,11 +1,15 @@
 //! Cutting an image into chunks by its content, and the index of an image.
 #![tactic(auto)]
 
-pub mod cuts;
+mod closing;
+pub mod cutter;
+mod entries;
 pub mod image;
 pub mod laws;
+mod rolling;
+mod seam;
 pub mod sizes;
-pub mod table;
+mod table;
 #[cfg(test)]
 mod tests;
 pub mod window;

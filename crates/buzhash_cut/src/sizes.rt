@@ -1,6 +1,6 @@
 //! The sizes of chunks, in bytes.
 
-ghost use Rattle.std.specs.Prelude.{◌≡◌, ◌<◌};
+ghost use Rattle.std.specs.Prelude.{◌≡◌, ◌^◌, ◌≤◌};
 ghost use Rattle.buzhash_cut.specs.Sizes.{AreSizes, SizesGiven, discriminator_of};
 
 use std::marker::Model;
@@ -90,7 +90,8 @@ impl CutSizes {
     #[tactic(auto, unfolding(crate::specs::Sizes::discriminator_of))]
     pub fn discriminator(&self) -> u32
         ensures value { result ≡ discriminator_of self.now.average }
-        ensures size { 0 < result }
+        ensures many { 2 ≤ result }
+        ensures few { result ≤ 2 ^ 31 }
     {
         let avg = u128::from(self.avg);
         (avg * 1_000_000_000_000_000 / (1_332_375_150_000_000 - 142_888_852 * avg)) as u32

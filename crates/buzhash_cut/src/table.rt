@@ -1,7 +1,10 @@
-//! The cutting table: a word of 32 bits for each byte. It is a definition of this product, and no other program's.
+//! The cutting table, which is casync's: a word of 32 bits for each byte.
+
+ghost use Rattle.std.specs.Prelude.{◌≡◌, slice_index};
+ghost use Rattle.buzhash_cut.specs.Table.{table};
 
 #[rattlefmt::skip]
-pub static TABLE: [u32; 256] = [
+pub(crate) static TABLE: [u32; 256] = [
     0x458b_e752, 0xc107_48cc, 0xfbbc_dbb8, 0x6ded_5b68, 0xb10a_82b5, 0x20d7_5648, 0xdfc5_665f, 0xa842_8801,
     0x7ebf_5191, 0x8411_35c7, 0x65cc_53b3, 0x280a_597c, 0x16f6_0255, 0xc78c_bc3e, 0x2944_15f5, 0xb938_d494,
     0xec85_c4e6, 0xb7d3_3edc, 0xe549_b544, 0xfded_a5aa, 0x882b_f287, 0x3116_737c, 0x0556_9956, 0xe8cc_1f68,
@@ -35,3 +38,11 @@ pub static TABLE: [u32; 256] = [
     0x329e_5388, 0x91dd_236b, 0x2ecb_0d93, 0xf4d8_2a3d, 0x35b5_c03f, 0xe4e6_06f0, 0x05b2_1843, 0x37b4_5964,
     0x5eff_22f4, 0x6027_f4cc, 0x7717_8b3c, 0xae50_7131, 0x7bf7_cabc, 0xf9c1_8d66, 0x593a_de65, 0xd95d_df11,
 ];
+
+/// The table's word of a byte.
+#[tactic(auto, using(crate::proofs::Words::words_are))]
+pub(crate) fn word_of(byte: u8) -> u32
+    ensures value { result ≡ slice_index table byte }
+{
+    TABLE[byte as usize]
+}

@@ -1,6 +1,6 @@
 //! Cutting by vectors, and by what another program answers. Offsets and sizes are in bytes.
 
-use crate::cuts::ends_of;
+use crate::cutter::Cutter;
 use crate::image::index_view;
 use crate::sizes::{CutSizes, SizeFault};
 use crate::table::TABLE;
@@ -14,6 +14,12 @@ use std::test::Fail;
 
 // The SHA-256 of the table's words, low byte first, by another program.
 const TABLE_DIGEST: &str = "5b52080d38287da9d2e278466e3e0db7ec98e5e8b226f50612a56fa012b1f660";
+
+// Where 3000 mixed bytes are cut by the sizes 64, 128 and 512, by another program.
+const ENDS: [u64; 22] = [
+    109, 220, 360, 483, 602, 724, 1236, 1399, 1631, 1715, 1850, 1946, 2031, 2154, 2243, 2392, 2496,
+    2652, 2775, 2872, 2945, 3000,
+];
 
 #[test]
 fn the_table_has_its_words(rt: HostRuntime) -> Result<(), Fail> {
@@ -62,28 +68,109 @@ fn sizes_of(rt: &impl Abort, min: u64, avg: u64, max: u64) -> CutSizes {
     CutSizes::new(min, avg, max).expect(rt, "sizes")
 }
 
+// The ends that a cutter gives of the bytes in pieces of one size.
+fn ends_in_pieces(
+    rt: &impl Abort,
+    alloc: Global,
+    sizes: CutSizes,
+    image: &[u8],
+    size: usize,
+) -> Result<Vec<u64>, Fail> {
+    assert!(rt; image.len() < 1_000_000 && 0 < size);
+    let mut cutter = Cutter::new(alloc, sizes)?;
+    let mut ends = Vec::new(alloc);
+    let mut at = 0usize;
+    for piece in image.chunks(size) {
+        let mut from = 0usize;
+        while from < piece.len() {
+            assert!(rt; at < 1_000_000);
+            let fed = cutter.feed(&piece[from..]);
+            assert!(rt; 0 < fed.taken && fed.taken <= piece.len() - from);
+            from += fed.taken;
+            at += fed.taken;
+            if let Some(end) = fed.end {
+                ends.push(end)?;
+            }
+        }
+    }
+    if let Some(end) = cutter.finish() {
+        ends.push(end)?;
+    }
+    Ok(ends)
+}
+
+// Cuts the image in pieces of each of these sizes and whole.
+fn cut_alike(
+    rt: &impl Abort,
+    alloc: Global,
+    sizes: CutSizes,
+    image: &[u8],
+    want: &[u64],
+) -> Result<(), Fail> {
+    assert!(rt; 0 < image.len());
+    for size in [1, 47, 48, 49, 64, 1000, image.len()] {
+        let ends = ends_in_pieces(rt, alloc, sizes, image, size)?;
+        assert_eq!(rt; ends.as_slice(), want, "{size}");
+    }
+    Ok(())
+}
+
+// Ones and zeros are the specification's examples.
+#[test]
+fn pieces_do_not_matter(rt: HostRuntime) -> Result<(), Fail> {
+    let alloc = rt.alloc();
+    let small = sizes_of(&rt, 48, 63, 100);
+    let ones = vec![in alloc; 0xffu8; 100]?;
+    cut_alike(&rt, alloc, small, ones.as_slice(), [48, 96, 100].as_slice())?;
+    cut_alike(&rt, alloc, small, &ones.as_slice()[..48], [48].as_slice())?;
+    cut_alike(&rt, alloc, small, &ones.as_slice()[..47], [47].as_slice())?;
+    let zeros = vec![in alloc; 0u8; 200]?;
+    cut_alike(&rt, alloc, small, zeros.as_slice(), [100, 200].as_slice())?;
+    let usual = sizes_of(&rt, 16_384, 65_536, 262_144);
+    let zeros = vec![in alloc; 0u8; 600_000]?;
+    let ends = ends_in_pieces(&rt, alloc, usual, zeros.as_slice(), 65_536)?;
+    assert_eq!(rt; ends.as_slice(), [262_144, 524_288, 600_000].as_slice());
+    assert_eq!(rt; ends_in_pieces(&rt, alloc, usual, &[], 1)?.len(), 0);
+    Ok(())
+}
+
+// The ends are those of another program.
 #[test]
 fn images_are_cut_by_their_bytes(rt: HostRuntime) -> Result<(), Fail> {
     let alloc = rt.alloc();
-    let small = sizes_of(&rt, 48, 63, 100);
-    let cases: [(u8, usize, &[u64]); 6] = [
-        (0xff, 0, &[]),
-        (0xff, 47, &[47]),
-        (0xff, 48, &[48]),
-        (0xff, 100, &[48, 96, 100]),
-        (0, 100, &[100]),
-        (0, 200, &[100, 200]),
-    ];
-    for (byte, length, want) in cases {
-        let image = vec![in alloc; byte; length]?;
-        let ends = ends_of(alloc, &small, image.as_slice())?;
-        assert_eq!(rt; ends.as_slice(), want, "{length} times {byte}");
-    }
-    let zeros = vec![in alloc; 0u8; 600_000]?;
-    let usual = sizes_of(&rt, 16_384, 65_536, 262_144);
-    let ends = ends_of(alloc, &usual, zeros.as_slice())?;
-    assert_eq!(rt; ends.as_slice(), [262_144, 524_288, 600_000].as_slice());
-    Ok(())
+    let image = mixed(alloc, 3000)?;
+    let bytes = image.bytes.as_slice();
+    cut_alike(&rt, alloc, sizes_of(&rt, 64, 128, 512), bytes, &ENDS)?;
+    // The greatest size is never met.
+    cut_alike(
+        &rt,
+        alloc,
+        sizes_of(&rt, 64, 128, 67_108_864),
+        bytes,
+        [
+            109, 220, 360, 483, 602, 724, 1399, 1631, 1715, 1850, 1946, 2031, 2154, 2243, 2392,
+            2496, 2652, 2775, 2872, 2945, 3000,
+        ]
+        .as_slice(),
+    )?;
+    // The least size is the average, and near the greatest.
+    cut_alike(
+        &rt,
+        alloc,
+        sizes_of(&rt, 128, 128, 512),
+        bytes,
+        [
+            132, 360, 529, 724, 1236, 1399, 1631, 1850, 1991, 2154, 2286, 2496, 2652, 2872, 3000,
+        ]
+        .as_slice(),
+    )?;
+    cut_alike(
+        &rt,
+        alloc,
+        sizes_of(&rt, 256, 256, 300),
+        bytes,
+        [300, 600, 900, 1200, 1500, 1800, 2100, 2400, 2700, 3000].as_slice(),
+    )
 }
 
 // An image in memory, which is always read.
@@ -132,14 +219,9 @@ fn mixed(alloc: Global, length: usize) -> Result<Image, Fail> {
     Ok(Image { bytes })
 }
 
-// The ends are those of another program.
 #[test]
 fn an_index_names_each_chunk(rt: HostRuntime) -> Result<(), Fail> {
     let alloc = rt.alloc();
-    let want = [
-        109, 220, 360, 483, 602, 724, 1236, 1399, 1631, 1715, 1850, 1946, 2031, 2154, 2243, 2392,
-        2496, 2652, 2775, 2872, 2945, 3000,
-    ];
     let mut views = Vec::new(alloc);
     views.push(mixed(alloc, 3000)?)?;
     assert_eq!(rt; views.len(), 1);
@@ -148,11 +230,11 @@ fn an_index_names_each_chunk(rt: HostRuntime) -> Result<(), Fail> {
     assert_eq!(rt; views.len(), 1);
     assert_eq!(rt; index.flags(), 0xa000_0000_0000_0000);
     assert_eq!(rt; (index.min(), index.avg(), index.max()), (64, 128, 512));
-    assert_eq!(rt; index.count(), want.len());
+    assert_eq!(rt; index.count(), ENDS.len());
     let mut start = 0;
-    for i in 0..want.len() {
-        assert_eq!(rt; index.end(i), want[i]);
-        let end = want[i] as usize;
+    for i in 0..ENDS.len() {
+        assert_eq!(rt; index.end(i), ENDS[i]);
+        let end = ENDS[i] as usize;
         assert!(rt; start <= end && end <= views[0].bytes.len());
         let slice = &views[0].bytes[start..end];
         assert!(rt; index.id(i).is_of(DigestKind::Sha512T256, slice), "{i}");

@@ -3,7 +3,7 @@
 ghost use Rattle.std.specs.Prelude.{◌≡◌};
 ghost use Rattle.buzhash_cut.specs.Window.{window_hash};
 
-use crate::table::TABLE;
+use crate::table::word_of;
 
 /// The hash of the window: its bytes' words in the table, each rotated by its distance from the window's end.
 #[tactic(auto, unfolding(crate::specs::Window::window_hash))]
@@ -12,7 +12,7 @@ pub fn window_hash(window: &[u8; 48]) -> u32
 {
     let mut hash = 0u32;
     for i in 0..48u32 {
-        hash ^= TABLE[window[i as usize] as usize].rotate_left(47 - i);
+        hash ^= word_of(window[i as usize]).rotate_left(47 - i);
     }
     hash
 }
