@@ -1,4 +1,5 @@
 pub mod Writes
 pub mod Steps
+pub mod Asked
 pub mod Walked
 pub mod Obtained

@@ -3,13 +3,13 @@ use Rattle.std.proofs.Common.{◌≡◌, ℕ, ◌<◌, zero, suc, List, [], ◌�
 use Rattle.std.specs.List.{Any}
 use Rattle.chunk_store.specs.Giving.{GivesChunk}
 use Rattle.chunk_store.specs.declared.id.ChunkId.{ChunkId}
-use Rattle.chunk_store.specs.declared.id.DigestKind.TheVariants as kinds
+use Rattle.chunk_store.specs.declared.id.DigestKind.{DigestKind}
 use Rattle.dsy_base.specs.Counts.{Rose}
 use Rattle.dsy_base.specs.Maps.{Map}
 use Rattle.store_chain.specs.Giving.{Gives, GivesFirst}
 use Rattle.store_chain.specs.Lists.{FirstAt}
-use Rattle.store_chain.specs.Wants.{wanted, IsWanted}
-use Rattle.assembler.specs.Lacks.{SomeGives}
+use Rattle.store_chain.specs.Wants.{IsWanted}
+use Rattle.assembler.specs.Lacks.{SomeGives, chunk_of}
 
 any_of_first : {X : Type 0} (B A C P : X → Type 0) → ((x : X) → A x → P x) → (n : ℕ) (xs : List X) → FirstAt B A C n xs → Any P xs
 any_of_first B A C P a n [] h = absurd h
@@ -20,10 +20,10 @@ any_of_first B A C P a (suc n) (x ∷ xs) h =
     (suc rest.0, rest.1, omega arith, rest.3, rest.4)
 
 -- the first store that gives is one that gives
-pub gives_some : (lacks_memory : Bool) (id : ChunkId) (size : ℕ) (maps : List (Map (List ℕ))) (b : List ℕ) → IsWanted (wanted id (Some size) size) b
-    → GivesFirst lacks_memory (wanted id (Some size) size) maps b → SomeGives kinds.Sha512T256 id.0 size maps
-gives_some lacks_memory id size maps b right h =
-    any_of_first (λ m. Gives (wanted id (Some size) size) m → IsTrue lacks_memory) (λ m. m id.0 ≡ Some b) (λ m. Unit {0}) (λ m. GivesChunk kinds.Sha512T256 id.0 size (m id.0))
+pub gives_some : (kind : DigestKind) (lacks_memory : Bool) (id : ChunkId) (size : ℕ) (maps : List (Map (List ℕ))) (b : List ℕ) → IsWanted (chunk_of kind id size) b
+    → GivesFirst lacks_memory (chunk_of kind id size) maps b → SomeGives kind id.0 size maps
+gives_some kind lacks_memory id size maps b right h =
+    any_of_first (λ m. Gives (chunk_of kind id size) m → IsTrue lacks_memory) (λ m. m id.0 ≡ Some b) (λ m. Unit {0}) (λ m. GivesChunk kind id.0 size (m id.0))
     (λ m held. (b, held, record { named = right.named; sized = right.sized })) h.0 maps h.1
 
 -- a number at which a count rose is a store's

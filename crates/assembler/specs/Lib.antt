@@ -1,4 +1,5 @@
 pub mod Lacks
 pub mod Stops
+pub mod Asks
 pub mod Walks
 pub mod Assemblies

@@ -6,7 +6,8 @@ use Rattle.chunk_store.specs.Names.{name_of}
 use Rattle.chunk_store.specs.declared.id.DigestKind.{DigestKind}
 use Rattle.dsy_base.specs.Bytes.{Held, held_written}
 use Rattle.dsy_base.specs.Maps.{Map}
-use Rattle.assembler.specs.Lacks.{Lacks, SomeGives}
+use Rattle.store_chain.specs.declared.want.Want.{Want}
+use Rattle.assembler.specs.Lacks.{Lacks, SomeGives, chunk_of}
 use Rattle.caibx_codec.specs.Right.{IsRightAt, IsRight}
 use Rattle.assembler.specs.Stops.{StopsAt}
 use Rattle.assembler.specs.declared.obtain.Why.{Why}
@@ -36,7 +37,8 @@ Settles kind id size b maps (Err (why.StoreFault s)) = ⊥
 Settles kind id size b maps (Err why.TargetFault) = ⊥
 Settles kind id size b maps (Err why.Memory) = Unit {0}
 
--- from which offset on the base still stands where the walk stopped at entry k: a failed write may have changed the entry
+-- from which offset on the base still stands where the walk stopped at entry k: a failed write may have changed the
+-- entry
 abbrev pub kept_from : Listing → ℕ → Why → ℕ
 kept_from l k why.TargetFault = end_of l k
 kept_from l k (why.StoreFault s) = start_of l k
@@ -47,11 +49,15 @@ kept_from l k why.Memory = start_of l k
 -- the bytes t after the walk: right, or stopped at an entry
 abbrev pub Walks : Listing → List ℕ → List ℕ → Result Unit Stop → Type 0
 Walks l base t (Ok r) = IsRight t l
-Walks l base t (Err s) = (s.entry < count_of l) × (s.id.0 ≡ id_of l s.entry) × StopsAt s.entry (kept_from l s.entry s.why) base t l
+Walks l base t (Err s) =
+    (s.entry < count_of l) × (s.id.0 ≡ id_of l s.entry) × StopsAt s.entry (kept_from l s.entry s.why) base t l
 
--- what the stores lacked at the entry at which the walk stopped
+-- what was asked of the chain at the entry at which the walk stopped, and what the stores lacked
+abbrev pub stop_wants : Listing → Stop → Want
+stop_wants l s = chunk_of (kind_of l) s.id (size_of l s.entry)
+
 abbrev pub StopLacks : Listing → List (Map (List ℕ)) → Stop → Type 0
-StopLacks l maps s = Lacks s.id (size_of l s.entry) maps s.why
+StopLacks l maps s = Lacks (stop_wants l s) maps s.why
 
 -- an entry can be had: it is right in the base at its own place, or some store gives it
 abbrev pub IsHad : Listing → List ℕ → List (Map (List ℕ)) → ℕ → Type 0

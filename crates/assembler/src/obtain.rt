@@ -2,11 +2,11 @@
 
 ghost use Rattle.std.specs.Prelude.{◌≡◌, ◌≢◌, ℕ, List, length, map, Some, OnOk, IfErr, slice_index};
 ghost use Rattle.chunk_store.specs.Names.{name_of};
-ghost use Rattle.chunk_store.specs.declared.id.DigestKind.TheVariants as kinds;
-ghost use Rattle.assembler.specs.Lacks.{Lacks, Obtains};
+ghost use Rattle.assembler.specs.Lacks.{Lacks, Obtains, RefusedBy, chunk_of};
 ghost use Rattle.dsy_base.specs.Counts.{Rose};
 ghost use Rattle.dsy_base.specs.Maps.{Map};
-ghost use Rattle.store_chain.specs.Faults.{NoneFalls, EachQuiet};
+ghost use Rattle.store_chain.specs.Chains.{KeepsStores, AsksOnce};
+ghost use Rattle.store_chain.specs.Faults.{EachQuiet};
 
 use chunk_store::id::ChunkId;
 use chunk_store::shows::Shows;
@@ -29,18 +29,19 @@ pub enum Why {
 
 /// Fills `out` with the chunk of this id and of the size of `out`.
 pub fn obtain<S: Store>(stores: &mut Chain<S>, id: &ChunkId, out: &mut [u8]) -> Result<(), Why>
-    ensures ok { OnOk result (name_of kinds.Sha512T256 out.new ≡ id.now.0) }
+    ensures ok { OnOk result (name_of stores.old.kind out.new ≡ id.now.0) }
+    ensures told { IfErr result (RefusedBy S.said S.faults S.may_lack_memory
+        (chunk_of stores.old.kind id.now (length out.old)) stores.old.stores stores.new.stores) }
     ensures absent { (maps : List (Map (List ℕ))) → map S.holds stores.old.stores ≡ map Some maps →
-        IfErr result (Lacks id.now (length out.old) maps) }
+        IfErr result (Lacks (chunk_of stores.old.kind id.now (length out.old)) maps) }
     ensures exactly { (maps : List (Map (List ℕ))) → map S.holds stores.old.stores ≡ map Some maps →
         EachQuiet (map S.faults stores.old.stores) (map S.faults stores.new.stores) →
-        Obtains kinds.Sha512T256 id.now (length out.old) maps result }
+        Obtains stores.old.kind id.now (length out.old) maps result }
     ensures only { result ≢ Err Why.TargetFault }
-    ensures kept { map S.holds stores.new.stores ≡ map S.holds stores.old.stores }
-    ensures place { map S.place stores.new.stores ≡ map S.place stores.old.stores }
-    ensures faults { NoneFalls (map S.faults stores.old.stores) (map S.faults stores.new.stores) }
     ensures cause { (s : ℕ) → result ≡ Err (Why.StoreFault s) →
         Rose (slice_index (map S.faults stores.old.stores) s) (slice_index (map S.faults stores.new.stores) s) }
+    ensures kept { KeepsStores S.holds S.folder S.place S.said S.faults stores.old.stores stores.new.stores }
+    ensures asks { AsksOnce S.asked S.queried id.now.0 stores.old stores.new }
 {
     let size = out.len();
     match stores.obtain(id, Some(size), out) {

@@ -76,9 +76,10 @@ fn a_target_becomes_the_image_or_stops_at_an_entry(rt: HostRuntime) -> Result<()
     let alloc = rt.alloc();
     let none = RangeFails::none;
     assembles(&rt, alloc, (b"abcXXXghi and more", none(alloc)), &[], &[(b"def", b"def")], Ok(()), b"abcdefghi")?;
-    assembles(&rt, alloc, (b"", none(alloc)), &[(b"abc", b"abc")], &[], stopped(1, b"def", Why::Missing), b"abc\0\0\0\0\0\0")?;
-    let damaged = Why::Damaged { store: 1, shows: Shows::Longer };
-    assembles(&rt, alloc, (b"abcXXXghi", none(alloc)), &[], &[(b"def", b"defg")], stopped(1, b"def", damaged), b"abcXXXghi")
+    let missing = stopped(1, b"def", Why::Missing);
+    assembles(&rt, alloc, (b"", none(alloc)), &[(b"abc", b"abc")], &[], missing, b"abc\0\0\0\0\0\0")?;
+    let damaged = stopped(1, b"def", Why::Damaged { store: 1, shows: Shows::Longer });
+    assembles(&rt, alloc, (b"abcXXXghi", none(alloc)), &[], &[(b"def", b"defg")], damaged, b"abcXXXghi")
 }
 
 #[test]

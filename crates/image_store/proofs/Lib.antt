@@ -1,3 +1,5 @@
-pub mod Puts
-pub mod Kept
+pub mod Names
+pub mod Seen
+pub mod Stored
+pub mod Answered
 pub mod Views

@@ -1,2 +1,2 @@
-pub mod Keeps
-pub mod Storing
+pub mod PutChunks
+pub mod StoreImage

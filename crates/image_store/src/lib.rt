@@ -1,4 +1,4 @@
-//! Storing an image: its index, and each of its chunks in a folder store.
+//! Storing an image: its index, and each of its chunks in a store.
 #![tactic(auto)]
 
 pub mod put_chunks;

@@ -1,26 +1,25 @@
-//! Seeing to it that a folder store holds each chunk of an image. Offsets are bytes from 0.
+//! Seeing to it that a store holds each chunk of an image. Offsets are bytes from 0.
 
-ghost use Rattle.std.specs.Prelude.{◌≡◌, ◌≢◌, ℕ, List, ◌+◌, ◌<◌, ◌≤◌, ◌||◌, length, not, IfSome, IfOk, IfErr, OnOk, OnErr, slice_range, true, false};
+ghost use Rattle.std.specs.Prelude.{◌≡◌, ◌≢◌, ◌⊎◌, ℕ, List, ◌+◌, ◌<◌, ◌≤◌, ◌||◌, length, not, Option, Some, Ok, Err};
+ghost use Rattle.std.specs.Prelude.{IfSome, IfOk, IfErr, OnOk, slice_range, is_some, true, false};
 ghost use Rattle.std.specs.BTreeSet.{contains};
 ghost use Rattle.std.specs.Cmp.Lexicographic.{slice_cmp};
 ghost use Rattle.std.specs.Option.{option_map};
 ghost use Rattle.std.specs.Ordering.{nat_cmp};
 ghost use Rattle.std.specs.Str.{bytes_eq};
 ghost use Rattle.caibx_codec.specs.Listing.{count_of, id_of, kind_of, size_of, slice_of, image_length};
-ghost use Rattle.chunk_store.specs.Folders.{chunks};
-ghost use Rattle.chunk_store.specs.Names.{IsId, name_of};
-ghost use Rattle.image_store.specs.Keeps.{KeepsFiles, HoldsNamed, HoldsAll, Stands, Ended, Rereads, PutsEnd};
-ghost use Rattle.dsy_base.specs.Counts.{Rose};
+ghost use Rattle.chunk_store.specs.Names.{name_of};
+ghost use Rattle.chunk_store.specs.Said.{KeepsOf, AskedOnce};
+ghost use Rattle.dsy_base.specs.Counts.{CountsFaults};
+ghost use Rattle.image_store.specs.PutChunks.{told_range, told_slice, CountsCause, PutsUnder, PutsRight, PutsLacked};
+ghost use Rattle.image_store.specs.PutChunks.{HoldsNamed, SaysNamed, HoldsAll, SaysAll, Stands, PutsFiles, AsksEach};
+ghost use Rattle.image_store.specs.PutChunks.{EndsAt, RereadsTo, PutsEnd};
 
 use caibx_codec::index::Index;
 use chunk_store::id::{ChunkId, DigestKind};
-use chunk_store::laws::id_has_32_bytes;
-use chunk_store::store::GetFault;
-use dir_store::laws::put_changes_one_chunk;
-use dir_store::store::DirStore;
+use chunk_store::range::name_range;
+use chunk_store::store::{GetFault, Store, StoreWrite};
 use dsy_base::fault::{Failed, IoFault};
-use dsy_base::folder::Folder;
-use dsy_base::look::Look;
 use dsy_base::view::View;
 use std::alloc::Global;
 use std::collections::BTreeSet;
@@ -68,41 +67,47 @@ fn read_again<V: View>(
     ensures ok { OnOk result (name_of kind chunk.new ≡ id.now.0) }
     ensures bytes { OnOk result (IfSome (V.held image.old).bytes
         (λ t. chunk.new ≡ slice_range t start (start + length chunk.old))) }
-    ensures err { IfErr result (Rereads kind entry id.now (option_map
-        (λ t. slice_range t start (start + length chunk.old)) (V.held image.old).bytes)) }
+    ensures err { IfErr result (RereadsTo kind entry id.now
+        (told_range (V.held image.old).bytes start (start + length chunk.old))) }
     ensures kept { V.held image.new ≡ V.held image.old }
-    ensures faults { V.faults image.old ≤ V.faults image.new }
-    ensures cause { result ≡ Err MakeFault.ImageFault → Rose (V.faults image.old) (V.faults image.new) }
+    ensures faults { CountsFaults MakeFault.ImageFault MakeFault.Memory
+        (V.faults image.old) (V.faults image.new) result }
 {
-    if let Err(Failed) = image.read_at(start, chunk) {
-        return Err(MakeFault::ImageFault);
-    }
-    let got = ChunkId::of(kind, chunk);
-    if got.0.as_slice() != id.0.as_slice() {
+    let got = match name_range(image, kind, start, chunk) {
+        Ok(got) => got,
+        Err(Failed) => return Err(MakeFault::ImageFault),
+    };
+    if !got.is(id) {
         let was = *id;
         return Err(MakeFault::Changed { entry, was, got });
     }
     Ok(())
 }
 
-// Whether bytes of this name are in the file of the id, as far as `room` shows.
-fn is_held<F: Folder>(
-    store: &mut DirStore<F>,
-    kind: DigestKind,
+// Whether the store holds this chunk under the id. `room` is as long as the chunk.
+fn is_held<S: Store>(
+    store: &mut S,
     id: &ChunkId,
+    chunk: &[u8],
     room: &mut [u8],
 ) -> Result<bool, IoFault>
-    ensures found { result ≡ Ok true → IfSome (F.files store.old)
-        (λ m. HoldsNamed kind id.now.0 (chunks m id.now.0)) }
-    ensures kept { F.files store.new ≡ F.files store.old }
-    ensures place { F.place store.new ≡ F.place store.old }
-    ensures faults { F.faults store.old ≤ F.faults store.new }
-    ensures cause { result ≡ Err IoFault.Failed → Rose (F.faults store.old) (F.faults store.new) }
+    requires room { length room.old ≡ length chunk.now }
+    ensures found { result ≡ Ok true → IfSome (S.holds store.old) (λ m. m id.now.0 ≡ Some chunk.now) }
+    ensures lacked { result ≡ Ok false → IfSome (S.holds store.old) (λ m. m id.now.0 ≢ Some chunk.now) }
+    ensures shown { result ≡ Ok true → (S.said store.new).shown id.now.0 chunk.now }
+    ensures kept { S.holds store.new ≡ S.holds store.old }
+    ensures files { S.folder store.new ≡ S.folder store.old }
+    ensures place { S.place store.new ≡ S.place store.old }
+    ensures said { (q : List ℕ) → KeepsOf (S.said store.old) (S.said store.new) q }
+    ensures asks { AskedOnce (S.asked store.old) (S.asked store.new) id.now.0 }
+    ensures queries { S.queried store.new ≡ S.queried store.old }
+    ensures faults { CountsCause IoFault.Failed (S.faults store.old) (S.faults store.new) result }
+    ensures unfailed { result ≡ Err IoFault.Memory → S.faults store.new ≡ S.faults store.old }
 {
-    match store.read(id, room) {
+    match store.get(id, room) {
         Ok(n) => {
             let (bytes, _) = room.split_at(n);
-            Ok(id.is_of(kind, bytes))
+            Ok(bytes == chunk)
         }
         Err(GetFault::Missing | GetFault::Longer) => Ok(false),
         Err(GetFault::Failed) => Err(IoFault::Failed),
@@ -110,32 +115,36 @@ fn is_held<F: Folder>(
     }
 }
 
-// Sees to it that the store holds bytes of this name, which the chunk has. What is right is left alone.
-fn keep<F: Folder>(
-    store: &mut DirStore<F>,
-    kind: DigestKind,
+// Sees to it that the store holds the chunk under the id. It isn't put where it is held.
+fn keep<S: StoreWrite>(
+    store: &mut S,
     id: &ChunkId,
     chunk: &[u8],
     room: &mut [u8],
 ) -> Result<(), IoFault>
-    requires { name_of kind chunk.now ≡ id.now.0 }
-    ensures ok { OnOk result (IfSome (F.files store.new)
-        (λ m. HoldsNamed kind id.now.0 (chunks m id.now.0))) }
-    ensures changed { KeepsFiles kind id.now.0 chunk.now (F.files store.old) (F.files store.new) }
-    ensures place { F.place store.new ≡ F.place store.old }
-    ensures faults { F.faults store.old ≤ F.faults store.new }
-    ensures cause { result ≡ Err IoFault.Failed → Rose (F.faults store.old) (F.faults store.new) }
+    requires room { length room.old ≡ length chunk.now }
+    ensures ok { OnOk result (IfSome (S.holds store.new) (λ m. m id.now.0 ≡ Some chunk.now)) }
+    ensures told { OnOk result ((S.said store.new).shown id.now.0 chunk.now
+        ⊎ (S.said store.new).taken id.now.0 chunk.now) }
+    ensures changed { (S.holds store.new ≡ S.holds store.old)
+        ⊎ PutsUnder id.now.0 chunk.now (S.holds store.old) (S.holds store.new) }
+    ensures files { PutsLacked id.now.0 (Some chunk.now) (S.holds store.old) (S.folder store.old) (S.folder store.new) }
+    ensures place { S.place store.new ≡ S.place store.old }
+    ensures said { (q : List ℕ) → q ≢ id.now.0 → KeepsOf (S.said store.old) (S.said store.new) q }
+    ensures asks { AskedOnce (S.asked store.old) (S.asked store.new) id.now.0 }
+    ensures queries { S.queried store.new ≡ S.queried store.old }
+    ensures faults { CountsCause IoFault.Failed (S.faults store.old) (S.faults store.new) result }
 {
-    if is_held(store, kind, id, room)? {
+    if is_held(store, id, chunk, room)? {
         return Ok(());
     }
-    store.write(id, chunk)
+    store.put(id, chunk)
 }
 
 // Sees to one entry.
-fn see_to<V: View, F: Folder>(
+fn see_to<V: View, S: StoreWrite>(
     image: &mut V,
-    store: &mut DirStore<F>,
+    store: &mut S,
     kind: DigestKind,
     entry: u64,
     id: &ChunkId,
@@ -144,21 +153,26 @@ fn see_to<V: View, F: Folder>(
     room: &mut [u8],
 ) -> Result<(), MakeFault>
     requires inside { start + length chunk.old ≤ (V.held image.old).size }
-    ensures ok { OnOk result (IfSome (F.files store.new)
-        (λ m. HoldsNamed kind id.now.0 (chunks m id.now.0))) }
-    ensures changed { IfSome (V.held image.old).bytes (λ t. KeepsFiles kind id.now.0
-        (slice_range t start (start + length chunk.old)) (F.files store.old) (F.files store.new)) }
-    ensures err { IfErr result (Ended kind entry id.now (option_map
-        (λ t. slice_range t start (start + length chunk.old)) (V.held image.old).bytes)) }
+    requires room { length room.old ≡ length chunk.old }
+    ensures ok { OnOk result (IfSome (S.holds store.new) (λ m. HoldsNamed kind id.now.0 (m id.now.0))) }
+    ensures told { OnOk result (SaysNamed kind id.now.0 (S.said store.new)) }
+    ensures changed { PutsRight kind id.now.0 (told_range (V.held image.old).bytes start (start + length chunk.old))
+        (S.holds store.old) (S.holds store.new) }
+    ensures files { PutsLacked id.now.0 (told_range (V.held image.old).bytes start (start + length chunk.old))
+        (S.holds store.old) (S.folder store.old) (S.folder store.new) }
+    ensures err { IfErr result (EndsAt kind entry id.now
+        (told_range (V.held image.old).bytes start (start + length chunk.old))) }
     ensures kept { V.held image.new ≡ V.held image.old }
-    ensures place { F.place store.new ≡ F.place store.old }
-    ensures image_faults { V.faults image.old ≤ V.faults image.new }
-    ensures store_faults { F.faults store.old ≤ F.faults store.new }
-    ensures image_cause { result ≡ Err MakeFault.ImageFault → Rose (V.faults image.old) (V.faults image.new) }
-    ensures store_cause { result ≡ Err MakeFault.StoreFault → Rose (F.faults store.old) (F.faults store.new) }
+    ensures place { S.place store.new ≡ S.place store.old }
+    ensures said { (q : List ℕ) → q ≢ id.now.0 → KeepsOf (S.said store.old) (S.said store.new) q }
+    ensures asks { AskedOnce (S.asked store.old) (S.asked store.new) id.now.0 }
+    ensures queries { S.queried store.new ≡ S.queried store.old }
+    ensures image_faults { CountsFaults MakeFault.ImageFault MakeFault.Memory
+        (V.faults image.old) (V.faults image.new) result }
+    ensures store_faults { CountsCause MakeFault.StoreFault (S.faults store.old) (S.faults store.new) result }
 {
     read_again(image, kind, entry, id, start, chunk)?;
-    match keep(store, kind, id, chunk, room) {
+    match keep(store, id, chunk, room) {
         Ok(()) => Ok(()),
         Err(IoFault::Failed) => Err(MakeFault::StoreFault),
         Err(IoFault::Memory) => Err(MakeFault::Memory),
@@ -166,11 +180,11 @@ fn see_to<V: View, F: Folder>(
 }
 
 // Sees to entry i.
-fn put_entry<V: View, F: Folder>(
+fn put_entry<V: View, S: StoreWrite>(
     index: &Index,
     i: usize,
     image: &mut V,
-    store: &mut DirStore<F>,
+    store: &mut S,
     chunk: &mut [u8],
     room: &mut [u8],
 ) -> Result<(), MakeFault>
@@ -178,56 +192,71 @@ fn put_entry<V: View, F: Folder>(
     requires size { image_length index.now ≡ (V.held image.old).size }
     requires inside { size_of index.now i ≤ length chunk.old }
     requires room { size_of index.now i ≤ length room.old }
-    ensures ok { OnOk result (IfSome (F.files store.new)
-        (λ m. HoldsNamed (kind_of index.now) (id_of index.now i) (chunks m (id_of index.now i)))) }
-    ensures changed { IfSome (V.held image.old).bytes (λ t. KeepsFiles (kind_of index.now)
-        (id_of index.now i) (slice_of index.now t i) (F.files store.old) (F.files store.new)) }
+    ensures ok { OnOk result (IfSome (S.holds store.new)
+        (λ m. HoldsNamed (kind_of index.now) (id_of index.now i) (m (id_of index.now i)))) }
+    ensures told { OnOk result (SaysNamed (kind_of index.now) (id_of index.now i) (S.said store.new)) }
+    ensures changed { PutsRight (kind_of index.now) (id_of index.now i)
+        (told_slice index.now i (V.held image.old).bytes) (S.holds store.old) (S.holds store.new) }
+    ensures files { PutsLacked (id_of index.now i) (told_slice index.now i (V.held image.old).bytes)
+        (S.holds store.old) (S.folder store.old) (S.folder store.new) }
     ensures err { IfErr result (PutsEnd index.now (V.held image.old).bytes) }
-    ensures named { IsId (id_of index.now i) }
     ensures kept { V.held image.new ≡ V.held image.old }
-    ensures place { F.place store.new ≡ F.place store.old }
-    ensures image_faults { V.faults image.old ≤ V.faults image.new }
-    ensures store_faults { F.faults store.old ≤ F.faults store.new }
-    ensures image_cause { result ≡ Err MakeFault.ImageFault → Rose (V.faults image.old) (V.faults image.new) }
-    ensures store_cause { result ≡ Err MakeFault.StoreFault → Rose (F.faults store.old) (F.faults store.new) }
+    ensures place { S.place store.new ≡ S.place store.old }
+    ensures said { (q : List ℕ) → q ≢ id_of index.now i → KeepsOf (S.said store.old) (S.said store.new) q }
+    ensures asks { AskedOnce (S.asked store.old) (S.asked store.new) (id_of index.now i) }
+    ensures queries { S.queried store.new ≡ S.queried store.old }
+    ensures image_faults { CountsFaults MakeFault.ImageFault MakeFault.Memory
+        (V.faults image.old) (V.faults image.new) result }
+    ensures store_faults { CountsCause MakeFault.StoreFault (S.faults store.old) (S.faults store.new) result }
 {
-    index.rules();
     let kind = index.kind();
-    let id = index.id(i);
-    id_has_32_bytes(&id);
-    let start = index.start(i);
-    let size = index.size(i);
-    let (bytes, _) = chunk.split_at_mut(size);
-    let (held, _) = room.split_at_mut(size);
-    see_to(image, store, kind, i as u64, &id, start, bytes, held)
+    let listed = index.entry(i);
+    let (bytes, _) = chunk.split_at_mut(listed.size);
+    let (held, _) = room.split_at_mut(listed.size);
+    see_to(
+        image,
+        store,
+        kind,
+        i as u64,
+        &listed.id,
+        listed.start,
+        bytes,
+        held,
+    )
 }
 
-/// Sees to it that the store holds each chunk that the index lists, in order, each id once. `chunk` and `room` have
-/// room for the largest.
-pub fn put_chunks<V: View, F: Folder>(
+/// Sees to it that the store holds each chunk that the index lists, in order, each id once. What is held already isn't
+/// put. `chunk` and `room` have room for the largest.
+pub fn put_chunks<V: View, S: StoreWrite>(
     alloc: Global,
     index: &Index,
     image: &mut V,
-    store: &mut DirStore<F>,
+    store: &mut S,
     chunk: &mut [u8],
     room: &mut [u8],
 ) -> Result<(), MakeFault>
     requires size { image_length index.now ≡ (V.held image.old).size }
     requires inside { (i : ℕ) → i < count_of index.now → size_of index.now i ≤ length chunk.old }
     requires room { (i : ℕ) → i < count_of index.now → size_of index.now i ≤ length room.old }
-    ensures ok { OnOk result (IfSome (V.held image.old).bytes (λ t. IfSome (F.files store.new)
-        (λ m. HoldsAll index.now (count_of index.now) m))) }
-    ensures changed { IfSome (V.held image.old).bytes (λ t. IfSome (F.files store.old) (λ old.
-        IfSome (F.files store.new) (λ new. Stands index.now t (count_of index.now) old new))) }
+
+    // What the store then holds, and what it has said.
+    ensures ok { OnOk result (IfSome (S.holds store.new) (λ m. HoldsAll index.now (count_of index.now) m)) }
+    ensures told { OnOk result (SaysAll index.now (count_of index.now) (S.said store.new)) }
+    ensures changed { IfSome (V.held image.old).bytes (λ t. IfSome (S.holds store.old) (λ old.
+        IfSome (S.holds store.new) (λ new. Stands index.now t (count_of index.now) old new))) }
+    ensures files { PutsFiles index.now (V.held image.old).bytes (S.holds store.old) (count_of index.now)
+        (S.folder store.old) (S.folder store.new) }
     ensures err { IfErr result (PutsEnd index.now (V.held image.old).bytes) }
+
+    ensures tells { is_some (S.holds store.new) ≡ is_some (S.holds store.old) }
     ensures kept { V.held image.new ≡ V.held image.old }
-    ensures place { F.place store.new ≡ F.place store.old }
-    ensures image_faults { V.faults image.old ≤ V.faults image.new }
-    ensures store_faults { F.faults store.old ≤ F.faults store.new }
-    ensures image_cause { result ≡ Err MakeFault.ImageFault → Rose (V.faults image.old) (V.faults image.new) }
-    ensures store_cause { result ≡ Err MakeFault.StoreFault → Rose (F.faults store.old) (F.faults store.new) }
+    ensures place { S.place store.new ≡ S.place store.old }
+    ensures asks { AsksEach index.now (count_of index.now) (S.asked store.old) (S.asked store.new) }
+    ensures queries { S.queried store.new ≡ S.queried store.old }
+    ensures image_faults { CountsFaults MakeFault.ImageFault MakeFault.Memory
+        (V.faults image.old) (V.faults image.new) result }
+    ensures store_faults { CountsCause MakeFault.StoreFault (S.faults store.old) (S.faults store.new) result }
 {
-    put_changes_one_chunk();
     let mut seen = BTreeSet::new(alloc);
     for i in 0..index.count() {
         let id = index.id(i);

@@ -1,9 +1,10 @@
 //! The bytes of an index file, in memory.
 
 ghost use Rattle.std.specs.Prelude.{◌≡◌, IfOk};
-ghost use Rattle.caibx_codec.specs.Spelling.{file_of};
+ghost use Rattle.caibx_codec.specs.Spelling.{IsIndexFile, file_of};
 
 use caibx_codec::index::Index;
+use caibx_codec::laws::file_is_read;
 use caibx_codec::writing::write_index;
 use dsy_base::fault::IoFault;
 use dsy_base::sink::Sink;
@@ -18,9 +19,7 @@ struct Kept {
 impl Sink for Kept {
     ghost use Rattle.std.specs.Prelude.{Some, true, refl};
 
-    ghost taken = { λ s. Some s.bytes.items };
-
-    ghost faults = { λ _. 0 };
+    ghost output = { λ s. record { taken = Some s.bytes.items; faults = 0 } };
 
     ghost tells = { true };
 
@@ -41,10 +40,12 @@ impl Sink for Kept {
 /// The bytes of the index's file.
 pub fn spell(alloc: Global, index: &Index) -> Result<Vec<u8>, AllocError>
     ensures ok { IfOk result (λ v. v.items ≡ file_of index.now) }
+    ensures bytes { IfOk result (λ v. IsIndexFile v.items index.now) }
 {
-    let mut sink = Kept {
-        bytes: Vec::new(alloc),
-    };
+    file_is_read(index);
+    index.rules();
+    let bytes = Vec::with_capacity(alloc, 104 + 40 * index.count())?;
+    let mut sink = Kept { bytes };
     match write_index(alloc, index, &mut sink) {
         Ok(()) => {
             let Kept { bytes } = sink;

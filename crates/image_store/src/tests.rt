@@ -1,58 +1,214 @@
-//! Images stored in folders in memory.
+//! Images stored in a store that counts what is put into it.
+
+ghost use Rattle.std.specs.Prelude.{◌≡◌};
 
 use crate::put_chunks::MakeFault;
 use crate::store_image::store_image;
 use buzhash_cut::sizes::CutSizes;
 use chunk_store::id::{ChunkId, DigestKind};
-use dsy_base::fault::{Failed, raise};
-use dsy_base::look::Look;
+use chunk_store::store::{GetFault, Store, StoreWrite};
+use dsy_base::fault::{Failed, IoFault, raise};
 use dsy_base::name::Name;
 use dsy_base::view::View;
-use dsy_forms::mem_folder::MemFolder;
 use dsy_forms::mem_view::MemView;
 use std::alloc::Global;
-use std::process::Abort;
 use std::test::Fail;
 
-// Where "abc" is stored: its digest is FIPS 180-4's example.
-const ABC: &str = "5304/53048e2681941ef99b2e29b76b4c7dabe4c2d0c634fc6d46e0e2f13107e7af23";
-
-// Stores "abc" in a folder of which these calls fail, and compares what it then holds at its place.
-fn store_abc(
-    rt: &impl Abort,
+// A store in memory. Its calls count from 0, and the one of this number fails.
+#[derive(Drop)]
+struct Counting {
+    chunks: Vec<(ChunkId, Vec<u8>)>,
+    fails: Option<u64>,
+    calls: u64,
+    puts: u64,
+    faults: u64,
     alloc: Global,
-    calls: &[u64],
-    stored: Result<usize, MakeFault>,
-    held: &[u8],
-) -> Result<(), Fail> {
-    let view = MemView::new(alloc, Vec::from_slice(alloc, b"abc")?, Vec::new(alloc));
-    let folder = MemFolder::new(alloc, Vec::from_slice(alloc, calls)?);
-    let sizes = CutSizes::new(48, 48, 48).ok().ok_or("no sizes")?;
-    let (_view, mut folder, made) = store_image(alloc, &sizes, view, folder);
-    assert_eq!(rt; made.map(|bytes| bytes.len()), stored);
-    let mut room = [0u8; 8];
-    let n = folder.read(ABC, &mut room).unwrap_or(0);
-    let (front, _) = room.split_at(n);
-    assert_eq!(rt; front, held);
-    Ok(())
+}
+
+impl Counting {
+    fn new(alloc: Global, fails: Option<u64>) -> Counting {
+        Counting {
+            chunks: Vec::new(alloc),
+            fails,
+            calls: 0,
+            puts: 0,
+            faults: 0,
+            alloc,
+        }
+    }
+
+    // What is held under the id.
+    fn held(&self, id: &ChunkId) -> Option<&[u8]> {
+        for chunk in self.chunks.iter() {
+            if chunk.0.is(id) {
+                return Some(chunk.1.as_slice());
+            }
+        }
+        None
+    }
+
+    // Counts a call, and says whether it is to fail.
+    fn fails_now(&mut self) -> bool
+        ensures { self.new.faults ≡ self.old.faults }
+    {
+        let fails = self.fails == Some(self.calls);
+        self.calls = raise(self.calls, 1);
+        fails
+    }
+}
+
+impl Store for Counting {
+    ghost use Rattle.std.specs.Prelude.{None, [], true, false};
+    ghost use Rattle.std.proofs.Common.{rules};
+    ghost use Rattle.chunk_store.specs.Said.{said_by};
+
+    ghost holds = { λ _. None };
+
+    ghost said = { λ _. said_by None };
+
+    ghost asked = { λ _ _. 0 };
+
+    ghost queried = { λ _ _. 0 };
+
+    ghost faults = { λ s. s.faults };
+
+    ghost place = { λ _. [] };
+
+    ghost tells = { false };
+
+    ghost never_fails = { false };
+
+    ghost may_lack_memory = { true };
+
+    fn get(&mut self, id: &ChunkId, out: &mut [u8]) -> Result<usize, GetFault> {
+        if self.fails_now() {
+            self.faults = raise(self.faults, 1);
+            return Err(GetFault::Failed);
+        }
+        match self.held(id) {
+            None => Err(GetFault::Missing),
+            Some(bytes) if bytes.len() <= out.len() => {
+                let (front, _) = out.split_at_mut(bytes.len());
+                front.copy_from_slice(bytes);
+                Ok(bytes.len())
+            }
+            Some(_) => Err(GetFault::Longer),
+        }
+    }
+
+    fn has(&mut self, id: &ChunkId) -> Result<bool, IoFault> {
+        Ok(self.held(id).is_some())
+    }
+
+    ghost says = { λ _. tt };
+
+    ghost lies = { λ _. tt };
+
+    ghost unasked = { λ _. tt };
+
+    ghost told = { λ _ t. t };
+
+    ghost sure = { Prim.search rules };
+}
+
+impl StoreWrite for Counting {
+    fn put(&mut self, id: &ChunkId, b: &[u8]) -> Result<(), IoFault> {
+        if self.fails_now() {
+            self.faults = raise(self.faults, 1);
+            return Err(IoFault::Failed);
+        }
+        self.puts = raise(self.puts, 1);
+        let Ok(bytes) = Vec::from_slice(self.alloc, b) else {
+            return Err(IoFault::Memory);
+        };
+        for chunk in self.chunks.iter_mut() {
+            if chunk.0.is(id) {
+                chunk.1 = bytes;
+                return Ok(());
+            }
+        }
+        match self.chunks.push((*id, bytes)) {
+            Ok(()) => Ok(()),
+            Err(_) => Err(IoFault::Memory),
+        }
+    }
+}
+
+fn view_of(alloc: Global, bytes: &[u8]) -> Result<MemView, Fail> {
+    Ok(MemView::new(alloc, Vec::from_slice(alloc, bytes)?, Vec::new(alloc)))
+}
+
+fn sizes() -> Result<CutSizes, Fail> {
+    Ok(CutSizes::new(48, 48, 48).ok().ok_or("no sizes")?)
 }
 
 #[test]
-#[rattlefmt::skip]
-fn an_image_is_stored_or_its_folder_is_at_fault(rt: HostRuntime) -> Result<(), Fail> {
+fn an_image_is_stored_or_its_store_is_at_fault(rt: HostRuntime) -> Result<(), Fail> {
     let alloc = rt.alloc();
-    // An index of one chunk has 144 bytes.
-    store_abc(&rt, alloc, &[], Ok(144), b"abc")?;
-    // The look for the chunk fails, or the put does.
-    store_abc(&rt, alloc, &[0], Err(MakeFault::StoreFault), b"")?;
-    store_abc(&rt, alloc, &[1], Err(MakeFault::StoreFault), b"")
+    let id = ChunkId::of(DigestKind::Sha512T256, b"abc");
+    // An index of one chunk has 144 bytes. The first call asks for the chunk, the second puts it.
+    let cases: [(Option<u64>, Result<usize, MakeFault>, Option<&[u8]>); 3] = [
+        (None, Ok(144), Some(b"abc")),
+        (Some(0), Err(MakeFault::StoreFault), None),
+        (Some(1), Err(MakeFault::StoreFault), None),
+    ];
+    for (fails, want, held) in cases {
+        let store = Counting::new(alloc, fails);
+        let (_view, store, made) = store_image(alloc, &sizes()?, view_of(alloc, b"abc")?, store);
+        assert_eq!(rt; made.map(|bytes| bytes.len()), want);
+        assert_eq!(rt; store.held(&id), held);
+    }
+    Ok(())
 }
 
-// A view whose bytes are others, or can't be read, after its first reading.
+// Stores an image of three chunks, of which two are alike, and answers how many calls and puts there were.
+fn store_three(alloc: Global, store: Counting) -> Result<(Counting, u64, u64), Fail> {
+    let mut image = vec![in alloc; 0u8; 96]?;
+    image.extend_from_slice(b"abc")?;
+    let (calls, puts) = (store.calls, store.puts);
+    let (_view, store, made) = store_image(
+        alloc,
+        &sizes()?,
+        view_of(alloc, image.as_slice())?,
+        store,
+    );
+    if made.is_err() {
+        return Err(Fail::from("the image wasn't stored"));
+    }
+    let (calls, puts) = (
+        store.calls.saturating_sub(calls),
+        store.puts.saturating_sub(puts),
+    );
+    Ok((store, calls, puts))
+}
+
+#[test]
+fn each_chunk_is_asked_for_once_and_put_where_it_is_lacked(rt: HostRuntime) -> Result<(), Fail> {
+    let alloc = rt.alloc();
+    let (store, calls, puts) = store_three(alloc, Counting::new(alloc, None))?;
+    assert_eq!(rt; (calls, puts), (4, 2));
+    let (mut store, calls, puts) = store_three(alloc, store)?;
+    assert_eq!(rt; (calls, puts), (2, 0));
+    // A chunk whose last byte is another one is put again, and so is one that is too long.
+    let id = ChunkId::of(DigestKind::Sha512T256, b"abc");
+    for spoiled in [b"abX".as_slice(), b"ab".as_slice(), b"abcd".as_slice()] {
+        if store.put(&id, spoiled).is_err() {
+            return Err(Fail::from("nothing was put"));
+        }
+        let (again, calls, puts) = store_three(alloc, store)?;
+        assert_eq!(rt; (calls, puts), (3, 1));
+        assert_eq!(rt; again.held(&id), Some(b"abc".as_slice()));
+        store = again;
+    }
+    Ok(())
+}
+
+// A view whose bytes are others, or can't be read, after its second reading: it was cut and named.
 #[derive(Drop)]
 struct ChangingView {
     now: Vec<u8>,
     then: Option<Vec<u8>>,
+    reads: u64,
     faults: u64,
     name: Name,
 }
@@ -81,7 +237,10 @@ impl View for ChangingView {
             return Err(Failed);
         }
         out.copy_from_slice(&self.now[start..end]);
-        if let Some(then) = self.then.take() {
+        self.reads = raise(self.reads, 1);
+        if self.reads == 2
+            && let Some(then) = self.then.take()
+        {
             self.now = then;
         }
         Ok(())
@@ -99,14 +258,13 @@ fn stored_twice(alloc: Global, then: &[u8]) -> Result<Result<(), MakeFault>, Fai
     let view = ChangingView {
         now: Vec::from_slice(alloc, b"abc")?,
         then: Some(Vec::from_slice(alloc, then)?),
+        reads: 0,
         faults: 0,
         name: Name::empty(alloc),
     };
-    let folder = MemFolder::new(alloc, Vec::new(alloc));
-    let sizes = CutSizes::new(48, 48, 48).ok().ok_or("no sizes")?;
-    let (_view, mut folder, stored) = store_image(alloc, &sizes, view, folder);
-    if folder.names().ok().ok_or("no names")?.len() > 0 {
-        return Err(Fail::from("something was stored"));
+    let (_view, store, stored) = store_image(alloc, &sizes()?, view, Counting::new(alloc, None));
+    if 0 < store.calls {
+        return Err(Fail::from("the store was asked"));
     }
     Ok(stored.map(|_| ()))
 }

@@ -1,4 +1,4 @@
-use Rattle.image_store.proofs.Puts.{seen_more}
+use Rattle.image_store.proofs.Seen.{seen_more}
 use Rattle.image_store.proofs.put_chunks.is_new.Goals as goal
 
 pub returns-in-Ok-clause-changed : goal.returns-in-Ok-clause-changed

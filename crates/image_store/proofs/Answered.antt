@@ -1,0 +1,36 @@
+-- What storing an image answers, from what cutting it and seeing to its chunks have answered.
+use Rattle.std.proofs.Common.{◌≡◌, ℕ, List, Option, Some, None, IfSome, Ok, sym, ◌∙◌, inr}
+use Rattle.buzhash_cut.specs.Image.{IsIndexOfImage}
+use Rattle.buzhash_cut.specs.Sizes.{Sizes}
+use Rattle.caibx_codec.specs.Listing.{Listing, count_of}
+use Rattle.caibx_codec.specs.Right.{IsRight}
+use Rattle.caibx_codec.specs.Spelling.{IsIndexFile, file_of}
+use Rattle.dsy_base.specs.Maps.{Map}
+use Rattle.image_store.specs.PutChunks.{HoldsAll, Stands, PutsEnd}
+use Rattle.image_store.specs.StoreImage.{Indexes, IsStoredAs, EndsEarly}
+use Rattle.image_store.specs.declared.put_chunks.MakeFault.{MakeFault}
+use Rattle.image_store.specs.declared.put_chunks.MakeFault.TheVariants as faults
+
+module _ (s : Sizes) (l : Listing) where
+  early : (t : List ℕ) (a b : Map (List ℕ)) (fault : MakeFault) → IsIndexOfImage s t l → IsRight t l → PutsEnd l (Some t) fault → Stands l t (count_of l) a b → EndsEarly s t a b fault
+  early t a b faults.ImageFault index right end stands = inr (l, index, stands)
+  early t a b faults.StoreFault index right end stands = inr (l, index, stands)
+  early t a b faults.Memory index right end stands = inr (l, index, stands)
+  early t a b faults.TooManyItems index right end stands = absurd end
+  early t a b (faults.Changed k was got) index right end stands = end.0 (end.2 ∙ sym (right.entries k end.1) ∙ sym end.3)
+
+  pub stored_early : (told : Option (List ℕ)) (first now : Option (Map (List ℕ))) (fault : MakeFault) → ((t : List ℕ) → IsIndexOfImage s t l → IsRight t l)
+      → IfSome told (λ t. Indexes s t (Ok l)) → PutsEnd l told fault → IfSome told (λ t. IfSome first (λ a. IfSome now (λ b. Stands l t (count_of l) a b)))
+      → IfSome told (λ t. IfSome first (λ a. IfSome now (λ b. EndsEarly s t a b fault)))
+  stored_early None first now fault law index end stands = tt
+  stored_early (Some t) None now fault law index end stands = tt
+  stored_early (Some t) (Some a) None fault law index end stands = tt
+  stored_early (Some t) (Some a) (Some b) fault law index end stands = early t a b fault index (law t index) end stands
+
+  pub stored_whole : (told : Option (List ℕ)) (first now : Option (Map (List ℕ))) (bytes : List ℕ)
+      → IfSome told (λ t. Indexes s t (Ok l)) → IfSome now (λ m. HoldsAll l (count_of l) m) → IfSome told (λ t. IfSome first (λ a. IfSome now (λ b. Stands l t (count_of l) a b))) → bytes ≡ file_of l → IsIndexFile bytes l
+      → IfSome told (λ t. IfSome first (λ a. IfSome now (λ b. IsStoredAs s t a b bytes)))
+  stored_whole None first now bytes index holds stands is file = tt
+  stored_whole (Some t) None now bytes index holds stands is file = tt
+  stored_whole (Some t) (Some a) None bytes index holds stands is file = tt
+  stored_whole (Some t) (Some a) (Some b) bytes index holds stands is file = (l, index, holds, stands, is, file)

@@ -1,0 +1,73 @@
+-- What storing an image may answer, and what it does to the store; t are the image's bytes, and `told` are they where
+-- they are told.
+use Rattle.std.specs.Prelude.{◌≡◌, ◌≢◌, ◌⊎◌, ℕ, List, Option, IfSome, Result, Ok, Err}
+use Rattle.buzhash_cut.specs.Image.{IsIndexOfImage, HasTooManyCuts}
+use Rattle.buzhash_cut.specs.Sizes.{Sizes}
+use Rattle.caibx_codec.specs.Listing.{Listing, count_of}
+use Rattle.caibx_codec.specs.Spelling.{IsIndexFile, file_of}
+use Rattle.chunk_store.specs.Said.{Said}
+use Rattle.dsy_base.specs.Maps.{Map}
+use Rattle.image_store.specs.PutChunks.{ToldMap, HoldsAll, Stands, PutsFiles, AsksEach, SaysAll}
+use Rattle.image_store.specs.declared.put_chunks.MakeFault.{MakeFault}
+use Rattle.image_store.specs.declared.put_chunks.MakeFault.TheVariants as faults
+
+-- what indexing an image may answer
+abbrev pub Indexes : Sizes → List ℕ → Result Listing MakeFault → Type 0
+Indexes s t (Ok l) = IsIndexOfImage s t l
+Indexes s t (Err faults.TooManyItems) = HasTooManyCuts s t
+Indexes s t (Err faults.ImageFault) = Unit {0}
+Indexes s t (Err faults.Memory) = Unit {0}
+Indexes s t (Err faults.StoreFault) = ⊥
+Indexes s t (Err (faults.Changed k was got)) = ⊥
+
+-- a fault of cutting
+abbrev pub IsOfCutting : MakeFault → Type 0
+IsOfCutting faults.StoreFault = ⊥
+IsOfCutting (faults.Changed k was got) = ⊥
+IsOfCutting other = Unit {0}
+
+-- a fault of storing: what is named as changed has another name
+abbrev pub IsOfStoring : MakeFault → Type 0
+IsOfStoring (faults.Changed k was got) = was.0 ≢ got.0
+IsOfStoring other = Unit {0}
+
+-- some of the image's chunks may have been put into the store
+abbrev pub PutsSome : Sizes → List ℕ → Map (List ℕ) → Map (List ℕ) → Type 0
+PutsSome s t old new = (new ≡ old) ⊎ ((l : Listing) × IsIndexOfImage s t l × Stands l t (count_of l) old new)
+
+-- each chunk of the image is held, and these bytes are the file of its index
+abbrev pub IsStoredAs : Sizes → List ℕ → Map (List ℕ) → Map (List ℕ) → List ℕ → Type 0
+IsStoredAs s t old new bytes =
+    (l : Listing) × IsIndexOfImage s t l × HoldsAll l (count_of l) new × Stands l t (count_of l) old new
+    × (bytes ≡ file_of l) × IsIndexFile bytes l
+
+-- what is held where storing ended early
+abbrev pub EndsEarly : Sizes → List ℕ → Map (List ℕ) → Map (List ℕ) → MakeFault → Type 0
+EndsEarly s t old new faults.TooManyItems = (new ≡ old) × HasTooManyCuts s t
+EndsEarly s t old new faults.ImageFault = PutsSome s t old new
+EndsEarly s t old new faults.StoreFault = PutsSome s t old new
+EndsEarly s t old new faults.Memory = PutsSome s t old new
+EndsEarly s t old new (faults.Changed k was got) = ⊥
+
+-- what storing an image may answer, over what the store holds under each id
+abbrev pub StoresImage :
+    {A : Type 0} → Sizes → (A → List ℕ) → List ℕ → Map (List ℕ) → Map (List ℕ) → Result A MakeFault → Type 0
+StoresImage s bytes_of t old new (Ok v) = IsStoredAs s t old new (bytes_of v)
+StoresImage s bytes_of t old new (Err fault) = EndsEarly s t old new fault
+
+-- l is the image's index, where the image is told
+abbrev pub Lists : Sizes → Option (List ℕ) → Listing → Type 0
+Lists s told l = IfSome told (λ t. IsIndexOfImage s t l)
+
+-- the folder's files are as before, or at most files of the index's chunks have changed that the store lacked
+abbrev pub PutsFilesOf : Sizes → Option (List ℕ) → ToldMap → ToldMap → ToldMap → Type 0
+PutsFilesOf s told held old new =
+    (new ≡ old) ⊎ ((l : Listing) × Lists s told l × PutsFiles l told held (count_of l) old new)
+
+-- nothing was asked for, or at most each id of the index once
+abbrev pub AsksOf : Sizes → Option (List ℕ) → (List ℕ → ℕ) → (List ℕ → ℕ) → Type 0
+AsksOf s told old new = (new ≡ old) ⊎ ((l : Listing) × Lists s told l × AsksEach l (count_of l) old new)
+
+-- of each id of the index whose file these bytes are, the store has shown or taken bytes of that name
+abbrev pub SaysOf : Sizes → Option (List ℕ) → List ℕ → Said → Type 0
+SaysOf s told bytes said = (l : Listing) × Lists s told l × (bytes ≡ file_of l) × SaysAll l (count_of l) said
