@@ -2,7 +2,8 @@
 use Rattle.std.specs.Prelude.{ℕ, List}
 use Rattle.command_help.specs.declared.help.Topic.{Topic}
 use Rattle.command_help.specs.declared.help.Topic.TheVariants as topics
-use Rattle.command_help.specs.declared.texts.TheConstants.{HELP, VERSION, MAKE, EXTRACT, VERIFY_INDEX, CHOP, CACHE, LIST_CHUNKS, INFO, VERIFY, PRUNE, CHUNK_SERVER, DEMO}
+use Rattle.command_help.specs.declared.texts.TheConstants.{HELP, VERSION, MAKE, EXTRACT, VERIFY_INDEX, CHOP, CACHE}
+use Rattle.command_help.specs.declared.texts.TheConstants.{LIST_CHUNKS, INFO, VERIFY, PRUNE, CHUNK_SERVER, DEMO}
 use Rattle.command_line.specs.declared.option_table.CommandKind.{CommandKind}
 use Rattle.command_line.specs.declared.option_table.CommandKind.TheVariants as kinds
 

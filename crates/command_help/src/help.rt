@@ -2,9 +2,9 @@
 
 ghost use Rattle.std.specs.Prelude.{◌≡◌, ◌++◌, ◌≤◌, OnOk};
 ghost use Rattle.std.specs.Option.{option_map};
-ghost use Rattle.caibx_codec.specs.Answers.{PutsFront};
+ghost use Rattle.dsy_base.specs.Disk.{PutsFront};
 ghost use Rattle.command_help.specs.Help.{help_text};
-ghost use Rattle.dsy_base.specs.Counts.{Rose};
+ghost use Rattle.dsy_base.specs.Counts.{CountsFaults};
 
 use crate::texts::{
     CACHE, CHOP, CHUNK_SERVER, DEMO, EXTRACT, HELP, INFO, LIST_CHUNKS, MAKE, PRUNE, VERIFY,
@@ -54,12 +54,14 @@ fn text_on(topic: Topic) -> &'static str
 
 /// Prints the text on a topic.
 pub fn put_help<O: Sink>(topic: Topic, out: &mut O) -> Result<(), IoFault>
-    ensures ok { OnOk result (O.taken out.new ≡ option_map (λ t. t ++ help_text topic) (O.taken out.old)) }
+    ensures ok { OnOk result ((O.output out.new).taken
+        ≡ option_map (λ t. t ++ help_text topic) (O.output out.old).taken) }
     // A front of the text was put.
-    ensures err { result ≡ Err IoFault.Failed → PutsFront (help_text topic) (O.taken out.old) (O.taken out.new) }
-    ensures kept { result ≡ Err IoFault.Memory → O.taken out.new ≡ O.taken out.old }
-    ensures faults { O.faults out.old ≤ O.faults out.new }
-    ensures cause { result ≡ Err IoFault.Failed → Rose (O.faults out.old) (O.faults out.new) }
+    ensures err { result ≡ Err IoFault.Failed →
+        PutsFront (help_text topic) (O.output out.old).taken (O.output out.new).taken }
+    ensures kept { result ≡ Err IoFault.Memory → (O.output out.new).taken ≡ (O.output out.old).taken }
+    ensures faults { CountsFaults IoFault.Failed IoFault.Memory
+        (O.output out.old).faults (O.output out.new).faults result }
 {
     let text = text_on(topic);
     out.put(text.as_bytes())

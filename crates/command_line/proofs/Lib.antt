@@ -1,6 +1,7 @@
 pub mod Following
 pub mod Judged
 pub mod Lists
-pub mod Located
+pub mod NoRoom
 pub mod Places
 pub mod Schemes
+pub mod Tables

@@ -1,8 +1,9 @@
 -- The words of a list of texts, and those of one role.
-use Rattle.std.proofs.Common.{◌≡◌, ℕ, zero, suc, ◌+◌, ◌<◌, ◌≤◌, List, [], ◌∷◌, ◌++◌, append_assoc, length, get_or, map, drop, String, string_bytes, sym, ap, ap₂, ◌∙◌, arith, eq-eqb, ne_eqb}
+use Rattle.std.proofs.Common.{◌≡◌, ℕ, zero, suc, ◌+◌, ◌<◌, ◌≤◌, List, [], ◌∷◌, length, get_or, map, drop, Bool, true, false, ◌==◌, if◌then◌else◌, refl, String, string_bytes, sym, ap, ap₂, ◌∙◌, arith, eq-eqb, ne_eqb}
 use Rattle.std.proofs.lemmas.Bool.{cond-true, cond-false}
 use Rattle.std.proofs.lemmas.List.{drop_more, at_drop_all}
-use Rattle.command_line.specs.Roles.{words_as, role_number}
+use Rattle.std.proofs.lemmas.List.Sums.{sum_by-cons}
+use Rattle.command_line.specs.Roles.{words_as, role_number, count_of}
 use Rattle.command_line.specs.declared.roles.Role.{Role}
 
 -- the bytes of the word at a place
@@ -35,6 +36,15 @@ words_none r roles words i le = at_drop_all (λ rest. words_as r rest (drop i wo
 pub skip_one : (all rest : List (List ℕ)) (w : List ℕ) (n m : ℕ) → all ≡ w ∷ rest → n ≡ suc m → get_or rest m [] ≡ get_or all n []
 skip_one all rest w n m e h = sym (ap₂ (λ l k. get_or l k []) e h)
 
--- one more item before the rest
-pub one_more : {X : Type 0} (before now all rest : List X) (x : X) → now ≡ before ++ x ∷ [] → all ≡ x ∷ rest → now ++ rest ≡ before ++ all
-one_more before now all rest x e h = ap (λ l. l ++ rest) e ∙ append_assoc before (x ∷ []) rest ∙ ap (λ l. before ++ l) (sym h)
+counted : (r q : Role) (w : List ℕ) (rest : List (List ℕ)) (n : ℕ) (b : Bool) → length rest ≡ n
+    → length (if b then w ∷ rest else rest) ≡ (if b then 1 else 0) + n
+counted r q w rest n true h = omega (arith, h)
+counted r q w rest n false h = omega (arith, h)
+
+-- there are as many words of the role as words have it
+pub words_counted : (r : Role) (roles : List Role) (words : List (List ℕ)) → length roles ≡ length words → length (words_as r roles words) ≡ count_of r roles
+words_counted r [] words e = refl
+words_counted r (q ∷ roles) [] e = absurd (omega (arith, e))
+words_counted r (q ∷ roles) (w ∷ words) e =
+    counted r q w (words_as r roles words) (count_of r roles) (role_number q == role_number r) (words_counted r roles words (omega (arith, e)))
+    ∙ sym (sum_by-cons (λ p. if role_number p == role_number r then 1 else 0) q roles)

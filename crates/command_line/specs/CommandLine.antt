@@ -1,5 +1,6 @@
 -- What the words of a command line say. A word is its bytes, and places count from the first word, the command, as 0.
-use Rattle.std.specs.Prelude.{ℕ, ◌+◌, ◌==◌, ◌&&◌, Bool, List, [], ◌∷◌, length, map, codes, Option, Some, None, unwrap_or, Result, Ok, Err, if◌then◌else◌, nat_lt, slice_index_or}
+use Rattle.std.specs.Prelude.{ℕ, ◌+◌, ◌==◌, ◌&&◌, Bool, List, [], ◌∷◌, length, map, codes, Option, Some, None}
+use Rattle.std.specs.Prelude.{unwrap_or, Result, Ok, Err, IfOk, ◌≡◌, if◌then◌else◌, nat_lt, slice_index_or}
 use Rattle.std.specs.Str.{bytes_eq}
 use Rattle.command_line.specs.declared.command.Command.{Command}
 use Rattle.command_line.specs.declared.command.Command.TheVariants as said
@@ -19,59 +20,67 @@ use Rattle.command_line.specs.declared.usage.WordsFault.TheVariants as fault
 use Rattle.command_line.specs.Judging.{judged, missing, AnswersBy}
 use Rattle.command_line.specs.Locations.{location_of}
 use Rattle.command_line.specs.OptionTable.{command_named}
-use Rattle.command_line.specs.Roles.{count_of, words_as, word_as}
+use Rattle.command_line.specs.Roles.{WordsByRole, by_role, count_of, words_as, word_as}
 use Rattle.command_line.specs.Values.{number_of, workers_of, sizes_of, listen_of}
 
 -- ---- what words that have passed say, by their roles
 
-abbrev pub operand : ℕ → List Role → List (List ℕ) → List ℕ
-operand k roles words = word_as role.Operand k roles words
+abbrev pub operand : ℕ → WordsByRole → List ℕ
+operand k p = word_as role.Operand k p.roles p.words
 
-abbrev pub value : OptionKind → List Role → List (List ℕ) → List ℕ
-value o roles words = word_as (role.Value o) 0 roles words
+abbrev pub value : OptionKind → WordsByRole → List ℕ
+value o p = word_as (role.Value o) 0 p.roles p.words
 
-abbrev pub is_given : OptionKind → List Role → Bool
-is_given o roles = nat_lt 0 (count_of (role.Given o) roles)
+abbrev pub is_given : OptionKind → WordsByRole → Bool
+is_given o p = nat_lt 0 (count_of (role.Given o) p.roles)
 
 abbrev pub read_location : Result Location NoLocation → Location
 read_location (Ok l) = l
 read_location (Err e) = location.Folder []
 
-abbrev pub store : List Role → List (List ℕ) → Location
-store roles words = read_location (location_of (value option.Store roles words))
+abbrev pub store : WordsByRole → Location
+store p = read_location (location_of (value option.Store p))
 
-abbrev pub stores : List Role → List (List ℕ) → List Location
-stores roles words = map (λ w. read_location (location_of w)) (words_as (role.Value option.Store) roles words)
+abbrev pub stores : WordsByRole → List Location
+stores p = map (λ w. read_location (location_of w)) (words_as (role.Value option.Store) p.roles p.words)
 
-abbrev pub cache : List Role → List (List ℕ) → Option (List ℕ)
-cache roles words = if is_given option.Cache roles then Some (value option.Cache roles words) else None
+abbrev pub cache : WordsByRole → Option (List ℕ)
+cache p = if is_given option.Cache p then Some (value option.Cache p) else None
 
 -- 10 workers where no number is given
-abbrev pub workers : List Role → List (List ℕ) → ℕ
-workers roles words = unwrap_or (workers_of (value option.Concurrency roles words)) 10
+abbrev pub workers : WordsByRole → ℕ
+workers p = unwrap_or (workers_of (value option.Concurrency p)) 10
 
 -- 16, 64 and 256 KiB where no sizes are given
-abbrev pub sizes : List Role → List (List ℕ) → List ℕ
-sizes roles words = unwrap_or (sizes_of (value option.ChunkSize roles words)) (16384 ∷ 65536 ∷ 262144 ∷ [])
+abbrev pub sizes : WordsByRole → List ℕ
+sizes p = unwrap_or (sizes_of (value option.ChunkSize p)) (16384 ∷ 65536 ∷ 262144 ∷ [])
 
-abbrev pub address : List Role → List (List ℕ) → List ℕ × ℕ
-address roles words = unwrap_or (listen_of (value option.Listen roles words)) ([], 0)
+abbrev pub address : WordsByRole → List ℕ × ℕ
+address p = unwrap_or (listen_of (value option.Listen p)) ([], 0)
 
 abbrev pub number : ℕ → List ℕ → ℕ
 number most w = unwrap_or (number_of 0 most w) 0
 
-abbrev pub command_of : CommandKind → List Role → List (List ℕ) → Command
-command_of command.Make r w = said.Make (store r w) (sizes r w) (workers r w) (operand 0 r w) (operand 1 r w)
-command_of command.Extract r w = said.Extract (stores r w) (words_as (role.Value option.Seed) r w) (cache r w) (is_given option.InPlace r) (workers r w) (operand 0 r w) (operand 1 r w)
-command_of command.VerifyIndex r w = said.VerifyIndex (operand 0 r w) (operand 1 r w)
-command_of command.Chop r w = said.Chop (store r w) (operand 0 r w) (operand 1 r w)
-command_of command.Cache r w = said.Cache (stores r w) (value option.Cache r w) (words_as role.Operand r w)
-command_of command.ListChunks r w = said.ListChunks (operand 0 r w)
-command_of command.Info r w = said.Info (stores r w) (operand 0 r w)
-command_of command.Verify r w = said.Verify (value option.Store r w) (is_given option.Repair r)
-command_of command.Prune r w = said.Prune (value option.Store r w) (words_as role.Operand r w)
-command_of command.ChunkServer r w = said.ChunkServer (value option.Store r w) (address r w).0 (address r w).1 (is_given option.Writable r) (workers r w)
-command_of command.Demo r w = said.Demo (number 18446744073709551615 (operand 0 r w)) (number 536870912 (operand 1 r w)) (workers r w)
+abbrev pub command_of : CommandKind → WordsByRole → Command
+command_of command.Make p = said.Make (store p) (sizes p) (workers p) (operand 0 p) (operand 1 p)
+command_of command.Extract p =
+    said.Extract (stores p) (words_as (role.Value option.Seed) p.roles p.words) (cache p) (is_given option.InPlace p)
+    (workers p) (operand 0 p) (operand 1 p)
+command_of command.VerifyIndex p = said.VerifyIndex (operand 0 p) (operand 1 p)
+command_of command.Chop p = said.Chop (store p) (operand 0 p) (operand 1 p)
+command_of command.Cache p = said.Cache (stores p) (value option.Cache p) (words_as role.Operand p.roles p.words)
+command_of command.ListChunks p = said.ListChunks (operand 0 p)
+command_of command.Info p = said.Info (stores p) (operand 0 p)
+command_of command.Verify p = said.Verify (value option.Store p) (is_given option.Repair p)
+command_of command.Prune p = said.Prune (value option.Store p) (words_as role.Operand p.roles p.words)
+command_of command.ChunkServer p =
+    said.ChunkServer (value option.Store p) (address p).0 (address p).1 (is_given option.Writable p) (workers p)
+command_of command.Demo p =
+    said.Demo (number 18446744073709551615 (operand 0 p)) (number 536870912 (operand 1 p)) (workers p)
+
+-- that command, unless there was no memory
+abbrev pub Says : {E : Type 0} → CommandKind → WordsByRole → Result Command E → Type 0
+Says k p result = IfOk result (λ c. c ≡ command_of k p)
 
 -- ---- all words
 
@@ -82,7 +91,7 @@ complete None place c = Ok c
 
 abbrev pub command_by : CommandKind → List (List ℕ) → Result (List Role) WordsFault → Result Command WordsFault
 command_by k words (Err e) = Err e
-command_by k words (Ok roles) = complete (missing k roles) (length words + 1) (command_of k roles words)
+command_by k words (Ok roles) = complete (missing k roles) (length words + 1) (command_of k (by_role roles words))
 
 -- the words after a command
 abbrev pub command_with : CommandKind → List (List ℕ) → Result Command WordsFault
@@ -106,3 +115,7 @@ command_line (w ∷ words) =
 -- what reading the words may answer: exactly that, or that there was no memory
 abbrev pub Reads : List (List ℕ) → Result Command WordsFault → Type 0
 Reads words result = AnswersBy (λ c. c) (command_line words) result
+
+-- a URL among them takes more room than `url` has
+abbrev pub FindsNoRoom : List (List ℕ) → Type 0
+FindsNoRoom words = command_line words ≡ Err fault.Memory

@@ -1,5 +1,6 @@
 -- How the words of a command are judged. The words are those after the command; places count the command too.
-use Rattle.std.specs.Prelude.{◌≡◌, ℕ, ◌+◌, ◌==◌, ◌||◌, Bool, false, not, List, [], length, find, take, slice_index_or, Option, Some, None, is_some, option_map, Result, Ok, Err, if◌then◌else◌, nat_lt}
+use Rattle.std.specs.Prelude.{◌≡◌, ℕ, ◌+◌, ◌==◌, ◌||◌, Bool, false, not, List, [], length, find, take, slice_index_or}
+use Rattle.std.specs.Prelude.{Option, Some, None, is_some, option_map, Result, Ok, Err, if◌then◌else◌, nat_lt}
 use Rattle.std.specs.List.{range_with_len}
 use Rattle.command_line.specs.declared.command.Location.{Location}
 use Rattle.command_line.specs.declared.command.Location.TheVariants as location
@@ -42,16 +43,14 @@ name_refusal empty right y = if empty then Some (refusal.Why why.Empty) else unl
 
 -- the value of an option
 abbrev pub value_refusal : CommandKind → OptionKind → List ℕ → Option Refusal
-value_refusal k option.Store w = if is_empty w then Some (refusal.Why why.Empty) else store_refusal (takes_of k).needs_folder (location_of w)
+value_refusal k option.Store w =
+    if is_empty w then Some (refusal.Why why.Empty) else store_refusal (takes_of k).needs_folder (location_of w)
 value_refusal k option.ChunkSize w = unless (is_some (sizes_of w)) why.BadSizes
 value_refusal k option.Concurrency w = unless (is_some (workers_of w)) why.BadNumber
 value_refusal k option.Cache w = unless (not (is_empty w)) why.Empty
-value_refusal k option.InPlace w = None
 value_refusal k option.Seed w = name_refusal (is_empty w) (is_seed w) why.BadSeed
-value_refusal k option.Repair w = None
-value_refusal k option.Yes w = None
 value_refusal k option.Listen w = unless (is_some (listen_of w)) why.BadListen
-value_refusal k option.Writable w = None
+value_refusal k without w = None
 
 -- the operand that has n before it
 abbrev pub name_operand_refusal : CommandKind → ℕ → List ℕ → Option Refusal
@@ -73,7 +72,8 @@ operand_refusal k n w = if (takes_of k).takes_numbers then demo_operand_refusal 
 abbrev pub refusal_of : CommandKind → List Role → Role → List ℕ → Option Refusal
 refusal_of k before role.Dashes w = None
 refusal_of k before role.Unknown w = Some (refusal.Why why.UnknownOption)
-refusal_of k before (role.Given o) w = unless (nat_lt (count_of (role.Given o) before) (times_of k o).greatest) why.TooMany
+refusal_of k before (role.Given o) w =
+    unless (nat_lt (count_of (role.Given o) before) (times_of k o).greatest) why.TooMany
 refusal_of k before (role.Value o) w = value_refusal k o w
 refusal_of k before role.Operand w = operand_refusal k (count_of role.Operand before) w
 
@@ -96,7 +96,8 @@ abbrev pub first_refused : CommandKind → List (List ℕ) → Option ℕ
 first_refused k words = find (λ i. is_some (refusal_at k words i)) (range_with_len 0 (length words))
 
 abbrev pub fault_by : CommandKind → List (List ℕ) → Option ℕ → Option WordsFault
-fault_by k words None = if is_some (awaited (roles_of k words)) then Some (fault.Usage (length words + 1) why.NoValue) else None
+fault_by k words None =
+    if is_some (awaited (roles_of k words)) then Some (fault.Usage (length words + 1) why.NoValue) else None
 fault_by k words (Some i) = option_map (fault_at (i + 1)) (refusal_at k words i)
 
 -- the fault of the first word that is refused, or that the last one's value is missing
@@ -114,7 +115,8 @@ lacks k roles o = nat_lt (count_of (role.Given o) roles) (times_of k o).least
 -- what is missing once all words have passed
 abbrev pub missing : CommandKind → List Role → Option UsageWhy
 missing k roles =
-    if lacks k roles option.Store || (lacks k roles option.Cache || lacks k roles option.Listen) then Some why.MissingOption
+    if lacks k roles option.Store || (lacks k roles option.Cache || lacks k roles option.Listen)
+    then Some why.MissingOption
     else (if lacks k roles option.Yes then Some why.NeedsYes
     else (if nat_lt (count_of role.Operand roles) (takes_of k).operands.least then Some why.Operands
     else None))

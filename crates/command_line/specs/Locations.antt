@@ -1,5 +1,6 @@
 -- Locations of chunks. A word is its bytes.
-use Rattle.std.specs.Prelude.{ℕ, ◌-◌, ◌==◌, ◌&&◌, ◌||◌, Bool, true, false, not, List, [], ◌∷◌, length, take, codes, None, is_some, option_map, unwrap_or, Result, Ok, Err, if◌then◌else◌, nat_eq, ◌≡◌}
+use Rattle.std.specs.Prelude.{ℕ, ◌-◌, ◌==◌, ◌&&◌, ◌||◌, Bool, true, false, not, List, [], ◌∷◌, length, take, codes}
+use Rattle.std.specs.Prelude.{None, is_some, option_map, unwrap_or, Result, Ok, Err, if◌then◌else◌, nat_eq, ◌≡◌}
 use Rattle.std.specs.List.{starts_with, ends_with, list_any}
 use Rattle.std.specs.Str.{bytes_eq}
 use Rattle.command_line.specs.declared.command.Location.{Location}
@@ -19,18 +20,9 @@ contains_scheme (c ∷ cs) = starts_with nat_eq (c ∷ cs) (codes "://") || cont
 
 -- reading the URL took more memory than there is, or than `url` has for one
 abbrev pub is_out_of_room : ParseError → Bool
-is_out_of_room url.EmptyHost = false
-is_out_of_room url.IdnaError = false
-is_out_of_room url.InvalidPort = false
-is_out_of_room url.InvalidIpv4Address = false
-is_out_of_room url.InvalidIpv6Address = false
-is_out_of_room url.InvalidDomainCharacter = false
-is_out_of_room url.RelativeUrlWithoutBase = false
-is_out_of_room url.RelativeUrlWithCannotBeABaseBase = false
-is_out_of_room url.SetHostOnCannotBeABaseUrl = false
 is_out_of_room url.Overflow = true
-is_out_of_room url.CannotSet = false
 is_out_of_room url.OutOfMemory = true
+is_out_of_room other = false
 
 -- an `http` URL with no user, password, query or fragment
 abbrev pub is_plain_http : Parts → Bool
@@ -43,7 +35,9 @@ without_last_slash path = if ends_with nat_eq path (codes "/") then take (length
 
 -- the host of the URL, its port or 80, and its path without a last `/`
 abbrev pub server_of : Parts → Location
-server_of u = location.Http (unwrap_or (option_map host_text (nonempty_host u)) []) (unwrap_or u.port 80) (without_last_slash u.path)
+server_of u =
+    location.Http (unwrap_or (option_map host_text (nonempty_host u)) []) (unwrap_or u.port 80)
+    (without_last_slash u.path)
 
 abbrev pub url_location : Result Parts ParseError → Result Location NoLocation
 url_location (Ok u) = if is_plain_http u then Ok (server_of u) else Err no.Bad

@@ -1,5 +1,6 @@
 -- What each word of a command is. The words are those after the command, and a word is its bytes.
-use Rattle.std.specs.Prelude.{ℕ, ◌+◌, ◌-◌, ◌*◌, ◌==◌, List, [], ◌∷◌, ◌++◌, length, codes, count_by, fold, Option, Some, None, if◌then◌else◌, nat_eq, nat_lt, slice_index_or}
+use Rattle.std.specs.Prelude.{ℕ, ◌+◌, ◌-◌, ◌*◌, ◌==◌, List, [], ◌∷◌, ◌++◌, length, codes, count_by, fold, Option, Some}
+use Rattle.std.specs.Prelude.{None, if◌then◌else◌, nat_eq, nat_lt, slice_index_or}
 use Rattle.std.specs.List.{slice_get, starts_with}
 use Rattle.std.specs.Str.{bytes_eq}
 use Rattle.command_line.specs.declared.option_table.CommandKind.{CommandKind}
@@ -10,23 +11,26 @@ use Rattle.command_line.specs.OptionTable.{option_named, option_number, takes_va
 
 -- the option of the command that is spelled so
 abbrev pub option_of : CommandKind → List ℕ → Option OptionKind
-option_of k w = elim (option_named w) [ None ↦ None | Some o ↦ if nat_lt 0 (times_of k o).greatest then Some o else None ]
+option_of k w = elim (option_named w) [
+  | None ↦ None
+  | Some o ↦ if nat_lt 0 (times_of k o).greatest then Some o else None
+]
 
-abbrev option_role : Option OptionKind → Role
+-- what a word is that begins with `-`, by the option that it spells
+abbrev pub option_role : Option OptionKind → Role
 option_role None = role.Unknown
 option_role (Some o) = role.Given o
 
 -- what a word is by itself: `--`, an option where it begins with `-`, else an operand
 abbrev pub spelled_role : CommandKind → List ℕ → Role
-spelled_role k w = if bytes_eq w (codes "--") then role.Dashes else (if starts_with nat_eq w (codes "-") then option_role (option_of k w) else role.Operand)
+spelled_role k w =
+    if bytes_eq w (codes "--") then role.Dashes
+    else (if starts_with nat_eq w (codes "-") then option_role (option_of k w) else role.Operand)
 
 -- the option of the role, where its value is the next word
 abbrev pub opens : Role → Option OptionKind
-opens role.Dashes = None
-opens role.Unknown = None
-opens role.Operand = None
 opens (role.Given o) = if takes_value o then Some o else None
-opens (role.Value o) = None
+opens other = None
 
 -- the option whose value is to come after words of these roles
 abbrev pub awaited : List Role → Option OptionKind
@@ -44,9 +48,13 @@ role_number (role.Value o) = 4 + 2 * option_number o
 abbrev pub count_of : Role → List Role → ℕ
 count_of r roles = count_by (λ q. role_number q == role_number r) roles
 
--- what a word is after words of these roles: the value that is to come, after `--` an operand, else what it is by itself
+-- what a word is after words of these roles: the value that is to come, after `--` an operand, else what it is by
+-- itself
 abbrev pub role_of : CommandKind → List Role → List ℕ → Role
-role_of k before w = elim (awaited before) [ Some o ↦ role.Value o | None ↦ if nat_lt 0 (count_of role.Dashes before) then role.Operand else spelled_role k w ]
+role_of k before w = elim (awaited before) [
+  | Some o ↦ role.Value o
+  | None ↦ if nat_lt 0 (count_of role.Dashes before) then role.Operand else spelled_role k w
+]
 
 -- the roles of the words, each by those before it
 abbrev pub roles_of : CommandKind → List (List ℕ) → List Role
@@ -56,8 +64,17 @@ roles_of k words = fold (λ before w. before ++ role_of k before w ∷ []) [] wo
 abbrev pub words_as : Role → List Role → List (List ℕ) → List (List ℕ)
 words_as r [] words = []
 words_as r (q ∷ roles) [] = []
-words_as r (q ∷ roles) (w ∷ words) = if role_number q == role_number r then w ∷ words_as r roles words else words_as r roles words
+words_as r (q ∷ roles) (w ∷ words) =
+    if role_number q == role_number r then w ∷ words_as r roles words else words_as r roles words
 
 -- the k-th of them from 0, or the empty word
 abbrev pub word_as : Role → ℕ → List Role → List (List ℕ) → List ℕ
 word_as r k roles words = slice_index_or (words_as r roles words) k []
+
+-- words after a command, each with its role
+pub record WordsByRole : Type 0 where
+  pub roles : List Role
+  pub words : List (List ℕ)
+
+abbrev pub by_role : List Role → List (List ℕ) → WordsByRole
+by_role roles words = record { roles = roles; words = words }

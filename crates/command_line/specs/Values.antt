@@ -1,5 +1,6 @@
 -- What the values of options and the operands say. A word is its bytes.
-use Rattle.std.specs.Prelude.{ℕ, ◌+◌, ◌-◌, ◌*◌, ◌==◌, ◌&&◌, ◌||◌, Bool, List, [], ◌∷◌, length, take, drop, slice_index, codes, position, Option, Some, None, option_map, if◌then◌else◌, nat_eq, nat_le, nat_lt}
+use Rattle.std.specs.Prelude.{ℕ, ◌+◌, ◌-◌, ◌*◌, ◌==◌, ◌&&◌, ◌||◌, Bool, List, [], ◌∷◌, length, take, drop, slice_index}
+use Rattle.std.specs.Prelude.{codes, position, Option, Some, None, option_map, if◌then◌else◌, nat_eq, nat_le, nat_lt}
 use Rattle.std.specs.List.{ends_with}
 use Rattle.std.specs.Char.{is_ascii_digit}
 use Rattle.std.specs.Path.{rfind_below}
@@ -15,7 +16,8 @@ with_digits most n (c ∷ cs) = elim (with_digit most n c) [ None ↦ None | Som
 
 -- a number is `0`, or digits of which the first isn't `0`
 abbrev pub number_up_to : ℕ → List ℕ → Option ℕ
-number_up_to most w = if (length w == 0) || (nat_lt 1 (length w) && (slice_index w 0 == 48)) then None else with_digits most 0 w
+number_up_to most w =
+    if (length w == 0) || (nat_lt 1 (length w) && (slice_index w 0 == 48)) then None else with_digits most 0 w
 
 abbrev at_least : ℕ → Option ℕ → Option ℕ
 at_least least None = None
@@ -55,7 +57,10 @@ split_at_last c w = option_map (λ k. (take k w, drop (k + 1) w)) (rfind_below c
 
 -- the host and the port, by -l: what stands before and after the last `:`
 abbrev pub listen_of : List ℕ → Option (List ℕ × ℕ)
-listen_of w = elim (split_at_last 58 w) [ None ↦ None | Some p ↦ option_map (λ n. (p.0, n)) (number_of 1 65535 p.1) ]
+listen_of w = elim (split_at_last 58 w) [
+  | None ↦ None
+  | Some p ↦ option_map (λ n. (p.0, n)) (number_of 1 65535 p.1)
+]
 
 -- the name of a seed's index ends in `.caibx` and has more before it
 abbrev pub is_seed : List ℕ → Bool

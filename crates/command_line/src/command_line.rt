@@ -1,16 +1,16 @@
 //! Reading the words of the command line, those after the program's name. A place is a word's, from
 //! 0 for the command.
 
-ghost use Rattle.std.specs.Prelude.{◌≡◌, ◌<◌, ◌+◌, ◌^◌, ℕ, List, length, map, string_bytes, codes};
-ghost use Rattle.command_line.specs.CommandLine.{Reads, command_with, command_or_help, is_alone};
+ghost use Rattle.std.specs.Prelude.{◌≡◌, ◌<◌, ◌+◌, ◌^◌, ℕ, List, length, map, string_bytes, codes, Err};
+ghost use Rattle.command_line.specs.CommandLine.{Reads, FindsNoRoom, command_with, command_or_help, is_alone};
 ghost use Rattle.command_line.specs.Judging.{AnswersBy};
 ghost use Rattle.command_line.specs.OptionTable.{command_named};
 
 use crate::command::Command;
 use crate::judge::{judged, missing};
 use crate::option_table::{CommandKind, command_named};
+use crate::passed::Passed;
 use crate::roles::word;
-use crate::said::command_of;
 use crate::usage::{UsageWhy, WordsFault};
 use std::alloc::Global;
 
@@ -31,7 +31,10 @@ fn read_with(alloc: Global, kind: CommandKind, words: &[String]) -> Result<Comma
         let place = words.len() as u64 + 1;
         return Err(WordsFault::Usage { place, why });
     }
-    command_of(alloc, kind, roles.as_slice(), words).map_err(|_| WordsFault::Memory)
+    let passed = Passed::of(roles.as_slice(), words);
+    passed
+        .command_of(alloc, kind)
+        .map_err(|_| WordsFault::Memory)
 }
 
 // Reads the words after the command that was named, if one was.
@@ -55,9 +58,9 @@ fn read_named(
     read_with(alloc, kind, words)
 }
 
-/// The command that the words are.
-pub fn read_words(alloc: Global, words: &[String]) -> Result<Command, WordsFault>
-    ensures exactly { Reads (map string_bytes words.now) result }
+// The command that the words are.
+fn read_line(alloc: Global, words: &[String]) -> Result<Command, WordsFault>
+    ensures { Reads (map string_bytes words.now) result }
 {
     let Some((first, rest)) = words.split_first() else {
         return Err(WordsFault::Usage {
@@ -72,4 +75,13 @@ pub fn read_words(alloc: Global, words: &[String]) -> Result<Command, WordsFault
         return Ok(Command::Version);
     }
     read_named(alloc, command_named(first.as_str()), rest)
+}
+
+/// The command that the words are.
+pub fn read_words(alloc: Global, words: &[String]) -> Result<Command, WordsFault>
+    ensures exactly { Reads (map string_bytes words.now) result }
+    // A URL that finds no room is answered so, however much memory there is.
+    ensures room { FindsNoRoom (map string_bytes words.now) → result ≡ Err WordsFault.Memory }
+{
+    read_line(alloc, words)
 }

@@ -1,8 +1,11 @@
 //! Judging the words of a command, from left to right. Words are counted from 0, the first word
 //! after the command; places count the command too.
 
-ghost use Rattle.std.specs.Prelude.{◌≡◌, ◌<◌, ◌+◌, ◌^◌, ℕ, List, [], length, map, string_bytes, Result, Ok, Err, Some, None, IfOk};
-ghost use Rattle.command_line.specs.Judging.{Refuses, AnswersBy, number_refusal, unless, is_empty, store_refusal, name_refusal, value_refusal, name_operand_refusal, demo_operand_refusal, operand_refusal, refusal_of, fault_at, judged, lacks, missing};
+ghost use Rattle.std.specs.Prelude.{◌≡◌, ◌<◌, ◌+◌, ◌^◌, ℕ, List, [], length, map, string_bytes, Result, Ok, Err, Some};
+ghost use Rattle.std.specs.Prelude.{None, IfOk};
+ghost use Rattle.command_line.specs.Judging.{Refuses, AnswersBy, number_refusal, unless, is_empty, store_refusal};
+ghost use Rattle.command_line.specs.Judging.{name_refusal, value_refusal, name_operand_refusal, demo_operand_refusal};
+ghost use Rattle.command_line.specs.Judging.{operand_refusal, refusal_of, fault_at, judged, lacks, missing};
 ghost use Rattle.command_line.specs.Locations.{location_of};
 ghost use Rattle.command_line.specs.OptionTable.{takes_of, times_of};
 

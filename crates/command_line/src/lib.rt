@@ -2,14 +2,17 @@
 #![tactic(auto)]
 
 pub mod command;
-pub mod command_line;
+mod command_line;
 mod judge;
 pub mod laws;
 #[cfg(test)]
 mod line_tests;
 pub mod location;
 pub mod option_table;
+mod passed;
 pub mod roles;
 mod said;
 pub mod usage;
 pub mod values;
+
+pub use command_line::read_words;

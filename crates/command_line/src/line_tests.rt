@@ -7,95 +7,108 @@ use std::alloc::{AllocError, Global};
 use std::process::Abort;
 use std::test::Fail;
 
-fn words_of(alloc: Global, words: &[&str]) -> Result<Vec<String>, AllocError> {
+// The words of a line, of which `''` stands for the empty one.
+fn words_of(alloc: Global, line: &str) -> Result<Vec<String>, AllocError> {
     let mut all = Vec::new(alloc);
-    for word in words {
+    for word in line.split_whitespace() {
+        let word = if word == "''" { "" } else { word };
         all.push(String::from_str(alloc, word)?)?;
     }
     Ok(all)
 }
 
-fn read(alloc: Global, words: &[&str]) -> Result<Command, WordsFault> {
-    match words_of(alloc, words) {
+fn read(alloc: Global, line: &str) -> Result<Command, WordsFault> {
+    match words_of(alloc, line) {
         Ok(words) => read_words(alloc, &words),
         Err(_) => Err(WordsFault::Memory),
     }
 }
 
-// The words, the place at which they are refused, and why.
-type Refused<'a> = (&'a [&'a str], u64, UsageWhy);
+// Words, the place at which they are refused, and why.
+const REFUSED: &str = "\
+-> 0 NoCommand
+frob -> 0 UnknownCommand
+--help x -> 0 UnknownCommand
+extract -k a b -> 4 MissingOption
+make -s st -n 33 a b -> 4 BadNumber
+make -s https://h/ a b -> 2 BadLocation
+prune -s st a.caibx b.caibx -> 5 NeedsYes
+make -s st -n 0 a b -> 4 BadNumber
+make -s st -n 04 a b -> 4 BadNumber
+make -s st -n '' a b -> 4 BadNumber
+make -s st -n +1 a b -> 4 BadNumber
+make -s st -m 16:64:10000000 a b -> 4 BadSizes
+make -s st -m 16:64 a b -> 4 BadSizes
+make -s st -m 16:64:256:1 a b -> 4 BadSizes
+make -s st -m '' a b -> 4 BadSizes
+make -s st a '' -> 4 Empty
+make -s st a b c -> 5 Operands
+make -s st a b '' -> 5 Empty
+make -s st a -> 4 Operands
+make -s st --store st a b -> 3 TooMany
+make -s st -s -> 3 TooMany
+make a b -s -> 4 NoValue
+make - a -> 1 UnknownOption
+make --help a -> 1 UnknownOption
+make -k a -> 1 UnknownOption
+list-chunks -n 1 a -> 1 UnknownOption
+extract -s st -c '' i o -> 4 Empty
+extract -s '' i o -> 2 Empty
+extract -s st --seed .caibx i o -> 4 BadSeed
+extract -s st --seed x i o -> 4 BadSeed
+extract -s st --seed '' i o -> 4 Empty
+extract -s a|b i o -> 2 BadLocation
+extract -s -- -q o -> 3 UnknownOption
+cache -s st a -> 4 MissingOption
+verify -s http://h/ -> 2 NeedsFolder
+verify -s https://h/ -> 2 BadLocation
+verify -s st x -> 3 Operands
+make -s http://h/? a b -> 2 BadLocation
+make -s http://h/?q a b -> 2 BadLocation
+make -s http://u@h/ a b -> 2 BadLocation
+make -s http://h/#f a b -> 2 BadLocation
+make -s http://h:x/ a b -> 2 BadLocation
+chunk-server -s st -> 3 MissingOption
+chunk-server -s st -l h:0 -> 4 BadListen
+chunk-server -s st -l h:65536 -> 4 BadListen
+chunk-server -s st -l h -> 4 BadListen
+demo 1 536870913 -> 2 BadNumber
+demo 18446744073709551616 1 -> 1 BadNumber
+demo '' 1 -> 1 Empty
+demo 1 1 '' -> 3 Empty
+demo 1 1 1 -> 3 Operands
+info -- -s x -> 3 Operands
+info -> 1 Operands
+";
+
+// How the words were refused, if they were.
+fn refusal(alloc: Global, line: &str) -> Result<String, AllocError> {
+    match read(alloc, line) {
+        Err(WordsFault::Usage { place, why }) => format!(in alloc; "{place} {why:?}"),
+        _ => String::from_str(alloc, "not refused"),
+    }
+}
+
+fn expect_refusal(rt: &impl Abort, alloc: Global, line: &str) -> Result<(), Fail> {
+    let Some((words, told)) = line.split_once("->") else {
+        return Err(Fail::from("no refusal is told"));
+    };
+    let refused = refusal(alloc, words)?;
+    assert_eq!(rt; refused.as_str(), told.trim(), "{words}");
+    Ok(())
+}
 
 #[test]
-#[rattlefmt::skip]
 fn words_are_refused_at_their_places(rt: HostRuntime) -> Result<(), Fail> {
-    let cases: [Refused; 53] = [
-        (&[], 0, UsageWhy::NoCommand),
-        (&["frob"], 0, UsageWhy::UnknownCommand),
-        (&["--help", "x"], 0, UsageWhy::UnknownCommand),
-        (&["extract", "-k", "a", "b"], 4, UsageWhy::MissingOption),
-        (&["make", "-s", "st", "-n", "33", "a", "b"], 4, UsageWhy::BadNumber),
-        (&["make", "-s", "https://h/", "a", "b"], 2, UsageWhy::BadLocation),
-        (&["prune", "-s", "st", "a.caibx", "b.caibx"], 5, UsageWhy::NeedsYes),
-        (&["make", "-s", "st", "-n", "0", "a", "b"], 4, UsageWhy::BadNumber),
-        (&["make", "-s", "st", "-n", "04", "a", "b"], 4, UsageWhy::BadNumber),
-        (&["make", "-s", "st", "-n", "", "a", "b"], 4, UsageWhy::BadNumber),
-        (&["make", "-s", "st", "-n", "+1", "a", "b"], 4, UsageWhy::BadNumber),
-        (&["make", "-s", "st", "-m", "16:64:10000000", "a", "b"], 4, UsageWhy::BadSizes),
-        (&["make", "-s", "st", "-m", "16:64", "a", "b"], 4, UsageWhy::BadSizes),
-        (&["make", "-s", "st", "-m", "16:64:256:1", "a", "b"], 4, UsageWhy::BadSizes),
-        (&["make", "-s", "st", "-m", "", "a", "b"], 4, UsageWhy::BadSizes),
-        (&["make", "-s", "st", "a", ""], 4, UsageWhy::Empty),
-        (&["make", "-s", "st", "a", "b", "c"], 5, UsageWhy::Operands),
-        (&["make", "-s", "st", "a", "b", ""], 5, UsageWhy::Empty),
-        (&["make", "-s", "st", "a"], 4, UsageWhy::Operands),
-        (&["make", "-s", "st", "--store", "st", "a", "b"], 3, UsageWhy::TooMany),
-        (&["make", "-s", "st", "-s"], 3, UsageWhy::TooMany),
-        (&["make", "a", "b", "-s"], 4, UsageWhy::NoValue),
-        (&["make", "-", "a"], 1, UsageWhy::UnknownOption),
-        (&["make", "--help", "a"], 1, UsageWhy::UnknownOption),
-        (&["make", "-k", "a"], 1, UsageWhy::UnknownOption),
-        (&["list-chunks", "-n", "1", "a"], 1, UsageWhy::UnknownOption),
-        (&["extract", "-s", "st", "-c", "", "i", "o"], 4, UsageWhy::Empty),
-        (&["extract", "-s", "", "i", "o"], 2, UsageWhy::Empty),
-        (&["extract", "-s", "st", "--seed", ".caibx", "i", "o"], 4, UsageWhy::BadSeed),
-        (&["extract", "-s", "st", "--seed", "x", "i", "o"], 4, UsageWhy::BadSeed),
-        (&["extract", "-s", "st", "--seed", "", "i", "o"], 4, UsageWhy::Empty),
-        (&["extract", "-s", "a|b", "i", "o"], 2, UsageWhy::BadLocation),
-        (&["extract", "-s", "--", "-q", "o"], 3, UsageWhy::UnknownOption),
-        (&["cache", "-s", "st", "a"], 4, UsageWhy::MissingOption),
-        (&["verify", "-s", "http://h/"], 2, UsageWhy::NeedsFolder),
-        (&["verify", "-s", "https://h/"], 2, UsageWhy::BadLocation),
-        (&["verify", "-s", "st", "x"], 3, UsageWhy::Operands),
-        (&["make", "-s", "http://h/?", "a", "b"], 2, UsageWhy::BadLocation),
-        (&["make", "-s", "http://h/?q", "a", "b"], 2, UsageWhy::BadLocation),
-        (&["make", "-s", "http://u@h/", "a", "b"], 2, UsageWhy::BadLocation),
-        (&["make", "-s", "http://h/#f", "a", "b"], 2, UsageWhy::BadLocation),
-        (&["make", "-s", "http://h:x/", "a", "b"], 2, UsageWhy::BadLocation),
-        (&["chunk-server", "-s", "st"], 3, UsageWhy::MissingOption),
-        (&["chunk-server", "-s", "st", "-l", "h:0"], 4, UsageWhy::BadListen),
-        (&["chunk-server", "-s", "st", "-l", "h:65536"], 4, UsageWhy::BadListen),
-        (&["chunk-server", "-s", "st", "-l", "h"], 4, UsageWhy::BadListen),
-        (&["demo", "1", "536870913"], 2, UsageWhy::BadNumber),
-        (&["demo", "18446744073709551616", "1"], 1, UsageWhy::BadNumber),
-        (&["demo", "", "1"], 1, UsageWhy::Empty),
-        (&["demo", "1", "1", ""], 3, UsageWhy::Empty),
-        (&["demo", "1", "1", "1"], 3, UsageWhy::Operands),
-        (&["info", "--", "-s", "x"], 3, UsageWhy::Operands),
-        (&["info"], 1, UsageWhy::Operands),
-    ];
-    for (words, place, why) in cases {
-        let refused = match read(rt.alloc(), words) {
-            Err(WordsFault::Usage { place, why }) => Some((place, why)),
-            _ => None,
-        };
-        assert_eq!(rt; refused, Some((place, why)), "{words:?}");
+    for line in REFUSED.lines() {
+        expect_refusal(&rt, rt.alloc(), line)?;
     }
     Ok(())
 }
 
 // `extract` with so many stores and seeds.
 fn many(alloc: Global, stores: usize, seeds: usize) -> Result<Vec<String>, AllocError> {
-    let mut words = words_of(alloc, &["extract"])?;
+    let mut words = words_of(alloc, "extract")?;
     for _ in 0..stores {
         words.push(String::from_str(alloc, "-s")?)?;
         words.push(String::from_str(alloc, "st")?)?;
@@ -138,7 +151,7 @@ fn sixteen_stores_and_sixty_four_seeds_are_the_most(rt: HostRuntime) -> Result<(
 fn expect_make(
     rt: &impl Abort,
     alloc: Global,
-    words: &[&str],
+    line: &str,
     expected: ([u64; 3], u32),
     names: (&str, &str),
 ) -> Result<(), Fail> {
@@ -150,7 +163,7 @@ fn expect_make(
             image,
             ..
         },
-    ) = read(alloc, words)
+    ) = read(alloc, line)
     else {
         return Err(Fail::from("refused"));
     };
@@ -165,18 +178,16 @@ fn expect_make(
 fn words_of_make_are_read(rt: HostRuntime) -> Result<(), Fail> {
     let alloc = rt.alloc();
     let usual = [16384, 65536, 262144];
-    expect_make(&rt, alloc, &["make", "-s", "st", "-m", "16:64:256", "i", "o"], (usual, 10), ("i", "o"))?;
-    expect_make(&rt, alloc, &["make", "i", "o", "-s", "st", "-n", "32"], (usual, 32), ("i", "o"))?;
-    expect_make(&rt, alloc, &["make", "-s", "-k", "--", "-n", "--"], (usual, 10), ("-n", "--"))
+    expect_make(&rt, alloc, "make -s st -m 16:64:256 i o", (usual, 10), ("i", "o"))?;
+    expect_make(&rt, alloc, "make i o -s st -n 32", (usual, 32), ("i", "o"))?;
+    expect_make(&rt, alloc, "make -s -k -- -n --", (usual, 10), ("-n", "--"))
 }
 
 #[test]
 #[rattlefmt::skip]
 fn words_of_extract_are_read(rt: HostRuntime) -> Result<(), Fail> {
-    let words = [
-        "extract", "-s", "/srv/a", "-s", "http://localhost:8080/", "-c", "/var/cache/d",
-        "--seed", "old.img.caibx", "-n", "4", "new.img.caibx", "new.img",
-    ];
+    let line = "extract -s /srv/a -s http://localhost:8080/ -c /var/cache/d \
+        --seed old.img.caibx -n 4 new.img.caibx new.img";
     let Ok(
         Command::Extract {
             stores,
@@ -187,7 +198,7 @@ fn words_of_extract_are_read(rt: HostRuntime) -> Result<(), Fail> {
             index,
             target,
         },
-    ) = read(rt.alloc(), &words)
+    ) = read(rt.alloc(), line)
     else {
         return Err(Fail::from("refused"));
     };

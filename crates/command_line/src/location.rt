@@ -2,8 +2,10 @@
 
 ghost use Rattle.std.specs.Prelude.{◌≡◌, ◌<◌, ◌≤◌, ℕ, List, length, map, drop, codes, nat_eq, IfOk, None};
 ghost use Rattle.std.specs.List.{starts_with};
+ghost use Rattle.std.specs.Str.{bytes_eq};
 ghost use Rattle.url.specs.Parser.{parse_url};
-ghost use Rattle.command_line.specs.Locations.{contains_scheme, is_out_of_room, is_plain_http, without_last_slash, server_of, url_location, location_of, Locates};
+ghost use Rattle.command_line.specs.Locations.{contains_scheme, is_out_of_room, is_plain_http, without_last_slash};
+ghost use Rattle.command_line.specs.Locations.{server_of, url_location, location_of, Locates};
 
 use crate::command::Location;
 use dsy_base::name::Name;
@@ -47,11 +49,17 @@ fn is_out_of_room(error: ParseError) -> bool
     matches!(error, ParseError::Overflow | ParseError::OutOfMemory)
 }
 
+fn is_http(url: &Url) -> bool
+    ensures { result ≡ bytes_eq url.now.scheme (codes "http") }
+{
+    url.scheme() == "http"
+}
+
 // Whether it is an `http` URL with nothing but a host, a port and a path.
 fn is_plain_http(url: &Url) -> bool
     ensures { result ≡ is_plain_http url.now }
 {
-    url.scheme() == "http"
+    is_http(url)
         && url.username().is_empty()
         && url.password().is_none()
         && url.query().is_none()

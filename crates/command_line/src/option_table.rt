@@ -1,10 +1,13 @@
 //! The commands and the options, a row each: how they are spelled, and which command takes which
 //! option how often. A new option is a variant and its row, and stands in the rows of the commands
-//! that take it; a new command is a variant and its row. The contracts read the same two tables.
+//! that take it; a new command is a variant and its row. The contracts have rows of their own, which
+//! these are proved to be.
 
-ghost use Rattle.std.specs.Prelude.{◌≡◌, ◌<◌, false, length, unwrap_or};
+ghost use Rattle.std.specs.Prelude.{◌≡◌, ◌<◌, false, map, unwrap_or};
 ghost use Rattle.std.specs.Str.{bytes_eq};
-ghost use Rattle.command_line.specs.OptionTable.{first, same_option, same_command, option_number, takes_value, short_named, long_named, option_named, command_named, times_among, times_of, takes_of};
+ghost use Rattle.command_line.specs.OptionTable.{first, times, names, same_option, same_command, option_number};
+ghost use Rattle.command_line.specs.OptionTable.{option_rows, command_rows, takes_value, short_named, long_named};
+ghost use Rattle.command_line.specs.OptionTable.{option_named, command_named, times_among, times_of, takes_of};
 
 /// An option of a command.
 #[derive(Clone, Copy, Debug, PartialEq, Eq, Drop)]
@@ -94,7 +97,7 @@ const NOTHING: Takes = Takes {
 
 /// The options.
 #[rattlefmt::skip]
-pub static OPTIONS: [OptionRow; 10] = [
+static OPTIONS: [OptionRow; 10] = [
     (OptionKind::Store, "-s", "--store", true),
     (OptionKind::ChunkSize, "-m", "--chunk-size", true),
     (OptionKind::Concurrency, "-n", "--concurrency", true),
@@ -109,13 +112,14 @@ pub static OPTIONS: [OptionRow; 10] = [
 
 /// The commands.
 #[rattlefmt::skip]
-pub static COMMANDS: [CommandRow; 11] = [
+static COMMANDS: [CommandRow; 11] = [
     (CommandKind::Make, "make",
         &[(OptionKind::Store, ONCE), (OptionKind::ChunkSize, AT_MOST_ONCE), (OptionKind::Concurrency, AT_MOST_ONCE)],
         Takes { operands: TWICE, ..NOTHING }),
     (CommandKind::Extract, "extract",
         &[(OptionKind::Store, Times { least: 1, greatest: 16 }), (OptionKind::Seed, Times { least: 0, greatest: 64 }),
-            (OptionKind::Cache, AT_MOST_ONCE), (OptionKind::InPlace, AT_MOST_ONCE), (OptionKind::Concurrency, AT_MOST_ONCE)],
+            (OptionKind::Cache, AT_MOST_ONCE), (OptionKind::InPlace, AT_MOST_ONCE),
+            (OptionKind::Concurrency, AT_MOST_ONCE)],
         Takes { operands: TWICE, ..NOTHING }),
     (CommandKind::VerifyIndex, "verify-index",
         &[(OptionKind::Concurrency, AT_MOST_ONCE)],
@@ -124,7 +128,8 @@ pub static COMMANDS: [CommandRow; 11] = [
         &[(OptionKind::Store, ONCE), (OptionKind::Concurrency, AT_MOST_ONCE)],
         Takes { operands: TWICE, ..NOTHING }),
     (CommandKind::Cache, "cache",
-        &[(OptionKind::Store, Times { least: 1, greatest: 16 }), (OptionKind::Cache, ONCE), (OptionKind::Concurrency, AT_MOST_ONCE)],
+        &[(OptionKind::Store, Times { least: 1, greatest: 16 }), (OptionKind::Cache, ONCE),
+            (OptionKind::Concurrency, AT_MOST_ONCE)],
         Takes { operands: Times { least: 1, greatest: 64 }, ..NOTHING }),
     (CommandKind::ListChunks, "list-chunks",
         &[],
@@ -139,12 +144,27 @@ pub static COMMANDS: [CommandRow; 11] = [
         &[(OptionKind::Store, ONCE), (OptionKind::Yes, ONCE)],
         Takes { operands: Times { least: 1, greatest: 64 }, needs_folder: true, ..NOTHING }),
     (CommandKind::ChunkServer, "chunk-server",
-        &[(OptionKind::Store, ONCE), (OptionKind::Listen, ONCE), (OptionKind::Writable, AT_MOST_ONCE), (OptionKind::Concurrency, AT_MOST_ONCE)],
+        &[(OptionKind::Store, ONCE), (OptionKind::Listen, ONCE), (OptionKind::Writable, AT_MOST_ONCE),
+            (OptionKind::Concurrency, AT_MOST_ONCE)],
         Takes { needs_folder: true, ..NOTHING }),
     (CommandKind::Demo, "demo",
         &[(OptionKind::Concurrency, AT_MOST_ONCE)],
         Takes { operands: TWICE, takes_numbers: true, ..NOTHING }),
 ];
+
+// The rows of the options.
+fn options() -> &'static [OptionRow]
+    ensures { map (λ row. (row.0, row.1.now, row.2.now, row.3)) result.now ≡ option_rows }
+{
+    &OPTIONS
+}
+
+// The rows of the commands.
+fn commands() -> &'static [CommandRow]
+    ensures { map (λ row. (row.0, row.1.now, row.2.now, row.3)) result.now ≡ command_rows }
+{
+    &COMMANDS
+}
 
 fn short_among(rows: &[OptionRow], word: &str) -> Option<OptionKind>
     ensures { result ≡ first (λ row. bytes_eq word.now row.1.now) (λ row. row.0) rows.now }
@@ -186,7 +206,8 @@ fn times_among(option: OptionKind, options: &[(OptionKind, Times)]) -> Times
 }
 
 fn times_by(rows: &[CommandRow], kind: CommandKind, option: OptionKind) -> Times
-    ensures { result ≡ unwrap_or (first (λ row. same_command row.0 kind) (λ row. times_among option row.2.now) rows.now) NEVER }
+    ensures { let named = first (λ row. same_command row.0 kind) (λ row. times_among option row.2.now) rows.now in
+        result ≡ unwrap_or named (times 0 0) }
 {
     match rows.iter().find(|row| row.0 == kind) {
         Some(row) => times_among(option, row.2),
@@ -195,7 +216,7 @@ fn times_by(rows: &[CommandRow], kind: CommandKind, option: OptionKind) -> Times
 }
 
 fn takes_by(rows: &[CommandRow], kind: CommandKind) -> Takes
-    ensures { result ≡ unwrap_or (first (λ row. same_command row.0 kind) (λ row. row.3) rows.now) NOTHING }
+    ensures { result ≡ unwrap_or (first (λ row. same_command row.0 kind) (λ row. row.3) rows.now) (names 0 0) }
 {
     match rows.iter().find(|row| row.0 == kind) {
         Some(row) => row.3,
@@ -204,55 +225,50 @@ fn takes_by(rows: &[CommandRow], kind: CommandKind) -> Takes
 }
 
 impl OptionKind {
-    /// A number of its own, from 0.
+    /// A number of its own, from 0, by which options are told apart.
     pub fn number(self) -> u8
         ensures value { result ≡ option_number self }
-        ensures size { result < length OPTIONS }
+        ensures size { result < 10 }
     {
         self as u8
     }
 
     /// Whether the next word is its value.
-    #[tactic(auto, unfolding(crate::specs::OptionTable::takes_value))]
     pub fn takes_value(self) -> bool
         ensures { result ≡ takes_value self }
     {
-        value_among(&OPTIONS, self)
+        value_among(options(), self)
     }
 }
 
 impl CommandKind {
     /// How often it takes the option.
-    #[tactic(auto, unfolding(crate::specs::OptionTable::times_of))]
     pub fn times_of(self, option: OptionKind) -> Times
         ensures { result ≡ times_of self option }
     {
-        times_by(&COMMANDS, self, option)
+        times_by(commands(), self, option)
     }
 
     /// What it takes beside its options.
-    #[tactic(auto, unfolding(crate::specs::OptionTable::takes_of))]
     pub fn takes(self) -> Takes
         ensures { result ≡ takes_of self }
     {
-        takes_by(&COMMANDS, self)
+        takes_by(commands(), self)
     }
 }
 
 // The option of this spelling in one letter, or else its only one.
-#[tactic(auto, unfolding(crate::specs::OptionTable::short_named))]
 fn short_named(word: &str) -> Option<OptionKind>
     ensures { result ≡ short_named word.now }
 {
-    short_among(&OPTIONS, word)
+    short_among(options(), word)
 }
 
 // The option of this spelling in words.
-#[tactic(auto, unfolding(crate::specs::OptionTable::long_named))]
 fn long_named(word: &str) -> Option<OptionKind>
     ensures { result ≡ long_named word.now }
 {
-    long_among(&OPTIONS, word)
+    long_among(options(), word)
 }
 
 /// The option of this spelling.
@@ -263,9 +279,8 @@ pub fn option_named(word: &str) -> Option<OptionKind>
 }
 
 /// The command of this name.
-#[tactic(auto, unfolding(crate::specs::OptionTable::command_named))]
 pub fn command_named(word: &str) -> Option<CommandKind>
     ensures { result ≡ command_named word.now }
 {
-    command_among(&COMMANDS, word)
+    command_among(commands(), word)
 }

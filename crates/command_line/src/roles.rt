@@ -1,12 +1,11 @@
 //! What each word of a command is. Words are counted from 0, the first word after the command.
 
 ghost use Rattle.std.specs.Prelude.{◌≡◌, ◌<◌, ℕ, List, [], length, map, string_bytes, slice_index_or, IfOk};
-ghost use Rattle.command_line.specs.Roles.{option_of, spelled_role, opens, awaited, role_of, role_number, count_of, words_as, word_as};
+ghost use Rattle.command_line.specs.Roles.{option_of, option_role, spelled_role, opens, awaited, role_of, role_number};
+ghost use Rattle.command_line.specs.Roles.{count_of};
+ghost use Rattle.command_line.specs.Roles.{words_as, word_as};
 
-use crate::command::Names;
 use crate::option_table::{CommandKind, OptionKind, option_named};
-use dsy_base::name::Name;
-use std::alloc::{AllocError, Global};
 
 /// What a word is.
 #[derive(Clone, Copy, Debug, Drop)]
@@ -57,6 +56,16 @@ fn option_of(kind: CommandKind, word: &str) -> Option<OptionKind>
     }
 }
 
+// What a word is that begins with `-`, by the option that it spells.
+fn option_role(option: Option<OptionKind>) -> Role
+    ensures { result ≡ option_role option }
+{
+    match option {
+        Some(option) => Role::Given(option),
+        None => Role::Unknown,
+    }
+}
+
 // What the word is where it may be an option.
 fn spelled_role(kind: CommandKind, word: &str) -> Role
     ensures { result ≡ spelled_role kind word.now }
@@ -67,10 +76,7 @@ fn spelled_role(kind: CommandKind, word: &str) -> Role
     if !word.as_bytes().starts_with(b"-") {
         return Role::Operand;
     }
-    match option_of(kind, word) {
-        Some(option) => Role::Given(option),
-        None => Role::Unknown,
-    }
+    option_role(option_of(kind, word))
 }
 
 // The option of the role, where its value is the next word.
@@ -118,7 +124,7 @@ pub fn count_of(role: Role, roles: &[Role]) -> usize
 }
 
 /// The word at a place among those of the role, from 0, or the empty word.
-#[tactic(auto, using(crate::proofs::Lists::word_taken, crate::proofs::Lists::word_left, crate::proofs::Lists::words_none))]
+#[tactic(auto, using(crate::proofs::Lists::word_taken, crate::proofs::Lists::words_none))]
 pub fn word_as<'a>(role: Role, place: usize, roles: &[Role], words: &'a [String]) -> &'a str
     requires { length roles.now ≡ length words.now }
     ensures { result.now ≡ word_as role place roles.now (map string_bytes words.now) }
@@ -134,25 +140,4 @@ pub fn word_as<'a>(role: Role, place: usize, roles: &[Role], words: &'a [String]
         }
     }
     ""
-}
-
-/// The words of the role, in order.
-#[tactic(auto, using(crate::proofs::Lists::word_taken, crate::proofs::Lists::word_left, crate::proofs::Lists::words_none))]
-pub fn names_as(
-    alloc: Global,
-    role: Role,
-    roles: &[Role],
-    words: &[String],
-) -> Result<Names, AllocError>
-    requires { length roles.now ≡ length words.now }
-    ensures { IfOk result (λ n. n ≡ words_as role roles.now (map string_bytes words.now)) }
-{
-    let number = role.number();
-    let mut names = Vec::new(alloc);
-    for i in 0..words.len() {
-        if roles[i].number() == number {
-            names.push(Name::of(alloc, word(words, i))?)?;
-        }
-    }
-    Ok(Names::of(names))
 }

@@ -1,16 +1,16 @@
-//! What words that have passed say, by their roles. Words are counted from 0, the first word after
-//! the command.
+//! What words that have passed say, by their roles.
 
-ghost use Rattle.std.specs.Prelude.{◌≡◌, ◌++◌, ℕ, List, length, map, string_bytes, option_map, IfOk};
+ghost use Rattle.std.specs.Prelude.{◌≡◌, IfOk};
 ghost use Rattle.command_line.specs.CommandLine as line;
+ghost use Rattle.command_line.specs.CommandLine.{Says};
 ghost use Rattle.command_line.specs.Locations.{location_of};
-ghost use Rattle.command_line.specs.Roles.{words_as};
 
-use crate::command::{Command, Location, Locations, Names};
+use crate::command::{Command, Location, Locations};
 use crate::judge::GREATEST_DEMO;
 use crate::location::read_location;
 use crate::option_table::{CommandKind, OptionKind};
-use crate::roles::{Role, count_of, names_as, word, word_as};
+use crate::passed::Passed;
+use crate::roles::Role;
 use crate::values;
 use dsy_base::name::Name;
 use std::alloc::{AllocError, Global};
@@ -21,47 +21,6 @@ pub const USUAL_WORKERS: u32 = 10;
 /// The chunk sizes in bytes where none are given.
 pub const USUAL_SIZES: [u64; 3] = [16384, 65536, 262144];
 
-// The value of an option.
-fn value<'a>(option: OptionKind, roles: &[Role], words: &'a [String]) -> &'a str
-    requires { length roles.now ≡ length words.now }
-    ensures { result.now ≡ line.value option roles.now (map string_bytes words.now) }
-{
-    word_as(Role::Value(option), 0, roles, words)
-}
-
-// The value of an option as a name.
-fn named(
-    alloc: Global,
-    option: OptionKind,
-    roles: &[Role],
-    words: &[String],
-) -> Result<Name, AllocError>
-    requires { length roles.now ≡ length words.now }
-    ensures { IfOk result (λ n. n ≡ line.value option roles.now (map string_bytes words.now)) }
-{
-    Name::of(alloc, value(option, roles, words))
-}
-
-// An operand as a name.
-fn operand(
-    alloc: Global,
-    place: usize,
-    roles: &[Role],
-    words: &[String],
-) -> Result<Name, AllocError>
-    requires { length roles.now ≡ length words.now }
-    ensures { IfOk result (λ n. n ≡ line.operand place roles.now (map string_bytes words.now)) }
-{
-    Name::of(alloc, word_as(Role::Operand, place, roles, words))
-}
-
-// Whether an option without a value is given.
-fn is_given(option: OptionKind, roles: &[Role]) -> bool
-    ensures { result ≡ line.is_given option roles.now }
-{
-    count_of(Role::Given(option), roles) > 0
-}
-
 // The location of a word that has passed. What refuses it now is want of memory.
 fn passed_location(alloc: Global, word: &str) -> Result<Location, AllocError>
     ensures { IfOk result (λ l. l ≡ line.read_location (location_of word.now)) }
@@ -69,186 +28,194 @@ fn passed_location(alloc: Global, word: &str) -> Result<Location, AllocError>
     read_location(alloc, word).map_err(|_| AllocError)
 }
 
-// The one location.
-fn store(alloc: Global, roles: &[Role], words: &[String]) -> Result<Location, AllocError>
-    requires { length roles.now ≡ length words.now }
-    ensures { IfOk result (λ l. l ≡ line.store roles.now (map string_bytes words.now)) }
-{
-    passed_location(alloc, value(OptionKind::Store, roles, words))
-}
+impl<'a> Passed<'a> {
+    // The value of an option.
+    fn value(&self, option: OptionKind) -> &'a str
+        ensures { result.now ≡ line.value option self.now }
+    {
+        self.word_as(Role::Value(option), 0)
+    }
 
-// The locations, in order.
-#[tactic(auto, using(crate::proofs::Located::store_taken, crate::proofs::Located::store_left, crate::proofs::Located::stores_none))]
-fn stores(alloc: Global, roles: &[Role], words: &[String]) -> Result<Locations, AllocError>
-    requires { length roles.now ≡ length words.now }
-    ensures { IfOk result (λ l. l ≡ line.stores roles.now (map string_bytes words.now)) }
-{
-    let number = Role::Value(OptionKind::Store).number();
-    let mut locations = Vec::new(alloc);
-    for i in 0..words.len() {
-        if roles[i].number() == number {
-            locations.push(passed_location(alloc, word(words, i))?)?;
+    // The value of an option as a name.
+    fn named(&self, alloc: Global, option: OptionKind) -> Result<Name, AllocError>
+        ensures { IfOk result (λ n. n ≡ line.value option self.now) }
+    {
+        Name::of(alloc, self.value(option))
+    }
+
+    // An operand as a name.
+    fn operand(&self, alloc: Global, place: usize) -> Result<Name, AllocError>
+        ensures { IfOk result (λ n. n ≡ line.operand place self.now) }
+    {
+        Name::of(alloc, self.word_as(Role::Operand, place))
+    }
+
+    // An operand as a number.
+    fn number(&self, most: u64, place: usize) -> u64
+        ensures { result ≡ line.number most (line.operand place self.now) }
+    {
+        let word = self.word_as(Role::Operand, place);
+        values::number(0, most, word.as_bytes()).unwrap_or(0)
+    }
+
+    // Whether an option without a value is given.
+    fn is_given(&self, option: OptionKind) -> bool
+        ensures { result ≡ line.is_given option self.now }
+    {
+        self.count_of(Role::Given(option)) > 0
+    }
+
+    // The one location.
+    fn store(&self, alloc: Global) -> Result<Location, AllocError>
+        ensures { IfOk result (λ l. l ≡ line.store self.now) }
+    {
+        passed_location(alloc, self.value(OptionKind::Store))
+    }
+
+    // The locations, in order.
+    fn stores(&self, alloc: Global) -> Result<Locations, AllocError>
+        ensures { IfOk result (λ l. l ≡ line.stores self.now) }
+    {
+        let role = Role::Value(OptionKind::Store);
+        let mut locations = Vec::new(alloc);
+        for i in 0..self.count_of(role) {
+            locations.push(passed_location(alloc, self.word_as(role, i))?)?;
+        }
+        Ok(Locations::of(locations))
+    }
+
+    // The cache, where one is given.
+    fn cache(&self, alloc: Global) -> Result<Option<Name>, AllocError>
+        ensures { IfOk result (λ c. c ≡ line.cache self.now) }
+    {
+        if self.is_given(OptionKind::Cache) {
+            Ok(Some(self.named(alloc, OptionKind::Cache)?))
+        } else {
+            Ok(None)
         }
     }
-    Ok(Locations::of(locations))
-}
 
-// The cache, where one is given.
-fn cache(alloc: Global, roles: &[Role], words: &[String]) -> Result<Option<Name>, AllocError>
-    requires { length roles.now ≡ length words.now }
-    ensures { IfOk result (λ c. c ≡ line.cache roles.now (map string_bytes words.now)) }
-{
-    if is_given(OptionKind::Cache, roles) {
-        Ok(Some(named(alloc, OptionKind::Cache, roles, words)?))
-    } else {
-        Ok(None)
+    fn workers(&self) -> u32
+        ensures { result ≡ line.workers self.now }
+    {
+        let word = self.value(OptionKind::Concurrency);
+        values::workers(word.as_bytes()).unwrap_or(USUAL_WORKERS)
     }
-}
 
-fn workers(roles: &[Role], words: &[String]) -> u32
-    requires { length roles.now ≡ length words.now }
-    ensures { result ≡ line.workers roles.now (map string_bytes words.now) }
-{
-    let word = value(OptionKind::Concurrency, roles, words);
-    values::workers(word.as_bytes()).unwrap_or(USUAL_WORKERS)
-}
-
-fn sizes(roles: &[Role], words: &[String]) -> [u64; 3]
-    requires { length roles.now ≡ length words.now }
-    ensures { result ≡ line.sizes roles.now (map string_bytes words.now) }
-{
-    let word = value(OptionKind::ChunkSize, roles, words);
-    values::sizes(word.as_bytes()).unwrap_or(USUAL_SIZES)
-}
-
-// The host and the port to listen at.
-fn address<'a>(roles: &[Role], words: &'a [String]) -> (&'a str, u16)
-    requires { length roles.now ≡ length words.now }
-    ensures host { result.0.now ≡ (line.address roles.now (map string_bytes words.now)).0 }
-    ensures port { result.1 ≡ (line.address roles.now (map string_bytes words.now)).1 }
-{
-    values::listen(value(OptionKind::Listen, roles, words)).unwrap_or(("", 0))
-}
-
-// An operand as a number.
-fn number_operand(most: u64, place: usize, roles: &[Role], words: &[String]) -> u64
-    requires { length roles.now ≡ length words.now }
-    ensures { result ≡ line.number most (line.operand place roles.now (map string_bytes words.now)) }
-{
-    let word = word_as(Role::Operand, place, roles, words);
-    values::number(0, most, word.as_bytes()).unwrap_or(0)
-}
-
-fn make(alloc: Global, roles: &[Role], words: &[String]) -> Result<Command, AllocError>
-    requires { length roles.now ≡ length words.now }
-    ensures { IfOk result (λ c. c ≡ line.command_of CommandKind.Make roles.now (map string_bytes words.now)) }
-{
-    Ok(Command::Make {
-        store: store(alloc, roles, words)?,
-        sizes: sizes(roles, words),
-        workers: workers(roles, words),
-        index: operand(alloc, 0, roles, words)?,
-        image: operand(alloc, 1, roles, words)?,
-    })
-}
-
-fn extract(alloc: Global, roles: &[Role], words: &[String]) -> Result<Command, AllocError>
-    requires { length roles.now ≡ length words.now }
-    ensures { IfOk result (λ c. c ≡ line.command_of CommandKind.Extract roles.now (map string_bytes words.now)) }
-{
-    Ok(Command::Extract {
-        stores: stores(alloc, roles, words)?,
-        seeds: names_as(alloc, Role::Value(OptionKind::Seed), roles, words)?,
-        cache: cache(alloc, roles, words)?,
-        in_place: is_given(OptionKind::InPlace, roles),
-        workers: workers(roles, words),
-        index: operand(alloc, 0, roles, words)?,
-        target: operand(alloc, 1, roles, words)?,
-    })
-}
-
-fn chop(alloc: Global, roles: &[Role], words: &[String]) -> Result<Command, AllocError>
-    requires { length roles.now ≡ length words.now }
-    ensures { IfOk result (λ c. c ≡ line.command_of CommandKind.Chop roles.now (map string_bytes words.now)) }
-{
-    Ok(Command::Chop {
-        store: store(alloc, roles, words)?,
-        index: operand(alloc, 0, roles, words)?,
-        image: operand(alloc, 1, roles, words)?,
-    })
-}
-
-fn fill(alloc: Global, roles: &[Role], words: &[String]) -> Result<Command, AllocError>
-    requires { length roles.now ≡ length words.now }
-    ensures { IfOk result (λ c. c ≡ line.command_of CommandKind.Cache roles.now (map string_bytes words.now)) }
-{
-    Ok(Command::Cache {
-        stores: stores(alloc, roles, words)?,
-        cache: named(alloc, OptionKind::Cache, roles, words)?,
-        indexes: names_as(alloc, Role::Operand, roles, words)?,
-    })
-}
-
-fn demo(roles: &[Role], words: &[String]) -> Command
-    requires { length roles.now ≡ length words.now }
-    ensures { result ≡ line.command_of CommandKind.Demo roles.now (map string_bytes words.now) }
-{
-    Command::Demo {
-        number: number_operand(u64::MAX, 0, roles, words),
-        size: number_operand(GREATEST_DEMO, 1, roles, words),
-        workers: workers(roles, words),
+    fn sizes(&self) -> [u64; 3]
+        ensures { result ≡ line.sizes self.now }
+    {
+        let word = self.value(OptionKind::ChunkSize);
+        values::sizes(word.as_bytes()).unwrap_or(USUAL_SIZES)
     }
-}
 
-fn chunk_server(alloc: Global, roles: &[Role], words: &[String]) -> Result<Command, AllocError>
-    requires { length roles.now ≡ length words.now }
-    ensures { IfOk result (λ c. c ≡ line.command_of CommandKind.ChunkServer roles.now (map string_bytes words.now)) }
-{
-    let (host, port) = address(roles, words);
-    Ok(Command::ChunkServer {
-        store: named(alloc, OptionKind::Store, roles, words)?,
-        host: Name::of(alloc, host)?,
-        port,
-        writable: is_given(OptionKind::Writable, roles),
-        workers: workers(roles, words),
-    })
-}
+    // The host and the port to listen at.
+    fn address(&self) -> (&'a str, u16)
+        ensures host { result.0.now ≡ (line.address self.now).0 }
+        ensures port { result.1 ≡ (line.address self.now).1 }
+    {
+        values::listen(self.value(OptionKind::Listen)).unwrap_or(("", 0))
+    }
 
-/// The command that words say that have passed.
-pub fn command_of(
-    alloc: Global,
-    kind: CommandKind,
-    roles: &[Role],
-    words: &[String],
-) -> Result<Command, AllocError>
-    requires { length roles.now ≡ length words.now }
-    ensures { IfOk result (λ c. c ≡ line.command_of kind roles.now (map string_bytes words.now)) }
-{
-    match kind {
-        CommandKind::Make => make(alloc, roles, words),
-        CommandKind::Extract => extract(alloc, roles, words),
-        CommandKind::VerifyIndex => Ok(Command::VerifyIndex {
-            index: operand(alloc, 0, roles, words)?,
-            image: operand(alloc, 1, roles, words)?,
-        }),
-        CommandKind::Chop => chop(alloc, roles, words),
-        CommandKind::Cache => fill(alloc, roles, words),
-        CommandKind::ListChunks => Ok(Command::ListChunks {
-            index: operand(alloc, 0, roles, words)?,
-        }),
-        CommandKind::Info => Ok(Command::Info {
-            stores: stores(alloc, roles, words)?,
-            index: operand(alloc, 0, roles, words)?,
-        }),
-        CommandKind::Verify => Ok(Command::Verify {
-            store: named(alloc, OptionKind::Store, roles, words)?,
-            repair: is_given(OptionKind::Repair, roles),
-        }),
-        CommandKind::Prune => Ok(Command::Prune {
-            store: named(alloc, OptionKind::Store, roles, words)?,
-            indexes: names_as(alloc, Role::Operand, roles, words)?,
-        }),
-        CommandKind::ChunkServer => chunk_server(alloc, roles, words),
-        CommandKind::Demo => Ok(demo(roles, words)),
+    fn make(&self, alloc: Global) -> Result<Command, AllocError>
+        ensures { Says CommandKind.Make self.now result }
+    {
+        Ok(Command::Make {
+            store: self.store(alloc)?,
+            sizes: self.sizes(),
+            workers: self.workers(),
+            index: self.operand(alloc, 0)?,
+            image: self.operand(alloc, 1)?,
+        })
+    }
+
+    fn extract(&self, alloc: Global) -> Result<Command, AllocError>
+        ensures { Says CommandKind.Extract self.now result }
+    {
+        Ok(Command::Extract {
+            stores: self.stores(alloc)?,
+            seeds: self.names_as(alloc, Role::Value(OptionKind::Seed))?,
+            cache: self.cache(alloc)?,
+            in_place: self.is_given(OptionKind::InPlace),
+            workers: self.workers(),
+            index: self.operand(alloc, 0)?,
+            target: self.operand(alloc, 1)?,
+        })
+    }
+
+    fn chop(&self, alloc: Global) -> Result<Command, AllocError>
+        ensures { Says CommandKind.Chop self.now result }
+    {
+        Ok(Command::Chop {
+            store: self.store(alloc)?,
+            index: self.operand(alloc, 0)?,
+            image: self.operand(alloc, 1)?,
+        })
+    }
+
+    fn fill(&self, alloc: Global) -> Result<Command, AllocError>
+        ensures { Says CommandKind.Cache self.now result }
+    {
+        Ok(Command::Cache {
+            stores: self.stores(alloc)?,
+            cache: self.named(alloc, OptionKind::Cache)?,
+            indexes: self.names_as(alloc, Role::Operand)?,
+        })
+    }
+
+    fn chunk_server(&self, alloc: Global) -> Result<Command, AllocError>
+        ensures { Says CommandKind.ChunkServer self.now result }
+    {
+        let (host, port) = self.address();
+        Ok(Command::ChunkServer {
+            store: self.named(alloc, OptionKind::Store)?,
+            host: Name::of(alloc, host)?,
+            port,
+            writable: self.is_given(OptionKind::Writable),
+            workers: self.workers(),
+        })
+    }
+
+    fn demo(&self) -> Command
+        ensures { result ≡ line.command_of CommandKind.Demo self.now }
+    {
+        Command::Demo {
+            number: self.number(u64::MAX, 0),
+            size: self.number(GREATEST_DEMO, 1),
+            workers: self.workers(),
+        }
+    }
+
+    /// The command that they say.
+    pub fn command_of(&self, alloc: Global, kind: CommandKind) -> Result<Command, AllocError>
+        ensures { Says kind self.now result }
+    {
+        match kind {
+            CommandKind::Make => self.make(alloc),
+            CommandKind::Extract => self.extract(alloc),
+            CommandKind::VerifyIndex => Ok(Command::VerifyIndex {
+                index: self.operand(alloc, 0)?,
+                image: self.operand(alloc, 1)?,
+            }),
+            CommandKind::Chop => self.chop(alloc),
+            CommandKind::Cache => self.fill(alloc),
+            CommandKind::ListChunks => Ok(Command::ListChunks {
+                index: self.operand(alloc, 0)?,
+            }),
+            CommandKind::Info => Ok(Command::Info {
+                stores: self.stores(alloc)?,
+                index: self.operand(alloc, 0)?,
+            }),
+            CommandKind::Verify => Ok(Command::Verify {
+                store: self.named(alloc, OptionKind::Store)?,
+                repair: self.is_given(OptionKind::Repair),
+            }),
+            CommandKind::Prune => Ok(Command::Prune {
+                store: self.named(alloc, OptionKind::Store)?,
+                indexes: self.names_as(alloc, Role::Operand)?,
+            }),
+            CommandKind::ChunkServer => self.chunk_server(alloc),
+            CommandKind::Demo => Ok(self.demo()),
+        }
     }
 }

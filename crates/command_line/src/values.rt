@@ -1,9 +1,11 @@
 //! What the values of options and the operands say. Sizes are in bytes.
 
-ghost use Rattle.std.specs.Prelude.{◌≡◌, ◌<◌, ◌≤◌, ◌^◌, ◌∷◌, [], Some, None, option_map, length, position, IfSome, ◌==◌};
+ghost use Rattle.std.specs.Prelude.{◌≡◌, ◌<◌, ◌≤◌, ◌^◌, ◌∷◌, [], Some, None, option_map, length, position, IfSome};
+ghost use Rattle.std.specs.Prelude.{◌==◌};
 ghost use Rattle.std.specs.Path.{rfind_below};
 ghost use Rattle.std.specs.Str.{IsCharBoundary};
-ghost use Rattle.command_line.specs.Values.{with_digit, with_digits, number_up_to, number_of, workers_of, split_at, kib_of, sizes_of, listen_of, is_seed};
+ghost use Rattle.command_line.specs.Values.{with_digit, with_digits, number_up_to, number_of, workers_of, split_at};
+ghost use Rattle.command_line.specs.Values.{kib_of, sizes_of, listen_of, is_seed};
 
 // The number that a digit makes of the digits before it.
 fn with_digit(most: u64, n: u64, digit: u8) -> Option<u64>

@@ -1,5 +1,5 @@
--- The line that tells a person how a command ended: `desync: `, a text and a line feed. Numbers are decimal, an id is its
--- 64 digits in lower case, and a name stands as it is.
+-- The line that tells a person how a command ended: `desync: `, a text and a line feed. Numbers are decimal, an id is
+-- its 64 digits in lower case, and a name stands as it is.
 use Rattle.std.specs.Prelude.{ℕ, List, [], ◌∷◌, ◌++◌, codes}
 use Rattle.std.specs.Fmt.{decimal}
 use Rattle.std.specs.Int.{w64, to_be_bytes}

@@ -1,12 +1,14 @@
-//! The line that tells a person how a command ended. Entries, stores and words count from 0, offsets and sizes are in bytes.
+//! The line that tells a person how a command ended. Entries, stores and words count from 0, offsets and sizes are
+//! in bytes.
 
 ghost use Rattle.std.specs.Prelude.{◌≡◌, ◌++◌, ◌≤◌, codes, IfOk, OnOk, string_bytes};
 ghost use Rattle.std.specs.Fmt.{decimal};
 ghost use Rattle.std.specs.Option.{option_map};
 ghost use Rattle.hex.specs.Hex.{encode_lower};
-ghost use Rattle.caibx_codec.specs.Answers.{PutsFront};
-ghost use Rattle.dsy_base.specs.Counts.{Rose};
-ghost use Rattle.command_outcome.specs.ErrorLines.{error_line_of, line_of, text_of, fault_text, flag_digits, size_text, why_text};
+ghost use Rattle.dsy_base.specs.Disk.{PutsFront};
+ghost use Rattle.dsy_base.specs.Counts.{CountsFaults};
+ghost use Rattle.command_outcome.specs.ErrorLines.{error_line_of, line_of, text_of, fault_text, flag_digits, size_text};
+ghost use Rattle.command_outcome.specs.ErrorLines.{why_text};
 
 use crate::outcome::Outcome;
 use buzhash_cut::sizes::SizeFault;
@@ -222,13 +224,13 @@ fn told_line(alloc: Global, outcome: &Outcome) -> Result<String, AllocError>
 
 // Puts the line of an outcome that isn't done.
 fn put_told<E: Sink>(alloc: Global, outcome: &Outcome, err: &mut E) -> Result<(), IoFault>
-    ensures ok { OnOk result (E.taken err.new
-        ≡ option_map (λ t. t ++ line_of (text_of outcome.now)) (E.taken err.old)) }
+    ensures ok { OnOk result ((E.output err.new).taken
+        ≡ option_map (λ t. t ++ line_of (text_of outcome.now)) (E.output err.old).taken) }
     ensures err { result ≡ Err IoFault.Failed →
-        PutsFront (line_of (text_of outcome.now)) (E.taken err.old) (E.taken err.new) }
-    ensures kept { result ≡ Err IoFault.Memory → E.taken err.new ≡ E.taken err.old }
-    ensures faults { E.faults err.old ≤ E.faults err.new }
-    ensures cause { result ≡ Err IoFault.Failed → Rose (E.faults err.old) (E.faults err.new) }
+        PutsFront (line_of (text_of outcome.now)) (E.output err.old).taken (E.output err.new).taken }
+    ensures kept { result ≡ Err IoFault.Memory → (E.output err.new).taken ≡ (E.output err.old).taken }
+    ensures faults { CountsFaults IoFault.Failed IoFault.Memory
+        (E.output err.old).faults (E.output err.new).faults result }
 {
     match told_line(alloc, outcome) {
         Ok(line) => err.put(line.as_bytes()),
@@ -236,19 +238,19 @@ fn put_told<E: Sink>(alloc: Global, outcome: &Outcome, err: &mut E) -> Result<()
     }
 }
 
-/// Puts the line of the outcome. The answer tells whether it was put, and may be left aside: how the command ended stands
-/// already.
+/// Puts the line of the outcome. The answer tells whether it was put, and may be left aside: how the command ended
+/// stands already.
 pub fn put_error_line<E: Sink>(alloc: Global, outcome: &Outcome, err: &mut E) -> Result<(), IoFault>
-    ensures ok { OnOk result (E.taken err.new
-        ≡ option_map (λ t. t ++ error_line_of outcome.now) (E.taken err.old)) }
+    ensures ok { OnOk result ((E.output err.new).taken
+        ≡ option_map (λ t. t ++ error_line_of outcome.now) (E.output err.old).taken) }
     // A front of the line was put.
     ensures err { result ≡ Err IoFault.Failed →
-        PutsFront (error_line_of outcome.now) (E.taken err.old) (E.taken err.new) }
-    ensures kept { result ≡ Err IoFault.Memory → E.taken err.new ≡ E.taken err.old }
+        PutsFront (error_line_of outcome.now) (E.output err.old).taken (E.output err.new).taken }
+    ensures kept { result ≡ Err IoFault.Memory → (E.output err.new).taken ≡ (E.output err.old).taken }
     // What is done has no line.
     ensures absent { outcome.now ≡ Outcome.Done → err.new ≡ err.old }
-    ensures faults { E.faults err.old ≤ E.faults err.new }
-    ensures cause { result ≡ Err IoFault.Failed → Rose (E.faults err.old) (E.faults err.new) }
+    ensures faults { CountsFaults IoFault.Failed IoFault.Memory
+        (E.output err.old).faults (E.output err.new).faults result }
 {
     match outcome {
         Outcome::Done => Ok(()),

@@ -44,7 +44,8 @@ fn each_outcome_with_a_name_or_number_has_its_line(rt: HostRuntime) -> Result<()
     line_is(&rt, alloc, Outcome::Missing { entry: 0, id },
         "desync: chunk 53048e2681941ef99b2e29b76b4c7dabe4c2d0c634fc6d46e0e2f13107e7af23 of entry 0 is missing\n")?;
     line_is(&rt, alloc, Outcome::Damaged { entry: 7, id, store: 2, shows: Shows::Longer },
-        "desync: chunk 53048e2681941ef99b2e29b76b4c7dabe4c2d0c634fc6d46e0e2f13107e7af23 of entry 7 is damaged in store 2\n")?;
+        "desync: chunk 53048e2681941ef99b2e29b76b4c7dabe4c2d0c634fc6d46e0e2f13107e7af23 of entry 7 is damaged in \
+            store 2\n")?;
     line_is(&rt, alloc, Outcome::Mismatch { entry: 3, got: id },
         "desync: entry 3 has the name 53048e2681941ef99b2e29b76b4c7dabe4c2d0c634fc6d46e0e2f13107e7af23\n")?;
     line_is(&rt, alloc, Outcome::Length { size: 4 }, "desync: the file has 4 bytes\n")?;
@@ -79,10 +80,12 @@ fn each_fault_of_an_index_has_its_text(rt: HostRuntime) -> Result<(), Fail> {
     fault_is(&rt, alloc, IndexFault::Trailing, "desync: i: bad index: bytes after the tail\n")?;
     fault_is(&rt, alloc, IndexFault::Digest { flags: 0x0abc },
         "desync: i: bad index: digest flag missing in flags 0000000000000abc\n")?;
-    fault_is(&rt, alloc, IndexFault::MaxSize { max: 67_108_865 }, "desync: i: bad index: greatest size 67108865 is over the limit\n")?;
+    fault_is(&rt, alloc, IndexFault::MaxSize { max: 67_108_865 }, "desync: i: bad index: greatest size 67108865 is \
+        over the limit\n")?;
     fault_is(&rt, alloc, IndexFault::Items, "desync: i: bad index: too many entries\n")?;
     fault_is(&rt, alloc, IndexFault::Order { entry: 1 }, "desync: i: bad index: entry 1 ends out of order\n")?;
-    fault_is(&rt, alloc, IndexFault::TooLarge { entry: 3, size: 262_145 }, "desync: i: bad index: entry 3 has 262145 bytes\n")
+    fault_is(&rt, alloc, IndexFault::TooLarge { entry: 3, size: 262_145 }, "desync: i: bad index: entry 3 has \
+        262145 bytes\n")
 }
 
 #[test]
