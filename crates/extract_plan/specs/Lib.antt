@@ -1,0 +1,5 @@
+pub mod Deal
+pub mod Links
+pub mod Numbers
+pub mod Seen
+pub mod Seeds

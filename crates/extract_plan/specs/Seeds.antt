@@ -1,0 +1,41 @@
+-- What a seed gives: the bytes of a place, where they have the id.
+use Rattle.std.specs.Prelude.{◌≡◌, ◌≢◌, ℕ, ◌+◌, ◌<◌, ◌≤◌, ◌⊎◌, List, Option, Some, None, IfSome, slice_range}
+use Rattle.dsy_base.specs.Bytes.{Held}
+use Rattle.dsy_base.specs.Counts.{Rose}
+use Rattle.chunk_store.specs.Names.{name_of}
+use Rattle.chunk_store.specs.declared.id.DigestKind.TheVariants.{Sha512T256}
+use Rattle.extract_plan.specs.declared.seed.SeedPlace.{SeedPlace}
+use Rattle.extract_plan.specs.declared.seed.SeedAnswer.{SeedAnswer}
+use Rattle.extract_plan.specs.declared.seed.SeedAnswer.TheVariants as answers
+
+abbrev pub place_end : SeedPlace → ℕ
+place_end p = p.start + p.size
+
+-- the bytes of a place, in what a view holds
+abbrev pub bytes_at : SeedPlace → List ℕ → List ℕ
+bytes_at p bytes = slice_range bytes p.start (place_end p)
+
+-- a seed gave these bytes from the place in what its view holds
+pub record Gives (held : Held) (place : SeedPlace) (id out : List ℕ) : Type 0 where
+  pub inside : place_end place ≤ held.size
+  pub named : name_of Sha512T256 out ≡ id
+  pub bytes : IfSome held.bytes (λ t. out ≡ bytes_at place t)
+
+-- the place isn't inside what its view holds, or these bytes stand there and have another name
+abbrev pub GivesNot : Held → SeedPlace → List ℕ → List ℕ → Type 0
+GivesNot held place id out = (held.size < place_end place)
+    ⊎ ((place_end place ≤ held.size) × (name_of Sha512T256 out ≢ id) × IfSome held.bytes (λ t. out ≡ bytes_at place t))
+
+-- the answer of a seed with such a view, or with none
+abbrev pub Answers : Option Held → SeedPlace → List ℕ → List ℕ → SeedAnswer → Type 0
+Answers None place id out answer = answer ≡ answers.Wrong
+Answers (Some held) place id out answers.Given = Gives held place id out
+Answers (Some held) place id out answers.Wrong = GivesNot held place id out
+Answers (Some held) place id out answers.Failed = place_end place ≤ held.size
+
+-- how the count of its view goes
+abbrev pub CountsAnswer : Option ℕ → Option ℕ → SeedAnswer → Type 0
+CountsAnswer (Some old) (Some new) answers.Failed = (old ≤ new) × Rose old new
+CountsAnswer (Some old) (Some new) _ = new ≡ old
+CountsAnswer (Some old) None _ = ⊥
+CountsAnswer None new _ = new ≡ None

@@ -1,0 +1,16 @@
+-- What contracts see of a plan, and what it keeps.
+use Rattle.std.specs.Prelude.{◌≡◌, ◌<◌, ◌≤◌, length}
+use Rattle.caibx_codec.specs.Listing.{item_limit}
+use Rattle.extract_plan.specs.Deal.{Deal, deal_shards}
+use Rattle.extract_plan.specs.Links.{AreSorted}
+use Rattle.extract_plan.specs.declared.plan.Plan.TheInside.{Inside}
+
+abbrev pub deal_of : Inside → Deal
+deal_of p = record { workers = p.workers; wants = p.wants; want_of = p.want_of.items; cuts = p.cuts.items }
+
+pub record IsKept (p : Inside) : Type 0 where
+  pub some : 0 < p.workers
+  pub few : p.workers ≤ 32
+  pub entries : length p.want_of.items ≤ item_limit
+  pub sorted : AreSorted p.want_of.items p.starts.items p.order.items p.wants
+  pub shards : length p.cuts.items ≡ deal_shards (deal_of p)

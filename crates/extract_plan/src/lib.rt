@@ -1,0 +1,10 @@
+//! What an extraction needs: the chunks that an index lists, each once, and how the work is dealt to workers.
+#![tactic(auto)]
+
+mod group;
+mod link;
+pub mod plan;
+pub mod seed;
+mod shard;
+#[cfg(test)]
+mod tests;
