@@ -1,26 +1,16 @@
--- What stores of folders hold, and how opening and counting in them end.
-use Rattle.std.proofs.Common.{◌≡◌, ℕ, zero, suc, ◌<◌, List, [], ◌∷◌, length, map, Option, Some, None, IfSome, IsSome, refl, ap, ◌∙◌, inr, Result, Ok, Err}
-use Rattle.std.proofs.lemmas.List.Elements.{Contains-get_or}
-use Rattle.std.specs.Map.{count_at}
+-- What stores of folders hold, and how counting in them ends.
+use Rattle.std.proofs.Common.{◌≡◌, ◌<◌, ℕ, length, inl, inr, sym, subst, List, [], ◌∷◌, map, Option, Some, None, IfSome, refl, ap, ◌∙◌}
 use Rattle.std.specs.Option.{option_map}
-use Rattle.caibx_codec.specs.Listing.{Listing}
-use Rattle.chunk_store.specs.Folders.{chunks}
-use Rattle.command_outcome.specs.declared.outcome.Outcome.{Outcome}
-use Rattle.command_outcome.specs.declared.outcome.Outcome.TheVariants as ends
-use Rattle.desync_cli.specs.Infos.{IsCount, IsCountFault, IsInfoFault, IsOfCount, NotCounted, names_in, not_counted}
-use Rattle.desync_cli.specs.Openings.{name_at, not_opened}
-use Rattle.desync_cli.specs.Reads.{outcome_of_put}
-use Rattle.desync_cli.specs.declared.opening.FoldersFault.{FoldersFault}
-use Rattle.desync_cli.specs.declared.opening.FoldersFault.TheVariants as faults
-use Rattle.desync_cli.specs.declared.task.Info.{Info}
-use Rattle.dsy_base.specs.Counts.{Rose}
-use Rattle.dsy_base.specs.Maps.{Map}
-use Rattle.dsy_base.specs.declared.fault.IoFault.{IoFault}
-use Rattle.dsy_base.specs.declared.fault.IoFault.TheVariants as io
-use Rattle.store_chain.specs.Lists.{FirstAt}
+use Rattle.std.proofs.lemmas.List.Elements.{length_all_zip}
+use Rattle.caibx_codec.specs.Listing.{Listing, count_of, id_of}
+use Rattle.chunk_store.specs.Said.{Said}
+use Rattle.store_chain.specs.Refusals.{HasFails}
 use Rattle.store_chain.specs.declared.refused.HasFault.{HasFault}
 use Rattle.store_chain.specs.declared.refused.HasFault.TheVariants as has
-use Rattle.verify_tool.specs.Counts.{held_count}
+use Rattle.chunk_store.specs.Folders.{chunks}
+use Rattle.dsy_base.specs.Maps.{Map}
+use Rattle.verify_tool.specs.Counts.{AsksBefore, FailsAtEntry, held_count}
+use Rattle.desync_cli.specs.Info.{IsCount}
 
 map_map : {A B C : Type 0} (g : B → C) (f : A → B) (xs : List A) → map (λ x. g (f x)) xs ≡ map g (map f xs)
 map_map g f [] = refl
@@ -34,34 +24,18 @@ some_chunks (f ∷ fs) = ap (λ l. Some (chunks f) ∷ l) (some_chunks fs)
 pub held_maps : {S : Type 0} (files : S → Option (Map (List ℕ))) (xs : List S) (fs : List (Map (List ℕ))) → map files xs ≡ map Some fs → map (λ s. option_map chunks (files s)) xs ≡ map Some (map chunks fs)
 held_maps files xs fs h = map_map (option_map chunks) files xs ∙ ap (map (option_map chunks)) h ∙ some_chunks fs
 
--- the first of the names that is so has the name at its place
-pub first_named : (n : Map (Map (List ℕ))) (k : ℕ) (names : List (List ℕ)) → FirstAt (λ q. IsSome (n q)) (λ q. n q ≡ None) (λ q. Unit {0}) k names → FirstAt (λ q. IsSome (n q)) (λ q. (q ≡ name_at names k) × (n q ≡ None)) (λ q. Unit {0}) k names
-first_named n k [] h = h
-first_named n zero (q ∷ names) h = ((refl, h.0), h.1)
-first_named n (suc k) (q ∷ names) h = (h.0, first_named n k names h.1)
+pub counted_told : {S : Type 0} (folders : Option (Map (Map (List ℕ)))) (names : List (List ℕ)) (l : Listing) (files : S → Option (Map (List ℕ))) (xs : List S) (n : ℕ)
+    → IfSome folders (λ m. (fs : List (Map (List ℕ))) × (map m names ≡ map Some fs) × (map files xs ≡ map Some fs))
+    → ((maps : List (Map (List ℕ))) → map (λ s. option_map chunks (files s)) xs ≡ map Some maps → n ≡ held_count l maps)
+    → IfSome folders (λ m. IsCount m names l n)
+counted_told None names l files xs n found value = tt
+counted_told (Some m) names l files xs n found value = record { stores = found.0; there = found.1; counts = value (map chunks found.0) (held_maps files xs found.0 found.2) }
 
--- ---- counting
-
-pub unopened_count : (folders : Option (Map (Map (List ℕ)))) (names : List (List ℕ)) (l : Listing) (fault : FoldersFault)
-    → ((k : ℕ) → fault ≡ faults.Absent k → (k < length names) × IfSome folders (λ n. FirstAt (λ q. IsSome (n q)) (λ q. n q ≡ None) (λ q. Unit {0}) k names))
-    → IfSome folders (λ n. NotCounted n names (not_opened names fault))
-unopened_count None names l fault absent = tt
-unopened_count (Some n) names l fault absent = go fault absent where
-  go : (e : FoldersFault) → ((k : ℕ) → e ≡ faults.Absent k → (k < length names) × FirstAt (λ q. IsSome (n q)) (λ q. n q ≡ None) (λ q. Unit {0}) k names) → NotCounted n names (not_opened names e)
-  go (faults.Absent k) a = (k, first_named n k names (a k refl).1)
-  go (faults.Failed k) a = tt
-  go faults.Memory a = tt
-
-pub unopened_fault : (old new : Map ℕ) (names : List (List ℕ)) (fault : FoldersFault) → ((k : ℕ) → fault ≡ faults.Failed k → k < length names)
-    → ((k : ℕ) → fault ≡ faults.Failed k → Rose (count_at old (name_at names k)) (count_at new (name_at names k))) → IsCountFault old new names (not_opened names fault)
-unopened_fault old new names (faults.Absent k) inside rose = tt
-unopened_fault old new names (faults.Failed k) inside rose = (Contains-get_or names k [] (inside k refl), rose k refl)
-unopened_fault old new names faults.Memory inside rose = tt
-
-pub unopened_only : (names : List (List ℕ)) (fault : FoldersFault) → IsOfCount (not_opened names fault)
-unopened_only names (faults.Absent k) = tt
-unopened_only names (faults.Failed k) = tt
-unopened_only names faults.Memory = tt
+pub all_there : {S : Type 0} (folders : Option (Map (Map (List ℕ)))) (names : List (List ℕ)) (files : S → Option (Map (List ℕ))) (xs : List S)
+    → IfSome folders (λ m. (fs : List (Map (List ℕ))) × (map m names ≡ map Some fs) × (map files xs ≡ map Some fs))
+    → IfSome folders (λ m. (fs : List (Map (List ℕ))) × (map m names ≡ map Some fs))
+all_there None names files xs found = tt
+all_there (Some m) names files xs found = (found.0, found.1)
 
 -- from what the stores hold to what the folders' files are
 pub over_told : {S : Type 0} (o : Option (List ℕ)) (files : S → Option (Map (List ℕ))) (xs : List S) (P : List ℕ → List (Map (List ℕ)) → Type 0)
@@ -70,35 +44,31 @@ pub over_told : {S : Type 0} (o : Option (List ℕ)) (files : S → Option (Map 
 over_told None files xs P h = tt
 over_told (Some a) files xs P h = λ fs told. h (map chunks fs) (held_maps files xs fs told)
 
-pub counted_told : {S : Type 0} (folders : Option (Map (Map (List ℕ)))) (names : List (List ℕ)) (l : Listing) (files : S → Option (Map (List ℕ))) (xs : List S) (n : ℕ)
-    → IfSome folders (λ m. (fs : List (Map (List ℕ))) × (map m names ≡ map Some fs) × (map files xs ≡ map Some fs))
-    → ((maps : List (Map (List ℕ))) → map (λ s. option_map chunks (files s)) xs ≡ map Some maps → n ≡ held_count l maps)
-    → IfSome folders (λ m. IsCount m names l n)
-counted_told None names l files xs n found value = tt
-counted_told (Some m) names l files xs n found value = record { stores = found.0; there = found.1; counts = value (map chunks found.0) (held_maps files xs found.0 found.2) }
+-- so they hold still where a call has changed nothing of it
+pub there_after : {S : Type 0} (folders : Option (Map (Map (List ℕ)))) (names : List (List ℕ)) (files : S → Option (Map (List ℕ))) (before after : List S)
+    → IfSome folders (λ m. (fs : List (Map (List ℕ))) × (map m names ≡ map Some fs) × (map files before ≡ map Some fs))
+    → map (λ s. option_map chunks (files s)) after ≡ map (λ s. option_map chunks (files s)) before
+    → IfSome folders (λ m. (fs : List (Map (List ℕ))) × (map m names ≡ map Some fs) × (map (λ s. option_map chunks (files s)) after ≡ map Some (map chunks fs)))
+there_after None names files before after found held = tt
+there_after (Some m) names files before after found held = (found.0, found.1, held ∙ held_maps files before found.0 found.2)
 
-pub uncounted : (folders : Option (Map (Map (List ℕ)))) (names : List (List ℕ)) (fault : HasFault) → ((s : ℕ) → fault ≡ has.StoreFault s → s < length names) → IfSome folders (λ m. NotCounted m names (not_counted fault))
-uncounted None names fault inside = tt
-uncounted (Some m) names fault inside = go fault inside where
-  go : (e : HasFault) → ((s : ℕ) → e ≡ has.StoreFault s → s < length names) → NotCounted m names (not_counted e)
-  go (has.StoreFault s) a = a s refl
-  go has.Memory a = tt
+-- a count that a store's fault ended: when the stores were asked for the id of an entry, that one was the first to fail
+pub record Ended {S : Type 0} (said : S → Said) (faults : S → ℕ) (l : Listing) (s : ℕ) (after : List S) : Type 0 where
+  pub entry : ℕ
+  pub listed : entry < count_of l
+  pub before : List S
+  pub many : length before ≡ length after
+  pub fails : HasFails said faults (id_of l entry) before after (has.StoreFault s)
 
-pub uncounted_fault : (old new : Map ℕ) (names : List (List ℕ)) (fault : HasFault) → ((s : ℕ) → fault ≡ has.StoreFault s → Rose (count_at old (name_at names s)) (count_at new (name_at names s))) → IsCountFault old new names (not_counted fault)
-uncounted_fault old new names (has.StoreFault s) rose = rose s refl
-uncounted_fault old new names has.Memory rose = tt
-
-pub uncounted_only : (fault : HasFault) → IsOfCount (not_counted fault)
-uncounted_only (has.StoreFault s) = tt
-uncounted_only has.Memory = tt
-
--- what was printed is no fault of a folder
-pub printed_fault : (old new : Map ℕ) (names : List (List ℕ)) (r : Result Unit IoFault) → IsCountFault old new names (outcome_of_put r)
-printed_fault old new names (Ok r) = tt
-printed_fault old new names (Err io.Failed) = tt
-printed_fault old new names (Err io.Memory) = tt
-
-pub info_fault : (files files_after old new : Map ℕ) (x : Info) (o : Outcome) → IsCountFault old new (names_in x) o → IsInfoFault files files_after old new x o
-info_fault files files_after old new x (ends.FileFault name) h = inr h
-info_fault files files_after old new x (ends.StoreFault s) h = h
-info_fault files files_after old new x other h = tt
+pub ended_by : {S : Type 0} (holds : S → Option (Map (List ℕ))) (said : S → Said) (queried : S → List ℕ → ℕ) (faults : S → ℕ) (l : Listing) (old after : List S) (fault : HasFault) (s : ℕ) → fault ≡ has.StoreFault s → length old ≡ length after
+    → FailsAtEntry holds said queried faults l old after fault → Ended said faults l s after
+ended_by {S} holds said queried faults l old after fault s is many h = record {
+  entry = h.entry;
+  listed = h.listed;
+  before = h.before;
+  many = sym (length_all_zip (λ a b. AsksBefore l h.entry (queried a) (queried b)) old h.before h.reaches.asked) ∙ many;
+  fails = elim h.ends as (λ _. HasFails said faults (id_of l h.entry) h.before after (has.StoreFault s)) [
+    | inl e ↦ subst (λ (f : HasFault). HasFails said faults (id_of l h.entry) h.before after f) is e.1
+    | inr e ↦ let no : has.StoreFault s ≡ has.Memory = sym is ∙ e.0 in absurd (cc)
+  ];
+}

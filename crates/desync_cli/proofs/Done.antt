@@ -1,29 +1,25 @@
--- What the outcome Done says.
-use Rattle.std.proofs.Common.{◌≡◌, ℕ, List, true, false, Option, Some, None, IfSome, is_some, refl, ap, subst, ◌∙◌, cond}
-use Rattle.std.proofs.lemmas.Slice.Eq.{bytes_eq-Decides}
-use Rattle.dsy_base.specs.Maps.{Map, at_name}
-use Rattle.desync_cli.specs.Extracts.{Ends, IsExtracted}
+-- What the outcome Done says: a line a command that has a headline.
+use Rattle.std.proofs.Common.{◌≡◌, ℕ, List, IfSome, is_some, Result, Ok, subst}
+use Rattle.command_line.specs.declared.command.Command.{Command}
+use Rattle.command_line.specs.declared.command.Command.TheVariants as commands
 use Rattle.command_outcome.specs.declared.outcome.Outcome.{Outcome}
 use Rattle.command_outcome.specs.declared.outcome.Outcome.TheVariants as ends
-use Rattle.desync_cli.specs.declared.task.Extract.{Extract}
+use Rattle.command_steps.specs.Steps.{answer_of, outcome_of}
+use Rattle.command_steps.specs.Worlds.{World}
+use Rattle.desync_cli.specs.Commands.{Achieves, DesyncEnds, Ends, command_of}
+use Rattle.desync_cli.proofs.Fair.{answered, begun, if_some}
+use Rattle.desync_cli.proofs.Extracted.{extracted}
+use Rattle.desync_cli.proofs.Made.{made}
+use Rattle.desync_cli.proofs.Verified.{verified}
 
-pub at_same : {X : Type 0} (m : Map X) (name : List ℕ) (w : Option X) → at_name m name w name ≡ w
-at_same m name w = ap (λ b. cond b w (m name)) ((bytes_eq-Decides name name).1 refl)
+achieves : (c : Command) (w v : World) → is_some w.disk.files ≡ is_some w.disk.folders → Ends c w (Ok tt) v → Achieves c w v
+achieves (commands.Make store sizes workers index image) w v told h = made store sizes index image w v h
+achieves (commands.Extract stores seeds cache in_place workers index target) w v told h = extracted stores index target w v told h
+achieves (commands.VerifyIndex index image) w v told h = verified index image w v h
+achieves other w v told h = h
 
-extracted : (before : Map (List ℕ)) (folders : Map (Map (List ℕ))) (after : Map (List ℕ)) (x : Extract) → Ends before folders after x ends.Done → IsExtracted before after x
-extracted before folders after x e = record {
-  listing = e.0.listing;
-  listed = e.0.listed;
-  image = e.1;
-  holds = ap (λ (m : Map (List ℕ)). m x.target) e.2 ∙ at_same before x.target (Some e.1);
-  right = e.3;
-}
-
--- over files that tell, of which the folders tell too
-pub done_extracts : (x : Extract) (o : Outcome) (fo : Option (Map (List ℕ))) (ds : Option (Map (Map (List ℕ)))) (fn : Option (Map (List ℕ))) → is_some fo ≡ is_some ds
-    → IfSome fo (λ before. IfSome ds (λ folders. IfSome fn (λ after. Ends before folders after x o)))
-    → o ≡ ends.Done → IfSome fo (λ before. IfSome fn (λ after. IsExtracted before after x))
-done_extracts x o None ds fn told e done = tt
-done_extracts x o (Some before) None fn told e done = let impossible : true ≡ false = told in absurd (cc)
-done_extracts x o (Some before) (Some folders) None told e done = tt
-done_extracts x o (Some before) (Some folders) (Some after) told e done = extracted before folders after x (subst (λ (r : Outcome). Ends before folders after x r) done e)
+pub achieved : (words : List (List ℕ)) (w v : World) (r : Result Unit Outcome) → is_some w.disk.files ≡ is_some w.disk.folders → DesyncEnds words w r v → outcome_of r ≡ ends.Done → IfSome (command_of words) (λ c. Achieves c w v)
+achieved words w v r told h done =
+    let a : DesyncEnds words w (Ok tt) v = subst (λ o. DesyncEnds words w (answer_of o) v) done (answered words w v r h) in
+    let b = begun words w v (Ok tt) a in
+    if_some (command_of words) (λ c. Achieves c w v) b.0 b.1 (achieves b.0 w v told b.2)

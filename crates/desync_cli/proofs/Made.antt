@@ -1,87 +1,79 @@
--- What storing an image into a folder that was taken makes of the outcome.
-use Rattle.std.proofs.Common.{◌≡◌, ℕ, List, Bool, cond, true, false, Option, Some, None, IfSome, is_some, unwrap_or, refl, sym, ap, ◌∙◌, inl, inr, Result, Ok, Err}
-use Rattle.std.proofs.lemmas.Slice.Eq.{bytes_eq-Decides}
+-- What `make` has made where it is done.
+use Rattle.std.proofs.Common.{ap, ◌≡◌, ◌≢◌, ◌<◌, ℕ, List, Option, Some, None, IfSome, Ok, inl, inr, subst, sym, unwrap_or, ◌∙◌}
 use Rattle.std.specs.Option.{option_map}
-use Rattle.std.specs.Str.{bytes_eq}
 use Rattle.buzhash_cut.specs.Sizes.{Sizes}
+use Rattle.caibx_codec.specs.Listing.{Listing, count_of, id_of}
+use Rattle.chunk_store.specs.Folders.{chunks}
+use Rattle.command_line.specs.declared.command.Location.{Location}
+use Rattle.command_steps.specs.Stores.{name_of}
+use Rattle.command_steps.specs.Worlds.{World}
+use Rattle.desync_cli.proofs.Assembled.{at_name_twice}
+use Rattle.desync_cli.specs.Make.{IsMade, MadeOf, MakeEnds, sizes_of}
+use Rattle.dsy_base.proofs.Counts.{at_same}
 use Rattle.dsy_base.specs.Maps.{Map, at_name}
-use Rattle.desync_cli.specs.Makes.{sizes_of, Left, IsStoredAs, Stored, StoresIn, MakeEnds, IsWritten, outcome_of_fault}
-use Rattle.image_store.specs.Storing.{PutsSome, StoresImage}
-use Rattle.command_outcome.specs.declared.outcome.Outcome.{Outcome}
-use Rattle.command_outcome.specs.declared.outcome.Outcome.TheVariants as ends
-use Rattle.image_store.specs.declared.put_chunks.MakeFault.{MakeFault}
-use Rattle.image_store.specs.declared.put_chunks.MakeFault.TheVariants as faults
-use Rattle.desync_cli.specs.declared.task.Make.{Make}
-use Rattle.desync_cli.proofs.Extracted.{at_name_twice}
+use Rattle.image_store.specs.PutChunks.{Stands}
 
--- what is put back as it was
-put_back : {X : Type 0} (m : Map X) (name : List ℕ) (x : X) → m name ≡ Some x → at_name m name (Some x) ≡ m
-put_back {X} m name x there = λ i q. (here q (bytes_eq name q) refl) i where
-  here : (q : List ℕ) (same : Bool) → bytes_eq name q ≡ same → cond same (Some x) (m q) ≡ m q
-  here q true is = sym there ∙ ap m ((bytes_eq-Decides name q).0 is)
-  here q false is = refl
+-- an id that isn't listed holds what it held
+others_stay : (l : Listing) (t : List ℕ) (old new : Map (List ℕ)) → Stands l t (count_of l) old new → (id : List ℕ) → ((i : ℕ) → i < count_of l → id_of l i ≢ id) → new id ≡ old id
+others_stay l t old new stands id other = elim (stands id) [
+  | inl same ↦ same
+  | inr s ↦ absurd (other s.entry s.below (sym s.id))
+]
 
--- the answer of a command that stored an image so
-abbrev pub answer_of : {A : Type 0} → Result A MakeFault → Result A Outcome
-answer_of (Ok v) = Ok v
-answer_of (Err f) = Err (outcome_of_fault f)
+module _ (sizes q index image : List ℕ) (bytes : List ℕ) where
+  over_told : (b : Map (List ℕ)) (n : Map (Map (List ℕ))) (a : Map (List ℕ)) (m : Map (Map (List ℕ))) (t : List ℕ) (f g : Map (List ℕ)) → b image ≡ Some t → n q ≡ Some f → a ≡ at_name b index (Some bytes) → m ≡ at_name n q (Some g)
+      → MadeOf (sizes_of sizes) (Some t) (Ok bytes) f g → IsMade b n a m q sizes index image
+  over_told b n a m t f g there folder_was written folder_is made = record {
+    bytes = t;
+    image_was = there;
+    listing = made.holds.0;
+    of_image = made.holds.1;
+    file = bytes;
+    written = ap (λ (m : Map (List ℕ)). m index) written ∙ at_same b index (Some bytes);
+    is_file = made.holds.5;
+    spelled = made.holds.4;
+    held = f;
+    folder_was = folder_was;
+    now = g;
+    folder_is = ap (λ (m : Map (Map (List ℕ))). m q) folder_is ∙ at_same n q (Some g);
+    holds = made.holds.2;
+    others = others_stay made.holds.0 t (chunks f) (chunks g) made.holds.3;
+  }
 
-module _ {A : Type 0} (z : Sizes) (bytes_of : A → List ℕ) (t : List ℕ) (before after : Map (Map (List ℕ))) (folder : List ℕ) (f n : Map (List ℕ)) (there : before folder ≡ Some f) (is : after ≡ at_name before folder (Some n)) where
-  back : n ≡ f → after ≡ before
-  back same = is ∙ ap (λ m. at_name before folder (Some m)) same ∙ put_back before folder f there
+  -- what storing says of the folder, over the folders among which it was taken
+  abbrev Given : Option (List ℕ) → Option (Map (List ℕ)) → Option (Map (Map (List ℕ))) → Option (Map (Map (List ℕ))) → Type 0
+  Given told held y1 y2 = IfSome y1 (λ m. IfSome held (λ f. (g : Map (List ℕ)) × (y2 ≡ Some (at_name m q (Some g))) × MadeOf (sizes_of sizes) told (Ok bytes) f g))
 
-  left : (files : Map (List ℕ)) (image : List ℕ) → files image ≡ Some t → PutsSome z t f n → Left z files before after image folder
-  left files image at (inl same) = inl (back same)
-  left files image at (inr some) = inr (t, at, (some.0, record { held = f; there = there; index = some.1; now = n; is = is; stands = some.2 }))
+  over_all : (x : Option (Map (List ℕ))) (y : Option (Map (Map (List ℕ)))) (told : Option (List ℕ)) (held : Option (Map (List ℕ))) (z : Option (Map (List ℕ))) (y2 : Option (Map (Map (List ℕ))))
+      → IfSome x (λ m. (t : List ℕ) × (m image ≡ Some t) × (told ≡ Some t)) → IfSome y (λ m. (f : Map (List ℕ)) × (m q ≡ Some f) × (held ≡ Some f))
+      → z ≡ option_map (λ m. at_name m index (Some bytes)) x → Given told held (option_map (λ m. at_name m q None) y) y2
+      → IfSome x (λ b. IfSome y (λ n. IfSome z (λ a. IfSome y2 (λ m. IsMade b n a m q sizes index image))))
+  over_all None y told held z y2 there taken written given = tt
+  over_all (Some b) None told held z y2 there taken written given = tt
+  over_all (Some b) (Some n) told held None y2 there taken written given = tt
+  over_all (Some b) (Some n) told held (Some a) None there taken written given = tt
+  over_all (Some b) (Some n) told held (Some a) (Some m) there taken written given =
+      let g = subst (λ o. Given o (Some taken.0) (Some (at_name n q None)) (Some m)) there.2 (subst (λ o. Given told o (Some (at_name n q None)) (Some m)) taken.2 given) in
+      over_told b n a m there.0 taken.0 g.0 there.1 taken.1 (ap (λ o. unwrap_or o a) written) (ap (λ o. unwrap_or o m) g.1 ∙ at_name_twice n q None (Some g.0)) g.2
 
-  stores_in : (r : Result A MakeFault) → StoresImage z bytes_of t f n r → StoresIn z bytes_of t before after folder (answer_of r)
-  stores_in (Ok v) s = λ files image at. (t, at, (s.0, record { held = f; there = there; index = s.1; now = n; is = is; stands = s.3 }, s.2, s.4))
-  stores_in (Err faults.TooManyItems) s = λ files image at. (back s.0, (f, there), (t, at, s.1))
-  stores_in (Err faults.ImageFault) s = λ files image at. left files image at s
-  stores_in (Err faults.StoreFault) s = λ files image at. (refl, left files image at s)
-  stores_in (Err faults.Memory) s = λ files image at. left files image at s
-  stores_in (Err (faults.Changed k was got)) s = absurd s
-
--- over a folder that was taken and given back
-pub stored_in : {A : Type 0} (z : Sizes) (bytes_of : A → List ℕ) (told : Option (List ℕ)) (folder : List ℕ) (old new : Option (Map (Map (List ℕ)))) (f n : Option (Map (List ℕ))) (r : Result A MakeFault)
-    → IfSome old (λ m. (x : Map (List ℕ)) × (m folder ≡ Some x) × (f ≡ Some x)) → is_some f ≡ is_some n
-    → new ≡ option_map (λ m. at_name m folder n) (option_map (λ m. at_name m folder None) old)
-    → IfSome told (λ t. IfSome f (λ a. IfSome n (λ b. StoresImage z bytes_of t a b r)))
-    → IfSome told (λ t. IfSome old (λ before. IfSome new (λ after. StoresIn z bytes_of t before after folder (answer_of r))))
-stored_in z bytes_of None folder old new f n r found alike is s = tt
-stored_in z bytes_of (Some t) folder None new f n r found alike is s = tt
-stored_in z bytes_of (Some t) folder (Some m) None f n r found alike is s = tt
-stored_in z bytes_of (Some t) folder (Some m) (Some after) None n r found alike is s = let wrong : None ≡ Some found.0 = found.2 in absurd (cc)
-stored_in z bytes_of (Some t) folder (Some m) (Some after) (Some f) None r found alike is s = let wrong : true ≡ false = alike in absurd (cc)
-stored_in z bytes_of (Some t) folder (Some m) (Some after) (Some f) (Some n) r found alike is s =
-    let there : m folder ≡ Some f = found.1 ∙ sym found.2 in
-    stores_in z bytes_of t m after folder f n there (ap (λ o. unwrap_or o after) is ∙ at_name_twice m folder None (Some n)) r s
-
--- over the image that was opened
-pub stored_as : {A : Type 0} (z : Sizes) (bytes_of : A → List ℕ) (image folder : List ℕ) (files : Option (Map (List ℕ))) (told : Option (List ℕ)) (old new : Option (Map (Map (List ℕ)))) (r : Result A Outcome)
-    → IfSome files (λ m. (x : List ℕ) × (m image ≡ Some x) × (told ≡ Some x))
-    → IfSome told (λ t. IfSome old (λ before. IfSome new (λ after. StoresIn z bytes_of t before after folder r)))
-    → IfSome files (λ m. IfSome old (λ before. IfSome new (λ after. Stored z bytes_of m before after image folder r)))
-stored_as z bytes_of image folder None told old new r found s = tt
-stored_as z bytes_of image folder (Some m) told None new r found s = tt
-stored_as z bytes_of image folder (Some m) told (Some before) None r found s = tt
-stored_as z bytes_of image folder (Some m) None (Some before) (Some after) r found s = let wrong : None ≡ Some found.0 = found.2 in absurd (cc)
-stored_as z bytes_of image folder (Some m) (Some t) (Some before) (Some after) r found s = s m image (found.1 ∙ sym found.2)
-
--- the file of the index was written, or not
-made_of : (files after : Map (List ℕ)) (folders folders_after : Map (Map (List ℕ))) (x : Make) (bytes : List ℕ) (o : Outcome) → IsStoredAs (sizes_of x) files folders folders_after x.image x.folder bytes
-    → IsWritten files after x.index bytes o → MakeEnds files folders after folders_after x o
-made_of files after folders folders_after x bytes ends.Done s w = (bytes, w, s)
-made_of files after folders folders_after x bytes (ends.FileFault name) s w = (w, inr (s.0, s.1, (s.2.0, s.2.1)))
-made_of files after folders folders_after x bytes ends.Memory s w = (w, inr (s.0, s.1, (s.2.0, s.2.1)))
-made_of files after folders folders_after x bytes other s w = absurd w
-
-pub made : (files after : Option (Map (List ℕ))) (folders folders_after : Option (Map (Map (List ℕ)))) (x : Make) (bytes : List ℕ) (o : Outcome)
-    → IfSome files (λ m. IfSome folders (λ b. IfSome folders_after (λ a. IsStoredAs (sizes_of x) m b a x.image x.folder bytes)))
-    → IfSome files (λ m. IfSome after (λ w. IsWritten m w x.index bytes o))
-    → IfSome files (λ m. IfSome folders (λ b. IfSome after (λ w. IfSome folders_after (λ a. MakeEnds m b w a x o))))
-made None after folders folders_after x bytes o s w = tt
-made (Some m) after None folders_after x bytes o s w = tt
-made (Some m) None (Some b) folders_after x bytes o s w = tt
-made (Some m) (Some v) (Some b) None x bytes o s w = tt
-made (Some m) (Some v) (Some b) (Some a) x bytes o s w = made_of m v b a x bytes o s w
+pub made : (store : Location) (sizes index image : List ℕ) (w v : World) → MakeEnds store sizes index image w (Ok tt) v
+    → IfSome w.disk.files (λ b. IfSome w.disk.folders (λ f. IfSome v.disk.files (λ a. IfSome v.disk.folders (λ g. IsMade b f a g (name_of store) sizes index image))))
+made store sizes index image w v h =
+    let q = name_of store in
+    let opened = h.then in
+    let taken = opened.then in
+    let stored = taken.then in
+    let bytes = stored.gave in
+    let told = opened.gave in
+    let held = taken.gave in
+    let same_files = ap (λ (u : World). u.disk.files) h.did.1 in
+    let same_folders = ap (λ (u : World). u.disk.folders) h.did.1 in
+    let files = stored.did.0.2.files ∙ taken.did.0.1.1.files ∙ opened.did.0.1.files ∙ same_files in
+    let folders = opened.did.0.1.folders ∙ same_folders in
+    let of_sizes = subst (λ (s : Sizes). IfSome taken.disk.folders (λ m. IfSome held (λ f. (g : Map (List ℕ)) × (stored.disk.folders ≡ Some (at_name m q (Some g))) × MadeOf s told (Ok bytes) f g))) h.did.0.0 stored.did.0.1 in
+    let among = subst (λ y. Given sizes q index image bytes told held y stored.disk.folders) (taken.did.0.1.0 ∙ ap (option_map (λ m. at_name m q None)) folders) of_sizes in
+    over_all sizes q index image bytes w.disk.files w.disk.folders told held v.disk.files v.disk.folders
+    (subst (λ x. IfSome x (λ m. (t : List ℕ) × (m image ≡ Some t) × (told ≡ Some t))) same_files opened.did.0.0)
+    (subst (λ y. IfSome y (λ m. (f : Map (List ℕ)) × (m q ≡ Some f) × (held ≡ Some f))) folders taken.did.0.0)
+    (stored.then.0.0 ∙ ap (option_map (λ m. at_name m index (Some bytes))) files)
+    (subst (λ y. Given sizes q index image bytes told held (option_map (λ m. at_name m q None) w.disk.folders) y) (sym stored.then.0.1.folders) among)

@@ -1,10 +1,8 @@
-pub mod Openings
-pub mod Tasks
-pub mod Extracts
-pub mod Loads
-pub mod Makes
-pub mod Reads
-pub mod Infos
-pub mod Does
+pub mod Commands
+pub mod Extract
+pub mod Info
 pub mod Lines
-pub mod Made
+pub mod ListChunks
+pub mod Make
+pub mod RoundTrip
+pub mod VerifyIndex

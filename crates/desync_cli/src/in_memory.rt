@@ -1,14 +1,17 @@
 //! The top call over files, folders and sinks in memory, which tell all that they hold.
 
-ghost use Rattle.std.specs.Prelude.{◌≡◌, Some, IfSome, map, string_bytes};
-ghost use Rattle.desync_cli.specs.Does.{TaskEnds, TaskExactly};
-ghost use Rattle.desync_cli.specs.Extracts.{IsExtracted};
-ghost use Rattle.desync_cli.specs.Made.{IsMade};
-ghost use Rattle.desync_cli.specs.Tasks.{extract_of, make_of, task_of};
-ghost use Rattle.dsy_base.specs.Counts.{AllQuiet};
-ghost use Rattle.dsy_forms.specs.MemFiles.{files_of, folders_of, file_counts_of, folder_counts_of};
+ghost use Rattle.std.specs.Prelude.{◌≡◌, IfSome, Some, map, string_bytes};
+ghost use Rattle.command_steps.specs.Steps.{answer_of};
+ghost use Rattle.command_steps.specs.Worlds.{world};
+ghost use Rattle.desync_cli.specs.Commands.{Achieves, DesyncEnds, command_of};
+ghost use Rattle.desync_cli.specs.RoundTrip.{RoundTrip};
+ghost use Rattle.dsy_base.specs.Disk.{Output};
+ghost use Rattle.dsy_forms.specs.MemFiles.{disk_of, files_of};
+ghost use Rattle.dsy_forms.specs.MemSinks.{output_of};
 
 use crate::run::desync;
+use buzhash_cut::laws::cutting;
+use caibx_codec::laws::one_index;
 use command_outcome::outcome::{Ended, Outcome};
 use dsy_forms::mem_files::MemFiles;
 use dsy_forms::mem_sink::MemSink;
@@ -22,17 +25,31 @@ pub fn desync_in_memory(
     out: &mut MemSink,
     err: &mut MemSink,
 ) -> Ended
-    ensures done { IfSome (extract_of (map string_bytes words.now)) (λ x. result.outcome ≡ Outcome.Done →
-        IsExtracted (files_of files.old) (files_of files.new) x) }
-    ensures made { IfSome (make_of (map string_bytes words.now)) (λ x. result.outcome ≡ Outcome.Done →
-        IsMade (files_of files.old) (files_of files.new) (folders_of files.old) (folders_of files.new) x) }
-    ensures ends { IfSome (task_of (map string_bytes words.now)) (λ task.
-        TaskEnds task (Some (files_of files.old)) (Some (folders_of files.old)) (Some (files_of files.new))
-        (Some (folders_of files.new)) (Some out.old.taken.items) (Some out.new.taken.items) result.outcome) }
-    ensures exactly { IfSome (task_of (map string_bytes words.now)) (λ task.
-        AllQuiet (file_counts_of files.old) (file_counts_of files.new) →
-        AllQuiet (folder_counts_of files.old) (folder_counts_of files.new) →
-        TaskExactly task (Some (files_of files.old)) (Some (folders_of files.old)) result.outcome) }
+    ensures done { result.outcome ≡ Outcome.Done → IfSome (command_of (map string_bytes words.now)) (λ c. Achieves c
+        (world (disk_of files.old) (output_of out.old)) (world (disk_of files.new) (output_of out.new))) }
+    ensures ends { DesyncEnds (map string_bytes words.now) (world (disk_of files.old) (output_of out.old))
+        (answer_of result.outcome) (world (disk_of files.new) (output_of out.new)) }
 {
     desync(alloc, words, files, out, err)
+}
+
+/// Does what the first words say and then what the second say. Where these are a `make` and an `extract` of its
+/// index, and both are done, the image has come back.
+pub fn make_then_extract(
+    alloc: Global,
+    make: &[String],
+    extract: &[String],
+    files: &mut MemFiles,
+    out: &mut MemSink,
+    err: &mut MemSink,
+) -> (Ended, Ended)
+    ensures done { result.0.outcome ≡ Outcome.Done → result.1.outcome ≡ Outcome.Done →
+        RoundTrip (command_of (map string_bytes make.now)) (command_of (map string_bytes extract.now))
+        (files_of files.old) (files_of files.new) }
+{
+    one_index();
+    cutting();
+    let made = desync_in_memory(alloc, make, files, out, err);
+    let extracted = desync_in_memory(alloc, extract, files, out, err);
+    (made, extracted)
 }

@@ -3,18 +3,11 @@
 
 #[cfg(test)]
 mod cases;
-mod extract;
-pub mod folders;
+pub mod command;
 pub mod in_memory;
-mod info;
-mod load;
-mod make;
 #[cfg(test)]
 mod make_tests;
-mod opening;
-mod print;
 pub mod run;
-pub mod task;
 #[cfg(test)]
 mod tests;
-mod verify;
+mod words;

@@ -52,8 +52,10 @@ fn out_is_what_the_index_lists(rt: HostRuntime) -> Result<(), Fail> {
 fn what_cannot_be_had_is_told(rt: HostRuntime) -> Result<(), Fail> {
     let alloc = rt.alloc();
     // Of "def": SHA-512/256 by another program.
-    let missing = "desync: chunk f391834ba55302124fbcfc8df6831a666e468b310e99295e1fce0abf8ef9ec3f of entry 1 is missing\n";
-    let damaged = "desync: chunk 53048e2681941ef99b2e29b76b4c7dabe4c2d0c634fc6d46e0e2f13107e7af23 of entry 0 is damaged in store 0\n";
+    let missing = "desync: chunk f391834ba55302124fbcfc8df6831a666e468b310e99295e1fce0abf8ef9ec3f of entry 1 is \
+        missing\n";
+    let damaged = "desync: chunk 53048e2681941ef99b2e29b76b4c7dabe4c2d0c634fc6d46e0e2f13107e7af23 of entry 0 is \
+        damaged in store 0\n";
     // No chunk, other bytes under its id, fewer, more; and the bytes after it stay.
     extract_case(&rt, alloc, THREE, &[(b"abc", b"abc")], None, missing, b"abc\0\0\0\0\0\0")?;
     extract_case(&rt, alloc, &[b"abc"], &[(b"abc", b"abX")], None, damaged, b"\0\0\0")?;
@@ -157,9 +159,11 @@ fn an_index_is_held_against_an_image_and_told(rt: HostRuntime) -> Result<(), Fai
     ends(&rt, alloc, "verify-index i n", &mut files, "", "desync: n: no such file\n")?;
     files.set_file("m", Vec::from_slice(alloc, b"abcd")?, RangeFails::none(alloc))?;
     ends(&rt, alloc, "verify-index -n 3 i m", &mut files, "", "desync: the file has 4 bytes\n")?;
-    ends(&rt, alloc, "list-chunks i", &mut files, "53048e2681941ef99b2e29b76b4c7dabe4c2d0c634fc6d46e0e2f13107e7af23\n", "")?;
+    ends(&rt, alloc, "list-chunks i", &mut files, "53048e2681941ef99b2e29b76b4c7dabe4c2d0c634fc6d46e0e2f13107e7af23\
+        \n", "")?;
     ends(&rt, alloc, "info i", &mut files,
-        "{\"chunk-size-avg\":65536,\"chunk-size-max\":262144,\"chunk-size-min\":16384,\"size\":3,\"total\":1,\"unique\":1}\n", "")?;
+        "{\"chunk-size-avg\":65536,\"chunk-size-max\":262144,\"chunk-size-min\":16384,\"size\":3,\"total\":1,\
+            \"unique\":1}\n", "")?;
     ends(&rt, alloc, "info j", &mut files, "", "desync: j: no such file\n")?;
     ends(&rt, alloc, "--version", &mut files, "desync 0.1.0 (rattle-kit-13f)\n", "")
 }
@@ -174,12 +178,14 @@ fn stores_are_asked_in_order(rt: HostRuntime) -> Result<(), Fail> {
     files.set_folder("st", store_of(alloc, &[(b"abc", b"abX")]).ok_or("no memory")?)?;
     files.set_folder("su", store_of(alloc, &[(b"abc", b"abc")]).ok_or("no memory")?)?;
     files.set_folder("sv", store_of(alloc, &[]).ok_or("no memory")?)?;
-    let damaged = "desync: chunk 53048e2681941ef99b2e29b76b4c7dabe4c2d0c634fc6d46e0e2f13107e7af23 of entry 0 is damaged in store 1\n";
+    let damaged = "desync: chunk 53048e2681941ef99b2e29b76b4c7dabe4c2d0c634fc6d46e0e2f13107e7af23 of entry 0 is \
+        damaged in store 1\n";
     ends(&rt, alloc, "extract -k -s sv -s st i o", &mut files, "", damaged)?;
     ends(&rt, alloc, "extract -k -s sv -s none i o", &mut files, "", "desync: none: no such folder\n")?;
     ends(&rt, alloc, "extract -k -s st -s su i o", &mut files, "", "")?;
     assert_eq!(rt; files.file("o"), Some(b"abc".as_slice()));
     ends(&rt, alloc, "info -s sv -s st i", &mut files,
-        "{\"chunk-size-avg\":65536,\"chunk-size-max\":262144,\"chunk-size-min\":16384,\"in-store\":1,\"size\":3,\"total\":1,\"unique\":1}\n", "")?;
+        "{\"chunk-size-avg\":65536,\"chunk-size-max\":262144,\"chunk-size-min\":16384,\"in-store\":1,\"size\":3,\
+            \"total\":1,\"unique\":1}\n", "")?;
     ends(&rt, alloc, "info -s none i", &mut files, "", "desync: none: no such folder\n")
 }

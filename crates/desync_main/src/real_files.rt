@@ -101,6 +101,7 @@ fn replace_file<R: System<File = File> + AllocGlobal>(
 fn named(alloc: Global, slots: &mut Slots<()>, name: &str) -> Result<Name, AllocError>
     ensures named { IfOk result (λ n. n ≡ name.now) }
     ensures counts { Counted (counts_in slots.old) (counts_in slots.new) name.now }
+    ensures value { count_at (counts_in slots.new) name.now ≡ count_at (counts_in slots.old) name.now }
     ensures known { OnOk result (IsSome (counts_in slots.new name.now)) }
 {
     claim(alloc, slots, name)?;
@@ -140,13 +141,12 @@ impl<'a, R: System<File = File> + AllocGlobal + Clone + Drop> Files for RealFile
     ghost use Rattle.std.proofs.Common.{rules};
     ghost use Rattle.dsy_base.specs.Slots.{counts_in};
 
-    ghost files = { λ _. None };
-
-    ghost folders = { λ _. None };
-
-    ghost file_counts = { λ s. counts_in s.files };
-
-    ghost folder_counts = { λ s. counts_in s.folders };
+    ghost disk = { λ s. record {
+      files = None;
+      folders = None;
+      file_counts = counts_in s.files;
+      folder_counts = counts_in s.folders;
+    } };
 
     ghost tells = { false };
 
@@ -239,4 +239,6 @@ impl<'a, R: System<File = File> + AllocGlobal + Clone + Drop> Files for RealFile
     ghost sure = { Prim.search rules };
 
     ghost alike = { Prim.search rules };
+
+    ghost unnamed = { (refl, refl, refl) };
 }

@@ -241,6 +241,7 @@ fn remove_file<R: Files<File = File>>(rt: &R, path: &str) -> Result<bool, IoFaul
 fn fault_of(error: &io::Error, faults: &mut u64) -> IoFault
     ensures faults { faults.old ≤ faults.new }
     ensures cause { result ≡ IoFault.Failed → Rose faults.old faults.new }
+    ensures only { result ≡ IoFault.Memory → faults.new ≡ faults.old }
 {
     if error.kind() == ErrorKind::OutOfMemory {
         return IoFault::Memory;

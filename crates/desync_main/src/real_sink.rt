@@ -26,9 +26,7 @@ impl<W: Write + Drop> Sink for RealSink<W> {
     ghost use Rattle.std.specs.Prelude.{None, false, refl};
     ghost use Rattle.std.proofs.Common.{rules};
 
-    ghost taken = { λ _. None };
-
-    ghost faults = { λ s. s.faults };
+    ghost output = { λ s. record { taken = None; faults = s.faults } };
 
     ghost tells = { false };
 

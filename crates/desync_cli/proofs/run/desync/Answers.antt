@@ -1,22 +1,31 @@
 use Rattle.std.proofs.Common.{map, string_bytes, sym, ◌∙◌}
-use Rattle.desync_cli.specs.Tasks.{task_of}
-use Rattle.desync_cli.proofs.Quiets.{nothing_failed}
-use Rattle.desync_cli.proofs.Tasks.{extract_done, make_done}
+use Rattle.command_steps.specs.Worlds.{world}
+use Rattle.desync_cli.proofs.Done.{achieved}
+use Rattle.desync_cli.proofs.Fair.{answered, blamed, kept, nothing_failed, tells_refusal}
 use Rattle.desync_cli.proofs.run.desync.Goals as goal
+
+pub returns-clause-usage : goal.returns-clause-usage
+returns-clause-usage g c =
+    rw c.outcome_of-outcome.ensures (tells_refusal (map string_bytes c.args.words.now) (world (g.F.Files.disk c.args.files.now) (g.O.Sink.output c.args.out.now)) (world (g.F.Files.disk c.run.new.files) (g.O.Sink.output c.run.new.out)) c.run.result c.run.ensures.ends)
+
+pub returns-clause-ends : goal.returns-clause-ends
+returns-clause-ends g c =
+    rw c.outcome_of-outcome.ensures (answered (map string_bytes c.args.words.now) (world (g.F.Files.disk c.args.files.now) (g.O.Sink.output c.args.out.now)) (world (g.F.Files.disk c.run.new.files) (g.O.Sink.output c.run.new.out)) c.run.result c.run.ensures.ends)
+
+pub returns-clause-kept : goal.returns-clause-kept
+returns-clause-kept g c =
+    (kept (map string_bytes c.args.words.now) (world (g.F.Files.disk c.args.files.now) (g.O.Sink.output c.args.out.now)) (world (g.F.Files.disk c.run.new.files) (g.O.Sink.output c.run.new.out)) c.run.result c.run.ensures.ends)
+
+pub returns-clause-cause : goal.returns-clause-cause
+returns-clause-cause g c =
+    rw c.outcome_of-outcome.ensures (blamed (map string_bytes c.args.words.now) (world (g.F.Files.disk c.args.files.now) (g.O.Sink.output c.args.out.now)) (world (g.F.Files.disk c.run.new.files) (g.O.Sink.output c.run.new.out)) c.run.result c.run.ensures.ends)
+
+pub returns-clause-quiet : goal.returns-clause-quiet
+returns-clause-quiet g c =
+    rw c.outcome_of-outcome.ensures (nothing_failed (map string_bytes c.args.words.now) (world (g.F.Files.disk c.args.files.now) (g.O.Sink.output c.args.out.now)) (world (g.F.Files.disk c.run.new.files) (g.O.Sink.output c.run.new.out)) c.run.result c.run.ensures.ends)
 
 pub returns-clause-done : goal.returns-clause-done
 returns-clause-done g c =
     let told = g.met.F.Files.told c.args.files.now in
-    extract_done (g.F.Files.files c.args.files.now) (g.F.Files.files c.run-outcome.new.files) (g.F.Files.folders c.args.files.now) (g.F.Files.folders c.run-outcome.new.files)
-    (g.O.Sink.taken c.args.out.now) (g.O.Sink.taken c.run-outcome.new.out) c.run-outcome.result (task_of (map string_bytes c.args.words.now)) (told.0 ∙ sym told.1) c.run-outcome.ensures.ends
-
-pub returns-clause-made : goal.returns-clause-made
-returns-clause-made g c =
-    make_done (g.F.Files.files c.args.files.now) (g.F.Files.files c.run-outcome.new.files) (g.F.Files.folders c.args.files.now) (g.F.Files.folders c.run-outcome.new.files)
-    (g.O.Sink.taken c.args.out.now) (g.O.Sink.taken c.run-outcome.new.out) c.run-outcome.result (task_of (map string_bytes c.args.words.now))
-    c.path_names_one_id.ensures.named c.temporary_is_no_path.ensures.only c.run-outcome.ensures.ends
-
-pub returns-clause-quiet : goal.returns-clause-quiet
-returns-clause-quiet g c =
-    nothing_failed (task_of (map string_bytes c.args.words.now)) (g.F.Files.file_counts c.args.files.now) (g.F.Files.file_counts c.run-outcome.new.files) (g.F.Files.folder_counts c.args.files.now) (g.F.Files.folder_counts c.run-outcome.new.files)
-    (g.O.Sink.faults c.args.out.now) (g.O.Sink.faults c.run-outcome.new.out) c.run-outcome.result c.run-outcome.ensures.only c.run-outcome.ensures.cause
+    rw c.outcome_of-outcome.ensures (λ done.
+    achieved (map string_bytes c.args.words.now) (world (g.F.Files.disk c.args.files.now) (g.O.Sink.output c.args.out.now)) (world (g.F.Files.disk c.run.new.files) (g.O.Sink.output c.run.new.out)) c.run.result (told.0 ∙ sym told.1) c.run.ensures.ends done)

@@ -1,0 +1,200 @@
+-- What a step leaves, and what its refusals tell: none is Done, and a fault that is told has raised its count. Proved once a
+-- step, and composed.
+use Rattle.std.proofs.Common.{◌≡◌, ◌∙◌, ◌≤◌, ℕ, zero, suc, Bool, true, false, List, [], ◌∷◌, Option, Result, Ok, Err, refl, sym, subst, inl, inr, arith}
+use Rattle.std.specs.Map.{count_at}
+use Rattle.caibx_codec.specs.Listing.{Listing}
+use Rattle.command_outcome.specs.declared.outcome.Outcome.{Outcome}
+use Rattle.command_outcome.specs.declared.outcome.Outcome.TheVariants as ends
+use Rattle.command_steps.specs.Blames.{Blames, Keeps, Parts, Spares, name_at}
+use Rattle.command_steps.specs.Openings.{ImageOpened, IndexRead}
+use Rattle.command_steps.specs.Printing.{Printed}
+use Rattle.command_steps.specs.Steps.{◌>>=◌, Passed, each, nothing}
+use Rattle.command_steps.specs.Stores.{FailsFirst, NoneReached, NotReached, StoreTaken, StoresOpened}
+use Rattle.command_steps.specs.Worlds.{Adds, FileRose, FolderRose, OnDisk, OnOut, Pure, Reads, Step, World, Writes, world}
+use Rattle.command_steps.proofs.Numbers.{rose_later}
+use Rattle.dsy_base.specs.Disk.{Disk, Output}
+use Rattle.dsy_base.specs.Maps.{Map}
+
+-- an outcome that a command refuses with
+abbrev pub IsRefusal : Outcome → Type 0
+IsRefusal ends.Done = ⊥
+IsRefusal (ends.Usage place why) = ⊥
+IsRefusal other = Unit {0}
+
+-- a refusal, whose fault has raised its count
+abbrev pub IsFair : Parts → Outcome → World → World → Type 0
+IsFair x o w v = IsRefusal o × Blames x o w v
+
+-- what is spared is as before, and no count has fallen
+pub record IsLeft (s : Spares) (w v : World) : Type 0 where
+  pub keeps : Keeps s w v
+  pub files : (q : List ℕ) → count_at w.disk.file_counts q ≤ count_at v.disk.file_counts q
+  pub folders : (q : List ℕ) → count_at w.disk.folder_counts q ≤ count_at v.disk.folder_counts q
+  pub out : w.out.faults ≤ v.out.faults
+
+-- each refusal of the step is fair, and each end of it leaves the world so. `at` is the world round what the step is of
+pub record IsStep {W A : Type 0} (at : W → World) (s : Spares) (x : Parts) (step : W → Result A Outcome → W → Type 0) : Type 0 where
+  pub fair : (w v : W) (o : Outcome) → step w (Err o) v → IsFair x o (at w) (at v)
+  pub leaves : (w v : W) (r : Result A Outcome) → step w r v → IsLeft s (at w) (at v)
+
+pub left_twice : {s : Spares} {w u v : World} → IsLeft s w u → IsLeft s u v → IsLeft s w v
+left_twice a b = record {
+  keeps = record { files = λ t. b.keeps.files t ∙ a.keeps.files t; folders = λ t. b.keeps.folders t ∙ a.keeps.folders t; out = λ t. b.keeps.out t ∙ a.keeps.out t };
+  files = λ q. omega (arith, a.files q, b.files q);
+  folders = λ q. omega (arith, a.folders q, b.folders q);
+  out = omega (arith, a.out, b.out);
+}
+
+-- the store that is named has failed
+pub first_failed : (lacks : Map (List ℕ) → Type 0) (d e : Disk) (k : ℕ) (names : List (List ℕ)) → FailsFirst lacks d e k names → FolderRose d e (name_at names k)
+first_failed lacks d e k [] h = absurd h
+first_failed lacks d e zero (q ∷ names) h = h.0
+first_failed lacks d e (suc k) (q ∷ names) h = first_failed lacks d e k names h.1
+
+-- a fault after other steps is one over all of them
+fair_earlier : {s : Spares} (w u v : World) (x : Parts) (o : Outcome) → IsLeft s w u → IsFair x o u v → IsFair x o w v
+fair_earlier {s} w u v x o a h = (h.0, go o h.1) where
+  file : (q : List ℕ) → FileRose u.disk v.disk q → FileRose w.disk v.disk q
+  file q r = rose_later (count_at w.disk.file_counts q) (count_at u.disk.file_counts q) (count_at v.disk.file_counts q) (a.files q) r
+
+  folder : (q : List ℕ) → FolderRose u.disk v.disk q → FolderRose w.disk v.disk q
+  folder q r = rose_later (count_at w.disk.folder_counts q) (count_at u.disk.folder_counts q) (count_at v.disk.folder_counts q) (a.folders q) r
+
+  go : (o : Outcome) → Blames x o u v → Blames x o w v
+  go ends.ImageFault r = file x.image r
+  go (ends.StoreFault s) r = folder (name_at x.stores s) r
+  go ends.TargetFault r = file x.target r
+  go (ends.FileFault name) (inl r) = inl (file name r)
+  go (ends.FileFault name) (inr r) = inr (folder name r)
+  go ends.OutFault r = rose_later w.out.faults u.out.faults v.out.faults a.out r
+  go other r = r
+
+abbrev pub whole : World → World
+whole w = w
+
+-- the world between two steps
+abbrev pub between : {A B : Type 0} {step : Step World A} {next : A → Step World B} {w v : World} {r : Result B Outcome} → Passed step next w r v → World
+between h = world h.disk h.out
+
+pub bound : {A B : Type 0} {s : Spares} {x : Parts} {step : World → Result A Outcome → World → Type 0} {next : A → World → Result B Outcome → World → Type 0}
+    → IsStep whole s x step → ((a : A) → IsStep whole s x (next a)) → IsStep whole s x (step >>= next)
+bound {A} {B} {s} {x} {step} {next} first rest = record { fair = fair; leaves = leaves } where
+  fair : (w v : World) (o : Outcome) → (step >>= next) w (Err o) v → IsFair x o w v
+  fair w v o (inl h) = first.fair w v o h
+  fair w v o (inr h) = fair_earlier _ _ _ x o (first.leaves w (between h) (Ok h.gave) h.did) ((rest h.gave).fair (between h) v o h.then)
+
+  leaves : (w v : World) (r : Result B Outcome) → (step >>= next) w r v → IsLeft s w v
+  leaves w v (Ok b) h = left_twice (first.leaves w (between h) (Ok h.gave) h.did) ((rest h.gave).leaves (between h) v (Ok b) h.then)
+  leaves w v (Err o) (inl h) = first.leaves w v (Err o) h
+  leaves w v (Err o) (inr h) = left_twice (first.leaves w (between h) (Ok h.gave) h.did) ((rest h.gave).leaves (between h) v (Err o) h.then)
+
+-- the same of each in order
+still : (s : Spares) (w : World) → IsLeft s w w
+still s w = record { keeps = record { files = λ t. refl; folders = λ t. refl; out = λ t. refl }; files = λ q. omega arith; folders = λ q. omega arith; out = omega arith }
+
+pub each_step : {X : Type 0} {s : Spares} {x : Parts} {step : X → Step World Unit} → ((y : X) → IsStep whole s x (step y)) → (ys : List X) → IsStep whole s x (each step ys)
+each_step {X} {s} {x} {step} k [] = record { fair = λ w v o h. absurd h; leaves = leaves } where
+  leaves : (w v : World) (r : Result Unit Outcome) → nothing w r v → IsLeft s w v
+  leaves w v (Ok u) h = subst (λ z. IsLeft s w z) (sym h) (still s w)
+  leaves w v (Err o) h = absurd h
+each_step {X} {s} {x} {step} k (y ∷ ys) = bound (k y) (λ u. each_step k ys)
+
+-- a step that touches nothing, whose refusals name nobody's fault
+pub pure_step : {A : Type 0} {s : Spares} {x : Parts} (answers : Result A Outcome → Type 0) → ((o : Outcome) (w v : World) → answers (Err o) → IsFair x o w v) → IsStep whole s x (Pure answers)
+pure_step {A} {s} {x} answers refuses = record { fair = λ w v o h. refuses o w v h.0; leaves = λ w v r h. subst (λ z. IsLeft s w z) (sym h.1) (still s w) }
+
+-- ---- steps over a part of the world
+
+abbrev pub round : Output → Disk → World
+round p d = world d p
+
+abbrev pub beside : Disk → Output → World
+beside d p = world d p
+
+pub on_disk : {A : Type 0} {s : Spares} {x : Parts} {step : Disk → Result A Outcome → Disk → Type 0} → ((p : Output) → IsStep (round p) s x step) → IsStep whole s x (OnDisk step)
+on_disk {A} {s} {x} {step} k = record {
+  fair = λ w v o h. subst (λ p. IsFair x o w (world v.disk p)) (sym h.1) ((k w.out).fair w.disk v.disk o h.0);
+  leaves = λ w v r h. subst (λ p. IsLeft s w (world v.disk p)) (sym h.1) ((k w.out).leaves w.disk v.disk r h.0);
+}
+
+pub on_out : {A : Type 0} {s : Spares} {x : Parts} {step : Output → Result A Outcome → Output → Type 0} → ((d : Disk) → IsStep (beside d) s x step) → IsStep whole s x (OnOut step)
+on_out {A} {s} {x} {step} k = record {
+  fair = λ w v o h. subst (λ d. IsFair x o w (world d v.out)) (sym h.1) ((k w.disk).fair w.out v.out o h.0);
+  leaves = λ w v r h. subst (λ d. IsLeft s w (world d v.out)) (sym h.1) ((k w.disk).leaves w.out v.out r h.0);
+}
+
+pub reads : {s : Spares} {d e : Disk} (p : Output) → Reads d e → IsLeft s (round p d) (round p e)
+reads p r = record { keeps = record { files = λ t. r.files; folders = λ t. r.folders; out = λ t. refl }; files = r.counts; folders = r.folder_counts; out = omega arith }
+
+-- what a step that writes folders leaves, and one that writes files
+pub adds : {f o : Bool} {d e : Disk} (p : Output) → Adds d e → IsLeft (record { files = f; folders = false; out = o }) (round p d) (round p e)
+adds p r = record { keeps = record { files = λ t. r.files; folders = λ t. absurd (cc); out = λ t. refl }; files = r.counts; folders = r.folder_counts; out = omega arith }
+
+pub writes : {f o : Bool} {d e : Disk} (p : Output) → Writes d e → IsLeft (record { files = false; folders = f; out = o }) (round p d) (round p e)
+writes p r = record { keeps = record { files = λ t. absurd (cc); folders = λ t. r.folders; out = λ t. refl }; files = r.counts; folders = r.folder_counts; out = omega arith }
+
+-- ---- the steps
+
+module _ (s : Spares) (x : Parts) (p : Output) where
+  file_fault : (d e : Disk) (q name : List ℕ) → name ≡ q → FileRose d e q → IsFair x (ends.FileFault name) (round p d) (round p e)
+  file_fault d e q name is rose = (tt, inl (subst (λ n. FileRose d e n) (sym is) rose))
+
+  pub index_step : (q : List ℕ) → IsStep (round p) s x (IndexRead q)
+  index_step q = record { fair = go; leaves = leaves } where
+    go : (d e : Disk) (o : Outcome) → IndexRead q d (Err o) e → IsFair x o (round p d) (round p e)
+    go d e (ends.NoFile name) h = (tt, tt)
+    go d e (ends.BadIndex name fault) h = (tt, tt)
+    go d e (ends.FileFault name) h = file_fault d e q name h.0.0 h.0.1
+    go d e ends.Memory h = (tt, tt)
+    go d e other h = absurd h.0
+
+    leaves : (d e : Disk) (r : Result Listing Outcome) → IndexRead q d r e → IsLeft s (round p d) (round p e)
+    leaves d e (Ok l) h = reads p h.1
+    leaves d e (Err o) h = reads p h.1
+
+  pub image_step : IsStep (round p) s x (ImageOpened x.image)
+  image_step = record { fair = go; leaves = leaves } where
+    go : (d e : Disk) (o : Outcome) → ImageOpened x.image d (Err o) e → IsFair x o (round p d) (round p e)
+    go d e (ends.NoFile name) h = (tt, tt)
+    go d e ends.ImageFault h = (tt, h.0)
+    go d e ends.Memory h = (tt, tt)
+    go d e other h = absurd h.0
+
+    leaves : (d e : Disk) (r : Result (Option (List ℕ)) Outcome) → ImageOpened x.image d r e → IsLeft s (round p d) (round p e)
+    leaves d e (Ok told) h = reads p h.1
+    leaves d e (Err o) h = reads p h.1
+
+  pub first_fair : (d e : Disk) (names : List (List ℕ)) (o : Outcome) → NoneReached d e names o → IsFair x o (round p d) (round p e)
+  first_fair d e [] o h = absurd h
+  first_fair d e (q ∷ names) o (inl h) = reached_fair o h where
+    reached_fair : (r : Outcome) → NotReached d e q r → IsFair x r (round p d) (round p e)
+    reached_fair (ends.NoFolder name) k = (tt, tt)
+    reached_fair (ends.FileFault name) k = (tt, inr (subst (λ n. FolderRose d e n) (sym k.0) k.1))
+    reached_fair ends.Memory k = (tt, tt)
+    reached_fair other k = absurd k
+  first_fair d e (q ∷ names) o (inr h) = first_fair d e names o h.1
+
+  pub opened_step : IsStep (round p) s x (StoresOpened x.stores)
+  opened_step = record { fair = go; leaves = leaves } where
+    go : (d e : Disk) (o : Outcome) → StoresOpened x.stores d (Err o) e → IsFair x o (round p d) (round p e)
+    go d e o h = elim h.0 [ inl k ↦ first_fair d e x.stores o k | inr k ↦ subst (λ r. IsFair x r (round p d) (round p e)) (sym k) (tt, tt) ]
+
+    leaves : (d e : Disk) (r : Result Unit Outcome) → StoresOpened x.stores d r e → IsLeft s (round p d) (round p e)
+    leaves d e (Ok u) h = reads p h.1
+    leaves d e (Err o) h = reads p h.1
+
+pub taken_step : (f o : Bool) (x : Parts) (p : Output) (q : List ℕ) → IsStep (round p) (record { files = f; folders = false; out = o }) x (StoreTaken q)
+taken_step f o x p q = record { fair = λ d e r h. first_fair (record { files = f; folders = false; out = o }) x p d e (q ∷ []) r (inl h.0); leaves = leaves } where
+  leaves : (d e : Disk) (r : Result (Option (Map (List ℕ))) Outcome) → StoreTaken q d r e → IsLeft (record { files = f; folders = false; out = o }) (round p d) (round p e)
+  leaves d e (Ok held) h = adds p h.1.1
+  leaves d e (Err r) h = reads p h.1
+
+pub printed_step : (f g : Bool) (x : Parts) (d : Disk) (text : List ℕ) → IsStep (beside d) (record { files = f; folders = g; out = false }) x (Printed text)
+printed_step f g x d text = record {
+  fair = go;
+  leaves = λ p q r h. record { keeps = record { files = λ t. refl; folders = λ t. refl; out = λ t. absurd (cc) }; files = λ n. omega arith; folders = λ n. omega arith; out = h.1 };
+} where
+  go : (p q : Output) (o : Outcome) → Printed text p (Err o) q → IsFair x o (beside d p) (beside d q)
+  go p q ends.OutFault h = (tt, h.0.0)
+  go p q ends.Memory h = (tt, tt)
+  go p q other h = absurd h.0

@@ -1,0 +1,5 @@
+pub mod Numbers
+pub mod Lent
+pub mod Opened
+pub mod Texts
+pub mod Fair

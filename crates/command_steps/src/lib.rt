@@ -1,0 +1,7 @@
+//! The steps that commands share. Each gives what the next ones need, or the outcome that ends the command.
+#![tactic(auto)]
+
+pub mod any_store;
+pub mod openings;
+pub mod printing;
+pub mod stores;

@@ -1,0 +1,202 @@
+-- What each command leaves, and what its refusals tell: a lemma for each step of its own, and a line a command.
+use Rattle.std.proofs.Common.{◌≡◌, ◌∙◌, ℕ, List, IfSome, [], ◌∷◌, Bool, true, false, Option, Some, None, Result, Ok, Err, refl, sym, subst, inl, inr, arith, cond}
+use Rattle.std.specs.Map.{count_at}
+use Rattle.buzhash_cut.specs.Sizes.{Sizes}
+use Rattle.caibx_codec.specs.Listing.{Listing, id_of}
+use Rattle.command_help.specs.Help.{help_text}
+use Rattle.command_help.specs.declared.help.Topic.TheVariants as topics
+use Rattle.command_line.specs.CommandLine.{command_line}
+use Rattle.command_line.specs.declared.command.Command.{Command}
+use Rattle.command_line.specs.declared.command.Command.TheVariants as commands
+use Rattle.command_line.specs.declared.usage.UsageWhy.{UsageWhy}
+use Rattle.command_line.specs.declared.usage.UsageWhy.TheVariants as whys
+use Rattle.command_line.specs.declared.usage.WordsFault.{WordsFault}
+use Rattle.command_outcome.specs.declared.outcome.Outcome.{Outcome}
+use Rattle.command_outcome.specs.declared.outcome.Outcome.TheVariants as ends
+use Rattle.command_steps.specs.Blames.{Blames, Keeps, NothingFailed, Parts, Spares, name_at}
+use Rattle.command_steps.specs.Steps.{Passed, answer_of, outcome_of}
+use Rattle.command_steps.specs.Worlds.{FileRose, FolderRose, NoFault, World, world}
+use Rattle.command_steps.proofs.Fair.{IsFair, IsLeft, IsRefusal, IsStep, adds, beside, between, bound, first_failed, first_fair, image_step, index_step, on_disk, on_out, opened_step, printed_step, pure_step, reads, round, taken_step, whole, writes}
+use Rattle.command_steps.proofs.Numbers.{rose_not_quiet}
+use Rattle.desync_cli.specs.Commands.{DesyncEnds, Ends, NoCommand, TellsRefusal, WordsRead, built_in, command_of, is_built, parts, refusal_in, refusal_of, spares}
+use Rattle.desync_cli.specs.Extract.{ImageMade, LacksEntry}
+use Rattle.desync_cli.specs.Info.{IdsCounted, NotAsked}
+use Rattle.desync_cli.specs.Make.{ImageStored, IndexWritten, SizesJudged}
+use Rattle.desync_cli.specs.VerifyIndex.{ImageChecked}
+use Rattle.command_steps.specs.Stores.{name_of}
+use Rattle.dsy_base.specs.Disk.{Disk, Output}
+use Rattle.dsy_base.specs.Maps.{Map}
+use Rattle.verify_tool.specs.Texts.{text_of_chunks, text_of_info}
+
+-- ---- the steps of one command
+
+module _ (s : Spares) (x : Parts) (p : Output) where
+  asked_fair : (l : Listing) (d e : Disk) (o : Outcome) → NotAsked d e x.stores l o → IsFair x o (round p d) (round p e)
+  asked_fair l d e (ends.StoreFault k) h = (tt, first_failed (λ m. m (id_of l h.1.0) ≡ None) d e k x.stores h.1.2)
+  asked_fair l d e ends.Memory h = (tt, tt)
+  asked_fair l d e other h = absurd h
+
+  counted_step : (l : Listing) → IsStep (round p) s x (IdsCounted x.stores l)
+  counted_step l = record { fair = go; leaves = λ d e r h. reads p h.1 } where
+    go : (d e : Disk) (o : Outcome) → IdsCounted x.stores l d (Err o) e → IsFair x o (round p d) (round p e)
+    go d e o h = elim h.0 [ inl k ↦ first_fair s x p d e x.stores o k | inr k ↦ asked_fair l d e o k ]
+
+  checked_step : (l : Listing) (told : Option (List ℕ)) → IsStep (round p) s x (ImageChecked x.image l told)
+  checked_step l told = record { fair = go; leaves = λ d e r h. reads p h.1 } where
+    go : (d e : Disk) (o : Outcome) → ImageChecked x.image l told d (Err o) e → IsFair x o (round p d) (round p e)
+    go d e (ends.Length n) h = (tt, tt)
+    go d e (ends.Mismatch k got) h = (tt, tt)
+    go d e ends.ImageFault h = (tt, h.0)
+    go d e ends.Memory h = (tt, tt)
+    go d e other h = absurd h.0
+
+  assembled_fair : (l : Listing) (d e : Disk) (o : Outcome) → ImageMade x.stores x.target l d (Err o) e → IsFair x o (round p d) (round p e)
+  assembled_fair l d e (ends.Missing k id) h = (tt, tt)
+  assembled_fair l d e (ends.Damaged k id store shows) h = (tt, tt)
+  assembled_fair l d e (ends.StoreFault k) h = (tt, first_failed (LacksEntry l h.0.0) d e k x.stores h.0.1)
+  assembled_fair l d e ends.TargetFault h = (tt, h.0.0)
+  assembled_fair l d e ends.Memory h = (tt, tt)
+  assembled_fair l d e other h = absurd h.0
+
+  stored_fair : (z : Sizes) (told : Option (List ℕ)) (q : List ℕ) (held : Option (Map (List ℕ))) → name_at x.stores 0 ≡ q → (d e : Disk) (o : Outcome) → ImageStored z x.image told q held d (Err o) e → IsFair x o (round p d) (round p e)
+  stored_fair z told q held same d e ends.TooManyItems h = (tt, tt)
+  stored_fair z told q held same d e ends.ImageFault h = (tt, h.0.0)
+  stored_fair z told q held same d e (ends.Changed k was got) h = (tt, tt)
+  stored_fair z told q held same d e (ends.StoreFault k) h = (tt, subst (λ n. FolderRose d e (name_at x.stores n)) (sym h.0.0) (subst (λ n. FolderRose d e n) (sym same) h.0.1))
+  stored_fair z told q held same d e ends.Memory h = (tt, tt)
+  stored_fair z told q held same d e other h = absurd h.0
+
+  written_fair : (q bytes : List ℕ) (d e : Disk) (o : Outcome) → IndexWritten q bytes d (Err o) e → IsFair x o (round p d) (round p e)
+  written_fair q bytes d e (ends.FileFault name) h = (tt, inl (subst (λ n. FileRose d e n) (sym h.0.0) h.0.1))
+  written_fair q bytes d e ends.Memory h = (tt, tt)
+  written_fair q bytes d e other h = absurd h.0
+
+assembled_step : (f o : Bool) (x : Parts) (p : Output) (l : Listing) → IsStep (round p) (record { files = false; folders = f; out = o }) x (ImageMade x.stores x.target l)
+assembled_step f o x p l = record { fair = assembled_fair (record { files = false; folders = f; out = o }) x p l; leaves = λ d e r h. writes p h.1 }
+
+stored_step : (f o : Bool) (x : Parts) (p : Output) (z : Sizes) (told : Option (List ℕ)) (q : List ℕ) (held : Option (Map (List ℕ))) → name_at x.stores 0 ≡ q
+    → IsStep (round p) (record { files = f; folders = false; out = o }) x (ImageStored z x.image told q held)
+stored_step f o x p z told q held same = record { fair = stored_fair (record { files = f; folders = false; out = o }) x p z told q held same; leaves = leaves } where
+  leaves : (d e : Disk) (r : Result (List ℕ) Outcome) → ImageStored z x.image told q held d r e → IsLeft (record { files = f; folders = false; out = o }) (round p d) (round p e)
+  leaves d e (Ok bytes) h = adds p h.2
+  leaves d e (Err r) h = adds p h.1
+
+written_step : (f o : Bool) (x : Parts) (p : Output) (q bytes : List ℕ) → IsStep (round p) (record { files = false; folders = f; out = o }) x (IndexWritten q bytes)
+written_step f o x p q bytes = record { fair = written_fair (record { files = false; folders = f; out = o }) x p q bytes; leaves = leaves } where
+  leaves : (d e : Disk) (r : Result Unit Outcome) → IndexWritten q bytes d r e → IsLeft (record { files = false; folders = f; out = o }) (round p d) (round p e)
+  leaves d e (Ok u) h = writes p h.1
+  leaves d e (Err r) h = writes p h.2
+
+judged_fair : (x : Parts) (sizes : List ℕ) (o : Outcome) (w v : World) → SizesJudged sizes (Err o) → IsFair x o w v
+judged_fair x sizes (ends.Sizes fault) w v h = (tt, tt)
+judged_fair x sizes other w v h = absurd h
+
+-- ---- the commands
+
+command_step : (c : Command) → IsStep whole (spares c) (parts c) (Ends c)
+command_step (commands.Make store sizes workers index image) = bound (pure_step (SizesJudged sizes) (judged_fair (parts (commands.Make store sizes workers index image)) sizes)) (λ z. bound (on_disk (λ p. image_step _ _ p)) (λ told. bound (on_disk (λ p. taken_step _ _ _ p (name_of store))) (λ held. bound (on_disk (λ p. stored_step _ _ _ p z told (name_of store) held refl)) (λ bytes. on_disk (λ p. written_step _ _ _ p index bytes)))))
+command_step (commands.VerifyIndex index image) = bound (on_disk (λ p. index_step _ _ p index)) (λ l. bound (on_disk (λ p. image_step _ _ p)) (λ told. on_disk (λ p. checked_step _ _ p l told)))
+command_step (commands.ListChunks index) = bound (on_disk (λ p. index_step _ _ p index)) (λ l. on_out (λ d. printed_step _ _ _ d (text_of_chunks l)))
+command_step (commands.Extract stores seeds cache in_place workers index target) = bound (on_disk (λ p. index_step _ _ p index)) (λ l. bound (on_disk (λ p. opened_step _ _ p)) (λ u. on_disk (λ p. assembled_step _ _ _ p l)))
+command_step (commands.Info stores index) = bound (on_disk (λ p. index_step _ _ p index)) (λ l. bound (on_disk (λ p. counted_step _ _ p l)) (λ n. on_out (λ d. printed_step _ _ _ d (text_of_info l n))))
+command_step commands.Help = on_out (λ d. printed_step _ _ _ d (help_text topics.All))
+command_step commands.Version = on_out (λ d. printed_step _ _ _ d (help_text topics.Version))
+command_step (commands.HelpOn kind) = on_out (λ d. printed_step _ _ _ d (help_text (topics.Command kind)))
+command_step other = record { fair = λ w v o h. absurd h; leaves = λ w v r h. absurd h }
+
+-- ---- what the top call says
+
+-- the command began where the words were read
+pub begun : (words : List (List ℕ)) (w v : World) (r : Result Unit Outcome) → Passed (WordsRead words) Ends w r v → (c : Command) × (command_of words ≡ Some c) × Ends c w r v
+begun words w v r h = (h.gave, h.did.0, subst (λ u. Ends h.gave u r v) h.did.1 h.then)
+
+pub if_some : {X : Type 0} (o : Option X) (P : X → Type 0) (x : X) → o ≡ Some x → P x → IfSome o P
+if_some o P x is p = subst (λ r. IfSome r P) (sym is) p
+
+if_any : {X : Type 0} (o : Option X) (P : X → Type 0) → ((x : X) → P x) → IfSome o P
+if_any None P f = tt
+if_any (Some x) P f = f x
+
+as_answer : (o : Outcome) → IsRefusal o → answer_of o ≡ Err o
+as_answer ends.Done h = absurd h
+as_answer (ends.Usage place why) h = absurd h
+as_answer other h = refl
+
+words_answer : (words : List (List ℕ)) (o : Outcome) → NoCommand words o → answer_of o ≡ Err o
+words_answer words ends.Done h = absurd h
+words_answer words other h = refl
+
+answer_is : (words : List (List ℕ)) (w v : World) (o : Outcome) → DesyncEnds words w (Err o) v → answer_of o ≡ Err o
+answer_is words w v o (inl h) = words_answer words o h.0
+answer_is words w v o (inr h) = as_answer o ((command_step h.gave).fair (between h) v o h.then).0
+
+pub answered : (words : List (List ℕ)) (w v : World) (r : Result Unit Outcome) → DesyncEnds words w r v → DesyncEnds words w (answer_of (outcome_of r)) v
+answered words w v (Ok u) h = h
+answered words w v (Err o) h = subst (λ (r : Result Unit Outcome). DesyncEnds words w r v) (sym (answer_is words w v o h)) h
+
+pub kept : (words : List (List ℕ)) (w v : World) (r : Result Unit Outcome) → DesyncEnds words w r v → IfSome (command_of words) (λ c. Keeps (spares c) w v)
+kept words w v (Ok u) h = let b = begun words w v (Ok u) h in if_some (command_of words) _ b.0 b.1 ((command_step b.0).leaves w v (Ok u) b.2).keeps
+kept words w v (Err o) (inl h) = if_any (command_of words) _ (λ c. subst (λ u. Keeps (spares c) w u) (sym h.1) (record { files = λ t. refl; folders = λ t. refl; out = λ t. refl }))
+kept words w v (Err o) (inr h) = let b = begun words w v (Err o) h in if_some (command_of words) _ b.0 b.1 ((command_step b.0).leaves w v (Err o) b.2).keeps
+
+words_blame : (words : List (List ℕ)) (x : Parts) (w v : World) (o : Outcome) → NoCommand words o → Blames x o w v
+words_blame words x w v (ends.Usage place why) h = tt
+words_blame words x w v ends.Memory h = tt
+words_blame words x w v other h = absurd h
+
+pub blamed : (words : List (List ℕ)) (w v : World) (r : Result Unit Outcome) → DesyncEnds words w r v → IfSome (command_of words) (λ c. Blames (parts c) (outcome_of r) w v)
+blamed words w v (Ok u) h = if_any (command_of words) _ (λ c. tt)
+blamed words w v (Err o) (inl h) = if_any (command_of words) _ (λ c. words_blame words (parts c) w v o h.0)
+blamed words w v (Err o) (inr h) = let b = begun words w v (Err o) h in if_some (command_of words) _ b.0 b.1 ((command_step b.0).fair w v o b.2).1
+
+quiet : (x : Parts) (w v : World) (o : Outcome) → NoFault w v → Blames x o w v → NothingFailed o
+quiet x w v o n h = go o h where
+  file : (q : List ℕ) → FileRose w.disk v.disk q → ⊥
+  file q rose = rose_not_quiet (count_at w.disk.file_counts q) (count_at w.disk.file_counts q) (count_at v.disk.file_counts q) (omega arith) rose (n.disk.files q)
+
+  folder : (q : List ℕ) → FolderRose w.disk v.disk q → ⊥
+  folder q rose = rose_not_quiet (count_at w.disk.folder_counts q) (count_at w.disk.folder_counts q) (count_at v.disk.folder_counts q) (omega arith) rose (n.disk.folders q)
+
+  go : (o : Outcome) → Blames x o w v → NothingFailed o
+  go ends.ImageFault r = file x.image r
+  go (ends.StoreFault s) r = folder (name_at x.stores s) r
+  go ends.TargetFault r = file x.target r
+  go (ends.FileFault name) (inl r) = file name r
+  go (ends.FileFault name) (inr r) = folder name r
+  go ends.OutFault r = rose_not_quiet w.out.faults w.out.faults v.out.faults (omega arith) r n.out
+  go other r = tt
+
+words_quiet : (words : List (List ℕ)) (o : Outcome) → NoCommand words o → NothingFailed o
+words_quiet words (ends.Usage place why) h = tt
+words_quiet words ends.Memory h = tt
+words_quiet words other h = absurd h
+
+pub nothing_failed : (words : List (List ℕ)) (w v : World) (r : Result Unit Outcome) → DesyncEnds words w r v → NoFault w v → NothingFailed (outcome_of r)
+nothing_failed words w v (Ok u) h n = tt
+nothing_failed words w v (Err o) (inl h) n = words_quiet words o h.0
+nothing_failed words w v (Err o) (inr h) n = let b = begun words w v (Err o) h in quiet (parts b.0) w v o n ((command_step b.0).fair w v o b.2).1
+
+abbrev not_yet : ℕ × UsageWhy
+not_yet = (0, whys.NotYet)
+
+unrefused : (r : Result Command WordsFault) (c : Command) → built_in r ≡ Some c → refusal_in r ≡ None
+unrefused (Ok d) c h = go (is_built d) h where
+  go : (b : Bool) → cond b (Some d) None ≡ Some c → cond b None (Some not_yet) ≡ None
+  go true h = refl
+  go false h = absurd (cc)
+unrefused (Err e) c h = absurd (cc)
+
+words_tell : (words : List (List ℕ)) (o : Outcome) → NoCommand words o → TellsRefusal (refusal_of words) o
+words_tell words (ends.Usage place why) h = h
+words_tell words ends.Memory h = tt
+words_tell words other h = absurd h
+
+command_tells : (words : List (List ℕ)) (o : Outcome) → IsRefusal o → refusal_of words ≡ None → TellsRefusal (refusal_of words) o
+command_tells words (ends.Usage place why) r h = absurd r
+command_tells words ends.Memory r h = tt
+command_tells words other r h = h
+
+pub tells_refusal : (words : List (List ℕ)) (w v : World) (r : Result Unit Outcome) → DesyncEnds words w r v → TellsRefusal (refusal_of words) (outcome_of r)
+tells_refusal words w v (Ok u) h = unrefused (command_line words) h.gave h.did.0
+tells_refusal words w v (Err o) (inl h) = words_tell words o h.0
+tells_refusal words w v (Err o) (inr h) = command_tells words o ((command_step h.gave).fair (between h) v o h.then).0 (unrefused (command_line words) h.gave h.did.0)

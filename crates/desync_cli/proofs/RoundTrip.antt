@@ -1,0 +1,52 @@
+-- What comes back where `make` and then `extract` are done.
+use Rattle.std.proofs.Common.{◌≡◌, ◌⊎◌, ℕ, List, Option, Some, None, IfSome, subst, sym, ap, ◌∙◌}
+use Rattle.buzhash_cut.specs.Image.{IsIndexOfImage}
+use Rattle.buzhash_cut.specs.Right.{HasTwins}
+use Rattle.buzhash_cut.specs.Sizes.{Sizes}
+use Rattle.caibx_codec.specs.Listing.{Listing}
+use Rattle.caibx_codec.specs.Right.{IsRight}
+use Rattle.caibx_codec.specs.Spelling.{IsIndexFile}
+use Rattle.command_line.specs.declared.command.Command.{Command}
+use Rattle.command_line.specs.declared.command.Command.TheVariants as commands
+use Rattle.command_steps.specs.Stores.{name_of}
+use Rattle.command_steps.specs.Worlds.{world}
+use Rattle.desync_cli.specs.Commands.{Achieves}
+use Rattle.desync_cli.specs.Extract.{IsExtracted}
+use Rattle.desync_cli.specs.Make.{IsMade}
+use Rattle.desync_cli.specs.RoundTrip.{ComesBack, RoundTrip}
+use Rattle.dsy_base.specs.Disk.{Disk, Output}
+use Rattle.dsy_base.specs.Maps.{Map}
+
+abbrev tells : Map (List ℕ) → Map (Map (List ℕ)) → Map ℕ → Map ℕ → Disk
+tells files folders counts folder_counts = record { files = Some files; folders = Some folders; file_counts = counts; folder_counts = folder_counts }
+
+module _ (one : (b : List ℕ) (l m : Listing) → IsIndexFile b l → IsIndexFile b m → l ≡ m)
+    (law : (s : Sizes) (image t : List ℕ) (l : Listing) → IsIndexOfImage s image l → IsRight t l → (t ≡ image) ⊎ HasTwins t image l) where
+  back : (before between after : Map (List ℕ)) (folders folders_after : Map (Map (List ℕ))) (folder sizes index image out : List ℕ) → IsMade before folders between folders_after folder sizes index image → IsExtracted between after index out → ComesBack before after image out
+  back before between after folders folders_after folder sizes index image out m x =
+      let read : Some x.listed.bytes ≡ Some m.file = sym x.listed.there ∙ m.written in
+      let bytes : x.listed.bytes ≡ m.file = cc in
+      let same : x.listing ≡ m.listing = one m.file x.listing m.listing (subst (λ b. IsIndexFile b x.listing) bytes x.listed.file) m.is_file in
+      record {
+        bytes = m.bytes;
+        was = m.image_was;
+        now = x.image;
+        is = x.holds;
+        listing = m.listing;
+        same = law _ m.bytes x.image m.listing m.of_image (subst (λ l. IsRight x.image l) same x.right);
+      }
+
+  over : (first then : Command) (b m a : Map (List ℕ)) (f g h : Map (Map (List ℕ))) (bc fc mc gc ac hc : Map ℕ) (p q r : Output) → Achieves first (world (tells b f bc fc) p) (world (tells m g mc gc) q) → Achieves then (world (tells m g mc gc) q) (world (tells a h ac hc) r)
+      → RoundTrip (Some first) (Some then) b a
+  over (commands.Make store sizes workers index image) (commands.Extract stores seeds cache in_place n other out) b m a f g h bc fc mc gc ac hc p q r x y = λ same. back b m a f g (name_of store) sizes index image out x (subst (λ i. IsExtracted m a i out) same y)
+  over first then b m a f g h bc fc mc gc ac hc p q r x y = tt
+
+  no_second : (first : Command) (b a : Map (List ℕ)) → RoundTrip (Some first) None b a
+  no_second (commands.Make store sizes workers index image) b a = tt
+  no_second other b a = tt
+
+  pub round_trip : (first then : Option Command) (b m a : Map (List ℕ)) (f g h : Map (Map (List ℕ))) (bc fc mc gc ac hc : Map ℕ) (p q r : Output) → IfSome first (λ c. Achieves c (world (tells b f bc fc) p) (world (tells m g mc gc) q)) → IfSome then (λ c. Achieves c (world (tells m g mc gc) q) (world (tells a h ac hc) r))
+      → RoundTrip first then b a
+  round_trip None then b m a f g h bc fc mc gc ac hc p q r x y = tt
+  round_trip (Some first) None b m a f g h bc fc mc gc ac hc p q r x y = no_second first b a
+  round_trip (Some first) (Some then) b m a f g h bc fc mc gc ac hc p q r x y = over first then b m a f g h bc fc mc gc ac hc p q r x y

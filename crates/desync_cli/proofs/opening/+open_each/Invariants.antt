@@ -1,5 +1,0 @@
-use Rattle.std.proofs.Common.{length}
-use Rattle.desync_cli.proofs.opening.+open_each.Given as goal
-
-abbrev pub decreases-open_each : goal.decreases-open_each
-decreases-open_each g l = length l.names.now

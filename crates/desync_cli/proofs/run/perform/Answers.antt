@@ -1,0 +1,10 @@
+use Rattle.desync_cli.proofs.run.perform.Goals as goal
+
+pub returns-in-Make : goal.returns-in-Make
+returns-in-Make g c = record { ends = rw c.in-Make.is (c.make.ensures.ends _) }
+
+pub returns-in-VerifyIndex : goal.returns-in-VerifyIndex
+returns-in-VerifyIndex g c = record { ends = rw c.in-VerifyIndex.is (c.verify_index.ensures.ends _) }
+
+pub returns-in-Extract : goal.returns-in-Extract
+returns-in-Extract g c = record { ends = rw c.in-Extract.is (c.extract.ensures.ends _) }

@@ -1,0 +1,13 @@
+-- `list-chunks INDEX`.
+use Rattle.std.specs.Prelude.{ℕ, List, Result}
+use Rattle.command_outcome.specs.declared.outcome.Outcome.{Outcome}
+use Rattle.verify_tool.specs.Texts.{text_of_chunks}
+use Rattle.command_steps.specs.Openings.{IndexRead}
+use Rattle.command_steps.specs.Printing.{Printed}
+use Rattle.command_steps.specs.Steps.{◌>>=◌}
+use Rattle.command_steps.specs.Worlds.{OnDisk, OnOut, Step, World}
+
+abbrev pub ListChunksEnds : List ℕ → Step World Unit
+ListChunksEnds index = do
+  l ← OnDisk (IndexRead index)
+  OnOut (Printed (text_of_chunks l))

@@ -1,0 +1,23 @@
+-- `make`, and then `extract` of the index that it wrote.
+use Rattle.std.specs.Prelude.{◌≡◌, ◌⊎◌, ℕ, List, Option, Some}
+use Rattle.buzhash_cut.specs.Right.{HasTwins}
+use Rattle.caibx_codec.specs.Listing.{Listing}
+use Rattle.command_line.specs.declared.command.Command.{Command}
+use Rattle.command_line.specs.declared.command.Command.TheVariants as commands
+use Rattle.dsy_base.specs.Maps.{Map}
+
+-- OUT holds afterwards what IMAGE held before, or a chunk shows two unequal pieces of bytes that have one name
+pub record ComesBack (before after : Map (List ℕ)) (image out : List ℕ) : Type 0 where
+  pub bytes : List ℕ
+  pub was : before image ≡ Some bytes
+  pub now : List ℕ
+  pub is : after out ≡ Some now
+  pub listing : Listing
+  pub same : (now ≡ bytes) ⊎ HasTwins now bytes listing
+
+-- so it is where the first command is a `make` and the second an `extract` with the same INDEX
+abbrev pub RoundTrip : Option Command → Option Command → Map (List ℕ) → Map (List ℕ) → Type 0
+RoundTrip (Some (commands.Make store sizes workers index image))
+    (Some (commands.Extract stores seeds cache in_place n other out)) before after =
+    other ≡ index → ComesBack before after image out
+RoundTrip first then before after = Unit {0}

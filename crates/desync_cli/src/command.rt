@@ -1,0 +1,8 @@
+//! The commands, a file each.
+
+pub mod extract;
+pub mod help;
+pub mod info;
+pub mod list_chunks;
+pub mod make;
+pub mod verify_index;

@@ -1,0 +1,126 @@
+//! `make -s STORE INDEX IMAGE`: INDEX becomes the index of IMAGE, and STORE holds each of its chunks.
+
+ghost use Rattle.std.specs.Prelude.{◌≡◌, IfErr, IfOk, IsSome, OnErr, OnOk};
+ghost use Rattle.command_steps.specs.AnyStores.{faults_in, files_in, place_in};
+ghost use Rattle.command_steps.specs.Stores.{IsStoreAt, IsTaken, NotReached, name_of};
+ghost use Rattle.command_steps.specs.Worlds.{Reads, world};
+ghost use Rattle.desync_cli.specs.Make.{ImageStored, IndexWritten, MakeEnds, SizesJudged};
+ghost use Rattle.dsy_base.specs.Disk.{Output};
+
+use buzhash_cut::sizes::CutSizes;
+use command_line::command::Location;
+use command_outcome::outcome::Outcome;
+use command_steps::any_store::AnyStore;
+use command_steps::openings::open_image;
+use command_steps::stores::{give_store, take_store};
+use dsy_base::fault::IoFault;
+use dsy_base::files::Files;
+use dsy_base::folder::Folder;
+use dsy_base::look::Look;
+use dsy_base::name::Name;
+use dsy_base::view::View;
+use image_store::put_chunks::MakeFault;
+use image_store::store_image::store_image;
+use std::alloc::Global;
+
+// The sizes, unless they are refused.
+fn judge(sizes: [u64; 3]) -> Result<CutSizes, Outcome>
+    ensures { SizesJudged sizes result }
+{
+    match CutSizes::new(sizes[0], sizes[1], sizes[2]) {
+        Ok(sizes) => Ok(sizes),
+        Err(fault) => Err(Outcome::Sizes(fault)),
+    }
+}
+
+// Takes the store's folder while the image is open, which is given back where it isn't reached.
+fn take_beside<F: Files>(
+    alloc: Global,
+    files: &mut F,
+    view: F::View,
+    store: &Location,
+) -> Result<(F::View, AnyStore<F::Folder>), Outcome>
+    requires known { IsSome ((F.disk files.old).file_counts (F.View.held view).name) }
+    ensures ok { IfOk result (λ r. (r.0 ≡ view) × IsStoreAt (files_in F.Folder.files) (place_in F.Folder.place)
+        (faults_in F.Folder.faults) (F.disk files.old).folders (name_of store.now) r.1) }
+    ensures changed { OnOk result (IsTaken (F.disk files.old) (F.disk files.new) (name_of store.now)) }
+    ensures known { OnOk result (IsSome ((F.disk files.new).folder_counts (name_of store.now))) }
+    ensures err { IfErr result (NotReached (F.disk files.old) (F.disk files.new) (name_of store.now)) }
+    ensures kept { OnErr result (Reads (F.disk files.old) (F.disk files.new)) }
+{
+    match take_store(alloc, files, store) {
+        Ok(taken) => Ok((view, taken)),
+        Err(outcome) => {
+            files.end_view(view);
+            Err(outcome)
+        }
+    }
+}
+
+// Stores the image in the store's folder that was taken, and gives the bytes of its index file. Image and folder are
+// given back, whatever the answer is.
+fn store_between<F: Files>(
+    alloc: Global,
+    files: &mut F,
+    sizes: &CutSizes,
+    view: F::View,
+    store: &Location,
+    taken: AnyStore<F::Folder>,
+) -> Result<Vec<u8>, Outcome>
+    requires image { IsSome ((F.disk files.old).file_counts (F.View.held view).name) }
+    requires folder { IsSome ((F.disk files.old).folder_counts (name_of store.now)) }
+    requires named { place_in F.Folder.place taken ≡ name_of store.now }
+    requires fresh { (F.View.faults view ≡ 0) × (faults_in F.Folder.faults taken ≡ 0) }
+    ensures ok { IfOk result (λ v. ImageStored sizes.now (F.View.held view).name (F.View.held view).bytes
+        (name_of store.now)
+        (files_in F.Folder.files taken) (F.disk files.old) (Ok v.items) (F.disk files.new)) }
+    ensures err { IfErr result (λ o. ImageStored sizes.now (F.View.held view).name (F.View.held view).bytes
+        (name_of store.now)
+        (files_in F.Folder.files taken) (F.disk files.old) (Err o) (F.disk files.new)) }
+{
+    let (view, taken, stored) = store_image(alloc, sizes, view, taken);
+    files.end_view(view);
+    give_store(files, store, taken);
+    match stored {
+        Ok(bytes) => Ok(bytes),
+        Err(fault) => match fault {
+            MakeFault::ImageFault => Err(Outcome::ImageFault),
+            MakeFault::TooManyItems => Err(Outcome::TooManyItems),
+            MakeFault::Changed { entry, was, got } => Err(Outcome::Changed { entry, was, got }),
+            MakeFault::StoreFault => Err(Outcome::StoreFault { store: 0 }),
+            MakeFault::Memory => Err(Outcome::Memory),
+        },
+    }
+}
+
+// Writes the index file of this name.
+fn write_index<F: Files>(files: &mut F, name: Name, bytes: &[u8]) -> Result<(), Outcome>
+    ensures { IndexWritten name bytes.now (F.disk files.old) result (F.disk files.new) }
+{
+    match files.replace(name.as_str(), bytes) {
+        Ok(()) => Ok(()),
+        Err(IoFault::Failed) => Err(Outcome::FileFault { name }),
+        Err(IoFault::Memory) => Err(Outcome::Memory),
+    }
+}
+
+/// Makes INDEX the index of IMAGE, cut by the sizes, and puts its chunks into STORE. What STORE holds already is left
+/// where it is right.
+pub fn make<F: Files>(
+    alloc: Global,
+    files: &mut F,
+    store: Location,
+    sizes: [u64; 3],
+    index: Name,
+    image: Name,
+) -> Result<(), Outcome>
+    ensures ends { (p : Output) → MakeEnds store sizes index image (world (F.disk files.old) p) result
+        (world (F.disk files.new) p) }
+{
+    let sizes = judge(sizes)?;
+    let view = open_image(files, image)?;
+    let (view, taken) = take_beside(alloc, files, view, &store)?;
+    let bytes = store_between(alloc, files, &sizes, view, &store, taken)?;
+    write_index(files, index, &bytes)?;
+    Ok(())
+}
