@@ -20,17 +20,14 @@ LEAST, GREATEST = 16 * 1024, 256 * 1024
 def write_image(folder, size):
     """Writes the image, its index and its store, chunk by chunk. Answers the number of chunks."""
     chance = random.Random(512)
-    entries, end = [], 0
+    index = formats.Index([])
     with open(os.path.join(folder, 'image'), 'wb') as image:
-        while end < size:
-            chunk = chance.randbytes(min(chance.randint(LEAST, GREATEST), size - end))
-            end += len(chunk)
-            entries.append((end, formats.name_of(chunk)))
-            formats.write_chunk(os.path.join(folder, 'store'), entries[-1][1], chunk)
+        while index.length() < size:
+            chunk = chance.randbytes(min(chance.randint(LEAST, GREATEST), size - index.length()))
+            formats.write_chunk(os.path.join(folder, 'store'), index.add(chunk), chunk)
             image.write(chunk)
-    with open(os.path.join(folder, 'image.caibx'), 'wb') as index:
-        index.write(formats.spell_index(formats.Index(entries)))
-    return len(entries)
+    formats.write_index(os.path.join(folder, 'image.caibx'), index)
+    return len(index.entries)
 
 
 def main():

@@ -14,30 +14,18 @@ import side_by_side
 import formats
 
 CHUNK = 65536
-BLOCK = 1 << 16
-
-
-def write_long_index(path):
-    """The index of 2^22 chunks of one byte each."""
-    with open(path, 'wb') as file:
-        file.write(formats.spell_head(formats.WRITTEN_FLAGS, formats.DEFAULT_SIZES))
-        for start in range(0, formats.ITEM_LIMIT, BLOCK):
-            ends = range(start + 1, start + BLOCK + 1)
-            file.write(b''.join(end.to_bytes(8, 'little') + bytes(32) for end in ends))
-        file.write(formats.spell_tail(formats.ITEM_LIMIT))
 
 
 def write_image(folder, size):
     """An image of random bytes, and the index that lists it in chunks of one size."""
     chance = random.Random(512)
-    entries = []
+    index = formats.Index([])
     with open(os.path.join(folder, 'image'), 'wb') as image:
         for start in range(0, size, CHUNK):
             piece = chance.randbytes(min(CHUNK, size - start))
             image.write(piece)
-            entries.append((start + len(piece), formats.name_of(piece)))
-    with open(os.path.join(folder, 'image.caibx'), 'wb') as file:
-        file.write(formats.spell_index(formats.Index(entries)))
+            index.add(piece)
+    formats.write_index(os.path.join(folder, 'image.caibx'), index)
 
 
 def show(what, rows, folder, size, runs):
@@ -50,7 +38,8 @@ def main():
     options = side_by_side.arguments(__doc__, 512)
     with side_by_side.work_folder() as folder:
         long_index = os.path.join(folder, 'long.caibx')
-        write_long_index(long_index)
+        with open(long_index, 'wb') as file:
+            file.write(formats.long_index(formats.ITEM_LIMIT))
         size = os.path.getsize(long_index)
         reading = side_by_side.Row('an index is read', ['verify-index', long_index, 'absent'], at_most=3, wanted=1)
         show('an index', [side_by_side.openssl(long_index), reading], folder, size, options.runs)

@@ -55,10 +55,10 @@ class Row:
     def run(self, folder):
         self.prepare()
         os.sync()
-        status, seconds, peak = program.run_measured(self.words, folder, self.command)
+        ended, seconds, peak = program.run_measured(self.words, folder, self.command)
         self.after()
-        if status != self.wanted:
-            sys.exit(f'{self.what}: status {status}')
+        if ended.status != self.wanted:
+            sys.exit(f'{self.what}: status {ended.status}')
         self.seconds.append(seconds)
         self.peak = max(self.peak, peak)
 

@@ -17,14 +17,11 @@ CHUNK = 65536
 def lay_out(folder, size):
     """The image's index and its store, and two stores that are empty."""
     chance = random.Random(3)
-    entries = []
+    index = formats.Index([])
     for start in range(0, size, CHUNK):
         piece = chance.randbytes(min(CHUNK, size - start))
-        name = formats.name_of(piece)
-        formats.write_chunk(os.path.join(folder, 'last'), name, piece)
-        entries.append((start + len(piece), name))
-    with open(os.path.join(folder, 'image.caibx'), 'wb') as file:
-        file.write(formats.spell_index(formats.Index(entries)))
+        formats.write_chunk(os.path.join(folder, 'last'), index.add(piece), piece)
+    formats.write_index(os.path.join(folder, 'image.caibx'), index)
     for store in ('first', 'second'):
         os.mkdir(os.path.join(folder, store))
 

@@ -38,16 +38,11 @@ def shown(value):
     return repr(value)
 
 
-def expect_said(ended):
-    """The program ended by itself, printed nothing, and its error lines are as the environment says."""
-    expect(ended.status in (0, 1), f'the status is {ended.status}')
-    expect_equal(ended.out, b'', 'standard output')
-    if program.ERROR_LINES == 'none':
-        expect_equal(ended.err, b'', 'standard error')
-    if program.ERROR_LINES == 'one':
-        lines = ended.err.splitlines()
-        expect_equal(len(lines), ended.status, 'the number of lines on standard error')
-        expect(all(line.startswith(b'desync: ') for line in lines), 'a line lacks "desync: "')
+def expect_ended(ended, text='', out='', what='the run'):
+    """The program ended with this text as its error line, or with none where it is done, and printed this."""
+    expect_equal(ended.err.decode(), f'desync: {text}\n' if text else '', f'standard error of {what}')
+    expect_equal(ended.out.decode(), out, f'standard output of {what}')
+    expect_equal(ended.status, 1 if text else 0, f'the status of {what}')
 
 
 class Skip(Exception):

@@ -1,6 +1,7 @@
 #!/bin/bash
 # What must never stand in the repository, and what must: tags and names of planning papers, paths of one
-# machine, files that are too long, and crates that crates.txt or README.md leaves out.
+# machine, files that are too long, crates that crates.txt or a document leaves out, and what a document names that
+# isn't there: crates, labels of clauses, definitions and functions.
 cd "$(dirname "$0")/.." || exit 1
 passed=0
 failed=0
@@ -39,13 +40,10 @@ check 'files of more than 800 lines' "$(files | xargs -0 -r wc -l 2> /dev/null |
 check 'files that are built' "$(files | tr '\0' '\n' | grep -E '(^|/)(out|bin|__pycache__)/')"
 check 'crates that crates.txt leaves out' "$(comm -23 <(crates | sort) <(listed | sort))"
 check 'crates of crates.txt that are not there' "$(comm -13 <(crates | sort) <(listed | sort))"
-if [ -f README.md ]; then
-    check 'crates that README.md leaves out' "$(crates | while read -r name; do
-        grep -qw -- "$name" README.md || echo "$name"
-    done)"
-else
-    check 'README.md' 'it is not there'
-fi
+check 'crates that a document leaves out' "$(python3 tests/names.py crates)"
+check 'labels and crates of docs/PROMISES.md that are not there' "$(python3 tests/names.py labels)"
+check 'labels of clauses that CONTRIBUTING.md does not list' "$(python3 tests/names.py list)"
+check 'names in documents that are nowhere else' "$(python3 tests/names.py names)"
 
 echo "docs: $passed passed, $failed failed"
 [ "$failed" -eq 0 ]

@@ -1,14 +1,12 @@
 #!/usr/bin/env python3
 """`desync extract -k -s FOLDER INDEX OUT` over real files, compared with tests/formats.py.
 
-Each case lays out a folder, runs the program in it, and compares the exit status, every byte of the output,
-and all else in the folder with what stood there before.
+Each case lays out a folder, runs the program in it, and compares the exit status, the error line, every byte of
+the output, and all else in the folder with what stood there before.
 
-DESYNC names another program. DESYNC_ERROR_LINES=one wants one line on standard error for each refusal,
-DESYNC_ERROR_LINES=none wants none; otherwise standard error isn't compared.
+DESYNC names another program.
 """
 
-import array
 import os
 import random
 import struct
@@ -16,8 +14,8 @@ import sys
 
 import formats
 import program
-from checks import (Cases, expect, expect_equal, expect_said, expect_untouched, file_bytes,
-                    needs_program, put_file, snapshot)
+from checks import (Cases, expect, expect_ended, expect_equal, expect_untouched, file_bytes, needs_program,
+                    put_file, snapshot)
 from formats import ABC_INDEX, EMPTY_INDEX
 
 INDEX, STORE, OUT = 'a.caibx', 'st', 'o'
@@ -49,16 +47,9 @@ def chunk_path(folder, data):
     return formats.chunk_path(os.path.join(folder, STORE), formats.name_of(data))
 
 
-def listing(pieces, **fields):
-    """The index of an image that is cut into these pieces."""
-    ends, end = [], 0
-    for piece in pieces:
-        end += len(piece)
-        ends.append(end)
-    index = formats.index_of(b''.join(pieces), ends=ends)
-    for field, value in fields.items():
-        setattr(index, field, value)
-    return formats.spell_index(index)
+def listing(pieces):
+    """The bytes of the index of an image in these pieces."""
+    return formats.spell_index(formats.index_of_pieces(pieces))
 
 
 def items(*entries, sizes=formats.DEFAULT_SIZES, flags=formats.WRITTEN_FLAGS):
@@ -67,43 +58,42 @@ def items(*entries, sizes=formats.DEFAULT_SIZES, flags=formats.WRITTEN_FLAGS):
 
 # Runs
 
-def extract(folder, words=(STORE, INDEX, OUT), out=OUT, run=program.run):
-    """Runs the program and checks that it touched the output alone and said what it may say."""
+def extract(folder, text='', words=(STORE, INDEX, OUT), out=OUT, run=program.run):
+    """Runs the program, which ends with this text or is done, and touches the output alone."""
     before = snapshot(folder)
     ended = run(['extract', '-k', '-s', *words], folder)
     after = snapshot(folder)
-    expect_said(ended)
+    expect_ended(ended, text)
     expect_untouched(before, after, but=[out])
     if out in before and out in after:
         expect_equal(after[out][:2], before[out][:2], 'the output\'s (mode, number)')
-    return ended
 
 
 def as_read(folder):
-    """Runs the program and compares with the independent reading of the same files."""
+    """Runs the program and compares with the independent reading of the same files. Answers the text."""
     index = file_bytes(os.path.join(folder, INDEX))
     old = file_bytes(os.path.join(folder, OUT))
-    status, wanted = formats.extracted(index, os.path.join(folder, STORE), old)
-    ended = extract(folder)
-    expect_equal(ended.status, status, 'the status')
+    text, wanted = formats.extracted(index, INDEX, [os.path.join(folder, STORE)], old)
+    extract(folder, text)
     expect_equal(file_bytes(os.path.join(folder, OUT)), wanted, 'the output')
-    return status
+    return text
 
 
-def refused(folder, words=(STORE, INDEX, OUT), run=program.run):
-    """Runs the program, which must end with status 1 and touch nothing at all."""
+def refused(folder, text, words=(STORE, INDEX, OUT), run=program.run):
+    """Runs the program, which must end with this text and touch nothing at all."""
     before = snapshot(folder)
-    ended = run(['extract', '-k', '-s', *words], folder)
-    expect_equal(ended.status, 1, 'the status')
-    expect_said(ended)
+    expect_ended(run(['extract', '-k', '-s', *words], folder), text)
     expect_untouched(before, snapshot(folder))
 
 
-def gives(folder, wanted, **more):
-    """Runs the program, which must end with status 0 and this output."""
-    ended = extract(folder, **more)
-    expect_equal(ended.status, 0, 'the status')
+def gives(folder, wanted, text='', **more):
+    """Runs the program, which must end with this text or be done, and leave this output."""
+    extract(folder, text, **more)
     expect_equal(file_bytes(os.path.join(folder, more.get('out', OUT))), wanted, 'the output')
+
+
+def missing(entry, data):
+    return f'chunk {formats.name_of(data).hex()} of entry {entry} is missing'
 
 
 # Cases
@@ -111,19 +101,18 @@ def gives(folder, wanted, **more):
 def worked_examples(cases):
     three = [b'abc', b'def', b'ghi']
     named = [
-        ('an index that lists nothing empties the output', EMPTY_INDEX, [], b'abcde', 0, b''),
-        ('an index that lists nothing makes an empty output', EMPTY_INDEX, [], None, 0, b''),
-        ('one chunk into an absent output', ABC_INDEX, [b'abc'], None, 0, b'abc'),
-        ('the surplus of an old output is cut', ABC_INDEX, [], b'abcdefghij', 0, b'abc'),
-        ('zeros need no store', listing([bytes(262144), bytes(262144), bytes(75712)]), [], None, 0, bytes(600000)),
-        ('a missing chunk ends it', listing(three), [b'abc', b'ghi'], None, 1, b'abc' + bytes(6)),
-        ('all chunks are there', listing(three), three, None, 0, b'abcdefghi'),
+        ('an index that lists nothing empties the output', EMPTY_INDEX, [], b'abcde', '', b''),
+        ('an index that lists nothing makes an empty output', EMPTY_INDEX, [], None, '', b''),
+        ('one chunk into an absent output', ABC_INDEX, [b'abc'], None, '', b'abc'),
+        ('the surplus of an old output is cut', ABC_INDEX, [], b'abcdefghij', '', b'abc'),
+        ('zeros need no store', listing([bytes(262144), bytes(262144), bytes(75712)]), [], None, '', bytes(600000)),
+        ('a missing chunk ends it', listing(three), [b'abc', b'ghi'], None, missing(1, b'def'), b'abc' + bytes(6)),
+        ('all chunks are there', listing(three), three, None, '', b'abcdefghi'),
     ]
-    for what, index, chunks, old, status, wanted in named:
+    for what, index, chunks, old, text, wanted in named:
         with cases.case(what) as folder:
             lay_out(folder, index, chunks, old)
-            ended = extract(folder)
-            expect_equal((ended.status, file_bytes(os.path.join(folder, OUT))), (status, wanted), 'what came')
+            gives(folder, wanted, text)
 
 
 def bad_indexes(cases):
@@ -131,35 +120,37 @@ def bad_indexes(cases):
     most = formats.SIZE_LIMIT
     abc = formats.name_of(b'abc')
     bad = {
-        'an empty file': b'',
-        'a text': b'This is no index file.\n' * 9,
-        'zeros': bytes(1000),
-        'a random file': random.Random(1).randbytes(5000),
-        'a byte after the tail': ABC_INDEX + b'\0',
-        'a second index after the tail': ABC_INDEX + ABC_INDEX,
-        'flags without the digest': items((3, abc), flags=1 << 63),
-        'a greatest size over the limit': items((3, abc), sizes=(1, 1, most + 1)),
-        'an entry over the greatest size': items((3, abc), sizes=(1, 1, 2)),
-        'equal ends': items((3, abc), (3, abc)),
-        'falling ends': items((3, abc), (2, abc)),
-        'an end far away': items((2**64 - 1, abc)),
-        'ends that fall by wrapping around': items((3, abc), (2**64 - 1, abc), (2, abc)),
-        'an end of 0 among the items': items((3, abc), (0, abc), (6, abc)),
-        'big-endian numbers': b''.join(ABC_INDEX[at:at + 8][::-1] for at in range(0, 144, 8)),
+        'an empty file': (b'', 'truncated at byte 0'),
+        'a text': (b'This is no index file.\n' * 9, 'no index head'),
+        'zeros': (bytes(1000), 'no index head'),
+        'a random file': (random.Random(1).randbytes(5000), 'no index head'),
+        'a byte after the tail': (ABC_INDEX + b'\0', 'bytes after the tail'),
+        'a second index after the tail': (ABC_INDEX + ABC_INDEX, 'bytes after the tail'),
+        'flags without the digest': (items((3, abc), flags=1 << 63), 'digest flag missing in flags 8000000000000000'),
+        'a greatest size over the limit': (items((3, abc), sizes=(1, 1, most + 1)),
+                                           'greatest size 67108865 is over the limit'),
+        'an entry over the greatest size': (items((3, abc), sizes=(1, 1, 2)), 'entry 0 has 3 bytes'),
+        'equal ends': (items((3, abc), (3, abc)), 'entry 1 ends out of order'),
+        'falling ends': (items((3, abc), (2, abc)), 'entry 1 ends out of order'),
+        'an end far away': (items((2**64 - 1, abc)), 'entry 0 has 18446744073709551615 bytes'),
+        'ends that fall by wrapping around': (items((3, abc), (2**64 - 1, abc), (2, abc)),
+                                              'entry 1 has 18446744073709551612 bytes'),
+        'an end of 0 among the items': (items((3, abc), (0, abc), (6, abc)), 'bad table tail'),
+        'big-endian numbers': (b''.join(ABC_INDEX[at:at + 8][::-1] for at in range(0, 144, 8)), 'no index head'),
     }
     taken = {
-        'every other flag bit': items((3, abc), flags=2**64 - 1),
-        'the digest\'s flag alone': items((3, abc), flags=formats.SHA512_256_FLAG),
-        'the greatest size at the limit': items((3, abc), sizes=(0, 0, most)),
-        'an entry of the greatest size': items((3, abc), sizes=(2**64 - 1, 0, 3)),
-        'any two numbers in the tail': ABC_INDEX[:120] + word(0) + word(2**64 - 1) + ABC_INDEX[136:],
+        'every other flag bit': (items((3, abc), flags=2**64 - 1), None),
+        'the digest\'s flag alone': (items((3, abc), flags=formats.SHA512_256_FLAG), None),
+        'the greatest size at the limit': (items((3, abc), sizes=(0, 0, most)), None),
+        'an entry of the greatest size': (items((3, abc), sizes=(2**64 - 1, 0, 3)), None),
+        'any two numbers in the tail': (ABC_INDEX[:120] + word(0) + word(2**64 - 1) + ABC_INDEX[136:], None),
     }
-    for what, index in {**bad, **taken}.items():
+    for what, (index, fault) in {**bad, **taken}.items():
         for old in (None, b'an old output'):
             with cases.case(f'{what}, {"no" if old is None else "an"} old output') as folder:
                 lay_out(folder, index, [b'abc'], old)
-                status = as_read(folder)
-                expect_equal(status, 1 if what in bad else 0, 'the independent reading\'s status')
+                wanted = f'{INDEX}: bad index: {fault}' if fault else ''
+                expect_equal(as_read(folder), wanted, 'the text of the independent reading')
 
 
 def cut_short(cases):
@@ -167,7 +158,7 @@ def cut_short(cases):
         for length in range(len(index)):
             with cases.case(f'the {len(index)} bytes cut to {length}') as folder:
                 lay_out(folder, index[:length], [b'abc'], b'old')
-                refused(folder)
+                refused(folder, f'{INDEX}: bad index: truncated at byte {length}')
 
 
 def changed_bytes(cases):
@@ -181,42 +172,29 @@ def changed_bytes(cases):
                 as_read(folder)
 
 
-def long_index(count, name):
-    """The bytes of an index of `count` entries of one byte each, all of one name."""
-    table = bytearray((bytes(8) + name) * count)
-    ends = array.array('Q', range(1, count + 1))
-    if sys.byteorder == 'big':
-        ends.byteswap()
-    ends = ends.tobytes()
-    for place in range(8):
-        table[place::formats.ITEM_SIZE] = ends[place::8]
-    head = formats.spell_head(formats.WRITTEN_FLAGS, (1, 1, formats.SIZE_LIMIT))
-    return b''.join((head, table, formats.spell_tail(count)))
-
-
-def measured(folder, limit):
-    """Runs the program within a bound on its memory; answers its status."""
+def measured(folder, limit, text=''):
+    """Runs the program within a bound on its memory: it ends with this text, or is done."""
     before = snapshot(folder)
-    status, _, peak = program.run_measured(['extract', '-k', '-s', STORE, INDEX, OUT], folder)
+    ended, _, peak = program.run_measured(['extract', '-k', '-s', STORE, INDEX, OUT], folder)
+    expect_ended(ended, text)
     expect_untouched(before, snapshot(folder), but=[OUT])
     expect(peak * 1024 <= limit, f'the peak memory is {peak} KiB, over {limit // 1024}')
-    return status
 
 
 def many_entries(cases):
     most = formats.ITEM_LIMIT
     zero = formats.name_of(b'\0')
     with cases.case('2^22 entries that the old output holds') as folder:
-        lay_out(folder, long_index(most, zero), [])
-        expect_equal(measured(folder, INDEX_MEMORY), 0, 'the status')
+        lay_out(folder, formats.long_index(most, zero), [])
+        measured(folder, INDEX_MEMORY)
         expect_equal(file_bytes(os.path.join(folder, OUT)), bytes(most), 'the output')
     with cases.case('2^22 entries and the first is missing') as folder:
-        lay_out(folder, long_index(most, formats.name_of(b'x')), [])
-        expect_equal(measured(folder, INDEX_MEMORY), 1, 'the status')
+        lay_out(folder, formats.long_index(most, formats.name_of(b'x')), [])
+        measured(folder, INDEX_MEMORY, missing(0, b'x'))
         expect_equal(file_bytes(os.path.join(folder, OUT)), bytes(most), 'the output')
     with cases.case('2^22 + 1 entries') as folder:
-        lay_out(folder, long_index(most + 1, zero), [])
-        expect_equal(measured(folder, INDEX_MEMORY), 1, 'the status')
+        lay_out(folder, formats.long_index(most + 1, zero), [])
+        measured(folder, INDEX_MEMORY, f'{INDEX}: bad index: too many entries')
         expect_equal(file_bytes(os.path.join(folder, OUT)), None, 'the output')
 
 
@@ -226,27 +204,28 @@ def sparse(path, length):
 
 
 def huge_files(cases):
-    for what, index in (('zeros', b''), ('zeros after a right index', ABC_INDEX),
-                        ('zeros after a head', ABC_INDEX[:64])):
+    for what, index, fault in (('zeros', b'', 'no index head'),
+                               ('zeros after a right index', ABC_INDEX, 'bytes after the tail'),
+                               ('zeros after a head', ABC_INDEX[:64], 'bad table tail')):
         with cases.case(f'an index file of 16 GiB, {what}') as folder:
             lay_out(folder, index, [b'abc'])
             sparse(os.path.join(folder, INDEX), 16 * GIB)
-            expect_equal(measured(folder, INDEX_MEMORY), 1, 'the status')
+            measured(folder, INDEX_MEMORY, f'{INDEX}: bad index: {fault}')
             expect_equal(file_bytes(os.path.join(folder, OUT)), None, 'the output')
     with cases.case('a chunk file of 16 GiB') as folder:
         lay_out(folder, ABC_INDEX, [b'abc'])
         sparse(chunk_path(folder, b'abc'), 16 * GIB)
-        expect_equal(measured(folder, PLAIN_MEMORY), 1, 'the status')
+        measured(folder, PLAIN_MEMORY, formats.refusal(0, formats.name_of(b'abc'), 'damaged', 0))
         expect_equal(file_bytes(os.path.join(folder, OUT)), bytes(3), 'the output')
     with cases.case('an old output of 4 GiB') as folder:
         lay_out(folder, ABC_INDEX, [b'abc'], b'')
         sparse(os.path.join(folder, OUT), 4 * GIB)
-        expect_equal(measured(folder, PLAIN_MEMORY), 0, 'the status')
+        measured(folder, PLAIN_MEMORY)
         expect_equal(file_bytes(os.path.join(folder, OUT)), b'abc', 'the output')
     with cases.case('an old output of 4 GiB that begins right') as folder:
         lay_out(folder, ABC_INDEX, [], b'abc')
         sparse(os.path.join(folder, OUT), 4 * GIB)
-        expect_equal(measured(folder, PLAIN_MEMORY), 0, 'the status')
+        measured(folder, PLAIN_MEMORY)
         expect_equal(file_bytes(os.path.join(folder, OUT)), b'abc', 'the output')
     image_over_4_gib(cases)
 
@@ -259,7 +238,7 @@ def image_over_4_gib(cases):
         entries = [(block * (number + 1), zeros) for number in range(65)]
         entries.append((block * 65 + len(last), formats.name_of(last)))
         lay_out(folder, items(*entries, sizes=(1, 1, block)), [last])
-        expect_equal(measured(folder, PLAIN_MEMORY + 2 * block), 0, 'the status')
+        measured(folder, PLAIN_MEMORY + 2 * block)
         expect_sparse(os.path.join(folder, OUT), block * 65, last)
 
 
@@ -282,62 +261,64 @@ def expect_sparse(path, zeros, last):
 def files_and_folders(cases):
     with cases.case('INDEX is absent') as folder:
         lay_out(folder, None)
-        refused(folder)
+        refused(folder, f'{INDEX}: no such file')
     with cases.case('INDEX is a folder') as folder:
         lay_out(folder, None)
         os.mkdir(os.path.join(folder, INDEX))
-        refused(folder)
+        refused(folder, f'{INDEX}: failed')
     with cases.case('INDEX is in a folder that isn\'t there') as folder:
         lay_out(folder)
-        refused(folder, (STORE, 'no/a.caibx', OUT))
+        refused(folder, 'no/a.caibx: no such file', (STORE, 'no/a.caibx', OUT))
     with cases.case('INDEX is in a file') as folder:
         lay_out(folder)
         put_file(os.path.join(folder, 'file'), b'file')
-        refused(folder, (STORE, 'file/a.caibx', OUT))
+        refused(folder, 'file/a.caibx: no such file', (STORE, 'file/a.caibx', OUT))
     with cases.case('INDEX is a loop of links') as folder:
         lay_out(folder, None)
         os.symlink(INDEX, os.path.join(folder, INDEX))
-        refused(folder)
+        refused(folder, f'{INDEX}: failed')
     with cases.case('FOLDER is absent') as folder:
         lay_out(folder, chunks=None)
-        refused(folder)
+        refused(folder, f'{STORE}: no such folder')
     with cases.case('FOLDER is absent and all of an old output is right') as folder:
         lay_out(folder, chunks=None, old=b'abc')
-        refused(folder)
+        refused(folder, f'{STORE}: no such folder')
     with cases.case('FOLDER is a file') as folder:
         lay_out(folder, chunks=None, old=b'old')
         put_file(os.path.join(folder, STORE), b'file')
-        refused(folder)
+        refused(folder, f'{STORE}: no such folder')
     with cases.case('INDEX is bad and FOLDER is absent') as folder:
         lay_out(folder, b'bad', None)
-        refused(folder)
+        refused(folder, f'{INDEX}: bad index: truncated at byte 3')
     with cases.case('OUT is an empty folder') as folder:
         lay_out(folder)
         os.mkdir(os.path.join(folder, OUT))
-        refused(folder)
+        refused(folder, 'the target failed')
     with cases.case('OUT is a folder with a file') as folder:
         lay_out(folder)
         put_file(os.path.join(folder, OUT, 'file'), b'file')
-        refused(folder)
+        refused(folder, 'the target failed')
     with cases.case('OUT is the store\'s folder') as folder:
         lay_out(folder)
-        refused(folder, (STORE, INDEX, STORE))
+        refused(folder, 'the target failed', (STORE, INDEX, STORE))
     with cases.case('OUT is in a folder that isn\'t there') as folder:
         lay_out(folder)
-        refused(folder, (STORE, INDEX, 'no/o'))
+        refused(folder, 'the target failed', (STORE, INDEX, 'no/o'))
     with cases.case('OUT is in a file') as folder:
         lay_out(folder, old=b'old')
-        refused(folder, (STORE, INDEX, 'o/o'))
+        refused(folder, 'the target failed', (STORE, INDEX, 'o/o'))
     with cases.case('OUT is a loop of links') as folder:
         lay_out(folder)
         os.symlink(OUT, os.path.join(folder, OUT))
-        refused(folder)
-    for place, what in enumerate(('FOLDER', 'INDEX', 'OUT')):
+        refused(folder, 'the target failed')
+    long = 'x' * 300
+    for place, (what, text) in enumerate((('FOLDER', f'{long}: failed'), ('INDEX', f'{long}: failed'),
+                                          ('OUT', 'the target failed'))):
         with cases.case(f'{what} is too long a name') as folder:
             lay_out(folder)
             words = [STORE, INDEX, OUT]
-            words[place] = 'x' * 300
-            refused(folder, words)
+            words[place] = long
+            refused(folder, text, words)
 
 
 def links_and_names(cases):
@@ -358,9 +339,7 @@ def links_and_names(cases):
         gives(folder, b'abc', words=(STORE, INDEX, INDEX), out=INDEX)
     with cases.case('OUT is INDEX and the chunk is missing') as folder:
         lay_out(folder, chunks=[])
-        ended = extract(folder, words=(STORE, INDEX, INDEX), out=INDEX)
-        expect_equal(ended.status, 1, 'the status')
-        expect_equal(file_bytes(os.path.join(folder, INDEX)), ABC_INDEX[:3], 'the output')
+        gives(folder, ABC_INDEX[:3], missing(0, b'abc'), words=(STORE, INDEX, INDEX), out=INDEX)
     with cases.case('absolute names') as folder:
         lay_out(folder, old=b'old')
         gives(folder, b'abc', words=[os.path.join(folder, name) for name in (STORE, INDEX, OUT)])
@@ -412,11 +391,7 @@ def chunks(cases):
 def odd_chunks(cases, pieces):
     name = formats.name_of(pieces[1])
     wanted = pieces[0] + bytes(len(pieces[1] + pieces[2]))
-
-    def ends_there(folder):
-        ended = extract(folder)
-        expect_equal(ended.status, 1, 'the status')
-        expect_equal(file_bytes(os.path.join(folder, OUT)), wanted, 'the output')
+    is_missing = missing(1, pieces[1])
 
     def others(folder):
         lay_out(folder, listing(pieces), [pieces[0], pieces[2]])
@@ -424,19 +399,19 @@ def odd_chunks(cases, pieces):
 
     with cases.case('a chunk file is a folder') as folder:
         os.makedirs(others(folder))
-        ends_there(folder)
+        gives(folder, wanted, 'store 0 failed')
     with cases.case('a chunk file is a folder and the old output is right') as folder:
         os.makedirs(others(folder))
         put_file(os.path.join(folder, OUT), b''.join(pieces))
         gives(folder, b''.join(pieces))
     with cases.case('a chunk\'s folder is a file') as folder:
         put_file(os.path.dirname(others(folder)), b'file')
-        ends_there(folder)
+        gives(folder, wanted, is_missing)
     with cases.case('a chunk file is a link to nothing') as folder:
         path = others(folder)
         os.makedirs(os.path.dirname(path))
         os.symlink('nothing', path)
-        ends_there(folder)
+        gives(folder, wanted, is_missing)
     digits = name.hex()
     for what, path in (('in upper case', (digits[:4].upper(), digits.upper())),
                        ('compressed', (digits[:4], digits + '.cacnk')),
@@ -446,18 +421,19 @@ def odd_chunks(cases, pieces):
         with cases.case(f'a chunk is {what}') as folder:
             others(folder)
             put_file(os.path.join(folder, STORE, *path), pieces[1])
-            ends_there(folder)
+            gives(folder, wanted, is_missing)
     for what, size in (('more', 13), ('less', 11)):
         with cases.case(f'an index gives a chunk {what} bytes than it has') as folder:
             first, third = (formats.name_of(pieces[at]) for at in (0, 2))
             lay_out(folder, items((5, first), (5 + size, name), (10 + size, third)), pieces)
-            expect_equal(as_read(folder), 1, 'the independent reading\'s status')
+            expect_equal(as_read(folder), formats.refusal(1, name, 'damaged', 0), 'the text of the independent reading')
     with cases.case('one name with two sizes') as folder:
-        lay_out(folder, items((3, formats.name_of(b'abc')), (5, formats.name_of(b'abc'))), [b'abc'])
-        expect_equal(as_read(folder), 1, 'the independent reading\'s status')
+        abc = formats.name_of(b'abc')
+        lay_out(folder, items((3, abc), (5, abc)), [b'abc'])
+        expect_equal(as_read(folder), formats.refusal(1, abc, 'damaged', 0), 'the text of the independent reading')
     with cases.case('the same chunk many times over') as folder:
         lay_out(folder, listing([b'abc'] * 50), [b'abc'], b'abcabx')
-        expect_equal(as_read(folder), 0, 'the independent reading\'s status')
+        expect_equal(as_read(folder), '', 'the text of the independent reading')
 
 
 def no_rights(cases):
@@ -478,41 +454,30 @@ def no_rights(cases):
     with cases.case('INDEX may not be read') as folder:
         lay_out(folder, old=b'old')
         closed(folder, 0, INDEX)
-        refused(folder, run=program.run_without_rights)
+        refused(folder, f'{INDEX}: failed', run=program.run_without_rights)
     with cases.case('OUT may not be written') as folder:
         lay_out(folder, old=b'old')
         closed(folder, 0o444, OUT)
-        refused(folder, run=program.run_without_rights)
+        refused(folder, 'the target failed', run=program.run_without_rights)
     with cases.case('OUT may not be read') as folder:
         # What can't be read isn't known to be right, so it is fetched and written.
         lay_out(folder, old=b'older')
         closed(folder, 0o222, OUT)
-        expect_equal(extract(folder, run=program.run_without_rights).status, 0, 'the status')
+        extract(folder, run=program.run_without_rights)
         os.chmod(os.path.join(folder, OUT), 0o666)
         expect_equal(file_bytes(os.path.join(folder, OUT)), b'abc', 'the output')
     with cases.case('OUT may not be made') as folder:
         lay_out(folder)
         closed(folder, 0o555)
-        refused(folder, run=program.run_without_rights)
+        refused(folder, 'the target failed', run=program.run_without_rights)
     with cases.case('a chunk may not be read') as folder:
         lay_out(folder, old=b'old')
         closed(folder, 0, os.path.relpath(chunk_path(folder, b'abc'), folder))
-        ended = extract(folder, run=program.run_without_rights)
-        expect_equal(ended.status, 1, 'the status')
-        expect_equal(file_bytes(os.path.join(folder, OUT)), b'old', 'the output')
+        gives(folder, b'old', 'store 0 failed', run=program.run_without_rights)
     with cases.case('FOLDER may not be read') as folder:
         lay_out(folder, old=b'older')
         closed(folder, 0, STORE)
-        refused_or_base(folder)
-
-
-def refused_or_base(folder):
-    """Refused at the opening, with the output "older" as before, or at a read, with its length set."""
-    ended = extract(folder, run=program.run_without_rights)
-    expect_equal(ended.status, 1, 'the status')
-    os.chmod(os.path.join(folder, OUT), 0o666)
-    expect(file_bytes(os.path.join(folder, OUT)) in (b'older', b'old'),
-           'the output is neither as before nor cut to the image\'s length')
+        gives(folder, b'old', 'store 0 failed', run=program.run_without_rights)
 
 
 def writes_refused(cases):
@@ -526,14 +491,11 @@ def writes_refused(cases):
     for what, old, wanted in (('an old output', b'old', b'old'), ('none', None, b'')):
         with cases.case(f'the output\'s length is refused, {what} before') as folder:
             lay_out(folder, listing(pieces), pieces, old)
-            ended = extract(folder, run=limited)
-            expect_equal(ended.status, 1, 'the status')
-            expect_equal(file_bytes(os.path.join(folder, OUT)), wanted, 'the output')
+            gives(folder, wanted, 'the target failed', run=limited)
     for length in (8000, 9000):
         with cases.case(f'a write is refused in an old output of {length} bytes') as folder:
             lay_out(folder, listing(pieces), pieces, b'-' * length)
-            ended = extract(folder, run=limited)
-            expect_equal(ended.status, 1, 'the status')
+            extract(folder, 'the target failed', run=limited)
             out = file_bytes(os.path.join(folder, OUT))
             # The range of the write that failed, from 4000 to 5000, holds any bytes.
             expect_equal(len(out), 8000, 'the output\'s length')
@@ -597,7 +559,7 @@ def other_orders(cases):
                   ['extract', INDEX, '-n', '32', '--in-place', '-s', STORE, '--', OUT]):
         with cases.case(f'the words {words}') as folder:
             lay_out(folder, old=b'old')
-            expect_equal(program.run(words, folder).status, 0, 'the status')
+            expect_ended(program.run(words, folder))
             expect_equal(file_bytes(os.path.join(folder, OUT)), b'abc', 'the output')
 
 
@@ -605,28 +567,37 @@ def no_commands(cases):
     """Words that the program refuses; the folder holds all that a command could want."""
     right = ['extract', '-k', '-s', STORE, INDEX, OUT]
     never = [
-        [], [''], ['frob'], ['-k'], ['--'], ['Extract', *right[1:]], ['extract '], ['extract'],
-        right[:2], right[:3], right[:4], right[:5], [*right, 'more'], [*right, ''], ['', *right],
-        ['extract', '-k', '-s', '', INDEX, OUT], ['extract', '-k', '-s', STORE, '', OUT],
-        ['extract', '-k', '-s', STORE, INDEX, ''], ['extract', '-k', '-s', STORE, '-x', OUT],
-        ['extract', '-k', '-s', STORE, INDEX, '-x'], ['extract', '-k', '-s', STORE, INDEX, '-'],
-        ['extract', '-k', '-k', '-s', STORE, INDEX, OUT], ['extract', '-k', '-x', STORE, INDEX, OUT],
-        ['extract', '-k', '-s', 'https://localhost/', INDEX, OUT],
-        ['extract', '-k', '-sst', INDEX, OUT], ['extract', '-ks', STORE, INDEX, OUT],
-        ['extract', '-k', 'a', 'b'], [b'\xff', *right[1:]], [*right[:5], b'\xff'],
+        ([], 'word 0: NoCommand'), ([''], 'word 0: UnknownCommand'), (['frob'], 'word 0: UnknownCommand'),
+        (['-k'], 'word 0: UnknownCommand'), (['--'], 'word 0: UnknownCommand'),
+        (['Extract', *right[1:]], 'word 0: UnknownCommand'), (['extract '], 'word 0: UnknownCommand'),
+        (['extract'], 'word 1: MissingOption'), (right[:2], 'word 2: MissingOption'), (right[:3], 'word 3: NoValue'),
+        (right[:4], 'word 4: Operands'), (right[:5], 'word 5: Operands'), ([*right, 'more'], 'word 6: Operands'),
+        ([*right, ''], 'word 6: Empty'), (['', *right], 'word 0: UnknownCommand'),
+        (['extract', '-k', '-s', '', INDEX, OUT], 'word 3: Empty'),
+        (['extract', '-k', '-s', STORE, '', OUT], 'word 4: Empty'),
+        (['extract', '-k', '-s', STORE, INDEX, ''], 'word 5: Empty'),
+        (['extract', '-k', '-s', STORE, '-x', OUT], 'word 4: UnknownOption'),
+        (['extract', '-k', '-s', STORE, INDEX, '-x'], 'word 5: UnknownOption'),
+        (['extract', '-k', '-s', STORE, INDEX, '-'], 'word 5: UnknownOption'),
+        (['extract', '-k', '-k', '-s', STORE, INDEX, OUT], 'word 2: TooMany'),
+        (['extract', '-k', '-x', STORE, INDEX, OUT], 'word 2: UnknownOption'),
+        (['extract', '-k', '-s', 'https://localhost/', INDEX, OUT], 'word 3: BadLocation'),
+        (['extract', '-k', '-sst', INDEX, OUT], 'word 2: UnknownOption'),
+        (['extract', '-ks', STORE, INDEX, OUT], 'word 1: UnknownOption'),
+        (['extract', '-k', 'a', 'b'], 'word 4: MissingOption'),
+        (['extract', '-k', '-s', 'a|b', INDEX, OUT], 'word 3: BadLocation'),
+        ([b'\xff', *right[1:]], 'a word is no text in UTF-8'), ([*right[:5], b'\xff'], 'a word is no text in UTF-8'),
     ]
     not_yet = [
-        ['extract', '-s', STORE, INDEX, OUT], ['extract', '-k', '-s', 'a|b', INDEX, OUT],
+        ['extract', '-s', STORE, INDEX, OUT], ['extract', '-k', '-s', 'http://localhost/', INDEX, OUT],
         ['chop', '-s', STORE, INDEX, OUT], ['verify', '-s', STORE], ['prune', '-s', STORE, '-y', INDEX],
     ]
-    for words in never + not_yet:
+    for words, text in never + [(words, 'word 0: NotYet') for words in not_yet]:
         with cases.case(f'the words {words}') as folder:
             lay_out(folder, old=b'old')
             put_file(os.path.join(folder, 'a'), ABC_INDEX)
             before = snapshot(folder)
-            ended = program.run(words, folder)
-            expect_equal(ended.status, 1, 'the status')
-            expect_said(ended)
+            expect_ended(program.run(words, folder), text)
             expect_untouched(before, snapshot(folder))
 
 

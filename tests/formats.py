@@ -1,15 +1,17 @@
 #!/usr/bin/env python3
-"""Index files, cutting and folder stores, read and written a second time.
+"""Index files, cutting and folder stores, read and written a second time, and what is told of them.
 
 This module shares nothing with the program but the text of docs/FORMATS.md. The scripts of tests/ and
-bench/ compare the program with it. Offsets, sizes and lengths are bytes; ends are exclusive; entries
-are numbered from 0. Standard library alone.
+bench/ compare the program with it, and put their indexes together here. Offsets, sizes and lengths are
+bytes; ends are exclusive; entries and stores are numbered from 0. A text is that of an error line, without
+`desync: ` before it, and empty where there is none. Standard library alone.
 
 As a program it cuts an image by the default sizes and writes its index and its chunks:
 
     python3 tests/formats.py STORE INDEX IMAGE
 """
 
+import array
 import hashlib
 import os
 import struct
@@ -80,6 +82,20 @@ class Index:
     def names(self):
         return {name for _, name in self.entries}
 
+    def add(self, piece):
+        """Lists one more chunk. Answers its name."""
+        name = name_of(piece)
+        self.entries.append((self.length() + len(piece), name))
+        return name
+
+
+FAULT_TEXTS = {
+    'Truncated': 'truncated at byte {}', 'Head': 'no index head', 'Digest': 'digest flag missing in flags {:016x}',
+    'MaxSize': 'greatest size {} is over the limit', 'Table': 'no table head', 'Order': 'entry {} ends out of order',
+    'TooLarge': 'entry {} has {} bytes', 'Items': 'too many entries', 'Tail': 'bad table tail',
+    'Trailing': 'bytes after the tail',
+}
+
 
 class BadIndex(Exception):
     """The bytes are no index: the name of the first fault, and the numbers that it carries."""
@@ -88,6 +104,10 @@ class BadIndex(Exception):
         super().__init__(fault, *numbers)
         self.fault = fault
         self.numbers = numbers
+
+    def text(self, name):
+        """What is told of a file of this name."""
+        return f'{name}: bad index: {FAULT_TEXTS[self.fault].format(*self.numbers)}'
 
 
 def spell_head(flags, sizes):
@@ -102,6 +122,23 @@ def spell_index(index):
     """The bytes of an index, as the program writes them."""
     items = b''.join(struct.pack('<Q', end) + name for end, name in index.entries)
     return spell_head(index.flags, index.sizes) + items + spell_tail(len(index.entries))
+
+
+def write_index(path, index):
+    with open(path, 'wb') as file:
+        file.write(spell_index(index))
+
+
+def long_index(count, name=bytes(32)):
+    """The bytes of an index of `count` entries of one byte each, all of one name."""
+    table = bytearray((bytes(8) + name) * count)
+    ends = array.array('Q', range(1, count + 1))
+    if sys.byteorder == 'big':
+        ends.byteswap()
+    ends = ends.tobytes()
+    for place in range(8):
+        table[place::ITEM_SIZE] = ends[place::8]
+    return b''.join((spell_head(WRITTEN_FLAGS, DEFAULT_SIZES), table, spell_tail(count)))
 
 
 class _Fields:
@@ -270,14 +307,22 @@ def cut_points(data, sizes=DEFAULT_SIZES):
     return ends
 
 
-def index_of(data, sizes=DEFAULT_SIZES, ends=None):
-    """The index of an image, cut by its bytes or at the ends that are given."""
-    entries = []
+def index_of(data, sizes=DEFAULT_SIZES):
+    """The index of an image, cut by its bytes."""
     start = 0
-    for end in cut_points(data, sizes) if ends is None else ends:
-        entries.append((end, name_of(data[start:end])))
+    index = Index([], sizes=sizes)
+    for end in cut_points(data, sizes):
+        index.add(data[start:end])
         start = end
-    return Index(entries, sizes=sizes)
+    return index
+
+
+def index_of_pieces(pieces):
+    """The index of the image that these pieces are in a row, a chunk each."""
+    index = Index([])
+    for piece in pieces:
+        index.add(piece)
+    return index
 
 
 # Folder stores
@@ -302,14 +347,28 @@ def write_chunks(store, index, data):
         write_chunk(store, name, data[start:end])
 
 
-def read_chunk(store, name, size):
-    """The chunk's bytes where the store gives it: a file at its path with this name and size. Else None."""
+def answer_of(store, name, size):
+    """What a store says of a chunk: its bytes, or 'missing', 'damaged' or 'failed'."""
     try:
         with open(chunk_path(store, name), 'rb') as file:
             data = file.read(size + 1)
+    except (FileNotFoundError, NotADirectoryError):
+        return 'missing'
     except OSError:
-        return None
-    return data if len(data) == size and name_of(data) == name else None
+        return 'failed'
+    return data if len(data) == size and name_of(data) == name else 'damaged'
+
+
+def obtained(stores, name, size):
+    """The chunk from the first store that gives it; or why none does, and the store that is named."""
+    answers = [answer_of(store, name, size) for store in stores]
+    for answer in answers:
+        if isinstance(answer, bytes):
+            return answer
+    for why in ('failed', 'damaged'):
+        if why in answers:
+            return why, answers.index(why)
+    return 'missing', None
 
 
 # Extracting in place
@@ -319,26 +378,34 @@ def resized(data, length):
     return data[:length] + bytes(length - len(data[:length]))
 
 
-def extracted(index_bytes, store, old):
-    """The exit status of an extraction in place and the bytes of its output afterwards.
+def extracted(index_bytes, index_name, stores, old):
+    """The text of an extraction in place from stores in order, and the bytes of its output afterwards.
 
     `old` is the output before, or None where it isn't there. Where the index is refused, the output
-    stays as it was. Else each entry that is wrong in the output is fetched, up to the first that the
-    store doesn't give.
+    stays as it was. Else each entry that is wrong in the output is fetched, up to the first that no
+    store gives.
     """
     try:
         index = read_index(index_bytes)
-    except BadIndex:
-        return 1, old
+    except BadIndex as bad:
+        return bad.text(index_name), old
     out = bytearray(resized(old or b'', index.length()))
-    for start, end, name in index.slices():
+    for entry, (start, end, name) in enumerate(index.slices()):
         if name_of(bytes(out[start:end])) == name:
             continue
-        data = read_chunk(store, name, end - start)
-        if data is None:
-            return 1, bytes(out)
-        out[start:end] = data
-    return 0, bytes(out)
+        chunk = obtained(stores, name, end - start)
+        if not isinstance(chunk, bytes):
+            return refusal(entry, name, *chunk), bytes(out)
+        out[start:end] = chunk
+    return '', bytes(out)
+
+
+def refusal(entry, name, why, store=None):
+    """The text of an entry that no store gives."""
+    if why == 'failed':
+        return f'store {store} failed'
+    state = 'missing' if why == 'missing' else f'damaged in store {store}'
+    return f'chunk {name.hex()} of entry {entry} is {state}'
 
 
 def main(words):
@@ -349,8 +416,7 @@ def main(words):
         data = file.read()
     index = index_of(data)
     write_chunks(store, index, data)
-    with open(index_path, 'wb') as file:
-        file.write(spell_index(index))
+    write_index(index_path, index)
 
 
 if __name__ == '__main__':

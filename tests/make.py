@@ -15,8 +15,8 @@ import time
 
 import formats
 import program
-from checks import (Cases, Skip, expect, expect_equal, expect_said, expect_untouched, file_bytes,
-                    needs_program, put_file, remove, snapshot)
+from checks import (Cases, Skip, expect, expect_ended, expect_equal, expect_untouched, file_bytes, needs_program,
+                    put_file, remove, snapshot)
 from formats import ABC_INDEX
 
 STORE, INDEX, IMAGE, OUT = 'st', 'a.caibx', 'img', 'o'
@@ -35,10 +35,8 @@ def lay_out(folder, image, index=None, store=True):
         os.makedirs(os.path.join(folder, STORE), exist_ok=True)
 
 
-def run_make(folder, words=(STORE, INDEX, IMAGE), run=program.run):
-    ended = run(['make', '-s', *words], folder)
-    expect_said(ended)
-    return ended
+def run_make(folder, words=(STORE, INDEX, IMAGE), text='', run=program.run):
+    expect_ended(run(['make', '-s', *words], folder), text)
 
 
 def makes(folder, words=(STORE, INDEX, IMAGE)):
@@ -47,8 +45,7 @@ def makes(folder, words=(STORE, INDEX, IMAGE)):
     image = file_bytes(os.path.join(folder, image_path))
     index = formats.index_of(image)
     before = snapshot(folder)
-    ended = run_make(folder, words)
-    expect_equal(ended.status, 0, f'the status (standard error {ended.err!r})')
+    run_make(folder, words)
     expect_equal(file_bytes(os.path.join(folder, index_path)), formats.spell_index(index), 'the index')
     expect_stored(folder, store, index, image)
     expect_untouched(before, snapshot(folder), but=written(before, folder, store, index, image) | {index_path})
@@ -80,11 +77,10 @@ def expect_no_temporary(folder):
         expect(formats.TEMPORARY not in path and '.tmp-desync' not in path, f'{path!r} is left behind')
 
 
-def refused(folder, words=(STORE, INDEX, IMAGE), run=program.run):
-    """Makes, which must end with status 1, and touch nothing but chunks of the image in the store."""
+def refused(folder, text, words=(STORE, INDEX, IMAGE), run=program.run):
+    """Makes, which must end with this text, and touch nothing but chunks of the image in the store."""
     before = snapshot(folder)
-    ended = run_make(folder, words, run)
-    expect_equal(ended.status, 1, 'the status')
+    run_make(folder, words, text, run)
     image = image_of(folder)
     after = snapshot(folder)
     expect_untouched(before, after, but=written(before, folder, STORE, formats.index_of(image), image))
@@ -108,8 +104,7 @@ def expect_right_names(folder, before, after):
 
 
 def extracts(folder, image, words=(STORE, INDEX, OUT)):
-    ended = program.run(['extract', '-k', '-s', *words], folder)
-    expect_equal(ended.status, 0, 'the status of extract')
+    expect_ended(program.run(['extract', '-k', '-s', *words], folder), what='extract')
     expect_equal(file_bytes(os.path.join(folder, words[2])), image, 'what extract gives')
 
 
@@ -181,23 +176,22 @@ def change_image(folder, first, changed, at_most):
 
 
 def changed_while_it_runs(cases):
-    """The last byte of an image changes once it was read, while it is being cut."""
+    """The last byte of an image changes once its index is made, while its chunks are being stored."""
     with cases.case('the image changes between its two readings') as folder:
         image = random.Random(8).randbytes(24 << 20)
         lay_out(folder, image, OLD_INDEX)
         process = program.start(['make', '-s', STORE, INDEX, IMAGE], folder)
-        wait_until_read(process, len(image))
+        # Cutting reads each byte, and naming a chunk reads it again. Storing reads it for the third time.
+        wait_until_read(process, 2 * len(image))
         with open(os.path.join(folder, IMAGE), 'r+b') as file:
             file.seek(-1, os.SEEK_END)
             file.write(bytes([image[-1] ^ 255]))
         ended = program.ended(process)
-        expect_equal(ended.status, 1, f'the status (standard error {ended.err!r})')
-        expect(ended.err.startswith(b'desync: the image changed at entry '), f'standard error is {ended.err!r}')
+        # The last byte belongs to the last chunk, before which all are stored.
+        entry = sum(len(files) for _, _, files in os.walk(os.path.join(folder, STORE)))
+        expect_ended(ended, f'the image changed at entry {entry}')
         expect_equal(file_bytes(os.path.join(folder, INDEX)), OLD_INDEX, 'INDEX')
         expect_right_names(folder, {IMAGE, INDEX}, snapshot(folder))
-        entry = int(ended.err.split()[-1])
-        expect_equal(entry, sum(len(files) for _, _, files in os.walk(os.path.join(folder, STORE))),
-                     'the entry, which is the number of chunks that were stored before it')
 
 
 def wait_until_read(process, size):
@@ -270,12 +264,12 @@ def chunks_there(cases):
     with cases.case('a chunk file is a folder') as folder:
         lay_out(folder, image, OLD_INDEX)
         os.makedirs(formats.chunk_path(os.path.join(folder, STORE), name))
-        refused(folder)
+        refused(folder, 'store 0 failed')
         expect_no_temporary(folder)
     with cases.case('a chunk\'s folder is a file') as folder:
         lay_out(folder, image, OLD_INDEX)
         put_file(os.path.dirname(formats.chunk_path(os.path.join(folder, STORE), name)), b'file')
-        refused(folder)
+        refused(folder, 'store 0 failed')
         expect_no_temporary(folder)
 
 
@@ -289,8 +283,7 @@ def two_at_once(cases):
                 put_file(os.path.join(folder, f'img{number}'), shared + own[number])
             started = [program.start(['make', '-s', STORE, f'{n}.caibx', f'img{n}'], folder) for n in (0, 1)]
             for number, process in enumerate(started):
-                ended = program.ended(process)
-                expect_equal(ended.status, 0, f'the status of make {number} ({ended.err!r})')
+                expect_ended(program.ended(process), what=f'make {number}')
             names = set()
             for number in (0, 1):
                 image = file_bytes(os.path.join(folder, f'img{number}'))
@@ -315,7 +308,8 @@ def interrupted(cases):
             slow.send_signal(signal.SIGSTOP)
             quick = program.run(['make', '-s', STORE, 'b.caibx', IMAGE], folder)
             slow.send_signal(signal.SIGCONT)
-            expect_equal((program.ended(slow).status, quick.status), (0, 0), 'the status of both')
+            expect_ended(program.ended(slow), what='the slow make')
+            expect_ended(quick, what='the quick make')
             for name in (INDEX, 'b.caibx'):
                 expect_equal(file_bytes(os.path.join(folder, name)), formats.spell_index(index), name)
             expect_stored(folder, STORE, index, image)
@@ -333,7 +327,7 @@ def interrupted(cases):
                     if not name.startswith(formats.TEMPORARY):
                         held = file_bytes(os.path.join(path, name))
                         expect_equal(formats.name_of(held).hex(), name, 'the name of a chunk that was left')
-            expect_equal(run_make(folder).status, 0, 'the status of the next make')
+            run_make(folder)
             expect_equal(file_bytes(os.path.join(folder, INDEX)), formats.spell_index(index), 'the index')
             expect_stored(folder, STORE, index, image)
 
@@ -352,7 +346,7 @@ def odd_places(cases):
     with cases.case('INDEX is IMAGE: the image is in the store, and its index in its place') as folder:
         lay_out(folder, image)
         index = formats.index_of(image)
-        expect_equal(run_make(folder, (STORE, IMAGE, IMAGE)).status, 0, 'the status')
+        run_make(folder, (STORE, IMAGE, IMAGE))
         expect_equal(file_bytes(os.path.join(folder, IMAGE)), formats.spell_index(index), 'the index')
         expect_stored(folder, STORE, index, image)
         extracts(folder, image, (STORE, IMAGE, OUT))
@@ -371,12 +365,11 @@ def odd_places(cases):
     with cases.case('an older INDEX.tmp-desync') as folder:
         lay_out(folder, b'abc')
         put_file(os.path.join(folder, INDEX + '.tmp-desync'), b'a temporary of a crash, longer than an index' * 9)
-        expect_equal(run_make(folder).status, 0, 'the status')
+        run_make(folder)
         expect_equal(file_bytes(os.path.join(folder, INDEX)), ABC_INDEX, 'the index')
     with cases.case('absolute names') as folder:
         lay_out(folder, image)
-        ended = run_make(folder, [os.path.join(folder, name) for name in (STORE, INDEX, IMAGE)])
-        expect_equal(ended.status, 0, 'the status')
+        run_make(folder, [os.path.join(folder, name) for name in (STORE, INDEX, IMAGE)])
         extracts(folder, image)
 
 
@@ -386,75 +379,79 @@ def bad_input(cases):
         state = 'none' if index is None else 'an INDEX'
         with cases.case(f'IMAGE is absent, {state} before') as folder:
             lay_out(folder, None, index)
-            refused(folder)
+            refused(folder, f'{IMAGE}: no such file')
         with cases.case(f'IMAGE is a folder, {state} before') as folder:
             lay_out(folder, None, index)
             os.mkdir(os.path.join(folder, IMAGE))
-            refused(folder)
+            refused(folder, 'the image failed')
         with cases.case(f'the store is absent, {state} before') as folder:
             lay_out(folder, image, index, store=False)
-            refused(folder)
+            refused(folder, f'{STORE}: no such folder')
         with cases.case(f'the store is a file, {state} before') as folder:
             lay_out(folder, image, index, store=False)
             put_file(os.path.join(folder, STORE), b'file')
-            refused(folder)
+            refused(folder, f'{STORE}: no such folder')
     with cases.case('INDEX is in a folder that isn\'t there') as folder:
         lay_out(folder, image)
-        refused(folder, (STORE, 'no/a.caibx', IMAGE))
+        refused(folder, 'no/a.caibx: failed', (STORE, 'no/a.caibx', IMAGE))
     with cases.case('INDEX is a folder') as folder:
         lay_out(folder, image)
         put_file(os.path.join(folder, INDEX, 'file'), b'file')
-        refused(folder)
+        refused(folder, f'{INDEX}: failed')
         expect_no_temporary(folder)
     with cases.case('INDEX is an empty folder') as folder:
         lay_out(folder, image)
         os.mkdir(os.path.join(folder, INDEX))
-        refused(folder)
+        refused(folder, f'{INDEX}: failed')
         expect_no_temporary(folder)
     no_rights(cases, image)
 
 
 def no_rights(cases, image):
     """Root is bound by no rights: nobody runs it."""
-    def closed(folder, mode, path):
+    def closed(folder, mode, path, text):
         for name in ('.', STORE, IMAGE):
             os.chmod(os.path.join(folder, name), 0o777)
         os.chmod(os.path.join(folder, path), mode)
-        refused(folder, run=program.run_without_rights)
+        refused(folder, text, run=program.run_without_rights)
 
     with cases.case('nobody may do all') as folder:
         lay_out(folder, image)
         for name in ('.', STORE, IMAGE):
             os.chmod(os.path.join(folder, name), 0o777)
-        expect_equal(run_make(folder, run=program.run_without_rights).status, 0, 'the status')
+        run_make(folder, run=program.run_without_rights)
         expect_stored(folder, STORE, formats.index_of(image), image)
     with cases.case('IMAGE may not be read') as folder:
         lay_out(folder, image, OLD_INDEX)
-        closed(folder, 0, IMAGE)
+        closed(folder, 0, IMAGE, 'the image failed')
     with cases.case('the store may not be written') as folder:
         lay_out(folder, image, OLD_INDEX)
-        closed(folder, 0o555, STORE)
+        closed(folder, 0o555, STORE, 'store 0 failed')
     with cases.case('the store may not be read') as folder:
         lay_out(folder, image, OLD_INDEX)
-        closed(folder, 0, STORE)
+        closed(folder, 0, STORE, 'store 0 failed')
     with cases.case('INDEX\'s folder may not be written') as folder:
         lay_out(folder, image, OLD_INDEX)
-        closed(folder, 0o555, '.')
+        closed(folder, 0o555, '.', f'{INDEX}: failed')
 
 
 def no_commands(cases):
-    never = [['make'], ['make', '-s', STORE, INDEX], ['make', '-s', STORE, INDEX, IMAGE, 'more'],
-             ['make', '-s', '', INDEX, IMAGE], ['make', '-s', STORE, '', IMAGE], ['make', '-s', STORE, INDEX, ''],
-             ['make', INDEX, IMAGE], ['make', '-s', STORE, '-a', IMAGE], ['make', '-s', STORE, INDEX, '-i'],
-             ['make', '-k', '-s', STORE, INDEX, IMAGE], ['make', '-s', STORE, '-s', STORE, INDEX, IMAGE],
-             ['make', '-s', 'https://localhost/', INDEX, IMAGE]]
-    for words in never:
+    never = [
+        (['make'], 'word 1: MissingOption'), (['make', '-s', STORE, INDEX], 'word 4: Operands'),
+        (['make', '-s', STORE, INDEX, IMAGE, 'more'], 'word 5: Operands'),
+        (['make', '-s', '', INDEX, IMAGE], 'word 2: Empty'), (['make', '-s', STORE, '', IMAGE], 'word 3: Empty'),
+        (['make', '-s', STORE, INDEX, ''], 'word 4: Empty'), (['make', INDEX, IMAGE], 'word 3: MissingOption'),
+        (['make', '-s', STORE, '-a', IMAGE], 'word 3: UnknownOption'),
+        (['make', '-s', STORE, INDEX, '-i'], 'word 4: UnknownOption'),
+        (['make', '-k', '-s', STORE, INDEX, IMAGE], 'word 1: UnknownOption'),
+        (['make', '-s', STORE, '-s', STORE, INDEX, IMAGE], 'word 3: TooMany'),
+        (['make', '-s', 'https://localhost/', INDEX, IMAGE], 'word 2: BadLocation'),
+    ]
+    for words, text in never:
         with cases.case(f'the words {words}') as folder:
             lay_out(folder, b'abc', OLD_INDEX)
             before = snapshot(folder)
-            ended = program.run(words, folder)
-            expect_equal(ended.status, 1, 'the status')
-            expect_said(ended)
+            expect_ended(program.run(words, folder), text)
             expect_untouched(before, snapshot(folder))
 
 
@@ -521,8 +518,7 @@ def small_disk(disk):
                     put_file(index_path, old)
                 fill(disk, but)
                 before = snapshot(disk)
-                ended = run_make(folder, (STORE, index_path, IMAGE))
-                expect_equal(ended.status, 1, 'the status')
+                run_make(folder, (STORE, index_path, IMAGE), f'{index_path}: failed')
                 expect_equal(file_bytes(index_path), old, 'INDEX')
                 expect_untouched({**before, '.': None}, {**snapshot(disk), '.': None})
                 expect_stored(folder, STORE, formats.index_of(image), image)
@@ -532,8 +528,7 @@ def small_disk(disk):
             lay_out(folder, image, OLD_INDEX)
             fill(disk, but)
             before = snapshot(disk)
-            ended = run_make(folder, (disk, INDEX, IMAGE))
-            expect_equal(ended.status, 1, 'the status')
+            run_make(folder, (disk, INDEX, IMAGE), 'store 0 failed')
             expect_equal(file_bytes(os.path.join(folder, INDEX)), OLD_INDEX, 'INDEX')
             after = snapshot(disk)
             expect_right_names(disk, before, after)

@@ -18,9 +18,6 @@ TIME_LIMIT = 600
 NOBODY = 65534
 ADDRESS_LIMIT = 16 << 30
 
-# How many error lines a refusal prints: 'none' or 'one' are compared, anything else isn't.
-ERROR_LINES = os.environ.get('DESYNC_ERROR_LINES', 'any')
-
 
 class Ended:
     """How a run ended; a status below 0 is the number of a signal."""
@@ -80,7 +77,7 @@ def run_without_rights(words, folder):
     return _ended(process)
 
 
-# Runs the words after the limit with that much address space, and prints status and peak memory.
+# Runs the words after the limit with that much address space, and prints status, peak memory and the error line.
 MEASURER = """
 import os, resource, sys
 limit = int(sys.argv[1])
@@ -88,7 +85,7 @@ number = os.fork()
 if number == 0:
     resource.setrlimit(resource.RLIMIT_AS, (limit, limit))
     null = os.open(os.devnull, os.O_RDWR)
-    for stream in range(3):
+    for stream in range(2):
         os.dup2(null, stream)
     os.execvp(sys.argv[2], sys.argv[2:])
 _, status, usage = os.wait4(number, 0)
@@ -97,17 +94,17 @@ print(os.waitstatus_to_exitcode(status), usage.ru_maxrss)
 
 
 def run_measured(words, folder, program=DESYNC):
-    """Runs a program with a bound on its address space: its status, its seconds and its peak memory in KiB.
+    """Runs a program with a bound on its address space: how it ended, its seconds and its peak memory in KiB.
 
-    A bare Python starts it. The kernel counts a child's memory from its parent's, so a peak below that
+    What it prints on standard output goes nowhere. A bare Python starts it. The kernel counts a child's memory from its parent's, so a peak below that
     of a bare Python, some 9 MiB, isn't seen.
     """
     begun = time.monotonic()
     measured = subprocess.run([sys.executable, '-I', '-S', '-c', MEASURER, str(ADDRESS_LIMIT), program, *words],
-                              cwd=folder, stdin=subprocess.DEVNULL, stdout=subprocess.PIPE, check=True)
+                              cwd=folder, check=True, **_streams())
     seconds = time.monotonic() - begun
     status, peak = measured.stdout.split()
-    return int(status), seconds, int(peak)
+    return Ended(int(status), b'', measured.stderr), seconds, int(peak)
 
 
 def _streams():

@@ -14,7 +14,8 @@ import sys
 
 import formats
 import program
-from checks import Cases, Skip, expect, expect_equal, expect_untouched, needs_program, put_file, snapshot
+from checks import (Cases, Skip, expect, expect_ended, expect_equal, expect_untouched, needs_program, put_file,
+                    snapshot)
 from formats import ABC_INDEX
 
 INDEX, IMAGE = 'a.caibx', 'img'
@@ -22,23 +23,15 @@ MIB = 1 << 20
 COMMANDS = ['make', 'extract', 'verify-index', 'chop', 'cache', 'list-chunks', 'info', 'verify', 'prune',
             'chunk-server', 'demo']
 
-FAULTS = {
-    'Truncated': 'truncated at byte {}', 'Head': 'no index head', 'Digest': 'digest flag missing in flags {:016x}',
-    'MaxSize': 'greatest size {} is over the limit', 'Table': 'no table head', 'Order': 'entry {} ends out of order',
-    'TooLarge': 'entry {} has {} bytes', 'Items': 'too many entries', 'Tail': 'bad table tail',
-    'Trailing': 'bytes after the tail',
-}
-
-
 # What is wanted
 
-def fault_line(index_bytes):
-    """The line that refuses these bytes as an index, or None where they are one."""
+def fault_text(index_bytes):
+    """The text that refuses these bytes as an index, empty where they are one."""
     try:
         formats.read_index(index_bytes)
     except formats.BadIndex as bad:
-        return f'desync: {INDEX}: bad index: {FAULTS[bad.fault].format(*bad.numbers)}\n'
-    return None
+        return bad.text(INDEX)
+    return ''
 
 
 def listed(index):
@@ -53,48 +46,45 @@ def figures(index):
 
 
 def verdict(index, image):
-    """The line of `verify-index`, empty where the image is the one that the index lists."""
+    """The text of `verify-index`, empty where the image is the one that the index lists."""
     if len(image) != index.length():
-        return f'desync: the file has {len(image)} bytes\n'
+        return f'the file has {len(image)} bytes'
     for entry, (start, end, name) in enumerate(index.slices()):
         got = formats.name_of(image[start:end])
         if got != name:
-            return f'desync: entry {entry} has the name {got.hex()}\n'
+            return f'entry {entry} has the name {got.hex()}'
     return ''
 
 
 # Runs
 
-def ends(folder, words, out='', line='', run=program.run):
-    """Runs the program, and compares what it printed, its line and its status."""
+def ends(folder, words, out='', text='', run=program.run):
+    """Runs the program, and compares what it printed, its error line and its status."""
     before = snapshot(folder)
-    ended = run(words, folder)
-    expect_equal(ended.err, line.encode(), f'standard error of {words}')
-    expect_equal(ended.out, out.encode(), f'standard output of {words}')
-    expect_equal(ended.status, 1 if line else 0, f'the status of {words}')
+    expect_ended(run(words, folder), text, out, words)
     expect_untouched(before, snapshot(folder))
 
 
 def reads(folder, index_bytes, image=None):
     """Each command that reads an index says of these bytes what the formats say."""
     put_file(os.path.join(folder, INDEX), index_bytes)
-    line = fault_line(index_bytes)
-    if line is not None:
+    text = fault_text(index_bytes)
+    if text:
         for words in (['list-chunks', INDEX], ['info', INDEX], ['verify-index', INDEX, IMAGE]):
-            ends(folder, words, line=line)
+            ends(folder, words, text=text)
         return
     index = formats.read_index(index_bytes)
     ends(folder, ['list-chunks', INDEX], listed(index))
     ends(folder, ['info', INDEX], figures(index))
     if image is not None:
-        ends(folder, ['verify-index', INDEX, IMAGE], line=verdict(index, image))
+        ends(folder, ['verify-index', INDEX, IMAGE], text=verdict(index, image))
 
 
-def lines_of(folder, index_bytes):
+def lists(folder, index_bytes):
     """`list-chunks` alone says of these bytes what the formats say."""
     put_file(os.path.join(folder, INDEX), index_bytes)
-    line = fault_line(index_bytes)
-    ends(folder, ['list-chunks', INDEX], '' if line else listed(formats.read_index(index_bytes)), line or '')
+    text = fault_text(index_bytes)
+    ends(folder, ['list-chunks', INDEX], '' if text else listed(formats.read_index(index_bytes)), text)
 
 
 # Images
@@ -131,7 +121,7 @@ def whole_images(cases):
         image = random.Random(5).randbytes(300000)
         put_file(os.path.join(folder, IMAGE), image)
         os.mkdir(os.path.join(folder, 'st'))
-        expect_equal(program.run(['make', '-s', 'st', '-m', '1:2:8', INDEX, IMAGE], folder).status, 0, 'the status')
+        expect_ended(program.run(['make', '-s', 'st', '-m', '1:2:8', INDEX, IMAGE], folder))
         wanted = formats.spell_index(formats.index_of(image, (1024, 2048, 8192)))
         with open(os.path.join(folder, INDEX), 'rb') as file:
             expect_equal(file.read(), wanted, 'the index by other sizes')
@@ -170,38 +160,38 @@ def changed_indexes(cases):
                 for mask in (255, 1):
                     changed = bytearray(whole)
                     changed[at] ^= mask
-                    lines_of(folder, bytes(changed))
+                    lists(folder, bytes(changed))
             for length in [*range(0, 120), *range(len(whole) - 45, len(whole))]:
-                lines_of(folder, whole[:length])
-            lines_of(folder, whole + b'x')
+                lists(folder, whole[:length])
+            lists(folder, whole + b'x')
 
 
 def names_that_are_not_there(cases):
     with cases.case('INDEX is absent') as folder:
         for words in (['list-chunks', 'no'], ['info', 'no'], ['verify-index', 'no', IMAGE]):
-            ends(folder, words, line='desync: no: no such file\n')
+            ends(folder, words, text='no: no such file')
     with cases.case('IMAGE is absent') as folder:
         put_file(os.path.join(folder, INDEX), ABC_INDEX)
-        ends(folder, ['verify-index', INDEX, IMAGE], line=f'desync: {IMAGE}: no such file\n')
+        ends(folder, ['verify-index', INDEX, IMAGE], text=f'{IMAGE}: no such file')
     for what, put in (('folder', os.mkdir), ('pipe', os.mkfifo)):
         with cases.case(f'INDEX is a {what}') as folder:
             put(os.path.join(folder, INDEX))
             for words in (['list-chunks', INDEX], ['info', INDEX], ['verify-index', INDEX, IMAGE]):
-                ends(folder, words, line=f'desync: {INDEX}: failed\n')
-            ends(folder, ['extract', '-k', '-s', '.', INDEX, 'o'], line=f'desync: {INDEX}: failed\n')
+                ends(folder, words, text=f'{INDEX}: failed')
+            ends(folder, ['extract', '-k', '-s', '.', INDEX, 'o'], text=f'{INDEX}: failed')
         with cases.case(f'IMAGE is a {what}') as folder:
             put_file(os.path.join(folder, INDEX), ABC_INDEX)
             put(os.path.join(folder, IMAGE))
-            ends(folder, ['verify-index', INDEX, IMAGE], line='desync: the image failed\n')
+            ends(folder, ['verify-index', INDEX, IMAGE], text='the image failed')
         with cases.case(f'OUT is a {what}') as folder:
             put_file(os.path.join(folder, INDEX), ABC_INDEX)
             put(os.path.join(folder, IMAGE))
-            ends(folder, ['extract', '-k', '-s', '.', INDEX, IMAGE], line='desync: the target failed\n')
+            ends(folder, ['extract', '-k', '-s', '.', INDEX, IMAGE], text='the target failed')
     with cases.case('INDEX, IMAGE and OUT are devices') as folder:
         put_file(os.path.join(folder, INDEX), ABC_INDEX)
-        ends(folder, ['info', '/dev/null'], line='desync: /dev/null: failed\n')
-        ends(folder, ['verify-index', INDEX, '/dev/zero'], line='desync: the image failed\n')
-        ends(folder, ['extract', '-k', '-s', '.', INDEX, '/dev/full'], line='desync: the target failed\n')
+        ends(folder, ['info', '/dev/null'], text='/dev/null: failed')
+        ends(folder, ['verify-index', INDEX, '/dev/zero'], text='the image failed')
+        ends(folder, ['extract', '-k', '-s', '.', INDEX, '/dev/full'], text='the target failed')
 
 
 # Outputs that take nothing
@@ -217,32 +207,32 @@ def into(stream):
 
 
 def closed_outputs(cases):
-    line = 'desync: the output failed\n'
-    long_index = formats.spell_index(formats.Index([(end, bytes(32)) for end in range(1, 20001)]))
+    text = 'the output failed'
+    long_index = formats.long_index(20000)
     printing = [['list-chunks', INDEX], ['info', INDEX], ['--help'], ['--version'], ['make', '--help']]
     for words in printing:
         with cases.case(f'{words[0]} into a pipe that nobody reads') as folder:
             put_file(os.path.join(folder, INDEX), long_index)
             reading, writing = os.pipe()
             os.close(reading)
-            ends(folder, words, line=line, run=into(writing))
+            ends(folder, words, text=text, run=into(writing))
             os.close(writing)
         with cases.case(f'{words[0]} onto a full device') as folder:
             if not os.path.exists('/dev/full'):
                 raise Skip('/dev/full isn\'t there')
             put_file(os.path.join(folder, INDEX), long_index)
             with open('/dev/full', 'wb') as full:
-                ends(folder, words, line=line, run=into(full))
+                ends(folder, words, text=text, run=into(full))
     with cases.case('list-chunks into head') as folder:
         put_file(os.path.join(folder, INDEX), long_index)
         script = 'set -o pipefail; "$0" list-chunks "$1" 2> err | head -1; echo "${PIPESTATUS[0]}"; cat err; rm err'
         ended = subprocess.run(['bash', '-c', script, program.DESYNC, INDEX], cwd=folder, stdin=subprocess.DEVNULL,
                                stdout=subprocess.PIPE, check=True)
-        expect_equal(ended.stdout.decode(), f'{bytes(32).hex()}\n1\n{line}', 'what is printed')
+        expect_equal(ended.stdout.decode(), f'{bytes(32).hex()}\n1\ndesync: {text}\n', 'what is printed')
     with cases.case('a standard output that is closed') as folder:
         ended = subprocess.run(['bash', '-c', '"$0" --version >&-', program.DESYNC], cwd=folder,
                                stdin=subprocess.DEVNULL, stdout=subprocess.PIPE, stderr=subprocess.PIPE)
-        expect_equal((ended.returncode, ended.stderr.decode()), (1, line), '(status, standard error)')
+        expect_equal((ended.returncode, ended.stderr.decode()), (1, f'desync: {text}\n'), '(status, standard error)')
     with cases.case('an error sink that takes nothing changes no status') as folder:
         put_file(os.path.join(folder, INDEX), ABC_INDEX)
         for words, status in ((['info', INDEX], 0), (['info', 'no'], 1)):
@@ -261,18 +251,18 @@ def shown_texts(path):
 
 
 def help_texts(cases):
-    shown = shown_texts(os.path.join(program.TOP, 'README.md'))
+    shown = shown_texts(os.path.join(program.TOP, 'docs', 'COMMANDS.md'))
     for words in [['--help'], ['--version']] + [[command, '--help'] for command in COMMANDS]:
-        with cases.case(f'the text of {" ".join(words)} is README.md\'s') as folder:
+        with cases.case(f'the text of {" ".join(words)} is docs/COMMANDS.md\'s') as folder:
             ended = program.run(words, folder)
             expect_equal((ended.status, ended.err), (0, b''), '(status, standard error)')
             text = ended.out.decode()
-            expect(any(block.removeprefix('text\n') == text for block in shown), 'README.md doesn\'t show it')
+            expect(any(block.removeprefix('text\n') == text for block in shown), 'docs/COMMANDS.md doesn\'t show it')
             expect(max(len(row) for row in text.splitlines()) <= 80, 'a line has more than 80 columns')
-    for words, line in ((['--help', 'x'], 'word 0: UnknownCommand'), (['make', '--help', 'x'], 'word 1: UnknownOption'),
+    for words, text in ((['--help', 'x'], 'word 0: UnknownCommand'), (['make', '--help', 'x'], 'word 1: UnknownOption'),
                         ([], 'word 0: NoCommand')):
         with cases.case(f'the words {words}') as folder:
-            ends(folder, words, line=f'desync: {line}\n')
+            ends(folder, words, text=text)
 
 
 def refused_words(cases):
@@ -287,16 +277,15 @@ def refused_words(cases):
                ('prune -s st a', 'word 4: NeedsYes'), ('verify -s http://h/', 'word 2: NeedsFolder'),
                ('chunk-server -s st -l x', 'word 4: BadListen'), ('cache -s st a', 'word 4: MissingOption'),
                ('extract -s st a b', 'word 0: NotYet'), ('info -s http://localhost/ a', 'word 0: NotYet')]
-    for words, line in refused:
+    for words, text in refused:
         with cases.case(f'the words {words}') as folder:
             put_file(os.path.join(folder, 'a'), b'a')
             os.mkdir(os.path.join(folder, 'st'))
-            ends(folder, words.split(), line=f'desync: {line}\n')
+            ends(folder, words.split(), text=text)
     with cases.case('options and names in any order') as folder:
         put_file(os.path.join(folder, '-x'), b'abc')
         os.mkdir(os.path.join(folder, 'st'))
-        ended = program.run(['make', INDEX, '--store', 'st', '-n', '4', '--', '-x'], folder)
-        expect_equal((ended.status, ended.err), (0, b''), '(status, standard error)')
+        expect_ended(program.run(['make', INDEX, '--store', 'st', '-n', '4', '--', '-x'], folder))
         with open(os.path.join(folder, INDEX), 'rb') as file:
             expect_equal(file.read(), ABC_INDEX, 'the index')
 

@@ -3,7 +3,8 @@
 
 The tables of options and commands stand here once more, by the document and not by the program. Words are laid out from
 them: each option once too often, each spelling, and random words. The program runs in an empty folder, so words that
-are taken end with a name that isn't there, or as not built, and nothing is ever written.
+are taken end with a name that isn't there, with sizes that no image is cut by, or as not built. Each error line is
+compared, and nothing is ever written.
 """
 
 import os
@@ -13,7 +14,7 @@ import sys
 from collections import Counter
 
 import program
-from checks import Cases, expect, expect_equal, needs_program
+from checks import Cases, expect, expect_ended, expect_equal, needs_program
 
 # An option's two spellings and what its value is, where it has one.
 OPTIONS = [('store', ['-s', '--store'], 'location'), ('sizes', ['-m', '--chunk-size'], 'sizes'),
@@ -95,19 +96,24 @@ def why_not_operand(command, before, most, word):
     return None
 
 
-def fault_of(words):
-    """The place of the first word that isn't taken and why, or None."""
-    if not words:
-        return 0, 'NoCommand'
-    if words in (['--help'], ['--version']):
-        return None
-    command = words[0]
-    if command not in COMMANDS:
-        return 0, 'UnknownCommand'
-    if words[1:] == ['--help']:
-        return None
-    takes, (least, most) = COMMANDS[command]
-    given, operands, ended = Counter(), 0, False
+class Faulty(Exception):
+    """Words that aren't taken: the place of the first that isn't, and why."""
+
+
+class Said:
+    """What words say that are taken: the command, the values of each option in order, and the operands."""
+
+    def __init__(self, command):
+        self.command = command
+        self.given = {option: [] for option in SPELLED}
+        self.operands = []
+
+
+def read(words):
+    """What the words after a command say, or Faulty."""
+    said = Said(words[0])
+    takes, (least, most) = COMMANDS[said.command]
+    ended = False
     rest = iter(enumerate(words[1:], 1))
     for place, word in rest:
         if not ended and word == '--':
@@ -115,43 +121,89 @@ def fault_of(words):
         elif not ended and word.startswith('-'):
             option = NAMED.get(word)
             if option not in takes:
-                return place, 'UnknownOption'
-            given[option] += 1
-            if takes[option][1] < given[option]:
-                return place, 'TooMany'
+                raise Faulty(place, 'UnknownOption')
+            if len(said.given[option]) == takes[option][1]:
+                raise Faulty(place, 'TooMany')
+            value = None
             if option in VALUES:
                 place, value = next(rest, (None, None))
                 if place is None:
-                    return len(words), 'NoValue'
-                why = why_not_value(command, option, value)
+                    raise Faulty(len(words), 'NoValue')
+                why = why_not_value(said.command, option, value)
                 if why:
-                    return place, why
+                    raise Faulty(place, why)
+            said.given[option].append(value)
         else:
-            why = why_not_operand(command, operands, most, word)
+            why = why_not_operand(said.command, len(said.operands), most, word)
             if why:
-                return place, why
-            operands += 1
+                raise Faulty(place, why)
+            said.operands.append(word)
     for missing, why in ((('store', 'cache', 'listen'), 'MissingOption'), (('yes',), 'NeedsYes')):
-        if any(given[option] < takes.get(option, (0, 0))[0] for option in missing):
-            return len(words), why
-    return (len(words), 'Operands') if operands < least else None
+        if any(len(said.given[option]) < takes.get(option, (0, 0))[0] for option in missing):
+            raise Faulty(len(words), why)
+    if len(said.operands) < least:
+        raise Faulty(len(words), 'Operands')
+    return said
+
+
+def why_not_sizes(value):
+    """Why no image is cut by these sizes in KiB, by the first rule that they break."""
+    least, average, greatest = (1024 * int(part) for part in value.split(':'))
+    if least < 48:
+        return 'MinTooSmall'
+    if not least <= average <= greatest:
+        return 'Order'
+    if average > 4 << 20:
+        return 'AvgTooLarge'
+    return 'MaxTooLarge' if greatest > 64 << 20 else None
+
+
+def is_built(said):
+    if any(location(store) == 'url' for store in said.given['store']):
+        return False
+    if said.command == 'extract':
+        return bool(said.given['in place']) and not said.given['seed'] and not said.given['cache']
+    return said.command in ('make', 'verify-index', 'list-chunks', 'info')
+
+
+def text_of(said):
+    """The text in a folder that holds nothing."""
+    if not is_built(said):
+        return 'word 0: NotYet'
+    if said.command == 'make':
+        whys = [why_not_sizes(value) for value in said.given['sizes']]
+        if any(whys):
+            return f'bad chunk sizes: {whys[0]}'
+    absent = said.operands[1 if said.command == 'make' else 0]
+    return f'{absent}: no such file'
+
+
+def refusal_of(words):
+    """The text of words that aren't taken, as `word PLACE: REASON`; else the one in an empty folder; and which it is."""
+    try:
+        if not words:
+            raise Faulty(0, 'NoCommand')
+        if words[0] not in COMMANDS:
+            raise Faulty(0, 'UnknownCommand')
+        return text_of(read(words)), 'taken'
+    except Faulty as faulty:
+        place, why = faulty.args
+        return f'word {place}: {why}', why
 
 
 # Cases
 
 def agrees(words, folder):
-    """Runs the words, and compares the line with the second reading; says what that was."""
-    fault = fault_of(words)
+    """Runs the words, and compares the line with the second reading; says why they aren't taken, or `taken`."""
+    text, why = refusal_of(words)
     ended = program.run(words, folder)
-    if fault:
-        place, why = fault
-        expect_equal((ended.status, ended.err, ended.out), (1, f'desync: word {place}: {why}\n'.encode(), b''),
-                     f'(status, standard error, standard output) of {words}')
-        return why
-    expect(ended.status in (0, 1) and (ended.err == b'desync: word 0: NotYet\n' or not ended.err.startswith(b'desync: word ')),
-           f'{words} end with status {ended.status} and {ended.err!r}')
+    if words[1:] == ['--help'] and words[0] in COMMANDS:
+        text, why = '', 'taken'
+        expect(ended.out.startswith(b'usage: desync '), f'{words} print {ended.out!r}')
+        ended.out = b''
+    expect_ended(ended, text, what=words)
     expect_equal(os.listdir(folder), [], f'the folder after {words}')
-    return 'taken'
+    return why
 
 
 GOOD = {'location': 'st', 'sizes': '16:64:256', 'workers': '4', 'folder': 'near', 'seed': 'old.caibx',
