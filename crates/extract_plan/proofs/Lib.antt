@@ -1,6 +1,10 @@
 pub mod Chains
 pub mod Cut
+pub mod Entries
+pub mod Finding
 pub mod Grouped
 pub mod Numbered
+pub mod Numbering
+pub mod Placing
 pub mod Shards
 pub mod Sorted

@@ -16,8 +16,8 @@ pub(crate) struct Wants {
     pub(crate) want_of: Vec<u32>,
 }
 
-// The number of this id and size: that which they have, or `next`, which they have from now on.
-fn number(
+/// The number of this id and size: that which they have, or `next`, which they have from now on.
+pub(crate) fn number(
     seen: &mut BTreeMap<([u8; 32], usize), u32>,
     id: &ChunkId,
     size: usize,

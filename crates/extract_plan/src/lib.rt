@@ -5,6 +5,7 @@ mod group;
 mod link;
 pub mod plan;
 pub mod seed;
+pub mod seeds;
 mod shard;
 #[cfg(test)]
 mod tests;

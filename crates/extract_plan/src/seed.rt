@@ -12,8 +12,9 @@ use dsy_base::view::View;
 /// Where a seed lists a chunk: the number of the seed, and the offset and the size in its image.
 #[derive(Clone, Copy, Debug, PartialEq, Eq)]
 pub struct SeedPlace {
-    pub seed: u32,
+    // First, so that a place takes 16 bytes.
     pub start: u64,
+    pub seed: u32,
     pub size: u32,
 }
 

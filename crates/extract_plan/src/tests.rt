@@ -1,7 +1,8 @@
-//! Plans of small indexes. Entries are named by one letter each.
+//! Plans of small indexes, and where seeds list their chunks. Entries are named by one letter each.
 
 use crate::plan::Plan;
 use crate::seed::{Seed, SeedAnswer, SeedPlace, seed_gives};
+use crate::seeds::SeedIndex;
 use caibx_codec::index::{Entry, Index};
 use chunk_store::id::{ChunkId, DigestKind};
 use dsy_forms::mem_view::MemView;
@@ -19,6 +20,10 @@ fn index(alloc: Global, chunks: &[&[u8]]) -> Result<Index, Fail> {
     }
     let index = Index::new(0xa000_0000_0000_0000, 1, 4, 16, entries);
     Ok(index.ok().ok_or("it is an index")?)
+}
+
+fn place(seed: u32, start: u64, size: u32) -> SeedPlace {
+    SeedPlace { seed, start, size }
 }
 
 #[test]
@@ -65,6 +70,29 @@ fn nothing_is_wanted_for_an_empty_image(rt: HostRuntime) -> Result<(), Fail> {
     assert_eq!(rt; plan.wants(), 0);
     assert_eq!(rt; plan.shards(), 0);
     assert_eq!(rt; plan.cuts().len(), 0);
+    Ok(())
+}
+
+#[test]
+fn places_of_wants_are_listed_by_seed(rt: HostRuntime) -> Result<(), Fail> {
+    let wanted = index(rt.alloc(), &[b"abc", b"def", b"abc", b"g"])?;
+    let Ok(plan) = Plan::of(rt.alloc(), &wanted, 1) else {
+        return Err(Fail::new("there is memory"));
+    };
+    assert_eq!(rt; plan.wants(), 3);
+    let seeds = [
+        index(rt.alloc(), &[b"g", b"abc", b"abc"])?,
+        index(rt.alloc(), &[b"hi", b"def"])?,
+        index(rt.alloc(), &[])?,
+        index(rt.alloc(), &[b"abc"])?,
+    ];
+    let Ok(placed) = SeedIndex::of(rt.alloc(), &plan, &wanted, &seeds) else {
+        return Err(Fail::new("there are few items"));
+    };
+    let abc = [place(0, 1, 3), place(0, 4, 3), place(3, 0, 3)];
+    assert!(rt; placed.places(0) == abc.as_slice());
+    assert!(rt; placed.places(1) == [place(1, 2, 3)].as_slice());
+    assert!(rt; placed.places(2) == [place(0, 0, 1)].as_slice());
     Ok(())
 }
 

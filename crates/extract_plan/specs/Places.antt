@@ -1,0 +1,68 @@
+-- Where seeds list the chunks of an index. Seeds, entries and wants count from 0.
+use Rattle.std.specs.Prelude.{◌≡◌, ℕ, ◌+◌, ◌<◌, ◌≤◌, ◌⊎◌, List, Some, length, slice_index, slice_index_or, slice_range}
+use Rattle.std.specs.List.{fold, slice_get}
+use Rattle.caibx_codec.specs.Listing.{Listing, count_of, id_of, size_of, start_of}
+use Rattle.extract_plan.specs.Deal.{Deal}
+use Rattle.extract_plan.specs.declared.seed.SeedPlace.{SeedPlace}
+use Rattle.extract_plan.specs.declared.seeds.SeedIndex.TheInside.{Inside}
+
+-- the greatest number of items that all seeds may list together
+abbrev pub seed_item_limit : ℕ
+seed_item_limit = 8388608
+
+-- how many items the seeds list together
+abbrev pub items_of : List Listing → ℕ
+items_of ls = fold (λ n l. n + count_of l) 0 ls
+
+-- what contracts see: all places, want by want, and where those of each want begin and the last end
+pub record Placed : Type 0 where
+  pub starts : List ℕ
+  pub items : List SeedPlace
+
+abbrev pub placed_of : Inside → Placed
+placed_of x = record { starts = x.starts.items; items = x.items.items }
+
+-- the places of want w
+abbrev pub places_at : Placed → ℕ → List SeedPlace
+places_at x w = slice_range x.items (slice_index x.starts w) (slice_index x.starts (w + 1))
+
+abbrev pub place : ℕ → ℕ → ℕ → SeedPlace
+place seed start size = record { seed = seed; start = start; size = size }
+
+-- place k of a list
+abbrev pub nth_place : List SeedPlace → ℕ → SeedPlace
+nth_place ps k = slice_index_or ps k (place 0 0 0)
+
+-- by seed and then by offset
+abbrev pub Comes : SeedPlace → SeedPlace → Type 0
+Comes p q = (p.seed < q.seed) ⊎ ((p.seed ≡ q.seed) × (p.start < q.start))
+
+-- the place is that of an entry of a seed that has this id and size
+pub record IsPlace (seeds : List Listing) (id : List ℕ) (n : ℕ) (p : SeedPlace) : Type 0 where
+  pub listing : Listing
+  pub seed : slice_get seeds p.seed ≡ Some listing
+  pub entry : ℕ
+  pub inside : entry < count_of listing
+  pub id_is : id_of listing entry ≡ id
+  pub size_is : size_of listing entry ≡ n
+  pub start : p.start ≡ start_of listing entry
+  pub size : p.size ≡ n
+
+-- the list has every place of the seeds where an entry has this id and size, and no other, by seed and then by offset
+pub record ArePlaces (seeds : List Listing) (id : List ℕ) (n : ℕ) (ps : List SeedPlace) : Type 0 where
+  pub sound : (k : ℕ) → k < length ps → IsPlace seeds id n (nth_place ps k)
+  pub complete : (s i : ℕ) (l : Listing) → slice_get seeds s ≡ Some l → i < count_of l →
+      id_of l i ≡ id → size_of l i ≡ n →
+      (k : ℕ) × (k < length ps) × (nth_place ps k ≡ place s (start_of l i) n)
+  pub ordered : (j k : ℕ) → j < k → k < length ps → Comes (nth_place ps j) (nth_place ps k)
+
+-- for each want of an index, the places of its chunk
+pub record IsSeedIndex (l : Listing) (d : Deal) (seeds : List Listing) (x : Placed) : Type 0 where
+  pub size : length x.starts ≡ d.wants + 1
+  pub places : (i : ℕ) → i < count_of l →
+      ArePlaces seeds (id_of l i) (size_of l i) (places_at x (slice_index d.want_of i))
+
+-- what an index of seeds keeps: starts rise, and fit the places
+pub record IsPlaced (x : Placed) : Type 0 where
+  pub rises : (w : ℕ) → w + 1 < length x.starts → slice_index x.starts w ≤ slice_index x.starts (w + 1)
+  pub fits : (w : ℕ) → w < length x.starts → slice_index x.starts w ≤ length x.items

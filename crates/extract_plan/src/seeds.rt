@@ -1,0 +1,245 @@
+//! Where seeds list the chunks of an index. Seeds, entries and wants count from 0; offsets are bytes from 0.
+
+ghost use Rattle.std.specs.Prelude.{◌≡◌, ◌<◌, ◌≤◌, ◌+◌, ◌^◌, ◌↔◌, ℕ, Err, Some, [], length, slice_index, IfOk, OnOk};
+ghost use Rattle.std.specs.List.{slice_get};
+ghost use Rattle.caibx_codec.specs.Listing.{Listing, count_of};
+ghost use Rattle.extract_plan.specs.Deal.{AreWants};
+ghost use Rattle.extract_plan.specs.Found.{AreFound, AreNumbered};
+ghost use Rattle.extract_plan.specs.Numbers.{number_of};
+ghost use Rattle.extract_plan.specs.Places.{IsPlaced, IsSeedIndex, items_of, nth_place, places_at, seed_item_limit};
+ghost use Rattle.extract_plan.specs.declared.seeds.SeedFault.TheVariants.{TooManyItems};
+
+use crate::group::number;
+use crate::link::{Sorted, sort};
+use crate::plan::Plan;
+use crate::seed::SeedPlace;
+use caibx_codec::index::Index;
+use chunk_store::id::ChunkId;
+use std::alloc::{AllocError, Global};
+use std::collections::BTreeMap;
+use std::marker::Model;
+
+// The greatest number of items that all seeds may list together.
+const SEED_ITEM_LIMIT: usize = 8388608;
+
+/// Why places can't be listed.
+#[derive(Clone, Copy, Debug, PartialEq, Eq)]
+pub enum SeedFault {
+    /// The seeds list more than 2^23 items together.
+    TooManyItems,
+    Memory,
+}
+
+/// For each want of an index the places of the seeds that list its chunk.
+#[derive(Debug, Drop)]
+pub struct SeedIndex {
+    starts: Vec<usize>,
+    items: Vec<SeedPlace>,
+}
+
+impl Model for SeedIndex {
+    ghost use Rattle.extract_plan.specs.Places.{IsPlaced, Placed, placed_of};
+
+    ghost Value = { Placed };
+
+    ghost view = { λ x. placed_of x };
+
+    ghost invariant = { λ x. IsPlaced (placed_of x) };
+}
+
+// Places in the order in which seeds list them, and for each the want whose chunk it has.
+#[derive(Debug, Drop)]
+struct Found {
+    wants: Vec<u32>,
+    places: Vec<SeedPlace>,
+}
+
+// How many items the seeds list together.
+fn items(seeds: &[Index]) -> usize
+    requires few { length seeds.now < 2 ^ 32 }
+    ensures { result ≡ items_of seeds.now }
+{
+    let mut items = 0usize;
+    for s in 0..seeds.len() {
+        seeds[s].rules();
+        items += seeds[s].count();
+    }
+    items
+}
+
+// The want of each id and size that the index lists.
+fn numbers(
+    alloc: Global,
+    plan: &Plan,
+    index: &Index,
+) -> Result<BTreeMap<([u8; 32], usize), u32>, AllocError>
+    requires plan { AreWants index.now plan.now.wants plan.now.want_of }
+    ensures { IfOk result (λ m. AreNumbered index.now (count_of index.now) (number_of m) plan.now.want_of) }
+{
+    index.rules();
+    let mut numbers = BTreeMap::new(alloc);
+    for i in 0..index.count() {
+        let listed = index.entry(i);
+        let want = plan.want_of(i) as u32;
+        number(&mut numbers, &listed.id, listed.size, want)?;
+    }
+    Ok(numbers)
+}
+
+// The number of this id and size.
+fn number_in(numbers: &BTreeMap<([u8; 32], usize), u32>, id: &ChunkId, size: usize) -> Option<u32>
+    ensures { result ≡ number_of numbers.now id.now.0 size }
+{
+    let key = (id.0, size);
+    match numbers.get(&key) {
+        Some(number) => Some(*number),
+        None => None,
+    }
+}
+
+// Entry i of seed s: its place is added where it has a number.
+fn add_entry(
+    numbers: &BTreeMap<([u8; 32], usize), u32>,
+    seeds: &[Index],
+    s: usize,
+    i: usize,
+    found: &mut Found,
+) -> Result<(), AllocError>
+    requires few { length seeds.now < 2 ^ 32 }
+    requires seed { s < length seeds.now }
+    requires entry { (l : Listing) → slice_get seeds.now s ≡ Some l → i < count_of l }
+    requires before { AreFound (number_of numbers.now) seeds.now s i found.old.wants.items found.old.places.items }
+    ensures { OnOk result (AreFound (number_of numbers.now) seeds.now s (i + 1)
+        found.new.wants.items found.new.places.items) }
+{
+    let seed = &seeds[s];
+    seed.rules();
+    let listed = seed.entry(i);
+    if let Some(want) = number_in(numbers, &listed.id, listed.size) {
+        found.wants.push(want)?;
+        found.places.push(SeedPlace {
+            seed: s as u32,
+            start: listed.start,
+            size: listed.size as u32,
+        })?;
+    }
+    Ok(())
+}
+
+// The entries of seed s.
+fn add_seed(
+    numbers: &BTreeMap<([u8; 32], usize), u32>,
+    seeds: &[Index],
+    s: usize,
+    found: &mut Found,
+) -> Result<(), AllocError>
+    requires few { length seeds.now < 2 ^ 32 }
+    requires seed { s < length seeds.now }
+    requires before { AreFound (number_of numbers.now) seeds.now s 0 found.old.wants.items found.old.places.items }
+    ensures { OnOk result (AreFound (number_of numbers.now) seeds.now (s + 1) 0
+        found.new.wants.items found.new.places.items) }
+{
+    for i in 0..seeds[s].count() {
+        add_entry(numbers, seeds, s, i, found)?;
+    }
+    Ok(())
+}
+
+// The places of all seeds.
+fn find(
+    numbers: &BTreeMap<([u8; 32], usize), u32>,
+    seeds: &[Index],
+    found: &mut Found,
+) -> Result<(), AllocError>
+    requires few { length seeds.now < 2 ^ 32 }
+    requires wants { found.old.wants.items ≡ [] }
+    requires places { found.old.places.items ≡ [] }
+    ensures { OnOk result (AreFound (number_of numbers.now) seeds.now (length seeds.now) 0
+        found.new.wants.items found.new.places.items) }
+{
+    for s in 0..seeds.len() {
+        add_seed(numbers, seeds, s, found)?;
+    }
+    Ok(())
+}
+
+// The places in this order.
+fn ordered(alloc: Global, places: &[SeedPlace], order: &[u32]) -> Result<Vec<SeedPlace>, AllocError>
+    requires inside { (k : ℕ) → k < length order.now → slice_index order.now k < length places.now }
+    ensures size { IfOk result (λ v. length v.items ≡ length order.now) }
+    ensures value { IfOk result (λ v. (k : ℕ) → k < length order.now →
+        nth_place v.items k ≡ nth_place places.now (slice_index order.now k)) }
+{
+    let mut all = Vec::with_capacity(alloc, order.len())?;
+    for k in 0..order.len() {
+        all.push(places[order[k] as usize])?;
+    }
+    Ok(all)
+}
+
+fn place(
+    alloc: Global,
+    plan: &Plan,
+    index: &Index,
+    seeds: &[Index],
+) -> Result<SeedIndex, AllocError>
+    requires plan { AreWants index.now plan.now.wants plan.now.want_of }
+    requires few { length seeds.now < 2 ^ 32 }
+    requires items { items_of seeds.now ≤ seed_item_limit }
+    ensures { IfOk result (λ x. IsSeedIndex index.now plan.now seeds.now x) }
+{
+    // All room at once: a list that grows is there twice, beside the map.
+    let mut found = Found::with_room(alloc, items(seeds))?;
+    {
+        let numbers = numbers(alloc, plan, index)?;
+        find(&numbers, seeds, &mut found)?;
+    }
+    let Found { wants, places } = found;
+    let Sorted { starts, order } = sort(alloc, &wants, plan.wants())?;
+    drop(wants);
+    let items = ordered(alloc, &places, &order)?;
+    Ok(SeedIndex { starts, items })
+}
+
+impl Found {
+    // Nothing, with room for so many places.
+    fn with_room(alloc: Global, items: usize) -> Result<Found, AllocError>
+        ensures wants { IfOk result (λ f. f.wants.items ≡ []) }
+        ensures places { IfOk result (λ f. f.places.items ≡ []) }
+    {
+        let wants = Vec::with_capacity(alloc, items)?;
+        let places = Vec::with_capacity(alloc, items)?;
+        Ok(Found { wants, places })
+    }
+}
+
+impl SeedIndex {
+    /// The places in these seeds of the wants of an index, whose plan this is.
+    pub fn of(
+        alloc: Global,
+        plan: &Plan,
+        index: &Index,
+        seeds: &[Index],
+    ) -> Result<SeedIndex, SeedFault>
+        requires plan { AreWants index.now plan.now.wants plan.now.want_of }
+        requires few { length seeds.now < 2 ^ 32 }
+        ensures ok { IfOk result (λ x. IsSeedIndex index.now plan.now seeds.now x) }
+        ensures exactly { (result ≡ Err TooManyItems) ↔ (seed_item_limit < items_of seeds.now) }
+    {
+        if SEED_ITEM_LIMIT < items(seeds) {
+            return Err(SeedFault::TooManyItems);
+        }
+        match place(alloc, plan, index, seeds) {
+            Ok(placed) => Ok(placed),
+            Err(_) => Err(SeedFault::Memory),
+        }
+    }
+
+    /// The places of a want's chunk, by seed and then by offset.
+    pub fn places(&self, want: usize) -> &[SeedPlace]
+        requires { want + 1 < length self.now.starts }
+        ensures { result.now ≡ places_at self.now want }
+    {
+        &self.items[self.starts[want]..self.starts[want + 1]]
+    }
+}
