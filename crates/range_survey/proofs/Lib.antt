@@ -1,0 +1,3 @@
+pub mod Fated
+pub mod Surveyed
+pub mod Resized

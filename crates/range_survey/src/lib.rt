@@ -1,0 +1,9 @@
+//! Which ranges of a target are right before any write, and what became of each entry of an index.
+#![tactic(auto)]
+
+pub mod fate;
+mod fed_zeros;
+pub mod survey;
+#[cfg(test)]
+mod tests;
+pub mod zeros;

@@ -1,0 +1,144 @@
+//! The names of runs of zeros, by their sizes in bytes. Offsets are bytes from 0.
+
+ghost use Rattle.std.specs.Prelude.{◌≡◌, ◌⊎◌, ℕ, ◌+◌, ◌<◌, ◌≤◌, length, replicate, IfSome, IfOk, IsSome};
+ghost use Rattle.std.specs.Prelude.{OnOk, IsTrue};
+ghost use Rattle.std.specs.BTreeSet.{contains, btree_set_len};
+ghost use Rattle.std.specs.Ordering.{nat_cmp};
+ghost use Rattle.caibx_codec.specs.Listing.{count_of, start_of, size_of};
+ghost use Rattle.chunk_store.specs.Names.{name_of};
+ghost use Rattle.chunk_store.specs.declared.id.DigestKind.TheVariants as kinds;
+ghost use Rattle.range_survey.specs.Zeros.{Covers, AllNamed, IsPastSize, zeros_at};
+
+use crate::fed_zeros::FedZeros;
+use caibx_codec::index::Index;
+use chunk_store::id::ChunkId;
+use std::alloc::{AllocError, Global};
+use std::collections::{BTreeMap, BTreeSet};
+use std::marker::Model;
+
+/// The names of runs of zeros, by their sizes. Contracts see it as a table of sizes and names.
+#[derive(Drop)]
+pub struct ZeroNames {
+    names: BTreeMap<usize, ChunkId>,
+}
+
+impl Model for ZeroNames {
+    ghost use Rattle.std.specs.Prelude.{ℕ, List};
+    ghost use Rattle.chunk_store.specs.declared.id.ChunkId.{ChunkId};
+    ghost use Rattle.range_survey.specs.Zeros.{AllNamed};
+
+    ghost Value = { List (ℕ × ChunkId) };
+
+    ghost view = { λ z. z.names.entries };
+
+    ghost invariant = { λ z. AllNamed z.names.entries };
+}
+
+// Adds the size of the entry where that begins at or past `old`.
+fn add_size(
+    sizes: &mut BTreeSet<usize>,
+    index: &Index,
+    old: u64,
+    i: usize,
+) -> Result<(), AllocError>
+    requires listed { i < count_of index.now }
+    ensures known { OnOk result (old ≤ start_of index.now i →
+        IsTrue (contains nat_cmp sizes.new (size_of index.now i))) }
+    ensures kept { OnOk result ((n : ℕ) → IsTrue (contains nat_cmp sizes.old n) →
+        IsTrue (contains nat_cmp sizes.new n)) }
+    ensures only { OnOk result ((n : ℕ) → IsTrue (contains nat_cmp sizes.new n) →
+        IsTrue (contains nat_cmp sizes.old n) ⊎ IsPastSize index.now old n) }
+    ensures size { OnOk result (btree_set_len sizes.new ≤ btree_set_len sizes.old + 1) }
+{
+    let listed = index.entry(i);
+    if old <= listed.start {
+        sizes.insert(listed.size)?;
+    }
+    Ok(())
+}
+
+// The sizes of the entries that begin at or past `old`.
+fn sizes_past(alloc: Global, index: &Index, old: u64) -> Result<BTreeSet<usize>, AllocError>
+    ensures known { IfOk result (λ s. (i : ℕ) → i < count_of index.now → old ≤ start_of index.now i →
+        IsTrue (contains nat_cmp s (size_of index.now i))) }
+    ensures only { IfOk result (λ s. (n : ℕ) → IsTrue (contains nat_cmp s n) → IsPastSize index.now old n) }
+    ensures size { IfOk result (λ s. btree_set_len s ≤ count_of index.now) }
+{
+    let mut sizes = BTreeSet::new(alloc);
+    for i in 0..index.count() {
+        add_size(&mut sizes, index, old, i)?;
+    }
+    Ok(sizes)
+}
+
+// Adds the name of so many zeros, of which `zeros` has enough.
+fn add_name(
+    names: &mut BTreeMap<usize, ChunkId>,
+    fed: &mut FedZeros,
+    zeros: &[u8],
+    size: usize,
+) -> Result<(), AllocError>
+    requires zeros { zeros.now ≡ replicate (length zeros.now) 0 }
+    requires room { size ≤ length zeros.now }
+    ensures known { OnOk result (IsSome (zeros_at names.new.entries size)) }
+    ensures kept { OnOk result ((n : ℕ) → IsSome (zeros_at names.old.entries n) →
+        IsSome (zeros_at names.new.entries n)) }
+    ensures only { OnOk result ((n : ℕ) → IsSome (zeros_at names.new.entries n) →
+        IsSome (zeros_at names.old.entries n) ⊎ (n ≡ size)) }
+    ensures named { OnOk result (AllNamed names.old.entries → AllNamed names.new.entries) }
+    ensures size { OnOk result (length names.new.entries ≤ length names.old.entries + 1) }
+{
+    let name = fed.name(zeros, size)?;
+    names.insert(size, name)?;
+    Ok(())
+}
+
+// The names of so many zeros for each of the sizes, the least first.
+fn names_of(
+    alloc: Global,
+    mut sizes: BTreeSet<usize>,
+    zeros: &[u8],
+) -> Result<BTreeMap<usize, ChunkId>, AllocError>
+    requires zeros { zeros.now ≡ replicate (length zeros.now) 0 }
+    requires room { (n : ℕ) → IsTrue (contains nat_cmp sizes n) → n ≤ length zeros.now }
+    ensures known { IfOk result (λ m. (n : ℕ) → IsTrue (contains nat_cmp sizes n) → IsSome (zeros_at m.entries n)) }
+    ensures only { IfOk result (λ m. (n : ℕ) → IsSome (zeros_at m.entries n) → IsTrue (contains nat_cmp sizes n)) }
+    ensures named { IfOk result (λ m. AllNamed m.entries) }
+    ensures size { IfOk result (λ m. length m.entries ≤ btree_set_len sizes) }
+{
+    let mut fed = FedZeros::new();
+    let mut names = BTreeMap::new(alloc);
+    while let Some(size) = sizes.pop_first() {
+        add_name(&mut names, &mut fed, zeros, size)?;
+    }
+    Ok(names)
+}
+
+impl ZeroNames {
+    /// The names for the sizes of the entries that begin at or past `old`, so that each zero is hashed once. `buf` has
+    /// room for the largest entry, and is left with zeros.
+    pub fn of(
+        alloc: Global,
+        index: &Index,
+        old: u64,
+        buf: &mut [u8],
+    ) -> Result<ZeroNames, AllocError>
+        requires room { (i : ℕ) → i < count_of index.now → size_of index.now i ≤ length buf.old }
+        ensures ok { IfOk result (λ z. Covers z index.now old) }
+        ensures only { IfOk result (λ z. (n : ℕ) → IsSome (zeros_at z n) → IsPastSize index.now old n) }
+        ensures size { IfOk result (λ z. length z ≤ count_of index.now) }
+    {
+        let sizes = sizes_past(alloc, index, old)?;
+        buf.fill(0);
+        let names = names_of(alloc, sizes, buf)?;
+        Ok(ZeroNames { names })
+    }
+
+    /// The name of so many zeros, where the table has it.
+    pub fn name(&self, size: usize) -> Option<ChunkId>
+        ensures value { result ≡ zeros_at self.now size }
+        ensures named { IfSome result (λ id. id.0 ≡ name_of kinds.Sha512T256 (replicate size 0)) }
+    {
+        self.names.get(&size).copied()
+    }
+}
