@@ -106,7 +106,10 @@ def worked_examples(cases):
         ('one chunk into an absent output', ABC_INDEX, [b'abc'], None, '', b'abc'),
         ('the surplus of an old output is cut', ABC_INDEX, [], b'abcdefghij', '', b'abc'),
         ('zeros need no store', listing([bytes(262144), bytes(262144), bytes(75712)]), [], None, '', bytes(600000)),
-        ('a missing chunk ends it', listing(three), [b'abc', b'ghi'], None, missing(1, b'def'), b'abc' + bytes(6)),
+        ('entries after a missing chunk are filled', listing(three), [b'abc', b'ghi'], None, missing(1, b'def'),
+         b'abc' + bytes(3) + b'ghi'),
+        ('an alike entry that is right is copied', listing([b'abc', b'def', b'abc']), [], b'XXXdefabc', '',
+         b'abcdefabc'),
         ('all chunks are there', listing(three), three, None, '', b'abcdefghi'),
     ]
     for what, index, chunks, old, text, wanted in named:
@@ -390,7 +393,7 @@ def chunks(cases):
 
 def odd_chunks(cases, pieces):
     name = formats.name_of(pieces[1])
-    wanted = pieces[0] + bytes(len(pieces[1] + pieces[2]))
+    wanted = pieces[0] + bytes(len(pieces[1])) + pieces[2]
     is_missing = missing(1, pieces[1])
 
     def others(folder):
@@ -497,7 +500,7 @@ def writes_refused(cases):
             lay_out(folder, listing(pieces), pieces, b'-' * length)
             extract(folder, 'the target failed', run=limited)
             out = file_bytes(os.path.join(folder, OUT))
-            # The range of the write that failed, from 4000 to 5000, holds any bytes.
+            # The range of the first write that failed, from 4000 to 5000, holds any bytes. Nothing is written past it.
             expect_equal(len(out), 8000, 'the output\'s length')
             expect_equal(out[:4000], b''.join(pieces)[:4000], 'what was written before')
             expect_equal(out[5000:], b'-' * 3000, 'the rest of the output')

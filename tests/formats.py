@@ -382,22 +382,26 @@ def extracted(index_bytes, index_name, stores, old):
     """The text of an extraction in place from stores in order, and the bytes of its output afterwards.
 
     `old` is the output before, or None where it isn't there. Where the index is refused, the output
-    stays as it was. Else each entry that is wrong in the output is fetched, up to the first that no
-    store gives.
+    stays as it was. Else each entry that is wrong in the output is copied from an alike one that is
+    right there, or fetched. The first that neither gives is named, and those after it are filled still.
     """
     try:
         index = read_index(index_bytes)
     except BadIndex as bad:
         return bad.text(index_name), old
-    out = bytearray(resized(old or b'', index.length()))
-    for entry, (start, end, name) in enumerate(index.slices()):
-        if name_of(bytes(out[start:end])) == name:
-            continue
-        chunk = obtained(stores, name, end - start)
-        if not isinstance(chunk, bytes):
-            return refusal(entry, name, *chunk), bytes(out)
-        out[start:end] = chunk
-    return '', bytes(out)
+    base = bytes(resized(old or b'', index.length()))
+    entries = list(index.slices())
+    right = {(name, end - start): base[start:end] for start, end, name in entries if name_of(base[start:end]) == name}
+    out, text = bytearray(base), ''
+    for entry, (start, end, name) in enumerate(entries):
+        chunk = right.get((name, end - start))
+        if chunk is None:
+            chunk = obtained(stores, name, end - start)
+        if isinstance(chunk, bytes):
+            out[start:end] = chunk
+        else:
+            text = text or refusal(entry, name, *chunk)
+    return text, bytes(out)
 
 
 def refusal(entry, name, why, store=None):

@@ -1,94 +1,198 @@
--- How often stores were asked, entry by entry.
-use Rattle.std.proofs.Common.{◌≡◌, ℕ, zero, suc, ◌+◌, ◌≤◌, List, [], ◌∷◌, Bool, true, false, ◌&&◌, cond, refl, sym, subst, ◌∙◌, inl, inr, arith, add-one}
-use Rattle.std.proofs.lemmas.Bool.{cases_lt, false≢true}
+-- How often stores were asked, from one want to the next.
+use Rattle.std.proofs.Common.{◌≡◌, ◌⊎◌, ℕ, zero, suc, ◌+◌, ◌-◌, ◌<◌, ◌≤◌, List, [], ◌∷◌, map, slice_index, Bool, true, false, if◌then◌else◌, inl, inr, refl, sym, subst, arith, add-one}
+use Rattle.std.proofs.lemmas.Bool.{cases_Bool}
 use Rattle.std.proofs.lemmas.Slice.Eq.{bytes_eq-Decides}
-use Rattle.std.specs.List.{AllZip}
+use Rattle.std.specs.Bool.{Decides}
 use Rattle.std.specs.Str.{bytes_eq}
-use Rattle.caibx_codec.specs.Listing.{Listing, id_of}
+use Rattle.assembler.proofs.Filled.{grows_none, settled_on}
+use Rattle.assembler.proofs.Stepped.{seeds_none}
+use Rattle.assembler.specs.Asks.{AreSpared, AsksAtMost, IsSpared, asked_at, asks_below, asks_for, calls_below, calls_for}
+use Rattle.assembler.specs.Fills.{Grows}
+use Rattle.assembler.specs.Kits.{KeepsSeeds}
+use Rattle.assembler.specs.Losses.{AskedLast}
+use Rattle.assembler.specs.Sources.{HeldAt, faults_in, held_in}
+use Rattle.assembler.specs.Wants.{of_want, want_id}
+use Rattle.caibx_codec.specs.Listing.{Listing}
 use Rattle.chunk_store.specs.Said.{AskedOnce}
-use Rattle.store_chain.proofs.Kept.{none_more}
-use Rattle.store_chain.proofs.Pairs.{all_zip_same}
-use Rattle.store_chain.specs.Chains.{Chained, EachOnce}
-use Rattle.assembler.specs.Asks.{count_below, entries_with, GrowsBy, AsksOnceOrNot, AsksFor}
+use Rattle.dsy_base.specs.Bytes.{Held}
+use Rattle.dsy_base.specs.Counts.{Quiet, Rose}
+use Rattle.extract_plan.specs.Deal.{Deal}
+use Rattle.extract_plan.specs.Places.{Placed, places_at}
+use Rattle.extract_plan.specs.declared.seed.Seed.{Seed}
+use Rattle.extract_plan.specs.declared.seed.SeedPlace.{SeedPlace}
+use Rattle.range_survey.specs.declared.fate.Fate.{Fate}
+use Rattle.store_chain.specs.Chains.{AsksOnce, Chained, EachOnce}
 
--- ---- counts of entries
+-- ---- one store, and each of several
 
-count_more : (p : ℕ → Bool) (k m : ℕ) → k ≤ m → count_below p k ≤ count_below p m
-count_more p zero zero le = omega arith
-count_more p (suc k) zero le = absurd (omega arith)
-count_more p k (suc m) le = elim (cases_lt k (suc m)) [
-  | inl less ↦ let rest = count_more p k m (omega arith) in omega (arith, rest)
-  | inr past ↦ let same : suc m ≡ k = omega arith in let P : ℕ → Type 0 = λ n. count_below p k ≤ count_below p n in subst P (sym same) (omega arith)
-]
+abbrev one_if : List ℕ → List ℕ → ℕ
+one_if id q = if bytes_eq id q then 1 else 0
 
-pub count_all : (k : ℕ) → count_below (λ i. true) k ≡ k
-count_all zero = refl
-count_all (suc k) = let rest = count_all k in omega (arith, rest)
+once_by : (old new : List ℕ → ℕ) (id q : List ℕ) (r : Bool) → Decides r (id ≡ q) → AskedOnce old new id → (old q ≤ new q) × (new q ≤ old q + (if r then 1 else 0))
+once_by old new id q true same once = subst (λ (x : List ℕ). (old x ≤ new x) × (new x ≤ old x + 1)) (same.0 refl) (once.no_less, once.this)
+once_by old new id q false same once =
+    let as_before : new q ≡ old q = once.others q (λ e. let bad : false ≡ true = same.1 (sym e) in absurd (cc)) in
+    (omega (arith, as_before), omega (arith, as_before))
 
--- ---- one chain
+once_here : (old new : List ℕ → ℕ) (id q : List ℕ) → AskedOnce old new id → (old q ≤ new q) × (new q ≤ old q + one_if id q)
+once_here old new id q once = once_by old new id q (bytes_eq id q) (bytes_eq-Decides id q) once
 
-module _ {S : Type 0} (asked queried : S → List ℕ → ℕ) where
-  pub not_at_all : (id : List ℕ) (old : Chained S) → AsksOnceOrNot asked queried id old old
-  not_at_all id old = record { stores = none_more asked id old.stores; queries = refl; calls = (omega arith, omega arith); kind = refl }
+once_at : {S : Type 0} (asked : S → List ℕ → ℕ) (id : List ℕ) (xs ys : List S) → EachOnce asked id xs ys → (q : List ℕ) (k : ℕ)
+    → (asked_at asked xs q k ≤ asked_at asked ys q k) × (asked_at asked ys q k ≤ asked_at asked xs q k + one_if id q)
+once_at asked id [] [] all q k = (omega arith, omega arith)
+once_at asked id [] (y ∷ ys) all q k = absurd all
+once_at asked id (x ∷ xs) [] all q k = absurd all
+once_at asked id (x ∷ xs) (y ∷ ys) all q zero = once_here (asked x) (asked y) id q all.0
+once_at asked id (x ∷ xs) (y ∷ ys) all q (suc k) = once_at asked id xs ys all.1 q k
 
-  -- before the first entry
-  pub for_none : (l : Listing) (p : ℕ → Bool) (old : Chained S) → AsksFor asked queried l p 0 old old
-  for_none l p old = record {
-    stores = all_zip_same (λ a b. (q : List ℕ) → GrowsBy 0 (asked a q) (asked b q)) (λ s q. (omega arith, omega arith)) old.stores;
-    queries = refl;
-    calls = (omega arith, omega arith);
-    kind = refl;
-  }
+-- ---- chains
 
-  -- of more entries
-  all_more : (f h : List ℕ → ℕ) → ((q : List ℕ) → f q ≤ h q) → (xs ys : List S) → AllZip (λ a b. (q : List ℕ) → GrowsBy (f q) (asked a q) (asked b q)) xs ys
-      → AllZip (λ a b. (q : List ℕ) → GrowsBy (h q) (asked a q) (asked b q)) xs ys
-  all_more f h le [] [] asks = tt
-  all_more f h le [] (y ∷ ys) asks = absurd asks
-  all_more f h le (x ∷ xs) [] asks = absurd asks
-  all_more f h le (x ∷ xs) (y ∷ ys) asks = (λ q. ((asks.0 q).0, omega (arith, (asks.0 q).1, le q)), all_more f h le xs ys asks.1)
+-- no call
+pub asks_none : {S : Type 0} (asked : S → List ℕ → ℕ) (c : ℕ) (n : List ℕ → ℕ) (chain : Chained S) → AsksAtMost asked c n chain chain
+asks_none asked c n chain = record { no_fewer = omega arith; calls = omega arith; no_less = λ q k. omega arith; most = λ q k. omega arith }
 
-  pub for_more : (l : Listing) (p : ℕ → Bool) (k m : ℕ) (old new : Chained S) → k ≤ m → AsksFor asked queried l p k old new → AsksFor asked queried l p m old new
-  for_more l p k m old new le asks = record {
-    stores = all_more (entries_with l p k) (entries_with l p m) (λ q. count_more (λ i. p i && bytes_eq (id_of l i) q) k m le) old.stores new.stores asks.stores;
-    queries = asks.queries;
-    calls = (asks.calls.0, omega (arith, asks.calls.1, count_more p k m le));
-    kind = asks.kind;
-  }
+pub asks_same : {S : Type 0} (asked : S → List ℕ → ℕ) (c : ℕ) (n : List ℕ → ℕ) (old new : Chained S) → new ≡ old → AsksAtMost asked c n old new
+asks_same asked c n old new same = subst (AsksAtMost asked c n old) (sym same) (asks_none asked c n old)
 
-  -- of one entry more, which was asked for
-  asked_at : (x y z : S) (id q : List ℕ) (n : ℕ) (t b : Bool) → t ≡ true → bytes_eq id q ≡ b → GrowsBy n (asked x q) (asked y q) → AskedOnce (asked y) (asked z) id
-      → GrowsBy (n + cond (t && b) 1 0) (asked x q) (asked z q)
-  asked_at x y z id q n false b passes same grows one = absurd (false≢true passes)
-  asked_at x y z id q n true true passes same grows one =
-      let P : List ℕ → Type 0 = λ i. (asked y i ≤ asked z i) × (asked z i ≤ asked y i + 1) in
-      let here = subst P ((bytes_eq-Decides id q).0 same) (one.no_less, one.this) in
-      (omega (arith, grows.0, here.0), omega (arith, grows.1, here.1))
-  asked_at x y z id q n true false passes same grows one =
-      let other = one.others q (λ e. false≢true (sym same ∙ (bytes_eq-Decides id q).1 (sym e))) in
-      (omega (arith, grows.0, other), omega (arith, grows.1, other))
+-- calls, and then others
+pub asks_on : {S : Type 0} (asked : S → List ℕ → ℕ) (c e : ℕ) (n m : List ℕ → ℕ) (old mid new : Chained S)
+    → AsksAtMost asked c n old mid → AsksAtMost asked e m mid new → AsksAtMost asked (c + e) (λ q. n q + m q) old new
+asks_on asked c e n m old mid new first next = record {
+  no_fewer = omega (arith, first.no_fewer, next.no_fewer);
+  calls = omega (arith, first.calls, next.calls);
+  no_less = λ q k. omega (arith, first.no_less q k, next.no_less q k);
+  most = λ q k. omega (arith, first.most q k, next.most q k);
+}
 
-  each_at : (id : List ℕ) (f : List ℕ → ℕ) (t : Bool) → t ≡ true → (xs ys zs : List S) → AllZip (λ a b. (q : List ℕ) → GrowsBy (f q) (asked a q) (asked b q)) xs ys
-      → EachOnce asked id ys zs → AllZip (λ a b. (q : List ℕ) → GrowsBy (f q + cond (t && bytes_eq id q) 1 0) (asked a q) (asked b q)) xs zs
-  each_at id f t passes [] [] [] asks one = tt
-  each_at id f t passes [] [] (z ∷ zs) asks one = absurd one
-  each_at id f t passes [] (y ∷ ys) zs asks one = absurd asks
-  each_at id f t passes (x ∷ xs) [] zs asks one = absurd asks
-  each_at id f t passes (x ∷ xs) (y ∷ ys) [] asks one = absurd one
-  each_at id f t passes (x ∷ xs) (y ∷ ys) (z ∷ zs) asks one =
-      (λ q. asked_at x y z id q (f q) t (bytes_eq id q) passes refl (asks.0 q) one.0, each_at id f t passes xs ys zs asks.1 one.1)
+-- so many at most, and so more at most
+pub asks_up : {S : Type 0} (asked : S → List ℕ → ℕ) (c e : ℕ) (n m : List ℕ → ℕ) (old new : Chained S) → c ≤ e → ((q : List ℕ) → n q ≤ m q)
+    → AsksAtMost asked c n old new → AsksAtMost asked e m old new
+asks_up asked c e n m old new fewer less asks = record {
+  no_fewer = asks.no_fewer;
+  calls = omega (arith, asks.calls);
+  no_less = asks.no_less;
+  most = λ q k. omega (arith, asks.most q k, less q);
+}
 
-  calls_at : (n a b c : ℕ) (t : Bool) → t ≡ true → GrowsBy n a b → GrowsBy 1 b c → GrowsBy (n + cond t 1 0) a c
-  calls_at n a b c false passes grows one = absurd (false≢true passes)
-  calls_at n a b c true passes grows one = (omega (arith, grows.0, one.0), omega (arith, grows.1, one.1))
+-- ---- wants
 
-  pub for_one : (l : Listing) (p : ℕ → Bool) (k : ℕ) (old mid new : Chained S) → p k ≡ true → AsksFor asked queried l p k old mid → AsksOnceOrNot asked queried (id_of l k) mid new
-      → AsksFor asked queried l p (k + 1) old new
-  for_one l p k old mid new passes asks one =
-      let P : ℕ → Type 0 = λ n. AsksFor asked queried l p n old new in
-      subst P (sym (add-one k)) (record {
-        stores = each_at (id_of l k) (entries_with l p k) (p k) passes old.stores mid.stores new.stores asks.stores one.stores;
-        queries = one.queries ∙ asks.queries;
-        calls = calls_at (count_below p k) old.asks mid.asks new.asks (p k) passes asks.calls one.calls;
-        kind = one.kind ∙ asks.kind;
-      })
+-- the wants below w, and then want w
+pub asks_more : {S : Type 0} (asked : S → List ℕ → ℕ) (ids : ℕ → List ℕ) (spared : ℕ → Bool) (w : ℕ) (old mid new : Chained S)
+    → AsksAtMost asked (calls_below spared w) (asks_below ids spared w) old mid
+    → AsksAtMost asked (calls_for spared w) (asks_for ids spared w) mid new
+    → AsksAtMost asked (calls_below spared (w + 1)) (asks_below ids spared (w + 1)) old new
+asks_more asked ids spared w old mid new first next =
+    rw (add-one w) (asks_on asked (calls_below spared w) (calls_for spared w) (asks_below ids spared w) (asks_for ids spared w) old mid new first next)
+
+none_more : (w : ℕ) → w ≡ zero + w
+none_more w = omega arith
+
+one_more : (n w : ℕ) → suc (n + w) ≡ suc n + w
+one_more n w = omega arith
+
+still_below : (a b c : ℕ) → a ≤ b → a ≤ b + c
+still_below a b c le = omega arith
+
+calls_up : (spared : ℕ → Bool) (w n : ℕ) → calls_below spared w ≤ calls_below spared (n + w)
+calls_up spared w zero = subst (λ k. calls_below spared w ≤ calls_below spared k) (none_more w) (omega arith)
+calls_up spared w (suc n) = subst (λ k. calls_below spared w ≤ calls_below spared k) (one_more n w) (still_below (calls_below spared w) (calls_below spared (n + w)) (calls_for spared (n + w)) (calls_up spared w n))
+
+ids_up : (ids : ℕ → List ℕ) (spared : ℕ → Bool) (w n : ℕ) (q : List ℕ) → asks_below ids spared w q ≤ asks_below ids spared (n + w) q
+ids_up ids spared w zero q = subst (λ k. asks_below ids spared w q ≤ asks_below ids spared k q) (none_more w) (omega arith)
+ids_up ids spared w (suc n) q = subst (λ k. asks_below ids spared w q ≤ asks_below ids spared k q) (one_more n w) (still_below (asks_below ids spared w q) (asks_below ids spared (n + w) q) (asks_for ids spared (n + w) q) (ids_up ids spared w n q))
+
+-- the wants below w are among those below n
+pub asks_all : {S : Type 0} (asked : S → List ℕ → ℕ) (ids : ℕ → List ℕ) (spared : ℕ → Bool) (w n : ℕ) (old new : Chained S) → w ≤ n
+    → AsksAtMost asked (calls_below spared w) (asks_below ids spared w) old new → AsksAtMost asked (calls_below spared n) (asks_below ids spared n) old new
+asks_all asked ids spared w n old new le asks =
+    let e : (n - w) + w ≡ n = omega arith in
+    asks_up asked (calls_below spared w) (calls_below spared n) (asks_below ids spared w) (asks_below ids spared n) old new
+    (subst (λ k. calls_below spared w ≤ calls_below spared k) e (calls_up spared w (n - w)))
+    (λ q. subst (λ k. asks_below ids spared w q ≤ asks_below ids spared k q) e (ids_up ids spared w (n - w) q))
+    asks
+
+-- one call for a want that isn't spared
+pub asks_last : {S : Type 0} (asked queried : S → List ℕ → ℕ) (ids : ℕ → List ℕ) (spared : ℕ → Bool) (w : ℕ) (old new : Chained S) → spared w ≡ false
+    → AsksOnce asked queried (ids w) old new → AsksAtMost asked (calls_for spared w) (asks_for ids spared w) old new
+asks_last asked queried ids spared w old new isnt once =
+    let one : calls_for spared w ≡ 1 = rw (isnt) refl in
+    let here : (q : List ℕ) → asks_for ids spared w q ≡ one_if (ids w) q = λ q. rw (isnt) refl in
+    record {
+      no_fewer = omega (arith, once.calls, once.below);
+      calls = omega (arith, once.calls, one);
+      no_less = λ q k. (once_at asked (ids w) old.stores new.stores once.stores q k).0;
+      most = λ q k. omega (arith, (once_at asked (ids w) old.stores new.stores once.stores q k).1, here q);
+    }
+
+-- ---- wants that are had without the stores
+
+pub quiet_never : (a b : ℕ) → Quiet a b → Rose a b → ⊥
+quiet_never a b quiet (inl more) = omega (arith, quiet.same)
+quiet_never a b quiet (inr full) = omega (arith, quiet.below)
+
+-- a count that was quiet from a to e was so from b to c between
+pub quiet_part : (a b c e : ℕ) → a ≤ b → c ≤ e → Quiet a e → Quiet b c
+quiet_part a b c e ab ce quiet = record { same = omega (arith, quiet.same); below = omega (arith, quiet.below) }
+
+module _ {V : Type 0} (view : V → Held) (view_faults : V → ℕ) (l : Listing) (d : Deal) (x : Placed) where
+  -- a want that was spared over a stretch was spared over each part of it
+  pub spared_part : (m n : List Fate) (a b c e : ℕ) (s0 s1 s2 s3 : List (Seed V)) (w : ℕ) → Grows m n → a ≤ b → c ≤ e
+      → KeepsSeeds view view_faults s0 s1 → KeepsSeeds view view_faults s2 s3
+      → IsSpared view view_faults l d x m a e s0 s3 w → IsSpared view view_faults l d x n b c s1 s2 w
+  spared_part m n a b c e s0 s1 s2 s3 w grows ab ce before after (inl ((j, among, is), quiet)) =
+      inl ((j, among, settled_on m n grows j is), quiet_part a b c e ab ce quiet)
+  spared_part m n a b c e s0 s1 s2 s3 w grows ab ce before after (inr (k, p, inside, at, (has, quiet))) =
+      let counts : List (Seed V) → ℕ = λ s. slice_index (map (faults_in view_faults) s) p.seed in
+      inr (
+        k,
+        p,
+        inside,
+        at,
+        (
+          subst (λ views. HeldAt views p (want_id l d w)) (sym before.held) has,
+          quiet_part (counts s0) (counts s1) (counts s2) (counts s3) (before.never_fall p.seed) (after.never_fall p.seed) quiet,
+        ),
+      )
+
+  -- the stores weren't asked for it
+  pub spared_never : {S : Type 0} (asked queried : S → List ℕ → ℕ) (m : List Fate) (a b : ℕ) (s0 s1 : List (Seed V)) (c0 c1 : Chained S) (w : ℕ)
+      → IsSpared view view_faults l d x m a b s0 s1 w
+      → AskedLast asked queried view view_faults (want_id l d w) m (of_want d w) (places_at x w) a b s0 s1 c0 c1 → ⊥
+  spared_never asked queried m a b s0 s1 c0 c1 w (inl ((j, among, is), quiet)) last = quiet_never a b quiet (last.copies j among is)
+  spared_never asked queried m a b s0 s1 c0 c1 w (inr (k, p, inside, at, (has, quiet))) last =
+      let counts : List (Seed V) → SeedPlace → ℕ = λ s y. slice_index (map (faults_in view_faults) s) y.seed in
+      let failed : HeldAt (map (held_in view) s0) p (want_id l d w) → Rose (counts s0 p) (counts s1 p) =
+      subst (λ y. HeldAt (map (held_in view) s0) y (want_id l d w) → Rose (counts s0 y) (counts s1 y)) at (last.seeds k p inside) in
+      quiet_never (counts s0 p) (counts s1 p) quiet (failed has)
+
+  -- what one want asks
+  pub asks_want : {S : Type 0} (asked queried : S → List ℕ → ℕ) (m : List Fate) (a b : ℕ) (s0 s1 : List (Seed V)) (c0 c1 : Chained S) (spared : ℕ → Bool) (w : ℕ)
+      → (spared w ≡ true → IsSpared view view_faults l d x m a b s0 s1 w)
+      → (c1 ≡ c0) ⊎ AskedLast asked queried view view_faults (want_id l d w) m (of_want d w) (places_at x w) a b s0 s1 c0 c1
+      → AsksAtMost asked (calls_for spared w) (asks_for (want_id l d) spared w) c0 c1
+  asks_want asked queried m a b s0 s1 c0 c1 spared w are (inl same) = asks_same asked (calls_for spared w) (asks_for (want_id l d) spared w) c0 c1 same
+  asks_want asked queried m a b s0 s1 c0 c1 spared w are (inr last) = elim (cases_Bool (spared w)) [
+    | inl is ↦ absurd (spared_never asked queried m a b s0 s1 c0 c1 w (are is) last)
+    | inr isnt ↦ asks_last asked queried (want_id l d) spared w c0 c1 isnt last.once
+  ]
+
+  -- the wants below k were asked for at most once, between these fates, counts, seeds and chains
+  abbrev pub AsksUpTo : {S : Type 0} → (S → List ℕ → ℕ) → List Fate → ℕ → ℕ → List (Seed V) → List (Seed V) → Chained S → Chained S → ℕ → Type 0
+  AsksUpTo asked m a b s0 s1 c0 c1 k = (spared : ℕ → Bool) → AreSpared view view_faults l d x m a b s0 s1 spared
+      → AsksAtMost asked (calls_below spared k) (asks_below (want_id l d) spared k) c0 c1
+
+  -- so are those below w + 1, where want w was asked for at most once since
+  pub up_to_more : {S : Type 0} (asked queried : S → List ℕ → ℕ) (m n : List Fate) (a b c : ℕ) (s0 s1 s2 : List (Seed V)) (c0 c1 c2 : Chained S) (w : ℕ)
+      → w < d.wants → Grows m n → a ≤ b → b ≤ c → KeepsSeeds view view_faults s0 s1 → KeepsSeeds view view_faults s1 s2
+      → AsksUpTo asked m a b s0 s1 c0 c1 w
+      → (c2 ≡ c1) ⊎ AskedLast asked queried view view_faults (want_id l d w) n (of_want d w) (places_at x w) b c s1 s2 c1 c2
+      → AsksUpTo asked m a c s0 s2 c0 c2 (w + 1)
+  up_to_more asked queried m n a b c s0 s1 s2 c0 c1 c2 w below grows ab bc before after first next = λ spared are.
+      asks_more asked (want_id l d) spared w c0 c1 c2
+      (first spared (λ v inside is. spared_part m m a a b c s0 s0 s1 s2 v (grows_none m) (omega arith) bc (seeds_none view view_faults s0) after (are v inside is)))
+      (asks_want asked queried n b c s1 s2 c1 c2 spared w
+      (λ is. spared_part m n a b c c s0 s1 s2 s2 w grows ab (omega arith) before (seeds_none view view_faults s2) (are w below is)) next)
+
+  pub up_to_all : {S : Type 0} (asked : S → List ℕ → ℕ) (m : List Fate) (a b : ℕ) (s0 s1 : List (Seed V)) (c0 c1 : Chained S) (w k : ℕ) → w ≤ k
+      → AsksUpTo asked m a b s0 s1 c0 c1 w → AsksUpTo asked m a b s0 s1 c0 c1 k
+  up_to_all asked m a b s0 s1 c0 c1 w k le asks = λ spared are. asks_all asked (want_id l d) spared w k c0 c1 le (asks spared are)

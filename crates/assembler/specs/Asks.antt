@@ -1,42 +1,60 @@
--- How often a walk through the entries of an index asks stores.
-use Rattle.std.specs.Prelude.{◌≡◌, ℕ, zero, suc, ◌+◌, ◌≤◌, List, map, Bool, ◌&&◌, if◌then◌else◌}
-use Rattle.std.specs.List.{AllZip}
+-- How often stores are asked.
+use Rattle.std.specs.Prelude.{◌≡◌, ◌⊎◌, ℕ, zero, suc, ◌+◌, ◌<◌, ◌≤◌, List, map, slice_index, Bool, true, if◌then◌else◌}
+use Rattle.std.specs.List.{Any}
 use Rattle.std.specs.Str.{bytes_eq}
-use Rattle.caibx_codec.specs.Listing.{Listing, id_of, kind_of, slice_of}
-use Rattle.chunk_store.specs.Names.{name_of}
-use Rattle.store_chain.specs.Chains.{Chained, EachOnce}
+use Rattle.assembler.specs.Sources.{HeldAt, faults_in, held_in}
+use Rattle.assembler.specs.Wants.{IsAmong, of_want, want_id}
+use Rattle.caibx_codec.specs.Listing.{Listing}
+use Rattle.dsy_base.specs.Bytes.{Held}
+use Rattle.dsy_base.specs.Counts.{Quiet}
+use Rattle.extract_plan.specs.Deal.{Deal}
+use Rattle.extract_plan.specs.Places.{Placed, places_at}
+use Rattle.extract_plan.specs.declared.seed.Seed.{Seed}
+use Rattle.range_survey.specs.Fates.{settled}
+use Rattle.range_survey.specs.declared.fate.Fate.{Fate}
+use Rattle.store_chain.specs.Chains.{Chained}
 
--- how many numbers below k pass the test
-abbrev pub count_below : (ℕ → Bool) → ℕ → ℕ
-count_below p zero = 0
-count_below p (suc k) = count_below p k + (if p k then 1 else 0)
+-- the number of times the store of number k was asked for the id
+abbrev pub asked_at : {S : Type 0} → (S → List ℕ → ℕ) → List S → List ℕ → ℕ → ℕ
+asked_at asked stores q k = slice_index (map (λ s. asked s q) stores) k
 
--- whether entry i is right in t at its own place
-abbrev pub is_right : List ℕ → Listing → ℕ → Bool
-is_right t l i = bytes_eq (name_of (kind_of l) (slice_of l t i)) (id_of l i)
-
--- how many of the first k entries pass the test and have the id
-abbrev pub entries_with : Listing → (ℕ → Bool) → ℕ → List ℕ → ℕ
-entries_with l p k q = count_below (λ i. p i && bytes_eq (id_of l i) q) k
-
--- the chain's number of calls has grown by n at most
-abbrev pub GrowsBy : ℕ → ℕ → ℕ → Type 0
-GrowsBy n old new = (old ≤ new) × (new ≤ old + n)
-
--- a chain was asked for one id at most once
-pub record AsksOnceOrNot {S : Type 0} (asked queried : S → List ℕ → ℕ) (id : List ℕ)
+-- the chain was called at most so many times more, and each store asked for each id q at most n q times more
+pub record AsksAtMost {S : Type 0} (asked : S → List ℕ → ℕ) (c : ℕ) (n : List ℕ → ℕ)
     (old new : Chained S) : Type 0 where
-  pub stores : EachOnce asked id old.stores new.stores
-  pub queries : map queried new.stores ≡ map queried old.stores
-  pub calls : GrowsBy 1 old.asks new.asks
-  pub kind : new.kind ≡ old.kind
+  pub no_fewer : old.asks ≤ new.asks
+  pub calls : new.asks ≤ old.asks + c
+  pub no_less : (q : List ℕ) (k : ℕ) → asked_at asked old.stores q k ≤ asked_at asked new.stores q k
+  pub most : (q : List ℕ) (k : ℕ) → asked_at asked new.stores q k ≤ asked_at asked old.stores q k + n q
 
--- a chain was asked at most once for each of the first k entries that pass the test: each of its stores for an id at
--- most as often as such entries have it
-pub record AsksFor {S : Type 0} (asked queried : S → List ℕ → ℕ) (l : Listing) (p : ℕ → Bool) (k : ℕ)
-    (old new : Chained S) : Type 0 where
-  pub stores : AllZip (λ a b. (q : List ℕ) → GrowsBy (entries_with l p k q) (asked a q) (asked b q))
-      old.stores new.stores
-  pub queries : map queried new.stores ≡ map queried old.stores
-  pub calls : GrowsBy (count_below p k) old.asks new.asks
-  pub kind : new.kind ≡ old.kind
+-- Of wants with these ids some are spared.
+-- how many calls want w takes, and how many of these ask for the id q: one where it isn't spared
+abbrev pub calls_for : (ℕ → Bool) → ℕ → ℕ
+calls_for spared w = if spared w then 0 else 1
+
+abbrev pub asks_for : (ℕ → List ℕ) → (ℕ → Bool) → ℕ → List ℕ → ℕ
+asks_for ids spared w q = if spared w then 0 else if bytes_eq (ids w) q then 1 else 0
+
+-- so do the wants below k together
+abbrev pub calls_below : (ℕ → Bool) → ℕ → ℕ
+calls_below spared zero = 0
+calls_below spared (suc k) = calls_below spared k + calls_for spared k
+
+abbrev pub asks_below : (ℕ → List ℕ) → (ℕ → Bool) → ℕ → List ℕ → ℕ
+asks_below ids spared zero q = 0
+asks_below ids spared (suc k) q = asks_below ids spared k q + asks_for ids spared k q
+
+-- want w is had without the stores: an entry of it was settled before, and the target didn't fail; or a seed gives it that
+-- didn't fail
+abbrev pub IsSpared : {V : Type 0} → (V → Held) → (V → ℕ) → Listing → Deal → Placed → List Fate → ℕ → ℕ
+    → List (Seed V) → List (Seed V) → ℕ → Type 0
+IsSpared view view_faults l d x m old new s0 s1 w =
+    (((j : ℕ) × IsAmong (of_want d w) j × (settled m j ≡ true)) × Quiet old new)
+    ⊎ Any (λ p. HeldAt (map (held_in view) s0) p (want_id l d w)
+    × Quiet (slice_index (map (faults_in view_faults) s0) p.seed) (slice_index (map (faults_in view_faults) s1) p.seed))
+    (places_at x w)
+
+-- the spared wants are such
+abbrev pub AreSpared : {V : Type 0} → (V → Held) → (V → ℕ) → Listing → Deal → Placed → List Fate → ℕ → ℕ
+    → List (Seed V) → List (Seed V) → (ℕ → Bool) → Type 0
+AreSpared view view_faults l d x m old new s0 s1 spared =
+    (w : ℕ) → w < d.wants → spared w ≡ true → IsSpared view view_faults l d x m old new s0 s1 w

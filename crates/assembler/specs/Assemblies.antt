@@ -1,47 +1,110 @@
--- How an assembly may end. `old` are the target's bytes before it, the base is `old` with the image's length.
-use Rattle.std.specs.Prelude.{◌≡◌, ℕ, List, Bool, Result, Ok, Err}
-use Rattle.caibx_codec.specs.Listing.{Listing, count_of, id_of, image_length}
+-- How an assembly may end. `o` are the target's bytes before it, the base is `o` with the image's length, t are the
+-- bytes after it. `failed` says that the target failed.
+use Rattle.std.specs.Prelude.{◌≡◌, ◌⊎◌, ℕ, ◌+◌, ◌<◌, List, length, map, slice_index, true, Bool, Option, Some, IfSome, IsTrue, IsSomeAnd, Result, Ok, Err}
+use Rattle.std.specs.List.{Any}
+use Rattle.assembler.specs.Asks.{AsksAtMost, asks_below, calls_below}
+use Rattle.assembler.specs.Losses.{SomeGives}
+use Rattle.assembler.specs.Passes.{RefusedOnce, want_at}
+use Rattle.assembler.specs.Sources.{HeldAt, SeedsFailed, SeedsGive, faults_in, held_in}
+use Rattle.assembler.specs.Wants.{IsAmong, of_want, want_id}
+use Rattle.assembler.specs.declared.fault.ExtractFault.{ExtractFault}
+use Rattle.assembler.specs.declared.fault.ExtractFault.TheVariants as faults
+use Rattle.assembler.specs.declared.fault.Lost.{Lost}
+use Rattle.assembler.specs.declared.kit.Kit.{Kit}
+use Rattle.assembler.specs.declared.report.Report.{Report}
+use Rattle.caibx_codec.specs.Listing.{Listing, count_of, id_of, image_length, kind_of, size_of, slice_of}
+use Rattle.caibx_codec.specs.Right.{IsRight, IsRightAt}
 use Rattle.chunk_store.specs.Said.{Said}
-use Rattle.dsy_base.specs.Bytes.{resized}
+use Rattle.dsy_base.specs.Bytes.{Held, resized}
+use Rattle.dsy_base.specs.Counts.{Quiet, Rose}
 use Rattle.dsy_base.specs.Maps.{Map}
-use Rattle.dsy_base.specs.declared.fault.IoFault.TheVariants as io
-use Rattle.caibx_codec.specs.Right.{IsRight}
-use Rattle.assembler.specs.Lacks.{RefusedLast}
-use Rattle.assembler.specs.Walks.{Walks, StopLacks, AllHad, StopsFirst, stop_wants}
-use Rattle.assembler.specs.declared.assemble.Halt.{Halt}
-use Rattle.assembler.specs.declared.assemble.Halt.TheVariants as halt
-use Rattle.assembler.specs.declared.obtain.Why.TheVariants as why
+use Rattle.extract_plan.specs.Deal.{AreAlike, Deal}
+use Rattle.extract_plan.specs.Places.{Placed, places_at}
+use Rattle.extract_plan.specs.declared.seed.Seed.{Seed}
+use Rattle.store_chain.specs.Faults.{EachQuiet}
 
--- the bytes t after it: where the length couldn't be set they are as before
-abbrev pub Assembles : Listing → List ℕ → List ℕ → Result Unit Halt → Type 0
-Assembles l old t (Ok r) = IsRight t l
-Assembles l old t (Err (halt.Length f)) = t ≡ old
-Assembles l old t (Err (halt.Entry s)) = Walks l (resized old (image_length l)) t (Err s)
+-- an entry that is alike to entry i is right in the base
+abbrev pub RightAlike : Listing → List ℕ → ℕ → Type 0
+RightAlike l base i = (j : ℕ) × (j < count_of l) × AreAlike l j i × IsRightAt base l j
 
--- what the stores lacked
-abbrev pub HaltLacks : Listing → List (Map (List ℕ)) → Halt → Type 0
-HaltLacks l maps (halt.Length f) = Unit {0}
-HaltLacks l maps (halt.Entry s) = StopLacks l maps s
+-- entry i can be had: an alike one is right in the base, or a seed gives its chunk, or a store does
+abbrev pub IsObtainable : Listing → Deal → Placed → List ℕ → List (Option Held) → List (Map (List ℕ)) → ℕ → Type 0
+IsObtainable l d x base views maps i = RightAlike l base i
+    ⊎ (SeedsGive views (places_at x (want_at d i)) (id_of l i) ⊎ SomeGives (kind_of l) (id_of l i) (size_of l i) maps)
 
--- what the stores told in the call that ended it
-abbrev pub HaltTold : {S : Type 0} → (S → Said) → (S → ℕ) → Bool → Listing → List S → List S → Halt → Type 0
-HaltTold said faults lacks_memory l old new (halt.Length f) = Unit {0}
-HaltTold said faults lacks_memory l old new (halt.Entry s) =
-    (s.id.0 ≡ id_of l s.entry) × RefusedLast said faults lacks_memory (stop_wants l s) old new s.why
+-- each range is right or the base's, unless a write to it failed; and a range that is right in the base was never
+-- written, unless it couldn't be read
+pub record KeepsBase (l : Listing) (failed : Type 0) (base t : List ℕ) : Type 0 where
+  pub size : length t ≡ image_length l
+  pub each : (i : ℕ) → i < count_of l → IsRightAt t l i ⊎ ((slice_of l t i ≡ slice_of l base i) ⊎ failed)
+  pub kept : (i : ℕ) → i < count_of l → IsRightAt base l i → (slice_of l t i ≡ slice_of l base i) ⊎ failed
 
--- how it ends where nothing fails
-abbrev pub HaltVerdict : Listing → List ℕ → List (Map (List ℕ)) → Result Unit Halt → Type 0
-HaltVerdict l base maps (Ok r) = AllHad l base maps (count_of l)
-HaltVerdict l base maps (Err (halt.Length io.Failed)) = ⊥
-HaltVerdict l base maps (Err (halt.Length io.Memory)) = Unit {0}
-HaltVerdict l base maps (Err (halt.Entry s)) = StopsFirst l base maps s.entry s.why
+-- the bytes after it: where no entry is named the length may not have been set
+abbrev pub Assembles : Listing → Type 0 → Result Report ExtractFault → List ℕ → List ℕ → Type 0
+Assembles l failed (Ok r) o t = IsRight t l × KeepsBase l failed (resized o (image_length l)) t
+Assembles l failed (Err (faults.Missing k id)) o t =
+    KeepsBase l failed (resized o (image_length l)) t × ((i : ℕ) → i < k → IsRightAt t l i)
+Assembles l failed (Err (faults.Damaged k id s shows)) o t =
+    KeepsBase l failed (resized o (image_length l)) t × ((i : ℕ) → i < k → IsRightAt t l i)
+Assembles l failed (Err (faults.StoreFault s)) o t = KeepsBase l failed (resized o (image_length l)) t
+Assembles l failed (Err faults.TargetFault) o t = (t ≡ o) ⊎ KeepsBase l failed (resized o (image_length l)) t
+Assembles l failed (Err faults.Memory) o t = (t ≡ o) ⊎ KeepsBase l failed (resized o (image_length l)) t
 
--- whose fault it was
-abbrev pub IsTargetFault : Halt → Type 0
-IsTargetFault (halt.Length io.Failed) = Unit {0}
-IsTargetFault (halt.Length io.Memory) = ⊥
-IsTargetFault (halt.Entry s) = s.why ≡ why.TargetFault
+-- all entries below k can be had, and k can't
+abbrev pub IsLeast : (ℕ → Type 0) → ℕ → Type 0
+IsLeast P k = ((i : ℕ) → i < k → P i) × (P k → ⊥)
 
-abbrev pub IsStoreFault : ℕ → Halt → Type 0
-IsStoreFault store (halt.Length f) = ⊥
-IsStoreFault store (halt.Entry s) = s.why ≡ why.StoreFault store
+-- how it ends where nothing fails: all entries can be had, or the least that can't be had is named. Want of memory is
+-- free
+abbrev pub Verdict : Listing → (ℕ → Type 0) → Result Report ExtractFault → Type 0
+Verdict l P (Ok r) = (i : ℕ) → i < count_of l → P i
+Verdict l P (Err (faults.Missing k id)) = IsLeast P k
+Verdict l P (Err (faults.Damaged k id s shows)) = IsLeast P k
+Verdict l P (Err (faults.StoreFault s)) = ⊥
+Verdict l P (Err faults.TargetFault) = ⊥
+Verdict l P (Err faults.Memory) = Unit {0}
+
+-- what stands afterwards where nothing fails: each entry that can be had is right, and each other has the base's bytes
+abbrev pub After : Listing → (ℕ → Type 0) → List ℕ → List ℕ → Result Report ExtractFault → Type 0
+After l P base t (Err faults.Memory) = Unit {0}
+After l P base t r = (i : ℕ) → i < count_of l → (P i → IsRightAt t l i) × ((P i → ⊥) → slice_of l t i ≡ slice_of l base i)
+
+module _ {S V : Type 0} (holds folder : S → Option (Map (List ℕ))) (place : S → List ℕ) (said : S → Said)
+    (store_faults : S → ℕ) (lacks_memory : Bool) (view : V → Held) (view_faults : V → ℕ) (l : Listing) (d : Deal)
+    (x : Placed) where
+  -- no source gave the chunk of this entry: an alike entry that is right in the base couldn't be read, a seed that has
+  -- the chunk failed, and the stores refused it
+  pub record IsUnobtained (o : Option (List ℕ)) (old new : ℕ) (k j : Kit S V) (lost : Lost) : Type 0 where
+    pub listed : lost.entry < count_of l
+    pub id_is : lost.id.0 ≡ id_of l lost.entry
+    pub copies : IfSome o (λ b. RightAlike l (resized b (image_length l)) lost.entry → Rose old new)
+    pub seeds : SeedsFailed (map (held_in view) k.seeds.items) (places_at x (want_at d lost.entry)) lost.id.0
+        (map (faults_in view_faults) k.seeds.items) (map (faults_in view_faults) j.seeds.items)
+    pub stores : RefusedOnce holds folder place said store_faults lacks_memory view view_faults l d x lost
+        k.chain.stores j.chain.stores
+
+  -- nothing fails: the target, the seeds and the stores, which hold these maps, are quiet, and the seeds tell
+  pub record NothingFails (tells : Bool) (old new : ℕ) (k j : Kit S V) (maps : List (Map (List ℕ))) : Type 0 where
+    pub target : Quiet old new
+    pub telling : IsTrue tells
+    pub seeds : EachQuiet (map (faults_in view_faults) k.seeds.items) (map (faults_in view_faults) j.seeds.items)
+    pub told : map holds k.chain.stores ≡ map Some maps
+    pub stores : EachQuiet (map store_faults k.chain.stores) (map store_faults j.chain.stores)
+
+-- want w is had without the stores: an entry of it is right in the base, and the target didn't fail; or a seed gives it
+-- that didn't fail
+abbrev pub SparedOver : {V : Type 0} → (V → Held) → (V → ℕ) → Listing → Deal → Placed → Option (List ℕ) → ℕ → ℕ
+    → List (Seed V) → List (Seed V) → ℕ → Type 0
+SparedOver view view_faults l d x o old new s0 s1 w =
+    (IsSomeAnd o (λ b. (j : ℕ) × IsAmong (of_want d w) j × IsRightAt (resized b (image_length l)) l j) × Quiet old new)
+    ⊎ Any (λ p. HeldAt (map (held_in view) s0) p (want_id l d w)
+    × Quiet (slice_index (map (faults_in view_faults) s0) p.seed) (slice_index (map (faults_in view_faults) s1) p.seed))
+    (places_at x w)
+
+-- how often an assembly asks: for each want at most twice, and not for a spared one
+abbrev pub AssemblyAsks : {S V : Type 0} → (S → List ℕ → ℕ) → (V → Held) → (V → ℕ) → Listing → Deal → Placed
+    → Option (List ℕ) → ℕ → ℕ → Kit S V → Kit S V → Type 0
+AssemblyAsks asked view view_faults l d x o old new k j = (spared : ℕ → Bool)
+    → ((w : ℕ) → w < d.wants → spared w ≡ true → SparedOver view view_faults l d x o old new k.seeds.items j.seeds.items w)
+    → AsksAtMost asked (calls_below spared d.wants + calls_below spared d.wants)
+    (λ q. asks_below (want_id l d) spared d.wants q + asks_below (want_id l d) spared d.wants q) k.chain j.chain

@@ -1,5 +1,10 @@
-pub mod Lacks
-pub mod Stops
+pub mod Faults
+pub mod Wants
+pub mod Fills
+pub mod Sources
+pub mod Kits
+pub mod Losses
 pub mod Asks
-pub mod Walks
+pub mod Passes
+pub mod Reports
 pub mod Assemblies

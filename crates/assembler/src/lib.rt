@@ -1,8 +1,17 @@
-//! The assembly of an image: a target becomes what an index lists, with chunks from a chain of stores.
+//! The assembly of an image: a target becomes what an index lists, with what it holds already, with chunks from seeds and
+//! from a chain of stores.
 #![tactic(auto)]
 
 pub mod assemble;
-pub mod obtain;
+mod copy;
+pub mod fault;
+mod fill;
+pub mod kit;
+mod obtain;
+mod put;
+pub mod report;
+mod retry;
+mod seeding;
+mod settle;
 #[cfg(test)]
 mod tests;
-pub mod walk;

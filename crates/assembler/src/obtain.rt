@@ -1,54 +1,85 @@
-//! Getting one chunk from a chain of stores.
+//! Getting the chunk of a want: from an entry of the target that has it, from a seed, or from the chain of stores.
 
-ghost use Rattle.std.specs.Prelude.{◌≡◌, ◌≢◌, ℕ, List, length, map, Some, OnOk, IfErr, slice_index};
+ghost use Rattle.std.specs.Prelude.{◌≡◌, ◌⊎◌, ℕ, List, IsTrue, ◌≤◌, length, map, Some, IfSome, IfOk, IfErr, OnOk, OnErr, true};
+ghost use Rattle.assembler.specs.Fills.{is_made};
+ghost use Rattle.assembler.specs.Kits.{KeepsSeeds};
+ghost use Rattle.assembler.specs.Losses.{AskedLast, Had, RefusedBy, chunk_of};
+ghost use Rattle.assembler.specs.Sources.{PlacesFit, held_in};
+ghost use Rattle.assembler.specs.Wants.{AllOf};
+ghost use Rattle.caibx_codec.specs.Listing.{count_of, kind_of, image_length};
 ghost use Rattle.chunk_store.specs.Names.{name_of};
-ghost use Rattle.assembler.specs.Lacks.{Lacks, Obtains, RefusedBy, chunk_of};
-ghost use Rattle.dsy_base.specs.Counts.{Rose};
 ghost use Rattle.dsy_base.specs.Maps.{Map};
-ghost use Rattle.store_chain.specs.Chains.{KeepsStores, AsksOnce};
+ghost use Rattle.range_survey.specs.Fates.{SettledRight, is_settled};
+ghost use Rattle.store_chain.specs.Chains.{KeepsStores};
 ghost use Rattle.store_chain.specs.Faults.{EachQuiet};
 
+use crate::copy::copy;
+use crate::seeding::from_seeds;
+use caibx_codec::index::Index;
 use chunk_store::id::ChunkId;
-use chunk_store::shows::Shows;
 use chunk_store::store::Store;
+use dsy_base::view::View;
+use extract_plan::seed::{Seed, SeedPlace};
+use range_survey::fate::Fate;
 use store_chain::chain::Chain;
 use store_chain::refused::Refused;
 
-/// Why an entry can't be made right. Stores are numbered from 0.
-#[derive(Clone, Copy, Debug, PartialEq, Eq)]
-pub enum Why {
-    /// No store holds anything under its id.
-    Missing,
-    /// The first store that holds something under its id, and what that shows.
-    Damaged { store: u32, shows: Shows },
-    /// The first store that failed.
-    StoreFault { store: u32 },
-    TargetFault,
-    Memory,
+/// What is looked for: the chunk of a want, the want's entries, and where seeds list the chunk.
+#[derive(Clone, Copy)]
+pub(crate) struct Sought<'a> {
+    pub(crate) id: ChunkId,
+    pub(crate) entries: &'a [u32],
+    pub(crate) places: &'a [SeedPlace],
 }
 
-/// Fills `out` with the chunk of this id and of the size of `out`.
-pub fn obtain<S: Store>(stores: &mut Chain<S>, id: &ChunkId, out: &mut [u8]) -> Result<(), Why>
-    ensures ok { OnOk result (name_of stores.old.kind out.new ≡ id.now.0) }
-    ensures told { IfErr result (RefusedBy S.said S.faults S.may_lack_memory
-        (chunk_of stores.old.kind id.now (length out.old)) stores.old.stores stores.new.stores) }
-    ensures absent { (maps : List (Map (List ℕ))) → map S.holds stores.old.stores ≡ map Some maps →
-        IfErr result (Lacks (chunk_of stores.old.kind id.now (length out.old)) maps) }
-    ensures exactly { (maps : List (Map (List ℕ))) → map S.holds stores.old.stores ≡ map Some maps →
-        EachQuiet (map S.faults stores.old.stores) (map S.faults stores.new.stores) →
-        Obtains stores.old.kind id.now (length out.old) maps result }
-    ensures only { result ≢ Err Why.TargetFault }
-    ensures cause { (s : ℕ) → result ≡ Err (Why.StoreFault s) →
-        Rose (slice_index (map S.faults stores.old.stores) s) (slice_index (map S.faults stores.new.stores) s) }
-    ensures kept { KeepsStores S.holds S.folder S.place S.said S.faults stores.old.stores stores.new.stores }
-    ensures asks { AsksOnce S.asked S.queried id.now.0 stores.old stores.new }
+/// Fills `chunk` with the chunk that is sought, which has its size, and answers where it came from. The stores are asked
+/// only where no entry of the target and no seed gave it.
+pub(crate) fn obtain<T: View, S: Store, V: View>(
+    index: &Index,
+    sought: &Sought<'_>,
+    fates: &[Fate],
+    target: &mut T,
+    seeds: &mut [Seed<V>],
+    chain: &mut Chain<S>,
+    chunk: &mut [u8],
+) -> Result<Fate, Refused>
+    requires entries { AllOf index.now sought.now.id.0 (length chunk.old) sought.now.entries.now }
+    requires places { PlacesFit (length seeds.old) (length chunk.old) sought.now.places.now }
+    requires kind { chain.old.kind ≡ kind_of index.now }
+    requires size { (T.held target.old).size ≡ image_length index.now }
+    requires fates { length fates.now ≡ count_of index.now }
+    requires right { IfSome (T.held target.old).bytes (λ t. SettledRight index.now t fates.now (count_of index.now)) }
+    ensures ok { OnOk result (IfSome (T.held target.old).bytes
+        (λ t. name_of (kind_of index.now) chunk.new ≡ sought.now.id.0)) }
+    ensures origin { IfOk result (λ f. is_settled f ≡ true) }
+    ensures made { IfOk result (λ f. is_made f ≡ true) }
+    ensures had { IsTrue V.tells → (maps : List (Map (List ℕ))) → map S.holds chain.old.stores ≡ map Some maps →
+        EachQuiet (map S.faults chain.old.stores) (map S.faults chain.new.stores) →
+        OnOk result (Had fates.now sought.now.entries.now (map (held_in V.held) seeds.old) sought.now.places.now
+        (kind_of index.now) sought.now.id.0 (length chunk.old) maps) }
+    ensures refused { IfErr result (RefusedBy S.holds S.said S.faults S.may_lack_memory
+        (chunk_of (kind_of index.now) sought.now.id (length chunk.old)) chain.old.stores chain.new.stores) }
+    // The chain is asked where no other source gave the chunk, and always before a refusal.
+    ensures asks { (chain.new ≡ chain.old) ⊎ AskedLast S.asked S.queried V.held V.faults sought.now.id.0 fates.now
+        sought.now.entries.now sought.now.places.now (T.faults target.old) (T.faults target.new) seeds.old seeds.new
+        chain.old chain.new }
+    ensures asked { OnErr result (AskedLast S.asked S.queried V.held V.faults sought.now.id.0 fates.now
+        sought.now.entries.now sought.now.places.now (T.faults target.old) (T.faults target.new) seeds.old seeds.new
+        chain.old chain.new) }
+
+    ensures kept { T.held target.new ≡ T.held target.old }
+    ensures faults { T.faults target.old ≤ T.faults target.new }
+    ensures seeds { KeepsSeeds V.held V.faults seeds.old seeds.new }
+    ensures stores { KeepsStores S.holds S.folder S.place S.said S.faults chain.old.stores chain.new.stores }
+    ensures same_kind { chain.new.kind ≡ chain.old.kind }
 {
-    let size = out.len();
-    match stores.obtain(id, Some(size), out) {
-        Ok(_) => Ok(()),
-        Err(Refused::Missing) => Err(Why::Missing),
-        Err(Refused::Damaged { store, shows }) => Err(Why::Damaged { store, shows }),
-        Err(Refused::StoreFault { store }) => Err(Why::StoreFault { store }),
-        Err(Refused::Memory) => Err(Why::Memory),
+    if copy(index, sought.entries, fates, target, chunk) {
+        return Ok(Fate::Copied);
     }
+    if from_seeds(sought.places, seeds, &sought.id, chunk) {
+        return Ok(Fate::Seeded);
+    }
+    let size = chunk.len();
+    chain.obtain(&sought.id, Some(size), chunk)?;
+    Ok(Fate::Fetched)
 }

@@ -1,17 +1,24 @@
-//! Targets in memory that are made what an index lists, from folders in memory.
+//! Targets in memory that are made what an index lists, from folders and seeds in memory.
 
-use crate::assemble::{Halt, assemble};
-use crate::obtain::Why;
-use crate::walk::Stop;
+ghost use Rattle.std.specs.Prelude.{◌≡◌, length, IfOk};
+ghost use Rattle.chunk_store.specs.declared.id.DigestKind.TheVariants as kinds;
+
+use crate::assemble::assemble;
+use crate::fault::ExtractFault;
+use crate::kit::Kit;
+use crate::report::Report;
 use caibx_codec::index::{Entry, Index};
 use chunk_store::id::{ChunkId, DigestKind};
 use chunk_store::shows::Shows;
 use dir_store::store::DirStore;
-use dsy_base::fault::IoFault;
 use dsy_base::folder::Folder;
 use dsy_forms::mem_folder::MemFolder;
 use dsy_forms::mem_target::MemTarget;
+use dsy_forms::mem_view::MemView;
 use dsy_forms::ranges::RangeFails;
+use extract_plan::plan::Plan;
+use extract_plan::seed::Seed;
+use extract_plan::seeds::SeedIndex;
 use std::alloc::{AllocError, Global};
 use std::process::Abort;
 use std::test::Fail;
@@ -21,12 +28,16 @@ fn id_of(piece: &[u8]) -> ChunkId {
     ChunkId::of(DigestKind::Sha512T256, piece)
 }
 
-// The index of an image in three pieces.
-fn index(alloc: Global) -> Result<Index, Fail> {
+// The index of an image in these pieces.
+fn index_of(alloc: Global, pieces: &[&[u8]]) -> Result<Index, Fail> {
     let mut entries = Vec::new(alloc);
-    for (end, piece) in [(3, b"abc"), (6, b"def"), (9, b"ghi")] {
-        let id = id_of(piece);
-        entries.push(Entry { end, id })?;
+    let mut end = 0u64;
+    for piece in pieces {
+        end = end.saturating_add(piece.len() as u64);
+        entries.push(Entry {
+            end,
+            id: id_of(piece),
+        })?;
     }
     let index = Index::new(0xa000_0000_0000_0000, 1, 2, 64, entries);
     Ok(index.ok().ok_or("no index")?)
@@ -41,57 +52,135 @@ fn store_of(alloc: Global, chunks: &[(&[u8], &[u8])]) -> Option<DirStore<MemFold
     Some(DirStore::new(folder))
 }
 
-// Assembles over these bytes from two stores, and compares how it ended and what the target then holds.
-fn assembles(
-    rt: &impl Abort,
+// A seed that lists "abc", and has these bytes.
+fn seed_of(alloc: Global, bytes: Option<&[u8]>) -> Result<Seed<MemView>, Fail> {
+    match bytes {
+        Some(bytes) => {
+            let bytes = Vec::from_slice(alloc, bytes)?;
+            let view = Some(MemView::new(alloc, bytes, Vec::new(alloc)));
+            Ok(Seed { view })
+        }
+        None => Ok(Seed { view: None }),
+    }
+}
+
+fn kit_of(
     alloc: Global,
-    old: (&[u8], RangeFails),
+    seed: Option<&[u8]>,
     first: &[(&[u8], &[u8])],
     second: &[(&[u8], &[u8])],
-    ended: Result<(), Halt>,
-    new: &[u8],
-) -> Result<(), Fail> {
+) -> Result<Kit<DirStore<MemFolder>, MemView>, Fail>
+    ensures kind { IfOk result (λ k. k.chain.kind ≡ kinds.Sha512T256) }
+    ensures one { IfOk result (λ k. length k.seeds.items ≡ 1) }
+{
     let mut stores = Vec::new(alloc);
     stores.push(store_of(alloc, first).ok_or("no store")?)?;
     stores.push(store_of(alloc, second).ok_or("no store")?)?;
-    let mut chain = Chain::new(stores);
+    let mut seeds = Vec::new(alloc);
+    seeds.push(seed_of(alloc, seed)?)?;
+    Ok(Kit::new(alloc, Chain::new(stores), seeds))
+}
+
+// Assembles these pieces over these bytes, from a seed and two stores, and compares how it ended, what the target then
+// holds, and how often the stores were asked.
+fn assembles(
+    rt: &impl Abort,
+    alloc: Global,
+    pieces: &[&[u8]],
+    old: (&[u8], RangeFails),
+    mut kit: Kit<DirStore<MemFolder>, MemView>,
+    ended: Result<Report, ExtractFault>,
+    new: &[u8],
+    asks: u64,
+) -> Result<(), Fail>
+    requires kind { kit.chain.kind ≡ kinds.Sha512T256 }
+    requires one { length kit.seeds.items ≡ 1 }
+{
+    let index = index_of(alloc, pieces)?;
+    let Ok(plan) = Plan::of(alloc, &index, 1) else {
+        return Err(Fail::new("no plan"));
+    };
+    let seeds = [index_of(alloc, &[b"abc"])?];
+    let Ok(places) = SeedIndex::of(alloc, &plan, &index, &seeds) else {
+        return Err(Fail::new("no places"));
+    };
     let mut target = MemTarget::new(alloc, Vec::from_slice(alloc, old.0)?, old.1);
-    let index = index(alloc)?;
-    let mut buf = index.room(alloc)?;
-    let got = assemble(&index, &mut target, &mut chain, &mut buf);
+    let got = assemble(alloc, &index, &plan, &places, &mut target, &mut kit);
     assert_eq!(rt; got, ended);
     assert_eq!(rt; target.bytes(), new);
+    assert_eq!(rt; kit.chain.asks(), asks);
     Ok(())
 }
 
-// It stopped at this entry.
-fn stopped(entry: u64, piece: &[u8], why: Why) -> Result<(), Halt> {
-    let id = id_of(piece);
-    Err(Halt::Entry(Stop { entry, id, why }))
+fn counts(kept: u64, copied: u64, seeded: u64, fetched: u64) -> Result<Report, ExtractFault> {
+    Ok(Report {
+        kept,
+        copied,
+        seeded,
+        cached: 0,
+        fetched,
+    })
 }
 
 #[test]
 #[rattlefmt::skip]
-fn a_target_becomes_the_image_or_stops_at_an_entry(rt: HostRuntime) -> Result<(), Fail> {
+fn what_is_right_is_kept_and_copied(rt: HostRuntime) -> Result<(), Fail> {
     let alloc = rt.alloc();
     let none = RangeFails::none;
-    assembles(&rt, alloc, (b"abcXXXghi and more", none(alloc)), &[], &[(b"def", b"def")], Ok(()), b"abcdefghi")?;
-    let missing = stopped(1, b"def", Why::Missing);
-    assembles(&rt, alloc, (b"", none(alloc)), &[(b"abc", b"abc")], &[], missing, b"abc\0\0\0\0\0\0")?;
-    let damaged = stopped(1, b"def", Why::Damaged { store: 1, shows: Shows::Longer });
-    assembles(&rt, alloc, (b"abcXXXghi", none(alloc)), &[], &[(b"def", b"defg")], damaged, b"abcXXXghi")
+    let kit = kit_of(alloc, None, &[], &[])?;
+    assembles(&rt, alloc, &[b"abc"], (b"abcdefghij", none(alloc)), kit, counts(1, 0, 0, 0), b"abc", 0)?;
+    let kit = kit_of(alloc, None, &[], &[])?;
+    let pieces = [b"abc".as_slice(), b"def", b"abc"];
+    assembles(&rt, alloc, &pieces, (b"xyzdefabc", none(alloc)), kit, counts(2, 1, 0, 0), b"abcdefabc", 0)?;
+    let kit = kit_of(alloc, None, &[(b"abc", b"abc")], &[(b"def", b"def")])?;
+    assembles(&rt, alloc, &pieces, (b"", none(alloc)), kit, counts(0, 1, 0, 2), b"abcdefabc", 2)?;
+    let kit = kit_of(alloc, None, &[], &[])?;
+    assembles(&rt, alloc, &[b"\0\0", b"\0\0\0"], (b"", none(alloc)), kit, counts(2, 0, 0, 0), b"\0\0\0\0\0", 0)
 }
 
 #[test]
 #[rattlefmt::skip]
-fn a_target_that_fails_is_told(rt: HostRuntime) -> Result<(), Fail> {
+fn the_first_entry_that_cannot_be_had_is_named(rt: HostRuntime) -> Result<(), Fail> {
     let alloc = rt.alloc();
+    let none = RangeFails::none;
+    let pieces = [b"abc".as_slice(), b"def", b"ghi"];
+    let id = id_of(b"def");
+    let missing = Err(ExtractFault::Missing { entry: 1, id });
+    let kit = kit_of(alloc, None, &[(b"abc", b"abc")], &[(b"ghi", b"ghi")])?;
+    assembles(&rt, alloc, &pieces, (b"", none(alloc)), kit, missing, b"abc\0\0\0ghi", 4)?;
+    let kit = kit_of(alloc, None, &[(b"def", b"defg")], &[(b"def", b"de")])?;
+    let damaged = Err(ExtractFault::Damaged { entry: 1, id, store: 0, shows: Shows::Longer });
+    assembles(&rt, alloc, &pieces, (b"abcXXXghi and more", none(alloc)), kit, damaged, b"abcXXXghi", 2)
+}
+
+#[test]
+#[rattlefmt::skip]
+fn a_seed_gives_its_chunks_where_they_are_right(rt: HostRuntime) -> Result<(), Fail> {
+    let alloc = rt.alloc();
+    let none = RangeFails::none;
+    let kit = kit_of(alloc, Some(b"abX"), &[(b"abc", b"abc")], &[])?;
+    assembles(&rt, alloc, &[b"abc"], (b"", none(alloc)), kit, counts(0, 0, 0, 1), b"abc", 1)?;
+    let kit = kit_of(alloc, Some(b"abc"), &[], &[])?;
+    let pieces = [b"abc".as_slice(), b"abc"];
+    assembles(&rt, alloc, &pieces, (b"", none(alloc)), kit, counts(0, 1, 1, 0), b"abcabc", 0)?;
+    let kit = kit_of(alloc, None, &[(b"abc", b"abc")], &[])?;
+    assembles(&rt, alloc, &[b"abc"], (b"", none(alloc)), kit, counts(0, 0, 0, 1), b"abc", 1)
+}
+
+#[test]
+#[rattlefmt::skip]
+fn a_failed_write_is_tried_once_more(rt: HostRuntime) -> Result<(), Fail> {
+    let alloc = rt.alloc();
+    let pieces = [b"abc".as_slice(), b"def", b"ghi"];
+    let chunks = [(b"abc".as_slice(), b"abc".as_slice()), (b"def", b"def"), (b"ghi", b"ghi")];
     let mut fails = RangeFails::none(alloc);
-    fails.set_len = 1;
-    assembles(&rt, alloc, (b"abc", fails), &[], &[], Err(Halt::Length(IoFault::Failed)), b"abc")?;
+    fails.writes.push((3, 1))?;
+    let kit = kit_of(alloc, None, &chunks, &[])?;
+    assembles(&rt, alloc, &pieces, (b"", fails), kit, counts(0, 0, 0, 3), b"abcdefghi", 4)?;
     let mut fails = RangeFails::none(alloc);
-    fails.writes.push((4, 1))?;
-    let ended = stopped(1, b"def", Why::TargetFault);
+    fails.writes.push((3, 2))?;
+    let kit = kit_of(alloc, None, &chunks, &[])?;
     // A write that fails in memory leaves 0xee in all of its range.
-    assembles(&rt, alloc, (b"abcXXXghi", fails), &[(b"def", b"def")], &[], ended, b"abc\xee\xee\xeeghi")
+    let ended = Err(ExtractFault::TargetFault);
+    assembles(&rt, alloc, &pieces, (b"", fails), kit, ended, b"abc\xee\xee\xeeghi", 4)
 }

@@ -1,14 +1,12 @@
 -- What `extract` has made where it is done.
-use Rattle.std.proofs.Common.{ap, is_some, map, true, false, ◌≡◌, ℕ, List, Option, Some, None, IfSome, Ok, subst, ◌∙◌}
-use Rattle.assembler.specs.Walks.{AllHad}
+use Rattle.std.proofs.Common.{ap, is_some, map, true, false, ◌≡◌, ◌<◌, ℕ, List, Option, Some, None, IfSome, Ok, subst, ◌∙◌}
 use Rattle.caibx_codec.specs.Listing.{Listing, count_of}
 use Rattle.caibx_codec.specs.Right.{IsRight}
-use Rattle.chunk_store.specs.Folders.{chunks}
 use Rattle.command_line.specs.declared.command.Location.{Location}
 use Rattle.command_steps.specs.Openings.{IsListed}
 use Rattle.command_steps.specs.Stores.{names_of}
 use Rattle.command_steps.specs.Worlds.{DiskQuiet, World}
-use Rattle.desync_cli.specs.Extract.{ExtractEnds, IsExtracted, Leaves, base_of}
+use Rattle.desync_cli.specs.Extract.{ExtractEnds, HadFrom, IsExtracted, KeepsIn}
 use Rattle.dsy_base.proofs.Counts.{at_same}
 use Rattle.dsy_base.specs.Disk.{Disk}
 use Rattle.dsy_base.specs.Maps.{Map}
@@ -17,7 +15,7 @@ module _ (names : List (List ℕ)) (index out : List ℕ) (l : Listing) (d e : D
   -- what the assembly from d to e says of OUT, over what files and folders hold
   abbrev MadeOver : Option (Map (List ℕ)) → Option (Map (Map (List ℕ))) → Option (Map (List ℕ)) → Type 0
   MadeOver x y z = IfSome x (λ b. IfSome y (λ n. IfSome z (λ a. (fs : List (Map (List ℕ))) × (map n names ≡ map Some fs)
-      × (((t : List ℕ) × Leaves b a out t × IsRight t l) × (DiskQuiet d e → AllHad l (base_of b out l) (map chunks fs) (count_of l))))))
+      × (((t : List ℕ) × KeepsIn d e b a out l t × IsRight t l) × (DiskQuiet d e → (i : ℕ) → i < count_of l → HadFrom b out l fs i)))))
 
   -- over files that tell, of which the folders tell too
   over_files : (x : Option (Map (List ℕ))) (y : Option (Map (Map (List ℕ)))) (z : Option (Map (List ℕ))) → is_some x ≡ is_some y → IfSome x (λ m. IsListed m index l) → MadeOver x y z
@@ -25,7 +23,7 @@ module _ (names : List (List ℕ)) (index out : List ℕ) (l : Listing) (d e : D
   over_files None y z same listed made = tt
   over_files (Some b) None z same listed made = let no : true ≡ false = same in absurd (cc)
   over_files (Some b) (Some n) None same listed made = tt
-  over_files (Some b) (Some n) (Some a) same listed made = record { listing = l; listed = listed; image = made.2.0.0; holds = ap (λ (m : Map (List ℕ)). m out) made.2.0.1 ∙ at_same b out (Some made.2.0.0); right = made.2.0.2 }
+  over_files (Some b) (Some n) (Some a) same listed made = record { listing = l; listed = listed; image = made.2.0.0; holds = ap (λ (m : Map (List ℕ)). m out) made.2.0.1.0 ∙ at_same b out (Some made.2.0.0); right = made.2.0.2 }
 
 pub extracted : (stores : List Location) (index out : List ℕ) (w v : World) → is_some w.disk.files ≡ is_some w.disk.folders → ExtractEnds stores index out w (Ok tt) v
     → IfSome w.disk.files (λ b. IfSome v.disk.files (λ a. IsExtracted b a index out))

@@ -1,5 +1,5 @@
 -- What each command leaves, and what its refusals tell: a lemma for each step of its own, and a line a command.
-use Rattle.std.proofs.Common.{◌≡◌, ◌∙◌, ℕ, List, IfSome, [], ◌∷◌, Bool, true, false, Option, Some, None, Result, Ok, Err, refl, sym, subst, inl, inr, arith, cond}
+use Rattle.std.proofs.Common.{◌≡◌, ℕ, List, IfSome, Bool, true, false, Option, Some, None, Result, Ok, Err, refl, sym, subst, inl, inr, arith, cond}
 use Rattle.std.specs.Map.{count_at}
 use Rattle.buzhash_cut.specs.Sizes.{Sizes}
 use Rattle.caibx_codec.specs.Listing.{Listing, id_of}
@@ -15,8 +15,8 @@ use Rattle.command_outcome.specs.declared.outcome.Outcome.{Outcome}
 use Rattle.command_outcome.specs.declared.outcome.Outcome.TheVariants as ends
 use Rattle.command_steps.specs.Blames.{Blames, Keeps, NothingFailed, Parts, Spares, name_at}
 use Rattle.command_steps.specs.Steps.{Passed, answer_of, outcome_of}
-use Rattle.command_steps.specs.Worlds.{FileRose, FolderRose, NoFault, World, world}
-use Rattle.command_steps.proofs.Fair.{IsFair, IsLeft, IsRefusal, IsStep, adds, beside, between, bound, first_failed, first_fair, image_step, index_step, on_disk, on_out, opened_step, printed_step, pure_step, reads, round, taken_step, whole, writes}
+use Rattle.command_steps.specs.Worlds.{FileRose, FolderRose, NoFault, World}
+use Rattle.command_steps.proofs.Fair.{IsFair, IsLeft, IsRefusal, IsStep, adds, between, bound, first_failed, first_fair, image_step, index_step, on_disk, on_out, opened_step, printed_step, pure_step, reads, round, taken_step, whole, writes}
 use Rattle.command_steps.proofs.Numbers.{rose_not_quiet}
 use Rattle.desync_cli.specs.Commands.{DesyncEnds, Ends, NoCommand, TellsRefusal, WordsRead, built_in, command_of, is_built, parts, refusal_in, refusal_of, spares}
 use Rattle.desync_cli.specs.Extract.{ImageMade, LacksEntry}
@@ -53,7 +53,7 @@ module _ (s : Spares) (x : Parts) (p : Output) where
   assembled_fair : (l : Listing) (d e : Disk) (o : Outcome) → ImageMade x.stores x.target l d (Err o) e → IsFair x o (round p d) (round p e)
   assembled_fair l d e (ends.Missing k id) h = (tt, tt)
   assembled_fair l d e (ends.Damaged k id store shows) h = (tt, tt)
-  assembled_fair l d e (ends.StoreFault k) h = (tt, first_failed (LacksEntry l h.0.0) d e k x.stores h.0.1)
+  assembled_fair l d e (ends.StoreFault k) h = (tt, first_failed (LacksEntry l h.0.0.0) d e k x.stores h.0.0.1)
   assembled_fair l d e ends.TargetFault h = (tt, h.0.0)
   assembled_fair l d e ends.Memory h = (tt, tt)
   assembled_fair l d e other h = absurd h.0

@@ -3,6 +3,8 @@ pub mod Counting
 pub mod Done
 pub mod Extracted
 pub mod Fair
+pub mod Lost
+pub mod Seedless
 pub mod Made
 pub mod Verified
 pub mod VerifyIndex

@@ -1,5 +1,5 @@
 -- What comes back where `make` and then `extract` are done.
-use Rattle.std.proofs.Common.{◌≡◌, ◌⊎◌, ℕ, List, Option, Some, None, IfSome, subst, sym, ap, ◌∙◌}
+use Rattle.std.proofs.Common.{◌≡◌, ◌⊎◌, ℕ, List, Option, Some, None, IfSome, subst, sym, ◌∙◌}
 use Rattle.buzhash_cut.specs.Image.{IsIndexOfImage}
 use Rattle.buzhash_cut.specs.Right.{HasTwins}
 use Rattle.buzhash_cut.specs.Sizes.{Sizes}

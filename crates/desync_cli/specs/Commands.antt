@@ -1,6 +1,6 @@
 -- What the words are to do, and what each command does.
-use Rattle.std.specs.Prelude.{◌≡◌, ◌⊎◌, ◌&&◌, ℕ, nat_le, length, Bool, true, false, ◌==◌, not, is_some, if◌then◌else◌}
-use Rattle.std.specs.Prelude.{IsTrue, List, [], ◌∷◌, Option, Some, None, IfSome, Result, Ok, Err}
+use Rattle.std.specs.Prelude.{◌≡◌, ◌&&◌, ℕ, nat_le, length, Bool, true, false, ◌==◌, not, is_some, if◌then◌else◌}
+use Rattle.std.specs.Prelude.{List, [], ◌∷◌, Option, Some, None, IfSome, Result, Ok, Err}
 use Rattle.command_help.specs.Help.{help_text}
 use Rattle.command_help.specs.declared.help.Topic.TheVariants as topics
 use Rattle.command_line.specs.CommandLine.{command_line}

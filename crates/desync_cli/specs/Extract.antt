@@ -1,14 +1,12 @@
 -- `extract -k -s FOLDER.. INDEX OUT`. A name is its bytes.
 use Rattle.std.specs.Prelude.{◌≡◌, ◌⊎◌, ℕ, ◌<◌, List, [], map, Some, None, IfSome, Result, Ok, Err, unwrap_or}
-use Rattle.assembler.specs.Lacks.{Lacks, chunk_of}
-use Rattle.assembler.specs.Stops.{StopsAt}
-use Rattle.assembler.specs.Walks.{AllHad, StopsFirst, kept_from}
-use Rattle.assembler.specs.declared.assemble.Halt.{Halt}
-use Rattle.assembler.specs.declared.assemble.Halt.TheVariants as halt
-use Rattle.assembler.specs.declared.obtain.Why.{Why}
-use Rattle.assembler.specs.declared.obtain.Why.TheVariants as why
-use Rattle.caibx_codec.specs.Listing.{Listing, count_of, id_of, kind_of, size_of, image_length}
-use Rattle.caibx_codec.specs.Right.{IsRight}
+use Rattle.assembler.specs.Assemblies.{IsLeast, KeepsBase, RightAlike}
+use Rattle.assembler.specs.Losses.{SomeGives, chunk_of}
+use Rattle.assembler.specs.declared.fault.ExtractFault.{ExtractFault}
+use Rattle.assembler.specs.declared.fault.ExtractFault.TheVariants as faults
+use Rattle.assembler.specs.declared.report.Report.{Report}
+use Rattle.caibx_codec.specs.Listing.{Listing, count_of, id_of, kind_of, size_of, slice_of, image_length}
+use Rattle.caibx_codec.specs.Right.{IsRight, IsRightAt}
 use Rattle.chunk_store.specs.Folders.{chunks}
 use Rattle.chunk_store.specs.Giving.{IsChunk}
 use Rattle.chunk_store.specs.declared.id.ChunkId.{ChunkId}
@@ -17,12 +15,16 @@ use Rattle.command_outcome.specs.declared.outcome.Outcome.{Outcome}
 use Rattle.command_outcome.specs.declared.outcome.Outcome.TheVariants as ends
 use Rattle.dsy_base.specs.Bytes.{resized}
 use Rattle.dsy_base.specs.Maps.{Map, at_name}
+use Rattle.dsy_base.specs.declared.fault.IoFault.{IoFault}
 use Rattle.dsy_base.specs.declared.fault.IoFault.TheVariants as io
 use Rattle.command_steps.specs.Openings.{IndexRead, IsListed}
 use Rattle.command_steps.specs.Steps.{◌>>=◌}
 use Rattle.command_steps.specs.Stores.{FailsFirst, StoresOpened, names_of}
 use Rattle.command_steps.specs.Worlds.{DiskQuiet, FileRose, OnDisk, Step, World, Writes}
 use Rattle.dsy_base.specs.Disk.{Disk}
+use Rattle.store_chain.specs.Giving.{LacksAll}
+use Rattle.store_chain.specs.declared.refused.Refused.{Refused}
+use Rattle.store_chain.specs.declared.refused.Refused.TheVariants as refused
 
 -- OUT's bytes before, which are none where it isn't there, and the base that the assembly begins with
 abbrev pub old_of : Map (List ℕ) → List ℕ → List ℕ
@@ -35,56 +37,73 @@ base_of files out l = resized (old_of files out) (image_length l)
 abbrev pub Leaves : Map (List ℕ) → Map (List ℕ) → List ℕ → List ℕ → Type 0
 Leaves before after out t = after ≡ at_name before out (Some t)
 
--- the assembly stopped at entry k for this reason: OUT has the base's bytes but for the entries before k, which are
--- right, and but for a range whose write failed
-abbrev pub StopsIn : Map (List ℕ) → Map (List ℕ) → List ℕ → Listing → ℕ → Why → Type 0
-StopsIn before after out l k w =
-    (t : List ℕ) × Leaves before after out t × (k < count_of l) × StopsAt k (kept_from l k w) (base_of before out l) t l
+-- entry i can be had: an alike one is right in the base, or a store that holds one of these maps gives its chunk
+abbrev pub CanBeHad : Listing → List ℕ → List (Map (List ℕ)) → ℕ → Type 0
+CanBeHad l base maps i = RightAlike l base i ⊎ SomeGives (kind_of l) (id_of l i) (size_of l i) maps
 
--- where it may have stopped without naming an entry: before the target was taken, at its length, or at some entry
-abbrev pub StopsSomewhere : Map (List ℕ) → Map (List ℕ) → List ℕ → Listing → Why → Type 0
-StopsSomewhere before after out l w =
-    (after ≡ before) ⊎ (Leaves before after out (old_of before out) ⊎ ((k : ℕ) × StopsIn before after out l k w))
+-- so it is where OUT's base is of these files, and the stores' folders hold these
+abbrev pub HadFrom : Map (List ℕ) → List ℕ → Listing → List (Map (List ℕ)) → ℕ → Type 0
+HadFrom before out l stores = CanBeHad l (base_of before out l) (map chunks stores)
 
--- the chunk of entry k can't be had from the folders, for this reason
-abbrev pub IsLacking : Listing → List (Map (List ℕ)) → ℕ → ChunkId → Why → Type 0
-IsLacking l stores k id w = (id.0 ≡ id_of l k) × Lacks (chunk_of (kind_of l) id (size_of l k)) (map chunks stores) w
+-- each entry that can be had is right in t, and each other has the base's bytes
+abbrev pub AreFilled : Listing → (ℕ → Type 0) → List ℕ → List ℕ → Type 0
+AreFilled l P base t =
+    (i : ℕ) → i < count_of l → (P i → IsRightAt t l i) × ((P i → ⊥) → slice_of l t i ≡ slice_of l base i)
+
+-- OUT alone has changed. It holds t, in which each range is right or the base's unless OUT failed
+abbrev pub KeepsIn : Disk → Disk → Map (List ℕ) → Map (List ℕ) → List ℕ → Listing → List ℕ → Type 0
+KeepsIn d e before after out l t = Leaves before after out t × KeepsBase l (FileRose d e out) (base_of before out l) t
+
+-- what stands in OUT where no entry is named: it wasn't taken, or has its old bytes, or keeps the base
+abbrev pub StopsSomewhere : Disk → Disk → Map (List ℕ) → Map (List ℕ) → List ℕ → Listing → Type 0
+StopsSomewhere d e before after out l =
+    (after ≡ before) ⊎ (Leaves before after out (old_of before out) ⊎ ((t : List ℕ) × KeepsIn d e before after out l t))
+
+-- the chunk of entry k can't be had from the folders, for this reason; and an alike entry that is right in the base
+-- couldn't be read
+abbrev pub IsLacking : Disk → Disk → Map (List ℕ) → List ℕ → Listing → List (Map (List ℕ)) → ℕ → ChunkId → Refused
+    → Type 0
+IsLacking d e before out l stores k id r = (k < count_of l) × (id.0 ≡ id_of l k)
+    × LacksAll (chunk_of (kind_of l) id (size_of l k)) (map chunks stores) r
+    × (RightAlike l (base_of before out l) k → FileRose d e out)
 
 -- a store that holds these chunks lacks that of entry k: it holds nothing under its id, or bytes that aren't it
 abbrev pub LacksEntry : Listing → ℕ → Map (List ℕ) → Type 0
 LacksEntry l k m = (m (id_of l k) ≡ None)
     ⊎ ((b : List ℕ) × (m (id_of l k) ≡ Some b) × (IsChunk (kind_of l) (id_of l k) (size_of l k) b → ⊥))
 
--- so an assembly that stopped for a fault of a store tells it
-abbrev pub StopsFailed : Disk → Disk → List (List ℕ) → Listing → Halt → Type 0
-StopsFailed d e names l (halt.Length f) = Unit {0}
-StopsFailed d e names l (halt.Entry stop) = (s : ℕ) → stop.why ≡ why.StoreFault s
-    → FailsFirst (LacksEntry l stop.entry) d e s names
-
 -- so it is where files and folders are told; the folders' files are those
 abbrev pub Told : Disk → Disk → List (List ℕ) → (Map (List ℕ) → Map (List ℕ) → List (Map (List ℕ)) → Type 0) → Type 0
 Told d e names P = IfSome d.files (λ b. IfSome d.folders (λ n. IfSome e.files (λ a. (fs : List (Map (List ℕ)))
     × (map n names ≡ map Some fs) × P b a fs)))
 
-abbrev pub StopsLacking : Disk → Disk → List (List ℕ) → List ℕ → Listing → ℕ → ChunkId → Why → Type 0
-StopsLacking d e names out l k id w = Told d e names (λ b a fs. StopsIn b a out l k w × IsLacking l fs k id w
-    × (DiskQuiet d e → StopsFirst l (base_of b out l) (map chunks fs) k w))
+-- entry k is named, for this reason, and each before it is right. Where nothing fails, k is the least that can't be
+-- had, and each that can be had was made right
+abbrev pub StopsLacking : Disk → Disk → List (List ℕ) → List ℕ → Listing → ℕ → ChunkId → Refused → Type 0
+StopsLacking d e names out l k id r = Told d e names (λ b a fs.
+    ((t : List ℕ) × KeepsIn d e b a out l t × ((i : ℕ) → i < k → IsRightAt t l i)
+    × (DiskQuiet d e → AreFilled l (HadFrom b out l fs) (base_of b out l) t))
+    × IsLacking d e b out l fs k id r
+    × (DiskQuiet d e → IsLeast (HadFrom b out l fs) k))
+
+-- the first store that failed is named, where no store gave the chunk of some entry
+abbrev pub StopsFailed : Disk → Disk → List (List ℕ) → Listing → ℕ → Type 0
+StopsFailed d e names l s = (k : ℕ) × FailsFirst (LacksEntry l k) d e s names × (k < count_of l)
 
 -- OUT became the image of the index, with chunks from the folders, or why not. Where nothing fails it does so exactly
--- where each entry is right in the base or a folder gives its chunk; else the first entry of which neither holds is
--- named
+-- where each entry can be had; else the first that can't be had is named
 abbrev pub Assembled : Disk → Disk → List (List ℕ) → List ℕ → Listing → Result Unit Outcome → Type 0
-Assembled d e names out l (Ok u) = Told d e names (λ b a fs. ((t : List ℕ) × Leaves b a out t × IsRight t l)
-    × (DiskQuiet d e → AllHad l (base_of b out l) (map chunks fs) (count_of l)))
-Assembled d e names out l (Err (ends.Missing k id)) = StopsLacking d e names out l k id why.Missing
+Assembled d e names out l (Ok u) = Told d e names (λ b a fs.
+    ((t : List ℕ) × KeepsIn d e b a out l t × IsRight t l)
+    × (DiskQuiet d e → (i : ℕ) → i < count_of l → HadFrom b out l fs i))
+Assembled d e names out l (Err (ends.Missing k id)) = StopsLacking d e names out l k id refused.Missing
 Assembled d e names out l (Err (ends.Damaged k id store shows)) = StopsLacking d e names out l k id
-    (why.Damaged store shows)
-Assembled d e names out l (Err (ends.StoreFault s)) =
-    (k : ℕ) × FailsFirst (LacksEntry l k) d e s names × Told d e names
-    (λ b a fs. StopsIn b a out l k (why.StoreFault s))
+    (refused.Damaged store shows)
+Assembled d e names out l (Err (ends.StoreFault s)) = StopsFailed d e names l s
+    × Told d e names (λ b a fs. (t : List ℕ) × KeepsIn d e b a out l t)
 Assembled d e names out l (Err ends.TargetFault) =
-    FileRose d e out × Told d e names (λ b a fs. StopsSomewhere b a out l why.TargetFault)
-Assembled d e names out l (Err ends.Memory) = Told d e names (λ b a fs. StopsSomewhere b a out l why.Memory)
+    FileRose d e out × Told d e names (λ b a fs. StopsSomewhere d e b a out l)
+Assembled d e names out l (Err ends.Memory) = Told d e names (λ b a fs. StopsSomewhere d e b a out l)
 Assembled d e names out l (Err other) = ⊥
 
 -- OUT holds afterwards the image that INDEX listed before
@@ -95,19 +114,18 @@ pub record IsExtracted (before after : Map (List ℕ)) (index out : List ℕ) : 
   pub holds : after out ≡ Some image
   pub right : IsRight image listing
 
--- the answer of an assembly
-abbrev pub answer_at : ℕ → ChunkId → Why → Result Unit Outcome
-answer_at k id why.Missing = Err (ends.Missing k id)
-answer_at k id (why.Damaged store shows) = Err (ends.Damaged k id store shows)
-answer_at k id (why.StoreFault store) = Err (ends.StoreFault store)
-answer_at k id why.TargetFault = Err ends.TargetFault
-answer_at k id why.Memory = Err ends.Memory
+-- the answer of an assembly, and that where OUT can't be taken
+abbrev pub answer_of_assembly : Result Report ExtractFault → Result Unit Outcome
+answer_of_assembly (Ok r) = Ok tt
+answer_of_assembly (Err (faults.Missing k id)) = Err (ends.Missing k id)
+answer_of_assembly (Err (faults.Damaged k id store shows)) = Err (ends.Damaged k id store shows)
+answer_of_assembly (Err (faults.StoreFault store)) = Err (ends.StoreFault store)
+answer_of_assembly (Err faults.TargetFault) = Err ends.TargetFault
+answer_of_assembly (Err faults.Memory) = Err ends.Memory
 
-abbrev pub answer_of_assembly : Result Unit Halt → Result Unit Outcome
-answer_of_assembly (Ok r) = Ok r
-answer_of_assembly (Err (halt.Length io.Failed)) = Err ends.TargetFault
-answer_of_assembly (Err (halt.Length io.Memory)) = Err ends.Memory
-answer_of_assembly (Err (halt.Entry s)) = answer_at s.entry s.id s.why
+abbrev pub answer_of_taking : IoFault → Result Unit Outcome
+answer_of_taking io.Failed = Err ends.TargetFault
+answer_of_taking io.Memory = Err ends.Memory
 
 abbrev pub ImageMade : List (List ℕ) → List ℕ → Listing → Step Disk Unit
 ImageMade names out l d r e = Assembled d e names out l r × Writes d e

@@ -1,6 +1,5 @@
 -- `list-chunks INDEX`.
-use Rattle.std.specs.Prelude.{ℕ, List, Result}
-use Rattle.command_outcome.specs.declared.outcome.Outcome.{Outcome}
+use Rattle.std.specs.Prelude.{ℕ, List}
 use Rattle.verify_tool.specs.Texts.{text_of_chunks}
 use Rattle.command_steps.specs.Openings.{IndexRead}
 use Rattle.command_steps.specs.Printing.{Printed}

@@ -39,12 +39,14 @@ fn extract_case(
 #[rattlefmt::skip]
 fn out_is_what_the_index_lists(rt: HostRuntime) -> Result<(), Fail> {
     let alloc = rt.alloc();
-    // An image of one chunk, an empty one, an old output that is longer, one that is right, one with a wrong chunk.
+    // An image of one chunk, an empty one, an old output that is longer, one that is right, one with a wrong chunk; and
+    // one with a wrong chunk of which another entry is right.
     extract_case(&rt, alloc, &[b"abc"], &[(b"abc", b"abc")], None, "", b"abc")?;
     extract_case(&rt, alloc, &[], &[], Some(b"abcde"), "", b"")?;
     extract_case(&rt, alloc, &[b"abc"], &[], Some(b"abcdefghij"), "", b"abc")?;
     extract_case(&rt, alloc, THREE, &[], Some(b"abcdefghi"), "", b"abcdefghi")?;
-    extract_case(&rt, alloc, THREE, &[(b"def", b"def")], Some(b"abcXXXghi"), "", b"abcdefghi")
+    extract_case(&rt, alloc, THREE, &[(b"def", b"def")], Some(b"abcXXXghi"), "", b"abcdefghi")?;
+    extract_case(&rt, alloc, &[b"abc", b"def", b"abc"], &[], Some(b"XXXdefabc"), "", b"abcdefabc")
 }
 
 #[test]
@@ -56,12 +58,15 @@ fn what_cannot_be_had_is_told(rt: HostRuntime) -> Result<(), Fail> {
         missing\n";
     let damaged = "desync: chunk 53048e2681941ef99b2e29b76b4c7dabe4c2d0c634fc6d46e0e2f13107e7af23 of entry 0 is \
         damaged in store 0\n";
-    // No chunk, other bytes under its id, fewer, more; and the bytes after it stay.
+    // No chunk, other bytes under its id, fewer, more; and old bytes stay, but chunks after it are had.
     extract_case(&rt, alloc, THREE, &[(b"abc", b"abc")], None, missing, b"abc\0\0\0\0\0\0")?;
     extract_case(&rt, alloc, &[b"abc"], &[(b"abc", b"abX")], None, damaged, b"\0\0\0")?;
     extract_case(&rt, alloc, &[b"abc"], &[(b"abc", b"ab")], None, damaged, b"\0\0\0")?;
     extract_case(&rt, alloc, &[b"abc"], &[(b"abc", b"abcd")], None, damaged, b"\0\0\0")?;
-    extract_case(&rt, alloc, THREE, &[(b"abc", b"abc")], Some(b"xxxyyyzzz"), missing, b"abcyyyzzz")
+    extract_case(&rt, alloc, THREE, &[(b"abc", b"abc")], Some(b"xxxyyyzzz"), missing, b"abcyyyzzz")?;
+    let others: &[(&[u8], &[u8])] = &[(b"abc", b"abc"), (b"ghi", b"ghi")];
+    extract_case(&rt, alloc, THREE, others, None, missing, b"abc\0\0\0ghi")?;
+    extract_case(&rt, alloc, THREE, others, Some(b"xxxyyyzzz"), missing, b"abcyyyghi")
 }
 
 #[test]
@@ -109,27 +114,33 @@ fn what_is_not_there_is_named(rt: HostRuntime) -> Result<(), Fail> {
     Ok(())
 }
 
-#[test]
-fn a_failed_write_is_the_targets_fault(rt: HostRuntime) -> Result<(), Fail> {
-    let alloc = rt.alloc();
+// Extracts "abcdef" from a store that has both chunks, over an OUT of which so many writes at offset 3 fail.
+fn failing_writes_case(
+    rt: &impl Abort,
+    alloc: Global,
+    failing: u32,
+    line: &str,
+    out: &[u8],
+) -> Result<(), Fail> {
     let mut files = MemFiles::new(alloc, Vec::new(alloc));
     let store = store_of(alloc, &[(b"abc", b"abc"), (b"def", b"def")]).ok_or("no memory")?;
     files.set_folder("st", store)?;
     let index = index_of(alloc, 262_144, &[b"abc", b"def"])?;
     files.set_file("i", index, RangeFails::none(alloc))?;
     let mut fails = RangeFails::none(alloc);
-    fails.writes.push((3, 1))?;
+    fails.writes.push((3, failing))?;
     files.set_file("o", Vec::new(alloc), fails)?;
-    ends(
-        &rt,
-        alloc,
-        EXTRACT,
-        &mut files,
-        "",
-        "desync: the target failed\n",
-    )?;
-    assert_eq!(rt; files.file("o"), Some(b"abc\xee\xee\xee".as_slice()));
+    ends(rt, alloc, EXTRACT, &mut files, "", line)?;
+    assert_eq!(rt; files.file("o"), Some(out));
     Ok(())
+}
+
+#[test]
+fn a_write_that_fails_twice_is_the_targets_fault(rt: HostRuntime) -> Result<(), Fail> {
+    let alloc = rt.alloc();
+    failing_writes_case(&rt, alloc, 1, "", b"abcdef")?;
+    let failed = "desync: the target failed\n";
+    failing_writes_case(&rt, alloc, 2, failed, b"abc\xee\xee\xee")
 }
 
 #[test]

@@ -1,21 +1,20 @@
 //! `extract -k -s FOLDER.. INDEX OUT`: OUT becomes the image that INDEX lists, with chunks from 1 to 16 folders.
 
-ghost use Rattle.std.specs.Prelude.{◌≡◌, ℕ, List, ◌<◌, ◌≤◌, map, Some, IfSome, IfErr, length, true, vec_len};
-ghost use Rattle.caibx_codec.specs.Listing.{count_of, size_of, image_length};
-ghost use Rattle.assembler.specs.Assemblies.{Assembles, HaltLacks, HaltTold, HaltVerdict, IsTargetFault};
-ghost use Rattle.desync_cli.specs.Extract.{Assembled, ExtractEnds, answer_of_assembly};
-ghost use Rattle.command_steps.specs.AnyStores.{chunks_in, faults_in, files_in, place_in, said_in};
-ghost use Rattle.command_steps.specs.Stores.{AllKnown, names_of};
+ghost use Rattle.std.specs.Prelude.{◌≡◌, ℕ, List, [], ◌≤◌, map, Some, IfSome, length};
+ghost use Rattle.assembler.specs.Kits.{PlacesKnown};
+ghost use Rattle.caibx_codec.specs.Listing.{kind_of};
+ghost use Rattle.command_steps.specs.AnyStores.{faults_in, files_in, place_in};
+ghost use Rattle.command_steps.specs.Stores.{AllKnown};
 ghost use Rattle.command_steps.specs.Worlds.{Writes, world};
+ghost use Rattle.desync_cli.specs.Extract.{Assembled, ExtractEnds, answer_of_assembly, answer_of_taking};
 ghost use Rattle.dsy_base.specs.Disk.{Output};
-ghost use Rattle.dsy_base.specs.Bytes.{resized};
-ghost use Rattle.dsy_base.specs.Counts.{Rose, Quiet};
 ghost use Rattle.dsy_base.specs.Maps.{Map};
-ghost use Rattle.store_chain.specs.Faults.{EachQuiet};
+ghost use Rattle.extract_plan.specs.Deal.{AreWants};
 
-use assembler::assemble::{Halt, assemble};
-use assembler::obtain::Why;
-use assembler::walk::Stop;
+use assembler::assemble::assemble;
+use assembler::fault::ExtractFault;
+use assembler::kit::Kit;
+use assembler::report::Report;
 use caibx_codec::index::Index;
 use command_line::command::Locations;
 use command_outcome::outcome::Outcome;
@@ -27,97 +26,80 @@ use dsy_base::files::Files;
 use dsy_base::look::Look;
 use dsy_base::name::Name;
 use dsy_base::view::{Target, View};
+use extract_plan::plan::Plan;
+use extract_plan::seeds::SeedIndex;
 use std::alloc::Global;
 use store_chain::chain::Chain;
 
-// Assembles over what was taken already, and hands it back.
-fn assemble_over<F: Files>(
-    index: &Index,
-    stores: Vec<AnyStore<F::Look>>,
-    mut target: F::Target,
-    buf: &mut [u8],
-) -> (Vec<AnyStore<F::Look>>, F::Target, Result<(), Halt>)
-    requires size { (1 ≤ vec_len stores) × (vec_len stores ≤ 16) }
-    requires inside { (i : ℕ) → i < count_of index.now → size_of index.now i ≤ length buf.old }
-    ensures bytes { IfSome (F.Target.held target).bytes (λ old. IfSome (F.Target.held result.1).bytes
-        (λ t. Assembles index.now old t result.2)) }
-    ensures told { IfErr result.2 (HaltTold (said_in F.Look.files) (faults_in F.Look.faults) true index.now
-        stores.items result.0.items) }
-    ensures absent { (maps : List (Map (List ℕ))) → map (chunks_in F.Look.files) stores.items ≡ map Some maps →
-        IfErr result.2 (HaltLacks index.now maps) }
-    ensures first { IfSome (F.Target.held target).bytes (λ old.
-        (maps : List (Map (List ℕ))) → map (chunks_in F.Look.files) stores.items ≡ map Some maps →
-        Quiet (F.Target.faults target) (F.Target.faults result.1) →
-        EachQuiet (map (faults_in F.Look.faults) stores.items) (map (faults_in F.Look.faults) result.0.items) →
-        HaltVerdict index.now (resized old (image_length index.now)) maps result.2) }
-    ensures named { (F.Target.held result.1).name ≡ (F.Target.held target).name }
-    ensures held { map (chunks_in F.Look.files) result.0.items ≡ map (chunks_in F.Look.files) stores.items }
-    ensures place { map (place_in F.Look.place) result.0.items ≡ map (place_in F.Look.place) stores.items }
-    ensures target_cause { IfErr result.2 (λ h. IsTargetFault h
-        → Rose (F.Target.faults target) (F.Target.faults result.1)) }
-{
-    let mut chain = Chain::new(stores);
-    let ended = assemble(index, &mut target, &mut chain, buf);
-    (chain.into_stores(), target, ended)
-}
-
 // The answer of an assembly.
-fn answer_of(ended: Result<(), Halt>) -> Result<(), Outcome>
+fn answer_of(ended: Result<Report, ExtractFault>) -> Result<(), Outcome>
     ensures { result ≡ answer_of_assembly ended }
 {
-    let Stop { entry, id, why } = match ended {
-        Ok(()) => return Ok(()),
-        Err(Halt::Length(IoFault::Failed)) => return Err(Outcome::TargetFault),
-        Err(Halt::Length(IoFault::Memory)) => return Err(Outcome::Memory),
-        Err(Halt::Entry(stop)) => stop,
-    };
-    match why {
-        Why::Missing => Err(Outcome::Missing { entry, id }),
-        Why::Damaged { store, shows } => Err(Outcome::Damaged {
+    match ended {
+        Ok(_) => Ok(()),
+        Err(ExtractFault::Missing { entry, id }) => Err(Outcome::Missing { entry, id }),
+        Err(
+            ExtractFault::Damaged {
+                entry,
+                id,
+                store,
+                shows,
+            },
+        ) => Err(Outcome::Damaged {
             entry,
             id,
             store,
             shows,
         }),
-        Why::StoreFault { store } => Err(Outcome::StoreFault { store }),
-        Why::TargetFault => Err(Outcome::TargetFault),
-        Why::Memory => Err(Outcome::Memory),
+        Err(ExtractFault::StoreFault { store }) => Err(Outcome::StoreFault { store }),
+        Err(ExtractFault::TargetFault) => Err(Outcome::TargetFault),
+        Err(ExtractFault::Memory) => Err(Outcome::Memory),
+    }
+}
+
+// The answer where OUT can't be taken.
+fn not_taken(fault: IoFault) -> Result<(), Outcome>
+    ensures { result ≡ answer_of_taking fault }
+{
+    match fault {
+        IoFault::Failed => Err(Outcome::TargetFault),
+        IoFault::Memory => Err(Outcome::Memory),
     }
 }
 
 // Makes OUT the image, and gives the stores back whatever the answer is.
 fn assemble_into<F: Files>(
+    alloc: Global,
     files: &mut F,
     index: &Index,
-    stores: Vec<AnyStore<F::Look>>,
+    plan: &Plan,
+    places: &SeedIndex,
+    mut kit: Kit<AnyStore<F::Look>, F::View>,
     target: Name,
-    buf: &mut [u8],
 ) -> Result<(), Outcome>
-    requires size { (1 ≤ vec_len stores) × (vec_len stores ≤ 16) }
-    requires inside { (i : ℕ) → i < count_of index.now → size_of index.now i ≤ length buf.old }
-    requires known { AllKnown (place_in F.Look.place) (F.disk files.old).folder_counts stores.items }
-    requires fresh { map (faults_in F.Look.faults) stores.items ≡ map (λ q. 0)
-        (map (place_in F.Look.place) stores.items) }
+    requires wants { AreWants index.now plan.now.wants plan.now.want_of }
+    requires places { PlacesKnown index.now plan.now places.now 0 }
+    requires seeds { kit.seeds.items ≡ [] }
+    requires kind { kit.chain.kind ≡ kind_of index.now }
+    requires known { AllKnown (place_in F.Look.place) (F.disk files.old).folder_counts kit.chain.stores }
+    requires fresh { map (faults_in F.Look.faults) kit.chain.stores ≡ map (λ q. 0)
+        (map (place_in F.Look.place) kit.chain.stores) }
     requires found { IfSome (F.disk files.old).folders (λ m. (fs : List (Map (List ℕ)))
-        × (map m (map (place_in F.Look.place) stores.items) ≡ map Some fs)
-        × (map (files_in F.Look.files) stores.items ≡ map Some fs)) }
-    ensures assembled { Assembled (F.disk files.old) (F.disk files.new) (map (place_in F.Look.place) stores.items)
-        target
-        index.now result }
+        × (map m (map (place_in F.Look.place) kit.chain.stores) ≡ map Some fs)
+        × (map (files_in F.Look.files) kit.chain.stores ≡ map Some fs)) }
+    ensures assembled { Assembled (F.disk files.old) (F.disk files.new)
+        (map (place_in F.Look.place) kit.chain.stores) target index.now result }
     ensures kept { Writes (F.disk files.old) (F.disk files.new) }
 {
-    let taken = match files.take(target.as_str(), false) {
+    let mut taken = match files.take(target.as_str(), false) {
         Ok(taken) => taken,
         Err(fault) => {
-            close_stores(files, stores);
-            return match fault {
-                IoFault::Failed => Err(Outcome::TargetFault),
-                IoFault::Memory => Err(Outcome::Memory),
-            };
+            close_stores(files, kit.chain.into_stores());
+            return not_taken(fault);
         }
     };
-    let (stores, taken, ended) = assemble_over::<F>(index, stores, taken, buf);
-    close_stores(files, stores);
+    let ended = assemble(alloc, index, plan, places, &mut taken, &mut kit);
+    close_stores(files, kit.chain.into_stores());
     files.give(target.as_str(), taken);
     answer_of(ended)
 }
@@ -137,10 +119,14 @@ pub fn extract<F: Files>(
         (world (F.disk files.new) p) }
 {
     let listed = read_index(alloc, files, index)?;
-    let Ok(mut buf) = listed.room(alloc) else {
+    let Ok(plan) = Plan::of(alloc, &listed, 1) else {
+        return Err(Outcome::Memory);
+    };
+    let Ok(places) = SeedIndex::of(alloc, &plan, &listed, &[]) else {
         return Err(Outcome::Memory);
     };
     let opened = open_stores(alloc, files, stores.as_slice())?;
-    assemble_into(files, &listed, opened, target, &mut buf)?;
+    let kit = Kit::new(alloc, Chain::new(opened), Vec::new(alloc));
+    assemble_into(alloc, files, &listed, &plan, &places, kit, target)?;
     Ok(())
 }

@@ -1,55 +1,203 @@
-use Rattle.std.proofs.Common.{◌≡◌, ◌∙◌, ℕ, map, not, true, Some, ap, arith}
-use Rattle.std.specs.Option.{option_map}
-use Rattle.caibx_codec.specs.Listing.{image_length, count_of}
+use Rattle.std.proofs.Common.{◌≡◌, ◌∙◌, List, IfSome, length, Ok, Err, sym, ap, subst, arith}
+use Rattle.assembler.proofs.Asked.{quiet_part}
+use Rattle.assembler.proofs.KeptCount.{kept_count}
+use Rattle.std.proofs.lemmas.List.{with_items_is}
+use Rattle.std.specs.Global.{Vec}
+use Rattle.assembler.specs.Kits.{PlacesKnown}
+use Rattle.assembler.specs.Reports.{right_below, tally}
+use Rattle.extract_plan.specs.declared.seed.Seed.{Seed}
+use Rattle.caibx_codec.specs.Listing.{count_of, image_length}
 use Rattle.dsy_base.specs.Bytes.{Held, resized}
+use Rattle.dsy_base.specs.Counts.{Quiet}
+use Rattle.range_survey.specs.Fates.{FirstFates, SettledRight}
+use Rattle.range_survey.specs.declared.fate.Fate.{Fate}
+use Rattle.range_survey.specs.declared.fate.Fate.TheVariants as fate
+use Rattle.std.proofs.lemmas.Result.{err_from_is_err_and}
+use Rattle.assembler.proofs.Assembled.{Ran, after_fault, after_ok, asks_over, bytes_err, bytes_ok, exactly_err, exactly_ok, kit_as, lost_err, with_buffer}
+use Rattle.assembler.proofs.Based.{Surveyed, over_of, some_map, told_of}
+use Rattle.assembler.specs.Fills.{Fills}
 use Rattle.store_chain.proofs.Kept.{kept_still}
-use Rattle.assembler.specs.Asks.{AsksFor, is_right}
-use Rattle.assembler.specs.Walks.{AllHad, StopsFirst}
-use Rattle.assembler.proofs.Asked.{for_none, for_more}
-use Rattle.assembler.proofs.Walked.{first_resized, needs_none, needs_resized}
+use Rattle.store_chain.specs.Chains.{Chained, KeepsStores}
+use Rattle.assembler.proofs.assemble.assemble.Given.{Over}
+use Rattle.assembler.proofs.assemble.assemble.Goals.{After-drop-fates, After-drop-fates-2}
 use Rattle.assembler.proofs.assemble.assemble.Goals as goal
 
-pub returns-in-Ok-settle_all-clause-first : goal.returns-in-Ok-settle_all-clause-first
-returns-in-Ok-settle_all-clause-first g c =
+-- what both passes leave where they end with a fault
+ran_err : (g : Over) (c : After-drop-fates g) → Ran g.S.Store.holds g.S.Store.folder g.S.Store.place g.S.Store.said g.S.Store.faults g.S.Store.asked
+    g.S.Store.may_lack_memory g.V.View.held g.V.View.faults g.V.View.tells c.args.index.now c.args.plan.now c.args.places.now
+    (g.T.View.held c.args.target.now).bytes (g.T.View.held c.settle_all.new.target).bytes
+    (g.T.View.faults c.args.target.now) (g.T.View.faults c.survey_first.new.target) (g.T.View.faults c.settle_all.new.target)
+    c.deref_mut.result.now c.settle_all.new.fates c.settle_all.new.kit (Err c.in_err-settle_all.field-0.0) (with_buffer c.args.kit.now c.survey_first.new.kit)
+ran_err g c =
+    let s = g.S.Store in
+    let v = g.V.View in
     let l = c.args.index.now in
-    let old = (g.T.View.held c.args.target.now).bytes in
-    let base = ap (λ (h : Held). h.bytes) c.in-Ok.ensures.ok ∙ ap (λ (n : ℕ). option_map (λ o. resized o n) old) c.length.ensures in
-    first_resized old (g.T.View.held c.set_len.new.self).bytes (image_length l) (λ maps. map g.S.Store.holds c.args.stores.now.stores ≡ map Some maps) _ _ _ _
-    (λ b m. AllHad l b m (count_of l)) base c.in-Ok.ensures.faults.never_falls c.in-Ok-settle_all.ensures.target_faults c.in-Ok-settle_all.ensures.first
+    let old = g.T.View.held c.args.target.now in
+    let mid = g.T.View.held c.survey_first.new.target in
+    let first = c.in_ok-fates.ensures in
+    let did = c.in_err-settle_all.ensures in
+    kit_as
+    (Ran s.holds s.folder s.place s.said s.faults s.asked s.may_lack_memory v.held v.faults v.tells l c.args.plan.now c.args.places.now
+    old.bytes (g.T.View.held c.settle_all.new.target).bytes (g.T.View.faults c.args.target.now) (g.T.View.faults c.survey_first.new.target)
+    (g.T.View.faults c.settle_all.new.target) c.deref_mut.result.now c.settle_all.new.fates c.settle_all.new.kit (Err c.in_err-settle_all.field-0.0))
+    c.args.kit.now c.survey_first.new.kit first.chain first.seeds
+    (record {
+      wants = c.requires.wants;
+      ab = first.faults;
+      bc = did.step.never_falls;
+      over = over_of l c.deref_mut.result.now c.in_ok-fates.fates.items (g.T.View.faults c.args.target.now) (g.T.View.faults c.survey_first.new.target) old mid first.ok
+          c.deref_mut.ensures.value (g.met.T.View.sized c.survey_first.new.target) first.yes first.no;
+      fills = told_of l old mid (g.T.View.held c.settle_all.new.target).bytes
+          (Fills l c.deref_mut.result.now c.settle_all.new.fates (g.T.View.faults c.survey_first.new.target) (g.T.View.faults c.settle_all.new.target)) first.ok did.step.bytes;
+      ok = tt;
+      first = did.first;
+      left = did.left;
+      had = did.had;
+      asks = did.asks;
+    })
 
-pub returns-in-Err-settle_all-clause-first : goal.returns-in-Err-settle_all-clause-first
-returns-in-Err-settle_all-clause-first g c =
+-- and where all entries are settled
+ran_ok : (g : Over) (c : After-drop-fates-2 g) → Ran g.S.Store.holds g.S.Store.folder g.S.Store.place g.S.Store.said g.S.Store.faults g.S.Store.asked
+    g.S.Store.may_lack_memory g.V.View.held g.V.View.faults g.V.View.tells c.args.index.now c.args.plan.now c.args.places.now
+    (g.T.View.held c.args.target.now).bytes (g.T.View.held c.settle_all.new.target).bytes
+    (g.T.View.faults c.args.target.now) (g.T.View.faults c.survey_first.new.target) (g.T.View.faults c.settle_all.new.target)
+    c.deref_mut.result.now c.settle_all.new.fates c.settle_all.new.kit (Ok c.in_ok-settle_all.field-0) (with_buffer c.args.kit.now c.survey_first.new.kit)
+ran_ok g c =
+    let s = g.S.Store in
+    let v = g.V.View in
     let l = c.args.index.now in
-    let old = (g.T.View.held c.args.target.now).bytes in
-    let base = ap (λ (h : Held). h.bytes) c.in-Ok.ensures.ok ∙ ap (λ (n : ℕ). option_map (λ o. resized o n) old) c.length.ensures in
-    first_resized old (g.T.View.held c.set_len.new.self).bytes (image_length l) (λ maps. map g.S.Store.holds c.args.stores.now.stores ≡ map Some maps) _ _ _ _
-    (λ b m. StopsFirst l b m c.in-Err-settle_all.stop.entry c.in-Err-settle_all.stop.why) base c.in-Ok.ensures.faults.never_falls c.in-Err-settle_all.ensures.target_faults c.in-Err-settle_all.ensures.first
+    let old = g.T.View.held c.args.target.now in
+    let mid = g.T.View.held c.survey_first.new.target in
+    let first = c.in_ok-fates.ensures in
+    let did = c.in_ok-settle_all.ensures in
+    kit_as
+    (Ran s.holds s.folder s.place s.said s.faults s.asked s.may_lack_memory v.held v.faults v.tells l c.args.plan.now c.args.places.now
+    old.bytes (g.T.View.held c.settle_all.new.target).bytes (g.T.View.faults c.args.target.now) (g.T.View.faults c.survey_first.new.target)
+    (g.T.View.faults c.settle_all.new.target) c.deref_mut.result.now c.settle_all.new.fates c.settle_all.new.kit (Ok c.in_ok-settle_all.field-0))
+    c.args.kit.now c.survey_first.new.kit first.chain first.seeds
+    (record {
+      wants = c.requires.wants;
+      ab = first.faults;
+      bc = did.step.never_falls;
+      over = over_of l c.deref_mut.result.now c.in_ok-fates.fates.items (g.T.View.faults c.args.target.now) (g.T.View.faults c.survey_first.new.target) old mid first.ok
+          c.deref_mut.ensures.value (g.met.T.View.sized c.survey_first.new.target) first.yes first.no;
+      fills = told_of l old mid (g.T.View.held c.settle_all.new.target).bytes
+          (Fills l c.deref_mut.result.now c.settle_all.new.fates (g.T.View.faults c.survey_first.new.target) (g.T.View.faults c.settle_all.new.target)) first.ok did.step.bytes;
+      ok = did.ok;
+      first = tt;
+      left = tt;
+      had = did.had;
+      asks = did.asks;
+    })
 
-pub returns-in-Err-clause-kept : goal.returns-in-Err-clause-kept
-returns-in-Err-clause-kept g c = kept_still g.S.Store.holds g.S.Store.folder g.S.Store.place g.S.Store.said g.S.Store.faults c.args.stores.now.stores
+-- src/assemble.rt:154:21
+pub returns-in_err-fates-clause-stores : goal.returns-in_err-fates-clause-stores
+returns-in_err-fates-clause-stores g c =
+    let s = g.S.Store in
+    subst (λ (y : List g.row.S.Denot). KeepsStores s.holds s.folder s.place s.said s.faults c.args.kit.now.chain.stores y)
+    (sym (ap (λ (y : Chained g.row.S.Denot). y.stores) c.survey_first.ensures.chain))
+    (kept_still s.holds s.folder s.place s.said s.faults c.args.kit.now.chain.stores)
 
-pub returns-in-Err-clause-asks : goal.returns-in-Err-clause-asks
-returns-in-Err-clause-asks g c =
+-- the passes ended with a fault
+pub returns-in_err-settle_all-clause-bytes : goal.returns-in_err-settle_all-clause-bytes
+returns-in_err-settle_all-clause-bytes g c =
+    let p = err_from_is_err_and c.from_residual-in_err-settle_all.result c.from_residual-in_err-settle_all.ensures.1 in
+    let s = g.S.Store in
+    let v = g.V.View in
+    rw (p.1, p.2) (bytes_err s.holds s.folder s.place s.said s.faults s.asked s.may_lack_memory v.held v.faults v.tells c.args.index.now c.args.plan.now c.args.places.now
+    _ _ _ _ _ _ _ _ c.args.kit.now _ _ (ran_err g c))
+
+pub returns-in_err-settle_all-clause-lost : goal.returns-in_err-settle_all-clause-lost
+returns-in_err-settle_all-clause-lost g c =
+    let p = err_from_is_err_and c.from_residual-in_err-settle_all.result c.from_residual-in_err-settle_all.ensures.1 in
+    let s = g.S.Store in
+    let v = g.V.View in
+    rw (p.1, p.2) (lost_err s.holds s.folder s.place s.said s.faults s.asked s.may_lack_memory v.held v.faults v.tells c.args.index.now c.args.plan.now c.args.places.now
+    _ _ _ _ _ _ _ _ c.args.kit.now c.survey_first.new.kit _ (ran_err g c))
+
+pub returns-in_err-settle_all-clause-exactly : goal.returns-in_err-settle_all-clause-exactly
+returns-in_err-settle_all-clause-exactly g c =
+    let p = err_from_is_err_and c.from_residual-in_err-settle_all.result c.from_residual-in_err-settle_all.ensures.1 in
+    let s = g.S.Store in
+    let v = g.V.View in
+    λ maps nothing. rw (p.1, p.2) (exactly_err s.holds s.folder s.place s.said s.faults s.asked s.may_lack_memory v.held v.faults v.tells c.args.index.now c.args.plan.now c.args.places.now
+    _ _ _ _ _ _ _ _ c.args.kit.now c.survey_first.new.kit maps nothing _ (ran_err g c))
+
+pub returns-in_err-settle_all-clause-after : goal.returns-in_err-settle_all-clause-after
+returns-in_err-settle_all-clause-after g c =
+    let p = err_from_is_err_and c.from_residual-in_err-settle_all.result c.from_residual-in_err-settle_all.ensures.1 in
+    let s = g.S.Store in
+    let v = g.V.View in
+    λ maps nothing. rw (p.1, p.2) (after_fault s.holds s.folder s.place s.said s.faults s.asked s.may_lack_memory v.held v.faults v.tells c.args.index.now c.args.plan.now c.args.places.now
+    _ _ _ _ _ _ _ _ c.args.kit.now c.survey_first.new.kit maps nothing _ (ran_err g c))
+
+pub returns-in_err-settle_all-clause-asks : goal.returns-in_err-settle_all-clause-asks
+returns-in_err-settle_all-clause-asks g c =
+    let s = g.S.Store in
+    let v = g.V.View in
+    asks_over s.holds s.folder s.place s.said s.faults s.asked s.may_lack_memory v.held v.faults v.tells c.args.index.now c.args.plan.now c.args.places.now
+    _ _ _ _ _ _ _ _ c.args.kit.now c.survey_first.new.kit _ (ran_err g c)
+
+-- all entries are right
+pub returns-clause-bytes : goal.returns-clause-bytes
+returns-clause-bytes g c =
+    let s = g.S.Store in
+    let v = g.V.View in
+    bytes_ok s.holds s.folder s.place s.said s.faults s.asked s.may_lack_memory v.held v.faults v.tells c.args.index.now c.args.plan.now c.args.places.now
+    _ _ _ _ _ _ _ _ c.args.kit.now _ _ c.of.result (ran_ok g c)
+
+pub returns-clause-exactly : goal.returns-clause-exactly
+returns-clause-exactly g c =
+    let s = g.S.Store in
+    let v = g.V.View in
+    λ maps nothing. exactly_ok s.holds s.folder s.place s.said s.faults s.asked s.may_lack_memory v.held v.faults v.tells c.args.index.now c.args.plan.now c.args.places.now
+    _ _ _ _ _ _ _ _ c.args.kit.now c.survey_first.new.kit maps nothing _ c.of.result (ran_ok g c)
+
+pub returns-clause-after : goal.returns-clause-after
+returns-clause-after g c =
+    let s = g.S.Store in
+    let v = g.V.View in
+    λ maps nothing. after_ok s.holds s.folder s.place s.said s.faults s.asked s.may_lack_memory v.held v.faults v.tells c.args.index.now c.args.plan.now c.args.places.now
+    _ _ _ _ _ _ _ _ c.args.kit.now c.survey_first.new.kit maps nothing _ c.of.result (ran_ok g c)
+
+pub returns-clause-asks : goal.returns-clause-asks
+returns-clause-asks g c =
+    let s = g.S.Store in
+    let v = g.V.View in
+    asks_over s.holds s.folder s.place s.said s.faults s.asked s.may_lack_memory v.held v.faults v.tells c.args.index.now c.args.plan.now c.args.places.now
+    _ _ _ _ _ _ _ _ c.args.kit.now c.survey_first.new.kit _ (ran_ok g c)
+
+pub returns-clause-kept : goal.returns-clause-kept
+returns-clause-kept g c = λ quiet.
     let l = c.args.index.now in
-    for_more g.S.Store.asked g.S.Store.queried l (λ i. true) 0 (count_of l) c.args.stores.now c.args.stores.now (omega arith) (for_none g.S.Store.asked g.S.Store.queried l (λ i. true) c.args.stores.now)
+    let m = c.deref_mut.result.now in
+    let n = c.settle_all.new.fates in
+    let first = c.in_ok-fates.ensures in
+    let did = c.in_ok-settle_all.ensures in
+    let f0 = g.T.View.faults c.args.target.now in
+    let f1 = g.T.View.faults c.survey_first.new.target in
+    let f2 = g.T.View.faults c.settle_all.new.target in
+    let part : Quiet f0 f1 = quiet_part f0 f0 f1 f2 (omega arith) did.step.never_falls quiet in
+    let whole : length n ≡ count_of l = did.step.grows.size ∙ ap (λ (xs : List Fate). length xs) c.deref_mut.ensures.value ∙ first.size in
+    let same : c.deref.result.now ≡ n = c.deref.ensures.value ∙ with_items_is c.in_ok-fates.fates n (omega (arith, c.settle_all.auto.fates, c.deref_mut.ensures.len)) in
+    let firsts = subst (λ (xs : List Fate). FirstFates xs (count_of l)) (sym c.deref_mut.ensures.value) first.first in
+    some_map (g.T.View.held c.args.target.now).bytes (λ y. Surveyed l m f0 f1 (resized y (image_length l))) (λ y. c.of.result.kept ≡ right_below l (resized y (image_length l)) (count_of l))
+    (λ y over. subst (λ (xs : List Fate). c.of.result.kept ≡ tally fate.Kept xs (length xs)) same c.of.ensures.kept ∙ ap (tally fate.Kept n) whole ∙ kept_count l (resized y (image_length l)) m n f0 f1 part over.yes over.no firsts did.step.grows (count_of l) (omega arith))
+    (ran_ok g c).over
 
-pub returns-in-Err-clause-unasked : goal.returns-in-Err-clause-unasked
-returns-in-Err-clause-unasked g c =
+pub settle_all-requires : goal.settle_all-requires
+settle_all-requires g c =
     let l = c.args.index.now in
-    needs_none g.S.Store.asked g.S.Store.queried l (λ o i. not (is_right (resized o (image_length l)) l i)) (count_of l) c.args.stores.now (g.T.View.held c.args.target.now).bytes _
-
-pub returns-in-Ok-settle_all-clause-unasked : goal.returns-in-Ok-settle_all-clause-unasked
-returns-in-Ok-settle_all-clause-unasked g c =
-    let l = c.args.index.now in
-    let old = (g.T.View.held c.args.target.now).bytes in
-    let base = ap (λ (h : Held). h.bytes) c.in-Ok.ensures.ok ∙ ap (λ (n : ℕ). option_map (λ o. resized o n) old) c.length.ensures in
-    needs_resized old (g.T.View.held c.set_len.new.self).bytes (image_length l) _ _ _
-    (λ b. AsksFor g.S.Store.asked g.S.Store.queried l (λ i. not (is_right b l i)) (count_of l) c.args.stores.now c.settle_all.new.stores) base c.in-Ok.ensures.faults.never_falls c.in-Ok-settle_all.ensures.target_faults c.in-Ok-settle_all.ensures.unasked
-
-pub returns-in-Err-settle_all-clause-unasked : goal.returns-in-Err-settle_all-clause-unasked
-returns-in-Err-settle_all-clause-unasked g c =
-    let l = c.args.index.now in
-    let old = (g.T.View.held c.args.target.now).bytes in
-    let base = ap (λ (h : Held). h.bytes) c.in-Ok.ensures.ok ∙ ap (λ (n : ℕ). option_map (λ o. resized o n) old) c.length.ensures in
-    needs_resized old (g.T.View.held c.set_len.new.self).bytes (image_length l) _ _ _
-    (λ b. AsksFor g.S.Store.asked g.S.Store.queried l (λ i. not (is_right b l i)) (count_of l) c.args.stores.now c.settle_all.new.stores) base c.in-Ok.ensures.faults.never_falls c.in-Err-settle_all.ensures.target_faults c.in-Err-settle_all.ensures.unasked
+    let first = c.in_ok-fates.ensures in
+    let value = c.deref_mut.ensures.value in
+    record {
+      ready = record {
+        wants = c.requires.wants;
+        places = subst (λ (xs : List (Seed g.row.V.Denot)). PlacesKnown l c.args.plan.now c.args.places.now (length xs)) (sym (ap (λ (v : Vec (Seed g.row.V.Denot)). v.items) first.seeds)) c.requires.places;
+        kind = ap (λ (y : Chained g.row.S.Denot). y.kind) first.chain ∙ c.requires.kind;
+        room = first.room;
+        size = ap (λ (h : Held). h.size) first.ok;
+        fates = ap (λ (xs : List Fate). length xs) value ∙ first.size;
+        right = subst (λ (xs : List Fate). IfSome (g.T.View.held c.survey_first.new.target).bytes (λ t. SettledRight l t xs (count_of l))) (sym value) first.yes;
+      };
+    }

@@ -1,0 +1,291 @@
+-- What an assembly says of its sources, over the base. The fates are m after the survey and n at the end, and the counts
+-- of the target's faults a at first, b after the survey and c at the end.
+use Rattle.std.proofs.Common.{◌≡◌, ◌⊎◌, IsTrue, ℕ, ◌<◌, ◌≤◌, List, length, map, slice_index, Bool, Option, Some, None, IfErr, IfSome, Result, OnOk, Ok, Err, true, false, refl, sym, ◌∙◌, subst, inl, inr, arith}
+use Rattle.std.proofs.lemmas.Bool.{cases_Bool}
+use Rattle.assembler.proofs.Asked.{quiet_never, quiet_part}
+use Rattle.assembler.proofs.Based.{Surveyed, assembles_err, ends_map, leaves, left_at, right_all, right_at, some_map, told_map}
+use Rattle.assembler.proofs.Entries.{among, ids_same, listed_of}
+use Rattle.assembler.proofs.Filled.{rose_still}
+use Rattle.assembler.proofs.Lacking.{Tells, seeds_never, stores_never, tells_of}
+use Rattle.assembler.specs.Asks.{IsSpared}
+use Rattle.assembler.specs.Assemblies.{After, Assembles, AssemblyAsks, IsObtainable, IsUnobtained, NothingFails, RightAlike, SparedOver, Verdict}
+use Rattle.assembler.specs.Faults.{fault_of}
+use Rattle.assembler.specs.Fills.{Fills, WhereTold}
+use Rattle.assembler.specs.Losses.{CopiesFailed, SomeGives}
+use Rattle.assembler.specs.Passes.{EndsBy, HadAt, IsLost, PassesAsk, want_at}
+use Rattle.assembler.specs.Sources.{SeedsGive, faults_in, held_in}
+use Rattle.assembler.specs.Wants.{IsAmong, of_want}
+use Rattle.assembler.specs.declared.fault.ExtractFault.{ExtractFault}
+use Rattle.assembler.specs.declared.fault.ExtractFault.TheVariants as faults
+use Rattle.assembler.specs.declared.fault.Lost.{Lost}
+use Rattle.assembler.specs.declared.kit.Kit.{Kit}
+use Rattle.assembler.specs.declared.report.Report.{Report}
+use Rattle.caibx_codec.specs.Listing.{Listing, count_of, id_of, image_length, kind_of, size_of, slice_of}
+use Rattle.caibx_codec.specs.Right.{IsRightAt}
+use Rattle.chunk_store.specs.Said.{Said}
+use Rattle.chunk_store.specs.declared.id.ChunkId.{ChunkId}
+use Rattle.dsy_base.proofs.Counts.{rose_later}
+use Rattle.dsy_base.specs.Bytes.{Held, resized}
+use Rattle.dsy_base.specs.Counts.{Rose}
+use Rattle.dsy_base.specs.Maps.{Map}
+use Rattle.extract_plan.specs.Deal.{AreWants, Deal}
+use Rattle.extract_plan.specs.Places.{Placed, places_at}
+use Rattle.extract_plan.specs.declared.seed.Seed.{Seed}
+use Rattle.range_survey.specs.Fates.{settled}
+use Rattle.range_survey.specs.declared.fate.Fate.{Fate}
+use Rattle.store_chain.specs.Faults.{EachQuiet}
+use Rattle.store_chain.specs.declared.refused.Refused.{Refused}
+use Rattle.store_chain.specs.declared.refused.Refused.TheVariants as refused
+
+-- ---- one entry
+
+module _ (l : Listing) (d : Deal) (x : Placed) (wants : AreWants l d.wants d.want_of) where
+  here : (i : ℕ) → i < count_of l → IsAmong (of_want d (want_at d i)) i
+  here i inside = let size : length d.want_of ≡ count_of l = wants.size in among d (want_at d i) i (omega (arith, inside)) refl
+
+  module _ (m : List Fate) (a b c : ℕ) (ab : a ≤ b) (bc : b ≤ c) (base : List ℕ) (over : Surveyed l m a b base) where
+    -- where a settled entry was had, it can be had
+    pub obtainable : (views : List (Option Held)) (maps : List (Map (List ℕ))) (i : ℕ) → i < count_of l → HadAt l d x m views maps i → IsObtainable l d x base views maps i
+    obtainable views maps i inside (inl (j, other, is)) =
+        let listed = listed_of l d (want_at d i) j wants other in
+        inl (j, listed, ids_same l d (want_at d i) j i wants other (here i inside), over.yes j listed is)
+    obtainable views maps i inside (inr source) = inr source
+
+    -- an entry that is right in the base couldn't be read, by the survey or later
+    pub copies : (i : ℕ) → i < count_of l → CopiesFailed m (of_want d (want_at d i)) b c → RightAlike l base i → Rose a c
+    copies i inside failed (j, listed, alike, right) = elim (cases_Bool (settled m j)) [
+      | inl is ↦
+          let size : length d.want_of ≡ count_of l = wants.size in
+          rose_later a b c ab (failed j (among d (want_at d i) j (omega (arith, listed)) ((wants.alike j i listed inside).1 alike)) is)
+      | inr isnt ↦ rose_still a b c bc (over.no j listed isnt right)
+    ]
+
+  -- alike entries can be had alike
+  pub obtainable_as : (base : List ℕ) (views : List (Option Held)) (maps : List (Map (List ℕ))) (i j : ℕ) → i < count_of l → j < count_of l → want_at d j ≡ want_at d i
+      → IsObtainable l d x base views maps i → IsObtainable l d x base views maps j
+  obtainable_as base views maps i j one other same (inl (k, listed, alike, right)) =
+      let like = (wants.alike i j one other).0 (sym same) in
+      inl (k, listed, (alike.0 ∙ like.0, alike.1 ∙ like.1), right)
+  obtainable_as base views maps i j one other same (inr source) =
+      let like = (wants.alike i j one other).0 (sym same) in
+      inr (subst (λ w. SeedsGive views (places_at x w) (id_of l j) ⊎ SomeGives (kind_of l) (id_of l j) (size_of l j) maps) (sym same)
+      (subst (λ n. SeedsGive views (places_at x (want_at d i)) (id_of l j) ⊎ SomeGives (kind_of l) (id_of l j) n maps) like.1
+      (subst (λ q. SeedsGive views (places_at x (want_at d i)) q ⊎ SomeGives (kind_of l) q (size_of l i) maps) like.0 source)))
+
+  -- a want that was spared over the whole is spared after the survey
+  pub spared_over : {V : Type 0} (view : V → Held) (view_faults : V → ℕ) (m : List Fate) (a b c : ℕ) → a ≤ b → b ≤ c → (o : Option (List ℕ)) (s0 s1 : List (Seed V)) (w : ℕ)
+      → IfSome o (λ y. Surveyed l m a b (resized y (image_length l)))
+      → SparedOver view view_faults l d x o a c s0 s1 w → IsSpared view view_faults l d x m b c s0 s1 w
+  spared_over view view_faults m a b c ab bc None s0 s1 w over (inl (has, quiet)) = absurd has
+  spared_over view view_faults m a b c ab bc (Some y) s0 s1 w over (inl ((j, other, right), quiet)) = elim (cases_Bool (settled m j)) [
+    | inl is ↦ inl ((j, other, is), quiet_part a b c c ab (omega arith) quiet)
+    | inr isnt ↦ absurd (quiet_never a c quiet (rose_still a b c bc (over.no j (listed_of l d w j wants other) isnt right)))
+  ]
+  spared_over view view_faults m a b c ab bc o s0 s1 w over (inr seed) = inr seed
+
+-- ---- the answer
+
+verdict_named : (l : Listing) (P : ℕ → Type 0) (k : ℕ) (id : ChunkId) (r : Refused) → ((i : ℕ) → i < k → P i) → (P k → Tells r → ⊥)
+    → ((s : ℕ) → r ≡ refused.StoreFault s → ⊥) → Verdict l P (Err (fault_of k id r))
+verdict_named l P k id refused.Missing below never sound = (below, λ has. never has tt)
+verdict_named l P k id (refused.Damaged s x) below never sound = (below, λ has. never has tt)
+verdict_named l P k id (refused.StoreFault s) below never sound = sound s refl
+verdict_named l P k id refused.Memory below never sound = tt
+
+-- the assembly wasn't ended for want of memory
+abbrev HadMemory : ExtractFault → Type 0
+HadMemory faults.Memory = ⊥
+HadMemory _ = Unit {0}
+
+after_err : (l : Listing) (P : ℕ → Type 0) (base t : List ℕ) (e : ExtractFault)
+    → (HadMemory e → (i : ℕ) → i < count_of l → (P i → IsRightAt t l i) × ((P i → ⊥) → slice_of l t i ≡ slice_of l base i)) → After l P base t (Err e)
+after_err l P base t (faults.Missing k id) stands = stands tt
+after_err l P base t (faults.Damaged k id s shows) stands = stands tt
+after_err l P base t (faults.StoreFault s) stands = stands tt
+after_err l P base t faults.TargetFault stands = stands tt
+after_err l P base t faults.Memory stands = tt
+
+-- ---- the kit
+
+module _ {S V : Type 0} where
+  -- the kit with which the passes began is k with another buffer
+  abbrev pub with_buffer : Kit S V → Kit S V → Kit S V
+  with_buffer k h = record { chain = k.chain; seeds = k.seeds; buffer = h.buffer }
+
+  pub kit_as : (P : Kit S V → Type 0) (k h : Kit S V) → h.chain ≡ k.chain → h.seeds ≡ k.seeds → P h → P (with_buffer k h)
+  kit_as P k h chain seeds has =
+      subst (λ s. P (record { chain = k.chain; seeds = s; buffer = h.buffer })) seeds
+      (subst (λ y. P (record { chain = y; seeds = h.seeds; buffer = h.buffer })) chain has)
+
+module _ {S V : Type 0} (holds folder : S → Option (Map (List ℕ))) (place : S → List ℕ) (said : S → Said) (store_faults : S → ℕ) (asked : S → List ℕ → ℕ)
+    (lacks_memory : Bool) (view : V → Held) (view_faults : V → ℕ) (tells : Bool) (l : Listing) (d : Deal) (x : Placed) where
+  abbrev pub LostOver : List Fate → ℕ → ℕ → Kit S V → Kit S V → Lost → Type 0
+  LostOver m b c k j lost = IsLost holds folder place said store_faults lacks_memory view view_faults l d x m b c k j lost
+
+  -- what both passes leave, from the kit k to the kit j, over the base of o
+  pub record Ran (o t : Option (List ℕ)) (a b c : ℕ) (m n : List Fate) (j : Kit S V) (r : Result Unit ExtractFault) (k : Kit S V) : Type 0 where
+    pub wants : AreWants l d.wants d.want_of
+    pub ab : a ≤ b
+    pub bc : b ≤ c
+    pub over : IfSome o (λ y. Surveyed l m a b (resized y (image_length l)))
+    pub fills : WhereTold o t (λ y. Fills l m n b c (resized y (image_length l)))
+    pub ok : OnOk r ((i : ℕ) → i < count_of l → settled n i ≡ true)
+    pub first : EndsBy (λ lost. LostOver m b c k j lost × ((i : ℕ) → i < lost.entry → settled n i ≡ true)) (Rose b c) r
+    pub left : IfErr r (λ e. (e ≡ faults.Memory) ⊎ (Rose b c ⊎ ((i : ℕ) → i < count_of l → settled n i ≡ false → (lost : Lost)
+        × (want_at d lost.entry ≡ want_at d i) × LostOver m b c k j lost)))
+    pub had : IsTrue tells → (maps : List (Map (List ℕ))) → map holds k.chain.stores ≡ map Some maps
+        → EachQuiet (map store_faults k.chain.stores) (map store_faults j.chain.stores)
+        → (i : ℕ) → i < count_of l → settled n i ≡ true → HadAt l d x m (map (held_in view) k.seeds.items) maps i
+    pub asks : PassesAsk asked view view_faults l d x m b c k j
+
+  module _ (o t : Option (List ℕ)) (a b c : ℕ) (m n : List Fate) (j k h : Kit S V) where
+    -- ---- bytes
+
+    pub bytes_err : (e : ExtractFault) → Ran o t a b c m n j (Err e) h → WhereTold o t (Assembles l (Rose a c) (Err e))
+    bytes_err e ran = told_map o t (λ y. Surveyed l m a b (resized y (image_length l))) (λ y. Fills l m n b c (resized y (image_length l))) (Assembles l (Rose a c) (Err e))
+        (λ y z over fills.
+        let base = resized y (image_length l) in
+        assembles_err l a c y z (leaves l m n a b c ran.ab ran.bc base z over fills)
+        (λ lost. LostOver m b c h j lost × ((i : ℕ) → i < lost.entry → settled n i ≡ true)) (Rose b c) e
+        (λ lost is i less. right_at l m n a b c ran.ab ran.bc base z over fills i (omega (arith, less, is.0.listed)) (is.1 i less))
+        ran.first)
+        ran.over ran.fills
+
+    pub bytes_ok : (u : Unit {0}) (r : Report) → Ran o t a b c m n j (Ok u) h → WhereTold o t (Assembles l (Rose a c) (Ok r))
+    bytes_ok u r ran = told_map o t (λ y. Surveyed l m a b (resized y (image_length l))) (λ y. Fills l m n b c (resized y (image_length l))) (Assembles l (Rose a c) (Ok r))
+        (λ y z over fills.
+        let base = resized y (image_length l) in
+        (right_all l m n a b c ran.ab ran.bc base z over fills ran.ok, leaves l m n a b c ran.ab ran.bc base z over fills))
+        ran.over ran.fills
+
+    -- ---- lost entries
+
+    abbrev Unobtained : Lost → Type 0
+    Unobtained lost = IsUnobtained holds folder place said store_faults lacks_memory view view_faults l d x o a c k j lost
+
+    unobtained : (r : Result Unit ExtractFault) → Ran o t a b c m n j r (with_buffer k h) → (lost : Lost) → LostOver m b c (with_buffer k h) j lost → Unobtained lost
+    unobtained r ran lost is = record {
+      listed = is.listed;
+      id_is = is.id_is;
+      copies = some_map o (λ y. Surveyed l m a b (resized y (image_length l))) (λ y. RightAlike l (resized y (image_length l)) lost.entry → Rose a c)
+          (λ y over. copies l d x ran.wants m a b c ran.ab ran.bc (resized y (image_length l)) over lost.entry is.listed is.copies) ran.over;
+      seeds = is.seeds;
+      stores = record {
+        before = is.stores.before;
+        after = is.stores.after;
+        until = is.stores.until;
+        refused = is.stores.refused;
+        since = is.stores.since;
+      };
+    }
+
+    pub lost_err : (e : ExtractFault) → Ran o t a b c m n j (Err e) (with_buffer k h) → EndsBy {A = Unit {0}} Unobtained (Rose a c) (Err e)
+    lost_err e ran = ends_map (λ lost. LostOver m b c (with_buffer k h) j lost × ((i : ℕ) → i < lost.entry → settled n i ≡ true)) Unobtained (Rose b c) (Rose a c) e
+        (λ lost is. unobtained (Err e) ran lost is.0) (rose_later a b c ran.ab) ran.first
+
+    -- ---- how often stores were asked
+
+    pub asks_over : (r : Result Unit ExtractFault) → Ran o t a b c m n j r (with_buffer k h) → AssemblyAsks asked view view_faults l d x o a c k j
+    asks_over r ran = λ spared are.
+        let asks = ran.asks spared (λ w below is. spared_over l d x ran.wants view view_faults m a b c ran.ab ran.bc o k.seeds.items j.seeds.items w ran.over (are w below is)) in
+        record { no_fewer = asks.no_fewer; calls = asks.calls; no_less = asks.no_less; most = asks.most }
+
+    -- ---- where nothing fails
+
+    module _ (maps : List (Map (List ℕ))) (nothing : NothingFails holds folder place said store_faults lacks_memory view view_faults l d x tells a c k j maps) where
+      abbrev Has : List ℕ → ℕ → Type 0
+      Has y i = IsObtainable l d x (resized y (image_length l)) (map (held_in view) k.seeds.items) maps i
+
+      -- the stores didn't fail in the call that refused
+      sound : (r : Result Unit ExtractFault) → Ran o t a b c m n j r (with_buffer k h) → (lost : Lost) → LostOver m b c (with_buffer k h) j lost
+          → (s : ℕ) → lost.refused ≡ refused.StoreFault s → ⊥
+      sound r ran lost is s failed =
+          let at : List S → ℕ = λ stores. slice_index (map store_faults stores) s in
+          let part = quiet_part (at k.chain.stores) (at is.stores.before) (at is.stores.after) (at j.chain.stores) (is.stores.until.never_fall s) (is.stores.since.never_fall s)
+          (nothing.stores s) in
+          quiet_never (at is.stores.before) (at is.stores.after) part (is.stores.refused.cause s failed)
+
+      -- what was lost can't be had
+      never : (r : Result Unit ExtractFault) → Ran o t a b c m n j r (with_buffer k h) → (y : List ℕ) → Surveyed l m a b (resized y (image_length l))
+          → (lost : Lost) → LostOver m b c (with_buffer k h) j lost → Has y lost.entry → Tells lost.refused → ⊥
+      never r ran y over lost is (inl alike) told =
+          quiet_never a c nothing.target (copies l d x ran.wants m a b c ran.ab ran.bc (resized y (image_length l)) over lost.entry is.listed is.copies alike)
+      never r ran y over lost is (inr (inl seeds)) told =
+          seeds_never (map (held_in view) k.seeds.items) (places_at x (want_at d lost.entry)) lost.id.0 (map (faults_in view_faults) k.seeds.items)
+          (map (faults_in view_faults) j.seeds.items) nothing.seeds is.seeds
+          (subst (λ q. SeedsGive (map (held_in view) k.seeds.items) (places_at x (want_at d lost.entry)) q) (sym is.id_is) seeds)
+      never r ran y over lost is (inr (inr stores)) told =
+          stores_never (kind_of l) lost.id (size_of l lost.entry) maps lost.refused told (sound r ran lost is)
+          (is.stores.refused.lacks maps (is.stores.until.held ∙ nothing.told))
+          (subst (λ q. SomeGives (kind_of l) q (size_of l lost.entry) maps) (sym is.id_is) stores)
+
+      -- what is settled can be had
+      had : (r : Result Unit ExtractFault) → Ran o t a b c m n j r (with_buffer k h) → (y : List ℕ) → Surveyed l m a b (resized y (image_length l))
+          → (i : ℕ) → i < count_of l → settled n i ≡ true → Has y i
+      had r ran y over i inside is = obtainable l d x ran.wants m a b c ran.ab ran.bc (resized y (image_length l)) over (map (held_in view) k.seeds.items) maps i inside
+          (ran.had nothing.telling maps nothing.told nothing.stores i inside is)
+
+      verdict_err : (e : ExtractFault) (y : List ℕ) → Ran o t a b c m n j (Err e) (with_buffer k h) → Surveyed l m a b (resized y (image_length l))
+          → EndsBy {A = Unit {0}} (λ lost. LostOver m b c (with_buffer k h) j lost × ((i : ℕ) → i < lost.entry → settled n i ≡ true)) (Rose b c) (Err e)
+          → Verdict l (Has y) (Err e)
+      verdict_err e y ran over (inl (lost, is, was)) = subst (λ f. Verdict l (Has y) (Err f)) (sym is)
+          (verdict_named l (Has y) lost.entry lost.id lost.refused
+          (λ i less. had (Err e) ran y over i (omega (arith, less, was.0.listed)) (was.1 i less))
+          (never (Err e) ran y over lost was.0) (sound (Err e) ran lost was.0))
+      verdict_err e y ran over (inr (inl (is, rose))) = absurd (quiet_never a c nothing.target (rose_later a b c ran.ab rose))
+      verdict_err e y ran over (inr (inr is)) = subst (λ f. Verdict l (Has y) (Err f)) (sym is) tt
+
+      pub exactly_err : (e : ExtractFault) → Ran o t a b c m n j (Err e) (with_buffer k h) → IfSome o (λ y. Verdict l (Has y) (Err e))
+      exactly_err e ran = some_map o (λ y. Surveyed l m a b (resized y (image_length l))) (λ y. Verdict l (Has y) (Err e)) (λ y over. verdict_err e y ran over ran.first) ran.over
+
+      pub exactly_ok : (u : Unit {0}) (r : Report) → Ran o t a b c m n j (Ok u) (with_buffer k h) → IfSome o (λ y. Verdict l (Has y) (Ok r))
+      exactly_ok u r ran = some_map o (λ y. Surveyed l m a b (resized y (image_length l))) (λ y. Verdict l (Has y) (Ok r))
+          (λ y over i inside. had (Ok u) ran y over i inside (ran.ok i inside)) ran.over
+
+      abbrev Stands : List ℕ → List ℕ → Type 0
+      Stands y z = (i : ℕ) → i < count_of l → (Has y i → IsRightAt z l i) × ((Has y i → ⊥) → slice_of l z i ≡ slice_of l (resized y (image_length l)) i)
+
+      -- an entry that can't be had was never written
+      untouched : (r : Result Unit ExtractFault) → Ran o t a b c m n j r (with_buffer k h) → (y z : List ℕ) → Surveyed l m a b (resized y (image_length l))
+          → Fills l m n b c (resized y (image_length l)) z → (i : ℕ) → i < count_of l → (Has y i → ⊥) → slice_of l z i ≡ slice_of l (resized y (image_length l)) i
+      untouched r ran y z over fills i inside hasnt = elim (cases_Bool (settled n i)) [
+        | inl is ↦ absurd (hasnt (had r ran y over i inside is))
+        | inr isnt ↦ elim (left_at l m n a b c ran.ab ran.bc (resized y (image_length l)) z over fills i inside isnt) [
+          | inl same ↦ same
+          | inr rose ↦ absurd (quiet_never a c nothing.target rose)
+        ]
+      ]
+
+      pub after_ok : (u : Unit {0}) (r : Report) → Ran o t a b c m n j (Ok u) (with_buffer k h) → WhereTold o t (λ y z. After l (Has y) (resized y (image_length l)) z (Ok r))
+      after_ok u r ran = told_map o t (λ y. Surveyed l m a b (resized y (image_length l))) (λ y. Fills l m n b c (resized y (image_length l)))
+          (λ y z. After l (Has y) (resized y (image_length l)) z (Ok r))
+          (λ y z over fills i inside. (
+            λ has. right_at l m n a b c ran.ab ran.bc (resized y (image_length l)) z over fills i inside (ran.ok i inside),
+            untouched (Ok u) ran y z over fills i inside,
+          ))
+          ran.over ran.fills
+
+      after_lost : (e : ExtractFault) → Ran o t a b c m n j (Err e) (with_buffer k h) → (y z : List ℕ) → Surveyed l m a b (resized y (image_length l))
+          → Fills l m n b c (resized y (image_length l)) z
+          → (e ≡ faults.Memory) ⊎ (Rose b c ⊎ ((i : ℕ) → i < count_of l → settled n i ≡ false → (lost : Lost)
+          × (want_at d lost.entry ≡ want_at d i) × LostOver m b c (with_buffer k h) j lost))
+          → HadMemory e → Stands y z
+      after_lost e ran y z over fills (inl is) memory = absurd (subst HadMemory is memory)
+      after_lost e ran y z over fills (inr (inl rose)) memory = absurd (quiet_never a c nothing.target (rose_later a b c ran.ab rose))
+      after_lost e ran y z over fills (inr (inr left)) memory = λ i inside. (
+        λ has. elim (cases_Bool (settled n i)) [
+          | inl is ↦ right_at l m n a b c ran.ab ran.bc (resized y (image_length l)) z over fills i inside is
+          | inr isnt ↦
+              let lost = left i inside isnt in
+              absurd (never (Err e) ran y over lost.0 lost.2
+              (obtainable_as l d x ran.wants (resized y (image_length l)) (map (held_in view) k.seeds.items) maps i lost.0.entry inside lost.2.listed lost.1 has)
+              (tells_of lost.0.refused lost.2.had_memory))
+        ],
+        untouched (Err e) ran y z over fills i inside,
+      )
+
+      pub after_fault : (e : ExtractFault) → Ran o t a b c m n j (Err e) (with_buffer k h) → WhereTold o t (λ y z. After l (Has y) (resized y (image_length l)) z (Err e))
+      after_fault e ran = told_map o t (λ y. Surveyed l m a b (resized y (image_length l))) (λ y. Fills l m n b c (resized y (image_length l)))
+          (λ y z. After l (Has y) (resized y (image_length l)) z (Err e))
+          (λ y z over fills. after_err l (Has y) (resized y (image_length l)) z e (after_lost e ran y z over fills ran.left))
+          ran.over ran.fills

@@ -1,0 +1,113 @@
+-- What an assembly leaves of the base, which are the target's bytes with the image's length. The fates are m after the
+-- survey and n at the end, and the counts of the target's faults a at first, b after the survey and c at the end.
+use Rattle.std.proofs.Common.{◌≡◌, ◌⊎◌, ℕ, ◌<◌, ◌≤◌, List, length, Option, Some, None, IfSome, Err, true, false, refl, sym, ap, ◌∙◌, subst, inl, inr}
+use Rattle.std.proofs.lemmas.Bool.{cases_Bool}
+use Rattle.std.specs.Option.{option_map}
+use Rattle.assembler.proofs.Filled.{right_on, rose_still}
+use Rattle.assembler.specs.Assemblies.{Assembles, KeepsBase}
+use Rattle.assembler.specs.Faults.{fault_of}
+use Rattle.assembler.specs.Fills.{Fills, WhereTold}
+use Rattle.assembler.specs.Passes.{EndsBy}
+use Rattle.assembler.specs.declared.fault.ExtractFault.{ExtractFault}
+use Rattle.assembler.specs.declared.fault.Lost.{Lost}
+use Rattle.caibx_codec.specs.Listing.{Listing, count_of, image_length, slice_of}
+use Rattle.caibx_codec.specs.Right.{IsRight, IsRightAt}
+use Rattle.chunk_store.specs.declared.id.ChunkId.{ChunkId}
+use Rattle.dsy_base.proofs.Counts.{rose_later}
+use Rattle.dsy_base.specs.Bytes.{Held, held_resized, resized}
+use Rattle.dsy_base.specs.Counts.{Rose}
+use Rattle.range_survey.specs.Fates.{OpenWrong, SettledRight, settled}
+use Rattle.range_survey.specs.declared.fate.Fate.{Fate}
+use Rattle.store_chain.specs.declared.refused.Refused.{Refused}
+use Rattle.store_chain.specs.declared.refused.Refused.TheVariants as refused
+
+-- ---- bytes that may not be told
+
+pub some_map : (o : Option (List ℕ)) (A C : List ℕ → Type 0) → ((y : List ℕ) → A y → C y) → IfSome o A → IfSome o C
+some_map None A C f has = tt
+some_map (Some y) A C f has = f y has
+
+pub told_map : (o t : Option (List ℕ)) (A : List ℕ → Type 0) (B C : List ℕ → List ℕ → Type 0) → ((y z : List ℕ) → A y → B y z → C y z)
+    → IfSome o A → WhereTold o t B → WhereTold o t C
+told_map None t A B C f one other = tt
+told_map (Some y) None A B C f one other = tt
+told_map (Some y) (Some z) A B C f one other = f y z one other
+
+-- what holds of bytes that were made of others holds over these
+pub made_of : (P : List ℕ → Type 0) (make : List ℕ → List ℕ) (o mid : Option (List ℕ)) → mid ≡ option_map make o → IfSome mid P → IfSome o (λ y. P (make y))
+made_of P make None mid is has = tt
+made_of P make (Some y) mid is has = subst (λ u. IfSome u P) is has
+
+-- ---- the base
+
+-- what the survey found in it
+pub record Surveyed (l : Listing) (m : List Fate) (a b : ℕ) (base : List ℕ) : Type 0 where
+  pub size : length base ≡ image_length l
+  pub yes : SettledRight l base m (count_of l)
+  pub no : OpenWrong l base m a b (count_of l)
+
+pub surveyed : (l : Listing) (m : List Fate) (a b : ℕ) (mid : Option (List ℕ)) → IfSome mid (λ t. length t ≡ image_length l)
+    → IfSome mid (λ t. SettledRight l t m (count_of l)) → IfSome mid (λ t. OpenWrong l t m a b (count_of l)) → IfSome mid (Surveyed l m a b)
+surveyed l m a b None size right wrong = tt
+surveyed l m a b (Some t) size right wrong = record { size = size; yes = right; no = wrong }
+
+module _ (l : Listing) (m n : List Fate) (a b c : ℕ) (ab : a ≤ b) (bc : b ≤ c) (base t : List ℕ) (over : Surveyed l m a b base) (fills : Fills l m n b c base t) where
+  pub right_at : (i : ℕ) → i < count_of l → settled n i ≡ true → IsRightAt t l i
+  right_at = right_on l m n b c (Some base) (Some t) refl fills over.yes
+
+  pub left_at : (i : ℕ) → i < count_of l → settled n i ≡ false → (slice_of l t i ≡ slice_of l base i) ⊎ Rose a c
+  left_at i inside isnt = elim (fills.left i inside isnt) [
+    | inl same ↦ inl same
+    | inr rose ↦ inr (rose_later a b c ab rose)
+  ]
+
+  pub leaves : KeepsBase l (Rose a c) base t
+  leaves = record {
+    size = fills.size ∙ over.size;
+    each = λ i inside. elim (cases_Bool (settled n i)) [
+      | inl is ↦ inl (right_at i inside is)
+      | inr isnt ↦ inr (left_at i inside isnt)
+    ];
+    kept = λ i inside right. elim (cases_Bool (settled m i)) [
+      | inl is ↦ inl (fills.kept i inside is)
+      | inr isnt ↦ inr (rose_still a b c bc (over.no i inside isnt right))
+    ];
+  }
+
+  pub right_all : ((i : ℕ) → i < count_of l → settled n i ≡ true) → IsRight t l
+  right_all all = record { size = fills.size ∙ over.size; entries = λ i inside. right_at i inside (all i inside) }
+
+-- ---- how it ended
+
+module _ (l : Listing) (a c : ℕ) (o t : List ℕ) (leaves : KeepsBase l (Rose a c) (resized o (image_length l)) t) where
+  assembles_named : (k : ℕ) (id : ChunkId) (r : Refused) → ((i : ℕ) → i < k → IsRightAt t l i) → Assembles l (Rose a c) (Err (fault_of k id r)) o t
+  assembles_named k id refused.Missing right = (leaves, right)
+  assembles_named k id (refused.Damaged s x) right = (leaves, right)
+  assembles_named k id (refused.StoreFault s) right = leaves
+  assembles_named k id refused.Memory right = inr leaves
+
+  pub assembles_err : (P : Lost → Type 0) (F : Type 0) (e : ExtractFault) → ((x : Lost) → P x → (i : ℕ) → i < x.entry → IsRightAt t l i)
+      → EndsBy {A = Unit {0}} P F (Err e) → Assembles l (Rose a c) (Err e) o t
+  assembles_err P F e before (inl (x, is, lost)) =
+      subst (λ y. Assembles l (Rose a c) (Err y) o t) (sym is) (assembles_named x.entry x.id x.refused (before x lost))
+  assembles_err P F e before (inr (inl (is, rose))) = subst (λ y. Assembles l (Rose a c) (Err y) o t) (sym is) (inr leaves)
+  assembles_err P F e before (inr (inr is)) = subst (λ y. Assembles l (Rose a c) (Err y) o t) (sym is) (inr leaves)
+
+pub ends_map : (P Q : Lost → Type 0) (F G : Type 0) (e : ExtractFault) → ((x : Lost) → P x → Q x) → (F → G) → EndsBy {A = Unit {0}} P F (Err e) → EndsBy {A = Unit {0}} Q G (Err e)
+ends_map P Q F G e lost torn (inl (x, is, p)) = inl (x, is, lost x p)
+ends_map P Q F G e lost torn (inr (inl (is, f))) = inr (inl (is, torn f))
+ends_map P Q F G e lost torn (inr (inr is)) = inr (inr is)
+
+-- ---- as the calls say it
+
+pub over_of : (l : Listing) (m items : List Fate) (a b : ℕ) (old mid : Held) → mid ≡ held_resized old (image_length l) → m ≡ items
+    → IfSome mid.bytes (λ t. length t ≡ mid.size) → IfSome mid.bytes (λ t. SettledRight l t items (count_of l)) → IfSome mid.bytes (λ t. OpenWrong l t items a b (count_of l))
+    → IfSome old.bytes (λ y. Surveyed l m a b (resized y (image_length l)))
+over_of l m items a b old mid is same size right wrong =
+    let long = subst (λ (n : ℕ). IfSome mid.bytes (λ t. length t ≡ n)) (ap (λ (h : Held). h.size) is) size in
+    made_of (Surveyed l m a b) (λ y. resized y (image_length l)) old.bytes mid.bytes (ap (λ (h : Held). h.bytes) is)
+    (subst (λ (xs : List Fate). IfSome mid.bytes (Surveyed l xs a b)) (sym same) (surveyed l items a b mid.bytes long right wrong))
+
+pub told_of : (l : Listing) (old mid : Held) (t : Option (List ℕ)) (P : List ℕ → List ℕ → Type 0) → mid ≡ held_resized old (image_length l) → WhereTold mid.bytes t P
+    → WhereTold old.bytes t (λ y. P (resized y (image_length l)))
+told_of l old mid t P is has = made_of (λ y. IfSome t (P y)) (λ y. resized y (image_length l)) old.bytes mid.bytes (ap (λ (h : Held). h.bytes) is) has

@@ -1,0 +1,90 @@
+-- Where the chunks of settled entries came from, from one want to the next. The fates are m before the pass, now before
+-- the want and new after it.
+use Rattle.std.proofs.Common.{◌≡◌, IsTrue, Some, Bool, ℕ, ◌<◌, List, length, map, slice_index, Option, true, false, refl, sym, ◌∙◌, subst, inl, inr, arith}
+use Rattle.std.proofs.lemmas.Bool.{cases_Bool}
+use Rattle.assembler.proofs.Asked.{quiet_part}
+use Rattle.assembler.proofs.Entries.{among, among_of, ids_same, listed_of}
+use Rattle.assembler.specs.Losses.{Had}
+use Rattle.assembler.specs.Passes.{HadAt, want_at}
+use Rattle.assembler.specs.Wants.{IsAmong, of_want}
+use Rattle.caibx_codec.specs.Listing.{Listing, count_of, id_of, kind_of, size_of}
+use Rattle.chunk_store.specs.Said.{Said}
+use Rattle.dsy_base.specs.Bytes.{Held}
+use Rattle.dsy_base.specs.Maps.{Map}
+use Rattle.extract_plan.specs.Deal.{AreWants, Deal}
+use Rattle.extract_plan.specs.Places.{Placed, places_at}
+use Rattle.range_survey.specs.Fates.{settled}
+use Rattle.range_survey.specs.declared.fate.Fate.{Fate}
+use Rattle.store_chain.specs.Chains.{KeepsStores}
+use Rattle.store_chain.specs.Faults.{EachQuiet, NoneFalls}
+
+-- counts that were quiet over two parts were quiet over each
+pub quiet_first : (a b c : List ℕ) → NoneFalls b c → EachQuiet a c → EachQuiet a b
+quiet_first a b c falls quiet k = quiet_part (slice_index a k) (slice_index a k) (slice_index b k) (slice_index c k) (omega arith) (falls k) (quiet k)
+
+pub quiet_next : (a b c : List ℕ) → NoneFalls a b → EachQuiet a c → EachQuiet b c
+quiet_next a b c fell quiet k = quiet_part (slice_index a k) (slice_index b k) (slice_index c k) (slice_index c k) (fell k) (omega arith) (quiet k)
+
+-- this is known of each settled entry, where the stores hold maps and were quiet from s0 to s1
+abbrev pub HadUpTo : {S : Type 0} → Listing → Deal → Placed → Bool → (S → Option (Map (List ℕ))) → (S → ℕ) → List Fate → List (Option Held)
+    → List S → List S → List Fate → Type 0
+HadUpTo l d x tells holds faults m views s0 s1 now = IsTrue tells → (maps : List (Map (List ℕ))) → map holds s0 ≡ map Some maps
+    → EachQuiet (map faults s0) (map faults s1) → (i : ℕ) → i < count_of l → settled now i ≡ true → HadAt l d x m views maps i
+
+module _ (l : Listing) (d : Deal) (x : Placed) (wants : AreWants l d.wants d.want_of) where
+  -- an entry that was settled before is its own source
+  pub had_none : (m : List Fate) (views : List (Option Held)) (maps : List (Map (List ℕ))) (i : ℕ) → i < count_of l → settled m i ≡ true → HadAt l d x m views maps i
+  had_none m views maps i inside is =
+      let size : length d.want_of ≡ count_of l = wants.size in
+      inl (i, among d (want_at d i) i (omega arith) refl, is)
+
+  -- the want and the id of an entry are those of an alike one
+  had_alike : (m : List Fate) (views : List (Option Held)) (maps : List (Map (List ℕ))) (w i j : ℕ) → IsAmong (of_want d w) i → IsAmong (of_want d w) j
+      → HadAt l d x m views maps j → HadAt l d x m views maps i
+  had_alike m views maps w i j one other had =
+      let same = ids_same l d w j i wants other one in
+      let want : want_at d j ≡ want_at d i = (among_of d w j other).1 ∙ sym (among_of d w i one).1 in
+      subst (λ n. Had m (of_want d (want_at d i)) views (places_at x (want_at d i)) (kind_of l) (id_of l i) n maps) same.1
+      (subst (λ id. Had m (of_want d (want_at d i)) views (places_at x (want_at d i)) (kind_of l) id (size_of l j) maps) same.0
+      (subst (λ v. Had m (of_want d v) views (places_at x v) (kind_of l) (id_of l j) (size_of l j) maps) want had))
+
+  module _ (m now new : List Fate) (views : List (Option Held)) (maps : List (Map (List ℕ))) (w : ℕ)
+      (before : (i : ℕ) → i < count_of l → settled now i ≡ true → HadAt l d x m views maps i) where
+    -- an entry of the want that its call settled
+    had_by : (i : ℕ) → IsAmong (of_want d w) i → Had now (of_want d w) views (places_at x w) (kind_of l) (id_of l i) (size_of l i) maps → HadAt l d x m views maps i
+    had_by i is (inl (j, other, settled_now)) = had_alike m views maps w i j is other (before j (listed_of l d w j wants other) settled_now)
+    had_by i is (inr source) =
+        subst (λ v. Had m (of_want d v) views (places_at x v) (kind_of l) (id_of l i) (size_of l i) maps) (sym (among_of d w i is).1) (inr source)
+
+    pub had_on : ((i : ℕ) → settled now i ≡ false → settled new i ≡ true → IsAmong (of_want d w) i)
+        → ((i : ℕ) → settled now i ≡ false → settled new i ≡ true → Had now (of_want d w) views (places_at x w) (kind_of l) (id_of l i) (size_of l i) maps)
+        → (i : ℕ) → i < count_of l → settled new i ≡ true → HadAt l d x m views maps i
+    had_on only had i inside is = elim (cases_Bool (settled now i)) [
+      | inl was ↦ before i inside was
+      | inr wasnt ↦ had_by i (only i wasnt is) (had i wasnt is)
+    ]
+
+  -- after one more want
+  pub had_more : {S : Type 0} (tells : Bool) (holds folder : S → Option (Map (List ℕ))) (place : S → List ℕ) (said : S → Said) (faults : S → ℕ)
+      (m now new : List Fate) (views after : List (Option Held)) (s0 s1 s2 : List S) (w : ℕ)
+      → KeepsStores holds folder place said faults s0 s1 → KeepsStores holds folder place said faults s1 s2 → after ≡ views
+      → HadUpTo l d x tells holds faults m views s0 s1 now
+      → ((i : ℕ) → settled now i ≡ false → settled new i ≡ true → IsAmong (of_want d w) i)
+      → (IsTrue tells → (maps : List (Map (List ℕ))) → map holds s1 ≡ map Some maps → EachQuiet (map faults s1) (map faults s2)
+      → (i : ℕ) → settled now i ≡ false → settled new i ≡ true → Had now (of_want d w) after (places_at x w) (kind_of l) (id_of l i) (size_of l i) maps)
+      → HadUpTo l d x tells holds faults m views s0 s2 new
+  had_more tells holds folder place said faults m now new views after s0 s1 s2 w first next same before only had = λ told maps are quiet.
+      let f : List ℕ = map faults s0 in
+      let n : List ℕ = map faults s1 in
+      let t : List ℕ = map faults s2 in
+      had_on m now new views maps w (before told maps are (quiet_first f n t next.never_fall quiet)) only
+      (λ i isnt is. subst (λ v. Had now (of_want d w) v (places_at x w) (kind_of l) (id_of l i) (size_of l i) maps) same
+      (had told maps (first.held ∙ are) (quiet_next f n t first.never_fall quiet) i isnt is))
+
+  -- over a second pass: what it took from entries that were settled by then, these had from before
+  pub had_through : (m0 m1 : List Fate) (views : List (Option Held)) (maps : List (Map (List ℕ))) (i : ℕ) → i < count_of l
+      → ((j : ℕ) → j < count_of l → settled m1 j ≡ true → HadAt l d x m0 views maps j) → HadAt l d x m1 views maps i → HadAt l d x m0 views maps i
+  had_through m0 m1 views maps i inside before (inl (j, other, settled_then)) =
+      let size : length d.want_of ≡ count_of l = wants.size in
+      had_alike m0 views maps (want_at d i) i j (among d (want_at d i) i (omega arith) refl) other (before j (listed_of l d (want_at d i) j wants other) settled_then)
+  had_through m0 m1 views maps i inside before (inr source) = inr source

@@ -1,0 +1,63 @@
+-- A pass over the wants, from one want to the next.
+use Rattle.std.proofs.Common.{◌≡◌, ◌⊎◌, ℕ, ◌+◌, ◌<◌, ◌≤◌, List, map, Bool, Option, IsTrue, Some, true, false, is_some}
+use Rattle.assembler.proofs.Asked.{AsksUpTo, asks_none, up_to_all, up_to_more}
+use Rattle.assembler.proofs.HadOn.{HadUpTo, had_more, had_none}
+use Rattle.assembler.proofs.Stepped.{step_none, step_on}
+use Rattle.assembler.specs.Asks.{asks_below}
+use Rattle.assembler.specs.Kits.{Step}
+use Rattle.assembler.specs.Losses.{AskedLast, Had}
+use Rattle.assembler.specs.Passes.{PassAsks}
+use Rattle.assembler.specs.Sources.{held_in}
+use Rattle.assembler.specs.Wants.{IsAmong, of_want, want_id}
+use Rattle.assembler.specs.declared.kit.Kit.{Kit}
+use Rattle.caibx_codec.specs.Listing.{Listing, id_of, kind_of, size_of}
+use Rattle.chunk_store.specs.Said.{Said}
+use Rattle.dsy_base.specs.Bytes.{Held}
+use Rattle.dsy_base.specs.Maps.{Map}
+use Rattle.extract_plan.specs.Deal.{AreWants, Deal}
+use Rattle.extract_plan.specs.Places.{Placed, places_at}
+use Rattle.range_survey.specs.Fates.{settled}
+use Rattle.range_survey.specs.declared.fate.Fate.{Fate}
+use Rattle.store_chain.specs.Faults.{EachQuiet}
+
+module _ {T S V : Type 0} (held : T → Held) (faults : T → ℕ) (holds folder : S → Option (Map (List ℕ))) (place : S → List ℕ) (said : S → Said)
+    (store_faults : S → ℕ) (asked queried : S → List ℕ → ℕ) (view : V → Held) (view_faults : V → ℕ) (tells : Bool) (l : Listing) (d : Deal) (x : Placed) where
+  -- what the call for want w leaves
+  pub record Settles (w : ℕ) (a : T) (k : Kit S V) (m : List Fate) (b : T) (j : Kit S V) (n : List Fate) : Type 0 where
+    pub only : (i : ℕ) → settled m i ≡ false → settled n i ≡ true → IsAmong (of_want d w) i
+    pub had : IsTrue tells → (maps : List (Map (List ℕ))) → map holds k.chain.stores ≡ map Some maps
+        → EachQuiet (map store_faults k.chain.stores) (map store_faults j.chain.stores) → (i : ℕ) → settled m i ≡ false → settled n i ≡ true
+        → Had m (of_want d w) (map (held_in view) k.seeds.items) (places_at x w) (kind_of l) (id_of l i) (size_of l i) maps
+    pub asks : (j.chain ≡ k.chain) ⊎ AskedLast asked queried view view_faults (want_id l d w) m (of_want d w) (places_at x w) (faults a) (faults b)
+        k.seeds.items j.seeds.items k.chain j.chain
+    pub step : Step held faults holds folder place said store_faults view view_faults l a k m b j n
+
+  -- what the calls for the wants below w leave
+  pub record WantsPassed (w : ℕ) (a : T) (k : Kit S V) (m : List Fate) (b : T) (j : Kit S V) (n : List Fate) : Type 0 where
+    pub had : HadUpTo l d x tells holds store_faults m (map (held_in view) k.seeds.items) k.chain.stores j.chain.stores n
+    pub asks : AsksUpTo view view_faults l d x asked m (faults a) (faults b) k.seeds.items j.seeds.items k.chain j.chain w
+    pub step : Step held faults holds folder place said store_faults view view_faults l a k m b j n
+
+  pub passed_none : (a : T) (k : Kit S V) (m : List Fate) → AreWants l d.wants d.want_of → WantsPassed 0 a k m a k m
+  passed_none a k m wants = record {
+    had = λ told maps are quiet i inside is. had_none l d x wants m (map (held_in view) k.seeds.items) maps i inside is;
+    asks = λ spared are. asks_none asked 0 (asks_below (want_id l d) spared 0) k.chain;
+    step = step_none held faults holds folder place said store_faults view view_faults l a k m;
+  }
+
+  pub passed_more : (w : ℕ) (a : T) (k : Kit S V) (m : List Fate) (b : T) (j : Kit S V) (n : List Fate) (c : T) (i : Kit S V) (o : List Fate)
+      → AreWants l d.wants d.want_of → w < d.wants → is_some (held a).bytes ≡ is_some (held b).bytes → is_some (held b).bytes ≡ is_some (held c).bytes
+      → WantsPassed w a k m b j n → Settles w b j n c i o → WantsPassed (w + 1) a k m c i o
+  passed_more w a k m b j n c i o wants below ab bc first next = record {
+    had = had_more l d x wants tells holds folder place said store_faults m n o (map (held_in view) k.seeds.items) (map (held_in view) j.seeds.items)
+        k.chain.stores j.chain.stores i.chain.stores w first.step.stores next.step.stores first.step.seeds.held first.had next.only next.had;
+    asks = up_to_more view view_faults l d x asked queried m n (faults a) (faults b) (faults c) k.seeds.items j.seeds.items i.seeds.items
+        k.chain j.chain i.chain w below first.step.grows first.step.never_falls next.step.never_falls first.step.seeds next.step.seeds first.asks next.asks;
+    step = step_on held faults holds folder place said store_faults view view_faults l a k m b j n c i o ab bc first.step next.step;
+  }
+
+  -- those below w are among all wants
+  pub passed_asks : (w : ℕ) (a : T) (k : Kit S V) (m : List Fate) (b : T) (j : Kit S V) (n : List Fate) → w ≤ d.wants → WantsPassed w a k m b j n
+      → PassAsks asked view view_faults l d x m (faults a) (faults b) k j
+  passed_asks w a k m b j n le passed =
+      up_to_all view view_faults l d x asked m (faults a) (faults b) k.seeds.items j.seeds.items k.chain j.chain w d.wants le passed.asks

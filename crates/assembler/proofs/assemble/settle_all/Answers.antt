@@ -1,0 +1,90 @@
+use Rattle.std.proofs.Common.{◌∙◌, ◌+◌, List, map, sym, inl, inr, subst, arith}
+use Rattle.assembler.proofs.Asked.{asks_on, asks_up, spared_part}
+use Rattle.assembler.proofs.Filled.{grows_none}
+use Rattle.assembler.proofs.HadOn.{had_through, quiet_first, quiet_next}
+use Rattle.assembler.proofs.Lost.{lost_since}
+use Rattle.assembler.proofs.Stepped.{ready_on, seeds_none, step_on}
+use Rattle.assembler.proofs.TwoPasses.{ends_map, err_map}
+use Rattle.assembler.specs.Asks.{asks_below, calls_below}
+use Rattle.assembler.specs.Passes.{HadAt}
+use Rattle.assembler.specs.Sources.{held_in}
+use Rattle.assembler.specs.Wants.{want_id}
+use Rattle.dsy_base.proofs.Counts.{rose_later}
+use Rattle.assembler.proofs.assemble.settle_all.Goals as goal
+
+pub retry-requires : goal.retry-requires
+retry-requires g c = record {
+  ready = ready_on g.T.View.held g.T.View.faults g.S.Store.holds g.S.Store.folder g.S.Store.place g.S.Store.said g.S.Store.faults g.V.View.held g.V.View.faults c.args.index.now c.args.plan.now c.args.places.now c.args.target.now c.args.kit.now c.args.fates.now c.fill.new.target c.fill.new.kit c.fill.new.fates
+      (g.met.T.View.told c.args.target.now ∙ sym (g.met.T.View.told c.fill.new.target)) c.in-Ok.ensures.step c.requires.ready;
+}
+
+pub returns-in-Ok-clause-first : goal.returns-in-Ok-clause-first
+returns-in-Ok-clause-first g c =
+    let step = c.in-Ok.ensures.step in
+    ends_map _ _ _ _ c.retry.result
+    (λ lost h. (
+      lost_since g.S.Store.holds g.S.Store.folder g.S.Store.place g.S.Store.said g.S.Store.faults g.S.Store.may_lack_memory g.V.View.held g.V.View.faults c.args.index.now c.args.plan.now c.args.places.now c.args.fates.now c.fill.new.fates _ _ _
+          c.args.kit.now c.fill.new.kit c.retry.new.kit lost step.grows step.never_falls step.stores step.seeds h.0,
+      h.1,
+    ))
+    (λ rose. rose_later _ _ _ step.never_falls rose) c.retry.ensures.first
+
+pub returns-in-Ok-clause-left : goal.returns-in-Ok-clause-left
+returns-in-Ok-clause-left g c =
+    let step = c.in-Ok.ensures.step in
+    err_map _ _ c.retry.result (λ e h. elim h [
+      | inl memory ↦ inl memory
+      | inr rest ↦ elim rest [
+        | inl rose ↦ inr (inl (rose_later _ _ _ step.never_falls rose))
+        | inr all ↦ inr (inr (λ i inside not_yet.
+            let was = all i inside not_yet in (
+              was.0,
+              was.1,
+              lost_since g.S.Store.holds g.S.Store.folder g.S.Store.place g.S.Store.said g.S.Store.faults g.S.Store.may_lack_memory g.V.View.held g.V.View.faults c.args.index.now c.args.plan.now c.args.places.now c.args.fates.now c.fill.new.fates _ _ _
+                  c.args.kit.now c.fill.new.kit c.retry.new.kit was.0 step.grows step.never_falls step.stores step.seeds was.2,
+            )))
+      ]
+    ]) c.retry.ensures.left
+
+pub returns-in-Ok-clause-had : goal.returns-in-Ok-clause-had
+returns-in-Ok-clause-had g c = λ tells maps told quiet i inside is.
+    let step = c.in-Ok.ensures.step in
+    let next = c.retry.ensures.step in
+    let f = map g.S.Store.faults in
+    let views = map (held_in g.V.View.held) in
+    let first = quiet_first (f c.args.kit.now.chain.stores) (f c.fill.new.kit.chain.stores) (f c.retry.new.kit.chain.stores) next.stores.never_fall quiet in
+    let then = quiet_next (f c.args.kit.now.chain.stores) (f c.fill.new.kit.chain.stores) (f c.retry.new.kit.chain.stores) step.stores.never_fall quiet in
+    let had = c.retry.ensures.had tells maps (step.stores.held ∙ told) then i inside is in
+    had_through c.args.index.now c.args.plan.now c.args.places.now c.requires.ready.wants c.args.fates.now c.fill.new.fates (views c.args.kit.now.seeds.items) maps i inside
+    (c.in-Ok.ensures.had tells maps told first)
+    (subst (λ (v : List _). HadAt c.args.index.now c.args.plan.now c.args.places.now c.fill.new.fates v maps i) step.seeds.held had)
+
+pub returns-in-Ok-clause-asks : goal.returns-in-Ok-clause-asks
+returns-in-Ok-clause-asks g c = λ spared are.
+    let step = c.in-Ok.ensures.step in
+    let next = c.retry.ensures.step in
+    let l = c.args.index.now in
+    let d = c.args.plan.now in
+    let x = c.args.places.now in
+    let n = calls_below spared d.wants in
+    let q = asks_below (want_id l d) spared d.wants in
+    let f0 = g.T.View.faults c.args.target.now in
+    let f1 = g.T.View.faults c.fill.new.target in
+    let f2 = g.T.View.faults c.retry.new.target in
+    let s0 = c.args.kit.now.seeds.items in
+    let s1 = c.fill.new.kit.seeds.items in
+    let s2 = c.retry.new.kit.seeds.items in
+    let first = c.in-Ok.ensures.asks spared (λ w below is. spared_part g.V.View.held g.V.View.faults l d x c.args.fates.now c.args.fates.now f0 f0 f1 f2 s0 s0 s1 s2 w (grows_none c.args.fates.now) (omega arith) next.never_falls (seeds_none g.V.View.held g.V.View.faults s0) next.seeds (are w below is)) in
+    let then = c.retry.ensures.asks spared (λ w below is. spared_part g.V.View.held g.V.View.faults l d x c.args.fates.now c.fill.new.fates f0 f1 f2 f2 s0 s1 s2 s2 w step.grows step.never_falls (omega arith) step.seeds (seeds_none g.V.View.held g.V.View.faults s2) (are w below is)) in
+    asks_on g.S.Store.asked n n q q c.args.kit.now.chain c.fill.new.kit.chain c.retry.new.kit.chain first then
+
+pub returns-in-Ok-clause-step : goal.returns-in-Ok-clause-step
+returns-in-Ok-clause-step g c = step_on g.T.View.held g.T.View.faults g.S.Store.holds g.S.Store.folder g.S.Store.place g.S.Store.said g.S.Store.faults g.V.View.held g.V.View.faults c.args.index.now c.args.target.now c.args.kit.now c.args.fates.now c.fill.new.target c.fill.new.kit c.fill.new.fates c.retry.new.target c.retry.new.kit c.retry.new.fates
+    (g.met.T.View.told c.args.target.now ∙ sym (g.met.T.View.told c.fill.new.target)) (g.met.T.View.told c.fill.new.target ∙ sym (g.met.T.View.told c.retry.new.target)) c.in-Ok.ensures.step c.retry.ensures.step
+
+pub returns-in-Err-clause-asks : goal.returns-in-Err-clause-asks
+returns-in-Err-clause-asks g c = λ spared are.
+    let d = c.args.plan.now in
+    let n = calls_below spared d.wants in
+    let q = asks_below (want_id c.args.index.now d) spared d.wants in
+    asks_up g.S.Store.asked n (n + n) q (λ id. q id + q id) c.args.kit.now.chain c.fill.new.kit.chain (omega arith) (λ id. omega arith) (c.in-Err.ensures.asks spared are)

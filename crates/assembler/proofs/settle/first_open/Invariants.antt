@@ -1,0 +1,7 @@
+use Rattle.std.proofs.Common.{◌≡◌, ℕ, ◌<◌, slice_index, true}
+use Rattle.range_survey.specs.Fates.{settled}
+use Rattle.assembler.proofs.settle.first_open.Given as goal
+
+-- each entry that was passed is settled
+abbrev pub invariant-loop-entry : goal.invariant-loop-entry
+invariant-loop-entry l = (k : ℕ) → k < l.entry-index → settled l.fates (slice_index l.entries k) ≡ true

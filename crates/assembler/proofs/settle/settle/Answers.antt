@@ -1,0 +1,105 @@
+use Rattle.std.proofs.Common.{◌≡◌, ◌∙◌, ℕ, List, length, map, false, inl, inr, ⊎_elim, ap, sym, subst, arith}
+use Rattle.std.proofs.lemmas.List.{with_items_is}
+use Rattle.assembler.proofs.Settled.{all_as, asked_as, first_open, fit, had_as, inside, listed, refused_as, where_both, where_map}
+use Rattle.assembler.proofs.Stepped.{step_none}
+use Rattle.assembler.specs.Kits.{KeepsSeeds}
+use Rattle.assembler.specs.Sources.{PlacesFit, held_in}
+use Rattle.caibx_codec.specs.Listing.{id_of, kind_of, size_of}
+use Rattle.chunk_store.specs.declared.id.ChunkId.{ChunkId}
+use Rattle.range_survey.specs.Fates.{settled}
+use Rattle.extract_plan.specs.declared.seed.Seed.{Seed}
+use Rattle.assembler.proofs.settle.settle.Goals as goal
+
+pub first_open-requires : goal.first_open-requires
+first_open-requires g c = inside c.args.index.now c.args.plan.now c.args.want c.requires.ready.wants c.requires.want c.entries-entries.result.now c.entries-entries.ensures _ c.requires.ready.fates
+
+pub returns-in_default-clause-step : goal.returns-in_default-clause-step
+returns-in_default-clause-step g c = step_none g.T.View.held g.T.View.faults g.S.Store.holds g.S.Store.folder g.S.Store.place g.S.Store.said g.S.Store.faults g.V.View.held g.V.View.faults c.args.index.now c.args.target.now c.args.kit.now c.args.fates.now
+
+pub id-id-requires : goal.id-id-requires
+id-id-requires g c =
+    let f = c.in-Some.ensures in
+    listed c.args.index.now c.args.plan.now c.args.want c.requires.ready.wants c.requires.want c.entries-entries.result.now c.entries-entries.ensures c.in-Some.entry (f.0, f.1, f.2)
+
+pub settle_open-requires-clause-entries : goal.settle_open-requires-clause-entries
+settle_open-requires-clause-entries g c =
+    let f = c.in-Some.ensures in
+    all_as c.args.index.now c.args.plan.now c.args.want c.requires.ready.wants c.requires.want c.entries-entries.result.now c.entries-entries.ensures c.in-Some.entry c.id-id.result.0 (f.0, f.1, f.2) c.id-id.ensures
+
+pub settle_open-requires-clause-places : goal.settle_open-requires-clause-places
+settle_open-requires-clause-places g c =
+    let f = c.in-Some.ensures in
+    let known = fit c.args.index.now c.args.plan.now c.args.want c.requires.ready.wants c.requires.want c.entries-entries.result.now c.entries-entries.ensures c.args.places.now (length c.args.kit.now.seeds.items) c.places-places.result.now c.in-Some.entry c.requires.ready.places c.places-places.ensures (f.0, f.1, f.2) in
+    subst (λ (n : ℕ). PlacesFit n (size_of c.args.index.now c.in-Some.entry) c.places-places.result.now) (sym (ap (λ (xs : List (Seed g.row.V.Denot)). length xs) c.deref_mut.ensures.value)) known
+
+pub settle_open-requires-clause-room : goal.settle_open-requires-clause-room
+settle_open-requires-clause-room g c =
+    let f = c.in-Some.ensures in
+    let lt = listed c.args.index.now c.args.plan.now c.args.want c.requires.ready.wants c.requires.want c.entries-entries.result.now c.entries-entries.ensures c.in-Some.entry (f.0, f.1, f.2) in
+    let same = ap (λ (xs : List ℕ). length xs) c.deref_mut-2.ensures.value in
+    omega (arith, same, c.requires.ready.room c.in-Some.entry lt)
+
+pub returns-clause-ok : goal.returns-clause-ok
+returns-clause-ok g c = rw c.entries-entries.ensures at c.settle_open.ensures.ok
+
+pub returns-clause-only : goal.returns-clause-only
+returns-clause-only g c = rw c.entries-entries.ensures at c.settle_open.ensures.only
+
+pub returns-clause-had : goal.returns-clause-had
+returns-clause-had g c =
+    λ tells maps told quiet i was now.
+    let f = c.in-Some.ensures in
+    let views = map (held_in g.V.View.held) in
+    let had = rw c.deref_mut.ensures.value at c.settle_open.ensures.had tells maps told quiet i was now in
+    had_as c.args.index.now c.args.plan.now c.args.want c.requires.ready.wants c.requires.want c.entries-entries.result.now c.entries-entries.ensures c.args.fates.now (views c.args.kit.now.seeds.items) c.args.places.now c.places-places.result.now (kind_of c.args.index.now) maps c.in-Some.entry i c.id-id.result.0
+    (f.0, f.1, f.2) (c.settle_open.ensures.only i was now) c.id-id.ensures c.places-places.ensures had
+
+pub returns-clause-lost : goal.returns-clause-lost
+returns-clause-lost g c =
+    let f = c.in-Some.ensures in
+    where_map _ _ _ c.settle_open.result
+    (λ x is. first_open c.args.index.now c.args.plan.now c.args.want c.requires.ready.wants c.requires.want c.entries-entries.result.now c.entries-entries.ensures c.args.fates.now f.0 x f.1 (f.2 ∙ sym is.0)
+    (subst (λ (n : ℕ). settled c.args.fates.now n ≡ false) (sym is.0) f.3) f.4 (ap (λ (q : ChunkId). q.0) is.1 ∙ c.id-id.ensures ∙ ap (id_of c.args.index.now) (sym is.0)))
+    c.settle_open.ensures.lost
+
+pub returns-clause-refused : goal.returns-clause-refused
+returns-clause-refused g c =
+    where_both _ _ _ _ (Unit {0}) c.settle_open.result
+    (λ x is told. refused_as g.S.Store.holds g.S.Store.said g.S.Store.faults g.S.Store.may_lack_memory c.args.index.now c.in-Some.entry c.id-id.result x c.args.kit.now.chain.stores c.settle_open.new.chain.stores is.0 is.1 told)
+    c.settle_open.ensures.lost c.settle_open.ensures.refused
+
+pub returns-clause-asked : goal.returns-clause-asked
+returns-clause-asked g c =
+    let f = c.in-Some.ensures in
+    let kept = with_items_is c.args.kit.now.seeds c.settle_open.new.seeds (omega (arith, c.settle_open.auto.seeds, c.deref_mut.ensures.len)) in
+    where_map _ _ _ c.settle_open.result
+    (λ x h. asked_as c.args.index.now c.args.plan.now c.args.want c.requires.ready.wants c.requires.want c.entries-entries.result.now c.entries-entries.ensures g.S.Store.asked g.S.Store.queried g.V.View.held g.V.View.faults c.args.fates.now _ _ c.args.places.now c.places-places.result.now c.in-Some.entry c.id-id.result.0
+    _ _ _ _ _ _ (f.0, f.1, f.2) c.id-id.ensures c.places-places.ensures c.deref_mut.ensures.value (sym kept) h)
+    c.settle_open.ensures.asked
+
+pub returns-clause-asks : goal.returns-clause-asks
+returns-clause-asks g c =
+    let f = c.in-Some.ensures in
+    let kept = with_items_is c.args.kit.now.seeds c.settle_open.new.seeds (omega (arith, c.settle_open.auto.seeds, c.deref_mut.ensures.len)) in
+    ⊎_elim (λ same. inl same)
+    (λ h. inr (asked_as c.args.index.now c.args.plan.now c.args.want c.requires.ready.wants c.requires.want c.entries-entries.result.now c.entries-entries.ensures g.S.Store.asked g.S.Store.queried g.V.View.held g.V.View.faults c.args.fates.now _ _ c.args.places.now c.places-places.result.now c.in-Some.entry c.id-id.result.0
+    _ _ _ _ _ _ (f.0, f.1, f.2) c.id-id.ensures c.places-places.ensures c.deref_mut.ensures.value (sym kept) h))
+    c.settle_open.ensures.asks
+
+pub returns-clause-step : goal.returns-clause-step
+returns-clause-step g c =
+    let kept = with_items_is c.args.kit.now.seeds c.settle_open.new.seeds (omega (arith, c.settle_open.auto.seeds, c.deref_mut.ensures.len)) in
+    let room = with_items_is c.args.kit.now.buffer c.settle_open.new.buf (omega (arith, c.settle_open.auto.buf, c.deref_mut-2.ensures.len)) in
+    let e = c.settle_open.ensures in
+    let seeds = rw c.deref_mut.ensures.value at e.seeds in
+    record {
+      grows = e.grows;
+      bytes = e.bytes;
+      name = e.name;
+      size = e.same_size;
+      never_falls = e.faults;
+      stores = e.stores;
+      kind = e.same_kind;
+      seeds = subst (λ (xs : List (Seed g.row.V.Denot)). KeepsSeeds g.V.View.held g.V.View.faults c.args.kit.now.seeds.items xs) (sym kept) seeds;
+      room = ap (λ (xs : List ℕ). length xs) room ∙ omega (arith, c.settle_open.auto.buf, ap (λ (xs : List ℕ). length xs) c.deref_mut-2.ensures.value);
+    }

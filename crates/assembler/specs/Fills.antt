@@ -1,0 +1,35 @@
+-- How entries of a target are settled. The fates are m0 before and m1 afterwards, the bytes t0 and t1, and the count of
+-- the target's faults goes from old to new.
+use Rattle.std.specs.Prelude.{◌≡◌, ◌⊎◌, ℕ, ◌<◌, List, length, Option, IfSome, Bool, true, false}
+use Rattle.caibx_codec.specs.Listing.{Listing, count_of, slice_of}
+use Rattle.caibx_codec.specs.Right.{IsRightAt}
+use Rattle.dsy_base.specs.Counts.{Rose}
+use Rattle.range_survey.specs.Fates.{fate_at, settled}
+use Rattle.range_survey.specs.declared.fate.Fate.{Fate}
+use Rattle.range_survey.specs.declared.fate.Fate.TheVariants as fate
+
+-- the fates of entries that were made right
+abbrev pub is_made : Fate → Bool
+is_made fate.Open = false
+is_made fate.Kept = false
+is_made fate.Copied = true
+is_made fate.Seeded = true
+is_made fate.Fetched = true
+
+-- a settled entry stays as it is, and one that became settled was made right
+pub record Grows (m0 m1 : List Fate) : Type 0 where
+  pub size : length m1 ≡ length m0
+  pub kept : (i : ℕ) → settled m0 i ≡ true → fate_at m1 i ≡ fate_at m0 i
+  pub made : (i : ℕ) → settled m0 i ≡ false → settled m1 i ≡ true → is_made (fate_at m1 i) ≡ true
+
+-- a settled entry was never written, an entry that became settled is right, and one that stays open has its bytes
+-- unless a write failed
+pub record Fills (l : Listing) (m0 m1 : List Fate) (old new : ℕ) (t0 t1 : List ℕ) : Type 0 where
+  pub size : length t1 ≡ length t0
+  pub kept : (i : ℕ) → i < count_of l → settled m0 i ≡ true → slice_of l t1 i ≡ slice_of l t0 i
+  pub fresh : (i : ℕ) → i < count_of l → settled m0 i ≡ false → settled m1 i ≡ true → IsRightAt t1 l i
+  pub left : (i : ℕ) → i < count_of l → settled m1 i ≡ false → (slice_of l t1 i ≡ slice_of l t0 i) ⊎ Rose old new
+
+-- what holds of an object's bytes before and afterwards, where they are told
+abbrev pub WhereTold : Option (List ℕ) → Option (List ℕ) → (List ℕ → List ℕ → Type 0) → Type 0
+WhereTold old new P = IfSome old (λ t0. IfSome new (P t0))

@@ -1,0 +1,59 @@
+//! The first pass of an assembly: each want once, in rising order.
+
+ghost use Rattle.std.specs.Prelude.{◌≡◌, ℕ, List, IsTrue, ◌<◌, length, map, Some, true};
+ghost use Rattle.assembler.specs.Kits.{Ready, Step};
+ghost use Rattle.assembler.specs.Passes.{HadAt, PassAsks};
+ghost use Rattle.assembler.specs.Sources.{held_in};
+ghost use Rattle.caibx_codec.specs.Listing.{count_of};
+ghost use Rattle.dsy_base.specs.Maps.{Map};
+ghost use Rattle.range_survey.specs.Fates.{settled};
+ghost use Rattle.store_chain.specs.Faults.{EachQuiet};
+
+use crate::fault::Unsettled;
+use crate::kit::Kit;
+use crate::settle::settle;
+use caibx_codec::index::Index;
+use chunk_store::store::Store;
+use dsy_base::fault::Memory;
+use dsy_base::view::{Part, View};
+use extract_plan::plan::Plan;
+use extract_plan::seeds::SeedIndex;
+use range_survey::fate::Fate;
+use store_chain::refused::Refused;
+
+// Whether the stores had no memory, which ends a pass.
+fn lacked_memory(ended: &Result<(), Unsettled>) -> bool {
+    match ended {
+        Err(Unsettled::Lost(lost)) => lost.refused == Refused::Memory,
+        Ok(()) | Err(Unsettled::TargetFault) => false,
+    }
+}
+
+/// Settles the wants in rising order, past those whose chunk no source gives and past writes that fail.
+pub(crate) fn fill<T: Part, S: Store, V: View>(
+    index: &Index,
+    plan: &Plan,
+    places: &SeedIndex,
+    target: &mut T,
+    kit: &mut Kit<S, V>,
+    fates: &mut [Fate],
+) -> Result<(), Memory>
+    requires ready { Ready index.now plan.now places.now (T.held target.old) kit.old.chain.kind
+        (length kit.old.seeds.items) (length kit.old.buffer.items) fates.old }
+    ensures had { IsTrue V.tells → (maps : List (Map (List ℕ))) → map S.holds kit.old.chain.stores ≡ map Some maps →
+        EachQuiet (map S.faults kit.old.chain.stores) (map S.faults kit.new.chain.stores) →
+        (i : ℕ) → i < count_of index.now → settled fates.new i ≡ true → HadAt index.now plan.now places.now fates.old
+        (map (held_in V.held) kit.old.seeds.items) maps i }
+    ensures asks { PassAsks S.asked V.held V.faults index.now plan.now places.now fates.old
+        (T.faults target.old) (T.faults target.new) kit.old kit.new }
+    ensures step { Step T.held T.faults S.holds S.folder S.place S.said S.faults V.held V.faults index.now
+        target.old kit.old fates.old target.new kit.new fates.new }
+{
+    for want in 0..plan.wants() {
+        let ended = settle(index, plan, places, want, target, kit, fates);
+        if lacked_memory(&ended) {
+            return Err(Memory);
+        }
+    }
+    Ok(())
+}

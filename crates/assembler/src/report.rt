@@ -1,0 +1,60 @@
+//! What an assembly did, in numbers of entries.
+
+ghost use Rattle.std.specs.Prelude.{◌≡◌, ℕ, ◌+◌, ◌<◌, length, true};
+ghost use Rattle.assembler.specs.Reports.{tally};
+ghost use Rattle.range_survey.specs.Fates.{settled};
+ghost use Rattle.range_survey.specs.declared.fate.Fate.TheVariants as fate;
+
+use range_survey::fate::Fate;
+
+/// How many entries of an index were made right in which way.
+#[derive(Clone, Copy, Debug, PartialEq, Eq)]
+pub struct Report {
+    /// Entries that were right before the first write.
+    pub kept: u64,
+    /// Entries whose bytes were copied from an alike entry.
+    pub copied: u64,
+    /// Wants whose chunk a seed gave.
+    pub seeded: u64,
+    /// Wants whose chunk a cache gave.
+    pub cached: u64,
+    /// Wants whose chunk a store gave.
+    pub fetched: u64,
+}
+
+impl Report {
+    fn new() -> Report
+        ensures { result ≡ record { kept = 0; copied = 0; seeded = 0; cached = 0; fetched = 0 } }
+    {
+        Report {
+            kept: 0,
+            copied: 0,
+            seeded: 0,
+            cached: 0,
+            fetched: 0,
+        }
+    }
+
+    /// The numbers of entries with each fate.
+    pub(crate) fn of(fates: &[Fate]) -> Report
+        ensures kept { result.kept ≡ tally fate.Kept fates.now (length fates.now) }
+        ensures copied { result.copied ≡ tally fate.Copied fates.now (length fates.now) }
+        ensures seeded { result.seeded ≡ tally fate.Seeded fates.now (length fates.now) }
+        ensures cached { result.cached ≡ 0 }
+        ensures fetched { result.fetched ≡ tally fate.Fetched fates.now (length fates.now) }
+        ensures all { ((i : ℕ) → i < length fates.now → settled fates.now i ≡ true) →
+            result.kept + result.copied + result.seeded + result.cached + result.fetched ≡ length fates.now }
+    {
+        let mut report = Report::new();
+        for i in 0..fates.len() {
+            match fates[i] {
+                Fate::Open => {}
+                Fate::Kept => report.kept += 1,
+                Fate::Copied => report.copied += 1,
+                Fate::Seeded => report.seeded += 1,
+                Fate::Fetched => report.fetched += 1,
+            }
+        }
+        report
+    }
+}

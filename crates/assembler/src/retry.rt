@@ -1,0 +1,91 @@
+//! The second pass of an assembly: the entries that are still open, in rising order, each want once.
+
+ghost use Rattle.std.specs.Prelude.{◌≡◌, ◌⊎◌, ℕ, List, IsTrue, ◌<◌, length, map, Some, OnOk, IfErr, true, false};
+ghost use Rattle.assembler.specs.Kits.{Ready, Step};
+ghost use Rattle.assembler.specs.Passes.{EndsBy, HadAt, IsLost, PassAsks, want_at};
+ghost use Rattle.assembler.specs.Sources.{held_in};
+ghost use Rattle.assembler.specs.declared.fault.ExtractFault.TheVariants as faults;
+ghost use Rattle.assembler.specs.declared.fault.Lost.{Lost};
+ghost use Rattle.caibx_codec.specs.Listing.{count_of};
+ghost use Rattle.dsy_base.specs.Counts.{Rose};
+ghost use Rattle.dsy_base.specs.Maps.{Map};
+ghost use Rattle.range_survey.specs.Fates.{settled};
+ghost use Rattle.store_chain.specs.Faults.{EachQuiet};
+
+use crate::fault::{ExtractFault, Lost, Unsettled};
+use crate::kit::Kit;
+use crate::settle::settle;
+use caibx_codec::index::Index;
+use chunk_store::store::Store;
+use dsy_base::view::{Part, View};
+use extract_plan::plan::Plan;
+use extract_plan::seeds::SeedIndex;
+use range_survey::fate::Fate;
+use std::alloc::{AllocError, Global};
+use store_chain::refused::Refused;
+
+/// Settles the open entries in rising order, with each want once. Goes on past a want whose chunk no source gives, and
+/// then answers for the first such entry. A write that fails and want of memory end it.
+pub(crate) fn retry<T: Part, S: Store, V: View>(
+    alloc: Global,
+    index: &Index,
+    plan: &Plan,
+    places: &SeedIndex,
+    target: &mut T,
+    kit: &mut Kit<S, V>,
+    fates: &mut [Fate],
+) -> Result<(), ExtractFault>
+    requires ready { Ready index.now plan.now places.now (T.held target.old) kit.old.chain.kind
+        (length kit.old.seeds.items) (length kit.old.buffer.items) fates.old }
+    ensures ok { OnOk result ((i : ℕ) → i < count_of index.now → settled fates.new i ≡ true) }
+    // The first lost entry is named: all entries before it are settled.
+    ensures first { EndsBy (λ lost. IsLost S.holds S.folder S.place S.said S.faults S.may_lack_memory V.held V.faults
+        index.now plan.now places.now fates.old (T.faults target.old) (T.faults target.new) kit.old kit.new lost
+        × ((i : ℕ) → i < lost.entry → settled fates.new i ≡ true))
+        (Rose (T.faults target.old) (T.faults target.new)) result }
+    // Each entry that is left open is lost, unless the pass was ended by a write that failed or for want of memory.
+    ensures left { IfErr result (λ e. (e ≡ ExtractFault.Memory) ⊎ (Rose (T.faults target.old) (T.faults target.new)
+        ⊎ ((i : ℕ) → i < count_of index.now → settled fates.new i ≡ false → (lost : Lost)
+        × (want_at plan.now lost.entry ≡ want_at plan.now i)
+        × IsLost S.holds S.folder S.place S.said S.faults S.may_lack_memory V.held V.faults index.now plan.now
+        places.now fates.old (T.faults target.old) (T.faults target.new) kit.old kit.new lost))) }
+    ensures had { IsTrue V.tells → (maps : List (Map (List ℕ))) → map S.holds kit.old.chain.stores ≡ map Some maps →
+        EachQuiet (map S.faults kit.old.chain.stores) (map S.faults kit.new.chain.stores) →
+        (i : ℕ) → i < count_of index.now → settled fates.new i ≡ true → HadAt index.now plan.now places.now fates.old
+        (map (held_in V.held) kit.old.seeds.items) maps i }
+    ensures asks { PassAsks S.asked V.held V.faults index.now plan.now places.now fates.old
+        (T.faults target.old) (T.faults target.new) kit.old kit.new }
+    ensures step { Step T.held T.faults S.holds S.folder S.place S.said S.faults V.held V.faults index.now
+        target.old kit.old fates.old target.new kit.new fates.new }
+{
+    let Ok(mut tried) = vec![in alloc; false; plan.wants()] else {
+        return Err(ExtractFault::Memory);
+    };
+    let mut first = None::<Lost>;
+    for entry in 0..index.count() {
+        let want = plan.want_of(entry);
+        if fates[entry].is_settled() || tried[want] {
+            continue;
+        }
+        tried[want] = true;
+        match settle(index, plan, places, want, target, kit, fates) {
+            Ok(()) => {}
+            Err(Unsettled::Lost(lost)) => {
+                if lost.refused == Refused::Memory {
+                    return Err(ExtractFault::Memory);
+                }
+                first = first.or(Some(lost));
+            }
+            Err(Unsettled::TargetFault) => {
+                return Err(match first {
+                    Some(lost) => lost.fault(),
+                    None => ExtractFault::TargetFault,
+                });
+            }
+        }
+    }
+    match first {
+        Some(lost) => Err(lost.fault()),
+        None => Ok(()),
+    }
+}

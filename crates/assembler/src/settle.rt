@@ -1,0 +1,160 @@
+//! Settling the entries of one want.
+
+ghost use Rattle.std.specs.Prelude.{◌≡◌, ◌⊎◌, ℕ, List, IsTrue, ◌<◌, ◌≤◌, length, map, slice_index, Some, IfSome, OnOk, MatchOption, true, false};
+ghost use Rattle.assembler.specs.Fills.{Fills, Grows, WhereTold};
+ghost use Rattle.assembler.specs.Kits.{KeepsSeeds, Ready, Step};
+ghost use Rattle.assembler.specs.Losses.{AskedLast, Had, IsFirstOpen, RefusedBy, Where, chunk_of, lost_want};
+ghost use Rattle.assembler.specs.Sources.{PlacesFit, held_in};
+ghost use Rattle.assembler.specs.Wants.{AllOf, IsAmong, of_want, want_id};
+ghost use Rattle.caibx_codec.specs.Listing.{count_of, id_of, kind_of, size_of, image_length};
+ghost use Rattle.dsy_base.specs.Counts.{Rose};
+ghost use Rattle.dsy_base.specs.Maps.{Map};
+ghost use Rattle.extract_plan.specs.Places.{places_at};
+ghost use Rattle.range_survey.specs.Fates.{SettledRight, settled};
+ghost use Rattle.store_chain.specs.Chains.{KeepsStores};
+ghost use Rattle.store_chain.specs.Faults.{EachQuiet};
+
+use crate::fault::{Lost, Unsettled};
+use crate::kit::Kit;
+use crate::obtain::{Sought, obtain};
+use crate::put::put;
+use caibx_codec::index::Index;
+use chunk_store::store::Store;
+use dsy_base::fault::Failed;
+use dsy_base::view::{Part, View};
+use extract_plan::plan::Plan;
+use extract_plan::seed::Seed;
+use extract_plan::seeds::SeedIndex;
+use range_survey::fate::Fate;
+use store_chain::chain::Chain;
+
+// The first of these entries that is open.
+fn first_open(entries: &[u32], fates: &[Fate]) -> Option<usize>
+    requires { (k : ℕ) → k < length entries.now → slice_index entries.now k < length fates.now }
+    ensures { MatchOption result
+        ((k : ℕ) → k < length entries.now → settled fates.now (slice_index entries.now k) ≡ true)
+        (λ i. (k : ℕ) × (k < length entries.now) × (slice_index entries.now k ≡ i) × (settled fates.now i ≡ false)
+        × ((j : ℕ) → j < k → settled fates.now (slice_index entries.now j) ≡ true)) }
+{
+    for entry in entries {
+        let i = *entry as usize;
+        if !fates[i].is_settled() {
+            return Some(i);
+        }
+    }
+    None
+}
+
+// Makes the open ones of the entries that are sought right, of which `entry` is the first.
+fn settle_open<T: Part, S: Store, V: View>(
+    index: &Index,
+    sought: &Sought<'_>,
+    entry: usize,
+    fates: &mut [Fate],
+    target: &mut T,
+    seeds: &mut [Seed<V>],
+    chain: &mut Chain<S>,
+    buf: &mut [u8],
+) -> Result<(), Unsettled>
+    requires entries { AllOf index.now sought.now.id.0 (size_of index.now entry) sought.now.entries.now }
+    requires listed { entry < count_of index.now }
+    requires places { PlacesFit (length seeds.old) (size_of index.now entry) sought.now.places.now }
+    requires kind { chain.old.kind ≡ kind_of index.now }
+    requires room { size_of index.now entry ≤ length buf.old }
+    requires size { (T.held target.old).size ≡ image_length index.now }
+    requires fates { length fates.old ≡ count_of index.now }
+    requires right { IfSome (T.held target.old).bytes (λ t. SettledRight index.now t fates.old (count_of index.now)) }
+    ensures ok { OnOk result ((i : ℕ) → IsAmong sought.now.entries.now i → settled fates.new i ≡ true) }
+    ensures only { (i : ℕ) → settled fates.old i ≡ false → settled fates.new i ≡ true →
+        IsAmong sought.now.entries.now i }
+    ensures had { IsTrue V.tells → (maps : List (Map (List ℕ))) → map S.holds chain.old.stores ≡ map Some maps →
+        EachQuiet (map S.faults chain.old.stores) (map S.faults chain.new.stores) →
+        (i : ℕ) → settled fates.old i ≡ false → settled fates.new i ≡ true →
+        Had fates.old sought.now.entries.now (map (held_in V.held) seeds.old) sought.now.places.now
+        (kind_of index.now) sought.now.id.0 (size_of index.now entry) maps }
+    ensures lost { Where (λ x. (x.entry ≡ entry) × (x.id ≡ sought.now.id))
+        (Rose (T.faults target.old) (T.faults target.new)) result }
+    ensures refused { Where (λ x. RefusedBy S.holds S.said S.faults S.may_lack_memory
+        (chunk_of (kind_of index.now) sought.now.id (size_of index.now entry)) chain.old.stores chain.new.stores
+        x.refused) (Unit {0}) result }
+    ensures asked { Where (λ x. AskedLast S.asked S.queried V.held V.faults sought.now.id.0 fates.old
+        sought.now.entries.now sought.now.places.now (T.faults target.old) (T.faults target.new) seeds.old seeds.new
+        chain.old chain.new) (Unit {0}) result }
+    ensures asks { (chain.new ≡ chain.old) ⊎ AskedLast S.asked S.queried V.held V.faults sought.now.id.0 fates.old
+        sought.now.entries.now sought.now.places.now (T.faults target.old) (T.faults target.new) seeds.old seeds.new
+        chain.old chain.new }
+
+    ensures grows { Grows fates.old fates.new }
+    ensures bytes { WhereTold (T.held target.old).bytes (T.held target.new).bytes
+        (Fills index.now fates.old fates.new (T.faults target.old) (T.faults target.new)) }
+    ensures name { (T.held target.new).name ≡ (T.held target.old).name }
+    ensures same_size { (T.held target.new).size ≡ (T.held target.old).size }
+    ensures faults { T.faults target.old ≤ T.faults target.new }
+    ensures seeds { KeepsSeeds V.held V.faults seeds.old seeds.new }
+    ensures stores { KeepsStores S.holds S.folder S.place S.said S.faults chain.old.stores chain.new.stores }
+    ensures same_kind { chain.new.kind ≡ chain.old.kind }
+{
+    let (chunk, _) = buf.split_at_mut(index.entry(entry).size);
+    let id = sought.id;
+    match obtain(index, sought, fates, target, seeds, chain, chunk) {
+        Err(refused) => Err(Unsettled::Lost(Lost { entry, id, refused })),
+        Ok(origin) => match put(index, sought.entries, chunk, origin, target, fates) {
+            Ok(()) => Ok(()),
+            Err(Failed) => Err(Unsettled::TargetFault),
+        },
+    }
+}
+
+/// Makes the open entries of a want right, and leaves all others.
+pub(crate) fn settle<T: Part, S: Store, V: View>(
+    index: &Index,
+    plan: &Plan,
+    places: &SeedIndex,
+    want: usize,
+    target: &mut T,
+    kit: &mut Kit<S, V>,
+    fates: &mut [Fate],
+) -> Result<(), Unsettled>
+    requires ready { Ready index.now plan.now places.now (T.held target.old) kit.old.chain.kind
+        (length kit.old.seeds.items) (length kit.old.buffer.items) fates.old }
+    requires want { want < plan.now.wants }
+    ensures ok { OnOk result ((i : ℕ) → IsAmong (of_want plan.now want) i → settled fates.new i ≡ true) }
+    ensures only { (i : ℕ) → settled fates.old i ≡ false → settled fates.new i ≡ true →
+        IsAmong (of_want plan.now want) i }
+    ensures had { IsTrue V.tells → (maps : List (Map (List ℕ))) → map S.holds kit.old.chain.stores ≡ map Some maps →
+        EachQuiet (map S.faults kit.old.chain.stores) (map S.faults kit.new.chain.stores) →
+        (i : ℕ) → settled fates.old i ≡ false → settled fates.new i ≡ true →
+        Had fates.old (of_want plan.now want) (map (held_in V.held) kit.old.seeds.items) (places_at places.now want)
+        (kind_of index.now) (id_of index.now i) (size_of index.now i) maps }
+    ensures lost { Where (IsFirstOpen index.now fates.old (of_want plan.now want))
+        (Rose (T.faults target.old) (T.faults target.new)) result }
+    ensures refused { Where (λ x. RefusedBy S.holds S.said S.faults S.may_lack_memory (lost_want index.now x)
+        kit.old.chain.stores kit.new.chain.stores x.refused) (Unit {0}) result }
+    ensures asked { Where (λ x. AskedLast S.asked S.queried V.held V.faults (want_id index.now plan.now want) fates.old
+        (of_want plan.now want) (places_at places.now want) (T.faults target.old) (T.faults target.new)
+        kit.old.seeds.items kit.new.seeds.items kit.old.chain kit.new.chain) (Unit {0}) result }
+    ensures asks { (kit.new.chain ≡ kit.old.chain) ⊎ AskedLast S.asked S.queried V.held V.faults
+        (want_id index.now plan.now want) fates.old (of_want plan.now want) (places_at places.now want)
+        (T.faults target.old) (T.faults target.new) kit.old.seeds.items kit.new.seeds.items kit.old.chain
+        kit.new.chain }
+    ensures step { Step T.held T.faults S.holds S.folder S.place S.said S.faults V.held V.faults index.now
+        target.old kit.old fates.old target.new kit.new fates.new }
+{
+    let entries = plan.entries(want);
+    let Some(entry) = first_open(entries, fates) else {
+        return Ok(());
+    };
+    let id = index.id(entry);
+    let places = places.places(want);
+    let sought = Sought {
+        id,
+        entries,
+        places,
+    };
+    let Kit {
+        chain,
+        seeds,
+        buffer,
+    } = kit;
+    settle_open(index, &sought, entry, fates, target, seeds, chain, buffer)
+}
