@@ -86,7 +86,7 @@ def print_table(rows, size):
 
 
 def print_line(what, seconds, size, base, at_most=None, peak=''):
-    wanted = '' if at_most is None else f'{at_most:.1f}'
+    wanted = '' if at_most is None else f'{at_most:.2f}'
     print(f'{what:44} {seconds:8.3f} {size / seconds / 1e6:8.1f} {seconds / base:7.2f} {wanted:>8} {peak:>9}')
 
 
