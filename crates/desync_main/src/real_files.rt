@@ -5,7 +5,7 @@ ghost use Rattle.std.specs.Map.{count_at};
 ghost use Rattle.dsy_base.specs.Counts.{Rose, Counted};
 ghost use Rattle.dsy_base.specs.Slots.{counts_in};
 
-use crate::real_folder::{RealFolder, put_file};
+use crate::real_folder::{RealFolder, put_file, remove_file};
 use crate::real_target::RealTarget;
 use crate::real_view::RealView;
 use dsy_base::fault::{IoFault, OpenFault};
@@ -72,21 +72,30 @@ fn temporary_beside(alloc: Global, name: &str) -> Result<String, AllocError> {
     Ok(path)
 }
 
+// Refuses a name under which something stands that is no file.
+fn refuse_others<R: System<File = File>>(rt: &R, name: &str) -> io::Result<()> {
+    match stat(rt, name) {
+        Found::File(_) | Found::Nothing => Ok(()),
+        Found::Folder | Found::Other => Err(io::Error::from(ErrorKind::Other)),
+    }
+}
+
+// Whether the name is a symbolic link.
+fn is_link<R: System<File = File>>(rt: &R, name: &str) -> bool {
+    match fs::symlink_metadata(rt, name) {
+        Ok(metadata) => metadata.is_symlink(),
+        Err(_) => false,
+    }
+}
+
 // Puts `b` in the place of the file, or of the file that the name links to.
 fn replace_file<R: System<File = File> + AllocGlobal>(
     rt: &R,
     name: &str,
     b: &[u8],
 ) -> io::Result<()> {
-    match stat(rt, name) {
-        Found::File(_) | Found::Nothing => {}
-        Found::Folder | Found::Other => return Err(io::Error::from(ErrorKind::Other)),
-    }
-    let is_link = match fs::symlink_metadata(rt, name) {
-        Ok(metadata) => metadata.is_symlink(),
-        Err(_) => false,
-    };
-    if is_link {
+    refuse_others(rt, name)?;
+    if is_link(rt, name) {
         let path = fs::canonicalize(rt, name)?;
         let temporary = temporary_beside(rt.alloc(), path.as_str())?;
         put_file(rt, rt.alloc(), path.as_str(), temporary.as_str(), b)?;
@@ -95,6 +104,20 @@ fn replace_file<R: System<File = File> + AllocGlobal>(
     let temporary = temporary_beside(rt.alloc(), name)?;
     put_file(rt, rt.alloc(), name, temporary.as_str(), b)?;
     Ok(())
+}
+
+// Puts the file in the place of the other, or of the file that the other name links to.
+fn rename_file<R: System<File = File> + AllocGlobal>(
+    rt: &R,
+    from: &str,
+    to: &str,
+) -> io::Result<()> {
+    refuse_others(rt, to)?;
+    if is_link(rt, to) {
+        let path = fs::canonicalize(rt, to)?;
+        return fs::rename(rt, from, path.as_str());
+    }
+    fs::rename(rt, from, to)
 }
 
 // Makes room for the name's number.
@@ -202,6 +225,36 @@ impl<'a, R: System<File = File> + AllocGlobal + Clone + Drop> Files for RealFile
             Err(_) => {
                 fail(&mut self.files, name);
                 Err(IoFault::Failed)
+            }
+        }
+    }
+
+    fn rename(&mut self, from: &str, to: &str) -> Result<(), OpenFault> {
+        if claim(self.alloc, &mut self.files, to).is_err() {
+            return Err(OpenFault::Memory);
+        }
+        let renamed = match stat(self.rt, from) {
+            Found::File(_) => rename_file(self.rt, from, to).is_ok(),
+            Found::Nothing => return Err(OpenFault::Absent),
+            Found::Folder | Found::Other => false,
+        };
+        if !renamed {
+            fail(&mut self.files, to);
+            return Err(OpenFault::Failed);
+        }
+        Ok(())
+    }
+
+    fn remove(&mut self, name: &str) -> Result<(), OpenFault> {
+        if claim(self.alloc, &mut self.files, name).is_err() {
+            return Err(OpenFault::Memory);
+        }
+        match remove_file(self.rt, name) {
+            Ok(true) => Ok(()),
+            Ok(false) => Err(OpenFault::Absent),
+            Err(_) => {
+                fail(&mut self.files, name);
+                Err(OpenFault::Failed)
             }
         }
     }

@@ -228,8 +228,8 @@ fn put_in<R: Files<File = File>>(
     Err(io::Error::from(ErrorKind::NotFound))
 }
 
-// Removes the file of this path.
-fn remove_file<R: Files<File = File>>(rt: &R, path: &str) -> Result<bool, IoFault> {
+/// Removes the file of this path, or the link, and answers whether there was one. A folder there is refused.
+pub fn remove_file<R: Files<File = File>>(rt: &R, path: &str) -> Result<bool, IoFault> {
     match fs::remove_file(rt, path) {
         Ok(()) => Ok(true),
         Err(error) if is_absence(&error) => Ok(false),

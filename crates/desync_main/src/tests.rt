@@ -7,6 +7,7 @@ use dsy_base::folder::Folder;
 use dsy_base::look::Look;
 use dsy_base::view::{Part, Target, View};
 use std::alloc::AllocError;
+use std::os::unix::fs::symlink;
 use std::test::Fail;
 use std::time::SystemTime;
 use std::{env, fs};
@@ -47,6 +48,63 @@ fn a_file_holds_what_was_written(rt: HostRuntime) -> Result<(), Fail> {
     assert!(rt; view.read_at(0, &mut all).is_ok());
     assert_eq!(rt; all, *b"xyz");
     files.end_view(view);
+    fs::remove_dir_all(&rt, folder.as_str())?;
+    Ok(())
+}
+
+// Renames a file, where the names differ.
+fn rename<F: Files>(files: &mut F, from: &str, to: &str) -> Result<(), OpenFault> {
+    if from == to {
+        return Err(OpenFault::Failed);
+    }
+    files.rename(from, to)
+}
+
+#[test]
+fn a_renamed_file_takes_the_place_of_the_other(rt: HostRuntime) -> Result<(), Fail> {
+    let folder = fresh_folder(&rt, "renamed")?;
+    let from = inside(&rt, folder.as_str(), "from")?;
+    let to = inside(&rt, folder.as_str(), "to")?;
+    let link = inside(&rt, folder.as_str(), "link")?;
+    let mut files = RealFiles::new(&rt, rt.alloc());
+    assert!(rt; files.replace(from.as_str(), b"1").is_ok());
+    assert_eq!(rt; rename(&mut files, from.as_str(), to.as_str()), Ok(()));
+    assert_eq!(rt;
+        rename(&mut files, from.as_str(), to.as_str()),
+        Err(OpenFault::Absent)
+    );
+    // Through a link the file that it leads to is replaced, and the link stays.
+    symlink(&rt, "to", link.as_str())?;
+    assert!(rt; files.replace(from.as_str(), b"12").is_ok());
+    assert_eq!(rt; rename(&mut files, from.as_str(), link.as_str()), Ok(()));
+    assert_eq!(rt; fs::metadata(&rt, to.as_str())?.len(), 2);
+    assert!(rt; fs::symlink_metadata(&rt, link.as_str())?.is_symlink());
+    assert_eq!(rt;
+        rename(&mut files, to.as_str(), folder.as_str()),
+        Err(OpenFault::Failed)
+    );
+    assert_eq!(rt;
+        rename(&mut files, folder.as_str(), to.as_str()),
+        Err(OpenFault::Failed)
+    );
+    fs::remove_dir_all(&rt, folder.as_str())?;
+    Ok(())
+}
+
+#[test]
+fn a_removed_link_leaves_the_file(rt: HostRuntime) -> Result<(), Fail> {
+    let folder = fresh_folder(&rt, "removed")?;
+    let name = inside(&rt, folder.as_str(), "file")?;
+    let link = inside(&rt, folder.as_str(), "link")?;
+    let mut files = RealFiles::new(&rt, rt.alloc());
+    assert!(rt; files.replace(name.as_str(), b"kept").is_ok());
+    symlink(&rt, "file", link.as_str())?;
+    assert_eq!(rt; files.remove(link.as_str()), Ok(()));
+    assert_eq!(rt; files.remove(link.as_str()), Err(OpenFault::Absent));
+    assert!(rt; files.view(name.as_str()).is_ok());
+    assert_eq!(rt; files.remove(name.as_str()), Ok(()));
+    assert_eq!(rt; files.remove(name.as_str()), Err(OpenFault::Absent));
+    assert_eq!(rt; files.remove(folder.as_str()), Err(OpenFault::Failed));
     fs::remove_dir_all(&rt, folder.as_str())?;
     Ok(())
 }

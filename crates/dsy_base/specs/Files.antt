@@ -9,3 +9,7 @@ OpenGives {X} there P (Ok v) = (x : X) × (there ≡ Some x) × P v x
 OpenGives there P (Err opens.Absent) = there ≡ None
 OpenGives there P (Err opens.Failed) = Unit {0}
 OpenGives there P (Err opens.Memory) = Unit {0}
+
+-- a call on what stands under the name, which gives nothing: Absent exactly where there is nothing
+abbrev pub FoundThere : {X V : Type 0} → Option X → Result V OpenFault → Type 0
+FoundThere there result = OpenGives there (λ _ _. Unit {0}) result

@@ -1,12 +1,12 @@
 //! Files and folders by their names. What is taken under a name isn't there until it is given back.
 
-ghost use Rattle.std.specs.Prelude.{◌≡◌, ℕ, Bool, IsTrue, List, [], Option, Some, None, IfSome, IfOk, OnOk, OnErr};
+ghost use Rattle.std.specs.Prelude.{◌≡◌, ◌≢◌, ℕ, Bool, IsTrue, List, [], Option, Some, None, IfSome, IfOk, OnOk, OnErr};
 ghost use Rattle.std.specs.Prelude.{IsSome, is_some, if◌then◌else◌, unwrap_or};
 ghost use Rattle.std.specs.Map.{count_at};
 ghost use Rattle.std.specs.Option.{option_map};
 ghost use Rattle.dsy_base.specs.Counts.{CountsFaults};
 ghost use Rattle.dsy_base.specs.Disk.{Disk, HoldsSame, OnFile, OnFolder, GivesFile, GivesFolder};
-ghost use Rattle.dsy_base.specs.Files.{OpenGives};
+ghost use Rattle.dsy_base.specs.Files.{OpenGives, FoundThere};
 ghost use Rattle.dsy_base.specs.Maps.{Map, at_name};
 
 use crate::fault::{IoFault, OpenFault};
@@ -81,6 +81,28 @@ pub trait Files: Drop {
         ensures err { OnErr result ((disk self.new).files ≡ (disk self.old).files) }
         ensures counts { OnFile (disk self.old) (disk self.new) name.now }
         ensures faults { CountsFaults IoFault.Failed IoFault.Memory (count_at (disk self.old).file_counts name.now)
+            (count_at (disk self.new).file_counts name.now) result };
+
+    /// Gives the file another name, in the place of what that held.
+    fn rename(&mut self, from: &str, to: &str) -> Result<(), OpenFault>
+        requires { from.now ≢ to.now }
+        ensures found { IfSome (disk self.old).files (λ m. FoundThere (m from.now) result) }
+        ensures ok { OnOk result ((disk self.new).files ≡ option_map
+            (λ m. at_name (at_name m to.now (m from.now)) from.now None) (disk self.old).files) }
+        ensures err { OnErr result ((disk self.new).files ≡ (disk self.old).files) }
+        ensures counts { OnFile (disk self.old) (disk self.new) to.now }
+        ensures known { OnOk result (IsSome ((disk self.new).file_counts to.now)) }
+        ensures faults { CountsFaults OpenFault.Failed OpenFault.Memory (count_at (disk self.old).file_counts to.now)
+            (count_at (disk self.new).file_counts to.now) result };
+
+    /// Removes the file.
+    fn remove(&mut self, name: &str) -> Result<(), OpenFault>
+        ensures found { IfSome (disk self.old).files (λ m. FoundThere (m name.now) result) }
+        ensures ok { OnOk result ((disk self.new).files ≡ option_map (λ m. at_name m name.now None)
+            (disk self.old).files) }
+        ensures err { OnErr result ((disk self.new).files ≡ (disk self.old).files) }
+        ensures counts { OnFile (disk self.old) (disk self.new) name.now }
+        ensures faults { CountsFaults OpenFault.Failed OpenFault.Memory (count_at (disk self.old).file_counts name.now)
             (count_at (disk self.new).file_counts name.now) result };
 
     /// A look at the folder as it is now.

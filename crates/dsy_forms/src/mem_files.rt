@@ -6,7 +6,7 @@ ghost use Rattle.std.specs.BTreeMap.{get_by_text};
 ghost use Rattle.std.specs.Map.{count_at};
 ghost use Rattle.std.specs.Option.{option_map};
 ghost use Rattle.dsy_base.specs.Counts.{Counted, CountsFaults};
-ghost use Rattle.dsy_base.specs.Files.{OpenGives};
+ghost use Rattle.dsy_base.specs.Files.{OpenGives, FoundThere};
 ghost use Rattle.dsy_base.specs.Maps.{at_name};
 ghost use Rattle.dsy_forms.specs.MemFiles.{files_in, folders_in, files_of, folders_of, file_counts_of};
 ghost use Rattle.dsy_forms.specs.MemFiles.{folder_counts_of};
@@ -192,6 +192,16 @@ impl Files for MemFiles {
         Ok(())
     }
 
+    fn rename(&mut self, from: &str, to: &str) -> Result<(), OpenFault> {
+        call_on(self.alloc, &mut self.files, &mut self.calls, to)?;
+        rename_file(&mut self.files, from, to)
+    }
+
+    fn remove(&mut self, name: &str) -> Result<(), OpenFault> {
+        call_on(self.alloc, &mut self.files, &mut self.calls, name)?;
+        remove_file(&mut self.files, name)
+    }
+
     fn look(&mut self, name: &str) -> Result<MemLook, OpenFault> {
         call_on(self.alloc, &mut self.folders, &mut self.calls, name)?;
         let Ok(place) = Name::of(self.alloc, name) else {
@@ -302,6 +312,53 @@ fn replace_file(
 {
     let fails = take_file(alloc, files, coming, name).fails;
     put_file(files, name, MemFile { bytes, fails });
+}
+
+// Takes out the file under the name, with the calls on it that are to fail.
+fn take_file_out(files: &mut Slots<MemFile>, name: &str) -> Option<MemFile>
+    ensures value { option_map (λ f. f.bytes.items) result ≡ files_in files.old name.now }
+    ensures files { (q : List ℕ) → files_in files.new q
+        ≡ at_name (files_in files.old) name.now None q }
+    ensures counts { (q : List ℕ) → counts_in files.new q ≡ counts_in files.old q }
+{
+    take_out(files, name)
+}
+
+// Puts the file that stands under `from` under `to`.
+#[tactic(auto, using(crate::proofs::Updates::at_absent, crate::proofs::Updates::at_renamed))]
+fn rename_file(files: &mut Slots<MemFile>, from: &str, to: &str) -> Result<(), OpenFault>
+    requires apart { from.now ≢ to.now }
+    requires known { IsSome (counts_in files.old to.now) }
+    ensures found { FoundThere (files_in files.old from.now) result }
+    ensures ok { OnOk result ((q : List ℕ) → files_in files.new q
+        ≡ at_name (at_name (files_in files.old) to.now (files_in files.old from.now)) from.now None q) }
+    ensures err { OnErr result ((q : List ℕ) → files_in files.new q ≡ files_in files.old q) }
+    ensures counts { (q : List ℕ) → counts_in files.new q ≡ counts_in files.old q }
+    ensures only { OnErr result (result ≡ Err OpenFault.Absent) }
+{
+    match take_file_out(files, from) {
+        Some(file) => {
+            put_file(files, to, file);
+            Ok(())
+        }
+        None => Err(OpenFault::Absent),
+    }
+}
+
+// Takes out the file under the name, for good.
+#[tactic(auto, using(crate::proofs::Updates::at_absent))]
+fn remove_file(files: &mut Slots<MemFile>, name: &str) -> Result<(), OpenFault>
+    ensures found { FoundThere (files_in files.old name.now) result }
+    ensures ok { OnOk result ((q : List ℕ) → files_in files.new q
+        ≡ at_name (files_in files.old) name.now None q) }
+    ensures err { OnErr result ((q : List ℕ) → files_in files.new q ≡ files_in files.old q) }
+    ensures counts { (q : List ℕ) → counts_in files.new q ≡ counts_in files.old q }
+    ensures only { OnErr result (result ≡ Err OpenFault.Absent) }
+{
+    match take_file_out(files, name) {
+        Some(_) => Ok(()),
+        None => Err(OpenFault::Absent),
+    }
 }
 
 // Puts a folder under the name.

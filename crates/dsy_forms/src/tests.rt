@@ -107,6 +107,51 @@ fn files_are_absent_while_taken<F: Files, R: Abort>(
     Ok(())
 }
 
+fn a_renamed_file_takes_the_place_of_the_other<F: Files, R: Abort>(
+    rt: &R,
+    alloc: Global,
+    files: &mut F,
+) -> Result<(), Fail> {
+    files.replace("a", b"new")?;
+    files.replace("b", b"old")?;
+    assert_eq!(rt; files.rename("a", "b"), Ok(()));
+    assert_eq!(rt; files.view("a").err(), Some(OpenFault::Absent));
+    assert!(rt; file_holds(alloc, files, "b", b"new")?);
+    assert_eq!(rt; files.rename("a", "b"), Err(OpenFault::Absent));
+    assert!(rt; file_holds(alloc, files, "b", b"new")?);
+    Ok(())
+}
+
+fn a_removed_file_is_absent<F: Files, R: Abort>(
+    rt: &R,
+    alloc: Global,
+    files: &mut F,
+) -> Result<(), Fail> {
+    files.replace("a", b"gone")?;
+    files.replace("b", b"stays")?;
+    for want in [Ok(()), Err(OpenFault::Absent)] {
+        assert_eq!(rt; files.remove("a"), want);
+        assert_eq!(rt; files.view("a").err(), Some(OpenFault::Absent));
+        assert!(rt; file_holds(alloc, files, "b", b"stays")?);
+    }
+    Ok(())
+}
+
+fn a_taken_file_is_not_renamed<F: Files, R: Abort>(
+    rt: &R,
+    alloc: Global,
+    files: &mut F,
+) -> Result<(), Fail> {
+    files.replace("a", b"taken")?;
+    let t = files.take("a", false)?;
+    assert_eq!(rt; files.rename("a", "b"), Err(OpenFault::Absent));
+    files.replace("b", b"new")?;
+    files.rename("b", "a")?;
+    files.give("a", t);
+    assert!(rt; file_holds(alloc, files, "a", b"taken")?);
+    Ok(())
+}
+
 #[test]
 fn targets_and_views_without_failing_calls(rt: HostRuntime) -> Result<(), Fail> {
     let alloc = rt.alloc();
@@ -132,6 +177,45 @@ fn files_without_failing_calls(rt: HostRuntime) -> Result<(), Fail> {
         files.replace("f", b"old")?;
         files_are_absent_while_taken(&rt, &mut files, fresh, size)?;
         assert!(rt; file_holds(alloc, &mut files, "f", want)?);
+    }
+    Ok(())
+}
+
+#[test]
+fn files_are_renamed_and_removed(rt: HostRuntime) -> Result<(), Fail> {
+    let alloc = rt.alloc();
+    let mut files = MemFiles::new(alloc, Vec::new(alloc));
+    a_renamed_file_takes_the_place_of_the_other(&rt, alloc, &mut files)?;
+    a_removed_file_is_absent(&rt, alloc, &mut files)?;
+    a_taken_file_is_not_renamed(&rt, alloc, &mut files)
+}
+
+#[test]
+fn a_failing_rename_or_remove_leaves_the_files(rt: HostRuntime) -> Result<(), Fail> {
+    let alloc = rt.alloc();
+    let mut files = MemFiles::new(alloc, vec![in alloc; 1u64, 2]?);
+    files.replace("a", b"new")?;
+    assert_eq!(rt; files.rename("a", "b"), Err(OpenFault::Failed));
+    assert_eq!(rt; files.remove("a"), Err(OpenFault::Failed));
+    assert_eq!(rt; files.file("a"), Some(b"new".as_slice()));
+    assert!(rt; files.file("b").is_none());
+    Ok(())
+}
+
+#[test]
+fn a_renamed_file_keeps_the_calls_that_fail(rt: HostRuntime) -> Result<(), Fail> {
+    let alloc = rt.alloc();
+    let stated = RangeFails {
+        reads: Vec::new(alloc),
+        writes: Vec::new(alloc),
+        set_len: 1,
+    };
+    let mut files = MemFiles::new(alloc, Vec::new(alloc));
+    assert!(rt; files.set_file("a", b"old".to_vec(alloc)?, stated).is_ok());
+    assert_eq!(rt; files.rename("a", "b"), Ok(()));
+    let mut t = files.take("b", false)?;
+    for want in [Err(IoFault::Failed), Ok(())] {
+        assert_eq!(rt; t.set_len(2), want);
     }
     Ok(())
 }
