@@ -10,14 +10,14 @@ use Rattle.assembler.specs.Asks.{AreSpared, AsksAtMost, IsSpared, asked_at, asks
 use Rattle.assembler.specs.Fills.{Grows}
 use Rattle.assembler.specs.Kits.{KeepsSeeds}
 use Rattle.assembler.specs.Losses.{AskedLast}
-use Rattle.assembler.specs.Sources.{HeldAt, faults_in, held_in}
-use Rattle.assembler.specs.Wants.{of_want, want_id}
+use Rattle.assembler.specs.Sources.{HeldAt}
 use Rattle.caibx_codec.specs.Listing.{Listing}
 use Rattle.chunk_store.specs.Said.{AskedOnce}
 use Rattle.dsy_base.specs.Bytes.{Held}
 use Rattle.dsy_base.specs.Counts.{Quiet, Rose}
-use Rattle.extract_plan.specs.Deal.{Deal}
+use Rattle.extract_plan.specs.Deal.{Deal, of_want, want_id}
 use Rattle.extract_plan.specs.Places.{Placed, places_at}
+use Rattle.extract_plan.specs.Seeds.{faults_in, held_in}
 use Rattle.extract_plan.specs.declared.seed.Seed.{Seed}
 use Rattle.extract_plan.specs.declared.seed.SeedPlace.{SeedPlace}
 use Rattle.range_survey.specs.declared.fate.Fate.{Fate}

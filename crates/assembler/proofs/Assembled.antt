@@ -13,8 +13,8 @@ use Rattle.assembler.specs.Faults.{fault_of}
 use Rattle.assembler.specs.Fills.{Fills, WhereTold}
 use Rattle.assembler.specs.Losses.{CopiesFailed, SomeGives}
 use Rattle.assembler.specs.Passes.{EndsBy, HadAt, IsLost, PassesAsk, want_at}
-use Rattle.assembler.specs.Sources.{SeedsGive, faults_in, held_in}
-use Rattle.assembler.specs.Wants.{IsAmong, of_want}
+use Rattle.assembler.specs.Sources.{SeedsGive}
+use Rattle.assembler.specs.Wants.{IsAmong}
 use Rattle.assembler.specs.declared.fault.ExtractFault.{ExtractFault}
 use Rattle.assembler.specs.declared.fault.ExtractFault.TheVariants as faults
 use Rattle.assembler.specs.declared.fault.Lost.{Lost}
@@ -28,8 +28,9 @@ use Rattle.dsy_base.proofs.Counts.{rose_later}
 use Rattle.dsy_base.specs.Bytes.{Held, resized}
 use Rattle.dsy_base.specs.Counts.{Rose}
 use Rattle.dsy_base.specs.Maps.{Map}
-use Rattle.extract_plan.specs.Deal.{AreWants, Deal}
+use Rattle.extract_plan.specs.Deal.{AreWants, Deal, of_want}
 use Rattle.extract_plan.specs.Places.{Placed, places_at}
+use Rattle.extract_plan.specs.Seeds.{faults_in, held_in}
 use Rattle.extract_plan.specs.declared.seed.Seed.{Seed}
 use Rattle.range_survey.specs.Fates.{settled}
 use Rattle.range_survey.specs.declared.fate.Fate.{Fate}

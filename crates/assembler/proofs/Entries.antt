@@ -1,9 +1,9 @@
 -- The entries of a want.
 use Rattle.std.proofs.Common.{◌≡◌, ℕ, ◌<◌, List, length, slice_index, refl, sym, ap, ◌∙◌, arith}
-use Rattle.assembler.specs.Wants.{AllOf, IsAmong, first_of, of_want, want_id}
+use Rattle.assembler.specs.Wants.{AllOf, IsAmong}
 use Rattle.caibx_codec.specs.Listing.{Listing, count_of, size_of}
 use Rattle.extract_plan.proofs.Entries.{entry_inside, entry_of, entry_stands}
-use Rattle.extract_plan.specs.Deal.{AreAlike, AreWants, Deal}
+use Rattle.extract_plan.specs.Deal.{AreAlike, AreWants, Deal, first_of, of_want, want_id}
 
 -- the entries of a want are those that are dealt to it
 pub among : (d : Deal) (w i : ℕ) → i < length d.want_of → slice_index d.want_of i ≡ w → IsAmong (of_want d w) i

@@ -6,12 +6,12 @@ use Rattle.assembler.proofs.Asked.{quiet_part}
 use Rattle.assembler.proofs.Entries.{among, among_of, ids_same, listed_of}
 use Rattle.assembler.specs.Losses.{Had}
 use Rattle.assembler.specs.Passes.{HadAt, want_at}
-use Rattle.assembler.specs.Wants.{IsAmong, of_want}
+use Rattle.assembler.specs.Wants.{IsAmong}
 use Rattle.caibx_codec.specs.Listing.{Listing, count_of, id_of, kind_of, size_of}
 use Rattle.chunk_store.specs.Said.{Said}
 use Rattle.dsy_base.specs.Bytes.{Held}
 use Rattle.dsy_base.specs.Maps.{Map}
-use Rattle.extract_plan.specs.Deal.{AreWants, Deal}
+use Rattle.extract_plan.specs.Deal.{AreWants, Deal, of_want}
 use Rattle.extract_plan.specs.Places.{Placed, places_at}
 use Rattle.range_survey.specs.Fates.{settled}
 use Rattle.range_survey.specs.declared.fate.Fate.{Fate}

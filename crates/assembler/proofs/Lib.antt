@@ -3,7 +3,6 @@ pub mod Filled
 pub mod SeedAnswers
 pub mod Obtained
 pub mod Entries
-pub mod Known
 pub mod Stepped
 pub mod Asked
 pub mod HadOn

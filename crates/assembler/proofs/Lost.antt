@@ -7,8 +7,7 @@ use Rattle.assembler.specs.Fills.{Grows}
 use Rattle.assembler.specs.Kits.{KeepsSeeds}
 use Rattle.assembler.specs.Losses.{AskedLast, CopiesFailed, IsFirstOpen, RefusedBy, lost_want}
 use Rattle.assembler.specs.Passes.{IsLost, want_at}
-use Rattle.assembler.specs.Sources.{HeldAt, SeedsFailed, faults_in, held_in}
-use Rattle.assembler.specs.Wants.{first_of, of_want, want_id}
+use Rattle.assembler.specs.Sources.{HeldAt, SeedsFailed}
 use Rattle.assembler.specs.declared.fault.Lost.{Lost}
 use Rattle.assembler.specs.declared.kit.Kit.{Kit}
 use Rattle.caibx_codec.specs.Listing.{Listing}
@@ -17,8 +16,9 @@ use Rattle.dsy_base.proofs.Counts.{rose_later}
 use Rattle.dsy_base.specs.Bytes.{Held}
 use Rattle.dsy_base.specs.Counts.{Rose}
 use Rattle.dsy_base.specs.Maps.{Map}
-use Rattle.extract_plan.specs.Deal.{AreWants, Deal}
+use Rattle.extract_plan.specs.Deal.{AreWants, Deal, first_of, of_want, want_id}
 use Rattle.extract_plan.specs.Places.{Placed, places_at}
+use Rattle.extract_plan.specs.Seeds.{faults_in, held_in}
 use Rattle.extract_plan.specs.declared.seed.SeedPlace.{SeedPlace}
 use Rattle.range_survey.specs.declared.fate.Fate.{Fate}
 use Rattle.store_chain.proofs.Kept.{kept_on, kept_still}

@@ -7,15 +7,15 @@ use Rattle.assembler.specs.Asks.{asks_below}
 use Rattle.assembler.specs.Kits.{Step}
 use Rattle.assembler.specs.Losses.{AskedLast, Had}
 use Rattle.assembler.specs.Passes.{PassAsks}
-use Rattle.assembler.specs.Sources.{held_in}
-use Rattle.assembler.specs.Wants.{IsAmong, of_want, want_id}
+use Rattle.assembler.specs.Wants.{IsAmong}
 use Rattle.assembler.specs.declared.kit.Kit.{Kit}
 use Rattle.caibx_codec.specs.Listing.{Listing, id_of, kind_of, size_of}
 use Rattle.chunk_store.specs.Said.{Said}
 use Rattle.dsy_base.specs.Bytes.{Held}
 use Rattle.dsy_base.specs.Maps.{Map}
-use Rattle.extract_plan.specs.Deal.{AreWants, Deal}
+use Rattle.extract_plan.specs.Deal.{AreWants, Deal, of_want, want_id}
 use Rattle.extract_plan.specs.Places.{Placed, places_at}
+use Rattle.extract_plan.specs.Seeds.{held_in}
 use Rattle.range_survey.specs.Fates.{settled}
 use Rattle.range_survey.specs.declared.fate.Fate.{Fate}
 use Rattle.store_chain.specs.Faults.{EachQuiet}

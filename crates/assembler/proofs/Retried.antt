@@ -9,8 +9,6 @@ use Rattle.assembler.proofs.TriedAsks.{SoFar, so_far_more, so_far_none}
 use Rattle.assembler.specs.Kits.{Step}
 use Rattle.assembler.specs.Losses.{AskedLast, IsFirstOpen, RefusedBy, Where, lost_want}
 use Rattle.assembler.specs.Passes.{IsLost}
-use Rattle.assembler.specs.Sources.{held_in}
-use Rattle.assembler.specs.Wants.{of_want, want_id}
 use Rattle.assembler.specs.declared.fault.Lost.{Lost}
 use Rattle.assembler.specs.declared.fault.Unsettled.{Unsettled}
 use Rattle.assembler.specs.declared.fault.Unsettled.TheVariants as unsettled
@@ -19,8 +17,9 @@ use Rattle.caibx_codec.specs.Listing.{Listing}
 use Rattle.chunk_store.specs.Said.{Said}
 use Rattle.dsy_base.specs.Bytes.{Held}
 use Rattle.dsy_base.specs.Maps.{Map}
-use Rattle.extract_plan.specs.Deal.{AreWants, Deal}
+use Rattle.extract_plan.specs.Deal.{AreWants, Deal, of_want, want_id}
 use Rattle.extract_plan.specs.Places.{Placed, places_at}
+use Rattle.extract_plan.specs.Seeds.{held_in}
 use Rattle.range_survey.specs.declared.fate.Fate.{Fate}
 use Rattle.store_chain.specs.declared.refused.Refused.TheVariants as refused
 

@@ -2,10 +2,8 @@
 use Rattle.std.proofs.Common.{◌≡◌, ℕ, ◌<◌, List, length, slice_index, Option, Bool, Result, Ok, Err, true, false, refl, sym, ap, subst, ◌∙◌, inl, inr, arith}
 use Rattle.std.proofs.lemmas.Bool.{cases_lt}
 use Rattle.assembler.proofs.Entries.{first_among, ids_same, listed_of}
-use Rattle.assembler.specs.Kits.{PlacesKnown}
 use Rattle.assembler.specs.Losses.{AskedLast, Had, IsFirstOpen, RefusedBy, Where, chunk_of, lost_want}
-use Rattle.assembler.specs.Sources.{PlacesFit}
-use Rattle.assembler.specs.Wants.{AllOf, IsAmong, first_of, of_want, want_id}
+use Rattle.assembler.specs.Wants.{AllOf, IsAmong}
 use Rattle.assembler.specs.declared.fault.Lost.{Lost}
 use Rattle.assembler.specs.declared.fault.Unsettled.{Unsettled}
 use Rattle.assembler.specs.declared.fault.Unsettled.TheVariants as unsettled
@@ -16,8 +14,8 @@ use Rattle.chunk_store.specs.declared.id.DigestKind.{DigestKind}
 use Rattle.dsy_base.specs.Bytes.{Held}
 use Rattle.dsy_base.specs.Maps.{Map}
 use Rattle.extract_plan.proofs.Entries.{entries_rise}
-use Rattle.extract_plan.specs.Deal.{AreWants, Deal}
-use Rattle.extract_plan.specs.Places.{Placed, places_at}
+use Rattle.extract_plan.specs.Deal.{AreWants, Deal, first_of, of_want, want_id}
+use Rattle.extract_plan.specs.Places.{Placed, PlacesFit, PlacesKnown, places_at}
 use Rattle.extract_plan.specs.declared.seed.Seed.{Seed}
 use Rattle.extract_plan.specs.declared.seed.SeedPlace.{SeedPlace}
 use Rattle.range_survey.specs.Fates.{settled}

@@ -3,15 +3,15 @@ use Rattle.std.proofs.Common.{◌≡◌, ℕ, List, length, map, Option, is_some
 use Rattle.std.proofs.lemmas.List.{length-map}
 use Rattle.assembler.proofs.Filled.{grows_none, grows_on, right_on, told_none, told_on}
 use Rattle.assembler.proofs.SeedAnswers.{falls_on}
-use Rattle.assembler.specs.Kits.{KeepsSeeds, PlacesKnown, Ready, Step}
-use Rattle.assembler.specs.Sources.{faults_in, held_in}
+use Rattle.assembler.specs.Kits.{KeepsSeeds, Ready, Step}
 use Rattle.assembler.specs.declared.kit.Kit.{Kit}
 use Rattle.caibx_codec.specs.Listing.{Listing}
 use Rattle.chunk_store.specs.Said.{Said}
 use Rattle.dsy_base.specs.Bytes.{Held}
 use Rattle.dsy_base.specs.Maps.{Map}
 use Rattle.extract_plan.specs.Deal.{Deal}
-use Rattle.extract_plan.specs.Places.{Placed}
+use Rattle.extract_plan.specs.Places.{Placed, PlacesKnown}
+use Rattle.extract_plan.specs.Seeds.{faults_in, held_in}
 use Rattle.extract_plan.specs.declared.seed.Seed.{Seed}
 use Rattle.range_survey.specs.declared.fate.Fate.{Fate}
 use Rattle.store_chain.proofs.Kept.{kept_still, kept_on}

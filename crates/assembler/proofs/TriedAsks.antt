@@ -12,11 +12,10 @@ use Rattle.assembler.specs.Fills.{Grows}
 use Rattle.assembler.specs.Kits.{KeepsSeeds}
 use Rattle.assembler.specs.Losses.{AskedLast}
 use Rattle.assembler.specs.Passes.{PassAsks}
-use Rattle.assembler.specs.Wants.{of_want, want_id}
 use Rattle.assembler.specs.declared.kit.Kit.{Kit}
 use Rattle.caibx_codec.specs.Listing.{Listing}
 use Rattle.dsy_base.specs.Bytes.{Held}
-use Rattle.extract_plan.specs.Deal.{Deal}
+use Rattle.extract_plan.specs.Deal.{Deal, of_want, want_id}
 use Rattle.extract_plan.specs.Places.{Placed, places_at}
 use Rattle.range_survey.specs.declared.fate.Fate.{Fate}
 

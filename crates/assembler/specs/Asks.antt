@@ -2,13 +2,14 @@
 use Rattle.std.specs.Prelude.{◌≡◌, ◌⊎◌, ℕ, zero, suc, ◌+◌, ◌<◌, ◌≤◌, List, map, slice_index, Bool, true, if◌then◌else◌}
 use Rattle.std.specs.List.{Any}
 use Rattle.std.specs.Str.{bytes_eq}
-use Rattle.assembler.specs.Sources.{HeldAt, faults_in, held_in}
-use Rattle.assembler.specs.Wants.{IsAmong, of_want, want_id}
+use Rattle.assembler.specs.Sources.{HeldAt}
+use Rattle.assembler.specs.Wants.{IsAmong}
 use Rattle.caibx_codec.specs.Listing.{Listing}
 use Rattle.dsy_base.specs.Bytes.{Held}
 use Rattle.dsy_base.specs.Counts.{Quiet}
-use Rattle.extract_plan.specs.Deal.{Deal}
+use Rattle.extract_plan.specs.Deal.{Deal, of_want, want_id}
 use Rattle.extract_plan.specs.Places.{Placed, places_at}
+use Rattle.extract_plan.specs.Seeds.{faults_in, held_in}
 use Rattle.extract_plan.specs.declared.seed.Seed.{Seed}
 use Rattle.range_survey.specs.Fates.{settled}
 use Rattle.range_survey.specs.declared.fate.Fate.{Fate}

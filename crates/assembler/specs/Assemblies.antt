@@ -5,8 +5,8 @@ use Rattle.std.specs.List.{Any}
 use Rattle.assembler.specs.Asks.{AsksAtMost, asks_below, calls_below}
 use Rattle.assembler.specs.Losses.{SomeGives}
 use Rattle.assembler.specs.Passes.{RefusedOnce, want_at}
-use Rattle.assembler.specs.Sources.{HeldAt, SeedsFailed, SeedsGive, faults_in, held_in}
-use Rattle.assembler.specs.Wants.{IsAmong, of_want, want_id}
+use Rattle.assembler.specs.Sources.{HeldAt, SeedsFailed, SeedsGive}
+use Rattle.assembler.specs.Wants.{IsAmong}
 use Rattle.assembler.specs.declared.fault.ExtractFault.{ExtractFault}
 use Rattle.assembler.specs.declared.fault.ExtractFault.TheVariants as faults
 use Rattle.assembler.specs.declared.fault.Lost.{Lost}
@@ -18,8 +18,9 @@ use Rattle.chunk_store.specs.Said.{Said}
 use Rattle.dsy_base.specs.Bytes.{Held, resized}
 use Rattle.dsy_base.specs.Counts.{Quiet, Rose}
 use Rattle.dsy_base.specs.Maps.{Map}
-use Rattle.extract_plan.specs.Deal.{AreAlike, Deal}
+use Rattle.extract_plan.specs.Deal.{AreAlike, Deal, of_want, want_id}
 use Rattle.extract_plan.specs.Places.{Placed, places_at}
+use Rattle.extract_plan.specs.Seeds.{faults_in, held_in}
 use Rattle.extract_plan.specs.declared.seed.Seed.{Seed}
 use Rattle.store_chain.specs.Faults.{EachQuiet}
 

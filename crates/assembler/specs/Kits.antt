@@ -1,8 +1,6 @@
 -- What a call leaves of that with which entries are settled: the target, the kit, and one fate an entry.
 use Rattle.std.specs.Prelude.{◌≡◌, ℕ, ◌+◌, ◌<◌, ◌≤◌, List, length, map, Option, IfSome}
 use Rattle.assembler.specs.Fills.{Fills, Grows, WhereTold}
-use Rattle.assembler.specs.Sources.{PlacesFit, faults_in, held_in}
-use Rattle.assembler.specs.Wants.{first_of}
 use Rattle.assembler.specs.declared.kit.Kit.{Kit}
 use Rattle.caibx_codec.specs.Listing.{Listing, count_of, image_length, kind_of, size_of}
 use Rattle.chunk_store.specs.Said.{Said}
@@ -10,7 +8,8 @@ use Rattle.chunk_store.specs.declared.id.DigestKind.{DigestKind}
 use Rattle.dsy_base.specs.Bytes.{Held}
 use Rattle.dsy_base.specs.Maps.{Map}
 use Rattle.extract_plan.specs.Deal.{AreWants, Deal}
-use Rattle.extract_plan.specs.Places.{Placed, places_at}
+use Rattle.extract_plan.specs.Places.{Placed, PlacesKnown}
+use Rattle.extract_plan.specs.Seeds.{faults_in, held_in}
 use Rattle.extract_plan.specs.declared.seed.Seed.{Seed}
 use Rattle.range_survey.specs.Fates.{SettledRight}
 use Rattle.range_survey.specs.declared.fate.Fate.{Fate}
@@ -21,11 +20,6 @@ use Rattle.store_chain.specs.Faults.{NoneFalls}
 pub record KeepsSeeds {V : Type 0} (view : V → Held) (view_faults : V → ℕ) (old new : List (Seed V)) : Type 0 where
   pub held : map (held_in view) new ≡ map (held_in view) old
   pub never_fall : NoneFalls (map (faults_in view_faults) old) (map (faults_in view_faults) new)
-
--- the places of each want are in these seeds, and have its size
-pub record PlacesKnown (l : Listing) (d : Deal) (x : Placed) (seeds : ℕ) : Type 0 where
-  pub size : length x.starts ≡ d.wants + 1
-  pub fit : (w : ℕ) → w < d.wants → PlacesFit seeds (size_of l (first_of d w)) (places_at x w)
 
 -- all is as it must be before entries are settled: the plan and the places are of the index, the buffer has room for
 -- each chunk, the target has the image's length, and each settled entry is right in it

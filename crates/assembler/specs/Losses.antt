@@ -1,7 +1,7 @@
 -- When the chain of stores is asked for a chunk, and what it means that no source gave it.
 use Rattle.std.specs.Prelude.{◌≡◌, ◌⊎◌, ℕ, ◌<◌, List, map, Some, true, false, Bool, Option, Result, Ok, Err, slice_index}
 use Rattle.std.specs.List.{Any}
-use Rattle.assembler.specs.Sources.{SeedsFailed, SeedsGive, faults_in, held_in}
+use Rattle.assembler.specs.Sources.{SeedsFailed, SeedsGive}
 use Rattle.assembler.specs.Wants.{IsAmong}
 use Rattle.assembler.specs.declared.fault.Lost.{Lost}
 use Rattle.assembler.specs.declared.fault.Unsettled.{Unsettled}
@@ -14,6 +14,7 @@ use Rattle.chunk_store.specs.declared.id.DigestKind.{DigestKind}
 use Rattle.dsy_base.specs.Bytes.{Held}
 use Rattle.dsy_base.specs.Counts.{Rose}
 use Rattle.dsy_base.specs.Maps.{Map}
+use Rattle.extract_plan.specs.Seeds.{faults_in, held_in}
 use Rattle.extract_plan.specs.declared.seed.Seed.{Seed}
 use Rattle.extract_plan.specs.declared.seed.SeedPlace.{SeedPlace}
 use Rattle.range_survey.specs.Fates.{settled}

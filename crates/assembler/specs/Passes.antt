@@ -3,8 +3,7 @@ use Rattle.std.specs.Prelude.{◌≡◌, ◌≢◌, ◌⊎◌, ℕ, ◌+◌, ◌
 use Rattle.assembler.specs.Asks.{AreSpared, AsksAtMost, asks_below, calls_below}
 use Rattle.assembler.specs.Faults.{fault_of}
 use Rattle.assembler.specs.Losses.{CopiesFailed, Had, RefusedBy, lost_want}
-use Rattle.assembler.specs.Sources.{SeedsFailed, faults_in, held_in}
-use Rattle.assembler.specs.Wants.{of_want, want_id}
+use Rattle.assembler.specs.Sources.{SeedsFailed}
 use Rattle.assembler.specs.declared.fault.ExtractFault.{ExtractFault}
 use Rattle.assembler.specs.declared.fault.ExtractFault.TheVariants as faults
 use Rattle.assembler.specs.declared.fault.Lost.{Lost}
@@ -13,8 +12,9 @@ use Rattle.caibx_codec.specs.Listing.{Listing, count_of, id_of, kind_of, size_of
 use Rattle.chunk_store.specs.Said.{Said}
 use Rattle.dsy_base.specs.Bytes.{Held}
 use Rattle.dsy_base.specs.Maps.{Map}
-use Rattle.extract_plan.specs.Deal.{Deal}
+use Rattle.extract_plan.specs.Deal.{Deal, of_want, want_id}
 use Rattle.extract_plan.specs.Places.{Placed, places_at}
+use Rattle.extract_plan.specs.Seeds.{faults_in, held_in}
 use Rattle.range_survey.specs.declared.fate.Fate.{Fate}
 use Rattle.store_chain.specs.Chains.{KeepsStores}
 use Rattle.store_chain.specs.declared.refused.Refused.TheVariants as refused

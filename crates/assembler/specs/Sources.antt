@@ -1,21 +1,12 @@
 -- Where chunks come from.
-use Rattle.std.specs.Prelude.{◌≡◌, ℕ, ◌≤◌, ◌<◌, List, slice_index_or, slice_index, Option, Some, None, IsSomeAnd, unwrap_or}
+use Rattle.std.specs.Prelude.{◌≡◌, ℕ, ◌≤◌, List, slice_index_or, slice_index, Option, Some, None, IsSomeAnd}
 use Rattle.std.specs.List.{All, Any}
-use Rattle.std.specs.Option.{option_map}
 use Rattle.chunk_store.specs.Names.{name_of}
 use Rattle.chunk_store.specs.declared.id.DigestKind.TheVariants.{Sha512T256}
 use Rattle.dsy_base.specs.Bytes.{Held}
 use Rattle.dsy_base.specs.Counts.{Rose}
 use Rattle.extract_plan.specs.Seeds.{bytes_at, place_end}
-use Rattle.extract_plan.specs.declared.seed.Seed.{Seed}
 use Rattle.extract_plan.specs.declared.seed.SeedPlace.{SeedPlace}
-
--- what a seed's view holds, and how often a call on it has failed
-abbrev pub held_in : {V : Type 0} → (V → Held) → Seed V → Option Held
-held_in held s = option_map held s.view
-
-abbrev pub faults_in : {V : Type 0} → (V → ℕ) → Seed V → ℕ
-faults_in faults s = unwrap_or (option_map faults s.view) 0
 
 -- a view with this stands at the place, inside it, and the bytes there are told and have the id
 abbrev pub GivesAt : Option Held → SeedPlace → List ℕ → Type 0
@@ -33,7 +24,3 @@ SeedsGive views places id = Any (λ p. HeldAt views p id) places
 abbrev pub SeedsFailed : List (Option Held) → List SeedPlace → List ℕ → List ℕ → List ℕ → Type 0
 SeedsFailed views places id old new =
     All (λ p. HeldAt views p id → Rose (slice_index old p.seed) (slice_index new p.seed)) places
-
--- the places are in these seeds, and have this size
-abbrev pub PlacesFit : ℕ → ℕ → List SeedPlace → Type 0
-PlacesFit seeds size places = All (λ p. (p.seed < seeds) × (p.size ≡ size)) places

@@ -1,7 +1,6 @@
--- The entries of a want.
+-- Entries that are listed with one id and size.
 use Rattle.std.specs.Prelude.{◌≡◌, ℕ, ◌<◌, List, length, slice_index}
 use Rattle.caibx_codec.specs.Listing.{Listing, count_of, id_of, size_of}
-use Rattle.extract_plan.specs.Deal.{Deal, entries_of}
 
 -- entry i is listed with this id and size
 pub record IsOf (l : Listing) (id : List ℕ) (size i : ℕ) : Type 0 where
@@ -16,14 +15,3 @@ AllOf l id size entries = (k : ℕ) → k < length entries → IsOf l id size (s
 -- entry i is one of these
 abbrev pub IsAmong : List ℕ → ℕ → Type 0
 IsAmong entries i = (k : ℕ) × (k < length entries) × (slice_index entries k ≡ i)
-
--- the entries of want w, and the first of them
-abbrev pub of_want : Deal → ℕ → List ℕ
-of_want d w = entries_of d.want_of w
-
-abbrev pub first_of : Deal → ℕ → ℕ
-first_of d w = slice_index (of_want d w) 0
-
--- the id of its chunk
-abbrev pub want_id : Listing → Deal → ℕ → List ℕ
-want_id l d w = id_of l (first_of d w)

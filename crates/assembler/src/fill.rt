@@ -3,9 +3,9 @@
 ghost use Rattle.std.specs.Prelude.{◌≡◌, ℕ, List, IsTrue, ◌<◌, length, map, Some, true};
 ghost use Rattle.assembler.specs.Kits.{Ready, Step};
 ghost use Rattle.assembler.specs.Passes.{HadAt, PassAsks};
-ghost use Rattle.assembler.specs.Sources.{held_in};
 ghost use Rattle.caibx_codec.specs.Listing.{count_of};
 ghost use Rattle.dsy_base.specs.Maps.{Map};
+ghost use Rattle.extract_plan.specs.Seeds.{held_in};
 ghost use Rattle.range_survey.specs.Fates.{settled};
 ghost use Rattle.store_chain.specs.Faults.{EachQuiet};
 

@@ -4,11 +4,12 @@ ghost use Rattle.std.specs.Prelude.{◌≡◌, ◌⊎◌, ℕ, List, IsTrue, ◌
 ghost use Rattle.assembler.specs.Fills.{is_made};
 ghost use Rattle.assembler.specs.Kits.{KeepsSeeds};
 ghost use Rattle.assembler.specs.Losses.{AskedLast, Had, RefusedBy, chunk_of};
-ghost use Rattle.assembler.specs.Sources.{PlacesFit, held_in};
 ghost use Rattle.assembler.specs.Wants.{AllOf};
 ghost use Rattle.caibx_codec.specs.Listing.{count_of, kind_of, image_length};
 ghost use Rattle.chunk_store.specs.Names.{name_of};
 ghost use Rattle.dsy_base.specs.Maps.{Map};
+ghost use Rattle.extract_plan.specs.Places.{PlacesFit};
+ghost use Rattle.extract_plan.specs.Seeds.{held_in};
 ghost use Rattle.range_survey.specs.Fates.{SettledRight, is_settled};
 ghost use Rattle.store_chain.specs.Chains.{KeepsStores};
 ghost use Rattle.store_chain.specs.Faults.{EachQuiet};

@@ -3,12 +3,12 @@
 ghost use Rattle.std.specs.Prelude.{◌≡◌, ◌⊎◌, ℕ, List, IsTrue, ◌<◌, length, map, Some, OnOk, IfErr, true, false};
 ghost use Rattle.assembler.specs.Kits.{Ready, Step};
 ghost use Rattle.assembler.specs.Passes.{EndsBy, HadAt, IsLost, PassAsks, want_at};
-ghost use Rattle.assembler.specs.Sources.{held_in};
 ghost use Rattle.assembler.specs.declared.fault.ExtractFault.TheVariants as faults;
 ghost use Rattle.assembler.specs.declared.fault.Lost.{Lost};
 ghost use Rattle.caibx_codec.specs.Listing.{count_of};
 ghost use Rattle.dsy_base.specs.Counts.{Rose};
 ghost use Rattle.dsy_base.specs.Maps.{Map};
+ghost use Rattle.extract_plan.specs.Seeds.{held_in};
 ghost use Rattle.range_survey.specs.Fates.{settled};
 ghost use Rattle.store_chain.specs.Faults.{EachQuiet};
 

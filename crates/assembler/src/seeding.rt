@@ -1,10 +1,12 @@
 //! Chunks from seeds. Seeds count from 0.
 
 ghost use Rattle.std.specs.Prelude.{◌≡◌, ◌<◌, IsTrue, length, map, slice_index, true, false};
-ghost use Rattle.assembler.specs.Sources.{HeldAt, PlacesFit, SeedsFailed, SeedsGive, faults_in, held_in};
+ghost use Rattle.assembler.specs.Sources.{HeldAt, SeedsFailed, SeedsGive};
 ghost use Rattle.chunk_store.specs.Names.{name_of};
 ghost use Rattle.chunk_store.specs.declared.id.DigestKind.TheVariants as kinds;
 ghost use Rattle.dsy_base.specs.Counts.{Rose};
+ghost use Rattle.extract_plan.specs.Places.{PlacesFit};
+ghost use Rattle.extract_plan.specs.Seeds.{faults_in, held_in};
 ghost use Rattle.store_chain.specs.Faults.{NoneFalls};
 
 use chunk_store::id::ChunkId;

@@ -4,12 +4,13 @@ ghost use Rattle.std.specs.Prelude.{◌≡◌, ◌⊎◌, ℕ, List, IsTrue, ◌
 ghost use Rattle.assembler.specs.Fills.{Fills, Grows, WhereTold};
 ghost use Rattle.assembler.specs.Kits.{KeepsSeeds, Ready, Step};
 ghost use Rattle.assembler.specs.Losses.{AskedLast, Had, IsFirstOpen, RefusedBy, Where, chunk_of, lost_want};
-ghost use Rattle.assembler.specs.Sources.{PlacesFit, held_in};
-ghost use Rattle.assembler.specs.Wants.{AllOf, IsAmong, of_want, want_id};
+ghost use Rattle.assembler.specs.Wants.{AllOf, IsAmong};
 ghost use Rattle.caibx_codec.specs.Listing.{count_of, id_of, kind_of, size_of, image_length};
 ghost use Rattle.dsy_base.specs.Counts.{Rose};
 ghost use Rattle.dsy_base.specs.Maps.{Map};
-ghost use Rattle.extract_plan.specs.Places.{places_at};
+ghost use Rattle.extract_plan.specs.Deal.{of_want, want_id};
+ghost use Rattle.extract_plan.specs.Places.{PlacesFit, places_at};
+ghost use Rattle.extract_plan.specs.Seeds.{held_in};
 ghost use Rattle.range_survey.specs.Fates.{SettledRight, settled};
 ghost use Rattle.store_chain.specs.Chains.{KeepsStores};
 ghost use Rattle.store_chain.specs.Faults.{EachQuiet};

@@ -3,6 +3,7 @@ pub mod Cut
 pub mod Entries
 pub mod Finding
 pub mod Grouped
+pub mod Known
 pub mod Numbered
 pub mod Numbering
 pub mod Placing

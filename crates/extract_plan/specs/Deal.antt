@@ -49,3 +49,14 @@ pub record IsPlan (l : Listing) (count : ℕ) (d : Deal) : Type 0 where
   pub workers : d.workers ≡ count
   pub wants : AreWants l d.wants d.want_of
   pub cuts : AreCuts l (deal_shards d) d.cuts
+
+-- the entries of want w, and the first of them
+abbrev pub of_want : Deal → ℕ → List ℕ
+of_want d w = entries_of d.want_of w
+
+abbrev pub first_of : Deal → ℕ → ℕ
+first_of d w = slice_index (of_want d w) 0
+
+-- the id of its chunk
+abbrev pub want_id : Listing → Deal → ℕ → List ℕ
+want_id l d w = id_of l (first_of d w)

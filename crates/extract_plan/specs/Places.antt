@@ -1,8 +1,8 @@
 -- Where seeds list the chunks of an index. Seeds, entries and wants count from 0.
 use Rattle.std.specs.Prelude.{◌≡◌, ℕ, ◌+◌, ◌<◌, ◌≤◌, ◌⊎◌, List, Some, length, slice_index, slice_index_or, slice_range}
-use Rattle.std.specs.List.{fold, slice_get}
+use Rattle.std.specs.List.{All, fold, slice_get}
 use Rattle.caibx_codec.specs.Listing.{Listing, count_of, id_of, size_of, start_of}
-use Rattle.extract_plan.specs.Deal.{Deal}
+use Rattle.extract_plan.specs.Deal.{Deal, first_of}
 use Rattle.extract_plan.specs.declared.seed.SeedPlace.{SeedPlace}
 use Rattle.extract_plan.specs.declared.seeds.SeedIndex.TheInside.{Inside}
 
@@ -61,6 +61,15 @@ pub record IsSeedIndex (l : Listing) (d : Deal) (seeds : List Listing) (x : Plac
   pub size : length x.starts ≡ d.wants + 1
   pub places : (i : ℕ) → i < count_of l →
       ArePlaces seeds (id_of l i) (size_of l i) (places_at x (slice_index d.want_of i))
+
+-- the places are in these seeds, and have this size
+abbrev pub PlacesFit : ℕ → ℕ → List SeedPlace → Type 0
+PlacesFit seeds size places = All (λ p. (p.seed < seeds) × (p.size ≡ size)) places
+
+-- the places of each want are in these seeds, and have its size
+pub record PlacesKnown (l : Listing) (d : Deal) (x : Placed) (seeds : ℕ) : Type 0 where
+  pub size : length x.starts ≡ d.wants + 1
+  pub fit : (w : ℕ) → w < d.wants → PlacesFit seeds (size_of l (first_of d w)) (places_at x w)
 
 -- what an index of seeds keeps: starts rise, and fit the places
 pub record IsPlaced (x : Placed) : Type 0 where

@@ -1,12 +1,21 @@
--- What a seed gives: the bytes of a place, where they have the id.
-use Rattle.std.specs.Prelude.{◌≡◌, ◌≢◌, ℕ, ◌+◌, ◌<◌, ◌≤◌, ◌⊎◌, List, Option, Some, None, IfSome, slice_range}
+-- What a seed holds and gives: the bytes of a place, where they have the id.
+use Rattle.std.specs.Prelude.{◌≡◌, ◌≢◌, ℕ, ◌+◌, ◌<◌, ◌≤◌, ◌⊎◌, List, Option, Some, None, IfSome, slice_range, unwrap_or}
+use Rattle.std.specs.Option.{option_map}
 use Rattle.dsy_base.specs.Bytes.{Held}
 use Rattle.dsy_base.specs.Counts.{Rose}
 use Rattle.chunk_store.specs.Names.{name_of}
 use Rattle.chunk_store.specs.declared.id.DigestKind.TheVariants.{Sha512T256}
+use Rattle.extract_plan.specs.declared.seed.Seed.{Seed}
 use Rattle.extract_plan.specs.declared.seed.SeedPlace.{SeedPlace}
 use Rattle.extract_plan.specs.declared.seed.SeedAnswer.{SeedAnswer}
 use Rattle.extract_plan.specs.declared.seed.SeedAnswer.TheVariants as answers
+
+-- what a seed's view holds, and how often a call on it has failed
+abbrev pub held_in : {V : Type 0} → (V → Held) → Seed V → Option Held
+held_in held s = option_map held s.view
+
+abbrev pub faults_in : {V : Type 0} → (V → ℕ) → Seed V → ℕ
+faults_in faults s = unwrap_or (option_map faults s.view) 0
 
 abbrev pub place_end : SeedPlace → ℕ
 place_end p = p.start + p.size

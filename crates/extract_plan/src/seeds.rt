@@ -6,7 +6,7 @@ ghost use Rattle.caibx_codec.specs.Listing.{Listing, count_of};
 ghost use Rattle.extract_plan.specs.Deal.{AreWants};
 ghost use Rattle.extract_plan.specs.Found.{AreFound, AreNumbered};
 ghost use Rattle.extract_plan.specs.Numbers.{number_of};
-ghost use Rattle.extract_plan.specs.Places.{IsPlaced, IsSeedIndex, items_of, nth_place, places_at, seed_item_limit};
+ghost use Rattle.extract_plan.specs.Places.{IsPlaced, IsSeedIndex, PlacesKnown, items_of, nth_place, places_at, seed_item_limit};
 ghost use Rattle.extract_plan.specs.declared.seeds.SeedFault.TheVariants.{TooManyItems};
 
 use crate::group::number;
@@ -186,7 +186,8 @@ fn place(
     requires plan { AreWants index.now plan.now.wants plan.now.want_of }
     requires few { length seeds.now < 2 ^ 32 }
     requires items { items_of seeds.now ≤ seed_item_limit }
-    ensures { IfOk result (λ x. IsSeedIndex index.now plan.now seeds.now x) }
+    ensures placed { IfOk result (λ x. IsSeedIndex index.now plan.now seeds.now x) }
+    ensures known { IfOk result (λ x. PlacesKnown index.now plan.now x (length seeds.now)) }
 {
     // All room at once: a list that grows is there twice, beside the map.
     let mut found = Found::with_room(alloc, items(seeds))?;
@@ -224,6 +225,7 @@ impl SeedIndex {
         requires plan { AreWants index.now plan.now.wants plan.now.want_of }
         requires few { length seeds.now < 2 ^ 32 }
         ensures ok { IfOk result (λ x. IsSeedIndex index.now plan.now seeds.now x) }
+        ensures known { IfOk result (λ x. PlacesKnown index.now plan.now x (length seeds.now)) }
         ensures exactly { (result ≡ Err TooManyItems) ↔ (seed_item_limit < items_of seeds.now) }
     {
         if SEED_ITEM_LIMIT < items(seeds) {

@@ -1,7 +1,6 @@
 //! `extract -k -s FOLDER.. INDEX OUT`: OUT becomes the image that INDEX lists, with chunks from 1 to 16 folders.
 
 ghost use Rattle.std.specs.Prelude.{◌≡◌, ℕ, List, [], ◌≤◌, map, Some, IfSome, length};
-ghost use Rattle.assembler.specs.Kits.{PlacesKnown};
 ghost use Rattle.caibx_codec.specs.Listing.{kind_of};
 ghost use Rattle.command_steps.specs.AnyStores.{faults_in, files_in, place_in};
 ghost use Rattle.command_steps.specs.Stores.{AllKnown};
@@ -10,6 +9,7 @@ ghost use Rattle.desync_cli.specs.Extract.{Assembled, ExtractEnds, answer_of_ass
 ghost use Rattle.dsy_base.specs.Disk.{Output};
 ghost use Rattle.dsy_base.specs.Maps.{Map};
 ghost use Rattle.extract_plan.specs.Deal.{AreWants};
+ghost use Rattle.extract_plan.specs.Places.{PlacesKnown};
 
 use assembler::assemble::assemble;
 use assembler::fault::ExtractFault;

@@ -3,8 +3,8 @@ use Rattle.assembler.proofs.Asked.{quiet_part}
 use Rattle.assembler.proofs.KeptCount.{kept_count}
 use Rattle.std.proofs.lemmas.List.{with_items_is}
 use Rattle.std.specs.Global.{Vec}
-use Rattle.assembler.specs.Kits.{PlacesKnown}
 use Rattle.assembler.specs.Reports.{right_below, tally}
+use Rattle.extract_plan.specs.Places.{PlacesKnown}
 use Rattle.extract_plan.specs.declared.seed.Seed.{Seed}
 use Rattle.caibx_codec.specs.Listing.{count_of, image_length}
 use Rattle.dsy_base.specs.Bytes.{Held, resized}

@@ -7,9 +7,9 @@ use Rattle.assembler.proofs.Stepped.{ready_on, seeds_none, step_on}
 use Rattle.assembler.proofs.TwoPasses.{ends_map, err_map}
 use Rattle.assembler.specs.Asks.{asks_below, calls_below}
 use Rattle.assembler.specs.Passes.{HadAt}
-use Rattle.assembler.specs.Sources.{held_in}
-use Rattle.assembler.specs.Wants.{want_id}
 use Rattle.dsy_base.proofs.Counts.{rose_later}
+use Rattle.extract_plan.specs.Deal.{want_id}
+use Rattle.extract_plan.specs.Seeds.{held_in}
 use Rattle.assembler.proofs.assemble.settle_all.Goals as goal
 
 pub retry-requires : goal.retry-requires

@@ -5,13 +5,12 @@ use Rattle.assembler.proofs.Tried.{first_later, is_tried, lost_here, lost_of, tr
 use Rattle.assembler.proofs.TriedAsks.{asks_at_end}
 use Rattle.assembler.specs.Losses.{IsFirstOpen}
 use Rattle.assembler.specs.Passes.{PassAsks}
-use Rattle.assembler.specs.Wants.{of_want}
 use Rattle.assembler.specs.declared.fault.Lost.{Lost}
 use Rattle.assembler.specs.declared.kit.Kit.{Kit}
 use Rattle.caibx_codec.specs.Listing.{Listing}
 use Rattle.dsy_base.specs.Counts.{Rose}
 use Rattle.dsy_base.proofs.Counts.{rose_later}
-use Rattle.extract_plan.specs.Deal.{Deal}
+use Rattle.extract_plan.specs.Deal.{Deal, of_want}
 use Rattle.extract_plan.specs.Places.{Placed}
 use Rattle.range_survey.specs.declared.fate.Fate.{Fate}
 use Rattle.assembler.proofs.retry.retry.Given.{Over}

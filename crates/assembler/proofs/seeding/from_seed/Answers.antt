@@ -1,7 +1,8 @@
 use Rattle.std.proofs.Common.{◌≡◌, ⊎_elim, None, subst, get_or}
 use Rattle.std.proofs.lemmas.List.{get_or-map}
 use Rattle.std.proofs.Math.Seq.{map-set_same}
-use Rattle.assembler.specs.Sources.{GivesAt, faults_in, held_in}
+use Rattle.assembler.specs.Sources.{GivesAt}
+use Rattle.extract_plan.specs.Seeds.{faults_in, held_in}
 use Rattle.extract_plan.specs.declared.seed.SeedAnswer.TheVariants as answers
 use Rattle.assembler.proofs.SeedAnswers.{rose_at, none_falls, failed_at, never_falls}
 use Rattle.assembler.proofs.seeding.from_seed.Goals as goal

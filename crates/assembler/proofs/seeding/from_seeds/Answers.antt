@@ -1,5 +1,6 @@
 use Rattle.std.proofs.Common.{map, refl, ◌∙◌}
-use Rattle.assembler.specs.Sources.{HeldAt, faults_in, held_in}
+use Rattle.assembler.specs.Sources.{HeldAt}
+use Rattle.extract_plan.specs.Seeds.{faults_in, held_in}
 use Rattle.extract_plan.specs.declared.seed.SeedPlace.{SeedPlace}
 use Rattle.assembler.proofs.SeedAnswers.{any_at, falls_on, passed_more}
 use Rattle.assembler.proofs.seeding.from_seeds.Goals as goal

@@ -1,6 +1,6 @@
 use Rattle.std.proofs.Common.{◌≡◌, map}
-use Rattle.assembler.specs.Sources.{faults_in, held_in}
 use Rattle.assembler.proofs.SeedAnswers.{Passed}
+use Rattle.extract_plan.specs.Seeds.{faults_in, held_in}
 use Rattle.store_chain.specs.Faults.{NoneFalls}
 use Rattle.assembler.proofs.seeding.from_seeds.Given as goal
 

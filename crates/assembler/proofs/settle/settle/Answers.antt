@@ -3,9 +3,10 @@ use Rattle.std.proofs.lemmas.List.{with_items_is}
 use Rattle.assembler.proofs.Settled.{all_as, asked_as, first_open, fit, had_as, inside, listed, refused_as, where_both, where_map}
 use Rattle.assembler.proofs.Stepped.{step_none}
 use Rattle.assembler.specs.Kits.{KeepsSeeds}
-use Rattle.assembler.specs.Sources.{PlacesFit, held_in}
 use Rattle.caibx_codec.specs.Listing.{id_of, kind_of, size_of}
 use Rattle.chunk_store.specs.declared.id.ChunkId.{ChunkId}
+use Rattle.extract_plan.specs.Places.{PlacesFit}
+use Rattle.extract_plan.specs.Seeds.{held_in}
 use Rattle.range_survey.specs.Fates.{settled}
 use Rattle.extract_plan.specs.declared.seed.Seed.{Seed}
 use Rattle.assembler.proofs.settle.settle.Goals as goal

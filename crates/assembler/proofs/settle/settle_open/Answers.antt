@@ -1,7 +1,7 @@
 use Rattle.std.proofs.Common.{◌≡◌, ◌∙◌, ℕ, length, map, subst}
 use Rattle.assembler.specs.Losses.{Had}
-use Rattle.assembler.specs.Sources.{held_in}
 use Rattle.caibx_codec.specs.Listing.{kind_of, size_of}
+use Rattle.extract_plan.specs.Seeds.{held_in}
 use Rattle.assembler.proofs.settle.settle_open.Goals as goal
 
 pub returns-in-Ok-put-clause-had : goal.returns-in-Ok-put-clause-had

@@ -3,7 +3,9 @@ use Rattle.std.proofs.lemmas.Grind.{common_steps}
 use Rattle.extract_plan.specs.Found.{AreFound}
 use Rattle.extract_plan.specs.Links.{AreSorted}
 use Rattle.extract_plan.specs.Numbers.{number_of}
+use Rattle.extract_plan.specs.Places.{IsSeedIndex}
 use Rattle.extract_plan.specs.declared.seed.SeedPlace.{SeedPlace}
+use Rattle.extract_plan.proofs.Known.{known_of}
 use Rattle.extract_plan.proofs.Placing.{found_below, places_are}
 use Rattle.extract_plan.proofs.seeds.place.Goals as goal
 
@@ -41,8 +43,9 @@ returns c =
     let sorted : AreSorted ws starts order plan.wants =
     subst (AreSorted ws starts order) c.wants.ensures
     (subst (λ (x : List ℕ). AreSorted ws starts x c.wants.result) order_is c.in_ok-starts.ensures) in
-    record {
+    let placed : IsSeedIndex l plan seeds (record { starts = starts; items = c.in_ok-items.items.items }) = record {
       size = sorted.size;
       places = places_are l plan.wants number plan.want_of seeds ws ps starts order c.in_ok-items.items.items
           c.requires.plan c.in_ok-numbers.ensures found sorted c.in_ok-items.ensures.size c.in_ok-items.ensures.value;
-    }
+    } in
+    record { placed = placed; known = known_of l plan seeds _ c.requires.plan placed }

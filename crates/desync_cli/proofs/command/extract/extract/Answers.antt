@@ -5,7 +5,6 @@ use Rattle.command_steps.proofs.Lent.{known_places}
 use Rattle.command_steps.specs.AnyStores.{files_in, place_in}
 use Rattle.command_steps.specs.Stores.{name_of, names_of}
 use Rattle.desync_cli.proofs.Counting.{all_there}
-use Rattle.desync_cli.proofs.Seedless.{places_none}
 use Rattle.desync_cli.proofs.command.extract.extract.Goals as goal
 use Rattle.desync_cli.specs.Extract.{Assembled}
 
@@ -17,7 +16,7 @@ new-requires g c =
     record { size = (omega (arith, many, c.requires.0), omega (arith, many, c.requires.1)) }
 
 pub assemble_into-requires-clause-places : goal.assemble_into-requires-clause-places
-assemble_into-requires-clause-places g c = places_none c.in_ok-listed.listed c.in-Ok.plan c.in-Ok-of.places c.in-Ok.ensures.wants c.in-Ok-of.ensures.ok
+assemble_into-requires-clause-places g c = c.in-Ok-of.ensures.known
 
 pub assemble_into-requires-clause-known : goal.assemble_into-requires-clause-known
 assemble_into-requires-clause-known g c =
