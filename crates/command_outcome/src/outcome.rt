@@ -71,7 +71,7 @@ pub enum Outcome {
     OutFault,
     /// Opening or reading the image failed.
     ImageFault,
-    /// The image has more chunks than an index may list.
+    /// The image has more chunks than an index may list; or the indexes of the seeds list more than 2^23 together.
     TooManyItems,
     Memory,
 }
