@@ -3,7 +3,8 @@
 
 Into an absent output every byte is read from the store, named and written; over an output that is right already every
 byte is read and named once; and over an older version, of which 94 % are right, every byte is named once, and the
-others are read from the store and written. Needs three times the image's size under the temporary folder.
+others are read from the store and written. casync's extraction from a store of its own is measured beside it, where it is installed.
+Needs four times the image's size under the temporary folder.
 """
 
 import filecmp
@@ -63,6 +64,8 @@ def main():
                 side_by_side.Row('extract -k, output absent', words, remove_output, at_most=2.0),
                 side_by_side.Row('extract -k, output right already', words, at_most=1.55),
                 side_by_side.Row('extract -k, output 94 % right', words, age_output, at_most=1.8)]
+        ours = rows[1:]
+        rows += side_by_side.casync_rows(folder, image, output, remove_output, [('output absent', None)])
         side_by_side.measure(rows, folder, options.runs)
         if not filecmp.cmp(image, output, shallow=False):
             sys.exit('the output is not the image')
@@ -71,7 +74,7 @@ def main():
               f'{os.path.getsize(os.path.join(folder, "image.caibx"))} bytes; medians of {options.runs} runs')
         side_by_side.print_table(rows, size)
         print('Peak memory is wanted at most 16384 KiB beside the index.')
-        for row in rows[1:]:
+        for row in ours:
             side_by_side.print_openings(row, folder, output)
 
 

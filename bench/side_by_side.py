@@ -70,6 +70,22 @@ def openssl(image):
     return Row('openssl dgst -sha512-256', ['dgst', '-sha512-256', image], command=shutil.which('openssl'))
 
 
+def casync_rows(folder, image, output, prepare, seeds):
+    """A row for `casync extract` of the image with each of the seeds (None: no seed), from a store that is made first."""
+    casync = shutil.which('casync')
+    if casync is None:
+        print('casync isn\'t there, so it isn\'t measured')
+        return []
+    words = ['make', '--store=theirs.castr', '--digest=sha512-256', 'theirs.caibx', image]
+    subprocess.run([casync, *words], cwd=folder, check=True, stdout=subprocess.DEVNULL)
+    rows = []
+    for what, seed in seeds:
+        named = [] if seed is None else [f'--seed={seed}']
+        words = ['extract', '--store=theirs.castr', '--digest=sha512-256', *named, 'theirs.caibx', output]
+        rows.append(Row(f'casync extract, {what}', words, prepare, command=casync))
+    return rows
+
+
 def measure(rows, folder, runs):
     for _ in range(runs):
         for row in rows:

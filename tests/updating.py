@@ -1,8 +1,9 @@
 #!/usr/bin/env python3
-"""Updates the image of a real file system in place, from its old version, and looks which chunks that takes.
+"""Updates the image of a real file system from older versions, and looks which chunks that takes.
 
-An image is made by mke2fs, and debugfs changes, adds and removes files in a copy of it. What an update needs is read off
-the two images and the index by this script: the chunks of which no entry is right in the old image.
+An image is made by mke2fs, and debugfs changes, adds and removes files in copies of it. The older versions serve as the
+output itself, as seeds, and as both. What an update needs is read off the images and the indexes by this script: the
+chunks of which no entry is right in the output, and which no seed's index lists.
 """
 
 import os
@@ -17,7 +18,6 @@ from checks import Cases, Skip, expect, expect_ended, expect_equal, file_bytes, 
 
 MIB = 1 << 20
 SIZE = 48 * MIB
-WORDS = ['extract', '-k', '-s', 'needed', 'new.caibx', 'disk']
 
 
 def tool(name):
@@ -32,97 +32,144 @@ def run_tool(words, folder):
                    stderr=subprocess.DEVNULL)
 
 
+def change(folder, old, new, lines):
+    """Copies an image, and changes the files in the copy."""
+    shutil.copyfile(os.path.join(folder, old), os.path.join(folder, new))
+    with open(os.path.join(folder, 'changes'), 'w', encoding='utf-8') as file:
+        file.write(''.join(line + '\n' for line in lines))
+    run_tool([tool('debugfs'), '-w', '-f', 'changes', new], folder)
+
+
 def write_images(folder):
-    """The image of a file system as `disk`, and as `new` the same after files were changed, added and removed."""
+    """The image of a file system as `first`, as `second` the same after files were changed and removed, and as `third`
+    the second after files were added and changed."""
     chance = random.Random(12)
     files = os.path.join(folder, 'files')
     os.mkdir(files)
     for number in range(120):
         with open(os.path.join(files, f'file-{number:03}'), 'wb') as file:
             file.write(chance.randbytes(chance.randint(1, 400_000)))
-    run_tool([tool('mke2fs'), '-q', '-t', 'ext4', '-d', files, 'disk', f'{SIZE // MIB}M'], folder)
-    shutil.copyfile(os.path.join(folder, 'disk'), os.path.join(folder, 'new'))
-    with open(os.path.join(folder, 'other'), 'wb') as file:
-        file.write(chance.randbytes(300_000))
-    changes = ['rm file-005', 'rm file-045', 'write other new-file', 'rm file-020', 'write other file-020']
-    with open(os.path.join(folder, 'changes'), 'w', encoding='utf-8') as file:
-        file.write(''.join(line + '\n' for line in changes))
-    run_tool([tool('debugfs'), '-w', '-f', 'changes', 'new'], folder)
+    run_tool([tool('mke2fs'), '-q', '-t', 'ext4', '-d', files, 'first', f'{SIZE // MIB}M'], folder)
+    for name, size in (('one', 300_000), ('two', 500_000)):
+        with open(os.path.join(folder, name), 'wb') as file:
+            file.write(chance.randbytes(size))
+    change(folder, 'first', 'second', ['rm file-005', 'rm file-045', 'rm file-020', 'write one file-020'])
+    change(folder, 'second', 'third', ['write two new-file', 'rm file-070', 'write one file-070'])
     shutil.rmtree(files)
-    return file_bytes(os.path.join(folder, 'disk')), file_bytes(os.path.join(folder, 'new'))
 
 
-def lay_out(folder):
-    """The old image as `disk`, and the new one with its index and its store. Answers both images and the index."""
-    old, new = write_images(folder)
-    os.mkdir(os.path.join(folder, 'all'))
-    expect_ended(program.run(['make', '-s', 'all', 'new.caibx', 'new'], folder), what='make')
-    return old, new, formats.read_index(file_bytes(os.path.join(folder, 'new.caibx')))
+class Versions:
+    """The three images and their indexes, and the store that has all chunks of the third."""
+
+    def __init__(self, folder):
+        self.folder = folder
+        write_images(folder)
+        for name in ('first', 'second', 'third'):
+            os.mkdir(self.path(f'all-{name}'))
+            expect_ended(program.run(['make', '-s', f'all-{name}', f'{name}.caibx', name], folder), what='make')
+        self.third = self.bytes_of('third')
+        self.index = self.index_of('third')
+
+    def path(self, name):
+        return os.path.join(self.folder, name)
+
+    def bytes_of(self, name):
+        return file_bytes(self.path(name))
+
+    def index_of(self, name):
+        return formats.read_index(self.bytes_of(f'{name}.caibx'))
+
+    def needed(self, output, seeds):
+        """The names of the chunks of which no entry is right in the output, and which no seed lists."""
+        base = (b'' if output is None else self.bytes_of(output))[:self.index.length()].ljust(self.index.length(), b'\0')
+        right = {name for start, end, name in self.index.slices() if formats.name_of(base[start:end]) == name}
+        for seed in seeds:
+            right |= self.index_of(seed).names()
+        return self.index.names() - right
+
+    def fill_store(self, names):
+        """Makes `needed` a store of these chunks."""
+        shutil.rmtree(self.path('needed'), ignore_errors=True)
+        os.mkdir(self.path('needed'))
+        for name in names:
+            target = formats.chunk_path(self.path('needed'), name)
+            os.makedirs(os.path.dirname(target), exist_ok=True)
+            shutil.copyfile(formats.chunk_path(self.path('all-third'), name), target)
+
+    def words(self, output, seeds):
+        """The words of an update. The output begins as this version, or isn't there."""
+        if os.path.exists(self.path('disk')):
+            os.remove(self.path('disk'))
+        if output is not None:
+            shutil.copyfile(self.path(output), self.path('disk'))
+        named = [word for seed in seeds for word in ('--seed', f'{seed}.caibx')]
+        return ['extract', '-k', '-s', 'needed', *named, 'third.caibx', 'disk']
+
+    def opened(self, words):
+        """The names of the chunks that an update opens, with no error, as strace shows them."""
+        run_tool([tool('strace'), '-f', '-e', 'trace=open,openat', '-o', 'strace', program.DESYNC, *words], self.folder)
+        with open(self.path('strace'), encoding='utf-8') as file:
+            lines = [line for line in file if '"needed/' in line and '= -1' not in line]
+        return [bytes.fromhex(line.split('"')[1].split('/')[-1]) for line in lines if line.split('"')[1].count('/') == 2]
+
+    def expect_updated(self):
+        expect(self.bytes_of('disk') == self.third, 'the updated image is another one')
 
 
-def needed_of(index, old):
-    """The names of the chunks of which no entry is right in the old image."""
-    right = {name for start, end, name in index.slices() if formats.name_of(old[start:end]) == name}
-    return index.names() - right
+WAYS = [
+    ('in place', 'first', []),
+    ('from the old version as seed', None, ['first']),
+    ('in place, and from a seed', 'first', ['second']),
+    ('from two seeds', None, ['first', 'second']),
+]
 
 
-def copy_chunks(folder, names):
-    shutil.rmtree(os.path.join(folder, 'needed'), ignore_errors=True)
-    os.mkdir(os.path.join(folder, 'needed'))
-    for name in names:
-        target = formats.chunk_path(os.path.join(folder, 'needed'), name)
-        os.makedirs(os.path.dirname(target), exist_ok=True)
-        shutil.copyfile(formats.chunk_path(os.path.join(folder, 'all'), name), target)
+def only_what_changed_is_needed(cases, versions):
+    for what, output, seeds in WAYS:
+        with cases.case(f'a store of just what is needed, {what}'):
+            needed = versions.needed(output, seeds)
+            expect(0 < len(needed) < len(versions.index.names()) // 2, f'{len(needed)} chunks are needed')
+            versions.fill_store(needed)
+            expect_ended(program.run(versions.words(output, seeds), versions.folder), what='the update')
+            versions.expect_updated()
 
 
-def opened_chunks(folder):
-    """The names of the chunks that an update opens, with no error, as strace shows them."""
-    report = os.path.join(folder, 'strace')
-    run_tool([tool('strace'), '-f', '-e', 'trace=open,openat', '-o', report, program.DESYNC, *WORDS], folder)
-    with open(report, encoding='utf-8') as file:
-        lines = [line for line in file if '"needed/' in line and '= -1' not in line]
-    return [bytes.fromhex(line.split('"')[1].split('/')[-1]) for line in lines if line.split('"')[1].count('/') == 2]
+def one_chunk_is_missing(cases, versions):
+    for what, output, seeds in WAYS:
+        with cases.case(f'a store that lacks one of them, and then has it, {what}'):
+            needed = versions.needed(output, seeds)
+            slices = list(versions.index.slices())
+            entry, lost = next((number, name) for number, (_, _, name) in enumerate(slices) if name in needed)
+            versions.fill_store(needed - {lost})
+            words = versions.words(output, seeds)
+            expect_ended(program.run(words, versions.folder), f'chunk {lost.hex()} of entry {entry} is missing')
+            old = versions.bytes_of(output) if output else bytes(versions.index.length())
+            updated = versions.bytes_of('disk')
+            for start, end, name in slices:
+                wanted = old if name == lost else versions.third
+                expect(updated[start:end] == wanted[start:end], f'bytes {start} to {end} aren\'t those that are wanted')
+            versions.fill_store({lost})
+            expect_ended(program.run(words, versions.folder), what='the second update')
+            versions.expect_updated()
 
 
-def only_what_changed_is_needed(cases):
-    with cases.case('a store of just what the old version lacks') as folder:
-        old, new, index = lay_out(folder)
-        needed = needed_of(index, old)
-        expect(0 < len(needed) < len(index.names()) // 2, f'{len(needed)} of {len(index.names())} chunks are needed')
-        copy_chunks(folder, needed)
-        expect_ended(program.run(WORDS, folder), what='the update')
-        expect(file_bytes(os.path.join(folder, 'disk')) == new, 'the updated image is another one')
-
-
-def one_chunk_is_missing(cases):
-    with cases.case('a store that lacks one of them, and then has it') as folder:
-        old, new, index = lay_out(folder)
-        needed = needed_of(index, old)
-        entry, lost = next((number, name) for number, (_, _, name) in enumerate(index.slices()) if name in needed)
-        copy_chunks(folder, needed - {lost})
-        expect_ended(program.run(WORDS, folder), f'chunk {lost.hex()} of entry {entry} is missing')
-        updated = file_bytes(os.path.join(folder, 'disk'))
-        for start, end, name in index.slices():
-            wanted = old if name == lost else new
-            expect(updated[start:end] == wanted[start:end], f'bytes {start} to {end} aren\'t those that are wanted')
-        copy_chunks(folder, {lost})
-        expect_ended(program.run(WORDS, folder), what='the second update')
-        expect(file_bytes(os.path.join(folder, 'disk')) == new, 'the updated image is another one')
-
-
-def each_needed_chunk_is_read_once(cases):
-    with cases.case('which chunks are read') as folder:
-        old, _, index = lay_out(folder)
-        needed = needed_of(index, old)
-        copy_chunks(folder, index.names())
-        expect_equal(sorted(opened_chunks(folder)), sorted(needed), 'the list of chunks that were read')
+def each_needed_chunk_is_read_once(cases, versions):
+    versions.fill_store(versions.index.names())
+    for what, output, seeds in WAYS:
+        with cases.case(f'which chunks are read, {what}'):
+            needed = versions.needed(output, seeds)
+            opened = versions.opened(versions.words(output, seeds))
+            expect_equal(sorted(opened), sorted(needed), 'the list of chunks that were read')
+            versions.expect_updated()
 
 
 def main():
     needs_program('updating')
     cases = Cases('updating')
-    for group in (only_what_changed_is_needed, one_chunk_is_missing, each_needed_chunk_is_read_once):
-        group(cases)
+    with cases.case('three versions of an image') as folder:
+        versions = Versions(folder)
+        for group in (only_what_changed_is_needed, one_chunk_is_missing, each_needed_chunk_is_read_once):
+            group(cases, versions)
     return cases.end()
 
 

@@ -1,13 +1,14 @@
 -- What a step leaves, and what its refusals tell: none is Done, and a fault that is told has raised its count. Proved once a
 -- step, and composed.
-use Rattle.std.proofs.Common.{◌≡◌, ◌∙◌, ◌≤◌, ℕ, zero, suc, Bool, true, false, List, [], ◌∷◌, Option, Result, Ok, Err, refl, sym, subst, inl, inr, arith}
+use Rattle.std.proofs.Common.{◌≡◌, ◌∙◌, ◌+◌, ◌≤◌, ℕ, zero, suc, Bool, true, false, List, [], ◌∷◌, Option, Result, Ok, Err, refl, sym, subst, inl, inr, arith}
 use Rattle.std.specs.Map.{count_at}
-use Rattle.caibx_codec.specs.Listing.{Listing}
+use Rattle.caibx_codec.specs.Listing.{Listing, count_of}
 use Rattle.command_outcome.specs.declared.outcome.Outcome.{Outcome}
 use Rattle.command_outcome.specs.declared.outcome.Outcome.TheVariants as ends
 use Rattle.command_steps.specs.Blames.{Blames, Keeps, Parts, Spares, name_at}
-use Rattle.command_steps.specs.Openings.{ImageOpened, IndexRead}
+use Rattle.command_steps.specs.Openings.{ImageOpened, IndexRead, NotRead}
 use Rattle.command_steps.specs.Printing.{Printed}
+use Rattle.command_steps.specs.Seeds.{IndexesRead, NoneListed}
 use Rattle.command_steps.specs.Steps.{◌>>=◌, Passed, each, nothing}
 use Rattle.command_steps.specs.Stores.{FailsFirst, NoneReached, NotReached, StoreTaken, StoresOpened}
 use Rattle.command_steps.specs.Worlds.{Adds, FileRose, FolderRose, OnDisk, OnOut, Pure, Reads, Step, World, Writes, world}
@@ -139,17 +140,29 @@ module _ (s : Spares) (x : Parts) (p : Output) where
   file_fault : (d e : Disk) (q name : List ℕ) → name ≡ q → FileRose d e q → IsFair x (ends.FileFault name) (round p d) (round p e)
   file_fault d e q name is rose = (tt, inl (subst (λ n. FileRose d e n) (sym is) rose))
 
-  pub index_step : (q : List ℕ) → IsStep (round p) s x (IndexRead q)
-  index_step q = record { fair = go; leaves = leaves } where
-    go : (d e : Disk) (o : Outcome) → IndexRead q d (Err o) e → IsFair x o (round p d) (round p e)
-    go d e (ends.NoFile name) h = (tt, tt)
-    go d e (ends.BadIndex name fault) h = (tt, tt)
-    go d e (ends.FileFault name) h = file_fault d e q name h.0.0 h.0.1
-    go d e ends.Memory h = (tt, tt)
-    go d e other h = absurd h.0
+  not_read_fair : (d e : Disk) (q : List ℕ) (o : Outcome) → NotRead d e q o → IsFair x o (round p d) (round p e)
+  not_read_fair d e q (ends.NoFile name) h = (tt, tt)
+  not_read_fair d e q (ends.BadIndex name fault) h = (tt, tt)
+  not_read_fair d e q (ends.FileFault name) h = file_fault d e q name h.0 h.1
+  not_read_fair d e q ends.Memory h = (tt, tt)
+  not_read_fair d e q other h = absurd h
 
+  pub index_step : (q : List ℕ) → IsStep (round p) s x (IndexRead q)
+  index_step q = record { fair = λ d e o h. not_read_fair d e q o h.0; leaves = leaves } where
     leaves : (d e : Disk) (r : Result Listing Outcome) → IndexRead q d r e → IsLeft s (round p d) (round p e)
     leaves d e (Ok l) h = reads p h.1
+    leaves d e (Err o) h = reads p h.1
+
+  none_listed_fair : (d e : Disk) (n : ℕ) (names : List (List ℕ)) (o : Outcome) → NoneListed d e n names o → IsFair x o (round p d) (round p e)
+  none_listed_fair d e n [] o h = absurd h
+  none_listed_fair d e n (q ∷ names) o (inl h) = not_read_fair d e q o h
+  none_listed_fair d e n (q ∷ names) o (inr (l, listed, inl h)) = subst (λ r. IsFair x r (round p d) (round p e)) (sym h.0) (tt, tt)
+  none_listed_fair d e n (q ∷ names) o (inr (l, listed, inr h)) = none_listed_fair d e (n + count_of l) names o h.1
+
+  pub indexes_step : (names : List (List ℕ)) → IsStep (round p) s x (IndexesRead names)
+  indexes_step names = record { fair = λ d e o h. none_listed_fair d e 0 names o h.0; leaves = leaves } where
+    leaves : (d e : Disk) (r : Result (List Listing) Outcome) → IndexesRead names d r e → IsLeft s (round p d) (round p e)
+    leaves d e (Ok ls) h = reads p h.1
     leaves d e (Err o) h = reads p h.1
 
   pub image_step : IsStep (round p) s x (ImageOpened x.image)

@@ -3,3 +3,5 @@ pub mod Lent
 pub mod Opened
 pub mod Texts
 pub mod Fair
+pub mod SeedsOpened
+pub mod SeedsRead

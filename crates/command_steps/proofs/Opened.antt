@@ -10,13 +10,8 @@ use Rattle.command_outcome.specs.declared.outcome.Outcome.{Outcome}
 use Rattle.command_outcome.specs.declared.outcome.Outcome.TheVariants as ends
 use Rattle.command_steps.specs.Stores.{AllKnown, IsStoreAt, NoneReached, NotReached, Opens}
 use Rattle.command_steps.specs.Worlds.{Reads}
-use Rattle.command_steps.proofs.Numbers.{rose_later}
+use Rattle.command_steps.proofs.Numbers.{rose_later, rose_longer}
 use Rattle.dsy_base.specs.Disk.{Disk}
-
--- a rise before a rise or none
-rose_longer : (a b c : ℕ) → b ≤ c → Rose a b → Rose a c
-rose_longer a b c le (inl more) = inl (omega arith)
-rose_longer a b c le (inr full) = inr (omega arith)
 
 later : (d b e : Disk) → Reads d b → (q : List ℕ) (o : Outcome) → NotReached b e q o → NotReached d e q o
 later d b e r q (ends.NoFolder name) h = (h.0, subst (λ f. IfSome f (λ m. m q ≡ None)) r.folders h.1)

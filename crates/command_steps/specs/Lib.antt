@@ -5,3 +5,4 @@ pub mod Printing
 pub mod Blames
 pub mod AnyStores
 pub mod Stores
+pub mod Seeds

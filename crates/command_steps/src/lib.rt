@@ -4,4 +4,5 @@
 pub mod any_store;
 pub mod openings;
 pub mod printing;
+pub mod seeds;
 pub mod stores;

@@ -1,10 +1,9 @@
 -- What an assembly over taken files and folders makes of the answer.
-use Rattle.std.proofs.Common.{ap, ◌⊎◌, Bool, true, false, cond, is_some, unwrap_or, ◌≡◌, ℕ, ◌<◌, List, [], map, Option, Some, None, IfSome, IfErr, refl, subst, ◌∙◌, sym, inl, inr, Result, Ok, Err}
+use Rattle.std.proofs.Common.{ap, arith, ◌⊎◌, Bool, true, false, cond, is_some, unwrap_or, ◌≡◌, ℕ, ◌<◌, List, [], map, Option, Some, None, IfSome, IfErr, refl, subst, ◌∙◌, sym, inl, inr, Result, Ok, Err}
 use Rattle.assembler.specs.Assemblies.{After, Assembles, IsObtainable, KeepsBase, RightAlike, Verdict}
 use Rattle.assembler.specs.Fills.{WhereTold}
 use Rattle.assembler.specs.Losses.{chunk_of}
 use Rattle.assembler.specs.Passes.{want_at}
-use Rattle.assembler.specs.Sources.{SeedsGive}
 use Rattle.assembler.specs.declared.fault.ExtractFault.{ExtractFault}
 use Rattle.assembler.specs.declared.fault.ExtractFault.TheVariants as faults
 use Rattle.assembler.specs.declared.report.Report.{Report}
@@ -14,15 +13,19 @@ use Rattle.chunk_store.specs.declared.id.ChunkId.{ChunkId}
 use Rattle.dsy_base.specs.Bytes.{Held, resized}
 use Rattle.dsy_base.specs.Disk.{Disk}
 use Rattle.dsy_base.specs.Maps.{Map, at_name}
+use Rattle.dsy_base.specs.declared.fault.IoFault.{IoFault}
+use Rattle.dsy_base.specs.declared.fault.IoFault.TheVariants as io
 use Rattle.extract_plan.specs.Deal.{Deal}
-use Rattle.extract_plan.specs.Places.{Placed, places_at}
-use Rattle.extract_plan.specs.declared.seed.SeedPlace.{SeedPlace}
+use Rattle.extract_plan.specs.Places.{IsSeedIndex, Placed, places_at}
+use Rattle.std.specs.List.{AllZip}
 use Rattle.std.specs.Option.{option_map}
 use Rattle.std.specs.Str.{bytes_eq}
 use Rattle.store_chain.specs.Giving.{LacksAll}
 use Rattle.store_chain.specs.declared.refused.Refused.{Refused}
 use Rattle.store_chain.specs.declared.refused.Refused.TheVariants as refused
-use Rattle.desync_cli.specs.Extract.{Assembled, CanBeHad, IsLacking, Leaves, StopsFailed, StopsSomewhere, Told, answer_of_assembly, base_of, old_of}
+use Rattle.desync_cli.proofs.Seeded.{given_had, had_given}
+use Rattle.desync_cli.specs.Extract.{Assembled, CanBeHad, IsLacking, Leaves, SeedHas, Seeds, StopsFailed, StopsSomewhere, Told, answer_of_assembly, answer_of_taking, base_of, old_of}
+use Rattle.command_steps.specs.Seeds.{IsViewed}
 use Rattle.command_steps.specs.Worlds.{DiskQuiet, FileRose}
 
 over_told : {X Y Z : Type 0} (x : Option X) (y : Option Y) (z : Option Z) (P : X → Y → Z → Type 0) → ((a : X) (b : Y) (c : Z) → x ≡ Some a → y ≡ Some b → z ≡ Some c → P a b c) → IfSome x (λ a. IfSome y (λ b. IfSome z (λ c. P a b c)))
@@ -38,21 +41,27 @@ at_name_twice m name u w = λ i q. twice (bytes_eq name q) w u (m q) i where
   twice true w u r = refl
   twice false w u r = refl
 
--- ---- where there are no seeds
+-- ---- what can be had
 
-no_seeds_give : (places : List SeedPlace) (id : List ℕ) → SeedsGive [] places id → ⊥
-no_seeds_give places id any = any.4
+module _ (d b e : Disk) (l : Listing) (p : Deal) (q : Placed) (x : Seeds) (views : List (Option Held)) (zip : AllZip (IsViewed d b) x.images views) (is : IsSeedIndex l p x.listings q)
+    (m : Map (List ℕ)) (told : d.files ≡ Some m) (base : List ℕ) (maps : List (Map (List ℕ))) (i : ℕ) (listed : i < count_of l) where
+  pub had_of : IsObtainable l p q base views maps i → CanBeHad l base m x maps i
+  had_of (inl right) = inl right
+  had_of (inr (inl seed)) = inr (inl (given_had d b m told x views zip (id_of l i) (size_of l i) (places_at q (want_at p i)) (is.places i listed) seed))
+  had_of (inr (inr store)) = inr (inr store)
 
-pub had_of : (l : Listing) (d : Deal) (x : Placed) (base : List ℕ) (views : List (Option Held)) (maps : List (Map (List ℕ))) (i : ℕ) → views ≡ [] → IsObtainable l d x base views maps i → CanBeHad l base maps i
-had_of l d x base views maps i none (inl right) = inl right
-had_of l d x base views maps i none (inr (inl seed)) = absurd (no_seeds_give (places_at x (want_at d i)) (id_of l i) (subst (λ (v : List (Option Held)). SeedsGive v (places_at x (want_at d i)) (id_of l i)) none seed))
-had_of l d x base views maps i none (inr (inr store)) = inr store
-
-pub obtainable_of : (l : Listing) (d : Deal) (x : Placed) (base : List ℕ) (views : List (Option Held)) (maps : List (Map (List ℕ))) (i : ℕ) → CanBeHad l base maps i → IsObtainable l d x base views maps i
-obtainable_of l d x base views maps i (inl right) = inl right
-obtainable_of l d x base views maps i (inr store) = inr (inr store)
+  pub obtainable_of : ((n : List ℕ) → FileRose d b n → ⊥) → CanBeHad l base m x maps i → IsObtainable l p q base views maps i
+  obtainable_of none (inl right) = inl right
+  obtainable_of none (inr (inl seed)) = inr (inl (had_given d b m told x views zip (id_of l i) (size_of l i) (places_at q (want_at p i)) (is.places i listed) none seed.0 seed.1))
+  obtainable_of none (inr (inr store)) = inr (inr store)
 
 -- ---- the same over other facts
+
+-- the lost entry where one is named
+abbrev pub LostAs : (ℕ → ChunkId → Refused → Type 0) → ExtractFault → Type 0
+LostAs P (faults.Missing k id) = P k id refused.Missing
+LostAs P (faults.Damaged k id s x) = P k id (refused.Damaged s x)
+LostAs P other = Unit {0}
 
 or_as : {A P Q : Type 0} → (P → Q) → A ⊎ P → A ⊎ Q
 or_as f (inl a) = inl a
@@ -69,29 +78,32 @@ assembles_as l P Q (Err (faults.StoreFault s)) o t f h = keeps_as l P Q (resized
 assembles_as l P Q (Err faults.TargetFault) o t f h = or_as (keeps_as l P Q (resized o (image_length l)) t f) h
 assembles_as l P Q (Err faults.Memory) o t f h = or_as (keeps_as l P Q (resized o (image_length l)) t f) h
 
-verdict_as : (l : Listing) (P Q : ℕ → Type 0) → ((i : ℕ) → P i → Q i) → ((i : ℕ) → Q i → P i) → (r : Result Report ExtractFault) → Verdict l P r → Verdict l Q r
-verdict_as l P Q to from (Ok r) h = λ i lt. to i (h i lt)
-verdict_as l P Q to from (Err (faults.Missing k id)) h = (λ i lt. to i (h.0 i lt), λ q. h.1 (from k q))
-verdict_as l P Q to from (Err (faults.Damaged k id s x)) h = (λ i lt. to i (h.0 i lt), λ q. h.1 (from k q))
-verdict_as l P Q to from (Err (faults.StoreFault s)) h = h
-verdict_as l P Q to from (Err faults.TargetFault) h = h
-verdict_as l P Q to from (Err faults.Memory) h = tt
+verdict_as : (l : Listing) (P Q : ℕ → Type 0) → ((i : ℕ) → i < count_of l → P i → Q i) → ((i : ℕ) → i < count_of l → Q i → P i) → (r : Result Report ExtractFault) → IfErr r (LostAs (λ k id y. k < count_of l)) → Verdict l P r → Verdict l Q r
+verdict_as l P Q to from (Ok r) lt h = λ i less. to i less (h i less)
+verdict_as l P Q to from (Err (faults.Missing k id)) lt h = (λ i less. to i (omega (arith, less, lt)) (h.0 i less), λ q. h.1 (from k lt q))
+verdict_as l P Q to from (Err (faults.Damaged k id s x)) lt h = (λ i less. to i (omega (arith, less, lt)) (h.0 i less), λ q. h.1 (from k lt q))
+verdict_as l P Q to from (Err (faults.StoreFault s)) lt h = h
+verdict_as l P Q to from (Err faults.TargetFault) lt h = h
+verdict_as l P Q to from (Err faults.Memory) lt h = tt
 
-after_as : (l : Listing) (P Q : ℕ → Type 0) (base t : List ℕ) → ((i : ℕ) → P i → Q i) → ((i : ℕ) → Q i → P i) → (r : Result Report ExtractFault) → After l P base t r → After l Q base t r
-after_as l P Q base t to from (Ok r) h = λ i lt. (λ q. (h i lt).0 (from i q), λ no. (h i lt).1 (λ p. no (to i p)))
-after_as l P Q base t to from (Err (faults.Missing k id)) h = λ i lt. (λ q. (h i lt).0 (from i q), λ no. (h i lt).1 (λ p. no (to i p)))
-after_as l P Q base t to from (Err (faults.Damaged k id s x)) h = λ i lt. (λ q. (h i lt).0 (from i q), λ no. (h i lt).1 (λ p. no (to i p)))
-after_as l P Q base t to from (Err (faults.StoreFault s)) h = λ i lt. (λ q. (h i lt).0 (from i q), λ no. (h i lt).1 (λ p. no (to i p)))
-after_as l P Q base t to from (Err faults.TargetFault) h = λ i lt. (λ q. (h i lt).0 (from i q), λ no. (h i lt).1 (λ p. no (to i p)))
+after_as : (l : Listing) (P Q : ℕ → Type 0) (base t : List ℕ) → ((i : ℕ) → i < count_of l → P i → Q i) → ((i : ℕ) → i < count_of l → Q i → P i) → (r : Result Report ExtractFault) → After l P base t r → After l Q base t r
+after_as l P Q base t to from (Ok r) h = λ i lt. (λ q. (h i lt).0 (from i lt q), λ no. (h i lt).1 (λ p. no (to i lt p)))
+after_as l P Q base t to from (Err (faults.Missing k id)) h = λ i lt. (λ q. (h i lt).0 (from i lt q), λ no. (h i lt).1 (λ p. no (to i lt p)))
+after_as l P Q base t to from (Err (faults.Damaged k id s x)) h = λ i lt. (λ q. (h i lt).0 (from i lt q), λ no. (h i lt).1 (λ p. no (to i lt p)))
+after_as l P Q base t to from (Err (faults.StoreFault s)) h = λ i lt. (λ q. (h i lt).0 (from i lt q), λ no. (h i lt).1 (λ p. no (to i lt p)))
+after_as l P Q base t to from (Err faults.TargetFault) h = λ i lt. (λ q. (h i lt).0 (from i lt q), λ no. (h i lt).1 (λ p. no (to i lt p)))
 after_as l P Q base t to from (Err faults.Memory) h = tt
 
--- ---- what is known of an assembly that ended so
+-- of two facts on it
+lost_both : (P Q R : ℕ → ChunkId → Refused → Type 0) → ((k : ℕ) (id : ChunkId) (y : Refused) → P k id y → Q k id y → R k id y) → (r : Result Report ExtractFault) → IfErr r (LostAs P) → IfErr r (LostAs Q) → IfErr r (LostAs R)
+lost_both P Q R f (Ok r) p q = tt
+lost_both P Q R f (Err (faults.Missing k id)) p q = f k id refused.Missing p q
+lost_both P Q R f (Err (faults.Damaged k id s x)) p q = f k id (refused.Damaged s x) p q
+lost_both P Q R f (Err (faults.StoreFault s)) p q = tt
+lost_both P Q R f (Err faults.TargetFault) p q = tt
+lost_both P Q R f (Err faults.Memory) p q = tt
 
--- the lost entry where one is named
-abbrev pub LostAs : (ℕ → ChunkId → Refused → Type 0) → ExtractFault → Type 0
-LostAs P (faults.Missing k id) = P k id refused.Missing
-LostAs P (faults.Damaged k id s x) = P k id (refused.Damaged s x)
-LostAs P other = Unit {0}
+-- ---- what is known of an assembly that ended so
 
 -- the store where one is named
 abbrev pub StoreAs : (ℕ → Type 0) → ExtractFault → Type 0
@@ -103,7 +115,7 @@ abbrev pub TargetAs : Type 0 → ExtractFault → Type 0
 TargetAs P faults.TargetFault = P
 TargetAs P other = Unit {0}
 
-module _ (d e : Disk) (names : List (List ℕ)) (out : List ℕ) (l : Listing) where
+module _ (d e : Disk) (names : List (List ℕ)) (out : List ℕ) (l : Listing) (x : Seeds) where
   -- where all is told
   pub record Facts (r : Result Report ExtractFault) (b : Map (List ℕ)) (n : Map (Map (List ℕ))) (a : Map (List ℕ)) : Type 0 where
     pub fs : List (Map (List ℕ))
@@ -111,9 +123,9 @@ module _ (d e : Disk) (names : List (List ℕ)) (out : List ℕ) (l : Listing) w
     pub t : List ℕ
     pub leaves : Leaves b a out t
     pub assembles : Assembles l (FileRose d e out) r (old_of b out) t
-    pub lacks : IfErr r (LostAs (IsLacking d e b out l fs))
-    pub verdict : DiskQuiet d e → Verdict l (CanBeHad l (base_of b out l) (map chunks fs)) r
-    pub settled : DiskQuiet d e → After l (CanBeHad l (base_of b out l) (map chunks fs)) (base_of b out l) t r
+    pub lacks : IfErr r (LostAs (IsLacking d e b out l x fs))
+    pub verdict : DiskQuiet d e → Verdict l (CanBeHad l (base_of b out l) b x (map chunks fs)) r
+    pub settled : DiskQuiet d e → After l (CanBeHad l (base_of b out l) b x (map chunks fs)) (base_of b out l) t r
 
   abbrev AllFacts : Result Report ExtractFault → Type 0
   AllFacts r = (b : Map (List ℕ)) (n : Map (Map (List ℕ))) (a : Map (List ℕ)) → d.files ≡ Some b → d.folders ≡ Some n → e.files ≡ Some a → Facts r b n a
@@ -126,20 +138,43 @@ module _ (d e : Disk) (names : List (List ℕ)) (out : List ℕ) (l : Listing) w
   somewhere b a t leaves (inr keeps) = inr (inr (t, (leaves, keeps)))
 
   pub assembled : (r : Result Report ExtractFault) → AllFacts r → IfErr r (TargetAs (FileRose d e out)) → IfErr r (StoreAs (StopsFailed d e names l))
-      → Assembled d e names out l (answer_of_assembly r)
+      → Assembled d e names out l x (answer_of_assembly r)
   assembled (Ok r) facts target store = told _ _ facts (λ b n a f. ((f.t, (f.leaves, f.assembles.1), f.assembles.0), f.verdict))
   assembled (Err (faults.Missing k id)) facts target store = told _ _ facts (λ b n a f. ((f.t, (f.leaves, f.assembles.0), f.assembles.1, f.settled), f.lacks, f.verdict))
-  assembled (Err (faults.Damaged k id s x)) facts target store = told _ _ facts (λ b n a f. ((f.t, (f.leaves, f.assembles.0), f.assembles.1, f.settled), f.lacks, f.verdict))
+  assembled (Err (faults.Damaged k id s y)) facts target store = told _ _ facts (λ b n a f. ((f.t, (f.leaves, f.assembles.0), f.assembles.1, f.settled), f.lacks, f.verdict))
   assembled (Err (faults.StoreFault s)) facts target store = (store, told _ _ facts (λ b n a f. (f.t, (f.leaves, f.assembles))))
   assembled (Err faults.TargetFault) facts target store = (target, told _ _ facts (λ b n a f. somewhere b a f.t f.leaves f.assembles))
   assembled (Err faults.Memory) facts target store = told _ _ facts (λ b n a f. somewhere b a f.t f.leaves f.assembles)
+
+  -- where OUT wasn't taken all is as it was
+  pub not_taken_as : (fault : IoFault) (looks : List (Option (Map (List ℕ)))) → IfSome d.folders (λ m. (fs : List (Map (List ℕ))) × (map m names ≡ map Some fs) × (looks ≡ map Some fs)) → e.files ≡ d.files → (fault ≡ io.Failed → FileRose d e out)
+      → Assembled d e names out l x (answer_of_taking fault)
+  not_taken_as fault looks found same rose = go fault rose where
+    before : Told d e names (λ b a fs. StopsSomewhere d e b a out l)
+    before = over_told d.files d.folders e.files _ (λ b n a is y z.
+        let f : (fs : List (Map (List ℕ))) × (map n names ≡ map Some fs) × (looks ≡ map Some fs) = subst (λ o. IfSome o (λ m. (fs : List (Map (List ℕ))) × (map m names ≡ map Some fs) × (looks ≡ map Some fs))) y found in
+        let kept : Some a ≡ Some b = sym z ∙ same ∙ is in
+        let as_before : a ≡ b = cc in
+        (f.0, f.1, inl as_before))
+
+    go : (fault : IoFault) → (fault ≡ io.Failed → FileRose d e out) → Assembled d e names out l x (answer_of_taking fault)
+    go io.Failed rose = (rose refl, before)
+    go io.Memory rose = before
 
   -- the same as `IsLacking`, over the bytes that OUT had
   abbrev pub LackingOver : List ℕ → List (Map (List ℕ)) → ℕ → ChunkId → Refused → Type 0
   LackingOver o fs k id r = (k < count_of l) × (id.0 ≡ id_of l k) × LacksAll (chunk_of (kind_of l) id (size_of l k)) (map chunks fs) r
       × (RightAlike l (resized o (image_length l)) k → FileRose d e out)
 
-  module _ (P : List (Map (List ℕ)) → List ℕ → ℕ → Type 0) (had : (maps : List (Map (List ℕ))) (base : List ℕ) (i : ℕ) → P maps base i → CanBeHad l base maps i) (back : (maps : List (Map (List ℕ))) (base : List ℕ) (i : ℕ) → CanBeHad l base maps i → P maps base i) where
+  -- a seed that has the chunk of entry k has failed
+  abbrev pub SeedsLack : Map (List ℕ) → ℕ → ChunkId → Refused → Type 0
+  SeedsLack b k id r = (s : ℕ) (h : SeedHas b x (id_of l k) (size_of l k) s) → FileRose d e h.image
+
+  lacking : (b : Map (List ℕ)) (fs : List (Map (List ℕ))) (k : ℕ) (id : ChunkId) (r : Refused) → LackingOver (old_of b out) fs k id r → SeedsLack b k id r → IsLacking d e b out l x fs k id r
+  lacking b fs k id r h seeds = record { listed = h.0; id_is = h.1; lacks = h.2; copies = h.3; seeds = seeds }
+
+  module _ (P : List (Map (List ℕ)) → List ℕ → ℕ → Type 0) (had : (b : Map (List ℕ)) → d.files ≡ Some b → (maps : List (Map (List ℕ))) (base : List ℕ) (i : ℕ) → i < count_of l → P maps base i → CanBeHad l base b x maps i)
+      (back : (b : Map (List ℕ)) → d.files ≡ Some b → DiskQuiet d e → (maps : List (Map (List ℕ))) (base : List ℕ) (i : ℕ) → i < count_of l → CanBeHad l base b x maps i → P maps base i) where
     pub facts_of : (r : Result Report ExtractFault) (looks : List (Option (Map (List ℕ)))) (t0 t1 : Option (List ℕ)) (F : Type 0) (N : List (Map (List ℕ)) → Type 0)
         → IfSome d.folders (λ m. (fs : List (Map (List ℕ))) × (map m names ≡ map Some fs) × (looks ≡ map Some fs))
         → IfSome d.files (λ m. t0 ≡ Some (old_of m out)) → is_some t0 ≡ is_some t1
@@ -147,24 +182,25 @@ module _ (d e : Disk) (names : List (List ℕ)) (out : List ℕ) (l : Listing) w
         → (F → FileRose d e out)
         → WhereTold t0 t1 (Assembles l F r)
         → ((fs : List (Map (List ℕ))) → looks ≡ map Some fs → IfSome t0 (λ o. IfErr r (LostAs (LackingOver o fs))))
+        → ((b : Map (List ℕ)) → d.files ≡ Some b → IfErr r (LostAs (SeedsLack b)))
         → ((maps : List (Map (List ℕ))) → N maps → IfSome t0 (λ o. Verdict l (P maps (resized o (image_length l))) r))
         → ((maps : List (Map (List ℕ))) → N maps → WhereTold t0 t1 (λ o t. After l (P maps (resized o (image_length l))) (resized o (image_length l)) t r))
         → ((b : Map (List ℕ)) → d.files ≡ Some b → (fs : List (Map (List ℕ))) → looks ≡ map Some fs → DiskQuiet d e → N (map chunks fs)) → AllFacts r
-    facts_of r looks t0 t1 F N found took told left rose bytes lacks exactly after quiet b n a x y z =
+    facts_of r looks t0 t1 F N found took told left rose bytes lacks lack exactly after quiet b n a is y z =
         let f : (fs : List (Map (List ℕ))) × (map n names ≡ map Some fs) × (looks ≡ map Some fs) =
         subst (λ o. IfSome o (λ m. (fs : List (Map (List ℕ))) × (map m names ≡ map Some fs) × (looks ≡ map Some fs))) y found in
-        let o : t0 ≡ Some (old_of b out) = subst (λ o. IfSome o (λ m. t0 ≡ Some (old_of m out))) x took in
+        let o : t0 ≡ Some (old_of b out) = subst (λ o. IfSome o (λ m. t0 ≡ Some (old_of m out))) is took in
         let lf : e.files ≡ option_map (λ m. at_name m out t1) (option_map (λ m. at_name m out None) (Some b)) =
-        subst (λ s. e.files ≡ option_map (λ m. at_name m out t1) (option_map (λ m. at_name m out None) s)) x left in
-        go (old_of b out) t0 t1 o (subst (λ s. is_some s ≡ is_some t1) o told) (sym z ∙ lf) f.0 f.1 bytes (lacks f.0 f.2) (λ k. exactly (map chunks f.0) (quiet b x f.0 f.2 k)) (λ k. after (map chunks f.0) (quiet b x f.0 f.2 k)) refl where
+        subst (λ s. e.files ≡ option_map (λ m. at_name m out t1) (option_map (λ m. at_name m out None) s)) is left in
+        go (old_of b out) t0 t1 o (subst (λ s. is_some s ≡ is_some t1) o told) (sym z ∙ lf) f.0 f.1 bytes (lacks f.0 f.2) (λ k. exactly (map chunks f.0) (quiet b is f.0 f.2 k)) (λ k. after (map chunks f.0) (quiet b is f.0 f.2 k)) refl where
           go : (old : List ℕ) (s0 s1 : Option (List ℕ)) → s0 ≡ Some old → true ≡ is_some s1 → Some a ≡ Some (at_name (at_name b out None) out s1)
               → (fs : List (Map (List ℕ))) → map n names ≡ map Some fs → WhereTold s0 s1 (Assembles l F r) → IfSome s0 (λ o. IfErr r (LostAs (LackingOver o fs)))
               → (DiskQuiet d e → IfSome s0 (λ o. Verdict l (P (map chunks fs) (resized o (image_length l))) r))
               → (DiskQuiet d e → WhereTold s0 s1 (λ o t. After l (P (map chunks fs) (resized o (image_length l))) (resized o (image_length l)) t r))
               → old ≡ old_of b out → Facts r b n a
-          go old None s1 same is_told is fs there bs ls v w at = absurd (cc)
-          go old (Some o) None same is_told is fs there bs ls v w at = absurd (cc)
-          go old (Some o) (Some t) same is_told is fs there bs ls v w at =
+          go old None s1 same is_told are fs there bs ls v w at = absurd (cc)
+          go old (Some o) None same is_told are fs there bs ls v w at = absurd (cc)
+          go old (Some o) (Some t) same is_told are fs there bs ls v w at =
               let was : o ≡ old_of b out = cc in
               over o was bs ls v w where
                 over : (p : List ℕ) → p ≡ old_of b out → Assembles l F r p t → IfErr r (LostAs (LackingOver p fs))
@@ -174,11 +210,13 @@ module _ (d e : Disk) (names : List (List ℕ)) (out : List ℕ) (l : Listing) w
                   fs = fs;
                   there = there;
                   t = t;
-                  leaves = ap (λ o. unwrap_or o a) is ∙ at_name_twice b out None (Some t);
+                  leaves = ap (λ o. unwrap_or o a) are ∙ at_name_twice b out None (Some t);
                   assembles = subst (λ (q : List ℕ). Assembles l (FileRose d e out) r q t) was (assembles_as l F (FileRose d e out) r p t rose bs);
-                  lacks = subst (λ (q : List ℕ). IfErr r (LostAs (LackingOver q fs))) was ls;
-                  verdict = λ k. subst (λ (q : List ℕ). Verdict l (CanBeHad l (resized q (image_length l)) (map chunks fs)) r) was
-                      (verdict_as l (P (map chunks fs) (resized p (image_length l))) (CanBeHad l (resized p (image_length l)) (map chunks fs)) (had (map chunks fs) (resized p (image_length l))) (back (map chunks fs) (resized p (image_length l))) r (v k));
-                  settled = λ k. subst (λ (q : List ℕ). After l (CanBeHad l (resized q (image_length l)) (map chunks fs)) (resized q (image_length l)) t r) was
-                      (after_as l (P (map chunks fs) (resized p (image_length l))) (CanBeHad l (resized p (image_length l)) (map chunks fs)) (resized p (image_length l)) t (had (map chunks fs) (resized p (image_length l))) (back (map chunks fs) (resized p (image_length l))) r (w k));
+                  lacks = lost_both (LackingOver (old_of b out) fs) (SeedsLack b) (IsLacking d e b out l x fs) (lacking b fs) r (subst (λ (q : List ℕ). IfErr r (LostAs (LackingOver q fs))) was ls) (lack b is);
+                  verdict = λ k. subst (λ (q : List ℕ). Verdict l (CanBeHad l (resized q (image_length l)) b x (map chunks fs)) r) was
+                      (verdict_as l (P (map chunks fs) (resized p (image_length l))) (CanBeHad l (resized p (image_length l)) b x (map chunks fs)) (had b is (map chunks fs) (resized p (image_length l)))
+                      (back b is k (map chunks fs) (resized p (image_length l))) r (lost_both (LackingOver p fs) (SeedsLack b) (λ i id y. i < count_of l) (λ i id y h c. h.0) r ls (lack b is)) (v k));
+                  settled = λ k. subst (λ (q : List ℕ). After l (CanBeHad l (resized q (image_length l)) b x (map chunks fs)) (resized q (image_length l)) t r) was
+                      (after_as l (P (map chunks fs) (resized p (image_length l))) (CanBeHad l (resized p (image_length l)) b x (map chunks fs)) (resized p (image_length l)) t (had b is (map chunks fs) (resized p (image_length l)))
+                      (back b is k (map chunks fs) (resized p (image_length l))) r (w k));
                 }

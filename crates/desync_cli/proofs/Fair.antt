@@ -1,5 +1,5 @@
 -- What each command leaves, and what its refusals tell: a lemma for each step of its own, and a line a command.
-use Rattle.std.proofs.Common.{◌≡◌, ℕ, List, IfSome, Bool, true, false, Option, Some, None, Result, Ok, Err, refl, sym, subst, inl, inr, arith, cond}
+use Rattle.std.proofs.Common.{◌≡◌, ℕ, List, map, IfSome, Bool, true, false, Option, Some, None, Result, Ok, Err, refl, sym, subst, inl, inr, arith, cond}
 use Rattle.std.specs.Map.{count_at}
 use Rattle.buzhash_cut.specs.Sizes.{Sizes}
 use Rattle.caibx_codec.specs.Listing.{Listing, id_of}
@@ -16,13 +16,14 @@ use Rattle.command_outcome.specs.declared.outcome.Outcome.TheVariants as ends
 use Rattle.command_steps.specs.Blames.{Blames, Keeps, NothingFailed, Parts, Spares, name_at}
 use Rattle.command_steps.specs.Steps.{Passed, answer_of, outcome_of}
 use Rattle.command_steps.specs.Worlds.{FileRose, FolderRose, NoFault, World}
-use Rattle.command_steps.proofs.Fair.{IsFair, IsLeft, IsRefusal, IsStep, adds, between, bound, first_failed, first_fair, image_step, index_step, on_disk, on_out, opened_step, printed_step, pure_step, reads, round, taken_step, whole, writes}
+use Rattle.command_steps.proofs.Fair.{IsFair, IsLeft, IsRefusal, IsStep, adds, between, bound, first_failed, first_fair, image_step, index_step, indexes_step, on_disk, on_out, opened_step, printed_step, pure_step, reads, round, taken_step, whole, writes}
 use Rattle.command_steps.proofs.Numbers.{rose_not_quiet}
 use Rattle.desync_cli.specs.Commands.{DesyncEnds, Ends, NoCommand, TellsRefusal, WordsRead, built_in, command_of, is_built, parts, refusal_in, refusal_of, spares}
-use Rattle.desync_cli.specs.Extract.{ImageMade, LacksEntry}
+use Rattle.desync_cli.specs.Extract.{ImageMade, LacksEntry, Seeds}
 use Rattle.desync_cli.specs.Info.{IdsCounted, NotAsked}
 use Rattle.desync_cli.specs.Make.{ImageStored, IndexWritten, SizesJudged}
 use Rattle.desync_cli.specs.VerifyIndex.{ImageChecked}
+use Rattle.command_steps.specs.Seeds.{image_name}
 use Rattle.command_steps.specs.Stores.{name_of}
 use Rattle.dsy_base.specs.Disk.{Disk, Output}
 use Rattle.dsy_base.specs.Maps.{Map}
@@ -50,13 +51,13 @@ module _ (s : Spares) (x : Parts) (p : Output) where
     go d e ends.Memory h = (tt, tt)
     go d e other h = absurd h.0
 
-  assembled_fair : (l : Listing) (d e : Disk) (o : Outcome) → ImageMade x.stores x.target l d (Err o) e → IsFair x o (round p d) (round p e)
-  assembled_fair l d e (ends.Missing k id) h = (tt, tt)
-  assembled_fair l d e (ends.Damaged k id store shows) h = (tt, tt)
-  assembled_fair l d e (ends.StoreFault k) h = (tt, first_failed (LacksEntry l h.0.0.0) d e k x.stores h.0.0.1)
-  assembled_fair l d e ends.TargetFault h = (tt, h.0.0)
-  assembled_fair l d e ends.Memory h = (tt, tt)
-  assembled_fair l d e other h = absurd h.0
+  assembled_fair : (l : Listing) (z : Seeds) (d e : Disk) (o : Outcome) → ImageMade x.stores x.target l z d (Err o) e → IsFair x o (round p d) (round p e)
+  assembled_fair l z d e (ends.Missing k id) h = (tt, tt)
+  assembled_fair l z d e (ends.Damaged k id store shows) h = (tt, tt)
+  assembled_fair l z d e (ends.StoreFault k) h = (tt, first_failed (LacksEntry l h.0.0.0) d e k x.stores h.0.0.1)
+  assembled_fair l z d e ends.TargetFault h = (tt, h.0.0)
+  assembled_fair l z d e ends.Memory h = (tt, tt)
+  assembled_fair l z d e other h = absurd h.0
 
   stored_fair : (z : Sizes) (told : Option (List ℕ)) (q : List ℕ) (held : Option (Map (List ℕ))) → name_at x.stores 0 ≡ q → (d e : Disk) (o : Outcome) → ImageStored z x.image told q held d (Err o) e → IsFair x o (round p d) (round p e)
   stored_fair z told q held same d e ends.TooManyItems h = (tt, tt)
@@ -71,8 +72,8 @@ module _ (s : Spares) (x : Parts) (p : Output) where
   written_fair q bytes d e ends.Memory h = (tt, tt)
   written_fair q bytes d e other h = absurd h.0
 
-assembled_step : (f o : Bool) (x : Parts) (p : Output) (l : Listing) → IsStep (round p) (record { files = false; folders = f; out = o }) x (ImageMade x.stores x.target l)
-assembled_step f o x p l = record { fair = assembled_fair (record { files = false; folders = f; out = o }) x p l; leaves = λ d e r h. writes p h.1 }
+assembled_step : (f o : Bool) (x : Parts) (p : Output) (l : Listing) (z : Seeds) → IsStep (round p) (record { files = false; folders = f; out = o }) x (ImageMade x.stores x.target l z)
+assembled_step f o x p l z = record { fair = assembled_fair (record { files = false; folders = f; out = o }) x p l z; leaves = λ d e r h. writes p h.1 }
 
 stored_step : (f o : Bool) (x : Parts) (p : Output) (z : Sizes) (told : Option (List ℕ)) (q : List ℕ) (held : Option (Map (List ℕ))) → name_at x.stores 0 ≡ q
     → IsStep (round p) (record { files = f; folders = false; out = o }) x (ImageStored z x.image told q held)
@@ -97,7 +98,7 @@ command_step : (c : Command) → IsStep whole (spares c) (parts c) (Ends c)
 command_step (commands.Make store sizes workers index image) = bound (pure_step (SizesJudged sizes) (judged_fair (parts (commands.Make store sizes workers index image)) sizes)) (λ z. bound (on_disk (λ p. image_step _ _ p)) (λ told. bound (on_disk (λ p. taken_step _ _ _ p (name_of store))) (λ held. bound (on_disk (λ p. stored_step _ _ _ p z told (name_of store) held refl)) (λ bytes. on_disk (λ p. written_step _ _ _ p index bytes)))))
 command_step (commands.VerifyIndex index image) = bound (on_disk (λ p. index_step _ _ p index)) (λ l. bound (on_disk (λ p. image_step _ _ p)) (λ told. on_disk (λ p. checked_step _ _ p l told)))
 command_step (commands.ListChunks index) = bound (on_disk (λ p. index_step _ _ p index)) (λ l. on_out (λ d. printed_step _ _ _ d (text_of_chunks l)))
-command_step (commands.Extract stores seeds cache in_place workers index target) = bound (on_disk (λ p. index_step _ _ p index)) (λ l. bound (on_disk (λ p. opened_step _ _ p)) (λ u. on_disk (λ p. assembled_step _ _ _ p l)))
+command_step (commands.Extract stores seeds cache in_place workers index target) = bound (on_disk (λ p. index_step _ _ p index)) (λ l. bound (on_disk (λ p. indexes_step _ _ p seeds)) (λ ls. bound (on_disk (λ p. opened_step _ _ p)) (λ u. on_disk (λ p. assembled_step _ _ _ p l (record { images = map image_name seeds; listings = ls })))))
 command_step (commands.Info stores index) = bound (on_disk (λ p. index_step _ _ p index)) (λ l. bound (on_disk (λ p. counted_step _ _ p l)) (λ n. on_out (λ d. printed_step _ _ _ d (text_of_info l n))))
 command_step commands.Help = on_out (λ d. printed_step _ _ _ d (help_text topics.All))
 command_step commands.Version = on_out (λ d. printed_step _ _ _ d (help_text topics.Version))

@@ -4,8 +4,9 @@ pub mod Done
 pub mod Extracted
 pub mod Fair
 pub mod Lost
-pub mod Seedless
+pub mod Seeded
 pub mod Made
 pub mod Verified
 pub mod VerifyIndex
+pub mod Wrote
 pub mod RoundTrip

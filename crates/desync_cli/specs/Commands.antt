@@ -31,8 +31,8 @@ is_built (commands.Make store sizes workers index image) = is_folder store
 is_built (commands.VerifyIndex index image) = true
 is_built (commands.ListChunks index) = true
 is_built (commands.Extract stores seeds cache in_place workers index target) =
-    in_place && length seeds == 0 && not (is_some cache) && nat_le 1 (length stores) && nat_le (length stores) 16 &&
-    are_folders stores
+    in_place && nat_le (length seeds) 64 && not (is_some cache) && nat_le 1 (length stores) &&
+    nat_le (length stores) 16 && are_folders stores
 is_built (commands.Info stores index) = nat_le (length stores) 16 && are_folders stores
 is_built commands.Help = true
 is_built commands.Version = true
@@ -44,7 +44,7 @@ abbrev pub Ends : Command → Step World Unit
 Ends (commands.Make store sizes workers index image) = MakeEnds store sizes index image
 Ends (commands.VerifyIndex index image) = VerifyIndexEnds index image
 Ends (commands.ListChunks index) = ListChunksEnds index
-Ends (commands.Extract stores seeds cache in_place workers index target) = ExtractEnds stores index target
+Ends (commands.Extract stores seeds cache in_place workers index target) = ExtractEnds stores seeds index target
 Ends (commands.Info stores index) = InfoEnds stores index
 Ends commands.Help = OnOut (Printed (help_text topics.All))
 Ends commands.Version = OnOut (Printed (help_text topics.Version))

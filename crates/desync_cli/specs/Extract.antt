@@ -1,11 +1,12 @@
--- `extract -k -s FOLDER.. INDEX OUT`. A name is its bytes.
-use Rattle.std.specs.Prelude.{◌≡◌, ◌⊎◌, ℕ, ◌<◌, List, [], map, Some, None, IfSome, Result, Ok, Err, unwrap_or}
+-- `extract -k -s FOLDER.. --seed INDEX.. INDEX OUT`. A name is its bytes.
+use Rattle.std.specs.Prelude.{◌≡◌, ◌⊎◌, ℕ, ◌+◌, ◌<◌, ◌≤◌, length, List, [], map, Some, None, IfSome, Result, Ok, Err, unwrap_or}
+use Rattle.std.specs.List.{slice_get}
 use Rattle.assembler.specs.Assemblies.{IsLeast, KeepsBase, RightAlike}
 use Rattle.assembler.specs.Losses.{SomeGives, chunk_of}
 use Rattle.assembler.specs.declared.fault.ExtractFault.{ExtractFault}
 use Rattle.assembler.specs.declared.fault.ExtractFault.TheVariants as faults
 use Rattle.assembler.specs.declared.report.Report.{Report}
-use Rattle.caibx_codec.specs.Listing.{Listing, count_of, id_of, kind_of, size_of, slice_of, image_length}
+use Rattle.caibx_codec.specs.Listing.{Listing, count_of, id_of, kind_of, size_of, slice_of, start_of, image_length}
 use Rattle.caibx_codec.specs.Right.{IsRight, IsRightAt}
 use Rattle.chunk_store.specs.Folders.{chunks}
 use Rattle.chunk_store.specs.Giving.{IsChunk}
@@ -18,6 +19,7 @@ use Rattle.dsy_base.specs.Maps.{Map, at_name}
 use Rattle.dsy_base.specs.declared.fault.IoFault.{IoFault}
 use Rattle.dsy_base.specs.declared.fault.IoFault.TheVariants as io
 use Rattle.command_steps.specs.Openings.{IndexRead, IsListed}
+use Rattle.command_steps.specs.Seeds.{IndexesRead, image_name}
 use Rattle.command_steps.specs.Steps.{◌>>=◌}
 use Rattle.command_steps.specs.Stores.{FailsFirst, StoresOpened, names_of}
 use Rattle.command_steps.specs.Worlds.{DiskQuiet, FileRose, OnDisk, Step, World, Writes}
@@ -37,13 +39,36 @@ base_of files out l = resized (old_of files out) (image_length l)
 abbrev pub Leaves : Map (List ℕ) → Map (List ℕ) → List ℕ → List ℕ → Type 0
 Leaves before after out t = after ≡ at_name before out (Some t)
 
--- entry i can be had: an alike one is right in the base, or a store that holds one of these maps gives its chunk
-abbrev pub CanBeHad : Listing → List ℕ → List (Map (List ℕ)) → ℕ → Type 0
-CanBeHad l base maps i = RightAlike l base i ⊎ SomeGives (kind_of l) (id_of l i) (size_of l i) maps
+-- the seeds of an extraction: the names of their images, and what their indexes list
+pub record Seeds : Type 0 where
+  pub images : List (List ℕ)
+  pub listings : List Listing
 
--- so it is where OUT's base is of these files, and the stores' folders hold these
-abbrev pub HadFrom : Map (List ℕ) → List ℕ → Listing → List (Map (List ℕ)) → ℕ → Type 0
-HadFrom before out l stores = CanBeHad l (base_of before out l) (map chunks stores)
+-- the image of seed s is one of these files. An entry of the seed's index with this id and size lies inside it, and is
+-- right in it
+pub record SeedHas (files : Map (List ℕ)) (x : Seeds) (id : List ℕ) (size s : ℕ) : Type 0 where
+  pub image : List ℕ
+  pub named : slice_get x.images s ≡ Some image
+  pub listing : Listing
+  pub listed : slice_get x.listings s ≡ Some listing
+  pub bytes : List ℕ
+  pub there : files image ≡ Some bytes
+  pub entry : ℕ
+  pub inside : entry < count_of listing
+  pub id_is : id_of listing entry ≡ id
+  pub size_is : size_of listing entry ≡ size
+  pub fits : start_of listing entry + size ≤ length bytes
+  pub right : IsRightAt bytes listing entry
+
+-- entry i can be had: an alike one is right in the base, or a seed has its chunk in one of these files, or a store that
+-- holds one of these maps gives it
+abbrev pub CanBeHad : Listing → List ℕ → Map (List ℕ) → Seeds → List (Map (List ℕ)) → ℕ → Type 0
+CanBeHad l base files x maps i = RightAlike l base i ⊎ (((s : ℕ) × SeedHas files x (id_of l i) (size_of l i) s)
+    ⊎ SomeGives (kind_of l) (id_of l i) (size_of l i) maps)
+
+-- so it is where OUT's base and the images of seeds are of these files, and the stores' folders hold these
+abbrev pub HadFrom : Map (List ℕ) → List ℕ → Listing → Seeds → List (Map (List ℕ)) → ℕ → Type 0
+HadFrom before out l x stores = CanBeHad l (base_of before out l) before x (map chunks stores)
 
 -- each entry that can be had is right in t, and each other has the base's bytes
 abbrev pub AreFilled : Listing → (ℕ → Type 0) → List ℕ → List ℕ → Type 0
@@ -59,13 +84,15 @@ abbrev pub StopsSomewhere : Disk → Disk → Map (List ℕ) → Map (List ℕ) 
 StopsSomewhere d e before after out l =
     (after ≡ before) ⊎ (Leaves before after out (old_of before out) ⊎ ((t : List ℕ) × KeepsIn d e before after out l t))
 
--- the chunk of entry k can't be had from the folders, for this reason; and an alike entry that is right in the base
--- couldn't be read
-abbrev pub IsLacking : Disk → Disk → Map (List ℕ) → List ℕ → Listing → List (Map (List ℕ)) → ℕ → ChunkId → Refused
-    → Type 0
-IsLacking d e before out l stores k id r = (k < count_of l) × (id.0 ≡ id_of l k)
-    × LacksAll (chunk_of (kind_of l) id (size_of l k)) (map chunks stores) r
-    × (RightAlike l (base_of before out l) k → FileRose d e out)
+-- the chunk of entry k can't be had from the folders, for this reason; an alike entry that is right in the base
+-- couldn't be read, and no seed that has the chunk
+pub record IsLacking (d e : Disk) (before : Map (List ℕ)) (out : List ℕ) (l : Listing) (x : Seeds)
+    (stores : List (Map (List ℕ))) (k : ℕ) (id : ChunkId) (r : Refused) : Type 0 where
+  pub listed : k < count_of l
+  pub id_is : id.0 ≡ id_of l k
+  pub lacks : LacksAll (chunk_of (kind_of l) id (size_of l k)) (map chunks stores) r
+  pub copies : RightAlike l (base_of before out l) k → FileRose d e out
+  pub seeds : (s : ℕ) (h : SeedHas before x (id_of l k) (size_of l k) s) → FileRose d e h.image
 
 -- a store that holds these chunks lacks that of entry k: it holds nothing under its id, or bytes that aren't it
 abbrev pub LacksEntry : Listing → ℕ → Map (List ℕ) → Type 0
@@ -79,32 +106,32 @@ Told d e names P = IfSome d.files (λ b. IfSome d.folders (λ n. IfSome e.files 
 
 -- entry k is named, for this reason, and each before it is right. Where nothing fails, k is the least that can't be
 -- had, and each that can be had was made right
-abbrev pub StopsLacking : Disk → Disk → List (List ℕ) → List ℕ → Listing → ℕ → ChunkId → Refused → Type 0
-StopsLacking d e names out l k id r = Told d e names (λ b a fs.
+abbrev pub StopsLacking : Disk → Disk → List (List ℕ) → List ℕ → Listing → Seeds → ℕ → ChunkId → Refused → Type 0
+StopsLacking d e names out l x k id r = Told d e names (λ b a fs.
     ((t : List ℕ) × KeepsIn d e b a out l t × ((i : ℕ) → i < k → IsRightAt t l i)
-    × (DiskQuiet d e → AreFilled l (HadFrom b out l fs) (base_of b out l) t))
-    × IsLacking d e b out l fs k id r
-    × (DiskQuiet d e → IsLeast (HadFrom b out l fs) k))
+    × (DiskQuiet d e → AreFilled l (HadFrom b out l x fs) (base_of b out l) t))
+    × IsLacking d e b out l x fs k id r
+    × (DiskQuiet d e → IsLeast (HadFrom b out l x fs) k))
 
 -- the first store that failed is named, where no store gave the chunk of some entry
 abbrev pub StopsFailed : Disk → Disk → List (List ℕ) → Listing → ℕ → Type 0
 StopsFailed d e names l s = (k : ℕ) × FailsFirst (LacksEntry l k) d e s names × (k < count_of l)
 
--- OUT became the image of the index, with chunks from the folders, or why not. Where nothing fails it does so exactly
--- where each entry can be had; else the first that can't be had is named
-abbrev pub Assembled : Disk → Disk → List (List ℕ) → List ℕ → Listing → Result Unit Outcome → Type 0
-Assembled d e names out l (Ok u) = Told d e names (λ b a fs.
+-- OUT became the image of the index, with chunks from the seeds and the folders, or why not. Where nothing fails it does
+-- so exactly where each entry can be had; else the first that can't be had is named
+abbrev pub Assembled : Disk → Disk → List (List ℕ) → List ℕ → Listing → Seeds → Result Unit Outcome → Type 0
+Assembled d e names out l x (Ok u) = Told d e names (λ b a fs.
     ((t : List ℕ) × KeepsIn d e b a out l t × IsRight t l)
-    × (DiskQuiet d e → (i : ℕ) → i < count_of l → HadFrom b out l fs i))
-Assembled d e names out l (Err (ends.Missing k id)) = StopsLacking d e names out l k id refused.Missing
-Assembled d e names out l (Err (ends.Damaged k id store shows)) = StopsLacking d e names out l k id
+    × (DiskQuiet d e → (i : ℕ) → i < count_of l → HadFrom b out l x fs i))
+Assembled d e names out l x (Err (ends.Missing k id)) = StopsLacking d e names out l x k id refused.Missing
+Assembled d e names out l x (Err (ends.Damaged k id store shows)) = StopsLacking d e names out l x k id
     (refused.Damaged store shows)
-Assembled d e names out l (Err (ends.StoreFault s)) = StopsFailed d e names l s
+Assembled d e names out l x (Err (ends.StoreFault s)) = StopsFailed d e names l s
     × Told d e names (λ b a fs. (t : List ℕ) × KeepsIn d e b a out l t)
-Assembled d e names out l (Err ends.TargetFault) =
+Assembled d e names out l x (Err ends.TargetFault) =
     FileRose d e out × Told d e names (λ b a fs. StopsSomewhere d e b a out l)
-Assembled d e names out l (Err ends.Memory) = Told d e names (λ b a fs. StopsSomewhere d e b a out l)
-Assembled d e names out l (Err other) = ⊥
+Assembled d e names out l x (Err ends.Memory) = Told d e names (λ b a fs. StopsSomewhere d e b a out l)
+Assembled d e names out l x (Err other) = ⊥
 
 -- OUT holds afterwards the image that INDEX listed before
 pub record IsExtracted (before after : Map (List ℕ)) (index out : List ℕ) : Type 0 where
@@ -127,11 +154,12 @@ abbrev pub answer_of_taking : IoFault → Result Unit Outcome
 answer_of_taking io.Failed = Err ends.TargetFault
 answer_of_taking io.Memory = Err ends.Memory
 
-abbrev pub ImageMade : List (List ℕ) → List ℕ → Listing → Step Disk Unit
-ImageMade names out l d r e = Assembled d e names out l r × Writes d e
+abbrev pub ImageMade : List (List ℕ) → List ℕ → Listing → Seeds → Step Disk Unit
+ImageMade names out l x d r e = Assembled d e names out l x r × Writes d e
 
-abbrev pub ExtractEnds : List Location → List ℕ → List ℕ → Step World Unit
-ExtractEnds stores index out = do
+abbrev pub ExtractEnds : List Location → List (List ℕ) → List ℕ → List ℕ → Step World Unit
+ExtractEnds stores seeds index out = do
   l ← OnDisk (IndexRead index)
+  ls ← OnDisk (IndexesRead seeds)
   _ ← OnDisk (StoresOpened (names_of stores))
-  OnDisk (ImageMade (names_of stores) out l)
+  OnDisk (ImageMade (names_of stores) out l (record { images = map image_name seeds; listings = ls }))

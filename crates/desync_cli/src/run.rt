@@ -51,10 +51,11 @@ fn perform<F: Files, O: Sink>(
         Command::ListChunks { index } => list_chunks(alloc, files, out, index),
         Command::Extract {
             stores,
+            seeds,
             index,
             target,
             ..
-        } => extract(alloc, files, stores, index, target),
+        } => extract(alloc, files, stores, seeds, index, target),
         Command::Info { stores, index } => info(alloc, files, out, stores, index),
         Command::Help => help(out, Topic::All),
         Command::Version => help(out, Topic::Version),

@@ -158,6 +158,70 @@ fn other_words_are_refused_by_place_and_reason(rt: HostRuntime) -> Result<(), Fa
     ends(&rt, alloc, "chop -s st a b", &mut files, "", "desync: word 0: NotYet\n")
 }
 
+// Extracts "abc" with a seed whose image holds these bytes, or isn't there, from a store with these chunks.
+fn seed_case(
+    rt: &impl Abort,
+    alloc: Global,
+    image: Option<&[u8]>,
+    chunks: &[(&[u8], &[u8])],
+    line: &str,
+) -> Result<(), Fail> {
+    let mut files = MemFiles::new(alloc, Vec::new(alloc));
+    let store = store_of(alloc, chunks).ok_or("no memory")?;
+    files.set_folder("st", store)?;
+    for name in ["i", "s.caibx"] {
+        let index = index_of(alloc, 262_144, &[b"abc"])?;
+        files.set_file(name, index, RangeFails::none(alloc))?;
+    }
+    if let Some(bytes) = image {
+        files.set_file("s", Vec::from_slice(alloc, bytes)?, RangeFails::none(alloc))?;
+    }
+    ends(
+        rt,
+        alloc,
+        "extract -k -s st --seed s.caibx i o",
+        &mut files,
+        "",
+        line,
+    )?;
+    let out = if line.is_empty() { b"abc" } else { b"\0\0\0" };
+    assert_eq!(rt; files.file("o"), Some(out.as_slice()));
+    assert_eq!(rt; files.file("s"), image);
+    Ok(())
+}
+
+#[test]
+#[rattlefmt::skip]
+fn chunks_come_from_seeds_too(rt: HostRuntime) -> Result<(), Fail> {
+    let alloc = rt.alloc();
+    let missing = "desync: chunk 53048e2681941ef99b2e29b76b4c7dabe4c2d0c634fc6d46e0e2f13107e7af23 of entry 0 is \
+        missing\n";
+    // The right image; and a wrong one, one that ends early and one that isn't there, with and without the chunk in the
+    // store.
+    seed_case(&rt, alloc, Some(b"abc"), &[], "")?;
+    for image in [Some(b"abX".as_slice()), Some(b"ab"), None] {
+        seed_case(&rt, alloc, image, &[(b"abc", b"abc")], "")?;
+        seed_case(&rt, alloc, image, &[], missing)?;
+    }
+    Ok(())
+}
+
+#[test]
+#[rattlefmt::skip]
+fn the_index_of_a_seed_is_needed(rt: HostRuntime) -> Result<(), Fail> {
+    let alloc = rt.alloc();
+    let mut files = MemFiles::new(alloc, Vec::new(alloc));
+    files.set_file("i", index_of(alloc, 262_144, &[b"abc"])?, RangeFails::none(alloc))?;
+    files.set_file("o", Vec::from_slice(alloc, b"abc")?, RangeFails::none(alloc))?;
+    let words = "extract -k -s st --seed s.caibx --seed t.caibx i o";
+    ends(&rt, alloc, words, &mut files, "", "desync: s.caibx: no such file\n")?;
+    files.set_file("s.caibx", index_of(alloc, 262_144, &[])?, RangeFails::none(alloc))?;
+    files.set_file("t.caibx", Vec::from_slice(alloc, b"no index")?, RangeFails::none(alloc))?;
+    ends(&rt, alloc, words, &mut files, "", "desync: t.caibx: bad index: no index head\n")?;
+    files.set_file("t.caibx", index_of(alloc, 262_144, &[])?, RangeFails::none(alloc))?;
+    ends(&rt, alloc, words, &mut files, "", "desync: st: no such folder\n")
+}
+
 #[test]
 #[rattlefmt::skip]
 fn an_index_is_held_against_an_image_and_told(rt: HostRuntime) -> Result<(), Fail> {

@@ -29,7 +29,7 @@ fn is_built(command: &Command) -> bool
         } => {
             let stores = stores.as_slice();
             *in_place
-                && seeds.as_slice().is_empty()
+                && seeds.as_slice().len() <= 64
                 && !cache.is_some()
                 && 1 <= stores.len()
                 && stores.len() <= 16

@@ -19,8 +19,8 @@ use std::alloc::{AllocError, Global};
 use std::collections::BTreeMap;
 use std::marker::Model;
 
-// The greatest number of items that all seeds may list together.
-const SEED_ITEM_LIMIT: usize = 8388608;
+/// The greatest number of items that all seeds may list together.
+pub const SEED_ITEM_LIMIT: usize = 8388608;
 
 /// Why places can't be listed.
 #[derive(Clone, Copy, Debug, PartialEq, Eq)]

@@ -1,35 +1,45 @@
-//! `extract -k -s FOLDER.. INDEX OUT`: OUT becomes the image that INDEX lists, with chunks from 1 to 16 folders.
+//! `extract -k -s FOLDER.. --seed INDEX.. INDEX OUT`: OUT becomes the image that INDEX lists, with chunks from up to 64
+//! seeds and from 1 to 16 folders.
 
-ghost use Rattle.std.specs.Prelude.{◌≡◌, ℕ, List, [], ◌≤◌, map, Some, IfSome, length};
-ghost use Rattle.caibx_codec.specs.Listing.{kind_of};
+ghost use Rattle.std.specs.Prelude.{◌≡◌, ℕ, List, ◌<◌, ◌≤◌, ◌^◌, map, Some, IfOk, IfSome, length};
+ghost use Rattle.caibx_codec.specs.Listing.{Listing};
 ghost use Rattle.command_steps.specs.AnyStores.{faults_in, files_in, place_in};
+ghost use Rattle.command_steps.specs.Seeds.{image_name};
 ghost use Rattle.command_steps.specs.Stores.{AllKnown};
 ghost use Rattle.command_steps.specs.Worlds.{Writes, world};
 ghost use Rattle.desync_cli.specs.Extract.{Assembled, ExtractEnds, answer_of_assembly, answer_of_taking};
 ghost use Rattle.dsy_base.specs.Disk.{Output};
 ghost use Rattle.dsy_base.specs.Maps.{Map};
 ghost use Rattle.extract_plan.specs.Deal.{AreWants};
-ghost use Rattle.extract_plan.specs.Places.{PlacesKnown};
+ghost use Rattle.extract_plan.specs.Places.{IsSeedIndex, PlacesKnown, items_of, seed_item_limit};
 
 use assembler::assemble::assemble;
 use assembler::fault::ExtractFault;
 use assembler::kit::Kit;
 use assembler::report::Report;
 use caibx_codec::index::Index;
-use command_line::command::Locations;
+use command_line::command::{Locations, Names};
 use command_outcome::outcome::Outcome;
 use command_steps::any_store::AnyStore;
 use command_steps::openings::read_index;
+use command_steps::seeds::{close_seeds, open_seeds, read_indexes};
 use command_steps::stores::{close_stores, open_stores};
-use dsy_base::fault::IoFault;
+use dsy_base::fault::{IoFault, Memory};
 use dsy_base::files::Files;
 use dsy_base::look::Look;
 use dsy_base::name::Name;
-use dsy_base::view::{Target, View};
 use extract_plan::plan::Plan;
 use extract_plan::seeds::SeedIndex;
 use std::alloc::Global;
 use store_chain::chain::Chain;
+
+// What is to be assembled: an index, its plan, and where seeds list its chunks.
+#[derive(Drop)]
+struct Planned {
+    index: Index,
+    plan: Plan,
+    places: SeedIndex,
+}
 
 // The answer of an assembly.
 fn answer_of(ended: Result<Report, ExtractFault>) -> Result<(), Outcome>
@@ -67,66 +77,98 @@ fn not_taken(fault: IoFault) -> Result<(), Outcome>
     }
 }
 
-// Makes OUT the image, and gives the stores back whatever the answer is.
+// The plan of an extraction with these seeds.
+fn plan_of(alloc: Global, index: Index, seeds: Vec<Index>) -> Result<Planned, Memory>
+    requires few { length seeds.items < 2 ^ 32 }
+    requires items { items_of seeds.items ≤ seed_item_limit }
+    ensures index { IfOk result (λ p. p.index ≡ index) }
+    ensures wants { IfOk result (λ p. AreWants index p.plan.wants p.plan.want_of) }
+    ensures places { IfOk result (λ p. IsSeedIndex index p.plan seeds.items p.places) }
+    ensures known { IfOk result (λ p. PlacesKnown index p.plan p.places (length seeds.items)) }
+{
+    let plan = Plan::of(alloc, &index, 1)?;
+    match SeedIndex::of(alloc, &plan, &index, &seeds) {
+        Ok(places) => Ok(Planned {
+            index,
+            plan,
+            places,
+        }),
+        // The seeds list no more items than they may, so it is for want of memory.
+        Err(_) => Err(Memory),
+    }
+}
+
+// Makes OUT the image, and gives stores and seeds back whatever the answer is.
 fn assemble_into<F: Files>(
     alloc: Global,
     files: &mut F,
-    index: &Index,
-    plan: &Plan,
-    places: &SeedIndex,
-    mut kit: Kit<AnyStore<F::Look>, F::View>,
+    planned: &Planned,
+    stores: Vec<AnyStore<F::Look>>,
+    seeds: &[Name],
     target: Name,
 ) -> Result<(), Outcome>
-    requires wants { AreWants index.now plan.now.wants plan.now.want_of }
-    requires places { PlacesKnown index.now plan.now places.now 0 }
-    requires seeds { kit.seeds.items ≡ [] }
-    requires kind { kit.chain.kind ≡ kind_of index.now }
-    requires known { AllKnown (place_in F.Look.place) (F.disk files.old).folder_counts kit.chain.stores }
-    requires fresh { map (faults_in F.Look.faults) kit.chain.stores ≡ map (λ q. 0)
-        (map (place_in F.Look.place) kit.chain.stores) }
+    requires wants { AreWants planned.now.index planned.now.plan.wants planned.now.plan.want_of }
+    requires known_places { PlacesKnown planned.now.index planned.now.plan planned.now.places (length seeds.now) }
+    requires size { (1 ≤ length stores.items) × (length stores.items ≤ 16) }
+    requires known { AllKnown (place_in F.Look.place) (F.disk files.old).folder_counts stores.items }
+    requires fresh { map (faults_in F.Look.faults) stores.items ≡ map (λ q. 0)
+        (map (place_in F.Look.place) stores.items) }
     requires found { IfSome (F.disk files.old).folders (λ m. (fs : List (Map (List ℕ)))
-        × (map m (map (place_in F.Look.place) kit.chain.stores) ≡ map Some fs)
-        × (map (files_in F.Look.files) kit.chain.stores ≡ map Some fs)) }
-    ensures assembled { Assembled (F.disk files.old) (F.disk files.new)
-        (map (place_in F.Look.place) kit.chain.stores) target index.now result }
+        × (map m (map (place_in F.Look.place) stores.items) ≡ map Some fs)
+        × (map (files_in F.Look.files) stores.items ≡ map Some fs)) }
+    ensures assembled { (ls : List Listing) → IsSeedIndex planned.now.index planned.now.plan ls planned.now.places →
+        Assembled (F.disk files.old) (F.disk files.new) (map (place_in F.Look.place) stores.items) target
+        planned.now.index (record { images = map image_name seeds.now; listings = ls }) result }
     ensures kept { Writes (F.disk files.old) (F.disk files.new) }
 {
+    let Ok(seeds) = open_seeds(alloc, files, seeds) else {
+        close_stores(files, stores);
+        return Err(Outcome::Memory);
+    };
     let mut taken = match files.take(target.as_str(), false) {
         Ok(taken) => taken,
         Err(fault) => {
-            close_stores(files, kit.chain.into_stores());
+            close_stores(files, stores);
+            close_seeds(files, seeds);
             return not_taken(fault);
         }
     };
+    let mut kit = Kit::new(alloc, Chain::new(stores), seeds);
+    let Planned {
+        index,
+        plan,
+        places,
+    } = planned;
     let ended = assemble(alloc, index, plan, places, &mut taken, &mut kit);
-    close_stores(files, kit.chain.into_stores());
+    let Kit { chain, seeds, .. } = kit;
+    close_stores(files, chain.into_stores());
+    close_seeds(files, seeds);
     files.give(target.as_str(), taken);
     answer_of(ended)
 }
 
-/// Makes OUT the image that INDEX lists, with chunks from the folders, which are asked in order. What OUT holds already
-/// is kept where it is right.
+/// Makes OUT the image that INDEX lists. What OUT holds already is kept where it is right. Chunks come from the images of
+/// the seeds, and else from the folders, which are asked in order.
 pub fn extract<F: Files>(
     alloc: Global,
     files: &mut F,
     stores: Locations,
+    seeds: Names,
     index: Name,
     target: Name,
 ) -> Result<(), Outcome>
-    requires { (1 ≤ length stores) × (length stores ≤ 16) }
-    ensures ends { (p : Output) → ExtractEnds stores index target
+    requires stores { (1 ≤ length stores) × (length stores ≤ 16) }
+    requires seeds { length seeds ≤ 64 }
+    ensures ends { (p : Output) → ExtractEnds stores seeds index target
         (world (F.disk files.old) p) result
         (world (F.disk files.new) p) }
 {
     let listed = read_index(alloc, files, index)?;
-    let Ok(plan) = Plan::of(alloc, &listed, 1) else {
-        return Err(Outcome::Memory);
-    };
-    let Ok(places) = SeedIndex::of(alloc, &plan, &listed, &[]) else {
+    let indexes = read_indexes(alloc, files, seeds.as_slice())?;
+    let Ok(planned) = plan_of(alloc, listed, indexes) else {
         return Err(Outcome::Memory);
     };
     let opened = open_stores(alloc, files, stores.as_slice())?;
-    let kit = Kit::new(alloc, Chain::new(opened), Vec::new(alloc));
-    assemble_into(alloc, files, &listed, &plan, &places, kit, target)?;
+    assemble_into(alloc, files, &planned, opened, seeds.as_slice(), target)?;
     Ok(())
 }

@@ -1,52 +1,119 @@
-use Rattle.std.proofs.Common.{◌≡◌, ◌≤◌, ◌∙◌, ℕ, List, [], Option, Some, IsTrue, is_some, map, refl, sym, ap, subst, arith, IsSome}
+use Rattle.std.proofs.Common.{◌≡◌, ◌≤◌, ◌∙◌, ◌⊎◌, ℕ, All, List, Err, [], length, Option, Some, IfSome, IsTrue, is_some, map, slice_index, slice_index_or, None, refl, sym, ap, subst, arith, IsSome}
+use Rattle.std.proofs.lemmas.List.{length-map}
 use Rattle.std.proofs.lemmas.List.Elements.{All-map}
+use Rattle.std.specs.List.{AllZip}
 use Rattle.std.specs.Map.{count_at}
 use Rattle.std.specs.Option.{option_map}
 use Rattle.assembler.specs.Assemblies.{IsObtainable}
-use Rattle.assembler.specs.Sources as sources
-use Rattle.command_steps.proofs.Lent.{each_quiet, known_places}
-use Rattle.command_steps.proofs.Numbers.{counted_le, given_quiet, given_rose}
+use Rattle.command_steps.proofs.Lent.{each_quiet, known_places, store_rose}
+use Rattle.command_steps.proofs.Numbers.{counted_known, counted_le, given_quiet, given_rose, rose_later, rose_longer, rose_not_quiet}
 use Rattle.command_steps.specs.AnyStores.{chunks_in, faults_in, files_in, place_in}
+use Rattle.command_steps.specs.Blames.{name_at}
+use Rattle.command_steps.specs.Seeds.{IsViewed, image_name, label_in}
 use Rattle.command_steps.specs.Worlds.{FileRose}
-use Rattle.desync_cli.proofs.Assembled.{assembled, facts_of, had_of, obtainable_of}
+use Rattle.desync_cli.proofs.Assembled.{assembled, facts_of, had_of, not_taken_as, obtainable_of}
 use Rattle.desync_cli.proofs.Counting.{held_maps, there_after}
-use Rattle.desync_cli.proofs.Lost.{lacks_told, store_told, target_as}
-use Rattle.desync_cli.proofs.Seedless.{none_failed}
+use Rattle.desync_cli.proofs.Lost.{lacks_told, seeds_lack, store_told, target_as}
+use Rattle.desync_cli.proofs.Seeded.{all_known_later, label_of, labels_are, same_known, same_labels, zeros, zipped_many}
+use Rattle.desync_cli.proofs.Wrote.{wrote_back, wrote_on, wrote_read, wrote_then}
 use Rattle.desync_cli.proofs.command.extract.assemble_into.Goals as goal
-use Rattle.dsy_base.specs.Counts.{Rose}
+use Rattle.desync_cli.specs.Extract.{Assembled, Seeds, answer_of_assembly, old_of}
+use Rattle.dsy_base.specs.Bytes.{Held}
+use Rattle.dsy_base.specs.Counts.{Quiet, Rose, raised}
 use Rattle.dsy_base.specs.Maps.{Map, at_name}
+use Rattle.extract_plan.specs.Places.{PlacesKnown}
+use Rattle.extract_plan.specs.Seeds as seeds
+use Rattle.extract_plan.specs.declared.seed.Seed.{Seed}
 
-pub close_stores-requires-2 : goal.close_stores-requires-2
-close_stores-requires-2 g c =
+pub returns-in-Err-clause-assembled : goal.returns-in-Err-clause-assembled
+returns-in-Err-clause-assembled g c = λ ls is.
+    let at = g.F.Files.disk in
+    let d = at c.args.files.now in
+    let b = at c.open_seeds.new.files in
+    let b2 = at c.take.new.self in
+    let b3 = at c.close_stores-in-Err.new.files in
+    let e = at c.close_seeds.new.files in
+    let q = c.args.target in
     let place = place_in g.F.Look.Look.place in
-    let counts = (g.F.Files.disk c.args.files.now).folder_counts in
-    let xs = c.args.kit.chain.stores in
-    record {
-      known = rw (c.into_stores-2.ensures.value, c.in-Ok.ensures.counts.folder_counts) (known_places place counts c.assemble-ended.new.kit.chain.stores (map place xs) c.assemble-ended.ensures.stores.places
-          (All-map (λ q. IsSome (counts q)) place xs c.requires.known));
-    }
+    let names = map place c.args.stores.items in
+    let took = rw c.as_str.ensures at c.in-Err.ensures.faults in
+    let same : count_at b3.file_counts q ≡ count_at b2.file_counts q = ap (λ (m : Map ℕ). count_at m q) c.close_stores-in-Err.ensures.counts in
+    let more = c.close_seeds.ensures.kept.counts q in
+    let le : count_at b2.file_counts q ≤ count_at e.file_counts q = omega (arith, same, more) in
+    rw c.not_taken.ensures (not_taken_as d e names q c.args.planned.now.index (record { images = map image_name c.args.seeds.now; listings = ls }) c.in-Err.fault (map (files_in g.F.Look.Look.files) c.args.stores.items) c.requires.found
+    (c.close_seeds.ensures.kept.files ∙ c.close_stores-in-Err.ensures.kept.files ∙ c.in-Err.ensures.err ∙ c.in-Ok.ensures.kept.files)
+    (λ failed. rose_longer (count_at d.file_counts q) (count_at b2.file_counts q) (count_at e.file_counts q) le
+    (rose_later (count_at d.file_counts q) (count_at b.file_counts q) (count_at b2.file_counts q) (c.in-Ok.ensures.kept.counts q) (took.cause (ap Err failed)))))
+
+pub returns-in-Err-clause-kept : goal.returns-in-Err-clause-kept
+returns-in-Err-clause-kept g c =
+    let at = g.F.Files.disk in
+    let d = at c.args.files.now in
+    let b = at c.open_seeds.new.files in
+    let b2 = at c.take.new.self in
+    let b3 = at c.close_stores-in-Err.new.files in
+    let e = at c.close_seeds.new.files in
+    wrote_then d b e (wrote_read d b c.in-Ok.ensures.kept) (wrote_then b b2 e (wrote_on b b2 _ c.in-Err.ensures.counts) (wrote_then b2 b3 e (wrote_read b2 b3 c.close_stores-in-Err.ensures.kept) (wrote_read b3 e c.close_seeds.ensures.kept)))
 
 pub returns-clause-kept : goal.returns-clause-kept
 returns-clause-kept g c =
     let at = g.F.Files.disk in
+    let d = at c.args.files.now in
+    let b = at c.open_seeds.new.files in
+    let b2 = at c.take.new.self in
+    let b3 = at c.close_stores-2.new.files in
+    let b4 = at c.close_seeds-2.new.files in
+    let e = at c.give.new.self in
+    wrote_then d b e (wrote_read d b c.in-Ok.ensures.kept) (wrote_then b b2 e (wrote_on b b2 _ c.in-Ok-take.ensures.counts) (wrote_then b2 b3 e (wrote_read b2 b3 c.close_stores-2.ensures.kept)
+    (wrote_then b3 b4 e (wrote_read b3 b4 c.close_seeds-2.ensures.kept) (wrote_back b4 e _ _ c.give.ensures.counts))))
+
+pub assemble-ended-requires-clause-places : goal.assemble-ended-requires-clause-places
+assemble-ended-requires-clause-places g c =
+    let view = g.F.View.View.held in
+    let items = c.in-Ok.seeds.items in
+    let zipped = zipped_many (IsViewed (g.F.Files.disk c.args.files.now) (g.F.Files.disk c.open_seeds.new.files)) (map image_name c.args.seeds.now) (map (seeds.held_in view) items) c.in-Ok.ensures.found in
+    let many : length items ≡ length c.args.seeds.now = sym (length-map items (seeds.held_in view)) ∙ sym zipped ∙ length-map c.args.seeds.now image_name in
+    let same : length c.new-kit.result.seeds.items ≡ length c.args.seeds.now = ap (λ v. length v.items) c.new-kit.ensures.seeds ∙ many in
+    subst (λ (n : ℕ). PlacesKnown c.args.planned.now.index c.args.planned.now.plan c.args.planned.now.places n) (sym same) c.requires.known_places
+
+pub close_stores-requires-2 : goal.close_stores-requires-2
+close_stores-requires-2 g c =
+    let at = g.F.Files.disk in
+    let place = place_in g.F.Look.Look.place in
+    let b = at c.open_seeds.new.files in
+    let counts = (at c.take.new.self).folder_counts in
+    let xs = c.args.stores.items in
+    let same : c.new-kit.result.chain.stores ≡ xs = ap (λ k. k.stores) (c.new-kit.ensures.chain ∙ c.new.ensures.value) in
+    let known : All (λ s. IsSome (b.folder_counts (place s))) xs = λ k y lt. c.in-Ok.ensures.kept.folder_known _ (c.requires.known k y lt) in
+    let now : All (λ s. IsSome (counts (place s))) xs = subst (λ (m : Map ℕ). All (λ s. IsSome (m (place s))) xs) (sym c.in-Ok-take.ensures.counts.folder_counts) known in
     record {
-      folders = c.give.ensures.counts.folders ∙ c.close_stores-2.ensures.kept.folders ∙ c.in-Ok.ensures.counts.folders;
-      counts = λ p.
-          let first = counted_le (at c.args.files.now).file_counts (at c.take.new.self).file_counts _ c.in-Ok.ensures.counts.counts p in
-          let same : count_at (at c.close_stores-2.new.files).file_counts p ≡ count_at (at c.take.new.self).file_counts p = ap (λ (m : Map ℕ). count_at m p) c.close_stores-2.ensures.counts in
-          let last = counted_le (at c.close_stores-2.new.files).file_counts (at c.give.new.self).file_counts _ c.give.ensures.counts.counts.counted p in
-          omega (arith, first, same, last);
-      folder_counts = λ p.
-          let first : count_at (at c.take.new.self).folder_counts p ≡ count_at (at c.args.files.now).folder_counts p = ap (λ (m : Map ℕ). count_at m p) c.in-Ok.ensures.counts.folder_counts in
-          let closed = c.close_stores-2.ensures.kept.folder_counts p in
-          let last : count_at (at c.give.new.self).folder_counts p ≡ count_at (at c.close_stores-2.new.files).folder_counts p = ap (λ (m : Map ℕ). count_at m p) c.give.ensures.counts.folder_counts in
-          omega (arith, first, closed, last);
+      known = rw c.into_stores.ensures.value (known_places place counts c.assemble-ended.new.kit.chain.stores (map place xs) (c.assemble-ended.ensures.stores.places ∙ ap (map place) same)
+          (All-map (λ q. IsSome (counts q)) place xs now));
     }
 
+pub close_seeds-requires-2 : goal.close_seeds-requires-2
+close_seeds-requires-2 g c =
+    let at = g.F.Files.disk in
+    let view = g.F.View.View.held in
+    let b = at c.open_seeds.new.files in
+    let b3 = at c.close_stores-2.new.files in
+    let later : (q : List ℕ) → IsSome (b.file_counts q) → IsSome (b3.file_counts q) = λ q known. c.close_stores-2.ensures.kept.known q (counted_known b.file_counts (at c.take.new.self).file_counts _ c.in-Ok-take.ensures.counts.counts q known) in
+    let opened = all_known_later view b.file_counts b3.file_counts later c.in-Ok.seeds.items c.in-Ok.ensures.known in
+    let same : map (seeds.held_in view) c.new-kit.result.seeds.items ≡ map (seeds.held_in view) c.in-Ok.seeds.items = ap (λ v. map (seeds.held_in view) v.items) c.new-kit.ensures.seeds in
+    record { known = same_known view b3.file_counts c.in-Ok.seeds.items c.assemble-ended.new.kit.seeds.items (c.assemble-ended.ensures.seeds.held ∙ same) opened }
+
+pub give-requires-clause-known : goal.give-requires-clause-known
+give-requires-clause-known g c =
+    rw c.as_str-2.ensures (c.close_seeds-2.ensures.kept.known _ (c.close_stores-2.ensures.kept.known _ (rw c.as_str.ensures at c.in-Ok-take.ensures.known)))
+
 pub returns-clause-assembled : goal.returns-clause-assembled
-returns-clause-assembled g c =
+returns-clause-assembled g c = λ ls is.
     let at = g.F.Files.disk in
     let d = at c.args.files.now in
+    let b = at c.open_seeds.new.files in
+    let b2 = at c.take.new.self in
+    let b3 = at c.close_stores-2.new.files in
+    let b4 = at c.close_seeds-2.new.files in
     let e = at c.give.new.self in
     let held = g.F.Target.View.held in
     let view = g.F.View.View.held in
@@ -56,49 +123,84 @@ returns-clause-assembled g c =
     let faults = faults_in g.F.Look.Look.faults in
     let holds = chunks_in g.F.Look.Look.files in
     let q = c.args.target in
-    let k = c.args.kit in
+    let k = c.new-kit.result in
     let j = c.assemble-ended.new.kit in
     let before = k.chain.stores in
     let after = j.chain.stores in
     let names = map place before in
-    let l = c.args.index.now in
-    let p = c.args.plan.now in
-    let x = c.args.places.now in
+    let l = c.args.planned.now.index in
+    let p = c.args.planned.now.plan in
+    let x = c.args.planned.now.places in
+    let z : Seeds = record { images = map image_name c.args.seeds.now; listings = ls } in
+    let items = k.seeds.items in
+    let views = map (seeds.held_in view) items in
+    let labels = map label_of views in
     let r = c.assemble-ended.result in
     let over = c.assemble-ended.ensures in
-    let t0 = (held c.in-Ok.taken).bytes in
+    let t0 = (held c.in-Ok-take.taken).bytes in
     let t1 = (held c.assemble-ended.new.target).bytes in
-    let f0 = g.F.Target.View.faults c.in-Ok.taken in
+    let f0 = g.F.Target.View.faults c.in-Ok-take.taken in
     let f1 = g.F.Target.View.faults c.assemble-ended.new.target in
-    let views = map (sources.held_in view) k.seeds.items in
-    let none : views ≡ [] = ap (map (sources.held_in view)) c.requires.seeds in
+    let opens = c.in-Ok.ensures in
+    let same : before ≡ c.args.stores.items = ap (λ k. k.stores) (c.new-kit.ensures.chain ∙ c.new.ensures.value) in
+    let found = subst (λ xs. IfSome d.folders (λ m. (fs : List (Map (List ℕ))) × (map m (map place xs) ≡ map Some fs) × (map files xs ≡ map Some fs))) (sym same) c.requires.found in
+    let fresh_stores = subst (λ xs. map faults xs ≡ map {B = ℕ} (λ q. 0) (map place xs)) (sym same) c.requires.fresh in
+    let zip : AllZip (IsViewed d b) z.images views = subst (λ v. AllZip (IsViewed d b) z.images (map (seeds.held_in view) v.items)) (sym c.new-kit.ensures.seeds) opens.found in
+    let unfailed : map (seeds.faults_in view_faults) items ≡ map {B = ℕ} (λ s. 0) items = subst (λ v. map (seeds.faults_in view_faults) v.items ≡ map {B = ℕ} (λ s. 0) v.items) (sym c.new-kit.ensures.seeds) opens.fresh in
+    let fresh_seeds : map (seeds.faults_in view_faults) items ≡ map {B = ℕ} (λ q. 0) labels = unfailed ∙ sym (zeros view items) in
     let gave = rw c.as_str-2.ensures at c.give.ensures.files in
-    let out = rw c.as_str.ensures at c.in-Ok.ensures.ok in
-    let left = gave ∙ ap (option_map (λ m. at_name m q t1)) (c.close_stores-2.ensures.kept.files ∙ out) in
+    let out = rw c.as_str.ensures at c.in-Ok-take.ensures.ok in
+    let left = gave ∙ ap (option_map (λ m. at_name m q t1)) (c.close_seeds-2.ensures.kept.files ∙ c.close_stores-2.ensures.kept.files ∙ out ∙ ap (option_map (λ m. at_name m q None)) opens.kept.files) in
+    let took = subst (λ f. IfSome f (λ m. t0 ≡ Some (old_of m q))) opens.kept.files (rw c.as_str.ensures at c.in-Ok-take.ensures.bytes) in
     let added = rw c.as_str-2.ensures at c.give.ensures.counts.counts.added in
-    let first = counted_le d.file_counts (at c.take.new.self).file_counts _ c.in-Ok.ensures.counts.counts q in
-    let le : count_at d.file_counts q ≤ count_at (at c.close_stores-2.new.files).file_counts q = subst (λ (m : Map ℕ). count_at d.file_counts q ≤ count_at m q) (sym c.close_stores-2.ensures.counts) first in
-    let opened : (y : List ℕ) → count_at d.folder_counts y ≤ count_at (at c.take.new.self).folder_counts y = λ y.
-    let same : count_at (at c.take.new.self).folder_counts y ≡ count_at d.folder_counts y = ap (λ (m : Map ℕ). count_at m y) c.in-Ok.ensures.counts.folder_counts in omega (arith, same) in
-    let rose : Rose f0 f1 → FileRose d e q = λ y. given_rose _ _ _ _ le added (rw c.in-Ok.ensures.fresh.0 at y) in
-    let closed = rw (c.into_stores-2.ensures.value) at c.close_stores-2.ensures.added in
-    let tells : (b : Map (List ℕ)) → d.files ≡ Some b → IsTrue g.F.View.View.tells = λ b y. (g.met.F.Files.alike.0 (subst (λ t. IsTrue t) ((g.met.F.Files.told c.args.files.now).0) (subst (λ (o : Option (Map (List ℕ))). IsTrue (is_some o)) (sym y) refl))).0 in
-    rw c.answer_of.ensures (assembled d e names q l r
-    (facts_of d e names q l (λ maps base. IsObtainable l p x base views maps) (λ maps base i. had_of l p x base views maps i none) (λ maps base i. obtainable_of l p x base views maps i)
+    let given : (y : List ℕ) → count_at b4.file_counts y ≤ count_at e.file_counts y = λ y. counted_le b4.file_counts e.file_counts _ c.give.ensures.counts.counts.counted y in
+    let le_mid : (y : List ℕ) → count_at d.file_counts y ≤ count_at b3.file_counts y = λ y.
+    let first = opens.kept.counts y in
+    let next = counted_le b.file_counts b2.file_counts _ c.in-Ok-take.ensures.counts.counts y in
+    let last : count_at b3.file_counts y ≡ count_at b2.file_counts y = ap (λ (m : Map ℕ). count_at m y) c.close_stores-2.ensures.counts in
+    omega (arith, first, next, last) in
+    let le : count_at d.file_counts q ≤ count_at b4.file_counts q = omega (arith, le_mid q, c.close_seeds-2.ensures.kept.counts q) in
+    let opened : (y : List ℕ) → count_at d.folder_counts y ≤ count_at b2.folder_counts y = λ y.
+    let first = opens.kept.folder_counts y in
+    let last : count_at b2.folder_counts y ≡ count_at b.folder_counts y = ap (λ (m : Map ℕ). count_at m y) c.in-Ok-take.ensures.counts.folder_counts in
+    omega (arith, first, last) in
+    let rose : Rose f0 f1 → FileRose d e q = λ y. given_rose _ _ _ _ le added (rw c.in-Ok-take.ensures.fresh.0 at y) in
+    let closed = rw c.into_stores.ensures.value at c.close_stores-2.ensures.added in
+    let stays : e.folder_counts ≡ b3.folder_counts = c.give.ensures.counts.folder_counts ∙ c.close_seeds-2.ensures.counts in
+    let seeds_added : All (λ s. raised (count_at b3.file_counts (label_in view s)) (seeds.faults_in view_faults s) ≤ count_at e.file_counts (label_in view s)) j.seeds.items = λ n s lt.
+    let here = c.close_seeds-2.ensures.added n s lt in
+    let on = given (label_in view (slice_index_or j.seeds.items n s)) in
+    omega (arith, here, on) in
+    let labelled : map (label_in view) j.seeds.items ≡ labels = same_labels view items j.seeds.items over.seeds.held ∙ labels_are view items in
+    let rises = store_rose (seeds.faults_in view_faults) (label_in view) d.file_counts b3.file_counts e.file_counts le_mid items j.seeds.items labels fresh_seeds labelled seeds_added in
+    let later : (y : List ℕ) → FileRose d b y → FileRose d e y = λ y.
+    let next = counted_le b.file_counts b2.file_counts _ c.in-Ok-take.ensures.counts.counts y in
+    let last : count_at b3.file_counts y ≡ count_at b2.file_counts y = ap (λ (m : Map ℕ). count_at m y) c.close_stores-2.ensures.counts in
+    let more = c.close_seeds-2.ensures.kept.counts y in
+    let end = given y in
+    let on : count_at b.file_counts y ≤ count_at e.file_counts y = omega (arith, next, last, more, end) in
+    rose_longer (count_at d.file_counts y) (count_at b.file_counts y) (count_at e.file_counts y) on in
+    let tells : (m : Map (List ℕ)) → d.files ≡ Some m → IsTrue g.F.View.View.tells = λ m y. (g.met.F.Files.alike.0 (subst (λ t. IsTrue t) ((g.met.F.Files.told c.args.files.now).0) (subst (λ (o : Option (Map (List ℕ))). IsTrue (is_some o)) (sym y) refl))).0 in
+    let made = assembled d e names q l z r
+    (facts_of d e names q l z (λ maps base. IsObtainable l p x base views maps)
+    (λ m told maps base i lt. had_of d b e l p x z views zip is m told base maps i lt)
+    (λ m told quiet maps base i lt. obtainable_of d b e l p x z views zip is m told base maps i lt (λ y rise. rose_not_quiet (count_at d.file_counts y) (count_at d.file_counts y) (count_at e.file_counts y) (omega arith) (later y rise) (quiet.files y)))
     r (map files before) t0 t1 (Rose f0 f1) _
-    c.requires.found (rw c.as_str.ensures at c.in-Ok.ensures.bytes)
-    (g.met.F.Target.View.told c.in-Ok.taken ∙ sym (g.met.F.Target.View.told c.assemble-ended.new.target))
+    found took
+    (g.met.F.Target.View.told c.in-Ok-take.taken ∙ sym (g.met.F.Target.View.told c.assemble-ended.new.target))
     left rose over.bytes
-    (λ fs looks. lacks_told holds _ place faults _ view view_faults l p x d e names q t0 f0 f1 k j (Rose f0 f1) r fs (held_maps files before fs looks) rose over.lost)
+    (λ fs looks. lacks_told holds _ place faults _ view view_faults l p x d e names q z t0 f0 f1 k j (Rose f0 f1) r fs (held_maps files before fs looks) rose over.lost)
+    (λ m told. seeds_lack holds _ place faults _ view view_faults l p x d e names q z t0 f0 f1 k j b m told zip is later rises (Rose f0 f1) r over.lost)
     over.exactly over.after
-    (λ b y fs looks quiet. record {
-      target = rw c.in-Ok.ensures.fresh.0 (given_quiet _ _ _ _ le added (quiet.files q));
-      telling = tells b y;
-      seeds = none_failed (sources.held_in view) (sources.faults_in view_faults) k.seeds.items j.seeds.items c.requires.seeds over.seeds.held;
+    (λ m y fs looks quiet. record {
+      target = rw c.in-Ok-take.ensures.fresh.0 (given_quiet _ _ _ _ le added (quiet.files q));
+      telling = tells m y;
+      seeds = each_quiet (seeds.faults_in view_faults) (label_in view) d.file_counts b3.file_counts e.file_counts le_mid items j.seeds.items labels fresh_seeds seeds_added quiet.files;
       told = held_maps files before fs looks;
-      stores = each_quiet faults place d.folder_counts (at c.take.new.self).folder_counts (at c.close_stores-2.new.files).folder_counts opened before after names c.requires.fresh closed (rw c.give.ensures.counts.folder_counts at quiet.folders);
+      stores = each_quiet faults place d.folder_counts b2.folder_counts b3.folder_counts opened before after names fresh_stores closed (rw stays at quiet.folders);
     }))
     (target_as _ (Rose f0 f1) (FileRose d e q) rose r over.lost)
-    (store_told holds _ place faults _ view view_faults l p x d e names q t0 f0 f1 k j (at c.take.new.self).folder_counts opened over.stores refl
-    (λ xs same. there_after d.folders names files before xs c.requires.found same)
-    (rw c.give.ensures.counts.folder_counts closed) (Rose f0 f1) r over.lost))
+    (store_told holds _ place faults _ view view_faults l p x d e names q z t0 f0 f1 k j b2.folder_counts opened over.stores refl
+    (λ xs held. there_after d.folders names files before xs found held)
+    (rw stays closed) (Rose f0 f1) r over.lost) in
+    rw c.answer_of.ensures (subst (λ xs. Assembled d e (map place xs) q l z (answer_of_assembly r)) same made)

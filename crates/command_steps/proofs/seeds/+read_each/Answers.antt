@@ -1,0 +1,28 @@
+use Rattle.std.proofs.Common.{subst, ◌∙◌, ℕ, ◌+◌, ◌≤◌, List, arith}
+use Rattle.std.proofs.lemmas.Result.{IfErr-weaker, on_ok_weaker}
+use Rattle.command_steps.proofs.SeedsRead.{all_more, none_more}
+use Rattle.command_steps.proofs.seeds.+read_each.Goals as goal
+use Rattle.command_steps.specs.Openings.{Listed}
+use Rattle.command_steps.specs.Seeds.{NoneListed}
+use Rattle.extract_plan.specs.Places.{seed_item_limit}
+
+pub returns-clause-ok : goal.returns-clause-ok
+returns-clause-ok g t c =
+    let at = g.F.Files.disk in
+    let listed = subst (λ (q : List ℕ). Listed (at c.args.files.now) q c.in_ok-index.index) (c.in-Ok.ensures ∙ c.as_str.ensures) c.in_ok-index.ensures.ok in
+    rw c.in-Some.ensures.cases.0 (on_ok_weaker c.read_each.result
+    (all_more (at c.args.files.now) (at c.read_index.new.files) c.in_ok-index.ensures.kept c.in-Some.first.now c.in-Some.rest.now c.in_ok-index.index c.args.items c.count.result seed_item_limit c.args.indexes.now.items c.push.new.self.items c.read_each.new.indexes.items
+    listed c.count.ensures c.in-Ok-push.ensures.items) c.read_each.ensures.ok)
+
+pub returns-clause-err : goal.returns-clause-err
+returns-clause-err g t c =
+    let at = g.F.Files.disk in
+    let d = at c.args.files.now in
+    let b = at c.read_index.new.files in
+    let e = at c.read_each.new.files in
+    let k = c.count.result in
+    let rest = c.in-Some.rest.now in
+    let listed = subst (λ (q : List ℕ). Listed d q c.in_ok-index.index) (c.in-Ok.ensures ∙ c.as_str.ensures) c.in_ok-index.ensures.ok in
+    let few : c.args.items + k ≤ seed_item_limit = omega (arith, c.if-items-gt-SEED_ITEM_LIMIT.false) in
+    rw c.in-Some.ensures.cases.0 (IfErr-weaker c.read_each.result (NoneListed b e (c.args.items + k) rest) _
+    (λ o. none_more d b e c.in_ok-index.ensures.kept c.in-Some.first.now rest c.in_ok-index.index c.args.items k o listed c.count.ensures few) c.read_each.ensures.err)

@@ -1,0 +1,26 @@
+-- What calls on files leave of a disk, one after the other.
+use Rattle.std.proofs.Common.{◌≡◌, ◌∙◌, ℕ, ◌≤◌, List, ap, arith}
+use Rattle.std.specs.Map.{count_at}
+use Rattle.command_steps.proofs.Numbers.{counted_le}
+use Rattle.command_steps.specs.Worlds.{Reads, Writes}
+use Rattle.dsy_base.specs.Disk.{Disk, GivesFile, OnFile}
+use Rattle.dsy_base.specs.Maps.{Map}
+
+pub wrote_then : (d b e : Disk) → Writes d b → Writes b e → Writes d e
+wrote_then d b e u v = record {
+  folders = v.folders ∙ u.folders;
+  counts = λ q. omega (arith, u.counts q, v.counts q);
+  folder_counts = λ q. omega (arith, u.folder_counts q, v.folder_counts q);
+}
+
+pub wrote_read : (d e : Disk) → Reads d e → Writes d e
+wrote_read d e r = record { folders = r.folders; counts = r.counts; folder_counts = r.folder_counts }
+
+same_count : (m n : Map ℕ) → n ≡ m → (q : List ℕ) → count_at m q ≤ count_at n q
+same_count m n same q = let at : count_at n q ≡ count_at m q = ap (λ (k : Map ℕ). count_at k q) same in omega (arith, at)
+
+pub wrote_on : (d e : Disk) (name : List ℕ) → OnFile d e name → Writes d e
+wrote_on d e name o = record { folders = o.folders; counts = counted_le d.file_counts e.file_counts name o.counts; folder_counts = same_count d.folder_counts e.folder_counts o.folder_counts }
+
+pub wrote_back : (d e : Disk) (name : List ℕ) (n : ℕ) → GivesFile d e name n → Writes d e
+wrote_back d e name n o = record { folders = o.folders; counts = counted_le d.file_counts e.file_counts name o.counts.counted; folder_counts = same_count d.folder_counts e.folder_counts o.folder_counts }
