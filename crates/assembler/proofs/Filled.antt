@@ -81,6 +81,18 @@ told_on l m0 m1 m2 a b c (Some t0) None z xy yz ab bc g h first next = absurd (t
 told_on l m0 m1 m2 a b c (Some t0) (Some t1) None xy yz ab bc g h first next = tt
 told_on l m0 m1 m2 a b c (Some t0) (Some t1) (Some t2) xy yz ab bc g h first next = fills_on l m0 m1 m2 a b c t0 t1 t2 ab bc g h first next
 
+-- after a part in which the bytes were only read
+pub told_since : (l : Listing) (m0 m1 : List Fate) (a b c : ℕ) (x y z : Option (List ℕ)) → y ≡ x → a ≤ b → b ≤ c
+    → WhereTold y z (Fills l m0 m1 b c) → WhereTold x z (Fills l m0 m1 a c)
+told_since l m0 m1 a b c x None z same ab bc told = subst (λ o. WhereTold o z (Fills l m0 m1 a c)) same tt
+told_since l m0 m1 a b c x (Some t0) None same ab bc told = subst (λ o. WhereTold o None (Fills l m0 m1 a c)) same tt
+told_since l m0 m1 a b c x (Some t0) (Some t1) same ab bc told = subst (λ o. WhereTold o (Some t1) (Fills l m0 m1 a c)) same (record {
+  size = told.size;
+  kept = told.kept;
+  fresh = told.fresh;
+  left = λ i lt isnt. left_on a b c (slice_of l t0 i) (slice_of l t0 i) (slice_of l t1 i) ab bc (inl refl) (told.left i lt isnt);
+})
+
 -- the settled entries are right afterwards too
 right_after : (l : Listing) (m0 m1 : List Fate) (a b : ℕ) (t0 t1 : List ℕ) → Fills l m0 m1 a b t0 t1 → SettledRight l t0 m0 (count_of l) → SettledRight l t1 m1 (count_of l)
 right_after l m0 m1 a b t0 t1 fills right = λ i lt is. elim (cases_Bool (settled m0 i)) [

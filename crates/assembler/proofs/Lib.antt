@@ -15,6 +15,8 @@ pub mod Retried
 pub mod TwoPasses
 pub mod Reported
 pub mod KeptCount
+pub mod Tallies
+pub mod Origins
 pub mod Based
 pub mod Lacking
 pub mod Assembled

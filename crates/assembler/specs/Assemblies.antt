@@ -1,11 +1,11 @@
 -- How an assembly may end. `o` are the target's bytes before it, the base is `o` with the image's length, t are the
 -- bytes after it. `failed` says that the target failed.
-use Rattle.std.specs.Prelude.{◌≡◌, ◌⊎◌, ℕ, ◌+◌, ◌<◌, List, length, map, slice_index, true, Bool, Option, Some, IfSome, IsTrue, IsSomeAnd, Result, Ok, Err}
+use Rattle.std.specs.Prelude.{◌≡◌, ◌⊎◌, ℕ, ◌+◌, ◌<◌, List, length, map, slice_index, true, Bool, Option, IfSome, IsSomeAnd, Result, Ok, Err}
 use Rattle.std.specs.List.{Any}
 use Rattle.assembler.specs.Asks.{AsksAtMost, asks_below, calls_below}
 use Rattle.assembler.specs.Losses.{SomeGives}
 use Rattle.assembler.specs.Passes.{RefusedOnce, want_at}
-use Rattle.assembler.specs.Sources.{HeldAt, SeedsFailed, SeedsGive}
+use Rattle.assembler.specs.Sources.{HeldAt, SeedsFailed, SeedsGive, SourcesQuiet}
 use Rattle.assembler.specs.Wants.{IsAmong}
 use Rattle.assembler.specs.declared.fault.ExtractFault.{ExtractFault}
 use Rattle.assembler.specs.declared.fault.ExtractFault.TheVariants as faults
@@ -18,11 +18,10 @@ use Rattle.chunk_store.specs.Said.{Said}
 use Rattle.dsy_base.specs.Bytes.{Held, resized}
 use Rattle.dsy_base.specs.Counts.{Quiet, Rose}
 use Rattle.dsy_base.specs.Maps.{Map}
-use Rattle.extract_plan.specs.Deal.{AreAlike, Deal, of_want, want_id}
+use Rattle.extract_plan.specs.Deal.{of_want, want_id, AreAlike, Deal}
 use Rattle.extract_plan.specs.Places.{Placed, places_at}
 use Rattle.extract_plan.specs.Seeds.{faults_in, held_in}
 use Rattle.extract_plan.specs.declared.seed.Seed.{Seed}
-use Rattle.store_chain.specs.Faults.{EachQuiet}
 
 -- an entry that is alike to entry i is right in the base
 abbrev pub RightAlike : Listing → List ℕ → ℕ → Type 0
@@ -85,12 +84,9 @@ module _ {S V : Type 0} (holds folder : S → Option (Map (List ℕ))) (place : 
         k.chain.stores j.chain.stores
 
   -- nothing fails: the target, the seeds and the stores, which hold these maps, are quiet, and the seeds tell
-  pub record NothingFails (tells : Bool) (old new : ℕ) (k j : Kit S V) (maps : List (Map (List ℕ))) : Type 0 where
-    pub target : Quiet old new
-    pub telling : IsTrue tells
-    pub seeds : EachQuiet (map (faults_in view_faults) k.seeds.items) (map (faults_in view_faults) j.seeds.items)
-    pub told : map holds k.chain.stores ≡ map Some maps
-    pub stores : EachQuiet (map store_faults k.chain.stores) (map store_faults j.chain.stores)
+  abbrev pub NothingFails : Bool → ℕ → ℕ → Kit S V → Kit S V → List (Map (List ℕ)) → Type 0
+  NothingFails tells old new k j maps = SourcesQuiet holds store_faults view_faults tells old new k.seeds.items
+      j.seeds.items k.chain.stores j.chain.stores maps
 
 -- want w is had without the stores: an entry of it is right in the base, and the target didn't fail; or a seed gives it
 -- that didn't fail

@@ -8,3 +8,4 @@ pub mod Asks
 pub mod Passes
 pub mod Reports
 pub mod Assemblies
+pub mod Economy

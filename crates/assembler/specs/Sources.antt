@@ -1,12 +1,15 @@
 -- Where chunks come from.
-use Rattle.std.specs.Prelude.{◌≡◌, ℕ, ◌≤◌, List, slice_index_or, slice_index, Option, Some, None, IsSomeAnd}
+use Rattle.std.specs.Prelude.{◌≡◌, ℕ, ◌≤◌, List, slice_index_or, slice_index, Option, Some, None, IsSomeAnd, map, Bool, IsTrue}
 use Rattle.std.specs.List.{All, Any}
 use Rattle.chunk_store.specs.Names.{name_of}
 use Rattle.chunk_store.specs.declared.id.DigestKind.TheVariants.{Sha512T256}
 use Rattle.dsy_base.specs.Bytes.{Held}
-use Rattle.dsy_base.specs.Counts.{Rose}
-use Rattle.extract_plan.specs.Seeds.{bytes_at, place_end}
+use Rattle.dsy_base.specs.Counts.{Quiet, Rose}
+use Rattle.dsy_base.specs.Maps.{Map}
+use Rattle.extract_plan.specs.Seeds.{bytes_at, faults_in, place_end}
+use Rattle.extract_plan.specs.declared.seed.Seed.{Seed}
 use Rattle.extract_plan.specs.declared.seed.SeedPlace.{SeedPlace}
+use Rattle.store_chain.specs.Faults.{EachQuiet}
 
 -- a view with this stands at the place, inside it, and the bytes there are told and have the id
 abbrev pub GivesAt : Option Held → SeedPlace → List ℕ → Type 0
@@ -24,3 +27,13 @@ SeedsGive views places id = Any (λ p. HeldAt views p id) places
 abbrev pub SeedsFailed : List (Option Held) → List SeedPlace → List ℕ → List ℕ → List ℕ → Type 0
 SeedsFailed views places id old new =
     All (λ p. HeldAt views p id → Rose (slice_index old p.seed) (slice_index new p.seed)) places
+
+-- nothing fails that chunks come from: the target, the seeds and the stores, which hold these maps, are quiet, and the
+-- seeds tell
+pub record SourcesQuiet {S V : Type 0} (holds : S → Option (Map (List ℕ))) (store_faults : S → ℕ) (view_faults : V → ℕ)
+    (tells : Bool) (old new : ℕ) (s0 s1 : List (Seed V)) (c0 c1 : List S) (maps : List (Map (List ℕ))) : Type 0 where
+  pub target : Quiet old new
+  pub telling : IsTrue tells
+  pub seeds : EachQuiet (map (faults_in view_faults) s0) (map (faults_in view_faults) s1)
+  pub told : map holds c0 ≡ map Some maps
+  pub stores : EachQuiet (map store_faults c0) (map store_faults c1)

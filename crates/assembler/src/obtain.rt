@@ -1,16 +1,18 @@
 //! Getting the chunk of a want: from an entry of the target that has it, from a seed, or from the chain of stores.
 
-ghost use Rattle.std.specs.Prelude.{◌≡◌, ◌⊎◌, ℕ, List, IsTrue, ◌≤◌, length, map, Some, IfSome, IfOk, IfErr, OnOk, OnErr, true};
+ghost use Rattle.std.specs.Prelude.{◌≡◌, ◌⊎◌, ℕ, List, IsTrue, ◌<◌, ◌≤◌, ◌^◌, length, map, true, Some, IfSome, IfOk, IfErr, OnOk, OnErr};
+ghost use Rattle.assembler.specs.Economy.{ObtainedBy, source_among};
 ghost use Rattle.assembler.specs.Fills.{is_made};
 ghost use Rattle.assembler.specs.Kits.{KeepsSeeds};
 ghost use Rattle.assembler.specs.Losses.{AskedLast, Had, RefusedBy, chunk_of};
+ghost use Rattle.assembler.specs.Sources.{SourcesQuiet};
 ghost use Rattle.assembler.specs.Wants.{AllOf};
 ghost use Rattle.caibx_codec.specs.Listing.{count_of, kind_of, image_length};
 ghost use Rattle.chunk_store.specs.Names.{name_of};
 ghost use Rattle.dsy_base.specs.Maps.{Map};
 ghost use Rattle.extract_plan.specs.Places.{PlacesFit};
 ghost use Rattle.extract_plan.specs.Seeds.{held_in};
-ghost use Rattle.range_survey.specs.Fates.{SettledRight, is_settled};
+ghost use Rattle.range_survey.specs.Fates.{SettledRight, is_settled, settled};
 ghost use Rattle.store_chain.specs.Chains.{KeepsStores};
 ghost use Rattle.store_chain.specs.Faults.{EachQuiet};
 
@@ -50,6 +52,7 @@ pub(crate) fn obtain<T: View, S: Store, V: View>(
     requires size { (T.held target.old).size ≡ image_length index.now }
     requires fates { length fates.now ≡ count_of index.now }
     requires right { IfSome (T.held target.old).bytes (λ t. SettledRight index.now t fates.now (count_of index.now)) }
+    requires asks { chain.old.asks < 2 ^ 64 }
     ensures ok { OnOk result (IfSome (T.held target.old).bytes
         (λ t. name_of (kind_of index.now) chunk.new ≡ sought.now.id.0)) }
     ensures origin { IfOk result (λ f. is_settled f ≡ true) }
@@ -67,6 +70,12 @@ pub(crate) fn obtain<T: View, S: Store, V: View>(
     ensures asked { OnErr result (AskedLast S.asked S.queried V.held V.faults sought.now.id.0 fates.now
         sought.now.entries.now sought.now.places.now (T.faults target.old) (T.faults target.new) seeds.old seeds.new
         chain.old chain.new) }
+
+    // Where nothing fails.
+    ensures exactly { (maps : List (Map (List ℕ))) → SourcesQuiet S.holds S.faults V.faults V.tells
+        (T.faults target.old) (T.faults target.new) seeds.old seeds.new chain.old.stores chain.new.stores maps →
+        ObtainedBy (source_among (settled fates.now) sought.now.entries.now (map (held_in V.held) seeds.old)
+        sought.now.places.now (kind_of index.now) sought.now.id.0 (length chunk.old) maps) chain.old chain.new result }
 
     ensures kept { T.held target.new ≡ T.held target.old }
     ensures faults { T.faults target.old ≤ T.faults target.new }

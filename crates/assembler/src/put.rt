@@ -1,7 +1,9 @@
 //! Writing a chunk into the ranges of a want's entries.
 
-ghost use Rattle.std.specs.Prelude.{◌≡◌, ◌≢◌, ◌⊎◌, ℕ, ◌<◌, ◌≤◌, length, slice_index, IfSome, OnOk, OnErr, true, false};
+ghost use Rattle.std.specs.Prelude.{◌≡◌, ◌≢◌, ◌⊎◌, ℕ, ◌<◌, ◌≤◌, length, set, slice_index, true, false, Ok, IfSome, OnOk, OnErr};
+ghost use Rattle.assembler.specs.Economy.{Tallied};
 ghost use Rattle.assembler.specs.Fills.{Fills, Grows, WhereTold, is_made};
+ghost use Rattle.assembler.specs.Reports.{one_if};
 ghost use Rattle.assembler.specs.Wants.{IsAmong};
 ghost use Rattle.caibx_codec.specs.Listing.{count_of, id_of, kind_of, size_of, image_length};
 ghost use Rattle.chunk_store.specs.Names.{name_of};
@@ -31,6 +33,8 @@ fn put_one<T: Part>(
     requires right { IfSome (T.held target.old).bytes (λ t. name_of (kind_of index.now) chunk.now ≡ id_of index.now i) }
     ensures ok { OnOk result (settled fates.new i ≡ true) }
     ensures origin { settled fates.old i ≡ false → settled fates.new i ≡ true → fate_at fates.new i ≡ fate }
+    ensures changed { result ≡ Ok true → (settled fates.old i ≡ false) × (fates.new ≡ set fates.old i fate) }
+    ensures kept { result ≡ Ok false → (settled fates.old i ≡ true) × (fates.new ≡ fates.old) }
     ensures others { (j : ℕ) → j ≢ i → fate_at fates.new j ≡ fate_at fates.old j }
     ensures grows { Grows fates.old fates.new }
     ensures bytes { WhereTold (T.held target.old).bytes (T.held target.new).bytes
@@ -71,6 +75,8 @@ pub(crate) fn put<T: Part>(
     ensures origin { (i : ℕ) → settled fates.old i ≡ false → settled fates.new i ≡ true →
         (fate_at fates.new i ≡ origin) ⊎ (fate_at fates.new i ≡ Fate.Copied) }
     ensures only { (i : ℕ) → settled fates.old i ≡ false → settled fates.new i ≡ true → IsAmong entries.now i }
+    ensures tallied { OnOk result ((i : ℕ) → IsAmong entries.now i → settled fates.old i ≡ false →
+        Tallied (one_if Fate.Seeded origin) (one_if Fate.Fetched origin) (count_of index.now) fates.old fates.new) }
     ensures grows { Grows fates.old fates.new }
     ensures bytes { WhereTold (T.held target.old).bytes (T.held target.new).bytes
         (Fills index.now fates.old fates.new (T.faults target.old) (T.faults target.new)) }

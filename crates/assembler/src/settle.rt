@@ -1,10 +1,13 @@
 //! Settling the entries of one want.
 
-ghost use Rattle.std.specs.Prelude.{◌≡◌, ◌⊎◌, ℕ, List, IsTrue, ◌<◌, ◌≤◌, length, map, slice_index, Some, IfSome, OnOk, MatchOption, true, false};
+ghost use Rattle.std.specs.Prelude.{◌≡◌, ◌⊎◌, ℕ, List, IsTrue, ◌<◌, ◌≤◌, ◌^◌, length, map, slice_index, true, false, Some, IfSome, OnOk, MatchOption};
+ghost use Rattle.assembler.specs.Assemblies.{NothingFails};
+ghost use Rattle.assembler.specs.Economy.{SettlesBy, source_among, source_over};
 ghost use Rattle.assembler.specs.Fills.{Fills, Grows, WhereTold};
 ghost use Rattle.assembler.specs.Kits.{KeepsSeeds, Ready, Step};
 ghost use Rattle.assembler.specs.Losses.{AskedLast, Had, IsFirstOpen, RefusedBy, Where, chunk_of, lost_want};
 ghost use Rattle.assembler.specs.Wants.{AllOf, IsAmong};
+ghost use Rattle.assembler.specs.Sources.{SourcesQuiet};
 ghost use Rattle.caibx_codec.specs.Listing.{count_of, id_of, kind_of, size_of, image_length};
 ghost use Rattle.dsy_base.specs.Counts.{Rose};
 ghost use Rattle.dsy_base.specs.Maps.{Map};
@@ -59,12 +62,15 @@ fn settle_open<T: Part, S: Store, V: View>(
 ) -> Result<(), Unsettled>
     requires entries { AllOf index.now sought.now.id.0 (size_of index.now entry) sought.now.entries.now }
     requires listed { entry < count_of index.now }
+    requires among { IsAmong sought.now.entries.now entry }
+    requires is_open { settled fates.old entry ≡ false }
     requires places { PlacesFit (length seeds.old) (size_of index.now entry) sought.now.places.now }
     requires kind { chain.old.kind ≡ kind_of index.now }
     requires room { size_of index.now entry ≤ length buf.old }
     requires size { (T.held target.old).size ≡ image_length index.now }
     requires fates { length fates.old ≡ count_of index.now }
     requires right { IfSome (T.held target.old).bytes (λ t. SettledRight index.now t fates.old (count_of index.now)) }
+    requires asks { chain.old.asks < 2 ^ 64 }
     ensures ok { OnOk result ((i : ℕ) → IsAmong sought.now.entries.now i → settled fates.new i ≡ true) }
     ensures only { (i : ℕ) → settled fates.old i ≡ false → settled fates.new i ≡ true →
         IsAmong sought.now.entries.now i }
@@ -84,6 +90,13 @@ fn settle_open<T: Part, S: Store, V: View>(
     ensures asks { (chain.new ≡ chain.old) ⊎ AskedLast S.asked S.queried V.held V.faults sought.now.id.0 fates.old
         sought.now.entries.now sought.now.places.now (T.faults target.old) (T.faults target.new) seeds.old seeds.new
         chain.old chain.new }
+
+    // Where nothing fails.
+    ensures exactly { (maps : List (Map (List ℕ))) → SourcesQuiet S.holds S.faults V.faults V.tells
+        (T.faults target.old) (T.faults target.new) seeds.old seeds.new chain.old.stores chain.new.stores maps →
+        SettlesBy (source_among (settled fates.old) sought.now.entries.now (map (held_in V.held) seeds.old)
+        sought.now.places.now (kind_of index.now) sought.now.id.0 (size_of index.now entry) maps) (count_of index.now)
+        fates.old fates.new chain.old chain.new result }
 
     ensures grows { Grows fates.old fates.new }
     ensures bytes { WhereTold (T.held target.old).bytes (T.held target.new).bytes
@@ -138,9 +151,19 @@ pub(crate) fn settle<T: Part, S: Store, V: View>(
         (want_id index.now plan.now want) fates.old (of_want plan.now want) (places_at places.now want)
         (T.faults target.old) (T.faults target.new) kit.old.seeds.items kit.new.seeds.items kit.old.chain
         kit.new.chain }
+
+    // Where nothing fails.
+    ensures exactly { (maps : List (Map (List ℕ))) → NothingFails S.holds S.folder S.place S.said S.faults
+        S.may_lack_memory V.held V.faults index.now plan.now places.now V.tells (T.faults target.old)
+        (T.faults target.new) kit.old kit.new maps → SettlesBy (source_over index.now plan.now places.now
+        (settled fates.old) (map (held_in V.held) kit.old.seeds.items) maps want) (count_of index.now) fates.old
+        fates.new kit.old.chain kit.new.chain result }
+
     ensures step { Step T.held T.faults S.holds S.folder S.place S.said S.faults V.held V.faults index.now
         target.old kit.old fates.old target.new kit.new fates.new }
 {
+    // Only for its contract: the count of calls fits its type.
+    kit.chain.asks();
     let entries = plan.entries(want);
     let Some(entry) = first_open(entries, fates) else {
         return Ok(());

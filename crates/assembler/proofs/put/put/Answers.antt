@@ -1,4 +1,4 @@
-use Rattle.std.proofs.Common.{◌≡◌, ◌≢◌, ◌⊎◌, ℕ, ◌+◌, ◌<◌, List, Result, Ok, Err, OnOk, OnErr, slice_index, true, false, sym, ap, subst, ◌∙◌, inl, inr, arith}
+use Rattle.std.proofs.Common.{◌≡◌, ◌≢◌, ◌⊎◌, ℕ, ◌+◌, ◌<◌, List, length, Result, Ok, Err, OnOk, OnErr, slice_index, true, false, sym, ap, subst, ◌∙◌, inl, inr, arith}
 use Rattle.std.proofs.lemmas.Bool.{cases_Bool, cases_eq, cases_lt, true≢false}
 use Rattle.dsy_base.proofs.Counts.{rose_later}
 use Rattle.dsy_base.specs.declared.fault.Failed.{Failed}
@@ -7,6 +7,8 @@ use Rattle.range_survey.specs.declared.fate.Fate.{Fate}
 use Rattle.range_survey.specs.declared.fate.Fate.TheVariants as fate
 use Rattle.assembler.specs.Fills.{Grows}
 use Rattle.assembler.proofs.Filled.{grows_on, rose_still, settled_on, told_on}
+use Rattle.assembler.proofs.Tallies.{put_passed, put_some, put_written}
+use Rattle.caibx_codec.specs.Listing.{count_of}
 use Rattle.assembler.proofs.put.put.Goals as goal
 use Rattle.assembler.proofs.put.put.Goals.{in-Ok-true, in-Ok-false, in-Err}
 
@@ -73,6 +75,8 @@ loop-entry-preserved g c =
     let inv = c.loop-entry.invariant in
     let ens = c.put_one.ensures in
     let told = g.met.T.View.told in
+    let listed : slice_index es n < count_of l = c.requires.entries n c.loop-entry-test.true in
+    let inside : slice_index es n < length m1 = omega (arith, listed, c.requires.fates, inv.grows.size) in
     record {
       next = elim c.match-put_one.branch [
         | in-Ok-true w ↦ inr w.fate-is
@@ -86,6 +90,11 @@ loop-entry-preserved g c =
       ];
       origin = origin_on m0 m1 m2 ens.grows es n ens.others c.args.origin c.loop-entry.fate inv.next ens.origin inv.origin;
       only = among_on m0 m1 m2 ens.grows es n ens.others inv.only;
+      tallied = elim c.match-put_one.branch [
+        | in-Ok-true w ↦ rw (w.ended-is, w.fate-is) (on_ok c.loop-entry.ended (put_written c.args.origin c.loop-entry.fate es n (count_of l) m0 m1 m2 inside listed (ens.changed (w.in-Ok-true.is ∙ ap Ok w.in-Ok-true.field-0-test)).0 (ens.changed (w.in-Ok-true.is ∙ ap Ok w.in-Ok-true.field-0-test)).1) inv.tallied)
+        | in-Ok-false w ↦ rw (w.ended-is, w.fate-is) (on_ok c.loop-entry.ended (put_passed c.args.origin c.loop-entry.fate es n (count_of l) m0 m1 m2 (ens.kept (w.in-Ok-false.is ∙ ap Ok w.in-Ok-false.field-0-test)).0 (ens.kept (w.in-Ok-false.is ∙ ap Ok w.in-Ok-false.field-0-test)).1) inv.tallied)
+        | in-Err w ↦ rw w.ended-is tt
+      ];
       grows = grows_on m0 m1 m2 inv.grows ens.grows;
       bytes = told_on l m0 m1 m2 a b d (held t0).bytes (held t1).bytes (held t2).bytes (told t0 ∙ sym (told t1)) (told t1 ∙ sym (told t2)) inv.never_falls ens.faults inv.grows ens.grows inv.bytes ens.bytes;
       name = ens.name ∙ inv.name;
@@ -97,3 +106,9 @@ loop-entry-preserved g c =
         | in-Err w ↦ rw w.ended-is (rose_later a b d inv.never_falls w.in-Err.ensures.cause)
       ];
     }
+
+pub returns-clause-tallied : goal.returns-clause-tallied
+returns-clause-tallied g c =
+    on_ok c.loop-entry.ended
+    (put_some c.args.origin c.loop-entry.fate c.args.entries.now c.loop-entry.entry-index (count_of c.args.index.now) c.args.fates.now c.loop-entry.fates (omega (arith, c.loop-entry-test.false)))
+    c.loop-entry.invariant.tallied

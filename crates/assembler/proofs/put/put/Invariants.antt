@@ -3,6 +3,8 @@ use Rattle.dsy_base.specs.Counts.{Rose}
 use Rattle.range_survey.specs.Fates.{fate_at, settled}
 use Rattle.range_survey.specs.declared.fate.Fate.TheVariants as fate
 use Rattle.assembler.specs.Fills.{Fills, Grows, WhereTold}
+use Rattle.assembler.proofs.Tallies.{PutUpTo}
+use Rattle.caibx_codec.specs.Listing.{count_of}
 use Rattle.assembler.proofs.put.put.Given as goal
 
 abbrev pub invariant-loop-entry : goal.invariant-loop-entry
@@ -14,6 +16,7 @@ invariant-loop-entry g l =
       ok : OnOk l.ended ((k : ℕ) → k < l.entry-index → settled l.fates (slice_index l.entries k) ≡ true);
       origin : (i : ℕ) → settled l.fn.fates i ≡ false → settled l.fates i ≡ true → (fate_at l.fates i ≡ l.fn.origin) ⊎ (fate_at l.fates i ≡ fate.Copied);
       only : (i : ℕ) → settled l.fn.fates i ≡ false → settled l.fates i ≡ true → (k : ℕ) × (k < l.entry-index) × (slice_index l.entries k ≡ i);
+      tallied : OnOk l.ended (PutUpTo l.fn.origin l.fate l.entries l.entry-index (count_of l.index) l.fn.fates l.fates);
       grows : Grows l.fn.fates l.fates;
       bytes : WhereTold (held l.fn.target).bytes (held l.target).bytes (Fills l.index l.fn.fates l.fates (faults l.fn.target) (faults l.target));
       name : (held l.target).name ≡ (held l.fn.target).name;

@@ -1,14 +1,17 @@
 use Rattle.std.proofs.Common.{◌≡◌, ◌∙◌, ℕ, List, length, map, false, inl, inr, ⊎_elim, ap, sym, subst, arith}
 use Rattle.std.proofs.lemmas.List.{with_items_is}
-use Rattle.assembler.proofs.Settled.{all_as, asked_as, first_open, fit, had_as, inside, listed, refused_as, where_both, where_map}
+use Rattle.assembler.proofs.Settled.{all_as, all_kept, asked_as, first_open, fit, had_as, inside, listed, refused_as, settles_as, where_both, where_map}
+use Rattle.assembler.proofs.Origins.{settles_kept}
 use Rattle.assembler.proofs.Stepped.{step_none}
+use Rattle.assembler.specs.Economy.{source_over}
 use Rattle.assembler.specs.Kits.{KeepsSeeds}
-use Rattle.caibx_codec.specs.Listing.{id_of, kind_of, size_of}
+use Rattle.caibx_codec.specs.Listing.{id_of, kind_of, size_of, count_of}
 use Rattle.chunk_store.specs.declared.id.ChunkId.{ChunkId}
 use Rattle.extract_plan.specs.Places.{PlacesFit}
-use Rattle.extract_plan.specs.Seeds.{held_in}
+use Rattle.extract_plan.specs.Seeds.{faults_in, held_in}
 use Rattle.range_survey.specs.Fates.{settled}
 use Rattle.extract_plan.specs.declared.seed.Seed.{Seed}
+use Rattle.store_chain.specs.Faults.{EachQuiet}
 use Rattle.assembler.proofs.settle.settle.Goals as goal
 
 pub first_open-requires : goal.first_open-requires
@@ -86,6 +89,32 @@ returns-clause-asks g c =
     (λ h. inr (asked_as c.args.index.now c.args.plan.now c.args.want c.requires.ready.wants c.requires.want c.entries-entries.result.now c.entries-entries.ensures g.S.Store.asked g.S.Store.queried g.V.View.held g.V.View.faults c.args.fates.now _ _ c.args.places.now c.places-places.result.now c.in-Some.entry c.id-id.result.0
     _ _ _ _ _ _ (f.0, f.1, f.2) c.id-id.ensures c.places-places.ensures c.deref_mut.ensures.value (sym kept) h))
     c.settle_open.ensures.asks
+
+pub returns-in_default-clause-exactly : goal.returns-in_default-clause-exactly
+returns-in_default-clause-exactly g c = λ maps nothing.
+    let l = c.args.index.now in
+    let d = c.args.plan.now in
+    let w = c.args.want in
+    let m = c.args.fates.now in
+    let views = map (held_in g.V.View.held) c.args.kit.now.seeds.items in
+    let kept = all_kept l d w c.requires.ready.wants c.requires.want c.entries-entries.result.now c.entries-entries.ensures m views c.args.places.now maps c.in_default.ensures in
+    settles_kept (source_over l d c.args.places.now (settled m) views maps w) (count_of l) m c.args.kit.now.chain kept c.asks.ensures.below
+
+pub returns-clause-exactly : goal.returns-clause-exactly
+returns-clause-exactly g c = λ maps nothing.
+    let f = c.in-Some.ensures in
+    let views = map (held_in g.V.View.held) in
+    let counts = map (faults_in g.V.View.faults) in
+    let kept = with_items_is c.args.kit.now.seeds c.settle_open.new.seeds (omega (arith, c.settle_open.auto.seeds, c.deref_mut.ensures.len)) in
+    let first = c.deref_mut.ensures.value in
+    let here : EachQuiet (counts c.deref_mut.result.now) (counts c.settle_open.new.seeds) =
+    subst (λ (xs : List (Seed g.row.V.Denot)). EachQuiet (counts xs) (counts c.settle_open.new.seeds)) (sym first)
+    (subst (λ (xs : List (Seed g.row.V.Denot)). EachQuiet (counts c.args.kit.now.seeds.items) (counts xs)) kept nothing.seeds) in
+    settles_as c.args.index.now c.args.plan.now c.args.want c.requires.ready.wants c.requires.want c.entries-entries.result.now c.entries-entries.ensures
+    c.args.fates.now c.settle_open.new.fates (count_of c.args.index.now) c.args.kit.now.chain c.settle_open.new.chain c.settle_open.result
+    (views c.deref_mut.result.now) (views c.args.kit.now.seeds.items) c.args.places.now c.places-places.result.now maps c.in-Some.entry c.id-id.result.0
+    (f.0, f.1, f.2) c.id-id.ensures c.places-places.ensures (ap views first)
+    (c.settle_open.ensures.exactly maps (record { target = nothing.target; telling = nothing.telling; seeds = here; told = nothing.told; stores = nothing.stores }))
 
 pub returns-clause-step : goal.returns-clause-step
 returns-clause-step g c =
