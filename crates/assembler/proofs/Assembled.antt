@@ -4,17 +4,22 @@ use Rattle.std.proofs.Common.{◌≡◌, ◌⊎◌, IsTrue, ℕ, ◌<◌, ◌≤
 use Rattle.std.proofs.lemmas.Bool.{cases_Bool}
 use Rattle.assembler.proofs.Asked.{quiet_never, quiet_part}
 use Rattle.assembler.proofs.Based.{Surveyed, assembles_err, ends_map, leaves, left_at, right_all, right_at, some_map, told_map}
+use Rattle.assembler.proofs.EconomyReported.{asks_err, assembled_as, reports_all, settled_right}
+use Rattle.assembler.proofs.EconomyRetried.{unless_map}
+use Rattle.assembler.proofs.EconomySources.{source_same}
 use Rattle.assembler.proofs.Entries.{among, ids_same, listed_of}
 use Rattle.assembler.proofs.Filled.{rose_still}
 use Rattle.assembler.proofs.Lacking.{Tells, seeds_never, stores_never, tells_of}
 use Rattle.assembler.specs.Asks.{IsSpared}
 use Rattle.assembler.specs.Assemblies.{After, Assembles, AssemblyAsks, IsObtainable, IsUnobtained, NothingFails, RightAlike, SparedOver, Verdict}
+use Rattle.assembler.specs.Economy.{AsksExactly, AssembledBy, ReportsExactly, UnlessMemory, source_of, source_over}
 use Rattle.assembler.specs.Faults.{fault_of}
 use Rattle.assembler.specs.Fills.{Fills, WhereTold}
 use Rattle.assembler.specs.Losses.{CopiesFailed, SomeGives}
 use Rattle.assembler.specs.Passes.{EndsBy, HadAt, IsLost, PassesAsk, want_at}
 use Rattle.assembler.specs.Sources.{SeedsGive}
 use Rattle.assembler.specs.Wants.{IsAmong}
+use Rattle.assembler.specs.Reports.{tally}
 use Rattle.assembler.specs.declared.fault.ExtractFault.{ExtractFault}
 use Rattle.assembler.specs.declared.fault.ExtractFault.TheVariants as faults
 use Rattle.assembler.specs.declared.fault.Lost.{Lost}
@@ -28,12 +33,13 @@ use Rattle.dsy_base.proofs.Counts.{rose_later}
 use Rattle.dsy_base.specs.Bytes.{Held, resized}
 use Rattle.dsy_base.specs.Counts.{Rose}
 use Rattle.dsy_base.specs.Maps.{Map}
-use Rattle.extract_plan.specs.Deal.{AreWants, Deal, of_want}
+use Rattle.extract_plan.specs.Deal.{of_want, AreWants, Deal}
 use Rattle.extract_plan.specs.Places.{Placed, places_at}
 use Rattle.extract_plan.specs.Seeds.{faults_in, held_in}
 use Rattle.extract_plan.specs.declared.seed.Seed.{Seed}
-use Rattle.range_survey.specs.Fates.{settled}
+use Rattle.range_survey.specs.Fates.{FirstFates, is_right_at, settled}
 use Rattle.range_survey.specs.declared.fate.Fate.{Fate}
+use Rattle.range_survey.specs.declared.fate.Fate.TheVariants as fate
 use Rattle.store_chain.specs.Faults.{EachQuiet}
 use Rattle.store_chain.specs.declared.refused.Refused.{Refused}
 use Rattle.store_chain.specs.declared.refused.Refused.TheVariants as refused
@@ -138,6 +144,10 @@ module _ {S V : Type 0} (holds folder : S → Option (Map (List ℕ))) (place : 
         → EachQuiet (map store_faults k.chain.stores) (map store_faults j.chain.stores)
         → (i : ℕ) → i < count_of l → settled n i ≡ true → HadAt l d x m (map (held_in view) k.seeds.items) maps i
     pub asks : PassesAsk asked view view_faults l d x m b c k j
+    pub firsts : FirstFates m (count_of l)
+    pub exactly : (maps : List (Map (List ℕ)))
+        → NothingFails holds folder place said store_faults lacks_memory view view_faults l d x tells b c k j maps
+        → UnlessMemory (AssembledBy (source_over l d x (settled m) (map (held_in view) k.seeds.items) maps) d.wants (count_of l) m n k.chain j.chain) r
 
   module _ (o t : Option (List ℕ)) (a b c : ℕ) (m n : List Fate) (j k h : Kit S V) where
     -- ---- bytes
@@ -290,3 +300,51 @@ module _ {S V : Type 0} (holds folder : S → Option (Map (List ℕ))) (place : 
           (λ y z. After l (Has y) (resized y (image_length l)) z (Err e))
           (λ y z over fills. after_err l (Has y) (resized y (image_length l)) z e (after_lost e ran y z over fills ran.left))
           ran.over ran.fills
+
+      -- ---- what it cost
+
+      -- what was so of its source at first was so over the base
+      sourced : (r : Result Unit ExtractFault) → Ran o t a b c m n j r (with_buffer k h) → (y : List ℕ) → Surveyed l m a b (resized y (image_length l)) → (w : ℕ)
+          → source_over l d x (settled m) (map (held_in view) k.seeds.items) maps w
+          ≡ source_of l d x (resized y (image_length l)) (map (held_in view) k.seeds.items) maps w
+      sourced r ran y over w =
+          source_same l d x (map (held_in view) k.seeds.items) maps w (settled m) (is_right_at l (resized y (image_length l)))
+          (λ i other. settled_right l m a b (quiet_part a a b c (omega arith) ran.bc nothing.target) (resized y (image_length l)) over i
+          (listed_of l d w i ran.wants other))
+
+      assembled : (r : Result Unit ExtractFault) → Ran o t a b c m n j r (with_buffer k h) → (y : List ℕ)
+          → Surveyed l m a b (resized y (image_length l))
+          → UnlessMemory (AssembledBy (source_of l d x (resized y (image_length l)) (map (held_in view) k.seeds.items) maps) d.wants (count_of l) m n k.chain j.chain) r
+      assembled r ran y over = unless_map
+          (AssembledBy (source_over l d x (settled m) (map (held_in view) k.seeds.items) maps) d.wants (count_of l) m n k.chain j.chain)
+          (AssembledBy (source_of l d x (resized y (image_length l)) (map (held_in view) k.seeds.items) maps) d.wants (count_of l) m n k.chain j.chain) r
+          (assembled_as (source_over l d x (settled m) (map (held_in view) k.seeds.items) maps)
+          (source_of l d x (resized y (image_length l)) (map (held_in view) k.seeds.items) maps) d.wants (count_of l) m n k.chain j.chain (sourced r ran y over))
+          (ran.exactly maps (record {
+            target = quiet_part a b c c ran.ab (omega arith) nothing.target;
+            telling = nothing.telling;
+            seeds = nothing.seeds;
+            told = nothing.told;
+            stores = nothing.stores;
+          }))
+
+      pub economy_err : (e : ExtractFault) → Ran o t a b c m n j (Err e) (with_buffer k h)
+          → IfSome o (λ y. AsksExactly (source_of l d x (resized y (image_length l)) (map (held_in view) k.seeds.items) maps) d.wants k.chain j.chain (Err e))
+      economy_err e ran = some_map o (λ y. Surveyed l m a b (resized y (image_length l)))
+          (λ y. AsksExactly (source_of l d x (resized y (image_length l)) (map (held_in view) k.seeds.items) maps) d.wants k.chain j.chain (Err e))
+          (λ y over. asks_err (source_of l d x (resized y (image_length l)) (map (held_in view) k.seeds.items) maps) d.wants (count_of l) m n k.chain j.chain e
+          (assembled (Err e) ran y over)) ran.over
+
+      pub economy_ok : (u : Unit {0}) (r : Report) → Ran o t a b c m n j (Ok u) (with_buffer k h)
+          → IfSome o (λ y. AsksExactly (source_of l d x (resized y (image_length l)) (map (held_in view) k.seeds.items) maps) d.wants k.chain j.chain (Ok r))
+      economy_ok u r ran = some_map o (λ y. Surveyed l m a b (resized y (image_length l)))
+          (λ y. AsksExactly (source_of l d x (resized y (image_length l)) (map (held_in view) k.seeds.items) maps) d.wants k.chain j.chain (Ok r))
+          (λ y over. (assembled (Ok u) ran y over).calls) ran.over
+
+      pub reported_ok : (u : Unit {0}) (r : Report) → Ran o t a b c m n j (Ok u) (with_buffer k h)
+          → r.seeded ≡ tally fate.Seeded n (count_of l) → r.fetched ≡ tally fate.Fetched n (count_of l)
+          → IfSome o (λ y. ReportsExactly (source_of l d x (resized y (image_length l)) (map (held_in view) k.seeds.items) maps) d.wants r)
+      reported_ok u r ran seeded fetched = some_map o (λ y. Surveyed l m a b (resized y (image_length l)))
+          (λ y. ReportsExactly (source_of l d x (resized y (image_length l)) (map (held_in view) k.seeds.items) maps) d.wants r)
+          (λ y over. reports_all (source_of l d x (resized y (image_length l)) (map (held_in view) k.seeds.items) maps) d.wants (count_of l) m n k.chain j.chain r
+          ran.firsts (assembled (Ok u) ran y over) seeded fetched) ran.over

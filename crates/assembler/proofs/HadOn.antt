@@ -39,7 +39,7 @@ module _ (l : Listing) (d : Deal) (x : Placed) (wants : AreWants l d.wants d.wan
       inl (i, among d (want_at d i) i (omega arith) refl, is)
 
   -- the want and the id of an entry are those of an alike one
-  had_alike : (m : List Fate) (views : List (Option Held)) (maps : List (Map (List ℕ))) (w i j : ℕ) → IsAmong (of_want d w) i → IsAmong (of_want d w) j
+  pub had_alike : (m : List Fate) (views : List (Option Held)) (maps : List (Map (List ℕ))) (w i j : ℕ) → IsAmong (of_want d w) i → IsAmong (of_want d w) j
       → HadAt l d x m views maps j → HadAt l d x m views maps i
   had_alike m views maps w i j one other had =
       let same = ids_same l d w j i wants other one in

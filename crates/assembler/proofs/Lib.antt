@@ -20,3 +20,11 @@ pub mod Origins
 pub mod Based
 pub mod Lacking
 pub mod Assembled
+pub mod EconomySums
+pub mod EconomySources
+pub mod EconomyQuiet
+pub mod EconomyPaid
+pub mod EconomyFilled
+pub mod EconomyRetried
+pub mod EconomyPasses
+pub mod EconomyReported

@@ -60,7 +60,7 @@ pub tried_is : (tried : List Bool) (w : ℕ) (read b : Bool) → w < length trie
 tried_is tried w read b inside is same = get_or_default tried w false read inside ∙ sym is ∙ same
 
 -- nothing was tried at first
-untried : (n w : ℕ) → is_tried (replicate n false) w ≡ false
+pub untried : (n w : ℕ) → is_tried (replicate n false) w ≡ false
 untried n w = elim (cases_lt w n) [
   | inl inside ↦ get_or-replicate n w false false inside
   | inr past ↦ get_or_past (replicate n false) w false (omega (arith, length-replicate n false))

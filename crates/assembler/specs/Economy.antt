@@ -130,6 +130,12 @@ module _ {S : Type 0} where
     pub tallied : Tallied (sum_below (λ w. one_if fate.Seeded (source w)) wants)
         (sum_below (λ w. one_if fate.Fetched (source w)) wants) n m0 m1
 
+  -- the same of both passes, where the want w had the source `source w` before them
+  pub record AssembledBy (source : ℕ → Fate) (wants n : ℕ) (m0 m1 : List Fate) (old new : Chained S) : Type 0 where
+    pub calls : new.asks ≡ raised old.asks (sum_below (λ w. all_asks (source w)) wants)
+    pub tallied : Tallied (sum_below (λ w. one_if fate.Seeded (source w)) wants)
+        (sum_below (λ w. one_if fate.Fetched (source w)) wants) n m0 m1
+
   -- how often an assembly asks the stores, where nothing fails: once for the chunk of each want that has no right entry
   -- and that no seed gives, and once more where no source gives it. Want of memory is free
   abbrev pub AsksExactly : (ℕ → Fate) → ℕ → Chained S → Chained S → Result Report ExtractFault → Type 0
@@ -140,3 +146,8 @@ module _ {S : Type 0} where
 abbrev pub ReportsExactly : (ℕ → Fate) → ℕ → Report → Type 0
 ReportsExactly source wants r = (r.seeded ≡ sum_below (λ w. one_if fate.Seeded (source w)) wants)
     × (r.fetched ≡ sum_below (λ w. one_if fate.Fetched (source w)) wants)
+
+-- what holds where it wasn't ended for want of memory
+abbrev pub UnlessMemory : {A : Type 0} → Type 0 → Result A ExtractFault → Type 0
+UnlessMemory P (Err faults.Memory) = Unit {0}
+UnlessMemory P r = P

@@ -2,6 +2,7 @@
 
 ghost use Rattle.std.specs.Prelude.{◌≡◌, ◌⊎◌, ℕ, List, IsTrue, ◌+◌, ◌<◌, ◌≤◌, length, map, Some, IfSome, IfOk, IfErr, OnOk, true, false};
 ghost use Rattle.assembler.specs.Assemblies.{After, Assembles, AssemblyAsks, IsObtainable, IsUnobtained, NothingFails, Verdict};
+ghost use Rattle.assembler.specs.Economy.{AsksExactly, AssembledBy, ReportsExactly, UnlessMemory, source_of, source_over};
 ghost use Rattle.assembler.specs.Fills.{WhereTold};
 ghost use Rattle.assembler.specs.Kits.{KeepsSeeds, Ready, Step};
 ghost use Rattle.assembler.specs.Passes.{EndsBy, HadAt, IsLost, PassesAsk, want_at};
@@ -63,6 +64,13 @@ fn settle_all<T: Part, S: Store, V: View>(
         (T.faults target.old) (T.faults target.new) kit.old kit.new }
     ensures step { Step T.held T.faults S.holds S.folder S.place S.said S.faults V.held V.faults index.now
         target.old kit.old fates.old target.new kit.new fates.new }
+
+    // Where nothing fails.
+    ensures exactly { (maps : List (Map (List ℕ))) → NothingFails S.holds S.folder S.place S.said S.faults
+        S.may_lack_memory V.held V.faults index.now plan.now places.now V.tells (T.faults target.old)
+        (T.faults target.new) kit.old kit.new maps → UnlessMemory (AssembledBy (source_over index.now plan.now places.now
+        (settled fates.old) (map (held_in V.held) kit.old.seeds.items) maps) plan.now.wants (count_of index.now)
+        fates.old fates.new kit.old.chain kit.new.chain) result }
 {
     match fill(index, plan, places, target, kit, fates) {
         Ok(()) => retry(alloc, index, plan, places, target, kit, fates),
@@ -143,6 +151,16 @@ pub fn assemble<T: Target, S: Store, V: View>(
         (T.faults target.new) kit.old kit.new maps → WhereTold (T.held target.old).bytes (T.held target.new).bytes
         (λ o t. After index.now (IsObtainable index.now plan.now places.now (resized o (image_length index.now))
         (map (held_in V.held) kit.old.seeds.items) maps) (resized o (image_length index.now)) t result) }
+    ensures economy { (maps : List (Map (List ℕ))) → NothingFails S.holds S.folder S.place S.said S.faults
+        S.may_lack_memory V.held V.faults index.now plan.now places.now V.tells (T.faults target.old)
+        (T.faults target.new) kit.old kit.new maps → IfSome (T.held target.old).bytes (λ o. AsksExactly
+        (source_of index.now plan.now places.now (resized o (image_length index.now))
+        (map (held_in V.held) kit.old.seeds.items) maps) plan.now.wants kit.old.chain kit.new.chain result) }
+    ensures reported { (maps : List (Map (List ℕ))) → NothingFails S.holds S.folder S.place S.said S.faults
+        S.may_lack_memory V.held V.faults index.now plan.now places.now V.tells (T.faults target.old)
+        (T.faults target.new) kit.old kit.new maps → IfSome (T.held target.old).bytes (λ o. IfOk result
+        (ReportsExactly (source_of index.now plan.now places.now (resized o (image_length index.now))
+        (map (held_in V.held) kit.old.seeds.items) maps) plan.now.wants)) }
 
     ensures report { IfOk result (λ r. r.kept + r.copied + r.seeded + r.cached + r.fetched ≡ count_of index.now) }
     ensures kept { IfOk result (λ r. Quiet (T.faults target.old) (T.faults target.new) →

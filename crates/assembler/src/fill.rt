@@ -1,8 +1,11 @@
 //! The first pass of an assembly: each want once, in rising order.
 
-ghost use Rattle.std.specs.Prelude.{◌≡◌, ℕ, List, IsTrue, ◌<◌, length, map, Some, true};
+ghost use Rattle.std.specs.Prelude.{◌≡◌, ◌≢◌, ℕ, List, IsTrue, ◌<◌, length, map, Some, OnOk, Err, true, false};
+ghost use Rattle.assembler.specs.Assemblies.{NothingFails};
+ghost use Rattle.assembler.specs.Economy.{PassedBy, source_over};
 ghost use Rattle.assembler.specs.Kits.{Ready, Step};
-ghost use Rattle.assembler.specs.Passes.{HadAt, PassAsks};
+ghost use Rattle.assembler.specs.Passes.{HadAt, PassAsks, want_at};
+ghost use Rattle.assembler.specs.declared.fault.Lost.{Lost};
 ghost use Rattle.caibx_codec.specs.Listing.{count_of};
 ghost use Rattle.dsy_base.specs.Maps.{Map};
 ghost use Rattle.extract_plan.specs.Seeds.{held_in};
@@ -22,7 +25,10 @@ use range_survey::fate::Fate;
 use store_chain::refused::Refused;
 
 // Whether the stores had no memory, which ends a pass.
-fn lacked_memory(ended: &Result<(), Unsettled>) -> bool {
+fn lacked_memory(ended: &Result<(), Unsettled>) -> bool
+    ensures only { result ≡ false → (lost : Lost) → ended.now ≡ Err (Unsettled.Lost lost) →
+        lost.refused ≢ Refused.Memory }
+{
     match ended {
         Err(Unsettled::Lost(lost)) => lost.refused == Refused::Memory,
         Ok(()) | Err(Unsettled::TargetFault) => false,
@@ -48,7 +54,21 @@ pub(crate) fn fill<T: Part, S: Store, V: View>(
         (T.faults target.old) (T.faults target.new) kit.old kit.new }
     ensures step { Step T.held T.faults S.holds S.folder S.place S.said S.faults V.held V.faults index.now
         target.old kit.old fates.old target.new kit.new fates.new }
+
+    // Where nothing fails.
+    ensures exactly { (maps : List (Map (List ℕ))) → NothingFails S.holds S.folder S.place S.said S.faults
+        S.may_lack_memory V.held V.faults index.now plan.now places.now V.tells (T.faults target.old)
+        (T.faults target.new) kit.old kit.new maps → OnOk result (PassedBy (source_over index.now plan.now places.now
+        (settled fates.old) (map (held_in V.held) kit.old.seeds.items) maps) plan.now.wants (count_of index.now)
+        fates.old fates.new kit.old.chain kit.new.chain) }
+    ensures left { (maps : List (Map (List ℕ))) → NothingFails S.holds S.folder S.place S.said S.faults
+        S.may_lack_memory V.held V.faults index.now plan.now places.now V.tells (T.faults target.old)
+        (T.faults target.new) kit.old kit.new maps → OnOk result ((i : ℕ) → i < count_of index.now →
+        settled fates.new i ≡ false → source_over index.now plan.now places.now (settled fates.old)
+        (map (held_in V.held) kit.old.seeds.items) maps (want_at plan.now i) ≡ Fate.Open) }
 {
+    // Only for its contract: the count of calls fits its type.
+    kit.chain.asks();
     for want in 0..plan.wants() {
         let ended = settle(index, plan, places, want, target, kit, fates);
         if lacked_memory(&ended) {

@@ -1,6 +1,8 @@
 //! The second pass of an assembly: the entries that are still open, in rising order, each want once.
 
 ghost use Rattle.std.specs.Prelude.{◌≡◌, ◌⊎◌, ℕ, List, IsTrue, ◌<◌, length, map, Some, OnOk, IfErr, true, false};
+ghost use Rattle.assembler.specs.Assemblies.{NothingFails};
+ghost use Rattle.assembler.specs.Economy.{PassedBy, UnlessMemory, source_over};
 ghost use Rattle.assembler.specs.Kits.{Ready, Step};
 ghost use Rattle.assembler.specs.Passes.{EndsBy, HadAt, IsLost, PassAsks, want_at};
 ghost use Rattle.assembler.specs.declared.fault.ExtractFault.TheVariants as faults;
@@ -57,7 +59,16 @@ pub(crate) fn retry<T: Part, S: Store, V: View>(
         (T.faults target.old) (T.faults target.new) kit.old kit.new }
     ensures step { Step T.held T.faults S.holds S.folder S.place S.said S.faults V.held V.faults index.now
         target.old kit.old fates.old target.new kit.new fates.new }
+
+    // Where nothing fails.
+    ensures exactly { (maps : List (Map (List ℕ))) → NothingFails S.holds S.folder S.place S.said S.faults
+        S.may_lack_memory V.held V.faults index.now plan.now places.now V.tells (T.faults target.old)
+        (T.faults target.new) kit.old kit.new maps → UnlessMemory (PassedBy (source_over index.now plan.now places.now
+        (settled fates.old) (map (held_in V.held) kit.old.seeds.items) maps) plan.now.wants (count_of index.now)
+        fates.old fates.new kit.old.chain kit.new.chain) result }
 {
+    // Only for its contract: the count of calls fits its type.
+    kit.chain.asks();
     let Ok(mut tried) = vec![in alloc; false; plan.wants()] else {
         return Err(ExtractFault::Memory);
     };

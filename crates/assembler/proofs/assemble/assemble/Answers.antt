@@ -13,7 +13,7 @@ use Rattle.range_survey.specs.Fates.{FirstFates, SettledRight}
 use Rattle.range_survey.specs.declared.fate.Fate.{Fate}
 use Rattle.range_survey.specs.declared.fate.Fate.TheVariants as fate
 use Rattle.std.proofs.lemmas.Result.{err_from_is_err_and}
-use Rattle.assembler.proofs.Assembled.{Ran, after_fault, after_ok, asks_over, bytes_err, bytes_ok, exactly_err, exactly_ok, kit_as, lost_err, with_buffer}
+use Rattle.assembler.proofs.Assembled.{Ran, after_fault, after_ok, asks_over, bytes_err, bytes_ok, economy_err, economy_ok, exactly_err, exactly_ok, kit_as, lost_err, reported_ok, with_buffer}
 use Rattle.assembler.proofs.Based.{Surveyed, over_of, some_map, told_of}
 use Rattle.assembler.specs.Fills.{Fills}
 use Rattle.store_chain.proofs.Kept.{kept_still}
@@ -54,6 +54,8 @@ ran_err g c =
       left = did.left;
       had = did.had;
       asks = did.asks;
+      firsts = subst (λ (xs : List Fate). FirstFates xs (count_of l)) (sym c.deref_mut.ensures.value) first.first;
+      exactly = did.exactly;
     })
 
 -- and where all entries are settled
@@ -88,6 +90,8 @@ ran_ok g c =
       left = tt;
       had = did.had;
       asks = did.asks;
+      firsts = subst (λ (xs : List Fate). FirstFates xs (count_of l)) (sym c.deref_mut.ensures.value) first.first;
+      exactly = did.exactly;
     })
 
 -- src/assemble.rt:154:21
@@ -138,6 +142,14 @@ returns-in_err-settle_all-clause-asks g c =
     asks_over s.holds s.folder s.place s.said s.faults s.asked s.may_lack_memory v.held v.faults v.tells c.args.index.now c.args.plan.now c.args.places.now
     _ _ _ _ _ _ _ _ c.args.kit.now c.survey_first.new.kit _ (ran_err g c)
 
+pub returns-in_err-settle_all-clause-economy : goal.returns-in_err-settle_all-clause-economy
+returns-in_err-settle_all-clause-economy g c =
+    let p = err_from_is_err_and c.from_residual-in_err-settle_all.result c.from_residual-in_err-settle_all.ensures.1 in
+    let s = g.S.Store in
+    let v = g.V.View in
+    λ maps nothing. rw (p.1, p.2) (economy_err s.holds s.folder s.place s.said s.faults s.asked s.may_lack_memory v.held v.faults v.tells c.args.index.now c.args.plan.now c.args.places.now
+    _ _ _ _ _ _ _ _ c.args.kit.now c.survey_first.new.kit maps nothing _ (ran_err g c))
+
 -- all entries are right
 pub returns-clause-bytes : goal.returns-clause-bytes
 returns-clause-bytes g c =
@@ -184,6 +196,26 @@ returns-clause-kept g c = λ quiet.
     some_map (g.T.View.held c.args.target.now).bytes (λ y. Surveyed l m f0 f1 (resized y (image_length l))) (λ y. c.of.result.kept ≡ right_below l (resized y (image_length l)) (count_of l))
     (λ y over. subst (λ (xs : List Fate). c.of.result.kept ≡ tally fate.Kept xs (length xs)) same c.of.ensures.kept ∙ ap (tally fate.Kept n) whole ∙ kept_count l (resized y (image_length l)) m n f0 f1 part over.yes over.no firsts did.step.grows (count_of l) (omega arith))
     (ran_ok g c).over
+
+pub returns-clause-economy : goal.returns-clause-economy
+returns-clause-economy g c =
+    let s = g.S.Store in
+    let v = g.V.View in
+    λ maps nothing. economy_ok s.holds s.folder s.place s.said s.faults s.asked s.may_lack_memory v.held v.faults v.tells c.args.index.now c.args.plan.now c.args.places.now
+    _ _ _ _ _ _ _ _ c.args.kit.now c.survey_first.new.kit maps nothing _ c.of.result (ran_ok g c)
+
+pub returns-clause-reported : goal.returns-clause-reported
+returns-clause-reported g c = λ maps nothing.
+    let s = g.S.Store in
+    let v = g.V.View in
+    let l = c.args.index.now in
+    let n = c.settle_all.new.fates in
+    let whole : length n ≡ count_of l = c.in_ok-settle_all.ensures.step.grows.size ∙ ap (λ (xs : List Fate). length xs) c.deref_mut.ensures.value ∙ c.in_ok-fates.ensures.size in
+    let same : c.deref.result.now ≡ n = c.deref.ensures.value ∙ with_items_is c.in_ok-fates.fates n (omega (arith, c.settle_all.auto.fates, c.deref_mut.ensures.len)) in
+    reported_ok s.holds s.folder s.place s.said s.faults s.asked s.may_lack_memory v.held v.faults v.tells l c.args.plan.now c.args.places.now
+    _ _ _ _ _ _ _ _ c.args.kit.now c.survey_first.new.kit maps nothing _ c.of.result (ran_ok g c)
+    (subst (λ (xs : List Fate). c.of.result.seeded ≡ tally fate.Seeded xs (length xs)) same c.of.ensures.seeded ∙ ap (tally fate.Seeded n) whole)
+    (subst (λ (xs : List Fate). c.of.result.fetched ≡ tally fate.Fetched xs (length xs)) same c.of.ensures.fetched ∙ ap (tally fate.Fetched n) whole)
 
 pub settle_all-requires : goal.settle_all-requires
 settle_all-requires g c =

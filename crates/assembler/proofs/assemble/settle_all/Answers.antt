@@ -1,5 +1,8 @@
 use Rattle.std.proofs.Common.{◌∙◌, ◌+◌, List, map, sym, inl, inr, subst, arith}
 use Rattle.assembler.proofs.Asked.{asks_on, asks_up, spared_part}
+use Rattle.assembler.proofs.EconomyPasses.{passes_by}
+use Rattle.assembler.proofs.EconomyQuiet.{nothing_first, nothing_next}
+use Rattle.assembler.proofs.EconomyRetried.{unless_map}
 use Rattle.assembler.proofs.Filled.{grows_none}
 use Rattle.assembler.proofs.HadOn.{had_through, quiet_first, quiet_next}
 use Rattle.assembler.proofs.Lost.{lost_since}
@@ -88,3 +91,28 @@ returns-in-Err-clause-asks g c = λ spared are.
     let n = calls_below spared d.wants in
     let q = asks_below (want_id c.args.index.now d) spared d.wants in
     asks_up g.S.Store.asked n (n + n) q (λ id. q id + q id) c.args.kit.now.chain c.fill.new.kit.chain (omega arith) (λ id. omega arith) (c.in-Err.ensures.asks spared are)
+
+pub returns-in-Ok-clause-exactly : goal.returns-in-Ok-clause-exactly
+returns-in-Ok-clause-exactly g c = λ maps nothing.
+    let step = c.in-Ok.ensures.step in
+    let next = c.retry.ensures.step in
+    let l = c.args.index.now in
+    let d = c.args.plan.now in
+    let x = c.args.places.now in
+    let s = g.S.Store in
+    let v = g.V.View in
+    let f0 = g.T.View.faults c.args.target.now in
+    let f1 = g.T.View.faults c.fill.new.target in
+    let f2 = g.T.View.faults c.retry.new.target in
+    let k = c.args.kit.now in
+    let j = c.fill.new.kit in
+    let i = c.retry.new.kit in
+    let views = map (held_in v.held) k.seeds.items in
+    let first = nothing_first s.holds s.folder s.place s.said s.faults s.may_lack_memory v.held v.faults v.tells l d x f0 f1 f2 k j i maps
+    next.never_falls next.stores next.seeds nothing in
+    let then = nothing_next s.holds s.folder s.place s.said s.faults s.may_lack_memory v.held v.faults v.tells l d x f0 f1 f2 k j i maps
+    step.never_falls step.stores step.seeds nothing in
+    unless_map _ _ c.retry.result
+    (λ again. passes_by l d x c.requires.ready.wants c.args.fates.now c.fill.new.fates c.retry.new.fates views (map (held_in v.held) j.seeds.items) maps
+    k.chain j.chain i.chain step.seeds.held (c.in-Ok.ensures.had first.telling maps first.told first.stores) (c.in-Ok.ensures.left maps first) (c.in-Ok.ensures.exactly maps first) again)
+    (c.retry.ensures.exactly maps then)

@@ -1,6 +1,9 @@
-use Rattle.std.proofs.Common.{◌+◌, sym, ◌∙◌, arith}
+use Rattle.std.proofs.Common.{◌+◌, sym, ◌∙◌, inl, arith}
+use Rattle.assembler.proofs.EconomyFilled.{all_below, as_before, is_below, none_below, not_itself, now_below}
+use Rattle.assembler.proofs.EconomyPaid.{paid_all, paid_more, paid_none}
 use Rattle.assembler.proofs.Passed.{WantsPassed, passed_asks, passed_more, passed_none}
 use Rattle.assembler.proofs.Stepped.{ready_on}
+use Rattle.assembler.specs.Passes.{want_at}
 use Rattle.assembler.proofs.fill.fill.Given.{Over}
 use Rattle.assembler.proofs.fill.fill.Goals as goal
 
@@ -9,6 +12,9 @@ loop-want-init g c = record {
   passed = passed_none g.T.View.held g.T.View.faults g.S.Store.holds g.S.Store.folder g.S.Store.place g.S.Store.said g.S.Store.faults g.S.Store.asked
       g.S.Store.queried g.V.View.held g.V.View.faults g.V.View.tells c.args.index.now c.args.plan.now c.args.places.now c.args.target.now c.args.kit.now
       c.args.fates.now c.requires.ready.wants;
+  paid = paid_none g.T.View.held g.T.View.faults g.S.Store.holds g.S.Store.folder g.S.Store.place g.S.Store.said g.S.Store.faults g.S.Store.may_lack_memory
+      g.V.View.held g.V.View.faults g.V.View.tells c.args.index.now c.args.plan.now c.args.places.now (is_below 0) c.args.target.now c.args.kit.now
+      c.args.fates.now none_below c.asks.ensures.below;
 }
 
 pub settle-ended-requires-clause-ready : goal.settle-ended-requires-clause-ready
@@ -59,6 +65,13 @@ loop-want-preserved g c =
           c.requires.ready.wants (omega (arith, c.loop-want-test.true, c.wants-want-end.ensures))
           (told c.args.target.now ∙ sym (told c.loop-want.target)) (told c.loop-want.target ∙ sym (told c.settle-ended.new.target))
           c.loop-want.invariant.passed (record { only = ens.only; had = ens.had; asks = ens.asks; step = ens.step });
+      paid = paid_more g.T.View.held g.T.View.faults g.S.Store.holds g.S.Store.folder g.S.Store.place g.S.Store.said g.S.Store.faults g.S.Store.may_lack_memory
+          g.V.View.held g.V.View.faults g.V.View.tells c.args.index.now c.args.plan.now c.args.places.now
+          c.args.target.now c.args.kit.now c.args.fates.now c.loop-want.target c.loop-want.kit c.loop-want.fates
+          c.settle-ended.new.target c.settle-ended.new.kit c.settle-ended.new.fates c.loop-want.invariant.passed.step ens.step
+          c.requires.ready.wants c.loop-want.want ens.only (is_below c.loop-want.want) (is_below (c.loop-want.want + 1))
+          (omega (arith, c.loop-want-test.true, c.wants-want-end.ensures)) (not_itself c.loop-want.want) (now_below c.loop-want.want) (as_before c.loop-want.want)
+          c.loop-want.invariant.paid c.settle-ended.result (c.lacked_memory.ensures.only c.if-lacked_memory.false) ens.ok ens.exactly;
     }
 
 pub returns-clause-had : goal.returns-clause-had
@@ -73,3 +86,17 @@ returns-clause-asks g c =
 
 pub returns-clause-step : goal.returns-clause-step
 returns-clause-step g c = c.loop-want.invariant.passed.step
+
+pub returns-clause-exactly : goal.returns-clause-exactly
+returns-clause-exactly g c =
+    paid_all g.T.View.held g.T.View.faults g.S.Store.holds g.S.Store.folder g.S.Store.place g.S.Store.said g.S.Store.faults g.S.Store.may_lack_memory
+    g.V.View.held g.V.View.faults g.V.View.tells c.args.index.now c.args.plan.now c.args.places.now (is_below c.loop-want.want)
+    c.args.target.now c.args.kit.now c.args.fates.now c.loop-want.target c.loop-want.kit c.loop-want.fates
+    (λ w below. inl (all_below c.loop-want.want c.args.plan.now.wants w (omega (arith, c.loop-want-test.false, c.wants-want-end.ensures)) below))
+    c.loop-want.invariant.paid
+
+pub returns-clause-left : goal.returns-clause-left
+returns-clause-left g c = λ maps nothing i inside isnt.
+    c.loop-want.invariant.paid.left maps nothing i inside
+    (all_below c.loop-want.want c.args.plan.now.wants (want_at c.args.plan.now i) (omega (arith, c.loop-want-test.false, c.wants-want-end.ensures)) (c.requires.ready.wants.within i inside))
+    isnt

@@ -1,7 +1,9 @@
-use Rattle.std.proofs.Common.{true≢false, ◌≡◌, ◌<◌, List, [], length, set, true, false, inl, inr, sym, ap, ◌∙◌, arith}
+use Rattle.std.proofs.Common.{true≢false, Err, ◌≡◌, ◌<◌, List, [], length, set, true, false, inl, inr, sym, ap, ◌∙◌, arith}
+use Rattle.assembler.proofs.EconomyPaid.{paid_all, paid_more, paid_none}
+use Rattle.assembler.proofs.EconomyRetried.{memory_lost, memory_ok, tried_all, tried_as, tried_now, unless_any}
 use Rattle.assembler.proofs.Retried.{LostBy, WantsTried, newly_lost, still_lost, tried_more, tried_none, where_lost, where_torn}
 use Rattle.assembler.proofs.Stepped.{ready_on}
-use Rattle.assembler.proofs.Tried.{first_later, is_tried, lost_here, lost_of, tried_is, tries_lost, tries_none, tries_passed, tries_settled}
+use Rattle.assembler.proofs.Tried.{first_later, is_tried, lost_here, lost_of, tried_is, tries_lost, tries_none, tries_passed, tries_settled, untried as untried_at}
 use Rattle.assembler.proofs.TriedAsks.{asks_at_end}
 use Rattle.assembler.specs.Losses.{IsFirstOpen}
 use Rattle.assembler.specs.Passes.{PassAsks}
@@ -50,6 +52,9 @@ loop-entry-init g c =
           c.args.index.now c.args.plan.now c.args.places.now c.in-Ok.tried.items c.args.target.now c.args.kit.now c.args.fates.now c.requires.ready.wants;
       tries = tries_none c.args.plan.now (LostTo g c.args.index.now c.args.plan.now c.args.places.now c.args.target.now c.args.kit.now c.args.fates.now c.args.target.now c.args.kit.now)
           c.args.fates.now c.in-Ok.tried.items c.wants.result (c.in-Ok.ensures.items_if_clones_equal (λ y e. e)) c.wants.ensures;
+      paid = paid_none t.held t.faults s.holds s.folder s.place s.said s.faults s.may_lack_memory v.held v.faults v.tells
+          c.args.index.now c.args.plan.now c.args.places.now (is_tried c.in-Ok.tried.items) c.args.target.now c.args.kit.now c.args.fates.now
+          (λ w. ap (λ xs. is_tried xs w) (c.in-Ok.ensures.items_if_clones_equal (λ y e. e)) ∙ untried_at c.wants.result w) c.asks.ensures.below;
     }
 
 -- an entry that is settled, or whose want was tried
@@ -69,6 +74,7 @@ loop-entry-preserved-then-is_settled g c =
                 ∙ tried_is tried c.want_of-want.result w.index.result.now true (omega (arith, below, c.loop-entry.invariant.tries.size)) w.index.ensures w.if-index.true)
           ])
           c.loop-entry.invariant.tries;
+      paid = c.loop-entry.invariant.paid;
     }
 
 pub settle-requires-clause-ready : goal.settle-requires-clause-ready
@@ -216,6 +222,18 @@ loop-entry-preserved g c =
             c.requires.ready.wants (below g called) inv.passed.step is_first ens.refused ens.asked (λ same. let equal : e.eq.result ≡ true = rw same at e.eq.ensures in true≢false (sym equal ∙ e.if-eq.false)))
             inv.tries)
       ];
+      paid = paid_more t.held t.faults s.holds s.folder s.place s.said s.faults s.may_lack_memory v.held v.faults v.tells
+          c.args.index.now d c.args.places.now c.args.target.now c.args.kit.now c.args.fates.now c.loop-entry.target c.loop-entry.kit m0
+          c.settle.new.target c.settle.new.kit m1 inv.passed.step ens.step c.requires.ready.wants w ens.only (is_tried tried) (is_tried (set tried w true))
+          (below g called) (untried g called) (tried_now tried w d.wants inv.tries.size (below g called)) (tried_as tried w) inv.paid c.settle.result
+          (elim c.match-settle.branch [
+            | in-Ok-settle e ↦ memory_ok c.settle.result e.in-Ok-settle.field-0 e.in-Ok-settle.is
+            | in-Err-Lost+else-eq e ↦
+                let lost = e.in-Err-Lost in
+                memory_lost c.settle.result lost.field-0 lost.lost lost.is lost.field-0-is
+                (λ same. let equal : e.eq.result ≡ true = rw same at e.eq.ensures in true≢false (sym equal ∙ e.if-eq.false))
+          ])
+          ens.ok ens.exactly;
     }
 
 -- at the end
@@ -234,3 +252,28 @@ pub returns-clause-asks : goal.returns-clause-asks
 returns-clause-asks g c =
     asks_at_end g.S.Store.asked g.V.View.held g.V.View.faults c.args.index.now c.args.plan.now c.args.places.now c.loop-entry.tried.items c.args.fates.now
     (g.T.View.faults c.args.target.now) (g.T.View.faults c.loop-entry.target) c.args.kit.now c.loop-entry.kit c.loop-entry.invariant.passed.asks
+
+pub returns-in-Some-first-clause-exactly : goal.returns-in-Some-first-clause-exactly
+returns-in-Some-first-clause-exactly g c =
+    let t = g.T.View in
+    let s = g.S.Store in
+    let v = g.V.View in
+    λ maps nothing. unless_any {A = Unit {0}} _ (Err c.fault-in-Some-first.result)
+    (paid_all t.held t.faults s.holds s.folder s.place s.said s.faults s.may_lack_memory v.held v.faults v.tells
+    c.args.index.now c.args.plan.now c.args.places.now (is_tried c.loop-entry.tried.items) c.args.target.now c.args.kit.now c.args.fates.now
+    c.loop-entry.target c.loop-entry.kit c.loop-entry.fates
+    (λ w. tried_all c.args.index.now c.args.plan.now c.args.fates.now c.loop-entry.fates c.loop-entry.tried.items c.loop-entry.entry w c.requires.ready.wants
+    (omega (arith, c.loop-entry-test.false, c.count-entry-end.ensures)) c.loop-entry.invariant.tries.cover c.loop-entry.invariant.paid.untouched)
+    c.loop-entry.invariant.paid maps nothing)
+
+pub returns-clause-exactly : goal.returns-clause-exactly
+returns-clause-exactly g c =
+    let t = g.T.View in
+    let s = g.S.Store in
+    let v = g.V.View in
+    paid_all t.held t.faults s.holds s.folder s.place s.said s.faults s.may_lack_memory v.held v.faults v.tells
+    c.args.index.now c.args.plan.now c.args.places.now (is_tried c.loop-entry.tried.items) c.args.target.now c.args.kit.now c.args.fates.now
+    c.loop-entry.target c.loop-entry.kit c.loop-entry.fates
+    (λ w. tried_all c.args.index.now c.args.plan.now c.args.fates.now c.loop-entry.fates c.loop-entry.tried.items c.loop-entry.entry w c.requires.ready.wants
+    (omega (arith, c.loop-entry-test.false, c.count-entry-end.ensures)) c.loop-entry.invariant.tries.cover c.loop-entry.invariant.paid.untouched)
+    c.loop-entry.invariant.paid
