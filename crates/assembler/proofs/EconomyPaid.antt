@@ -3,9 +3,10 @@ use Rattle.std.proofs.Common.{◌≡◌, ◌≢◌, ◌⊎◌, ℕ, ◌+◌, ◌
 use Rattle.std.proofs.lemmas.Bool.{cases_Bool, cases_eq, true≢false}
 use Rattle.assembler.proofs.EconomyQuiet.{nothing_first, nothing_next}
 use Rattle.assembler.proofs.EconomySources.{source_kept, source_same}
-use Rattle.assembler.proofs.EconomySums.{raised_none, raised_on, sum_none, sum_one, sum_same, tallied_none, tallied_on}
+use Rattle.assembler.proofs.EconomySums.{raised_on, same_raised, sum_none, sum_one, sum_same}
 use Rattle.assembler.proofs.Entries.{among, among_of}
 use Rattle.assembler.proofs.Filled.{open_before, settled_on}
+use Rattle.assembler.proofs.Tallies.{tallied_none, tallied_on}
 use Rattle.assembler.specs.Assemblies.{NothingFails}
 use Rattle.assembler.specs.Economy.{PassedBy, SettledBy, Tallied, pass_asks, source_over, sum_below}
 use Rattle.assembler.specs.Kits.{Step}
@@ -68,7 +69,7 @@ passed_nothing done source n count m c none below =
     let zero_of : (f : Fate → ℕ) → f fate.Kept ≡ 0 → sum_below (λ w. f (so_far done source w)) n ≡ 0 = λ f is.
     sum_none (λ w. f (so_far done source w)) n (λ w less. ap (λ b. f (if b then source w else fate.Kept)) (none w) ∙ is) in
     record {
-      calls = sym (raised_none c.asks below) ∙ ap (raised c.asks) (sym (zero_of pass_asks refl));
+      calls = same_raised c.asks below ∙ ap (raised c.asks) (sym (zero_of pass_asks refl));
       tallied = record {
         from_seeds = omega (arith, zero_of (one_if fate.Seeded) refl);
         from_stores = omega (arith, zero_of (one_if fate.Fetched) refl);
@@ -178,15 +179,15 @@ module _ {T S V : Type 0} (held : T → Held) (faults : T → ℕ) (holds folder
           (exactly : (maps : List (Map (List ℕ))) → Nothing b j c i maps
           → (i.chain.asks ≡ raised j.chain.asks (pass_asks (SourceFrom j n maps w))) × SettledBy (SourceFrom j n maps w) (count_of l) n o r) where
         earlier : (maps : List (Map (List ℕ))) → Nothing a k c i maps → Nothing a k b j maps
-        earlier maps nothing = nothing_first holds folder place said store_faults lacks_memory view view_faults tells l d x (faults a) (faults b) (faults c) k j i maps
-            next.never_falls next.stores next.seeds nothing
+        earlier maps nothing = nothing_first holds store_faults view_faults tells (faults a) (faults b) (faults c) k.seeds.items j.seeds.items i.seeds.items
+            k.chain.stores j.chain.stores i.chain.stores maps next.never_falls next.seeds.never_fall next.stores.never_fall nothing
 
         now : (maps : List (Map (List ℕ))) → Nothing a k c i maps
             → (i.chain.asks ≡ raised j.chain.asks (pass_asks (SourceFrom k m maps w))) × SettledBy (SourceFrom k m maps w) (count_of l) n o r
         now maps nothing =
             subst (λ (s : Fate). (i.chain.asks ≡ raised j.chain.asks (pass_asks s)) × SettledBy s (count_of l) n o r) (source_still maps)
-            (exactly maps (nothing_next holds folder place said store_faults lacks_memory view view_faults tells l d x (faults a) (faults b) (faults c) k j i maps
-            first.never_falls first.stores first.seeds nothing))
+            (exactly maps (nothing_next holds store_faults view_faults tells (faults a) (faults b) (faults c) k.seeds.items j.seeds.items i.seeds.items
+            k.chain.stores j.chain.stores i.chain.stores maps first.never_falls first.seeds.never_fall first.stores.never_fall first.stores.held nothing))
 
         passed_more : (maps : List (Map (List ℕ))) → Nothing a k c i maps
             → PassedBy (so_far later (SourceFrom k m maps)) d.wants (count_of l) m o k.chain i.chain

@@ -2,7 +2,8 @@
 use Rattle.std.proofs.Common.{◌≡◌, ◌⊎◌, ℕ, ◌+◌, ◌<◌, List, Option, true, false, refl, sym, ap, subst, ◌∙◌, inl, inr, arith}
 use Rattle.std.proofs.lemmas.Bool.{cases_Bool}
 use Rattle.assembler.proofs.EconomySources.{had_source, source_kept, source_open}
-use Rattle.assembler.proofs.EconomySums.{raised_on, sum_both, tallied_on}
+use Rattle.assembler.proofs.EconomySums.{raised_on, sum_both}
+use Rattle.assembler.proofs.Tallies.{tallied_on}
 use Rattle.assembler.proofs.Entries.{among_of, first_among, listed_of}
 use Rattle.assembler.proofs.HadOn.{had_alike}
 use Rattle.assembler.specs.Economy.{AssembledBy, PassedBy, all_asks, pass_asks, source_over, sum_below}

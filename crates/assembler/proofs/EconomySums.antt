@@ -1,10 +1,9 @@
 -- Sums over wants, and counts that stay at their greatest value.
-use Rattle.std.proofs.Common.{◌≡◌, ◌≢◌, ℕ, zero, suc, ◌+◌, ◌-◌, ◌<◌, ◌≤◌, ◌^◌, List, min, refl, sym, ap, ◌∙◌, inl, inr, arith}
+use Rattle.std.proofs.Common.{◌≡◌, ◌≢◌, ℕ, zero, suc, ◌+◌, ◌-◌, ◌<◌, ◌≤◌, ◌^◌, min, refl, sym, ap, ◌∙◌, inl, inr, arith}
 use Rattle.std.proofs.Math.Nat.{min-eq_left, min-eq_right}
 use Rattle.std.proofs.lemmas.Bool.{cases_eq, cases_lt}
-use Rattle.assembler.specs.Economy.{Tallied, sum_below}
+use Rattle.assembler.specs.Economy.{sum_below}
 use Rattle.dsy_base.specs.Counts.{raised}
-use Rattle.range_survey.specs.declared.fate.Fate.{Fate}
 
 -- ---- sums
 
@@ -41,8 +40,9 @@ raised_small c n less = min-eq_left (omega (arith, less))
 raised_large : (c n : ℕ) → 2 ^ 64 - 1 ≤ c + n → raised c n ≡ 2 ^ 64 - 1
 raised_large c n more = min-eq_right more
 
-pub raised_none : (c : ℕ) → c < 2 ^ 64 → raised c 0 ≡ c
-raised_none c less = omega (arith, raised_small c 0 (omega (arith, less)))
+-- no call more
+pub same_raised : (n : ℕ) → n < 2 ^ 64 → n ≡ raised n 0
+same_raised n below = omega (arith, below)
 
 -- n more, and then m more
 pub raised_on : (c n m : ℕ) → raised (raised c n) m ≡ raised c (n + m)
@@ -55,14 +55,3 @@ raised_on c n m = elim (cases_lt (c + n) (2 ^ 64)) [
       let once : raised c n ≡ 2 ^ 64 - 1 = raised_large c n (omega (arith, more)) in
       raised_large (raised c n) m (omega (arith, once)) ∙ sym (raised_large c (n + m) (omega (arith, more)))
 ]
-
--- ---- tallies
-
-pub tallied_none : (n : ℕ) (m : List Fate) → Tallied 0 0 n m m
-tallied_none n m = record { from_seeds = omega arith; from_stores = omega arith }
-
-pub tallied_on : (a b c e n : ℕ) (m0 m1 m2 : List Fate) → Tallied a b n m0 m1 → Tallied c e n m1 m2 → Tallied (a + c) (b + e) n m0 m2
-tallied_on a b c e n m0 m1 m2 first next = record {
-  from_seeds = omega (arith, first.from_seeds, next.from_seeds);
-  from_stores = omega (arith, first.from_stores, next.from_stores);
-}

@@ -15,14 +15,14 @@ pub mod Retried
 pub mod TwoPasses
 pub mod Reported
 pub mod KeptCount
+pub mod EconomySums
+pub mod EconomyQuiet
 pub mod Tallies
 pub mod Origins
 pub mod Based
 pub mod Lacking
 pub mod Assembled
-pub mod EconomySums
 pub mod EconomySources
-pub mod EconomyQuiet
 pub mod EconomyPaid
 pub mod EconomyFilled
 pub mod EconomyRetried

@@ -1,5 +1,5 @@
 -- Which source a chunk has: what the tests of specs/Economy tell, and what the answers then are.
-use Rattle.std.proofs.Common.{◌≡◌, ℕ, ◌<◌, ◌≤◌, ◌^◌, ◌==◌, nat_le, List, length, slice_index_or, Option, Some, None, IsSomeAnd, Bool, Decides, Ok, Err, true, false, refl, sym, ap, ◌∙◌, subst, inl, inr, arith}
+use Rattle.std.proofs.Common.{◌≡◌, ℕ, ◌<◌, ◌^◌, ◌==◌, nat_le, List, length, slice_index_or, Option, Some, None, IsSomeAnd, Bool, Decides, Ok, Err, true, false, refl, sym, ap, ◌∙◌, subst, inl, inr, arith}
 use Rattle.std.proofs.lemmas.Bool.{cases_Bool, false_from_ne_true, false≢true, le-leb, leb-true}
 use Rattle.std.proofs.lemmas.Bool.Decides.{Decides-and, Decides-eqb}
 use Rattle.std.proofs.lemmas.List.{get_or_default}
@@ -8,12 +8,12 @@ use Rattle.std.proofs.lemmas.Option.{none-some, same_Some}
 use Rattle.std.proofs.lemmas.Slice.Eq.{bytes_eq-Decides}
 use Rattle.std.specs.List.{Any, list_any}
 use Rattle.std.specs.Str.{bytes_eq}
-use Rattle.assembler.proofs.Asked.{quiet_part}
+use Rattle.assembler.proofs.EconomySums.{same_raised}
 use Rattle.assembler.proofs.Tallies.{TalliedAs, tallied_none}
 use Rattle.assembler.specs.Economy.{ObtainedBy, SettlesBy, given_at, is_chunk, origin_of, seeds_give, source_among, stores_give, told_at}
 use Rattle.assembler.specs.Losses.{SomeGives}
 use Rattle.assembler.specs.Reports.{one_if}
-use Rattle.assembler.specs.Sources.{GivesAt, HeldAt, SeedsGive, SourcesQuiet}
+use Rattle.assembler.specs.Sources.{GivesAt, HeldAt, SeedsGive}
 use Rattle.assembler.specs.Wants.{IsAmong}
 use Rattle.chunk_store.specs.Giving.{GivesChunk, IsChunk}
 use Rattle.chunk_store.specs.Names.{name_of}
@@ -23,7 +23,6 @@ use Rattle.dsy_base.specs.Bytes.{Held}
 use Rattle.dsy_base.specs.Counts.{raised}
 use Rattle.dsy_base.specs.Maps.{Map}
 use Rattle.extract_plan.specs.Seeds.{bytes_at, place_end}
-use Rattle.extract_plan.specs.declared.seed.Seed.{Seed}
 use Rattle.extract_plan.specs.declared.seed.SeedPlace.{SeedPlace}
 use Rattle.range_survey.specs.declared.fate.Fate.{Fate}
 use Rattle.range_survey.specs.declared.fate.Fate.TheVariants as fate
@@ -42,10 +41,23 @@ any_decides p P each xs = (
 pub some_right : (is_right : ℕ → Bool) (es : List ℕ) (i : ℕ) → IsAmong es i → is_right i ≡ true → list_any is_right es ≡ true
 some_right is_right es i among is = list_any_at is_right es among.0 0 among.1 (ap is_right among.2 ∙ is)
 
+right_some : (is_right : ℕ → Bool) (es : List ℕ) → list_any is_right es ≡ true → (i : ℕ) × IsAmong es i × (is_right i ≡ true)
+right_some is_right es is =
+    let a = Any-from_list_any is_right es is in
+    (a.1, (a.0, a.2, get_or_default es a.0 0 a.1 a.2 ∙ a.3), a.4)
+
 pub none_right : (is_right : ℕ → Bool) (es : List ℕ) → ((i : ℕ) → IsAmong es i → is_right i ≡ true → ⊥) → list_any is_right es ≡ false
-none_right is_right es never = false_from_ne_true (list_any is_right es) (λ e.
-    let a = Any-from_list_any is_right es e in
-    never a.1 (a.0, a.2, get_or_default es a.0 0 a.1 a.2 ∙ a.3) a.4)
+none_right is_right es never = false_from_ne_true (list_any is_right es) (λ e. let i = right_some is_right es e in never i.0 i.1 i.2)
+
+-- tests that agree on the entries agree on the list
+pub right_same : (f g : ℕ → Bool) (es : List ℕ) → ((i : ℕ) → IsAmong es i → f i ≡ g i) → list_any f es ≡ list_any g es
+right_same f g es same = elim (cases_Bool (list_any f es)) [
+  | inl is ↦
+      let i = right_some f es is in
+      is ∙ sym (some_right g es i.0 i.1 (sym (same i.0 i.1) ∙ i.2))
+  | inr isnt ↦
+      isnt ∙ sym (none_right g es (λ i among is. false≢true (sym isnt ∙ some_right f es i among (same i among ∙ is))))
+]
 
 -- ---- seeds
 
@@ -82,10 +94,6 @@ stores_decide kind id size maps =
 
 -- ---- what is answered
 
--- no call more
-pub same_raised : (n : ℕ) → n < 2 ^ 64 → n ≡ raised n 0
-same_raised n below = omega (arith, below)
-
 -- a copy counts neither as seeded nor as fetched
 origin_seeded : (x : Fate) → one_if fate.Seeded (origin_of x) ≡ one_if fate.Seeded x
 origin_seeded fate.Open = refl
@@ -114,18 +122,6 @@ module _ {S : Type 0} (source : Fate) (n : ℕ) (m0 m1 : List Fate) (old new : C
 
 pub settles_kept : {S : Type 0} (source : Fate) (n : ℕ) (m : List Fate) (c : Chained S) → source ≡ fate.Kept → c.asks < 2 ^ 64 → SettlesBy source n m m c c (Ok tt)
 settles_kept source n m c is below = rw is (same_raised c.asks below, tallied_none n m)
-
--- what is quiet was so before the target was written
-pub quiet_sooner : {S V : Type 0} (holds : S → Option (Map (List ℕ))) (store_faults : S → ℕ) (view_faults : V → ℕ) (tells : Bool) (a b c : ℕ)
-    (s0 s1 : List (Seed V)) (c0 c1 : List S) (maps : List (Map (List ℕ))) → b ≤ c
-    → SourcesQuiet holds store_faults view_faults tells a c s0 s1 c0 c1 maps → SourcesQuiet holds store_faults view_faults tells a b s0 s1 c0 c1 maps
-quiet_sooner holds store_faults view_faults tells a b c s0 s1 c0 c1 maps le quiet = record {
-  target = quiet_part a a b c (omega arith) le quiet.target;
-  telling = quiet.telling;
-  seeds = quiet.seeds;
-  told = quiet.told;
-  stores = quiet.stores;
-}
 
 module _ (is_right : ℕ → Bool) (es : List ℕ) (views : List (Option Held)) (places : List SeedPlace) (kind : DigestKind) (id : List ℕ) (size : ℕ) (maps : List (Map (List ℕ))) where
   abbrev source : Fate

@@ -51,6 +51,13 @@ TalliedAs x n m0 m1 = Tallied (one_if fate.Seeded x) (one_if fate.Fetched x) n m
 pub tallied_none : (n : ℕ) (m : List Fate) → Tallied 0 0 n m m
 tallied_none n m = record { from_seeds = omega arith; from_stores = omega arith }
 
+-- some more, and then some more
+pub tallied_on : (a b c e n : ℕ) (m0 m1 m2 : List Fate) → Tallied a b n m0 m1 → Tallied c e n m1 m2 → Tallied (a + c) (b + e) n m0 m2
+tallied_on a b c e n m0 m1 m2 first next = record {
+  from_seeds = omega (arith, first.from_seeds, next.from_seeds);
+  from_stores = omega (arith, first.from_stores, next.from_stores);
+}
+
 pub tallied_set : (m : List Fate) (i : ℕ) (x : Fate) (n : ℕ) → i < length m → i < n → settled m i ≡ false → TalliedAs x n m (set m i x)
 tallied_set m i x n inside less isnt =
     let was : fate_at m i ≡ fate.Open = open_fate (fate_at m i) isnt in

@@ -1,5 +1,5 @@
 -- What a call leaves of that with which entries are settled: the target, the kit, and one fate an entry.
-use Rattle.std.specs.Prelude.{◌≡◌, ℕ, ◌+◌, ◌<◌, ◌≤◌, List, length, map, Option, IfSome}
+use Rattle.std.specs.Prelude.{◌≡◌, ℕ, ◌<◌, ◌≤◌, List, length, map, Option, IfSome}
 use Rattle.assembler.specs.Fills.{Fills, Grows, WhereTold}
 use Rattle.assembler.specs.declared.kit.Kit.{Kit}
 use Rattle.caibx_codec.specs.Listing.{Listing, count_of, image_length, kind_of, size_of}

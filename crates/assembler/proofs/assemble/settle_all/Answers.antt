@@ -108,10 +108,10 @@ returns-in-Ok-clause-exactly g c = λ maps nothing.
     let j = c.fill.new.kit in
     let i = c.retry.new.kit in
     let views = map (held_in v.held) k.seeds.items in
-    let first = nothing_first s.holds s.folder s.place s.said s.faults s.may_lack_memory v.held v.faults v.tells l d x f0 f1 f2 k j i maps
-    next.never_falls next.stores next.seeds nothing in
-    let then = nothing_next s.holds s.folder s.place s.said s.faults s.may_lack_memory v.held v.faults v.tells l d x f0 f1 f2 k j i maps
-    step.never_falls step.stores step.seeds nothing in
+    let first = nothing_first s.holds s.faults v.faults v.tells f0 f1 f2 k.seeds.items j.seeds.items i.seeds.items k.chain.stores j.chain.stores i.chain.stores maps
+    next.never_falls next.seeds.never_fall next.stores.never_fall nothing in
+    let then = nothing_next s.holds s.faults v.faults v.tells f0 f1 f2 k.seeds.items j.seeds.items i.seeds.items k.chain.stores j.chain.stores i.chain.stores maps
+    step.never_falls step.seeds.never_fall step.stores.never_fall step.stores.held nothing in
     unless_map _ _ c.retry.result
     (λ again. passes_by l d x c.requires.ready.wants c.args.fates.now c.fill.new.fates c.retry.new.fates views (map (held_in v.held) j.seeds.items) maps
     k.chain j.chain i.chain step.seeds.held (c.in-Ok.ensures.had first.telling maps first.told first.stores) (c.in-Ok.ensures.left maps first) (c.in-Ok.ensures.exactly maps first) again)

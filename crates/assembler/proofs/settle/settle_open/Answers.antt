@@ -1,6 +1,7 @@
-use Rattle.std.proofs.Common.{◌≡◌, ◌∙◌, ℕ, length, map, Ok, ap, subst}
+use Rattle.std.proofs.Common.{◌≡◌, ◌∙◌, ℕ, length, map, Ok, ap, subst, arith}
+use Rattle.assembler.proofs.EconomyQuiet.{nothing_first}
 use Rattle.assembler.proofs.Filled.{told_since}
-use Rattle.assembler.proofs.Origins.{quiet_sooner, settles_got}
+use Rattle.assembler.proofs.Origins.{settles_got}
 use Rattle.assembler.specs.Economy.{ObtainedBy, source_among}
 use Rattle.assembler.specs.Losses.{Had}
 use Rattle.caibx_codec.specs.Listing.{kind_of, size_of, count_of}
@@ -32,8 +33,9 @@ returns-in-Ok-put-clause-exactly g c = λ maps quiet.
     let from : ℕ → Fate = λ n. source_among (settled m) q.entries.now (map (held_in g.V.View.held) c.args.seeds.now) q.places.now (kind_of c.args.index.now) q.id.0 n maps in
     let size : ℕ = size_of c.args.index.now c.args.entry in
     let whole : length c.split_at_mut-chunk.result.0.now ≡ size = c.split_at_mut-chunk.ensures.front_len ∙ c.entry.ensures.size in
-    let sooner = quiet_sooner g.S.Store.holds g.S.Store.faults g.V.View.faults g.V.View.tells (faults c.args.target.now) (faults c.obtain.new.target) (faults c.put.new.target)
-    c.args.seeds.now c.obtain.new.seeds c.args.chain.now.stores c.obtain.new.chain.stores maps c.in-Ok-put.ensures.faults quiet in
+    let sooner = nothing_first g.S.Store.holds g.S.Store.faults g.V.View.faults g.V.View.tells (faults c.args.target.now) (faults c.obtain.new.target) (faults c.put.new.target)
+    c.args.seeds.now c.obtain.new.seeds c.obtain.new.seeds c.args.chain.now.stores c.obtain.new.chain.stores c.obtain.new.chain.stores maps c.in-Ok-put.ensures.faults
+    (λ k. omega arith) (λ k. omega arith) quiet in
     let got = subst (λ (n : ℕ). ObtainedBy (from n) c.args.chain.now c.obtain.new.chain (Ok c.in-Ok.origin)) whole (c.in-Ok.ensures.exactly maps sooner) in
     settles_got (from size) (count_of c.args.index.now) m c.put.new.fates c.args.chain.now c.obtain.new.chain c.in-Ok.origin got
     (c.in-Ok-put.ensures.tallied c.args.entry c.requires.among c.requires.is_open)
