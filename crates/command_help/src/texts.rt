@@ -9,7 +9,7 @@ desync keeps images as chunks in a store, and an index of each image.
 
   desync make -s FOLDER [-m MIN:AVG:MAX] [-n WORKERS] INDEX IMAGE
       cut an image into chunks, store them and write its index
-  desync extract -k -s FOLDER.. [-n WORKERS] INDEX OUT
+  desync extract -k -s FOLDER.. [--seed INDEX..] [-n WORKERS] INDEX OUT
       make a file the image that an index lists
   desync verify-index [-n WORKERS] INDEX IMAGE
       check that a file is the image that an index lists
@@ -42,14 +42,16 @@ example: desync make -s chunks disk.caibx disk.img
 
 /// The text of `extract --help`.
 pub const EXTRACT: &str = "\
-usage: desync extract -k -s FOLDER.. [-n WORKERS] INDEX OUT
+usage: desync extract -k -s FOLDER.. [--seed INDEX..] [-n WORKERS] INDEX OUT
 
 Makes the file OUT the image that INDEX lists. What OUT holds already is kept
-where it is right. A call without -k, with --seed or with -c is read and not
-built yet.
+where it is right. A call without -k, or with -c, is read and not built yet.
 
   -k, --in-place                write OUT in place
   -s, --store FOLDER            a store of chunks; 1 to 16, asked in order
+      --seed INDEX              another image's index, X.caibx, whose image is
+                                the file X: chunks come from there first; up
+                                to 64
   -n, --concurrency WORKERS     1 to 32 workers; for now one does all
 
 example: desync extract -k -s near -s chunks disk.caibx disk.img
