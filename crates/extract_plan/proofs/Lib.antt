@@ -2,10 +2,13 @@ pub mod Chains
 pub mod Cut
 pub mod Entries
 pub mod Finding
+pub mod Firsts
 pub mod Grouped
+pub mod KeyOrder
 pub mod Known
-pub mod Numbered
+pub mod Listed
 pub mod Numbering
 pub mod Placing
+pub mod Searched
 pub mod Shards
 pub mod Sorted

@@ -1,7 +1,7 @@
 pub mod Deal
 pub mod Found
+pub mod Keys
 pub mod Links
-pub mod Numbers
 pub mod Places
-pub mod Seen
 pub mod Seeds
+pub mod Seen

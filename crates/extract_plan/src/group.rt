@@ -1,13 +1,13 @@
-//! Entries of an index grouped by id and size. Sizes are in bytes; entries and wants count from 0.
+//! Entries of an index grouped by id and size. Entries and wants count from 0.
 
-ghost use Rattle.std.specs.Prelude.{◌≡◌, ◌⊎◌, ◌<◌, ℕ, List, Some, None, IfOk, OnOk};
+ghost use Rattle.std.specs.Prelude.{◌≡◌, ◌<◌, ◌-◌, Some, true, false, length, slice_index_or, IfOk};
+ghost use Rattle.std.specs.List.Sorted.{IsSorted};
 ghost use Rattle.extract_plan.specs.Deal.{AreWants};
-ghost use Rattle.extract_plan.specs.Numbers.{number_of};
+ghost use Rattle.extract_plan.specs.Keys.{AreFirsts, AreKeyed, keyed_cmp, number_with};
 
+use crate::keyed::Keyed;
 use caibx_codec::index::Index;
-use chunk_store::id::ChunkId;
 use std::alloc::{AllocError, Global};
-use std::collections::BTreeMap;
 
 /// How many wants an index has, and for each entry the number of its want.
 #[derive(Debug, Drop)]
@@ -16,29 +16,47 @@ pub(crate) struct Wants {
     pub(crate) want_of: Vec<u32>,
 }
 
-/// The number of this id and size: that which they have, or `next`, which they have from now on.
-pub(crate) fn number(
-    seen: &mut BTreeMap<([u8; 32], usize), u32>,
-    id: &ChunkId,
-    size: usize,
-    next: u32,
-) -> Result<u32, AllocError>
-    ensures found { IfOk result (λ w. (number_of seen.old id.now.0 size ≡ Some w)
-        ⊎ ((number_of seen.old id.now.0 size ≡ None) × (w ≡ next))) }
-    ensures stands { IfOk result (λ w. number_of seen.new id.now.0 size ≡ Some w) }
-    ensures kept { OnOk result ((q : List ℕ) (n v : ℕ) →
-        number_of seen.old q n ≡ Some v → number_of seen.new q n ≡ Some v) }
-    ensures only { OnOk result ((q : List ℕ) (n v : ℕ) → number_of seen.new q n ≡ Some v →
-        (number_of seen.old q n ≡ Some v) ⊎ ((q ≡ id.now.0) × (n ≡ size))) }
+// All entries by their keys, each with its own number: alike ones stand in rising order.
+fn sorted_entries(alloc: Global, index: &Index) -> Result<Vec<Keyed>, AllocError>
+    ensures { IfOk result (λ v. AreKeyed index.now (λ i. i) v.items) }
 {
-    let key = (id.0, size);
-    if let Some(number) = seen.get(&key) {
-        return Ok(*number);
+    index.rules();
+    let mut entries = Vec::with_capacity(alloc, index.count())?;
+    for i in 0..index.count() {
+        entries.push(Keyed::of(index, i, i as u32))?;
     }
-    match seen.insert(key, next) {
-        Ok(_) => Ok(next),
-        Err(_) => Err(AllocError),
+    entries.sort_unstable();
+    Ok(entries)
+}
+
+// Whether none before that at place k has its key.
+fn begins(entries: &[Keyed], k: usize) -> bool
+    requires sorted { IsSorted keyed_cmp entries.now }
+    requires inside { k < length entries.now }
+    ensures first { result ≡ true → (d : Keyed) → number_with entries.now (slice_index_or entries.now k d)
+        ≡ Some (slice_index_or entries.now k d).number }
+    ensures again { result ≡ false → (0 < k) × ((d : Keyed) →
+        (slice_index_or entries.now k d).key ≡ (slice_index_or entries.now (k - 1) d).key) }
+{
+    k == 0 || entries[k].key != entries[k - 1].key
+}
+
+// For each entry the first that is alike.
+fn firsts(alloc: Global, index: &Index) -> Result<Vec<u32>, AllocError>
+    ensures { IfOk result (λ v. AreFirsts index.now v.items) }
+{
+    let entries = sorted_entries(alloc, index)?;
+    let mut firsts = vec![in alloc; 0u32; index.count()]?;
+    for k in 0..entries.len() {
+        let entry = entries[k].number;
+        let first = if begins(&entries, k) {
+            entry
+        } else {
+            firsts[entries[k - 1].number as usize]
+        };
+        firsts[entry as usize] = first;
     }
+    Ok(firsts)
 }
 
 /// The wants of an index.
@@ -46,14 +64,14 @@ pub(crate) fn group(alloc: Global, index: &Index) -> Result<Wants, AllocError>
     ensures { IfOk result (λ g. AreWants index.now g.count g.want_of.items) }
 {
     index.rules();
-    let mut seen = BTreeMap::new(alloc);
-    let mut want_of = Vec::new(alloc);
+    let firsts = firsts(alloc, index)?;
+    let mut want_of = Vec::with_capacity(alloc, index.count())?;
     let mut count = 0u32;
     for i in 0..index.count() {
-        let listed = index.entry(i);
-        let want = number(&mut seen, &listed.id, listed.size, count)?;
+        let first = firsts[i] as usize;
+        let want = if first < i { want_of[first] } else { count };
         want_of.push(want)?;
-        if want == count {
+        if first == i {
             count += 1;
         }
     }

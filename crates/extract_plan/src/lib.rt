@@ -2,6 +2,7 @@
 #![tactic(auto)]
 
 mod group;
+mod keyed;
 mod link;
 pub mod plan;
 pub mod seed;

@@ -2,21 +2,20 @@
 
 ghost use Rattle.std.specs.Prelude.{◌≡◌, ◌<◌, ◌≤◌, ◌+◌, ◌^◌, ◌↔◌, ℕ, Err, Some, [], length, slice_index, IfOk, OnOk};
 ghost use Rattle.std.specs.List.{slice_get};
+ghost use Rattle.std.specs.List.Sorted.{IsSorted};
 ghost use Rattle.caibx_codec.specs.Listing.{Listing, count_of};
 ghost use Rattle.extract_plan.specs.Deal.{AreWants};
 ghost use Rattle.extract_plan.specs.Found.{AreFound, AreNumbered};
-ghost use Rattle.extract_plan.specs.Numbers.{number_of};
+ghost use Rattle.extract_plan.specs.Keys.{keyed_cmp, number_of};
 ghost use Rattle.extract_plan.specs.Places.{IsPlaced, IsSeedIndex, PlacesKnown, items_of, nth_place, places_at, seed_item_limit};
 ghost use Rattle.extract_plan.specs.declared.seeds.SeedFault.TheVariants.{TooManyItems};
 
-use crate::group::number;
+use crate::keyed::{Keyed, number_in};
 use crate::link::{Sorted, sort};
 use crate::plan::Plan;
 use crate::seed::SeedPlace;
 use caibx_codec::index::Index;
-use chunk_store::id::ChunkId;
 use std::alloc::{AllocError, Global};
-use std::collections::BTreeMap;
 use std::marker::Model;
 
 /// The greatest number of items that all seeds may list together.
@@ -68,43 +67,30 @@ fn items(seeds: &[Index]) -> usize
 }
 
 // The want of each id and size that the index lists.
-fn numbers(
-    alloc: Global,
-    plan: &Plan,
-    index: &Index,
-) -> Result<BTreeMap<([u8; 32], usize), u32>, AllocError>
+fn numbers(alloc: Global, plan: &Plan, index: &Index) -> Result<Vec<Keyed>, AllocError>
     requires plan { AreWants index.now plan.now.wants plan.now.want_of }
-    ensures { IfOk result (λ m. AreNumbered index.now (count_of index.now) (number_of m) plan.now.want_of) }
+    ensures sorted { IfOk result (λ m. IsSorted keyed_cmp m.items) }
+    ensures value { IfOk result (λ m. AreNumbered index.now (count_of index.now) (number_of m.items) plan.now.want_of) }
 {
     index.rules();
-    let mut numbers = BTreeMap::new(alloc);
+    let mut numbers = Vec::with_capacity(alloc, index.count())?;
     for i in 0..index.count() {
-        let listed = index.entry(i);
         let want = plan.want_of(i) as u32;
-        number(&mut numbers, &listed.id, listed.size, want)?;
+        numbers.push(Keyed::of(index, i, want))?;
     }
+    numbers.sort_unstable();
     Ok(numbers)
-}
-
-// The number of this id and size.
-fn number_in(numbers: &BTreeMap<([u8; 32], usize), u32>, id: &ChunkId, size: usize) -> Option<u32>
-    ensures { result ≡ number_of numbers.now id.now.0 size }
-{
-    let key = (id.0, size);
-    match numbers.get(&key) {
-        Some(number) => Some(*number),
-        None => None,
-    }
 }
 
 // Entry i of seed s: its place is added where it has a number.
 fn add_entry(
-    numbers: &BTreeMap<([u8; 32], usize), u32>,
+    numbers: &[Keyed],
     seeds: &[Index],
     s: usize,
     i: usize,
     found: &mut Found,
 ) -> Result<(), AllocError>
+    requires sorted { IsSorted keyed_cmp numbers.now }
     requires few { length seeds.now < 2 ^ 32 }
     requires seed { s < length seeds.now }
     requires entry { (l : Listing) → slice_get seeds.now s ≡ Some l → i < count_of l }
@@ -128,11 +114,12 @@ fn add_entry(
 
 // The entries of seed s.
 fn add_seed(
-    numbers: &BTreeMap<([u8; 32], usize), u32>,
+    numbers: &[Keyed],
     seeds: &[Index],
     s: usize,
     found: &mut Found,
 ) -> Result<(), AllocError>
+    requires sorted { IsSorted keyed_cmp numbers.now }
     requires few { length seeds.now < 2 ^ 32 }
     requires seed { s < length seeds.now }
     requires before { AreFound (number_of numbers.now) seeds.now s 0 found.old.wants.items found.old.places.items }
@@ -146,11 +133,8 @@ fn add_seed(
 }
 
 // The places of all seeds.
-fn find(
-    numbers: &BTreeMap<([u8; 32], usize), u32>,
-    seeds: &[Index],
-    found: &mut Found,
-) -> Result<(), AllocError>
+fn find(numbers: &[Keyed], seeds: &[Index], found: &mut Found) -> Result<(), AllocError>
+    requires sorted { IsSorted keyed_cmp numbers.now }
     requires few { length seeds.now < 2 ^ 32 }
     requires wants { found.old.wants.items ≡ [] }
     requires places { found.old.places.items ≡ [] }
@@ -189,7 +173,7 @@ fn place(
     ensures placed { IfOk result (λ x. IsSeedIndex index.now plan.now seeds.now x) }
     ensures known { IfOk result (λ x. PlacesKnown index.now plan.now x (length seeds.now)) }
 {
-    // All room at once: a list that grows is there twice, beside the map.
+    // All room at once: a list that grows is there twice.
     let mut found = Found::with_room(alloc, items(seeds))?;
     {
         let numbers = numbers(alloc, plan, index)?;

@@ -5,7 +5,7 @@ use Rattle.std.proofs.lemmas.Option.{slice_get_read}
 use Rattle.caibx_codec.specs.Listing.{count_of, id_of, size_of, start_of}
 use Rattle.extract_plan.specs.Found.{AreFound}
 use Rattle.extract_plan.specs.Places.{place}
-use Rattle.extract_plan.specs.Numbers.{number_of}
+use Rattle.extract_plan.specs.Keys.{number_of}
 use Rattle.extract_plan.specs.declared.seed.SeedPlace.{SeedPlace}
 use Rattle.extract_plan.proofs.Finding.{found_more, found_skipped}
 use Rattle.extract_plan.proofs.seeds.add_entry.Goals as goal

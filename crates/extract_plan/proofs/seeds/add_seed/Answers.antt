@@ -2,7 +2,7 @@ use Rattle.std.proofs.Common.{◌≡◌, Some, arith, refl, length}
 use Rattle.std.specs.List.{slice_get}
 use Rattle.std.proofs.lemmas.Option.{slice_get_read}
 use Rattle.caibx_codec.specs.Listing.{count_of}
-use Rattle.extract_plan.specs.Numbers.{number_of}
+use Rattle.extract_plan.specs.Keys.{number_of}
 use Rattle.extract_plan.proofs.Finding.{found_seed}
 use Rattle.extract_plan.proofs.seeds.add_seed.Goals as goal
 

@@ -1,6 +1,6 @@
 use Rattle.std.proofs.Common.{List, ℕ, [], sym, subst}
 use Rattle.extract_plan.specs.Found.{AreFound}
-use Rattle.extract_plan.specs.Numbers.{number_of}
+use Rattle.extract_plan.specs.Keys.{number_of}
 use Rattle.extract_plan.specs.declared.seed.SeedPlace.{SeedPlace}
 use Rattle.extract_plan.proofs.Finding.{found_none}
 use Rattle.extract_plan.proofs.seeds.find.Goals as goal

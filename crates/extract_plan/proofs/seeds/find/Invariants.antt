@@ -1,5 +1,5 @@
 use Rattle.extract_plan.specs.Found.{AreFound}
-use Rattle.extract_plan.specs.Numbers.{number_of}
+use Rattle.extract_plan.specs.Keys.{number_of}
 use Rattle.extract_plan.proofs.seeds.find.Given as goal
 
 abbrev pub invariant-loop-s : goal.invariant-loop-s

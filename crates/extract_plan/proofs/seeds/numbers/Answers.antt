@@ -1,8 +1,9 @@
-use Rattle.std.proofs.Common.{◌<◌, ◌≤◌, List, ℕ, arith, subst, slice_index}
-use Rattle.caibx_codec.specs.Listing.{count_of, id_of, size_of}
-use Rattle.extract_plan.specs.Numbers.{number_of}
-use Rattle.extract_plan.proofs.Grouped.{Numbers}
-use Rattle.extract_plan.proofs.Numbering.{numbered_more, want_below}
+use Rattle.std.proofs.Common.{◌≡◌, ◌<◌, ◌≤◌, ◌+◌, ◌∷◌, [], List, ◌++◌, arith, subst, slice_index, sym, ◌∙◌}
+use Rattle.caibx_codec.specs.Listing.{count_of}
+use Rattle.extract_plan.specs.Keys.{IsKeyed}
+use Rattle.extract_plan.specs.declared.keyed.Keyed.{Keyed}
+use Rattle.extract_plan.proofs.Listed.{AreListed, keyed_are, listed_more}
+use Rattle.extract_plan.proofs.Numbering.{numbers_are, want_below}
 use Rattle.extract_plan.proofs.seeds.numbers.Goals as goal
 
 pub overflow_cast-want : goal.overflow_cast-want
@@ -16,18 +17,22 @@ pub loop-i-preserved : goal.loop-i-preserved
 loop-i-preserved c =
     let l = c.args.index.now in
     let i = c.loop-i.i in
-    let want_of = c.args.plan.now.want_of in
-    let old = number_of c.loop-i.numbers in
-    let new = number_of c.number.new.seen in
-    let told = c.in_ok-number.ensures in
-    let w = c.in_ok-number.field-0 in
+    let f = slice_index c.args.plan.now.want_of in
     let inside : i < count_of l = omega (arith, c.count-i-end.ensures, c.loop-i-test.true, c.loop-i.auto.i-end) in
-    let here : Numbers old new c.entry-listed.result.id.0 c.entry-listed.result.size c.want_of-want.result w =
-    record { found = told.found; stands = told.stands; kept = told.kept; only = told.only } in
-    let named : Numbers old new (id_of l i) c.entry-listed.result.size c.want_of-want.result w =
-    subst (λ (x : List ℕ). Numbers old new x c.entry-listed.result.size c.want_of-want.result w) c.entry-listed.ensures.id here in
-    let sized : Numbers old new (id_of l i) (size_of l i) c.want_of-want.result w =
-    subst (λ (x : ℕ). Numbers old new (id_of l i) x c.want_of-want.result w) c.entry-listed.ensures.size named in
-    let step : Numbers old new (id_of l i) (size_of l i) (slice_index want_of i) w =
-    subst (λ (x : ℕ). Numbers old new (id_of l i) (size_of l i) x w) c.want_of-want.ensures sized in
-    numbered_more l i w old new _ want_of inside c.requires.plan step c.loop-i.invariant
+    let is : IsKeyed l f i c.of.result = record {
+      listed = inside;
+      id_is = c.of.ensures.id;
+      size_is = c.of.ensures.size;
+      number = c.of.ensures.number ∙ c.want_of-want.ensures;
+    } in
+    let items : c.push.new.self.items ≡ c.loop-i.numbers.items ++ c.of.result ∷ [] = c.in_ok-push.ensures.items in
+    subst (λ (x : List Keyed). AreListed l f (i + 1) x) (sym items) (listed_more l f i c.loop-i.numbers.items c.of.result is c.loop-i.invariant)
+
+pub returns-clause-value : goal.returns-clause-value
+returns-clause-value c =
+    let l = c.args.index.now in
+    let want_of = c.args.plan.now.want_of in
+    let all : c.loop-i.i ≡ count_of l = omega (arith, c.count-i-end.ensures, c.loop-i-test.false, c.loop-i.auto.i-end) in
+    let keyed = keyed_are l (slice_index want_of) c.loop-i.i c.loop-i.numbers.items c.sort_unstable.new.self.items all c.loop-i.invariant
+    c.sort_unstable.ensures.permutation c.sort_unstable.ensures.sorted in
+    numbers_are l c.args.plan.now.wants want_of c.sort_unstable.new.self.items c.requires.plan keyed

@@ -1,9 +1,11 @@
 use Rattle.std.proofs.Common.{◌≡◌, ◌<◌, ℕ, List, length, slice_index, arith, rules, ap, sym, subst}
 use Rattle.std.proofs.lemmas.Grind.{common_steps}
-use Rattle.extract_plan.specs.Found.{AreFound}
+use Rattle.caibx_codec.specs.Listing.{count_of}
+use Rattle.extract_plan.specs.Found.{AreFound, AreNumbered}
 use Rattle.extract_plan.specs.Links.{AreSorted}
-use Rattle.extract_plan.specs.Numbers.{number_of}
+use Rattle.extract_plan.specs.Keys.{number_of}
 use Rattle.extract_plan.specs.Places.{IsSeedIndex}
+use Rattle.extract_plan.specs.declared.keyed.Keyed.{Keyed}
 use Rattle.extract_plan.specs.declared.seed.SeedPlace.{SeedPlace}
 use Rattle.extract_plan.proofs.Known.{known_of}
 use Rattle.extract_plan.proofs.Placing.{found_below, places_are}
@@ -14,14 +16,17 @@ sort-requires-clause-within c =
     let l = c.args.index.now in
     let plan = c.args.plan.now in
     let seeds = c.args.seeds.now in
-    let number = number_of c.in_ok-numbers.numbers in
+    let number = number_of c.deref.result.now in
+    let numbers_is : c.in_ok-numbers.numbers.items ≡ c.deref.result.now = first_of (search rules, grind (arith, common_steps)) in
+    let numbered : AreNumbered l (count_of l) number plan.want_of =
+    subst (λ (x : List Keyed). AreNumbered l (count_of l) (number_of x) plan.want_of) numbers_is c.in_ok-numbers.ensures.value in
     let ws = c.find.new.found.wants.items in
-    let is : c.deref.result.now ≡ ws = first_of (search rules, grind (arith, common_steps)) in
+    let is : c.deref-2.result.now ≡ ws = first_of (search rules, grind (arith, common_steps)) in
     let below = found_below l plan.wants number plan.want_of seeds (length seeds) 0 ws c.find.new.found.places.items
-    c.requires.plan c.in_ok-numbers.ensures c.in_ok-find.ensures in
+    c.requires.plan numbered c.in_ok-find.ensures in
     λ i h.
     let inside : i < length ws = omega (arith, ap length is) in
-    let low : slice_index c.deref.result.now i < plan.wants = subst (λ (x : List ℕ). slice_index x i < plan.wants) (sym is) (below i inside) in
+    let low : slice_index c.deref-2.result.now i < plan.wants = subst (λ (x : List ℕ). slice_index x i < plan.wants) (sym is) (below i inside) in
     omega (arith, c.wants.ensures)
 
 pub returns : goal.returns
@@ -29,10 +34,13 @@ returns c =
     let l = c.args.index.now in
     let plan = c.args.plan.now in
     let seeds = c.args.seeds.now in
-    let number = number_of c.in_ok-numbers.numbers in
-    let ws = c.deref.result.now in
-    let ps = c.deref-2.result.now in
-    let order = c.deref-3.result.now in
+    let number = number_of c.deref.result.now in
+    let numbers_is : c.in_ok-numbers.numbers.items ≡ c.deref.result.now = first_of (search rules, grind (arith, common_steps)) in
+    let numbered : AreNumbered l (count_of l) number plan.want_of =
+    subst (λ (x : List Keyed). AreNumbered l (count_of l) (number_of x) plan.want_of) numbers_is c.in_ok-numbers.ensures.value in
+    let ws = c.deref-2.result.now in
+    let ps = c.deref-3.result.now in
+    let order = c.deref-4.result.now in
     let starts = c.in_ok-starts.field-0.starts.items in
     let ws_is : c.find.new.found.wants.items ≡ ws = first_of (search rules, grind (arith, common_steps)) in
     let ps_is : c.find.new.found.places.items ≡ ps = first_of (search rules, grind (arith, common_steps)) in
@@ -46,6 +54,6 @@ returns c =
     let placed : IsSeedIndex l plan seeds (record { starts = starts; items = c.in_ok-items.items.items }) = record {
       size = sorted.size;
       places = places_are l plan.wants number plan.want_of seeds ws ps starts order c.in_ok-items.items.items
-          c.requires.plan c.in_ok-numbers.ensures found sorted c.in_ok-items.ensures.size c.in_ok-items.ensures.value;
+          c.requires.plan numbered found sorted c.in_ok-items.ensures.size c.in_ok-items.ensures.value;
     } in
     record { placed = placed; known = known_of l plan seeds _ c.requires.plan placed }
