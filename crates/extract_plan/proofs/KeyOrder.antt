@@ -1,5 +1,5 @@
 -- Sorted entries in the order of their keys.
-use Rattle.std.proofs.Common.{◌≡◌, ◌≢◌, ℕ, ◌-◌, ◌<◌, ◌≤◌, ◌==◌, ◌&&◌, List, true, false, Some, None, length, get_or, refl, ap, sym, ◌∙◌, arith, ⊎_elim}
+use Rattle.std.proofs.Common.{◌≡◌, ◌≢◌, ℕ, ◌+◌, ◌-◌, ◌<◌, ◌≤◌, ◌==◌, ◌&&◌, List, [], true, false, Some, None, length, get_or, refl, ap, sym, ◌∙◌, arith, ⊎_elim}
 use Rattle.std.specs.Cmp.{IsTotalOrder, tied_then, unsigned_tied}
 use Rattle.std.specs.Cmp.Lexicographic.{slice_cmp}
 use Rattle.std.specs.List.Sorted.{IsNonDecreasingBy, IsPartitionedBy, IsSorted, IsSortedBy}
@@ -9,12 +9,17 @@ use Rattle.std.specs.declared.cmp.Ordering.{Ordering}
 use Rattle.std.specs.declared.cmp.Ordering.TheVariants.{Less, Equal, Greater}
 use Rattle.std.proofs.lemmas.Bool.{cases_lt}
 use Rattle.std.proofs.lemmas.Cmp.{is_eq_index, nat_cmp_total, nat_list_cmp_total, on_total, then_total, tied_itself}
+use Rattle.std.proofs.lemmas.List.{get_or_default}
 use Rattle.std.proofs.lemmas.List.Sorted.{searchable_from_sorted}
 use Rattle.std.proofs.lemmas.Map.Text.{is_eq-slice_cmp}
 use Rattle.extract_plan.specs.Keys.{keyed_cmp, number_of, has_key, key_cmp}
 use Rattle.extract_plan.specs.declared.keyed.ChunkKey.{ChunkKey}
 use Rattle.extract_plan.specs.declared.keyed.Keyed.{Keyed}
 use Rattle.extract_plan.proofs.Searched.{find_at, find_none}
+
+-- what a place past the end of a list reads as
+abbrev pub nothing : Keyed
+nothing = record { key = record { id = record { 0 = [] }; size = 0 }; number = 0 }
 
 key_total : IsTotalOrder key_cmp
 key_total = then_total (on_total (λ (k : ChunkKey). k.id.0) nat_list_cmp_total) (on_total (λ (k : ChunkKey). k.size) nat_cmp_total)
@@ -137,3 +142,10 @@ run_begins xs k d rise inside other =
     let apart : has_key z.id.0 z.size (get_or xs k d) ≡ false = other some in
     absurd (cc))
     (key_itself (get_or xs k d))
+
+-- all places up to one whose key is before y are before it
+pub below_more : (xs : List Keyed) (y : ChunkKey) (m : ℕ) (e : Keyed) → IsSorted keyed_cmp xs → m < length xs → is_lt (key_cmp (get_or xs m e).key y) ≡ true →
+    (j : ℕ) (d : Keyed) → j < m + 1 → is_lt (key_cmp (get_or xs j d).key y) ≡ true
+below_more xs y m e rise inside is j d a =
+    keys_parted xs y rise j m d (omega arith) inside
+    (ap (λ (x : Keyed). is_lt (key_cmp x.key y)) (get_or_default xs m d e inside) ∙ is)

@@ -8,6 +8,7 @@ use Rattle.std.proofs.lemmas.List.Sorted.{All-permutation, Contains-permutation}
 use Rattle.caibx_codec.specs.Listing.{Listing, count_of}
 use Rattle.extract_plan.specs.Keys.{AreKeyed, IsKeyed, keyed_cmp}
 use Rattle.extract_plan.specs.declared.keyed.Keyed.{Keyed}
+use Rattle.extract_plan.proofs.KeyOrder.{nothing}
 
 -- the first n entries in their order
 pub record AreListed (l : Listing) (f : ℕ → ℕ) (n : ℕ) (xs : List Keyed) : Type 0 where
@@ -36,7 +37,6 @@ keyed_are l f n xs ys all h moved rise =
       rise = rise;
       each = All-permutation (λ x. (i : ℕ) × IsKeyed l f i x) xs ys moved (λ k d a. (k, h.each k d (omega arith)));
       every = λ i listed.
-          let d : Keyed = record { key = record { id = record { 0 = [] }; size = 0 }; number = 0 } in
-          let x = get_or xs i d in
-          (x, Contains-permutation xs ys x moved (Contains-get_or xs i d (omega arith)), h.each i d (omega arith));
+          let x = get_or xs i nothing in
+          (x, Contains-permutation xs ys x moved (Contains-get_or xs i nothing (omega arith)), h.each i nothing (omega arith));
     }

@@ -1,10 +1,10 @@
-use Rattle.std.proofs.Common.{◌≡◌, ℕ, ◌<◌, ◌-◌, Bool, true, false, not, Some, List, [], get_or, refl, sym, ap, ◌∙◌, subst, arith}
+use Rattle.std.proofs.Common.{◌≡◌, ℕ, ◌<◌, ◌-◌, Bool, true, false, not, Some, List, get_or, refl, sym, ap, ◌∙◌, subst, arith}
 use Rattle.std.proofs.lemmas.List.{get_or_default}
 use Rattle.extract_plan.specs.Keys.{has_key, number_with}
 use Rattle.extract_plan.specs.declared.keyed.ChunkKey.{ChunkKey}
 use Rattle.extract_plan.specs.declared.keyed.Keyed.{Keyed}
 use Rattle.extract_plan.proofs.Firsts.{key_parts}
-use Rattle.extract_plan.proofs.KeyOrder.{run_begins}
+use Rattle.extract_plan.proofs.KeyOrder.{nothing, run_begins}
 use Rattle.extract_plan.proofs.group.begins.Goals as goal
 
 other : (b : Bool) → not b ≡ true → b ≡ false
@@ -18,10 +18,6 @@ alike false e = absurd (cc)
 same_key : (x y : ChunkKey) → x.id.0 ≡ y.id.0 → x.size ≡ y.size → x ≡ y
 same_key x y named sized =
     ap (λ (q : List ℕ). record { id = record { 0 = q }; size = x.size }) named ∙ ap (λ (n : ℕ). record { id = y.id; size = n }) sized
-
--- what a place past the end reads as
-abbrev nothing : Keyed
-nothing = record { key = record { id = record { 0 = [] }; size = 0 }; number = 0 }
 
 pub returns-then-k-eq0-clause-first : goal.returns-then-k-eq0-clause-first
 returns-then-k-eq0-clause-first c is d = run_begins c.args.entries.now c.args.k d c.requires.sorted c.requires.inside (λ some. absurd (omega (arith, c.if-k-eq0.true)))
