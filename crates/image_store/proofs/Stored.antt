@@ -1,5 +1,5 @@
 -- What seeing to one chunk more makes of what a store holds, of its folder's files, and of what it was asked and has said.
-use Rattle.std.proofs.Common.{◌≡◌, ◌≢◌, ℕ, ◌+◌, ◌≤◌, List, Option, Some, None, IfSome, is_some, refl, sym, ap, subst, ◌∙◌, ◌⊎◌, inl, inr, arith}
+use Rattle.std.proofs.Common.{◌≡◌, ◌≢◌, ℕ, ◌+◌, ◌<◌, ◌≤◌, List, Option, Some, None, IfSome, is_some, refl, sym, ap, subst, ◌∙◌, ◌⊎◌, inl, inr, arith}
 use Rattle.std.proofs.lemmas.Bool.{cases_lt}
 use Rattle.std.specs.Option.{option_map}
 use Rattle.caibx_codec.specs.Listing.{Listing, id_of, kind_of, slice_of}
@@ -16,6 +16,13 @@ use Rattle.image_store.specs.PutChunks.{PutsRight, PutsLacked, HoldsNamed, SaysN
 -- under the id the same is held now as at first, where both are told
 abbrev pub HoldsStill : List ℕ → Option (Map (List ℕ)) → Option (Map (List ℕ)) → Type 0
 HoldsStill q first now = IfSome first (λ m. IfSome now (λ n. n q ≡ m q))
+
+-- one of the first k entries lists the id, and the image's slice wasn't held under it at first
+pub record WasLacked (l : Listing) (told : Option (List ℕ)) (held : Option (Map (List ℕ))) (k : ℕ) (q : List ℕ) : Type 0 where
+  pub entry : ℕ
+  pub below : entry < k
+  pub id : q ≡ id_of l entry
+  pub lacked : IfSome told (λ t. IfSome held (λ m. m (id_of l entry) ≢ Some (slice_of l t entry)))
 
 module _ (l : Listing) where
   -- ---- entries after the first i
@@ -167,13 +174,43 @@ module _ (l : Listing) where
   lacked_first (Some t) i (Some m) None tells still lacked = absurd (cc)
   lacked_first (Some t) i (Some m) (Some n) tells still lacked = λ e. lacked (still ∙ e)
 
+  -- the image's slice of an entry that lists the id of entry i wasn't held at first, where that of entry i isn't held
+  -- now
+  abbrev Lacked : Option (List ℕ) → ℕ → Option (Map (List ℕ)) → Option (Map (List ℕ)) → Type 0
+  Lacked told i held held_now =
+      IfSome (option_map (λ t. slice_of l t i) told) (λ b. IfSome held_now (λ m. m (id_of l i) ≢ Some b)) → WasLacked l told held (i + 1) (id_of l i)
+
+  pub lacked_fresh : (told : Option (List ℕ)) (i : ℕ) (held held_now : Option (Map (List ℕ))) → is_some held_now ≡ is_some held → HoldsStill (id_of l i) held held_now → Lacked told i held held_now
+  lacked_fresh told i held held_now tells still = λ lacked. record { entry = i; below = omega arith; id = refl; lacked = lacked_first told i held held_now tells still lacked }
+
+  is_held_or_not : (held : Option (List ℕ)) (b : List ℕ) → (held ≡ Some b) ⊎ (held ≢ Some b)
+  is_held_or_not None b = inr (λ e. absurd (cc))
+  is_held_or_not (Some x) b = elim (equal_or_not x b) [
+    | inl same ↦ inl (ap Some same)
+    | inr other ↦ inr (λ e. other (cc))
+  ]
+
+  -- an entry before may have put its slice under the id, which wasn't held then
+  pub lacked_again : (told : Option (List ℕ)) (i : ℕ) (held held_now : Option (Map (List ℕ))) → is_some held_now ≡ is_some held
+      → IfSome told (λ t. IfSome held (λ a. IfSome held_now (λ b. Stands l t i a b))) → Lacked told i held held_now
+  lacked_again None i held held_now tells stands = λ lacked. record { entry = i; below = omega arith; id = refl; lacked = tt }
+  lacked_again (Some t) i None held_now tells stands = λ lacked. record { entry = i; below = omega arith; id = refl; lacked = tt }
+  lacked_again (Some t) i (Some m) None tells stands = absurd (cc)
+  lacked_again (Some t) i (Some m) (Some n) tells stands = λ lacked. elim (stands (id_of l i)) [
+    | inl still ↦ record { entry = i; below = omega arith; id = refl; lacked = λ e. lacked (still ∙ e) }
+    | inr s ↦ elim (is_held_or_not (m (id_of l i)) (slice_of l t s.entry)) [
+      | inl held ↦ record { entry = i; below = omega arith; id = refl; lacked = λ e. lacked (s.slice ∙ sym held ∙ e) }
+      | inr none ↦ record { entry = s.entry; below = omega (arith, s.below); id = s.id; lacked = λ e. none (ap m s.id ∙ e) }
+    ]
+  ]
+
   pub files_more : (told : Option (List ℕ)) (i : ℕ) (held held_now first now new : Option (Map (List ℕ))) → PutsLacked (id_of l i) (option_map (λ t. slice_of l t i) told) held_now now new
-      → is_some held_now ≡ is_some held → HoldsStill (id_of l i) held held_now → PutsFiles l told held i first now → PutsFiles l told held (i + 1) first new
-  files_more told i held held_now first now new (inl same) tells still all =
+      → Lacked told i held held_now → PutsFiles l told held i first now → PutsFiles l told held (i + 1) first new
+  files_more told i held held_now first now new (inl same) lacks all =
       subst (PutsFiles l told held (i + 1) first) (sym same) (files_later told held i (i + 1) first now (omega arith) all)
-  files_more told i held held_now first now new (inr (lacked, others)) tells still all = record { tells = others.told ∙ all.tells; files = go first now new (others.told) all.files others.files } where
-    lack : IfSome told (λ t. IfSome held (λ m. m (id_of l i) ≢ Some (slice_of l t i)))
-    lack = lacked_first told i held held_now tells still lacked
+  files_more told i held held_now first now new (inr (lacked, others)) lacks all = record { tells = others.told ∙ all.tells; files = go first now new (others.told) all.files others.files } where
+    was : WasLacked l told held (i + 1) (id_of l i)
+    was = lacks lacked
 
     go : (a b c : Option (Map (List ℕ))) → is_some c ≡ is_some b → IfSome a (λ m. IfSome b (λ n. (q : List ℕ) → (n q ≡ m q) ⊎ IsPut l told held i q))
         → IfSome b (λ m. IfSome c (λ n. (q : List ℕ) → q ≢ path_of (id_of l i) → q ≢ temporary_of (path_of (id_of l i)) → n q ≡ m q))
@@ -182,9 +219,9 @@ module _ (l : Listing) where
     go (Some m) b None e h k = tt
     go (Some m) None (Some n) e h k = absurd (cc)
     go (Some m) (Some o) (Some n) e h k = λ q. elim (equal_or_not q (path_of (id_of l i))) [
-      | inl at_path ↦ inr (record { entry = i; below = omega arith; file = inl at_path; lacked = lack })
+      | inl at_path ↦ inr (record { entry = was.entry; below = was.below; file = inl (at_path ∙ ap path_of was.id); lacked = was.lacked })
       | inr no_path ↦ elim (equal_or_not q (temporary_of (path_of (id_of l i)))) [
-        | inl temporary ↦ inr (record { entry = i; below = omega arith; file = inr temporary; lacked = lack })
+        | inl temporary ↦ inr (record { entry = was.entry; below = was.below; file = inr (temporary ∙ ap (λ (x : List ℕ). temporary_of (path_of x)) was.id); lacked = was.lacked })
         | inr other ↦ elim (h q) [
           | inl e ↦ inl (k q no_path other ∙ e)
           | inr put ↦ inr (put_later told held i (i + 1) q (omega arith) put)

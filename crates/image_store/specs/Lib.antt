@@ -1,2 +1,3 @@
 pub mod PutChunks
 pub mod StoreImage
+pub mod Chopping

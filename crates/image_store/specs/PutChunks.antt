@@ -9,7 +9,6 @@ use Rattle.chunk_store.specs.Folders.{KeepsOthers}
 use Rattle.chunk_store.specs.Names.{name_of}
 use Rattle.chunk_store.specs.Paths.{path_of}
 use Rattle.chunk_store.specs.Said.{Said}
-use Rattle.chunk_store.specs.declared.id.ChunkId.{ChunkId}
 use Rattle.chunk_store.specs.declared.id.DigestKind.{DigestKind}
 use Rattle.dsy_base.specs.Counts.{Rose}
 use Rattle.dsy_base.specs.Folders.{temporary_of}
@@ -59,16 +58,16 @@ abbrev pub SaysNamed : DigestKind → List ℕ → Said → Type 0
 SaysNamed kind id said = (b : List ℕ) × (name_of kind b ≡ id) × (said.shown id b ⊎ said.taken id b)
 
 -- why seeing to entry k of this id ended early, where the image's slice is `told`
-abbrev pub EndsAt : DigestKind → ℕ → ChunkId → Option (List ℕ) → MakeFault → Type 0
+abbrev pub EndsAt : DigestKind → ℕ → List ℕ → Option (List ℕ) → MakeFault → Type 0
 EndsAt kind k id told (faults.Changed entry was got) =
-    (entry ≡ k) × (was.0 ≡ id.0) × (got.0 ≢ id.0) × IfSome told (λ b. got.0 ≡ name_of kind b)
+    (entry ≡ k) × (was.0 ≡ id) × (got.0 ≢ id) × IfSome told (λ b. got.0 ≡ name_of kind b)
 EndsAt kind k id told faults.TooManyItems = ⊥
 EndsAt kind k id told faults.ImageFault = Unit {0}
 EndsAt kind k id told faults.StoreFault = Unit {0}
 EndsAt kind k id told faults.Memory = Unit {0}
 
 -- reading the slice again ended so
-abbrev pub RereadsTo : DigestKind → ℕ → ChunkId → Option (List ℕ) → MakeFault → Type 0
+abbrev pub RereadsTo : DigestKind → ℕ → List ℕ → Option (List ℕ) → MakeFault → Type 0
 RereadsTo kind k id told (faults.Changed entry was got) = EndsAt kind k id told (faults.Changed entry was got)
 RereadsTo kind k id told faults.ImageFault = Unit {0}
 RereadsTo kind k id told faults.TooManyItems = ⊥

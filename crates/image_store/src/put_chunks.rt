@@ -8,6 +8,7 @@ ghost use Rattle.std.specs.Option.{option_map};
 ghost use Rattle.std.specs.Ordering.{nat_cmp};
 ghost use Rattle.std.specs.Str.{bytes_eq};
 ghost use Rattle.caibx_codec.specs.Listing.{count_of, id_of, kind_of, size_of, slice_of, image_length};
+ghost use Rattle.caibx_codec.specs.Right.{IsRightAt};
 ghost use Rattle.chunk_store.specs.Names.{name_of};
 ghost use Rattle.chunk_store.specs.Said.{KeepsOf, AskedOnce};
 ghost use Rattle.dsy_base.specs.Counts.{CountsFaults};
@@ -67,7 +68,7 @@ fn read_again<V: View>(
     ensures ok { OnOk result (name_of kind chunk.new ≡ id.now.0) }
     ensures bytes { OnOk result (IfSome (V.held image.old).bytes
         (λ t. chunk.new ≡ slice_range t start (start + length chunk.old))) }
-    ensures err { IfErr result (RereadsTo kind entry id.now
+    ensures err { IfErr result (RereadsTo kind entry id.now.0
         (told_range (V.held image.old).bytes start (start + length chunk.old))) }
     ensures kept { V.held image.new ≡ V.held image.old }
     ensures faults { CountsFaults MakeFault.ImageFault MakeFault.Memory
@@ -156,12 +157,16 @@ fn see_to<V: View, S: StoreWrite>(
     requires room { length room.old ≡ length chunk.old }
     ensures ok { OnOk result (IfSome (S.holds store.new) (λ m. HoldsNamed kind id.now.0 (m id.now.0))) }
     ensures told { OnOk result (SaysNamed kind id.now.0 (S.said store.new)) }
+    ensures right { OnOk result (IfSome (told_range (V.held image.old).bytes start (start + length chunk.old))
+        (λ b. name_of kind b ≡ id.now.0)) }
     ensures changed { PutsRight kind id.now.0 (told_range (V.held image.old).bytes start (start + length chunk.old))
         (S.holds store.old) (S.holds store.new) }
     ensures files { PutsLacked id.now.0 (told_range (V.held image.old).bytes start (start + length chunk.old))
         (S.holds store.old) (S.folder store.old) (S.folder store.new) }
-    ensures err { IfErr result (EndsAt kind entry id.now
+    ensures err { IfErr result (EndsAt kind entry id.now.0
         (told_range (V.held image.old).bytes start (start + length chunk.old))) }
+    ensures untouched { (k : ℕ) → (was got : ChunkId) → result ≡ Err (MakeFault.Changed k was got) →
+        store.new ≡ store.old }
     ensures kept { V.held image.new ≡ V.held image.old }
     ensures place { S.place store.new ≡ S.place store.old }
     ensures said { (q : List ℕ) → q ≢ id.now.0 → KeepsOf (S.said store.old) (S.said store.new) q }
@@ -180,7 +185,7 @@ fn see_to<V: View, S: StoreWrite>(
 }
 
 // Sees to entry i.
-fn put_entry<V: View, S: StoreWrite>(
+pub(crate) fn put_entry<V: View, S: StoreWrite>(
     index: &Index,
     i: usize,
     image: &mut V,
@@ -195,11 +200,15 @@ fn put_entry<V: View, S: StoreWrite>(
     ensures ok { OnOk result (IfSome (S.holds store.new)
         (λ m. HoldsNamed (kind_of index.now) (id_of index.now i) (m (id_of index.now i)))) }
     ensures told { OnOk result (SaysNamed (kind_of index.now) (id_of index.now i) (S.said store.new)) }
+    ensures right { OnOk result (IfSome (V.held image.old).bytes (λ t. IsRightAt t index.now i)) }
     ensures changed { PutsRight (kind_of index.now) (id_of index.now i)
         (told_slice index.now i (V.held image.old).bytes) (S.holds store.old) (S.holds store.new) }
     ensures files { PutsLacked (id_of index.now i) (told_slice index.now i (V.held image.old).bytes)
         (S.holds store.old) (S.folder store.old) (S.folder store.new) }
-    ensures err { IfErr result (PutsEnd index.now (V.held image.old).bytes) }
+    ensures err { IfErr result (EndsAt (kind_of index.now) i (id_of index.now i)
+        (told_slice index.now i (V.held image.old).bytes)) }
+    ensures untouched { (k : ℕ) → (was got : ChunkId) → result ≡ Err (MakeFault.Changed k was got) →
+        store.new ≡ store.old }
     ensures kept { V.held image.new ≡ V.held image.old }
     ensures place { S.place store.new ≡ S.place store.old }
     ensures said { (q : List ℕ) → q ≢ id_of index.now i → KeepsOf (S.said store.old) (S.said store.new) q }

@@ -1,10 +1,12 @@
-//! Images stored in a store that counts what is put into it.
+//! Images stored in, and chopped into, a store that counts what is put into it.
 
 ghost use Rattle.std.specs.Prelude.{◌≡◌};
 
+use crate::chop::{ChopFault, chop};
 use crate::put_chunks::MakeFault;
 use crate::store_image::store_image;
 use buzhash_cut::sizes::CutSizes;
+use caibx_codec::index::{Entry, Index};
 use chunk_store::id::{ChunkId, DigestKind};
 use chunk_store::store::{GetFault, Store, StoreWrite};
 use dsy_base::fault::{Failed, IoFault, raise};
@@ -278,5 +280,63 @@ fn an_image_that_changes_is_told_and_not_stored(rt: HostRuntime) -> Result<(), F
     };
     assert_eq!(rt; stored_twice(rt.alloc(), b"abX")?, Err(changed));
     assert_eq!(rt; stored_twice(rt.alloc(), b"")?, Err(MakeFault::ImageFault));
+    Ok(())
+}
+
+// The index of these chunks of three bytes.
+fn index_of(alloc: Global, chunks: &[&[u8; 3]]) -> Result<Index, Fail> {
+    let mut entries = Vec::new(alloc);
+    let mut end = 0u64;
+    for chunk in chunks {
+        end = end.saturating_add(3);
+        let id = ChunkId::of(DigestKind::Sha512T256, chunk.as_slice());
+        entries.push(Entry { end, id })?;
+    }
+    Ok(
+        Index::new(0xa000_0000_0000_0000, 48, 48, 48, entries)
+            .ok()
+            .ok_or("no index")?,
+    )
+}
+
+// The mismatch of an entry whose slice is `got`.
+fn mismatch(entry: u64, got: &[u8]) -> Result<(), ChopFault> {
+    let got = ChunkId::of(DigestKind::Sha512T256, got);
+    Err(ChopFault::Mismatch { entry, got })
+}
+
+#[test]
+fn an_image_is_chopped_up_to_the_first_refusal(rt: HostRuntime) -> Result<(), Fail> {
+    let alloc = rt.alloc();
+    let index = index_of(alloc, &[b"abc", b"def"])?;
+    // Each chunk is asked for and put.
+    let cases: [(&[u8], Option<u64>, Result<(), ChopFault>, u64); 6] = [
+        (b"abcdef", None, Ok(()), 2),
+        (b"abcdeX", None, mismatch(1, b"deX"), 1),
+        (b"abXdef", None, mismatch(0, b"abX"), 0),
+        (b"abcde", None, Err(ChopFault::Length { size: 5 }), 0),
+        (b"abcdef", Some(0), Err(ChopFault::StoreFault), 0),
+        (b"abcdef", Some(3), Err(ChopFault::StoreFault), 1),
+    ];
+    for (image, fails, want, held) in cases {
+        let mut store = Counting::new(alloc, fails);
+        let chopped = chop(alloc, &index, &mut view_of(alloc, image)?, &mut store);
+        assert_eq!(rt; chopped, want);
+        assert_eq!(rt; store.puts, held);
+    }
+    Ok(())
+}
+
+#[test]
+fn an_id_that_is_listed_twice_is_seen_to_twice(rt: HostRuntime) -> Result<(), Fail> {
+    let alloc = rt.alloc();
+    let index = index_of(alloc, &[b"abc", b"abc"])?;
+    let mut store = Counting::new(alloc, None);
+    let chopped = chop(alloc, &index, &mut view_of(alloc, b"abcabX")?, &mut store);
+    assert_eq!(rt; chopped, mismatch(1, b"abX"));
+    assert_eq!(rt; (store.calls, store.puts), (2, 1));
+    let chopped = chop(alloc, &index, &mut view_of(alloc, b"abcabc")?, &mut store);
+    assert_eq!(rt; chopped, Ok(()));
+    assert_eq!(rt; (store.calls, store.puts), (4, 1));
     Ok(())
 }

@@ -3,7 +3,7 @@ use Rattle.std.specs.Option.{option_map}
 use Rattle.caibx_codec.specs.Listing.{count_of, id_of, kind_of, slice_of}
 use Rattle.image_store.specs.PutChunks.{HoldsAll, SaysAll, Stands, PutsFiles, AsksEach}
 use Rattle.image_store.proofs.Seen.{seen_on, unseen_before, not_true, listed_before, is_seen}
-use Rattle.image_store.proofs.Stored.{HoldsStill, stands_same, stands_later, stands_more, holds_none, holds_more, holds_again, said_none, said_more, said_again, files_same, files_later, files_more, asks_same, asks_later, asks_more, others_hold, tells_on, holds_first}
+use Rattle.image_store.proofs.Stored.{HoldsStill, stands_same, stands_later, stands_more, holds_none, holds_more, holds_again, said_none, said_more, said_again, files_same, files_later, files_more, lacked_fresh, asks_same, asks_later, asks_more, others_hold, tells_on, holds_first}
 use Rattle.image_store.proofs.put_chunks.put_chunks.Goals as goal
 use Rattle.image_store.proofs.put_chunks.put_chunks.Goals.{then-branch+in_ok-put_entry, else-branch}
 
@@ -65,7 +65,7 @@ returns-in_err-put_entry-clause-files g c =
     let none : is_seen c.loop-i.seen c.id-id.result.0 ≡ false = not_true _ (sym c.if-branch.true ∙ c.in_ok-is_new.ensures.found) in
     let still : HoldsStill (id_of l i) first now = subst (λ (q : List ℕ). HoldsStill q first now) c.id-id.ensures (c.loop-i.invariant.unseen c.id-id.result.0 none).1 in
     files_later l told first (i + 1) (count_of l) (g.S.Store.folder c.args.store.now) (g.S.Store.folder c.put_entry.new.store) (omega (arith, c.loop-i-test.true, c.count-i-end.ensures))
-    (files_more l told i first now (g.S.Store.folder c.args.store.now) (g.S.Store.folder c.loop-i.store) (g.S.Store.folder c.put_entry.new.store) files c.loop-i.invariant.tells still c.loop-i.invariant.files)
+    (files_more l told i first now (g.S.Store.folder c.args.store.now) (g.S.Store.folder c.loop-i.store) (g.S.Store.folder c.put_entry.new.store) files (lacked_fresh l told i first now c.loop-i.invariant.tells still) c.loop-i.invariant.files)
 
 pub returns-in_err-put_entry-clause-tells : goal.returns-in_err-put_entry-clause-tells
 returns-in_err-put_entry-clause-tells g c =
@@ -117,7 +117,7 @@ loop-i-preserved g c =
             says = subst (λ s. SaysAll l (i + 1) (g.S.Store.said s)) (sym w.store-is) (said_more l i (g.S.Store.said c.loop-i.store) (g.S.Store.said new) ok.said ok.told inv.says);
             stands = subst (λ (o : Option _). IfSome told (λ t. IfSome first (λ a. IfSome o (λ b. Stands l t (i + 1) a b)))) (sym holds_is) (stands_more l told i first now (g.S.Store.holds new) changed inv.stands);
             files = subst (PutsFiles l told first (i + 1) files_first) (sym (ap (λ s. g.S.Store.folder s) w.store-is))
-                (files_more l told i first now files_first (g.S.Store.folder c.loop-i.store) (g.S.Store.folder new) files inv.tells still inv.files);
+                (files_more l told i first now files_first (g.S.Store.folder c.loop-i.store) (g.S.Store.folder new) files (lacked_fresh l told i first now inv.tells still) inv.files);
             asks = subst (AsksEach l (i + 1) asked_first) (sym asked_is) (asks_more l i asked_first (g.S.Store.asked c.loop-i.store) (g.S.Store.asked new) ok.asks fresh inv.asks);
             tells = ap is_some holds_is ∙ tells_on (kind_of l) (id_of l i) slice now (g.S.Store.holds new) ok.changed ∙ inv.tells;
             queries = ap (λ s. g.S.Store.queried s) w.store-is ∙ ok.queries ∙ inv.queries;

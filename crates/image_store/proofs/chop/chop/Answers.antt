@@ -1,0 +1,12 @@
+use Rattle.image_store.proofs.Stored.{holds_none, stands_same, files_same}
+use Rattle.image_store.proofs.chop.chop.Goals as goal
+
+-- nothing was seen to
+pub returns-in_default-room-clause-holds : goal.returns-in_default-room-clause-holds
+returns-in_default-room-clause-holds g c = holds_none c.args.index.now _
+
+pub returns-in_default-room-clause-changed : goal.returns-in_default-room-clause-changed
+returns-in_default-room-clause-changed g c = stands_same c.args.index.now _ _ _
+
+pub returns-in_default-room-clause-files : goal.returns-in_default-room-clause-files
+returns-in_default-room-clause-files g c = files_same c.args.index.now _ _ _ _

@@ -1,0 +1,106 @@
+use Rattle.std.proofs.Common.{rules, ◌≡◌, ℕ, ◌+◌, ◌<◌, ◌≤◌, List, Option, IfSome, Result, Err, sym, ap, subst, ◌∙◌, arith}
+use Rattle.std.specs.Option.{option_map}
+use Rattle.caibx_codec.specs.Listing.{count_of, id_of, kind_of, slice_of}
+use Rattle.dsy_base.specs.Maps.{Map}
+use Rattle.image_store.specs.Chopping.{AsksListed, most_seen, seen_to}
+use Rattle.image_store.specs.PutChunks.{SaysAll, Stands, PutsFiles}
+use Rattle.image_store.specs.declared.chop.ChopFault.{ChopFault}
+use Rattle.image_store.proofs.Chopped.{right_more, asks_entry, asks_whole, seen_early, most_early}
+use Rattle.image_store.proofs.Stored.{stands_later, stands_more, holds_more, said_more, said_none, files_later, files_more, lacked_again, tells_on}
+use Rattle.image_store.proofs.chop.chop_entries.Goals as goal
+
+-- seeing to entry i ended early
+pub returns-in_err-chop_entry-clause-told : goal.returns-in_err-chop_entry-clause-told
+returns-in_err-chop_entry-clause-told g c =
+    let l = c.args.index.now in
+    let i = c.loop-i.i in
+    let fault = c.in_err-chop_entry.field-0.0 in
+    let answer : c.from_residual.result ≡ Err fault = search rules in
+    let said = g.S.Store.said c.chop_entry.new.store in
+    subst (λ (r : Result Unit ChopFault). SaysAll l (seen_to l r) said) (sym answer)
+    (seen_early l i (g.V.View.held c.loop-i.image).bytes (λ k. SaysAll l k said) fault c.in_err-chop_entry.ensures.err (said_none l said)
+    (λ k got e. subst (λ s. SaysAll l i (g.S.Store.said s)) (sym (c.chop_entry.ensures.untouched k got (c.in_err-chop_entry.was ∙ ap Err e))) c.loop-i.invariant.says))
+
+pub returns-in_err-chop_entry-clause-changed : goal.returns-in_err-chop_entry-clause-changed
+returns-in_err-chop_entry-clause-changed g c =
+    let l = c.args.index.now in
+    let i = c.loop-i.i in
+    let told = (g.V.View.held c.args.image.now).bytes in
+    let first = g.S.Store.holds c.args.store.now in
+    let now = g.S.Store.holds c.loop-i.store in
+    let new = g.S.Store.holds c.chop_entry.new.store in
+    let fault = c.in_err-chop_entry.field-0.0 in
+    let answer : c.from_residual.result ≡ Err fault = search rules in
+    let less : i + 1 ≤ count_of l = omega (arith, c.loop-i-test.true, c.count-i-end.ensures) in
+    let changed = rw c.loop-i.invariant.image at c.chop_entry.ensures.changed in
+    let stood : ℕ → Option (Map (List ℕ)) → Type 0 = λ k o. IfSome told (λ t. IfSome first (λ a. IfSome o (λ b. Stands l t k a b))) in
+    subst (λ (r : Result Unit ChopFault). stood (most_seen l r) new) (sym answer)
+    (most_early l i (g.V.View.held c.loop-i.image).bytes (λ k. stood k new) fault c.in_err-chop_entry.ensures.err
+    (λ k got e. subst (λ s. stood i (g.S.Store.holds s)) (sym (c.chop_entry.ensures.untouched k got (c.in_err-chop_entry.was ∙ ap Err e))) c.loop-i.invariant.stands)
+    (stands_later l told (i + 1) (count_of l) first new less (stands_more l told i first now new changed c.loop-i.invariant.stands)))
+
+pub returns-in_err-chop_entry-clause-files : goal.returns-in_err-chop_entry-clause-files
+returns-in_err-chop_entry-clause-files g c =
+    let l = c.args.index.now in
+    let i = c.loop-i.i in
+    let inv = c.loop-i.invariant in
+    let told = (g.V.View.held c.args.image.now).bytes in
+    let first = g.S.Store.holds c.args.store.now in
+    let now = g.S.Store.holds c.loop-i.store in
+    let files_first = g.S.Store.folder c.args.store.now in
+    let files_new = g.S.Store.folder c.chop_entry.new.store in
+    let fault = c.in_err-chop_entry.field-0.0 in
+    let answer : c.from_residual.result ≡ Err fault = search rules in
+    let less : i + 1 ≤ count_of l = omega (arith, c.loop-i-test.true, c.count-i-end.ensures) in
+    let files = rw inv.image at c.chop_entry.ensures.files in
+    subst (λ (r : Result Unit ChopFault). PutsFiles l told first (most_seen l r) files_first files_new) (sym answer)
+    (most_early l i (g.V.View.held c.loop-i.image).bytes (λ k. PutsFiles l told first k files_first files_new) fault c.in_err-chop_entry.ensures.err
+    (λ k got e. subst (λ s. PutsFiles l told first i files_first (g.S.Store.folder s)) (sym (c.chop_entry.ensures.untouched k got (c.in_err-chop_entry.was ∙ ap Err e))) inv.files)
+    (files_later l told first (i + 1) (count_of l) files_first files_new less
+    (files_more l told i first now files_first (g.S.Store.folder c.loop-i.store) files_new files (lacked_again l told i first now inv.tells inv.stands) inv.files)))
+
+pub returns-in_err-chop_entry-clause-asks : goal.returns-in_err-chop_entry-clause-asks
+returns-in_err-chop_entry-clause-asks g c =
+    let l = c.args.index.now in
+    let i = c.loop-i.i in
+    let first = g.S.Store.asked c.args.store.now in
+    let now = g.S.Store.asked c.loop-i.store in
+    let new = g.S.Store.asked c.chop_entry.new.store in
+    let fault = c.in_err-chop_entry.field-0.0 in
+    let answer : c.from_residual.result ≡ Err fault = search rules in
+    let less : i < count_of l = omega (arith, c.loop-i-test.true, c.count-i-end.ensures) in
+    subst (λ (r : Result Unit ChopFault). AsksListed l (most_seen l r) first new) (sym answer)
+    (most_early l i (g.V.View.held c.loop-i.image).bytes (λ k. AsksListed l k first new) fault c.in_err-chop_entry.ensures.err
+    (λ k got e. subst (λ s. AsksListed l i first (g.S.Store.asked s)) (sym (c.chop_entry.ensures.untouched k got (c.in_err-chop_entry.was ∙ ap Err e))) c.loop-i.invariant.asks)
+    (asks_whole l (i + 1) first new (omega (arith, less)) (asks_entry l i first now new less c.chop_entry.ensures.asks c.loop-i.invariant.asks)))
+
+pub loop-i-preserved : goal.loop-i-preserved
+loop-i-preserved g c =
+    let l = c.args.index.now in
+    let i = c.loop-i.i in
+    let inv = c.loop-i.invariant in
+    let told = (g.V.View.held c.args.image.now).bytes in
+    let first = g.S.Store.holds c.args.store.now in
+    let now = g.S.Store.holds c.loop-i.store in
+    let new = g.S.Store.holds c.chop_entry.new.store in
+    let files_first = g.S.Store.folder c.args.store.now in
+    let less : i < count_of l = omega (arith, c.loop-i-test.true, c.count-i-end.ensures) in
+    let ok = c.in_ok-chop_entry.ensures in
+    let slice = option_map (λ t. slice_of l t i) (g.V.View.held c.loop-i.image).bytes in
+    let changed = rw inv.image at ok.changed in
+    let files = rw inv.image at ok.files in
+    let right = rw inv.image at ok.right in
+    record {
+      right = right_more l told i right inv.right;
+      holds = holds_more l slice i now new ok.changed ok.ok inv.holds;
+      says = said_more l i (g.S.Store.said c.loop-i.store) (g.S.Store.said c.chop_entry.new.store) ok.said ok.told inv.says;
+      stands = stands_more l told i first now new changed inv.stands;
+      files = files_more l told i first now files_first (g.S.Store.folder c.loop-i.store) (g.S.Store.folder c.chop_entry.new.store) files (lacked_again l told i first now inv.tells inv.stands) inv.files;
+      asks = asks_entry l i (g.S.Store.asked c.args.store.now) (g.S.Store.asked c.loop-i.store) (g.S.Store.asked c.chop_entry.new.store) less ok.asks inv.asks;
+      tells = tells_on (kind_of l) (id_of l i) slice now new ok.changed ∙ inv.tells;
+      queries = ok.queries ∙ inv.queries;
+      image = ok.kept ∙ inv.image;
+      place = ok.place ∙ inv.place;
+      image_faults = ok.image_faults.done ∙ inv.image_faults;
+      store_faults = omega (arith, ok.store_faults.never_falls, inv.store_faults);
+    }
