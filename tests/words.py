@@ -163,7 +163,7 @@ def is_built(said):
         return False
     if said.command == 'extract':
         return bool(said.given['in place']) and not said.given['cache']
-    return said.command in ('make', 'verify-index', 'list-chunks', 'info')
+    return said.command in ('make', 'verify-index', 'chop', 'list-chunks', 'info')
 
 
 def text_of(said):

@@ -13,13 +13,15 @@ desync keeps images as chunks in a store, and an index of each image.
       make a file the image that an index lists
   desync verify-index [-n WORKERS] INDEX IMAGE
       check that a file is the image that an index lists
+  desync chop -s FOLDER [-n WORKERS] INDEX IMAGE
+      put the chunks of an image that an index lists into a store
   desync list-chunks INDEX
       print the id of each chunk that an index lists
   desync info [-s FOLDER..] INDEX
       print how many chunks an index lists, their sizes, and how many are there
 
 Options and names may be mixed; `--` ends options. MIN, AVG and MAX are sizes
-in KiB. These commands are read and not built yet: chop, cache, verify, prune,
+in KiB. These commands are read and not built yet: cache, verify, prune,
 chunk-server, demo.
 
 `desync COMMAND --help` tells more of a command, `desync --version` the version.
@@ -72,7 +74,8 @@ example: desync verify-index disk.caibx disk.img
 pub const CHOP: &str = "\
 usage: desync chop -s FOLDER [-n WORKERS] INDEX IMAGE
 
-Puts the chunks of IMAGE that INDEX lists into the store. Not built yet.
+Puts the chunks of IMAGE that INDEX lists into the store, up to the first that
+isn't IMAGE's. What the store holds already is left where it is right.
 
   -s, --store FOLDER            the store: the folder that takes the chunks
   -n, --concurrency WORKERS     1 to 32 workers; for now one does all

@@ -18,6 +18,7 @@ use Rattle.command_steps.specs.Steps.{Passed, answer_of, outcome_of}
 use Rattle.command_steps.specs.Worlds.{FileRose, FolderRose, NoFault, World}
 use Rattle.command_steps.proofs.Fair.{IsFair, IsLeft, IsRefusal, IsStep, adds, between, bound, first_failed, first_fair, image_step, index_step, indexes_step, on_disk, on_out, opened_step, printed_step, pure_step, reads, round, taken_step, whole, writes}
 use Rattle.command_steps.proofs.Numbers.{rose_not_quiet}
+use Rattle.desync_cli.specs.Chop.{ImageChopped}
 use Rattle.desync_cli.specs.Commands.{DesyncEnds, Ends, NoCommand, TellsRefusal, WordsRead, built_in, command_of, is_built, parts, refusal_in, refusal_of, spares}
 use Rattle.desync_cli.specs.Extract.{ImageMade, LacksEntry, Seeds}
 use Rattle.desync_cli.specs.Info.{IdsCounted, NotAsked}
@@ -67,6 +68,14 @@ module _ (s : Spares) (x : Parts) (p : Output) where
   stored_fair z told q held same d e ends.Memory h = (tt, tt)
   stored_fair z told q held same d e other h = absurd h.0
 
+  chopped_fair : (l : Listing) (told : Option (List ℕ)) (q : List ℕ) (held : Option (Map (List ℕ))) → name_at x.stores 0 ≡ q → (d e : Disk) (o : Outcome) → ImageChopped l x.image told q held d (Err o) e → IsFair x o (round p d) (round p e)
+  chopped_fair l told q held same d e (ends.Length n) h = (tt, tt)
+  chopped_fair l told q held same d e (ends.Mismatch k got) h = (tt, tt)
+  chopped_fair l told q held same d e ends.ImageFault h = (tt, h.0.1)
+  chopped_fair l told q held same d e (ends.StoreFault k) h = (tt, subst (λ n. FolderRose d e (name_at x.stores n)) (sym h.0.0) (subst (λ n. FolderRose d e n) (sym same) h.0.2))
+  chopped_fair l told q held same d e ends.Memory h = (tt, tt)
+  chopped_fair l told q held same d e other h = absurd h.0
+
   written_fair : (q bytes : List ℕ) (d e : Disk) (o : Outcome) → IndexWritten q bytes d (Err o) e → IsFair x o (round p d) (round p e)
   written_fair q bytes d e (ends.FileFault name) h = (tt, inl (subst (λ n. FileRose d e n) (sym h.0.0) h.0.1))
   written_fair q bytes d e ends.Memory h = (tt, tt)
@@ -80,6 +89,13 @@ stored_step : (f o : Bool) (x : Parts) (p : Output) (z : Sizes) (told : Option (
 stored_step f o x p z told q held same = record { fair = stored_fair (record { files = f; folders = false; out = o }) x p z told q held same; leaves = leaves } where
   leaves : (d e : Disk) (r : Result (List ℕ) Outcome) → ImageStored z x.image told q held d r e → IsLeft (record { files = f; folders = false; out = o }) (round p d) (round p e)
   leaves d e (Ok bytes) h = adds p h.2
+  leaves d e (Err r) h = adds p h.1
+
+chopped_step : (f o : Bool) (x : Parts) (p : Output) (l : Listing) (told : Option (List ℕ)) (q : List ℕ) (held : Option (Map (List ℕ))) → name_at x.stores 0 ≡ q
+    → IsStep (round p) (record { files = f; folders = false; out = o }) x (ImageChopped l x.image told q held)
+chopped_step f o x p l told q held same = record { fair = chopped_fair (record { files = f; folders = false; out = o }) x p l told q held same; leaves = leaves } where
+  leaves : (d e : Disk) (r : Result Unit Outcome) → ImageChopped l x.image told q held d r e → IsLeft (record { files = f; folders = false; out = o }) (round p d) (round p e)
+  leaves d e (Ok u) h = adds p h.2
   leaves d e (Err r) h = adds p h.1
 
 written_step : (f o : Bool) (x : Parts) (p : Output) (q bytes : List ℕ) → IsStep (round p) (record { files = false; folders = f; out = o }) x (IndexWritten q bytes)
@@ -97,6 +113,7 @@ judged_fair x sizes other w v h = absurd h
 command_step : (c : Command) → IsStep whole (spares c) (parts c) (Ends c)
 command_step (commands.Make store sizes workers index image) = bound (pure_step (SizesJudged sizes) (judged_fair (parts (commands.Make store sizes workers index image)) sizes)) (λ z. bound (on_disk (λ p. image_step _ _ p)) (λ told. bound (on_disk (λ p. taken_step _ _ _ p (name_of store))) (λ held. bound (on_disk (λ p. stored_step _ _ _ p z told (name_of store) held refl)) (λ bytes. on_disk (λ p. written_step _ _ _ p index bytes)))))
 command_step (commands.VerifyIndex index image) = bound (on_disk (λ p. index_step _ _ p index)) (λ l. bound (on_disk (λ p. image_step _ _ p)) (λ told. on_disk (λ p. checked_step _ _ p l told)))
+command_step (commands.Chop store index image) = bound (on_disk (λ p. index_step _ _ p index)) (λ l. bound (on_disk (λ p. image_step _ _ p)) (λ told. bound (on_disk (λ p. taken_step _ _ _ p (name_of store))) (λ held. on_disk (λ p. chopped_step _ _ _ p l told (name_of store) held refl))))
 command_step (commands.ListChunks index) = bound (on_disk (λ p. index_step _ _ p index)) (λ l. on_out (λ d. printed_step _ _ _ d (text_of_chunks l)))
 command_step (commands.Extract stores seeds cache in_place workers index target) = bound (on_disk (λ p. index_step _ _ p index)) (λ l. bound (on_disk (λ p. indexes_step _ _ p seeds)) (λ ls. bound (on_disk (λ p. opened_step _ _ p)) (λ u. on_disk (λ p. assembled_step _ _ _ p l (record { images = map image_name seeds; listings = ls })))))
 command_step (commands.Info stores index) = bound (on_disk (λ p. index_step _ _ p index)) (λ l. bound (on_disk (λ p. counted_step _ _ p l)) (λ n. on_out (λ d. printed_step _ _ _ d (text_of_info l n))))

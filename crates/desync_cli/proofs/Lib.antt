@@ -1,4 +1,5 @@
 pub mod Assembled
+pub mod Chopped
 pub mod Counting
 pub mod Done
 pub mod Extracted

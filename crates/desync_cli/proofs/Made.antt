@@ -14,7 +14,7 @@ use Rattle.dsy_base.specs.Maps.{Map, at_name}
 use Rattle.image_store.specs.PutChunks.{Stands}
 
 -- an id that isn't listed holds what it held
-others_stay : (l : Listing) (t : List ℕ) (old new : Map (List ℕ)) → Stands l t (count_of l) old new → (id : List ℕ) → ((i : ℕ) → i < count_of l → id_of l i ≢ id) → new id ≡ old id
+pub others_stay : (l : Listing) (t : List ℕ) (old new : Map (List ℕ)) → Stands l t (count_of l) old new → (id : List ℕ) → ((i : ℕ) → i < count_of l → id_of l i ≢ id) → new id ≡ old id
 others_stay l t old new stands id other = elim (stands id) [
   | inl same ↦ same
   | inr s ↦ absurd (other s.entry s.below (sym s.id))

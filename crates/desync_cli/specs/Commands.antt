@@ -12,6 +12,7 @@ use Rattle.command_line.specs.declared.usage.WordsFault.{WordsFault}
 use Rattle.command_line.specs.declared.usage.WordsFault.TheVariants as faults
 use Rattle.command_outcome.specs.declared.outcome.Outcome.{Outcome}
 use Rattle.command_outcome.specs.declared.outcome.Outcome.TheVariants as ends
+use Rattle.desync_cli.specs.Chop.{ChopEnds, IsChopped}
 use Rattle.desync_cli.specs.Extract.{ExtractEnds, IsExtracted}
 use Rattle.desync_cli.specs.Info.{InfoEnds}
 use Rattle.desync_cli.specs.ListChunks.{ListChunksEnds}
@@ -29,6 +30,7 @@ use Rattle.desync_cli.specs.VerifyIndex.{IsVerified, VerifyIndexEnds}
 abbrev pub is_built : Command → Bool
 is_built (commands.Make store sizes workers index image) = is_folder store
 is_built (commands.VerifyIndex index image) = true
+is_built (commands.Chop store index image) = is_folder store
 is_built (commands.ListChunks index) = true
 is_built (commands.Extract stores seeds cache in_place workers index target) =
     in_place && nat_le (length seeds) 64 && not (is_some cache) && nat_le 1 (length stores) &&
@@ -43,6 +45,7 @@ is_built other = false
 abbrev pub Ends : Command → Step World Unit
 Ends (commands.Make store sizes workers index image) = MakeEnds store sizes index image
 Ends (commands.VerifyIndex index image) = VerifyIndexEnds index image
+Ends (commands.Chop store index image) = ChopEnds store index image
 Ends (commands.ListChunks index) = ListChunksEnds index
 Ends (commands.Extract stores seeds cache in_place workers index target) = ExtractEnds stores seeds index target
 Ends (commands.Info stores index) = InfoEnds stores index
@@ -55,6 +58,7 @@ Ends other = λ w r v. ⊥
 abbrev pub spares : Command → Spares
 spares (commands.Make store sizes workers index image) = record { files = false; folders = false; out = true }
 spares (commands.VerifyIndex index image) = record { files = true; folders = true; out = true }
+spares (commands.Chop store index image) = record { files = true; folders = false; out = true }
 spares (commands.Extract stores seeds cache in_place workers index target) = record
     { files = false; folders = true; out = true }
 spares other = record { files = true; folders = true; out = false }
@@ -64,6 +68,8 @@ abbrev pub parts : Command → Parts
 parts (commands.Make store sizes workers index image) = record
     { image = image; stores = name_of store ∷ []; target = [] }
 parts (commands.VerifyIndex index image) = record { image = image; stores = []; target = [] }
+parts (commands.Chop store index image) = record
+    { image = image; stores = name_of store ∷ []; target = [] }
 parts (commands.Extract stores seeds cache in_place workers index target) = record
     { image = []; stores = names_of stores; target = target }
 parts (commands.Info stores index) = record { image = []; stores = names_of stores; target = [] }
@@ -75,6 +81,9 @@ Achieves (commands.Make store sizes workers index image) w v =
     IfSome w.disk.files (λ b. IfSome w.disk.folders (λ f. IfSome v.disk.files (λ a. IfSome v.disk.folders (λ g.
     IsMade b f a g (name_of store) sizes index image))))
 Achieves (commands.VerifyIndex index image) w v = IfSome w.disk.files (λ m. IsVerified m index image)
+Achieves (commands.Chop store index image) w v =
+    IfSome w.disk.files (λ b. IfSome w.disk.folders (λ f. IfSome v.disk.folders (λ g.
+    IsChopped b f g (name_of store) index image)))
 Achieves (commands.Extract stores seeds cache in_place workers index target) w v =
     IfSome w.disk.files (λ b. IfSome v.disk.files (λ a. IsExtracted b a index target))
 Achieves other w v = Ends other w (Ok tt) v

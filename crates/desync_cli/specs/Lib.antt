@@ -1,3 +1,4 @@
+pub mod Chop
 pub mod Commands
 pub mod Extract
 pub mod Info

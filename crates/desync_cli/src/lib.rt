@@ -1,8 +1,11 @@
 //! The commands of desync, over files and folders as traits.
 #![tactic(auto)]
 
+mod beside;
 #[cfg(test)]
 mod cases;
+#[cfg(test)]
+mod chop_tests;
 pub mod command;
 pub mod in_memory;
 #[cfg(test)]

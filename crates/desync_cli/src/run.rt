@@ -11,6 +11,7 @@ ghost use Rattle.desync_cli.specs.Lines.{TakesLine};
 ghost use Rattle.command_steps.specs.Steps.{answer_of, outcome_of};
 ghost use Rattle.command_steps.specs.Worlds.{NoFault, world};
 
+use crate::command::chop::chop;
 use crate::command::extract::extract;
 use crate::command::help::help;
 use crate::command::info::info;
@@ -60,8 +61,12 @@ fn perform<F: Files, O: Sink>(
         Command::Help => help(out, Topic::All),
         Command::Version => help(out, Topic::Version),
         Command::HelpOn(kind) => help(out, Topic::Command(kind)),
-        Command::Chop { .. }
-        | Command::Cache { .. }
+        Command::Chop {
+            store,
+            index,
+            image,
+        } => chop(alloc, files, store, index, image),
+        Command::Cache { .. }
         | Command::Verify { .. }
         | Command::Prune { .. }
         | Command::ChunkServer { .. }

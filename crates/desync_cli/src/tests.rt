@@ -155,7 +155,7 @@ fn other_words_are_refused_by_place_and_reason(rt: HostRuntime) -> Result<(), Fa
     ends(&rt, alloc, "make -s http://h/ a b", &mut files, "", "desync: word 0: NotYet\n")?;
     ends(&rt, alloc, "extract -s st a b", &mut files, "", "desync: word 0: NotYet\n")?;
     ends(&rt, alloc, "prune -s st a", &mut files, "", "desync: word 4: NeedsYes\n")?;
-    ends(&rt, alloc, "chop -s st a b", &mut files, "", "desync: word 0: NotYet\n")
+    ends(&rt, alloc, "chop -s http://h/ a b", &mut files, "", "desync: word 0: NotYet\n")
 }
 
 // Extracts "abc" with a seed whose image holds these bytes, or isn't there, from a store with these chunks.

@@ -35,7 +35,7 @@ fn is_built(command: &Command) -> bool
                 && stores.len() <= 16
                 && are_folders(stores)
         }
-        Command::Make { store, .. } => is_folder(store),
+        Command::Make { store, .. } | Command::Chop { store, .. } => is_folder(store),
         Command::Info { stores, .. } => stores.as_slice().len() <= 16
             && are_folders(stores.as_slice()),
         _ => false,

@@ -1,18 +1,19 @@
 //! `make -s STORE INDEX IMAGE`: INDEX becomes the index of IMAGE, and STORE holds each of its chunks.
 
-ghost use Rattle.std.specs.Prelude.{◌≡◌, IfErr, IfOk, IsSome, OnErr, OnOk};
+ghost use Rattle.std.specs.Prelude.{◌≡◌, IfErr, IfOk, IsSome};
 ghost use Rattle.command_steps.specs.AnyStores.{faults_in, files_in, place_in};
-ghost use Rattle.command_steps.specs.Stores.{IsStoreAt, IsTaken, NotReached, name_of};
-ghost use Rattle.command_steps.specs.Worlds.{Reads, world};
+ghost use Rattle.command_steps.specs.Stores.{name_of};
+ghost use Rattle.command_steps.specs.Worlds.{world};
 ghost use Rattle.desync_cli.specs.Make.{ImageStored, IndexWritten, MakeEnds, SizesJudged};
 ghost use Rattle.dsy_base.specs.Disk.{Output};
 
+use crate::beside::take_beside;
 use buzhash_cut::sizes::CutSizes;
 use command_line::command::Location;
 use command_outcome::outcome::Outcome;
 use command_steps::any_store::AnyStore;
 use command_steps::openings::open_image;
-use command_steps::stores::{give_store, take_store};
+use command_steps::stores::give_store;
 use dsy_base::fault::IoFault;
 use dsy_base::files::Files;
 use dsy_base::folder::Folder;
@@ -30,30 +31,6 @@ fn judge(sizes: [u64; 3]) -> Result<CutSizes, Outcome>
     match CutSizes::new(sizes[0], sizes[1], sizes[2]) {
         Ok(sizes) => Ok(sizes),
         Err(fault) => Err(Outcome::Sizes(fault)),
-    }
-}
-
-// Takes the store's folder while the image is open, which is given back where it isn't reached.
-fn take_beside<F: Files>(
-    alloc: Global,
-    files: &mut F,
-    view: F::View,
-    store: &Location,
-) -> Result<(F::View, AnyStore<F::Folder>), Outcome>
-    requires known { IsSome ((F.disk files.old).file_counts (F.View.held view).name) }
-    ensures ok { IfOk result (λ r. (r.0 ≡ view) × IsStoreAt (files_in F.Folder.files) (place_in F.Folder.place)
-        (faults_in F.Folder.faults) (F.disk files.old).folders (name_of store.now) r.1) }
-    ensures changed { OnOk result (IsTaken (F.disk files.old) (F.disk files.new) (name_of store.now)) }
-    ensures known { OnOk result (IsSome ((F.disk files.new).folder_counts (name_of store.now))) }
-    ensures err { IfErr result (NotReached (F.disk files.old) (F.disk files.new) (name_of store.now)) }
-    ensures kept { OnErr result (Reads (F.disk files.old) (F.disk files.new)) }
-{
-    match take_store(alloc, files, store) {
-        Ok(taken) => Ok((view, taken)),
-        Err(outcome) => {
-            files.end_view(view);
-            Err(outcome)
-        }
     }
 }
 

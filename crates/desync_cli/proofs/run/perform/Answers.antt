@@ -8,3 +8,6 @@ returns-in-VerifyIndex g c = record { ends = rw c.in-VerifyIndex.is (c.verify_in
 
 pub returns-in-Extract : goal.returns-in-Extract
 returns-in-Extract g c = record { ends = rw c.in-Extract.is (c.extract.ensures.ends _) }
+
+pub returns-in-Chop : goal.returns-in-Chop
+returns-in-Chop g c = record { ends = rw c.in-Chop.is (c.chop.ensures.ends _) }

@@ -1,0 +1,61 @@
+use Rattle.std.proofs.Common.{ℕ, List, Ok, Err, inr, refl, subst}
+use Rattle.std.proofs.lemmas.Result.{err_from_is_err_and}
+use Rattle.command_steps.specs.AnyStores.{files_in}
+use Rattle.command_steps.specs.Stores.{name_of}
+use Rattle.desync_cli.specs.Chop.{ImageChopped}
+use Rattle.desync_cli.proofs.command.chop.chop.Goals as goal
+
+pub returns-in_err-chop_between : goal.returns-in_err-chop_between
+returns-in_err-chop_between g c =
+    let p = err_from_is_err_and c.from_residual-in_err-chop_between.result c.from_residual-in_err-chop_between.ensures.1 in
+    let at = g.F.Files.disk in
+    let held = g.F.View.View.held in
+    let listed = c.in_ok-listed.ensures in
+    let view = c.in_ok-view.ensures in
+    let took = c.in_ok-view-2.ensures in
+    let l = c.in_ok-listed.listed in
+    let files = files_in g.F.Folder.Look.files c.in_ok-view-2.taken in
+    let of_view = subst (λ v. ImageChopped l (held v).name (held v).bytes (name_of c.args.store) files (at c.take_beside.new.files) (Err c.in_err-chop_between.field-0.0) (at c.chop_between.new.files)) took.ok.0 c.in_err-chop_between.ensures in
+    let chopped = subst (λ (n : List ℕ). ImageChopped l n (held c.in_ok-view.view).bytes (name_of c.args.store) files (at c.take_beside.new.files) (Err c.in_err-chop_between.field-0.0) (at c.chop_between.new.files)) view.fresh.1 of_view in
+    record {
+      ends = λ o. rw (p.1, p.2) (inr (record {
+        disk = _;
+        out = _;
+        gave = l;
+        did = ((listed.ok, listed.kept), refl);
+        then = inr (record {
+          disk = _;
+          out = _;
+          gave = _;
+          did = ((view.ok, view.kept), refl);
+          then = inr (record { disk = _; out = _; gave = files; did = ((took.ok.1.found, took.changed), refl); then = (chopped, refl) });
+        });
+      }));
+    }
+
+pub returns : goal.returns
+returns g c =
+    let at = g.F.Files.disk in
+    let held = g.F.View.View.held in
+    let listed = c.in_ok-listed.ensures in
+    let view = c.in_ok-view.ensures in
+    let took = c.in_ok-view-2.ensures in
+    let l = c.in_ok-listed.listed in
+    let files = files_in g.F.Folder.Look.files c.in_ok-view-2.taken in
+    let of_view = subst (λ v. ImageChopped l (held v).name (held v).bytes (name_of c.args.store) files (at c.take_beside.new.files) (Ok tt) (at c.chop_between.new.files)) took.ok.0 c.in_ok-chop_between.ensures in
+    let chopped = subst (λ (n : List ℕ). ImageChopped l n (held c.in_ok-view.view).bytes (name_of c.args.store) files (at c.take_beside.new.files) (Ok tt) (at c.chop_between.new.files)) view.fresh.1 of_view in
+    record {
+      ends = λ o. record {
+        disk = _;
+        out = _;
+        gave = l;
+        did = ((listed.ok, listed.kept), refl);
+        then = record {
+          disk = _;
+          out = _;
+          gave = _;
+          did = ((view.ok, view.kept), refl);
+          then = record { disk = _; out = _; gave = files; did = ((took.ok.1.found, took.changed), refl); then = (chopped, refl) };
+        };
+      };
+    }
