@@ -162,7 +162,7 @@ def is_built(said):
     if any(location(store) == 'url' for store in said.given['store']):
         return False
     if said.command == 'extract':
-        return bool(said.given['in place']) and not said.given['cache']
+        return not said.given['cache']
     return said.command in ('make', 'verify-index', 'chop', 'list-chunks', 'info')
 
 

@@ -9,7 +9,7 @@ desync keeps images as chunks in a store, and an index of each image.
 
   desync make -s FOLDER [-m MIN:AVG:MAX] [-n WORKERS] INDEX IMAGE
       cut an image into chunks, store them and write its index
-  desync extract -k -s FOLDER.. [--seed INDEX..] [-n WORKERS] INDEX OUT
+  desync extract [-k] -s FOLDER.. [--seed INDEX..] [-n WORKERS] INDEX OUT
       make a file the image that an index lists
   desync verify-index [-n WORKERS] INDEX IMAGE
       check that a file is the image that an index lists
@@ -44,10 +44,12 @@ example: desync make -s chunks disk.caibx disk.img
 
 /// The text of `extract --help`.
 pub const EXTRACT: &str = "\
-usage: desync extract -k -s FOLDER.. [--seed INDEX..] [-n WORKERS] INDEX OUT
+usage: desync extract [-k] -s FOLDER.. [--seed INDEX..] [-n WORKERS] INDEX OUT
 
-Makes the file OUT the image that INDEX lists. What OUT holds already is kept
-where it is right. A call without -k, or with -c, is read and not built yet.
+Makes the file OUT the image that INDEX lists: by way of a temporary file,
+OUT.tmp-desync, which takes OUT's name once it is right; or with -k in place,
+and what OUT holds already is kept where it is right. A call with -c is read
+and not built yet.
 
   -k, --in-place                write OUT in place
   -s, --store FOLDER            a store of chunks; 1 to 16, asked in order

@@ -1,6 +1,6 @@
 -- What a step leaves, and what its refusals tell: none is Done, and a fault that is told has raised its count. Proved once a
 -- step, and composed.
-use Rattle.std.proofs.Common.{◌≡◌, ◌∙◌, ◌+◌, ◌≤◌, ℕ, zero, suc, Bool, true, false, List, [], ◌∷◌, Option, Result, Ok, Err, refl, sym, subst, inl, inr, arith}
+use Rattle.std.proofs.Common.{◌≡◌, ◌∙◌, ◌+◌, ◌≤◌, ℕ, zero, suc, Bool, false, List, [], ◌∷◌, Option, Result, Ok, Err, refl, sym, subst, inl, inr, arith}
 use Rattle.std.specs.Map.{count_at}
 use Rattle.caibx_codec.specs.Listing.{Listing, count_of}
 use Rattle.command_outcome.specs.declared.outcome.Outcome.{Outcome}
@@ -12,7 +12,7 @@ use Rattle.command_steps.specs.Seeds.{IndexesRead, NoneListed}
 use Rattle.command_steps.specs.Steps.{◌>>=◌, Passed, each, nothing}
 use Rattle.command_steps.specs.Stores.{FailsFirst, NoneReached, NotReached, StoreTaken, StoresOpened}
 use Rattle.command_steps.specs.Worlds.{Adds, FileRose, FolderRose, OnDisk, OnOut, Pure, Reads, Step, World, Writes, world}
-use Rattle.command_steps.proofs.Numbers.{rose_later}
+use Rattle.command_steps.proofs.Numbers.{rose_later, rose_longer}
 use Rattle.dsy_base.specs.Disk.{Disk, Output}
 use Rattle.dsy_base.specs.Maps.{Map}
 
@@ -68,6 +68,24 @@ fair_earlier {s} w u v x o a h = (h.0, go o h.1) where
   go (ends.FileFault name) (inl r) = inl (file name r)
   go (ends.FileFault name) (inr r) = inr (folder name r)
   go ends.OutFault r = rose_later w.out.faults u.out.faults v.out.faults a.out r
+  go other r = r
+
+-- a fault before other steps is one over all of them
+pub fair_longer : {s : Spares} (w v u : World) (x : Parts) (o : Outcome) → IsLeft s v u → IsFair x o w v → IsFair x o w u
+fair_longer {s} w v u x o a h = (h.0, go o h.1) where
+  file : (q : List ℕ) → FileRose w.disk v.disk q → FileRose w.disk u.disk q
+  file q r = rose_longer (count_at w.disk.file_counts q) (count_at v.disk.file_counts q) (count_at u.disk.file_counts q) (a.files q) r
+
+  folder : (q : List ℕ) → FolderRose w.disk v.disk q → FolderRose w.disk u.disk q
+  folder q r = rose_longer (count_at w.disk.folder_counts q) (count_at v.disk.folder_counts q) (count_at u.disk.folder_counts q) (a.folders q) r
+
+  go : (o : Outcome) → Blames x o w v → Blames x o w u
+  go ends.ImageFault r = file x.image r
+  go (ends.StoreFault s) r = folder (name_at x.stores s) r
+  go ends.TargetFault r = file x.target r
+  go (ends.FileFault name) (inl r) = inl (file name r)
+  go (ends.FileFault name) (inr r) = inr (folder name r)
+  go ends.OutFault r = rose_longer w.out.faults v.out.faults u.out.faults a.out r
   go other r = r
 
 abbrev pub whole : World → World

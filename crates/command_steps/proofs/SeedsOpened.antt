@@ -1,16 +1,14 @@
 -- Images of seeds that are opened in order.
-use Rattle.std.proofs.Common.{◌≡◌, ◌⊎◌, ℕ, ◌<◌, ◌≤◌, List, [], ◌∷◌, ◌++◌, map, Option, Some, None, IfSome, IsSome, unwrap_or, refl, sym, ap, subst, ◌∙◌, inl, inr, arith}
+use Rattle.std.proofs.Common.{◌≡◌, ℕ, List, [], ◌∷◌, ◌++◌, map, Option, Some, None, IfSome, refl, sym, ap, subst, ◌∙◌, inl, inr, arith}
 use Rattle.std.proofs.lemmas.List.{append-nil, append_assoc, map-append}
 use Rattle.std.specs.List.{AllZip}
 use Rattle.std.specs.Map.{count_at}
 use Rattle.std.specs.Option.{option_map}
 use Rattle.command_steps.proofs.Numbers.{rose_later, rose_longer}
 use Rattle.command_steps.specs.Seeds.{IsSeedAt, IsViewed, OpensSeeds}
-use Rattle.command_steps.specs.Worlds.{FileRose, Reads}
+use Rattle.command_steps.specs.Worlds.{Reads}
 use Rattle.dsy_base.specs.Bytes.{Held}
-use Rattle.dsy_base.specs.Counts.{Rose}
 use Rattle.dsy_base.specs.Disk.{Disk}
-use Rattle.dsy_base.specs.Maps.{Map}
 use Rattle.extract_plan.specs.Seeds.{faults_in, held_in}
 use Rattle.extract_plan.specs.declared.seed.Seed.{Seed}
 

@@ -1,8 +1,7 @@
 -- Seeds' names, and their indexes that are read in order.
-use Rattle.std.proofs.Common.{◌≡◌, ◌≢◌, ◌⊎◌, ℕ, ◌+◌, ◌-◌, ◌<◌, ◌≤◌, List, [], ◌∷◌, ◌++◌, length, take, drop, codes, Bool, true, false, cond, Option, Some, None, IfSome, refl, sym, ap, subst, ◌∙◌, inl, inr, arith}
+use Rattle.std.proofs.Common.{◌≡◌, ◌≢◌, ℕ, ◌+◌, ◌-◌, ◌≤◌, List, [], ◌∷◌, ◌++◌, length, take, drop, codes, Bool, true, false, cond, Some, None, IfSome, refl, sym, ap, subst, ◌∙◌, inl, inr}
 use Rattle.std.proofs.lemmas.List.{append_assoc, take-append-drop}
 use Rattle.std.proofs.lemmas.Slice.Eq.{bytes_eq-Decides}
-use Rattle.std.specs.List.{AllZip}
 use Rattle.std.specs.Map.{count_at}
 use Rattle.std.specs.Str.{bytes_eq}
 use Rattle.caibx_codec.specs.Listing.{Listing, count_of}
@@ -11,9 +10,8 @@ use Rattle.command_outcome.specs.declared.outcome.Outcome.TheVariants as ends
 use Rattle.command_steps.proofs.Numbers.{rose_later}
 use Rattle.command_steps.specs.Openings.{IsBad, IsListed, Listed, NotRead}
 use Rattle.command_steps.specs.Seeds.{AllListed, NoneListed, image_name, items_with}
-use Rattle.command_steps.specs.Worlds.{FileRose, Reads}
+use Rattle.command_steps.specs.Worlds.{Reads}
 use Rattle.dsy_base.specs.Disk.{Disk}
-use Rattle.dsy_base.specs.Maps.{Map}
 use Rattle.extract_plan.specs.Places.{seed_item_limit}
 
 -- a name that doesn't end so is kept

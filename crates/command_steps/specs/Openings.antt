@@ -1,5 +1,5 @@
 -- Reading an index, and opening an image.
-use Rattle.std.specs.Prelude.{◌≡◌, ℕ, List, Option, Some, None, IfSome, Result, Ok, Err}
+use Rattle.std.specs.Prelude.{◌≡◌, ℕ, List, Option, Some, None, IfSome, Ok, Err}
 use Rattle.caibx_codec.specs.Listing.{Listing}
 use Rattle.caibx_codec.specs.Reading.{index_in}
 use Rattle.caibx_codec.specs.Spelling.{IsIndexFile}

@@ -1,6 +1,6 @@
 -- Stores that are opened in order. A store is seen by its folder's files, its place and its faults.
 use Rattle.std.specs.Prelude.{◌≡◌, ◌⊎◌, ℕ, ◌&&◌, Bool, true, false, List, [], ◌∷◌, ◌++◌, map, Option, Some, None}
-use Rattle.std.specs.Prelude.{IfSome, IsSome, All, Result, Ok, Err}
+use Rattle.std.specs.Prelude.{IfSome, IsSome, All, Ok, Err}
 use Rattle.std.specs.Option.{option_map}
 use Rattle.chunk_store.specs.Folders.{chunks}
 use Rattle.command_line.specs.declared.command.Location.{Location}

@@ -1,5 +1,5 @@
 -- What an assembly over taken files and folders makes of the answer.
-use Rattle.std.proofs.Common.{ap, arith, ◌⊎◌, Bool, true, false, cond, is_some, unwrap_or, ◌≡◌, ℕ, ◌<◌, List, [], map, Option, Some, None, IfSome, IfErr, refl, subst, ◌∙◌, sym, inl, inr, Result, Ok, Err}
+use Rattle.std.proofs.Common.{ap, arith, ◌⊎◌, Bool, true, false, cond, is_some, unwrap_or, ◌≡◌, ℕ, ◌<◌, List, map, Option, Some, None, IfSome, IfErr, refl, subst, ◌∙◌, sym, inl, inr, Result, Ok, Err}
 use Rattle.assembler.specs.Assemblies.{After, Assembles, IsObtainable, KeepsBase, RightAlike, Verdict}
 use Rattle.assembler.specs.Fills.{WhereTold}
 use Rattle.assembler.specs.Losses.{chunk_of}
@@ -24,7 +24,7 @@ use Rattle.store_chain.specs.Giving.{LacksAll}
 use Rattle.store_chain.specs.declared.refused.Refused.{Refused}
 use Rattle.store_chain.specs.declared.refused.Refused.TheVariants as refused
 use Rattle.desync_cli.proofs.Seeded.{given_had, had_given}
-use Rattle.desync_cli.specs.Extract.{Assembled, CanBeHad, IsLacking, Leaves, SeedHas, Seeds, StopsFailed, StopsSomewhere, Told, answer_of_assembly, answer_of_taking, base_of, old_of}
+use Rattle.desync_cli.specs.Extract.{Assembled, CanBeHad, Into, IsLacking, Leaves, SeedHas, Seeds, StopsFailed, StopsSomewhere, Told, answer_of_assembly, answer_of_taking, base_of, old_of}
 use Rattle.command_steps.specs.Seeds.{IsViewed}
 use Rattle.command_steps.specs.Worlds.{DiskQuiet, FileRose}
 
@@ -115,14 +115,14 @@ abbrev pub TargetAs : Type 0 → ExtractFault → Type 0
 TargetAs P faults.TargetFault = P
 TargetAs P other = Unit {0}
 
-module _ (d e : Disk) (names : List (List ℕ)) (out : List ℕ) (l : Listing) (x : Seeds) where
+module _ (d e : Disk) (names : List (List ℕ)) (out : Into) (l : Listing) (x : Seeds) where
   -- where all is told
   pub record Facts (r : Result Report ExtractFault) (b : Map (List ℕ)) (n : Map (Map (List ℕ))) (a : Map (List ℕ)) : Type 0 where
     pub fs : List (Map (List ℕ))
     pub there : map n names ≡ map Some fs
     pub t : List ℕ
     pub leaves : Leaves b a out t
-    pub assembles : Assembles l (FileRose d e out) r (old_of b out) t
+    pub assembles : Assembles l (FileRose d e out.name) r (old_of b out) t
     pub lacks : IfErr r (LostAs (IsLacking d e b out l x fs))
     pub verdict : DiskQuiet d e → Verdict l (CanBeHad l (base_of b out l) b x (map chunks fs)) r
     pub settled : DiskQuiet d e → After l (CanBeHad l (base_of b out l) b x (map chunks fs)) (base_of b out l) t r
@@ -133,11 +133,11 @@ module _ (d e : Disk) (names : List (List ℕ)) (out : List ℕ) (l : Listing) (
   told : (r : Result Report ExtractFault) (P : Map (List ℕ) → Map (List ℕ) → List (Map (List ℕ)) → Type 0) → AllFacts r → ((b : Map (List ℕ)) (n : Map (Map (List ℕ))) (a : Map (List ℕ)) (f : Facts r b n a) → P b a f.fs) → Told d e names P
   told r P facts p = over_told d.files d.folders e.files _ (λ b n a x y z. let f = facts b n a x y z in (f.fs, f.there, p b n a f))
 
-  somewhere : (b a : Map (List ℕ)) (t : List ℕ) → Leaves b a out t → (t ≡ old_of b out) ⊎ KeepsBase l (FileRose d e out) (base_of b out l) t → StopsSomewhere d e b a out l
+  somewhere : (b a : Map (List ℕ)) (t : List ℕ) → Leaves b a out t → (t ≡ old_of b out) ⊎ KeepsBase l (FileRose d e out.name) (base_of b out l) t → StopsSomewhere d e b a out l
   somewhere b a t leaves (inl same) = inr (inl (subst (λ (s : List ℕ). Leaves b a out s) same leaves))
   somewhere b a t leaves (inr keeps) = inr (inr (t, (leaves, keeps)))
 
-  pub assembled : (r : Result Report ExtractFault) → AllFacts r → IfErr r (TargetAs (FileRose d e out)) → IfErr r (StoreAs (StopsFailed d e names l))
+  pub assembled : (r : Result Report ExtractFault) → AllFacts r → IfErr r (TargetAs (FileRose d e out.name)) → IfErr r (StoreAs (StopsFailed d e names l))
       → Assembled d e names out l x (answer_of_assembly r)
   assembled (Ok r) facts target store = told _ _ facts (λ b n a f. ((f.t, (f.leaves, f.assembles.1), f.assembles.0), f.verdict))
   assembled (Err (faults.Missing k id)) facts target store = told _ _ facts (λ b n a f. ((f.t, (f.leaves, f.assembles.0), f.assembles.1, f.settled), f.lacks, f.verdict))
@@ -147,7 +147,7 @@ module _ (d e : Disk) (names : List (List ℕ)) (out : List ℕ) (l : Listing) (
   assembled (Err faults.Memory) facts target store = told _ _ facts (λ b n a f. somewhere b a f.t f.leaves f.assembles)
 
   -- where OUT wasn't taken all is as it was
-  pub not_taken_as : (fault : IoFault) (looks : List (Option (Map (List ℕ)))) → IfSome d.folders (λ m. (fs : List (Map (List ℕ))) × (map m names ≡ map Some fs) × (looks ≡ map Some fs)) → e.files ≡ d.files → (fault ≡ io.Failed → FileRose d e out)
+  pub not_taken_as : (fault : IoFault) (looks : List (Option (Map (List ℕ)))) → IfSome d.folders (λ m. (fs : List (Map (List ℕ))) × (map m names ≡ map Some fs) × (looks ≡ map Some fs)) → e.files ≡ d.files → (fault ≡ io.Failed → FileRose d e out.name)
       → Assembled d e names out l x (answer_of_taking fault)
   not_taken_as fault looks found same rose = go fault rose where
     before : Told d e names (λ b a fs. StopsSomewhere d e b a out l)
@@ -157,14 +157,14 @@ module _ (d e : Disk) (names : List (List ℕ)) (out : List ℕ) (l : Listing) (
         let as_before : a ≡ b = cc in
         (f.0, f.1, inl as_before))
 
-    go : (fault : IoFault) → (fault ≡ io.Failed → FileRose d e out) → Assembled d e names out l x (answer_of_taking fault)
+    go : (fault : IoFault) → (fault ≡ io.Failed → FileRose d e out.name) → Assembled d e names out l x (answer_of_taking fault)
     go io.Failed rose = (rose refl, before)
     go io.Memory rose = before
 
   -- the same as `IsLacking`, over the bytes that OUT had
   abbrev pub LackingOver : List ℕ → List (Map (List ℕ)) → ℕ → ChunkId → Refused → Type 0
   LackingOver o fs k id r = (k < count_of l) × (id.0 ≡ id_of l k) × LacksAll (chunk_of (kind_of l) id (size_of l k)) (map chunks fs) r
-      × (RightAlike l (resized o (image_length l)) k → FileRose d e out)
+      × (RightAlike l (resized o (image_length l)) k → FileRose d e out.name)
 
   -- a seed that has the chunk of entry k has failed
   abbrev pub SeedsLack : Map (List ℕ) → ℕ → ChunkId → Refused → Type 0
@@ -178,8 +178,8 @@ module _ (d e : Disk) (names : List (List ℕ)) (out : List ℕ) (l : Listing) (
     pub facts_of : (r : Result Report ExtractFault) (looks : List (Option (Map (List ℕ)))) (t0 t1 : Option (List ℕ)) (F : Type 0) (N : List (Map (List ℕ)) → Type 0)
         → IfSome d.folders (λ m. (fs : List (Map (List ℕ))) × (map m names ≡ map Some fs) × (looks ≡ map Some fs))
         → IfSome d.files (λ m. t0 ≡ Some (old_of m out)) → is_some t0 ≡ is_some t1
-        → e.files ≡ option_map (λ m. at_name m out t1) (option_map (λ m. at_name m out None) d.files)
-        → (F → FileRose d e out)
+        → e.files ≡ option_map (λ m. at_name m out.name t1) (option_map (λ m. at_name m out.name None) d.files)
+        → (F → FileRose d e out.name)
         → WhereTold t0 t1 (Assembles l F r)
         → ((fs : List (Map (List ℕ))) → looks ≡ map Some fs → IfSome t0 (λ o. IfErr r (LostAs (LackingOver o fs))))
         → ((b : Map (List ℕ)) → d.files ≡ Some b → IfErr r (LostAs (SeedsLack b)))
@@ -190,10 +190,10 @@ module _ (d e : Disk) (names : List (List ℕ)) (out : List ℕ) (l : Listing) (
         let f : (fs : List (Map (List ℕ))) × (map n names ≡ map Some fs) × (looks ≡ map Some fs) =
         subst (λ o. IfSome o (λ m. (fs : List (Map (List ℕ))) × (map m names ≡ map Some fs) × (looks ≡ map Some fs))) y found in
         let o : t0 ≡ Some (old_of b out) = subst (λ o. IfSome o (λ m. t0 ≡ Some (old_of m out))) is took in
-        let lf : e.files ≡ option_map (λ m. at_name m out t1) (option_map (λ m. at_name m out None) (Some b)) =
-        subst (λ s. e.files ≡ option_map (λ m. at_name m out t1) (option_map (λ m. at_name m out None) s)) is left in
+        let lf : e.files ≡ option_map (λ m. at_name m out.name t1) (option_map (λ m. at_name m out.name None) (Some b)) =
+        subst (λ s. e.files ≡ option_map (λ m. at_name m out.name t1) (option_map (λ m. at_name m out.name None) s)) is left in
         go (old_of b out) t0 t1 o (subst (λ s. is_some s ≡ is_some t1) o told) (sym z ∙ lf) f.0 f.1 bytes (lacks f.0 f.2) (λ k. exactly (map chunks f.0) (quiet b is f.0 f.2 k)) (λ k. after (map chunks f.0) (quiet b is f.0 f.2 k)) refl where
-          go : (old : List ℕ) (s0 s1 : Option (List ℕ)) → s0 ≡ Some old → true ≡ is_some s1 → Some a ≡ Some (at_name (at_name b out None) out s1)
+          go : (old : List ℕ) (s0 s1 : Option (List ℕ)) → s0 ≡ Some old → true ≡ is_some s1 → Some a ≡ Some (at_name (at_name b out.name None) out.name s1)
               → (fs : List (Map (List ℕ))) → map n names ≡ map Some fs → WhereTold s0 s1 (Assembles l F r) → IfSome s0 (λ o. IfErr r (LostAs (LackingOver o fs)))
               → (DiskQuiet d e → IfSome s0 (λ o. Verdict l (P (map chunks fs) (resized o (image_length l))) r))
               → (DiskQuiet d e → WhereTold s0 s1 (λ o t. After l (P (map chunks fs) (resized o (image_length l))) (resized o (image_length l)) t r))
@@ -210,8 +210,8 @@ module _ (d e : Disk) (names : List (List ℕ)) (out : List ℕ) (l : Listing) (
                   fs = fs;
                   there = there;
                   t = t;
-                  leaves = ap (λ o. unwrap_or o a) are ∙ at_name_twice b out None (Some t);
-                  assembles = subst (λ (q : List ℕ). Assembles l (FileRose d e out) r q t) was (assembles_as l F (FileRose d e out) r p t rose bs);
+                  leaves = ap (λ o. unwrap_or o a) are ∙ at_name_twice b out.name None (Some t);
+                  assembles = subst (λ (q : List ℕ). Assembles l (FileRose d e out.name) r q t) was (assembles_as l F (FileRose d e out.name) r p t rose bs);
                   lacks = lost_both (LackingOver (old_of b out) fs) (SeedsLack b) (IsLacking d e b out l x fs) (lacking b fs) r (subst (λ (q : List ℕ). IfErr r (LostAs (LackingOver q fs))) was ls) (lack b is);
                   verdict = λ k. subst (λ (q : List ℕ). Verdict l (CanBeHad l (resized q (image_length l)) b x (map chunks fs)) r) was
                       (verdict_as l (P (map chunks fs) (resized p (image_length l))) (CanBeHad l (resized p (image_length l)) b x (map chunks fs)) (had b is (map chunks fs) (resized p (image_length l)))

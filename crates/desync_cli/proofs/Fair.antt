@@ -15,12 +15,12 @@ use Rattle.command_outcome.specs.declared.outcome.Outcome.{Outcome}
 use Rattle.command_outcome.specs.declared.outcome.Outcome.TheVariants as ends
 use Rattle.command_steps.specs.Blames.{Blames, Keeps, NothingFailed, Parts, Spares, name_at}
 use Rattle.command_steps.specs.Steps.{Passed, answer_of, outcome_of}
-use Rattle.command_steps.specs.Worlds.{FileRose, FolderRose, NoFault, World}
-use Rattle.command_steps.proofs.Fair.{IsFair, IsLeft, IsRefusal, IsStep, adds, between, bound, first_failed, first_fair, image_step, index_step, indexes_step, on_disk, on_out, opened_step, printed_step, pure_step, reads, round, taken_step, whole, writes}
+use Rattle.command_steps.specs.Worlds.{FileRose, FolderRose, NoFault, Step, World}
+use Rattle.command_steps.proofs.Fair.{IsFair, IsLeft, IsRefusal, IsStep, adds, between, bound, fair_longer, first_failed, first_fair, image_step, index_step, indexes_step, left_twice, on_disk, on_out, opened_step, printed_step, pure_step, reads, round, taken_step, whole, writes}
 use Rattle.command_steps.proofs.Numbers.{rose_not_quiet}
 use Rattle.desync_cli.specs.Chop.{ImageChopped}
 use Rattle.desync_cli.specs.Commands.{DesyncEnds, Ends, NoCommand, TellsRefusal, WordsRead, built_in, command_of, is_built, parts, refusal_in, refusal_of, spares}
-use Rattle.desync_cli.specs.Extract.{ImageMade, LacksEntry, Seeds}
+use Rattle.desync_cli.specs.Extract.{Clearing, ImageMade, Into, LacksEntry, OutMade, Renamed, Seeds, beside, in_place, temporary_out}
 use Rattle.desync_cli.specs.Info.{IdsCounted, NotAsked}
 use Rattle.desync_cli.specs.Make.{ImageStored, IndexWritten, SizesJudged}
 use Rattle.desync_cli.specs.VerifyIndex.{ImageChecked}
@@ -52,13 +52,13 @@ module _ (s : Spares) (x : Parts) (p : Output) where
     go d e ends.Memory h = (tt, tt)
     go d e other h = absurd h.0
 
-  assembled_fair : (l : Listing) (z : Seeds) (d e : Disk) (o : Outcome) → ImageMade x.stores x.target l z d (Err o) e → IsFair x o (round p d) (round p e)
-  assembled_fair l z d e (ends.Missing k id) h = (tt, tt)
-  assembled_fair l z d e (ends.Damaged k id store shows) h = (tt, tt)
-  assembled_fair l z d e (ends.StoreFault k) h = (tt, first_failed (LacksEntry l h.0.0.0) d e k x.stores h.0.0.1)
-  assembled_fair l z d e ends.TargetFault h = (tt, h.0.0)
-  assembled_fair l z d e ends.Memory h = (tt, tt)
-  assembled_fair l z d e other h = absurd h.0
+  assembled_fair : (l : Listing) (z : Seeds) (i : Into) → i.name ≡ x.target → (d e : Disk) (o : Outcome) → ImageMade x.stores i l z d (Err o) e → IsFair x o (round p d) (round p e)
+  assembled_fair l z i is d e (ends.Missing k id) h = (tt, tt)
+  assembled_fair l z i is d e (ends.Damaged k id store shows) h = (tt, tt)
+  assembled_fair l z i is d e (ends.StoreFault k) h = (tt, first_failed (LacksEntry l h.0.0.0) d e k x.stores h.0.0.1)
+  assembled_fair l z i is d e ends.TargetFault h = (tt, subst (λ q. FileRose d e q) is h.0.0)
+  assembled_fair l z i is d e ends.Memory h = (tt, tt)
+  assembled_fair l z i is d e other h = absurd h.0
 
   stored_fair : (z : Sizes) (told : Option (List ℕ)) (q : List ℕ) (held : Option (Map (List ℕ))) → name_at x.stores 0 ≡ q → (d e : Disk) (o : Outcome) → ImageStored z x.image told q held d (Err o) e → IsFair x o (round p d) (round p e)
   stored_fair z told q held same d e ends.TooManyItems h = (tt, tt)
@@ -81,8 +81,37 @@ module _ (s : Spares) (x : Parts) (p : Output) where
   written_fair q bytes d e ends.Memory h = (tt, tt)
   written_fair q bytes d e other h = absurd h.0
 
-assembled_step : (f o : Bool) (x : Parts) (p : Output) (l : Listing) (z : Seeds) → IsStep (round p) (record { files = false; folders = f; out = o }) x (ImageMade x.stores x.target l z)
-assembled_step f o x p l z = record { fair = assembled_fair (record { files = false; folders = f; out = o }) x p l z; leaves = λ d e r h. writes p h.1 }
+assembled_step : (f o : Bool) (x : Parts) (p : Output) (l : Listing) (z : Seeds) (i : Into) → i.name ≡ x.target → IsStep (round p) (record { files = false; folders = f; out = o }) x (ImageMade x.stores i l z)
+assembled_step f o x p l z i is = record { fair = assembled_fair (record { files = false; folders = f; out = o }) x p l z i is; leaves = λ d e r h. writes p h.1 }
+
+-- after whose refusal a file is cleared
+cleared_step : (f o : Bool) (x : Parts) (p : Output) (q : List ℕ) (step : Step Disk Unit) → IsStep (round p) (record { files = false; folders = f; out = o }) x step → IsStep (round p) (record { files = false; folders = f; out = o }) x (Clearing q step)
+cleared_step f o x p q step is = record { fair = fair; leaves = leaves } where
+  fair : (d e : Disk) (r : Outcome) → Clearing q step d (Err r) e → IsFair x r (round p d) (round p e)
+  fair d e r (c, u, did, inl same, cleared) = subst (λ r. IsFair x r (round p d) (round p e)) (sym same) (fair_longer (round p d) (round p c) (round p e) x u (writes {f = f} {o = o} p cleared.1) (is.fair d c u did))
+  fair d e r (c, u, did, inr memory, cleared) = subst (λ r. IsFair x r (round p d) (round p e)) (sym memory) (tt, tt)
+
+  leaves : (d e : Disk) (r : Result Unit Outcome) → Clearing q step d r e → IsLeft (record { files = false; folders = f; out = o }) (round p d) (round p e)
+  leaves d e (Ok t) h = is.leaves d e (Ok t) h
+  leaves d e (Err r) (c, u, did, same, cleared) = left_twice (is.leaves d c (Err u) did) (writes p cleared.1)
+
+renamed_step : (f o : Bool) (x : Parts) (p : Output) (from to : List ℕ) → IsStep (round p) (record { files = false; folders = f; out = o }) x (Renamed from to)
+renamed_step f o x p from to = record { fair = fair; leaves = leaves } where
+  fair : (d e : Disk) (r : Outcome) → Renamed from to d (Err r) e → IsFair x r (round p d) (round p e)
+  fair d e (ends.NoFile name) h = (tt, tt)
+  fair d e (ends.FileFault name) h = (tt, inl (subst (λ n. FileRose d e n) (sym h.0.0) h.0.1))
+  fair d e ends.Memory h = (tt, tt)
+  fair d e other h = absurd h.0
+
+  leaves : (d e : Disk) (r : Result Unit Outcome) → Renamed from to d r e → IsLeft (record { files = false; folders = f; out = o }) (round p d) (round p e)
+  leaves d e (Ok t) h = writes p h.1
+  leaves d e (Err r) h = writes p h.2
+
+out_step : (f o : Bool) (x : Parts) (l : Listing) (z : Seeds) (place : Bool) (out : List ℕ) → x.target ≡ cond place out (temporary_out out) → IsStep whole (record { files = false; folders = f; out = o }) x (OutMade place x.stores out l z)
+out_step f o x l z true out is = on_disk (λ p. assembled_step f o x p l z (in_place out) (sym is))
+out_step f o x l z false out is =
+    bound (on_disk (λ p. cleared_step f o x p (temporary_out out) _ (assembled_step f o x p l z (beside out) (sym is))))
+    (λ u. on_disk (λ p. cleared_step f o x p (temporary_out out) _ (renamed_step f o x p (temporary_out out) out)))
 
 stored_step : (f o : Bool) (x : Parts) (p : Output) (z : Sizes) (told : Option (List ℕ)) (q : List ℕ) (held : Option (Map (List ℕ))) → name_at x.stores 0 ≡ q
     → IsStep (round p) (record { files = f; folders = false; out = o }) x (ImageStored z x.image told q held)
@@ -115,7 +144,7 @@ command_step (commands.Make store sizes workers index image) = bound (pure_step 
 command_step (commands.VerifyIndex index image) = bound (on_disk (λ p. index_step _ _ p index)) (λ l. bound (on_disk (λ p. image_step _ _ p)) (λ told. on_disk (λ p. checked_step _ _ p l told)))
 command_step (commands.Chop store index image) = bound (on_disk (λ p. index_step _ _ p index)) (λ l. bound (on_disk (λ p. image_step _ _ p)) (λ told. bound (on_disk (λ p. taken_step _ _ _ p (name_of store))) (λ held. on_disk (λ p. chopped_step _ _ _ p l told (name_of store) held refl))))
 command_step (commands.ListChunks index) = bound (on_disk (λ p. index_step _ _ p index)) (λ l. on_out (λ d. printed_step _ _ _ d (text_of_chunks l)))
-command_step (commands.Extract stores seeds cache in_place workers index target) = bound (on_disk (λ p. index_step _ _ p index)) (λ l. bound (on_disk (λ p. indexes_step _ _ p seeds)) (λ ls. bound (on_disk (λ p. opened_step _ _ p)) (λ u. on_disk (λ p. assembled_step _ _ _ p l (record { images = map image_name seeds; listings = ls })))))
+command_step (commands.Extract stores seeds cache in_place workers index target) = bound (on_disk (λ p. index_step _ _ p index)) (λ l. bound (on_disk (λ p. indexes_step _ _ p seeds)) (λ ls. bound (on_disk (λ p. opened_step _ _ p)) (λ u. out_step _ _ (parts (commands.Extract stores seeds cache in_place workers index target)) l (record { images = map image_name seeds; listings = ls }) in_place target refl)))
 command_step (commands.Info stores index) = bound (on_disk (λ p. index_step _ _ p index)) (λ l. bound (on_disk (λ p. counted_step _ _ p l)) (λ n. on_out (λ d. printed_step _ _ _ d (text_of_info l n))))
 command_step commands.Help = on_out (λ d. printed_step _ _ _ d (help_text topics.All))
 command_step commands.Version = on_out (λ d. printed_step _ _ _ d (help_text topics.Version))
@@ -131,7 +160,7 @@ begun words w v r h = (h.gave, h.did.0, subst (λ u. Ends h.gave u r v) h.did.1 
 pub if_some : {X : Type 0} (o : Option X) (P : X → Type 0) (x : X) → o ≡ Some x → P x → IfSome o P
 if_some o P x is p = subst (λ r. IfSome r P) (sym is) p
 
-if_any : {X : Type 0} (o : Option X) (P : X → Type 0) → ((x : X) → P x) → IfSome o P
+pub if_any : {X : Type 0} (o : Option X) (P : X → Type 0) → ((x : X) → P x) → IfSome o P
 if_any None P f = tt
 if_any (Some x) P f = f x
 

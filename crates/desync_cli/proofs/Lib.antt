@@ -1,5 +1,6 @@
 pub mod Assembled
 pub mod Chopped
+pub mod Replaced
 pub mod Counting
 pub mod Done
 pub mod Extracted

@@ -29,7 +29,7 @@ use Rattle.command_steps.specs.Stores.{FailsFirst}
 use Rattle.command_steps.specs.Worlds.{FileRose}
 use Rattle.desync_cli.proofs.Assembled.{LackingOver, LostAs, SeedsLack, StoreAs, TargetAs}
 use Rattle.desync_cli.proofs.Seeded.{had_failed, label_of}
-use Rattle.desync_cli.specs.Extract.{Seeds, StopsFailed}
+use Rattle.desync_cli.specs.Extract.{Into, Seeds, StopsFailed}
 use Rattle.dsy_base.specs.Bytes.{Held, resized}
 use Rattle.dsy_base.specs.Counts.{Rose, raised}
 use Rattle.dsy_base.specs.Disk.{Disk}
@@ -156,7 +156,7 @@ gained_before place counted mid last (x ∷ a) (y ∷ b) same le gained =
 -- ---- what a lost entry tells
 
 module _ {S V : Type 0} (holds folder : S → Option (Map (List ℕ))) (place : S → List ℕ) (counted : S → ℕ) (lacks_memory : Bool) (view : V → Held) (view_faults : V → ℕ) (l : Listing) (p : Deal) (x : Placed)
-    (d e : Disk) (names : List (List ℕ)) (out : List ℕ) (seeds : Seeds) (t0 : Option (List ℕ)) (old new : ℕ) (k j : Kit S V) where
+    (d e : Disk) (names : List (List ℕ)) (out : Into) (seeds : Seeds) (t0 : Option (List ℕ)) (old new : ℕ) (k j : Kit S V) where
   abbrev said_of : S → Said
   said_of s = said_by (holds s)
 
@@ -164,19 +164,19 @@ module _ {S V : Type 0} (holds folder : S → Option (Map (List ℕ))) (place : 
   IsLostHere u = IsUnobtained holds folder place said_of counted lacks_memory view view_faults l p x t0 old new k j u
 
   lacking : (o : Option (List ℕ)) (fs : List (Map (List ℕ))) (n : ℕ) (id : ChunkId) (r : Refused) → n < count_of l → id.0 ≡ id_of l n → LacksAll (chunk_of (kind_of l) id (size_of l n)) (map chunks fs) r
-      → IfSome o (λ b. RightAlike l (resized b (image_length l)) n → Rose old new) → (Rose old new → FileRose d e out) → IfSome o (λ b. LackingOver d e names out l seeds b fs n id r)
+      → IfSome o (λ b. RightAlike l (resized b (image_length l)) n → Rose old new) → (Rose old new → FileRose d e out.name) → IfSome o (λ b. LackingOver d e names out l seeds b fs n id r)
   lacking None fs n id r inside named lacks copies rose = tt
   lacking (Some b) fs n id r inside named lacks copies rose = (inside, named, lacks, λ a. rose (copies a))
 
   -- it is lacking from the stores, which held these chunks
-  lacks_at : (fs : List (Map (List ℕ))) → map holds k.chain.stores ≡ map Some (map chunks fs) → (Rose old new → FileRose d e out) → (u : Lost) → IsLostHere u → IfSome t0 (λ o. LackingOver d e names out l seeds o fs u.entry u.id u.refused)
+  lacks_at : (fs : List (Map (List ℕ))) → map holds k.chain.stores ≡ map Some (map chunks fs) → (Rose old new → FileRose d e out.name) → (u : Lost) → IsLostHere u → IfSome t0 (λ o. LackingOver d e names out l seeds o fs u.entry u.id u.refused)
   lacks_at fs held rose u h = lacking t0 fs u.entry u.id u.refused h.listed h.id_is (h.stores.refused.lacks (map chunks fs) (h.stores.until.held ∙ held)) h.copies rose
 
   none_lost : (o : Option (List ℕ)) → IfSome o (λ b. Unit {0})
   none_lost None = tt
   none_lost (Some b) = tt
 
-  pub lacks_told : (F : Type 0) (r : Result Report ExtractFault) (fs : List (Map (List ℕ))) → map holds k.chain.stores ≡ map Some (map chunks fs) → (Rose old new → FileRose d e out) → EndsBy IsLostHere F r → IfSome t0 (λ o. IfErr r (LostAs (LackingOver d e names out l seeds o fs)))
+  pub lacks_told : (F : Type 0) (r : Result Report ExtractFault) (fs : List (Map (List ℕ))) → map holds k.chain.stores ≡ map Some (map chunks fs) → (Rose old new → FileRose d e out.name) → EndsBy IsLostHere F r → IfSome t0 (λ o. IfErr r (LostAs (LackingOver d e names out l seeds o fs)))
   lacks_told F (Ok r) fs held rose h = none_lost t0
   lacks_told F (Err (faults.Missing n id)) fs held rose h = lost_as IsLostHere F (λ n id r. IfSome t0 (λ o. LackingOver d e names out l seeds o fs n id r)) (lacks_at fs held rose) (Err (faults.Missing n id)) h
   lacks_told F (Err (faults.Damaged n id s y)) fs held rose h = lost_as IsLostHere F (λ n id r. IfSome t0 (λ o. LackingOver d e names out l seeds o fs n id r)) (lacks_at fs held rose) (Err (faults.Damaged n id s y)) h

@@ -1,12 +1,11 @@
 -- What seeds give, over the files that their images are.
-use Rattle.std.proofs.Common.{◌≡◌, ◌⊎◌, ℕ, zero, suc, ◌+◌, ◌-◌, ◌<◌, ◌≤◌, List, [], ◌∷◌, All, length, map, slice_index, slice_index_or, slice_range, take, drop, Option, Some, None, IfSome, IsSome, IsSomeAnd, unwrap_or, refl, sym, ap, subst, ◌∙◌, inl, inr, arith}
+use Rattle.std.proofs.Common.{◌≡◌, ◌⊎◌, ℕ, zero, suc, ◌+◌, ◌-◌, ◌<◌, ◌≤◌, List, [], ◌∷◌, length, map, slice_index, slice_index_or, take, drop, Option, Some, None, IfSome, IsSome, IsSomeAnd, unwrap_or, refl, sym, ap, subst, ◌∙◌, inl, inr, arith}
 use Rattle.std.proofs.lemmas.List.{get_or_default}
 use Rattle.std.proofs.lemmas.List.Elements.{All-cons, All-nil}
-use Rattle.std.specs.List.{AllZip, Any, slice_get}
-use Rattle.std.specs.Map.{count_at}
+use Rattle.std.specs.List.{AllZip, slice_get}
 use Rattle.std.specs.Option.{option_map}
 use Rattle.assembler.specs.Sources.{GivesAt, HeldAt, SeedsFailed, SeedsGive}
-use Rattle.caibx_codec.specs.Listing.{Listing, count_of, end_of, id_of, size_of, slice_of, start_of}
+use Rattle.caibx_codec.specs.Listing.{Listing, end_of, size_of, slice_of, start_of}
 use Rattle.chunk_store.specs.Names.{name_of}
 use Rattle.chunk_store.specs.declared.id.DigestKind.TheVariants.{Sha512T256}
 use Rattle.command_steps.specs.Blames.{name_at}

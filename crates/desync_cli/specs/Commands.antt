@@ -1,5 +1,5 @@
 -- What the words are to do, and what each command does.
-use Rattle.std.specs.Prelude.{◌≡◌, ◌&&◌, ℕ, nat_le, length, Bool, true, false, ◌==◌, not, is_some, if◌then◌else◌}
+use Rattle.std.specs.Prelude.{◌≡◌, ◌&&◌, ℕ, nat_le, length, Bool, true, false, not, is_some, if◌then◌else◌}
 use Rattle.std.specs.Prelude.{List, [], ◌∷◌, Option, Some, None, IfSome, Result, Ok, Err}
 use Rattle.command_help.specs.Help.{help_text}
 use Rattle.command_help.specs.declared.help.Topic.TheVariants as topics
@@ -13,7 +13,7 @@ use Rattle.command_line.specs.declared.usage.WordsFault.TheVariants as faults
 use Rattle.command_outcome.specs.declared.outcome.Outcome.{Outcome}
 use Rattle.command_outcome.specs.declared.outcome.Outcome.TheVariants as ends
 use Rattle.desync_cli.specs.Chop.{ChopEnds, IsChopped}
-use Rattle.desync_cli.specs.Extract.{ExtractEnds, IsExtracted}
+use Rattle.desync_cli.specs.Extract.{ExtractEnds, IsExtracted, LeavesOut, temporary_out}
 use Rattle.desync_cli.specs.Info.{InfoEnds}
 use Rattle.desync_cli.specs.ListChunks.{ListChunksEnds}
 use Rattle.desync_cli.specs.Make.{IsMade, MakeEnds}
@@ -33,7 +33,7 @@ is_built (commands.VerifyIndex index image) = true
 is_built (commands.Chop store index image) = is_folder store
 is_built (commands.ListChunks index) = true
 is_built (commands.Extract stores seeds cache in_place workers index target) =
-    in_place && nat_le (length seeds) 64 && not (is_some cache) && nat_le 1 (length stores) &&
+    nat_le (length seeds) 64 && not (is_some cache) && nat_le 1 (length stores) &&
     nat_le (length stores) 16 && are_folders stores
 is_built (commands.Info stores index) = nat_le (length stores) 16 && are_folders stores
 is_built commands.Help = true
@@ -47,7 +47,7 @@ Ends (commands.Make store sizes workers index image) = MakeEnds store sizes inde
 Ends (commands.VerifyIndex index image) = VerifyIndexEnds index image
 Ends (commands.Chop store index image) = ChopEnds store index image
 Ends (commands.ListChunks index) = ListChunksEnds index
-Ends (commands.Extract stores seeds cache in_place workers index target) = ExtractEnds stores seeds index target
+Ends (commands.Extract stores seeds cache in_place workers index target) = ExtractEnds stores seeds in_place index target
 Ends (commands.Info stores index) = InfoEnds stores index
 Ends commands.Help = OnOut (Printed (help_text topics.All))
 Ends commands.Version = OnOut (Printed (help_text topics.Version))
@@ -71,7 +71,7 @@ parts (commands.VerifyIndex index image) = record { image = image; stores = []; 
 parts (commands.Chop store index image) = record
     { image = image; stores = name_of store ∷ []; target = [] }
 parts (commands.Extract stores seeds cache in_place workers index target) = record
-    { image = []; stores = names_of stores; target = target }
+    { image = []; stores = names_of stores; target = if in_place then target else temporary_out target }
 parts (commands.Info stores index) = record { image = []; stores = names_of stores; target = [] }
 parts other = record { image = []; stores = []; target = [] }
 
@@ -87,6 +87,11 @@ Achieves (commands.Chop store index image) w v =
 Achieves (commands.Extract stores seeds cache in_place workers index target) w v =
     IfSome w.disk.files (λ b. IfSome v.disk.files (λ a. IsExtracted b a index target))
 Achieves other w v = Ends other w (Ok tt) v
+
+-- what a refusal leaves of it, beside how it ends
+abbrev pub LeavesBehind : Command → World → World → Type 0
+LeavesBehind (commands.Extract stores seeds cache in_place workers index target) w v = LeavesOut in_place target w v
+LeavesBehind other w v = Unit {0}
 
 -- ---- the words
 

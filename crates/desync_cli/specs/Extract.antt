@@ -1,6 +1,7 @@
--- `extract -k -s FOLDER.. --seed INDEX.. INDEX OUT`. A name is its bytes.
-use Rattle.std.specs.Prelude.{◌≡◌, ◌⊎◌, ℕ, ◌+◌, ◌<◌, ◌≤◌, length, List, [], map, Some, None, IfSome, Result, Ok, Err, unwrap_or}
+-- `extract [-k] -s FOLDER.. --seed INDEX.. INDEX OUT`. A name is its bytes.
+use Rattle.std.specs.Prelude.{◌≡◌, ◌≢◌, ◌⊎◌, ◌++◌, codes, Bool, true, false, if◌then◌else◌, is_some, ℕ, ◌+◌, ◌<◌, ◌≤◌, length, List, [], map, Some, None, IfSome, Result, Ok, Err, unwrap_or}
 use Rattle.std.specs.List.{slice_get}
+use Rattle.std.specs.Option.{option_map}
 use Rattle.assembler.specs.Assemblies.{IsLeast, KeepsBase, RightAlike}
 use Rattle.assembler.specs.Losses.{SomeGives, chunk_of}
 use Rattle.assembler.specs.declared.fault.ExtractFault.{ExtractFault}
@@ -28,16 +29,24 @@ use Rattle.store_chain.specs.Giving.{LacksAll}
 use Rattle.store_chain.specs.declared.refused.Refused.{Refused}
 use Rattle.store_chain.specs.declared.refused.Refused.TheVariants as refused
 
--- OUT's bytes before, which are none where it isn't there, and the base that the assembly begins with
-abbrev pub old_of : Map (List ℕ) → List ℕ → List ℕ
-old_of files out = unwrap_or (files out) []
+-- the file that becomes the image: its name, and whether it begins with no bytes, whatever stands under that name
+pub record Into : Type 0 where
+  pub name : List ℕ
+  pub fresh : Bool
 
-abbrev pub base_of : Map (List ℕ) → List ℕ → Listing → List ℕ
+abbrev pub in_place : List ℕ → Into
+in_place out = record { name = out; fresh = false }
+
+-- what it begins with, which is nothing where it isn't there, and the base that the assembly begins with
+abbrev pub old_of : Map (List ℕ) → Into → List ℕ
+old_of files out = if out.fresh then [] else unwrap_or (files out.name) []
+
+abbrev pub base_of : Map (List ℕ) → Into → Listing → List ℕ
 base_of files out l = resized (old_of files out) (image_length l)
 
--- OUT alone has changed, and holds t
-abbrev pub Leaves : Map (List ℕ) → Map (List ℕ) → List ℕ → List ℕ → Type 0
-Leaves before after out t = after ≡ at_name before out (Some t)
+-- it alone has changed, and holds t
+abbrev pub Leaves : Map (List ℕ) → Map (List ℕ) → Into → List ℕ → Type 0
+Leaves before after out t = after ≡ at_name before out.name (Some t)
 
 -- the seeds of an extraction: the names of their images, and what their indexes list
 pub record Seeds : Type 0 where
@@ -66,8 +75,8 @@ abbrev pub CanBeHad : Listing → List ℕ → Map (List ℕ) → Seeds → List
 CanBeHad l base files x maps i = RightAlike l base i ⊎ (((s : ℕ) × SeedHas files x (id_of l i) (size_of l i) s)
     ⊎ SomeGives (kind_of l) (id_of l i) (size_of l i) maps)
 
--- so it is where OUT's base and the images of seeds are of these files, and the stores' folders hold these
-abbrev pub HadFrom : Map (List ℕ) → List ℕ → Listing → Seeds → List (Map (List ℕ)) → ℕ → Type 0
+-- so it is where the base and the images of seeds are of these files, and the stores' folders hold these
+abbrev pub HadFrom : Map (List ℕ) → Into → Listing → Seeds → List (Map (List ℕ)) → ℕ → Type 0
 HadFrom before out l x stores = CanBeHad l (base_of before out l) before x (map chunks stores)
 
 -- each entry that can be had is right in t, and each other has the base's bytes
@@ -75,23 +84,24 @@ abbrev pub AreFilled : Listing → (ℕ → Type 0) → List ℕ → List ℕ �
 AreFilled l P base t =
     (i : ℕ) → i < count_of l → (P i → IsRightAt t l i) × ((P i → ⊥) → slice_of l t i ≡ slice_of l base i)
 
--- OUT alone has changed. It holds t, in which each range is right or the base's unless OUT failed
-abbrev pub KeepsIn : Disk → Disk → Map (List ℕ) → Map (List ℕ) → List ℕ → Listing → List ℕ → Type 0
-KeepsIn d e before after out l t = Leaves before after out t × KeepsBase l (FileRose d e out) (base_of before out l) t
+-- the file alone has changed. It holds t, in which each range is right or the base's unless the file failed
+abbrev pub KeepsIn : Disk → Disk → Map (List ℕ) → Map (List ℕ) → Into → Listing → List ℕ → Type 0
+KeepsIn d e before after out l t =
+    Leaves before after out t × KeepsBase l (FileRose d e out.name) (base_of before out l) t
 
--- what stands in OUT where no entry is named: it wasn't taken, or has its old bytes, or keeps the base
-abbrev pub StopsSomewhere : Disk → Disk → Map (List ℕ) → Map (List ℕ) → List ℕ → Listing → Type 0
+-- what stands there where no entry is named: it wasn't taken, or has what it began with, or keeps the base
+abbrev pub StopsSomewhere : Disk → Disk → Map (List ℕ) → Map (List ℕ) → Into → Listing → Type 0
 StopsSomewhere d e before after out l =
     (after ≡ before) ⊎ (Leaves before after out (old_of before out) ⊎ ((t : List ℕ) × KeepsIn d e before after out l t))
 
 -- the chunk of entry k can't be had from the folders, for this reason; an alike entry that is right in the base
 -- couldn't be read, and no seed that has the chunk
-pub record IsLacking (d e : Disk) (before : Map (List ℕ)) (out : List ℕ) (l : Listing) (x : Seeds)
+pub record IsLacking (d e : Disk) (before : Map (List ℕ)) (out : Into) (l : Listing) (x : Seeds)
     (stores : List (Map (List ℕ))) (k : ℕ) (id : ChunkId) (r : Refused) : Type 0 where
   pub listed : k < count_of l
   pub id_is : id.0 ≡ id_of l k
   pub lacks : LacksAll (chunk_of (kind_of l) id (size_of l k)) (map chunks stores) r
-  pub copies : RightAlike l (base_of before out l) k → FileRose d e out
+  pub copies : RightAlike l (base_of before out l) k → FileRose d e out.name
   pub seeds : (s : ℕ) (h : SeedHas before x (id_of l k) (size_of l k) s) → FileRose d e h.image
 
 -- a store that holds these chunks lacks that of entry k: it holds nothing under its id, or bytes that aren't it
@@ -106,7 +116,7 @@ Told d e names P = IfSome d.files (λ b. IfSome d.folders (λ n. IfSome e.files 
 
 -- entry k is named, for this reason, and each before it is right. Where nothing fails, k is the least that can't be
 -- had, and each that can be had was made right
-abbrev pub StopsLacking : Disk → Disk → List (List ℕ) → List ℕ → Listing → Seeds → ℕ → ChunkId → Refused → Type 0
+abbrev pub StopsLacking : Disk → Disk → List (List ℕ) → Into → Listing → Seeds → ℕ → ChunkId → Refused → Type 0
 StopsLacking d e names out l x k id r = Told d e names (λ b a fs.
     ((t : List ℕ) × KeepsIn d e b a out l t × ((i : ℕ) → i < k → IsRightAt t l i)
     × (DiskQuiet d e → AreFilled l (HadFrom b out l x fs) (base_of b out l) t))
@@ -117,9 +127,9 @@ StopsLacking d e names out l x k id r = Told d e names (λ b a fs.
 abbrev pub StopsFailed : Disk → Disk → List (List ℕ) → Listing → ℕ → Type 0
 StopsFailed d e names l s = (k : ℕ) × FailsFirst (LacksEntry l k) d e s names × (k < count_of l)
 
--- OUT became the image of the index, with chunks from the seeds and the folders, or why not. Where nothing fails it does
+-- the file became the image of the index, with chunks from the seeds and the folders, or why not. Where nothing fails it does
 -- so exactly where each entry can be had; else the first that can't be had is named
-abbrev pub Assembled : Disk → Disk → List (List ℕ) → List ℕ → Listing → Seeds → Result Unit Outcome → Type 0
+abbrev pub Assembled : Disk → Disk → List (List ℕ) → Into → Listing → Seeds → Result Unit Outcome → Type 0
 Assembled d e names out l x (Ok u) = Told d e names (λ b a fs.
     ((t : List ℕ) × KeepsIn d e b a out l t × IsRight t l)
     × (DiskQuiet d e → (i : ℕ) → i < count_of l → HadFrom b out l x fs i))
@@ -129,7 +139,7 @@ Assembled d e names out l x (Err (ends.Damaged k id store shows)) = StopsLacking
 Assembled d e names out l x (Err (ends.StoreFault s)) = StopsFailed d e names l s
     × Told d e names (λ b a fs. (t : List ℕ) × KeepsIn d e b a out l t)
 Assembled d e names out l x (Err ends.TargetFault) =
-    FileRose d e out × Told d e names (λ b a fs. StopsSomewhere d e b a out l)
+    FileRose d e out.name × Told d e names (λ b a fs. StopsSomewhere d e b a out l)
 Assembled d e names out l x (Err ends.Memory) = Told d e names (λ b a fs. StopsSomewhere d e b a out l)
 Assembled d e names out l x (Err other) = ⊥
 
@@ -154,12 +164,74 @@ abbrev pub answer_of_taking : IoFault → Result Unit Outcome
 answer_of_taking io.Failed = Err ends.TargetFault
 answer_of_taking io.Memory = Err ends.Memory
 
-abbrev pub ImageMade : List (List ℕ) → List ℕ → Listing → Seeds → Step Disk Unit
-ImageMade names out l x d r e = Assembled d e names out l x r × Writes d e
+-- files tell afterwards where they told before
+abbrev pub ImageMade : List (List ℕ) → Into → Listing → Seeds → Step Disk Unit
+ImageMade names out l x d r e = Assembled d e names out l x r × Writes d e × (is_some e.files ≡ is_some d.files)
 
-abbrev pub ExtractEnds : List Location → List (List ℕ) → List ℕ → List ℕ → Step World Unit
-ExtractEnds stores seeds index out = do
+-- ---- by way of a temporary file
+
+-- the temporary file beside OUT
+abbrev pub temporary_out : List ℕ → List ℕ
+temporary_out out = out ++ codes ".tmp-desync"
+
+abbrev pub beside : List ℕ → Into
+beside out = record { name = temporary_out out; fresh = true }
+
+-- the file isn't there any more; where it still is, removing it failed, or there was no memory. Nothing else has changed
+abbrev pub Cleared : List ℕ → Disk → Outcome → Disk → Type 0
+Cleared name d o e = ((e.files ≡ option_map (λ m. at_name m name None) d.files)
+    ⊎ ((e.files ≡ d.files) × (IfSome d.files (λ m. m name ≡ None) ⊎ (FileRose d e name ⊎ (o ≡ ends.Memory)))))
+    × Writes d e
+
+-- the step, after whose refusal the file of this name is cleared. Want of memory is told in the place of its refusal
+abbrev pub Clearing : List ℕ → Step Disk Unit → Step Disk Unit
+Clearing name step d (Ok u) e = step d (Ok u) e
+Clearing name step d (Err o) e = (c : Disk) × (p : Outcome) × step d (Err p) c
+    × ((o ≡ p) ⊎ (o ≡ ends.Memory)) × Cleared name c o e
+
+-- so it is with the refusal of a step that answered so
+abbrev pub ClearedAfter : List ℕ → Disk → Result Unit Outcome → Result Unit Outcome → Disk → Type 0
+ClearedAfter name d (Ok u) (Ok v) e = e ≡ d
+ClearedAfter name d (Ok u) (Err o) e = ⊥
+ClearedAfter name d (Err p) (Ok v) e = ⊥
+ClearedAfter name d (Err p) (Err o) e = ((o ≡ p) ⊎ (o ≡ ends.Memory)) × Cleared name d o e
+
+-- it isn't there. Want of memory is free, since the outcome keeps the name
+abbrev pub IsNoFile : List ℕ → Outcome → Type 0
+IsNoFile q (ends.NoFile name) = name ≡ q
+IsNoFile q ends.Memory = Unit {0}
+IsNoFile q other = ⊥
+
+-- the temporary file became OUT
+abbrev pub NotRenamed : List ℕ → List ℕ → Disk → Outcome → Disk → Type 0
+NotRenamed from to d (ends.NoFile name) e = (name ≡ from) × IfSome d.files (λ m. m from ≡ None)
+NotRenamed from to d (ends.FileFault name) e = (name ≡ to) × FileRose d e to
+NotRenamed from to d ends.Memory e = Unit {0}
+NotRenamed from to d other e = ⊥
+
+abbrev pub Renamed : List ℕ → List ℕ → Step Disk Unit
+Renamed from to d (Ok u) e =
+    (e.files ≡ option_map (λ m. at_name (at_name m to (m from)) from None) d.files) × Writes d e
+Renamed from to d (Err o) e = NotRenamed from to d o e × (e.files ≡ d.files) × Writes d e
+
+-- ---- the command
+
+-- OUT becomes the image: it is made it in its place; or the temporary file is, and takes OUT's name
+abbrev pub OutMade : Bool → List (List ℕ) → List ℕ → Listing → Seeds → Step World Unit
+OutMade true names out l x = OnDisk (ImageMade names (in_place out) l x)
+OutMade false names out l x = do
+  _ ← OnDisk (Clearing (temporary_out out) (ImageMade names (beside out) l x))
+  OnDisk (Clearing (temporary_out out) (Renamed (temporary_out out) out))
+
+abbrev pub ExtractEnds : List Location → List (List ℕ) → Bool → List ℕ → List ℕ → Step World Unit
+ExtractEnds stores seeds in_place index out = do
   l ← OnDisk (IndexRead index)
   ls ← OnDisk (IndexesRead seeds)
   _ ← OnDisk (StoresOpened (names_of stores))
-  OnDisk (ImageMade (names_of stores) out l (record { images = map image_name seeds; listings = ls }))
+  OutMade in_place (names_of stores) out l (record { images = map image_name seeds; listings = ls })
+
+-- a refusal leaves all files as they were, but for the temporary one
+abbrev pub LeavesOut : Bool → List ℕ → World → World → Type 0
+LeavesOut true out w v = Unit {0}
+LeavesOut false out w v = IfSome w.disk.files (λ b. IfSome v.disk.files (λ a.
+    (q : List ℕ) → q ≢ temporary_out out → a q ≡ b q))

@@ -1,12 +1,12 @@
 //! The top call: words in, an outcome out.
 
-ghost use Rattle.std.specs.Prelude.{◌≡◌, None, Some, IfSome, IsTrue, map, string_bytes};
+ghost use Rattle.std.specs.Prelude.{◌≡◌, ◌≢◌, None, Some, IfSome, IsTrue, map, string_bytes};
 ghost use Rattle.command_line.specs.declared.command.Command.{Command};
 ghost use Rattle.command_outcome.specs.ErrorLines.{error_line_of};
 ghost use Rattle.command_outcome.specs.Statuses.{status_of};
 ghost use Rattle.command_steps.specs.Blames.{Blames, Keeps, NothingFailed};
 ghost use Rattle.desync_cli.specs.Commands.{Achieves, DesyncEnds, Ends, TellsRefusal, command_of, is_built, parts};
-ghost use Rattle.desync_cli.specs.Commands.{refusal_of, spares};
+ghost use Rattle.desync_cli.specs.Commands.{LeavesBehind, refusal_of, spares};
 ghost use Rattle.desync_cli.specs.Lines.{TakesLine};
 ghost use Rattle.command_steps.specs.Steps.{answer_of, outcome_of};
 ghost use Rattle.command_steps.specs.Worlds.{NoFault, world};
@@ -53,10 +53,11 @@ fn perform<F: Files, O: Sink>(
         Command::Extract {
             stores,
             seeds,
+            in_place,
             index,
             target,
             ..
-        } => extract(alloc, files, stores, seeds, index, target),
+        } => extract(alloc, files, stores, seeds, in_place, index, target),
         Command::Info { stores, index } => info(alloc, files, out, stores, index),
         Command::Help => help(out, Topic::All),
         Command::Version => help(out, Topic::Version),
@@ -137,6 +138,11 @@ pub fn desync<F: Files, O: Sink, E: Sink>(
         (answer_of result.outcome)
         (world (F.disk files.new) (O.output out.new)) }
     ensures kept { IfSome (command_of (map string_bytes words.now)) (λ c. Keeps (spares c)
+        (world (F.disk files.old) (O.output out.old))
+        (world (F.disk files.new) (O.output out.new))) }
+
+    // What a refusal leaves of what the command would have written.
+    ensures left { result.outcome ≢ Outcome.Done → IfSome (command_of (map string_bytes words.now)) (λ c. LeavesBehind c
         (world (F.disk files.old) (O.output out.old))
         (world (F.disk files.new) (O.output out.new))) }
 

@@ -153,9 +153,51 @@ fn other_words_are_refused_by_place_and_reason(rt: HostRuntime) -> Result<(), Fa
     ends(&rt, alloc, "make -s st -n 33 a b", &mut files, "", "desync: word 4: BadNumber\n")?;
     ends(&rt, alloc, "make -s https://h/ a b", &mut files, "", "desync: word 2: BadLocation\n")?;
     ends(&rt, alloc, "make -s http://h/ a b", &mut files, "", "desync: word 0: NotYet\n")?;
-    ends(&rt, alloc, "extract -s st a b", &mut files, "", "desync: word 0: NotYet\n")?;
+    ends(&rt, alloc, "extract -c c -s st a b", &mut files, "", "desync: word 0: NotYet\n")?;
     ends(&rt, alloc, "prune -s st a", &mut files, "", "desync: word 4: NeedsYes\n")?;
     ends(&rt, alloc, "chop -s http://h/ a b", &mut files, "", "desync: word 0: NotYet\n")
+}
+
+// Extracts "abc" by way of the temporary file, of which so many writes fail, from a store with these chunks.
+fn replacing_case(
+    rt: &impl Abort,
+    alloc: Global,
+    chunks: &[(&[u8], &[u8])],
+    failing: u32,
+    line: &str,
+) -> Result<(), Fail> {
+    let mut files = MemFiles::new(alloc, Vec::new(alloc));
+    let store = store_of(alloc, chunks).ok_or("no memory")?;
+    files.set_folder("st", store)?;
+    let index = index_of(alloc, 262_144, &[b"abc"])?;
+    files.set_file("i", index, RangeFails::none(alloc))?;
+    files.set_file(
+        "o",
+        Vec::from_slice(alloc, b"old")?,
+        RangeFails::none(alloc),
+    )?;
+    let mut fails = RangeFails::none(alloc);
+    fails.writes.push((0, failing))?;
+    let left = Vec::from_slice(alloc, b"left by an earlier run")?;
+    files.set_file("o.tmp-desync", left, fails)?;
+    ends(rt, alloc, "extract -s st i o", &mut files, "", line)?;
+    let out = if line.is_empty() { b"abc" } else { b"old" };
+    assert_eq!(rt; files.file("o"), Some(out.as_slice()));
+    assert_eq!(rt; files.file("o.tmp-desync"), None);
+    Ok(())
+}
+
+#[test]
+#[rattlefmt::skip]
+fn out_is_replaced_or_as_before(rt: HostRuntime) -> Result<(), Fail> {
+    let alloc = rt.alloc();
+    let missing = "desync: chunk 53048e2681941ef99b2e29b76b4c7dabe4c2d0c634fc6d46e0e2f13107e7af23 of entry 0 is \
+        missing\n";
+    let held: &[(&[u8], &[u8])] = &[(b"abc", b"abc")];
+    replacing_case(&rt, alloc, held, 0, "")?;
+    replacing_case(&rt, alloc, held, 1, "")?;
+    replacing_case(&rt, alloc, held, 2, "desync: the target failed\n")?;
+    replacing_case(&rt, alloc, &[], 0, missing)
 }
 
 // Extracts "abc" with a seed whose image holds these bytes, or isn't there, from a store with these chunks.

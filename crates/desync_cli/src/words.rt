@@ -24,12 +24,10 @@ fn is_built(command: &Command) -> bool
             stores,
             seeds,
             cache,
-            in_place,
             ..
         } => {
             let stores = stores.as_slice();
-            *in_place
-                && seeds.as_slice().len() <= 64
+            seeds.as_slice().len() <= 64
                 && !cache.is_some()
                 && 1 <= stores.len()
                 && stores.len() <= 16

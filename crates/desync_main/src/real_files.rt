@@ -51,8 +51,12 @@ fn stat<R: System<File = File>>(rt: &R, name: &str) -> Found {
     }
 }
 
-// The size of the file, which is made where there is none.
+// The size of the file, which is made where there is none. A fresh one isn't the file that stood there, so that what else
+// names or links to that stays as it is.
 fn open_file<R: System<File = File>>(rt: &R, name: &str, fresh: bool) -> io::Result<u64> {
+    if fresh && fs::symlink_metadata(rt, name).is_ok() {
+        fs::remove_file(rt, name)?;
+    }
     let file = OpenOptions::new()
         .write(true)
         .create(true)
@@ -106,13 +110,16 @@ fn replace_file<R: System<File = File> + AllocGlobal>(
     Ok(())
 }
 
-// Puts the file in the place of the other, or of the file that the other name links to.
+// Puts the file in the place of the other, or of the file that the other name links to, with the rights of that one.
 fn rename_file<R: System<File = File> + AllocGlobal>(
     rt: &R,
     from: &str,
     to: &str,
 ) -> io::Result<()> {
     refuse_others(rt, to)?;
+    if let Ok(metadata) = fs::metadata(rt, to) {
+        fs::set_permissions(rt, from, metadata.permissions())?;
+    }
     if is_link(rt, to) {
         let path = fs::canonicalize(rt, to)?;
         return fs::rename(rt, from, path.as_str());

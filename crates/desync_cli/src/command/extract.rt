@@ -1,13 +1,14 @@
-//! `extract -k -s FOLDER.. --seed INDEX.. INDEX OUT`: OUT becomes the image that INDEX lists, with chunks from up to 64
+//! `extract [-k] -s FOLDER.. --seed INDEX.. INDEX OUT`: OUT becomes the image that INDEX lists, with chunks from up to 64
 //! seeds and from 1 to 16 folders.
 
-ghost use Rattle.std.specs.Prelude.{◌≡◌, ℕ, List, ◌<◌, ◌≤◌, ◌^◌, map, Some, IfOk, IfSome, length};
+ghost use Rattle.std.specs.Prelude.{◌≡◌, ◌≢◌, ℕ, List, ◌<◌, ◌≤◌, ◌^◌, map, Some, IfOk, IfSome, length, is_some, string_bytes, true, false};
 ghost use Rattle.caibx_codec.specs.Listing.{Listing};
 ghost use Rattle.command_steps.specs.AnyStores.{faults_in, files_in, place_in};
 ghost use Rattle.command_steps.specs.Seeds.{image_name};
 ghost use Rattle.command_steps.specs.Stores.{AllKnown};
 ghost use Rattle.command_steps.specs.Worlds.{Writes, world};
-ghost use Rattle.desync_cli.specs.Extract.{Assembled, ExtractEnds, answer_of_assembly, answer_of_taking};
+ghost use Rattle.desync_cli.specs.Extract.{Assembled, ClearedAfter, ExtractEnds, IsNoFile, OutMade, Renamed, answer_of_assembly, answer_of_taking};
+ghost use Rattle.desync_cli.specs.Extract.{temporary_out};
 ghost use Rattle.dsy_base.specs.Disk.{Output};
 ghost use Rattle.dsy_base.specs.Maps.{Map};
 ghost use Rattle.extract_plan.specs.Deal.{AreWants};
@@ -24,13 +25,13 @@ use command_steps::any_store::AnyStore;
 use command_steps::openings::read_index;
 use command_steps::seeds::{close_seeds, open_seeds, read_indexes};
 use command_steps::stores::{close_stores, open_stores};
-use dsy_base::fault::{IoFault, Memory};
+use dsy_base::fault::{IoFault, Memory, OpenFault};
 use dsy_base::files::Files;
 use dsy_base::look::Look;
 use dsy_base::name::Name;
 use extract_plan::plan::Plan;
 use extract_plan::seeds::SeedIndex;
-use std::alloc::Global;
+use std::alloc::{AllocError, Global};
 use store_chain::chain::Chain;
 
 // What is to be assembled: an index, its plan, and where seeds list its chunks.
@@ -98,14 +99,16 @@ fn plan_of(alloc: Global, index: Index, seeds: Vec<Index>) -> Result<Planned, Me
     }
 }
 
-// Makes OUT the image, and gives stores and seeds back whatever the answer is.
+// Makes the file the image, and gives stores and seeds back whatever the answer is. It begins with no bytes where `fresh`
+// is true.
 fn assemble_into<F: Files>(
     alloc: Global,
     files: &mut F,
     planned: &Planned,
     stores: Vec<AnyStore<F::Look>>,
     seeds: &[Name],
-    target: Name,
+    target: &str,
+    fresh: bool,
 ) -> Result<(), Outcome>
     requires wants { AreWants planned.now.index planned.now.plan.wants planned.now.plan.want_of }
     requires known_places { PlacesKnown planned.now.index planned.now.plan planned.now.places (length seeds.now) }
@@ -117,15 +120,17 @@ fn assemble_into<F: Files>(
         × (map m (map (place_in F.Look.place) stores.items) ≡ map Some fs)
         × (map (files_in F.Look.files) stores.items ≡ map Some fs)) }
     ensures assembled { (ls : List Listing) → IsSeedIndex planned.now.index planned.now.plan ls planned.now.places →
-        Assembled (F.disk files.old) (F.disk files.new) (map (place_in F.Look.place) stores.items) target
-        planned.now.index (record { images = map image_name seeds.now; listings = ls }) result }
+        Assembled (F.disk files.old) (F.disk files.new) (map (place_in F.Look.place) stores.items)
+        (record { name = target.now; fresh = fresh }) planned.now.index
+        (record { images = map image_name seeds.now; listings = ls }) result }
     ensures kept { Writes (F.disk files.old) (F.disk files.new) }
+    ensures tells { is_some (F.disk files.new).files ≡ is_some (F.disk files.old).files }
 {
     let Ok(seeds) = open_seeds(alloc, files, seeds) else {
         close_stores(files, stores);
         return Err(Outcome::Memory);
     };
-    let mut taken = match files.take(target.as_str(), false) {
+    let mut taken = match files.take(target, fresh) {
         Ok(taken) => taken,
         Err(fault) => {
             close_stores(files, stores);
@@ -143,23 +148,102 @@ fn assemble_into<F: Files>(
     let Kit { chain, seeds, .. } = kit;
     close_stores(files, chain.into_stores());
     close_seeds(files, seeds);
-    files.give(target.as_str(), taken);
+    files.give(target, taken);
     answer_of(ended)
 }
 
-/// Makes OUT the image that INDEX lists. What OUT holds already is kept where it is right. Chunks come from the images of
-/// the seeds, and else from the folders, which are asked in order.
+// The name of the temporary file beside OUT.
+fn temporary_out(alloc: Global, target: &str) -> Result<String, AllocError>
+    ensures { IfOk result (λ t. string_bytes t ≡ temporary_out target.now) }
+{
+    let mut name = String::from_str(alloc, target)?;
+    name.push_str(".tmp-desync")?;
+    Ok(name)
+}
+
+// Removes the file after a refusal. A fault of that is passed over.
+fn clear<F: Files>(files: &mut F, name: &str, answer: Result<(), Outcome>) -> Result<(), Outcome>
+    ensures { ClearedAfter name.now (F.disk files.old) answer result (F.disk files.new) }
+{
+    let Err(outcome) = answer else {
+        return Ok(());
+    };
+    match files.remove(name) {
+        Ok(()) | Err(OpenFault::Absent) | Err(OpenFault::Failed) => Err(outcome),
+        Err(OpenFault::Memory) => Err(Outcome::Memory),
+    }
+}
+
+// The outcome where the file isn't there.
+fn no_file(alloc: Global, name: &str) -> Outcome
+    ensures { IsNoFile name.now result }
+{
+    match Name::of(alloc, name) {
+        Ok(name) => Outcome::NoFile { name },
+        Err(_) => Outcome::Memory,
+    }
+}
+
+// Gives the temporary file OUT's name.
+fn rename<F: Files>(alloc: Global, files: &mut F, from: &str, to: Name) -> Result<(), Outcome>
+    requires { from.now ≢ to }
+    ensures { Renamed from.now to (F.disk files.old) result (F.disk files.new) }
+{
+    match files.rename(from, to.as_str()) {
+        Ok(()) => Ok(()),
+        Err(OpenFault::Absent) => Err(no_file(alloc, from)),
+        Err(OpenFault::Failed) => Err(Outcome::FileFault { name: to }),
+        Err(OpenFault::Memory) => Err(Outcome::Memory),
+    }
+}
+
+// Makes the temporary file the image, which then takes OUT's name.
+fn assemble_beside<F: Files>(
+    alloc: Global,
+    files: &mut F,
+    planned: &Planned,
+    stores: Vec<AnyStore<F::Look>>,
+    seeds: &[Name],
+    temporary: &str,
+    target: Name,
+) -> Result<(), Outcome>
+    requires wants { AreWants planned.now.index planned.now.plan.wants planned.now.plan.want_of }
+    requires known_places { PlacesKnown planned.now.index planned.now.plan planned.now.places (length seeds.now) }
+    requires size { (1 ≤ length stores.items) × (length stores.items ≤ 16) }
+    requires known { AllKnown (place_in F.Look.place) (F.disk files.old).folder_counts stores.items }
+    requires fresh { map (faults_in F.Look.faults) stores.items ≡ map (λ q. 0)
+        (map (place_in F.Look.place) stores.items) }
+    requires found { IfSome (F.disk files.old).folders (λ m. (fs : List (Map (List ℕ)))
+        × (map m (map (place_in F.Look.place) stores.items) ≡ map Some fs)
+        × (map (files_in F.Look.files) stores.items ≡ map Some fs)) }
+    requires named { temporary.now ≡ temporary_out target }
+    ensures made { (ls : List Listing) (p : Output) →
+        IsSeedIndex planned.now.index planned.now.plan ls planned.now.places → OutMade false
+        (map (place_in F.Look.place) stores.items) target planned.now.index
+        (record { images = map image_name seeds.now; listings = ls })
+        (world (F.disk files.old) p) result (world (F.disk files.new) p) }
+{
+    let made = assemble_into(alloc, files, planned, stores, seeds, temporary, true);
+    clear(files, temporary, made)?;
+    let renamed = rename(alloc, files, temporary, target);
+    clear(files, temporary, renamed)
+}
+
+/// Makes OUT the image that INDEX lists: in its place, where what it holds already is kept where it is right; or by way of
+/// a temporary file, which takes OUT's name when it is the image. Chunks come from the images of the seeds, and else from
+/// the folders, which are asked in order.
 pub fn extract<F: Files>(
     alloc: Global,
     files: &mut F,
     stores: Locations,
     seeds: Names,
+    in_place: bool,
     index: Name,
     target: Name,
 ) -> Result<(), Outcome>
     requires stores { (1 ≤ length stores) × (length stores ≤ 16) }
     requires seeds { length seeds ≤ 64 }
-    ensures ends { (p : Output) → ExtractEnds stores seeds index target
+    ensures ends { (p : Output) → ExtractEnds stores seeds in_place index target
         (world (F.disk files.old) p) result
         (world (F.disk files.new) p) }
 {
@@ -168,7 +252,22 @@ pub fn extract<F: Files>(
     let Ok(planned) = plan_of(alloc, listed, indexes) else {
         return Err(Outcome::Memory);
     };
+    let Ok(temporary) = temporary_out(alloc, target.as_str()) else {
+        return Err(Outcome::Memory);
+    };
     let opened = open_stores(alloc, files, stores.as_slice())?;
-    assemble_into(alloc, files, &planned, opened, seeds.as_slice(), target)?;
-    Ok(())
+    let seeds = seeds.as_slice();
+    if in_place {
+        assemble_into(
+            alloc,
+            files,
+            &planned,
+            opened,
+            seeds,
+            target.as_str(),
+            false,
+        )
+    } else {
+        assemble_beside(alloc, files, &planned, opened, seeds, &temporary, target)
+    }
 }

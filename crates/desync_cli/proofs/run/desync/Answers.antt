@@ -1,5 +1,6 @@
 use Rattle.std.proofs.Common.{map, string_bytes, sym, ◌∙◌}
 use Rattle.command_steps.specs.Worlds.{world}
+use Rattle.desync_cli.proofs.Replaced.{left_behind}
 use Rattle.desync_cli.proofs.Done.{achieved}
 use Rattle.desync_cli.proofs.Fair.{answered, blamed, kept, nothing_failed, tells_refusal}
 use Rattle.desync_cli.proofs.run.desync.Goals as goal
@@ -29,3 +30,9 @@ returns-clause-done g c =
     let told = g.met.F.Files.told c.args.files.now in
     rw c.outcome_of-outcome.ensures (λ done.
     achieved (map string_bytes c.args.words.now) (world (g.F.Files.disk c.args.files.now) (g.O.Sink.output c.args.out.now)) (world (g.F.Files.disk c.run.new.files) (g.O.Sink.output c.run.new.out)) c.run.result (told.0 ∙ sym told.1) c.run.ensures.ends done)
+
+pub returns-clause-left : goal.returns-clause-left
+returns-clause-left g c =
+    let told = g.met.F.Files.told c.args.files.now in
+    rw c.outcome_of-outcome.ensures (λ refused.
+    left_behind (map string_bytes c.args.words.now) (world (g.F.Files.disk c.args.files.now) (g.O.Sink.output c.args.out.now)) (world (g.F.Files.disk c.run.new.files) (g.O.Sink.output c.run.new.out)) c.run.result (told.0 ∙ sym told.1) c.run.ensures.ends refused)

@@ -1,4 +1,4 @@
-use Rattle.std.proofs.Common.{◌≡◌, ◌≤◌, ◌∙◌, ◌⊎◌, ℕ, All, List, Err, [], length, Option, Some, IfSome, IsTrue, is_some, map, slice_index, slice_index_or, None, refl, sym, ap, subst, arith, IsSome}
+use Rattle.std.proofs.Common.{◌≡◌, ◌≤◌, ◌∙◌, ℕ, All, List, Err, length, Option, Some, IfSome, IsTrue, is_some, map, slice_index_or, None, refl, sym, ap, subst, arith, IsSome}
 use Rattle.std.proofs.lemmas.List.{length-map}
 use Rattle.std.proofs.lemmas.List.Elements.{All-map}
 use Rattle.std.specs.List.{AllZip}
@@ -8,7 +8,6 @@ use Rattle.assembler.specs.Assemblies.{IsObtainable}
 use Rattle.command_steps.proofs.Lent.{each_quiet, known_places, store_rose}
 use Rattle.command_steps.proofs.Numbers.{counted_known, counted_le, given_quiet, given_rose, rose_later, rose_longer, rose_not_quiet}
 use Rattle.command_steps.specs.AnyStores.{chunks_in, faults_in, files_in, place_in}
-use Rattle.command_steps.specs.Blames.{name_at}
 use Rattle.command_steps.specs.Seeds.{IsViewed, image_name, label_in}
 use Rattle.command_steps.specs.Worlds.{FileRose}
 use Rattle.desync_cli.proofs.Assembled.{assembled, facts_of, had_of, not_taken_as, obtainable_of}
@@ -17,13 +16,11 @@ use Rattle.desync_cli.proofs.Lost.{lacks_told, seeds_lack, store_told, target_as
 use Rattle.desync_cli.proofs.Seeded.{all_known_later, label_of, labels_are, same_known, same_labels, zeros, zipped_many}
 use Rattle.desync_cli.proofs.Wrote.{wrote_back, wrote_on, wrote_read, wrote_then}
 use Rattle.desync_cli.proofs.command.extract.assemble_into.Goals as goal
-use Rattle.desync_cli.specs.Extract.{Assembled, Seeds, answer_of_assembly, old_of}
-use Rattle.dsy_base.specs.Bytes.{Held}
-use Rattle.dsy_base.specs.Counts.{Quiet, Rose, raised}
+use Rattle.desync_cli.specs.Extract.{Assembled, Into, Seeds, answer_of_assembly, old_of}
+use Rattle.dsy_base.specs.Counts.{Rose, raised}
 use Rattle.dsy_base.specs.Maps.{Map, at_name}
 use Rattle.extract_plan.specs.Places.{PlacesKnown}
 use Rattle.extract_plan.specs.Seeds as seeds
-use Rattle.extract_plan.specs.declared.seed.Seed.{Seed}
 
 pub returns-in-Err-clause-assembled : goal.returns-in-Err-clause-assembled
 returns-in-Err-clause-assembled g c = λ ls is.
@@ -33,14 +30,15 @@ returns-in-Err-clause-assembled g c = λ ls is.
     let b2 = at c.take.new.self in
     let b3 = at c.close_stores-in-Err.new.files in
     let e = at c.close_seeds.new.files in
-    let q = c.args.target in
+    let q = c.args.target.now in
+    let o : Into = record { name = q; fresh = c.args.fresh } in
     let place = place_in g.F.Look.Look.place in
     let names = map place c.args.stores.items in
-    let took = rw c.as_str.ensures at c.in-Err.ensures.faults in
+    let took = c.in-Err.ensures.faults in
     let same : count_at b3.file_counts q ≡ count_at b2.file_counts q = ap (λ (m : Map ℕ). count_at m q) c.close_stores-in-Err.ensures.counts in
     let more = c.close_seeds.ensures.kept.counts q in
     let le : count_at b2.file_counts q ≤ count_at e.file_counts q = omega (arith, same, more) in
-    rw c.not_taken.ensures (not_taken_as d e names q c.args.planned.now.index (record { images = map image_name c.args.seeds.now; listings = ls }) c.in-Err.fault (map (files_in g.F.Look.Look.files) c.args.stores.items) c.requires.found
+    rw c.not_taken.ensures (not_taken_as d e names o c.args.planned.now.index (record { images = map image_name c.args.seeds.now; listings = ls }) c.in-Err.fault (map (files_in g.F.Look.Look.files) c.args.stores.items) c.requires.found
     (c.close_seeds.ensures.kept.files ∙ c.close_stores-in-Err.ensures.kept.files ∙ c.in-Err.ensures.err ∙ c.in-Ok.ensures.kept.files)
     (λ failed. rose_longer (count_at d.file_counts q) (count_at b2.file_counts q) (count_at e.file_counts q) le
     (rose_later (count_at d.file_counts q) (count_at b.file_counts q) (count_at b2.file_counts q) (c.in-Ok.ensures.kept.counts q) (took.cause (ap Err failed)))))
@@ -91,6 +89,14 @@ close_stores-requires-2 g c =
           (All-map (λ q. IsSome (counts q)) place xs now));
     }
 
+pub close_seeds-requires : goal.close_seeds-requires
+close_seeds-requires g c =
+    let at = g.F.Files.disk in
+    let b = at c.open_seeds.new.files in
+    let b3 = at c.close_stores-in-Err.new.files in
+    let later : (q : List ℕ) → IsSome (b.file_counts q) → IsSome (b3.file_counts q) = λ q known. c.close_stores-in-Err.ensures.kept.known q (counted_known b.file_counts (at c.take.new.self).file_counts _ c.in-Err.ensures.counts.counts q known) in
+    record { known = all_known_later g.F.View.View.held b.file_counts b3.file_counts later c.in-Ok.seeds.items c.in-Ok.ensures.known }
+
 pub close_seeds-requires-2 : goal.close_seeds-requires-2
 close_seeds-requires-2 g c =
     let at = g.F.Files.disk in
@@ -104,7 +110,7 @@ close_seeds-requires-2 g c =
 
 pub give-requires-clause-known : goal.give-requires-clause-known
 give-requires-clause-known g c =
-    rw c.as_str-2.ensures (c.close_seeds-2.ensures.kept.known _ (c.close_stores-2.ensures.kept.known _ (rw c.as_str.ensures at c.in-Ok-take.ensures.known)))
+    (c.close_seeds-2.ensures.kept.known _ (c.close_stores-2.ensures.kept.known _ (c.in-Ok-take.ensures.known)))
 
 pub returns-clause-assembled : goal.returns-clause-assembled
 returns-clause-assembled g c = λ ls is.
@@ -122,7 +128,8 @@ returns-clause-assembled g c = λ ls is.
     let place = place_in g.F.Look.Look.place in
     let faults = faults_in g.F.Look.Look.faults in
     let holds = chunks_in g.F.Look.Look.files in
-    let q = c.args.target in
+    let q = c.args.target.now in
+    let o : Into = record { name = q; fresh = c.args.fresh } in
     let k = c.new-kit.result in
     let j = c.assemble-ended.new.kit in
     let before = k.chain.stores in
@@ -148,11 +155,11 @@ returns-clause-assembled g c = λ ls is.
     let zip : AllZip (IsViewed d b) z.images views = subst (λ v. AllZip (IsViewed d b) z.images (map (seeds.held_in view) v.items)) (sym c.new-kit.ensures.seeds) opens.found in
     let unfailed : map (seeds.faults_in view_faults) items ≡ map {B = ℕ} (λ s. 0) items = subst (λ v. map (seeds.faults_in view_faults) v.items ≡ map {B = ℕ} (λ s. 0) v.items) (sym c.new-kit.ensures.seeds) opens.fresh in
     let fresh_seeds : map (seeds.faults_in view_faults) items ≡ map {B = ℕ} (λ q. 0) labels = unfailed ∙ sym (zeros view items) in
-    let gave = rw c.as_str-2.ensures at c.give.ensures.files in
-    let out = rw c.as_str.ensures at c.in-Ok-take.ensures.ok in
+    let gave = c.give.ensures.files in
+    let out = c.in-Ok-take.ensures.ok in
     let left = gave ∙ ap (option_map (λ m. at_name m q t1)) (c.close_seeds-2.ensures.kept.files ∙ c.close_stores-2.ensures.kept.files ∙ out ∙ ap (option_map (λ m. at_name m q None)) opens.kept.files) in
-    let took = subst (λ f. IfSome f (λ m. t0 ≡ Some (old_of m q))) opens.kept.files (rw c.as_str.ensures at c.in-Ok-take.ensures.bytes) in
-    let added = rw c.as_str-2.ensures at c.give.ensures.counts.counts.added in
+    let took = subst (λ f. IfSome f (λ m. t0 ≡ Some (old_of m o))) opens.kept.files (c.in-Ok-take.ensures.bytes) in
+    let added = c.give.ensures.counts.counts.added in
     let given : (y : List ℕ) → count_at b4.file_counts y ≤ count_at e.file_counts y = λ y. counted_le b4.file_counts e.file_counts _ c.give.ensures.counts.counts.counted y in
     let le_mid : (y : List ℕ) → count_at d.file_counts y ≤ count_at b3.file_counts y = λ y.
     let first = opens.kept.counts y in
@@ -181,16 +188,16 @@ returns-clause-assembled g c = λ ls is.
     let on : count_at b.file_counts y ≤ count_at e.file_counts y = omega (arith, next, last, more, end) in
     rose_longer (count_at d.file_counts y) (count_at b.file_counts y) (count_at e.file_counts y) on in
     let tells : (m : Map (List ℕ)) → d.files ≡ Some m → IsTrue g.F.View.View.tells = λ m y. (g.met.F.Files.alike.0 (subst (λ t. IsTrue t) ((g.met.F.Files.told c.args.files.now).0) (subst (λ (o : Option (Map (List ℕ))). IsTrue (is_some o)) (sym y) refl))).0 in
-    let made = assembled d e names q l z r
-    (facts_of d e names q l z (λ maps base. IsObtainable l p x base views maps)
+    let made = assembled d e names o l z r
+    (facts_of d e names o l z (λ maps base. IsObtainable l p x base views maps)
     (λ m told maps base i lt. had_of d b e l p x z views zip is m told base maps i lt)
     (λ m told quiet maps base i lt. obtainable_of d b e l p x z views zip is m told base maps i lt (λ y rise. rose_not_quiet (count_at d.file_counts y) (count_at d.file_counts y) (count_at e.file_counts y) (omega arith) (later y rise) (quiet.files y)))
     r (map files before) t0 t1 (Rose f0 f1) _
     found took
     (g.met.F.Target.View.told c.in-Ok-take.taken ∙ sym (g.met.F.Target.View.told c.assemble-ended.new.target))
     left rose over.bytes
-    (λ fs looks. lacks_told holds _ place faults _ view view_faults l p x d e names q z t0 f0 f1 k j (Rose f0 f1) r fs (held_maps files before fs looks) rose over.lost)
-    (λ m told. seeds_lack holds _ place faults _ view view_faults l p x d e names q z t0 f0 f1 k j b m told zip is later rises (Rose f0 f1) r over.lost)
+    (λ fs looks. lacks_told holds _ place faults _ view view_faults l p x d e names o z t0 f0 f1 k j (Rose f0 f1) r fs (held_maps files before fs looks) rose over.lost)
+    (λ m told. seeds_lack holds _ place faults _ view view_faults l p x d e names o z t0 f0 f1 k j b m told zip is later rises (Rose f0 f1) r over.lost)
     over.exactly over.after
     (λ m y fs looks quiet. record {
       target = rw c.in-Ok-take.ensures.fresh.0 (given_quiet _ _ _ _ le added (quiet.files q));
@@ -200,7 +207,10 @@ returns-clause-assembled g c = λ ls is.
       stores = each_quiet faults place d.folder_counts b2.folder_counts b3.folder_counts opened before after names fresh_stores closed (rw stays at quiet.folders);
     }))
     (target_as _ (Rose f0 f1) (FileRose d e q) rose r over.lost)
-    (store_told holds _ place faults _ view view_faults l p x d e names q z t0 f0 f1 k j b2.folder_counts opened over.stores refl
+    (store_told holds _ place faults _ view view_faults l p x d e names o z t0 f0 f1 k j b2.folder_counts opened over.stores refl
     (λ xs held. there_after d.folders names files before xs found held)
     (rw stays closed) (Rose f0 f1) r over.lost) in
-    rw c.answer_of.ensures (subst (λ xs. Assembled d e (map place xs) q l z (answer_of_assembly r)) same made)
+    rw c.answer_of.ensures (subst (λ xs. Assembled d e (map place xs) o l z (answer_of_assembly r)) same made)
+
+pub returns-clause-tells : goal.returns-clause-tells
+returns-clause-tells g c = (g.met.F.Files.told c.give.new.self).0 ∙ sym ((g.met.F.Files.told c.args.files.now).0)

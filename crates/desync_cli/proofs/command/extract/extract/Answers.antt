@@ -1,45 +1,23 @@
-use Rattle.std.proofs.Common.{◌≡◌, ◌∙◌, ℕ, List, Ok, Err, ap, arith, inl, inr, length, map, refl, subst, sym}
-use Rattle.std.proofs.lemmas.List.{length-map}
+use Rattle.std.proofs.Common.{ℕ, List, arith, true, false, inl, inr, map, refl, subst, sym}
 use Rattle.std.proofs.lemmas.Result.{err_from_is_err_and}
 use Rattle.caibx_codec.specs.Listing.{Listing}
 use Rattle.command_steps.proofs.Lent.{known_places}
 use Rattle.command_steps.specs.AnyStores.{files_in, place_in}
 use Rattle.command_steps.specs.Openings.{Listed}
 use Rattle.command_steps.specs.Seeds.{image_name}
-use Rattle.command_steps.specs.Stores.{name_of, names_of}
+use Rattle.command_steps.specs.Stores.{names_of}
+use Rattle.command_steps.specs.Worlds.{world}
 use Rattle.desync_cli.proofs.Counting.{all_there}
+use Rattle.desync_cli.proofs.Replaced.{ends_with, known_places_of, opened_many}
 use Rattle.desync_cli.proofs.Seeded.{zipped_many}
 use Rattle.desync_cli.proofs.command.extract.extract.Goals as goal
-use Rattle.desync_cli.specs.Extract.{Assembled}
-use Rattle.extract_plan.specs.Places.{PlacesKnown}
+use Rattle.desync_cli.specs.Extract.{ExtractEnds, OutMade}
 
 pub plan_of-requires-clause-few : goal.plan_of-requires-clause-few
 plan_of-requires-clause-few g c =
     let listed = rw c.as_slice.ensures at c.in_ok-indexes.ensures.ok in
     let many = zipped_many (λ q l. Listed (g.F.Files.disk c.read_index.new.files) q l) c.args.seeds c.in_ok-indexes.indexes.items listed in
     omega (arith, many, c.requires.seeds)
-
-pub assemble_into-requires-clause-known_places : goal.assemble_into-requires-clause-known_places
-assemble_into-requires-clause-known_places g c =
-    let listed = rw c.as_slice.ensures at c.in_ok-indexes.ensures.ok in
-    let many = zipped_many (λ q l. Listed (g.F.Files.disk c.read_index.new.files) q l) c.args.seeds c.in_ok-indexes.indexes.items listed in
-    let p = c.in-Ok.planned in
-    let known = subst (λ l. PlacesKnown l p.plan p.places (length c.in_ok-indexes.indexes.items)) (sym c.in-Ok.ensures.index) c.in-Ok.ensures.known in
-    rw c.as_slice-3.ensures (subst (λ (n : ℕ). PlacesKnown p.index p.plan p.places n) (sym many) known)
-
-pub assemble_into-requires-clause-size : goal.assemble_into-requires-clause-size
-assemble_into-requires-clause-size g c =
-    let items = c.in_ok-opened.opened.items in
-    let fresh = rw c.as_slice-2.ensures at c.in_ok-opened.ensures.fresh in
-    let many : length items ≡ length c.args.stores = sym (length-map items (place_in g.F.Look.Look.place)) ∙ ap length fresh.0 ∙ length-map c.args.stores name_of in
-    (omega (arith, many, c.requires.stores.0), omega (arith, many, c.requires.stores.1))
-
-pub assemble_into-requires-clause-known : goal.assemble_into-requires-clause-known
-assemble_into-requires-clause-known g c =
-    let names = names_of c.args.stores in
-    let known = rw c.as_slice-2.ensures at c.in_ok-opened.ensures.known in
-    let fresh = rw c.as_slice-2.ensures at c.in_ok-opened.ensures.fresh in
-    known_places (place_in g.F.Look.Look.place) (g.F.Files.disk c.open_stores.new.files).folder_counts c.in_ok-opened.opened.items names fresh.0 known
 
 pub returns-in_err-opened : goal.returns-in_err-opened
 returns-in_err-opened g c =
@@ -57,69 +35,92 @@ returns-in_err-opened g c =
       }));
     }
 
-pub returns-in_err-assemble_into : goal.returns-in_err-assemble_into
-returns-in_err-assemble_into g c =
+pub assemble_into-requires-clause-known_places : goal.assemble_into-requires-clause-known_places
+assemble_into-requires-clause-known_places g c =
+    let listed = rw c.as_slice.ensures at c.in_ok-indexes.ensures.ok in
+    let p = c.in-Ok.planned in
+    rw c.as_slice-seeds.ensures (known_places_of (g.F.Files.disk c.read_index.new.files) c.args.seeds c.in_ok-indexes.indexes.items c.in_ok-listed.listed p.index p.plan p.places listed c.in-Ok.ensures.index c.in-Ok.ensures.known)
+
+pub assemble_into-requires-clause-size : goal.assemble_into-requires-clause-size
+assemble_into-requires-clause-size g c =
+    let fresh = rw c.as_slice-2.ensures at c.in_ok-opened.ensures.fresh in
+    opened_many (place_in g.F.Look.Look.place) c.args.stores c.in_ok-opened.opened.items fresh.0 c.requires.stores
+
+pub assemble_into-requires-clause-known : goal.assemble_into-requires-clause-known
+assemble_into-requires-clause-known g c =
+    let known = rw c.as_slice-2.ensures at c.in_ok-opened.ensures.known in
+    let fresh = rw c.as_slice-2.ensures at c.in_ok-opened.ensures.fresh in
+    known_places (place_in g.F.Look.Look.place) (g.F.Files.disk c.open_stores.new.files).folder_counts c.in_ok-opened.opened.items (names_of c.args.stores) fresh.0 known
+
+pub assemble_beside-requires-clause-known_places : goal.assemble_beside-requires-clause-known_places
+assemble_beside-requires-clause-known_places g c =
+    let listed = rw c.as_slice.ensures at c.in_ok-indexes.ensures.ok in
+    let p = c.in-Ok.planned in
+    rw c.as_slice-seeds.ensures (known_places_of (g.F.Files.disk c.read_index.new.files) c.args.seeds c.in_ok-indexes.indexes.items c.in_ok-listed.listed p.index p.plan p.places listed c.in-Ok.ensures.index c.in-Ok.ensures.known)
+
+pub assemble_beside-requires-clause-size : goal.assemble_beside-requires-clause-size
+assemble_beside-requires-clause-size g c =
+    let fresh = rw c.as_slice-2.ensures at c.in_ok-opened.ensures.fresh in
+    opened_many (place_in g.F.Look.Look.place) c.args.stores c.in_ok-opened.opened.items fresh.0 c.requires.stores
+
+pub assemble_beside-requires-clause-known : goal.assemble_beside-requires-clause-known
+assemble_beside-requires-clause-known g c =
+    let known = rw c.as_slice-2.ensures at c.in_ok-opened.ensures.known in
+    let fresh = rw c.as_slice-2.ensures at c.in_ok-opened.ensures.fresh in
+    known_places (place_in g.F.Look.Look.place) (g.F.Files.disk c.open_stores.new.files).folder_counts c.in_ok-opened.opened.items (names_of c.args.stores) fresh.0 known
+
+pub returns-then-in_place : goal.returns-then-in_place
+returns-then-in_place g c =
     let at = g.F.Files.disk in
-    let e = err_from_is_err_and c.from_residual-in_err-assemble_into.result c.from_residual-in_err-assemble_into.ensures.1 in
+    let d = at c.args.files.now in
+    let m = at c.open_stores.new.files in
+    let e = at c.assemble_into.new.files in
     let names = names_of c.args.stores in
     let items = c.in_ok-opened.opened.items in
-    let listings = c.in_ok-indexes.indexes.items in
+    let ls = c.in_ok-indexes.indexes.items in
+    let l = c.in_ok-listed.listed in
     let listed = c.in_ok-listed.ensures in
     let read = c.in_ok-indexes.ensures in
     let opened = c.in_ok-opened.ensures in
-    let made = c.in_err-assemble_into.ensures in
     let fresh = rw c.as_slice-2.ensures at opened.fresh in
     let found = rw c.as_slice-2.ensures at opened.found in
-    let ended : List (List ℕ) → List (List ℕ) → Listing → Type 0 = λ n images l. Assembled (at c.open_stores.new.files) (at c.assemble_into.new.files) n c.args.target l (record { images = map image_name images; listings = listings }) (Err c.in_err-assemble_into.field-0.0) in
-    let over : ended (map (place_in g.F.Look.Look.place) items) c.as_slice-3.result.now c.in-Ok.planned.index = made.assembled listings (rw c.in-Ok.ensures.index c.in-Ok.ensures.places) in
-    let into : ended names c.args.seeds c.in_ok-listed.listed =
-    subst (λ n. ended n c.args.seeds c.in_ok-listed.listed) fresh.0 (subst (λ q. ended (map (place_in g.F.Look.Look.place) items) q c.in_ok-listed.listed) c.as_slice-3.ensures
-    (subst (λ l. ended (map (place_in g.F.Look.Look.place) items) c.as_slice-3.result.now l) c.in-Ok.ensures.index over)) in
     record {
-      ends = λ o. rw (e.1, e.2) (inr (record {
-        disk = _;
-        out = _;
-        gave = c.in_ok-listed.listed;
-        did = ((listed.ok, listed.kept), refl);
-        then = inr (record {
-          disk = _;
-          out = _;
-          gave = listings;
-          did = (((rw c.as_slice.ensures at read.ok, read.few), read.kept), refl);
-          then = inr (record { disk = _; out = _; gave = tt; did = ((all_there (at c.read_indexes.new.files).folders names (files_in g.F.Look.Look.files) items found, opened.kept), refl); then = ((into, made.kept), refl) });
-        });
-      }));
+      ends = λ p.
+          let ended : List (List ℕ) → List (List ℕ) → List ℕ → Listing → Type 0 = λ n images q l. OutMade true n q l (record { images = map image_name images; listings = ls }) (world m p) c.assemble_into.result (world e p) in
+          let made = c.assemble_into.ensures in
+          let over : ended (map (place_in g.F.Look.Look.place) items) c.as_slice-seeds.result.now c.as_str-then-in_place.result.now c.in-Ok.planned.index = ((made.assembled ls (rw c.in-Ok.ensures.index c.in-Ok.ensures.places), made.kept, made.tells), refl) in
+          let named = subst (λ q. ended (map (place_in g.F.Look.Look.place) items) c.as_slice-seeds.result.now q c.in-Ok.planned.index) c.as_str-then-in_place.ensures over in
+          let into : ended names c.args.seeds c.args.target l =
+          subst (λ n. ended n c.args.seeds c.args.target l) fresh.0 (subst (λ q. ended (map (place_in g.F.Look.Look.place) items) q c.args.target l) c.as_slice-seeds.ensures
+          (subst (λ l. ended (map (place_in g.F.Look.Look.place) items) c.as_slice-seeds.result.now c.args.target l) c.in-Ok.ensures.index named)) in
+          subst (λ place. ExtractEnds c.args.stores c.args.seeds place c.args.index c.args.target (world d p) c.assemble_into.result (world e p)) (sym c.if-in_place.true)
+          (ends_with c.args.stores c.args.seeds true c.args.index c.args.target l ls d (at c.read_index.new.files) (at c.read_indexes.new.files) m e p c.assemble_into.result
+          (listed.ok, listed.kept) ((rw c.as_slice.ensures at read.ok, read.few), read.kept) (all_there (at c.read_indexes.new.files).folders names (files_in g.F.Look.Look.files) items found, opened.kept) into);
     }
 
 pub returns : goal.returns
 returns g c =
     let at = g.F.Files.disk in
+    let d = at c.args.files.now in
+    let m = at c.open_stores.new.files in
+    let e = at c.assemble_beside.new.files in
     let names = names_of c.args.stores in
     let items = c.in_ok-opened.opened.items in
-    let listings = c.in_ok-indexes.indexes.items in
+    let ls = c.in_ok-indexes.indexes.items in
+    let l = c.in_ok-listed.listed in
     let listed = c.in_ok-listed.ensures in
     let read = c.in_ok-indexes.ensures in
     let opened = c.in_ok-opened.ensures in
-    let made = c.in_ok-assemble_into.ensures in
     let fresh = rw c.as_slice-2.ensures at opened.fresh in
     let found = rw c.as_slice-2.ensures at opened.found in
-    let ended : List (List ℕ) → List (List ℕ) → Listing → Type 0 = λ n images l. Assembled (at c.open_stores.new.files) (at c.assemble_into.new.files) n c.args.target l (record { images = map image_name images; listings = listings }) (Ok tt) in
-    let over : ended (map (place_in g.F.Look.Look.place) items) c.as_slice-3.result.now c.in-Ok.planned.index = made.assembled listings (rw c.in-Ok.ensures.index c.in-Ok.ensures.places) in
-    let into : ended names c.args.seeds c.in_ok-listed.listed =
-    subst (λ n. ended n c.args.seeds c.in_ok-listed.listed) fresh.0 (subst (λ q. ended (map (place_in g.F.Look.Look.place) items) q c.in_ok-listed.listed) c.as_slice-3.ensures
-    (subst (λ l. ended (map (place_in g.F.Look.Look.place) items) c.as_slice-3.result.now l) c.in-Ok.ensures.index over)) in
     record {
-      ends = λ o. record {
-        disk = _;
-        out = _;
-        gave = c.in_ok-listed.listed;
-        did = ((listed.ok, listed.kept), refl);
-        then = record {
-          disk = _;
-          out = _;
-          gave = listings;
-          did = (((rw c.as_slice.ensures at read.ok, read.few), read.kept), refl);
-          then = record { disk = _; out = _; gave = tt; did = ((all_there (at c.read_indexes.new.files).folders names (files_in g.F.Look.Look.files) items found, opened.kept), refl); then = ((into, made.kept), refl) };
-        };
-      };
+      ends = λ p.
+          let ended : List (List ℕ) → List (List ℕ) → List ℕ → Listing → Type 0 = λ n images q l. OutMade false n q l (record { images = map image_name images; listings = ls }) (world m p) c.assemble_beside.result (world e p) in
+          let named : ended (map (place_in g.F.Look.Look.place) items) c.as_slice-seeds.result.now c.args.target c.in-Ok.planned.index = c.assemble_beside.ensures.made ls p (rw c.in-Ok.ensures.index c.in-Ok.ensures.places) in
+          let into : ended names c.args.seeds c.args.target l =
+          subst (λ n. ended n c.args.seeds c.args.target l) fresh.0 (subst (λ q. ended (map (place_in g.F.Look.Look.place) items) q c.args.target l) c.as_slice-seeds.ensures
+          (subst (λ l. ended (map (place_in g.F.Look.Look.place) items) c.as_slice-seeds.result.now c.args.target l) c.in-Ok.ensures.index named)) in
+          subst (λ place. ExtractEnds c.args.stores c.args.seeds place c.args.index c.args.target (world d p) c.assemble_beside.result (world e p)) (sym c.if-in_place.false)
+          (ends_with c.args.stores c.args.seeds false c.args.index c.args.target l ls d (at c.read_index.new.files) (at c.read_indexes.new.files) m e p c.assemble_beside.result
+          (listed.ok, listed.kept) ((rw c.as_slice.ensures at read.ok, read.few), read.kept) (all_there (at c.read_indexes.new.files).folders names (files_in g.F.Look.Look.files) items found, opened.kept) into);
     }

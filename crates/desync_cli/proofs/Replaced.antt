@@ -1,0 +1,215 @@
+-- What an extraction by way of a temporary file leaves of other files.
+use Rattle.std.proofs.Common.{◌≡◌, ◌≢◌, ◌⊎◌, ℕ, ◌+◌, ◌≤◌, List, length, codes, Bool, true, false, is_some, map, Option, Some, None, IfSome, Result, Ok, Err, refl, sym, ap, subst, ◌∙◌, inl, inr, arith}
+use Rattle.std.proofs.lemmas.List.{length-append, length-map}
+use Rattle.std.specs.Option.{option_map}
+use Rattle.caibx_codec.specs.Listing.{Listing}
+use Rattle.command_line.specs.declared.command.Command.{Command}
+use Rattle.command_line.specs.declared.command.Command.TheVariants as commands
+use Rattle.command_line.specs.declared.command.Location.{Location}
+use Rattle.command_outcome.specs.declared.outcome.Outcome.{Outcome}
+use Rattle.command_outcome.specs.declared.outcome.Outcome.TheVariants as ends
+use Rattle.command_steps.specs.Openings.{IndexRead, Listed}
+use Rattle.command_steps.specs.Seeds.{AllListed, IndexesRead, image_name}
+use Rattle.command_steps.specs.Steps.{◌>>=◌, Passed, outcome_of}
+use Rattle.command_steps.specs.Stores.{StoresOpened, name_of, names_of}
+use Rattle.command_steps.specs.Worlds.{OnDisk, Step, World, world}
+use Rattle.desync_cli.proofs.Fair.{begun, if_any, if_some}
+use Rattle.desync_cli.proofs.Seeded.{zipped_many}
+use Rattle.desync_cli.specs.Commands.{DesyncEnds, Ends, LeavesBehind, command_of}
+use Rattle.desync_cli.specs.Extract.{Assembled, Cleared, ClearedAfter, Clearing, ExtractEnds, Into, KeepsIn, LeavesOut, OutMade, Seeds, StopsSomewhere, beside, old_of, temporary_out}
+use Rattle.dsy_base.proofs.Counts.{at_other}
+use Rattle.dsy_base.specs.Disk.{Disk, Output}
+use Rattle.dsy_base.specs.Maps.{Map, at_name}
+use Rattle.extract_plan.specs.Deal.{Deal}
+use Rattle.extract_plan.specs.Places.{Placed, PlacesKnown}
+
+-- the temporary file is another one than OUT
+pub beside_apart : (out : List ℕ) → out ≢ temporary_out out
+beside_apart out same =
+    let long : length (temporary_out out) ≡ length out + 11 = length-append out (codes ".tmp-desync") in
+    let equal : length out ≡ length (temporary_out out) = ap length same in
+    absurd (omega (arith, long, equal))
+
+module _ (tmp : List ℕ) where
+  -- no file but this one has changed, and files tell as before
+  abbrev Only : Option (Map (List ℕ)) → Option (Map (List ℕ)) → Type 0
+  Only None None = Unit {0}
+  Only None (Some a) = ⊥
+  Only (Some b) None = ⊥
+  Only (Some b) (Some a) = (q : List ℕ) → q ≢ tmp → a q ≡ b q
+
+  only_same : (f g : Option (Map (List ℕ))) → g ≡ f → Only f g
+  only_same f g same = subst (Only f) (sym same) (go f) where
+    go : (f : Option (Map (List ℕ))) → Only f f
+    go None = tt
+    go (Some b) = λ q apart. refl
+
+  only_then : (f g h : Option (Map (List ℕ))) → Only f g → Only g h → Only f h
+  only_then None None None u v = tt
+  only_then None None (Some c) u v = absurd v
+  only_then None (Some a) h u v = absurd u
+  only_then (Some b) None h u v = absurd u
+  only_then (Some b) (Some a) None u v = absurd v
+  only_then (Some b) (Some a) (Some c) u v = λ q apart. v q apart ∙ u q apart
+
+  only_at : (f g : Option (Map (List ℕ))) (w : Option (List ℕ)) → g ≡ option_map (λ m. at_name m tmp w) f → Only f g
+  only_at f g w is = subst (Only f) (sym is) (go f) where
+    go : (f : Option (Map (List ℕ))) → Only f (option_map (λ m. at_name m tmp w) f)
+    go None = tt
+    go (Some b) = λ q apart. at_other b tmp w q apart
+
+  -- what was cleared
+  only_cleared : (d e : Disk) (o : Outcome) → Cleared tmp d o e → Only d.files e.files
+  only_cleared d e o h = elim h.0 [
+    | inl gone ↦ only_at d.files e.files None gone
+    | inr same ↦ only_same d.files e.files same.0
+  ]
+
+  -- over files and folders that tell, and over such that don't
+  over_told : (f : Option (Map (List ℕ))) (y : Option (Map (Map (List ℕ)))) (g : Option (Map (List ℕ))) (names : List (List ℕ)) (P : Map (List ℕ) → Map (List ℕ) → List (Map (List ℕ)) → Type 0) → is_some f ≡ is_some y → is_some g ≡ is_some f
+      → ((b a : Map (List ℕ)) (fs : List (Map (List ℕ))) → P b a fs → (w : Option (List ℕ)) × ((a ≡ b) ⊎ (a ≡ at_name b tmp w)))
+      → IfSome f (λ b. IfSome y (λ n. IfSome g (λ a. (fs : List (Map (List ℕ))) × (map n names ≡ map Some fs) × P b a fs))) → Only f g
+  over_told None y None names P told tells p h = tt
+  over_told None y (Some a) names P told tells p h = let no : true ≡ false = tells in absurd (cc)
+  over_told (Some b) None g names P told tells p h = let no : true ≡ false = told in absurd (cc)
+  over_told (Some b) (Some n) None names P told tells p h = let no : false ≡ true = tells in absurd (cc)
+  over_told (Some b) (Some n) (Some a) names P told tells p h =
+      let at = p b a h.0 h.2 in
+      elim at.1 [
+        | inl same ↦ only_same (Some b) (Some a) (ap Some same)
+        | inr set ↦ only_at (Some b) (Some a) at.0 (ap Some set)
+      ]
+
+module _ (names : List (List ℕ)) (i : Into) (l : Listing) (x : Seeds) (d e : Disk) (told : is_some d.files ≡ is_some d.folders) (tells : is_some e.files ≡ is_some d.files) where
+  kept_at : (b a : Map (List ℕ)) → (t : List ℕ) × KeepsIn d e b a i l t → (w : Option (List ℕ)) × ((a ≡ b) ⊎ (a ≡ at_name b i.name w))
+  kept_at b a h = (Some h.0, inr h.1.0)
+
+  stopped_at : (b a : Map (List ℕ)) → StopsSomewhere d e b a i l → (w : Option (List ℕ)) × ((a ≡ b) ⊎ (a ≡ at_name b i.name w))
+  stopped_at b a (inl same) = (None, inl same)
+  stopped_at b a (inr (inl old)) = (Some (old_of b i), inr old)
+  stopped_at b a (inr (inr kept)) = kept_at b a kept
+
+  -- an assembly that was refused has changed no other file
+  only_assembled : (o : Outcome) → Assembled d e names i l x (Err o) → Only i.name d.files e.files
+  only_assembled (ends.Missing k id) h = over_told i.name d.files d.folders e.files names _ told tells (λ b a fs p. (Some p.0.0, inr p.0.1.0)) h
+  only_assembled (ends.Damaged k id store shows) h = over_told i.name d.files d.folders e.files names _ told tells (λ b a fs p. (Some p.0.0, inr p.0.1.0)) h
+  only_assembled (ends.StoreFault s) h = over_told i.name d.files d.folders e.files names _ told tells (λ b a fs p. kept_at b a p) h.1
+  only_assembled ends.TargetFault h = over_told i.name d.files d.folders e.files names _ told tells (λ b a fs p. stopped_at b a p) h.1
+  only_assembled ends.Memory h = over_told i.name d.files d.folders e.files names _ told tells (λ b a fs p. stopped_at b a p) h
+  only_assembled other h = absurd h
+
+  -- nor has one that was done
+  only_made : Assembled d e names i l x (Ok tt) → Only i.name d.files e.files
+  only_made h = over_told i.name d.files d.folders e.files names _ told tells (λ b a fs p. (Some p.0.0, inr p.0.1.0)) h
+
+left_over : (out : List ℕ) (w v : World) → Only (temporary_out out) w.disk.files v.disk.files → LeavesOut false out w v
+left_over out w v only = go w.disk.files v.disk.files only where
+  go : (f g : Option (Map (List ℕ))) → Only (temporary_out out) f g → IfSome f (λ b. IfSome g (λ a. (q : List ℕ) → q ≢ temporary_out out → a q ≡ b q))
+  go None g h = tt
+  go (Some b) None h = tt
+  go (Some b) (Some a) h = h
+
+pub left_same : (place : Bool) (out : List ℕ) (w v : World) → v.disk.files ≡ w.disk.files → LeavesOut place out w v
+left_same true out w v same = tt
+left_same false out w v same = left_over out w v (only_same (temporary_out out) w.disk.files v.disk.files same)
+
+-- what a refusal of the command leaves
+pub left_out : (stores : List Location) (seeds : List (List ℕ)) (place : Bool) (index out : List ℕ) (w v : World) (o : Outcome) → is_some w.disk.files ≡ is_some w.disk.folders → ExtractEnds stores seeds place index out w (Err o) v → LeavesOut place out w v
+left_out stores seeds true index out w v o told h = tt
+left_out stores seeds false index out w v o told (inl h) = left_same false out w v h.0.1.files
+left_out stores seeds false index out w v o told (inr h) = go h.then where
+  tmp : List ℕ
+  tmp = temporary_out out
+
+  first : h.disk.files ≡ w.disk.files
+  first = h.did.0.1.files
+
+  go : (OnDisk (IndexesRead seeds) >>= (λ ls. OnDisk (StoresOpened (names_of stores)) >>= (λ u. OutMade false (names_of stores) out h.gave (record { images = map image_name seeds; listings = ls })))) (world h.disk h.out) (Err o) v → LeavesOut false out w v
+  go (inl k) = left_same false out w v (k.0.1.files ∙ first)
+  go (inr k) = opened k.then where
+    read : k.disk.files ≡ w.disk.files
+    read = k.did.0.1.files ∙ first
+
+    x : Seeds
+    x = record { images = map image_name seeds; listings = k.gave }
+
+    opened : (OnDisk (StoresOpened (names_of stores)) >>= (λ u. OutMade false (names_of stores) out h.gave x)) (world k.disk k.out) (Err o) v → LeavesOut false out w v
+    opened (inl m) = left_same false out w v (m.0.1.files ∙ read)
+    opened (inr m) = made m.then where
+      files : m.disk.files ≡ w.disk.files
+      files = m.did.0.1.files ∙ read
+
+      folders : m.disk.folders ≡ w.disk.folders
+      folders = m.did.0.1.folders ∙ k.did.0.1.folders ∙ h.did.0.1.folders
+
+      tells : is_some m.disk.files ≡ is_some m.disk.folders
+      tells = ap is_some files ∙ told ∙ sym (ap is_some folders)
+
+      from : (u : Option (Map (List ℕ))) → Only tmp m.disk.files u → Only tmp w.disk.files u
+      from u only = subst (λ f. Only tmp f u) files only
+
+      made : OutMade false (names_of stores) out h.gave x (world m.disk m.out) (Err o) v → LeavesOut false out w v
+      made (inl ((c, p, did, same, cleared), out_same)) =
+          left_over out w v (from v.disk.files (only_then tmp m.disk.files c.files v.disk.files (only_assembled (names_of stores) (beside out) h.gave x m.disk c tells did.2 p did.0) (only_cleared tmp c v.disk o cleared)))
+      made (inr n) =
+          let did = n.did.0 in
+          let first_only = only_made (names_of stores) (beside out) h.gave x m.disk n.disk tells did.2 did.0 in
+          let c = n.then.0 in
+          let second : Only tmp n.disk.files v.disk.files = only_then tmp n.disk.files c.0.files v.disk.files (only_same tmp n.disk.files c.0.files c.2.1) (only_cleared tmp c.0 v.disk o c.4) in
+          left_over out w v (from v.disk.files (only_then tmp m.disk.files n.disk.files v.disk.files first_only second))
+
+-- ---- the steps in order
+
+-- a step that answered so, and was then cleared
+pub clears : (tmp : List ℕ) (step : Step Disk Unit) (d c e : Disk) (r a : Result Unit Outcome) → step d r c → ClearedAfter tmp c r a e → Clearing tmp step d a e
+clears tmp step d c e (Ok u) (Ok v) did same = subst (λ x. step d (Ok v) x) (sym same) did
+clears tmp step d c e (Ok u) (Err o) did h = absurd h
+clears tmp step d c e (Err p) (Ok v) did h = absurd h
+clears tmp step d c e (Err p) (Err o) did h = (c, p, did, h.0, h.1)
+
+-- what follows on a step that passed
+pub passed_any : {A B : Type 0} (step : Step World A) (next : A → Step World B) (w : World) (r : Result B Outcome) (v : World) → Passed step next w r v → (step >>= next) w r v
+passed_any step next w (Ok b) v h = h
+passed_any step next w (Err o) v h = inr h
+
+-- OUT was made so after the steps before it
+pub ends_with : (stores : List Location) (seeds : List (List ℕ)) (place : Bool) (index out : List ℕ) (l : Listing) (ls : List Listing) (d b c m e : Disk) (p : Output) (r : Result Unit Outcome)
+    → IndexRead index d (Ok l) b → IndexesRead seeds b (Ok ls) c → StoresOpened (names_of stores) c (Ok tt) m → OutMade place (names_of stores) out l (record { images = map image_name seeds; listings = ls }) (world m p) r (world e p)
+    → ExtractEnds stores seeds place index out (world d p) r (world e p)
+ends_with stores seeds place index out l ls d b c m e p r listed read opened made =
+    passed_any _ _ (world d p) r (world e p) (record {
+      disk = b;
+      out = p;
+      gave = l;
+      did = (listed, refl);
+      then = passed_any _ _ (world b p) r (world e p) (record { disk = c; out = p; gave = ls; did = (read, refl); then = passed_any _ _ (world c p) r (world e p) (record { disk = m; out = p; gave = tt; did = (opened, refl); then = made }) });
+    })
+
+-- ---- what the assembly needs of them
+
+-- the places are in as many seeds as there are names
+pub known_places_of : (d : Disk) (seeds : List (List ℕ)) (ls : List Listing) (l k : Listing) (p : Deal) (x : Placed) → AllListed d seeds ls → k ≡ l → PlacesKnown l p x (length ls) → PlacesKnown k p x (length seeds)
+known_places_of d seeds ls l k p x listed same known =
+    let many = zipped_many (λ q l. Listed d q l) seeds ls listed in
+    subst (λ (n : ℕ). PlacesKnown k p x n) (sym many) (subst (λ i. PlacesKnown i p x (length ls)) (sym same) known)
+
+-- as many stores were opened as are named
+pub opened_many : {S : Type 0} (place : S → List ℕ) (stores : List Location) (items : List S) → map place items ≡ names_of stores → (1 ≤ length stores) × (length stores ≤ 16) → (1 ≤ length items) × (length items ≤ 16)
+opened_many place stores items same few =
+    let many : length items ≡ length stores = sym (length-map items place) ∙ ap length same ∙ length-map stores name_of in
+    (omega (arith, many, few.0), omega (arith, many, few.1))
+
+-- ---- what the top call says
+
+left_of : (c : Command) (w v : World) (o : Outcome) → is_some w.disk.files ≡ is_some w.disk.folders → Ends c w (Err o) v → LeavesBehind c w v
+left_of (commands.Extract stores seeds cache place workers index target) w v o told h = left_out stores seeds place index target w v o told h
+left_of other w v o told h = tt
+
+left_none : (c : Command) (w v : World) → v ≡ w → LeavesBehind c w v
+left_none (commands.Extract stores seeds cache place workers index target) w v same = left_same place target w v (ap (λ u. u.disk.files) same)
+left_none other w v same = tt
+
+pub left_behind : (words : List (List ℕ)) (w v : World) (r : Result Unit Outcome) → is_some w.disk.files ≡ is_some w.disk.folders → DesyncEnds words w r v → outcome_of r ≢ ends.Done → IfSome (command_of words) (λ c. LeavesBehind c w v)
+left_behind words w v (Ok u) told h refused = absurd (refused refl)
+left_behind words w v (Err o) told (inl h) refused = if_any (command_of words) _ (λ c. left_none c w v h.1)
+left_behind words w v (Err o) told (inr h) refused = let b = begun words w v (Err o) h in if_some (command_of words) _ b.0 b.1 (left_of b.0 w v o told b.2)

@@ -1,0 +1,55 @@
+use Rattle.std.proofs.Common.{ℕ, List, Ok, Err, inl, map, refl, subst, sym, true, ◌∙◌}
+use Rattle.std.proofs.lemmas.Result.{err_from_is_err_and}
+use Rattle.command_steps.specs.AnyStores.{place_in}
+use Rattle.command_steps.specs.Seeds.{image_name}
+use Rattle.command_steps.specs.Worlds.{world}
+use Rattle.desync_cli.proofs.Replaced.{beside_apart, clears, passed_any}
+use Rattle.desync_cli.proofs.command.extract.assemble_beside.Goals as goal
+use Rattle.desync_cli.specs.Extract.{ClearedAfter, ImageMade, Renamed, Seeds, beside}
+
+pub rename-renamed-requires : goal.rename-renamed-requires
+rename-renamed-requires g c = λ same. beside_apart c.args.target (sym same ∙ c.requires.named)
+
+pub returns-in_err-clear : goal.returns-in_err-clear
+returns-in_err-clear g c =
+    let at = g.F.Files.disk in
+    let e = err_from_is_err_and c.from_residual.result c.from_residual.ensures.1 in
+    let d = at c.args.files.now in
+    let b = at c.assemble_into-made.new.files in
+    let names = map (place_in g.F.Look.Look.place) c.args.stores.items in
+    let l = c.args.planned.now.index in
+    record {
+      made = λ ls p is.
+          let z : Seeds = record { images = map image_name c.args.seeds.now; listings = ls } in
+          let made = c.assemble_into-made.ensures in
+          let image = subst (λ (n : List ℕ). ImageMade names (record { name = n; fresh = true }) l z d c.assemble_into-made.result b) c.requires.named (made.assembled ls is, made.kept, made.tells) in
+          let cleared = subst (λ (n : List ℕ). ClearedAfter n b c.assemble_into-made.result (Err c.in_err-clear.field-0.0) (at c.clear.new.files)) c.requires.named c.in_err-clear.ensures in
+          rw (e.1, e.2) (inl (clears _ (ImageMade names (beside c.args.target) l z) d b (at c.clear.new.files) c.assemble_into-made.result (Err c.in_err-clear.field-0.0) image cleared, refl));
+    }
+
+pub returns : goal.returns
+returns g c =
+    let at = g.F.Files.disk in
+    let d = at c.args.files.now in
+    let b = at c.assemble_into-made.new.files in
+    let m = at c.clear.new.files in
+    let n = at c.rename-renamed.new.files in
+    let f = at c.clear-2.new.files in
+    let names = map (place_in g.F.Look.Look.place) c.args.stores.items in
+    let l = c.args.planned.now.index in
+    record {
+      made = λ ls p is.
+          let z : Seeds = record { images = map image_name c.args.seeds.now; listings = ls } in
+          let made = c.assemble_into-made.ensures in
+          let image = subst (λ (n : List ℕ). ImageMade names (record { name = n; fresh = true }) l z d c.assemble_into-made.result b) c.requires.named (made.assembled ls is, made.kept, made.tells) in
+          let cleared = subst (λ (n : List ℕ). ClearedAfter n b c.assemble_into-made.result (Ok tt) m) c.requires.named c.in_ok-clear.ensures in
+          let renamed = subst (λ (q : List ℕ). Renamed q c.args.target m c.rename-renamed.result n) c.requires.named c.rename-renamed.ensures in
+          let last = subst (λ (q : List ℕ). ClearedAfter q n c.rename-renamed.result c.clear-2.result f) c.requires.named c.clear-2.ensures in
+          passed_any _ _ (world d p) c.clear-2.result (world f p) (record {
+            disk = m;
+            out = p;
+            gave = tt;
+            did = (clears _ (ImageMade names (beside c.args.target) l z) d b m c.assemble_into-made.result (Ok tt) image cleared, refl);
+            then = (clears _ (Renamed _ c.args.target) m n f c.rename-renamed.result c.clear-2.result renamed last, refl);
+          });
+    }
