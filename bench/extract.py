@@ -3,8 +3,9 @@
 
 Into an absent output every byte is read from the store, named and written; over an output that is right already every
 byte is read and named once; and over an older version, of which 94 % are right, every byte is named once, and the
-others are read from the store and written. casync's extraction from a store of its own is measured beside it, where it is installed.
-Needs four times the image's size under the temporary folder.
+others are read from the store and written. Without -k the first is done by way of a temporary file. casync's extraction
+from a store of its own is measured beside it, where it is installed. Needs four times the image's size under the
+temporary folder.
 """
 
 import filecmp
@@ -60,8 +61,10 @@ def main():
             age(output, index)
 
         words = ['extract', '-k', '-s', 'store', 'image.caibx', 'output']
+        beside = ['extract', *words[2:]]
         rows = [side_by_side.openssl(image),
                 side_by_side.Row('extract -k, output absent', words, remove_output, at_most=2.0),
+                side_by_side.Row('extract, output absent', beside, remove_output),
                 side_by_side.Row('extract -k, output right already', words, at_most=1.55),
                 side_by_side.Row('extract -k, output 94 % right', words, age_output, at_most=1.8)]
         ours = rows[1:]
@@ -73,6 +76,8 @@ def main():
         print(f'an image of {size} bytes, {count} chunks, an index of '
               f'{os.path.getsize(os.path.join(folder, "image.caibx"))} bytes; medians of {options.runs} runs')
         side_by_side.print_table(rows, size)
+        print(f'extract by way of a temporary file takes {rows[2].median() / rows[1].median():.2f} times as long as in place; '
+              'wanted at most 1.05')
         print('Peak memory is wanted at most 16384 KiB beside the index.')
         for row in ours:
             side_by_side.print_openings(row, folder, output)
