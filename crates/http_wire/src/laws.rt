@@ -1,0 +1,24 @@
+//! Laws of bodies, for the crates above. Nothing is done: each function's contract is the law.
+
+ghost use Rattle.std.specs.Prelude.{◌≡◌, ℕ, ◌≤◌, List, ◌++◌, length, Ok, Err};
+ghost use Rattle.std.specs.List.{flat_map};
+ghost use Rattle.httparse.specs.Grammar.{ChunkLine, chunk_size};
+ghost use Rattle.http_wire.specs.declared.body.BodyKind.{BodyKind};
+ghost use Rattle.http_wire.specs.declared.fault.WireFault.{WireFault};
+ghost use Rattle.http_wire.specs.Body.{body_in, reads, start};
+ghost use Rattle.http_wire.specs.Spelling.{bytes_of, spelling, AreWireChunks, WireChunk, IsSizeLine, IsTrailer};
+
+use crate::body::BodyKind;
+
+/// What is spelled as chunks, with a trailer or none, is read as the bytes of the chunks, where there is room for them.
+pub fn chunks_are_read()
+    ensures value { (room : ℕ) (cs : List WireChunk) (last : ChunkLine) (lines : List (List ℕ)) → AreWireChunks cs
+        → IsSizeLine last → chunk_size last ≡ 0 → IsTrailer lines → length (flat_map bytes_of cs) ≤ room
+        → body_in room BodyKind.Chunked (spelling cs last lines) ≡ Ok (flat_map bytes_of cs) }
+{}
+
+/// A first fault stays the first, whatever follows.
+pub fn fault_stays()
+    ensures value { (room : ℕ) (k : BodyKind) (b c : List ℕ) (f : WireFault)
+        → reads room (start k) b ≡ Err f → reads room (start k) (b ++ c) ≡ Err f }
+{}
