@@ -1,0 +1,4 @@
+pub mod Found
+pub mod Stocked
+pub mod Added
+pub mod Fetched

@@ -1,0 +1,65 @@
+-- What contracts see of a shelf, what is found on it, and how it changes.
+use Rattle.std.specs.Prelude.{◌≡◌, ℕ, ◌⊎◌, ◌≤◌, List, take, Option, Some, IfSome, IsTrue, Result, Ok, Err, is_some}
+use Rattle.std.specs.List.{Any}
+use Rattle.std.specs.Option.{option_map}
+use Rattle.cache_store.specs.declared.shelf.CacheMiss.{CacheMiss}
+use Rattle.cache_store.specs.declared.shelf.CacheMiss.TheVariants as miss
+use Rattle.chunk_store.specs.Folders.{chunks}
+use Rattle.chunk_store.specs.declared.id.DigestKind.{DigestKind}
+use Rattle.dir_store.specs.Names.{is_stranger}
+use Rattle.dsy_base.specs.Maps.{Map}
+use Rattle.store_chain.specs.Giving.{HoldsElse, HoldsNone}
+use Rattle.store_chain.specs.declared.want.Want.{Want}
+
+-- what contracts see of a shelf: its folder, and the digest that names the chunks
+pub record Shelved (F : Type 0) : Type 0 where
+  pub folder : F
+  pub kind : DigestKind
+
+-- the files of its folder, where they are told, the name that the folder was taken under, the count of its faults, and
+-- the digest that names the chunks
+pub record Shelf : Type 0 where
+  pub files : Option (Map (List ℕ))
+  pub place : List ℕ
+  pub faults : ℕ
+  pub kind : DigestKind
+
+-- the shelf of a folder whose files, name and count these functions tell
+abbrev pub shelf_of : {F : Type 0} → (F → Option (Map (List ℕ))) → (F → List ℕ) → (F → ℕ) → Shelved F → Shelf
+shelf_of files place faults s =
+    record { files = files s.folder; place = place s.folder; faults = faults s.folder; kind = s.kind }
+
+-- the chunks that it holds
+abbrev pub held_on : Shelf → Option (Map (List ℕ))
+held_on s = option_map chunks s.files
+
+-- the id and the size are one of these pairs
+abbrev pub IsPair : List ℕ → ℕ → List (List ℕ × ℕ) → Type 0
+IsPair id size pairs = Any (λ (p : List ℕ × ℕ). (p.0 ≡ id) × (p.1 ≡ size)) pairs
+
+-- what a look for a chunk answers, where the shelf holds these, and the front of the buffer afterwards
+abbrev pub Finds : Want → Map (List ℕ) → Result ℕ CacheMiss → List ℕ → Type 0
+Finds w m (Ok n) out = m w.id.0 ≡ Some (take n out)
+Finds w m (Err miss.Absent) out = HoldsNone w m
+Finds w m (Err (miss.Wrong x)) out = HoldsElse w x m
+Finds w m (Err miss.Failed) out = Unit {0}
+Finds w m (Err miss.Memory) out = Unit {0}
+
+-- a shelf that was only looked at
+pub record KeepsShelf (old new : Shelf) : Type 0 where
+  pub files : new.files ≡ old.files
+  pub place : new.place ≡ old.place
+  pub kind : new.kind ≡ old.kind
+  pub never_falls : old.faults ≤ new.faults
+
+-- chunks were added to a shelf: under each id it holds what it held, or bytes that may stand there by `Takes`. Each file
+-- that is neither a chunk's nor a temporary one stands as before
+pub record Stocks (Takes : List ℕ → List ℕ → Type 0) (old new : Shelf) : Type 0 where
+  pub told : is_some new.files ≡ is_some old.files
+  pub chunks : IfSome old.files (λ m. IfSome new.files (λ n. (q : List ℕ) →
+      (chunks n q ≡ chunks m q) ⊎ ((b : List ℕ) × (chunks n q ≡ Some b) × Takes q b)))
+  pub strangers : IfSome old.files (λ m. IfSome new.files (λ n.
+      (q : List ℕ) → IsTrue (is_stranger q) → n q ≡ m q))
+  pub place : new.place ≡ old.place
+  pub kind : new.kind ≡ old.kind
+  pub never_falls : old.faults ≤ new.faults

@@ -1,0 +1,189 @@
+//! A shelf before a chain of stores. Sizes are in bytes.
+
+ghost use Rattle.std.specs.Prelude.{◌≡◌, ◌⊎◌, ℕ, List, ◌≤◌, length, None, take, Some, IfSome, IfOk, IfErr};
+ghost use Rattle.cache_store.specs.Giving.{SomeHolds};
+ghost use Rattle.cache_store.specs.Shelves.{KeepsShelf, held_on, Stocks, shelf_of};
+ghost use Rattle.cache_store.specs.Through.{AddedTo, Unfound, FromShelf, FromStores};
+ghost use Rattle.chunk_store.specs.Names.{name_of};
+ghost use Rattle.store_chain.specs.Chains.{KeepsStores};
+ghost use Rattle.store_chain.specs.Wants.{IsGiven, IsWanted, want_of};
+
+use crate::shelf::{CacheMiss, CacheShelf};
+use chunk_store::id::ChunkId;
+use chunk_store::laws::id_has_32_bytes;
+use chunk_store::store::Store;
+use dir_store::laws::{chunk_names, put_changes_one_chunk, put_leaves_a_temporary};
+use dsy_base::fault::IoFault;
+use dsy_base::folder::Folder;
+use std::marker::Model;
+use store_chain::chain::Chain;
+use store_chain::refused::Refused;
+
+/// Whether a shelf holds a chunk that it was asked for.
+#[derive(Clone, Copy, Debug, PartialEq, Eq)]
+pub enum Kept {
+    Yes,
+    /// It failed when the chunk was added.
+    Failed,
+    /// There was no memory to add it.
+    Memory,
+}
+
+/// A chunk that was had.
+#[derive(Clone, Copy, Debug, PartialEq, Eq)]
+pub struct Got {
+    pub size: usize,
+    /// Whether a store gave it, and not the shelf.
+    pub upstream: bool,
+    pub kept: Kept,
+}
+
+// Looks for the chunk on the shelf. A fault of the shelf is as if it didn't have the chunk.
+fn find_first<F: Folder>(
+    shelf: &mut CacheShelf<F>,
+    id: &ChunkId,
+    size: Option<usize>,
+    out: &mut [u8],
+) -> Result<Option<usize>, Refused>
+    requires inside { IfSome size (λ n. n ≤ length out.old) }
+    ensures ok { IfOk result (λ o. IfSome o (λ n. IsGiven (want_of shelf.old.kind id.now size (length out.old)) n
+        out.new)) }
+    ensures found { IfOk result (λ o. IfSome o (λ n. IfSome (held_on (shelf_of F.files F.place F.faults shelf.old))
+        (λ m. m id.now.0 ≡ Some (take n out.new)))) }
+    ensures absent { result ≡ Ok None → Unfound (want_of shelf.old.kind id.now size (length out.old))
+        (shelf_of F.files F.place F.faults shelf.old) (shelf_of F.files F.place F.faults shelf.new) }
+    ensures only { IfErr result (λ r. r ≡ Refused.Memory) }
+    ensures kept { KeepsShelf (shelf_of F.files F.place F.faults shelf.old)
+        (shelf_of F.files F.place F.faults shelf.new) }
+{
+    match shelf.find(id, size, out) {
+        Ok(n) => Ok(Some(n)),
+        Err(CacheMiss::Memory) => Err(Refused::Memory),
+        Err(CacheMiss::Absent) => Ok(None),
+        Err(CacheMiss::Wrong(_)) => Ok(None),
+        Err(CacheMiss::Failed) => Ok(None),
+    }
+}
+
+// Puts what a store gave on the shelf.
+fn keep<F: Folder>(shelf: &mut CacheShelf<F>, id: &ChunkId, b: &[u8]) -> Kept
+    requires named { name_of shelf.old.kind b.now ≡ id.now.0 }
+    requires unnamed { (F.pairs ≡ None) × (F.stores ≡ None) }
+    ensures stocks { Stocks (λ q x. (q ≡ id.now.0) × (x ≡ b.now)) (shelf_of F.files F.place F.faults shelf.old)
+        (shelf_of F.files F.place F.faults shelf.new) }
+    ensures added { AddedTo id.now.0 b.now result (shelf_of F.files F.place F.faults shelf.old)
+        (shelf_of F.files F.place F.faults shelf.new) }
+{
+    id_has_32_bytes(id);
+    put_changes_one_chunk();
+    put_leaves_a_temporary();
+    chunk_names();
+    match shelf.add(id, b) {
+        Ok(()) => Kept::Yes,
+        Err(IoFault::Failed) => Kept::Failed,
+        Err(IoFault::Memory) => Kept::Memory,
+    }
+}
+
+/// Fills the front of `out` with the chunk of this id, and of this size where one is given: from the shelf where it is
+/// right there, else from the stores, and then it is added to the shelf. A fault of the shelf makes no refusal. Where a
+/// look on it finds no memory, the stores aren't asked.
+pub fn obtain_through<F: Folder, S: Store>(
+    shelf: &mut CacheShelf<F>,
+    chain: &mut Chain<S>,
+    id: &ChunkId,
+    size: Option<usize>,
+    out: &mut [u8],
+) -> Result<Got, Refused>
+    requires inside { IfSome size (λ n. n ≤ length out.old) }
+    requires kind { shelf.old.kind ≡ chain.old.kind }
+    requires unnamed { (F.pairs ≡ None) × (F.stores ≡ None) }
+    ensures ok { IfOk result (λ got. IsGiven (want_of chain.old.kind id.now size (length out.old)) got.size out.new) }
+    ensures ends { FromShelf F.files F.place F.faults (want_of chain.old.kind id.now size (length out.old))
+        (record { shelf = shelf.old; chain = chain.old }) (record { shelf = shelf.new; chain = chain.new }) result out.new
+        ⊎ FromStores F.files F.place F.faults S.holds S.said S.faults S.may_lack_memory S.asked S.queried
+        (want_of chain.old.kind id.now size (length out.old))
+        (record { shelf = shelf.old; chain = chain.old }) (record { shelf = shelf.new; chain = chain.new }) result
+        out.new }
+    ensures stocks { Stocks (λ q b. (q ≡ id.now.0) × IsWanted (want_of chain.old.kind id.now size (length out.old)) b
+        × SomeHolds S.holds chain.old.stores q b) (shelf_of F.files F.place F.faults shelf.old)
+        (shelf_of F.files F.place F.faults shelf.new) }
+    ensures stores { KeepsStores S.holds S.folder S.place S.said S.faults chain.old.stores chain.new.stores }
+    ensures kind { chain.new.kind ≡ chain.old.kind }
+{
+    if let Some(n) = find_first(shelf, id, size, out)? {
+        return Ok(Got {
+            size: n,
+            upstream: false,
+            kept: Kept::Yes,
+        });
+    }
+    let n = chain.obtain(id, size, out)?;
+    let (bytes, _) = out.split_at(n);
+    let kept = keep(shelf, id, bytes);
+    Ok(Got {
+        size: n,
+        upstream: true,
+        kept,
+    })
+}
+
+/// A shelf, and the stores that are asked where it doesn't give a chunk.
+#[derive(Drop)]
+pub struct Cached<F: Folder, S: Store> {
+    shelf: CacheShelf<F>,
+    chain: Chain<S>,
+}
+
+impl<F: Folder, S: Store> Model for Cached<F, S> {
+    ghost use Rattle.std.specs.Prelude.{◌≡◌};
+    ghost use Rattle.cache_store.specs.Through.{Behind};
+
+    ghost Value = { Behind F S };
+
+    ghost view = { λ c. record { shelf = c.shelf; chain = c.chain } };
+
+    ghost invariant = { λ c. c.shelf.kind ≡ c.chain.kind };
+}
+
+impl<F: Folder, S: Store> Cached<F, S> {
+    pub fn new(shelf: CacheShelf<F>, chain: Chain<S>) -> Cached<F, S>
+        requires kind { shelf.kind ≡ chain.kind }
+        ensures { result ≡ record { shelf = shelf; chain = chain } }
+    {
+        Cached { shelf, chain }
+    }
+
+    pub fn into_parts(self) -> (CacheShelf<F>, Chain<S>)
+        ensures { result ≡ (self.shelf, self.chain) }
+    {
+        let Cached { shelf, chain } = self;
+        (shelf, chain)
+    }
+
+    /// Fills the front of `out` as `obtain_through` does.
+    pub fn obtain(
+        &mut self,
+        id: &ChunkId,
+        size: Option<usize>,
+        out: &mut [u8],
+    ) -> Result<Got, Refused>
+        requires inside { IfSome size (λ n. n ≤ length out.old) }
+        requires unnamed { (F.pairs ≡ None) × (F.stores ≡ None) }
+        ensures ok { IfOk result (λ got. IsGiven (want_of self.old.chain.kind id.now size (length out.old)) got.size
+            out.new) }
+        ensures ends { FromShelf F.files F.place F.faults (want_of self.old.chain.kind id.now size (length out.old))
+            self.old self.new result out.new
+            ⊎ FromStores F.files F.place F.faults S.holds S.said S.faults S.may_lack_memory S.asked S.queried
+            (want_of self.old.chain.kind id.now size (length out.old)) self.old self.new result out.new }
+        ensures stocks { Stocks (λ q b. (q ≡ id.now.0)
+            × IsWanted (want_of self.old.chain.kind id.now size (length out.old)) b
+            × SomeHolds S.holds self.old.chain.stores q b) (shelf_of F.files F.place F.faults self.old.shelf)
+            (shelf_of F.files F.place F.faults self.new.shelf) }
+        ensures stores { KeepsStores S.holds S.folder S.place S.said S.faults self.old.chain.stores
+            self.new.chain.stores }
+        ensures kind { self.new.chain.kind ≡ self.old.chain.kind }
+    {
+        obtain_through(&mut self.shelf, &mut self.chain, id, size, out)
+    }
+}

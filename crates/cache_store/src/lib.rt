@@ -1,0 +1,7 @@
+//! Folders of chunks that are asked before stores, and filled with what stores give.
+#![tactic(auto)]
+
+pub mod cached;
+pub mod shelf;
+#[cfg(test)]
+mod tests;

@@ -1,0 +1,136 @@
+//! A folder of chunks as a shelf: what is found on it is named first, and what is added has its name. Sizes are in bytes.
+
+ghost use Rattle.std.specs.Prelude.{◌≡◌, ◌≤◌, length, Some, IfSome, IfOk, OnOk, OnErr};
+ghost use Rattle.std.specs.List.{Any};
+ghost use Rattle.std.specs.Option.{option_map};
+ghost use Rattle.cache_store.specs.Shelves.{Finds, IsPair};
+ghost use Rattle.chunk_store.specs.Folders.{chunks};
+ghost use Rattle.chunk_store.specs.Names.{name_of};
+ghost use Rattle.chunk_store.specs.declared.id.DigestKind.TheVariants as kinds;
+ghost use Rattle.dir_store.specs.Puts.{LeavesTemporary, Puts};
+ghost use Rattle.dsy_base.specs.Counts.{CountsFaults};
+ghost use Rattle.store_chain.specs.Wants.{IsGiven, want_of};
+
+use chunk_store::id::{ChunkId, DigestKind};
+use chunk_store::shows::Shows;
+use dsy_base::fault::{FileFault, IoFault};
+use dsy_base::folder::Folder;
+use dsy_base::look::Look;
+use std::marker::Model;
+use store_chain::want::Want;
+
+/// Why a shelf doesn't give a chunk.
+#[derive(Clone, Copy, Debug, PartialEq, Eq)]
+pub enum CacheMiss {
+    /// It has no file of this chunk.
+    Absent,
+    /// The file holds something else, and what that shows.
+    Wrong(Shows),
+    Failed,
+    Memory,
+}
+
+/// The chunk files of a folder, which is asked before stores.
+#[derive(Drop)]
+pub struct CacheShelf<F: Folder> {
+    folder: F,
+    kind: DigestKind,
+}
+
+impl<F: Folder> Model for CacheShelf<F> {
+    ghost use Rattle.cache_store.specs.Shelves.{Shelved};
+
+    ghost Value = { Shelved F };
+
+    ghost view = { λ s. record { folder = s.folder; kind = s.kind } };
+}
+
+// Reads the file of what is wanted.
+fn look<F: Folder>(folder: &mut F, want: &Want, out: &mut [u8]) -> Result<usize, CacheMiss>
+    requires size { want.now.lent ≡ length out.old }
+    ensures ok { IfOk result (λ n. IsGiven want.now n out.new) }
+    ensures found { IfSome (option_map chunks (F.files folder.old)) (λ m. Finds want.now m result out.new) }
+    ensures kept { F.files folder.new ≡ F.files folder.old }
+    ensures place { F.place folder.new ≡ F.place folder.old }
+    ensures faults { CountsFaults CacheMiss.Failed CacheMiss.Memory (F.faults folder.old) (F.faults folder.new) result }
+{
+    let path = want.id.path();
+    match folder.read(path.as_str(), out) {
+        Ok(n) => {
+            let (bytes, _) = out.split_at(n);
+            match want.shown(bytes) {
+                None => Ok(n),
+                Some(shows) => Err(CacheMiss::Wrong(shows)),
+            }
+        }
+        Err(FileFault::Absent) => Err(CacheMiss::Absent),
+        Err(FileFault::Longer) => Err(CacheMiss::Wrong(Shows::Longer)),
+        Err(FileFault::Failed) => Err(CacheMiss::Failed),
+        Err(FileFault::Memory) => Err(CacheMiss::Memory),
+    }
+}
+
+impl<F: Folder> CacheShelf<F> {
+    /// Chunks are named by SHA-512/256.
+    pub fn new(folder: F) -> CacheShelf<F>
+        ensures { result ≡ record { folder = folder; kind = kinds.Sha512T256 } }
+    {
+        CacheShelf {
+            folder,
+            kind: DigestKind::Sha512T256,
+        }
+    }
+
+    pub fn into_inner(self) -> F
+        ensures { result ≡ self.folder }
+    {
+        self.folder
+    }
+
+    /// Which digest names the chunks.
+    pub fn kind(&self) -> DigestKind
+        ensures { result ≡ self.now.kind }
+    {
+        self.kind
+    }
+
+    /// Fills the front of `out` with the chunk of this id, and of this size where one is given, and answers its size.
+    /// Where a size is given, the folder is lent only so much of `out`.
+    pub fn find(
+        &mut self,
+        id: &ChunkId,
+        size: Option<usize>,
+        out: &mut [u8],
+    ) -> Result<usize, CacheMiss>
+        requires inside { IfSome size (λ n. n ≤ length out.old) }
+        ensures ok { IfOk result (λ n. IsGiven (want_of self.old.kind id.now size (length out.old)) n out.new) }
+        ensures found { IfSome (option_map chunks (F.files self.old.folder))
+            (λ m. Finds (want_of self.old.kind id.now size (length out.old)) m result out.new) }
+        ensures kept { F.files self.new.folder ≡ F.files self.old.folder }
+        ensures place { F.place self.new.folder ≡ F.place self.old.folder }
+        ensures kind { self.new.kind ≡ self.old.kind }
+        ensures faults { CountsFaults CacheMiss.Failed CacheMiss.Memory
+            (F.faults self.old.folder) (F.faults self.new.folder) result }
+    {
+        let want = Want::of(self.kind, id, size, out.len());
+        let (lent, _) = out.split_at_mut(want.lent);
+        look(&mut self.folder, &want, lent)
+    }
+
+    /// Puts the chunk of this id there, in the place of what stood there. Where the type of the folder names the chunks
+    /// that it may hold, or stores, this has to be one of those chunks, and held by one of the stores.
+    pub fn add(&mut self, id: &ChunkId, b: &[u8]) -> Result<(), IoFault>
+        requires named { name_of self.old.kind b.now ≡ id.now.0 }
+        requires listed { IfSome F.pairs (IsPair id.now.0 (length b.now)) }
+        requires held { IfSome F.stores (Any (λ m. m id.now.0 ≡ Some b.now)) }
+        ensures ok { OnOk result (Puts id.now.0 b.now (F.files self.old.folder) (F.files self.new.folder)) }
+        ensures err { OnErr result (LeavesTemporary id.now.0 (F.files self.old.folder) (F.files self.new.folder)) }
+        ensures place { F.place self.new.folder ≡ F.place self.old.folder }
+        ensures kind { self.new.kind ≡ self.old.kind }
+        ensures faults { CountsFaults IoFault.Failed IoFault.Memory
+            (F.faults self.old.folder) (F.faults self.new.folder) result }
+    {
+        let path = id.path();
+        self.folder.put(path.as_str(), b)
+    }
+}
