@@ -13,6 +13,7 @@ is_settled fate.Open = false
 is_settled fate.Kept = true
 is_settled fate.Copied = true
 is_settled fate.Seeded = true
+is_settled fate.Cached = true
 is_settled fate.Fetched = true
 
 -- the fate of entry i, which is open where there is none

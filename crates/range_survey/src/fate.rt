@@ -14,6 +14,8 @@ pub enum Fate {
     Copied,
     /// Its bytes came from a seed.
     Seeded,
+    /// Its bytes came from a cache.
+    Cached,
     /// Its bytes came from a store.
     Fetched,
 }
@@ -25,7 +27,7 @@ impl Fate {
     {
         match self {
             Fate::Open => false,
-            Fate::Kept | Fate::Copied | Fate::Seeded | Fate::Fetched => true,
+            Fate::Kept | Fate::Copied | Fate::Seeded | Fate::Cached | Fate::Fetched => true,
         }
     }
 }
