@@ -1,6 +1,6 @@
 -- What an assembly says of its sources, over the base. The fates are m after the survey and n at the end, and the counts
 -- of the target's faults a at first, b after the survey and c at the end.
-use Rattle.std.proofs.Common.{◌≡◌, ◌⊎◌, IsTrue, ℕ, ◌<◌, ◌≤◌, List, length, map, slice_index, Bool, Option, Some, None, IfErr, IfSome, Result, OnOk, Ok, Err, true, false, refl, sym, ◌∙◌, subst, inl, inr, arith}
+use Rattle.std.proofs.Common.{◌≡◌, ◌⊎◌, ◌++◌, IsTrue, ℕ, ◌<◌, ◌≤◌, List, length, map, slice_index, Bool, Option, Some, None, IfErr, IfSome, Result, OnOk, Ok, Err, true, false, refl, sym, ◌∙◌, subst, inl, inr, arith}
 use Rattle.std.proofs.lemmas.Bool.{cases_Bool}
 use Rattle.assembler.proofs.Asked.{quiet_never, quiet_part}
 use Rattle.assembler.proofs.Based.{Surveyed, assembles_err, ends_map, leaves, left_at, right_all, right_at, some_map, told_map}
@@ -15,7 +15,12 @@ use Rattle.assembler.specs.Assemblies.{After, Assembles, AssemblyAsks, IsObtaina
 use Rattle.assembler.specs.Economy.{AsksExactly, AssembledBy, ReportsExactly, UnlessMemory, source_of, source_over}
 use Rattle.assembler.specs.Faults.{fault_of}
 use Rattle.assembler.specs.Fills.{Fills, WhereTold}
-use Rattle.assembler.specs.Losses.{CopiesFailed, SomeGives}
+use Rattle.assembler.specs.Losses.{CopiesFailed}
+use Rattle.cache_store.specs.Giving.{SomeGives}
+use Rattle.cache_store.specs.Shelves.{Shelf}
+use Rattle.assembler.proofs.Cached.{gives_part, stocked_told}
+use Rattle.assembler.proofs.Stocking.{gives_on}
+use Rattle.assembler.specs.Caches.{HaveOneSize, Stocked, TakesWants, cache_faults, cached_in}
 use Rattle.assembler.specs.Passes.{EndsBy, HadAt, IsLost, PassesAsk, want_at}
 use Rattle.assembler.specs.Sources.{SeedsGive}
 use Rattle.assembler.specs.Wants.{IsAmong}
@@ -126,43 +131,44 @@ module _ {S V : Type 0} where
 
 module _ {S V : Type 0} (holds folder : S → Option (Map (List ℕ))) (place : S → List ℕ) (said : S → Said) (store_faults : S → ℕ) (asked : S → List ℕ → ℕ)
     (lacks_memory : Bool) (view : V → Held) (view_faults : V → ℕ) (tells : Bool) (l : Listing) (d : Deal) (x : Placed) where
-  abbrev pub LostOver : List Fate → ℕ → ℕ → Kit S V → Kit S V → Lost → Type 0
-  LostOver m b c k j lost = IsLost holds folder place said store_faults lacks_memory view view_faults l d x m b c k j lost
+  abbrev pub LostOver : List Fate → ℕ → ℕ → Kit S V → Kit S V → Option Shelf → Option Shelf → Lost → Type 0
+  LostOver m b c k j e f lost = IsLost holds folder place said store_faults lacks_memory view view_faults l d x m b c k j e f lost
 
   -- what both passes leave, from the kit k to the kit j, over the base of o
-  pub record Ran (o t : Option (List ℕ)) (a b c : ℕ) (m n : List Fate) (j : Kit S V) (r : Result Unit ExtractFault) (k : Kit S V) : Type 0 where
+  pub record Ran (o t : Option (List ℕ)) (a b c : ℕ) (m n : List Fate) (e f : Option Shelf) (j : Kit S V) (r : Result Unit ExtractFault) (k : Kit S V) : Type 0 where
     pub wants : AreWants l d.wants d.want_of
     pub ab : a ≤ b
     pub bc : b ≤ c
     pub over : IfSome o (λ y. Surveyed l m a b (resized y (image_length l)))
     pub fills : WhereTold o t (λ y. Fills l m n b c (resized y (image_length l)))
     pub ok : OnOk r ((i : ℕ) → i < count_of l → settled n i ≡ true)
-    pub first : EndsBy (λ lost. LostOver m b c k j lost × ((i : ℕ) → i < lost.entry → settled n i ≡ true)) (Rose b c) r
-    pub left : IfErr r (λ e. (e ≡ faults.Memory) ⊎ (Rose b c ⊎ ((i : ℕ) → i < count_of l → settled n i ≡ false → (lost : Lost)
-        × (want_at d lost.entry ≡ want_at d i) × LostOver m b c k j lost)))
-    pub had : IsTrue tells → (maps : List (Map (List ℕ))) → map holds k.chain.stores ≡ map Some maps
+    pub first : EndsBy (λ lost. LostOver m b c k j e f lost × ((i : ℕ) → i < lost.entry → settled n i ≡ true)) (Rose b c) r
+    pub left : IfErr r (λ y. (y ≡ faults.Memory) ⊎ (Rose b c ⊎ ((i : ℕ) → i < count_of l → settled n i ≡ false → (lost : Lost)
+        × (want_at d lost.entry ≡ want_at d i) × LostOver m b c k j e f lost)))
+    pub had : IsTrue tells → (cached maps : List (Map (List ℕ))) → cached_in e ≡ Some cached → map holds k.chain.stores ≡ map Some maps
         → EachQuiet (map store_faults k.chain.stores) (map store_faults j.chain.stores)
-        → (i : ℕ) → i < count_of l → settled n i ≡ true → HadAt l d x m (map (held_in view) k.seeds.items) maps i
+        → (i : ℕ) → i < count_of l → settled n i ≡ true → HadAt l d x m (map (held_in view) k.seeds.items) (cached ++ maps) i
     pub asks : PassesAsk asked view view_faults l d x m b c k j
     pub firsts : FirstFates m (count_of l)
-    pub exactly : (maps : List (Map (List ℕ)))
-        → NothingFails holds folder place said store_faults lacks_memory view view_faults l d x tells b c k j maps
-        → UnlessMemory (AssembledBy (source_over l d x (settled m) (map (held_in view) k.seeds.items) maps) d.wants (count_of l) m n k.chain j.chain) r
+    pub stocked : Stocked (TakesWants holds l d (λ w. w < d.wants) k.chain.stores) e f
+    pub exactly : (cached maps : List (Map (List ℕ)))
+        → NothingFails holds folder place said store_faults lacks_memory view view_faults l d x tells b c k j e f cached maps → HaveOneSize l e cached maps
+        → UnlessMemory (AssembledBy (source_over l d x (settled m) (map (held_in view) k.seeds.items) cached maps) d.wants (count_of l) m n k.chain j.chain) r
 
-  module _ (o t : Option (List ℕ)) (a b c : ℕ) (m n : List Fate) (j k h : Kit S V) where
+  module _ (o t : Option (List ℕ)) (a b c : ℕ) (m n : List Fate) (e f : Option Shelf) (j k h : Kit S V) where
     -- ---- bytes
 
-    pub bytes_err : (e : ExtractFault) → Ran o t a b c m n j (Err e) h → WhereTold o t (Assembles l (Rose a c) (Err e))
-    bytes_err e ran = told_map o t (λ y. Surveyed l m a b (resized y (image_length l))) (λ y. Fills l m n b c (resized y (image_length l))) (Assembles l (Rose a c) (Err e))
+    pub bytes_err : (why : ExtractFault) → Ran o t a b c m n e f j (Err why) h → WhereTold o t (Assembles l (Rose a c) (Err why))
+    bytes_err why ran = told_map o t (λ y. Surveyed l m a b (resized y (image_length l))) (λ y. Fills l m n b c (resized y (image_length l))) (Assembles l (Rose a c) (Err why))
         (λ y z over fills.
         let base = resized y (image_length l) in
         assembles_err l a c y z (leaves l m n a b c ran.ab ran.bc base z over fills)
-        (λ lost. LostOver m b c h j lost × ((i : ℕ) → i < lost.entry → settled n i ≡ true)) (Rose b c) e
+        (λ lost. LostOver m b c h j e f lost × ((i : ℕ) → i < lost.entry → settled n i ≡ true)) (Rose b c) why
         (λ lost is i less. right_at l m n a b c ran.ab ran.bc base z over fills i (omega (arith, less, is.0.listed)) (is.1 i less))
         ran.first)
         ran.over ran.fills
 
-    pub bytes_ok : (u : Unit {0}) (r : Report) → Ran o t a b c m n j (Ok u) h → WhereTold o t (Assembles l (Rose a c) (Ok r))
+    pub bytes_ok : (u : Unit {0}) (r : Report) → Ran o t a b c m n e f j (Ok u) h → WhereTold o t (Assembles l (Rose a c) (Ok r))
     bytes_ok u r ran = told_map o t (λ y. Surveyed l m a b (resized y (image_length l))) (λ y. Fills l m n b c (resized y (image_length l))) (Assembles l (Rose a c) (Ok r))
         (λ y z over fills.
         let base = resized y (image_length l) in
@@ -172,15 +178,16 @@ module _ {S V : Type 0} (holds folder : S → Option (Map (List ℕ))) (place : 
     -- ---- lost entries
 
     abbrev Unobtained : Lost → Type 0
-    Unobtained lost = IsUnobtained holds folder place said store_faults lacks_memory view view_faults l d x o a c k j lost
+    Unobtained lost = IsUnobtained holds folder place said store_faults lacks_memory view view_faults l d x o a c k j e f lost
 
-    unobtained : (r : Result Unit ExtractFault) → Ran o t a b c m n j r (with_buffer k h) → (lost : Lost) → LostOver m b c (with_buffer k h) j lost → Unobtained lost
+    unobtained : (r : Result Unit ExtractFault) → Ran o t a b c m n e f j r (with_buffer k h) → (lost : Lost) → LostOver m b c (with_buffer k h) j e f lost → Unobtained lost
     unobtained r ran lost is = record {
       listed = is.listed;
       id_is = is.id_is;
       copies = some_map o (λ y. Surveyed l m a b (resized y (image_length l))) (λ y. RightAlike l (resized y (image_length l)) lost.entry → Rose a c)
           (λ y over. copies l d x ran.wants m a b c ran.ab ran.bc (resized y (image_length l)) over lost.entry is.listed is.copies) ran.over;
       seeds = is.seeds;
+      cache = is.cache;
       stores = record {
         before = is.stores.before;
         after = is.stores.after;
@@ -190,25 +197,26 @@ module _ {S V : Type 0} (holds folder : S → Option (Map (List ℕ))) (place : 
       };
     }
 
-    pub lost_err : (e : ExtractFault) → Ran o t a b c m n j (Err e) (with_buffer k h) → EndsBy {A = Unit {0}} Unobtained (Rose a c) (Err e)
-    lost_err e ran = ends_map (λ lost. LostOver m b c (with_buffer k h) j lost × ((i : ℕ) → i < lost.entry → settled n i ≡ true)) Unobtained (Rose b c) (Rose a c) e
-        (λ lost is. unobtained (Err e) ran lost is.0) (rose_later a b c ran.ab) ran.first
+    pub lost_err : (why : ExtractFault) → Ran o t a b c m n e f j (Err why) (with_buffer k h) → EndsBy {A = Unit {0}} Unobtained (Rose a c) (Err why)
+    lost_err why ran = ends_map (λ lost. LostOver m b c (with_buffer k h) j e f lost × ((i : ℕ) → i < lost.entry → settled n i ≡ true)) Unobtained (Rose b c) (Rose a c) why
+        (λ lost is. unobtained (Err why) ran lost is.0) (rose_later a b c ran.ab) ran.first
 
     -- ---- how often stores were asked
 
-    pub asks_over : (r : Result Unit ExtractFault) → Ran o t a b c m n j r (with_buffer k h) → AssemblyAsks asked view view_faults l d x o a c k j
+    pub asks_over : (r : Result Unit ExtractFault) → Ran o t a b c m n e f j r (with_buffer k h) → AssemblyAsks asked view view_faults l d x o a c k j
     asks_over r ran = λ spared are.
         let asks = ran.asks spared (λ w below is. spared_over l d x ran.wants view view_faults m a b c ran.ab ran.bc o k.seeds.items j.seeds.items w ran.over (are w below is)) in
         record { no_fewer = asks.no_fewer; calls = asks.calls; no_less = asks.no_less; most = asks.most }
 
     -- ---- where nothing fails
 
-    module _ (maps : List (Map (List ℕ))) (nothing : NothingFails holds folder place said store_faults lacks_memory view view_faults l d x tells a c k j maps) where
+    module _ (cached maps : List (Map (List ℕ))) (nothing : NothingFails holds folder place said store_faults lacks_memory view view_faults l d x tells a c k j e f cached maps)
+        (one : HaveOneSize l e cached maps) where
       abbrev Has : List ℕ → ℕ → Type 0
-      Has y i = IsObtainable l d x (resized y (image_length l)) (map (held_in view) k.seeds.items) maps i
+      Has y i = IsObtainable l d x (resized y (image_length l)) (map (held_in view) k.seeds.items) (cached ++ maps) i
 
       -- the stores didn't fail in the call that refused
-      sound : (r : Result Unit ExtractFault) → Ran o t a b c m n j r (with_buffer k h) → (lost : Lost) → LostOver m b c (with_buffer k h) j lost
+      sound : (r : Result Unit ExtractFault) → Ran o t a b c m n e f j r (with_buffer k h) → (lost : Lost) → LostOver m b c (with_buffer k h) j e f lost
           → (s : ℕ) → lost.refused ≡ refused.StoreFault s → ⊥
       sound r ran lost is s failed =
           let at : List S → ℕ = λ stores. slice_index (map store_faults stores) s in
@@ -217,39 +225,47 @@ module _ {S V : Type 0} (holds folder : S → Option (Map (List ℕ))) (place : 
           quiet_never (at is.stores.before) (at is.stores.after) part (is.stores.refused.cause s failed)
 
       -- what was lost can't be had
-      never : (r : Result Unit ExtractFault) → Ran o t a b c m n j r (with_buffer k h) → (y : List ℕ) → Surveyed l m a b (resized y (image_length l))
-          → (lost : Lost) → LostOver m b c (with_buffer k h) j lost → Has y lost.entry → Tells lost.refused → ⊥
+      never : (r : Result Unit ExtractFault) → Ran o t a b c m n e f j r (with_buffer k h) → (y : List ℕ) → Surveyed l m a b (resized y (image_length l))
+          → (lost : Lost) → LostOver m b c (with_buffer k h) j e f lost → Has y lost.entry → Tells lost.refused → ⊥
       never r ran y over lost is (inl alike) told =
           quiet_never a c nothing.target (copies l d x ran.wants m a b c ran.ab ran.bc (resized y (image_length l)) over lost.entry is.listed is.copies alike)
       never r ran y over lost is (inr (inl seeds)) told =
           seeds_never (map (held_in view) k.seeds.items) (places_at x (want_at d lost.entry)) lost.id.0 (map (faults_in view_faults) k.seeds.items)
           (map (faults_in view_faults) j.seeds.items) nothing.seeds is.seeds
           (subst (λ q. SeedsGive (map (held_in view) k.seeds.items) (places_at x (want_at d lost.entry)) q) (sym is.id_is) seeds)
-      never r ran y over lost is (inr (inr stores)) told =
-          stores_never (kind_of l) lost.id (size_of l lost.entry) maps lost.refused told (sound r ran lost is)
-          (is.stores.refused.lacks maps (is.stores.until.held ∙ nothing.told))
-          (subst (λ q. SomeGives (kind_of l) q (size_of l lost.entry) maps) (sym is.id_is) stores)
+      never r ran y over lost is (inr (inr given)) told = elim (gives_part (kind_of l) (id_of l lost.entry) (size_of l lost.entry) cached maps given) [
+        | inl cache ↦
+            let T = TakesWants holds l d (λ w. w < d.wants) k.chain.stores in
+            let later = stocked_told T e f cached ran.stocked nothing.told_cache in
+            let gives = gives_on holds l d (λ w. w < d.wants) k.chain.stores e f cached later.0 maps ran.stocked nothing.told_cache later.1 nothing.told ran.wants (λ w below. below) one
+            (id_of l lost.entry) (size_of l lost.entry) (lost.entry, is.listed, refl, refl) cache in
+            quiet_never (cache_faults e) (cache_faults f) nothing.cache (is.cache later.0 later.1 gives)
+        | inr stores ↦
+            stores_never (kind_of l) lost.id (size_of l lost.entry) maps lost.refused told (sound r ran lost is)
+            (is.stores.refused.lacks maps (is.stores.until.held ∙ nothing.told))
+            (subst (λ q. SomeGives (kind_of l) q (size_of l lost.entry) maps) (sym is.id_is) stores)
+      ]
 
       -- what is settled can be had
-      had : (r : Result Unit ExtractFault) → Ran o t a b c m n j r (with_buffer k h) → (y : List ℕ) → Surveyed l m a b (resized y (image_length l))
+      had : (r : Result Unit ExtractFault) → Ran o t a b c m n e f j r (with_buffer k h) → (y : List ℕ) → Surveyed l m a b (resized y (image_length l))
           → (i : ℕ) → i < count_of l → settled n i ≡ true → Has y i
-      had r ran y over i inside is = obtainable l d x ran.wants m a b c ran.ab ran.bc (resized y (image_length l)) over (map (held_in view) k.seeds.items) maps i inside
-          (ran.had nothing.telling maps nothing.told nothing.stores i inside is)
+      had r ran y over i inside is = obtainable l d x ran.wants m a b c ran.ab ran.bc (resized y (image_length l)) over (map (held_in view) k.seeds.items) (cached ++ maps) i inside
+          (ran.had nothing.telling cached maps nothing.told_cache nothing.told nothing.stores i inside is)
 
-      verdict_err : (e : ExtractFault) (y : List ℕ) → Ran o t a b c m n j (Err e) (with_buffer k h) → Surveyed l m a b (resized y (image_length l))
-          → EndsBy {A = Unit {0}} (λ lost. LostOver m b c (with_buffer k h) j lost × ((i : ℕ) → i < lost.entry → settled n i ≡ true)) (Rose b c) (Err e)
-          → Verdict l (Has y) (Err e)
-      verdict_err e y ran over (inl (lost, is, was)) = subst (λ f. Verdict l (Has y) (Err f)) (sym is)
+      verdict_err : (why : ExtractFault) (y : List ℕ) → Ran o t a b c m n e f j (Err why) (with_buffer k h) → Surveyed l m a b (resized y (image_length l))
+          → EndsBy {A = Unit {0}} (λ lost. LostOver m b c (with_buffer k h) j e f lost × ((i : ℕ) → i < lost.entry → settled n i ≡ true)) (Rose b c) (Err why)
+          → Verdict l (Has y) (Err why)
+      verdict_err why y ran over (inl (lost, is, was)) = subst (λ f. Verdict l (Has y) (Err f)) (sym is)
           (verdict_named l (Has y) lost.entry lost.id lost.refused
-          (λ i less. had (Err e) ran y over i (omega (arith, less, was.0.listed)) (was.1 i less))
-          (never (Err e) ran y over lost was.0) (sound (Err e) ran lost was.0))
-      verdict_err e y ran over (inr (inl (is, rose))) = absurd (quiet_never a c nothing.target (rose_later a b c ran.ab rose))
-      verdict_err e y ran over (inr (inr is)) = subst (λ f. Verdict l (Has y) (Err f)) (sym is) tt
+          (λ i less. had (Err why) ran y over i (omega (arith, less, was.0.listed)) (was.1 i less))
+          (never (Err why) ran y over lost was.0) (sound (Err why) ran lost was.0))
+      verdict_err why y ran over (inr (inl (is, rose))) = absurd (quiet_never a c nothing.target (rose_later a b c ran.ab rose))
+      verdict_err why y ran over (inr (inr is)) = subst (λ f. Verdict l (Has y) (Err f)) (sym is) tt
 
-      pub exactly_err : (e : ExtractFault) → Ran o t a b c m n j (Err e) (with_buffer k h) → IfSome o (λ y. Verdict l (Has y) (Err e))
-      exactly_err e ran = some_map o (λ y. Surveyed l m a b (resized y (image_length l))) (λ y. Verdict l (Has y) (Err e)) (λ y over. verdict_err e y ran over ran.first) ran.over
+      pub exactly_err : (why : ExtractFault) → Ran o t a b c m n e f j (Err why) (with_buffer k h) → IfSome o (λ y. Verdict l (Has y) (Err why))
+      exactly_err why ran = some_map o (λ y. Surveyed l m a b (resized y (image_length l))) (λ y. Verdict l (Has y) (Err why)) (λ y over. verdict_err why y ran over ran.first) ran.over
 
-      pub exactly_ok : (u : Unit {0}) (r : Report) → Ran o t a b c m n j (Ok u) (with_buffer k h) → IfSome o (λ y. Verdict l (Has y) (Ok r))
+      pub exactly_ok : (u : Unit {0}) (r : Report) → Ran o t a b c m n e f j (Ok u) (with_buffer k h) → IfSome o (λ y. Verdict l (Has y) (Ok r))
       exactly_ok u r ran = some_map o (λ y. Surveyed l m a b (resized y (image_length l))) (λ y. Verdict l (Has y) (Ok r))
           (λ y over i inside. had (Ok u) ran y over i inside (ran.ok i inside)) ran.over
 
@@ -257,7 +273,7 @@ module _ {S V : Type 0} (holds folder : S → Option (Map (List ℕ))) (place : 
       Stands y z = (i : ℕ) → i < count_of l → (Has y i → IsRightAt z l i) × ((Has y i → ⊥) → slice_of l z i ≡ slice_of l (resized y (image_length l)) i)
 
       -- an entry that can't be had was never written
-      untouched : (r : Result Unit ExtractFault) → Ran o t a b c m n j r (with_buffer k h) → (y z : List ℕ) → Surveyed l m a b (resized y (image_length l))
+      untouched : (r : Result Unit ExtractFault) → Ran o t a b c m n e f j r (with_buffer k h) → (y z : List ℕ) → Surveyed l m a b (resized y (image_length l))
           → Fills l m n b c (resized y (image_length l)) z → (i : ℕ) → i < count_of l → (Has y i → ⊥) → slice_of l z i ≡ slice_of l (resized y (image_length l)) i
       untouched r ran y z over fills i inside hasnt = elim (cases_Bool (settled n i)) [
         | inl is ↦ absurd (hasnt (had r ran y over i inside is))
@@ -267,7 +283,7 @@ module _ {S V : Type 0} (holds folder : S → Option (Map (List ℕ))) (place : 
         ]
       ]
 
-      pub after_ok : (u : Unit {0}) (r : Report) → Ran o t a b c m n j (Ok u) (with_buffer k h) → WhereTold o t (λ y z. After l (Has y) (resized y (image_length l)) z (Ok r))
+      pub after_ok : (u : Unit {0}) (r : Report) → Ran o t a b c m n e f j (Ok u) (with_buffer k h) → WhereTold o t (λ y z. After l (Has y) (resized y (image_length l)) z (Ok r))
       after_ok u r ran = told_map o t (λ y. Surveyed l m a b (resized y (image_length l))) (λ y. Fills l m n b c (resized y (image_length l)))
           (λ y z. After l (Has y) (resized y (image_length l)) z (Ok r))
           (λ y z over fills i inside. (
@@ -276,75 +292,78 @@ module _ {S V : Type 0} (holds folder : S → Option (Map (List ℕ))) (place : 
           ))
           ran.over ran.fills
 
-      after_lost : (e : ExtractFault) → Ran o t a b c m n j (Err e) (with_buffer k h) → (y z : List ℕ) → Surveyed l m a b (resized y (image_length l))
+      after_lost : (why : ExtractFault) → Ran o t a b c m n e f j (Err why) (with_buffer k h) → (y z : List ℕ) → Surveyed l m a b (resized y (image_length l))
           → Fills l m n b c (resized y (image_length l)) z
-          → (e ≡ faults.Memory) ⊎ (Rose b c ⊎ ((i : ℕ) → i < count_of l → settled n i ≡ false → (lost : Lost)
-          × (want_at d lost.entry ≡ want_at d i) × LostOver m b c (with_buffer k h) j lost))
-          → HadMemory e → Stands y z
-      after_lost e ran y z over fills (inl is) memory = absurd (subst HadMemory is memory)
-      after_lost e ran y z over fills (inr (inl rose)) memory = absurd (quiet_never a c nothing.target (rose_later a b c ran.ab rose))
-      after_lost e ran y z over fills (inr (inr left)) memory = λ i inside. (
+          → (why ≡ faults.Memory) ⊎ (Rose b c ⊎ ((i : ℕ) → i < count_of l → settled n i ≡ false → (lost : Lost)
+          × (want_at d lost.entry ≡ want_at d i) × LostOver m b c (with_buffer k h) j e f lost))
+          → HadMemory why → Stands y z
+      after_lost why ran y z over fills (inl is) memory = absurd (subst HadMemory is memory)
+      after_lost why ran y z over fills (inr (inl rose)) memory = absurd (quiet_never a c nothing.target (rose_later a b c ran.ab rose))
+      after_lost why ran y z over fills (inr (inr left)) memory = λ i inside. (
         λ has. elim (cases_Bool (settled n i)) [
           | inl is ↦ right_at l m n a b c ran.ab ran.bc (resized y (image_length l)) z over fills i inside is
           | inr isnt ↦
               let lost = left i inside isnt in
-              absurd (never (Err e) ran y over lost.0 lost.2
-              (obtainable_as l d x ran.wants (resized y (image_length l)) (map (held_in view) k.seeds.items) maps i lost.0.entry inside lost.2.listed lost.1 has)
+              absurd (never (Err why) ran y over lost.0 lost.2
+              (obtainable_as l d x ran.wants (resized y (image_length l)) (map (held_in view) k.seeds.items) (cached ++ maps) i lost.0.entry inside lost.2.listed lost.1 has)
               (tells_of lost.0.refused lost.2.had_memory))
         ],
-        untouched (Err e) ran y z over fills i inside,
+        untouched (Err why) ran y z over fills i inside,
       )
 
-      pub after_fault : (e : ExtractFault) → Ran o t a b c m n j (Err e) (with_buffer k h) → WhereTold o t (λ y z. After l (Has y) (resized y (image_length l)) z (Err e))
-      after_fault e ran = told_map o t (λ y. Surveyed l m a b (resized y (image_length l))) (λ y. Fills l m n b c (resized y (image_length l)))
-          (λ y z. After l (Has y) (resized y (image_length l)) z (Err e))
-          (λ y z over fills. after_err l (Has y) (resized y (image_length l)) z e (after_lost e ran y z over fills ran.left))
+      pub after_fault : (why : ExtractFault) → Ran o t a b c m n e f j (Err why) (with_buffer k h) → WhereTold o t (λ y z. After l (Has y) (resized y (image_length l)) z (Err why))
+      after_fault why ran = told_map o t (λ y. Surveyed l m a b (resized y (image_length l))) (λ y. Fills l m n b c (resized y (image_length l)))
+          (λ y z. After l (Has y) (resized y (image_length l)) z (Err why))
+          (λ y z over fills. after_err l (Has y) (resized y (image_length l)) z why (after_lost why ran y z over fills ran.left))
           ran.over ran.fills
 
       -- ---- what it cost
 
       -- what was so of its source at first was so over the base
-      sourced : (r : Result Unit ExtractFault) → Ran o t a b c m n j r (with_buffer k h) → (y : List ℕ) → Surveyed l m a b (resized y (image_length l)) → (w : ℕ)
-          → source_over l d x (settled m) (map (held_in view) k.seeds.items) maps w
-          ≡ source_of l d x (resized y (image_length l)) (map (held_in view) k.seeds.items) maps w
+      sourced : (r : Result Unit ExtractFault) → Ran o t a b c m n e f j r (with_buffer k h) → (y : List ℕ) → Surveyed l m a b (resized y (image_length l)) → (w : ℕ)
+          → source_over l d x (settled m) (map (held_in view) k.seeds.items) cached maps w
+          ≡ source_of l d x (resized y (image_length l)) (map (held_in view) k.seeds.items) cached maps w
       sourced r ran y over w =
-          source_same l d x (map (held_in view) k.seeds.items) maps w (settled m) (is_right_at l (resized y (image_length l)))
+          source_same l d x (map (held_in view) k.seeds.items) maps w cached cached (settled m) (is_right_at l (resized y (image_length l)))
           (λ i other. settled_right l m a b (quiet_part a a b c (omega arith) ran.bc nothing.target) (resized y (image_length l)) over i
           (listed_of l d w i ran.wants other))
+          refl
 
-      assembled : (r : Result Unit ExtractFault) → Ran o t a b c m n j r (with_buffer k h) → (y : List ℕ)
+      assembled : (r : Result Unit ExtractFault) → Ran o t a b c m n e f j r (with_buffer k h) → (y : List ℕ)
           → Surveyed l m a b (resized y (image_length l))
-          → UnlessMemory (AssembledBy (source_of l d x (resized y (image_length l)) (map (held_in view) k.seeds.items) maps) d.wants (count_of l) m n k.chain j.chain) r
+          → UnlessMemory (AssembledBy (source_of l d x (resized y (image_length l)) (map (held_in view) k.seeds.items) cached maps) d.wants (count_of l) m n k.chain j.chain) r
       assembled r ran y over = unless_map
-          (AssembledBy (source_over l d x (settled m) (map (held_in view) k.seeds.items) maps) d.wants (count_of l) m n k.chain j.chain)
-          (AssembledBy (source_of l d x (resized y (image_length l)) (map (held_in view) k.seeds.items) maps) d.wants (count_of l) m n k.chain j.chain) r
-          (assembled_as (source_over l d x (settled m) (map (held_in view) k.seeds.items) maps)
-          (source_of l d x (resized y (image_length l)) (map (held_in view) k.seeds.items) maps) d.wants (count_of l) m n k.chain j.chain (sourced r ran y over))
-          (ran.exactly maps (record {
+          (AssembledBy (source_over l d x (settled m) (map (held_in view) k.seeds.items) cached maps) d.wants (count_of l) m n k.chain j.chain)
+          (AssembledBy (source_of l d x (resized y (image_length l)) (map (held_in view) k.seeds.items) cached maps) d.wants (count_of l) m n k.chain j.chain) r
+          (assembled_as (source_over l d x (settled m) (map (held_in view) k.seeds.items) cached maps)
+          (source_of l d x (resized y (image_length l)) (map (held_in view) k.seeds.items) cached maps) d.wants (count_of l) m n k.chain j.chain (sourced r ran y over))
+          (ran.exactly cached maps (record {
             target = quiet_part a b c c ran.ab (omega arith) nothing.target;
             telling = nothing.telling;
             seeds = nothing.seeds;
+            told_cache = nothing.told_cache;
+            cache = nothing.cache;
             told = nothing.told;
             stores = nothing.stores;
-          }))
+          }) one)
 
-      pub economy_err : (e : ExtractFault) → Ran o t a b c m n j (Err e) (with_buffer k h)
-          → IfSome o (λ y. AsksExactly (source_of l d x (resized y (image_length l)) (map (held_in view) k.seeds.items) maps) d.wants k.chain j.chain (Err e))
-      economy_err e ran = some_map o (λ y. Surveyed l m a b (resized y (image_length l)))
-          (λ y. AsksExactly (source_of l d x (resized y (image_length l)) (map (held_in view) k.seeds.items) maps) d.wants k.chain j.chain (Err e))
-          (λ y over. asks_err (source_of l d x (resized y (image_length l)) (map (held_in view) k.seeds.items) maps) d.wants (count_of l) m n k.chain j.chain e
-          (assembled (Err e) ran y over)) ran.over
+      pub economy_err : (why : ExtractFault) → Ran o t a b c m n e f j (Err why) (with_buffer k h)
+          → IfSome o (λ y. AsksExactly (source_of l d x (resized y (image_length l)) (map (held_in view) k.seeds.items) cached maps) d.wants k.chain j.chain (Err why))
+      economy_err why ran = some_map o (λ y. Surveyed l m a b (resized y (image_length l)))
+          (λ y. AsksExactly (source_of l d x (resized y (image_length l)) (map (held_in view) k.seeds.items) cached maps) d.wants k.chain j.chain (Err why))
+          (λ y over. asks_err (source_of l d x (resized y (image_length l)) (map (held_in view) k.seeds.items) cached maps) d.wants (count_of l) m n k.chain j.chain why
+          (assembled (Err why) ran y over)) ran.over
 
-      pub economy_ok : (u : Unit {0}) (r : Report) → Ran o t a b c m n j (Ok u) (with_buffer k h)
-          → IfSome o (λ y. AsksExactly (source_of l d x (resized y (image_length l)) (map (held_in view) k.seeds.items) maps) d.wants k.chain j.chain (Ok r))
+      pub economy_ok : (u : Unit {0}) (r : Report) → Ran o t a b c m n e f j (Ok u) (with_buffer k h)
+          → IfSome o (λ y. AsksExactly (source_of l d x (resized y (image_length l)) (map (held_in view) k.seeds.items) cached maps) d.wants k.chain j.chain (Ok r))
       economy_ok u r ran = some_map o (λ y. Surveyed l m a b (resized y (image_length l)))
-          (λ y. AsksExactly (source_of l d x (resized y (image_length l)) (map (held_in view) k.seeds.items) maps) d.wants k.chain j.chain (Ok r))
+          (λ y. AsksExactly (source_of l d x (resized y (image_length l)) (map (held_in view) k.seeds.items) cached maps) d.wants k.chain j.chain (Ok r))
           (λ y over. (assembled (Ok u) ran y over).calls) ran.over
 
-      pub reported_ok : (u : Unit {0}) (r : Report) → Ran o t a b c m n j (Ok u) (with_buffer k h)
-          → r.seeded ≡ tally fate.Seeded n (count_of l) → r.fetched ≡ tally fate.Fetched n (count_of l)
-          → IfSome o (λ y. ReportsExactly (source_of l d x (resized y (image_length l)) (map (held_in view) k.seeds.items) maps) d.wants r)
-      reported_ok u r ran seeded fetched = some_map o (λ y. Surveyed l m a b (resized y (image_length l)))
-          (λ y. ReportsExactly (source_of l d x (resized y (image_length l)) (map (held_in view) k.seeds.items) maps) d.wants r)
-          (λ y over. reports_all (source_of l d x (resized y (image_length l)) (map (held_in view) k.seeds.items) maps) d.wants (count_of l) m n k.chain j.chain r
-          ran.firsts (assembled (Ok u) ran y over) seeded fetched) ran.over
+      pub reported_ok : (u : Unit {0}) (r : Report) → Ran o t a b c m n e f j (Ok u) (with_buffer k h)
+          → r.seeded ≡ tally fate.Seeded n (count_of l) → r.cached ≡ tally fate.Cached n (count_of l) → r.fetched ≡ tally fate.Fetched n (count_of l)
+          → IfSome o (λ y. ReportsExactly (source_of l d x (resized y (image_length l)) (map (held_in view) k.seeds.items) cached maps) d.wants r)
+      reported_ok u r ran seeded cached_is fetched = some_map o (λ y. Surveyed l m a b (resized y (image_length l)))
+          (λ y. ReportsExactly (source_of l d x (resized y (image_length l)) (map (held_in view) k.seeds.items) cached maps) d.wants r)
+          (λ y over. reports_all (source_of l d x (resized y (image_length l)) (map (held_in view) k.seeds.items) cached maps) d.wants (count_of l) m n k.chain j.chain r
+          ran.firsts (assembled (Ok u) ran y over) seeded cached_is fetched) ran.over

@@ -1,5 +1,5 @@
 -- What a pass has cost and settled so far, where nothing fails: over the wants that are done.
-use Rattle.std.proofs.Common.{◌≡◌, ◌≢◌, ◌⊎◌, ℕ, ◌+◌, ◌<◌, ◌^◌, List, length, map, Bool, Option, Result, OnOk, Ok, Err, true, false, if◌then◌else◌, refl, sym, ap, subst, ◌∙◌, inl, inr, arith}
+use Rattle.std.proofs.Common.{◌≡◌, ◌≢◌, ◌⊎◌, ℕ, ◌+◌, ◌<◌, ◌^◌, List, length, map, Bool, Option, Some, Result, OnOk, Ok, Err, true, false, if◌then◌else◌, refl, sym, ap, subst, ◌∙◌, inl, inr, arith}
 use Rattle.std.proofs.lemmas.Bool.{cases_Bool, cases_eq, true≢false}
 use Rattle.assembler.proofs.EconomyQuiet.{nothing_first, nothing_next}
 use Rattle.assembler.proofs.EconomySources.{source_kept, source_same}
@@ -8,12 +8,15 @@ use Rattle.assembler.proofs.Entries.{among, among_of}
 use Rattle.assembler.proofs.Filled.{open_before, settled_on}
 use Rattle.assembler.proofs.Tallies.{tallied_none, tallied_on}
 use Rattle.assembler.specs.Assemblies.{NothingFails}
-use Rattle.assembler.specs.Economy.{PassedBy, SettledBy, Tallied, pass_asks, source_over, sum_below}
+use Rattle.assembler.proofs.Cached.{stocked_falls, stocked_told}
+use Rattle.assembler.proofs.Stocking.{give_same}
+use Rattle.assembler.specs.Caches.{HaveOneSize, Stocked, TakesWants, cached_in}
+use Rattle.cache_store.specs.Shelves.{Shelf}
+use Rattle.assembler.specs.Economy.{HadMemory, PassedBy, SettledBy, SettlesBy, Tallied, pass_asks, source_over, sum_below}
 use Rattle.assembler.specs.Kits.{Step}
 use Rattle.assembler.specs.Passes.{want_at}
 use Rattle.assembler.specs.Reports.{one_if, tally}
 use Rattle.assembler.specs.Wants.{IsAmong}
-use Rattle.assembler.specs.declared.fault.Lost.{Lost}
 use Rattle.assembler.specs.declared.fault.Unsettled.{Unsettled}
 use Rattle.assembler.specs.declared.fault.Unsettled.TheVariants as unsettled
 use Rattle.assembler.specs.declared.kit.Kit.{Kit}
@@ -29,7 +32,6 @@ use Rattle.range_survey.specs.declared.fate.Fate.{Fate}
 use Rattle.range_survey.specs.declared.fate.Fate.TheVariants as fate
 use Rattle.store_chain.specs.Chains.{Chained}
 use Rattle.extract_plan.specs.Seeds.{held_in}
-use Rattle.store_chain.specs.declared.refused.Refused.TheVariants as refused
 
 -- the source of a want that is done, and else one that costs nothing
 abbrev pub so_far : (ℕ → Bool) → (ℕ → Fate) → ℕ → Fate
@@ -47,18 +49,19 @@ module _ (done later : ℕ → Bool) (w n : ℕ) (below : w < n) (wasnt : done w
       omega (arith, here, one)
 
   passed_on : {S : Type 0} (source : ℕ → Fate) (count : ℕ) (m0 m1 m2 : List Fate) (c0 c1 c2 : Chained S) → PassedBy (so_far done source) n count m0 m1 c0 c1
-      → c2.asks ≡ raised c1.asks (pass_asks (source w)) → Tallied (one_if fate.Seeded (source w)) (one_if fate.Fetched (source w)) count m1 m2
+      → c2.asks ≡ raised c1.asks (pass_asks (source w)) → Tallied (one_if fate.Seeded (source w)) (one_if fate.Cached (source w)) (one_if fate.Fetched (source w)) count m1 m2
       → PassedBy (so_far later source) n count m0 m2 c0 c2
   passed_on source count m0 m1 m2 c0 c1 c2 before calls tallied =
       let was = so_far done source in
-      let both = tallied_on (sum_below (λ v. one_if fate.Seeded (was v)) n) (sum_below (λ v. one_if fate.Fetched (was v)) n)
-      (one_if fate.Seeded (source w)) (one_if fate.Fetched (source w)) count m0 m1 m2 before.tallied tallied in
+      let both = tallied_on (sum_below (λ v. one_if fate.Seeded (was v)) n) (sum_below (λ v. one_if fate.Cached (was v)) n) (sum_below (λ v. one_if fate.Fetched (was v)) n)
+      (one_if fate.Seeded (source w)) (one_if fate.Cached (source w)) (one_if fate.Fetched (source w)) count m0 m1 m2 before.tallied tallied in
       record {
         calls = calls ∙ ap (λ k. raised k (pass_asks (source w))) before.calls
             ∙ raised_on c0.asks (sum_below (λ v. pass_asks (was v)) n) (pass_asks (source w))
             ∙ ap (raised c0.asks) (sum_more pass_asks source refl);
         tallied = record {
           from_seeds = both.from_seeds ∙ ap (λ k. tally fate.Seeded m0 count + k) (sum_more (one_if fate.Seeded) source refl);
+          from_cache = both.from_cache ∙ ap (λ k. tally fate.Cached m0 count + k) (sum_more (one_if fate.Cached) source refl);
           from_stores = both.from_stores ∙ ap (λ k. tally fate.Fetched m0 count + k) (sum_more (one_if fate.Fetched) source refl);
         };
       }
@@ -72,6 +75,7 @@ passed_nothing done source n count m c none below =
       calls = same_raised c.asks below ∙ ap (raised c.asks) (sym (zero_of pass_asks refl));
       tallied = record {
         from_seeds = omega (arith, zero_of (one_if fate.Seeded) refl);
+        from_cache = omega (arith, zero_of (one_if fate.Cached) refl);
         from_stores = omega (arith, zero_of (one_if fate.Fetched) refl);
       };
     }
@@ -93,23 +97,20 @@ passed_all done source n count m0 m1 c0 c1 all passed =
       calls = passed.calls ∙ ap (raised c0.asks) (same pass_asks);
       tallied = record {
         from_seeds = passed.tallied.from_seeds ∙ ap (λ k. tally fate.Seeded m0 count + k) (same (one_if fate.Seeded));
+        from_cache = passed.tallied.from_cache ∙ ap (λ k. tally fate.Cached m0 count + k) (same (one_if fate.Cached));
         from_stores = passed.tallied.from_stores ∙ ap (λ k. tally fate.Fetched m0 count + k) (same (one_if fate.Fetched));
       };
     }
 
 -- ---- one want
 
--- the stores had memory
-abbrev pub HadMemory : Result Unit Unsettled → Type 0
-HadMemory r = (lost : Lost) → r ≡ Err (unsettled.Lost lost) → lost.refused ≢ refused.Memory
-
 tallied_want : (source : Fate) (n : ℕ) (m0 m1 : List Fate) (r : Result Unit Unsettled) → HadMemory r → SettledBy source n m0 m1 r
-    → Tallied (one_if fate.Seeded source) (one_if fate.Fetched source) n m0 m1
+    → Tallied (one_if fate.Seeded source) (one_if fate.Cached source) (one_if fate.Fetched source) n m0 m1
 tallied_want source n m0 m1 (Ok u) memory settles = settles
 tallied_want source n m0 m1 (Err (unsettled.Lost lost)) memory (same, inl lacked) = absurd (memory lost refl lacked)
 tallied_want source n m0 m1 (Err (unsettled.Lost lost)) memory (same, inr none) =
-    subst (λ (m : List Fate). Tallied (one_if fate.Seeded source) (one_if fate.Fetched source) n m0 m) (sym same)
-    (subst (λ (s : Fate). Tallied (one_if fate.Seeded s) (one_if fate.Fetched s) n m0 m0) (sym none) (tallied_none n m0))
+    subst (λ (m : List Fate). Tallied (one_if fate.Seeded source) (one_if fate.Cached source) (one_if fate.Fetched source) n m0 m) (sym same)
+    (subst (λ (s : Fate). Tallied (one_if fate.Seeded s) (one_if fate.Cached s) (one_if fate.Fetched s) n m0 m0) (sym none) (tallied_none n m0))
 tallied_want source n m0 m1 (Err unsettled.TargetFault) memory settles = absurd settles
 
 left_want : (source : Fate) (n : ℕ) (m0 m1 : List Fate) (es : List ℕ) (r : Result Unit Unsettled) → HadMemory r → SettledBy source n m0 m1 r
@@ -123,101 +124,111 @@ left_want source n m0 m1 es (Err unsettled.TargetFault) memory settles all i amo
 
 module _ {T S V : Type 0} (held : T → Held) (faults : T → ℕ) (holds folder : S → Option (Map (List ℕ))) (place : S → List ℕ) (said : S → Said)
     (store_faults : S → ℕ) (lacks_memory : Bool) (view : V → Held) (view_faults : V → ℕ) (tells : Bool) (l : Listing) (d : Deal) (x : Placed) where
-  abbrev Nothing : T → Kit S V → T → Kit S V → List (Map (List ℕ)) → Type 0
-  Nothing a k b j maps = NothingFails holds folder place said store_faults lacks_memory view view_faults l d x tells (faults a) (faults b) k j maps
+  abbrev Nothing : T → Kit S V → T → Kit S V → Option Shelf → Option Shelf → List (Map (List ℕ)) → List (Map (List ℕ)) → Type 0
+  Nothing a k b j e f cached maps = NothingFails holds folder place said store_faults lacks_memory view view_faults l d x tells (faults a) (faults b) k j e f cached maps
 
-  abbrev pub SourceFrom : Kit S V → List Fate → List (Map (List ℕ)) → ℕ → Fate
-  SourceFrom k m maps = source_over l d x (settled m) (map (held_in view) k.seeds.items) maps
+  abbrev pub SourceFrom : Kit S V → List Fate → List (Map (List ℕ)) → List (Map (List ℕ)) → ℕ → Fate
+  SourceFrom k m cached maps = source_over l d x (settled m) (map (held_in view) k.seeds.items) cached maps
 
-  -- from the target a, the kit k and the fates m on
-  pub record Paid (done : ℕ → Bool) (a : T) (k : Kit S V) (m : List Fate) (b : T) (j : Kit S V) (n : List Fate) : Type 0 where
+  -- from the target a, the kit k, the fates m and the cache e on
+  pub record Paid (done : ℕ → Bool) (a : T) (k : Kit S V) (m : List Fate) (b : T) (j : Kit S V) (n : List Fate) (e f : Option Shelf) : Type 0 where
     pub untouched : (i : ℕ) → done (want_at d i) ≡ false → settled n i ≡ settled m i
-    pub passed : (maps : List (Map (List ℕ))) → Nothing a k b j maps
-        → PassedBy (so_far done (SourceFrom k m maps)) d.wants (count_of l) m n k.chain j.chain
-    pub left : (maps : List (Map (List ℕ))) → Nothing a k b j maps → (i : ℕ) → i < count_of l → done (want_at d i) ≡ true → settled n i ≡ false
-        → SourceFrom k m maps (want_at d i) ≡ fate.Open
+    pub passed : (cached maps : List (Map (List ℕ))) → Nothing a k b j e f cached maps → HaveOneSize l e cached maps
+        → PassedBy (so_far done (SourceFrom k m cached maps)) d.wants (count_of l) m n k.chain j.chain
+    pub left : (cached maps : List (Map (List ℕ))) → Nothing a k b j e f cached maps → HaveOneSize l e cached maps
+        → (i : ℕ) → i < count_of l → done (want_at d i) ≡ true → settled n i ≡ false → SourceFrom k m cached maps (want_at d i) ≡ fate.Open
 
-  pub paid_none : (done : ℕ → Bool) (a : T) (k : Kit S V) (m : List Fate) → ((w : ℕ) → done w ≡ false) → k.chain.asks < 2 ^ 64 → Paid done a k m a k m
-  paid_none done a k m none bound = record {
+  pub paid_none : (done : ℕ → Bool) (a : T) (k : Kit S V) (m : List Fate) (e : Option Shelf) → ((w : ℕ) → done w ≡ false) → k.chain.asks < 2 ^ 64 → Paid done a k m a k m e e
+  paid_none done a k m e none bound = record {
     untouched = λ i isnt. refl;
-    passed = λ maps nothing. passed_nothing done (SourceFrom k m maps) d.wants (count_of l) m k.chain none bound;
-    left = λ maps nothing i inside is isnt. absurd (true≢false (sym is ∙ none (want_at d i)));
+    passed = λ cached maps nothing one. passed_nothing done (SourceFrom k m cached maps) d.wants (count_of l) m k.chain none bound;
+    left = λ cached maps nothing one i inside is isnt. absurd (true≢false (sym is ∙ none (want_at d i)));
   }
 
-  module _ (a : T) (k : Kit S V) (m : List Fate) (b : T) (j : Kit S V) (n : List Fate) (c : T) (i : Kit S V) (o : List Fate)
+  module _ (a : T) (k : Kit S V) (m : List Fate) (b : T) (j : Kit S V) (n : List Fate) (c : T) (i : Kit S V) (o : List Fate) (e f h : Option Shelf)
       (first : Step held faults holds folder place said store_faults view view_faults l a k m b j n)
       (next : Step held faults holds folder place said store_faults view view_faults l b j n c i o)
-      (wants : AreWants l d.wants d.want_of) (w : ℕ) (only : (e : ℕ) → settled n e ≡ false → settled o e ≡ true → IsAmong (of_want d w) e) where
+      (wants : AreWants l d.wants d.want_of) (w : ℕ) (only : (y : ℕ) → settled n y ≡ false → settled o y ≡ true → IsAmong (of_want d w) y) where
     -- the entries of other wants
-    others_stay : (e : ℕ) → want_at d e ≢ w → settled o e ≡ settled n e
-    others_stay e apart = elim (cases_Bool (settled n e)) [
-      | inl was ↦ settled_on n o next.grows e was ∙ sym was
-      | inr wasnt ↦ elim (cases_Bool (settled o e)) [
-        | inl is ↦ absurd (apart (among_of d w e (only e wasnt is)).1)
+    others_stay : (y : ℕ) → want_at d y ≢ w → settled o y ≡ settled n y
+    others_stay y apart = elim (cases_Bool (settled n y)) [
+      | inl was ↦ settled_on n o next.grows y was ∙ sym was
+      | inr wasnt ↦ elim (cases_Bool (settled o y)) [
+        | inl is ↦ absurd (apart (among_of d w y (only y wasnt is)).1)
         | inr isnt ↦ isnt ∙ sym wasnt
       ]
     ]
 
     module _ (done later : ℕ → Bool) (below : w < d.wants) (wasnt : done w ≡ false) (is : later w ≡ true) (others : (v : ℕ) → v ≢ w → later v ≡ done v)
-        (before : Paid done a k m b j n) where
+        (within : (v : ℕ) → done v ≡ true → v < d.wants) (stocked : Stocked (TakesWants holds l d (λ v. done v ≡ true) k.chain.stores) e f)
+        (since : Stocked (TakesWants holds l d (λ v. v ≡ w) j.chain.stores) f h) (before : Paid done a k m b j n e f) where
       apart_from : (v : ℕ) → later v ≡ false → v ≢ w
       apart_from v isnt same = true≢false (sym is ∙ ap later (sym same) ∙ isnt)
 
       -- its source is what it was at first
-      source_still : (maps : List (Map (List ℕ))) → SourceFrom j n maps w ≡ SourceFrom k m maps w
-      source_still maps =
-          ap (λ (views : List (Option Held)). source_over l d x (settled n) views maps w) first.seeds.held
-          ∙ source_same l d x (map (held_in view) k.seeds.items) maps w (settled n) (settled m)
-          (λ e among. before.untouched e (ap done (among_of d w e among).1 ∙ wasnt))
+      source_still : (was now maps : List (Map (List ℕ))) → cached_in e ≡ Some was → cached_in f ≡ Some now → map holds k.chain.stores ≡ map Some maps → HaveOneSize l e was maps
+          → SourceFrom j n now maps w ≡ SourceFrom k m was maps w
+      source_still was now maps told tells held one =
+          ap (λ (views : List (Option Held)). source_over l d x (settled n) views now maps w) first.seeds.held
+          ∙ source_same l d x (map (held_in view) k.seeds.items) maps w now was (settled n) (settled m)
+          (λ y among. before.untouched y (ap done (among_of d w y among).1 ∙ wasnt))
+          (give_same holds l d (λ v. done v ≡ true) k.chain.stores e f was now maps stocked told tells held wants within one w below
+          (λ so. true≢false (sym so ∙ wasnt)))
 
-      untouched_more : (e : ℕ) → later (want_at d e) ≡ false → settled o e ≡ settled m e
-      untouched_more e isnt =
-          let apart = apart_from (want_at d e) isnt in
-          others_stay e apart ∙ before.untouched e (sym (others (want_at d e) apart) ∙ isnt)
+      untouched_more : (y : ℕ) → later (want_at d y) ≡ false → settled o y ≡ settled m y
+      untouched_more y isnt =
+          let apart = apart_from (want_at d y) isnt in
+          others_stay y apart ∙ before.untouched y (sym (others (want_at d y) apart) ∙ isnt)
 
-      module _ (r : Result Unit Unsettled) (memory : HadMemory r) (all : OnOk r ((e : ℕ) → IsAmong (of_want d w) e → settled o e ≡ true))
-          (exactly : (maps : List (Map (List ℕ))) → Nothing b j c i maps
-          → (i.chain.asks ≡ raised j.chain.asks (pass_asks (SourceFrom j n maps w))) × SettledBy (SourceFrom j n maps w) (count_of l) n o r) where
-        earlier : (maps : List (Map (List ℕ))) → Nothing a k c i maps → Nothing a k b j maps
-        earlier maps nothing = nothing_first holds store_faults view_faults tells (faults a) (faults b) (faults c) k.seeds.items j.seeds.items i.seeds.items
-            k.chain.stores j.chain.stores i.chain.stores maps next.never_falls next.seeds.never_fall next.stores.never_fall nothing
+      module _ (r : Result Unit Unsettled) (memory : HadMemory r) (all : OnOk r ((y : ℕ) → IsAmong (of_want d w) y → settled o y ≡ true))
+          (exactly : (cached maps : List (Map (List ℕ))) → Nothing b j c i f h cached maps → SettlesBy (SourceFrom j n cached maps w) (count_of l) n o j.chain i.chain r) where
+        earlier : (cached maps : List (Map (List ℕ))) → Nothing a k c i e h cached maps → Nothing a k b j e f cached maps
+        earlier cached maps nothing = nothing_first holds store_faults view_faults tells (faults a) (faults b) (faults c) k.seeds.items j.seeds.items i.seeds.items
+            e f h k.chain.stores j.chain.stores i.chain.stores cached maps next.never_falls next.seeds.never_fall next.stores.never_fall
+            (stocked_falls (TakesWants holds l d (λ v. v ≡ w) j.chain.stores) f h since) nothing
 
-        now : (maps : List (Map (List ℕ))) → Nothing a k c i maps
-            → (i.chain.asks ≡ raised j.chain.asks (pass_asks (SourceFrom k m maps w))) × SettledBy (SourceFrom k m maps w) (count_of l) n o r
-        now maps nothing =
-            subst (λ (s : Fate). (i.chain.asks ≡ raised j.chain.asks (pass_asks s)) × SettledBy s (count_of l) n o r) (source_still maps)
-            (exactly maps (nothing_next holds store_faults view_faults tells (faults a) (faults b) (faults c) k.seeds.items j.seeds.items i.seeds.items
-            k.chain.stores j.chain.stores i.chain.stores maps first.never_falls first.seeds.never_fall first.stores.never_fall first.stores.held nothing))
+        now_by : (cached maps : List (Map (List ℕ))) → Nothing a k c i e h cached maps → HaveOneSize l e cached maps
+            → (i.chain.asks ≡ raised j.chain.asks (pass_asks (SourceFrom k m cached maps w))) × SettledBy (SourceFrom k m cached maps w) (count_of l) n o r
+        now_by cached maps nothing one =
+            let T = TakesWants holds l d (λ v. done v ≡ true) k.chain.stores in
+            let later = stocked_told T e f cached stocked nothing.told_cache in
+            let by = exactly later.0 maps (nothing_next holds store_faults view_faults tells (faults a) (faults b) (faults c) k.seeds.items j.seeds.items i.seeds.items
+            e f h k.chain.stores j.chain.stores i.chain.stores cached maps first.never_falls first.seeds.never_fall first.stores.never_fall
+            (stocked_falls T e f stocked) first.stores.held later.0 later.1 nothing) in
+            subst (λ (s : Fate). (i.chain.asks ≡ raised j.chain.asks (pass_asks s)) × SettledBy s (count_of l) n o r)
+            (source_still cached later.0 maps nothing.told_cache later.1 nothing.told one) (by.0 memory, by.1)
 
-        passed_more : (maps : List (Map (List ℕ))) → Nothing a k c i maps
-            → PassedBy (so_far later (SourceFrom k m maps)) d.wants (count_of l) m o k.chain i.chain
-        passed_more maps nothing =
-            let call = now maps nothing in
-            let source = SourceFrom k m maps in
+        passed_more : (cached maps : List (Map (List ℕ))) → Nothing a k c i e h cached maps → HaveOneSize l e cached maps
+            → PassedBy (so_far later (SourceFrom k m cached maps)) d.wants (count_of l) m o k.chain i.chain
+        passed_more cached maps nothing one =
+            let call = now_by cached maps nothing one in
+            let source = SourceFrom k m cached maps in
             passed_on done later w d.wants below wasnt is others source (count_of l) m n o k.chain j.chain i.chain
-            (before.passed maps (earlier maps nothing)) call.0 (tallied_want (source w) (count_of l) n o r memory call.1)
+            (before.passed cached maps (earlier cached maps nothing) one) call.0 (tallied_want (source w) (count_of l) n o r memory call.1)
 
-        left_more : (maps : List (Map (List ℕ))) → Nothing a k c i maps → (e : ℕ) → e < count_of l → later (want_at d e) ≡ true → settled o e ≡ false
-            → SourceFrom k m maps (want_at d e) ≡ fate.Open
-        left_more maps nothing e inside so isnt = elim (cases_eq (want_at d e) w) [
+        left_more : (cached maps : List (Map (List ℕ))) → Nothing a k c i e h cached maps → HaveOneSize l e cached maps
+            → (y : ℕ) → y < count_of l → later (want_at d y) ≡ true → settled o y ≡ false → SourceFrom k m cached maps (want_at d y) ≡ fate.Open
+        left_more cached maps nothing one y inside so isnt = elim (cases_eq (want_at d y) w) [
           | inl same ↦
               let size : length d.want_of ≡ count_of l = wants.size in
-              ap (SourceFrom k m maps) same
-              ∙ left_want (SourceFrom k m maps w) (count_of l) n o (of_want d w) r memory (now maps nothing).1 all e (among d w e (omega (arith, inside, size)) same) isnt
-          | inr apart ↦ before.left maps (earlier maps nothing) e inside (sym (others (want_at d e) apart) ∙ so) (open_before n o next.grows e isnt)
+              ap (SourceFrom k m cached maps) same
+              ∙ left_want (SourceFrom k m cached maps w) (count_of l) n o (of_want d w) r memory (now_by cached maps nothing one).1 all y
+              (among d w y (omega (arith, inside, size)) same) isnt
+          | inr apart ↦ before.left cached maps (earlier cached maps nothing) one y inside (sym (others (want_at d y) apart) ∙ so) (open_before n o next.grows y isnt)
         ]
 
-        pub paid_more : Paid later a k m c i o
+        pub paid_more : Paid later a k m c i o e h
         paid_more = record { untouched = untouched_more; passed = passed_more; left = left_more }
 
   -- at the end: each want is done, or was settled at first
-  pub paid_all : (done : ℕ → Bool) (a : T) (k : Kit S V) (m : List Fate) (b : T) (j : Kit S V) (n : List Fate)
-      → ((w : ℕ) → w < d.wants → (done w ≡ true) ⊎ ((i : ℕ) × IsAmong (of_want d w) i × (settled m i ≡ true))) → Paid done a k m b j n
-      → (maps : List (Map (List ℕ))) → Nothing a k b j maps → PassedBy (SourceFrom k m maps) d.wants (count_of l) m n k.chain j.chain
-  paid_all done a k m b j n all paid maps nothing =
-      passed_all done (SourceFrom k m maps) d.wants (count_of l) m n k.chain j.chain
+  pub paid_all : (done : ℕ → Bool) (a : T) (k : Kit S V) (m : List Fate) (b : T) (j : Kit S V) (n : List Fate) (e f : Option Shelf)
+      → ((w : ℕ) → w < d.wants → (done w ≡ true) ⊎ ((i : ℕ) × IsAmong (of_want d w) i × (settled m i ≡ true))) → Paid done a k m b j n e f
+      → (cached maps : List (Map (List ℕ))) → Nothing a k b j e f cached maps → HaveOneSize l e cached maps
+      → PassedBy (SourceFrom k m cached maps) d.wants (count_of l) m n k.chain j.chain
+  paid_all done a k m b j n e f all paid cached maps nothing one =
+      passed_all done (SourceFrom k m cached maps) d.wants (count_of l) m n k.chain j.chain
       (λ w less. elim (all w less) [
         | inl is ↦ inl is
-        | inr one ↦ inr (source_kept l d x (map (held_in view) k.seeds.items) maps w (settled m) one.0 one.1 one.2)
+        | inr other ↦ inr (source_kept l d x (map (held_in view) k.seeds.items) maps w cached (settled m) other.0 other.1 other.2)
       ])
-      (paid.passed maps nothing)
+      (paid.passed cached maps nothing one)

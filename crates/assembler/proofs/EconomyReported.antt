@@ -50,10 +50,11 @@ module _ {S : Type 0} (source : ℕ → Fate) (wants count : ℕ) (m n : List Fa
         | inr is ↦ omega (arith, rest, ap (one_if f) is, isnt_kept)
       ]
 
-  pub reports_all : (r : Report) → FirstFates m count → AssembledBy source wants count m n old new → r.seeded ≡ tally fate.Seeded n count → r.fetched ≡ tally fate.Fetched n count
+  pub reports_all : (r : Report) → FirstFates m count → AssembledBy source wants count m n old new → r.seeded ≡ tally fate.Seeded n count → r.cached ≡ tally fate.Cached n count → r.fetched ≡ tally fate.Fetched n count
       → ReportsExactly source wants r
-  reports_all r firsts by seeded fetched = (
+  reports_all r firsts by seeded cached fetched = (
     omega (arith, seeded, by.tallied.from_seeds, not_first fate.Seeded refl refl count (omega arith) firsts),
+    omega (arith, cached, by.tallied.from_cache, not_first fate.Cached refl refl count (omega arith) firsts),
     omega (arith, fetched, by.tallied.from_stores, not_first fate.Fetched refl refl count (omega arith) firsts),
   )
 
@@ -67,6 +68,7 @@ assembled_as s t wants count m n old new same by =
       calls = by.calls ∙ ap (raised old.asks) (sums all_asks);
       tallied = record {
         from_seeds = by.tallied.from_seeds ∙ ap (λ k. tally fate.Seeded m count + k) (sums (one_if fate.Seeded));
+        from_cache = by.tallied.from_cache ∙ ap (λ k. tally fate.Cached m count + k) (sums (one_if fate.Cached));
         from_stores = by.tallied.from_stores ∙ ap (λ k. tally fate.Fetched m count + k) (sums (one_if fate.Fetched));
       };
     }

@@ -1,11 +1,10 @@
 -- What the second pass has cost: the wants that it has tried are done, and the others were settled.
 use Rattle.std.proofs.Common.{◌≡◌, ◌≢◌, ◌⊎◌, ℕ, ◌<◌, ◌≤◌, List, length, set, Bool, Result, Ok, Err, true, false, sym, ap, subst, ◌∙◌, inl, inr, arith}
-use Rattle.std.proofs.lemmas.Bool.{cases_Bool, true≢false}
-use Rattle.std.proofs.lemmas.List.{get_or-set_same, get_or-set_other}
-use Rattle.assembler.proofs.EconomyPaid.{HadMemory}
+use Rattle.std.proofs.lemmas.Bool.{cases_Bool, cases_lt, true≢false}
+use Rattle.std.proofs.lemmas.List.{get_or-set_same, get_or-set_other, get_or_past}
 use Rattle.assembler.proofs.Entries.{among}
 use Rattle.assembler.proofs.Tried.{is_tried}
-use Rattle.assembler.specs.Economy.{SettledBy, UnlessMemory}
+use Rattle.assembler.specs.Economy.{HadMemory, SettledBy, UnlessMemory}
 use Rattle.assembler.specs.Passes.{want_at}
 use Rattle.assembler.specs.Wants.{IsAmong}
 use Rattle.assembler.specs.declared.fault.ExtractFault.{ExtractFault}
@@ -61,6 +60,12 @@ tried_now tried w n size below = get_or-set_same tried w true false (omega (arit
 
 pub tried_as : (tried : List Bool) (w v : ℕ) → v ≢ w → is_tried (set tried w true) v ≡ is_tried tried v
 tried_as tried w v apart = get_or-set_other tried w v true false apart
+
+pub tried_within : (tried : List Bool) (w n : ℕ) → length tried ≡ n → is_tried tried w ≡ true → w < n
+tried_within tried w n size is = elim (cases_lt w n) [
+  | inl inside ↦ inside
+  | inr past ↦ absurd (true≢false (sym is ∙ get_or_past tried w false (omega (arith, past, size))))
+]
 
 -- after all entries a want that wasn't tried was settled at first
 pub tried_all : (l : Listing) (d : Deal) (m n : List Fate) (tried : List Bool) (i w : ℕ) → AreWants l d.wants d.want_of → count_of l ≤ i

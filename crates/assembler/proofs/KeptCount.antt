@@ -17,6 +17,7 @@ made_not_kept fate.Open is = refl
 made_not_kept fate.Kept is = let bad : false ≡ true = is in absurd (cc)
 made_not_kept fate.Copied is = refl
 made_not_kept fate.Seeded is = refl
+made_not_kept fate.Cached is = refl
 made_not_kept fate.Fetched is = refl
 
 open_not_kept : (x : Fate) → is_settled x ≡ false → one_if fate.Kept x ≡ 0
@@ -24,6 +25,7 @@ open_not_kept fate.Open is = refl
 open_not_kept fate.Kept is = let bad : true ≡ false = is in absurd (cc)
 open_not_kept fate.Copied is = refl
 open_not_kept fate.Seeded is = refl
+open_not_kept fate.Cached is = refl
 open_not_kept fate.Fetched is = refl
 
 kept_first : (x : Fate) → (x ≡ fate.Open) ⊎ (x ≡ fate.Kept) → is_settled x ≡ true → x ≡ fate.Kept

@@ -4,7 +4,8 @@ use Rattle.std.proofs.lemmas.List.Elements.{All-weaker}
 use Rattle.std.proofs.lemmas.Option.{none-some, same_Some}
 use Rattle.std.specs.List.{All, Any}
 use Rattle.assembler.proofs.Asked.{quiet_never}
-use Rattle.assembler.specs.Losses.{SomeGives, chunk_of}
+use Rattle.assembler.specs.Losses.{chunk_of}
+use Rattle.cache_store.specs.Giving.{SomeGives}
 use Rattle.assembler.specs.Sources.{HeldAt, SeedsFailed, SeedsGive}
 use Rattle.chunk_store.specs.Giving.{GivesChunk}
 use Rattle.chunk_store.specs.Names.{name_of}
@@ -28,7 +29,7 @@ module _ {X : Type 0} (Q : X → Type 0) where
   pub none_all : (xs : List X) → All (λ x. Q x → ⊥) xs → Any Q xs → ⊥
   none_all xs none (k, x, inside, at, q) = none k x inside (subst Q (sym at) q)
 
-  any_cons : (x : X) (xs : List X) → Any Q (x ∷ xs) → Q x ⊎ Any Q xs
+  pub any_cons : (x : X) (xs : List X) → Any Q (x ∷ xs) → Q x ⊎ Any Q xs
   any_cons x xs (zero, y, inside, at, q) = inl (subst Q (sym at) q)
   any_cons x xs (suc k, y, inside, at, q) = inr (k, y, omega (arith, inside), at, q)
 

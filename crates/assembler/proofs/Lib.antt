@@ -1,10 +1,16 @@
 pub mod Writes
+pub mod Tallies
 pub mod Filled
 pub mod SeedAnswers
 pub mod Obtained
 pub mod Entries
 pub mod Stepped
 pub mod Asked
+pub mod Lacking
+pub mod Cached
+pub mod Origins
+pub mod Stocking
+pub mod Behind
 pub mod HadOn
 pub mod Passed
 pub mod Settled
@@ -17,10 +23,7 @@ pub mod Reported
 pub mod KeptCount
 pub mod EconomySums
 pub mod EconomyQuiet
-pub mod Tallies
-pub mod Origins
 pub mod Based
-pub mod Lacking
 pub mod Assembled
 pub mod EconomySources
 pub mod EconomyPaid

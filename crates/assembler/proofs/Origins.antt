@@ -1,5 +1,5 @@
 -- Which source a chunk has: what the tests of specs/Economy tell, and what the answers then are.
-use Rattle.std.proofs.Common.{◌≡◌, ℕ, ◌<◌, ◌^◌, ◌==◌, nat_le, List, length, slice_index_or, Option, Some, None, IsSomeAnd, Bool, Decides, Ok, Err, true, false, refl, sym, ap, ◌∙◌, subst, inl, inr, arith}
+use Rattle.std.proofs.Common.{◌≡◌, ℕ, ◌<◌, ◌^◌, ◌==◌, nat_le, List, length, slice_index_or, Option, Some, None, IsSomeAnd, Bool, Decides, Result, Ok, Err, true, false, refl, sym, ap, ◌∙◌, subst, inl, inr, arith}
 use Rattle.std.proofs.lemmas.Bool.{cases_Bool, false_from_ne_true, false≢true, le-leb, leb-true}
 use Rattle.std.proofs.lemmas.Bool.Decides.{Decides-and, Decides-eqb}
 use Rattle.std.proofs.lemmas.List.{get_or_default}
@@ -10,10 +10,12 @@ use Rattle.std.specs.List.{Any, list_any}
 use Rattle.std.specs.Str.{bytes_eq}
 use Rattle.assembler.proofs.EconomySums.{same_raised}
 use Rattle.assembler.proofs.Tallies.{TalliedAs, tallied_none}
-use Rattle.assembler.specs.Economy.{ObtainedBy, SettlesBy, given_at, is_chunk, origin_of, seeds_give, source_among, stores_give, told_at}
-use Rattle.assembler.specs.Losses.{SomeGives}
+use Rattle.assembler.specs.Economy.{ObtainedBy, SettlesBy, given_at, source_behind, is_chunk, origin_of, seeds_give, source_among, stores_give, told_at}
+use Rattle.cache_store.specs.Giving.{SomeGives}
 use Rattle.assembler.specs.Reports.{one_if}
 use Rattle.assembler.specs.Sources.{GivesAt, HeldAt, SeedsGive}
+use Rattle.assembler.specs.declared.fault.Lost.{Lost}
+use Rattle.assembler.specs.declared.fault.Unsettled.TheVariants as unsettled
 use Rattle.assembler.specs.Wants.{IsAmong}
 use Rattle.chunk_store.specs.Giving.{GivesChunk, IsChunk}
 use Rattle.chunk_store.specs.Names.{name_of}
@@ -94,20 +96,33 @@ stores_decide kind id size maps =
 
 -- ---- what is answered
 
--- a copy counts neither as seeded nor as fetched
+-- a copy counts neither as seeded nor as cached or fetched
 origin_seeded : (x : Fate) → one_if fate.Seeded (origin_of x) ≡ one_if fate.Seeded x
 origin_seeded fate.Open = refl
 origin_seeded fate.Kept = refl
 origin_seeded fate.Copied = refl
 origin_seeded fate.Seeded = refl
+origin_seeded fate.Cached = refl
 origin_seeded fate.Fetched = refl
+
+origin_cached : (x : Fate) → one_if fate.Cached (origin_of x) ≡ one_if fate.Cached x
+origin_cached fate.Open = refl
+origin_cached fate.Kept = refl
+origin_cached fate.Copied = refl
+origin_cached fate.Seeded = refl
+origin_cached fate.Cached = refl
+origin_cached fate.Fetched = refl
 
 origin_fetched : (x : Fate) → one_if fate.Fetched (origin_of x) ≡ one_if fate.Fetched x
 origin_fetched fate.Open = refl
 origin_fetched fate.Kept = refl
 origin_fetched fate.Copied = refl
 origin_fetched fate.Seeded = refl
+origin_fetched fate.Cached = refl
 origin_fetched fate.Fetched = refl
+
+ok_isnt_err : {A : Type 0} {x : A} → (◌≡◌ {A = Result A Refused} (Ok x) (Err refused.Memory)) → ⊥
+ok_isnt_err is = absurd (cc)
 
 -- a want was settled with a chunk that was got so, or all of it was settled before
 module _ {S : Type 0} (source : Fate) (n : ℕ) (m0 m1 : List Fate) (old new : Chained S) where
@@ -115,17 +130,56 @@ module _ {S : Type 0} (source : Fate) (n : ℕ) (m0 m1 : List Fate) (old new : C
   settles_got origin got counts =
       let as_source : TalliedAs (origin_of source) n m0 m1 = subst (λ f. TalliedAs f n m0 m1) got.1 counts in
       let from_seeds = as_source.from_seeds in
+      let from_cache = as_source.from_cache in
       let from_stores = as_source.from_stores in (
-        got.0,
-        record { from_seeds = omega (arith, from_seeds, origin_seeded source); from_stores = omega (arith, from_stores, origin_fetched source) },
+        λ memory. got.0 ok_isnt_err,
+        record {
+          from_seeds = omega (arith, from_seeds, origin_seeded source);
+          from_cache = omega (arith, from_cache, origin_cached source);
+          from_stores = omega (arith, from_stores, origin_fetched source);
+        },
       )
 
-pub settles_kept : {S : Type 0} (source : Fate) (n : ℕ) (m : List Fate) (c : Chained S) → source ≡ fate.Kept → c.asks < 2 ^ 64 → SettlesBy source n m m c c (Ok tt)
-settles_kept source n m c is below = rw is (same_raised c.asks below, tallied_none n m)
+-- the chunk wasn't had
+same_err : {A : Type 0} (r q : Refused) → (◌≡◌ {A = Result A Refused} (Err r) (Err q)) → r ≡ q
+same_err r q same = cc
 
-module _ (is_right : ℕ → Bool) (es : List ℕ) (views : List (Option Held)) (places : List SeedPlace) (kind : DigestKind) (id : List ℕ) (size : ℕ) (maps : List (Map (List ℕ))) where
+pub settles_lost : {S : Type 0} (source : Fate) (n : ℕ) (m : List Fate) (old new : Chained S) (lost : Lost) → ObtainedBy source old new (Err lost.refused)
+    → SettlesBy source n m m old new (Err (unsettled.Lost lost))
+settles_lost source n m old new lost got = (λ memory. got.0 (λ same. memory lost refl (same_err lost.refused refused.Memory same)), (refl, got.1))
+
+pub settles_kept : {S : Type 0} (source : Fate) (n : ℕ) (m : List Fate) (c : Chained S) → source ≡ fate.Kept → c.asks < 2 ^ 64 → SettlesBy source n m m c c (Ok tt)
+settles_kept source n m c is below = rw is (λ memory. same_raised c.asks below, tallied_none n m)
+
+-- ---- behind the target and the seeds
+
+module _ {S : Type 0} (kind : DigestKind) (id : List ℕ) (size : ℕ) (cached maps : List (Map (List ℕ))) (old new : Chained S) where
+  abbrev behind : Fate
+  behind = source_behind kind id size cached maps
+
+  pub by_cache : old.asks < 2 ^ 64 → new ≡ old → SomeGives kind id size cached → ObtainedBy behind old new (Ok fate.Cached)
+  by_cache below same gives = rw ((stores_decide kind id size cached).1 gives, same) (λ isnt. same_raised old.asks below, refl)
+
+  pub by_want : ObtainedBy behind old new (Err refused.Memory)
+  by_want = (λ isnt. absurd (isnt refl), inl refl)
+
+  module _ (cacheless : SomeGives kind id size cached → ⊥) (calls : new.asks ≡ raised old.asks 1) where
+    not_cached : stores_give kind id size cached ≡ false
+    not_cached = false_from_ne_true (stores_give kind id size cached) (λ e. cacheless ((stores_decide kind id size cached).0 e))
+
+    pub by_store : SomeGives kind id size maps → ObtainedBy behind old new (Ok fate.Fetched)
+    by_store gives = rw (not_cached, (stores_decide kind id size maps).1 gives) (λ isnt. calls, refl)
+
+    pub by_none : (r : Refused) → (SomeGives kind id size maps → r ≡ refused.Memory) → ObtainedBy behind old new (Err r)
+    by_none r unless = elim (cases_Bool (stores_give kind id size maps)) [
+      | inl give ↦ rw (not_cached, give) (λ isnt. calls, inl (unless ((stores_decide kind id size maps).0 give)))
+      | inr never ↦ rw (not_cached, never) (λ isnt. calls, inr refl)
+    ]
+
+module _ (is_right : ℕ → Bool) (es : List ℕ) (views : List (Option Held)) (places : List SeedPlace) (kind : DigestKind) (id : List ℕ) (size : ℕ)
+    (cached maps : List (Map (List ℕ))) where
   abbrev source : Fate
-  source = source_among is_right es views places kind id size maps
+  source = source_among is_right es views places kind id size cached maps
 
   pub kept_source : (i : ℕ) → IsAmong es i → is_right i ≡ true → source ≡ fate.Kept
   kept_source i among is = rw (some_right is_right es i among is) refl
@@ -133,7 +187,7 @@ module _ (is_right : ℕ → Bool) (es : List ℕ) (views : List (Option Held)) 
   module _ {S : Type 0} (old new : Chained S) where
     pub by_copy : old.asks < 2 ^ 64 → new ≡ old → (i : ℕ) → IsAmong es i → is_right i ≡ true → ObtainedBy source old new (Ok fate.Copied)
     by_copy below same i among is =
-        rw (kept_source i among is, same) (same_raised old.asks below, refl)
+        rw (kept_source i among is, same) (λ isnt. same_raised old.asks below, refl)
 
     module _ (none : (i : ℕ) → IsAmong es i → is_right i ≡ true → ⊥) where
       not_kept : list_any is_right es ≡ false
@@ -141,17 +195,10 @@ module _ (is_right : ℕ → Bool) (es : List ℕ) (views : List (Option Held)) 
 
       pub by_seed : old.asks < 2 ^ 64 → new ≡ old → SeedsGive views places id → ObtainedBy source old new (Ok fate.Seeded)
       by_seed below same gives =
-          rw (not_kept, (seeds_decide views places id).1 gives, same) (same_raised old.asks below, refl)
+          rw (not_kept, (seeds_decide views places id).1 gives, same) (λ isnt. same_raised old.asks below, refl)
 
-      module _ (seedless : SeedsGive views places id → ⊥) (calls : new.asks ≡ raised old.asks 1) where
-        not_seeded : seeds_give views places id ≡ false
-        not_seeded = false_from_ne_true (seeds_give views places id) (λ e. seedless ((seeds_decide views places id).0 e))
-
-        pub by_store : SomeGives kind id size maps → ObtainedBy source old new (Ok fate.Fetched)
-        by_store gives = rw (not_kept, not_seeded, (stores_decide kind id size maps).1 gives) (calls, refl)
-
-        pub by_none : (r : Refused) → (SomeGives kind id size maps → r ≡ refused.Memory) → ObtainedBy source old new (Err r)
-        by_none r unless = elim (cases_Bool (stores_give kind id size maps)) [
-          | inl give ↦ rw (not_kept, not_seeded, give) (calls, inl (unless ((stores_decide kind id size maps).0 give)))
-          | inr never ↦ rw (not_kept, not_seeded, never) (calls, inr refl)
-        ]
+      -- where no seed gives it the cache and the stores are what is left
+      pub by_rest : (SeedsGive views places id → ⊥) → (r : Result Fate Refused) → ObtainedBy (source_behind kind id size cached maps) old new r → ObtainedBy source old new r
+      by_rest seedless r got =
+          let not_seeded : seeds_give views places id ≡ false = false_from_ne_true (seeds_give views places id) (λ e. seedless ((seeds_decide views places id).0 e)) in
+          rw (not_kept, not_seeded) got

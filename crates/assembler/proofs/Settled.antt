@@ -1,6 +1,7 @@
 -- The entries of a want as its call sees them, and what a call that settles them says of all.
 use Rattle.std.proofs.Common.{◌≡◌, ℕ, ◌<◌, List, length, slice_index, Option, Bool, Result, Ok, Err, true, false, refl, sym, ap, subst, ◌∙◌, inl, inr, arith}
 use Rattle.std.proofs.lemmas.Bool.{cases_lt}
+use Rattle.assembler.specs.Caches.{TakesChunk, TakesWants}
 use Rattle.assembler.proofs.Entries.{first_among, ids_same, listed_of}
 use Rattle.assembler.proofs.Origins.{kept_source}
 use Rattle.assembler.specs.Economy.{SettlesBy, source_among, source_over}
@@ -112,31 +113,43 @@ module _ (l : Listing) (d : Deal) (w : ℕ) (wants : AreWants l d.wants d.want_o
       subst (λ (q : List (Seed V)). AskedLast asked queried view view_faults (want_id l d w) m (of_want d w) (places_at x w) old new t0 q c0 c1) last e
 
   -- the chunk of one has the source of the want
-  source_as : (is_right : ℕ → Bool) (views after : List (Option Held)) (x : Placed) (ps : List SeedPlace) (maps : List (Map (List ℕ))) (one : ℕ) (id : List ℕ)
+  source_as : (is_right : ℕ → Bool) (views after : List (Option Held)) (x : Placed) (ps : List SeedPlace) (cached maps : List (Map (List ℕ))) (one : ℕ) (id : List ℕ)
       → IsAmong es one → id ≡ id_of l one → ps ≡ places_at x w → views ≡ after
-      → source_among is_right es views ps (kind_of l) id (size_of l one) maps ≡ source_over l d x is_right after maps w
-  source_as is_right views after x ps maps one id among named at same =
-      ap (λ (xs : List ℕ). source_among is_right xs views ps (kind_of l) id (size_of l one) maps) is
-      ∙ ap (λ (v : List (Option Held)). source_among is_right (of_want d w) v ps (kind_of l) id (size_of l one) maps) same
-      ∙ ap (λ (qs : List SeedPlace). source_among is_right (of_want d w) after qs (kind_of l) id (size_of l one) maps) at
-      ∙ ap (λ (q : List ℕ). source_among is_right (of_want d w) after (places_at x w) (kind_of l) q (size_of l one) maps) (named ∙ named_first one among)
-      ∙ ap (λ (n : ℕ). source_among is_right (of_want d w) after (places_at x w) (kind_of l) (want_id l d w) n maps) (sym (as_first one among))
+      → source_among is_right es views ps (kind_of l) id (size_of l one) cached maps ≡ source_over l d x is_right after cached maps w
+  source_as is_right views after x ps cached maps one id among named at same =
+      ap (λ (xs : List ℕ). source_among is_right xs views ps (kind_of l) id (size_of l one) cached maps) is
+      ∙ ap (λ (v : List (Option Held)). source_among is_right (of_want d w) v ps (kind_of l) id (size_of l one) cached maps) same
+      ∙ ap (λ (qs : List SeedPlace). source_among is_right (of_want d w) after qs (kind_of l) id (size_of l one) cached maps) at
+      ∙ ap (λ (q : List ℕ). source_among is_right (of_want d w) after (places_at x w) (kind_of l) q (size_of l one) cached maps) (named ∙ named_first one among)
+      ∙ ap (λ (n : ℕ). source_among is_right (of_want d w) after (places_at x w) (kind_of l) (want_id l d w) n cached maps) (sym (as_first one among))
 
   pub settles_as : {S : Type 0} (m0 m1 : List Fate) (n : ℕ) (c0 c1 : Chained S) (r : Result Unit Unsettled)
-      (views after : List (Option Held)) (x : Placed) (ps : List SeedPlace) (maps : List (Map (List ℕ))) (one : ℕ) (id : List ℕ)
+      (views after : List (Option Held)) (x : Placed) (ps : List SeedPlace) (cached maps : List (Map (List ℕ))) (one : ℕ) (id : List ℕ)
       → IsAmong es one → id ≡ id_of l one → ps ≡ places_at x w → views ≡ after
-      → SettlesBy (source_among (settled m0) es views ps (kind_of l) id (size_of l one) maps) n m0 m1 c0 c1 r
-      → SettlesBy (source_over l d x (settled m0) after maps w) n m0 m1 c0 c1 r
-  settles_as m0 m1 n c0 c1 r views after x ps maps one id among named at same settles =
-      subst (λ s. SettlesBy s n m0 m1 c0 c1 r) (source_as (settled m0) views after x ps maps one id among named at same) settles
+      → SettlesBy (source_among (settled m0) es views ps (kind_of l) id (size_of l one) cached maps) n m0 m1 c0 c1 r
+      → SettlesBy (source_over l d x (settled m0) after cached maps w) n m0 m1 c0 c1 r
+  settles_as m0 m1 n c0 c1 r views after x ps cached maps one id among named at same settles =
+      subst (λ s. SettlesBy s n m0 m1 c0 c1 r) (source_as (settled m0) views after x ps cached maps one id among named at same) settles
 
   -- where all are settled the want is
-  pub all_kept : (m : List Fate) (views : List (Option Held)) (x : Placed) (maps : List (Map (List ℕ)))
-      → ((k : ℕ) → k < length es → settled m (slice_index es k) ≡ true) → source_over l d x (settled m) views maps w ≡ fate.Kept
-  all_kept m views x maps all =
+  pub all_kept : (m : List Fate) (views : List (Option Held)) (x : Placed) (cached maps : List (Map (List ℕ)))
+      → ((k : ℕ) → k < length es → settled m (slice_index es k) ≡ true) → source_over l d x (settled m) views cached maps w ≡ fate.Kept
+  all_kept m views x cached maps all =
       let here : IsAmong es (first_of d w) = subst (λ (xs : List ℕ). IsAmong xs (first_of d w)) (sym is) (first_among l d w wants below) in
-      kept_source (settled m) (of_want d w) views (places_at x w) (kind_of l) (want_id l d w) (size_of l (first_of d w)) maps (first_of d w)
+      kept_source (settled m) (of_want d w) views (places_at x w) (kind_of l) (want_id l d w) (size_of l (first_of d w)) cached maps (first_of d w)
       (first_among l d w wants below) (subst (λ (i : ℕ). settled m i ≡ true) here.2 (all here.0 here.1))
+
+-- what is added for the chunk of one is added for the want
+pub takes_as : {S : Type 0} (holds : S → Option (Map (List ℕ))) (l : Listing) (d : Deal) (w one : ℕ) (id : List ℕ) (stores : List S)
+    → AreWants l d.wants d.want_of → w < d.wants → IsAmong (of_want d w) one → id ≡ id_of l one → (q b : List ℕ)
+    → TakesChunk holds (kind_of l) id (size_of l one) stores q b → TakesWants holds l d (λ v. v ≡ w) stores q b
+takes_as holds l d w one id stores wants below among named q b takes =
+    let same = ids_same l d w one (first_of d w) wants among (first_among l d w wants below) in (
+      w,
+      refl,
+      subst (λ (n : ℕ). TakesChunk holds (kind_of l) (want_id l d w) n stores q b) same.1
+          (subst (λ (p : List ℕ). TakesChunk holds (kind_of l) p (size_of l one) stores q b) (named ∙ same.0) takes),
+    )
 
 -- the stores refused the chunk of the lost entry
 pub refused_as : {S : Type 0} (holds : S → Option (Map (List ℕ))) (said : S → Said) (faults : S → ℕ) (lacks_memory : Bool) (l : Listing) (one : ℕ) (id : ChunkId) (x : Lost) (old new : List S)

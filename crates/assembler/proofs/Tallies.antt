@@ -14,6 +14,7 @@ open_fate fate.Open isnt = refl
 open_fate fate.Kept isnt = absurd (true≢false isnt)
 open_fate fate.Copied isnt = absurd (true≢false isnt)
 open_fate fate.Seeded isnt = absurd (true≢false isnt)
+open_fate fate.Cached isnt = absurd (true≢false isnt)
 open_fate fate.Fetched isnt = absurd (true≢false isnt)
 
 -- ---- one entry
@@ -46,15 +47,16 @@ module _ (f : Fate) (m : List Fate) (i : ℕ) (x : Fate) where
 
 -- what one more entry with a fate adds to the counts
 abbrev pub TalliedAs : Fate → ℕ → List Fate → List Fate → Type 0
-TalliedAs x n m0 m1 = Tallied (one_if fate.Seeded x) (one_if fate.Fetched x) n m0 m1
+TalliedAs x n m0 m1 = Tallied (one_if fate.Seeded x) (one_if fate.Cached x) (one_if fate.Fetched x) n m0 m1
 
-pub tallied_none : (n : ℕ) (m : List Fate) → Tallied 0 0 n m m
-tallied_none n m = record { from_seeds = omega arith; from_stores = omega arith }
+pub tallied_none : (n : ℕ) (m : List Fate) → Tallied 0 0 0 n m m
+tallied_none n m = record { from_seeds = omega arith; from_cache = omega arith; from_stores = omega arith }
 
 -- some more, and then some more
-pub tallied_on : (a b c e n : ℕ) (m0 m1 m2 : List Fate) → Tallied a b n m0 m1 → Tallied c e n m1 m2 → Tallied (a + c) (b + e) n m0 m2
-tallied_on a b c e n m0 m1 m2 first next = record {
+pub tallied_on : (a b c e f g n : ℕ) (m0 m1 m2 : List Fate) → Tallied a b c n m0 m1 → Tallied e f g n m1 m2 → Tallied (a + e) (b + f) (c + g) n m0 m2
+tallied_on a b c e f g n m0 m1 m2 first next = record {
   from_seeds = omega (arith, first.from_seeds, next.from_seeds);
+  from_cache = omega (arith, first.from_cache, next.from_cache);
   from_stores = omega (arith, first.from_stores, next.from_stores);
 }
 
@@ -62,15 +64,22 @@ pub tallied_set : (m : List Fate) (i : ℕ) (x : Fate) (n : ℕ) → i < length 
 tallied_set m i x n inside less isnt =
     let was : fate_at m i ≡ fate.Open = open_fate (fate_at m i) isnt in
     let seeded = tally_set fate.Seeded m i x inside n less in
+    let cached = tally_set fate.Cached m i x inside n less in
     let fetched = tally_set fate.Fetched m i x inside n less in
     let no_seed : one_if fate.Seeded (fate_at m i) ≡ 0 = ap (one_if fate.Seeded) was in
+    let no_cache : one_if fate.Cached (fate_at m i) ≡ 0 = ap (one_if fate.Cached) was in
     let no_store : one_if fate.Fetched (fate_at m i) ≡ 0 = ap (one_if fate.Fetched) was in
-    record { from_seeds = omega (arith, seeded, no_seed); from_stores = omega (arith, fetched, no_store) }
+    record {
+      from_seeds = omega (arith, seeded, no_seed);
+      from_cache = omega (arith, cached, no_cache);
+      from_stores = omega (arith, fetched, no_store);
+    }
 
 -- and then a copy
 pub tallied_copy : (x : Fate) (n : ℕ) (m0 m1 m2 : List Fate) → TalliedAs x n m0 m1 → TalliedAs fate.Copied n m1 m2 → TalliedAs x n m0 m2
 tallied_copy x n m0 m1 m2 first copy = record {
   from_seeds = omega (arith, first.from_seeds, copy.from_seeds);
+  from_cache = omega (arith, first.from_cache, copy.from_cache);
   from_stores = omega (arith, first.from_stores, copy.from_stores);
 }
 

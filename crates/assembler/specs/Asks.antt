@@ -44,8 +44,8 @@ abbrev pub asks_below : (ℕ → List ℕ) → (ℕ → Bool) → ℕ → List �
 asks_below ids spared zero q = 0
 asks_below ids spared (suc k) q = asks_below ids spared k q + asks_for ids spared k q
 
--- want w is had without the stores: an entry of it was settled before, and the target didn't fail; or a seed gives it that
--- didn't fail
+-- want w is had without the stores: an entry of it was settled before, and the target didn't fail; or a seed gives it
+-- that didn't fail
 abbrev pub IsSpared : {V : Type 0} → (V → Held) → (V → ℕ) → Listing → Deal → Placed → List Fate → ℕ → ℕ
     → List (Seed V) → List (Seed V) → ℕ → Type 0
 IsSpared view view_faults l d x m old new s0 s1 w =

@@ -1,9 +1,10 @@
 -- How an assembly may end. `o` are the target's bytes before it, the base is `o` with the image's length, t are the
 -- bytes after it. `failed` says that the target failed.
-use Rattle.std.specs.Prelude.{◌≡◌, ◌⊎◌, ℕ, ◌+◌, ◌<◌, List, length, map, slice_index, true, Bool, Option, IfSome, IsSomeAnd, Result, Ok, Err}
+use Rattle.std.specs.Prelude.{◌≡◌, ◌⊎◌, ℕ, ◌+◌, ◌<◌, List, length, map, slice_index, true, Bool, Option, IfSome}
+use Rattle.std.specs.Prelude.{IsSomeAnd, Result, Ok, Err}
 use Rattle.std.specs.List.{Any}
 use Rattle.assembler.specs.Asks.{AsksAtMost, asks_below, calls_below}
-use Rattle.assembler.specs.Losses.{SomeGives}
+use Rattle.assembler.specs.Caches.{CacheLacks}
 use Rattle.assembler.specs.Passes.{RefusedOnce, want_at}
 use Rattle.assembler.specs.Sources.{HeldAt, SeedsFailed, SeedsGive, SourcesQuiet}
 use Rattle.assembler.specs.Wants.{IsAmong}
@@ -12,6 +13,8 @@ use Rattle.assembler.specs.declared.fault.ExtractFault.TheVariants as faults
 use Rattle.assembler.specs.declared.fault.Lost.{Lost}
 use Rattle.assembler.specs.declared.kit.Kit.{Kit}
 use Rattle.assembler.specs.declared.report.Report.{Report}
+use Rattle.cache_store.specs.Giving.{SomeGives}
+use Rattle.cache_store.specs.Shelves.{Shelf}
 use Rattle.caibx_codec.specs.Listing.{Listing, count_of, id_of, image_length, kind_of, size_of, slice_of}
 use Rattle.caibx_codec.specs.Right.{IsRight, IsRightAt}
 use Rattle.chunk_store.specs.Said.{Said}
@@ -27,7 +30,8 @@ use Rattle.extract_plan.specs.declared.seed.Seed.{Seed}
 abbrev pub RightAlike : Listing → List ℕ → ℕ → Type 0
 RightAlike l base i = (j : ℕ) × (j < count_of l) × AreAlike l j i × IsRightAt base l j
 
--- entry i can be had: an alike one is right in the base, or a seed gives its chunk, or a store does
+-- entry i can be had: an alike one is right in the base, or a seed gives its chunk, or the cache or a store does, which
+-- hold these maps
 abbrev pub IsObtainable : Listing → Deal → Placed → List ℕ → List (Option Held) → List (Map (List ℕ)) → ℕ → Type 0
 IsObtainable l d x base views maps i = RightAlike l base i
     ⊎ (SeedsGive views (places_at x (want_at d i)) (id_of l i) ⊎ SomeGives (kind_of l) (id_of l i) (size_of l i) maps)
@@ -67,26 +71,32 @@ Verdict l P (Err faults.Memory) = Unit {0}
 -- what stands afterwards where nothing fails: each entry that can be had is right, and each other has the base's bytes
 abbrev pub After : Listing → (ℕ → Type 0) → List ℕ → List ℕ → Result Report ExtractFault → Type 0
 After l P base t (Err faults.Memory) = Unit {0}
-After l P base t r = (i : ℕ) → i < count_of l → (P i → IsRightAt t l i) × ((P i → ⊥) → slice_of l t i ≡ slice_of l base i)
+After l P base t r = (i : ℕ) → i < count_of l → (P i → IsRightAt t l i)
+    × ((P i → ⊥) → slice_of l t i ≡ slice_of l base i)
 
 module _ {S V : Type 0} (holds folder : S → Option (Map (List ℕ))) (place : S → List ℕ) (said : S → Said)
     (store_faults : S → ℕ) (lacks_memory : Bool) (view : V → Held) (view_faults : V → ℕ) (l : Listing) (d : Deal)
     (x : Placed) where
   -- no source gave the chunk of this entry: an alike entry that is right in the base couldn't be read, a seed that has
-  -- the chunk failed, and the stores refused it
-  pub record IsUnobtained (o : Option (List ℕ)) (old new : ℕ) (k j : Kit S V) (lost : Lost) : Type 0 where
-    pub listed : lost.entry < count_of l
-    pub id_is : lost.id.0 ≡ id_of l lost.entry
-    pub copies : IfSome o (λ b. RightAlike l (resized b (image_length l)) lost.entry → Rose old new)
-    pub seeds : SeedsFailed (map (held_in view) k.seeds.items) (places_at x (want_at d lost.entry)) lost.id.0
-        (map (faults_in view_faults) k.seeds.items) (map (faults_in view_faults) j.seeds.items)
-    pub stores : RefusedOnce holds folder place said store_faults lacks_memory view view_faults l d x lost
-        k.chain.stores j.chain.stores
+  -- the chunk failed, the cache lacks it or failed, and the stores refused it
+  pub record IsUnobtained (o : Option (List ℕ)) (old new : ℕ) (k j : Kit S V) (e0 e1 : Option Shelf) (lost : Lost) :
+      Type 0
+    where
+      pub listed : lost.entry < count_of l
+      pub id_is : lost.id.0 ≡ id_of l lost.entry
+      pub copies : IfSome o (λ b. RightAlike l (resized b (image_length l)) lost.entry → Rose old new)
+      pub seeds : SeedsFailed (map (held_in view) k.seeds.items) (places_at x (want_at d lost.entry)) lost.id.0
+          (map (faults_in view_faults) k.seeds.items) (map (faults_in view_faults) j.seeds.items)
+      pub cache : CacheLacks (kind_of l) (id_of l lost.entry) (size_of l lost.entry) e0 e1
+      pub stores : RefusedOnce holds folder place said store_faults lacks_memory view view_faults l d x lost
+          k.chain.stores j.chain.stores
 
-  -- nothing fails: the target, the seeds and the stores, which hold these maps, are quiet, and the seeds tell
-  abbrev pub NothingFails : Bool → ℕ → ℕ → Kit S V → Kit S V → List (Map (List ℕ)) → Type 0
-  NothingFails tells old new k j maps = SourcesQuiet holds store_faults view_faults tells old new k.seeds.items
-      j.seeds.items k.chain.stores j.chain.stores maps
+  -- nothing fails: the target, the seeds, the cache and the stores, which hold these maps, are quiet, and the seeds
+  -- tell
+  abbrev pub NothingFails : Bool → ℕ → ℕ → Kit S V → Kit S V → Option Shelf → Option Shelf → List (Map (List ℕ))
+      → List (Map (List ℕ)) → Type 0
+  NothingFails tells old new k j e0 e1 cached maps = SourcesQuiet holds store_faults view_faults tells old new
+      k.seeds.items j.seeds.items e0 e1 k.chain.stores j.chain.stores cached maps
 
 -- want w is had without the stores: an entry of it is right in the base, and the target didn't fail; or a seed gives it
 -- that didn't fail
@@ -102,6 +112,7 @@ SparedOver view view_faults l d x o old new s0 s1 w =
 abbrev pub AssemblyAsks : {S V : Type 0} → (S → List ℕ → ℕ) → (V → Held) → (V → ℕ) → Listing → Deal → Placed
     → Option (List ℕ) → ℕ → ℕ → Kit S V → Kit S V → Type 0
 AssemblyAsks asked view view_faults l d x o old new k j = (spared : ℕ → Bool)
-    → ((w : ℕ) → w < d.wants → spared w ≡ true → SparedOver view view_faults l d x o old new k.seeds.items j.seeds.items w)
+    → ((w : ℕ) → w < d.wants → spared w ≡ true → SparedOver view view_faults l d x o old new k.seeds.items j.seeds.items
+    w)
     → AsksAtMost asked (calls_below spared d.wants + calls_below spared d.wants)
     (λ q. asks_below (want_id l d) spared d.wants q + asks_below (want_id l d) spared d.wants q) k.chain j.chain

@@ -14,6 +14,7 @@ is_made fate.Open = false
 is_made fate.Kept = false
 is_made fate.Copied = true
 is_made fate.Seeded = true
+is_made fate.Cached = true
 is_made fate.Fetched = true
 
 -- a settled entry stays as it is, and one that became settled was made right

@@ -1,5 +1,6 @@
 pub mod Faults
 pub mod Wants
+pub mod Caches
 pub mod Fills
 pub mod Sources
 pub mod Kits

@@ -1,13 +1,13 @@
 -- When the chain of stores is asked for a chunk, and what it means that no source gave it.
-use Rattle.std.specs.Prelude.{◌≡◌, ◌⊎◌, ℕ, ◌<◌, List, map, Some, true, false, Bool, Option, Result, Ok, Err, slice_index}
-use Rattle.std.specs.List.{Any}
+use Rattle.std.specs.Prelude.{◌≡◌, ◌⊎◌, ℕ, ◌<◌, List, map, Some, true, false, Bool, Option, Result, Ok, Err}
+use Rattle.std.specs.Prelude.{slice_index}
 use Rattle.assembler.specs.Sources.{SeedsFailed, SeedsGive}
 use Rattle.assembler.specs.Wants.{IsAmong}
 use Rattle.assembler.specs.declared.fault.Lost.{Lost}
 use Rattle.assembler.specs.declared.fault.Unsettled.{Unsettled}
 use Rattle.assembler.specs.declared.fault.Unsettled.TheVariants as unsettled
+use Rattle.cache_store.specs.Giving.{SomeGives}
 use Rattle.caibx_codec.specs.Listing.{Listing, id_of, kind_of, size_of}
-use Rattle.chunk_store.specs.Giving.{GivesChunk}
 use Rattle.chunk_store.specs.Said.{Said}
 use Rattle.chunk_store.specs.declared.id.ChunkId.{ChunkId}
 use Rattle.chunk_store.specs.declared.id.DigestKind.{DigestKind}
@@ -31,10 +31,6 @@ use Rattle.store_chain.specs.declared.want.Want.{Want}
 abbrev pub chunk_of : DigestKind → ChunkId → ℕ → Want
 chunk_of kind id size = want_of kind id (Some size) size
 
--- some store that holds one of these maps gives the chunk
-abbrev pub SomeGives : DigestKind → List ℕ → ℕ → List (Map (List ℕ)) → Type 0
-SomeGives kind id size maps = Any (λ m. GivesChunk kind id size (m id)) maps
-
 -- a settled one of these entries couldn't be read: the target's count of faults went from old to new
 abbrev pub CopiesFailed : List Fate → List ℕ → ℕ → ℕ → Type 0
 CopiesFailed fates entries old new = (i : ℕ) → IsAmong entries i → settled fates i ≡ true → Rose old new
@@ -48,8 +44,8 @@ module _ {S V : Type 0} (asked queried : S → List ℕ → ℕ) (view : V → H
     pub seeds : SeedsFailed (map (held_in view) s0) places id (map (faults_in view_faults) s0)
         (map (faults_in view_faults) s1)
 
--- where the chunk of an entry came from, if the entry was settled: an alike entry that was settled before, a seed, or a
--- store
+-- where the chunk of an entry came from, if the entry was settled: an alike entry that was settled before, a seed, or
+-- one that holds these maps: the cache or a store
 abbrev pub Had : List Fate → List ℕ → List (Option Held) → List SeedPlace → DigestKind → List ℕ → ℕ
     → List (Map (List ℕ)) → Type 0
 Had fates entries views places kind id size maps = ((j : ℕ) × IsAmong entries j × (settled fates j ≡ true))

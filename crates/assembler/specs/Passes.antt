@@ -1,6 +1,7 @@
 -- What a pass over the wants of an index leaves.
 use Rattle.std.specs.Prelude.{◌≡◌, ◌≢◌, ◌⊎◌, ℕ, ◌+◌, ◌<◌, List, map, slice_index, Bool, Option, Result, Ok, Err}
 use Rattle.assembler.specs.Asks.{AreSpared, AsksAtMost, asks_below, calls_below}
+use Rattle.assembler.specs.Caches.{CacheLacks}
 use Rattle.assembler.specs.Faults.{fault_of}
 use Rattle.assembler.specs.Losses.{CopiesFailed, Had, RefusedBy, lost_want}
 use Rattle.assembler.specs.Sources.{SeedsFailed}
@@ -8,6 +9,7 @@ use Rattle.assembler.specs.declared.fault.ExtractFault.{ExtractFault}
 use Rattle.assembler.specs.declared.fault.ExtractFault.TheVariants as faults
 use Rattle.assembler.specs.declared.fault.Lost.{Lost}
 use Rattle.assembler.specs.declared.kit.Kit.{Kit}
+use Rattle.cache_store.specs.Shelves.{Shelf}
 use Rattle.caibx_codec.specs.Listing.{Listing, count_of, id_of, kind_of, size_of}
 use Rattle.chunk_store.specs.Said.{Said}
 use Rattle.dsy_base.specs.Bytes.{Held}
@@ -40,13 +42,15 @@ module _ {S V : Type 0} (holds folder : S → Option (Map (List ℕ))) (place : 
     pub since : KeepsStores holds folder place said store_faults after new
 
   -- no source gave the chunk of this entry: settled entries that are alike couldn't be read, seeds that have it failed,
-  -- and the stores refused it, though there was memory. Between, the count of the target's faults went from old to new
-  pub record IsLost (m : List Fate) (old new : ℕ) (k j : Kit S V) (lost : Lost) : Type 0 where
+  -- the cache lacks it or failed, and the stores refused it, though there was memory. Between, the count of the
+  -- target's faults went from old to new
+  pub record IsLost (m : List Fate) (old new : ℕ) (k j : Kit S V) (e0 e1 : Option Shelf) (lost : Lost) : Type 0 where
     pub listed : lost.entry < count_of l
     pub id_is : lost.id.0 ≡ id_of l lost.entry
     pub copies : CopiesFailed m (of_want d (want_at d lost.entry)) old new
     pub seeds : SeedsFailed (map (held_in view) k.seeds.items) (places_at x (want_at d lost.entry)) lost.id.0
         (map (faults_in view_faults) k.seeds.items) (map (faults_in view_faults) j.seeds.items)
+    pub cache : CacheLacks (kind_of l) (id_of l lost.entry) (size_of l lost.entry) e0 e1
     pub stores : RefusedOnce lost k.chain.stores j.chain.stores
     pub had_memory : lost.refused ≢ refused.Memory
 

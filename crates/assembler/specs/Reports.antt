@@ -11,6 +11,7 @@ one_if fate.Open fate.Open = 1
 one_if fate.Kept fate.Kept = 1
 one_if fate.Copied fate.Copied = 1
 one_if fate.Seeded fate.Seeded = 1
+one_if fate.Cached fate.Cached = 1
 one_if fate.Fetched fate.Fetched = 1
 one_if _ _ = 0
 

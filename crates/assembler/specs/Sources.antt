@@ -1,6 +1,9 @@
 -- Where chunks come from.
-use Rattle.std.specs.Prelude.{◌≡◌, ℕ, ◌≤◌, List, slice_index_or, slice_index, Option, Some, None, IsSomeAnd, map, Bool, IsTrue}
+use Rattle.std.specs.Prelude.{◌≡◌, ℕ, ◌≤◌, List, slice_index_or, slice_index, Option, Some, None, IsSomeAnd, map, Bool}
+use Rattle.std.specs.Prelude.{IsTrue}
 use Rattle.std.specs.List.{All, Any}
+use Rattle.assembler.specs.Caches.{cache_faults, cached_in}
+use Rattle.cache_store.specs.Shelves.{Shelf}
 use Rattle.chunk_store.specs.Names.{name_of}
 use Rattle.chunk_store.specs.declared.id.DigestKind.TheVariants.{Sha512T256}
 use Rattle.dsy_base.specs.Bytes.{Held}
@@ -28,12 +31,15 @@ abbrev pub SeedsFailed : List (Option Held) → List SeedPlace → List ℕ → 
 SeedsFailed views places id old new =
     All (λ p. HeldAt views p id → Rose (slice_index old p.seed) (slice_index new p.seed)) places
 
--- nothing fails that chunks come from: the target, the seeds and the stores, which hold these maps, are quiet, and the
--- seeds tell
+-- nothing fails that chunks come from: the target, the seeds, the cache and the stores, which hold these maps, are
+-- quiet, and the seeds tell
 pub record SourcesQuiet {S V : Type 0} (holds : S → Option (Map (List ℕ))) (store_faults : S → ℕ) (view_faults : V → ℕ)
-    (tells : Bool) (old new : ℕ) (s0 s1 : List (Seed V)) (c0 c1 : List S) (maps : List (Map (List ℕ))) : Type 0 where
+    (tells : Bool) (old new : ℕ) (s0 s1 : List (Seed V)) (e0 e1 : Option Shelf) (c0 c1 : List S)
+    (cached maps : List (Map (List ℕ))) : Type 0 where
   pub target : Quiet old new
   pub telling : IsTrue tells
   pub seeds : EachQuiet (map (faults_in view_faults) s0) (map (faults_in view_faults) s1)
+  pub told_cache : cached_in e0 ≡ Some cached
+  pub cache : Quiet (cache_faults e0) (cache_faults e1)
   pub told : map holds c0 ≡ map Some maps
   pub stores : EachQuiet (map store_faults c0) (map store_faults c1)

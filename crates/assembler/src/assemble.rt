@@ -1,8 +1,12 @@
 //! The assembly of an image: the length, the survey, and two passes over what isn't right.
 
-ghost use Rattle.std.specs.Prelude.{◌≡◌, ◌⊎◌, ℕ, List, IsTrue, ◌+◌, ◌<◌, ◌≤◌, length, map, Some, IfSome, IfOk, IfErr, OnOk, true, false};
-ghost use Rattle.assembler.specs.Assemblies.{After, Assembles, AssemblyAsks, IsObtainable, IsUnobtained, NothingFails, Verdict};
-ghost use Rattle.assembler.specs.Economy.{AsksExactly, AssembledBy, ReportsExactly, UnlessMemory, source_of, source_over};
+ghost use Rattle.std.specs.Prelude.{◌≡◌, ◌⊎◌, ◌++◌, ℕ, List, IsTrue, ◌+◌, ◌<◌, ◌≤◌, length, map, None, Some, IfSome};
+ghost use Rattle.std.specs.Prelude.{IfOk, IfErr, OnOk, true, false};
+ghost use Rattle.assembler.specs.Assemblies.{After, Assembles, AssemblyAsks, IsObtainable, IsUnobtained, NothingFails};
+ghost use Rattle.assembler.specs.Assemblies.{Verdict};
+ghost use Rattle.assembler.specs.Caches.{HaveOneSize, Stocked, TakesListed, TakesWants, cached_in, seen};
+ghost use Rattle.assembler.specs.Economy.{AsksExactly, AssembledBy, ReportsExactly, UnlessMemory, source_of};
+ghost use Rattle.assembler.specs.Economy.{source_over};
 ghost use Rattle.assembler.specs.Fills.{WhereTold};
 ghost use Rattle.assembler.specs.Kits.{KeepsSeeds, Ready, Step};
 ghost use Rattle.assembler.specs.Passes.{EndsBy, HadAt, IsLost, PassesAsk, want_at};
@@ -24,9 +28,11 @@ use crate::fill::fill;
 use crate::kit::Kit;
 use crate::report::Report;
 use crate::retry::retry;
+use cache_store::shelf::CacheShelf;
 use caibx_codec::index::Index;
 use chunk_store::store::Store;
 use dsy_base::fault::{IoFault, Memory};
+use dsy_base::folder::Folder;
 use dsy_base::view::{Part, Target, View};
 use extract_plan::plan::Plan;
 use extract_plan::seeds::SeedIndex;
@@ -35,45 +41,56 @@ use range_survey::survey::survey_resized;
 use std::alloc::{AllocError, Global};
 
 // Makes all entries right that a survey left open: two passes.
-fn settle_all<T: Part, S: Store, V: View>(
+fn settle_all<T: Part, S: Store, V: View, F: Folder>(
     alloc: Global,
     index: &Index,
     plan: &Plan,
     places: &SeedIndex,
     target: &mut T,
     kit: &mut Kit<S, V>,
+    cache: &mut Option<CacheShelf<F>>,
     fates: &mut [Fate],
 ) -> Result<(), ExtractFault>
     requires ready { Ready index.now plan.now places.now (T.held target.old) kit.old.chain.kind
         (length kit.old.seeds.items) (length kit.old.buffer.items) fates.old }
+    requires unnamed { (F.pairs ≡ None) × (F.stores ≡ None) }
+    requires cache { IfSome (seen F.files F.place F.faults cache.old) (λ s. s.kind ≡ kit.old.chain.kind) }
     ensures ok { OnOk result ((i : ℕ) → i < count_of index.now → settled fates.new i ≡ true) }
     ensures first { EndsBy (λ lost. IsLost S.holds S.folder S.place S.said S.faults S.may_lack_memory V.held V.faults
-        index.now plan.now places.now fates.old (T.faults target.old) (T.faults target.new) kit.old kit.new lost
+        index.now plan.now places.now fates.old (T.faults target.old) (T.faults target.new) kit.old kit.new
+        (seen F.files F.place F.faults cache.old) (seen F.files F.place F.faults cache.new) lost
         × ((i : ℕ) → i < lost.entry → settled fates.new i ≡ true))
         (Rose (T.faults target.old) (T.faults target.new)) result }
     ensures left { IfErr result (λ e. (e ≡ ExtractFault.Memory) ⊎ (Rose (T.faults target.old) (T.faults target.new)
         ⊎ ((i : ℕ) → i < count_of index.now → settled fates.new i ≡ false → (lost : Lost)
         × (want_at plan.now lost.entry ≡ want_at plan.now i)
         × IsLost S.holds S.folder S.place S.said S.faults S.may_lack_memory V.held V.faults index.now plan.now
-        places.now fates.old (T.faults target.old) (T.faults target.new) kit.old kit.new lost))) }
-    ensures had { IsTrue V.tells → (maps : List (Map (List ℕ))) → map S.holds kit.old.chain.stores ≡ map Some maps →
-        EachQuiet (map S.faults kit.old.chain.stores) (map S.faults kit.new.chain.stores) →
-        (i : ℕ) → i < count_of index.now → settled fates.new i ≡ true → HadAt index.now plan.now places.now fates.old
-        (map (held_in V.held) kit.old.seeds.items) maps i }
+        places.now fates.old (T.faults target.old) (T.faults target.new) kit.old kit.new
+        (seen F.files F.place F.faults cache.old) (seen F.files F.place F.faults cache.new) lost))) }
+    ensures had { IsTrue V.tells → (cached maps : List (Map (List ℕ))) →
+        cached_in (seen F.files F.place F.faults cache.old) ≡ Some cached →
+        map S.holds kit.old.chain.stores ≡ map Some maps → EachQuiet (map S.faults kit.old.chain.stores)
+        (map S.faults kit.new.chain.stores) → (i : ℕ) → i < count_of index.now → settled fates.new i ≡ true →
+        HadAt index.now plan.now places.now fates.old (map (held_in V.held) kit.old.seeds.items) (cached ++ maps) i }
     ensures asks { PassesAsk S.asked V.held V.faults index.now plan.now places.now fates.old
         (T.faults target.old) (T.faults target.new) kit.old kit.new }
+    ensures stocked { Stocked (TakesWants S.holds index.now plan.now (λ w. w < plan.now.wants) kit.old.chain.stores)
+        (seen F.files F.place F.faults cache.old) (seen F.files F.place F.faults cache.new) }
     ensures step { Step T.held T.faults S.holds S.folder S.place S.said S.faults V.held V.faults index.now
         target.old kit.old fates.old target.new kit.new fates.new }
 
     // Where nothing fails.
-    ensures exactly { (maps : List (Map (List ℕ))) → NothingFails S.holds S.folder S.place S.said S.faults
+    ensures exactly { (cached maps : List (Map (List ℕ))) → NothingFails S.holds S.folder S.place S.said S.faults
         S.may_lack_memory V.held V.faults index.now plan.now places.now V.tells (T.faults target.old)
-        (T.faults target.new) kit.old kit.new maps → UnlessMemory (AssembledBy (source_over index.now plan.now places.now
-        (settled fates.old) (map (held_in V.held) kit.old.seeds.items) maps) plan.now.wants (count_of index.now)
-        fates.old fates.new kit.old.chain kit.new.chain) result }
+        (T.faults target.new) kit.old kit.new (seen F.files F.place F.faults cache.old)
+        (seen F.files F.place F.faults cache.new) cached maps → HaveOneSize index.now
+        (seen F.files F.place F.faults cache.old) cached maps → UnlessMemory
+        (AssembledBy (source_over index.now plan.now places.now (settled fates.old)
+        (map (held_in V.held) kit.old.seeds.items) cached maps) plan.now.wants (count_of index.now) fates.old fates.new
+        kit.old.chain kit.new.chain) result }
 {
-    match fill(index, plan, places, target, kit, fates) {
-        Ok(()) => retry(alloc, index, plan, places, target, kit, fates),
+    match fill(index, plan, places, target, kit, cache, fates) {
+        Ok(()) => retry(alloc, index, plan, places, target, kit, cache, fates),
         Err(Memory) => Err(ExtractFault::Memory),
     }
 }
@@ -120,47 +137,60 @@ fn survey_first<T: Target, S: Store, V: View>(
 }
 
 /// Makes the target the image that the index lists. What is right in it already stays. The chunk of each other want
-/// comes from an alike entry that is right, or from a seed, or else from the stores. The plan and the places are of this
-/// index, and of the kit's seeds. Goes on past wants whose chunk no source gives, and answers for the first entry of
-/// them.
-pub fn assemble<T: Target, S: Store, V: View>(
+/// comes from an alike entry that is right, or from a seed, or from the cache, or else from the stores; what a store
+/// gives is added to the cache, whose faults are passed over. The plan and the places are of this index, and of the
+/// kit's seeds. Goes on past wants whose chunk no source gives, and answers for the first entry of them.
+pub fn assemble<T: Target, S: Store, V: View, F: Folder>(
     alloc: Global,
     index: &Index,
     plan: &Plan,
     places: &SeedIndex,
     target: &mut T,
     kit: &mut Kit<S, V>,
+    cache: &mut Option<CacheShelf<F>>,
 ) -> Result<Report, ExtractFault>
     requires wants { AreWants index.now plan.now.wants plan.now.want_of }
     requires places { PlacesKnown index.now plan.now places.now (length kit.old.seeds.items) }
     requires kind { kit.old.chain.kind ≡ kind_of index.now }
+    requires cache { IfSome (seen F.files F.place F.faults cache.old) (λ s. s.kind ≡ kind_of index.now) }
+    requires unnamed { (F.pairs ≡ None) × (F.stores ≡ None) }
     ensures bytes { WhereTold (T.held target.old).bytes (T.held target.new).bytes
         (Assembles index.now (Rose (T.faults target.old) (T.faults target.new)) result) }
-    ensures lost { EndsBy (λ lost. IsUnobtained S.holds S.folder S.place S.said S.faults S.may_lack_memory V.held V.faults
-        index.now plan.now places.now (T.held target.old).bytes (T.faults target.old) (T.faults target.new) kit.old
-        kit.new lost) (Rose (T.faults target.old) (T.faults target.new)) result }
+    ensures lost { EndsBy (λ lost. IsUnobtained S.holds S.folder S.place S.said S.faults S.may_lack_memory V.held
+        V.faults index.now plan.now places.now (T.held target.old).bytes (T.faults target.old) (T.faults target.new)
+        kit.old kit.new (seen F.files F.place F.faults cache.old) (seen F.files F.place F.faults cache.new) lost)
+        (Rose (T.faults target.old) (T.faults target.new)) result }
 
     // Where nothing fails.
-    ensures exactly { (maps : List (Map (List ℕ))) → NothingFails S.holds S.folder S.place S.said S.faults
+    ensures exactly { (cached maps : List (Map (List ℕ))) → NothingFails S.holds S.folder S.place S.said S.faults
         S.may_lack_memory V.held V.faults index.now plan.now places.now V.tells (T.faults target.old)
-        (T.faults target.new) kit.old kit.new maps → IfSome (T.held target.old).bytes (λ o. Verdict index.now
-        (IsObtainable index.now plan.now places.now (resized o (image_length index.now))
-        (map (held_in V.held) kit.old.seeds.items) maps) result) }
-    ensures after { (maps : List (Map (List ℕ))) → NothingFails S.holds S.folder S.place S.said S.faults
+        (T.faults target.new) kit.old kit.new (seen F.files F.place F.faults cache.old)
+        (seen F.files F.place F.faults cache.new) cached maps → HaveOneSize index.now
+        (seen F.files F.place F.faults cache.old) cached maps → IfSome (T.held target.old).bytes
+        (λ o. Verdict index.now (IsObtainable index.now plan.now places.now (resized o (image_length index.now))
+        (map (held_in V.held) kit.old.seeds.items) (cached ++ maps)) result) }
+    ensures after { (cached maps : List (Map (List ℕ))) → NothingFails S.holds S.folder S.place S.said S.faults
         S.may_lack_memory V.held V.faults index.now plan.now places.now V.tells (T.faults target.old)
-        (T.faults target.new) kit.old kit.new maps → WhereTold (T.held target.old).bytes (T.held target.new).bytes
-        (λ o t. After index.now (IsObtainable index.now plan.now places.now (resized o (image_length index.now))
-        (map (held_in V.held) kit.old.seeds.items) maps) (resized o (image_length index.now)) t result) }
-    ensures economy { (maps : List (Map (List ℕ))) → NothingFails S.holds S.folder S.place S.said S.faults
+        (T.faults target.new) kit.old kit.new (seen F.files F.place F.faults cache.old)
+        (seen F.files F.place F.faults cache.new) cached maps → HaveOneSize index.now
+        (seen F.files F.place F.faults cache.old) cached maps → WhereTold (T.held target.old).bytes
+        (T.held target.new).bytes (λ o t. After index.now (IsObtainable index.now plan.now places.now
+        (resized o (image_length index.now)) (map (held_in V.held) kit.old.seeds.items) (cached ++ maps))
+        (resized o (image_length index.now)) t result) }
+    ensures economy { (cached maps : List (Map (List ℕ))) → NothingFails S.holds S.folder S.place S.said S.faults
         S.may_lack_memory V.held V.faults index.now plan.now places.now V.tells (T.faults target.old)
-        (T.faults target.new) kit.old kit.new maps → IfSome (T.held target.old).bytes (λ o. AsksExactly
-        (source_of index.now plan.now places.now (resized o (image_length index.now))
-        (map (held_in V.held) kit.old.seeds.items) maps) plan.now.wants kit.old.chain kit.new.chain result) }
-    ensures reported { (maps : List (Map (List ℕ))) → NothingFails S.holds S.folder S.place S.said S.faults
+        (T.faults target.new) kit.old kit.new (seen F.files F.place F.faults cache.old)
+        (seen F.files F.place F.faults cache.new) cached maps → HaveOneSize index.now
+        (seen F.files F.place F.faults cache.old) cached maps → IfSome (T.held target.old).bytes
+        (λ o. AsksExactly (source_of index.now plan.now places.now (resized o (image_length index.now))
+        (map (held_in V.held) kit.old.seeds.items) cached maps) plan.now.wants kit.old.chain kit.new.chain result) }
+    ensures reported { (cached maps : List (Map (List ℕ))) → NothingFails S.holds S.folder S.place S.said S.faults
         S.may_lack_memory V.held V.faults index.now plan.now places.now V.tells (T.faults target.old)
-        (T.faults target.new) kit.old kit.new maps → IfSome (T.held target.old).bytes (λ o. IfOk result
-        (ReportsExactly (source_of index.now plan.now places.now (resized o (image_length index.now))
-        (map (held_in V.held) kit.old.seeds.items) maps) plan.now.wants)) }
+        (T.faults target.new) kit.old kit.new (seen F.files F.place F.faults cache.old)
+        (seen F.files F.place F.faults cache.new) cached maps → HaveOneSize index.now
+        (seen F.files F.place F.faults cache.old) cached maps → IfSome (T.held target.old).bytes
+        (λ o. IfOk result (ReportsExactly (source_of index.now plan.now places.now (resized o (image_length index.now))
+        (map (held_in V.held) kit.old.seeds.items) cached maps) plan.now.wants)) }
 
     ensures report { IfOk result (λ r. r.kept + r.copied + r.seeded + r.cached + r.fetched ≡ count_of index.now) }
     ensures kept { IfOk result (λ r. Quiet (T.faults target.old) (T.faults target.new) →
@@ -173,9 +203,11 @@ pub fn assemble<T: Target, S: Store, V: View>(
     ensures faults { T.faults target.old ≤ T.faults target.new }
     ensures stores { KeepsStores S.holds S.folder S.place S.said S.faults kit.old.chain.stores kit.new.chain.stores }
     ensures kind { kit.new.chain.kind ≡ kit.old.chain.kind }
+    ensures stocked { Stocked (TakesListed S.holds index.now kit.old.chain.stores)
+        (seen F.files F.place F.faults cache.old) (seen F.files F.place F.faults cache.new) }
     ensures seeds { KeepsSeeds V.held V.faults kit.old.seeds.items kit.new.seeds.items }
 {
     let mut fates = survey_first(alloc, index, target, kit)?;
-    settle_all(alloc, index, plan, places, target, kit, &mut fates)?;
+    settle_all(alloc, index, plan, places, target, kit, cache, &mut fates)?;
     Ok(Report::of(&fates))
 }

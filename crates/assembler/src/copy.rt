@@ -45,7 +45,8 @@ pub(crate) fn copy<T: View>(
     chunk: &mut [u8],
 ) -> bool
     requires entries { (k : ℕ) → k < length entries.now → slice_index entries.now k < count_of index.now }
-    requires chunk { (k : ℕ) → k < length entries.now → size_of index.now (slice_index entries.now k) ≡ length chunk.old }
+    requires chunk { (k : ℕ) → k < length entries.now → size_of index.now (slice_index entries.now k) ≡ length
+        chunk.old }
     requires size { (T.held target.old).size ≡ image_length index.now }
     requires fates { length fates.now ≡ count_of index.now }
     ensures found { result ≡ true → (i : ℕ) × IsAmong entries.now i × (settled fates.now i ≡ true)

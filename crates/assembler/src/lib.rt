@@ -1,5 +1,5 @@
-//! The assembly of an image: a target becomes what an index lists, with what it holds already, with chunks from seeds and
-//! from a chain of stores.
+//! The assembly of an image: a target becomes what an index lists, with what it holds already, with chunks from seeds,
+//! from a cache and from a chain of stores.
 #![tactic(auto)]
 
 pub mod assemble;
@@ -15,3 +15,4 @@ mod seeding;
 mod settle;
 #[cfg(test)]
 mod tests;
+mod upstream;

@@ -1,6 +1,8 @@
-//! Getting the chunk of a want: from an entry of the target that has it, from a seed, or from the chain of stores.
+//! Getting the chunk of a want: from an entry of the target that has it, from a seed, from the cache, or from a store.
 
-ghost use Rattle.std.specs.Prelude.{◌≡◌, ◌⊎◌, ℕ, List, IsTrue, ◌<◌, ◌≤◌, ◌^◌, length, map, true, Some, IfSome, IfOk, IfErr, OnOk, OnErr};
+ghost use Rattle.std.specs.Prelude.{◌≡◌, ◌≢◌, ◌⊎◌, ◌++◌, ℕ, List, IsTrue, ◌<◌, ◌≤◌, ◌^◌, length, map, true, None, Some};
+ghost use Rattle.std.specs.Prelude.{IfSome, IfOk, IfErr, OnOk};
+ghost use Rattle.assembler.specs.Caches.{CacheLacks, Stocked, TakesChunk, cached_in, seen};
 ghost use Rattle.assembler.specs.Economy.{ObtainedBy, source_among};
 ghost use Rattle.assembler.specs.Fills.{is_made};
 ghost use Rattle.assembler.specs.Kits.{KeepsSeeds};
@@ -18,9 +20,12 @@ ghost use Rattle.store_chain.specs.Faults.{EachQuiet};
 
 use crate::copy::copy;
 use crate::seeding::from_seeds;
+use crate::upstream::from_upstream;
+use cache_store::shelf::CacheShelf;
 use caibx_codec::index::Index;
 use chunk_store::id::ChunkId;
 use chunk_store::store::Store;
+use dsy_base::folder::Folder;
 use dsy_base::view::View;
 use extract_plan::seed::{Seed, SeedPlace};
 use range_survey::fate::Fate;
@@ -35,14 +40,15 @@ pub(crate) struct Sought<'a> {
     pub(crate) places: &'a [SeedPlace],
 }
 
-/// Fills `chunk` with the chunk that is sought, which has its size, and answers where it came from. The stores are asked
-/// only where no entry of the target and no seed gave it.
-pub(crate) fn obtain<T: View, S: Store, V: View>(
+/// Fills `chunk` with the chunk that is sought, which has its size, and answers where it came from. The cache and then
+/// the stores are asked only where no entry of the target and no seed gave it.
+pub(crate) fn obtain<T: View, S: Store, V: View, F: Folder>(
     index: &Index,
     sought: &Sought<'_>,
     fates: &[Fate],
     target: &mut T,
     seeds: &mut [Seed<V>],
+    cache: &mut Option<CacheShelf<F>>,
     chain: &mut Chain<S>,
     chunk: &mut [u8],
 ) -> Result<Fate, Refused>
@@ -53,33 +59,43 @@ pub(crate) fn obtain<T: View, S: Store, V: View>(
     requires fates { length fates.now ≡ count_of index.now }
     requires right { IfSome (T.held target.old).bytes (λ t. SettledRight index.now t fates.now (count_of index.now)) }
     requires asks { chain.old.asks < 2 ^ 64 }
+    requires unnamed { (F.pairs ≡ None) × (F.stores ≡ None) }
+    requires cache { IfSome (seen F.files F.place F.faults cache.old) (λ s. s.kind ≡ chain.old.kind) }
     ensures ok { OnOk result (IfSome (T.held target.old).bytes
         (λ t. name_of (kind_of index.now) chunk.new ≡ sought.now.id.0)) }
     ensures origin { IfOk result (λ f. is_settled f ≡ true) }
     ensures made { IfOk result (λ f. is_made f ≡ true) }
-    ensures had { IsTrue V.tells → (maps : List (Map (List ℕ))) → map S.holds chain.old.stores ≡ map Some maps →
-        EachQuiet (map S.faults chain.old.stores) (map S.faults chain.new.stores) →
-        OnOk result (Had fates.now sought.now.entries.now (map (held_in V.held) seeds.old) sought.now.places.now
-        (kind_of index.now) sought.now.id.0 (length chunk.old) maps) }
-    ensures refused { IfErr result (RefusedBy S.holds S.said S.faults S.may_lack_memory
-        (chunk_of (kind_of index.now) sought.now.id (length chunk.old)) chain.old.stores chain.new.stores) }
+    ensures had { IsTrue V.tells → (cached maps : List (Map (List ℕ))) →
+        cached_in (seen F.files F.place F.faults cache.old) ≡ Some cached →
+        map S.holds chain.old.stores ≡ map Some maps → EachQuiet (map S.faults chain.old.stores)
+        (map S.faults chain.new.stores) → OnOk result (Had fates.now sought.now.entries.now
+        (map (held_in V.held) seeds.old) sought.now.places.now (kind_of index.now) sought.now.id.0 (length chunk.old)
+        (cached ++ maps)) }
+    ensures refused { IfErr result (λ r. r ≢ Refused.Memory → RefusedBy S.holds S.said S.faults S.may_lack_memory
+        (chunk_of (kind_of index.now) sought.now.id (length chunk.old)) chain.old.stores chain.new.stores r) }
+    ensures missed { IfErr result (λ r. r ≢ Refused.Memory → CacheLacks (kind_of index.now) sought.now.id.0
+        (length chunk.old) (seen F.files F.place F.faults cache.old) (seen F.files F.place F.faults cache.new)) }
     // The chain is asked where no other source gave the chunk, and always before a refusal.
     ensures asks { (chain.new ≡ chain.old) ⊎ AskedLast S.asked S.queried V.held V.faults sought.now.id.0 fates.now
         sought.now.entries.now sought.now.places.now (T.faults target.old) (T.faults target.new) seeds.old seeds.new
         chain.old chain.new }
-    ensures asked { OnErr result (AskedLast S.asked S.queried V.held V.faults sought.now.id.0 fates.now
-        sought.now.entries.now sought.now.places.now (T.faults target.old) (T.faults target.new) seeds.old seeds.new
-        chain.old chain.new) }
+    ensures asked { IfErr result (λ r. r ≢ Refused.Memory → AskedLast S.asked S.queried V.held V.faults sought.now.id.0
+        fates.now sought.now.entries.now sought.now.places.now (T.faults target.old) (T.faults target.new) seeds.old
+        seeds.new chain.old chain.new) }
 
     // Where nothing fails.
-    ensures exactly { (maps : List (Map (List ℕ))) → SourcesQuiet S.holds S.faults V.faults V.tells
-        (T.faults target.old) (T.faults target.new) seeds.old seeds.new chain.old.stores chain.new.stores maps →
+    ensures exactly { (cached maps : List (Map (List ℕ))) → SourcesQuiet S.holds S.faults V.faults V.tells
+        (T.faults target.old) (T.faults target.new) seeds.old seeds.new (seen F.files F.place F.faults cache.old)
+        (seen F.files F.place F.faults cache.new) chain.old.stores chain.new.stores cached maps →
         ObtainedBy (source_among (settled fates.now) sought.now.entries.now (map (held_in V.held) seeds.old)
-        sought.now.places.now (kind_of index.now) sought.now.id.0 (length chunk.old) maps) chain.old chain.new result }
+        sought.now.places.now (kind_of index.now) sought.now.id.0 (length chunk.old) cached maps) chain.old chain.new
+        result }
 
     ensures kept { T.held target.new ≡ T.held target.old }
     ensures faults { T.faults target.old ≤ T.faults target.new }
     ensures seeds { KeepsSeeds V.held V.faults seeds.old seeds.new }
+    ensures stocked { Stocked (TakesChunk S.holds (kind_of index.now) sought.now.id.0 (length chunk.old)
+        chain.old.stores) (seen F.files F.place F.faults cache.old) (seen F.files F.place F.faults cache.new) }
     ensures stores { KeepsStores S.holds S.folder S.place S.said S.faults chain.old.stores chain.new.stores }
     ensures same_kind { chain.new.kind ≡ chain.old.kind }
 {
@@ -89,7 +105,5 @@ pub(crate) fn obtain<T: View, S: Store, V: View>(
     if from_seeds(sought.places, seeds, &sought.id, chunk) {
         return Ok(Fate::Seeded);
     }
-    let size = chunk.len();
-    chain.obtain(&sought.id, Some(size), chunk)?;
-    Ok(Fate::Fetched)
+    from_upstream(&sought.id, chain, cache, chunk)
 }

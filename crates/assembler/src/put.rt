@@ -1,6 +1,7 @@
 //! Writing a chunk into the ranges of a want's entries.
 
-ghost use Rattle.std.specs.Prelude.{◌≡◌, ◌≢◌, ◌⊎◌, ℕ, ◌<◌, ◌≤◌, length, set, slice_index, true, false, Ok, IfSome, OnOk, OnErr};
+ghost use Rattle.std.specs.Prelude.{◌≡◌, ◌≢◌, ◌⊎◌, ℕ, ◌<◌, ◌≤◌, length, set, slice_index, true, false, Ok, IfSome};
+ghost use Rattle.std.specs.Prelude.{OnOk, OnErr};
 ghost use Rattle.assembler.specs.Economy.{Tallied};
 ghost use Rattle.assembler.specs.Fills.{Fills, Grows, WhereTold, is_made};
 ghost use Rattle.assembler.specs.Reports.{one_if};
@@ -53,8 +54,8 @@ fn put_one<T: Part>(
     Ok(true)
 }
 
-/// Writes the chunk into the range of each of these entries that is open. The first that is written has this origin, and
-/// the others are copies. Goes on past a write that failed.
+/// Writes the chunk into the range of each of these entries that is open. The first that is written has this origin,
+/// and the others are copies. Goes on past a write that failed.
 pub(crate) fn put<T: Part>(
     index: &Index,
     entries: &[u32],
@@ -64,7 +65,8 @@ pub(crate) fn put<T: Part>(
     fates: &mut [Fate],
 ) -> Result<(), Failed>
     requires entries { (k : ℕ) → k < length entries.now → slice_index entries.now k < count_of index.now }
-    requires chunk { (k : ℕ) → k < length entries.now → size_of index.now (slice_index entries.now k) ≡ length chunk.now }
+    requires chunk { (k : ℕ) → k < length entries.now → size_of index.now (slice_index entries.now k) ≡ length
+        chunk.now }
     requires fate { is_settled origin ≡ true }
     requires made { is_made origin ≡ true }
     requires size { (T.held target.old).size ≡ image_length index.now }
@@ -76,7 +78,8 @@ pub(crate) fn put<T: Part>(
         (fate_at fates.new i ≡ origin) ⊎ (fate_at fates.new i ≡ Fate.Copied) }
     ensures only { (i : ℕ) → settled fates.old i ≡ false → settled fates.new i ≡ true → IsAmong entries.now i }
     ensures tallied { OnOk result ((i : ℕ) → IsAmong entries.now i → settled fates.old i ≡ false →
-        Tallied (one_if Fate.Seeded origin) (one_if Fate.Fetched origin) (count_of index.now) fates.old fates.new) }
+        Tallied (one_if Fate.Seeded origin) (one_if Fate.Cached origin) (one_if Fate.Fetched origin)
+        (count_of index.now) fates.old fates.new) }
     ensures grows { Grows fates.old fates.new }
     ensures bytes { WhereTold (T.held target.old).bytes (T.held target.new).bytes
         (Fills index.now fates.old fates.new (T.faults target.old) (T.faults target.new)) }

@@ -40,7 +40,7 @@ impl Report {
         ensures kept { result.kept ≡ tally fate.Kept fates.now (length fates.now) }
         ensures copied { result.copied ≡ tally fate.Copied fates.now (length fates.now) }
         ensures seeded { result.seeded ≡ tally fate.Seeded fates.now (length fates.now) }
-        ensures cached { result.cached ≡ 0 }
+        ensures cached { result.cached ≡ tally fate.Cached fates.now (length fates.now) }
         ensures fetched { result.fetched ≡ tally fate.Fetched fates.now (length fates.now) }
         ensures all { ((i : ℕ) → i < length fates.now → settled fates.now i ≡ true) →
             result.kept + result.copied + result.seeded + result.cached + result.fetched ≡ length fates.now }
@@ -52,6 +52,7 @@ impl Report {
                 Fate::Kept => report.kept += 1,
                 Fate::Copied => report.copied += 1,
                 Fate::Seeded => report.seeded += 1,
+                Fate::Cached => report.cached += 1,
                 Fate::Fetched => report.fetched += 1,
             }
         }

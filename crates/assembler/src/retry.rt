@@ -1,7 +1,9 @@
 //! The second pass of an assembly: the entries that are still open, in rising order, each want once.
 
-ghost use Rattle.std.specs.Prelude.{◌≡◌, ◌⊎◌, ℕ, List, IsTrue, ◌<◌, length, map, Some, OnOk, IfErr, true, false};
+ghost use Rattle.std.specs.Prelude.{◌≡◌, ◌++◌, ◌⊎◌, ℕ, List, IsTrue, ◌<◌, length, map, None, Some, IfSome, OnOk, IfErr};
+ghost use Rattle.std.specs.Prelude.{true, false};
 ghost use Rattle.assembler.specs.Assemblies.{NothingFails};
+ghost use Rattle.assembler.specs.Caches.{HaveOneSize, Stocked, TakesWants, cached_in, seen};
 ghost use Rattle.assembler.specs.Economy.{PassedBy, UnlessMemory, source_over};
 ghost use Rattle.assembler.specs.Kits.{Ready, Step};
 ghost use Rattle.assembler.specs.Passes.{EndsBy, HadAt, IsLost, PassAsks, want_at};
@@ -17,8 +19,10 @@ ghost use Rattle.store_chain.specs.Faults.{EachQuiet};
 use crate::fault::{ExtractFault, Lost, Unsettled};
 use crate::kit::Kit;
 use crate::settle::settle;
+use cache_store::shelf::CacheShelf;
 use caibx_codec::index::Index;
 use chunk_store::store::Store;
+use dsy_base::folder::Folder;
 use dsy_base::view::{Part, View};
 use extract_plan::plan::Plan;
 use extract_plan::seeds::SeedIndex;
@@ -28,44 +32,55 @@ use store_chain::refused::Refused;
 
 /// Settles the open entries in rising order, with each want once. Goes on past a want whose chunk no source gives, and
 /// then answers for the first such entry. A write that fails and want of memory end it.
-pub(crate) fn retry<T: Part, S: Store, V: View>(
+pub(crate) fn retry<T: Part, S: Store, V: View, F: Folder>(
     alloc: Global,
     index: &Index,
     plan: &Plan,
     places: &SeedIndex,
     target: &mut T,
     kit: &mut Kit<S, V>,
+    cache: &mut Option<CacheShelf<F>>,
     fates: &mut [Fate],
 ) -> Result<(), ExtractFault>
     requires ready { Ready index.now plan.now places.now (T.held target.old) kit.old.chain.kind
         (length kit.old.seeds.items) (length kit.old.buffer.items) fates.old }
+    requires unnamed { (F.pairs ≡ None) × (F.stores ≡ None) }
+    requires cache { IfSome (seen F.files F.place F.faults cache.old) (λ s. s.kind ≡ kit.old.chain.kind) }
     ensures ok { OnOk result ((i : ℕ) → i < count_of index.now → settled fates.new i ≡ true) }
     // The first lost entry is named: all entries before it are settled.
     ensures first { EndsBy (λ lost. IsLost S.holds S.folder S.place S.said S.faults S.may_lack_memory V.held V.faults
-        index.now plan.now places.now fates.old (T.faults target.old) (T.faults target.new) kit.old kit.new lost
-        × ((i : ℕ) → i < lost.entry → settled fates.new i ≡ true))
-        (Rose (T.faults target.old) (T.faults target.new)) result }
+        index.now plan.now places.now fates.old (T.faults target.old) (T.faults target.new) kit.old kit.new
+        (seen F.files F.place F.faults cache.old) (seen F.files F.place F.faults cache.new) lost
+        × ((i : ℕ) → i < lost.entry → settled fates.new i ≡ true)) (Rose (T.faults target.old) (T.faults target.new))
+        result }
     // Each entry that is left open is lost, unless the pass was ended by a write that failed or for want of memory.
     ensures left { IfErr result (λ e. (e ≡ ExtractFault.Memory) ⊎ (Rose (T.faults target.old) (T.faults target.new)
         ⊎ ((i : ℕ) → i < count_of index.now → settled fates.new i ≡ false → (lost : Lost)
-        × (want_at plan.now lost.entry ≡ want_at plan.now i)
-        × IsLost S.holds S.folder S.place S.said S.faults S.may_lack_memory V.held V.faults index.now plan.now
-        places.now fates.old (T.faults target.old) (T.faults target.new) kit.old kit.new lost))) }
-    ensures had { IsTrue V.tells → (maps : List (Map (List ℕ))) → map S.holds kit.old.chain.stores ≡ map Some maps →
-        EachQuiet (map S.faults kit.old.chain.stores) (map S.faults kit.new.chain.stores) →
-        (i : ℕ) → i < count_of index.now → settled fates.new i ≡ true → HadAt index.now plan.now places.now fates.old
-        (map (held_in V.held) kit.old.seeds.items) maps i }
+        × (want_at plan.now lost.entry ≡ want_at plan.now i) × IsLost S.holds S.folder S.place S.said S.faults
+        S.may_lack_memory V.held V.faults index.now plan.now places.now fates.old (T.faults target.old)
+        (T.faults target.new) kit.old kit.new (seen F.files F.place F.faults cache.old)
+        (seen F.files F.place F.faults cache.new) lost))) }
+    ensures had { IsTrue V.tells → (cached maps : List (Map (List ℕ))) →
+        cached_in (seen F.files F.place F.faults cache.old) ≡ Some cached →
+        map S.holds kit.old.chain.stores ≡ map Some maps → EachQuiet (map S.faults kit.old.chain.stores)
+        (map S.faults kit.new.chain.stores) → (i : ℕ) → i < count_of index.now → settled fates.new i ≡ true →
+        HadAt index.now plan.now places.now fates.old (map (held_in V.held) kit.old.seeds.items) (cached ++ maps) i }
     ensures asks { PassAsks S.asked V.held V.faults index.now plan.now places.now fates.old
         (T.faults target.old) (T.faults target.new) kit.old kit.new }
+    ensures stocked { Stocked (TakesWants S.holds index.now plan.now (λ w. w < plan.now.wants) kit.old.chain.stores)
+        (seen F.files F.place F.faults cache.old) (seen F.files F.place F.faults cache.new) }
     ensures step { Step T.held T.faults S.holds S.folder S.place S.said S.faults V.held V.faults index.now
         target.old kit.old fates.old target.new kit.new fates.new }
 
     // Where nothing fails.
-    ensures exactly { (maps : List (Map (List ℕ))) → NothingFails S.holds S.folder S.place S.said S.faults
+    ensures exactly { (cached maps : List (Map (List ℕ))) → NothingFails S.holds S.folder S.place S.said S.faults
         S.may_lack_memory V.held V.faults index.now plan.now places.now V.tells (T.faults target.old)
-        (T.faults target.new) kit.old kit.new maps → UnlessMemory (PassedBy (source_over index.now plan.now places.now
-        (settled fates.old) (map (held_in V.held) kit.old.seeds.items) maps) plan.now.wants (count_of index.now)
-        fates.old fates.new kit.old.chain kit.new.chain) result }
+        (T.faults target.new) kit.old kit.new (seen F.files F.place F.faults cache.old)
+        (seen F.files F.place F.faults cache.new) cached maps → HaveOneSize index.now
+        (seen F.files F.place F.faults cache.old) cached maps → UnlessMemory
+        (PassedBy (source_over index.now plan.now places.now (settled fates.old)
+        (map (held_in V.held) kit.old.seeds.items) cached maps) plan.now.wants (count_of index.now) fates.old fates.new
+        kit.old.chain kit.new.chain) result }
 {
     // Only for its contract: the count of calls fits its type.
     kit.chain.asks();
@@ -79,7 +94,7 @@ pub(crate) fn retry<T: Part, S: Store, V: View>(
             continue;
         }
         tried[want] = true;
-        match settle(index, plan, places, want, target, kit, fates) {
+        match settle(index, plan, places, want, target, kit, cache, fates) {
             Ok(()) => {}
             Err(Unsettled::Lost(lost)) => {
                 if lost.refused == Refused::Memory {

@@ -1,7 +1,9 @@
 //! Settling the entries of one want.
 
-ghost use Rattle.std.specs.Prelude.{◌≡◌, ◌⊎◌, ℕ, List, IsTrue, ◌<◌, ◌≤◌, ◌^◌, length, map, slice_index, true, false, Some, IfSome, OnOk, MatchOption};
+ghost use Rattle.std.specs.Prelude.{◌≡◌, ◌≢◌, ◌⊎◌, ◌++◌, ℕ, List, IsTrue, ◌<◌, ◌≤◌, ◌^◌, length, map, slice_index};
+ghost use Rattle.std.specs.Prelude.{true, false, None, Some, IfSome, OnOk, MatchOption};
 ghost use Rattle.assembler.specs.Assemblies.{NothingFails};
+ghost use Rattle.assembler.specs.Caches.{CacheLacks, Stocked, TakesChunk, TakesWants, cached_in, seen};
 ghost use Rattle.assembler.specs.Economy.{SettlesBy, source_among, source_over};
 ghost use Rattle.assembler.specs.Fills.{Fills, Grows, WhereTold};
 ghost use Rattle.assembler.specs.Kits.{KeepsSeeds, Ready, Step};
@@ -22,15 +24,18 @@ use crate::fault::{Lost, Unsettled};
 use crate::kit::Kit;
 use crate::obtain::{Sought, obtain};
 use crate::put::put;
+use cache_store::shelf::CacheShelf;
 use caibx_codec::index::Index;
 use chunk_store::store::Store;
 use dsy_base::fault::Failed;
+use dsy_base::folder::Folder;
 use dsy_base::view::{Part, View};
 use extract_plan::plan::Plan;
 use extract_plan::seed::Seed;
 use extract_plan::seeds::SeedIndex;
 use range_survey::fate::Fate;
 use store_chain::chain::Chain;
+use store_chain::refused::Refused;
 
 // The first of these entries that is open.
 fn first_open(entries: &[u32], fates: &[Fate]) -> Option<usize>
@@ -50,13 +55,14 @@ fn first_open(entries: &[u32], fates: &[Fate]) -> Option<usize>
 }
 
 // Makes the open ones of the entries that are sought right, of which `entry` is the first.
-fn settle_open<T: Part, S: Store, V: View>(
+fn settle_open<T: Part, S: Store, V: View, F: Folder>(
     index: &Index,
     sought: &Sought<'_>,
     entry: usize,
     fates: &mut [Fate],
     target: &mut T,
     seeds: &mut [Seed<V>],
+    cache: &mut Option<CacheShelf<F>>,
     chain: &mut Chain<S>,
     buf: &mut [u8],
 ) -> Result<(), Unsettled>
@@ -71,32 +77,39 @@ fn settle_open<T: Part, S: Store, V: View>(
     requires fates { length fates.old ≡ count_of index.now }
     requires right { IfSome (T.held target.old).bytes (λ t. SettledRight index.now t fates.old (count_of index.now)) }
     requires asks { chain.old.asks < 2 ^ 64 }
+    requires unnamed { (F.pairs ≡ None) × (F.stores ≡ None) }
+    requires cache { IfSome (seen F.files F.place F.faults cache.old) (λ s. s.kind ≡ chain.old.kind) }
     ensures ok { OnOk result ((i : ℕ) → IsAmong sought.now.entries.now i → settled fates.new i ≡ true) }
     ensures only { (i : ℕ) → settled fates.old i ≡ false → settled fates.new i ≡ true →
         IsAmong sought.now.entries.now i }
-    ensures had { IsTrue V.tells → (maps : List (Map (List ℕ))) → map S.holds chain.old.stores ≡ map Some maps →
-        EachQuiet (map S.faults chain.old.stores) (map S.faults chain.new.stores) →
-        (i : ℕ) → settled fates.old i ≡ false → settled fates.new i ≡ true →
-        Had fates.old sought.now.entries.now (map (held_in V.held) seeds.old) sought.now.places.now
-        (kind_of index.now) sought.now.id.0 (size_of index.now entry) maps }
+    ensures had { IsTrue V.tells → (cached maps : List (Map (List ℕ))) →
+        cached_in (seen F.files F.place F.faults cache.old) ≡ Some cached →
+        map S.holds chain.old.stores ≡ map Some maps → EachQuiet (map S.faults chain.old.stores)
+        (map S.faults chain.new.stores) → (i : ℕ) → settled fates.old i ≡ false → settled fates.new i ≡ true →
+        Had fates.old sought.now.entries.now (map (held_in V.held) seeds.old) sought.now.places.now (kind_of index.now)
+        sought.now.id.0 (size_of index.now entry) (cached ++ maps) }
     ensures lost { Where (λ x. (x.entry ≡ entry) × (x.id ≡ sought.now.id))
         (Rose (T.faults target.old) (T.faults target.new)) result }
-    ensures refused { Where (λ x. RefusedBy S.holds S.said S.faults S.may_lack_memory
+    ensures refused { Where (λ x. x.refused ≢ Refused.Memory → RefusedBy S.holds S.said S.faults S.may_lack_memory
         (chunk_of (kind_of index.now) sought.now.id (size_of index.now entry)) chain.old.stores chain.new.stores
         x.refused) (Unit {0}) result }
-    ensures asked { Where (λ x. AskedLast S.asked S.queried V.held V.faults sought.now.id.0 fates.old
-        sought.now.entries.now sought.now.places.now (T.faults target.old) (T.faults target.new) seeds.old seeds.new
-        chain.old chain.new) (Unit {0}) result }
+    ensures missed { Where (λ x. x.refused ≢ Refused.Memory → CacheLacks (kind_of index.now) sought.now.id.0
+        (size_of index.now entry) (seen F.files F.place F.faults cache.old) (seen F.files F.place F.faults cache.new))
+        (Unit {0}) result }
+    ensures asked { Where (λ x. x.refused ≢ Refused.Memory → AskedLast S.asked S.queried V.held V.faults sought.now.id.0
+        fates.old sought.now.entries.now sought.now.places.now (T.faults target.old) (T.faults target.new) seeds.old
+        seeds.new chain.old chain.new) (Unit {0}) result }
     ensures asks { (chain.new ≡ chain.old) ⊎ AskedLast S.asked S.queried V.held V.faults sought.now.id.0 fates.old
         sought.now.entries.now sought.now.places.now (T.faults target.old) (T.faults target.new) seeds.old seeds.new
         chain.old chain.new }
 
     // Where nothing fails.
-    ensures exactly { (maps : List (Map (List ℕ))) → SourcesQuiet S.holds S.faults V.faults V.tells
-        (T.faults target.old) (T.faults target.new) seeds.old seeds.new chain.old.stores chain.new.stores maps →
+    ensures exactly { (cached maps : List (Map (List ℕ))) → SourcesQuiet S.holds S.faults V.faults V.tells
+        (T.faults target.old) (T.faults target.new) seeds.old seeds.new (seen F.files F.place F.faults cache.old)
+        (seen F.files F.place F.faults cache.new) chain.old.stores chain.new.stores cached maps →
         SettlesBy (source_among (settled fates.old) sought.now.entries.now (map (held_in V.held) seeds.old)
-        sought.now.places.now (kind_of index.now) sought.now.id.0 (size_of index.now entry) maps) (count_of index.now)
-        fates.old fates.new chain.old chain.new result }
+        sought.now.places.now (kind_of index.now) sought.now.id.0 (size_of index.now entry) cached maps)
+        (count_of index.now) fates.old fates.new chain.old chain.new result }
 
     ensures grows { Grows fates.old fates.new }
     ensures bytes { WhereTold (T.held target.old).bytes (T.held target.new).bytes
@@ -105,12 +118,14 @@ fn settle_open<T: Part, S: Store, V: View>(
     ensures same_size { (T.held target.new).size ≡ (T.held target.old).size }
     ensures faults { T.faults target.old ≤ T.faults target.new }
     ensures seeds { KeepsSeeds V.held V.faults seeds.old seeds.new }
+    ensures stocked { Stocked (TakesChunk S.holds (kind_of index.now) sought.now.id.0 (size_of index.now entry)
+        chain.old.stores) (seen F.files F.place F.faults cache.old) (seen F.files F.place F.faults cache.new) }
     ensures stores { KeepsStores S.holds S.folder S.place S.said S.faults chain.old.stores chain.new.stores }
     ensures same_kind { chain.new.kind ≡ chain.old.kind }
 {
     let (chunk, _) = buf.split_at_mut(index.entry(entry).size);
     let id = sought.id;
-    match obtain(index, sought, fates, target, seeds, chain, chunk) {
+    match obtain(index, sought, fates, target, seeds, cache, chain, chunk) {
         Err(refused) => Err(Unsettled::Lost(Lost { entry, id, refused })),
         Ok(origin) => match put(index, sought.entries, chunk, origin, target, fates) {
             Ok(()) => Ok(()),
@@ -120,44 +135,56 @@ fn settle_open<T: Part, S: Store, V: View>(
 }
 
 /// Makes the open entries of a want right, and leaves all others.
-pub(crate) fn settle<T: Part, S: Store, V: View>(
+pub(crate) fn settle<T: Part, S: Store, V: View, F: Folder>(
     index: &Index,
     plan: &Plan,
     places: &SeedIndex,
     want: usize,
     target: &mut T,
     kit: &mut Kit<S, V>,
+    cache: &mut Option<CacheShelf<F>>,
     fates: &mut [Fate],
 ) -> Result<(), Unsettled>
     requires ready { Ready index.now plan.now places.now (T.held target.old) kit.old.chain.kind
         (length kit.old.seeds.items) (length kit.old.buffer.items) fates.old }
     requires want { want < plan.now.wants }
+    requires unnamed { (F.pairs ≡ None) × (F.stores ≡ None) }
+    requires cache { IfSome (seen F.files F.place F.faults cache.old) (λ s. s.kind ≡ kit.old.chain.kind) }
     ensures ok { OnOk result ((i : ℕ) → IsAmong (of_want plan.now want) i → settled fates.new i ≡ true) }
     ensures only { (i : ℕ) → settled fates.old i ≡ false → settled fates.new i ≡ true →
         IsAmong (of_want plan.now want) i }
-    ensures had { IsTrue V.tells → (maps : List (Map (List ℕ))) → map S.holds kit.old.chain.stores ≡ map Some maps →
-        EachQuiet (map S.faults kit.old.chain.stores) (map S.faults kit.new.chain.stores) →
-        (i : ℕ) → settled fates.old i ≡ false → settled fates.new i ≡ true →
+    ensures had { IsTrue V.tells → (cached maps : List (Map (List ℕ))) →
+        cached_in (seen F.files F.place F.faults cache.old) ≡ Some cached →
+        map S.holds kit.old.chain.stores ≡ map Some maps → EachQuiet (map S.faults kit.old.chain.stores)
+        (map S.faults kit.new.chain.stores) → (i : ℕ) → settled fates.old i ≡ false → settled fates.new i ≡ true →
         Had fates.old (of_want plan.now want) (map (held_in V.held) kit.old.seeds.items) (places_at places.now want)
-        (kind_of index.now) (id_of index.now i) (size_of index.now i) maps }
+        (kind_of index.now) (id_of index.now i) (size_of index.now i) (cached ++ maps) }
     ensures lost { Where (IsFirstOpen index.now fates.old (of_want plan.now want))
         (Rose (T.faults target.old) (T.faults target.new)) result }
-    ensures refused { Where (λ x. RefusedBy S.holds S.said S.faults S.may_lack_memory (lost_want index.now x)
-        kit.old.chain.stores kit.new.chain.stores x.refused) (Unit {0}) result }
-    ensures asked { Where (λ x. AskedLast S.asked S.queried V.held V.faults (want_id index.now plan.now want) fates.old
-        (of_want plan.now want) (places_at places.now want) (T.faults target.old) (T.faults target.new)
-        kit.old.seeds.items kit.new.seeds.items kit.old.chain kit.new.chain) (Unit {0}) result }
+    ensures refused { Where (λ x. x.refused ≢ Refused.Memory → RefusedBy S.holds S.said S.faults S.may_lack_memory
+        (lost_want index.now x) kit.old.chain.stores kit.new.chain.stores x.refused) (Unit {0}) result }
+    ensures missed { Where (λ x. x.refused ≢ Refused.Memory → CacheLacks (kind_of index.now) (id_of index.now x.entry)
+        (size_of index.now x.entry) (seen F.files F.place F.faults cache.old) (seen F.files F.place F.faults cache.new))
+        (Unit {0}) result }
+    ensures asked { Where (λ x. x.refused ≢ Refused.Memory → AskedLast S.asked S.queried V.held V.faults
+        (want_id index.now plan.now want) fates.old (of_want plan.now want) (places_at places.now want)
+        (T.faults target.old) (T.faults target.new) kit.old.seeds.items kit.new.seeds.items kit.old.chain kit.new.chain)
+        (Unit {0}) result }
     ensures asks { (kit.new.chain ≡ kit.old.chain) ⊎ AskedLast S.asked S.queried V.held V.faults
         (want_id index.now plan.now want) fates.old (of_want plan.now want) (places_at places.now want)
         (T.faults target.old) (T.faults target.new) kit.old.seeds.items kit.new.seeds.items kit.old.chain
         kit.new.chain }
 
     // Where nothing fails.
-    ensures exactly { (maps : List (Map (List ℕ))) → NothingFails S.holds S.folder S.place S.said S.faults
+    ensures exactly { (cached maps : List (Map (List ℕ))) → NothingFails S.holds S.folder S.place S.said S.faults
         S.may_lack_memory V.held V.faults index.now plan.now places.now V.tells (T.faults target.old)
-        (T.faults target.new) kit.old kit.new maps → SettlesBy (source_over index.now plan.now places.now
-        (settled fates.old) (map (held_in V.held) kit.old.seeds.items) maps want) (count_of index.now) fates.old
-        fates.new kit.old.chain kit.new.chain result }
+        (T.faults target.new) kit.old kit.new (seen F.files F.place F.faults cache.old)
+        (seen F.files F.place F.faults cache.new) cached maps → SettlesBy
+        (source_over index.now plan.now places.now (settled fates.old) (map (held_in V.held) kit.old.seeds.items) cached
+        maps want) (count_of index.now) fates.old fates.new kit.old.chain kit.new.chain result }
+
+    ensures stocked { Stocked (TakesWants S.holds index.now plan.now (λ w. w ≡ want) kit.old.chain.stores)
+        (seen F.files F.place F.faults cache.old) (seen F.files F.place F.faults cache.new) }
 
     ensures step { Step T.held T.faults S.holds S.folder S.place S.said S.faults V.held V.faults index.now
         target.old kit.old fates.old target.new kit.new fates.new }
@@ -180,5 +207,7 @@ pub(crate) fn settle<T: Part, S: Store, V: View>(
         seeds,
         buffer,
     } = kit;
-    settle_open(index, &sought, entry, fates, target, seeds, chain, buffer)
+    settle_open(
+        index, &sought, entry, fates, target, seeds, cache, chain, buffer,
+    )
 }

@@ -7,11 +7,13 @@ use crate::assemble::assemble;
 use crate::fault::ExtractFault;
 use crate::kit::Kit;
 use crate::report::Report;
+use cache_store::shelf::CacheShelf;
 use caibx_codec::index::{Entry, Index};
 use chunk_store::id::{ChunkId, DigestKind};
 use chunk_store::shows::Shows;
 use dir_store::store::DirStore;
 use dsy_base::folder::Folder;
+use dsy_base::look::Look;
 use dsy_forms::mem_folder::MemFolder;
 use dsy_forms::mem_target::MemTarget;
 use dsy_forms::mem_view::MemView;
@@ -81,18 +83,19 @@ fn kit_of(
     Ok(Kit::new(alloc, Chain::new(stores), seeds))
 }
 
-// Assembles these pieces over these bytes, from a seed and two stores, and compares how it ended, what the target then
-// holds, and how often the stores were asked.
-fn assembles(
+// Assembles these pieces over these bytes, from a seed, a cache and two stores. Compares how it ended, what the target
+// then holds, and how often the stores were asked, and answers the cache.
+fn assembles_with(
     rt: &impl Abort,
     alloc: Global,
     pieces: &[&[u8]],
     old: (&[u8], RangeFails),
     mut kit: Kit<DirStore<MemFolder>, MemView>,
+    cache: Option<MemFolder>,
     ended: Result<Report, ExtractFault>,
     new: &[u8],
     asks: u64,
-) -> Result<(), Fail>
+) -> Result<Option<MemFolder>, Fail>
     requires kind { kit.chain.kind ≡ kinds.Sha512T256 }
     requires one { length kit.seeds.items ≡ 1 }
 {
@@ -105,10 +108,43 @@ fn assembles(
         return Err(Fail::new("no places"));
     };
     let mut target = MemTarget::new(alloc, Vec::from_slice(alloc, old.0)?, old.1);
-    let got = assemble(alloc, &index, &plan, &places, &mut target, &mut kit);
+    let mut cache = match cache {
+        Some(folder) => Some(CacheShelf::new(folder)),
+        None => None,
+    };
+    let got = assemble(
+        alloc,
+        &index,
+        &plan,
+        &places,
+        &mut target,
+        &mut kit,
+        &mut cache,
+    );
     assert_eq!(rt; got, ended);
     assert_eq!(rt; target.bytes(), new);
     assert_eq!(rt; kit.chain.asks(), asks);
+    match cache {
+        Some(shelf) => Ok(Some(shelf.into_inner())),
+        None => Ok(None),
+    }
+}
+
+// The same without a cache.
+fn assembles(
+    rt: &impl Abort,
+    alloc: Global,
+    pieces: &[&[u8]],
+    old: (&[u8], RangeFails),
+    kit: Kit<DirStore<MemFolder>, MemView>,
+    ended: Result<Report, ExtractFault>,
+    new: &[u8],
+    asks: u64,
+) -> Result<(), Fail>
+    requires kind { kit.chain.kind ≡ kinds.Sha512T256 }
+    requires one { length kit.seeds.items ≡ 1 }
+{
+    assembles_with(rt, alloc, pieces, old, kit, None, ended, new, asks)?;
     Ok(())
 }
 
@@ -183,4 +219,56 @@ fn a_failed_write_is_tried_once_more(rt: HostRuntime) -> Result<(), Fail> {
     // A write that fails in memory leaves 0xee in all of its range.
     let ended = Err(ExtractFault::TargetFault);
     assembles(&rt, alloc, &pieces, (b"", fails), kit, ended, b"abc\xee\xee\xeeghi", 4)
+}
+
+// A cache that holds these bytes under the id of "abc".
+fn cache_of(alloc: Global, held: Option<&[u8]>) -> Result<MemFolder, Fail> {
+    let mut folder = MemFolder::new(alloc, Vec::new(alloc));
+    if let Some(held) = held {
+        folder.put(id_of(b"abc").path().as_str(), held)?;
+    }
+    Ok(folder)
+}
+
+// Assembles "abc" twice through a cache, in which it then stands.
+fn goes_through_the_cache(
+    rt: &impl Abort,
+    alloc: Global,
+    kit: Kit<DirStore<MemFolder>, MemView>,
+    held: Option<&[u8]>,
+    from: (u64, u64),
+) -> Result<(), Fail>
+    requires kind { kit.chain.kind ≡ kinds.Sha512T256 }
+    requires one { length kit.seeds.items ≡ 1 }
+{
+    let pieces = [b"abc".as_slice(), b"abc"];
+    let (cached, fetched) = from;
+    let ended = Ok(Report {
+        kept: 0,
+        copied: 1,
+        seeded: 0,
+        cached,
+        fetched,
+    });
+    let cache = Some(cache_of(alloc, held)?);
+    let old = (b"".as_slice(), RangeFails::none(alloc));
+    let left = assembles_with(
+        rt, alloc, &pieces, old, kit, cache, ended, b"abcabc", fetched,
+    )?;
+    let mut folder = left.ok_or("no cache")?;
+    let mut out = [0u8; 3];
+    assert_eq!(rt; folder.read(id_of(b"abc").path().as_str(), &mut out), Ok(3));
+    assert_eq!(rt; out, *b"abc");
+    Ok(())
+}
+
+#[test]
+fn a_cache_gives_before_the_stores_and_is_filled_by_them(rt: HostRuntime) -> Result<(), Fail> {
+    let alloc = rt.alloc();
+    let kit = kit_of(alloc, None, &[], &[])?;
+    goes_through_the_cache(&rt, alloc, kit, Some(b"abc"), (1, 0))?;
+    let kit = kit_of(alloc, None, &[(b"abc", b"abc")], &[])?;
+    goes_through_the_cache(&rt, alloc, kit, None, (0, 1))?;
+    let kit = kit_of(alloc, None, &[], &[(b"abc", b"abc")])?;
+    goes_through_the_cache(&rt, alloc, kit, Some(b"abX"), (0, 1))
 }

@@ -1,6 +1,10 @@
-use Rattle.std.proofs.Common.{◌≡◌, ◌∙◌, List, IfSome, length, Ok, Err, sym, ap, subst, arith}
+use Rattle.std.proofs.Common.{◌≡◌, ◌∙◌, ◌<◌, List, IfSome, length, Ok, Err, sym, ap, subst, arith, Option}
 use Rattle.assembler.proofs.Asked.{quiet_part}
 use Rattle.assembler.proofs.KeptCount.{kept_count}
+use Rattle.assembler.proofs.Cached.{stocked_none}
+use Rattle.assembler.proofs.Stocking.{listed_takes}
+use Rattle.assembler.specs.Caches.{Stocked, TakesListed, TakesWants}
+use Rattle.chunk_store.specs.declared.id.DigestKind.{DigestKind}
 use Rattle.std.proofs.lemmas.List.{with_items_is}
 use Rattle.std.specs.Global.{Vec}
 use Rattle.assembler.specs.Reports.{right_below, tally}
@@ -21,13 +25,19 @@ use Rattle.store_chain.specs.Chains.{Chained, KeepsStores}
 use Rattle.assembler.proofs.assemble.assemble.Given.{Over}
 use Rattle.assembler.proofs.assemble.assemble.Goals.{After-drop-fates, After-drop-fates-2}
 use Rattle.assembler.proofs.assemble.assemble.Goals as goal
+use Rattle.assembler.specs.Caches.{seen}
+use Rattle.cache_store.specs.Shelves.{Shelf, Shelved}
+
+-- what is seen of a cache
+abbrev see : (g : Over) → Option (Shelved g.row.F.Denot) → Option Shelf
+see g = seen g.F.Look.files g.F.Look.place g.F.Look.faults
 
 -- what both passes leave where they end with a fault
 ran_err : (g : Over) (c : After-drop-fates g) → Ran g.S.Store.holds g.S.Store.folder g.S.Store.place g.S.Store.said g.S.Store.faults g.S.Store.asked
     g.S.Store.may_lack_memory g.V.View.held g.V.View.faults g.V.View.tells c.args.index.now c.args.plan.now c.args.places.now
     (g.T.View.held c.args.target.now).bytes (g.T.View.held c.settle_all.new.target).bytes
     (g.T.View.faults c.args.target.now) (g.T.View.faults c.survey_first.new.target) (g.T.View.faults c.settle_all.new.target)
-    c.deref_mut.result.now c.settle_all.new.fates c.settle_all.new.kit (Err c.in_err-settle_all.field-0.0) (with_buffer c.args.kit.now c.survey_first.new.kit)
+    c.deref_mut.result.now c.settle_all.new.fates (see g c.args.cache.now) (see g c.settle_all.new.cache) c.settle_all.new.kit (Err c.in_err-settle_all.field-0.0) (with_buffer c.args.kit.now c.survey_first.new.kit)
 ran_err g c =
     let s = g.S.Store in
     let v = g.V.View in
@@ -39,7 +49,7 @@ ran_err g c =
     kit_as
     (Ran s.holds s.folder s.place s.said s.faults s.asked s.may_lack_memory v.held v.faults v.tells l c.args.plan.now c.args.places.now
     old.bytes (g.T.View.held c.settle_all.new.target).bytes (g.T.View.faults c.args.target.now) (g.T.View.faults c.survey_first.new.target)
-    (g.T.View.faults c.settle_all.new.target) c.deref_mut.result.now c.settle_all.new.fates c.settle_all.new.kit (Err c.in_err-settle_all.field-0.0))
+    (g.T.View.faults c.settle_all.new.target) c.deref_mut.result.now c.settle_all.new.fates (see g c.args.cache.now) (see g c.settle_all.new.cache) c.settle_all.new.kit (Err c.in_err-settle_all.field-0.0))
     c.args.kit.now c.survey_first.new.kit first.chain first.seeds
     (record {
       wants = c.requires.wants;
@@ -55,6 +65,7 @@ ran_err g c =
       had = did.had;
       asks = did.asks;
       firsts = subst (λ (xs : List Fate). FirstFates xs (count_of l)) (sym c.deref_mut.ensures.value) first.first;
+      stocked = did.stocked;
       exactly = did.exactly;
     })
 
@@ -63,7 +74,7 @@ ran_ok : (g : Over) (c : After-drop-fates-2 g) → Ran g.S.Store.holds g.S.Store
     g.S.Store.may_lack_memory g.V.View.held g.V.View.faults g.V.View.tells c.args.index.now c.args.plan.now c.args.places.now
     (g.T.View.held c.args.target.now).bytes (g.T.View.held c.settle_all.new.target).bytes
     (g.T.View.faults c.args.target.now) (g.T.View.faults c.survey_first.new.target) (g.T.View.faults c.settle_all.new.target)
-    c.deref_mut.result.now c.settle_all.new.fates c.settle_all.new.kit (Ok c.in_ok-settle_all.field-0) (with_buffer c.args.kit.now c.survey_first.new.kit)
+    c.deref_mut.result.now c.settle_all.new.fates (see g c.args.cache.now) (see g c.settle_all.new.cache) c.settle_all.new.kit (Ok c.in_ok-settle_all.field-0) (with_buffer c.args.kit.now c.survey_first.new.kit)
 ran_ok g c =
     let s = g.S.Store in
     let v = g.V.View in
@@ -75,7 +86,7 @@ ran_ok g c =
     kit_as
     (Ran s.holds s.folder s.place s.said s.faults s.asked s.may_lack_memory v.held v.faults v.tells l c.args.plan.now c.args.places.now
     old.bytes (g.T.View.held c.settle_all.new.target).bytes (g.T.View.faults c.args.target.now) (g.T.View.faults c.survey_first.new.target)
-    (g.T.View.faults c.settle_all.new.target) c.deref_mut.result.now c.settle_all.new.fates c.settle_all.new.kit (Ok c.in_ok-settle_all.field-0))
+    (g.T.View.faults c.settle_all.new.target) c.deref_mut.result.now c.settle_all.new.fates (see g c.args.cache.now) (see g c.settle_all.new.cache) c.settle_all.new.kit (Ok c.in_ok-settle_all.field-0))
     c.args.kit.now c.survey_first.new.kit first.chain first.seeds
     (record {
       wants = c.requires.wants;
@@ -91,6 +102,7 @@ ran_ok g c =
       had = did.had;
       asks = did.asks;
       firsts = subst (λ (xs : List Fate). FirstFates xs (count_of l)) (sym c.deref_mut.ensures.value) first.first;
+      stocked = did.stocked;
       exactly = did.exactly;
     })
 
@@ -109,7 +121,7 @@ returns-in_err-settle_all-clause-bytes g c =
     let s = g.S.Store in
     let v = g.V.View in
     rw (p.1, p.2) (bytes_err s.holds s.folder s.place s.said s.faults s.asked s.may_lack_memory v.held v.faults v.tells c.args.index.now c.args.plan.now c.args.places.now
-    _ _ _ _ _ _ _ _ c.args.kit.now _ _ (ran_err g c))
+    _ _ _ _ _ _ _ _ _ _ c.args.kit.now _ _ (ran_err g c))
 
 pub returns-in_err-settle_all-clause-lost : goal.returns-in_err-settle_all-clause-lost
 returns-in_err-settle_all-clause-lost g c =
@@ -117,38 +129,38 @@ returns-in_err-settle_all-clause-lost g c =
     let s = g.S.Store in
     let v = g.V.View in
     rw (p.1, p.2) (lost_err s.holds s.folder s.place s.said s.faults s.asked s.may_lack_memory v.held v.faults v.tells c.args.index.now c.args.plan.now c.args.places.now
-    _ _ _ _ _ _ _ _ c.args.kit.now c.survey_first.new.kit _ (ran_err g c))
+    _ _ _ _ _ _ _ _ _ _ c.args.kit.now c.survey_first.new.kit _ (ran_err g c))
 
 pub returns-in_err-settle_all-clause-exactly : goal.returns-in_err-settle_all-clause-exactly
 returns-in_err-settle_all-clause-exactly g c =
     let p = err_from_is_err_and c.from_residual-in_err-settle_all.result c.from_residual-in_err-settle_all.ensures.1 in
     let s = g.S.Store in
     let v = g.V.View in
-    λ maps nothing. rw (p.1, p.2) (exactly_err s.holds s.folder s.place s.said s.faults s.asked s.may_lack_memory v.held v.faults v.tells c.args.index.now c.args.plan.now c.args.places.now
-    _ _ _ _ _ _ _ _ c.args.kit.now c.survey_first.new.kit maps nothing _ (ran_err g c))
+    λ cached maps nothing one. rw (p.1, p.2) (exactly_err s.holds s.folder s.place s.said s.faults s.asked s.may_lack_memory v.held v.faults v.tells c.args.index.now c.args.plan.now c.args.places.now
+    _ _ _ _ _ _ _ _ _ _ c.args.kit.now c.survey_first.new.kit cached maps nothing one _ (ran_err g c))
 
 pub returns-in_err-settle_all-clause-after : goal.returns-in_err-settle_all-clause-after
 returns-in_err-settle_all-clause-after g c =
     let p = err_from_is_err_and c.from_residual-in_err-settle_all.result c.from_residual-in_err-settle_all.ensures.1 in
     let s = g.S.Store in
     let v = g.V.View in
-    λ maps nothing. rw (p.1, p.2) (after_fault s.holds s.folder s.place s.said s.faults s.asked s.may_lack_memory v.held v.faults v.tells c.args.index.now c.args.plan.now c.args.places.now
-    _ _ _ _ _ _ _ _ c.args.kit.now c.survey_first.new.kit maps nothing _ (ran_err g c))
+    λ cached maps nothing one. rw (p.1, p.2) (after_fault s.holds s.folder s.place s.said s.faults s.asked s.may_lack_memory v.held v.faults v.tells c.args.index.now c.args.plan.now c.args.places.now
+    _ _ _ _ _ _ _ _ _ _ c.args.kit.now c.survey_first.new.kit cached maps nothing one _ (ran_err g c))
 
 pub returns-in_err-settle_all-clause-asks : goal.returns-in_err-settle_all-clause-asks
 returns-in_err-settle_all-clause-asks g c =
     let s = g.S.Store in
     let v = g.V.View in
     asks_over s.holds s.folder s.place s.said s.faults s.asked s.may_lack_memory v.held v.faults v.tells c.args.index.now c.args.plan.now c.args.places.now
-    _ _ _ _ _ _ _ _ c.args.kit.now c.survey_first.new.kit _ (ran_err g c)
+    _ _ _ _ _ _ _ _ _ _ c.args.kit.now c.survey_first.new.kit _ (ran_err g c)
 
 pub returns-in_err-settle_all-clause-economy : goal.returns-in_err-settle_all-clause-economy
 returns-in_err-settle_all-clause-economy g c =
     let p = err_from_is_err_and c.from_residual-in_err-settle_all.result c.from_residual-in_err-settle_all.ensures.1 in
     let s = g.S.Store in
     let v = g.V.View in
-    λ maps nothing. rw (p.1, p.2) (economy_err s.holds s.folder s.place s.said s.faults s.asked s.may_lack_memory v.held v.faults v.tells c.args.index.now c.args.plan.now c.args.places.now
-    _ _ _ _ _ _ _ _ c.args.kit.now c.survey_first.new.kit maps nothing _ (ran_err g c))
+    λ cached maps nothing one. rw (p.1, p.2) (economy_err s.holds s.folder s.place s.said s.faults s.asked s.may_lack_memory v.held v.faults v.tells c.args.index.now c.args.plan.now c.args.places.now
+    _ _ _ _ _ _ _ _ _ _ c.args.kit.now c.survey_first.new.kit cached maps nothing one _ (ran_err g c))
 
 -- all entries are right
 pub returns-clause-bytes : goal.returns-clause-bytes
@@ -156,28 +168,28 @@ returns-clause-bytes g c =
     let s = g.S.Store in
     let v = g.V.View in
     bytes_ok s.holds s.folder s.place s.said s.faults s.asked s.may_lack_memory v.held v.faults v.tells c.args.index.now c.args.plan.now c.args.places.now
-    _ _ _ _ _ _ _ _ c.args.kit.now _ _ c.of.result (ran_ok g c)
+    _ _ _ _ _ _ _ _ _ _ c.args.kit.now _ _ c.of.result (ran_ok g c)
 
 pub returns-clause-exactly : goal.returns-clause-exactly
 returns-clause-exactly g c =
     let s = g.S.Store in
     let v = g.V.View in
-    λ maps nothing. exactly_ok s.holds s.folder s.place s.said s.faults s.asked s.may_lack_memory v.held v.faults v.tells c.args.index.now c.args.plan.now c.args.places.now
-    _ _ _ _ _ _ _ _ c.args.kit.now c.survey_first.new.kit maps nothing _ c.of.result (ran_ok g c)
+    λ cached maps nothing one. exactly_ok s.holds s.folder s.place s.said s.faults s.asked s.may_lack_memory v.held v.faults v.tells c.args.index.now c.args.plan.now c.args.places.now
+    _ _ _ _ _ _ _ _ _ _ c.args.kit.now c.survey_first.new.kit cached maps nothing one _ c.of.result (ran_ok g c)
 
 pub returns-clause-after : goal.returns-clause-after
 returns-clause-after g c =
     let s = g.S.Store in
     let v = g.V.View in
-    λ maps nothing. after_ok s.holds s.folder s.place s.said s.faults s.asked s.may_lack_memory v.held v.faults v.tells c.args.index.now c.args.plan.now c.args.places.now
-    _ _ _ _ _ _ _ _ c.args.kit.now c.survey_first.new.kit maps nothing _ c.of.result (ran_ok g c)
+    λ cached maps nothing one. after_ok s.holds s.folder s.place s.said s.faults s.asked s.may_lack_memory v.held v.faults v.tells c.args.index.now c.args.plan.now c.args.places.now
+    _ _ _ _ _ _ _ _ _ _ c.args.kit.now c.survey_first.new.kit cached maps nothing one _ c.of.result (ran_ok g c)
 
 pub returns-clause-asks : goal.returns-clause-asks
 returns-clause-asks g c =
     let s = g.S.Store in
     let v = g.V.View in
     asks_over s.holds s.folder s.place s.said s.faults s.asked s.may_lack_memory v.held v.faults v.tells c.args.index.now c.args.plan.now c.args.places.now
-    _ _ _ _ _ _ _ _ c.args.kit.now c.survey_first.new.kit _ (ran_ok g c)
+    _ _ _ _ _ _ _ _ _ _ c.args.kit.now c.survey_first.new.kit _ (ran_ok g c)
 
 pub returns-clause-kept : goal.returns-clause-kept
 returns-clause-kept g c = λ quiet.
@@ -201,11 +213,11 @@ pub returns-clause-economy : goal.returns-clause-economy
 returns-clause-economy g c =
     let s = g.S.Store in
     let v = g.V.View in
-    λ maps nothing. economy_ok s.holds s.folder s.place s.said s.faults s.asked s.may_lack_memory v.held v.faults v.tells c.args.index.now c.args.plan.now c.args.places.now
-    _ _ _ _ _ _ _ _ c.args.kit.now c.survey_first.new.kit maps nothing _ c.of.result (ran_ok g c)
+    λ cached maps nothing one. economy_ok s.holds s.folder s.place s.said s.faults s.asked s.may_lack_memory v.held v.faults v.tells c.args.index.now c.args.plan.now c.args.places.now
+    _ _ _ _ _ _ _ _ _ _ c.args.kit.now c.survey_first.new.kit cached maps nothing one _ c.of.result (ran_ok g c)
 
 pub returns-clause-reported : goal.returns-clause-reported
-returns-clause-reported g c = λ maps nothing.
+returns-clause-reported g c = λ cached maps nothing one.
     let s = g.S.Store in
     let v = g.V.View in
     let l = c.args.index.now in
@@ -213,8 +225,9 @@ returns-clause-reported g c = λ maps nothing.
     let whole : length n ≡ count_of l = c.in_ok-settle_all.ensures.step.grows.size ∙ ap (λ (xs : List Fate). length xs) c.deref_mut.ensures.value ∙ c.in_ok-fates.ensures.size in
     let same : c.deref.result.now ≡ n = c.deref.ensures.value ∙ with_items_is c.in_ok-fates.fates n (omega (arith, c.settle_all.auto.fates, c.deref_mut.ensures.len)) in
     reported_ok s.holds s.folder s.place s.said s.faults s.asked s.may_lack_memory v.held v.faults v.tells l c.args.plan.now c.args.places.now
-    _ _ _ _ _ _ _ _ c.args.kit.now c.survey_first.new.kit maps nothing _ c.of.result (ran_ok g c)
+    _ _ _ _ _ _ _ _ _ _ c.args.kit.now c.survey_first.new.kit cached maps nothing one _ c.of.result (ran_ok g c)
     (subst (λ (xs : List Fate). c.of.result.seeded ≡ tally fate.Seeded xs (length xs)) same c.of.ensures.seeded ∙ ap (tally fate.Seeded n) whole)
+    (subst (λ (xs : List Fate). c.of.result.cached ≡ tally fate.Cached xs (length xs)) same c.of.ensures.cached ∙ ap (tally fate.Cached n) whole)
     (subst (λ (xs : List Fate). c.of.result.fetched ≡ tally fate.Fetched xs (length xs)) same c.of.ensures.fetched ∙ ap (tally fate.Fetched n) whole)
 
 pub settle_all-requires : goal.settle_all-requires
@@ -232,4 +245,21 @@ settle_all-requires g c =
         fates = ap (λ (xs : List Fate). length xs) value ∙ first.size;
         right = subst (λ (xs : List Fate). IfSome (g.T.View.held c.survey_first.new.target).bytes (λ t. SettledRight l t xs (count_of l))) (sym value) first.yes;
       };
+      unnamed = c.requires.unnamed;
+      cache = subst (λ (k : DigestKind). IfSome (see g c.args.cache.now) (λ s. s.kind ≡ k)) (sym (ap (λ (y : Chained g.row.S.Denot). y.kind) first.chain ∙ c.requires.kind)) c.requires.cache;
     }
+
+pub returns-in_err-fates-clause-stocked : goal.returns-in_err-fates-clause-stocked
+returns-in_err-fates-clause-stocked g c = stocked_none (TakesListed g.S.Store.holds c.args.index.now c.args.kit.now.chain.stores) (see g c.args.cache.now)
+
+pub returns-in_err-settle_all-clause-stocked : goal.returns-in_err-settle_all-clause-stocked
+returns-in_err-settle_all-clause-stocked g c =
+    listed_takes g.S.Store.holds c.args.index.now c.args.plan.now c.args.kit.now.chain.stores (see g c.args.cache.now) (see g c.settle_all.new.cache) c.requires.wants
+    (subst (λ (y : Chained g.row.S.Denot). Stocked (TakesWants g.S.Store.holds c.args.index.now c.args.plan.now (λ w. w < c.args.plan.now.wants) y.stores) (see g c.args.cache.now)
+    (see g c.settle_all.new.cache)) c.in_ok-fates.ensures.chain c.in_err-settle_all.ensures.stocked)
+
+pub returns-clause-stocked : goal.returns-clause-stocked
+returns-clause-stocked g c =
+    listed_takes g.S.Store.holds c.args.index.now c.args.plan.now c.args.kit.now.chain.stores (see g c.args.cache.now) (see g c.settle_all.new.cache) c.requires.wants
+    (subst (λ (y : Chained g.row.S.Denot). Stocked (TakesWants g.S.Store.holds c.args.index.now c.args.plan.now (λ w. w < c.args.plan.now.wants) y.stores) (see g c.args.cache.now)
+    (see g c.settle_all.new.cache)) c.in_ok-fates.ensures.chain c.in_ok-settle_all.ensures.stocked)

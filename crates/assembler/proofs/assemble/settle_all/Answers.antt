@@ -1,24 +1,41 @@
-use Rattle.std.proofs.Common.{◌∙◌, ◌+◌, List, map, sym, inl, inr, subst, arith}
+use Rattle.std.proofs.Common.{◌≡◌, ◌∙◌, ◌++◌, ℕ, ◌+◌, ◌<◌, List, map, IfSome, sym, inl, inr, subst, arith, Option}
+use Rattle.assembler.proofs.Cached.{stocked_falls, stocked_kind, stocked_told}
+use Rattle.assembler.proofs.Stocking.{give_before, one_size_on, stocking_on}
+use Rattle.assembler.specs.Caches.{TakesWants}
+use Rattle.caibx_codec.specs.Listing.{id_of, size_of}
+use Rattle.chunk_store.specs.declared.id.DigestKind.{DigestKind}
+use Rattle.extract_plan.specs.Places.{places_at}
 use Rattle.assembler.proofs.Asked.{asks_on, asks_up, spared_part}
 use Rattle.assembler.proofs.EconomyPasses.{passes_by}
 use Rattle.assembler.proofs.EconomyQuiet.{nothing_first, nothing_next}
 use Rattle.assembler.proofs.EconomyRetried.{unless_map}
 use Rattle.assembler.proofs.Filled.{grows_none}
-use Rattle.assembler.proofs.HadOn.{had_through, quiet_first, quiet_next}
+use Rattle.assembler.proofs.HadOn.{had_from, had_through, quiet_first, quiet_next}
 use Rattle.assembler.proofs.Lost.{lost_since}
 use Rattle.assembler.proofs.Stepped.{ready_on, seeds_none, step_on}
 use Rattle.assembler.proofs.TwoPasses.{ends_map, err_map}
 use Rattle.assembler.specs.Asks.{asks_below, calls_below}
-use Rattle.assembler.specs.Passes.{HadAt}
+use Rattle.assembler.specs.Passes.{HadAt, want_at}
 use Rattle.dsy_base.proofs.Counts.{rose_later}
-use Rattle.extract_plan.specs.Deal.{want_id}
+use Rattle.extract_plan.specs.Deal.{of_want, want_id}
 use Rattle.extract_plan.specs.Seeds.{held_in}
 use Rattle.assembler.proofs.assemble.settle_all.Goals as goal
+use Rattle.assembler.proofs.assemble.settle_all.Given.{Over}
+use Rattle.assembler.specs.Caches.{seen}
+use Rattle.cache_store.specs.Shelves.{Shelf, Shelved}
+
+-- what is seen of a cache
+abbrev see : (g : Over) → Option (Shelved g.row.F.Denot) → Option Shelf
+see g = seen g.F.Look.files g.F.Look.place g.F.Look.faults
 
 pub retry-requires : goal.retry-requires
 retry-requires g c = record {
   ready = ready_on g.T.View.held g.T.View.faults g.S.Store.holds g.S.Store.folder g.S.Store.place g.S.Store.said g.S.Store.faults g.V.View.held g.V.View.faults c.args.index.now c.args.plan.now c.args.places.now c.args.target.now c.args.kit.now c.args.fates.now c.fill.new.target c.fill.new.kit c.fill.new.fates
       (g.met.T.View.told c.args.target.now ∙ sym (g.met.T.View.told c.fill.new.target)) c.in-Ok.ensures.step c.requires.ready;
+  unnamed = c.requires.unnamed;
+  cache = subst (λ (k : DigestKind). IfSome (see g c.fill.new.cache) (λ s. s.kind ≡ k)) (sym c.in-Ok.ensures.step.kind)
+      (stocked_kind (TakesWants g.S.Store.holds c.args.index.now c.args.plan.now (λ w. w < c.args.plan.now.wants) c.args.kit.now.chain.stores)
+      (see g c.args.cache.now) (see g c.fill.new.cache) c.args.kit.now.chain.kind c.in-Ok.ensures.stocked c.requires.cache);
 }
 
 pub returns-in-Ok-clause-first : goal.returns-in-Ok-clause-first
@@ -27,7 +44,7 @@ returns-in-Ok-clause-first g c =
     ends_map _ _ _ _ c.retry.result
     (λ lost h. (
       lost_since g.S.Store.holds g.S.Store.folder g.S.Store.place g.S.Store.said g.S.Store.faults g.S.Store.may_lack_memory g.V.View.held g.V.View.faults c.args.index.now c.args.plan.now c.args.places.now c.args.fates.now c.fill.new.fates _ _ _
-          c.args.kit.now c.fill.new.kit c.retry.new.kit lost step.grows step.never_falls step.stores step.seeds h.0,
+          c.args.kit.now c.fill.new.kit c.retry.new.kit (see g c.args.cache.now) (see g c.fill.new.cache) (see g c.retry.new.cache) (λ w. w < c.args.plan.now.wants) lost c.in-Ok.ensures.stocked step.grows step.never_falls step.stores step.seeds h.0,
       h.1,
     ))
     (λ rose. rose_later _ _ _ step.never_falls rose) c.retry.ensures.first
@@ -44,23 +61,31 @@ returns-in-Ok-clause-left g c =
               was.0,
               was.1,
               lost_since g.S.Store.holds g.S.Store.folder g.S.Store.place g.S.Store.said g.S.Store.faults g.S.Store.may_lack_memory g.V.View.held g.V.View.faults c.args.index.now c.args.plan.now c.args.places.now c.args.fates.now c.fill.new.fates _ _ _
-                  c.args.kit.now c.fill.new.kit c.retry.new.kit was.0 step.grows step.never_falls step.stores step.seeds was.2,
+                  c.args.kit.now c.fill.new.kit c.retry.new.kit (see g c.args.cache.now) (see g c.fill.new.cache) (see g c.retry.new.cache) (λ w. w < c.args.plan.now.wants) was.0 c.in-Ok.ensures.stocked step.grows step.never_falls step.stores step.seeds was.2,
             )))
       ]
     ]) c.retry.ensures.left
 
 pub returns-in-Ok-clause-had : goal.returns-in-Ok-clause-had
-returns-in-Ok-clause-had g c = λ tells maps told quiet i inside is.
+returns-in-Ok-clause-had g c = λ tells cached maps has told quiet i inside is.
     let step = c.in-Ok.ensures.step in
     let next = c.retry.ensures.step in
     let f = map g.S.Store.faults in
     let views = map (held_in g.V.View.held) in
     let first = quiet_first (f c.args.kit.now.chain.stores) (f c.fill.new.kit.chain.stores) (f c.retry.new.kit.chain.stores) next.stores.never_fall quiet in
     let then = quiet_next (f c.args.kit.now.chain.stores) (f c.fill.new.kit.chain.stores) (f c.retry.new.kit.chain.stores) step.stores.never_fall quiet in
-    let had = c.retry.ensures.had tells maps (step.stores.held ∙ told) then i inside is in
-    had_through c.args.index.now c.args.plan.now c.args.places.now c.requires.ready.wants c.args.fates.now c.fill.new.fates (views c.args.kit.now.seeds.items) maps i inside
-    (c.in-Ok.ensures.had tells maps told first)
-    (subst (λ (v : List _). HadAt c.args.index.now c.args.plan.now c.args.places.now c.fill.new.fates v maps i) step.seeds.held had)
+    let l = c.args.index.now in
+    let d = c.args.plan.now in
+    let x = c.args.places.now in
+    let w = want_at d i in
+    let A : ℕ → Type 0 = λ w. w < d.wants in
+    let later = stocked_told (TakesWants g.S.Store.holds l d A c.args.kit.now.chain.stores) (see g c.args.cache.now) (see g c.fill.new.cache) cached c.in-Ok.ensures.stocked has in
+    let had = c.retry.ensures.had tells later.0 maps later.1 (step.stores.held ∙ told) then i inside is in
+    had_through l d x c.requires.ready.wants c.args.fates.now c.fill.new.fates (views c.args.kit.now.seeds.items) (cached ++ maps) i inside
+    (c.in-Ok.ensures.had tells cached maps has told first)
+    (had_from l d x c.requires.ready.wants g.S.Store.holds A c.args.kit.now.chain.stores (see g c.args.cache.now) (see g c.fill.new.cache) cached later.0 maps c.in-Ok.ensures.stocked has later.1 told
+    c.fill.new.fates (of_want d w) (views c.args.kit.now.seeds.items) (places_at x w) (id_of l i) (size_of l i)
+    (subst (λ (v : List _). HadAt l d x c.fill.new.fates v (later.0 ++ maps) i) step.seeds.held had))
 
 pub returns-in-Ok-clause-asks : goal.returns-in-Ok-clause-asks
 returns-in-Ok-clause-asks g c = λ spared are.
@@ -93,7 +118,7 @@ returns-in-Err-clause-asks g c = λ spared are.
     asks_up g.S.Store.asked n (n + n) q (λ id. q id + q id) c.args.kit.now.chain c.fill.new.kit.chain (omega arith) (λ id. omega arith) (c.in-Err.ensures.asks spared are)
 
 pub returns-in-Ok-clause-exactly : goal.returns-in-Ok-clause-exactly
-returns-in-Ok-clause-exactly g c = λ maps nothing.
+returns-in-Ok-clause-exactly g c = λ cached maps nothing one.
     let step = c.in-Ok.ensures.step in
     let next = c.retry.ensures.step in
     let l = c.args.index.now in
@@ -108,11 +133,27 @@ returns-in-Ok-clause-exactly g c = λ maps nothing.
     let j = c.fill.new.kit in
     let i = c.retry.new.kit in
     let views = map (held_in v.held) k.seeds.items in
-    let first = nothing_first s.holds s.faults v.faults v.tells f0 f1 f2 k.seeds.items j.seeds.items i.seeds.items k.chain.stores j.chain.stores i.chain.stores maps
-    next.never_falls next.seeds.never_fall next.stores.never_fall nothing in
-    let then = nothing_next s.holds s.faults v.faults v.tells f0 f1 f2 k.seeds.items j.seeds.items i.seeds.items k.chain.stores j.chain.stores i.chain.stores maps
-    step.never_falls step.seeds.never_fall step.stores.never_fall step.stores.held nothing in
+    let e0 = (see g c.args.cache.now) in
+    let e1 = (see g c.fill.new.cache) in
+    let e2 = (see g c.retry.new.cache) in
+    let A : ℕ → Type 0 = λ w. w < d.wants in
+    let T = TakesWants s.holds l d A k.chain.stores in
+    let stocked = c.in-Ok.ensures.stocked in
+    let later = stocked_told T e0 e1 cached stocked nothing.told_cache in
+    let first = nothing_first s.holds s.faults v.faults v.tells f0 f1 f2 k.seeds.items j.seeds.items i.seeds.items e0 e1 e2 k.chain.stores j.chain.stores i.chain.stores cached maps
+    next.never_falls next.seeds.never_fall next.stores.never_fall (stocked_falls (TakesWants s.holds l d A j.chain.stores) e1 e2 c.retry.ensures.stocked) nothing in
+    let then = nothing_next s.holds s.faults v.faults v.tells f0 f1 f2 k.seeds.items j.seeds.items i.seeds.items e0 e1 e2 k.chain.stores j.chain.stores i.chain.stores cached maps
+    step.never_falls step.seeds.never_fall step.stores.never_fall (stocked_falls T e0 e1 stocked) step.stores.held later.0 later.1 nothing in
+    let still = one_size_on s.holds l d A k.chain.stores e0 e1 cached later.0 maps stocked nothing.told_cache later.1 nothing.told one in
     unless_map _ _ c.retry.result
-    (λ again. passes_by l d x c.requires.ready.wants c.args.fates.now c.fill.new.fates c.retry.new.fates views (map (held_in v.held) j.seeds.items) maps
-    k.chain j.chain i.chain step.seeds.held (c.in-Ok.ensures.had first.telling maps first.told first.stores) (c.in-Ok.ensures.left maps first) (c.in-Ok.ensures.exactly maps first) again)
-    (c.retry.ensures.exactly maps then)
+    (λ again. passes_by l d x c.requires.ready.wants c.args.fates.now c.fill.new.fates c.retry.new.fates views (map (held_in v.held) j.seeds.items) cached later.0 maps
+    k.chain j.chain i.chain step.seeds.held (c.in-Ok.ensures.had first.telling cached maps first.told_cache first.told first.stores) (c.in-Ok.ensures.left cached maps first one)
+    (give_before s.holds l d A k.chain.stores e0 e1 cached later.0 maps stocked nothing.told_cache later.1 nothing.told c.requires.ready.wants (λ w below. below) one)
+    (c.in-Ok.ensures.exactly cached maps first one) again)
+    (c.retry.ensures.exactly later.0 maps then still)
+
+pub returns-in-Ok-clause-stocked : goal.returns-in-Ok-clause-stocked
+returns-in-Ok-clause-stocked g c =
+    let A : ℕ → Type 0 = λ w. w < c.args.plan.now.wants in
+    stocking_on g.S.Store.holds c.args.index.now c.args.plan.now A A A (λ w below. below) (λ w below. below) c.args.kit.now.chain.stores c.fill.new.kit.chain.stores
+    c.in-Ok.ensures.step.stores.held (see g c.args.cache.now) (see g c.fill.new.cache) (see g c.retry.new.cache) c.in-Ok.ensures.stocked c.retry.ensures.stocked

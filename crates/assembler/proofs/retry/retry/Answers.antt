@@ -1,9 +1,18 @@
-use Rattle.std.proofs.Common.{true≢false, Err, ◌≡◌, ◌<◌, List, [], length, set, true, false, inl, inr, sym, ap, ◌∙◌, arith}
+use Rattle.std.proofs.Common.{true≢false, Err, ◌≡◌, ℕ, ◌<◌, List, [], length, set, Bool, Option, IfSome, true, false, inl, inr, sym, ap, ◌∙◌, subst, arith}
+use Rattle.std.proofs.lemmas.List.{length-set}
+use Rattle.std.proofs.lemmas.Option.{MatchOption-at_some}
+use Rattle.assembler.proofs.Cached.{stocked_kind, stocked_none}
+use Rattle.assembler.proofs.Stocking.{stocking_on, stocking_wider}
+use Rattle.assembler.specs.Caches.{Stocked, TakesWants}
+use Rattle.assembler.specs.Passes.{IsLost}
+use Rattle.cache_store.specs.Shelves.{Shelf}
+use Rattle.chunk_store.specs.declared.id.DigestKind.{DigestKind}
+use Rattle.range_survey.specs.Fates.{settled}
 use Rattle.assembler.proofs.EconomyPaid.{paid_all, paid_more, paid_none}
-use Rattle.assembler.proofs.EconomyRetried.{memory_lost, memory_ok, tried_all, tried_as, tried_now, unless_any}
-use Rattle.assembler.proofs.Retried.{LostBy, WantsTried, newly_lost, still_lost, tried_more, tried_none, where_lost, where_torn}
+use Rattle.assembler.proofs.EconomyRetried.{memory_lost, memory_ok, tried_all, tried_as, tried_now, tried_within, unless_any}
+use Rattle.assembler.proofs.Retried.{LostTried, WantsTried, newly_lost, still_lost, tried_more, tried_none, where_lost, where_torn}
 use Rattle.assembler.proofs.Stepped.{ready_on}
-use Rattle.assembler.proofs.Tried.{first_later, is_tried, lost_here, lost_of, tried_is, tries_lost, tries_none, tries_passed, tries_settled, untried as untried_at}
+use Rattle.assembler.proofs.Tried.{IsFirst, SettledBelow, first_later, is_tried, lost_here, lost_of, tried_is, tries_lost, tries_none, tries_passed, tries_settled, untried as untried_at}
 use Rattle.assembler.proofs.TriedAsks.{asks_at_end}
 use Rattle.assembler.specs.Losses.{IsFirstOpen}
 use Rattle.assembler.specs.Passes.{PassAsks}
@@ -18,11 +27,17 @@ use Rattle.range_survey.specs.declared.fate.Fate.{Fate}
 use Rattle.assembler.proofs.retry.retry.Given.{Over}
 use Rattle.assembler.proofs.retry.retry.Goals as goal
 use Rattle.assembler.proofs.retry.retry.Goals.{After-settle, In-Err-TargetFault, in-Some, in-None, in-Ok-settle, in-Err-Lost+else-eq, then-is_settled-via-then-is_settled, then-is_settled-via-else-is_settled+then-index}
+use Rattle.assembler.specs.Caches.{seen}
+use Rattle.cache_store.specs.Shelves.{Shelf, Shelved}
+
+-- what is seen of a cache
+abbrev see : (g : Over) → Option (Shelved g.row.F.Denot) → Option Shelf
+see g = seen g.F.Look.files g.F.Look.place g.F.Look.faults
 
 -- which entries are lost from one target and kit to the next
-abbrev LostTo : (g : Over) → Listing → Deal → Placed → g.row.T.Denot → Kit g.row.S.Denot g.row.V.Denot → List Fate → g.row.T.Denot
-    → Kit g.row.S.Denot g.row.V.Denot → Lost → Type 0
-LostTo g = LostBy g.T.View.held g.T.View.faults g.S.Store.holds g.S.Store.folder g.S.Store.place g.S.Store.said g.S.Store.faults g.S.Store.asked
+abbrev LostTo : (g : Over) → Listing → Deal → Placed → List Bool → g.row.T.Denot → Kit g.row.S.Denot g.row.V.Denot → List Fate → g.row.T.Denot
+    → Kit g.row.S.Denot g.row.V.Denot → Option Shelf → Option Shelf → Lost → Type 0
+LostTo g = LostTried g.T.View.held g.T.View.faults g.S.Store.holds g.S.Store.folder g.S.Store.place g.S.Store.said g.S.Store.faults g.S.Store.asked
     g.S.Store.queried g.S.Store.may_lack_memory g.V.View.held g.V.View.faults g.V.View.tells
 
 -- no memory for the list
@@ -32,7 +47,7 @@ returns-in_default-clause-had g c =
     let s = g.S.Store in
     let v = g.V.View in
     (tried_none t.held t.faults s.holds s.folder s.place s.said s.faults s.asked s.queried s.may_lack_memory v.held v.faults v.tells
-    c.args.index.now c.args.plan.now c.args.places.now [] c.args.target.now c.args.kit.now c.args.fates.now c.requires.ready.wants).had
+    c.args.index.now c.args.plan.now c.args.places.now [] c.args.target.now c.args.kit.now c.args.fates.now (see g c.args.cache.now) c.requires.ready.wants).had
 
 pub returns-in_default-clause-step : goal.returns-in_default-clause-step
 returns-in_default-clause-step g c =
@@ -40,7 +55,7 @@ returns-in_default-clause-step g c =
     let s = g.S.Store in
     let v = g.V.View in
     (tried_none t.held t.faults s.holds s.folder s.place s.said s.faults s.asked s.queried s.may_lack_memory v.held v.faults v.tells
-    c.args.index.now c.args.plan.now c.args.places.now [] c.args.target.now c.args.kit.now c.args.fates.now c.requires.ready.wants).step
+    c.args.index.now c.args.plan.now c.args.places.now [] c.args.target.now c.args.kit.now c.args.fates.now (see g c.args.cache.now) c.requires.ready.wants).step
 
 pub loop-entry-init : goal.loop-entry-init
 loop-entry-init g c =
@@ -49,12 +64,13 @@ loop-entry-init g c =
     let v = g.V.View in
     record {
       passed = tried_none t.held t.faults s.holds s.folder s.place s.said s.faults s.asked s.queried s.may_lack_memory v.held v.faults v.tells
-          c.args.index.now c.args.plan.now c.args.places.now c.in-Ok.tried.items c.args.target.now c.args.kit.now c.args.fates.now c.requires.ready.wants;
-      tries = tries_none c.args.plan.now (LostTo g c.args.index.now c.args.plan.now c.args.places.now c.args.target.now c.args.kit.now c.args.fates.now c.args.target.now c.args.kit.now)
+          c.args.index.now c.args.plan.now c.args.places.now c.in-Ok.tried.items c.args.target.now c.args.kit.now c.args.fates.now (see g c.args.cache.now) c.requires.ready.wants;
+      tries = tries_none c.args.plan.now (LostTo g c.args.index.now c.args.plan.now c.args.places.now c.in-Ok.tried.items c.args.target.now c.args.kit.now c.args.fates.now c.args.target.now c.args.kit.now (see g c.args.cache.now) (see g c.args.cache.now))
           c.args.fates.now c.in-Ok.tried.items c.wants.result (c.in-Ok.ensures.items_if_clones_equal (λ y e. e)) c.wants.ensures;
       paid = paid_none t.held t.faults s.holds s.folder s.place s.said s.faults s.may_lack_memory v.held v.faults v.tells
-          c.args.index.now c.args.plan.now c.args.places.now (is_tried c.in-Ok.tried.items) c.args.target.now c.args.kit.now c.args.fates.now
+          c.args.index.now c.args.plan.now c.args.places.now (is_tried c.in-Ok.tried.items) c.args.target.now c.args.kit.now c.args.fates.now (see g c.args.cache.now)
           (λ w. ap (λ xs. is_tried xs w) (c.in-Ok.ensures.items_if_clones_equal (λ y e. e)) ∙ untried_at c.wants.result w) c.asks.ensures.below;
+      stocked = stocked_none (TakesWants s.holds c.args.index.now c.args.plan.now (λ w. is_tried c.in-Ok.tried.items w ≡ true) c.args.kit.now.chain.stores) (see g c.args.cache.now);
     }
 
 -- an entry that is settled, or whose want was tried
@@ -66,7 +82,7 @@ loop-entry-preserved-then-is_settled g c =
     let below : c.want_of-want.result < c.args.plan.now.wants = omega (arith, listed.within c.loop-entry.entry (omega (arith, inside, listed.size)), c.want_of-want.ensures) in
     record {
       passed = c.loop-entry.invariant.passed;
-      tries = tries_passed c.args.plan.now (LostTo g c.args.index.now c.args.plan.now c.args.places.now c.args.target.now c.args.kit.now c.args.fates.now c.loop-entry.target c.loop-entry.kit)
+      tries = tries_passed c.args.plan.now (LostTo g c.args.index.now c.args.plan.now c.args.places.now tried c.args.target.now c.args.kit.now c.args.fates.now c.loop-entry.target c.loop-entry.kit (see g c.args.cache.now) (see g c.loop-entry.cache))
           c.loop-entry.fates tried c.loop-entry.entry inside c.loop-entry.first
           (elim c.then-is_settled.branch [
             | then-is_settled-via-then-is_settled w ↦ inl (sym c.is_settled.ensures ∙ w.if-is_settled.true)
@@ -75,6 +91,7 @@ loop-entry-preserved-then-is_settled g c =
           ])
           c.loop-entry.invariant.tries;
       paid = c.loop-entry.invariant.paid;
+      stocked = c.loop-entry.invariant.stocked;
     }
 
 pub settle-requires-clause-ready : goal.settle-requires-clause-ready
@@ -105,7 +122,7 @@ untried g c =
 more : (g : Over) (c : After-settle g) → WantsTried g.T.View.held g.T.View.faults g.S.Store.holds g.S.Store.folder g.S.Store.place g.S.Store.said g.S.Store.faults g.S.Store.asked
     g.S.Store.queried g.S.Store.may_lack_memory g.V.View.held g.V.View.faults g.V.View.tells
     c.args.index.now c.args.plan.now c.args.places.now (set c.loop-entry.tried.items c.want_of-want.result true)
-    c.args.target.now c.args.kit.now c.args.fates.now c.settle.new.target c.settle.new.kit c.settle.new.fates
+    c.args.target.now c.args.kit.now c.args.fates.now c.settle.new.target c.settle.new.kit c.settle.new.fates (see g c.args.cache.now)
 more g c =
     let told = g.met.T.View.told in
     let ens = c.settle.ensures in
@@ -114,10 +131,10 @@ more g c =
     let v = g.V.View in
     tried_more t.held t.faults s.holds s.folder s.place s.said s.faults s.asked s.queried s.may_lack_memory v.held v.faults v.tells
     c.args.index.now c.args.plan.now c.args.places.now c.args.target.now c.args.kit.now c.args.fates.now
-    c.loop-entry.target c.loop-entry.kit c.loop-entry.fates c.settle.new.target c.settle.new.kit c.settle.new.fates
-    c.loop-entry.tried.items c.want_of-want.result c.requires.ready.wants (below g c) c.loop-entry.invariant.tries.size (untried g c)
+    c.loop-entry.target c.loop-entry.kit c.loop-entry.fates c.settle.new.target c.settle.new.kit c.settle.new.fates (see g c.args.cache.now) (see g c.loop-entry.cache) (see g c.settle.new.cache)
+    c.loop-entry.tried.items c.want_of-want.result (λ w. is_tried c.loop-entry.tried.items w ≡ true) c.loop-entry.invariant.stocked c.requires.ready.wants (below g c) c.loop-entry.invariant.tries.size (untried g c)
     (told c.args.target.now ∙ sym (told c.loop-entry.target)) (told c.loop-entry.target ∙ sym (told c.settle.new.target))
-    c.loop-entry.invariant.passed (record { only = ens.only; had = ens.had; asks = ens.asks; step = ens.step })
+    c.loop-entry.invariant.passed (record { only = ens.only; had = ens.had; asks = ens.asks; step = ens.step; stocked = ens.stocked })
 
 asks : (g : Over) (c : After-settle g) → PassAsks g.S.Store.asked g.V.View.held g.V.View.faults c.args.index.now c.args.plan.now c.args.places.now
     c.args.fates.now (g.T.View.faults c.args.target.now) (g.T.View.faults c.settle.new.target) c.args.kit.now c.settle.new.kit
@@ -127,10 +144,12 @@ asks g c =
 
 -- what was lost before the call, and what is lost after it
 abbrev Before : (g : Over) → After-settle g → Lost → Type 0
-Before g c = LostTo g c.args.index.now c.args.plan.now c.args.places.now c.args.target.now c.args.kit.now c.args.fates.now c.loop-entry.target c.loop-entry.kit
+Before g c = LostTo g c.args.index.now c.args.plan.now c.args.places.now c.loop-entry.tried.items c.args.target.now c.args.kit.now c.args.fates.now
+    c.loop-entry.target c.loop-entry.kit (see g c.args.cache.now) (see g c.loop-entry.cache)
 
 abbrev After : (g : Over) → After-settle g → Lost → Type 0
-After g c = LostTo g c.args.index.now c.args.plan.now c.args.places.now c.args.target.now c.args.kit.now c.args.fates.now c.settle.new.target c.settle.new.kit
+After g c = LostTo g c.args.index.now c.args.plan.now c.args.places.now (set c.loop-entry.tried.items c.want_of-want.result true) c.args.target.now c.args.kit.now
+    c.args.fates.now c.settle.new.target c.settle.new.kit (see g c.args.cache.now) (see g c.settle.new.cache)
 
 still : (g : Over) (c : After-settle g) → (x : Lost) → Before g c x → After g c x
 still g c =
@@ -139,7 +158,65 @@ still g c =
     let v = g.V.View in
     still_lost t.held t.faults s.holds s.folder s.place s.said s.faults s.asked s.queried s.may_lack_memory v.held v.faults v.tells
     c.args.index.now c.args.plan.now c.args.places.now c.args.target.now c.args.kit.now c.args.fates.now
-    c.loop-entry.target c.loop-entry.kit c.loop-entry.fates c.settle.new.target c.settle.new.kit c.settle.new.fates c.settle.ensures.step
+    c.loop-entry.target c.loop-entry.kit c.loop-entry.fates c.settle.new.target c.settle.new.kit c.settle.new.fates (see g c.args.cache.now) (see g c.loop-entry.cache) (see g c.settle.new.cache)
+    c.loop-entry.tried.items c.want_of-want.result c.requires.ready.wants (below g c) (untried g c) c.settle.ensures.stocked c.settle.ensures.step
+
+-- a lost entry before which all are settled, whatever was tried
+without_tried : (g : Over) (c : After-settle g) (x : Lost) → IsFirst (After g c) c.settle.new.fates x
+    → IsLost g.S.Store.holds g.S.Store.folder g.S.Store.place g.S.Store.said g.S.Store.faults g.S.Store.may_lack_memory g.V.View.held g.V.View.faults
+    c.args.index.now c.args.plan.now c.args.places.now c.args.fates.now (g.T.View.faults c.args.target.now) (g.T.View.faults c.settle.new.target) c.args.kit.now c.settle.new.kit
+    (see g c.args.cache.now) (see g c.settle.new.cache) x × ((i : ℕ) → i < x.entry → settled c.settle.new.fates i ≡ true)
+without_tried g c x is = (is.0.0, is.1)
+
+-- one want more is in the cache
+stock : (g : Over) (c : After-settle g) → Stocked (TakesWants g.S.Store.holds c.args.index.now c.args.plan.now
+    (λ w. is_tried (set c.loop-entry.tried.items c.want_of-want.result true) w ≡ true) c.args.kit.now.chain.stores) (see g c.args.cache.now) (see g c.settle.new.cache)
+stock g c =
+    let tried = c.loop-entry.tried.items in
+    let w = c.want_of-want.result in
+    let size = c.loop-entry.invariant.tries.size in
+    stocking_on g.S.Store.holds c.args.index.now c.args.plan.now (λ v. is_tried tried v ≡ true) (λ v. v ≡ w) (λ v. is_tried (set tried w true) v ≡ true)
+    (λ v is. tried_as tried w v (λ same. true≢false (sym is ∙ ap (is_tried tried) same ∙ untried g c)) ∙ is)
+    (λ v same. ap (is_tried (set tried w true)) same ∙ tried_now tried w c.args.plan.now.wants size (below g c))
+    c.args.kit.now.chain.stores c.loop-entry.kit.chain.stores c.loop-entry.invariant.passed.step.stores.held
+    (see g c.args.cache.now) (see g c.loop-entry.cache) (see g c.settle.new.cache) c.loop-entry.invariant.stocked c.settle.ensures.stocked
+
+-- all that was tried are wants
+stock_all : (g : Over) (c : After-settle g) → Stocked (TakesWants g.S.Store.holds c.args.index.now c.args.plan.now (λ w. w < c.args.plan.now.wants)
+    c.args.kit.now.chain.stores) (see g c.args.cache.now) (see g c.settle.new.cache)
+stock_all g c =
+    let tried = set c.loop-entry.tried.items c.want_of-want.result true in
+    stocking_wider g.S.Store.holds c.args.index.now c.args.plan.now (λ w. is_tried tried w ≡ true) (λ w. w < c.args.plan.now.wants)
+    (λ w is. tried_within tried w c.args.plan.now.wants (length-set c.loop-entry.tried.items c.want_of-want.result true ∙ c.loop-entry.invariant.tries.size) is)
+    c.args.kit.now.chain.stores (see g c.args.cache.now) (see g c.settle.new.cache) (stock g c)
+
+pub settle-requires-clause-cache : goal.settle-requires-clause-cache
+settle-requires-clause-cache g c =
+    subst (λ (k : DigestKind). IfSome (see g c.loop-entry.cache) (λ s. s.kind ≡ k)) (sym c.loop-entry.invariant.passed.step.kind)
+    (stocked_kind (TakesWants g.S.Store.holds c.args.index.now c.args.plan.now (λ w. is_tried c.loop-entry.tried.items w ≡ true) c.args.kit.now.chain.stores)
+    (see g c.args.cache.now) (see g c.loop-entry.cache) c.args.kit.now.chain.kind c.loop-entry.invariant.stocked c.requires.cache)
+
+pub returns-in_default-clause-stocked : goal.returns-in_default-clause-stocked
+returns-in_default-clause-stocked g c =
+    stocked_none (TakesWants g.S.Store.holds c.args.index.now c.args.plan.now (λ w. w < c.args.plan.now.wants) c.args.kit.now.chain.stores) (see g c.args.cache.now)
+
+pub returns-then-eq-clause-stocked : goal.returns-then-eq-clause-stocked
+returns-then-eq-clause-stocked g c = stock_all g (goal.at.returns-then-eq-clause-stocked g c).After-settle
+
+pub returns-in-Err-TargetFault-clause-stocked : goal.returns-in-Err-TargetFault-clause-stocked
+returns-in-Err-TargetFault-clause-stocked g c = stock_all g (goal.at.returns-in-Err-TargetFault-clause-stocked g c).After-settle
+
+pub returns-in-Some-first-clause-stocked : goal.returns-in-Some-first-clause-stocked
+returns-in-Some-first-clause-stocked g c =
+    stocking_wider g.S.Store.holds c.args.index.now c.args.plan.now (λ w. is_tried c.loop-entry.tried.items w ≡ true) (λ w. w < c.args.plan.now.wants)
+    (λ w is. tried_within c.loop-entry.tried.items w c.args.plan.now.wants c.loop-entry.invariant.tries.size is)
+    c.args.kit.now.chain.stores (see g c.args.cache.now) (see g c.loop-entry.cache) c.loop-entry.invariant.stocked
+
+pub returns-clause-stocked : goal.returns-clause-stocked
+returns-clause-stocked g c =
+    stocking_wider g.S.Store.holds c.args.index.now c.args.plan.now (λ w. is_tried c.loop-entry.tried.items w ≡ true) (λ w. w < c.args.plan.now.wants)
+    (λ w is. tried_within c.loop-entry.tried.items w c.args.plan.now.wants c.loop-entry.invariant.tries.size is)
+    c.args.kit.now.chain.stores (see g c.args.cache.now) (see g c.loop-entry.cache) c.loop-entry.invariant.stocked
 
 -- the stores had no memory
 pub returns-then-eq-clause-had : goal.returns-then-eq-clause-had
@@ -168,8 +245,8 @@ returns-in-Err-TargetFault-clause-first g c =
       | in-Some w ↦ inl (
         w.in-Some.lost,
         w.result-is ∙ w.fault.ensures,
-        first_later c.args.plan.now (Before g called) (After g called) (still g called) c.loop-entry.fates c.settle.new.fates c.settle.ensures.step.grows
-            c.loop-entry.tried.items c.loop-entry.first c.loop-entry.entry w.in-Some.lost w.in-Some.is c.loop-entry.invariant.tries,
+        without_tried g called w.in-Some.lost (first_later c.args.plan.now (Before g called) (After g called) (still g called) c.loop-entry.fates c.settle.new.fates c.settle.ensures.step.grows
+            c.loop-entry.tried.items c.loop-entry.first c.loop-entry.entry w.in-Some.lost w.in-Some.is c.loop-entry.invariant.tries),
       )
       | in-None w ↦ inr (inl (w.result-is, torn g at.In-Err-TargetFault))
     ]
@@ -218,14 +295,16 @@ loop-entry-preserved g c =
             (sym c.is_settled.ensures ∙ c.if-is_settled.false) (untried g called) is_first)
             (newly_lost t.held t.faults s.holds s.folder s.place s.said s.faults s.asked s.queried s.may_lack_memory v.held v.faults v.tells
             c.args.index.now c.args.plan.now c.args.places.now c.args.target.now c.args.kit.now c.args.fates.now c.loop-entry.target c.loop-entry.kit c.loop-entry.fates
-            c.settle.new.target c.settle.new.kit c.settle.new.fates w lost.lost c.settle.result lost.field-0 lost.is lost.field-0-is
-            c.requires.ready.wants (below g called) inv.passed.step is_first ens.refused ens.asked (λ same. let equal : e.eq.result ≡ true = rw same at e.eq.ensures in true≢false (sym equal ∙ e.if-eq.false)))
+            c.settle.new.target c.settle.new.kit c.settle.new.fates (see g c.args.cache.now) (see g c.loop-entry.cache) (see g c.settle.new.cache)
+            tried (λ v. is_tried tried v ≡ true) inv.tries.size inv.stocked w lost.lost c.settle.result lost.field-0 lost.is lost.field-0-is
+            c.requires.ready.wants (below g called) inv.passed.step is_first ens.refused ens.missed ens.asked (λ same. let equal : e.eq.result ≡ true = rw same at e.eq.ensures in true≢false (sym equal ∙ e.if-eq.false)))
             inv.tries)
       ];
       paid = paid_more t.held t.faults s.holds s.folder s.place s.said s.faults s.may_lack_memory v.held v.faults v.tells
           c.args.index.now d c.args.places.now c.args.target.now c.args.kit.now c.args.fates.now c.loop-entry.target c.loop-entry.kit m0
-          c.settle.new.target c.settle.new.kit m1 inv.passed.step ens.step c.requires.ready.wants w ens.only (is_tried tried) (is_tried (set tried w true))
-          (below g called) (untried g called) (tried_now tried w d.wants inv.tries.size (below g called)) (tried_as tried w) inv.paid c.settle.result
+          c.settle.new.target c.settle.new.kit m1 (see g c.args.cache.now) (see g c.loop-entry.cache) (see g c.settle.new.cache) inv.passed.step ens.step c.requires.ready.wants w ens.only (is_tried tried) (is_tried (set tried w true))
+          (below g called) (untried g called) (tried_now tried w d.wants inv.tries.size (below g called)) (tried_as tried w)
+          (λ v is. tried_within tried v d.wants inv.tries.size is) inv.stocked ens.stocked inv.paid c.settle.result
           (elim c.match-settle.branch [
             | in-Ok-settle e ↦ memory_ok c.settle.result e.in-Ok-settle.field-0 e.in-Ok-settle.is
             | in-Err-Lost+else-eq e ↦
@@ -234,14 +313,25 @@ loop-entry-preserved g c =
                 (λ same. let equal : e.eq.result ≡ true = rw same at e.eq.ensures in true≢false (sym equal ∙ e.if-eq.false))
           ])
           ens.ok ens.exactly;
+      stocked = stock g called;
     }
 
 -- at the end
 pub returns-in-Some-first-clause-left : goal.returns-in-Some-first-clause-left
 returns-in-Some-first-clause-left g c = inr (inr (λ i inside isnt.
-    lost_of c.args.plan.now (LostTo g c.args.index.now c.args.plan.now c.args.places.now c.args.target.now c.args.kit.now c.args.fates.now c.loop-entry.target c.loop-entry.kit)
+    let lost = lost_of c.args.plan.now (LostTo g c.args.index.now c.args.plan.now c.args.places.now c.loop-entry.tried.items c.args.target.now c.args.kit.now c.args.fates.now
+    c.loop-entry.target c.loop-entry.kit (see g c.args.cache.now) (see g c.loop-entry.cache))
     c.loop-entry.fates c.loop-entry.tried.items c.loop-entry.first c.loop-entry.entry c.loop-entry.invariant.tries i
-    (omega (arith, inside, c.loop-entry-test.false, c.count-entry-end.ensures)) (omega (arith, inside, c.requires.ready.wants.size)) isnt))
+    (omega (arith, inside, c.loop-entry-test.false, c.count-entry-end.ensures)) (omega (arith, inside, c.requires.ready.wants.size)) isnt in
+    (lost.0, lost.1, lost.2.0)))
+
+pub returns-in-Some-first-clause-first : goal.returns-in-Some-first-clause-first
+returns-in-Some-first-clause-first g c =
+    let lost = c.in-Some-first.lost in
+    let was = MatchOption-at_some (SettledBelow c.loop-entry.fates c.loop-entry.entry) (IsFirst (LostTo g c.args.index.now c.args.plan.now c.args.places.now c.loop-entry.tried.items
+    c.args.target.now c.args.kit.now c.args.fates.now c.loop-entry.target c.loop-entry.kit (see g c.args.cache.now) (see g c.loop-entry.cache)) c.loop-entry.fates) lost c.in-Some-first.is
+    c.loop-entry.invariant.tries.first in
+    inl (lost, c.fault-in-Some-first.ensures, (was.0.0, was.1))
 
 pub returns-in-Some-first-clause-asks : goal.returns-in-Some-first-clause-asks
 returns-in-Some-first-clause-asks g c =
@@ -258,13 +348,13 @@ returns-in-Some-first-clause-exactly g c =
     let t = g.T.View in
     let s = g.S.Store in
     let v = g.V.View in
-    λ maps nothing. unless_any {A = Unit {0}} _ (Err c.fault-in-Some-first.result)
+    λ cached maps nothing one. unless_any {A = Unit {0}} _ (Err c.fault-in-Some-first.result)
     (paid_all t.held t.faults s.holds s.folder s.place s.said s.faults s.may_lack_memory v.held v.faults v.tells
     c.args.index.now c.args.plan.now c.args.places.now (is_tried c.loop-entry.tried.items) c.args.target.now c.args.kit.now c.args.fates.now
-    c.loop-entry.target c.loop-entry.kit c.loop-entry.fates
+    c.loop-entry.target c.loop-entry.kit c.loop-entry.fates (see g c.args.cache.now) (see g c.loop-entry.cache)
     (λ w. tried_all c.args.index.now c.args.plan.now c.args.fates.now c.loop-entry.fates c.loop-entry.tried.items c.loop-entry.entry w c.requires.ready.wants
     (omega (arith, c.loop-entry-test.false, c.count-entry-end.ensures)) c.loop-entry.invariant.tries.cover c.loop-entry.invariant.paid.untouched)
-    c.loop-entry.invariant.paid maps nothing)
+    c.loop-entry.invariant.paid cached maps nothing one)
 
 pub returns-clause-exactly : goal.returns-clause-exactly
 returns-clause-exactly g c =
@@ -273,7 +363,7 @@ returns-clause-exactly g c =
     let v = g.V.View in
     paid_all t.held t.faults s.holds s.folder s.place s.said s.faults s.may_lack_memory v.held v.faults v.tells
     c.args.index.now c.args.plan.now c.args.places.now (is_tried c.loop-entry.tried.items) c.args.target.now c.args.kit.now c.args.fates.now
-    c.loop-entry.target c.loop-entry.kit c.loop-entry.fates
+    c.loop-entry.target c.loop-entry.kit c.loop-entry.fates (see g c.args.cache.now) (see g c.loop-entry.cache)
     (λ w. tried_all c.args.index.now c.args.plan.now c.args.fates.now c.loop-entry.fates c.loop-entry.tried.items c.loop-entry.entry w c.requires.ready.wants
     (omega (arith, c.loop-entry-test.false, c.count-entry-end.ensures)) c.loop-entry.invariant.tries.cover c.loop-entry.invariant.paid.untouched)
     c.loop-entry.invariant.paid

@@ -1,7 +1,7 @@
-use Rattle.std.proofs.Common.{◌≡◌, ◌∙◌, ℕ, length, map, Ok, ap, subst, arith}
+use Rattle.std.proofs.Common.{◌≡◌, ◌∙◌, ◌++◌, ℕ, length, map, Option, Ok, Err, inl, inr, ⊎_elim, ap, subst, arith}
 use Rattle.assembler.proofs.EconomyQuiet.{nothing_first}
-use Rattle.assembler.proofs.Filled.{told_since}
-use Rattle.assembler.proofs.Origins.{settles_got}
+use Rattle.assembler.proofs.Filled.{rose_still, told_since}
+use Rattle.assembler.proofs.Origins.{settles_got, settles_lost}
 use Rattle.assembler.specs.Economy.{ObtainedBy, source_among}
 use Rattle.assembler.specs.Losses.{Had}
 use Rattle.caibx_codec.specs.Listing.{kind_of, size_of, count_of}
@@ -10,33 +10,41 @@ use Rattle.dsy_base.specs.Bytes.{Held}
 use Rattle.range_survey.specs.Fates.{settled}
 use Rattle.range_survey.specs.declared.fate.Fate.{Fate}
 use Rattle.assembler.proofs.settle.settle_open.Goals as goal
+use Rattle.assembler.proofs.settle.settle_open.Given.{Over}
+use Rattle.assembler.specs.Caches.{seen}
+use Rattle.cache_store.specs.Shelves.{Shelf, Shelved}
+
+-- what is seen of a cache
+abbrev see : (g : Over) → Option (Shelved g.row.F.Denot) → Option Shelf
+see g = seen g.F.Look.files g.F.Look.place g.F.Look.faults
 
 pub returns-in-Ok-put-clause-had : goal.returns-in-Ok-put-clause-had
-returns-in-Ok-put-clause-had g c = λ tells maps told quiet i was now.
+returns-in-Ok-put-clause-had g c = λ tells cached maps has told quiet i was now.
     let sought = c.args.sought.now in
-    let Q : ℕ → Type 0 = λ n. Had c.args.fates.now sought.entries.now (map (held_in g.V.View.held) c.args.seeds.now) sought.places.now (kind_of c.args.index.now) sought.id.0 n maps in
+    let Q : ℕ → Type 0 = λ n. Had c.args.fates.now sought.entries.now (map (held_in g.V.View.held) c.args.seeds.now) sought.places.now (kind_of c.args.index.now) sought.id.0 n (cached ++ maps) in
     let whole : length c.split_at_mut-chunk.result.0.now ≡ size_of c.args.index.now c.args.entry = c.split_at_mut-chunk.ensures.front_len ∙ c.entry.ensures.size in
-    subst Q whole (c.in-Ok.ensures.had tells maps told quiet)
+    subst Q whole (c.in-Ok.ensures.had tells cached maps has told quiet)
 
 pub returns-in-Err-put-clause-had : goal.returns-in-Err-put-clause-had
-returns-in-Err-put-clause-had g c = λ tells maps told quiet i was now.
+returns-in-Err-put-clause-had g c = λ tells cached maps has told quiet i was now.
     let sought = c.args.sought.now in
-    let Q : ℕ → Type 0 = λ n. Had c.args.fates.now sought.entries.now (map (held_in g.V.View.held) c.args.seeds.now) sought.places.now (kind_of c.args.index.now) sought.id.0 n maps in
+    let Q : ℕ → Type 0 = λ n. Had c.args.fates.now sought.entries.now (map (held_in g.V.View.held) c.args.seeds.now) sought.places.now (kind_of c.args.index.now) sought.id.0 n (cached ++ maps) in
     let whole : length c.split_at_mut-chunk.result.0.now ≡ size_of c.args.index.now c.args.entry = c.split_at_mut-chunk.ensures.front_len ∙ c.entry.ensures.size in
-    subst Q whole (c.in-Ok.ensures.had tells maps told quiet)
+    subst Q whole (c.in-Ok.ensures.had tells cached maps has told quiet)
 
 pub returns-in-Ok-put-clause-exactly : goal.returns-in-Ok-put-clause-exactly
-returns-in-Ok-put-clause-exactly g c = λ maps quiet.
+returns-in-Ok-put-clause-exactly g c = λ cached maps quiet.
     let q = c.args.sought.now in
     let m = c.args.fates.now in
     let faults = g.T.View.faults in
-    let from : ℕ → Fate = λ n. source_among (settled m) q.entries.now (map (held_in g.V.View.held) c.args.seeds.now) q.places.now (kind_of c.args.index.now) q.id.0 n maps in
+    let from : ℕ → Fate = λ n. source_among (settled m) q.entries.now (map (held_in g.V.View.held) c.args.seeds.now) q.places.now (kind_of c.args.index.now) q.id.0 n cached maps in
     let size : ℕ = size_of c.args.index.now c.args.entry in
     let whole : length c.split_at_mut-chunk.result.0.now ≡ size = c.split_at_mut-chunk.ensures.front_len ∙ c.entry.ensures.size in
     let sooner = nothing_first g.S.Store.holds g.S.Store.faults g.V.View.faults g.V.View.tells (faults c.args.target.now) (faults c.obtain.new.target) (faults c.put.new.target)
-    c.args.seeds.now c.obtain.new.seeds c.obtain.new.seeds c.args.chain.now.stores c.obtain.new.chain.stores c.obtain.new.chain.stores maps c.in-Ok-put.ensures.faults
-    (λ k. omega arith) (λ k. omega arith) quiet in
-    let got = subst (λ (n : ℕ). ObtainedBy (from n) c.args.chain.now c.obtain.new.chain (Ok c.in-Ok.origin)) whole (c.in-Ok.ensures.exactly maps sooner) in
+    c.args.seeds.now c.obtain.new.seeds c.obtain.new.seeds (see g c.args.cache.now) (see g c.obtain.new.cache) (see g c.obtain.new.cache)
+    c.args.chain.now.stores c.obtain.new.chain.stores c.obtain.new.chain.stores cached maps c.in-Ok-put.ensures.faults
+    (λ k. omega arith) (λ k. omega arith) (omega arith) quiet in
+    let got = subst (λ (n : ℕ). ObtainedBy (from n) c.args.chain.now c.obtain.new.chain (Ok c.in-Ok.origin)) whole (c.in-Ok.ensures.exactly cached maps sooner) in
     settles_got (from size) (count_of c.args.index.now) m c.put.new.fates c.args.chain.now c.obtain.new.chain c.in-Ok.origin got
     (c.in-Ok-put.ensures.tallied c.args.entry c.requires.among c.requires.is_open)
 
@@ -47,3 +55,24 @@ returns-in-Ok-put-clause-bytes g c =
     told_since c.args.index.now c.args.fates.now c.put.new.fates (faults c.args.target.now) (faults c.obtain.new.target) (faults c.put.new.target)
     (held c.args.target.now).bytes (held c.obtain.new.target).bytes (held c.put.new.target).bytes (ap (λ (h : Held). h.bytes) c.in-Ok.ensures.kept)
     c.in-Ok.ensures.faults c.in-Ok-put.ensures.faults c.in-Ok-put.ensures.bytes
+
+pub returns-in-Ok-put-clause-asks : goal.returns-in-Ok-put-clause-asks
+returns-in-Ok-put-clause-asks g c =
+    let faults = g.T.View.faults in
+    ⊎_elim (λ same. inl same)
+    (λ last. inr (record {
+      once = last.once;
+      copies = λ i among is. rose_still (faults c.args.target.now) (faults c.obtain.new.target) (faults c.put.new.target) c.in-Ok-put.ensures.faults (last.copies i among is);
+      seeds = last.seeds;
+    }))
+    c.in-Ok.ensures.asks
+
+pub returns-in-Err-clause-exactly : goal.returns-in-Err-clause-exactly
+returns-in-Err-clause-exactly g c = λ cached maps quiet.
+    let q = c.args.sought.now in
+    let m = c.args.fates.now in
+    let from : ℕ → Fate = λ n. source_among (settled m) q.entries.now (map (held_in g.V.View.held) c.args.seeds.now) q.places.now (kind_of c.args.index.now) q.id.0 n cached maps in
+    let size : ℕ = size_of c.args.index.now c.args.entry in
+    let whole : length c.split_at_mut-chunk.result.0.now ≡ size = c.split_at_mut-chunk.ensures.front_len ∙ c.entry.ensures.size in
+    let got = subst (λ (n : ℕ). ObtainedBy (from n) c.args.chain.now c.obtain.new.chain (Err c.in-Err.refused)) whole (c.in-Err.ensures.exactly cached maps quiet) in
+    settles_lost (from size) (count_of c.args.index.now) m c.args.chain.now c.obtain.new.chain (record { entry = c.args.entry; id = q.id; refused = c.in-Err.refused }) got

@@ -11,6 +11,9 @@ overflow_add-report-in-Copied c = omega (arith, c.loop-i.invariant.copied, sum_o
 pub overflow_add-report-in-Seeded : goal.overflow_add-report-in-Seeded
 overflow_add-report-in-Seeded c = omega (arith, c.loop-i.invariant.seeded, sum_of c.args.fates.now c.loop-i.i, c.loop-i-test.true)
 
+pub overflow_add-report-in-Cached : goal.overflow_add-report-in-Cached
+overflow_add-report-in-Cached c = omega (arith, c.loop-i.invariant.cached, sum_of c.args.fates.now c.loop-i.i, c.loop-i-test.true)
+
 pub overflow_add-report-in-Fetched : goal.overflow_add-report-in-Fetched
 overflow_add-report-in-Fetched c = omega (arith, c.loop-i.invariant.fetched, sum_of c.args.fates.now c.loop-i.i, c.loop-i-test.true)
 

@@ -8,6 +8,6 @@ invariant-loop-i l = record {
   kept : l.report.kept ≡ tally fate.Kept l.fates l.i;
   copied : l.report.copied ≡ tally fate.Copied l.fates l.i;
   seeded : l.report.seeded ≡ tally fate.Seeded l.fates l.i;
-  cached : l.report.cached ≡ 0;
+  cached : l.report.cached ≡ tally fate.Cached l.fates l.i;
   fetched : l.report.fetched ≡ tally fate.Fetched l.fates l.i;
 }

@@ -1,6 +1,6 @@
 use Rattle.std.proofs.Common.{ℕ, sym, subst}
 use Rattle.extract_plan.specs.Places.{PlacesKnown}
-use Rattle.assembler.proofs.tests.assembles.Goals as goal
+use Rattle.assembler.proofs.tests.assembles_with.Goals as goal
 
 pub assemble-got-requires-clause-places : goal.assemble-got-requires-clause-places
 assemble-got-requires-clause-places g c =

@@ -1,0 +1,64 @@
+-- The cache of an assembly, where there is one.
+use Rattle.std.specs.Prelude.{◌≡◌, ℕ, ◌<◌, List, [], ◌∷◌, ◌++◌, Option, Some, None, IsSome}
+use Rattle.std.specs.Option.{option_map}
+use Rattle.cache_store.specs.Giving.{GiveOneSize, SomeGives, SomeHolds}
+use Rattle.cache_store.specs.Shelves.{Shelf, Shelved, Stocks, shelf_of}
+use Rattle.caibx_codec.specs.Listing.{Listing, count_of, id_of, kind_of, size_of}
+use Rattle.chunk_store.specs.Folders.{chunks}
+use Rattle.chunk_store.specs.Giving.{IsChunk}
+use Rattle.chunk_store.specs.declared.id.DigestKind.{DigestKind}
+use Rattle.dsy_base.specs.Counts.{Rose}
+use Rattle.dsy_base.specs.Maps.{Map}
+use Rattle.extract_plan.specs.Deal.{Deal, first_of, want_id}
+
+-- what is seen of it
+abbrev pub seen : {F : Type 0} → (F → Option (Map (List ℕ))) → (F → List ℕ) → (F → ℕ) → Option (Shelved F) →
+    Option Shelf
+seen files place faults cache = option_map (shelf_of files place faults) cache
+
+-- the chunks that it holds, where it tells them: one map. Where there is no cache there is none
+abbrev pub cached_in : Option Shelf → Option (List (Map (List ℕ)))
+cached_in None = Some []
+cached_in (Some s) = option_map (λ m. chunks m ∷ []) s.files
+
+-- how often it has failed
+abbrev pub cache_faults : Option Shelf → ℕ
+cache_faults None = 0
+cache_faults (Some s) = s.faults
+
+-- it didn't have the chunk when the stores were asked, and doesn't have it now; or it failed
+abbrev pub CacheLacks : DigestKind → List ℕ → ℕ → Option Shelf → Option Shelf → Type 0
+CacheLacks kind id size old new = (now : List (Map (List ℕ))) → cached_in new ≡ Some now → SomeGives kind id size now
+    → Rose (cache_faults old) (cache_faults new)
+
+-- chunks were added to it
+abbrev pub Stocked : (List ℕ → List ℕ → Type 0) → Option Shelf → Option Shelf → Type 0
+Stocked Takes None None = Unit {0}
+Stocked Takes None (Some t) = ⊥
+Stocked Takes (Some s) None = ⊥
+Stocked Takes (Some s) (Some t) = Stocks Takes s t
+
+-- what is added for a chunk of this id and size: that chunk, which some store holds
+abbrev pub TakesChunk : {S : Type 0} → (S → Option (Map (List ℕ))) → DigestKind → List ℕ → ℕ → List S → List ℕ → List ℕ
+    → Type 0
+TakesChunk holds kind id size stores q b = (q ≡ id) × IsChunk kind id size b × SomeHolds holds stores id b
+
+-- what is added for these wants
+abbrev pub TakesWants : {S : Type 0} → (S → Option (Map (List ℕ))) → Listing → Deal → (ℕ → Type 0) → List S → List ℕ
+    → List ℕ → Type 0
+TakesWants holds l d Among stores q b = (w : ℕ) × Among w
+    × TakesChunk holds (kind_of l) (want_id l d w) (size_of l (first_of d w)) stores q b
+
+-- what is added for the entries of an index
+abbrev pub TakesListed : {S : Type 0} → (S → Option (Map (List ℕ))) → Listing → List S → List ℕ → List ℕ → Type 0
+TakesListed holds l stores q b = (i : ℕ) × (i < count_of l)
+    × TakesChunk holds (kind_of l) (id_of l i) (size_of l i) stores q b
+
+-- the index lists the id with this size
+abbrev pub IsListedAs : Listing → List ℕ → ℕ → Type 0
+IsListedAs l id size = (i : ℕ) × (i < count_of l) × (id_of l i ≡ id) × (size_of l i ≡ size)
+
+-- where there is a cache: of an id that the index lists with several sizes, the cache and the stores, which hold these,
+-- have chunks of one size alone
+abbrev pub HaveOneSize : Listing → Option Shelf → List (Map (List ℕ)) → List (Map (List ℕ)) → Type 0
+HaveOneSize l cache cached maps = IsSome cache → GiveOneSize (IsListedAs l) (kind_of l) (cached ++ maps)
