@@ -34,7 +34,7 @@ apart : (q id : List ℕ) → bytes_eq q id ≡ false → q ≢ id
 apart q id h e = let same : bytes_eq q id ≡ true = (bytes_eq-Decides q id).1 e in absurd (cc)
 
 -- three lists of stores
-each_then : {A : Type 0} (P Q R : A → A → Type 0) → ((a b c : A) → P a b → Q b c → R a c) → (xs ys zs : List A) → AllZip P xs ys → AllZip Q ys zs → AllZip R xs zs
+pub each_then : {A : Type 0} (P Q R : A → A → Type 0) → ((a b c : A) → P a b → Q b c → R a c) → (xs ys zs : List A) → AllZip P xs ys → AllZip Q ys zs → AllZip R xs zs
 each_then P Q R go [] [] [] first then = tt
 each_then P Q R go [] [] (z ∷ zs) first then = absurd then
 each_then P Q R go [] (y ∷ ys) zs first then = absurd first
@@ -42,7 +42,7 @@ each_then P Q R go (x ∷ xs) [] zs first then = absurd first
 each_then P Q R go (x ∷ xs) (y ∷ ys) [] first then = absurd then
 each_then P Q R go (x ∷ xs) (y ∷ ys) (z ∷ zs) first then = (go x y z first.0 then.0, each_then P Q R go xs ys zs first.1 then.1)
 
-each_weaker : {A : Type 0} (P R : A → A → Type 0) → ((a b : A) → P a b → R a b) → (xs ys : List A) → AllZip P xs ys → AllZip R xs ys
+pub each_weaker : {A : Type 0} (P R : A → A → Type 0) → ((a b : A) → P a b → R a b) → (xs ys : List A) → AllZip P xs ys → AllZip R xs ys
 each_weaker P R go [] [] all = tt
 each_weaker P R go [] (y ∷ ys) all = absurd all
 each_weaker P R go (x ∷ xs) [] all = absurd all

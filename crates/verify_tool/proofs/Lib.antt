@@ -4,3 +4,6 @@ pub mod Distinct
 pub mod Counted
 pub mod Asked
 pub mod InfoText
+pub mod Holding
+pub mod EntryCalls
+pub mod Filled

@@ -3,3 +3,4 @@ pub mod Texts
 pub mod Counts
 pub mod Blocks
 pub mod Figures
+pub mod Filling

@@ -1,8 +1,11 @@
-//! What an index says, told and held against an image.
+//! What an index says: told, held against an image, and kept in a cache.
 #![tactic(auto)]
 
 pub mod check;
 pub mod count;
+pub mod fill;
+#[cfg(test)]
+mod fill_tests;
 pub mod info;
 pub mod list;
 #[cfg(test)]

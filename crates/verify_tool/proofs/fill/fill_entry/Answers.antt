@@ -1,0 +1,47 @@
+use Rattle.std.proofs.Common.{Ok, Err, length, sym, subst}
+use Rattle.cache_store.specs.Shelves.{shelf_of}
+use Rattle.caibx_codec.specs.Listing.{Listing}
+use Rattle.store_chain.specs.Wants.{IsGiven}
+use Rattle.store_chain.specs.declared.want.Want.{Want}
+use Rattle.verify_tool.proofs.EntryCalls.{Ends, call_gives, call_refused, want_is}
+use Rattle.verify_tool.specs.Filling.{FillEnds}
+use Rattle.verify_tool.specs.declared.fill.FillFault.{FillFault}
+use Rattle.verify_tool.proofs.fill.fill_entry.Goals as goal
+
+pub returns-in-Yes-clause-given : goal.returns-in-Yes-clause-given
+returns-in-Yes-clause-given g c =
+    let F = g.F.Look in
+    let S = g.S.Store in
+    let l : Listing = c.args.index.now in
+    let i = c.args.i in
+    let entry = c.entry-entry.result in
+    let is_id = c.entry-entry.ensures.id in
+    let got = c.in-Ok.got in
+    let out = c.obtain.new.out in
+    let wanted = want_is l i entry.id c.args.cached.now.chain.kind entry.size (length c.args.chunk.now) c.requires.kind c.entry-entry.ensures.size in
+    let Given : Want → Type 0 = λ w. IsGiven w got.size out in
+    let Had : Want → Type 0 = λ w. Ends F.files F.place F.faults S.holds S.folder S.place S.said S.faults S.may_lack_memory S.asked S.queried l i entry.id is_id
+    c.args.cached.now c.obtain.new.self out w (Ok got) in
+    λ m maps held told quiet. call_gives F.files F.place F.faults S.holds S.folder S.place S.said S.faults S.may_lack_memory S.asked S.queried l i entry.id is_id
+    c.args.cached.now c.obtain.new.self out got
+    (subst Given wanted c.in-Ok.ensures.ok) m maps held told quiet (subst Had wanted c.in-Ok.ensures.ends)
+
+pub returns-in-Err-clause-err : goal.returns-in-Err-clause-err
+returns-in-Err-clause-err g c =
+    let F = g.F.Look in
+    let S = g.S.Store in
+    let l : Listing = c.args.index.now in
+    let i = c.args.i in
+    let entry = c.entry-entry.result in
+    let is_id = c.entry-entry.ensures.id in
+    let out = c.obtain.new.out in
+    let wanted = want_is l i entry.id c.args.cached.now.chain.kind entry.size (length c.args.chunk.now) c.requires.kind c.entry-entry.ensures.size in
+    let Had : Want → Type 0 = λ w. Ends F.files F.place F.faults S.holds S.folder S.place S.said S.faults S.may_lack_memory S.asked S.queried l i entry.id is_id
+    c.args.cached.now c.obtain.new.self out w (Err c.in-Err.refused) in
+    let Told : FillFault → Type 0 = λ f. FillEnds S.holds S.folder S.place S.said S.faults S.may_lack_memory l
+    (shelf_of F.files F.place F.faults c.args.cached.now.shelf) (shelf_of F.files F.place F.faults c.obtain.new.self.shelf)
+    c.args.cached.now.chain.stores c.obtain.new.self.chain.stores (Err f) in
+    subst Told (sym c.fault_at.ensures.value)
+    (call_refused F.files F.place F.faults S.holds S.folder S.place S.said S.faults S.may_lack_memory S.asked S.queried l i entry.id is_id
+    c.args.cached.now c.obtain.new.self out
+    c.requires.listed c.in-Err.refused (subst Had wanted c.in-Err.ensures.ends))

@@ -1,0 +1,156 @@
+-- What filling a cache by an index may answer, and what it does to the cache. l lists the chunks, `holds` gives what a
+-- store holds. s0 and s1 are the cache's shelf before and afterwards, c0 and c1 the stores.
+use Rattle.std.specs.Prelude.{◌≡◌, ◌⊎◌, ℕ, ◌+◌, ◌<◌, ◌≤◌, List, ◌∷◌, length, map, Bool, Option, Some, IfSome, Result, Ok, Err, slice_index}
+use Rattle.std.specs.List.{AllZip}
+use Rattle.cache_store.specs.Giving.{GiveOneSize, SomeGives, SomeHolds}
+use Rattle.cache_store.specs.Shelves.{Shelf, Stocks, held_on}
+use Rattle.caibx_codec.specs.Listing.{Listing, count_of, id_of, kind_of, size_of}
+use Rattle.chunk_store.specs.Giving.{GivesChunk, IsChunk}
+use Rattle.chunk_store.specs.Names.{name_of}
+use Rattle.chunk_store.specs.Said.{Said}
+use Rattle.chunk_store.specs.declared.id.ChunkId.{ChunkId}
+use Rattle.dsy_base.specs.Counts.{Quiet, Rose}
+use Rattle.dsy_base.specs.Maps.{Map}
+use Rattle.image_store.specs.Chopping.{AsksListed}
+use Rattle.store_chain.specs.Chains.{Chained, KeepsStores}
+use Rattle.store_chain.specs.Faults.{EachQuiet}
+use Rattle.store_chain.specs.Giving.{LacksAll}
+use Rattle.store_chain.specs.Refusals.{Refuses}
+use Rattle.store_chain.specs.Wants.{want_of}
+use Rattle.store_chain.specs.declared.refused.Refused.{Refused}
+use Rattle.store_chain.specs.declared.refused.Refused.TheVariants as refused
+use Rattle.store_chain.specs.declared.want.Want.{Want}
+use Rattle.verify_tool.specs.declared.fill.FillFault.{FillFault}
+use Rattle.verify_tool.specs.declared.fill.FillFault.TheVariants as faults
+
+-- ---- what a cache holds
+
+-- the map gives the chunk of entry i
+abbrev pub GivesEntry : Listing → ℕ → Map (List ℕ) → Type 0
+GivesEntry l i m = GivesChunk (kind_of l) (id_of l i) (size_of l i) (m (id_of l i))
+
+-- every entry with the id of entry i has its size
+abbrev pub HasOneSize : Listing → ℕ → Type 0
+HasOneSize l i = (j : ℕ) → j < count_of l → id_of l j ≡ id_of l i → size_of l j ≡ size_of l i
+
+-- bytes with the name of entry i are held, and of its size where its id is listed with no other
+abbrev pub HoldsEntry : Listing → ℕ → Option (List ℕ) → Type 0
+HoldsEntry l i held = (b : List ℕ) × (held ≡ Some b) × (name_of (kind_of l) b ≡ id_of l i)
+    × (HasOneSize l i → length b ≡ size_of l i)
+
+-- so it is with the first k entries on a shelf, where it tells what it holds
+abbrev pub HoldsTo : Listing → ℕ → Shelf → Type 0
+HoldsTo l k s = IfSome (held_on s) (λ m. (i : ℕ) → i < k → HoldsEntry l i (m (id_of l i)))
+
+-- an entry lists this id and this size
+abbrev pub ListsSize : Listing → List ℕ → ℕ → Type 0
+ListsSize l id size = (i : ℕ) × (i < count_of l) × (id_of l i ≡ id) × (size_of l i ≡ size)
+
+-- the bytes are listed under the id, and some store holds them there
+abbrev pub MayFill : {S : Type 0} → (S → Option (Map (List ℕ))) → Listing → List S → List ℕ → List ℕ → Type 0
+MayFill holds l stores id b = ((n : ℕ) × ListsSize l id n × IsChunk (kind_of l) id n b) × SomeHolds holds stores id b
+
+-- ---- where nothing fails
+
+-- the cache, which holds m, or a store that holds one of the maps gives the chunk of entry i
+abbrev pub IsGivenBy : Listing → Map (List ℕ) → List (Map (List ℕ)) → ℕ → Type 0
+IsGivenBy l m maps i = GivesEntry l i m ⊎ SomeGives (kind_of l) (id_of l i) (size_of l i) maps
+
+-- k is the first entry whose chunk isn't given
+abbrev pub IsFirstLost : Listing → Map (List ℕ) → List (Map (List ℕ)) → ℕ → Type 0
+IsFirstLost l m maps k = (IsGivenBy l m maps k → ⊥) × ((i : ℕ) → i < k → IsGivenBy l m maps i)
+
+-- what is answered: Ok where each entry's chunk is given, else the first that isn't is named. Want of memory is free
+abbrev pub FillsBy : Listing → Map (List ℕ) → List (Map (List ℕ)) → Result Unit FillFault → Type 0
+FillsBy l m maps (Ok u) = (i : ℕ) → i < count_of l → IsGivenBy l m maps i
+FillsBy l m maps (Err (faults.Missing k id)) = IsFirstLost l m maps k
+FillsBy l m maps (Err (faults.Damaged k id s x)) = IsFirstLost l m maps k
+FillsBy l m maps (Err (faults.StoreFault s)) = ⊥
+FillsBy l m maps (Err faults.CacheFault) = ⊥
+FillsBy l m maps (Err faults.Memory) = Unit {0}
+
+-- the cache and the stores tell what they hold, and give one size for each listed id, and none of them failed
+pub record FillUnfailed {S : Type 0} (holds : S → Option (Map (List ℕ))) (store_faults : S → ℕ) (l : Listing)
+    (m : Map (List ℕ)) (maps : List (Map (List ℕ))) (s0 s1 : Shelf) (c0 c1 : List S) : Type 0 where
+  pub held : held_on s0 ≡ Some m
+  pub told : map holds c0 ≡ map Some maps
+  pub shelf : Quiet s0.faults s1.faults
+  pub stores : EachQuiet (map store_faults c0) (map store_faults c1)
+  pub sizes : GiveOneSize (ListsSize l) (kind_of l) (m ∷ maps)
+
+-- ---- how it ends
+
+-- so many of the first entries are in the cache then, at least
+abbrev pub filled_to : Listing → Result Unit FillFault → ℕ
+filled_to l (Ok u) = count_of l
+filled_to l (Err (faults.Missing k id)) = k
+filled_to l (Err (faults.Damaged k id s x)) = k
+filled_to l (Err (faults.StoreFault s)) = 0
+filled_to l (Err faults.CacheFault) = 0
+filled_to l (Err faults.Memory) = 0
+
+-- the shelf doesn't give the chunk of entry i, or failed
+abbrev pub EntryUnfound : Listing → ℕ → Shelf → Shelf → Type 0
+EntryUnfound l i old new = IfSome (held_on old) (λ m. GivesEntry l i m → Rose old.faults new.faults)
+
+-- what the stores are asked for: the chunk of this id, of the size of entry i
+abbrev pub entry_want : Listing → ℕ → ChunkId → Want
+entry_want l i id = want_of (kind_of l) id (Some (size_of l i)) (size_of l i)
+
+-- the answer where the stores refuse the chunk of an entry
+abbrev pub fill_fault_of : ℕ → ChunkId → Refused → FillFault
+fill_fault_of entry id refused.Missing = faults.Missing entry id
+fill_fault_of entry id (refused.Damaged s x) = faults.Damaged entry id s x
+fill_fault_of entry id (refused.StoreFault s) = faults.StoreFault s
+fill_fault_of entry id refused.Memory = faults.Memory
+
+module _ {S : Type 0} (holds folder : S → Option (Map (List ℕ))) (place : S → List ℕ) (said : S → Said)
+    (store_faults : S → ℕ) (lacks_memory : Bool) (l : Listing) where
+  -- in the last call the cache, as it was then, didn't give the chunk of entry k or failed, and the stores refused it
+  pub record RefusesEntry (k : ℕ) (id : ChunkId) (r : Refused) (s0 s1 : Shelf) (c0 c1 : List S) : Type 0 where
+    pub listed : k < count_of l
+    pub id_is : id.0 ≡ id_of l k
+    pub shelf : Shelf
+    pub before : List S
+    pub filled : Stocks (MayFill holds l c0) s0 shelf
+    pub until : KeepsStores holds folder place said store_faults c0 before
+    pub unfound : EntryUnfound l k shelf s1
+    pub kept : s1.files ≡ shelf.files
+    pub refused : Refuses said store_faults lacks_memory (entry_want l k id) before c1 r
+    pub lacks : (maps : List (Map (List ℕ))) → map holds c0 ≡ map Some maps → LacksAll (entry_want l k id) maps r
+
+  -- how filling may end: a chunk was refused, a store failed, or the cache
+  abbrev pub FillEnds : Shelf → Shelf → List S → List S → Result Unit FillFault → Type 0
+  FillEnds s0 s1 c0 c1 (Ok u) = Unit {0}
+  FillEnds s0 s1 c0 c1 (Err (faults.Missing k id)) = RefusesEntry k id refused.Missing s0 s1 c0 c1
+  FillEnds s0 s1 c0 c1 (Err (faults.Damaged k id s x)) = RefusesEntry k id (refused.Damaged s x) s0 s1 c0 c1
+  FillEnds s0 s1 c0 c1 (Err (faults.StoreFault s)) =
+      Rose (slice_index (map store_faults c0) s) (slice_index (map store_faults c1) s)
+  FillEnds s0 s1 c0 c1 (Err faults.CacheFault) = Rose s0.faults s1.faults
+  FillEnds s0 s1 c0 c1 (Err faults.Memory) = Unit {0}
+
+-- a refusal that names an entry names this one
+abbrev pub EndsAtEntry : ℕ → Result Unit FillFault → Type 0
+EndsAtEntry i (Ok u) = Unit {0}
+EndsAtEntry i (Err (faults.Missing k id)) = k ≡ i
+EndsAtEntry i (Err (faults.Damaged k id s x)) = k ≡ i
+EndsAtEntry i (Err (faults.StoreFault s)) = Unit {0}
+EndsAtEntry i (Err faults.CacheFault) = Unit {0}
+EndsAtEntry i (Err faults.Memory) = Unit {0}
+
+-- ---- how often the stores are asked
+
+-- each store was asked for each id at most once for each of the first k entries that list it, and none whether it has
+-- one; the chain counts at most so many calls more
+pub record AsksEntries {S : Type 0} (asked queried : S → List ℕ → ℕ) (l : Listing) (k : ℕ) (c0 c1 : Chained S)
+    : Type 0 where
+  pub stores : AllZip (λ a b. AsksListed l k (asked a) (asked b)) c0.stores c1.stores
+  pub queries : map queried c1.stores ≡ map queried c0.stores
+  pub no_fewer : c0.asks ≤ c1.asks
+  pub calls : c1.asks ≤ c0.asks + k
+  pub kind : c1.kind ≡ c0.kind
+
+-- the stores weren't asked where the cache gives each listed chunk and doesn't fail
+abbrev pub SparesStores : {S : Type 0} → Listing → Shelf → Shelf → Chained S → Chained S → Type 0
+SparesStores l s0 s1 c0 c1 = IfSome (held_on s0) (λ m. ((i : ℕ) → i < count_of l → GivesEntry l i m)
+    → Quiet s0.faults s1.faults → c1 ≡ c0)
