@@ -9,20 +9,23 @@ desync keeps images as chunks in a store, and an index of each image.
 
   desync make -s FOLDER [-m MIN:AVG:MAX] [-n WORKERS] INDEX IMAGE
       cut an image into chunks, store them and write its index
-  desync extract [-k] -s FOLDER.. [--seed INDEX..] [-n WORKERS] INDEX OUT
+  desync extract [-k] -s FOLDER.. [-c CACHE] [--seed INDEX..] [-n WORKERS]
+      INDEX OUT
       make a file the image that an index lists
   desync verify-index [-n WORKERS] INDEX IMAGE
       check that a file is the image that an index lists
   desync chop -s FOLDER [-n WORKERS] INDEX IMAGE
       put the chunks of an image that an index lists into a store
+  desync cache -s FOLDER.. -c CACHE [-n WORKERS] INDEX..
+      copy the chunks that indexes list from stores into a cache
   desync list-chunks INDEX
       print the id of each chunk that an index lists
   desync info [-s FOLDER..] INDEX
       print how many chunks an index lists, their sizes, and how many are there
 
 Options and names may be mixed; `--` ends options. MIN, AVG and MAX are sizes
-in KiB. These commands are read and not built yet: cache, verify, prune,
-chunk-server, demo.
+in KiB. These commands are read and not built yet: verify, prune, chunk-server,
+demo.
 
 `desync COMMAND --help` tells more of a command, `desync --version` the version.
 ";
@@ -44,15 +47,17 @@ example: desync make -s chunks disk.caibx disk.img
 
 /// The text of `extract --help`.
 pub const EXTRACT: &str = "\
-usage: desync extract [-k] -s FOLDER.. [--seed INDEX..] [-n WORKERS] INDEX OUT
+usage: desync extract [-k] -s FOLDER.. [-c CACHE] [--seed INDEX..] [-n WORKERS]
+                      INDEX OUT
 
 Makes the file OUT the image that INDEX lists: by way of a temporary file,
 OUT.tmp-desync, which takes OUT's name once it is right; or with -k in place,
-and what OUT holds already is kept where it is right. A call with -c is read
-and not built yet.
+and what OUT holds already is kept where it is right.
 
   -k, --in-place                write OUT in place
   -s, --store FOLDER            a store of chunks; 1 to 16, asked in order
+  -c, --cache CACHE             a folder of chunks that is asked before the
+                                stores, and takes what they give
       --seed INDEX              another image's index, X.caibx, whose image is
                                 the file X: chunks come from there first; up
                                 to 64
@@ -89,8 +94,9 @@ example: desync chop -s chunks disk.caibx disk.img
 pub const CACHE: &str = "\
 usage: desync cache -s FOLDER.. -c CACHE [-n WORKERS] INDEX..
 
-Copies the chunks that each INDEX lists from the stores into a cache. Not built
-yet.
+Copies the chunks that each INDEX lists from the stores into a cache, index by
+index, up to the first that no store gives. What the cache holds already is left
+where it is right.
 
   -s, --store FOLDER            a store; 1 to 16, asked in order
   -c, --cache CACHE             the folder that takes the chunks

@@ -75,6 +75,7 @@ text_of (ends.Mismatch entry got) =
 text_of (ends.Length size) = codes "the file has " ++ (decimal size ++ codes " bytes")
 text_of (ends.Changed entry was got) = codes "the image changed at entry " ++ decimal entry
 text_of (ends.StoreFault store) = codes "store " ++ (decimal store ++ codes " failed")
+text_of ends.CacheFault = codes "the cache failed"
 text_of ends.TargetFault = codes "the target failed"
 text_of (ends.FileFault name) = name ++ codes ": failed"
 text_of ends.OutFault = codes "the output failed"

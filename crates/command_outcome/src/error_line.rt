@@ -197,6 +197,7 @@ fn text_of(alloc: Global, outcome: &Outcome) -> Result<String, AllocError>
         Outcome::Length { size } => format!(in alloc; "the file has {size} bytes"),
         Outcome::Changed { entry, .. } => format!(in alloc; "the image changed at entry {entry}"),
         Outcome::StoreFault { store } => format!(in alloc; "store {store} failed"),
+        Outcome::CacheFault => String::from_str(alloc, "the cache failed"),
         Outcome::TargetFault => String::from_str(alloc, "the target failed"),
         Outcome::FileFault { name } => name_text(alloc, name, ": failed"),
         Outcome::OutFault => String::from_str(alloc, "the output failed"),

@@ -62,6 +62,8 @@ pub enum Outcome {
     StoreFault {
         store: u32,
     },
+    /// A chunk couldn't be put into the cache.
+    CacheFault,
     TargetFault,
     /// A call on the file or folder of this name failed.
     FileFault {

@@ -62,6 +62,7 @@ fn each_other_outcome_has_its_line(rt: HostRuntime) -> Result<(), Fail> {
     line_is(&rt, alloc, Outcome::Done, "")?;
     line_is(&rt, alloc, Outcome::Sizes(SizeFault::Order), "desync: bad chunk sizes: Order\n")?;
     line_is(&rt, alloc, Outcome::Sizes(SizeFault::MinTooSmall), "desync: bad chunk sizes: MinTooSmall\n")?;
+    line_is(&rt, alloc, Outcome::CacheFault, "desync: the cache failed\n")?;
     line_is(&rt, alloc, Outcome::TargetFault, "desync: the target failed\n")?;
     line_is(&rt, alloc, Outcome::OutFault, "desync: the output failed\n")?;
     line_is(&rt, alloc, Outcome::ImageFault, "desync: the image failed\n")?;
