@@ -1,17 +1,19 @@
 -- What a step leaves, and what its refusals tell: none is Done, and a fault that is told has raised its count. Proved once a
 -- step, and composed.
-use Rattle.std.proofs.Common.{◌≡◌, ◌∙◌, ◌+◌, ◌≤◌, ℕ, zero, suc, Bool, false, List, [], ◌∷◌, Option, Result, Ok, Err, refl, sym, subst, inl, inr, arith}
+use Rattle.std.proofs.Common.{◌≡◌, ◌∙◌, ◌+◌, ◌≤◌, ℕ, zero, suc, Bool, false, List, [], ◌∷◌, Option, Some, None, Result, Ok, Err, refl, sym, subst, inl, inr, arith}
 use Rattle.std.specs.Map.{count_at}
 use Rattle.caibx_codec.specs.Listing.{Listing, count_of}
 use Rattle.command_outcome.specs.declared.outcome.Outcome.{Outcome}
 use Rattle.command_outcome.specs.declared.outcome.Outcome.TheVariants as ends
 use Rattle.command_steps.specs.Blames.{Blames, Keeps, Parts, Spares, name_at}
+use Rattle.command_steps.specs.Cache.{CacheOpened}
 use Rattle.command_steps.specs.Openings.{ImageOpened, IndexRead, NotRead}
 use Rattle.command_steps.specs.Printing.{Printed}
 use Rattle.command_steps.specs.Seeds.{IndexesRead, NoneListed}
 use Rattle.command_steps.specs.Steps.{◌>>=◌, Passed, each, nothing}
 use Rattle.command_steps.specs.Stores.{FailsFirst, NoneReached, NotReached, StoreTaken, StoresOpened}
 use Rattle.command_steps.specs.Worlds.{Adds, FileRose, FolderRose, OnDisk, OnOut, Pure, Reads, Step, World, Writes, world}
+use Rattle.command_steps.proofs.Cached.{cache_reads}
 use Rattle.command_steps.proofs.Numbers.{rose_later, rose_longer}
 use Rattle.dsy_base.specs.Disk.{Disk, Output}
 use Rattle.dsy_base.specs.Maps.{Map}
@@ -65,6 +67,7 @@ fair_earlier {s} w u v x o a h = (h.0, go o h.1) where
   go ends.ImageFault r = file x.image r
   go (ends.StoreFault s) r = folder (name_at x.stores s) r
   go ends.TargetFault r = file x.target r
+  go ends.CacheFault r = folder x.cache r
   go (ends.FileFault name) (inl r) = inl (file name r)
   go (ends.FileFault name) (inr r) = inr (folder name r)
   go ends.OutFault r = rose_later w.out.faults u.out.faults v.out.faults a.out r
@@ -83,6 +86,7 @@ fair_longer {s} w v u x o a h = (h.0, go o h.1) where
   go ends.ImageFault r = file x.image r
   go (ends.StoreFault s) r = folder (name_at x.stores s) r
   go ends.TargetFault r = file x.target r
+  go ends.CacheFault r = folder x.cache r
   go (ends.FileFault name) (inl r) = inl (file name r)
   go (ends.FileFault name) (inr r) = inr (folder name r)
   go ends.OutFault r = rose_longer w.out.faults v.out.faults u.out.faults a.out r
@@ -158,7 +162,7 @@ module _ (s : Spares) (x : Parts) (p : Output) where
   file_fault : (d e : Disk) (q name : List ℕ) → name ≡ q → FileRose d e q → IsFair x (ends.FileFault name) (round p d) (round p e)
   file_fault d e q name is rose = (tt, inl (subst (λ n. FileRose d e n) (sym is) rose))
 
-  not_read_fair : (d e : Disk) (q : List ℕ) (o : Outcome) → NotRead d e q o → IsFair x o (round p d) (round p e)
+  pub not_read_fair : (d e : Disk) (q : List ℕ) (o : Outcome) → NotRead d e q o → IsFair x o (round p d) (round p e)
   not_read_fair d e q (ends.NoFile name) h = (tt, tt)
   not_read_fair d e q (ends.BadIndex name fault) h = (tt, tt)
   not_read_fair d e q (ends.FileFault name) h = file_fault d e q name h.0 h.1
@@ -213,6 +217,13 @@ module _ (s : Spares) (x : Parts) (p : Output) where
     leaves : (d e : Disk) (r : Result Unit Outcome) → StoresOpened x.stores d r e → IsLeft s (round p d) (round p e)
     leaves d e (Ok u) h = reads p h.1
     leaves d e (Err o) h = reads p h.1
+
+-- the folder of a cache
+pub cache_step : (s : Spares) (x : Parts) (p : Output) (cache : Option (List ℕ)) → IsStep (round p) s x (CacheOpened cache)
+cache_step s x p cache = record { fair = λ d e o h. go cache d e o h; leaves = λ d e r h. reads p (cache_reads cache d e r h) } where
+  go : (cache : Option (List ℕ)) (d e : Disk) (o : Outcome) → CacheOpened cache d (Err o) e → IsFair x o (round p d) (round p e)
+  go None d e o h = absurd h
+  go (Some q) d e o h = first_fair s x p d e (q ∷ []) o (inl h.0)
 
 pub taken_step : (f o : Bool) (x : Parts) (p : Output) (q : List ℕ) → IsStep (round p) (record { files = f; folders = false; out = o }) x (StoreTaken q)
 taken_step f o x p q = record { fair = λ d e r h. first_fair (record { files = f; folders = false; out = o }) x p d e (q ∷ []) r (inl h.0); leaves = leaves } where

@@ -21,6 +21,7 @@ pub record Parts : Type 0 where
   pub image : List ℕ
   pub stores : List (List ℕ)
   pub target : List ℕ
+  pub cache : List ℕ
 
 -- the name of this number
 abbrev pub name_at : List (List ℕ) → ℕ → List ℕ
@@ -31,6 +32,7 @@ abbrev pub Blames : Parts → Outcome → World → World → Type 0
 Blames x ends.ImageFault w v = FileRose w.disk v.disk x.image
 Blames x (ends.StoreFault s) w v = FolderRose w.disk v.disk (name_at x.stores s)
 Blames x ends.TargetFault w v = FileRose w.disk v.disk x.target
+Blames x ends.CacheFault w v = FolderRose w.disk v.disk x.cache
 Blames x (ends.FileFault name) w v = FileRose w.disk v.disk name ⊎ FolderRose w.disk v.disk name
 Blames x ends.OutFault w v = Rose w.out.faults v.out.faults
 Blames x other w v = Unit {0}
@@ -41,5 +43,6 @@ NothingFailed ends.ImageFault = ⊥
 NothingFailed (ends.StoreFault store) = ⊥
 NothingFailed (ends.FileFault name) = ⊥
 NothingFailed ends.TargetFault = ⊥
+NothingFailed ends.CacheFault = ⊥
 NothingFailed ends.OutFault = ⊥
 NothingFailed other = Unit {0}

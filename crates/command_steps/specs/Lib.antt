@@ -5,4 +5,5 @@ pub mod Printing
 pub mod Blames
 pub mod AnyStores
 pub mod Stores
+pub mod Cache
 pub mod Seeds

@@ -2,6 +2,7 @@
 #![tactic(auto)]
 
 pub mod any_store;
+pub mod cache;
 pub mod openings;
 pub mod printing;
 pub mod seeds;

@@ -51,7 +51,7 @@ fn name_of(store: &Location) -> &str
 }
 
 // The outcome where a folder isn't reached.
-fn not_reached(alloc: Global, name: &str, fault: OpenFault) -> Outcome
+pub(crate) fn not_reached(alloc: Global, name: &str, fault: OpenFault) -> Outcome
     ensures { Refuses name.now fault result }
 {
     let Ok(name) = Name::of(alloc, name) else {
