@@ -1,5 +1,5 @@
 -- What an assembly over taken files and folders makes of the answer.
-use Rattle.std.proofs.Common.{ap, arith, ◌⊎◌, Bool, true, false, cond, is_some, unwrap_or, ◌≡◌, ℕ, ◌<◌, List, map, Option, Some, None, IfSome, IfErr, refl, subst, ◌∙◌, sym, inl, inr, Result, Ok, Err}
+use Rattle.std.proofs.Common.{ap, arith, ◌⊎◌, Bool, true, false, cond, is_some, unwrap_or, ◌≡◌, ℕ, ◌<◌, List, ◌++◌, map, Option, Some, None, IfSome, IfErr, refl, subst, ◌∙◌, sym, inl, inr, Result, Ok, Err}
 use Rattle.assembler.specs.Assemblies.{After, Assembles, IsObtainable, KeepsBase, RightAlike, Verdict}
 use Rattle.assembler.specs.Fills.{WhereTold}
 use Rattle.assembler.specs.Losses.{chunk_of}
@@ -24,7 +24,7 @@ use Rattle.store_chain.specs.Giving.{LacksAll}
 use Rattle.store_chain.specs.declared.refused.Refused.{Refused}
 use Rattle.store_chain.specs.declared.refused.Refused.TheVariants as refused
 use Rattle.desync_cli.proofs.Seeded.{given_had, had_given}
-use Rattle.desync_cli.specs.Extract.{Assembled, CanBeHad, Into, IsLacking, Leaves, SeedHas, Seeds, StopsFailed, StopsSomewhere, Told, answer_of_assembly, answer_of_taking, base_of, old_of}
+use Rattle.desync_cli.specs.Extract.{Assembled, CacheLacksEntry, CanBeHad, Into, IsLacking, Leaves, SeedHas, Seeds, StopsFailed, StopsSomewhere, Told, Undisturbed, answer_of_assembly, answer_of_taking, base_of, folder_of, old_of}
 use Rattle.command_steps.specs.Seeds.{IsViewed}
 use Rattle.command_steps.specs.Worlds.{DiskQuiet, FileRose}
 
@@ -115,30 +115,32 @@ abbrev pub TargetAs : Type 0 → ExtractFault → Type 0
 TargetAs P faults.TargetFault = P
 TargetAs P other = Unit {0}
 
-module _ (d e : Disk) (names : List (List ℕ)) (out : Into) (l : Listing) (x : Seeds) where
+module _ (d e : Disk) (names : List (List ℕ)) (cache : Option (List ℕ)) (out : Into) (l : Listing) (x : Seeds) where
   -- where all is told
   pub record Facts (r : Result Report ExtractFault) (b : Map (List ℕ)) (n : Map (Map (List ℕ))) (a : Map (List ℕ)) : Type 0 where
     pub fs : List (Map (List ℕ))
     pub there : map n names ≡ map Some fs
+    pub cs : List (Map (List ℕ))
+    pub cached : map n (folder_of cache) ≡ map Some cs
     pub t : List ℕ
     pub leaves : Leaves b a out t
     pub assembles : Assembles l (FileRose d e out.name) r (old_of b out) t
-    pub lacks : IfErr r (LostAs (IsLacking d e b out l x fs))
-    pub verdict : DiskQuiet d e → Verdict l (CanBeHad l (base_of b out l) b x (map chunks fs)) r
-    pub settled : DiskQuiet d e → After l (CanBeHad l (base_of b out l) b x (map chunks fs)) (base_of b out l) t r
+    pub lacks : IfErr r (LostAs (IsLacking d e b cache out l x fs))
+    pub verdict : Undisturbed d e cache l cs fs → Verdict l (CanBeHad l (base_of b out l) b x (map chunks cs ++ map chunks fs)) r
+    pub settled : Undisturbed d e cache l cs fs → After l (CanBeHad l (base_of b out l) b x (map chunks cs ++ map chunks fs)) (base_of b out l) t r
 
   abbrev AllFacts : Result Report ExtractFault → Type 0
   AllFacts r = (b : Map (List ℕ)) (n : Map (Map (List ℕ))) (a : Map (List ℕ)) → d.files ≡ Some b → d.folders ≡ Some n → e.files ≡ Some a → Facts r b n a
 
-  told : (r : Result Report ExtractFault) (P : Map (List ℕ) → Map (List ℕ) → List (Map (List ℕ)) → Type 0) → AllFacts r → ((b : Map (List ℕ)) (n : Map (Map (List ℕ))) (a : Map (List ℕ)) (f : Facts r b n a) → P b a f.fs) → Told d e names P
-  told r P facts p = over_told d.files d.folders e.files _ (λ b n a x y z. let f = facts b n a x y z in (f.fs, f.there, p b n a f))
+  told : (r : Result Report ExtractFault) (P : Map (List ℕ) → Map (List ℕ) → List (Map (List ℕ)) → List (Map (List ℕ)) → Type 0) → AllFacts r → ((b : Map (List ℕ)) (n : Map (Map (List ℕ))) (a : Map (List ℕ)) (f : Facts r b n a) → P b a f.cs f.fs) → Told d e names cache P
+  told r P facts p = over_told d.files d.folders e.files _ (λ b n a x y z. let f = facts b n a x y z in (f.fs, f.there, f.cs, f.cached, p b n a f))
 
   somewhere : (b a : Map (List ℕ)) (t : List ℕ) → Leaves b a out t → (t ≡ old_of b out) ⊎ KeepsBase l (FileRose d e out.name) (base_of b out l) t → StopsSomewhere d e b a out l
   somewhere b a t leaves (inl same) = inr (inl (subst (λ (s : List ℕ). Leaves b a out s) same leaves))
   somewhere b a t leaves (inr keeps) = inr (inr (t, (leaves, keeps)))
 
   pub assembled : (r : Result Report ExtractFault) → AllFacts r → IfErr r (TargetAs (FileRose d e out.name)) → IfErr r (StoreAs (StopsFailed d e names l))
-      → Assembled d e names out l x (answer_of_assembly r)
+      → Assembled d e names cache out l x (answer_of_assembly r)
   assembled (Ok r) facts target store = told _ _ facts (λ b n a f. ((f.t, (f.leaves, f.assembles.1), f.assembles.0), f.verdict))
   assembled (Err (faults.Missing k id)) facts target store = told _ _ facts (λ b n a f. ((f.t, (f.leaves, f.assembles.0), f.assembles.1, f.settled), f.lacks, f.verdict))
   assembled (Err (faults.Damaged k id s y)) facts target store = told _ _ facts (λ b n a f. ((f.t, (f.leaves, f.assembles.0), f.assembles.1, f.settled), f.lacks, f.verdict))
@@ -147,76 +149,81 @@ module _ (d e : Disk) (names : List (List ℕ)) (out : Into) (l : Listing) (x : 
   assembled (Err faults.Memory) facts target store = told _ _ facts (λ b n a f. somewhere b a f.t f.leaves f.assembles)
 
   -- where OUT wasn't taken all is as it was
-  pub not_taken_as : (fault : IoFault) (looks : List (Option (Map (List ℕ)))) → IfSome d.folders (λ m. (fs : List (Map (List ℕ))) × (map m names ≡ map Some fs) × (looks ≡ map Some fs)) → e.files ≡ d.files → (fault ≡ io.Failed → FileRose d e out.name)
-      → Assembled d e names out l x (answer_of_taking fault)
-  not_taken_as fault looks found same rose = go fault rose where
-    before : Told d e names (λ b a fs. StopsSomewhere d e b a out l)
-    before = over_told d.files d.folders e.files _ (λ b n a is y z.
-        let f : (fs : List (Map (List ℕ))) × (map n names ≡ map Some fs) × (looks ≡ map Some fs) = subst (λ o. IfSome o (λ m. (fs : List (Map (List ℕ))) × (map m names ≡ map Some fs) × (looks ≡ map Some fs))) y found in
-        let kept : Some a ≡ Some b = sym z ∙ same ∙ is in
-        let as_before : a ≡ b = cc in
-        (f.0, f.1, inl as_before))
+  pub stopped_before : (looks : List (Option (Map (List ℕ)))) (C : List (Map (List ℕ)) → Type 0) → IfSome d.folders (λ m. (fs : List (Map (List ℕ))) × (map m names ≡ map Some fs) × (looks ≡ map Some fs))
+      → IfSome d.folders (λ n. (cs : List (Map (List ℕ))) × (map n (folder_of cache) ≡ map Some cs) × C cs) → e.files ≡ d.files → Told d e names cache (λ b a cs fs. StopsSomewhere d e b a out l)
+  stopped_before looks C found cached same = over_told d.files d.folders e.files _ (λ b n a is y z.
+      let f : (fs : List (Map (List ℕ))) × (map n names ≡ map Some fs) × (looks ≡ map Some fs) = subst (λ o. IfSome o (λ m. (fs : List (Map (List ℕ))) × (map m names ≡ map Some fs) × (looks ≡ map Some fs))) y found in
+      let g : (cs : List (Map (List ℕ))) × (map n (folder_of cache) ≡ map Some cs) × C cs = subst (λ o. IfSome o (λ n. (cs : List (Map (List ℕ))) × (map n (folder_of cache) ≡ map Some cs) × C cs)) y cached in
+      let kept : Some a ≡ Some b = sym z ∙ same ∙ is in
+      let as_before : a ≡ b = cc in
+      (f.0, f.1, g.0, g.1, inl as_before))
 
-    go : (fault : IoFault) → (fault ≡ io.Failed → FileRose d e out.name) → Assembled d e names out l x (answer_of_taking fault)
-    go io.Failed rose = (rose refl, before)
-    go io.Memory rose = before
+  pub not_taken_as : (fault : IoFault) → Told d e names cache (λ b a cs fs. StopsSomewhere d e b a out l) → (fault ≡ io.Failed → FileRose d e out.name) → Assembled d e names cache out l x (answer_of_taking fault)
+  not_taken_as io.Failed before rose = (rose refl, before)
+  not_taken_as io.Memory before rose = before
 
   -- the same as `IsLacking`, over the bytes that OUT had
   abbrev pub LackingOver : List ℕ → List (Map (List ℕ)) → ℕ → ChunkId → Refused → Type 0
   LackingOver o fs k id r = (k < count_of l) × (id.0 ≡ id_of l k) × LacksAll (chunk_of (kind_of l) id (size_of l k)) (map chunks fs) r
       × (RightAlike l (resized o (image_length l)) k → FileRose d e out.name)
 
-  -- a seed that has the chunk of entry k has failed
-  abbrev pub SeedsLack : Map (List ℕ) → ℕ → ChunkId → Refused → Type 0
-  SeedsLack b k id r = (s : ℕ) (h : SeedHas b x (id_of l k) (size_of l k) s) → FileRose d e h.image
+  -- a seed that has the chunk of entry k has failed, and the cache doesn't give it
+  abbrev pub OthersLack : Map (List ℕ) → ℕ → ChunkId → Refused → Type 0
+  OthersLack b k id r = ((s : ℕ) (h : SeedHas b x (id_of l k) (size_of l k) s) → FileRose d e h.image) × CacheLacksEntry d e cache l k
 
-  lacking : (b : Map (List ℕ)) (fs : List (Map (List ℕ))) (k : ℕ) (id : ChunkId) (r : Refused) → LackingOver (old_of b out) fs k id r → SeedsLack b k id r → IsLacking d e b out l x fs k id r
-  lacking b fs k id r h seeds = record { listed = h.0; id_is = h.1; lacks = h.2; copies = h.3; seeds = seeds }
+  lacking : (b : Map (List ℕ)) (fs : List (Map (List ℕ))) (k : ℕ) (id : ChunkId) (r : Refused) → LackingOver (old_of b out) fs k id r → OthersLack b k id r → IsLacking d e b cache out l x fs k id r
+  lacking b fs k id r h others = record { listed = h.0; id_is = h.1; lacks = h.2; copies = h.3; seeds = others.0; uncached = others.1 }
 
   module _ (P : List (Map (List ℕ)) → List ℕ → ℕ → Type 0) (had : (b : Map (List ℕ)) → d.files ≡ Some b → (maps : List (Map (List ℕ))) (base : List ℕ) (i : ℕ) → i < count_of l → P maps base i → CanBeHad l base b x maps i)
       (back : (b : Map (List ℕ)) → d.files ≡ Some b → DiskQuiet d e → (maps : List (Map (List ℕ))) (base : List ℕ) (i : ℕ) → i < count_of l → CanBeHad l base b x maps i → P maps base i) where
-    pub facts_of : (r : Result Report ExtractFault) (looks : List (Option (Map (List ℕ)))) (t0 t1 : Option (List ℕ)) (F : Type 0) (N : List (Map (List ℕ)) → Type 0)
+    pub facts_of : (r : Result Report ExtractFault) (looks : List (Option (Map (List ℕ)))) (C : List (Map (List ℕ)) → Type 0) (t0 t1 : Option (List ℕ)) (F : Type 0) (N : List (Map (List ℕ)) → List (Map (List ℕ)) → Type 0)
         → IfSome d.folders (λ m. (fs : List (Map (List ℕ))) × (map m names ≡ map Some fs) × (looks ≡ map Some fs))
+        → IfSome d.folders (λ n. (cs : List (Map (List ℕ))) × (map n (folder_of cache) ≡ map Some cs) × C cs)
         → IfSome d.files (λ m. t0 ≡ Some (old_of m out)) → is_some t0 ≡ is_some t1
         → e.files ≡ option_map (λ m. at_name m out.name t1) (option_map (λ m. at_name m out.name None) d.files)
         → (F → FileRose d e out.name)
         → WhereTold t0 t1 (Assembles l F r)
         → ((fs : List (Map (List ℕ))) → looks ≡ map Some fs → IfSome t0 (λ o. IfErr r (LostAs (LackingOver o fs))))
-        → ((b : Map (List ℕ)) → d.files ≡ Some b → IfErr r (LostAs (SeedsLack b)))
-        → ((maps : List (Map (List ℕ))) → N maps → IfSome t0 (λ o. Verdict l (P maps (resized o (image_length l))) r))
-        → ((maps : List (Map (List ℕ))) → N maps → WhereTold t0 t1 (λ o t. After l (P maps (resized o (image_length l))) (resized o (image_length l)) t r))
-        → ((b : Map (List ℕ)) → d.files ≡ Some b → (fs : List (Map (List ℕ))) → looks ≡ map Some fs → DiskQuiet d e → N (map chunks fs)) → AllFacts r
-    facts_of r looks t0 t1 F N found took told left rose bytes lacks lack exactly after quiet b n a is y z =
+        → ((b : Map (List ℕ)) → d.files ≡ Some b → IfErr r (LostAs (OthersLack b)))
+        → ((cached maps : List (Map (List ℕ))) → N cached maps → IfSome t0 (λ o. Verdict l (P (cached ++ maps) (resized o (image_length l))) r))
+        → ((cached maps : List (Map (List ℕ))) → N cached maps → WhereTold t0 t1 (λ o t. After l (P (cached ++ maps) (resized o (image_length l))) (resized o (image_length l)) t r))
+        → ((b : Map (List ℕ)) → d.files ≡ Some b → (fs : List (Map (List ℕ))) → looks ≡ map Some fs → (cs : List (Map (List ℕ))) → C cs → Undisturbed d e cache l cs fs → N (map chunks cs) (map chunks fs)) → AllFacts r
+    facts_of r looks C t0 t1 F N found cached took told left rose bytes lacks lack exactly after quiet b n a is y z =
         let f : (fs : List (Map (List ℕ))) × (map n names ≡ map Some fs) × (looks ≡ map Some fs) =
         subst (λ o. IfSome o (λ m. (fs : List (Map (List ℕ))) × (map m names ≡ map Some fs) × (looks ≡ map Some fs))) y found in
+        let g : (cs : List (Map (List ℕ))) × (map n (folder_of cache) ≡ map Some cs) × C cs = subst (λ o. IfSome o (λ n. (cs : List (Map (List ℕ))) × (map n (folder_of cache) ≡ map Some cs) × C cs)) y cached in
         let o : t0 ≡ Some (old_of b out) = subst (λ o. IfSome o (λ m. t0 ≡ Some (old_of m out))) is took in
         let lf : e.files ≡ option_map (λ m. at_name m out.name t1) (option_map (λ m. at_name m out.name None) (Some b)) =
         subst (λ s. e.files ≡ option_map (λ m. at_name m out.name t1) (option_map (λ m. at_name m out.name None) s)) is left in
-        go (old_of b out) t0 t1 o (subst (λ s. is_some s ≡ is_some t1) o told) (sym z ∙ lf) f.0 f.1 bytes (lacks f.0 f.2) (λ k. exactly (map chunks f.0) (quiet b is f.0 f.2 k)) (λ k. after (map chunks f.0) (quiet b is f.0 f.2 k)) refl where
+        go (old_of b out) t0 t1 o (subst (λ s. is_some s ≡ is_some t1) o told) (sym z ∙ lf) f.0 f.1 g.0 g.1 bytes (lacks f.0 f.2) (λ k. exactly (map chunks g.0) (map chunks f.0) (quiet b is f.0 f.2 g.0 g.2 k)) (λ k. after (map chunks g.0) (map chunks f.0) (quiet b is f.0 f.2 g.0 g.2 k)) refl where
           go : (old : List ℕ) (s0 s1 : Option (List ℕ)) → s0 ≡ Some old → true ≡ is_some s1 → Some a ≡ Some (at_name (at_name b out.name None) out.name s1)
-              → (fs : List (Map (List ℕ))) → map n names ≡ map Some fs → WhereTold s0 s1 (Assembles l F r) → IfSome s0 (λ o. IfErr r (LostAs (LackingOver o fs)))
-              → (DiskQuiet d e → IfSome s0 (λ o. Verdict l (P (map chunks fs) (resized o (image_length l))) r))
-              → (DiskQuiet d e → WhereTold s0 s1 (λ o t. After l (P (map chunks fs) (resized o (image_length l))) (resized o (image_length l)) t r))
+              → (fs : List (Map (List ℕ))) → map n names ≡ map Some fs → (cs : List (Map (List ℕ))) → map n (folder_of cache) ≡ map Some cs → WhereTold s0 s1 (Assembles l F r) → IfSome s0 (λ o. IfErr r (LostAs (LackingOver o fs)))
+              → (Undisturbed d e cache l cs fs → IfSome s0 (λ o. Verdict l (P (map chunks cs ++ map chunks fs) (resized o (image_length l))) r))
+              → (Undisturbed d e cache l cs fs → WhereTold s0 s1 (λ o t. After l (P (map chunks cs ++ map chunks fs) (resized o (image_length l))) (resized o (image_length l)) t r))
               → old ≡ old_of b out → Facts r b n a
-          go old None s1 same is_told are fs there bs ls v w at = absurd (cc)
-          go old (Some o) None same is_told are fs there bs ls v w at = absurd (cc)
-          go old (Some o) (Some t) same is_told are fs there bs ls v w at =
+          go old None s1 same is_told are fs there cs shelf bs ls v w at = absurd (cc)
+          go old (Some o) None same is_told are fs there cs shelf bs ls v w at = absurd (cc)
+          go old (Some o) (Some t) same is_told are fs there cs shelf bs ls v w at =
               let was : o ≡ old_of b out = cc in
               over o was bs ls v w where
                 over : (p : List ℕ) → p ≡ old_of b out → Assembles l F r p t → IfErr r (LostAs (LackingOver p fs))
-                    → (DiskQuiet d e → Verdict l (P (map chunks fs) (resized p (image_length l))) r)
-                    → (DiskQuiet d e → After l (P (map chunks fs) (resized p (image_length l))) (resized p (image_length l)) t r) → Facts r b n a
-                over p was bs ls v w = record {
-                  fs = fs;
-                  there = there;
-                  t = t;
-                  leaves = ap (λ o. unwrap_or o a) are ∙ at_name_twice b out.name None (Some t);
-                  assembles = subst (λ (q : List ℕ). Assembles l (FileRose d e out.name) r q t) was (assembles_as l F (FileRose d e out.name) r p t rose bs);
-                  lacks = lost_both (LackingOver (old_of b out) fs) (SeedsLack b) (IsLacking d e b out l x fs) (lacking b fs) r (subst (λ (q : List ℕ). IfErr r (LostAs (LackingOver q fs))) was ls) (lack b is);
-                  verdict = λ k. subst (λ (q : List ℕ). Verdict l (CanBeHad l (resized q (image_length l)) b x (map chunks fs)) r) was
-                      (verdict_as l (P (map chunks fs) (resized p (image_length l))) (CanBeHad l (resized p (image_length l)) b x (map chunks fs)) (had b is (map chunks fs) (resized p (image_length l)))
-                      (back b is k (map chunks fs) (resized p (image_length l))) r (lost_both (LackingOver p fs) (SeedsLack b) (λ i id y. i < count_of l) (λ i id y h c. h.0) r ls (lack b is)) (v k));
-                  settled = λ k. subst (λ (q : List ℕ). After l (CanBeHad l (resized q (image_length l)) b x (map chunks fs)) (resized q (image_length l)) t r) was
-                      (after_as l (P (map chunks fs) (resized p (image_length l))) (CanBeHad l (resized p (image_length l)) b x (map chunks fs)) (resized p (image_length l)) t (had b is (map chunks fs) (resized p (image_length l)))
-                      (back b is k (map chunks fs) (resized p (image_length l))) r (w k));
-                }
+                    → (Undisturbed d e cache l cs fs → Verdict l (P (map chunks cs ++ map chunks fs) (resized p (image_length l))) r)
+                    → (Undisturbed d e cache l cs fs → After l (P (map chunks cs ++ map chunks fs) (resized p (image_length l))) (resized p (image_length l)) t r) → Facts r b n a
+                over p was bs ls v w =
+                    let maps = map chunks cs ++ map chunks fs in
+                    record {
+                      fs = fs;
+                      there = there;
+                      cs = cs;
+                      cached = shelf;
+                      t = t;
+                      leaves = ap (λ o. unwrap_or o a) are ∙ at_name_twice b out.name None (Some t);
+                      assembles = subst (λ (q : List ℕ). Assembles l (FileRose d e out.name) r q t) was (assembles_as l F (FileRose d e out.name) r p t rose bs);
+                      lacks = lost_both (LackingOver (old_of b out) fs) (OthersLack b) (IsLacking d e b cache out l x fs) (lacking b fs) r (subst (λ (q : List ℕ). IfErr r (LostAs (LackingOver q fs))) was ls) (lack b is);
+                      verdict = λ k. subst (λ (q : List ℕ). Verdict l (CanBeHad l (resized q (image_length l)) b x maps) r) was
+                          (verdict_as l (P maps (resized p (image_length l))) (CanBeHad l (resized p (image_length l)) b x maps) (had b is maps (resized p (image_length l)))
+                          (back b is k.0 maps (resized p (image_length l))) r (lost_both (LackingOver p fs) (OthersLack b) (λ i id y. i < count_of l) (λ i id y h c. h.0) r ls (lack b is)) (v k));
+                      settled = λ k. subst (λ (q : List ℕ). After l (CanBeHad l (resized q (image_length l)) b x maps) (resized q (image_length l)) t r) was
+                          (after_as l (P maps (resized p (image_length l))) (CanBeHad l (resized p (image_length l)) b x maps) (resized p (image_length l)) t (had b is maps (resized p (image_length l)))
+                          (back b is k.0 maps (resized p (image_length l))) r (w k));
+                    }

@@ -8,6 +8,7 @@ use Rattle.command_steps.specs.Steps.{answer_of, outcome_of}
 use Rattle.command_steps.specs.Worlds.{World}
 use Rattle.desync_cli.specs.Commands.{Achieves, DesyncEnds, Ends, command_of}
 use Rattle.desync_cli.proofs.Fair.{answered, begun, if_some}
+use Rattle.desync_cli.proofs.Cached.{cached}
 use Rattle.desync_cli.proofs.Chopped.{chopped}
 use Rattle.desync_cli.proofs.Extracted.{extracted}
 use Rattle.desync_cli.proofs.Made.{made}
@@ -15,9 +16,10 @@ use Rattle.desync_cli.proofs.Verified.{verified}
 
 achieves : (c : Command) (w v : World) → is_some w.disk.files ≡ is_some w.disk.folders → Ends c w (Ok tt) v → Achieves c w v
 achieves (commands.Make store sizes workers index image) w v told h = made store sizes index image w v h
-achieves (commands.Extract stores seeds cache in_place workers index target) w v told h = extracted stores seeds in_place index target w v told h
+achieves (commands.Extract stores seeds cache in_place workers index target) w v told h = extracted stores cache seeds in_place index target w v told h
 achieves (commands.VerifyIndex index image) w v told h = verified index image w v h
 achieves (commands.Chop store index image) w v told h = chopped store index image w v h
+achieves (commands.Cache stores cache indexes) w v told h = cached stores cache indexes w v h
 achieves other w v told h = h
 
 pub achieved : (words : List (List ℕ)) (w v : World) (r : Result Unit Outcome) → is_some w.disk.files ≡ is_some w.disk.folders → DesyncEnds words w r v → outcome_of r ≡ ends.Done → IfSome (command_of words) (λ c. Achieves c w v)

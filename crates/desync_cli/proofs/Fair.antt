@@ -1,5 +1,5 @@
 -- What each command leaves, and what its refusals tell: a lemma for each step of its own, and a line a command.
-use Rattle.std.proofs.Common.{◌≡◌, ℕ, List, map, IfSome, Bool, true, false, Option, Some, None, Result, Ok, Err, refl, sym, subst, inl, inr, arith, cond}
+use Rattle.std.proofs.Common.{◌≡◌, ℕ, List, [], ◌∷◌, map, IfSome, Bool, IsTrue, is_some, not, true, false, Option, Some, None, Result, Ok, Err, refl, sym, subst, inl, inr, arith, cond}
 use Rattle.std.specs.Map.{count_at}
 use Rattle.buzhash_cut.specs.Sizes.{Sizes}
 use Rattle.caibx_codec.specs.Listing.{Listing, id_of}
@@ -15,12 +15,13 @@ use Rattle.command_outcome.specs.declared.outcome.Outcome.{Outcome}
 use Rattle.command_outcome.specs.declared.outcome.Outcome.TheVariants as ends
 use Rattle.command_steps.specs.Blames.{Blames, Keeps, NothingFailed, Parts, Spares, name_at}
 use Rattle.command_steps.specs.Steps.{Passed, answer_of, outcome_of}
-use Rattle.command_steps.specs.Worlds.{FileRose, FolderRose, NoFault, Step, World}
-use Rattle.command_steps.proofs.Fair.{IsFair, IsLeft, IsRefusal, IsStep, adds, between, bound, fair_longer, first_failed, first_fair, image_step, index_step, indexes_step, left_twice, on_disk, on_out, opened_step, printed_step, pure_step, reads, round, taken_step, whole, writes}
+use Rattle.command_steps.specs.Worlds.{DiskQuiet, FileRose, FolderRose, NoFault, Step, World}
+use Rattle.command_steps.proofs.Fair.{IsFair, IsLeft, IsRefusal, IsStep, adds, between, bound, cache_step, fair_longer, first_failed, first_fair, image_step, index_step, indexes_step, left_twice, not_read_fair, on_disk, on_out, opened_step, printed_step, pure_step, reads, round, taken_step, whole, writes}
 use Rattle.command_steps.proofs.Numbers.{rose_not_quiet}
+use Rattle.desync_cli.specs.Caching.{IndexesFilled, FillTells, NotFilled, StoresHeld, outcome_of_fill}
 use Rattle.desync_cli.specs.Chop.{ImageChopped}
 use Rattle.desync_cli.specs.Commands.{DesyncEnds, Ends, NoCommand, TellsRefusal, WordsRead, built_in, command_of, is_built, parts, refusal_in, refusal_of, spares}
-use Rattle.desync_cli.specs.Extract.{Clearing, ImageMade, Into, LacksEntry, OutMade, Renamed, Seeds, beside, in_place, temporary_out}
+use Rattle.desync_cli.specs.Extract.{CacheFilled, Clearing, FillsCache, ImageMade, Into, LacksEntry, OutMade, Renamed, Seeds, beside, in_place, temporary_out}
 use Rattle.desync_cli.specs.Info.{IdsCounted, NotAsked}
 use Rattle.desync_cli.specs.Make.{ImageStored, IndexWritten, SizesJudged}
 use Rattle.desync_cli.specs.VerifyIndex.{ImageChecked}
@@ -29,6 +30,8 @@ use Rattle.command_steps.specs.Stores.{name_of}
 use Rattle.dsy_base.specs.Disk.{Disk, Output}
 use Rattle.dsy_base.specs.Maps.{Map}
 use Rattle.verify_tool.specs.Texts.{text_of_chunks, text_of_info}
+use Rattle.verify_tool.specs.declared.fill.FillFault.{FillFault}
+use Rattle.verify_tool.specs.declared.fill.FillFault.TheVariants as fills
 
 -- ---- the steps of one command
 
@@ -52,13 +55,13 @@ module _ (s : Spares) (x : Parts) (p : Output) where
     go d e ends.Memory h = (tt, tt)
     go d e other h = absurd h.0
 
-  assembled_fair : (l : Listing) (z : Seeds) (i : Into) → i.name ≡ x.target → (d e : Disk) (o : Outcome) → ImageMade x.stores i l z d (Err o) e → IsFair x o (round p d) (round p e)
-  assembled_fair l z i is d e (ends.Missing k id) h = (tt, tt)
-  assembled_fair l z i is d e (ends.Damaged k id store shows) h = (tt, tt)
-  assembled_fair l z i is d e (ends.StoreFault k) h = (tt, first_failed (LacksEntry l h.0.0.0) d e k x.stores h.0.0.1)
-  assembled_fair l z i is d e ends.TargetFault h = (tt, subst (λ q. FileRose d e q) is h.0.0)
-  assembled_fair l z i is d e ends.Memory h = (tt, tt)
-  assembled_fair l z i is d e other h = absurd h.0
+  assembled_fair : (cache : Option (List ℕ)) (l : Listing) (z : Seeds) (i : Into) → i.name ≡ x.target → (d e : Disk) (o : Outcome) → ImageMade x.stores cache i l z d (Err o) e → IsFair x o (round p d) (round p e)
+  assembled_fair cache l z i is d e (ends.Missing k id) h = (tt, tt)
+  assembled_fair cache l z i is d e (ends.Damaged k id store shows) h = (tt, tt)
+  assembled_fair cache l z i is d e (ends.StoreFault k) h = (tt, first_failed (LacksEntry l h.0.0.0) d e k x.stores h.0.0.1)
+  assembled_fair cache l z i is d e ends.TargetFault h = (tt, subst (λ q. FileRose d e q) is h.0.0)
+  assembled_fair cache l z i is d e ends.Memory h = (tt, tt)
+  assembled_fair cache l z i is d e other h = absurd h.0
 
   stored_fair : (z : Sizes) (told : Option (List ℕ)) (q : List ℕ) (held : Option (Map (List ℕ))) → name_at x.stores 0 ≡ q → (d e : Disk) (o : Outcome) → ImageStored z x.image told q held d (Err o) e → IsFair x o (round p d) (round p e)
   stored_fair z told q held same d e ends.TooManyItems h = (tt, tt)
@@ -81,8 +84,47 @@ module _ (s : Spares) (x : Parts) (p : Output) where
   written_fair q bytes d e ends.Memory h = (tt, tt)
   written_fair q bytes d e other h = absurd h.0
 
-assembled_step : (f o : Bool) (x : Parts) (p : Output) (l : Listing) (z : Seeds) (i : Into) → i.name ≡ x.target → IsStep (round p) (record { files = false; folders = f; out = o }) x (ImageMade x.stores i l z)
-assembled_step f o x p l z i is = record { fair = assembled_fair (record { files = false; folders = f; out = o }) x p l z i is; leaves = λ d e r h. writes p h.1 }
+-- what a step leaves that writes files, and the folder of a cache
+filled : {o : Bool} {names : List (List ℕ)} {cache : Option (List ℕ)} {l : Listing} {d e : Disk} (p : Output) → FillsCache names cache l d e → IsLeft (record { files = false; folders = not (is_some cache); out = o }) (round p d) (round p e)
+filled {o} {names} {cache} {l} {d} {e} p r = record { keeps = record { files = λ t. absurd (cc); folders = go cache r.folders; out = λ t. refl }; files = r.counts; folders = r.folder_counts; out = omega arith } where
+  go : (cache : Option (List ℕ)) → CacheFilled names cache l d e → IsTrue (not (is_some cache)) → e.folders ≡ d.folders
+  go None same t = same
+  go (Some c) h t = absurd (cc)
+
+assembled_step : (o : Bool) (x : Parts) (p : Output) (cache : Option (List ℕ)) (l : Listing) (z : Seeds) (i : Into) → i.name ≡ x.target → IsStep (round p) (record { files = false; folders = not (is_some cache); out = o }) x (ImageMade x.stores cache i l z)
+assembled_step o x p cache l z i is = record { fair = assembled_fair (record { files = false; folders = not (is_some cache); out = o }) x p cache l z i is; leaves = λ d e r h. filled p h.1 }
+
+-- ---- the steps of `cache`
+
+module _ (s : Spares) (x : Parts) (p : Output) where
+  told_step : IsStep (round p) s x (StoresHeld x.stores)
+  told_step = record { fair = λ d e o h. first_fair s x p d e x.stores o h.0; leaves = leaves } where
+    leaves : (d e : Disk) (r : Result (Option (List (Map (List ℕ)))) Outcome) → StoresHeld x.stores d r e → IsLeft s (round p d) (round p e)
+    leaves d e (Ok told) h = reads p h.1
+    leaves d e (Err o) h = reads p h.1
+
+  module _ (told : Option (List (Map (List ℕ)))) (Q : Type 0) (d e : Disk) where
+    fill_fair : (l : Listing) (y : Option (Map (List ℕ))) (fault : FillFault) → FillTells told (λ k. FolderRose d e (name_at x.stores k)) (FolderRose d e x.cache) Q l y (Err fault)
+        → IsFair x (outcome_of_fill fault) (round p d) (round p e)
+    fill_fair l y (fills.Missing k id) h = (tt, tt)
+    fill_fair l y (fills.Damaged k id store shows) h = (tt, tt)
+    fill_fair l y (fills.StoreFault k) h = (tt, h)
+    fill_fair l y fills.CacheFault h = (tt, h)
+    fill_fair l y fills.Memory h = (tt, tt)
+
+    each_fair : (indexes : List (List ℕ)) (held files : Option (Map (List ℕ))) (o : Outcome) → NotFilled told (λ k. FolderRose d e (name_at x.stores k)) (FolderRose d e x.cache) Q d e indexes held files o
+        → IsFair x o (round p d) (round p e)
+    each_fair [] held files o h = absurd h
+    each_fair (q ∷ indexes) held files o (inl h) = not_read_fair s x p d e q o h.0
+    each_fair (q ∷ indexes) held files o (inr (l, listed, inl (fault, is, filled))) = subst (λ r. IsFair x r (round p d) (round p e)) (sym is) (fill_fair l files fault filled.tells)
+    each_fair (q ∷ indexes) held files o (inr (l, listed, inr (z, filled, rest))) = each_fair indexes z files o rest
+
+filled_step : (f o : Bool) (x : Parts) (p : Output) (indexes : List (List ℕ)) (told : Option (List (Map (List ℕ)))) (held : Option (Map (List ℕ)))
+    → IsStep (round p) (record { files = f; folders = false; out = o }) x (IndexesFilled x.stores x.cache indexes told held)
+filled_step f o x p indexes told held = record {
+  fair = λ d e r h. each_fair (record { files = f; folders = false; out = o }) x p told (DiskQuiet d e) d e indexes held h.files r h.filled;
+  leaves = λ d e r h. adds p h.adds;
+}
 
 -- after whose refusal a file is cleared
 cleared_step : (f o : Bool) (x : Parts) (p : Output) (q : List ℕ) (step : Step Disk Unit) → IsStep (round p) (record { files = false; folders = f; out = o }) x step → IsStep (round p) (record { files = false; folders = f; out = o }) x (Clearing q step)
@@ -107,11 +149,11 @@ renamed_step f o x p from to = record { fair = fair; leaves = leaves } where
   leaves d e (Ok t) h = writes p h.1
   leaves d e (Err r) h = writes p h.2
 
-out_step : (f o : Bool) (x : Parts) (l : Listing) (z : Seeds) (place : Bool) (out : List ℕ) → x.target ≡ cond place out (temporary_out out) → IsStep whole (record { files = false; folders = f; out = o }) x (OutMade place x.stores out l z)
-out_step f o x l z true out is = on_disk (λ p. assembled_step f o x p l z (in_place out) (sym is))
-out_step f o x l z false out is =
-    bound (on_disk (λ p. cleared_step f o x p (temporary_out out) _ (assembled_step f o x p l z (beside out) (sym is))))
-    (λ u. on_disk (λ p. cleared_step f o x p (temporary_out out) _ (renamed_step f o x p (temporary_out out) out)))
+out_step : (o : Bool) (x : Parts) (cache : Option (List ℕ)) (l : Listing) (z : Seeds) (place : Bool) (out : List ℕ) → x.target ≡ cond place out (temporary_out out) → IsStep whole (record { files = false; folders = not (is_some cache); out = o }) x (OutMade place x.stores cache out l z)
+out_step o x cache l z true out is = on_disk (λ p. assembled_step o x p cache l z (in_place out) (sym is))
+out_step o x cache l z false out is =
+    bound (on_disk (λ p. cleared_step _ o x p (temporary_out out) _ (assembled_step o x p cache l z (beside out) (sym is))))
+    (λ u. on_disk (λ p. cleared_step _ o x p (temporary_out out) _ (renamed_step _ o x p (temporary_out out) out)))
 
 stored_step : (f o : Bool) (x : Parts) (p : Output) (z : Sizes) (told : Option (List ℕ)) (q : List ℕ) (held : Option (Map (List ℕ))) → name_at x.stores 0 ≡ q
     → IsStep (round p) (record { files = f; folders = false; out = o }) x (ImageStored z x.image told q held)
@@ -143,8 +185,9 @@ command_step : (c : Command) → IsStep whole (spares c) (parts c) (Ends c)
 command_step (commands.Make store sizes workers index image) = bound (pure_step (SizesJudged sizes) (judged_fair (parts (commands.Make store sizes workers index image)) sizes)) (λ z. bound (on_disk (λ p. image_step _ _ p)) (λ told. bound (on_disk (λ p. taken_step _ _ _ p (name_of store))) (λ held. bound (on_disk (λ p. stored_step _ _ _ p z told (name_of store) held refl)) (λ bytes. on_disk (λ p. written_step _ _ _ p index bytes)))))
 command_step (commands.VerifyIndex index image) = bound (on_disk (λ p. index_step _ _ p index)) (λ l. bound (on_disk (λ p. image_step _ _ p)) (λ told. on_disk (λ p. checked_step _ _ p l told)))
 command_step (commands.Chop store index image) = bound (on_disk (λ p. index_step _ _ p index)) (λ l. bound (on_disk (λ p. image_step _ _ p)) (λ told. bound (on_disk (λ p. taken_step _ _ _ p (name_of store))) (λ held. on_disk (λ p. chopped_step _ _ _ p l told (name_of store) held refl))))
+command_step (commands.Cache stores cache indexes) = bound (on_disk (λ p. told_step _ _ p)) (λ told. bound (on_disk (λ p. taken_step _ _ _ p cache)) (λ held. on_disk (λ p. filled_step _ _ _ p indexes told held)))
 command_step (commands.ListChunks index) = bound (on_disk (λ p. index_step _ _ p index)) (λ l. on_out (λ d. printed_step _ _ _ d (text_of_chunks l)))
-command_step (commands.Extract stores seeds cache in_place workers index target) = bound (on_disk (λ p. index_step _ _ p index)) (λ l. bound (on_disk (λ p. indexes_step _ _ p seeds)) (λ ls. bound (on_disk (λ p. opened_step _ _ p)) (λ u. out_step _ _ (parts (commands.Extract stores seeds cache in_place workers index target)) l (record { images = map image_name seeds; listings = ls }) in_place target refl)))
+command_step (commands.Extract stores seeds cache in_place workers index target) = bound (on_disk (λ p. index_step _ _ p index)) (λ l. bound (on_disk (λ p. indexes_step _ _ p seeds)) (λ ls. bound (on_disk (λ p. opened_step _ _ p)) (λ u. bound (on_disk (λ p. cache_step _ _ p cache)) (λ u. out_step _ (parts (commands.Extract stores seeds cache in_place workers index target)) cache l (record { images = map image_name seeds; listings = ls }) in_place target refl))))
 command_step (commands.Info stores index) = bound (on_disk (λ p. index_step _ _ p index)) (λ l. bound (on_disk (λ p. counted_step _ _ p l)) (λ n. on_out (λ d. printed_step _ _ _ d (text_of_info l n))))
 command_step commands.Help = on_out (λ d. printed_step _ _ _ d (help_text topics.All))
 command_step commands.Version = on_out (λ d. printed_step _ _ _ d (help_text topics.Version))
@@ -208,6 +251,7 @@ quiet x w v o n h = go o h where
   go ends.ImageFault r = file x.image r
   go (ends.StoreFault s) r = folder (name_at x.stores s) r
   go ends.TargetFault r = file x.target r
+  go ends.CacheFault r = folder x.cache r
   go (ends.FileFault name) (inl r) = file name r
   go (ends.FileFault name) (inr r) = folder name r
   go ends.OutFault r = rose_not_quiet w.out.faults w.out.faults v.out.faults (omega arith) r n.out

@@ -1,4 +1,5 @@
 pub mod Assembled
+pub mod Shelved
 pub mod Chopped
 pub mod Replaced
 pub mod Counting
@@ -12,3 +13,5 @@ pub mod Verified
 pub mod VerifyIndex
 pub mod Wrote
 pub mod RoundTrip
+pub mod CacheFilled
+pub mod Cached

@@ -5,6 +5,7 @@ use Rattle.std.proofs.lemmas.List.Elements.{All-cons, All-nil}
 use Rattle.std.specs.List.{AllZip}
 use Rattle.std.specs.Map.{count_at}
 use Rattle.assembler.specs.Assemblies.{IsUnobtained, RightAlike}
+use Rattle.assembler.specs.Caches.{CacheLacks}
 use Rattle.assembler.specs.Faults.{fault_of}
 use Rattle.assembler.specs.Losses.{chunk_of, lost_want}
 use Rattle.assembler.specs.Passes.{EndsBy, want_at}
@@ -14,6 +15,7 @@ use Rattle.assembler.specs.declared.fault.ExtractFault.TheVariants as faults
 use Rattle.assembler.specs.declared.fault.Lost.{Lost}
 use Rattle.assembler.specs.declared.kit.Kit.{Kit}
 use Rattle.assembler.specs.declared.report.Report.{Report}
+use Rattle.cache_store.specs.Shelves.{Shelf}
 use Rattle.caibx_codec.specs.Listing.{Listing, count_of, id_of, image_length, kind_of, size_of}
 use Rattle.chunk_store.specs.Folders.{chunks}
 use Rattle.chunk_store.specs.Giving.{IsChunk}
@@ -27,9 +29,9 @@ use Rattle.command_steps.specs.Blames.{name_at}
 use Rattle.command_steps.specs.Seeds.{IsViewed}
 use Rattle.command_steps.specs.Stores.{FailsFirst}
 use Rattle.command_steps.specs.Worlds.{FileRose}
-use Rattle.desync_cli.proofs.Assembled.{LackingOver, LostAs, SeedsLack, StoreAs, TargetAs}
+use Rattle.desync_cli.proofs.Assembled.{LackingOver, LostAs, OthersLack, StoreAs, TargetAs}
 use Rattle.desync_cli.proofs.Seeded.{had_failed, label_of}
-use Rattle.desync_cli.specs.Extract.{Into, Seeds, StopsFailed}
+use Rattle.desync_cli.specs.Extract.{CacheLacksEntry, Into, Seeds, StopsFailed}
 use Rattle.dsy_base.specs.Bytes.{Held, resized}
 use Rattle.dsy_base.specs.Counts.{Rose, raised}
 use Rattle.dsy_base.specs.Disk.{Disk}
@@ -156,44 +158,48 @@ gained_before place counted mid last (x ∷ a) (y ∷ b) same le gained =
 -- ---- what a lost entry tells
 
 module _ {S V : Type 0} (holds folder : S → Option (Map (List ℕ))) (place : S → List ℕ) (counted : S → ℕ) (lacks_memory : Bool) (view : V → Held) (view_faults : V → ℕ) (l : Listing) (p : Deal) (x : Placed)
-    (d e : Disk) (names : List (List ℕ)) (out : Into) (seeds : Seeds) (t0 : Option (List ℕ)) (old new : ℕ) (k j : Kit S V) where
+    (d e : Disk) (names : List (List ℕ)) (cache : Option (List ℕ)) (out : Into) (seeds : Seeds) (t0 : Option (List ℕ)) (old new : ℕ) (k j : Kit S V) (e0 e1 : Option Shelf) where
   abbrev said_of : S → Said
   said_of s = said_by (holds s)
 
   abbrev IsLostHere : Lost → Type 0
-  IsLostHere u = IsUnobtained holds folder place said_of counted lacks_memory view view_faults l p x t0 old new k j u
+  IsLostHere u = IsUnobtained holds folder place said_of counted lacks_memory view view_faults l p x t0 old new k j e0 e1 u
 
   lacking : (o : Option (List ℕ)) (fs : List (Map (List ℕ))) (n : ℕ) (id : ChunkId) (r : Refused) → n < count_of l → id.0 ≡ id_of l n → LacksAll (chunk_of (kind_of l) id (size_of l n)) (map chunks fs) r
-      → IfSome o (λ b. RightAlike l (resized b (image_length l)) n → Rose old new) → (Rose old new → FileRose d e out.name) → IfSome o (λ b. LackingOver d e names out l seeds b fs n id r)
+      → IfSome o (λ b. RightAlike l (resized b (image_length l)) n → Rose old new) → (Rose old new → FileRose d e out.name) → IfSome o (λ b. LackingOver d e names cache out l seeds b fs n id r)
   lacking None fs n id r inside named lacks copies rose = tt
   lacking (Some b) fs n id r inside named lacks copies rose = (inside, named, lacks, λ a. rose (copies a))
 
   -- it is lacking from the stores, which held these chunks
-  lacks_at : (fs : List (Map (List ℕ))) → map holds k.chain.stores ≡ map Some (map chunks fs) → (Rose old new → FileRose d e out.name) → (u : Lost) → IsLostHere u → IfSome t0 (λ o. LackingOver d e names out l seeds o fs u.entry u.id u.refused)
+  lacks_at : (fs : List (Map (List ℕ))) → map holds k.chain.stores ≡ map Some (map chunks fs) → (Rose old new → FileRose d e out.name) → (u : Lost) → IsLostHere u → IfSome t0 (λ o. LackingOver d e names cache out l seeds o fs u.entry u.id u.refused)
   lacks_at fs held rose u h = lacking t0 fs u.entry u.id u.refused h.listed h.id_is (h.stores.refused.lacks (map chunks fs) (h.stores.until.held ∙ held)) h.copies rose
 
   none_lost : (o : Option (List ℕ)) → IfSome o (λ b. Unit {0})
   none_lost None = tt
   none_lost (Some b) = tt
 
-  pub lacks_told : (F : Type 0) (r : Result Report ExtractFault) (fs : List (Map (List ℕ))) → map holds k.chain.stores ≡ map Some (map chunks fs) → (Rose old new → FileRose d e out.name) → EndsBy IsLostHere F r → IfSome t0 (λ o. IfErr r (LostAs (LackingOver d e names out l seeds o fs)))
+  pub lacks_told : (F : Type 0) (r : Result Report ExtractFault) (fs : List (Map (List ℕ))) → map holds k.chain.stores ≡ map Some (map chunks fs) → (Rose old new → FileRose d e out.name) → EndsBy IsLostHere F r → IfSome t0 (λ o. IfErr r (LostAs (LackingOver d e names cache out l seeds o fs)))
   lacks_told F (Ok r) fs held rose h = none_lost t0
-  lacks_told F (Err (faults.Missing n id)) fs held rose h = lost_as IsLostHere F (λ n id r. IfSome t0 (λ o. LackingOver d e names out l seeds o fs n id r)) (lacks_at fs held rose) (Err (faults.Missing n id)) h
-  lacks_told F (Err (faults.Damaged n id s y)) fs held rose h = lost_as IsLostHere F (λ n id r. IfSome t0 (λ o. LackingOver d e names out l seeds o fs n id r)) (lacks_at fs held rose) (Err (faults.Damaged n id s y)) h
+  lacks_told F (Err (faults.Missing n id)) fs held rose h = lost_as IsLostHere F (λ n id r. IfSome t0 (λ o. LackingOver d e names cache out l seeds o fs n id r)) (lacks_at fs held rose) (Err (faults.Missing n id)) h
+  lacks_told F (Err (faults.Damaged n id s y)) fs held rose h = lost_as IsLostHere F (λ n id r. IfSome t0 (λ o. LackingOver d e names cache out l seeds o fs n id r)) (lacks_at fs held rose) (Err (faults.Damaged n id s y)) h
   lacks_told F (Err (faults.StoreFault s)) fs held rose h = none_lost t0
   lacks_told F (Err faults.TargetFault) fs held rose h = none_lost t0
   lacks_told F (Err faults.Memory) fs held rose h = none_lost t0
 
-  -- the seeds that have its chunk have failed
+  -- the seeds that have its chunk have failed, and the cache doesn't give it
   module _ (mid : Disk) (b : Map (List ℕ)) (told : d.files ≡ Some b) (zip : AllZip (IsViewed d mid) seeds.images (map (held_in view) k.seeds.items)) (is : IsSeedIndex l p seeds.listings x) (later : (q : List ℕ) → FileRose d mid q → FileRose d e q)
-      (rises : (n : ℕ) → Rose (slice_index (map (faults_in view_faults) k.seeds.items) n) (slice_index (map (faults_in view_faults) j.seeds.items) n) → FileRose d e (name_at (map label_of (map (held_in view) k.seeds.items)) n)) where
-    seeds_at : (u : Lost) → IsLostHere u → SeedsLack d e names out l seeds b u.entry u.id u.refused
-    seeds_at u h = had_failed d mid b told seeds (map (held_in view) k.seeds.items) zip (id_of l u.entry) (size_of l u.entry) (places_at x (want_at p u.entry)) (is.places u.entry h.listed) e later
-        (map (faults_in view_faults) k.seeds.items) (map (faults_in view_faults) j.seeds.items) rises
-        (subst (λ (id : List ℕ). SeedsFailed (map (held_in view) k.seeds.items) (places_at x (want_at p u.entry)) id (map (faults_in view_faults) k.seeds.items) (map (faults_in view_faults) j.seeds.items)) h.id_is h.seeds)
+      (rises : (n : ℕ) → Rose (slice_index (map (faults_in view_faults) k.seeds.items) n) (slice_index (map (faults_in view_faults) j.seeds.items) n) → FileRose d e (name_at (map label_of (map (held_in view) k.seeds.items)) n))
+      (gone : (n : ℕ) → CacheLacks (kind_of l) (id_of l n) (size_of l n) e0 e1 → CacheLacksEntry d e cache l n) where
+    others_at : (u : Lost) → IsLostHere u → OthersLack d e names cache out l seeds b u.entry u.id u.refused
+    others_at u h = (
+      had_failed d mid b told seeds (map (held_in view) k.seeds.items) zip (id_of l u.entry) (size_of l u.entry) (places_at x (want_at p u.entry)) (is.places u.entry h.listed) e later
+          (map (faults_in view_faults) k.seeds.items) (map (faults_in view_faults) j.seeds.items) rises
+          (subst (λ (id : List ℕ). SeedsFailed (map (held_in view) k.seeds.items) (places_at x (want_at p u.entry)) id (map (faults_in view_faults) k.seeds.items) (map (faults_in view_faults) j.seeds.items)) h.id_is h.seeds),
+      gone u.entry h.cache,
+    )
 
-    pub seeds_lack : (F : Type 0) (r : Result Report ExtractFault) → EndsBy IsLostHere F r → IfErr r (LostAs (SeedsLack d e names out l seeds b))
-    seeds_lack F r h = lost_as IsLostHere F (SeedsLack d e names out l seeds b) seeds_at r h
+    pub others_lack : (F : Type 0) (r : Result Report ExtractFault) → EndsBy IsLostHere F r → IfErr r (LostAs (OthersLack d e names cache out l seeds b))
+    others_lack F r h = lost_as IsLostHere F (OthersLack d e names cache out l seeds b) others_at r h
 
   module _ (mid : Map ℕ) (le : (q : List ℕ) → count_at d.folder_counts q ≤ count_at mid q) (kept : KeepsStores holds folder place said_of counted k.chain.stores j.chain.stores) (same : map place k.chain.stores ≡ names)
       (there : (after : List S) → map holds after ≡ map holds k.chain.stores → IfSome d.folders (λ m. (fs : List (Map (List ℕ))) × (map m names ≡ map Some fs) × (map holds after ≡ map Some (map chunks fs))))

@@ -8,15 +8,17 @@ use Rattle.command_line.specs.declared.command.Command.TheVariants as commands
 use Rattle.command_line.specs.declared.command.Location.{Location}
 use Rattle.command_outcome.specs.declared.outcome.Outcome.{Outcome}
 use Rattle.command_outcome.specs.declared.outcome.Outcome.TheVariants as ends
+use Rattle.command_steps.proofs.Cached.{cache_reads}
+use Rattle.command_steps.specs.Cache.{CacheOpened}
 use Rattle.command_steps.specs.Openings.{IndexRead, Listed}
 use Rattle.command_steps.specs.Seeds.{AllListed, IndexesRead, image_name}
 use Rattle.command_steps.specs.Steps.{◌>>=◌, Passed, outcome_of}
 use Rattle.command_steps.specs.Stores.{StoresOpened, name_of, names_of}
-use Rattle.command_steps.specs.Worlds.{OnDisk, Step, World, world}
+use Rattle.command_steps.specs.Worlds.{OnDisk, Reads, Step, World, world}
 use Rattle.desync_cli.proofs.Fair.{begun, if_any, if_some}
 use Rattle.desync_cli.proofs.Seeded.{zipped_many}
 use Rattle.desync_cli.specs.Commands.{DesyncEnds, Ends, LeavesBehind, command_of}
-use Rattle.desync_cli.specs.Extract.{Assembled, Cleared, ClearedAfter, Clearing, ExtractEnds, Into, KeepsIn, LeavesOut, OutMade, Seeds, StopsSomewhere, beside, old_of, temporary_out}
+use Rattle.desync_cli.specs.Extract.{Assembled, Cleared, ClearedAfter, Clearing, ExtractEnds, Into, KeepsIn, LeavesOut, OutMade, Seeds, StopsSomewhere, beside, folder_of, old_of, temporary_out}
 use Rattle.dsy_base.proofs.Counts.{at_other}
 use Rattle.dsy_base.specs.Disk.{Disk, Output}
 use Rattle.dsy_base.specs.Maps.{Map, at_name}
@@ -66,21 +68,21 @@ module _ (tmp : List ℕ) where
   ]
 
   -- over files and folders that tell, and over such that don't
-  over_told : (f : Option (Map (List ℕ))) (y : Option (Map (Map (List ℕ)))) (g : Option (Map (List ℕ))) (names : List (List ℕ)) (P : Map (List ℕ) → Map (List ℕ) → List (Map (List ℕ)) → Type 0) → is_some f ≡ is_some y → is_some g ≡ is_some f
-      → ((b a : Map (List ℕ)) (fs : List (Map (List ℕ))) → P b a fs → (w : Option (List ℕ)) × ((a ≡ b) ⊎ (a ≡ at_name b tmp w)))
-      → IfSome f (λ b. IfSome y (λ n. IfSome g (λ a. (fs : List (Map (List ℕ))) × (map n names ≡ map Some fs) × P b a fs))) → Only f g
-  over_told None y None names P told tells p h = tt
-  over_told None y (Some a) names P told tells p h = let no : true ≡ false = tells in absurd (cc)
-  over_told (Some b) None g names P told tells p h = let no : true ≡ false = told in absurd (cc)
-  over_told (Some b) (Some n) None names P told tells p h = let no : false ≡ true = tells in absurd (cc)
-  over_told (Some b) (Some n) (Some a) names P told tells p h =
-      let at = p b a h.0 h.2 in
+  over_told : (f : Option (Map (List ℕ))) (y : Option (Map (Map (List ℕ)))) (g : Option (Map (List ℕ))) (names : List (List ℕ)) (cache : Option (List ℕ)) (P : Map (List ℕ) → Map (List ℕ) → List (Map (List ℕ)) → List (Map (List ℕ)) → Type 0) → is_some f ≡ is_some y → is_some g ≡ is_some f
+      → ((b a : Map (List ℕ)) (cs fs : List (Map (List ℕ))) → P b a cs fs → (w : Option (List ℕ)) × ((a ≡ b) ⊎ (a ≡ at_name b tmp w)))
+      → IfSome f (λ b. IfSome y (λ n. IfSome g (λ a. (fs : List (Map (List ℕ))) × (map n names ≡ map Some fs) × (cs : List (Map (List ℕ))) × (map n (folder_of cache) ≡ map Some cs) × P b a cs fs))) → Only f g
+  over_told None y None names cache P told tells p h = tt
+  over_told None y (Some a) names cache P told tells p h = let no : true ≡ false = tells in absurd (cc)
+  over_told (Some b) None g names cache P told tells p h = let no : true ≡ false = told in absurd (cc)
+  over_told (Some b) (Some n) None names cache P told tells p h = let no : false ≡ true = tells in absurd (cc)
+  over_told (Some b) (Some n) (Some a) names cache P told tells p h =
+      let at = p b a h.2 h.0 h.4 in
       elim at.1 [
         | inl same ↦ only_same (Some b) (Some a) (ap Some same)
         | inr set ↦ only_at (Some b) (Some a) at.0 (ap Some set)
       ]
 
-module _ (names : List (List ℕ)) (i : Into) (l : Listing) (x : Seeds) (d e : Disk) (told : is_some d.files ≡ is_some d.folders) (tells : is_some e.files ≡ is_some d.files) where
+module _ (names : List (List ℕ)) (cache : Option (List ℕ)) (i : Into) (l : Listing) (x : Seeds) (d e : Disk) (told : is_some d.files ≡ is_some d.folders) (tells : is_some e.files ≡ is_some d.files) where
   kept_at : (b a : Map (List ℕ)) → (t : List ℕ) × KeepsIn d e b a i l t → (w : Option (List ℕ)) × ((a ≡ b) ⊎ (a ≡ at_name b i.name w))
   kept_at b a h = (Some h.0, inr h.1.0)
 
@@ -90,17 +92,17 @@ module _ (names : List (List ℕ)) (i : Into) (l : Listing) (x : Seeds) (d e : D
   stopped_at b a (inr (inr kept)) = kept_at b a kept
 
   -- an assembly that was refused has changed no other file
-  only_assembled : (o : Outcome) → Assembled d e names i l x (Err o) → Only i.name d.files e.files
-  only_assembled (ends.Missing k id) h = over_told i.name d.files d.folders e.files names _ told tells (λ b a fs p. (Some p.0.0, inr p.0.1.0)) h
-  only_assembled (ends.Damaged k id store shows) h = over_told i.name d.files d.folders e.files names _ told tells (λ b a fs p. (Some p.0.0, inr p.0.1.0)) h
-  only_assembled (ends.StoreFault s) h = over_told i.name d.files d.folders e.files names _ told tells (λ b a fs p. kept_at b a p) h.1
-  only_assembled ends.TargetFault h = over_told i.name d.files d.folders e.files names _ told tells (λ b a fs p. stopped_at b a p) h.1
-  only_assembled ends.Memory h = over_told i.name d.files d.folders e.files names _ told tells (λ b a fs p. stopped_at b a p) h
+  only_assembled : (o : Outcome) → Assembled d e names cache i l x (Err o) → Only i.name d.files e.files
+  only_assembled (ends.Missing k id) h = over_told i.name d.files d.folders e.files names cache _ told tells (λ b a cs fs p. (Some p.0.0, inr p.0.1.0)) h
+  only_assembled (ends.Damaged k id store shows) h = over_told i.name d.files d.folders e.files names cache _ told tells (λ b a cs fs p. (Some p.0.0, inr p.0.1.0)) h
+  only_assembled (ends.StoreFault s) h = over_told i.name d.files d.folders e.files names cache _ told tells (λ b a cs fs p. kept_at b a p) h.1
+  only_assembled ends.TargetFault h = over_told i.name d.files d.folders e.files names cache _ told tells (λ b a cs fs p. stopped_at b a p) h.1
+  only_assembled ends.Memory h = over_told i.name d.files d.folders e.files names cache _ told tells (λ b a cs fs p. stopped_at b a p) h
   only_assembled other h = absurd h
 
   -- nor has one that was done
-  only_made : Assembled d e names i l x (Ok tt) → Only i.name d.files e.files
-  only_made h = over_told i.name d.files d.folders e.files names _ told tells (λ b a fs p. (Some p.0.0, inr p.0.1.0)) h
+  only_made : Assembled d e names cache i l x (Ok tt) → Only i.name d.files e.files
+  only_made h = over_told i.name d.files d.folders e.files names cache _ told tells (λ b a cs fs p. (Some p.0.0, inr p.0.1.0)) h
 
 left_over : (out : List ℕ) (w v : World) → Only (temporary_out out) w.disk.files v.disk.files → LeavesOut false out w v
 left_over out w v only = go w.disk.files v.disk.files only where
@@ -114,17 +116,17 @@ left_same true out w v same = tt
 left_same false out w v same = left_over out w v (only_same (temporary_out out) w.disk.files v.disk.files same)
 
 -- what a refusal of the command leaves
-pub left_out : (stores : List Location) (seeds : List (List ℕ)) (place : Bool) (index out : List ℕ) (w v : World) (o : Outcome) → is_some w.disk.files ≡ is_some w.disk.folders → ExtractEnds stores seeds place index out w (Err o) v → LeavesOut place out w v
-left_out stores seeds true index out w v o told h = tt
-left_out stores seeds false index out w v o told (inl h) = left_same false out w v h.0.1.files
-left_out stores seeds false index out w v o told (inr h) = go h.then where
+pub left_out : (stores : List Location) (cache : Option (List ℕ)) (seeds : List (List ℕ)) (place : Bool) (index out : List ℕ) (w v : World) (o : Outcome) → is_some w.disk.files ≡ is_some w.disk.folders → ExtractEnds stores cache seeds place index out w (Err o) v → LeavesOut place out w v
+left_out stores cache seeds true index out w v o told h = tt
+left_out stores cache seeds false index out w v o told (inl h) = left_same false out w v h.0.1.files
+left_out stores cache seeds false index out w v o told (inr h) = go h.then where
   tmp : List ℕ
   tmp = temporary_out out
 
   first : h.disk.files ≡ w.disk.files
   first = h.did.0.1.files
 
-  go : (OnDisk (IndexesRead seeds) >>= (λ ls. OnDisk (StoresOpened (names_of stores)) >>= (λ u. OutMade false (names_of stores) out h.gave (record { images = map image_name seeds; listings = ls })))) (world h.disk h.out) (Err o) v → LeavesOut false out w v
+  go : (OnDisk (IndexesRead seeds) >>= (λ ls. OnDisk (StoresOpened (names_of stores)) >>= (λ u. OnDisk (CacheOpened cache) >>= (λ u. OutMade false (names_of stores) cache out h.gave (record { images = map image_name seeds; listings = ls }))))) (world h.disk h.out) (Err o) v → LeavesOut false out w v
   go (inl k) = left_same false out w v (k.0.1.files ∙ first)
   go (inr k) = opened k.then where
     read : k.disk.files ≡ w.disk.files
@@ -133,30 +135,39 @@ left_out stores seeds false index out w v o told (inr h) = go h.then where
     x : Seeds
     x = record { images = map image_name seeds; listings = k.gave }
 
-    opened : (OnDisk (StoresOpened (names_of stores)) >>= (λ u. OutMade false (names_of stores) out h.gave x)) (world k.disk k.out) (Err o) v → LeavesOut false out w v
+    opened : (OnDisk (StoresOpened (names_of stores)) >>= (λ u. OnDisk (CacheOpened cache) >>= (λ u. OutMade false (names_of stores) cache out h.gave x))) (world k.disk k.out) (Err o) v → LeavesOut false out w v
     opened (inl m) = left_same false out w v (m.0.1.files ∙ read)
-    opened (inr m) = made m.then where
-      files : m.disk.files ≡ w.disk.files
-      files = m.did.0.1.files ∙ read
+    opened (inr g) = shelved g.then where
+      open_files : g.disk.files ≡ w.disk.files
+      open_files = g.did.0.1.files ∙ read
 
-      folders : m.disk.folders ≡ w.disk.folders
-      folders = m.did.0.1.folders ∙ k.did.0.1.folders ∙ h.did.0.1.folders
+      shelved : (OnDisk (CacheOpened cache) >>= (λ u. OutMade false (names_of stores) cache out h.gave x)) (world g.disk g.out) (Err o) v → LeavesOut false out w v
+      shelved (inl m) = left_same false out w v ((cache_reads cache g.disk v.disk (Err o) m.0).files ∙ open_files)
+      shelved (inr m) = made m.then where
+        reached : Reads g.disk m.disk
+        reached = cache_reads cache g.disk m.disk (Ok tt) m.did.0
 
-      tells : is_some m.disk.files ≡ is_some m.disk.folders
-      tells = ap is_some files ∙ told ∙ sym (ap is_some folders)
+        files : m.disk.files ≡ w.disk.files
+        files = reached.files ∙ open_files
 
-      from : (u : Option (Map (List ℕ))) → Only tmp m.disk.files u → Only tmp w.disk.files u
-      from u only = subst (λ f. Only tmp f u) files only
+        folders : m.disk.folders ≡ w.disk.folders
+        folders = reached.folders ∙ g.did.0.1.folders ∙ k.did.0.1.folders ∙ h.did.0.1.folders
 
-      made : OutMade false (names_of stores) out h.gave x (world m.disk m.out) (Err o) v → LeavesOut false out w v
-      made (inl ((c, p, did, same, cleared), out_same)) =
-          left_over out w v (from v.disk.files (only_then tmp m.disk.files c.files v.disk.files (only_assembled (names_of stores) (beside out) h.gave x m.disk c tells did.2 p did.0) (only_cleared tmp c v.disk o cleared)))
-      made (inr n) =
-          let did = n.did.0 in
-          let first_only = only_made (names_of stores) (beside out) h.gave x m.disk n.disk tells did.2 did.0 in
-          let c = n.then.0 in
-          let second : Only tmp n.disk.files v.disk.files = only_then tmp n.disk.files c.0.files v.disk.files (only_same tmp n.disk.files c.0.files c.2.1) (only_cleared tmp c.0 v.disk o c.4) in
-          left_over out w v (from v.disk.files (only_then tmp m.disk.files n.disk.files v.disk.files first_only second))
+        tells : is_some m.disk.files ≡ is_some m.disk.folders
+        tells = ap is_some files ∙ told ∙ sym (ap is_some folders)
+
+        from : (u : Option (Map (List ℕ))) → Only tmp m.disk.files u → Only tmp w.disk.files u
+        from u only = subst (λ f. Only tmp f u) files only
+
+        made : OutMade false (names_of stores) cache out h.gave x (world m.disk m.out) (Err o) v → LeavesOut false out w v
+        made (inl ((c, p, did, same, cleared), out_same)) =
+            left_over out w v (from v.disk.files (only_then tmp m.disk.files c.files v.disk.files (only_assembled (names_of stores) cache (beside out) h.gave x m.disk c tells did.2 p did.0) (only_cleared tmp c v.disk o cleared)))
+        made (inr n) =
+            let did = n.did.0 in
+            let first_only = only_made (names_of stores) cache (beside out) h.gave x m.disk n.disk tells did.2 did.0 in
+            let c = n.then.0 in
+            let second : Only tmp n.disk.files v.disk.files = only_then tmp n.disk.files c.0.files v.disk.files (only_same tmp n.disk.files c.0.files c.2.1) (only_cleared tmp c.0 v.disk o c.4) in
+            left_over out w v (from v.disk.files (only_then tmp m.disk.files n.disk.files v.disk.files first_only second))
 
 -- ---- the steps in order
 
@@ -173,16 +184,22 @@ passed_any step next w (Ok b) v h = h
 passed_any step next w (Err o) v h = inr h
 
 -- OUT was made so after the steps before it
-pub ends_with : (stores : List Location) (seeds : List (List ℕ)) (place : Bool) (index out : List ℕ) (l : Listing) (ls : List Listing) (d b c m e : Disk) (p : Output) (r : Result Unit Outcome)
-    → IndexRead index d (Ok l) b → IndexesRead seeds b (Ok ls) c → StoresOpened (names_of stores) c (Ok tt) m → OutMade place (names_of stores) out l (record { images = map image_name seeds; listings = ls }) (world m p) r (world e p)
-    → ExtractEnds stores seeds place index out (world d p) r (world e p)
-ends_with stores seeds place index out l ls d b c m e p r listed read opened made =
+pub ends_with : (stores : List Location) (cache : Option (List ℕ)) (seeds : List (List ℕ)) (place : Bool) (index out : List ℕ) (l : Listing) (ls : List Listing) (d b c f m e : Disk) (p : Output) (r : Result Unit Outcome)
+    → IndexRead index d (Ok l) b → IndexesRead seeds b (Ok ls) c → StoresOpened (names_of stores) c (Ok tt) f → CacheOpened cache f (Ok tt) m → OutMade place (names_of stores) cache out l (record { images = map image_name seeds; listings = ls }) (world m p) r (world e p)
+    → ExtractEnds stores cache seeds place index out (world d p) r (world e p)
+ends_with stores cache seeds place index out l ls d b c f m e p r listed read opened shelved made =
     passed_any _ _ (world d p) r (world e p) (record {
       disk = b;
       out = p;
       gave = l;
       did = (listed, refl);
-      then = passed_any _ _ (world b p) r (world e p) (record { disk = c; out = p; gave = ls; did = (read, refl); then = passed_any _ _ (world c p) r (world e p) (record { disk = m; out = p; gave = tt; did = (opened, refl); then = made }) });
+      then = passed_any _ _ (world b p) r (world e p) (record {
+        disk = c;
+        out = p;
+        gave = ls;
+        did = (read, refl);
+        then = passed_any _ _ (world c p) r (world e p) (record { disk = f; out = p; gave = tt; did = (opened, refl); then = passed_any _ _ (world f p) r (world e p) (record { disk = m; out = p; gave = tt; did = (shelved, refl); then = made }) });
+      });
     })
 
 -- ---- what the assembly needs of them
@@ -202,7 +219,7 @@ opened_many place stores items same few =
 -- ---- what the top call says
 
 left_of : (c : Command) (w v : World) (o : Outcome) → is_some w.disk.files ≡ is_some w.disk.folders → Ends c w (Err o) v → LeavesBehind c w v
-left_of (commands.Extract stores seeds cache place workers index target) w v o told h = left_out stores seeds place index target w v o told h
+left_of (commands.Extract stores seeds cache place workers index target) w v o told h = left_out stores cache seeds place index target w v o told h
 left_of other w v o told h = tt
 
 left_none : (c : Command) (w v : World) → v ≡ w → LeavesBehind c w v

@@ -12,6 +12,7 @@ use Rattle.command_line.specs.declared.usage.WordsFault.{WordsFault}
 use Rattle.command_line.specs.declared.usage.WordsFault.TheVariants as faults
 use Rattle.command_outcome.specs.declared.outcome.Outcome.{Outcome}
 use Rattle.command_outcome.specs.declared.outcome.Outcome.TheVariants as ends
+use Rattle.desync_cli.specs.Caching.{CacheEnds, IsCached}
 use Rattle.desync_cli.specs.Chop.{ChopEnds, IsChopped}
 use Rattle.desync_cli.specs.Extract.{ExtractEnds, IsExtracted, LeavesOut, temporary_out}
 use Rattle.desync_cli.specs.Info.{InfoEnds}
@@ -31,10 +32,11 @@ abbrev pub is_built : Command → Bool
 is_built (commands.Make store sizes workers index image) = is_folder store
 is_built (commands.VerifyIndex index image) = true
 is_built (commands.Chop store index image) = is_folder store
+is_built (commands.Cache stores cache indexes) =
+    nat_le 1 (length stores) && nat_le (length stores) 16 && are_folders stores
 is_built (commands.ListChunks index) = true
 is_built (commands.Extract stores seeds cache in_place workers index target) =
-    nat_le (length seeds) 64 && not (is_some cache) && nat_le 1 (length stores) &&
-    nat_le (length stores) 16 && are_folders stores
+    nat_le (length seeds) 64 && nat_le 1 (length stores) && nat_le (length stores) 16 && are_folders stores
 is_built (commands.Info stores index) = nat_le (length stores) 16 && are_folders stores
 is_built commands.Help = true
 is_built commands.Version = true
@@ -46,8 +48,10 @@ abbrev pub Ends : Command → Step World Unit
 Ends (commands.Make store sizes workers index image) = MakeEnds store sizes index image
 Ends (commands.VerifyIndex index image) = VerifyIndexEnds index image
 Ends (commands.Chop store index image) = ChopEnds store index image
+Ends (commands.Cache stores cache indexes) = CacheEnds stores cache indexes
 Ends (commands.ListChunks index) = ListChunksEnds index
-Ends (commands.Extract stores seeds cache in_place workers index target) = ExtractEnds stores seeds in_place index target
+Ends (commands.Extract stores seeds cache in_place workers index target) =
+    ExtractEnds stores cache seeds in_place index target
 Ends (commands.Info stores index) = InfoEnds stores index
 Ends commands.Help = OnOut (Printed (help_text topics.All))
 Ends commands.Version = OnOut (Printed (help_text topics.Version))
@@ -59,21 +63,24 @@ abbrev pub spares : Command → Spares
 spares (commands.Make store sizes workers index image) = record { files = false; folders = false; out = true }
 spares (commands.VerifyIndex index image) = record { files = true; folders = true; out = true }
 spares (commands.Chop store index image) = record { files = true; folders = false; out = true }
+spares (commands.Cache stores cache indexes) = record { files = true; folders = false; out = true }
 spares (commands.Extract stores seeds cache in_place workers index target) = record
-    { files = false; folders = true; out = true }
+    { files = false; folders = not (is_some cache); out = true }
 spares other = record { files = true; folders = true; out = false }
 
 -- whose files and folders its faults are of, where the outcome doesn't name them
 abbrev pub parts : Command → Parts
 parts (commands.Make store sizes workers index image) = record
-    { image = image; stores = name_of store ∷ []; target = [] }
-parts (commands.VerifyIndex index image) = record { image = image; stores = []; target = [] }
+    { image = image; stores = name_of store ∷ []; target = []; cache = [] }
+parts (commands.VerifyIndex index image) = record { image = image; stores = []; target = []; cache = [] }
 parts (commands.Chop store index image) = record
-    { image = image; stores = name_of store ∷ []; target = [] }
+    { image = image; stores = name_of store ∷ []; target = []; cache = [] }
+parts (commands.Cache stores cache indexes) = record
+    { image = []; stores = names_of stores; target = []; cache = cache }
 parts (commands.Extract stores seeds cache in_place workers index target) = record
-    { image = []; stores = names_of stores; target = if in_place then target else temporary_out target }
-parts (commands.Info stores index) = record { image = []; stores = names_of stores; target = [] }
-parts other = record { image = []; stores = []; target = [] }
+    { image = []; stores = names_of stores; target = if in_place then target else temporary_out target; cache = [] }
+parts (commands.Info stores index) = record { image = []; stores = names_of stores; target = []; cache = [] }
+parts other = record { image = []; stores = []; target = []; cache = [] }
 
 -- what Done says of it, beside how it ends
 abbrev pub Achieves : Command → World → World → Type 0
@@ -84,6 +91,9 @@ Achieves (commands.VerifyIndex index image) w v = IfSome w.disk.files (λ m. IsV
 Achieves (commands.Chop store index image) w v =
     IfSome w.disk.files (λ b. IfSome w.disk.folders (λ f. IfSome v.disk.folders (λ g.
     IsChopped b f g (name_of store) index image)))
+Achieves (commands.Cache stores cache indexes) w v =
+    IfSome w.disk.files (λ b. IfSome w.disk.folders (λ f. IfSome v.disk.folders (λ g.
+    IsCached b f g cache indexes)))
 Achieves (commands.Extract stores seeds cache in_place workers index target) w v =
     IfSome w.disk.files (λ b. IfSome v.disk.files (λ a. IsExtracted b a index target))
 Achieves other w v = Ends other w (Ok tt) v

@@ -1,29 +1,36 @@
--- `extract [-k] -s FOLDER.. --seed INDEX.. INDEX OUT`. A name is its bytes.
-use Rattle.std.specs.Prelude.{◌≡◌, ◌≢◌, ◌⊎◌, ◌++◌, codes, Bool, true, false, if◌then◌else◌, is_some, ℕ, ◌+◌, ◌<◌, ◌≤◌, length, List, [], map, Some, None, IfSome, Result, Ok, Err, unwrap_or}
-use Rattle.std.specs.List.{slice_get}
+-- `extract [-k] -s FOLDER.. -c FOLDER --seed INDEX.. INDEX OUT`. A name is its bytes.
+use Rattle.std.specs.Prelude.{◌≡◌, ◌≢◌, ◌⊎◌, ◌++◌, codes, Bool, true, false, if◌then◌else◌, is_some, ℕ, ◌+◌, ◌<◌, ◌≤◌}
+use Rattle.std.specs.Prelude.{length, List, [], ◌∷◌, map, Option, Some, None, IfSome, IsSome, IsTrue, Result, Ok, Err}
+use Rattle.std.specs.Prelude.{unwrap_or}
+use Rattle.std.specs.List.{Any, slice_get}
+use Rattle.std.specs.Map.{count_at}
 use Rattle.std.specs.Option.{option_map}
 use Rattle.assembler.specs.Assemblies.{IsLeast, KeepsBase, RightAlike}
-use Rattle.assembler.specs.Losses.{SomeGives, chunk_of}
+use Rattle.assembler.specs.Caches.{IsListedAs}
+use Rattle.assembler.specs.Losses.{chunk_of}
 use Rattle.assembler.specs.declared.fault.ExtractFault.{ExtractFault}
 use Rattle.assembler.specs.declared.fault.ExtractFault.TheVariants as faults
 use Rattle.assembler.specs.declared.report.Report.{Report}
+use Rattle.cache_store.specs.Giving.{GiveOneSize, SomeGives}
 use Rattle.caibx_codec.specs.Listing.{Listing, count_of, id_of, kind_of, size_of, slice_of, start_of, image_length}
 use Rattle.caibx_codec.specs.Right.{IsRight, IsRightAt}
 use Rattle.chunk_store.specs.Folders.{chunks}
-use Rattle.chunk_store.specs.Giving.{IsChunk}
+use Rattle.chunk_store.specs.Giving.{GivesChunk, IsChunk}
 use Rattle.chunk_store.specs.declared.id.ChunkId.{ChunkId}
 use Rattle.command_line.specs.declared.command.Location.{Location}
 use Rattle.command_outcome.specs.declared.outcome.Outcome.{Outcome}
 use Rattle.command_outcome.specs.declared.outcome.Outcome.TheVariants as ends
+use Rattle.dir_store.specs.Names.{is_stranger}
 use Rattle.dsy_base.specs.Bytes.{resized}
 use Rattle.dsy_base.specs.Maps.{Map, at_name}
 use Rattle.dsy_base.specs.declared.fault.IoFault.{IoFault}
 use Rattle.dsy_base.specs.declared.fault.IoFault.TheVariants as io
+use Rattle.command_steps.specs.Cache.{CacheOpened}
 use Rattle.command_steps.specs.Openings.{IndexRead, IsListed}
 use Rattle.command_steps.specs.Seeds.{IndexesRead, image_name}
 use Rattle.command_steps.specs.Steps.{◌>>=◌}
 use Rattle.command_steps.specs.Stores.{FailsFirst, StoresOpened, names_of}
-use Rattle.command_steps.specs.Worlds.{DiskQuiet, FileRose, OnDisk, Step, World, Writes}
+use Rattle.command_steps.specs.Worlds.{DiskQuiet, FileRose, FolderRose, OnDisk, Step, World, Writes}
 use Rattle.dsy_base.specs.Disk.{Disk}
 use Rattle.store_chain.specs.Giving.{LacksAll}
 use Rattle.store_chain.specs.declared.refused.Refused.{Refused}
@@ -69,15 +76,17 @@ pub record SeedHas (files : Map (List ℕ)) (x : Seeds) (id : List ℕ) (size s 
   pub fits : start_of listing entry + size ≤ length bytes
   pub right : IsRightAt bytes listing entry
 
--- entry i can be had: an alike one is right in the base, or a seed has its chunk in one of these files, or a store that
--- holds one of these maps gives it
+-- entry i can be had: an alike one is right in the base, or a seed has its chunk in one of these files, or the cache or
+-- a store gives it, which hold these maps
 abbrev pub CanBeHad : Listing → List ℕ → Map (List ℕ) → Seeds → List (Map (List ℕ)) → ℕ → Type 0
 CanBeHad l base files x maps i = RightAlike l base i ⊎ (((s : ℕ) × SeedHas files x (id_of l i) (size_of l i) s)
     ⊎ SomeGives (kind_of l) (id_of l i) (size_of l i) maps)
 
--- so it is where the base and the images of seeds are of these files, and the stores' folders hold these
-abbrev pub HadFrom : Map (List ℕ) → Into → Listing → Seeds → List (Map (List ℕ)) → ℕ → Type 0
-HadFrom before out l x stores = CanBeHad l (base_of before out l) before x (map chunks stores)
+-- so it is where the base and the images of seeds are of these files, and the folders of the cache and of the stores
+-- hold these
+abbrev pub HadFrom : Map (List ℕ) → Into → Listing → Seeds → List (Map (List ℕ)) → List (Map (List ℕ)) → ℕ → Type 0
+HadFrom before out l x cached stores =
+    CanBeHad l (base_of before out l) before x (map chunks cached ++ map chunks stores)
 
 -- each entry that can be had is right in t, and each other has the base's bytes
 abbrev pub AreFilled : Listing → (ℕ → Type 0) → List ℕ → List ℕ → Type 0
@@ -94,54 +103,77 @@ abbrev pub StopsSomewhere : Disk → Disk → Map (List ℕ) → Map (List ℕ) 
 StopsSomewhere d e before after out l =
     (after ≡ before) ⊎ (Leaves before after out (old_of before out) ⊎ ((t : List ℕ) × KeepsIn d e before after out l t))
 
+-- afterwards the folder of the cache doesn't give the chunk of entry k, unless calls on it have failed
+abbrev pub CacheLacksEntry : Disk → Disk → Option (List ℕ) → Listing → ℕ → Type 0
+CacheLacksEntry d e None l k = Unit {0}
+CacheLacksEntry d e (Some c) l k = IfSome e.folders (λ n. IfSome (n c) (λ g.
+    GivesChunk (kind_of l) (id_of l k) (size_of l k) (chunks g (id_of l k)) → FolderRose d e c))
+
 -- the chunk of entry k can't be had from the folders, for this reason; an alike entry that is right in the base
--- couldn't be read, and no seed that has the chunk
-pub record IsLacking (d e : Disk) (before : Map (List ℕ)) (out : Into) (l : Listing) (x : Seeds)
-    (stores : List (Map (List ℕ))) (k : ℕ) (id : ChunkId) (r : Refused) : Type 0 where
+-- couldn't be read, and no seed that has the chunk; and the cache doesn't give it
+pub record IsLacking (d e : Disk) (before : Map (List ℕ)) (cache : Option (List ℕ)) (out : Into) (l : Listing)
+    (x : Seeds) (stores : List (Map (List ℕ))) (k : ℕ) (id : ChunkId) (r : Refused) : Type 0 where
   pub listed : k < count_of l
   pub id_is : id.0 ≡ id_of l k
   pub lacks : LacksAll (chunk_of (kind_of l) id (size_of l k)) (map chunks stores) r
   pub copies : RightAlike l (base_of before out l) k → FileRose d e out.name
   pub seeds : (s : ℕ) (h : SeedHas before x (id_of l k) (size_of l k) s) → FileRose d e h.image
+  pub uncached : CacheLacksEntry d e cache l k
 
 -- a store that holds these chunks lacks that of entry k: it holds nothing under its id, or bytes that aren't it
 abbrev pub LacksEntry : Listing → ℕ → Map (List ℕ) → Type 0
 LacksEntry l k m = (m (id_of l k) ≡ None)
     ⊎ ((b : List ℕ) × (m (id_of l k) ≡ Some b) × (IsChunk (kind_of l) (id_of l k) (size_of l k) b → ⊥))
 
--- so it is where files and folders are told; the folders' files are those
-abbrev pub Told : Disk → Disk → List (List ℕ) → (Map (List ℕ) → Map (List ℕ) → List (Map (List ℕ)) → Type 0) → Type 0
-Told d e names P = IfSome d.files (λ b. IfSome d.folders (λ n. IfSome e.files (λ a. (fs : List (Map (List ℕ)))
-    × (map n names ≡ map Some fs) × P b a fs)))
+-- the name of the cache's folder, where there is a cache
+abbrev pub folder_of : Option (List ℕ) → List (List ℕ)
+folder_of None = []
+folder_of (Some name) = name ∷ []
 
--- entry k is named, for this reason, and each before it is right. Where nothing fails, k is the least that can't be
--- had, and each that can be had was made right
-abbrev pub StopsLacking : Disk → Disk → List (List ℕ) → Into → Listing → Seeds → ℕ → ChunkId → Refused → Type 0
-StopsLacking d e names out l x k id r = Told d e names (λ b a fs.
+-- so it is where files and folders are told; these are the files of the cache's folder, and those of the stores'
+-- folders
+abbrev pub Told : Disk → Disk → List (List ℕ) → Option (List ℕ)
+    → (Map (List ℕ) → Map (List ℕ) → List (Map (List ℕ)) → List (Map (List ℕ)) → Type 0) → Type 0
+Told d e names cache P = IfSome d.files (λ b. IfSome d.folders (λ n. IfSome e.files (λ a. (fs : List (Map (List ℕ)))
+    × (map n names ≡ map Some fs) × (cs : List (Map (List ℕ))) × (map n (folder_of cache) ≡ map Some cs)
+    × P b a cs fs)))
+
+-- nothing fails. Where there is a cache, the folders also have, of each id that the index lists with several sizes,
+-- chunks of one size alone
+abbrev pub Undisturbed : Disk → Disk → Option (List ℕ) → Listing → List (Map (List ℕ)) → List (Map (List ℕ)) → Type 0
+Undisturbed d e cache l cs fs = DiskQuiet d e
+    × (IsSome cache → GiveOneSize (IsListedAs l) (kind_of l) (map chunks cs ++ map chunks fs))
+
+-- entry k is named, for this reason, and each before it is right. Undisturbed, k is the least that can't be had, and
+-- each that can be had was made right
+abbrev pub StopsLacking : Disk → Disk → List (List ℕ) → Option (List ℕ) → Into → Listing → Seeds → ℕ → ChunkId
+    → Refused → Type 0
+StopsLacking d e names cache out l x k id r = Told d e names cache (λ b a cs fs.
     ((t : List ℕ) × KeepsIn d e b a out l t × ((i : ℕ) → i < k → IsRightAt t l i)
-    × (DiskQuiet d e → AreFilled l (HadFrom b out l x fs) (base_of b out l) t))
-    × IsLacking d e b out l x fs k id r
-    × (DiskQuiet d e → IsLeast (HadFrom b out l x fs) k))
+    × (Undisturbed d e cache l cs fs → AreFilled l (HadFrom b out l x cs fs) (base_of b out l) t))
+    × IsLacking d e b cache out l x fs k id r
+    × (Undisturbed d e cache l cs fs → IsLeast (HadFrom b out l x cs fs) k))
 
 -- the first store that failed is named, where no store gave the chunk of some entry
 abbrev pub StopsFailed : Disk → Disk → List (List ℕ) → Listing → ℕ → Type 0
 StopsFailed d e names l s = (k : ℕ) × FailsFirst (LacksEntry l k) d e s names × (k < count_of l)
 
--- the file became the image of the index, with chunks from the seeds and the folders, or why not. Where nothing fails it does
--- so exactly where each entry can be had; else the first that can't be had is named
-abbrev pub Assembled : Disk → Disk → List (List ℕ) → Into → Listing → Seeds → Result Unit Outcome → Type 0
-Assembled d e names out l x (Ok u) = Told d e names (λ b a fs.
+-- the file became the image of the index, with chunks from the seeds, the cache and the folders, or why not.
+-- Undisturbed, it does so exactly where each entry can be had; else the first that can't be had is named
+abbrev pub Assembled : Disk → Disk → List (List ℕ) → Option (List ℕ) → Into → Listing → Seeds → Result Unit Outcome
+    → Type 0
+Assembled d e names cache out l x (Ok u) = Told d e names cache (λ b a cs fs.
     ((t : List ℕ) × KeepsIn d e b a out l t × IsRight t l)
-    × (DiskQuiet d e → (i : ℕ) → i < count_of l → HadFrom b out l x fs i))
-Assembled d e names out l x (Err (ends.Missing k id)) = StopsLacking d e names out l x k id refused.Missing
-Assembled d e names out l x (Err (ends.Damaged k id store shows)) = StopsLacking d e names out l x k id
+    × (Undisturbed d e cache l cs fs → (i : ℕ) → i < count_of l → HadFrom b out l x cs fs i))
+Assembled d e names cache out l x (Err (ends.Missing k id)) = StopsLacking d e names cache out l x k id refused.Missing
+Assembled d e names cache out l x (Err (ends.Damaged k id store shows)) = StopsLacking d e names cache out l x k id
     (refused.Damaged store shows)
-Assembled d e names out l x (Err (ends.StoreFault s)) = StopsFailed d e names l s
-    × Told d e names (λ b a fs. (t : List ℕ) × KeepsIn d e b a out l t)
-Assembled d e names out l x (Err ends.TargetFault) =
-    FileRose d e out.name × Told d e names (λ b a fs. StopsSomewhere d e b a out l)
-Assembled d e names out l x (Err ends.Memory) = Told d e names (λ b a fs. StopsSomewhere d e b a out l)
-Assembled d e names out l x (Err other) = ⊥
+Assembled d e names cache out l x (Err (ends.StoreFault s)) = StopsFailed d e names l s
+    × Told d e names cache (λ b a cs fs. (t : List ℕ) × KeepsIn d e b a out l t)
+Assembled d e names cache out l x (Err ends.TargetFault) =
+    FileRose d e out.name × Told d e names cache (λ b a cs fs. StopsSomewhere d e b a out l)
+Assembled d e names cache out l x (Err ends.Memory) = Told d e names cache (λ b a cs fs. StopsSomewhere d e b a out l)
+Assembled d e names cache out l x (Err other) = ⊥
 
 -- OUT holds afterwards the image that INDEX listed before
 pub record IsExtracted (before after : Map (List ℕ)) (index out : List ℕ) : Type 0 where
@@ -164,9 +196,37 @@ abbrev pub answer_of_taking : IoFault → Result Unit Outcome
 answer_of_taking io.Failed = Err ends.TargetFault
 answer_of_taking io.Memory = Err ends.Memory
 
+-- ---- what is added to the cache
+
+-- the bytes are the chunk of an entry, which one of the stores holds, whose folders hold these
+abbrev pub IsForCache : Listing → List (Map (List ℕ)) → List ℕ → List ℕ → Type 0
+IsForCache l fs id b = (i : ℕ) × (i < count_of l) × (id ≡ id_of l i)
+    × IsChunk (kind_of l) (id_of l i) (size_of l i) b × Any (λ m. m (id_of l i) ≡ Some b) (map chunks fs)
+
+-- chunks were added to a folder: under each id it holds what it held, or such bytes. Each file that is neither a
+-- chunk's nor a temporary one stands as before
+pub record CacheGrows (l : Listing) (fs : List (Map (List ℕ))) (old new : Map (List ℕ)) : Type 0 where
+  pub held : (id : List ℕ) → (chunks new id ≡ chunks old id)
+      ⊎ ((b : List ℕ) × (chunks new id ≡ Some b) × IsForCache l fs id b)
+  pub strangers : (q : List ℕ) → IsTrue (is_stranger q) → new q ≡ old q
+
+-- no folder but the cache's has changed, and that one so
+abbrev pub CacheFilled : List (List ℕ) → Option (List ℕ) → Listing → Disk → Disk → Type 0
+CacheFilled names None l d e = e.folders ≡ d.folders
+CacheFilled names (Some c) l d e = (is_some e.folders ≡ is_some d.folders) × IfSome d.folders (λ m.
+    IfSome e.folders (λ n. (fs : List (Map (List ℕ))) × (map m names ≡ map Some fs)
+    × (f : Map (List ℕ)) × (m c ≡ Some f) × (g : Map (List ℕ)) × (n ≡ at_name m c (Some g)) × CacheGrows l fs f g))
+
+-- a disk whose files were written, and the cache's folder. No number falls
+pub record FillsCache (names : List (List ℕ)) (cache : Option (List ℕ)) (l : Listing) (d e : Disk) : Type 0 where
+  pub folders : CacheFilled names cache l d e
+  pub counts : (q : List ℕ) → count_at d.file_counts q ≤ count_at e.file_counts q
+  pub folder_counts : (q : List ℕ) → count_at d.folder_counts q ≤ count_at e.folder_counts q
+
 -- files tell afterwards where they told before
-abbrev pub ImageMade : List (List ℕ) → Into → Listing → Seeds → Step Disk Unit
-ImageMade names out l x d r e = Assembled d e names out l x r × Writes d e × (is_some e.files ≡ is_some d.files)
+abbrev pub ImageMade : List (List ℕ) → Option (List ℕ) → Into → Listing → Seeds → Step Disk Unit
+ImageMade names cache out l x d r e = Assembled d e names cache out l x r × FillsCache names cache l d e
+    × (is_some e.files ≡ is_some d.files)
 
 -- ---- by way of a temporary file
 
@@ -177,7 +237,8 @@ temporary_out out = out ++ codes ".tmp-desync"
 abbrev pub beside : List ℕ → Into
 beside out = record { name = temporary_out out; fresh = true }
 
--- the file isn't there any more; where it still is, removing it failed, or there was no memory. Nothing else has changed
+-- the file isn't there any more; where it still is, removing it failed, or there was no memory. Nothing else has
+-- changed
 abbrev pub Cleared : List ℕ → Disk → Outcome → Disk → Type 0
 Cleared name d o e = ((e.files ≡ option_map (λ m. at_name m name None) d.files)
     ⊎ ((e.files ≡ d.files) × (IfSome d.files (λ m. m name ≡ None) ⊎ (FileRose d e name ⊎ (o ≡ ends.Memory)))))
@@ -217,18 +278,20 @@ Renamed from to d (Err o) e = NotRenamed from to d o e × (e.files ≡ d.files) 
 -- ---- the command
 
 -- OUT becomes the image: it is made it in its place; or the temporary file is, and takes OUT's name
-abbrev pub OutMade : Bool → List (List ℕ) → List ℕ → Listing → Seeds → Step World Unit
-OutMade true names out l x = OnDisk (ImageMade names (in_place out) l x)
-OutMade false names out l x = do
-  _ ← OnDisk (Clearing (temporary_out out) (ImageMade names (beside out) l x))
+abbrev pub OutMade : Bool → List (List ℕ) → Option (List ℕ) → List ℕ → Listing → Seeds → Step World Unit
+OutMade true names cache out l x = OnDisk (ImageMade names cache (in_place out) l x)
+OutMade false names cache out l x = do
+  _ ← OnDisk (Clearing (temporary_out out) (ImageMade names cache (beside out) l x))
   OnDisk (Clearing (temporary_out out) (Renamed (temporary_out out) out))
 
-abbrev pub ExtractEnds : List Location → List (List ℕ) → Bool → List ℕ → List ℕ → Step World Unit
-ExtractEnds stores seeds in_place index out = do
+-- while the cache is used its folder counts as there
+abbrev pub ExtractEnds : List Location → Option (List ℕ) → List (List ℕ) → Bool → List ℕ → List ℕ → Step World Unit
+ExtractEnds stores cache seeds in_place index out = do
   l ← OnDisk (IndexRead index)
   ls ← OnDisk (IndexesRead seeds)
   _ ← OnDisk (StoresOpened (names_of stores))
-  OutMade in_place (names_of stores) out l (record { images = map image_name seeds; listings = ls })
+  _ ← OnDisk (CacheOpened cache)
+  OutMade in_place (names_of stores) cache out l (record { images = map image_name seeds; listings = ls })
 
 -- a refusal leaves all files as they were, but for the temporary one
 abbrev pub LeavesOut : Bool → List ℕ → World → World → Type 0

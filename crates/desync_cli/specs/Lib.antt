@@ -7,3 +7,4 @@ pub mod ListChunks
 pub mod Make
 pub mod RoundTrip
 pub mod VerifyIndex
+pub mod Caching

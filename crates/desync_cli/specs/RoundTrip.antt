@@ -4,6 +4,10 @@ use Rattle.buzhash_cut.specs.Right.{HasTwins}
 use Rattle.caibx_codec.specs.Listing.{Listing}
 use Rattle.command_line.specs.declared.command.Command.{Command}
 use Rattle.command_line.specs.declared.command.Command.TheVariants as commands
+use Rattle.command_outcome.specs.declared.outcome.Outcome.{Outcome}
+use Rattle.command_steps.specs.Steps.{answer_of}
+use Rattle.command_steps.specs.Worlds.{World}
+use Rattle.desync_cli.specs.Commands.{DesyncEnds}
 use Rattle.dsy_base.specs.Maps.{Map}
 
 -- OUT holds afterwards what IMAGE held before, or a chunk shows two unequal pieces of bytes that have one name
@@ -21,3 +25,8 @@ RoundTrip (Some (commands.Make store sizes workers index image))
     (Some (commands.Extract stores seeds cache in_place n other out)) before after =
     other ≡ index → ComesBack before after image out
 RoundTrip first then before after = Unit {0}
+
+-- two commands, one after the other: each ended so from what stood there before it
+abbrev pub InTurn : List (List ℕ) → List (List ℕ) → World → Outcome → Outcome → World → Type 0
+InTurn first then w one two v =
+    (between : World) × DesyncEnds first w (answer_of one) between × DesyncEnds then between (answer_of two) v

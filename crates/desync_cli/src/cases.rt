@@ -63,6 +63,15 @@ pub fn store_of(alloc: Global, chunks: &[(&[u8], &[u8])]) -> Option<MemFolder> {
     Some(folder)
 }
 
+// The words, which are parted by spaces.
+pub fn words_of(alloc: Global, words: &str) -> Result<Vec<String>, Fail> {
+    let mut list = Vec::new(alloc);
+    for word in words.split(' ') {
+        list.push(String::from_str(alloc, word)?)?;
+    }
+    Ok(list)
+}
+
 // Runs the words, which are parted by spaces, and compares what is printed and the line that tells how it ended.
 pub fn ends(
     rt: &impl Abort,
@@ -72,10 +81,7 @@ pub fn ends(
     printed: &str,
     line: &str,
 ) -> Result<(), Fail> {
-    let mut list = Vec::new(alloc);
-    for word in words.split(' ') {
-        list.push(String::from_str(alloc, word)?)?;
-    }
+    let list = words_of(alloc, words)?;
     let mut out = MemSink::new(alloc, Vec::new(alloc));
     let mut err = MemSink::new(alloc, Vec::new(alloc));
     let ended = desync_in_memory(alloc, &list, files, &mut out, &mut err);

@@ -1,5 +1,6 @@
 //! The commands, a file each.
 
+pub mod cache;
 pub mod chop;
 pub mod extract;
 pub mod help;

@@ -4,7 +4,7 @@ ghost use Rattle.std.specs.Prelude.{◌≡◌, IfSome, Some, map, string_bytes};
 ghost use Rattle.command_steps.specs.Steps.{answer_of};
 ghost use Rattle.command_steps.specs.Worlds.{world};
 ghost use Rattle.desync_cli.specs.Commands.{Achieves, DesyncEnds, command_of};
-ghost use Rattle.desync_cli.specs.RoundTrip.{RoundTrip};
+ghost use Rattle.desync_cli.specs.RoundTrip.{InTurn, RoundTrip};
 ghost use Rattle.dsy_base.specs.Disk.{Output};
 ghost use Rattle.dsy_forms.specs.MemFiles.{disk_of, files_of};
 ghost use Rattle.dsy_forms.specs.MemSinks.{output_of};
@@ -43,6 +43,9 @@ pub fn make_then_extract(
     out: &mut MemSink,
     err: &mut MemSink,
 ) -> (Ended, Ended)
+    ensures ends { InTurn (map string_bytes make.now) (map string_bytes extract.now)
+        (world (disk_of files.old) (output_of out.old)) result.0.outcome result.1.outcome
+        (world (disk_of files.new) (output_of out.new)) }
     ensures done { result.0.outcome ≡ Outcome.Done → result.1.outcome ≡ Outcome.Done →
         RoundTrip (command_of (map string_bytes make.now)) (command_of (map string_bytes extract.now))
         (files_of files.old) (files_of files.new) }

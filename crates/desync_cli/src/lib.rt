@@ -3,6 +3,8 @@
 
 mod beside;
 #[cfg(test)]
+mod cache_tests;
+#[cfg(test)]
 mod cases;
 #[cfg(test)]
 mod chop_tests;

@@ -1,11 +1,13 @@
 //! Making over files in memory: the index file, byte by byte, and what the store holds.
 
-use crate::cases::{ABC_INDEX, EMPTY_INDEX, ends, store_of};
+use crate::cases::{ABC_INDEX, EMPTY_INDEX, ends, store_of, words_of};
+use crate::in_memory::make_then_extract;
 use chunk_store::id::{ChunkId, DigestKind};
 use dsy_base::files::Files;
 use dsy_base::look::Look;
 use dsy_forms::mem_files::MemFiles;
 use dsy_forms::mem_folder::MemFolder;
+use dsy_forms::mem_sink::MemSink;
 use dsy_forms::ranges::RangeFails;
 use std::alloc::Global;
 use std::process::Abort;
@@ -129,5 +131,26 @@ fn what_was_made_is_extracted_again(rt: HostRuntime) -> Result<(), Fail> {
     ends(&rt, alloc, MAKE, &mut files, "", "")?;
     ends(&rt, alloc, "extract -k -s st i o", &mut files, "", "")?;
     assert_eq!(rt; files.file("o"), Some(image.as_slice()));
+    Ok(())
+}
+
+#[test]
+fn what_was_made_is_extracted(rt: HostRuntime) -> Result<(), Fail> {
+    let alloc = rt.alloc();
+    let mut files = MemFiles::new(alloc, Vec::new(alloc));
+    let image = Vec::from_slice(alloc, b"abc")?;
+    files.set_file("img", image, RangeFails::none(alloc))?;
+    files.set_folder("st", store_of(alloc, &[]).ok_or("no memory")?)?;
+    let make = words_of(alloc, MAKE)?;
+    let extract = words_of(alloc, "extract -s st i o")?;
+    let mut out = MemSink::new(alloc, Vec::new(alloc));
+    let mut err = MemSink::new(alloc, Vec::new(alloc));
+    let (made, extracted) = make_then_extract(
+        alloc, &make, &extract, &mut files, &mut out, &mut err,
+    );
+    assert_eq!(&rt; made.status, 0);
+    assert_eq!(&rt; extracted.status, 0);
+    assert_eq!(&rt; files.file("o"), Some(b"abc".as_slice()));
+    assert_eq!(&rt; err.taken(), b"".as_slice());
     Ok(())
 }

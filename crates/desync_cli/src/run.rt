@@ -11,6 +11,7 @@ ghost use Rattle.desync_cli.specs.Lines.{TakesLine};
 ghost use Rattle.command_steps.specs.Steps.{answer_of, outcome_of};
 ghost use Rattle.command_steps.specs.Worlds.{NoFault, world};
 
+use crate::command::cache::cache as fill_cache;
 use crate::command::chop::chop;
 use crate::command::extract::extract;
 use crate::command::help::help;
@@ -53,11 +54,12 @@ fn perform<F: Files, O: Sink>(
         Command::Extract {
             stores,
             seeds,
+            cache,
             in_place,
             index,
             target,
             ..
-        } => extract(alloc, files, stores, seeds, in_place, index, target),
+        } => extract(alloc, files, stores, cache, seeds, in_place, index, target),
         Command::Info { stores, index } => info(alloc, files, out, stores, index),
         Command::Help => help(out, Topic::All),
         Command::Version => help(out, Topic::Version),
@@ -67,8 +69,12 @@ fn perform<F: Files, O: Sink>(
             index,
             image,
         } => chop(alloc, files, store, index, image),
-        Command::Cache { .. }
-        | Command::Verify { .. }
+        Command::Cache {
+            stores,
+            cache,
+            indexes,
+        } => fill_cache(alloc, files, stores, cache, indexes),
+        Command::Verify { .. }
         | Command::Prune { .. }
         | Command::ChunkServer { .. }
         | Command::Demo { .. } => unreachable!(),

@@ -1,6 +1,8 @@
 //! Extraction over files in memory: the outcome, and each byte of OUT.
 
 use crate::cases::{ends, index_of, store_of};
+use dsy_base::files::Files;
+use dsy_base::look::Look;
 use dsy_forms::mem_files::MemFiles;
 use dsy_forms::ranges::RangeFails;
 use std::alloc::Global;
@@ -11,6 +13,9 @@ use std::test::Fail;
 const THREE: &[&[u8]] = &[b"abc", b"def", b"ghi"];
 
 const EXTRACT: &str = "extract -k -s st i o";
+
+// Where a store's folder has the chunk "abc".
+const ABC_PATH: &str = "5304/53048e2681941ef99b2e29b76b4c7dabe4c2d0c634fc6d46e0e2f13107e7af23";
 
 // Extracts from a store with these chunks over this OUT what lists the pieces, and compares the line and OUT.
 fn extract_case(
@@ -153,7 +158,7 @@ fn other_words_are_refused_by_place_and_reason(rt: HostRuntime) -> Result<(), Fa
     ends(&rt, alloc, "make -s st -n 33 a b", &mut files, "", "desync: word 4: BadNumber\n")?;
     ends(&rt, alloc, "make -s https://h/ a b", &mut files, "", "desync: word 2: BadLocation\n")?;
     ends(&rt, alloc, "make -s http://h/ a b", &mut files, "", "desync: word 0: NotYet\n")?;
-    ends(&rt, alloc, "extract -c c -s st a b", &mut files, "", "desync: word 0: NotYet\n")?;
+    ends(&rt, alloc, "extract -c c -s http://h/ a b", &mut files, "", "desync: word 0: NotYet\n")?;
     ends(&rt, alloc, "prune -s st a", &mut files, "", "desync: word 4: NeedsYes\n")?;
     ends(&rt, alloc, "chop -s http://h/ a b", &mut files, "", "desync: word 0: NotYet\n")
 }
@@ -245,6 +250,68 @@ fn chunks_come_from_seeds_too(rt: HostRuntime) -> Result<(), Fail> {
         seed_case(&rt, alloc, image, &[(b"abc", b"abc")], "")?;
         seed_case(&rt, alloc, image, &[], missing)?;
     }
+    Ok(())
+}
+
+// Extracts "abc" from stores with these chunks, and compares the line, OUT and what the cache then holds of "abc".
+fn cache_case(
+    rt: &impl Abort,
+    alloc: Global,
+    chunks: &[(&[u8], &[u8])],
+    cached: &[(&[u8], &[u8])],
+    line: &str,
+    held: &[u8],
+) -> Result<(), Fail> {
+    let mut files = MemFiles::new(alloc, Vec::new(alloc));
+    let store = store_of(alloc, chunks).ok_or("no memory")?;
+    files.set_folder("st", store)?;
+    let cache = store_of(alloc, cached).ok_or("no memory")?;
+    files.set_folder("c", cache)?;
+    let index = index_of(alloc, 262_144, &[b"abc"])?;
+    files.set_file("i", index, RangeFails::none(alloc))?;
+    ends(rt, alloc, "extract -s st -c c i o", &mut files, "", line)?;
+    let out = if line.is_empty() {
+        Some(b"abc".as_slice())
+    } else {
+        None
+    };
+    assert_eq!(rt; files.file("o"), out);
+    let mut look = files.look("c").ok().ok_or("no folder")?;
+    let mut room = [0u8; 8];
+    let n = look.read(ABC_PATH, &mut room).unwrap_or(0);
+    let (front, _) = room.split_at(n);
+    assert_eq!(rt; front, held);
+    Ok(())
+}
+
+#[test]
+#[rattlefmt::skip]
+fn a_cache_is_asked_first_and_filled(rt: HostRuntime) -> Result<(), Fail> {
+    let alloc = rt.alloc();
+    let missing = "desync: chunk 53048e2681941ef99b2e29b76b4c7dabe4c2d0c634fc6d46e0e2f13107e7af23 of entry 0 is \
+        missing\n";
+    let abc: &[(&[u8], &[u8])] = &[(b"abc", b"abc")];
+    // The cache has it; the store has it; the cache holds wrong bytes; and neither has it.
+    cache_case(&rt, alloc, &[], abc, "", b"abc")?;
+    cache_case(&rt, alloc, abc, &[], "", b"abc")?;
+    cache_case(&rt, alloc, abc, &[(b"abc", b"abX")], "", b"abc")?;
+    cache_case(&rt, alloc, &[], &[], missing, b"")
+}
+
+#[test]
+#[rattlefmt::skip]
+fn a_cache_is_named_after_the_stores(rt: HostRuntime) -> Result<(), Fail> {
+    let alloc = rt.alloc();
+    let mut files = MemFiles::new(alloc, Vec::new(alloc));
+    files.set_file("i", index_of(alloc, 262_144, &[b"abc"])?, RangeFails::none(alloc))?;
+    let words = "extract -s st -c none i o";
+    ends(&rt, alloc, words, &mut files, "", "desync: st: no such folder\n")?;
+    files.set_folder("st", store_of(alloc, &[(b"abc", b"abc")]).ok_or("no memory")?)?;
+    ends(&rt, alloc, words, &mut files, "", "desync: none: no such folder\n")?;
+    // The store may be the cache too.
+    ends(&rt, alloc, "extract -s st -c st i o", &mut files, "", "")?;
+    assert_eq!(rt; files.file("o"), Some(b"abc".as_slice()));
+    assert_eq!(rt; files.folder("st").is_some(), true);
     Ok(())
 }
 

@@ -20,20 +20,18 @@ fn is_built(command: &Command) -> bool
         | Command::Help
         | Command::Version
         | Command::HelpOn(_) => true,
-        Command::Extract {
-            stores,
-            seeds,
-            cache,
-            ..
-        } => {
+        Command::Extract { stores, seeds, .. } => {
             let stores = stores.as_slice();
             seeds.as_slice().len() <= 64
-                && !cache.is_some()
                 && 1 <= stores.len()
                 && stores.len() <= 16
                 && are_folders(stores)
         }
         Command::Make { store, .. } | Command::Chop { store, .. } => is_folder(store),
+        Command::Cache { stores, .. } => {
+            let stores = stores.as_slice();
+            1 <= stores.len() && stores.len() <= 16 && are_folders(stores)
+        }
         Command::Info { stores, .. } => stores.as_slice().len() <= 16
             && are_folders(stores.as_slice()),
         _ => false,

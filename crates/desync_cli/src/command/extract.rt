@@ -1,13 +1,19 @@
-//! `extract [-k] -s FOLDER.. --seed INDEX.. INDEX OUT`: OUT becomes the image that INDEX lists, with chunks from up to 64
-//! seeds and from 1 to 16 folders.
+//! `extract [-k] -s FOLDER.. -c FOLDER --seed INDEX.. INDEX OUT`: OUT becomes the image that INDEX lists, with chunks
+//! from up to 64 seeds, from a cache and from 1 to 16 folders.
 
-ghost use Rattle.std.specs.Prelude.{◌≡◌, ◌≢◌, ℕ, List, ◌<◌, ◌≤◌, ◌^◌, map, Some, IfOk, IfSome, length, is_some, string_bytes, true, false};
+ghost use Rattle.std.specs.Prelude.{◌≡◌, ◌≢◌, ℕ, List, ◌<◌, ◌≤◌, ◌^◌, map, Some, IfOk, IfSome, IsSome, length, is_some};
+ghost use Rattle.std.specs.Prelude.{string_bytes, true, false};
+ghost use Rattle.std.specs.Option.{option_map};
+ghost use Rattle.assembler.specs.Caches.{seen};
 ghost use Rattle.caibx_codec.specs.Listing.{Listing};
+ghost use Rattle.chunk_store.specs.declared.id.DigestKind.TheVariants as kinds;
 ghost use Rattle.command_steps.specs.AnyStores.{faults_in, files_in, place_in};
+ghost use Rattle.command_steps.specs.Cache.{with_cache};
 ghost use Rattle.command_steps.specs.Seeds.{image_name};
 ghost use Rattle.command_steps.specs.Stores.{AllKnown};
-ghost use Rattle.command_steps.specs.Worlds.{Writes, world};
-ghost use Rattle.desync_cli.specs.Extract.{Assembled, ClearedAfter, ExtractEnds, IsNoFile, OutMade, Renamed, answer_of_assembly, answer_of_taking};
+ghost use Rattle.command_steps.specs.Worlds.{world};
+ghost use Rattle.desync_cli.specs.Extract.{Assembled, ClearedAfter, ExtractEnds, FillsCache, IsNoFile, OutMade};
+ghost use Rattle.desync_cli.specs.Extract.{Renamed, answer_of_assembly, answer_of_taking};
 ghost use Rattle.desync_cli.specs.Extract.{temporary_out};
 ghost use Rattle.dsy_base.specs.Disk.{Output};
 ghost use Rattle.dsy_base.specs.Maps.{Map};
@@ -18,15 +24,18 @@ use assembler::assemble::assemble;
 use assembler::fault::ExtractFault;
 use assembler::kit::Kit;
 use assembler::report::Report;
+use cache_store::shelf::CacheShelf;
 use caibx_codec::index::Index;
 use command_line::command::{Locations, Names};
 use command_outcome::outcome::Outcome;
 use command_steps::any_store::AnyStore;
+use command_steps::cache::{give_cache, take_cache};
 use command_steps::openings::read_index;
 use command_steps::seeds::{close_seeds, open_seeds, read_indexes};
 use command_steps::stores::{close_stores, open_stores};
 use dsy_base::fault::{IoFault, Memory, OpenFault};
 use dsy_base::files::Files;
+use dsy_base::folder::Folder;
 use dsy_base::look::Look;
 use dsy_base::name::Name;
 use extract_plan::plan::Plan;
@@ -99,13 +108,16 @@ fn plan_of(alloc: Global, index: Index, seeds: Vec<Index>) -> Result<Planned, Me
     }
 }
 
-// Makes the file the image, and gives stores and seeds back whatever the answer is. It begins with no bytes where `fresh`
-// is true.
+// Makes the file the image, and gives stores, cache and seeds back whatever the answer is. It begins with no bytes
+// where
+// `fresh` is true.
 fn assemble_into<F: Files>(
     alloc: Global,
     files: &mut F,
     planned: &Planned,
     stores: Vec<AnyStore<F::Look>>,
+    cache: &Option<Name>,
+    mut shelf: Option<CacheShelf<F::Folder>>,
     seeds: &[Name],
     target: &str,
     fresh: bool,
@@ -116,23 +128,32 @@ fn assemble_into<F: Files>(
     requires known { AllKnown (place_in F.Look.place) (F.disk files.old).folder_counts stores.items }
     requires fresh { map (faults_in F.Look.faults) stores.items ≡ map (λ q. 0)
         (map (place_in F.Look.place) stores.items) }
-    requires found { IfSome (F.disk files.old).folders (λ m. (fs : List (Map (List ℕ)))
+    requires cache_named { option_map (λ s. F.Folder.place s.folder) shelf ≡ cache.now }
+    requires cache_known { IfSome cache.now (λ q. IsSome ((F.disk files.old).folder_counts q)) }
+    requires cache_fresh { IfSome shelf (λ s. (F.Folder.faults s.folder ≡ 0) × (s.kind ≡ kinds.Sha512T256)) }
+    requires found { IfSome (with_cache (seen F.Folder.files F.Folder.place F.Folder.faults shelf)
+        (F.disk files.old)).folders (λ m. (fs : List (Map (List ℕ)))
         × (map m (map (place_in F.Look.place) stores.items) ≡ map Some fs)
         × (map (files_in F.Look.files) stores.items ≡ map Some fs)) }
     ensures assembled { (ls : List Listing) → IsSeedIndex planned.now.index planned.now.plan ls planned.now.places →
-        Assembled (F.disk files.old) (F.disk files.new) (map (place_in F.Look.place) stores.items)
+        Assembled (with_cache (seen F.Folder.files F.Folder.place F.Folder.faults shelf) (F.disk files.old))
+        (F.disk files.new) (map (place_in F.Look.place) stores.items) cache.now
         (record { name = target.now; fresh = fresh }) planned.now.index
         (record { images = map image_name seeds.now; listings = ls }) result }
-    ensures kept { Writes (F.disk files.old) (F.disk files.new) }
+    ensures kept { FillsCache (map (place_in F.Look.place) stores.items) cache.now planned.now.index
+        (with_cache (seen F.Folder.files F.Folder.place F.Folder.faults shelf) (F.disk files.old))
+        (F.disk files.new) }
     ensures tells { is_some (F.disk files.new).files ≡ is_some (F.disk files.old).files }
 {
     let Ok(seeds) = open_seeds(alloc, files, seeds) else {
+        give_cache(files, cache, shelf);
         close_stores(files, stores);
         return Err(Outcome::Memory);
     };
     let mut taken = match files.take(target, fresh) {
         Ok(taken) => taken,
         Err(fault) => {
+            give_cache(files, cache, shelf);
             close_stores(files, stores);
             close_seeds(files, seeds);
             return not_taken(fault);
@@ -144,8 +165,9 @@ fn assemble_into<F: Files>(
         plan,
         places,
     } = planned;
-    let ended = assemble(alloc, index, plan, places, &mut taken, &mut kit);
+    let ended = assemble(alloc, index, plan, places, &mut taken, &mut kit, &mut shelf);
     let Kit { chain, seeds, .. } = kit;
+    give_cache(files, cache, shelf);
     close_stores(files, chain.into_stores());
     close_seeds(files, seeds);
     files.give(target, taken);
@@ -203,6 +225,8 @@ fn assemble_beside<F: Files>(
     files: &mut F,
     planned: &Planned,
     stores: Vec<AnyStore<F::Look>>,
+    cache: &Option<Name>,
+    shelf: Option<CacheShelf<F::Folder>>,
     seeds: &[Name],
     temporary: &str,
     target: Name,
@@ -213,29 +237,37 @@ fn assemble_beside<F: Files>(
     requires known { AllKnown (place_in F.Look.place) (F.disk files.old).folder_counts stores.items }
     requires fresh { map (faults_in F.Look.faults) stores.items ≡ map (λ q. 0)
         (map (place_in F.Look.place) stores.items) }
-    requires found { IfSome (F.disk files.old).folders (λ m. (fs : List (Map (List ℕ)))
+    requires cache_named { option_map (λ s. F.Folder.place s.folder) shelf ≡ cache.now }
+    requires cache_known { IfSome cache.now (λ q. IsSome ((F.disk files.old).folder_counts q)) }
+    requires cache_fresh { IfSome shelf (λ s. (F.Folder.faults s.folder ≡ 0) × (s.kind ≡ kinds.Sha512T256)) }
+    requires found { IfSome (with_cache (seen F.Folder.files F.Folder.place F.Folder.faults shelf)
+        (F.disk files.old)).folders (λ m. (fs : List (Map (List ℕ)))
         × (map m (map (place_in F.Look.place) stores.items) ≡ map Some fs)
         × (map (files_in F.Look.files) stores.items ≡ map Some fs)) }
     requires named { temporary.now ≡ temporary_out target }
     ensures made { (ls : List Listing) (p : Output) →
         IsSeedIndex planned.now.index planned.now.plan ls planned.now.places → OutMade false
-        (map (place_in F.Look.place) stores.items) target planned.now.index
+        (map (place_in F.Look.place) stores.items) cache.now target planned.now.index
         (record { images = map image_name seeds.now; listings = ls })
-        (world (F.disk files.old) p) result (world (F.disk files.new) p) }
+        (world (with_cache (seen F.Folder.files F.Folder.place F.Folder.faults shelf) (F.disk files.old)) p) result
+        (world (F.disk files.new) p) }
 {
-    let made = assemble_into(alloc, files, planned, stores, seeds, temporary, true);
+    let made = assemble_into(
+        alloc, files, planned, stores, cache, shelf, seeds, temporary, true,
+    );
     clear(files, temporary, made)?;
     let renamed = rename(alloc, files, temporary, target);
     clear(files, temporary, renamed)
 }
 
-/// Makes OUT the image that INDEX lists: in its place, where what it holds already is kept where it is right; or by way of
-/// a temporary file, which takes OUT's name when it is the image. Chunks come from the images of the seeds, and else from
-/// the folders, which are asked in order.
+/// Makes OUT the image that INDEX lists: in its place, where what it holds already is kept where it is right; or by way
+/// of a temporary file, which takes OUT's name when it is the image. Chunks come from the images of the seeds, else
+/// from the cache, and else from the folders, which are asked in order. What a folder gave is added to the cache.
 pub fn extract<F: Files>(
     alloc: Global,
     files: &mut F,
     stores: Locations,
+    cache: Option<Name>,
     seeds: Names,
     in_place: bool,
     index: Name,
@@ -243,7 +275,7 @@ pub fn extract<F: Files>(
 ) -> Result<(), Outcome>
     requires stores { (1 ≤ length stores) × (length stores ≤ 16) }
     requires seeds { length seeds ≤ 64 }
-    ensures ends { (p : Output) → ExtractEnds stores seeds in_place index target
+    ensures ends { (p : Output) → ExtractEnds stores cache seeds in_place index target
         (world (F.disk files.old) p) result
         (world (F.disk files.new) p) }
 {
@@ -256,6 +288,13 @@ pub fn extract<F: Files>(
         return Err(Outcome::Memory);
     };
     let opened = open_stores(alloc, files, stores.as_slice())?;
+    let shelf = match take_cache(alloc, files, &cache) {
+        Ok(shelf) => shelf,
+        Err(outcome) => {
+            close_stores(files, opened);
+            return Err(outcome);
+        }
+    };
     let seeds = seeds.as_slice();
     if in_place {
         assemble_into(
@@ -263,11 +302,15 @@ pub fn extract<F: Files>(
             files,
             &planned,
             opened,
+            &cache,
+            shelf,
             seeds,
             target.as_str(),
             false,
         )
     } else {
-        assemble_beside(alloc, files, &planned, opened, seeds, &temporary, target)
+        assemble_beside(
+            alloc, files, &planned, opened, &cache, shelf, seeds, &temporary, target,
+        )
     }
 }

@@ -11,3 +11,6 @@ returns-in-Extract g c = record { ends = rw c.in-Extract.is (c.extract.ensures.e
 
 pub returns-in-Chop : goal.returns-in-Chop
 returns-in-Chop g c = record { ends = rw c.in-Chop.is (c.chop.ensures.ends _) }
+
+pub returns-in-Cache : goal.returns-in-Cache
+returns-in-Cache g c = record { ends = rw c.in-Cache.is (c.cache.ensures.ends _) }

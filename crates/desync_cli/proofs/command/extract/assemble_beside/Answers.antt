@@ -1,11 +1,19 @@
-use Rattle.std.proofs.Common.{ℕ, List, Ok, Err, inl, map, refl, subst, sym, true, ◌∙◌}
+use Rattle.std.proofs.Common.{ℕ, List, Option, Ok, Err, inl, map, refl, subst, sym, true, ◌∙◌}
 use Rattle.std.proofs.lemmas.Result.{err_from_is_err_and}
+use Rattle.assembler.specs.Caches.{seen}
+use Rattle.cache_store.specs.Shelves.{Shelf, Shelved}
+use Rattle.command_steps.specs.Cache.{with_cache}
+use Rattle.desync_cli.proofs.command.extract.assemble_beside.Given.{Over}
 use Rattle.command_steps.specs.AnyStores.{place_in}
 use Rattle.command_steps.specs.Seeds.{image_name}
 use Rattle.command_steps.specs.Worlds.{world}
 use Rattle.desync_cli.proofs.Replaced.{beside_apart, clears, passed_any}
 use Rattle.desync_cli.proofs.command.extract.assemble_beside.Goals as goal
 use Rattle.desync_cli.specs.Extract.{ClearedAfter, ImageMade, Renamed, Seeds, beside}
+
+-- what is seen of the cache
+abbrev see : (g : Over) → Option (Shelved g.row.F-Folder.Denot) → Option Shelf
+see g = seen g.F.Folder.Look.files g.F.Folder.Look.place g.F.Folder.Look.faults
 
 pub rename-renamed-requires : goal.rename-renamed-requires
 rename-renamed-requires g c = λ same. beside_apart c.args.target (sym same ∙ c.requires.named)
@@ -14,7 +22,7 @@ pub returns-in_err-clear : goal.returns-in_err-clear
 returns-in_err-clear g c =
     let at = g.F.Files.disk in
     let e = err_from_is_err_and c.from_residual.result c.from_residual.ensures.1 in
-    let d = at c.args.files.now in
+    let d = with_cache (see g c.args.shelf) (at c.args.files.now) in
     let b = at c.assemble_into-made.new.files in
     let names = map (place_in g.F.Look.Look.place) c.args.stores.items in
     let l = c.args.planned.now.index in
@@ -22,15 +30,15 @@ returns-in_err-clear g c =
       made = λ ls p is.
           let z : Seeds = record { images = map image_name c.args.seeds.now; listings = ls } in
           let made = c.assemble_into-made.ensures in
-          let image = subst (λ (n : List ℕ). ImageMade names (record { name = n; fresh = true }) l z d c.assemble_into-made.result b) c.requires.named (made.assembled ls is, made.kept, made.tells) in
+          let image = subst (λ (n : List ℕ). ImageMade names c.args.cache.now (record { name = n; fresh = true }) l z d c.assemble_into-made.result b) c.requires.named (made.assembled ls is, made.kept, made.tells) in
           let cleared = subst (λ (n : List ℕ). ClearedAfter n b c.assemble_into-made.result (Err c.in_err-clear.field-0.0) (at c.clear.new.files)) c.requires.named c.in_err-clear.ensures in
-          rw (e.1, e.2) (inl (clears _ (ImageMade names (beside c.args.target) l z) d b (at c.clear.new.files) c.assemble_into-made.result (Err c.in_err-clear.field-0.0) image cleared, refl));
+          rw (e.1, e.2) (inl (clears _ (ImageMade names c.args.cache.now (beside c.args.target) l z) d b (at c.clear.new.files) c.assemble_into-made.result (Err c.in_err-clear.field-0.0) image cleared, refl));
     }
 
 pub returns : goal.returns
 returns g c =
     let at = g.F.Files.disk in
-    let d = at c.args.files.now in
+    let d = with_cache (see g c.args.shelf) (at c.args.files.now) in
     let b = at c.assemble_into-made.new.files in
     let m = at c.clear.new.files in
     let n = at c.rename-renamed.new.files in
@@ -41,7 +49,7 @@ returns g c =
       made = λ ls p is.
           let z : Seeds = record { images = map image_name c.args.seeds.now; listings = ls } in
           let made = c.assemble_into-made.ensures in
-          let image = subst (λ (n : List ℕ). ImageMade names (record { name = n; fresh = true }) l z d c.assemble_into-made.result b) c.requires.named (made.assembled ls is, made.kept, made.tells) in
+          let image = subst (λ (n : List ℕ). ImageMade names c.args.cache.now (record { name = n; fresh = true }) l z d c.assemble_into-made.result b) c.requires.named (made.assembled ls is, made.kept, made.tells) in
           let cleared = subst (λ (n : List ℕ). ClearedAfter n b c.assemble_into-made.result (Ok tt) m) c.requires.named c.in_ok-clear.ensures in
           let renamed = subst (λ (q : List ℕ). Renamed q c.args.target m c.rename-renamed.result n) c.requires.named c.rename-renamed.ensures in
           let last = subst (λ (q : List ℕ). ClearedAfter q n c.rename-renamed.result c.clear-2.result f) c.requires.named c.clear-2.ensures in
@@ -49,7 +57,7 @@ returns g c =
             disk = m;
             out = p;
             gave = tt;
-            did = (clears _ (ImageMade names (beside c.args.target) l z) d b m c.assemble_into-made.result (Ok tt) image cleared, refl);
+            did = (clears _ (ImageMade names c.args.cache.now (beside c.args.target) l z) d b m c.assemble_into-made.result (Ok tt) image cleared, refl);
             then = (clears _ (Renamed _ c.args.target) m n f c.rename-renamed.result c.clear-2.result renamed last, refl);
           });
     }

@@ -5,16 +5,25 @@ use Rattle.std.specs.List.{AllZip}
 use Rattle.std.specs.Map.{count_at}
 use Rattle.std.specs.Option.{option_map}
 use Rattle.assembler.specs.Assemblies.{IsObtainable}
+use Rattle.assembler.proofs.Cached.{stocked_none}
+use Rattle.assembler.specs.Caches.{HaveOneSize, Stocked, TakesListed, cache_faults, cached_in, seen}
+use Rattle.assembler.specs.Sources.{SourcesQuiet}
+use Rattle.chunk_store.specs.Folders.{chunks}
+use Rattle.command_steps.proofs.Cached.{given_adds, given_files, given_folders}
+use Rattle.command_steps.specs.Cache.{folders_with, with_cache}
+use Rattle.cache_store.specs.Shelves.{Shelf, Shelved}
+use Rattle.desync_cli.proofs.command.extract.assemble_into.Given.{Over}
 use Rattle.command_steps.proofs.Lent.{each_quiet, known_places, store_rose}
 use Rattle.command_steps.proofs.Numbers.{counted_known, counted_le, given_quiet, given_rose, rose_later, rose_longer, rose_not_quiet}
 use Rattle.command_steps.specs.AnyStores.{chunks_in, faults_in, files_in, place_in}
 use Rattle.command_steps.specs.Seeds.{IsViewed, image_name, label_in}
 use Rattle.command_steps.specs.Worlds.{FileRose}
-use Rattle.desync_cli.proofs.Assembled.{assembled, facts_of, had_of, not_taken_as, obtainable_of}
+use Rattle.desync_cli.proofs.Assembled.{assembled, facts_of, had_of, not_taken_as, obtainable_of, stopped_before}
 use Rattle.desync_cli.proofs.Counting.{held_maps, there_after}
-use Rattle.desync_cli.proofs.Lost.{lacks_told, seeds_lack, store_told, target_as}
+use Rattle.desync_cli.proofs.Lost.{lacks_told, others_lack, store_told, target_as}
 use Rattle.desync_cli.proofs.Seeded.{all_known_later, label_of, labels_are, same_known, same_labels, zeros, zipped_many}
-use Rattle.desync_cli.proofs.Wrote.{wrote_back, wrote_on, wrote_read, wrote_then}
+use Rattle.desync_cli.proofs.Shelved.{IsTold, cache_filled, cache_lacking, cache_quiet, cache_rose, cached_there, fresh_faults, known_still, name_after, name_in, one_size, same_names, told_files}
+use Rattle.desync_cli.proofs.Wrote.{wrote_back, wrote_on}
 use Rattle.desync_cli.proofs.command.extract.assemble_into.Goals as goal
 use Rattle.desync_cli.specs.Extract.{Assembled, Into, Seeds, answer_of_assembly, old_of}
 use Rattle.dsy_base.specs.Counts.{Rose, raised}
@@ -22,48 +31,162 @@ use Rattle.dsy_base.specs.Maps.{Map, at_name}
 use Rattle.extract_plan.specs.Places.{PlacesKnown}
 use Rattle.extract_plan.specs.Seeds as seeds
 
+-- what is seen of the cache
+abbrev see : (g : Over) → Option (Shelved g.row.F-Folder.Denot) → Option Shelf
+see g = seen g.F.Folder.Look.files g.F.Folder.Look.place g.F.Folder.Look.faults
+
+cache_told : (g : Over) (f : g.row.F.Denot) (o : Option (Shelved g.row.F-Folder.Denot)) → IsTold (see g o) (g.F.Files.disk f).folders
+cache_told g f o = told_files g.F.Folder.Look.tells g.F.Folder.Look.files g.F.Folder.Look.place g.F.Folder.Look.faults (λ d. g.met.F.Folder.Look.told d) (g.F.Files.disk f).folders
+    (λ some. (g.met.F.Files.alike.0 (subst (λ t. IsTrue t) (g.met.F.Files.told f).1 some)).3) o
+
+named : (g : Over) (cache : Option (List ℕ)) (o : Option (Shelved g.row.F-Folder.Denot)) → option_map (λ s. g.F.Folder.Look.place s.folder) o ≡ cache → name_in (see g o) ≡ cache
+named g cache o is = same_names g.F.Folder.Look.files g.F.Folder.Look.place g.F.Folder.Look.faults o ∙ is
+
+pub close_stores-requires : goal.close_stores-requires
+close_stores-requires g c =
+    let at = g.F.Files.disk in
+    record { known = λ k y lt. (given_adds (see g c.args.shelf) (at c.open_seeds.new.files) (at c.give_cache.new.files) c.give_cache.ensures.given).folder_known _ (c.in_default.ensures.kept.folder_known _ (c.requires.known k y lt)) }
+
+pub returns-in_default-clause-assembled : goal.returns-in_default-clause-assembled
+returns-in_default-clause-assembled g c = λ ls is.
+    let at = g.F.Files.disk in
+    let o = see g c.args.shelf in
+    let d' = at c.args.files.now in
+    let d = with_cache o d' in
+    let gave = given_adds o (at c.open_seeds.new.files) (at c.give_cache.new.files) c.give_cache.ensures.given in
+    let name = named g c.args.cache.now c.args.shelf c.requires.cache_named in
+    stopped_before d (at c.close_stores.new.files) (map (place_in g.F.Look.Look.place) c.args.stores.items) c.args.cache.now (record { name = c.args.target.now; fresh = c.args.fresh }) c.args.planned.now.index
+    (record { images = map image_name c.args.seeds.now; listings = ls })
+    (map (files_in g.F.Look.Look.files) c.args.stores.items) (λ cs. cached_in o ≡ Some (map chunks cs)) c.requires.found (cached_there o c.args.cache.now name d'.folders (cache_told g c.args.files.now c.args.shelf))
+    (c.close_stores.ensures.kept.files ∙ gave.files ∙ c.in_default.ensures.kept.files)
+
+pub returns-in_default-clause-kept : goal.returns-in_default-clause-kept
+returns-in_default-clause-kept g c =
+    let at = g.F.Files.disk in
+    let o = see g c.args.shelf in
+    let d' = at c.args.files.now in
+    let d = with_cache o d' in
+    let b = at c.open_seeds.new.files in
+    let b1 = at c.give_cache.new.files in
+    let e = at c.close_stores.new.files in
+    let read = c.in_default.ensures.kept in
+    let gave = given_adds o b b1 c.give_cache.ensures.given in
+    let closed = c.close_stores.ensures.kept in
+    let files = files_in g.F.Look.Look.files in
+    let items = c.args.stores.items in
+    let names = map (place_in g.F.Look.Look.place) items in
+    let l = c.args.planned.now.index in
+    record {
+      folders = cache_filled (chunks_in g.F.Look.Look.files) items names l o o c.args.cache.now d'.folders d e (named g c.args.cache.now c.args.shelf c.requires.cache_named) refl
+          (closed.folders ∙ given_folders o b b1 c.give_cache.ensures.given ∙ ap (folders_with o) read.folders) (cache_told g c.args.files.now c.args.shelf) (stocked_none (TakesListed (chunks_in g.F.Look.Look.files) l items) o)
+          (there_after d.folders names files items items c.requires.found refl);
+      counts = λ q. omega (arith, read.counts q, gave.counts q, closed.counts q);
+      folder_counts = λ q. omega (arith, read.folder_counts q, gave.folder_counts q, closed.folder_counts q);
+    }
+
+pub close_stores-requires-in-Err : goal.close_stores-requires-in-Err
+close_stores-requires-in-Err g c =
+    let at = g.F.Files.disk in
+    record {
+      known = λ k y lt. (given_adds (see g c.args.shelf) (at c.take.new.self) (at c.give_cache-in-Err.new.files) c.give_cache-in-Err.ensures.given).folder_known _
+          (subst (λ (m : Map ℕ). IsSome (m (place_in g.F.Look.Look.place (slice_index_or c.args.stores.items k y)))) (sym c.in-Err.ensures.counts.folder_counts) (c.in-Ok.ensures.kept.folder_known _ (c.requires.known k y lt)));
+    }
+
 pub returns-in-Err-clause-assembled : goal.returns-in-Err-clause-assembled
 returns-in-Err-clause-assembled g c = λ ls is.
     let at = g.F.Files.disk in
-    let d = at c.args.files.now in
+    let s = see g c.args.shelf in
+    let d' = at c.args.files.now in
+    let d = with_cache s d' in
     let b = at c.open_seeds.new.files in
     let b2 = at c.take.new.self in
-    let b3 = at c.close_stores-in-Err.new.files in
+    let b3 = at c.give_cache-in-Err.new.files in
+    let b4 = at c.close_stores-in-Err.new.files in
     let e = at c.close_seeds.new.files in
     let q = c.args.target.now in
     let o : Into = record { name = q; fresh = c.args.fresh } in
-    let place = place_in g.F.Look.Look.place in
-    let names = map place c.args.stores.items in
+    let l = c.args.planned.now.index in
+    let x : Seeds = record { images = map image_name c.args.seeds.now; listings = ls } in
+    let names = map (place_in g.F.Look.Look.place) c.args.stores.items in
     let took = c.in-Err.ensures.faults in
-    let same : count_at b3.file_counts q ≡ count_at b2.file_counts q = ap (λ (m : Map ℕ). count_at m q) c.close_stores-in-Err.ensures.counts in
-    let more = c.close_seeds.ensures.kept.counts q in
-    let le : count_at b2.file_counts q ≤ count_at e.file_counts q = omega (arith, same, more) in
-    rw c.not_taken.ensures (not_taken_as d e names o c.args.planned.now.index (record { images = map image_name c.args.seeds.now; listings = ls }) c.in-Err.fault (map (files_in g.F.Look.Look.files) c.args.stores.items) c.requires.found
-    (c.close_seeds.ensures.kept.files ∙ c.close_stores-in-Err.ensures.kept.files ∙ c.in-Err.ensures.err ∙ c.in-Ok.ensures.kept.files)
+    let gave = given_adds s b2 b3 c.give_cache-in-Err.ensures.given in
+    let name = named g c.args.cache.now c.args.shelf c.requires.cache_named in
+    let le : count_at b2.file_counts q ≤ count_at e.file_counts q = omega (arith, gave.counts q, c.close_stores-in-Err.ensures.kept.counts q, c.close_seeds.ensures.kept.counts q) in
+    let before = stopped_before d e names c.args.cache.now o l x (map (files_in g.F.Look.Look.files) c.args.stores.items) (λ cs. cached_in s ≡ Some (map chunks cs)) c.requires.found
+    (cached_there s c.args.cache.now name d'.folders (cache_told g c.args.files.now c.args.shelf))
+    (c.close_seeds.ensures.kept.files ∙ c.close_stores-in-Err.ensures.kept.files ∙ gave.files ∙ c.in-Err.ensures.err ∙ c.in-Ok.ensures.kept.files) in
+    rw c.not_taken.ensures (not_taken_as d e names c.args.cache.now o l x c.in-Err.fault before
     (λ failed. rose_longer (count_at d.file_counts q) (count_at b2.file_counts q) (count_at e.file_counts q) le
     (rose_later (count_at d.file_counts q) (count_at b.file_counts q) (count_at b2.file_counts q) (c.in-Ok.ensures.kept.counts q) (took.cause (ap Err failed)))))
 
 pub returns-in-Err-clause-kept : goal.returns-in-Err-clause-kept
 returns-in-Err-clause-kept g c =
     let at = g.F.Files.disk in
-    let d = at c.args.files.now in
+    let o = see g c.args.shelf in
+    let d' = at c.args.files.now in
+    let d = with_cache o d' in
     let b = at c.open_seeds.new.files in
     let b2 = at c.take.new.self in
-    let b3 = at c.close_stores-in-Err.new.files in
+    let b3 = at c.give_cache-in-Err.new.files in
+    let b4 = at c.close_stores-in-Err.new.files in
     let e = at c.close_seeds.new.files in
-    wrote_then d b e (wrote_read d b c.in-Ok.ensures.kept) (wrote_then b b2 e (wrote_on b b2 _ c.in-Err.ensures.counts) (wrote_then b2 b3 e (wrote_read b2 b3 c.close_stores-in-Err.ensures.kept) (wrote_read b3 e c.close_seeds.ensures.kept)))
+    let took = wrote_on b b2 _ c.in-Err.ensures.counts in
+    let gave = given_adds o b2 b3 c.give_cache-in-Err.ensures.given in
+    let closed = c.close_stores-in-Err.ensures.kept in
+    let ended = c.close_seeds.ensures.kept in
+    let read = c.in-Ok.ensures.kept in
+    let files = files_in g.F.Look.Look.files in
+    let items = c.args.stores.items in
+    let names = map (place_in g.F.Look.Look.place) items in
+    let l = c.args.planned.now.index in
+    record {
+      folders = cache_filled (chunks_in g.F.Look.Look.files) items names l o o c.args.cache.now d'.folders d e (named g c.args.cache.now c.args.shelf c.requires.cache_named) refl
+          (ended.folders ∙ closed.folders ∙ given_folders o b2 b3 c.give_cache-in-Err.ensures.given ∙ ap (folders_with o) (took.folders ∙ read.folders)) (cache_told g c.args.files.now c.args.shelf)
+          (stocked_none (TakesListed (chunks_in g.F.Look.Look.files) l items) o) (there_after d.folders names files items items c.requires.found refl);
+      counts = λ q. omega (arith, read.counts q, took.counts q, gave.counts q, closed.counts q, ended.counts q);
+      folder_counts = λ q. omega (arith, read.folder_counts q, took.folder_counts q, gave.folder_counts q, closed.folder_counts q, ended.folder_counts q);
+    }
 
 pub returns-clause-kept : goal.returns-clause-kept
 returns-clause-kept g c =
     let at = g.F.Files.disk in
-    let d = at c.args.files.now in
+    let s = see g c.args.shelf in
+    let t = see g c.assemble-ended.new.cache in
+    let d' = at c.args.files.now in
+    let d = with_cache s d' in
     let b = at c.open_seeds.new.files in
     let b2 = at c.take.new.self in
-    let b3 = at c.close_stores-2.new.files in
-    let b4 = at c.close_seeds-2.new.files in
+    let b3 = at c.give_cache-2.new.files in
+    let b4 = at c.close_stores-2.new.files in
+    let b5 = at c.close_seeds-2.new.files in
     let e = at c.give.new.self in
-    wrote_then d b e (wrote_read d b c.in-Ok.ensures.kept) (wrote_then b b2 e (wrote_on b b2 _ c.in-Ok-take.ensures.counts) (wrote_then b2 b3 e (wrote_read b2 b3 c.close_stores-2.ensures.kept)
-    (wrote_then b3 b4 e (wrote_read b3 b4 c.close_seeds-2.ensures.kept) (wrote_back b4 e _ _ c.give.ensures.counts))))
+    let read = c.in-Ok.ensures.kept in
+    let took = wrote_on b b2 _ c.in-Ok-take.ensures.counts in
+    let gave = given_adds t b2 b3 c.give_cache-2.ensures.given in
+    let closed = c.close_stores-2.ensures.kept in
+    let ended = c.close_seeds-2.ensures.kept in
+    let back = wrote_back b5 e _ _ c.give.ensures.counts in
+    let files = files_in g.F.Look.Look.files in
+    let holds = chunks_in g.F.Look.Look.files in
+    let items = c.args.stores.items in
+    let names = map (place_in g.F.Look.Look.place) items in
+    let l = c.args.planned.now.index in
+    let same : c.new-kit.result.chain.stores ≡ items = ap (λ k. k.stores) (c.new-kit.ensures.chain ∙ c.new.ensures.value) in
+    let stocked = subst (λ xs. Stocked (TakesListed holds l xs) s t) same c.assemble-ended.ensures.stocked in
+    record {
+      folders = cache_filled holds items names l s t c.args.cache.now d'.folders d e (named g c.args.cache.now c.args.shelf c.requires.cache_named) refl
+          (back.folders ∙ ended.folders ∙ closed.folders ∙ given_folders t b2 b3 c.give_cache-2.ensures.given ∙ ap (folders_with t) (took.folders ∙ read.folders)) (cache_told g c.args.files.now c.args.shelf)
+          stocked (there_after d.folders names files items items c.requires.found refl);
+      counts = λ q. omega (arith, read.counts q, took.counts q, gave.counts q, closed.counts q, ended.counts q, back.counts q);
+      folder_counts = λ q. omega (arith, read.folder_counts q, took.folder_counts q, gave.folder_counts q, closed.folder_counts q, ended.folder_counts q, back.folder_counts q);
+    }
+
+pub give_cache-requires-2-clause-known : goal.give_cache-requires-2-clause-known
+give_cache-requires-2-clause-known g c =
+    let at = g.F.Files.disk in
+    let b = at c.open_seeds.new.files in
+    known_still c.args.cache.now (at c.args.files.now).folder_counts (at c.take.new.self).folder_counts
+    (λ q is. subst (λ (m : Map ℕ). IsSome (m q)) (sym c.in-Ok-take.ensures.counts.folder_counts) (c.in-Ok.ensures.kept.folder_known q is)) c.requires.cache_known
 
 pub assemble-ended-requires-clause-places : goal.assemble-ended-requires-clause-places
 assemble-ended-requires-clause-places g c =
@@ -79,11 +202,14 @@ close_stores-requires-2 g c =
     let at = g.F.Files.disk in
     let place = place_in g.F.Look.Look.place in
     let b = at c.open_seeds.new.files in
-    let counts = (at c.take.new.self).folder_counts in
+    let counts = (at c.give_cache-2.new.files).folder_counts in
     let xs = c.args.stores.items in
     let same : c.new-kit.result.chain.stores ≡ xs = ap (λ k. k.stores) (c.new-kit.ensures.chain ∙ c.new.ensures.value) in
+    let b2 = at c.take.new.self in
+    let gave = given_adds (see g c.assemble-ended.new.cache) b2 (at c.give_cache-2.new.files) c.give_cache-2.ensures.given in
     let known : All (λ s. IsSome (b.folder_counts (place s))) xs = λ k y lt. c.in-Ok.ensures.kept.folder_known _ (c.requires.known k y lt) in
-    let now : All (λ s. IsSome (counts (place s))) xs = subst (λ (m : Map ℕ). All (λ s. IsSome (m (place s))) xs) (sym c.in-Ok-take.ensures.counts.folder_counts) known in
+    let took : All (λ s. IsSome (b2.folder_counts (place s))) xs = subst (λ (m : Map ℕ). All (λ s. IsSome (m (place s))) xs) (sym c.in-Ok-take.ensures.counts.folder_counts) known in
+    let now : All (λ s. IsSome (counts (place s))) xs = λ k y lt. gave.folder_known _ (took k y lt) in
     record {
       known = rw c.into_stores.ensures.value (known_places place counts c.assemble-ended.new.kit.chain.stores (map place xs) (c.assemble-ended.ensures.stores.places ∙ ap (map place) same)
           (All-map (λ q. IsSome (counts q)) place xs now));
@@ -94,7 +220,8 @@ close_seeds-requires g c =
     let at = g.F.Files.disk in
     let b = at c.open_seeds.new.files in
     let b3 = at c.close_stores-in-Err.new.files in
-    let later : (q : List ℕ) → IsSome (b.file_counts q) → IsSome (b3.file_counts q) = λ q known. c.close_stores-in-Err.ensures.kept.known q (counted_known b.file_counts (at c.take.new.self).file_counts _ c.in-Err.ensures.counts.counts q known) in
+    let gave = given_adds (see g c.args.shelf) (at c.take.new.self) (at c.give_cache-in-Err.new.files) c.give_cache-in-Err.ensures.given in
+    let later : (q : List ℕ) → IsSome (b.file_counts q) → IsSome (b3.file_counts q) = λ q known. c.close_stores-in-Err.ensures.kept.known q (gave.known q (counted_known b.file_counts (at c.take.new.self).file_counts _ c.in-Err.ensures.counts.counts q known)) in
     record { known = all_known_later g.F.View.View.held b.file_counts b3.file_counts later c.in-Ok.seeds.items c.in-Ok.ensures.known }
 
 pub close_seeds-requires-2 : goal.close_seeds-requires-2
@@ -103,21 +230,29 @@ close_seeds-requires-2 g c =
     let view = g.F.View.View.held in
     let b = at c.open_seeds.new.files in
     let b3 = at c.close_stores-2.new.files in
-    let later : (q : List ℕ) → IsSome (b.file_counts q) → IsSome (b3.file_counts q) = λ q known. c.close_stores-2.ensures.kept.known q (counted_known b.file_counts (at c.take.new.self).file_counts _ c.in-Ok-take.ensures.counts.counts q known) in
+    let gave = given_adds (see g c.assemble-ended.new.cache) (at c.take.new.self) (at c.give_cache-2.new.files) c.give_cache-2.ensures.given in
+    let later : (q : List ℕ) → IsSome (b.file_counts q) → IsSome (b3.file_counts q) = λ q known. c.close_stores-2.ensures.kept.known q (gave.known q (counted_known b.file_counts (at c.take.new.self).file_counts _ c.in-Ok-take.ensures.counts.counts q known)) in
     let opened = all_known_later view b.file_counts b3.file_counts later c.in-Ok.seeds.items c.in-Ok.ensures.known in
     let same : map (seeds.held_in view) c.new-kit.result.seeds.items ≡ map (seeds.held_in view) c.in-Ok.seeds.items = ap (λ v. map (seeds.held_in view) v.items) c.new-kit.ensures.seeds in
     record { known = same_known view b3.file_counts c.in-Ok.seeds.items c.assemble-ended.new.kit.seeds.items (c.assemble-ended.ensures.seeds.held ∙ same) opened }
 
 pub give-requires-clause-known : goal.give-requires-clause-known
 give-requires-clause-known g c =
-    (c.close_seeds-2.ensures.kept.known _ (c.close_stores-2.ensures.kept.known _ (c.in-Ok-take.ensures.known)))
+    let at = g.F.Files.disk in
+    let gave = given_adds (see g c.assemble-ended.new.cache) (at c.take.new.self) (at c.give_cache-2.new.files) c.give_cache-2.ensures.given in
+    c.close_seeds-2.ensures.kept.known _ (c.close_stores-2.ensures.kept.known _ (gave.known _ c.in-Ok-take.ensures.known))
 
 pub returns-clause-assembled : goal.returns-clause-assembled
 returns-clause-assembled g c = λ ls is.
     let at = g.F.Files.disk in
-    let d = at c.args.files.now in
+    let e0 = see g c.args.shelf in
+    let e1 = see g c.assemble-ended.new.cache in
+    let cache = c.args.cache.now in
+    let d' = at c.args.files.now in
+    let d = with_cache e0 d' in
     let b = at c.open_seeds.new.files in
     let b2 = at c.take.new.self in
+    let bc = at c.give_cache-2.new.files in
     let b3 = at c.close_stores-2.new.files in
     let b4 = at c.close_seeds-2.new.files in
     let e = at c.give.new.self in
@@ -155,25 +290,38 @@ returns-clause-assembled g c = λ ls is.
     let zip : AllZip (IsViewed d b) z.images views = subst (λ v. AllZip (IsViewed d b) z.images (map (seeds.held_in view) v.items)) (sym c.new-kit.ensures.seeds) opens.found in
     let unfailed : map (seeds.faults_in view_faults) items ≡ map {B = ℕ} (λ s. 0) items = subst (λ v. map (seeds.faults_in view_faults) v.items ≡ map {B = ℕ} (λ s. 0) v.items) (sym c.new-kit.ensures.seeds) opens.fresh in
     let fresh_seeds : map (seeds.faults_in view_faults) items ≡ map {B = ℕ} (λ q. 0) labels = unfailed ∙ sym (zeros view items) in
+    let lent = given_adds e1 b2 bc c.give_cache-2.ensures.given in
+    let uncounted : b3.file_counts ≡ b2.file_counts = c.close_stores-2.ensures.counts ∙ given_files e1 b2 bc c.give_cache-2.ensures.given in
     let gave = c.give.ensures.files in
     let out = c.in-Ok-take.ensures.ok in
-    let left = gave ∙ ap (option_map (λ m. at_name m q t1)) (c.close_seeds-2.ensures.kept.files ∙ c.close_stores-2.ensures.kept.files ∙ out ∙ ap (option_map (λ m. at_name m q None)) opens.kept.files) in
+    let left = gave ∙ ap (option_map (λ m. at_name m q t1)) (c.close_seeds-2.ensures.kept.files ∙ c.close_stores-2.ensures.kept.files ∙ lent.files ∙ out ∙ ap (option_map (λ m. at_name m q None)) opens.kept.files) in
     let took = subst (λ f. IfSome f (λ m. t0 ≡ Some (old_of m o))) opens.kept.files (c.in-Ok-take.ensures.bytes) in
     let added = c.give.ensures.counts.counts.added in
     let given : (y : List ℕ) → count_at b4.file_counts y ≤ count_at e.file_counts y = λ y. counted_le b4.file_counts e.file_counts _ c.give.ensures.counts.counts.counted y in
     let le_mid : (y : List ℕ) → count_at d.file_counts y ≤ count_at b3.file_counts y = λ y.
     let first = opens.kept.counts y in
     let next = counted_le b.file_counts b2.file_counts _ c.in-Ok-take.ensures.counts.counts y in
-    let last : count_at b3.file_counts y ≡ count_at b2.file_counts y = ap (λ (m : Map ℕ). count_at m y) c.close_stores-2.ensures.counts in
+    let last : count_at b3.file_counts y ≡ count_at b2.file_counts y = ap (λ (m : Map ℕ). count_at m y) uncounted in
     omega (arith, first, next, last) in
     let le : count_at d.file_counts q ≤ count_at b4.file_counts q = omega (arith, le_mid q, c.close_seeds-2.ensures.kept.counts q) in
-    let opened : (y : List ℕ) → count_at d.folder_counts y ≤ count_at b2.folder_counts y = λ y.
+    let reached : (y : List ℕ) → count_at d.folder_counts y ≤ count_at b2.folder_counts y = λ y.
     let first = opens.kept.folder_counts y in
     let last : count_at b2.folder_counts y ≡ count_at b.folder_counts y = ap (λ (m : Map ℕ). count_at m y) c.in-Ok-take.ensures.counts.folder_counts in
     omega (arith, first, last) in
+    let opened : (y : List ℕ) → count_at d.folder_counts y ≤ count_at bc.folder_counts y = λ y. omega (arith, reached y, lent.folder_counts y) in
     let rose : Rose f0 f1 → FileRose d e q = λ y. given_rose _ _ _ _ le added (rw c.in-Ok-take.ensures.fresh.0 at y) in
     let closed = rw c.into_stores.ensures.value at c.close_stores-2.ensures.added in
     let stays : e.folder_counts ≡ b3.folder_counts = c.give.ensures.counts.folder_counts ∙ c.close_seeds-2.ensures.counts in
+    let ended : (y : List ℕ) → count_at bc.folder_counts y ≤ count_at e.folder_counts y = λ y.
+    let first = c.close_stores-2.ensures.kept.folder_counts y in
+    let last : count_at e.folder_counts y ≡ count_at b3.folder_counts y = ap (λ (m : Map ℕ). count_at m y) stays in
+    omega (arith, first, last) in
+    let name = named g cache c.args.shelf c.requires.cache_named in
+    let name_now = name_after _ e0 e1 cache over.stocked name in
+    let none = fresh_faults g.F.Folder.Look.files g.F.Folder.Look.place g.F.Folder.Look.faults _ c.args.shelf c.requires.cache_fresh in
+    let shelf_rose = cache_rose d e b2 bc reached ended (cache_faults e0) e1 none c.give_cache-2.ensures.given in
+    let shelf_now : e.folders ≡ folders_with e1 d'.folders = c.give.ensures.counts.folders ∙ c.close_seeds-2.ensures.kept.folders ∙ c.close_stores-2.ensures.kept.folders ∙ given_folders e1 b2 bc c.give_cache-2.ensures.given
+    ∙ ap (folders_with e1) (c.in-Ok-take.ensures.counts.folders ∙ opens.kept.folders) in
     let seeds_added : All (λ s. raised (count_at b3.file_counts (label_in view s)) (seeds.faults_in view_faults s) ≤ count_at e.file_counts (label_in view s)) j.seeds.items = λ n s lt.
     let here = c.close_seeds-2.ensures.added n s lt in
     let on = given (label_in view (slice_index_or j.seeds.items n s)) in
@@ -182,35 +330,41 @@ returns-clause-assembled g c = λ ls is.
     let rises = store_rose (seeds.faults_in view_faults) (label_in view) d.file_counts b3.file_counts e.file_counts le_mid items j.seeds.items labels fresh_seeds labelled seeds_added in
     let later : (y : List ℕ) → FileRose d b y → FileRose d e y = λ y.
     let next = counted_le b.file_counts b2.file_counts _ c.in-Ok-take.ensures.counts.counts y in
-    let last : count_at b3.file_counts y ≡ count_at b2.file_counts y = ap (λ (m : Map ℕ). count_at m y) c.close_stores-2.ensures.counts in
+    let last : count_at b3.file_counts y ≡ count_at b2.file_counts y = ap (λ (m : Map ℕ). count_at m y) uncounted in
     let more = c.close_seeds-2.ensures.kept.counts y in
     let end = given y in
     let on : count_at b.file_counts y ≤ count_at e.file_counts y = omega (arith, next, last, more, end) in
     rose_longer (count_at d.file_counts y) (count_at b.file_counts y) (count_at e.file_counts y) on in
     let tells : (m : Map (List ℕ)) → d.files ≡ Some m → IsTrue g.F.View.View.tells = λ m y. (g.met.F.Files.alike.0 (subst (λ t. IsTrue t) ((g.met.F.Files.told c.args.files.now).0) (subst (λ (o : Option (Map (List ℕ))). IsTrue (is_some o)) (sym y) refl))).0 in
-    let made = assembled d e names o l z r
-    (facts_of d e names o l z (λ maps base. IsObtainable l p x base views maps)
+    let made = assembled d e names cache o l z r
+    (facts_of d e names cache o l z (λ maps base. IsObtainable l p x base views maps)
     (λ m told maps base i lt. had_of d b e l p x z views zip is m told base maps i lt)
     (λ m told quiet maps base i lt. obtainable_of d b e l p x z views zip is m told base maps i lt (λ y rise. rose_not_quiet (count_at d.file_counts y) (count_at d.file_counts y) (count_at e.file_counts y) (omega arith) (later y rise) (quiet.files y)))
-    r (map files before) t0 t1 (Rose f0 f1) _
-    found took
+    r (map files before) (λ cs. cached_in e0 ≡ Some (map chunks cs)) t0 t1 (Rose f0 f1)
+    (λ cached maps. SourcesQuiet holds faults view_faults g.F.View.View.tells f0 f1 k.seeds.items j.seeds.items e0 e1 k.chain.stores j.chain.stores cached maps × HaveOneSize l e0 cached maps)
+    found (cached_there e0 cache name d'.folders (cache_told g c.args.files.now c.args.shelf)) took
     (g.met.F.Target.View.told c.in-Ok-take.taken ∙ sym (g.met.F.Target.View.told c.assemble-ended.new.target))
     left rose over.bytes
-    (λ fs looks. lacks_told holds _ place faults _ view view_faults l p x d e names o z t0 f0 f1 k j (Rose f0 f1) r fs (held_maps files before fs looks) rose over.lost)
-    (λ m told. seeds_lack holds _ place faults _ view view_faults l p x d e names o z t0 f0 f1 k j b m told zip is later rises (Rose f0 f1) r over.lost)
-    over.exactly over.after
-    (λ m y fs looks quiet. record {
-      target = rw c.in-Ok-take.ensures.fresh.0 (given_quiet _ _ _ _ le added (quiet.files q));
-      telling = tells m y;
-      seeds = each_quiet (seeds.faults_in view_faults) (label_in view) d.file_counts b3.file_counts e.file_counts le_mid items j.seeds.items labels fresh_seeds seeds_added quiet.files;
-      told = held_maps files before fs looks;
-      stores = each_quiet faults place d.folder_counts b2.folder_counts b3.folder_counts opened before after names fresh_stores closed (rw stays at quiet.folders);
-    }))
+    (λ fs looks. lacks_told holds _ place faults _ view view_faults l p x d e names cache o z t0 f0 f1 k j e0 e1 (Rose f0 f1) r fs (held_maps files before fs looks) rose over.lost)
+    (λ m told. others_lack holds _ place faults _ view view_faults l p x d e names cache o z t0 f0 f1 k j e0 e1 b m told zip is later rises (cache_lacking d e e0 e1 cache l d'.folders name_now shelf_now shelf_rose) (Rose f0 f1) r over.lost)
+    (λ cached maps n. over.exactly cached maps n.0 n.1) (λ cached maps n. over.after cached maps n.0 n.1)
+    (λ m y fs looks cs shelved quiet. (
+      record {
+        target = rw c.in-Ok-take.ensures.fresh.0 (given_quiet _ _ _ _ le added (quiet.0.files q));
+        telling = tells m y;
+        seeds = each_quiet (seeds.faults_in view_faults) (label_in view) d.file_counts b3.file_counts e.file_counts le_mid items j.seeds.items labels fresh_seeds seeds_added quiet.0.files;
+        told_cache = shelved;
+        cache = cache_quiet d e b2 bc reached ended (cache_faults e0) e1 none c.give_cache-2.ensures.given quiet.0;
+        told = held_maps files before fs looks;
+        stores = each_quiet faults place d.folder_counts bc.folder_counts b3.folder_counts opened before after names fresh_stores closed (rw stays at quiet.0.folders);
+      },
+      one_size e0 cache l (map chunks cs) (map chunks fs) name quiet.1,
+    )))
     (target_as _ (Rose f0 f1) (FileRose d e q) rose r over.lost)
-    (store_told holds _ place faults _ view view_faults l p x d e names o z t0 f0 f1 k j b2.folder_counts opened over.stores refl
+    (store_told holds _ place faults _ view view_faults l p x d e names cache o z t0 f0 f1 k j e0 e1 bc.folder_counts opened over.stores refl
     (λ xs held. there_after d.folders names files before xs found held)
     (rw stays closed) (Rose f0 f1) r over.lost) in
-    rw c.answer_of.ensures (subst (λ xs. Assembled d e (map place xs) o l z (answer_of_assembly r)) same made)
+    rw c.answer_of.ensures (subst (λ xs. Assembled d e (map place xs) cache o l z (answer_of_assembly r)) same made)
 
 pub returns-clause-tells : goal.returns-clause-tells
 returns-clause-tells g c = (g.met.F.Files.told c.give.new.self).0 ∙ sym ((g.met.F.Files.told c.args.files.now).0)

@@ -1,7 +1,12 @@
-use Rattle.std.proofs.Common.{ℕ, List, arith, true, false, inl, inr, map, refl, subst, sym}
+use Rattle.std.proofs.Common.{ℕ, List, Option, Ok, Err, arith, true, false, inl, inr, map, refl, subst, sym}
 use Rattle.std.proofs.lemmas.Result.{err_from_is_err_and}
 use Rattle.caibx_codec.specs.Listing.{Listing}
 use Rattle.command_steps.proofs.Lent.{known_places}
+use Rattle.assembler.specs.Caches.{seen}
+use Rattle.cache_store.specs.Shelves.{Shelf, Shelved}
+use Rattle.command_steps.proofs.Cached.{cache_longer, cache_reads}
+use Rattle.command_steps.specs.Cache.{with_cache}
+use Rattle.desync_cli.proofs.command.extract.extract.Given.{Over}
 use Rattle.command_steps.specs.AnyStores.{files_in, place_in}
 use Rattle.command_steps.specs.Openings.{Listed}
 use Rattle.command_steps.specs.Seeds.{image_name}
@@ -12,6 +17,10 @@ use Rattle.desync_cli.proofs.Replaced.{ends_with, known_places_of, opened_many}
 use Rattle.desync_cli.proofs.Seeded.{zipped_many}
 use Rattle.desync_cli.proofs.command.extract.extract.Goals as goal
 use Rattle.desync_cli.specs.Extract.{ExtractEnds, OutMade}
+
+-- what is seen of the cache
+abbrev see : (g : Over) → Option (Shelved g.row.F-Folder.Denot) → Option Shelf
+see g = seen g.F.Folder.Look.files g.F.Folder.Look.place g.F.Folder.Look.faults
 
 pub plan_of-requires-clause-few : goal.plan_of-requires-clause-few
 plan_of-requires-clause-few g c =
@@ -48,9 +57,11 @@ assemble_into-requires-clause-size g c =
 
 pub assemble_into-requires-clause-known : goal.assemble_into-requires-clause-known
 assemble_into-requires-clause-known g c =
+    let at = g.F.Files.disk in
     let known = rw c.as_slice-2.ensures at c.in_ok-opened.ensures.known in
     let fresh = rw c.as_slice-2.ensures at c.in_ok-opened.ensures.fresh in
-    known_places (place_in g.F.Look.Look.place) (g.F.Files.disk c.open_stores.new.files).folder_counts c.in_ok-opened.opened.items (names_of c.args.stores) fresh.0 known
+    let reached = cache_reads c.args.cache (at c.open_stores.new.files) (with_cache (see g c.in-Ok-take_cache.shelf) (at c.take_cache.new.files)) (Ok tt) c.in-Ok-take_cache.ensures.ok in
+    λ k y lt. reached.folder_known _ (known_places (place_in g.F.Look.Look.place) (at c.open_stores.new.files).folder_counts c.in_ok-opened.opened.items (names_of c.args.stores) fresh.0 known k y lt)
 
 pub assemble_beside-requires-clause-known_places : goal.assemble_beside-requires-clause-known_places
 assemble_beside-requires-clause-known_places g c =
@@ -65,17 +76,60 @@ assemble_beside-requires-clause-size g c =
 
 pub assemble_beside-requires-clause-known : goal.assemble_beside-requires-clause-known
 assemble_beside-requires-clause-known g c =
+    let at = g.F.Files.disk in
     let known = rw c.as_slice-2.ensures at c.in_ok-opened.ensures.known in
     let fresh = rw c.as_slice-2.ensures at c.in_ok-opened.ensures.fresh in
-    known_places (place_in g.F.Look.Look.place) (g.F.Files.disk c.open_stores.new.files).folder_counts c.in_ok-opened.opened.items (names_of c.args.stores) fresh.0 known
+    let reached = cache_reads c.args.cache (at c.open_stores.new.files) (with_cache (see g c.in-Ok-take_cache.shelf) (at c.take_cache.new.files)) (Ok tt) c.in-Ok-take_cache.ensures.ok in
+    λ k y lt. reached.folder_known _ (known_places (place_in g.F.Look.Look.place) (at c.open_stores.new.files).folder_counts c.in_ok-opened.opened.items (names_of c.args.stores) fresh.0 known k y lt)
+
+pub close_stores-requires : goal.close_stores-requires
+close_stores-requires g c =
+    let at = g.F.Files.disk in
+    let known = rw c.as_slice-2.ensures at c.in_ok-opened.ensures.known in
+    let fresh = rw c.as_slice-2.ensures at c.in_ok-opened.ensures.fresh in
+    let reached = cache_reads c.args.cache (at c.open_stores.new.files) (at c.take_cache.new.files) (Err c.in-Err.outcome) c.in-Err.ensures.err in
+    record { known = λ k y lt. reached.folder_known _ (known_places (place_in g.F.Look.Look.place) (at c.open_stores.new.files).folder_counts c.in_ok-opened.opened.items (names_of c.args.stores) fresh.0 known k y lt) }
+
+pub returns-in-Err : goal.returns-in-Err
+returns-in-Err g c =
+    let at = g.F.Files.disk in
+    let listed = c.in_ok-listed.ensures in
+    let read = c.in_ok-indexes.ensures in
+    let opened = c.in_ok-opened.ensures in
+    let names = names_of c.args.stores in
+    let found = rw c.as_slice-2.ensures at opened.found in
+    let refused = cache_longer c.args.cache (at c.open_stores.new.files) (at c.take_cache.new.files) (at c.close_stores.new.files) c.in-Err.outcome c.in-Err.ensures.err c.close_stores.ensures.kept in
+    record {
+      ends = λ o. inr (record {
+        disk = _;
+        out = _;
+        gave = c.in_ok-listed.listed;
+        did = ((listed.ok, listed.kept), refl);
+        then = inr (record {
+          disk = _;
+          out = _;
+          gave = c.in_ok-indexes.indexes.items;
+          did = (((rw c.as_slice.ensures at read.ok, read.few), read.kept), refl);
+          then = inr (record {
+            disk = _;
+            out = _;
+            gave = tt;
+            did = ((all_there (at c.read_indexes.new.files).folders names (files_in g.F.Look.Look.files) c.in_ok-opened.opened.items found, opened.kept), refl);
+            then = inl (refused, refl);
+          });
+        });
+      });
+    }
 
 pub returns-then-in_place : goal.returns-then-in_place
 returns-then-in_place g c =
     let at = g.F.Files.disk in
     let d = at c.args.files.now in
-    let m = at c.open_stores.new.files in
+    let f = at c.open_stores.new.files in
+    let m = with_cache (see g c.in-Ok-take_cache.shelf) (at c.take_cache.new.files) in
     let e = at c.assemble_into.new.files in
     let names = names_of c.args.stores in
+    let cache = c.args.cache in
     let items = c.in_ok-opened.opened.items in
     let ls = c.in_ok-indexes.indexes.items in
     let l = c.in_ok-listed.listed in
@@ -86,25 +140,28 @@ returns-then-in_place g c =
     let found = rw c.as_slice-2.ensures at opened.found in
     record {
       ends = λ p.
-          let ended : List (List ℕ) → List (List ℕ) → List ℕ → Listing → Type 0 = λ n images q l. OutMade true n q l (record { images = map image_name images; listings = ls }) (world m p) c.assemble_into.result (world e p) in
+          let ended : List (List ℕ) → List (List ℕ) → List ℕ → Listing → Type 0 = λ n images q l. OutMade true n cache q l (record { images = map image_name images; listings = ls }) (world m p) c.assemble_into.result (world e p) in
           let made = c.assemble_into.ensures in
           let over : ended (map (place_in g.F.Look.Look.place) items) c.as_slice-seeds.result.now c.as_str-then-in_place.result.now c.in-Ok.planned.index = ((made.assembled ls (rw c.in-Ok.ensures.index c.in-Ok.ensures.places), made.kept, made.tells), refl) in
           let named = subst (λ q. ended (map (place_in g.F.Look.Look.place) items) c.as_slice-seeds.result.now q c.in-Ok.planned.index) c.as_str-then-in_place.ensures over in
           let into : ended names c.args.seeds c.args.target l =
           subst (λ n. ended n c.args.seeds c.args.target l) fresh.0 (subst (λ q. ended (map (place_in g.F.Look.Look.place) items) q c.args.target l) c.as_slice-seeds.ensures
           (subst (λ l. ended (map (place_in g.F.Look.Look.place) items) c.as_slice-seeds.result.now c.args.target l) c.in-Ok.ensures.index named)) in
-          subst (λ place. ExtractEnds c.args.stores c.args.seeds place c.args.index c.args.target (world d p) c.assemble_into.result (world e p)) (sym c.if-in_place.true)
-          (ends_with c.args.stores c.args.seeds true c.args.index c.args.target l ls d (at c.read_index.new.files) (at c.read_indexes.new.files) m e p c.assemble_into.result
-          (listed.ok, listed.kept) ((rw c.as_slice.ensures at read.ok, read.few), read.kept) (all_there (at c.read_indexes.new.files).folders names (files_in g.F.Look.Look.files) items found, opened.kept) into);
+          subst (λ place. ExtractEnds c.args.stores cache c.args.seeds place c.args.index c.args.target (world d p) c.assemble_into.result (world e p)) (sym c.if-in_place.true)
+          (ends_with c.args.stores cache c.args.seeds true c.args.index c.args.target l ls d (at c.read_index.new.files) (at c.read_indexes.new.files) f m e p c.assemble_into.result
+          (listed.ok, listed.kept) ((rw c.as_slice.ensures at read.ok, read.few), read.kept) (all_there (at c.read_indexes.new.files).folders names (files_in g.F.Look.Look.files) items found, opened.kept)
+          c.in-Ok-take_cache.ensures.ok into);
     }
 
 pub returns : goal.returns
 returns g c =
     let at = g.F.Files.disk in
     let d = at c.args.files.now in
-    let m = at c.open_stores.new.files in
+    let f = at c.open_stores.new.files in
+    let m = with_cache (see g c.in-Ok-take_cache.shelf) (at c.take_cache.new.files) in
     let e = at c.assemble_beside.new.files in
     let names = names_of c.args.stores in
+    let cache = c.args.cache in
     let items = c.in_ok-opened.opened.items in
     let ls = c.in_ok-indexes.indexes.items in
     let l = c.in_ok-listed.listed in
@@ -115,12 +172,13 @@ returns g c =
     let found = rw c.as_slice-2.ensures at opened.found in
     record {
       ends = λ p.
-          let ended : List (List ℕ) → List (List ℕ) → List ℕ → Listing → Type 0 = λ n images q l. OutMade false n q l (record { images = map image_name images; listings = ls }) (world m p) c.assemble_beside.result (world e p) in
+          let ended : List (List ℕ) → List (List ℕ) → List ℕ → Listing → Type 0 = λ n images q l. OutMade false n cache q l (record { images = map image_name images; listings = ls }) (world m p) c.assemble_beside.result (world e p) in
           let named : ended (map (place_in g.F.Look.Look.place) items) c.as_slice-seeds.result.now c.args.target c.in-Ok.planned.index = c.assemble_beside.ensures.made ls p (rw c.in-Ok.ensures.index c.in-Ok.ensures.places) in
           let into : ended names c.args.seeds c.args.target l =
           subst (λ n. ended n c.args.seeds c.args.target l) fresh.0 (subst (λ q. ended (map (place_in g.F.Look.Look.place) items) q c.args.target l) c.as_slice-seeds.ensures
           (subst (λ l. ended (map (place_in g.F.Look.Look.place) items) c.as_slice-seeds.result.now c.args.target l) c.in-Ok.ensures.index named)) in
-          subst (λ place. ExtractEnds c.args.stores c.args.seeds place c.args.index c.args.target (world d p) c.assemble_beside.result (world e p)) (sym c.if-in_place.false)
-          (ends_with c.args.stores c.args.seeds false c.args.index c.args.target l ls d (at c.read_index.new.files) (at c.read_indexes.new.files) m e p c.assemble_beside.result
-          (listed.ok, listed.kept) ((rw c.as_slice.ensures at read.ok, read.few), read.kept) (all_there (at c.read_indexes.new.files).folders names (files_in g.F.Look.Look.files) items found, opened.kept) into);
+          subst (λ place. ExtractEnds c.args.stores cache c.args.seeds place c.args.index c.args.target (world d p) c.assemble_beside.result (world e p)) (sym c.if-in_place.false)
+          (ends_with c.args.stores cache c.args.seeds false c.args.index c.args.target l ls d (at c.read_index.new.files) (at c.read_indexes.new.files) f m e p c.assemble_beside.result
+          (listed.ok, listed.kept) ((rw c.as_slice.ensures at read.ok, read.few), read.kept) (all_there (at c.read_indexes.new.files).folders names (files_in g.F.Look.Look.files) items found, opened.kept)
+          c.in-Ok-take_cache.ensures.ok into);
     }
