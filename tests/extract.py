@@ -592,7 +592,7 @@ def no_commands(cases):
         ([b'\xff', *right[1:]], 'a word is no text in UTF-8'), ([*right[:5], b'\xff'], 'a word is no text in UTF-8'),
     ]
     not_yet = [
-        ['extract', '-c', STORE, '-s', STORE, INDEX, OUT], ['extract', '-k', '-s', 'http://localhost/', INDEX, OUT],
+        ['extract', '-k', '-s', 'http://localhost/', INDEX, OUT],
         ['chop', '-s', 'http://localhost/', INDEX, OUT], ['verify', '-s', STORE], ['prune', '-s', STORE, '-y', INDEX],
     ]
     for words, text in never + [(words, 'word 0: NotYet') for words in not_yet]:

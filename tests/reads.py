@@ -276,7 +276,7 @@ def refused_words(cases):
                ('extract -k -s st --seed x a b', 'word 5: BadSeed'), ('chop -s http://h/ a b', 'word 0: NotYet'),
                ('prune -s st a', 'word 4: NeedsYes'), ('verify -s http://h/', 'word 2: NeedsFolder'),
                ('chunk-server -s st -l x', 'word 4: BadListen'), ('cache -s st a', 'word 4: MissingOption'),
-               ('extract -c c -s st a b', 'word 0: NotYet'), ('info -s http://localhost/ a', 'word 0: NotYet')]
+               ('extract -c c -c c -s st a b', 'word 3: TooMany'), ('info -s http://localhost/ a', 'word 0: NotYet')]
     for words, text in refused:
         with cases.case(f'the words {words}') as folder:
             put_file(os.path.join(folder, 'a'), b'a')
