@@ -3,9 +3,10 @@
 
 Into an absent output every byte is read from the store, named and written; over an output that is right already every
 byte is read and named once; and over an older version, of which 94 % are right, every byte is named once, and the
-others are read from the store and written. Without -k the first is done by way of a temporary file. casync's extraction
-from a store of its own is measured beside it, where it is installed. Needs four times the image's size under the
-temporary folder.
+others are read from the store and written. Without -k the first is done by way of a temporary file. With -c the chunks
+come from a cache, beside an empty store, or from the store, and are then added to the cache. casync's extraction from a
+store of its own is measured beside it, where it is installed. Needs the image's size under the temporary folder for each
+run, and six times more.
 """
 
 import filecmp
@@ -56,17 +57,31 @@ def main():
             if os.path.exists(output):
                 os.remove(output)
 
+        def cool_down():
+            # What was filled is moved aside: right after many files were removed making them takes longer.
+            remove_output()
+            if os.path.exists(cold):
+                os.rename(cold, f'{cold}-{len(os.listdir(folder))}')
+            os.mkdir(cold)
+
         def age_output():
             shutil.copyfile(image, output)
             age(output, index)
 
         words = ['extract', '-k', '-s', 'store', 'image.caibx', 'output']
         beside = ['extract', *words[2:]]
+        shutil.copytree(os.path.join(folder, 'store'), os.path.join(folder, 'warm'))
+        os.mkdir(os.path.join(folder, 'empty'))
+        cold = os.path.join(folder, 'cold')
         rows = [side_by_side.openssl(image),
                 side_by_side.Row('extract -k, output absent', words, remove_output, at_most=2.0),
                 side_by_side.Row('extract, output absent', beside, remove_output),
                 side_by_side.Row('extract -k, output right already', words, at_most=1.55),
-                side_by_side.Row('extract -k, output 94 % right', words, age_output, at_most=1.8)]
+                side_by_side.Row('extract -k, output 94 % right', words, age_output, at_most=1.8),
+                side_by_side.Row('extract -k, from a cache, store empty',
+                                 ['extract', '-k', '-s', 'empty', '-c', 'warm', *words[4:]], remove_output),
+                side_by_side.Row('extract -k, cache empty',
+                                 ['extract', '-k', '-s', 'store', '-c', 'cold', *words[4:]], cool_down)]
         ours = rows[1:]
         rows += side_by_side.casync_rows(folder, image, output, remove_output, [('output absent', None)])
         side_by_side.measure(rows, folder, options.runs)
@@ -78,6 +93,8 @@ def main():
         side_by_side.print_table(rows, size)
         print(f'extract by way of a temporary file takes {rows[2].median() / rows[1].median():.2f} times as long as in place; '
               'wanted at most 1.05')
+        print(f'from a cache chunks come at {rows[1].median() / rows[5].median():.2f} of the pace of a folder store; '
+              'wanted at least 0.9')
         print('Peak memory is wanted at most 16384 KiB beside the index.')
         for row in ours:
             side_by_side.print_openings(row, folder, output)
