@@ -2,6 +2,7 @@ pub mod Bytes
 pub mod Counts
 pub mod Maps
 pub mod Disk
+pub mod Links
 pub mod Texts
 pub mod Files
 pub mod Folders

@@ -1,9 +1,12 @@
 //! The outside world as the layers above see it: files, folders and sinks as traits.
 #![tactic(auto)]
 
+pub mod dial;
 pub mod fault;
 pub mod files;
 pub mod folder;
+pub mod link;
+pub mod listen;
 pub mod look;
 pub mod name;
 pub mod sink;
