@@ -26,6 +26,13 @@ impl Calls {
         Calls { fails, so_far: 0 }
     }
 
+    /// The number of the call that is made next.
+    pub(crate) fn so_far(&self) -> u64
+        ensures { result ≡ self.now.so_far }
+    {
+        self.so_far
+    }
+
     /// Whether the call that is made now is to fail.
     pub fn next_fails(&mut self) -> bool
         ensures value { result ≡ list_any (nat_eq self.old.so_far) self.old.fails.items }

@@ -1,0 +1,50 @@
+-- What connections in memory tell.
+use Rattle.std.specs.Prelude.{ℕ, List, [], ◌∷◌, ◌++◌, take, drop, map, Some, Vec}
+use Rattle.std.specs.List.{flat_map}
+use Rattle.dsy_base.specs.Links.{Traffic, LinkState, DialState, ListenState}
+use Rattle.dsy_forms.specs.declared.mem_link.MemLink.{MemLink}
+use Rattle.dsy_forms.specs.declared.mem_dial.MemDial.{MemDial}
+use Rattle.dsy_forms.specs.declared.mem_listen.MemListen.{MemListen}
+use Rattle.dsy_forms.specs.declared.open_link.Ended.{Ended, Nothing, Link'}
+
+-- all bytes of the pieces, one piece after the other
+abbrev pub bytes_of : {Z : Type 0} → List (Vec ℕ Z) → List ℕ
+bytes_of pieces = flat_map (λ p. p.items) pieces
+
+-- what has come where so many pieces were passed and so many bytes of the others were read, and what hasn't
+abbrev pub come : {Z : Type 0} → List (Vec ℕ Z) → ℕ → ℕ → List ℕ
+come pieces piece at = bytes_of (take piece pieces) ++ take at (bytes_of (drop piece pieces))
+
+abbrev pub to_come : {Z : Type 0} → List (Vec ℕ Z) → ℕ → ℕ → List ℕ
+to_come pieces piece at = drop at (bytes_of (drop piece pieces))
+
+abbrev pub traffic_of : MemLink → Traffic
+traffic_of l = record {
+  received = come l.pieces.items l.piece l.at;
+  coming = to_come l.pieces.items l.piece l.at;
+  sent = l.sent.items;
+}
+
+-- the same before anything came or went
+abbrev pub first_of : MemLink → Traffic
+first_of l = record { received = []; coming = bytes_of l.pieces.items; sent = [] }
+
+abbrev pub link_of : MemLink → LinkState
+link_of l = record { traffic = Some (traffic_of l); faults = l.faults }
+
+-- ---- connections in order
+
+-- those that have ended
+abbrev pub traffics_of : Ended → List Traffic
+traffics_of Nothing = []
+traffics_of (Link' l p rest) = traffic_of l ∷ traffics_of rest
+
+abbrev pub dial_of : MemDial → DialState
+dial_of d = record { ended = Some (traffics_of d.ended); faults = d.faults }
+
+abbrev pub listen_of : MemListen → ListenState
+listen_of l = record {
+  coming = Some (map first_of (drop l.next l.links.items));
+  ended = Some (traffics_of l.ended);
+  faults = l.faults;
+}
