@@ -1,3 +1,4 @@
+pub mod FreshLinks
 pub mod Pieces
 pub mod Trees
 pub mod Updates

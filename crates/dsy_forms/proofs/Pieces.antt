@@ -1,5 +1,5 @@
 -- Bytes that come in pieces.
-use Rattle.std.proofs.Common.{subst, length-drop, ◌≡◌, ℕ, zero, suc, ◌+◌, ◌-◌, ◌<◌, ◌≤◌, List, [], ◌∷◌, ◌++◌, length, get_or, take, drop, Vec, vec_len, Global, Option, Some, None, IfSome, sym, ap, ◌∙◌, refl, arith, append_assoc, append-nil, add-one}
+use Rattle.std.proofs.Common.{subst, length-drop, ◌≡◌, ℕ, zero, suc, ◌+◌, ◌-◌, ◌<◌, ◌≤◌, List, [], ◌∷◌, ◌++◌, length, get_or, take, drop, Vec, vec_len, Global, Some, IfSome, sym, ap, ◌∙◌, refl, arith, append_assoc, append-nil, add-one}
 use Rattle.std.specs.Prelude.{slice_get}
 use Rattle.std.specs.List.{AllZip, each_same}
 use Rattle.std.proofs.lemmas.List.{drop_more, length-take-le, drop-append-le, take-append-le, drop-drop}
@@ -29,9 +29,10 @@ to_come_passed (x ∷ xs) (suc i) m p h = to_come_passed xs i m p h
 pub passed : {Z : Type 0} (ps : List (Vec ℕ Z)) (i at : ℕ) (p : Vec ℕ Z) → i < length ps → p ≡ get_or ps i p → vec_len p ≤ at → (come ps (i + 1) (at - vec_len p) ≡ come ps i at) × (to_come ps (i + 1) (at - vec_len p) ≡ to_come ps i at)
 passed ps i at p h e l =
     let there : slice_get ps i ≡ Some p = slice_get_read ps (length ps) i p refl h e in
-    let sum : length p.items + (at - vec_len p) ≡ at = grind arith in
-    (ap (λ k. come ps k (at - vec_len p)) (add-one i) ∙ come_passed ps i (at - vec_len p) p there ∙ ap (come ps i) sum,
-     ap (λ k. to_come ps k (at - vec_len p)) (add-one i) ∙ to_come_passed ps i (at - vec_len p) p there ∙ ap (to_come ps i) sum)
+    let sum : length p.items + (at - vec_len p) ≡ at = grind arith in (
+      ap (λ k. come ps k (at - vec_len p)) (add-one i) ∙ come_passed ps i (at - vec_len p) p there ∙ ap (come ps i) sum,
+      ap (λ k. to_come ps k (at - vec_len p)) (add-one i) ∙ to_come_passed ps i (at - vec_len p) p there ∙ ap (to_come ps i) sum,
+    )
 
 -- a connection that passes such a piece tells the same
 pub link_passed : (l : MemLink) (p : Vec ℕ Global) (n : ℕ) → l.piece < length l.pieces.items → p ≡ get_or l.pieces.items l.piece p → n ≡ vec_len p → n ≤ l.at → link_of (record l { piece = l.piece + 1; at = l.at - n }) ≡ link_of l

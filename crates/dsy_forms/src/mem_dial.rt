@@ -43,7 +43,8 @@ impl MemDial {
 
     /// The link that ended after `k` others.
     pub fn ended(&self, k: usize) -> Option<&MemLink>
-        ensures { IfSome (dial_of self.now).ended (λ ended. option_map (λ l. traffic_of l.now) result ≡ slice_get ended k) }
+        ensures { IfSome (dial_of self.now).ended
+            (λ ended. option_map (λ l. traffic_of l.now) result ≡ slice_get ended k) }
     {
         self.ended.get(k)
     }

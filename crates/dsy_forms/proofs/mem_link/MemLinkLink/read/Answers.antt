@@ -1,4 +1,4 @@
-use Rattle.std.proofs.Common.{arith, ◌≡◌, ◌+◌, ◌-◌, ◌<◌, ◌≤◌, length, vec_len, refl, Some, None, slice_get, take, drop, ◌++◌, get_or, ap, ◌∙◌, length-take, length-drop}
+use Rattle.std.proofs.Common.{arith, ◌≡◌, ◌+◌, ◌<◌, ◌≤◌, length, vec_len, take, drop, ◌++◌, get_or, ap, ◌∙◌, length-take, length-drop}
 use Rattle.std.proofs.lemmas.List.{take_at, take_rest}
 use Rattle.dsy_forms.proofs.Pieces.{piece_left, reads_next}
 use Rattle.dsy_forms.proofs.mem_link.MemLinkLink.read.Goals as goal
@@ -16,7 +16,7 @@ returns-clause-bytes c =
     let few : l.at + n ≤ length p.items = grind (arith, length-take, length-drop) in
     let long : length c.copy_from_slice.new.self ≡ n = grind (arith, length-take, length-drop) in
     let read : take n (c.copy_from_slice.new.self ++ drop n c.args.out.now) ≡ take n (drop l.at p.items) =
-        take_at c.copy_from_slice.new.self (drop n c.args.out.now) n long ∙ c.copy_from_slice.ensures.after ∙ ap (take n) (take_rest xs l.at) ∙ ap (λ ys. take n (drop l.at ys)) c.deref-2.ensures.value in
+    take_at c.copy_from_slice.new.self (drop n c.args.out.now) n long ∙ c.copy_from_slice.ensures.after ∙ ap (take n) (take_rest xs l.at) ∙ ap (λ ys. take n (drop l.at ys)) c.deref-2.ensures.value in
     reads_next c.args.self.now l p n _ c.pass_pieces.ensures.kept inside here few read
 
 pub returns-clause-end : goal.returns-clause-end
