@@ -2,6 +2,8 @@
 #![tactic(auto)]
 
 pub mod calls;
+#[cfg(test)]
+mod link_tests;
 pub mod mem_dial;
 pub mod mem_files;
 pub mod mem_folder;
