@@ -6,3 +6,4 @@ pub mod Lines
 pub mod Ends
 pub mod Trailers
 pub mod Spelled
+pub mod Ahead

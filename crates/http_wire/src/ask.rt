@@ -60,9 +60,9 @@ fn joined(
     )
 }
 
-// The head of the ask, up to its empty line.
+/// The head of an ask, up to its empty line. Host, path and length are those of `write_ask`.
 #[tactic(auto, unfolding(crate::specs::Ask::ask))]
-fn ask(
+pub fn ask_text(
     alloc: Global,
     method: Method,
     host: &str,
@@ -70,7 +70,7 @@ fn ask(
     path: &str,
     length: Option<u64>,
 ) -> Result<String, AllocError>
-    ensures { IfOk result (λ t. string_bytes t ≡ ask method host.now port path.now length) }
+    ensures ok { IfOk result (λ t. string_bytes t ≡ ask method host.now port path.now length) }
 {
     let port = port_text(alloc, port)?;
     let length = length_text(alloc, length)?;
@@ -105,7 +105,7 @@ pub fn write_ask<S: Sink>(
     ensures faults { CountsFaults IoFault.Failed IoFault.Memory
         (S.output out.old).faults (S.output out.new).faults result }
 {
-    match ask(alloc, method, host, port, path, length) {
+    match ask_text(alloc, method, host, port, path, length) {
         Ok(text) => out.put(text.as_bytes()),
         Err(_) => Err(IoFault::Memory),
     }

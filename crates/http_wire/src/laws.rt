@@ -1,12 +1,15 @@
 //! Laws of bodies, for the crates above. Nothing is done: each function's contract is the law.
 
-ghost use Rattle.std.specs.Prelude.{◌≡◌, ℕ, ◌≤◌, List, ◌++◌, length, Ok, Err};
+ghost use Rattle.std.specs.Prelude.{◌≡◌, ℕ, ◌+◌, ◌≤◌, List, ◌++◌, length, false, Ok, Err};
 ghost use Rattle.std.specs.List.{flat_map};
 ghost use Rattle.httparse.specs.Grammar.{ChunkLine, chunk_size};
 ghost use Rattle.http_wire.specs.declared.body.BodyKind.{BodyKind};
 ghost use Rattle.http_wire.specs.declared.fault.WireFault.{WireFault};
-ghost use Rattle.http_wire.specs.Body.{body_in, reads, start};
+ghost use Rattle.http_wire.specs.Body.{body_in, is_whole, reads, start};
+ghost use Rattle.http_wire.specs.Seen.{Kept};
+ghost use Rattle.http_wire.specs.Ahead.{ahead};
 ghost use Rattle.http_wire.specs.Spelling.{bytes_of, spelling, AreWireChunks, WireChunk, IsSizeLine, IsTrailer};
+ghost use Rattle.http_wire.specs.Standing.{StandsFor};
 
 use crate::body::BodyKind;
 
@@ -21,4 +24,11 @@ pub fn chunks_are_read()
 pub fn fault_stays()
     ensures value { (room : ℕ) (k : BodyKind) (b c : List ℕ) (f : WireFault)
         → reads room (start k) b ≡ Err f → reads room (start k) (b ++ c) ≡ Err f }
+{}
+
+/// A body that isn't whole after so many bytes more may have so many fewer.
+pub fn bodies_end()
+    ensures value { (k : BodyKind) (b c before after : List ℕ) (h n : Kept) → StandsFor k b h before
+        → StandsFor k (b ++ c) n after → length after ≡ length before → is_whole n.next ≡ false
+        → ahead (length before) n + length c ≤ ahead (length before) h }
 {}

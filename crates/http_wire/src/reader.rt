@@ -84,6 +84,7 @@ impl BodyReader {
     pub fn finish(&mut self) -> Result<usize, WireFault>
         ensures first { IfOk self.old (λ h. (k : BodyKind) (b out : List ℕ) → StandsFor k b h out → Ends k b out result) }
         ensures ok { IfOk result (λ n. self.new ≡ self.old) }
+        ensures size { IfOk result (λ n. IfOk self.old (λ h. n ≡ h.filled)) }
         ensures err { IfErr result (λ f. self.new ≡ Err f) }
         ensures refused { IfErr self.old (λ f. result ≡ Err f) }
     {
