@@ -1,0 +1,7 @@
+pub mod Streams
+pub mod Heads
+pub mod Bodies
+pub mod Given
+pub mod Ended
+pub mod Called
+pub mod OneThing

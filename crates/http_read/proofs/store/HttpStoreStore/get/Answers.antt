@@ -1,0 +1,37 @@
+use Rattle.std.proofs.Common.{ℕ, length, take, sym, subst}
+use Rattle.std.specs.List.{Any}
+use Rattle.std.specs.Prelude.{IfSome}
+use Rattle.chunk_store.specs.Said.{KeepsOf}
+use Rattle.chunk_store.specs.declared.store.GetFault.{GetFault}
+use Rattle.http_read.proofs.Ended.{said_kept, said_of_added}
+use Rattle.http_read.proofs.Streams.{ok_weaker}
+use Rattle.http_read.specs.Remotes.{said_on}
+use Rattle.http_read.specs.Replies.{IsDenial, IsLonger, IsShowing}
+use Rattle.http_read.proofs.store.HttpStoreStore.get.Goals as goal
+
+pub returns-clause-ok : goal.returns-clause-ok
+returns-clause-ok g c =
+    let ended = (g.D.Dial.state c.fetch.new.self.dial).ended in
+    ok_weaker ℕ GetFault _ _ c.fetch.result (λ n p. (
+      p.0,
+      subst (λ s. IfSome ended (Any (IsShowing s c.args.id.now.0 (take n c.fetch.new.out)))) (sym c.fetch.ensures.server)
+          (said_of_added _ _ ended p.1),
+    )) c.fetch.ensures.ok
+
+pub returns-clause-absent : goal.returns-clause-absent
+returns-clause-absent g c = λ is.
+    let ended = (g.D.Dial.state c.fetch.new.self.dial).ended in
+    subst (λ s. IfSome ended (Any (IsDenial s c.args.id.now.0))) (sym c.fetch.ensures.server)
+    (said_of_added _ _ ended (c.fetch.ensures.absent is))
+
+pub returns-clause-longer : goal.returns-clause-longer
+returns-clause-longer g c = λ is.
+    let ended = (g.D.Dial.state c.fetch.new.self.dial).ended in
+    subst (λ s. IfSome ended (Any (IsLonger s c.args.id.now.0 (length c.fetch.new.out)))) (sym c.fetch.ensures.server)
+    (said_of_added _ _ ended (c.fetch.ensures.longer is))
+
+pub returns-clause-said : goal.returns-clause-said
+returns-clause-said g c = λ q.
+    let old = said_on c.args.self.now.server (g.D.Dial.state c.args.self.now.dial).ended in
+    subst (λ s. KeepsOf old (said_on s (g.D.Dial.state c.fetch.new.self.dial).ended) q) (sym c.fetch.ensures.server)
+    (said_kept _ c.args.self.now.server _ _ q c.fetch.ensures.calls.ended)

@@ -1,0 +1,11 @@
+//! A server of chunks as a store, over HTTP/1.1 (RFC 9112).
+#![tactic(auto)]
+
+mod body;
+mod exchange;
+pub mod fault;
+pub mod laws;
+mod receiving;
+pub mod store;
+#[cfg(test)]
+mod tests;
