@@ -44,8 +44,8 @@ impl<F: Look> DirStore<F> {
         self.folder
     }
 
-    // The names of all files that the folder lists.
-    pub(crate) fn names(&mut self) -> Result<Vec<Name>, IoFault>
+    /// The names of all files that have at most one `/`, each once, in the order of their bytes.
+    pub fn names(&mut self) -> Result<Vec<Name>, IoFault>
         ensures found { IfOk result (λ v. IfSome (F.files self.old) (λ m. IsNamesOf m v.items)) }
         ensures kept { F.files self.new ≡ F.files self.old }
         ensures place { F.place self.new ≡ F.place self.old }
