@@ -27,7 +27,7 @@ member_append (y ∷ front) rest q = ap (λ b. bytes_eq q y || b) (member_append
 pub member_push : (front : List (List ℕ)) (x q : List ℕ) → is_member bytes_eq (front ++ x ∷ []) q ≡ (is_member bytes_eq front q || bytes_eq q x)
 member_push front x q = member_append front (x ∷ []) q ∙ ap (λ b. is_member bytes_eq front q || b) (or-false (bytes_eq q x))
 
-or_as_cond : (a b : Bool) → cond b true a ≡ (a || b)
+pub or_as_cond : (a b : Bool) → cond b true a ≡ (a || b)
 or_as_cond true true = refl
 or_as_cond true false = refl
 or_as_cond false true = refl

@@ -7,3 +7,6 @@ pub mod InfoText
 pub mod Holding
 pub mod EntryCalls
 pub mod Filled
+pub mod Pruned
+pub mod Kept
+pub mod Verified

@@ -14,11 +14,11 @@ use Rattle.verify_tool.specs.Texts.{line_of}
 use Rattle.hex.specs.Hex.{encode_lower}
 
 -- one part after another
-put_both : (o : Option (List ℕ)) (p q : List ℕ) → option_map (λ t. t ++ q) (option_map (λ t. t ++ p) o) ≡ option_map (λ t. t ++ (p ++ q)) o
+pub put_both : (o : Option (List ℕ)) (p q : List ℕ) → option_map (λ t. t ++ q) (option_map (λ t. t ++ p) o) ≡ option_map (λ t. t ++ (p ++ q)) o
 put_both None p q = refl
 put_both (Some t) p q = ap Some (append_assoc t p q)
 
-put_nothing : (o : Option (List ℕ)) → option_map (λ t. t ++ []) o ≡ o
+pub put_nothing : (o : Option (List ℕ)) → option_map (λ t. t ++ []) o ≡ o
 put_nothing None = refl
 put_nothing (Some t) = ap Some (append-nil t)
 

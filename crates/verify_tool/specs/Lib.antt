@@ -4,3 +4,5 @@ pub mod Counts
 pub mod Blocks
 pub mod Figures
 pub mod Filling
+pub mod Pruning
+pub mod Verifying

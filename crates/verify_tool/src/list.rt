@@ -17,7 +17,7 @@ use std::alloc::{AllocError, Global};
 const BLOCK: usize = 33_280;
 
 // Appends the line of an id.
-fn push_line(block: &mut Vec<u8>, id: &ChunkId) -> Result<(), AllocError>
+pub(crate) fn push_line(block: &mut Vec<u8>, id: &ChunkId) -> Result<(), AllocError>
     ensures ok { OnOk result (block.new.items ≡ block.old.items ++ (encode_lower id.now.0 ++ 10 ∷ [])) }
 {
     block.extend_from_slice(id.to_hex().as_slice())?;
