@@ -80,6 +80,7 @@ text_of ends.TargetFault = codes "the target failed"
 text_of (ends.FileFault name) = name ++ codes ": failed"
 text_of ends.OutFault = codes "the output failed"
 text_of ends.ImageFault = codes "the image failed"
+text_of (ends.DamagedLeft count) = codes "damaged chunks left: " ++ decimal count
 text_of ends.TooManyItems = codes "too many chunks"
 text_of ends.Memory = codes "no memory"
 

@@ -202,6 +202,7 @@ fn text_of(alloc: Global, outcome: &Outcome) -> Result<String, AllocError>
         Outcome::FileFault { name } => name_text(alloc, name, ": failed"),
         Outcome::OutFault => String::from_str(alloc, "the output failed"),
         Outcome::ImageFault => String::from_str(alloc, "the image failed"),
+        Outcome::DamagedLeft { count } => format!(in alloc; "damaged chunks left: {count}"),
         Outcome::TooManyItems => String::from_str(alloc, "too many chunks"),
         Outcome::Memory => String::from_str(alloc, "no memory"),
     }

@@ -73,7 +73,12 @@ pub enum Outcome {
     OutFault,
     /// Opening or reading the image failed.
     ImageFault,
-    /// The image has more chunks than an index may list; or the indexes of the seeds list more than 2^23 together.
+    /// So many damaged chunk files were found and left.
+    DamagedLeft {
+        count: u64,
+    },
+    /// The image has more chunks than an index may list; or the indexes of the seeds, or those by which a store is
+    /// pruned, list more than 2^23 together.
     TooManyItems,
     Memory,
 }

@@ -67,6 +67,8 @@ fn each_other_outcome_has_its_line(rt: HostRuntime) -> Result<(), Fail> {
     line_is(&rt, alloc, Outcome::OutFault, "desync: the output failed\n")?;
     line_is(&rt, alloc, Outcome::ImageFault, "desync: the image failed\n")?;
     line_is(&rt, alloc, Outcome::TooManyItems, "desync: too many chunks\n")?;
+    let left = Outcome::DamagedLeft { count: 10 };
+    line_is(&rt, alloc, left, "desync: damaged chunks left: 10\n")?;
     line_is(&rt, alloc, Outcome::Memory, "desync: no memory\n")
 }
 
