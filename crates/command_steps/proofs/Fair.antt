@@ -16,6 +16,7 @@ use Rattle.command_steps.specs.Worlds.{Adds, FileRose, FolderRose, OnDisk, OnOut
 use Rattle.command_steps.proofs.Cached.{cache_reads}
 use Rattle.command_steps.proofs.Numbers.{rose_later, rose_longer}
 use Rattle.dsy_base.specs.Disk.{Disk, Output}
+use Rattle.dsy_base.specs.Links.{DialState}
 use Rattle.dsy_base.specs.Maps.{Map}
 
 -- an outcome that a command refuses with
@@ -33,6 +34,7 @@ pub record IsLeft (s : Spares) (w v : World) : Type 0 where
   pub keeps : Keeps s w v
   pub files : (q : List ℕ) → count_at w.disk.file_counts q ≤ count_at v.disk.file_counts q
   pub folders : (q : List ℕ) → count_at w.disk.folder_counts q ≤ count_at v.disk.folder_counts q
+  pub dial : w.dial.faults ≤ v.dial.faults
   pub out : w.out.faults ≤ v.out.faults
 
 -- each refusal of the step is fair, and each end of it leaves the world so. `at` is the world round what the step is of
@@ -42,9 +44,10 @@ pub record IsStep {W A : Type 0} (at : W → World) (s : Spares) (x : Parts) (st
 
 pub left_twice : {s : Spares} {w u v : World} → IsLeft s w u → IsLeft s u v → IsLeft s w v
 left_twice a b = record {
-  keeps = record { files = λ t. b.keeps.files t ∙ a.keeps.files t; folders = λ t. b.keeps.folders t ∙ a.keeps.folders t; out = λ t. b.keeps.out t ∙ a.keeps.out t };
+  keeps = record { files = λ t. b.keeps.files t ∙ a.keeps.files t; folders = λ t. b.keeps.folders t ∙ a.keeps.folders t; dial = λ t. b.keeps.dial t ∙ a.keeps.dial t; out = λ t. b.keeps.out t ∙ a.keeps.out t };
   files = λ q. omega (arith, a.files q, b.files q);
   folders = λ q. omega (arith, a.folders q, b.folders q);
+  dial = omega (arith, a.dial, b.dial);
   out = omega (arith, a.out, b.out);
 }
 
@@ -97,7 +100,7 @@ whole w = w
 
 -- the world between two steps
 abbrev pub between : {A B : Type 0} {step : Step World A} {next : A → Step World B} {w v : World} {r : Result B Outcome} → Passed step next w r v → World
-between h = world h.disk h.out
+between h = world h.disk h.dial h.out
 
 pub bound : {A B : Type 0} {s : Spares} {x : Parts} {step : World → Result A Outcome → World → Type 0} {next : A → World → Result B Outcome → World → Type 0}
     → IsStep whole s x step → ((a : A) → IsStep whole s x (next a)) → IsStep whole s x (step >>= next)
@@ -113,7 +116,7 @@ bound {A} {B} {s} {x} {step} {next} first rest = record { fair = fair; leaves = 
 
 -- the same of each in order
 still : (s : Spares) (w : World) → IsLeft s w w
-still s w = record { keeps = record { files = λ t. refl; folders = λ t. refl; out = λ t. refl }; files = λ q. omega arith; folders = λ q. omega arith; out = omega arith }
+still s w = record { keeps = record { files = λ t. refl; folders = λ t. refl; dial = λ t. refl; out = λ t. refl }; files = λ q. omega arith; folders = λ q. omega arith; dial = omega arith; out = omega arith }
 
 pub each_step : {X : Type 0} {s : Spares} {x : Parts} {step : X → Step World Unit} → ((y : X) → IsStep whole s x (step y)) → (ys : List X) → IsStep whole s x (each step ys)
 each_step {X} {s} {x} {step} k [] = record { fair = λ w v o h. absurd h; leaves = leaves } where
@@ -128,37 +131,50 @@ pure_step {A} {s} {x} answers refuses = record { fair = λ w v o h. refuses o w 
 
 -- ---- steps over a part of the world
 
-abbrev pub round : Output → Disk → World
-round p d = world d p
+-- what is beside the disk, and what is beside the output
+pub record Unread : Type 0 where
+  pub dial : DialState
+  pub out : Output
 
-abbrev pub beside : Disk → Output → World
-beside d p = world d p
+pub record Unprinted : Type 0 where
+  pub disk : Disk
+  pub dial : DialState
 
-pub on_disk : {A : Type 0} {s : Spares} {x : Parts} {step : Disk → Result A Outcome → Disk → Type 0} → ((p : Output) → IsStep (round p) s x step) → IsStep whole s x (OnDisk step)
+abbrev pub round : Unread → Disk → World
+round p d = world d p.dial p.out
+
+abbrev pub beside : Unprinted → Output → World
+beside d p = world d.disk d.dial p
+
+pub on_disk : {A : Type 0} {s : Spares} {x : Parts} {step : Disk → Result A Outcome → Disk → Type 0} → ((p : Unread) → IsStep (round p) s x step) → IsStep whole s x (OnDisk step)
 on_disk {A} {s} {x} {step} k = record {
-  fair = λ w v o h. subst (λ p. IsFair x o w (world v.disk p)) (sym h.1) ((k w.out).fair w.disk v.disk o h.0);
-  leaves = λ w v r h. subst (λ p. IsLeft s w (world v.disk p)) (sym h.1) ((k w.out).leaves w.disk v.disk r h.0);
-}
+  fair = λ w v o h. subst (λ p. IsFair x o w (world v.disk v.dial p)) (sym h.2) (subst (λ n. IsFair x o w (world v.disk n w.out)) (sym h.1) ((k (unread w)).fair w.disk v.disk o h.0));
+  leaves = λ w v r h. subst (λ p. IsLeft s w (world v.disk v.dial p)) (sym h.2) (subst (λ n. IsLeft s w (world v.disk n w.out)) (sym h.1) ((k (unread w)).leaves w.disk v.disk r h.0));
+} where
+  unread : World → Unread
+  unread w = record { dial = w.dial; out = w.out }
 
-pub on_out : {A : Type 0} {s : Spares} {x : Parts} {step : Output → Result A Outcome → Output → Type 0} → ((d : Disk) → IsStep (beside d) s x step) → IsStep whole s x (OnOut step)
+pub on_out : {A : Type 0} {s : Spares} {x : Parts} {step : Output → Result A Outcome → Output → Type 0} → ((d : Unprinted) → IsStep (beside d) s x step) → IsStep whole s x (OnOut step)
 on_out {A} {s} {x} {step} k = record {
-  fair = λ w v o h. subst (λ d. IsFair x o w (world d v.out)) (sym h.1) ((k w.disk).fair w.out v.out o h.0);
-  leaves = λ w v r h. subst (λ d. IsLeft s w (world d v.out)) (sym h.1) ((k w.disk).leaves w.out v.out r h.0);
-}
+  fair = λ w v o h. subst (λ d. IsFair x o w (world d v.dial v.out)) (sym h.1) (subst (λ n. IsFair x o w (world w.disk n v.out)) (sym h.2) ((k (unprinted w)).fair w.out v.out o h.0));
+  leaves = λ w v r h. subst (λ d. IsLeft s w (world d v.dial v.out)) (sym h.1) (subst (λ n. IsLeft s w (world w.disk n v.out)) (sym h.2) ((k (unprinted w)).leaves w.out v.out r h.0));
+} where
+  unprinted : World → Unprinted
+  unprinted w = record { disk = w.disk; dial = w.dial }
 
-pub reads : {s : Spares} {d e : Disk} (p : Output) → Reads d e → IsLeft s (round p d) (round p e)
-reads p r = record { keeps = record { files = λ t. r.files; folders = λ t. r.folders; out = λ t. refl }; files = r.counts; folders = r.folder_counts; out = omega arith }
+pub reads : {s : Spares} {d e : Disk} (p : Unread) → Reads d e → IsLeft s (round p d) (round p e)
+reads p r = record { keeps = record { files = λ t. r.files; folders = λ t. r.folders; dial = λ t. refl; out = λ t. refl }; files = r.counts; folders = r.folder_counts; dial = omega arith; out = omega arith }
 
 -- what a step that writes folders leaves, and one that writes files
-pub adds : {f o : Bool} {d e : Disk} (p : Output) → Adds d e → IsLeft (record { files = f; folders = false; out = o }) (round p d) (round p e)
-adds p r = record { keeps = record { files = λ t. r.files; folders = λ t. absurd (cc); out = λ t. refl }; files = r.counts; folders = r.folder_counts; out = omega arith }
+pub adds : {f n o : Bool} {d e : Disk} (p : Unread) → Adds d e → IsLeft (record { files = f; folders = false; dial = n; out = o }) (round p d) (round p e)
+adds p r = record { keeps = record { files = λ t. r.files; folders = λ t. absurd (cc); dial = λ t. refl; out = λ t. refl }; files = r.counts; folders = r.folder_counts; dial = omega arith; out = omega arith }
 
-pub writes : {f o : Bool} {d e : Disk} (p : Output) → Writes d e → IsLeft (record { files = false; folders = f; out = o }) (round p d) (round p e)
-writes p r = record { keeps = record { files = λ t. absurd (cc); folders = λ t. r.folders; out = λ t. refl }; files = r.counts; folders = r.folder_counts; out = omega arith }
+pub writes : {f n o : Bool} {d e : Disk} (p : Unread) → Writes d e → IsLeft (record { files = false; folders = f; dial = n; out = o }) (round p d) (round p e)
+writes p r = record { keeps = record { files = λ t. absurd (cc); folders = λ t. r.folders; dial = λ t. refl; out = λ t. refl }; files = r.counts; folders = r.folder_counts; dial = omega arith; out = omega arith }
 
 -- ---- the steps
 
-module _ (s : Spares) (x : Parts) (p : Output) where
+module _ (s : Spares) (x : Parts) (p : Unread) where
   file_fault : (d e : Disk) (q name : List ℕ) → name ≡ q → FileRose d e q → IsFair x (ends.FileFault name) (round p d) (round p e)
   file_fault d e q name is rose = (tt, inl (subst (λ n. FileRose d e n) (sym is) rose))
 
@@ -219,22 +235,22 @@ module _ (s : Spares) (x : Parts) (p : Output) where
     leaves d e (Err o) h = reads p h.1
 
 -- the folder of a cache
-pub cache_step : (s : Spares) (x : Parts) (p : Output) (cache : Option (List ℕ)) → IsStep (round p) s x (CacheOpened cache)
+pub cache_step : (s : Spares) (x : Parts) (p : Unread) (cache : Option (List ℕ)) → IsStep (round p) s x (CacheOpened cache)
 cache_step s x p cache = record { fair = λ d e o h. go cache d e o h; leaves = λ d e r h. reads p (cache_reads cache d e r h) } where
   go : (cache : Option (List ℕ)) (d e : Disk) (o : Outcome) → CacheOpened cache d (Err o) e → IsFair x o (round p d) (round p e)
   go None d e o h = absurd h
   go (Some q) d e o h = first_fair s x p d e (q ∷ []) o (inl h.0)
 
-pub taken_step : (f o : Bool) (x : Parts) (p : Output) (q : List ℕ) → IsStep (round p) (record { files = f; folders = false; out = o }) x (StoreTaken q)
-taken_step f o x p q = record { fair = λ d e r h. first_fair (record { files = f; folders = false; out = o }) x p d e (q ∷ []) r (inl h.0); leaves = leaves } where
-  leaves : (d e : Disk) (r : Result (Option (Map (List ℕ))) Outcome) → StoreTaken q d r e → IsLeft (record { files = f; folders = false; out = o }) (round p d) (round p e)
+pub taken_step : (f n o : Bool) (x : Parts) (p : Unread) (q : List ℕ) → IsStep (round p) (record { files = f; folders = false; dial = n; out = o }) x (StoreTaken q)
+taken_step f n o x p q = record { fair = λ d e r h. first_fair (record { files = f; folders = false; dial = n; out = o }) x p d e (q ∷ []) r (inl h.0); leaves = leaves } where
+  leaves : (d e : Disk) (r : Result (Option (Map (List ℕ))) Outcome) → StoreTaken q d r e → IsLeft (record { files = f; folders = false; dial = n; out = o }) (round p d) (round p e)
   leaves d e (Ok held) h = adds p h.1.1
   leaves d e (Err r) h = reads p h.1
 
-pub printed_step : (f g : Bool) (x : Parts) (d : Disk) (text : List ℕ) → IsStep (beside d) (record { files = f; folders = g; out = false }) x (Printed text)
-printed_step f g x d text = record {
+pub printed_step : (f g n : Bool) (x : Parts) (d : Unprinted) (text : List ℕ) → IsStep (beside d) (record { files = f; folders = g; dial = n; out = false }) x (Printed text)
+printed_step f g n x d text = record {
   fair = go;
-  leaves = λ p q r h. record { keeps = record { files = λ t. refl; folders = λ t. refl; out = λ t. absurd (cc) }; files = λ n. omega arith; folders = λ n. omega arith; out = h.1 };
+  leaves = λ p q r h. record { keeps = record { files = λ t. refl; folders = λ t. refl; dial = λ t. refl; out = λ t. absurd (cc) }; files = λ q. omega arith; folders = λ q. omega arith; dial = omega arith; out = h.1 };
 } where
   go : (p q : Output) (o : Outcome) → Printed text p (Err o) q → IsFair x o (beside d p) (beside d q)
   go p q ends.OutFault h = (tt, h.0.0)

@@ -9,11 +9,13 @@ use Rattle.dsy_base.specs.Counts.{Rose}
 pub record Spares : Type 0 where
   pub files : Bool
   pub folders : Bool
+  pub dial : Bool
   pub out : Bool
 
 pub record Keeps (s : Spares) (w v : World) : Type 0 where
   pub files : IsTrue s.files → v.disk.files ≡ w.disk.files
   pub folders : IsTrue s.folders → v.disk.folders ≡ w.disk.folders
+  pub dial : IsTrue s.dial → v.dial ≡ w.dial
   pub out : IsTrue s.out → v.out.taken ≡ w.out.taken
 
 -- whose files and folders a command's faults are of, where the outcome doesn't name them

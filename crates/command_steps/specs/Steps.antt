@@ -4,16 +4,18 @@ use Rattle.command_outcome.specs.declared.outcome.Outcome.{Outcome}
 use Rattle.command_outcome.specs.declared.outcome.Outcome.TheVariants as ends
 use Rattle.command_steps.specs.Worlds.{Step, World, world}
 use Rattle.dsy_base.specs.Disk.{Disk, Output}
+use Rattle.dsy_base.specs.Links.{DialState}
 
 -- the step passed, and what follows on what it gave ended so. The world between stands as its parts, since the prover
 -- then finds each of them
 pub record Passed {A B : Type 0} (step : Step World A) (next : A → Step World B)
     (w : World) (r : Result B Outcome) (v : World) : Type 0 where
   pub disk : Disk
+  pub dial : DialState
   pub out : Output
   pub gave : A
-  pub did : step w (Ok gave) (world disk out)
-  pub then : next gave (world disk out) r v
+  pub did : step w (Ok gave) (world disk dial out)
+  pub then : next gave (world disk dial out) r v
 
 infixl 10 ◌>>=◌
 -- the step, and then what follows on what it gave; or the step refused, and nothing followed

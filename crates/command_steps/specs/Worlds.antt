@@ -4,14 +4,16 @@ use Rattle.std.specs.Map.{count_at}
 use Rattle.command_outcome.specs.declared.outcome.Outcome.{Outcome}
 use Rattle.dsy_base.specs.Counts.{AllQuiet, Quiet, Rose}
 use Rattle.dsy_base.specs.Disk.{Disk, Output}
+use Rattle.dsy_base.specs.Links.{DialState}
 
--- all that a command may change
+-- all that a command may change: files and folders, what was dialed, and what was printed
 pub record World : Type 0 where
   pub disk : Disk
+  pub dial : DialState
   pub out : Output
 
-abbrev pub world : Disk → Output → World
-world d p = record { disk = d; out = p }
+abbrev pub world : Disk → DialState → Output → World
+world d k p = record { disk = d; dial = k; out = p }
 
 -- how a step, which may give something, leads from one world to another; and one over a part of the world
 abbrev pub Step : Type 0 → Type 0 → Type 1
@@ -48,10 +50,10 @@ abbrev pub Pure : {A : Type 0} → (Result A Outcome → Type 0) → Step World 
 Pure answers w r v = answers r × (v ≡ w)
 
 abbrev pub OnDisk : {A : Type 0} → Step Disk A → Step World A
-OnDisk step w r v = step w.disk r v.disk × (v.out ≡ w.out)
+OnDisk step w r v = step w.disk r v.disk × (v.dial ≡ w.dial) × (v.out ≡ w.out)
 
 abbrev pub OnOut : {A : Type 0} → Step Output A → Step World A
-OnOut step w r v = step w.out r v.out × (v.disk ≡ w.disk)
+OnOut step w r v = step w.out r v.out × (v.disk ≡ w.disk) × (v.dial ≡ w.dial)
 
 -- ---- whose fault it was
 
@@ -70,4 +72,5 @@ pub record DiskQuiet (d e : Disk) : Type 0 where
 -- no call has failed
 pub record NoFault (w v : World) : Type 0 where
   pub disk : DiskQuiet w.disk v.disk
+  pub dial : Quiet w.dial.faults v.dial.faults
   pub out : Quiet w.out.faults v.out.faults

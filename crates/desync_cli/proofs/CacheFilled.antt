@@ -24,6 +24,7 @@ use Rattle.desync_cli.proofs.Counting.{held_maps}
 use Rattle.desync_cli.specs.Caching.{AddsListed, AllFilled, FillExactly, FillTells, FilledBetween, FillsEach, IndexFilled, IsHeldListed, IsNotHad, NotFilled, StoresHeld, CacheEnds, answer_of_fill, outcome_of_fill}
 use Rattle.dsy_base.specs.Counts.{Quiet, Rose, raised}
 use Rattle.dsy_base.specs.Disk.{Disk, GivesFolder, Output}
+use Rattle.dsy_base.specs.Links.{DialState}
 use Rattle.dsy_base.specs.Maps.{Map, at_name}
 use Rattle.store_chain.specs.Faults.{EachQuiet, NoneFalls}
 use Rattle.store_chain.specs.Giving.{LacksAll}
@@ -214,12 +215,12 @@ held_there (Some m) names xs h = (h.0, h.1, ap all_of h.2 ∙ all_some h.0)
 
 -- ---- the command
 
-pub cache_ends : (stores : List Location) (cache : List ℕ) (indexes : List (List ℕ)) (p : Output) (b c d e : Disk) (told : Option (List (Map (List ℕ)))) (held : Option (Map (List ℕ))) (r : Result Unit Outcome)
-    → StoresHeld (names_of stores) b (Ok told) c → StoreTaken cache c (Ok held) d → FilledBetween (names_of stores) cache indexes told held d e r → CacheEnds stores cache indexes (world b p) r (world e p)
-cache_ends stores cache indexes p b c d e told held (Ok u) opened taken filled =
-    record { disk = c; out = p; gave = told; did = (opened, refl); then = record { disk = d; out = p; gave = held; did = (taken, refl); then = (filled, refl) } }
-cache_ends stores cache indexes p b c d e told held (Err o) opened taken filled =
-    inr (record { disk = c; out = p; gave = told; did = (opened, refl); then = inr (record { disk = d; out = p; gave = held; did = (taken, refl); then = (filled, refl) }) })
+pub cache_ends : (stores : List Location) (cache : List ℕ) (indexes : List (List ℕ)) (k : DialState) (p : Output) (b c d e : Disk) (told : Option (List (Map (List ℕ)))) (held : Option (Map (List ℕ))) (r : Result Unit Outcome)
+    → StoresHeld (names_of stores) b (Ok told) c → StoreTaken cache c (Ok held) d → FilledBetween (names_of stores) cache indexes told held d e r → CacheEnds stores cache indexes (world b k p) r (world e k p)
+cache_ends stores cache indexes k p b c d e told held (Ok u) opened taken filled =
+    record { disk = c; dial = k; out = p; gave = told; did = (opened, refl, refl); then = record { disk = d; dial = k; out = p; gave = held; did = (taken, refl, refl); then = (filled, refl, refl) } }
+cache_ends stores cache indexes k p b c d e told held (Err o) opened taken filled =
+    inr (record { disk = c; dial = k; out = p; gave = told; did = (opened, refl, refl); then = inr (record { disk = d; dial = k; out = p; gave = held; did = (taken, refl, refl); then = (filled, refl, refl) }) })
 
 -- ---- when all is given back
 

@@ -16,7 +16,7 @@ use Rattle.command_outcome.specs.declared.outcome.Outcome.TheVariants as ends
 use Rattle.command_steps.specs.Blames.{Blames, Keeps, NothingFailed, Parts, Spares, name_at}
 use Rattle.command_steps.specs.Steps.{Passed, answer_of, outcome_of}
 use Rattle.command_steps.specs.Worlds.{DiskQuiet, FileRose, FolderRose, NoFault, Step, World}
-use Rattle.command_steps.proofs.Fair.{IsFair, IsLeft, IsRefusal, IsStep, adds, between, bound, cache_step, fair_longer, first_failed, first_fair, image_step, index_step, indexes_step, left_twice, not_read_fair, on_disk, on_out, opened_step, printed_step, pure_step, reads, round, taken_step, whole, writes}
+use Rattle.command_steps.proofs.Fair.{IsFair, IsLeft, IsRefusal, IsStep, Unread, adds, between, bound, cache_step, fair_longer, first_failed, first_fair, image_step, index_step, indexes_step, left_twice, not_read_fair, on_disk, on_out, opened_step, printed_step, pure_step, reads, round, taken_step, whole, writes}
 use Rattle.command_steps.proofs.Numbers.{rose_not_quiet}
 use Rattle.desync_cli.specs.Caching.{IndexesFilled, FillTells, NotFilled, StoresHeld, outcome_of_fill}
 use Rattle.desync_cli.specs.Chop.{ImageChopped}
@@ -35,7 +35,7 @@ use Rattle.verify_tool.specs.declared.fill.FillFault.TheVariants as fills
 
 -- ---- the steps of one command
 
-module _ (s : Spares) (x : Parts) (p : Output) where
+module _ (s : Spares) (x : Parts) (p : Unread) where
   asked_fair : (l : Listing) (d e : Disk) (o : Outcome) → NotAsked d e x.stores l o → IsFair x o (round p d) (round p e)
   asked_fair l d e (ends.StoreFault k) h = (tt, first_failed (λ m. m (id_of l h.1.0) ≡ None) d e k x.stores h.1.2)
   asked_fair l d e ends.Memory h = (tt, tt)
@@ -85,18 +85,18 @@ module _ (s : Spares) (x : Parts) (p : Output) where
   written_fair q bytes d e other h = absurd h.0
 
 -- what a step leaves that writes files, and the folder of a cache
-filled : {o : Bool} {names : List (List ℕ)} {cache : Option (List ℕ)} {l : Listing} {d e : Disk} (p : Output) → FillsCache names cache l d e → IsLeft (record { files = false; folders = not (is_some cache); out = o }) (round p d) (round p e)
-filled {o} {names} {cache} {l} {d} {e} p r = record { keeps = record { files = λ t. absurd (cc); folders = go cache r.folders; out = λ t. refl }; files = r.counts; folders = r.folder_counts; out = omega arith } where
+filled : {n o : Bool} {names : List (List ℕ)} {cache : Option (List ℕ)} {l : Listing} {d e : Disk} (p : Unread) → FillsCache names cache l d e → IsLeft (record { files = false; folders = not (is_some cache); dial = n; out = o }) (round p d) (round p e)
+filled {n} {o} {names} {cache} {l} {d} {e} p r = record { keeps = record { files = λ t. absurd (cc); folders = go cache r.folders; dial = λ t. refl; out = λ t. refl }; files = r.counts; folders = r.folder_counts; dial = omega arith; out = omega arith } where
   go : (cache : Option (List ℕ)) → CacheFilled names cache l d e → IsTrue (not (is_some cache)) → e.folders ≡ d.folders
   go None same t = same
   go (Some c) h t = absurd (cc)
 
-assembled_step : (o : Bool) (x : Parts) (p : Output) (cache : Option (List ℕ)) (l : Listing) (z : Seeds) (i : Into) → i.name ≡ x.target → IsStep (round p) (record { files = false; folders = not (is_some cache); out = o }) x (ImageMade x.stores cache i l z)
-assembled_step o x p cache l z i is = record { fair = assembled_fair (record { files = false; folders = not (is_some cache); out = o }) x p cache l z i is; leaves = λ d e r h. filled p h.1 }
+assembled_step : (n o : Bool) (x : Parts) (p : Unread) (cache : Option (List ℕ)) (l : Listing) (z : Seeds) (i : Into) → i.name ≡ x.target → IsStep (round p) (record { files = false; folders = not (is_some cache); dial = n; out = o }) x (ImageMade x.stores cache i l z)
+assembled_step n o x p cache l z i is = record { fair = assembled_fair (record { files = false; folders = not (is_some cache); dial = n; out = o }) x p cache l z i is; leaves = λ d e r h. filled p h.1 }
 
 -- ---- the steps of `cache`
 
-module _ (s : Spares) (x : Parts) (p : Output) where
+module _ (s : Spares) (x : Parts) (p : Unread) where
   told_step : IsStep (round p) s x (StoresHeld x.stores)
   told_step = record { fair = λ d e o h. first_fair s x p d e x.stores o h.0; leaves = leaves } where
     leaves : (d e : Disk) (r : Result (Option (List (Map (List ℕ)))) Outcome) → StoresHeld x.stores d r e → IsLeft s (round p d) (round p e)
@@ -119,59 +119,59 @@ module _ (s : Spares) (x : Parts) (p : Output) where
     each_fair (q ∷ indexes) held files o (inr (l, listed, inl (fault, is, filled))) = subst (λ r. IsFair x r (round p d) (round p e)) (sym is) (fill_fair l files fault filled.tells)
     each_fair (q ∷ indexes) held files o (inr (l, listed, inr (z, filled, rest))) = each_fair indexes z files o rest
 
-filled_step : (f o : Bool) (x : Parts) (p : Output) (indexes : List (List ℕ)) (told : Option (List (Map (List ℕ)))) (held : Option (Map (List ℕ)))
-    → IsStep (round p) (record { files = f; folders = false; out = o }) x (IndexesFilled x.stores x.cache indexes told held)
-filled_step f o x p indexes told held = record {
-  fair = λ d e r h. each_fair (record { files = f; folders = false; out = o }) x p told (DiskQuiet d e) d e indexes held h.files r h.filled;
+filled_step : (f n o : Bool) (x : Parts) (p : Unread) (indexes : List (List ℕ)) (told : Option (List (Map (List ℕ)))) (held : Option (Map (List ℕ)))
+    → IsStep (round p) (record { files = f; folders = false; dial = n; out = o }) x (IndexesFilled x.stores x.cache indexes told held)
+filled_step f n o x p indexes told held = record {
+  fair = λ d e r h. each_fair (record { files = f; folders = false; dial = n; out = o }) x p told (DiskQuiet d e) d e indexes held h.files r h.filled;
   leaves = λ d e r h. adds p h.adds;
 }
 
 -- after whose refusal a file is cleared
-cleared_step : (f o : Bool) (x : Parts) (p : Output) (q : List ℕ) (step : Step Disk Unit) → IsStep (round p) (record { files = false; folders = f; out = o }) x step → IsStep (round p) (record { files = false; folders = f; out = o }) x (Clearing q step)
-cleared_step f o x p q step is = record { fair = fair; leaves = leaves } where
+cleared_step : (f n o : Bool) (x : Parts) (p : Unread) (q : List ℕ) (step : Step Disk Unit) → IsStep (round p) (record { files = false; folders = f; dial = n; out = o }) x step → IsStep (round p) (record { files = false; folders = f; dial = n; out = o }) x (Clearing q step)
+cleared_step f n o x p q step is = record { fair = fair; leaves = leaves } where
   fair : (d e : Disk) (r : Outcome) → Clearing q step d (Err r) e → IsFair x r (round p d) (round p e)
-  fair d e r (c, u, did, inl same, cleared) = subst (λ r. IsFair x r (round p d) (round p e)) (sym same) (fair_longer (round p d) (round p c) (round p e) x u (writes {f = f} {o = o} p cleared.1) (is.fair d c u did))
+  fair d e r (c, u, did, inl same, cleared) = subst (λ r. IsFair x r (round p d) (round p e)) (sym same) (fair_longer (round p d) (round p c) (round p e) x u (writes {f = f} {n = n} {o = o} p cleared.1) (is.fair d c u did))
   fair d e r (c, u, did, inr memory, cleared) = subst (λ r. IsFair x r (round p d) (round p e)) (sym memory) (tt, tt)
 
-  leaves : (d e : Disk) (r : Result Unit Outcome) → Clearing q step d r e → IsLeft (record { files = false; folders = f; out = o }) (round p d) (round p e)
+  leaves : (d e : Disk) (r : Result Unit Outcome) → Clearing q step d r e → IsLeft (record { files = false; folders = f; dial = n; out = o }) (round p d) (round p e)
   leaves d e (Ok t) h = is.leaves d e (Ok t) h
   leaves d e (Err r) (c, u, did, same, cleared) = left_twice (is.leaves d c (Err u) did) (writes p cleared.1)
 
-renamed_step : (f o : Bool) (x : Parts) (p : Output) (from to : List ℕ) → IsStep (round p) (record { files = false; folders = f; out = o }) x (Renamed from to)
-renamed_step f o x p from to = record { fair = fair; leaves = leaves } where
+renamed_step : (f n o : Bool) (x : Parts) (p : Unread) (from to : List ℕ) → IsStep (round p) (record { files = false; folders = f; dial = n; out = o }) x (Renamed from to)
+renamed_step f n o x p from to = record { fair = fair; leaves = leaves } where
   fair : (d e : Disk) (r : Outcome) → Renamed from to d (Err r) e → IsFair x r (round p d) (round p e)
   fair d e (ends.NoFile name) h = (tt, tt)
   fair d e (ends.FileFault name) h = (tt, inl (subst (λ n. FileRose d e n) (sym h.0.0) h.0.1))
   fair d e ends.Memory h = (tt, tt)
   fair d e other h = absurd h.0
 
-  leaves : (d e : Disk) (r : Result Unit Outcome) → Renamed from to d r e → IsLeft (record { files = false; folders = f; out = o }) (round p d) (round p e)
+  leaves : (d e : Disk) (r : Result Unit Outcome) → Renamed from to d r e → IsLeft (record { files = false; folders = f; dial = n; out = o }) (round p d) (round p e)
   leaves d e (Ok t) h = writes p h.1
   leaves d e (Err r) h = writes p h.2
 
-out_step : (o : Bool) (x : Parts) (cache : Option (List ℕ)) (l : Listing) (z : Seeds) (place : Bool) (out : List ℕ) → x.target ≡ cond place out (temporary_out out) → IsStep whole (record { files = false; folders = not (is_some cache); out = o }) x (OutMade place x.stores cache out l z)
-out_step o x cache l z true out is = on_disk (λ p. assembled_step o x p cache l z (in_place out) (sym is))
-out_step o x cache l z false out is =
-    bound (on_disk (λ p. cleared_step _ o x p (temporary_out out) _ (assembled_step o x p cache l z (beside out) (sym is))))
-    (λ u. on_disk (λ p. cleared_step _ o x p (temporary_out out) _ (renamed_step _ o x p (temporary_out out) out)))
+out_step : (n o : Bool) (x : Parts) (cache : Option (List ℕ)) (l : Listing) (z : Seeds) (place : Bool) (out : List ℕ) → x.target ≡ cond place out (temporary_out out) → IsStep whole (record { files = false; folders = not (is_some cache); dial = n; out = o }) x (OutMade place x.stores cache out l z)
+out_step n o x cache l z true out is = on_disk (λ p. assembled_step n o x p cache l z (in_place out) (sym is))
+out_step n o x cache l z false out is =
+    bound (on_disk (λ p. cleared_step _ n o x p (temporary_out out) _ (assembled_step n o x p cache l z (beside out) (sym is))))
+    (λ u. on_disk (λ p. cleared_step _ n o x p (temporary_out out) _ (renamed_step _ n o x p (temporary_out out) out)))
 
-stored_step : (f o : Bool) (x : Parts) (p : Output) (z : Sizes) (told : Option (List ℕ)) (q : List ℕ) (held : Option (Map (List ℕ))) → name_at x.stores 0 ≡ q
-    → IsStep (round p) (record { files = f; folders = false; out = o }) x (ImageStored z x.image told q held)
-stored_step f o x p z told q held same = record { fair = stored_fair (record { files = f; folders = false; out = o }) x p z told q held same; leaves = leaves } where
-  leaves : (d e : Disk) (r : Result (List ℕ) Outcome) → ImageStored z x.image told q held d r e → IsLeft (record { files = f; folders = false; out = o }) (round p d) (round p e)
+stored_step : (f n o : Bool) (x : Parts) (p : Unread) (z : Sizes) (told : Option (List ℕ)) (q : List ℕ) (held : Option (Map (List ℕ))) → name_at x.stores 0 ≡ q
+    → IsStep (round p) (record { files = f; folders = false; dial = n; out = o }) x (ImageStored z x.image told q held)
+stored_step f n o x p z told q held same = record { fair = stored_fair (record { files = f; folders = false; dial = n; out = o }) x p z told q held same; leaves = leaves } where
+  leaves : (d e : Disk) (r : Result (List ℕ) Outcome) → ImageStored z x.image told q held d r e → IsLeft (record { files = f; folders = false; dial = n; out = o }) (round p d) (round p e)
   leaves d e (Ok bytes) h = adds p h.2
   leaves d e (Err r) h = adds p h.1
 
-chopped_step : (f o : Bool) (x : Parts) (p : Output) (l : Listing) (told : Option (List ℕ)) (q : List ℕ) (held : Option (Map (List ℕ))) → name_at x.stores 0 ≡ q
-    → IsStep (round p) (record { files = f; folders = false; out = o }) x (ImageChopped l x.image told q held)
-chopped_step f o x p l told q held same = record { fair = chopped_fair (record { files = f; folders = false; out = o }) x p l told q held same; leaves = leaves } where
-  leaves : (d e : Disk) (r : Result Unit Outcome) → ImageChopped l x.image told q held d r e → IsLeft (record { files = f; folders = false; out = o }) (round p d) (round p e)
+chopped_step : (f n o : Bool) (x : Parts) (p : Unread) (l : Listing) (told : Option (List ℕ)) (q : List ℕ) (held : Option (Map (List ℕ))) → name_at x.stores 0 ≡ q
+    → IsStep (round p) (record { files = f; folders = false; dial = n; out = o }) x (ImageChopped l x.image told q held)
+chopped_step f n o x p l told q held same = record { fair = chopped_fair (record { files = f; folders = false; dial = n; out = o }) x p l told q held same; leaves = leaves } where
+  leaves : (d e : Disk) (r : Result Unit Outcome) → ImageChopped l x.image told q held d r e → IsLeft (record { files = f; folders = false; dial = n; out = o }) (round p d) (round p e)
   leaves d e (Ok u) h = adds p h.2
   leaves d e (Err r) h = adds p h.1
 
-written_step : (f o : Bool) (x : Parts) (p : Output) (q bytes : List ℕ) → IsStep (round p) (record { files = false; folders = f; out = o }) x (IndexWritten q bytes)
-written_step f o x p q bytes = record { fair = written_fair (record { files = false; folders = f; out = o }) x p q bytes; leaves = leaves } where
-  leaves : (d e : Disk) (r : Result Unit Outcome) → IndexWritten q bytes d r e → IsLeft (record { files = false; folders = f; out = o }) (round p d) (round p e)
+written_step : (f n o : Bool) (x : Parts) (p : Unread) (q bytes : List ℕ) → IsStep (round p) (record { files = false; folders = f; dial = n; out = o }) x (IndexWritten q bytes)
+written_step f n o x p q bytes = record { fair = written_fair (record { files = false; folders = f; dial = n; out = o }) x p q bytes; leaves = leaves } where
+  leaves : (d e : Disk) (r : Result Unit Outcome) → IndexWritten q bytes d r e → IsLeft (record { files = false; folders = f; dial = n; out = o }) (round p d) (round p e)
   leaves d e (Ok u) h = writes p h.1
   leaves d e (Err r) h = writes p h.2
 
@@ -182,16 +182,16 @@ judged_fair x sizes other w v h = absurd h
 -- ---- the commands
 
 command_step : (c : Command) → IsStep whole (spares c) (parts c) (Ends c)
-command_step (commands.Make store sizes workers index image) = bound (pure_step (SizesJudged sizes) (judged_fair (parts (commands.Make store sizes workers index image)) sizes)) (λ z. bound (on_disk (λ p. image_step _ _ p)) (λ told. bound (on_disk (λ p. taken_step _ _ _ p (name_of store))) (λ held. bound (on_disk (λ p. stored_step _ _ _ p z told (name_of store) held refl)) (λ bytes. on_disk (λ p. written_step _ _ _ p index bytes)))))
+command_step (commands.Make store sizes workers index image) = bound (pure_step (SizesJudged sizes) (judged_fair (parts (commands.Make store sizes workers index image)) sizes)) (λ z. bound (on_disk (λ p. image_step _ _ p)) (λ told. bound (on_disk (λ p. taken_step _ _ _ _ p (name_of store))) (λ held. bound (on_disk (λ p. stored_step _ _ _ _ p z told (name_of store) held refl)) (λ bytes. on_disk (λ p. written_step _ _ _ _ p index bytes)))))
 command_step (commands.VerifyIndex index image) = bound (on_disk (λ p. index_step _ _ p index)) (λ l. bound (on_disk (λ p. image_step _ _ p)) (λ told. on_disk (λ p. checked_step _ _ p l told)))
-command_step (commands.Chop store index image) = bound (on_disk (λ p. index_step _ _ p index)) (λ l. bound (on_disk (λ p. image_step _ _ p)) (λ told. bound (on_disk (λ p. taken_step _ _ _ p (name_of store))) (λ held. on_disk (λ p. chopped_step _ _ _ p l told (name_of store) held refl))))
-command_step (commands.Cache stores cache indexes) = bound (on_disk (λ p. told_step _ _ p)) (λ told. bound (on_disk (λ p. taken_step _ _ _ p cache)) (λ held. on_disk (λ p. filled_step _ _ _ p indexes told held)))
-command_step (commands.ListChunks index) = bound (on_disk (λ p. index_step _ _ p index)) (λ l. on_out (λ d. printed_step _ _ _ d (text_of_chunks l)))
-command_step (commands.Extract stores seeds cache in_place workers index target) = bound (on_disk (λ p. index_step _ _ p index)) (λ l. bound (on_disk (λ p. indexes_step _ _ p seeds)) (λ ls. bound (on_disk (λ p. opened_step _ _ p)) (λ u. bound (on_disk (λ p. cache_step _ _ p cache)) (λ u. out_step _ (parts (commands.Extract stores seeds cache in_place workers index target)) cache l (record { images = map image_name seeds; listings = ls }) in_place target refl))))
-command_step (commands.Info stores index) = bound (on_disk (λ p. index_step _ _ p index)) (λ l. bound (on_disk (λ p. counted_step _ _ p l)) (λ n. on_out (λ d. printed_step _ _ _ d (text_of_info l n))))
-command_step commands.Help = on_out (λ d. printed_step _ _ _ d (help_text topics.All))
-command_step commands.Version = on_out (λ d. printed_step _ _ _ d (help_text topics.Version))
-command_step (commands.HelpOn kind) = on_out (λ d. printed_step _ _ _ d (help_text (topics.Command kind)))
+command_step (commands.Chop store index image) = bound (on_disk (λ p. index_step _ _ p index)) (λ l. bound (on_disk (λ p. image_step _ _ p)) (λ told. bound (on_disk (λ p. taken_step _ _ _ _ p (name_of store))) (λ held. on_disk (λ p. chopped_step _ _ _ _ p l told (name_of store) held refl))))
+command_step (commands.Cache stores cache indexes) = bound (on_disk (λ p. told_step _ _ p)) (λ told. bound (on_disk (λ p. taken_step _ _ _ _ p cache)) (λ held. on_disk (λ p. filled_step _ _ _ _ p indexes told held)))
+command_step (commands.ListChunks index) = bound (on_disk (λ p. index_step _ _ p index)) (λ l. on_out (λ d. printed_step _ _ _ _ d (text_of_chunks l)))
+command_step (commands.Extract stores seeds cache in_place workers index target) = bound (on_disk (λ p. index_step _ _ p index)) (λ l. bound (on_disk (λ p. indexes_step _ _ p seeds)) (λ ls. bound (on_disk (λ p. opened_step _ _ p)) (λ u. bound (on_disk (λ p. cache_step _ _ p cache)) (λ u. out_step _ _ (parts (commands.Extract stores seeds cache in_place workers index target)) cache l (record { images = map image_name seeds; listings = ls }) in_place target refl))))
+command_step (commands.Info stores index) = bound (on_disk (λ p. index_step _ _ p index)) (λ l. bound (on_disk (λ p. counted_step _ _ p l)) (λ n. on_out (λ d. printed_step _ _ _ _ d (text_of_info l n))))
+command_step commands.Help = on_out (λ d. printed_step _ _ _ _ d (help_text topics.All))
+command_step commands.Version = on_out (λ d. printed_step _ _ _ _ d (help_text topics.Version))
+command_step (commands.HelpOn kind) = on_out (λ d. printed_step _ _ _ _ d (help_text (topics.Command kind)))
 command_step other = record { fair = λ w v o h. absurd h; leaves = λ w v r h. absurd h }
 
 -- ---- what the top call says
@@ -226,7 +226,7 @@ answered words w v (Err o) h = subst (λ (r : Result Unit Outcome). DesyncEnds w
 
 pub kept : (words : List (List ℕ)) (w v : World) (r : Result Unit Outcome) → DesyncEnds words w r v → IfSome (command_of words) (λ c. Keeps (spares c) w v)
 kept words w v (Ok u) h = let b = begun words w v (Ok u) h in if_some (command_of words) _ b.0 b.1 ((command_step b.0).leaves w v (Ok u) b.2).keeps
-kept words w v (Err o) (inl h) = if_any (command_of words) _ (λ c. subst (λ u. Keeps (spares c) w u) (sym h.1) (record { files = λ t. refl; folders = λ t. refl; out = λ t. refl }))
+kept words w v (Err o) (inl h) = if_any (command_of words) _ (λ c. subst (λ u. Keeps (spares c) w u) (sym h.1) (record { files = λ t. refl; folders = λ t. refl; dial = λ t. refl; out = λ t. refl }))
 kept words w v (Err o) (inr h) = let b = begun words w v (Err o) h in if_some (command_of words) _ b.0 b.1 ((command_step b.0).leaves w v (Err o) b.2).keeps
 
 words_blame : (words : List (List ℕ)) (x : Parts) (w v : World) (o : Outcome) → NoCommand words o → Blames x o w v

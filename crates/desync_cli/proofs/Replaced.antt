@@ -21,6 +21,7 @@ use Rattle.desync_cli.specs.Commands.{DesyncEnds, Ends, LeavesBehind, command_of
 use Rattle.desync_cli.specs.Extract.{Assembled, Cleared, ClearedAfter, Clearing, ExtractEnds, Into, KeepsIn, LeavesOut, OutMade, Seeds, StopsSomewhere, beside, folder_of, old_of, temporary_out}
 use Rattle.dsy_base.proofs.Counts.{at_other}
 use Rattle.dsy_base.specs.Disk.{Disk, Output}
+use Rattle.dsy_base.specs.Links.{DialState}
 use Rattle.dsy_base.specs.Maps.{Map, at_name}
 use Rattle.extract_plan.specs.Deal.{Deal}
 use Rattle.extract_plan.specs.Places.{Placed, PlacesKnown}
@@ -126,7 +127,7 @@ left_out stores cache seeds false index out w v o told (inr h) = go h.then where
   first : h.disk.files ≡ w.disk.files
   first = h.did.0.1.files
 
-  go : (OnDisk (IndexesRead seeds) >>= (λ ls. OnDisk (StoresOpened (names_of stores)) >>= (λ u. OnDisk (CacheOpened cache) >>= (λ u. OutMade false (names_of stores) cache out h.gave (record { images = map image_name seeds; listings = ls }))))) (world h.disk h.out) (Err o) v → LeavesOut false out w v
+  go : (OnDisk (IndexesRead seeds) >>= (λ ls. OnDisk (StoresOpened (names_of stores)) >>= (λ u. OnDisk (CacheOpened cache) >>= (λ u. OutMade false (names_of stores) cache out h.gave (record { images = map image_name seeds; listings = ls }))))) (world h.disk h.dial h.out) (Err o) v → LeavesOut false out w v
   go (inl k) = left_same false out w v (k.0.1.files ∙ first)
   go (inr k) = opened k.then where
     read : k.disk.files ≡ w.disk.files
@@ -135,13 +136,13 @@ left_out stores cache seeds false index out w v o told (inr h) = go h.then where
     x : Seeds
     x = record { images = map image_name seeds; listings = k.gave }
 
-    opened : (OnDisk (StoresOpened (names_of stores)) >>= (λ u. OnDisk (CacheOpened cache) >>= (λ u. OutMade false (names_of stores) cache out h.gave x))) (world k.disk k.out) (Err o) v → LeavesOut false out w v
+    opened : (OnDisk (StoresOpened (names_of stores)) >>= (λ u. OnDisk (CacheOpened cache) >>= (λ u. OutMade false (names_of stores) cache out h.gave x))) (world k.disk k.dial k.out) (Err o) v → LeavesOut false out w v
     opened (inl m) = left_same false out w v (m.0.1.files ∙ read)
     opened (inr g) = shelved g.then where
       open_files : g.disk.files ≡ w.disk.files
       open_files = g.did.0.1.files ∙ read
 
-      shelved : (OnDisk (CacheOpened cache) >>= (λ u. OutMade false (names_of stores) cache out h.gave x)) (world g.disk g.out) (Err o) v → LeavesOut false out w v
+      shelved : (OnDisk (CacheOpened cache) >>= (λ u. OutMade false (names_of stores) cache out h.gave x)) (world g.disk g.dial g.out) (Err o) v → LeavesOut false out w v
       shelved (inl m) = left_same false out w v ((cache_reads cache g.disk v.disk (Err o) m.0).files ∙ open_files)
       shelved (inr m) = made m.then where
         reached : Reads g.disk m.disk
@@ -159,8 +160,8 @@ left_out stores cache seeds false index out w v o told (inr h) = go h.then where
         from : (u : Option (Map (List ℕ))) → Only tmp m.disk.files u → Only tmp w.disk.files u
         from u only = subst (λ f. Only tmp f u) files only
 
-        made : OutMade false (names_of stores) cache out h.gave x (world m.disk m.out) (Err o) v → LeavesOut false out w v
-        made (inl ((c, p, did, same, cleared), out_same)) =
+        made : OutMade false (names_of stores) cache out h.gave x (world m.disk m.dial m.out) (Err o) v → LeavesOut false out w v
+        made (inl ((c, p, did, same, cleared), dial_same, out_same)) =
             left_over out w v (from v.disk.files (only_then tmp m.disk.files c.files v.disk.files (only_assembled (names_of stores) cache (beside out) h.gave x m.disk c tells did.2 p did.0) (only_cleared tmp c v.disk o cleared)))
         made (inr n) =
             let did = n.did.0 in
@@ -184,21 +185,23 @@ passed_any step next w (Ok b) v h = h
 passed_any step next w (Err o) v h = inr h
 
 -- OUT was made so after the steps before it
-pub ends_with : (stores : List Location) (cache : Option (List ℕ)) (seeds : List (List ℕ)) (place : Bool) (index out : List ℕ) (l : Listing) (ls : List Listing) (d b c f m e : Disk) (p : Output) (r : Result Unit Outcome)
-    → IndexRead index d (Ok l) b → IndexesRead seeds b (Ok ls) c → StoresOpened (names_of stores) c (Ok tt) f → CacheOpened cache f (Ok tt) m → OutMade place (names_of stores) cache out l (record { images = map image_name seeds; listings = ls }) (world m p) r (world e p)
-    → ExtractEnds stores cache seeds place index out (world d p) r (world e p)
-ends_with stores cache seeds place index out l ls d b c f m e p r listed read opened shelved made =
-    passed_any _ _ (world d p) r (world e p) (record {
+pub ends_with : (stores : List Location) (cache : Option (List ℕ)) (seeds : List (List ℕ)) (place : Bool) (index out : List ℕ) (l : Listing) (ls : List Listing) (d b c f m e : Disk) (k : DialState) (p : Output) (r : Result Unit Outcome)
+    → IndexRead index d (Ok l) b → IndexesRead seeds b (Ok ls) c → StoresOpened (names_of stores) c (Ok tt) f → CacheOpened cache f (Ok tt) m → OutMade place (names_of stores) cache out l (record { images = map image_name seeds; listings = ls }) (world m k p) r (world e k p)
+    → ExtractEnds stores cache seeds place index out (world d k p) r (world e k p)
+ends_with stores cache seeds place index out l ls d b c f m e k p r listed read opened shelved made =
+    passed_any _ _ (world d k p) r (world e k p) (record {
       disk = b;
+      dial = k;
       out = p;
       gave = l;
-      did = (listed, refl);
-      then = passed_any _ _ (world b p) r (world e p) (record {
+      did = (listed, refl, refl);
+      then = passed_any _ _ (world b k p) r (world e k p) (record {
         disk = c;
+        dial = k;
         out = p;
         gave = ls;
-        did = (read, refl);
-        then = passed_any _ _ (world c p) r (world e p) (record { disk = f; out = p; gave = tt; did = (opened, refl); then = passed_any _ _ (world f p) r (world e p) (record { disk = m; out = p; gave = tt; did = (shelved, refl); then = made }) });
+        did = (read, refl, refl);
+        then = passed_any _ _ (world c k p) r (world e k p) (record { disk = f; dial = k; out = p; gave = tt; did = (opened, refl, refl); then = passed_any _ _ (world f k p) r (world e k p) (record { disk = m; dial = k; out = p; gave = tt; did = (shelved, refl, refl); then = made }) });
       });
     })
 

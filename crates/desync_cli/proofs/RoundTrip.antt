@@ -15,6 +15,7 @@ use Rattle.desync_cli.specs.Extract.{IsExtracted}
 use Rattle.desync_cli.specs.Make.{IsMade}
 use Rattle.desync_cli.specs.RoundTrip.{ComesBack, RoundTrip}
 use Rattle.dsy_base.specs.Disk.{Disk, Output}
+use Rattle.dsy_base.specs.Links.{DialState}
 use Rattle.dsy_base.specs.Maps.{Map}
 
 abbrev tells : Map (List ℕ) → Map (Map (List ℕ)) → Map ℕ → Map ℕ → Disk
@@ -36,17 +37,17 @@ module _ (one : (b : List ℕ) (l m : Listing) → IsIndexFile b l → IsIndexFi
         same = law _ m.bytes x.image m.listing m.of_image (subst (λ l. IsRight x.image l) same x.right);
       }
 
-  over : (first then : Command) (b m a : Map (List ℕ)) (f g h : Map (Map (List ℕ))) (bc fc mc gc ac hc : Map ℕ) (p q r : Output) → Achieves first (world (tells b f bc fc) p) (world (tells m g mc gc) q) → Achieves then (world (tells m g mc gc) q) (world (tells a h ac hc) r)
+  over : (first then : Command) (b m a : Map (List ℕ)) (f g h : Map (Map (List ℕ))) (bc fc mc gc ac hc : Map ℕ) (i j k : DialState) (p q r : Output) → Achieves first (world (tells b f bc fc) i p) (world (tells m g mc gc) j q) → Achieves then (world (tells m g mc gc) j q) (world (tells a h ac hc) k r)
       → RoundTrip (Some first) (Some then) b a
-  over (commands.Make store sizes workers index image) (commands.Extract stores seeds cache in_place n other out) b m a f g h bc fc mc gc ac hc p q r x y = λ same. back b m a f g (name_of store) sizes index image out x (subst (λ i. IsExtracted m a i out) same y)
-  over first then b m a f g h bc fc mc gc ac hc p q r x y = tt
+  over (commands.Make store sizes workers index image) (commands.Extract stores seeds cache in_place n other out) b m a f g h bc fc mc gc ac hc i j k p q r x y = λ same. back b m a f g (name_of store) sizes index image out x (subst (λ i. IsExtracted m a i out) same y)
+  over first then b m a f g h bc fc mc gc ac hc i j k p q r x y = tt
 
   no_second : (first : Command) (b a : Map (List ℕ)) → RoundTrip (Some first) None b a
   no_second (commands.Make store sizes workers index image) b a = tt
   no_second other b a = tt
 
-  pub round_trip : (first then : Option Command) (b m a : Map (List ℕ)) (f g h : Map (Map (List ℕ))) (bc fc mc gc ac hc : Map ℕ) (p q r : Output) → IfSome first (λ c. Achieves c (world (tells b f bc fc) p) (world (tells m g mc gc) q)) → IfSome then (λ c. Achieves c (world (tells m g mc gc) q) (world (tells a h ac hc) r))
+  pub round_trip : (first then : Option Command) (b m a : Map (List ℕ)) (f g h : Map (Map (List ℕ))) (bc fc mc gc ac hc : Map ℕ) (i j k : DialState) (p q r : Output) → IfSome first (λ c. Achieves c (world (tells b f bc fc) i p) (world (tells m g mc gc) j q)) → IfSome then (λ c. Achieves c (world (tells m g mc gc) j q) (world (tells a h ac hc) k r))
       → RoundTrip first then b a
-  round_trip None then b m a f g h bc fc mc gc ac hc p q r x y = tt
-  round_trip (Some first) None b m a f g h bc fc mc gc ac hc p q r x y = no_second first b a
-  round_trip (Some first) (Some then) b m a f g h bc fc mc gc ac hc p q r x y = over first then b m a f g h bc fc mc gc ac hc p q r x y
+  round_trip None then b m a f g h bc fc mc gc ac hc i j k p q r x y = tt
+  round_trip (Some first) None b m a f g h bc fc mc gc ac hc i j k p q r x y = no_second first b a
+  round_trip (Some first) (Some then) b m a f g h bc fc mc gc ac hc i j k p q r x y = over first then b m a f g h bc fc mc gc ac hc i j k p q r x y

@@ -60,13 +60,13 @@ Ends other = λ w r v. ⊥
 
 -- what no outcome of it changes
 abbrev pub spares : Command → Spares
-spares (commands.Make store sizes workers index image) = record { files = false; folders = false; out = true }
-spares (commands.VerifyIndex index image) = record { files = true; folders = true; out = true }
-spares (commands.Chop store index image) = record { files = true; folders = false; out = true }
-spares (commands.Cache stores cache indexes) = record { files = true; folders = false; out = true }
+spares (commands.Make store sizes workers index image) = record { files = false; folders = false; dial = true; out = true }
+spares (commands.VerifyIndex index image) = record { files = true; folders = true; dial = true; out = true }
+spares (commands.Chop store index image) = record { files = true; folders = false; dial = true; out = true }
+spares (commands.Cache stores cache indexes) = record { files = true; folders = false; dial = true; out = true }
 spares (commands.Extract stores seeds cache in_place workers index target) = record
-    { files = false; folders = not (is_some cache); out = true }
-spares other = record { files = true; folders = true; out = false }
+    { files = false; folders = not (is_some cache); dial = true; out = true }
+spares other = record { files = true; folders = true; dial = true; out = false }
 
 -- whose files and folders its faults are of, where the outcome doesn't name them
 abbrev pub parts : Command → Parts

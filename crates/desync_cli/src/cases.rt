@@ -1,6 +1,7 @@
 //! What the tests of the commands share: files in memory, and words that are run over them.
 
 use crate::in_memory::desync_in_memory;
+use crate::no_dial::NoDial;
 use chunk_store::id::{ChunkId, DigestKind};
 use dsy_base::folder::Folder;
 use dsy_forms::mem_files::MemFiles;
@@ -82,9 +83,10 @@ pub fn ends(
     line: &str,
 ) -> Result<(), Fail> {
     let list = words_of(alloc, words)?;
+    let mut dial = NoDial { faults: 0 };
     let mut out = MemSink::new(alloc, Vec::new(alloc));
     let mut err = MemSink::new(alloc, Vec::new(alloc));
-    let ended = desync_in_memory(alloc, &list, files, &mut out, &mut err);
+    let ended = desync_in_memory(alloc, &list, files, &mut dial, &mut out, &mut err);
     assert_eq!(rt; err.taken(), line.as_bytes(), "{words}");
     assert_eq!(rt; out.taken(), printed.as_bytes(), "{words}");
     assert_eq!(rt;

@@ -13,46 +13,49 @@ use crate::run::desync;
 use buzhash_cut::laws::cutting;
 use caibx_codec::laws::one_index;
 use command_outcome::outcome::{Ended, Outcome};
+use dsy_base::dial::Dial;
 use dsy_forms::mem_files::MemFiles;
 use dsy_forms::mem_sink::MemSink;
 use std::alloc::Global;
 
 /// Does what the words say. Here each clause of `desync` speaks of what stands under the names, with nothing left open.
-pub fn desync_in_memory(
+pub fn desync_in_memory<D: Dial>(
     alloc: Global,
     words: &[String],
     files: &mut MemFiles,
+    dial: &mut D,
     out: &mut MemSink,
     err: &mut MemSink,
 ) -> Ended
     ensures done { result.outcome ≡ Outcome.Done → IfSome (command_of (map string_bytes words.now)) (λ c. Achieves c
-        (world (disk_of files.old) (output_of out.old)) (world (disk_of files.new) (output_of out.new))) }
-    ensures ends { DesyncEnds (map string_bytes words.now) (world (disk_of files.old) (output_of out.old))
-        (answer_of result.outcome) (world (disk_of files.new) (output_of out.new)) }
+        (world (disk_of files.old) (D.state dial.old) (output_of out.old)) (world (disk_of files.new) (D.state dial.new) (output_of out.new))) }
+    ensures ends { DesyncEnds (map string_bytes words.now) (world (disk_of files.old) (D.state dial.old) (output_of out.old))
+        (answer_of result.outcome) (world (disk_of files.new) (D.state dial.new) (output_of out.new)) }
 {
-    desync(alloc, words, files, out, err)
+    desync(alloc, words, files, dial, out, err)
 }
 
 /// Does what the first words say and then what the second say. Where these are a `make` and an `extract` of its
 /// index, and both are done, the image has come back.
-pub fn make_then_extract(
+pub fn make_then_extract<D: Dial>(
     alloc: Global,
     make: &[String],
     extract: &[String],
     files: &mut MemFiles,
+    dial: &mut D,
     out: &mut MemSink,
     err: &mut MemSink,
 ) -> (Ended, Ended)
     ensures ends { InTurn (map string_bytes make.now) (map string_bytes extract.now)
-        (world (disk_of files.old) (output_of out.old)) result.0.outcome result.1.outcome
-        (world (disk_of files.new) (output_of out.new)) }
+        (world (disk_of files.old) (D.state dial.old) (output_of out.old)) result.0.outcome result.1.outcome
+        (world (disk_of files.new) (D.state dial.new) (output_of out.new)) }
     ensures done { result.0.outcome ≡ Outcome.Done → result.1.outcome ≡ Outcome.Done →
         RoundTrip (command_of (map string_bytes make.now)) (command_of (map string_bytes extract.now))
         (files_of files.old) (files_of files.new) }
 {
     one_index();
     cutting();
-    let made = desync_in_memory(alloc, make, files, out, err);
-    let extracted = desync_in_memory(alloc, extract, files, out, err);
+    let made = desync_in_memory(alloc, make, files, dial, out, err);
+    let extracted = desync_in_memory(alloc, extract, files, dial, out, err);
     (made, extracted)
 }

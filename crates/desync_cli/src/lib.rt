@@ -12,6 +12,8 @@ pub mod command;
 pub mod in_memory;
 #[cfg(test)]
 mod make_tests;
+#[cfg(test)]
+mod no_dial;
 pub mod run;
 #[cfg(test)]
 mod tests;

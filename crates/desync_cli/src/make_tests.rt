@@ -2,6 +2,7 @@
 
 use crate::cases::{ABC_INDEX, EMPTY_INDEX, ends, store_of, words_of};
 use crate::in_memory::make_then_extract;
+use crate::no_dial::NoDial;
 use chunk_store::id::{ChunkId, DigestKind};
 use dsy_base::files::Files;
 use dsy_base::look::Look;
@@ -143,10 +144,11 @@ fn what_was_made_is_extracted(rt: HostRuntime) -> Result<(), Fail> {
     files.set_folder("st", store_of(alloc, &[]).ok_or("no memory")?)?;
     let make = words_of(alloc, MAKE)?;
     let extract = words_of(alloc, "extract -s st i o")?;
+    let mut dial = NoDial { faults: 0 };
     let mut out = MemSink::new(alloc, Vec::new(alloc));
     let mut err = MemSink::new(alloc, Vec::new(alloc));
     let (made, extracted) = make_then_extract(
-        alloc, &make, &extract, &mut files, &mut out, &mut err,
+        alloc, &make, &extract, &mut files, &mut dial, &mut out, &mut err,
     );
     assert_eq!(&rt; made.status, 0);
     assert_eq!(&rt; extracted.status, 0);

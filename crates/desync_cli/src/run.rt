@@ -24,22 +24,24 @@ use command_help::help::Topic;
 use command_line::command::Command;
 use command_outcome::error_line::put_error_line;
 use command_outcome::outcome::{Ended, Outcome};
+use dsy_base::dial::Dial;
 use dsy_base::fault::IoFault;
 use dsy_base::files::Files;
 use dsy_base::sink::Sink;
 use std::alloc::Global;
 
 // Does the command.
-fn perform<F: Files, O: Sink>(
+fn perform<F: Files, D: Dial, O: Sink>(
     alloc: Global,
     command: Command,
     files: &mut F,
+    dial: &mut D,
     out: &mut O,
 ) -> Result<(), Outcome>
     requires { IsTrue (is_built command) }
     ensures ends { Ends command
-        (world (F.disk files.old) (O.output out.old)) result
-        (world (F.disk files.new) (O.output out.new)) }
+        (world (F.disk files.old) (D.state dial.old) (O.output out.old)) result
+        (world (F.disk files.new) (D.state dial.new) (O.output out.new)) }
 {
     match command {
         Command::Make {
@@ -82,19 +84,21 @@ fn perform<F: Files, O: Sink>(
 }
 
 // Does what the words say.
-fn run<F: Files, O: Sink>(
+fn run<F: Files, D: Dial, O: Sink>(
     alloc: Global,
     words: &[String],
     files: &mut F,
+    dial: &mut D,
     out: &mut O,
 ) -> Result<(), Outcome>
-    ensures refused { command_of (map string_bytes words.now) ≡ None → (files.new ≡ files.old) × (out.new ≡ out.old) }
+    ensures refused { command_of (map string_bytes words.now) ≡ None → (files.new ≡ files.old)
+        × (dial.new ≡ dial.old) × (out.new ≡ out.old) }
     ensures ends { DesyncEnds (map string_bytes words.now)
-        (world (F.disk files.old) (O.output out.old)) result
-        (world (F.disk files.new) (O.output out.new)) }
+        (world (F.disk files.old) (D.state dial.old) (O.output out.old)) result
+        (world (F.disk files.new) (D.state dial.new) (O.output out.new)) }
 {
     let command = read_command(alloc, words)?;
-    perform(alloc, command, files, out)
+    perform(alloc, command, files, dial, out)
 }
 
 // The outcome of a command.
@@ -118,11 +122,12 @@ fn tell<E: Sink>(alloc: Global, outcome: &Outcome, err: &mut E)
     }
 }
 
-/// Does what the words say, prints to `out`, and tells `err` how it ended.
-pub fn desync<F: Files, O: Sink, E: Sink>(
+/// Does what the words say, with servers that `dial` connects to, prints to `out`, and tells `err` how it ended.
+pub fn desync<F: Files, D: Dial, O: Sink, E: Sink>(
     alloc: Global,
     words: &[String],
     files: &mut F,
+    dial: &mut D,
     out: &mut O,
     err: &mut E,
 ) -> Ended
@@ -131,39 +136,40 @@ pub fn desync<F: Files, O: Sink, E: Sink>(
 
     // Words that are no command of a form that is built change nothing, and only they are refused as such.
     ensures usage { TellsRefusal (refusal_of (map string_bytes words.now)) result.outcome }
-    ensures refused { command_of (map string_bytes words.now) ≡ None → (files.new ≡ files.old) × (out.new ≡ out.old) }
+    ensures refused { command_of (map string_bytes words.now) ≡ None → (files.new ≡ files.old)
+        × (dial.new ≡ dial.old) × (out.new ≡ out.old) }
 
     // What the command that is done has achieved.
     ensures done { result.outcome ≡ Outcome.Done → IfSome (command_of (map string_bytes words.now)) (λ c. Achieves c
-        (world (F.disk files.old) (O.output out.old))
-        (world (F.disk files.new) (O.output out.new))) }
+        (world (F.disk files.old) (D.state dial.old) (O.output out.old))
+        (world (F.disk files.new) (D.state dial.new) (O.output out.new))) }
 
     // Each outcome comes only from a step whose refusal it is, where the steps before it have passed.
     ensures ends { DesyncEnds (map string_bytes words.now)
-        (world (F.disk files.old) (O.output out.old))
+        (world (F.disk files.old) (D.state dial.old) (O.output out.old))
         (answer_of result.outcome)
-        (world (F.disk files.new) (O.output out.new)) }
+        (world (F.disk files.new) (D.state dial.new) (O.output out.new)) }
     ensures kept { IfSome (command_of (map string_bytes words.now)) (λ c. Keeps (spares c)
-        (world (F.disk files.old) (O.output out.old))
-        (world (F.disk files.new) (O.output out.new))) }
+        (world (F.disk files.old) (D.state dial.old) (O.output out.old))
+        (world (F.disk files.new) (D.state dial.new) (O.output out.new))) }
 
     // What a refusal leaves of what the command would have written.
     ensures left { result.outcome ≢ Outcome.Done → IfSome (command_of (map string_bytes words.now)) (λ c. LeavesBehind c
-        (world (F.disk files.old) (O.output out.old))
-        (world (F.disk files.new) (O.output out.new))) }
+        (world (F.disk files.old) (D.state dial.old) (O.output out.old))
+        (world (F.disk files.new) (D.state dial.new) (O.output out.new))) }
 
     // A fault is named only where its count rose.
     ensures cause { IfSome (command_of (map string_bytes words.now)) (λ c. Blames (parts c) result.outcome
-        (world (F.disk files.old) (O.output out.old))
-        (world (F.disk files.new) (O.output out.new))) }
+        (world (F.disk files.old) (D.state dial.old) (O.output out.old))
+        (world (F.disk files.new) (D.state dial.new) (O.output out.new))) }
 
     // Where no count of faults rises, no call has failed.
     ensures quiet { NoFault
-        (world (F.disk files.old) (O.output out.old))
-        (world (F.disk files.new) (O.output out.new))
+        (world (F.disk files.old) (D.state dial.old) (O.output out.old))
+        (world (F.disk files.new) (D.state dial.new) (O.output out.new))
         → NothingFailed result.outcome }
 {
-    let outcome = outcome_of(run(alloc, words, files, out));
+    let outcome = outcome_of(run(alloc, words, files, dial, out));
     let status = outcome.status();
     tell(alloc, &outcome, err);
     Ended { status, outcome }

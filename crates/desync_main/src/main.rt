@@ -1,6 +1,7 @@
-//! The program `desync`: files and folders of the operating system under the commands.
+//! The program `desync`: files, folders and connections of the operating system under the commands.
 #![tactic(auto)]
 
+mod real_dial;
 mod real_files;
 mod real_folder;
 mod real_sink;
@@ -10,6 +11,7 @@ mod real_view;
 mod tests;
 
 use desync_cli::run::desync;
+use real_dial::RealDial;
 use real_files::RealFiles;
 use real_sink::RealSink;
 use std::env::Env;
@@ -39,8 +41,16 @@ fn main(rt: HostRuntime) -> ExitCode {
     };
     let (stdout, stderr) = (rt.stdout(), rt.stderr());
     let mut files = RealFiles::new(&rt, rt.alloc());
+    let mut dial = RealDial::new(&rt);
     let mut out = RealSink::new(io::writer(&stdout));
     let mut err = RealSink::new(io::writer(&stderr));
-    let ended = desync(rt.alloc(), &words, &mut files, &mut out, &mut err);
+    let ended = desync(
+        rt.alloc(),
+        &words,
+        &mut files,
+        &mut dial,
+        &mut out,
+        &mut err,
+    );
     ExitCode::from(ended.status)
 }

@@ -1,12 +1,18 @@
-//! The adapters over real files, in a folder of their own under the system's temporary folder.
+//! The adapters over real files, in a folder of their own under the system's temporary folder, and over connections from
+//! the machine to itself.
 
+use crate::real_dial::RealDial;
 use crate::real_files::RealFiles;
+use dsy_base::dial::Dial;
 use dsy_base::fault::{IoFault, OpenFault};
 use dsy_base::files::Files;
 use dsy_base::folder::Folder;
+use dsy_base::link::Link;
 use dsy_base::look::Look;
 use dsy_base::view::{Part, Target, View};
 use std::alloc::AllocError;
+use std::io::{Read, Write};
+use std::net::TcpListener;
 use std::os::unix::fs::symlink;
 use std::test::Fail;
 use std::time::SystemTime;
@@ -143,5 +149,52 @@ fn what_stands_under_a_name_decides(rt: HostRuntime) -> Result<(), Fail> {
     assert!(rt; files.replace(absent.as_str(), b"").is_ok());
     assert!(rt; matches!(files.look(absent.as_str()), Err(OpenFault::Absent)));
     fs::remove_dir_all(&rt, folder.as_str())?;
+    Ok(())
+}
+
+#[test]
+fn bytes_come_and_go_over_a_connection(rt: HostRuntime) -> Result<(), Fail> {
+    let listener = TcpListener::bind(&rt, "127.0.0.1:0")?;
+    let port = listener.local_addr()?.port();
+    let mut dial = RealDial::new(&rt);
+    let mut link = dial.dial("127.0.0.1", port).ok().ok_or("no answer")?;
+    let (mut peer, _) = listener.accept()?;
+    let mut got = [0; 4];
+    assert!(rt; link.write(b"abc").is_ok());
+    assert_eq!(rt; peer.read(&mut got)?, 3);
+    assert_eq!(rt; got, *b"abc\0");
+    peer.write_all(b"xy")?;
+    assert_eq!(rt; link.read(&mut got).ok(), Some(2));
+    assert_eq!(rt; got, *b"xyc\0");
+    dial.hang_up(link);
+    assert_eq!(rt; peer.read(&mut got)?, 0);
+    assert_eq!(rt; dial.faults(), 0);
+    Ok(())
+}
+
+#[test]
+fn an_address_of_version_6_stands_in_brackets(rt: HostRuntime) -> Result<(), Fail> {
+    let Ok(listener) = TcpListener::bind(&rt, "[::1]:0") else {
+        return Ok(());
+    };
+    let port = listener.local_addr()?.port();
+    let mut dial = RealDial::new(&rt);
+    let link = dial.dial("[::1]", port).ok().ok_or("no answer")?;
+    dial.hang_up(link);
+    Ok(())
+}
+
+#[test]
+fn a_refused_connection_is_counted(rt: HostRuntime) -> Result<(), Fail> {
+    let listener = TcpListener::bind(&rt, "127.0.0.1:0")?;
+    let port = listener.local_addr()?.port();
+    drop(listener);
+    let mut dial = RealDial::new(&rt);
+    assert!(rt; dial.dial("127.0.0.1", port).is_err());
+    assert_eq!(rt; dial.faults(), 1);
+    let other = dial.fork().ok().ok_or("no memory")?;
+    assert_eq!(rt; other.faults(), 0);
+    dial.join(other);
+    assert_eq!(rt; dial.faults(), 1);
     Ok(())
 }

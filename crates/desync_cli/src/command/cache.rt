@@ -11,6 +11,7 @@ ghost use Rattle.command_steps.specs.Worlds.{Reads, world};
 ghost use Rattle.desync_cli.specs.Caching.{CacheEnds, IndexesFilled, FillsEach, answer_of_fill};
 ghost use Rattle.dsy_base.specs.Counts.{Quiet, Rose};
 ghost use Rattle.dsy_base.specs.Disk.{Output};
+ghost use Rattle.dsy_base.specs.Links.{DialState};
 ghost use Rattle.dsy_base.specs.Maps.{Map};
 ghost use Rattle.store_chain.specs.Chains.{KeepsStores};
 ghost use Rattle.store_chain.specs.Faults.{EachQuiet};
@@ -172,9 +173,9 @@ pub fn cache<F: Files>(
     indexes: Names,
 ) -> Result<(), Outcome>
     requires { (1 ≤ length stores) × (length stores ≤ 16) }
-    ensures ends { (p : Output) → CacheEnds stores cache indexes
-        (world (F.disk files.old) p) result
-        (world (F.disk files.new) p) }
+    ensures ends { (k : DialState) (p : Output) → CacheEnds stores cache indexes
+        (world (F.disk files.old) k p) result
+        (world (F.disk files.new) k p) }
 {
     let opened = open_stores(alloc, files, stores.as_slice())?;
     let place = Location::Folder(cache);

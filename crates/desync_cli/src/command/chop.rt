@@ -6,6 +6,7 @@ ghost use Rattle.command_steps.specs.Stores.{name_of};
 ghost use Rattle.command_steps.specs.Worlds.{world};
 ghost use Rattle.desync_cli.specs.Chop.{ChopEnds, ImageChopped};
 ghost use Rattle.dsy_base.specs.Disk.{Output};
+ghost use Rattle.dsy_base.specs.Links.{DialState};
 
 use crate::beside::take_beside;
 use caibx_codec::index::Index;
@@ -62,9 +63,9 @@ pub fn chop<F: Files>(
     index: Name,
     image: Name,
 ) -> Result<(), Outcome>
-    ensures ends { (p : Output) → ChopEnds store index image
-        (world (F.disk files.old) p) result
-        (world (F.disk files.new) p) }
+    ensures ends { (k : DialState) (p : Output) → ChopEnds store index image
+        (world (F.disk files.old) k p) result
+        (world (F.disk files.new) k p) }
 {
     let listed = read_index(alloc, files, index)?;
     let view = open_image(files, image)?;

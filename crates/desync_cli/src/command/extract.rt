@@ -16,6 +16,7 @@ ghost use Rattle.desync_cli.specs.Extract.{Assembled, ClearedAfter, ExtractEnds,
 ghost use Rattle.desync_cli.specs.Extract.{Renamed, answer_of_assembly, answer_of_taking};
 ghost use Rattle.desync_cli.specs.Extract.{temporary_out};
 ghost use Rattle.dsy_base.specs.Disk.{Output};
+ghost use Rattle.dsy_base.specs.Links.{DialState};
 ghost use Rattle.dsy_base.specs.Maps.{Map};
 ghost use Rattle.extract_plan.specs.Deal.{AreWants};
 ghost use Rattle.extract_plan.specs.Places.{IsSeedIndex, PlacesKnown, items_of, seed_item_limit};
@@ -245,12 +246,12 @@ fn assemble_beside<F: Files>(
         × (map m (map (place_in F.Look.place) stores.items) ≡ map Some fs)
         × (map (files_in F.Look.files) stores.items ≡ map Some fs)) }
     requires named { temporary.now ≡ temporary_out target }
-    ensures made { (ls : List Listing) (p : Output) →
+    ensures made { (ls : List Listing) (k : DialState) (p : Output) →
         IsSeedIndex planned.now.index planned.now.plan ls planned.now.places → OutMade false
         (map (place_in F.Look.place) stores.items) cache.now target planned.now.index
         (record { images = map image_name seeds.now; listings = ls })
-        (world (with_cache (seen F.Folder.files F.Folder.place F.Folder.faults shelf) (F.disk files.old)) p) result
-        (world (F.disk files.new) p) }
+        (world (with_cache (seen F.Folder.files F.Folder.place F.Folder.faults shelf) (F.disk files.old)) k p) result
+        (world (F.disk files.new) k p) }
 {
     let made = assemble_into(
         alloc, files, planned, stores, cache, shelf, seeds, temporary, true,
@@ -275,9 +276,9 @@ pub fn extract<F: Files>(
 ) -> Result<(), Outcome>
     requires stores { (1 ≤ length stores) × (length stores ≤ 16) }
     requires seeds { length seeds ≤ 64 }
-    ensures ends { (p : Output) → ExtractEnds stores cache seeds in_place index target
-        (world (F.disk files.old) p) result
-        (world (F.disk files.new) p) }
+    ensures ends { (k : DialState) (p : Output) → ExtractEnds stores cache seeds in_place index target
+        (world (F.disk files.old) k p) result
+        (world (F.disk files.new) k p) }
 {
     let listed = read_index(alloc, files, index)?;
     let indexes = read_indexes(alloc, files, seeds.as_slice())?;

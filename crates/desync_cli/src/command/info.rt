@@ -5,6 +5,7 @@ ghost use Rattle.desync_cli.specs.Info.{Counted, InfoEnds};
 ghost use Rattle.command_steps.specs.Printing.{Printed};
 ghost use Rattle.command_steps.specs.Stores.{names_of};
 ghost use Rattle.command_steps.specs.Worlds.{Reads, world};
+ghost use Rattle.dsy_base.specs.Links.{DialState};
 ghost use Rattle.verify_tool.specs.Texts.{text_of_info};
 
 use caibx_codec::index::Index;
@@ -74,9 +75,9 @@ pub fn info<F: Files, O: Sink>(
     index: Name,
 ) -> Result<(), Outcome>
     requires { length stores ≤ 16 }
-    ensures ends { InfoEnds stores index
-        (world (F.disk files.old) (O.output out.old)) result
-        (world (F.disk files.new) (O.output out.new)) }
+    ensures ends { (k : DialState) → InfoEnds stores index
+        (world (F.disk files.old) k (O.output out.old)) result
+        (world (F.disk files.new) k (O.output out.new)) }
 {
     let listed = read_index(alloc, files, index)?;
     let held = count(alloc, files, &listed, stores.as_slice())?;

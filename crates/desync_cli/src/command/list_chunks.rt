@@ -2,6 +2,7 @@
 
 ghost use Rattle.command_steps.specs.Worlds.{world};
 ghost use Rattle.desync_cli.specs.ListChunks.{ListChunksEnds};
+ghost use Rattle.dsy_base.specs.Links.{DialState};
 
 use command_outcome::outcome::Outcome;
 use command_steps::openings::read_index;
@@ -20,9 +21,9 @@ pub fn list_chunks<F: Files, O: Sink>(
     out: &mut O,
     index: Name,
 ) -> Result<(), Outcome>
-    ensures ends { ListChunksEnds index
-        (world (F.disk files.old) (O.output out.old)) result
-        (world (F.disk files.new) (O.output out.new)) }
+    ensures ends { (k : DialState) → ListChunksEnds index
+        (world (F.disk files.old) k (O.output out.old)) result
+        (world (F.disk files.new) k (O.output out.new)) }
 {
     let listed = read_index(alloc, files, index)?;
     printed(put_ids(alloc, &listed, out))?;

@@ -6,6 +6,7 @@ ghost use Rattle.command_steps.specs.Stores.{name_of};
 ghost use Rattle.command_steps.specs.Worlds.{world};
 ghost use Rattle.desync_cli.specs.Make.{ImageStored, IndexWritten, MakeEnds, SizesJudged};
 ghost use Rattle.dsy_base.specs.Disk.{Output};
+ghost use Rattle.dsy_base.specs.Links.{DialState};
 
 use crate::beside::take_beside;
 use buzhash_cut::sizes::CutSizes;
@@ -91,8 +92,8 @@ pub fn make<F: Files>(
     index: Name,
     image: Name,
 ) -> Result<(), Outcome>
-    ensures ends { (p : Output) → MakeEnds store sizes index image (world (F.disk files.old) p) result
-        (world (F.disk files.new) p) }
+    ensures ends { (k : DialState) (p : Output) → MakeEnds store sizes index image (world (F.disk files.old) k p) result
+        (world (F.disk files.new) k p) }
 {
     let sizes = judge(sizes)?;
     let view = open_image(files, image)?;

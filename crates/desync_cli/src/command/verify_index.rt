@@ -4,6 +4,7 @@ ghost use Rattle.std.specs.Prelude.{◌≡◌, IsSome};
 ghost use Rattle.desync_cli.specs.VerifyIndex.{Checked, VerifyIndexEnds, answer_of_check};
 ghost use Rattle.command_steps.specs.Worlds.{Reads, world};
 ghost use Rattle.dsy_base.specs.Disk.{Output};
+ghost use Rattle.dsy_base.specs.Links.{DialState};
 
 use caibx_codec::index::Index;
 use command_outcome::outcome::Outcome;
@@ -55,9 +56,9 @@ pub fn verify_index<F: Files>(
     index: Name,
     image: Name,
 ) -> Result<(), Outcome>
-    ensures ends { (p : Output) → VerifyIndexEnds index image
-        (world (F.disk files.old) p) result
-        (world (F.disk files.new) p) }
+    ensures ends { (k : DialState) (p : Output) → VerifyIndexEnds index image
+        (world (F.disk files.old) k p) result
+        (world (F.disk files.new) k p) }
 {
     let listed = read_index(alloc, files, index)?;
     let view = open_image(files, image)?;

@@ -13,7 +13,7 @@ returns-in_err-opened g c =
     let p = err_from_is_err_and c.from_residual.result c.from_residual.ensures.1 in
     let at = g.F.Files.disk in
     let refused = subst (λ (s : List Location). NoneReached (at c.args.files.now) (at c.open_stores.new.files) (names_of s) c.in_err-opened.field-0.0) c.as_slice.ensures c.in_err-opened.ensures.err in
-    record { ends = λ o. rw (p.1, p.2) (inl ((refused, c.in_err-opened.ensures.kept), refl)) }
+    record { ends = λ k o. rw (p.1, p.2) (inl ((refused, c.in_err-opened.ensures.kept), refl, refl)) }
 
 pub take_behind-requires : goal.take_behind-requires
 take_behind-requires g c =
@@ -28,7 +28,7 @@ returns-in_err-opened-2 g c =
     let xs = map (files_in g.F.Look.Look.files) c.in_ok-opened.opened.items in
     let held = subst (λ (s : List Location). StoresHeld (names_of s) (at c.args.files.now) (Ok (all_of xs)) (at c.open_stores.new.files)) c.as_slice.ensures (held_there (at c.args.files.now).folders (names_of c.as_slice.result.now) xs opened.found, opened.kept) in
     let took = c.in_err-opened-2.ensures in
-    record { ends = λ o. rw (p.1, p.2) (inr (record { disk = _; out = _; gave = all_of xs; did = (held, refl); then = inl ((took.err, took.kept), refl) })) }
+    record { ends = λ k o. rw (p.1, p.2) (inr (record { disk = _; dial = _; out = _; gave = all_of xs; did = (held, refl, refl); then = inl ((took.err, took.kept), refl, refl) })) }
 
 pub fill_between-requires-clause-known : goal.fill_between-requires-clause-known
 fill_between-requires-clause-known g c =
@@ -58,4 +58,4 @@ returns g c =
     let names = ap (λ v. map place v.items) took.ok.0 ∙ opened.fresh.0 ∙ ap names_of c.as_slice.ensures in
     let filled = subst (λ (ns : List (List ℕ)). FilledBetween ns c.args.cache c.as_slice-2.result.now told held d e c.fill_between.result) names (c.fill_between.ensures.filled told known) in
     let between = subst (λ (qs : List (List ℕ)). FilledBetween (names_of c.args.stores) c.args.cache qs told held d e c.fill_between.result) c.as_slice-2.ensures filled in
-    record { ends = λ p. cache_ends c.args.stores c.args.cache c.args.indexes p b (at c.open_stores.new.files) d e told held c.fill_between.result there (took.ok.1.found, took.changed) between }
+    record { ends = λ k p. cache_ends c.args.stores c.args.cache c.args.indexes k p b (at c.open_stores.new.files) d e told held c.fill_between.result there (took.ok.1.found, took.changed) between }

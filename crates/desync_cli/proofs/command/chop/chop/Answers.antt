@@ -18,17 +18,19 @@ returns-in_err-chop_between g c =
     let of_view = subst (λ v. ImageChopped l (held v).name (held v).bytes (name_of c.args.store) files (at c.take_beside.new.files) (Err c.in_err-chop_between.field-0.0) (at c.chop_between.new.files)) took.ok.0 c.in_err-chop_between.ensures in
     let chopped = subst (λ (n : List ℕ). ImageChopped l n (held c.in_ok-view.view).bytes (name_of c.args.store) files (at c.take_beside.new.files) (Err c.in_err-chop_between.field-0.0) (at c.chop_between.new.files)) view.fresh.1 of_view in
     record {
-      ends = λ o. rw (p.1, p.2) (inr (record {
+      ends = λ k o. rw (p.1, p.2) (inr (record {
         disk = _;
+        dial = _;
         out = _;
         gave = l;
-        did = ((listed.ok, listed.kept), refl);
+        did = ((listed.ok, listed.kept), refl, refl);
         then = inr (record {
           disk = _;
+          dial = _;
           out = _;
           gave = _;
-          did = ((view.ok, view.kept), refl);
-          then = inr (record { disk = _; out = _; gave = files; did = ((took.ok.1.found, took.changed), refl); then = (chopped, refl) });
+          did = ((view.ok, view.kept), refl, refl);
+          then = inr (record { disk = _; dial = _; out = _; gave = files; did = ((took.ok.1.found, took.changed), refl, refl); then = (chopped, refl, refl) });
         });
       }));
     }
@@ -45,17 +47,19 @@ returns g c =
     let of_view = subst (λ v. ImageChopped l (held v).name (held v).bytes (name_of c.args.store) files (at c.take_beside.new.files) (Ok tt) (at c.chop_between.new.files)) took.ok.0 c.in_ok-chop_between.ensures in
     let chopped = subst (λ (n : List ℕ). ImageChopped l n (held c.in_ok-view.view).bytes (name_of c.args.store) files (at c.take_beside.new.files) (Ok tt) (at c.chop_between.new.files)) view.fresh.1 of_view in
     record {
-      ends = λ o. record {
+      ends = λ k o. record {
         disk = _;
+        dial = _;
         out = _;
         gave = l;
-        did = ((listed.ok, listed.kept), refl);
+        did = ((listed.ok, listed.kept), refl, refl);
         then = record {
           disk = _;
+          dial = _;
           out = _;
           gave = _;
-          did = ((view.ok, view.kept), refl);
-          then = record { disk = _; out = _; gave = files; did = ((took.ok.1.found, took.changed), refl); then = (chopped, refl) };
+          did = ((view.ok, view.kept), refl, refl);
+          then = record { disk = _; dial = _; out = _; gave = files; did = ((took.ok.1.found, took.changed), refl, refl); then = (chopped, refl, refl) };
         };
       };
     }

@@ -35,12 +35,13 @@ returns-in_err-opened g c =
     let read = c.in_ok-indexes.ensures in
     let none = rw c.as_slice-2.ensures at c.in_err-opened.ensures.err in
     record {
-      ends = λ o. rw (e.1, e.2) (inr (record {
+      ends = λ k o. rw (e.1, e.2) (inr (record {
         disk = _;
+        dial = _;
         out = _;
         gave = c.in_ok-listed.listed;
-        did = ((listed.ok, listed.kept), refl);
-        then = inr (record { disk = _; out = _; gave = c.in_ok-indexes.indexes.items; did = (((rw c.as_slice.ensures at read.ok, read.few), read.kept), refl); then = inl ((inl none, c.in_err-opened.ensures.kept), refl) });
+        did = ((listed.ok, listed.kept), refl, refl);
+        then = inr (record { disk = _; dial = _; out = _; gave = c.in_ok-indexes.indexes.items; did = (((rw c.as_slice.ensures at read.ok, read.few), read.kept), refl, refl); then = inl ((inl none, c.in_err-opened.ensures.kept), refl, refl) });
       }));
     }
 
@@ -100,22 +101,25 @@ returns-in-Err g c =
     let found = rw c.as_slice-2.ensures at opened.found in
     let refused = cache_longer c.args.cache (at c.open_stores.new.files) (at c.take_cache.new.files) (at c.close_stores.new.files) c.in-Err.outcome c.in-Err.ensures.err c.close_stores.ensures.kept in
     record {
-      ends = λ o. inr (record {
+      ends = λ k o. inr (record {
         disk = _;
+        dial = _;
         out = _;
         gave = c.in_ok-listed.listed;
-        did = ((listed.ok, listed.kept), refl);
+        did = ((listed.ok, listed.kept), refl, refl);
         then = inr (record {
           disk = _;
+          dial = _;
           out = _;
           gave = c.in_ok-indexes.indexes.items;
-          did = (((rw c.as_slice.ensures at read.ok, read.few), read.kept), refl);
+          did = (((rw c.as_slice.ensures at read.ok, read.few), read.kept), refl, refl);
           then = inr (record {
             disk = _;
+            dial = _;
             out = _;
             gave = tt;
-            did = ((all_there (at c.read_indexes.new.files).folders names (files_in g.F.Look.Look.files) c.in_ok-opened.opened.items found, opened.kept), refl);
-            then = inl (refused, refl);
+            did = ((all_there (at c.read_indexes.new.files).folders names (files_in g.F.Look.Look.files) c.in_ok-opened.opened.items found, opened.kept), refl, refl);
+            then = inl (refused, refl, refl);
           });
         });
       });
@@ -139,16 +143,16 @@ returns-then-in_place g c =
     let fresh = rw c.as_slice-2.ensures at opened.fresh in
     let found = rw c.as_slice-2.ensures at opened.found in
     record {
-      ends = λ p.
-          let ended : List (List ℕ) → List (List ℕ) → List ℕ → Listing → Type 0 = λ n images q l. OutMade true n cache q l (record { images = map image_name images; listings = ls }) (world m p) c.assemble_into.result (world e p) in
+      ends = λ k p.
+          let ended : List (List ℕ) → List (List ℕ) → List ℕ → Listing → Type 0 = λ n images q l. OutMade true n cache q l (record { images = map image_name images; listings = ls }) (world m k p) c.assemble_into.result (world e k p) in
           let made = c.assemble_into.ensures in
-          let over : ended (map (place_in g.F.Look.Look.place) items) c.as_slice-seeds.result.now c.as_str-then-in_place.result.now c.in-Ok.planned.index = ((made.assembled ls (rw c.in-Ok.ensures.index c.in-Ok.ensures.places), made.kept, made.tells), refl) in
+          let over : ended (map (place_in g.F.Look.Look.place) items) c.as_slice-seeds.result.now c.as_str-then-in_place.result.now c.in-Ok.planned.index = ((made.assembled ls (rw c.in-Ok.ensures.index c.in-Ok.ensures.places), made.kept, made.tells), refl, refl) in
           let named = subst (λ q. ended (map (place_in g.F.Look.Look.place) items) c.as_slice-seeds.result.now q c.in-Ok.planned.index) c.as_str-then-in_place.ensures over in
           let into : ended names c.args.seeds c.args.target l =
           subst (λ n. ended n c.args.seeds c.args.target l) fresh.0 (subst (λ q. ended (map (place_in g.F.Look.Look.place) items) q c.args.target l) c.as_slice-seeds.ensures
           (subst (λ l. ended (map (place_in g.F.Look.Look.place) items) c.as_slice-seeds.result.now c.args.target l) c.in-Ok.ensures.index named)) in
-          subst (λ place. ExtractEnds c.args.stores cache c.args.seeds place c.args.index c.args.target (world d p) c.assemble_into.result (world e p)) (sym c.if-in_place.true)
-          (ends_with c.args.stores cache c.args.seeds true c.args.index c.args.target l ls d (at c.read_index.new.files) (at c.read_indexes.new.files) f m e p c.assemble_into.result
+          subst (λ place. ExtractEnds c.args.stores cache c.args.seeds place c.args.index c.args.target (world d k p) c.assemble_into.result (world e k p)) (sym c.if-in_place.true)
+          (ends_with c.args.stores cache c.args.seeds true c.args.index c.args.target l ls d (at c.read_index.new.files) (at c.read_indexes.new.files) f m e k p c.assemble_into.result
           (listed.ok, listed.kept) ((rw c.as_slice.ensures at read.ok, read.few), read.kept) (all_there (at c.read_indexes.new.files).folders names (files_in g.F.Look.Look.files) items found, opened.kept)
           c.in-Ok-take_cache.ensures.ok into);
     }
@@ -171,14 +175,14 @@ returns g c =
     let fresh = rw c.as_slice-2.ensures at opened.fresh in
     let found = rw c.as_slice-2.ensures at opened.found in
     record {
-      ends = λ p.
-          let ended : List (List ℕ) → List (List ℕ) → List ℕ → Listing → Type 0 = λ n images q l. OutMade false n cache q l (record { images = map image_name images; listings = ls }) (world m p) c.assemble_beside.result (world e p) in
-          let named : ended (map (place_in g.F.Look.Look.place) items) c.as_slice-seeds.result.now c.args.target c.in-Ok.planned.index = c.assemble_beside.ensures.made ls p (rw c.in-Ok.ensures.index c.in-Ok.ensures.places) in
+      ends = λ k p.
+          let ended : List (List ℕ) → List (List ℕ) → List ℕ → Listing → Type 0 = λ n images q l. OutMade false n cache q l (record { images = map image_name images; listings = ls }) (world m k p) c.assemble_beside.result (world e k p) in
+          let named : ended (map (place_in g.F.Look.Look.place) items) c.as_slice-seeds.result.now c.args.target c.in-Ok.planned.index = c.assemble_beside.ensures.made ls k p (rw c.in-Ok.ensures.index c.in-Ok.ensures.places) in
           let into : ended names c.args.seeds c.args.target l =
           subst (λ n. ended n c.args.seeds c.args.target l) fresh.0 (subst (λ q. ended (map (place_in g.F.Look.Look.place) items) q c.args.target l) c.as_slice-seeds.ensures
           (subst (λ l. ended (map (place_in g.F.Look.Look.place) items) c.as_slice-seeds.result.now c.args.target l) c.in-Ok.ensures.index named)) in
-          subst (λ place. ExtractEnds c.args.stores cache c.args.seeds place c.args.index c.args.target (world d p) c.assemble_beside.result (world e p)) (sym c.if-in_place.false)
-          (ends_with c.args.stores cache c.args.seeds false c.args.index c.args.target l ls d (at c.read_index.new.files) (at c.read_indexes.new.files) f m e p c.assemble_beside.result
+          subst (λ place. ExtractEnds c.args.stores cache c.args.seeds place c.args.index c.args.target (world d k p) c.assemble_beside.result (world e k p)) (sym c.if-in_place.false)
+          (ends_with c.args.stores cache c.args.seeds false c.args.index c.args.target l ls d (at c.read_index.new.files) (at c.read_indexes.new.files) f m e k p c.assemble_beside.result
           (listed.ok, listed.kept) ((rw c.as_slice.ensures at read.ok, read.few), read.kept) (all_there (at c.read_indexes.new.files).folders names (files_in g.F.Look.Look.files) items found, opened.kept)
           c.in-Ok-take_cache.ensures.ok into);
     }

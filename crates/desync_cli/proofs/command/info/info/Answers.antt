@@ -12,4 +12,4 @@ returns-in_err-print g c =
     let held = c.in_ok-held.ensures in
     let at = g.F.Files.disk in
     let counted = subst (λ (s : List Location). Counted (at c.read_index.new.files) (at c.count.new.files) (names_of s) c.in_ok-listed.listed (Ok c.in_ok-held.held)) c.as_slice.ensures held.counted in
-    record { ends = rw (p.1, p.2) (inr (record { disk = _; out = _; gave = c.in_ok-listed.listed; did = ((listed.ok, listed.kept), refl); then = inr (record { disk = _; out = _; gave = _; did = ((counted, held.kept), refl); then = (c.in_err-print.ensures.printed, refl) }) })) }
+    record { ends = λ k. rw (p.1, p.2) (inr (record { disk = _; dial = _; out = _; gave = c.in_ok-listed.listed; did = ((listed.ok, listed.kept), refl, refl); then = inr (record { disk = _; dial = _; out = _; gave = _; did = ((counted, held.kept), refl, refl); then = (c.in_err-print.ensures.printed, refl, refl) }) })) }

@@ -16,17 +16,19 @@ returns-in_err-bytes g c =
     let of_view = subst (λ v. ImageStored c.in_ok-sizes.sizes (held v).name (held v).bytes (name_of c.args.store) files (at c.take_beside.new.files) (Err c.in_err-bytes.field-0.0) (at c.store_between.new.files)) took.ok.0 c.in_err-bytes.ensures.err in
     let stored = subst (λ (n : List ℕ). ImageStored c.in_ok-sizes.sizes n (held c.in_ok-view.view).bytes (name_of c.args.store) files (at c.take_beside.new.files) (Err c.in_err-bytes.field-0.0) (at c.store_between.new.files)) view.fresh.1 of_view in
     record {
-      ends = λ o. rw (p.1, p.2) (inr (record {
+      ends = λ k o. rw (p.1, p.2) (inr (record {
         disk = _;
+        dial = _;
         out = _;
         gave = c.in_ok-sizes.sizes;
         did = (c.in_ok-sizes.ensures, refl);
         then = inr (record {
           disk = _;
+          dial = _;
           out = _;
           gave = _;
-          did = ((view.ok, view.kept), refl);
-          then = inr (record { disk = _; out = _; gave = files; did = ((took.ok.1.found, took.changed), refl); then = inl (stored, refl) });
+          did = ((view.ok, view.kept), refl, refl);
+          then = inr (record { disk = _; dial = _; out = _; gave = files; did = ((took.ok.1.found, took.changed), refl, refl); then = inl (stored, refl, refl) });
         });
       }));
     }
@@ -42,22 +44,25 @@ returns-in_err-write_index g c =
     let of_view = subst (λ v. ImageStored c.in_ok-sizes.sizes (held v).name (held v).bytes (name_of c.args.store) files (at c.take_beside.new.files) (Ok c.in_ok-bytes.bytes.items) (at c.store_between.new.files)) took.ok.0 c.in_ok-bytes.ensures.ok in
     let stored = subst (λ (n : List ℕ). ImageStored c.in_ok-sizes.sizes n (held c.in_ok-view.view).bytes (name_of c.args.store) files (at c.take_beside.new.files) (Ok c.in_ok-bytes.bytes.items) (at c.store_between.new.files)) view.fresh.1 of_view in
     record {
-      ends = λ o. rw (p.1, p.2) (inr (record {
+      ends = λ k o. rw (p.1, p.2) (inr (record {
         disk = _;
+        dial = _;
         out = _;
         gave = c.in_ok-sizes.sizes;
         did = (c.in_ok-sizes.ensures, refl);
         then = inr (record {
           disk = _;
+          dial = _;
           out = _;
           gave = _;
-          did = ((view.ok, view.kept), refl);
+          did = ((view.ok, view.kept), refl, refl);
           then = inr (record {
             disk = _;
+            dial = _;
             out = _;
             gave = files;
-            did = ((took.ok.1.found, took.changed), refl);
-            then = inr (record { disk = _; out = _; gave = c.in_ok-bytes.bytes.items; did = (stored, refl); then = (c.in_err-write_index.ensures, refl) });
+            did = ((took.ok.1.found, took.changed), refl, refl);
+            then = inr (record { disk = _; dial = _; out = _; gave = c.in_ok-bytes.bytes.items; did = (stored, refl, refl); then = (c.in_err-write_index.ensures, refl, refl) });
           });
         });
       }));
@@ -73,22 +78,25 @@ returns g c =
     let of_view = subst (λ v. ImageStored c.in_ok-sizes.sizes (held v).name (held v).bytes (name_of c.args.store) files (at c.take_beside.new.files) (Ok c.in_ok-bytes.bytes.items) (at c.store_between.new.files)) took.ok.0 c.in_ok-bytes.ensures.ok in
     let stored = subst (λ (n : List ℕ). ImageStored c.in_ok-sizes.sizes n (held c.in_ok-view.view).bytes (name_of c.args.store) files (at c.take_beside.new.files) (Ok c.in_ok-bytes.bytes.items) (at c.store_between.new.files)) view.fresh.1 of_view in
     record {
-      ends = λ o. record {
+      ends = λ k o. record {
         disk = _;
+        dial = _;
         out = _;
         gave = c.in_ok-sizes.sizes;
         did = (c.in_ok-sizes.ensures, refl);
         then = record {
           disk = _;
+          dial = _;
           out = _;
           gave = _;
-          did = ((view.ok, view.kept), refl);
+          did = ((view.ok, view.kept), refl, refl);
           then = record {
             disk = _;
+            dial = _;
             out = _;
             gave = files;
-            did = ((took.ok.1.found, took.changed), refl);
-            then = record { disk = _; out = _; gave = c.in_ok-bytes.bytes.items; did = (stored, refl); then = (rw c.deref.ensures.value at c.in_ok-write_index.ensures, refl) };
+            did = ((took.ok.1.found, took.changed), refl, refl);
+            then = record { disk = _; dial = _; out = _; gave = c.in_ok-bytes.bytes.items; did = (stored, refl, refl); then = (rw c.deref.ensures.value at c.in_ok-write_index.ensures, refl, refl) };
           };
         };
       };
