@@ -593,7 +593,7 @@ def no_commands(cases):
     ]
     not_yet = [
         ['extract', '-k', '-s', 'http://localhost/', INDEX, OUT],
-        ['chop', '-s', 'http://localhost/', INDEX, OUT], ['verify', '-s', STORE], ['prune', '-s', STORE, '-y', INDEX],
+        ['chop', '-s', 'http://localhost/', INDEX, OUT], ['demo', '7', '1'],
     ]
     for words, text in never + [(words, 'word 0: NotYet') for words in not_yet]:
         with cases.case(f'the words {words}') as folder:

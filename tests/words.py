@@ -161,7 +161,7 @@ def why_not_sizes(value):
 def is_built(said):
     if any(location(store) == 'url' for store in said.given['store']):
         return False
-    return said.command in ('extract', 'make', 'verify-index', 'chop', 'cache', 'list-chunks', 'info')
+    return said.command in ('extract', 'make', 'verify-index', 'chop', 'cache', 'list-chunks', 'info', 'verify', 'prune')
 
 
 def text_of(said):
@@ -172,7 +172,7 @@ def text_of(said):
         whys = [why_not_sizes(value) for value in said.given['sizes']]
         if any(whys):
             return f'bad chunk sizes: {whys[0]}'
-    if said.command == 'cache':
+    if said.command in ('cache', 'verify'):
         return f'{said.given["store"][0]}: no such folder'
     absent = said.operands[1 if said.command == 'make' else 0]
     return f'{absent}: no such file'

@@ -22,10 +22,13 @@ desync keeps images as chunks in a store, and an index of each image.
       print the id of each chunk that an index lists
   desync info [-s FOLDER..] INDEX
       print how many chunks an index lists, their sizes, and how many are there
+  desync verify -s FOLDER [-r] [-n WORKERS]
+      print which chunks of a store are damaged, or remove them
+  desync prune -s FOLDER -y INDEX..
+      remove the chunks of a store that no index lists
 
 Options and names may be mixed; `--` ends options. MIN, AVG and MAX are sizes
-in KiB. These commands are read and not built yet: verify, prune, chunk-server,
-demo.
+in KiB. These commands are read and not built yet: chunk-server, demo.
 
 `desync COMMAND --help` tells more of a command, `desync --version` the version.
 ";
@@ -132,10 +135,11 @@ example: desync info -s chunks disk.caibx
 pub const VERIFY: &str = "\
 usage: desync verify -s FOLDER [-r] [-n WORKERS]
 
-Prints each chunk of the store that isn't what its name says. Not built yet.
+Reads each chunk of the store and prints a line for each that isn't what its
+name says: `damaged` and its id, in the order of the ids.
 
   -s, --store FOLDER            the store
-  -r, --repair                  remove such chunks
+  -r, --repair                  remove such chunks; the line says `removed`
   -n, --concurrency WORKERS     1 to 32 workers; for now one does all
 
 example: desync verify -s chunks
@@ -145,7 +149,8 @@ example: desync verify -s chunks
 pub const PRUNE: &str = "\
 usage: desync prune -s FOLDER -y INDEX..
 
-Removes the chunks of the store that no INDEX lists. Not built yet.
+Reads each INDEX, then removes the chunks of the store that none of them lists,
+and temporary files. All other files stay.
 
   -s, --store FOLDER            the store
   -y, --yes                     they are removed for good

@@ -205,6 +205,17 @@ pub fn take_store<F: Files>(
     }
 }
 
+/// The folder of a store that was taken.
+pub fn folder_of<L: Look>(taken: AnyStore<L>) -> DirStore<L>
+    ensures files { L.files result ≡ files_in L.files taken }
+    ensures place { L.place result ≡ place_in L.place taken }
+    ensures faults { L.faults result ≡ faults_in L.faults taken }
+{
+    match taken {
+        AnyStore::Folder(folder) => folder,
+    }
+}
+
 /// Gives the folder of a store back.
 pub fn give_store<F: Files>(files: &mut F, store: &Location, taken: AnyStore<F::Folder>)
     requires named { place_in F.Folder.place taken ≡ name_of store.now }

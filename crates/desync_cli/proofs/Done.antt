@@ -12,6 +12,7 @@ use Rattle.desync_cli.proofs.Cached.{cached}
 use Rattle.desync_cli.proofs.Chopped.{chopped}
 use Rattle.desync_cli.proofs.Extracted.{extracted}
 use Rattle.desync_cli.proofs.Made.{made}
+use Rattle.desync_cli.proofs.Pruned.{pruned_to, verified_store}
 use Rattle.desync_cli.proofs.Verified.{verified}
 
 achieves : (c : Command) (w v : World) → is_some w.disk.files ≡ is_some w.disk.folders → Ends c w (Ok tt) v → Achieves c w v
@@ -20,6 +21,8 @@ achieves (commands.Extract stores seeds cache in_place workers index target) w v
 achieves (commands.VerifyIndex index image) w v told h = verified index image w v h
 achieves (commands.Chop store index image) w v told h = chopped store index image w v h
 achieves (commands.Cache stores cache indexes) w v told h = cached stores cache indexes w v h
+achieves (commands.Verify store repair) w v told h = verified_store store repair w v h
+achieves (commands.Prune store indexes) w v told h = pruned_to store indexes w v h
 achieves other w v told h = h
 
 pub achieved : (words : List (List ℕ)) (w v : World) (r : Result Unit Outcome) → is_some w.disk.files ≡ is_some w.disk.folders → DesyncEnds words w r v → outcome_of r ≡ ends.Done → IfSome (command_of words) (λ c. Achieves c w v)

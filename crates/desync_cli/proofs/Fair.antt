@@ -1,5 +1,5 @@
 -- What each command leaves, and what its refusals tell: a lemma for each step of its own, and a line a command.
-use Rattle.std.proofs.Common.{◌≡◌, ℕ, List, [], ◌∷◌, map, IfSome, Bool, IsTrue, is_some, not, true, false, Option, Some, None, Result, Ok, Err, refl, sym, subst, inl, inr, arith, cond}
+use Rattle.std.proofs.Common.{◌≤◌, ◌≡◌, ℕ, List, [], ◌∷◌, map, IfSome, Bool, IsTrue, is_some, not, true, false, Option, Some, None, Result, Ok, Err, refl, sym, subst, inl, inr, arith, cond}
 use Rattle.std.specs.Map.{count_at}
 use Rattle.buzhash_cut.specs.Sizes.{Sizes}
 use Rattle.caibx_codec.specs.Listing.{Listing, id_of}
@@ -25,6 +25,9 @@ use Rattle.desync_cli.specs.Extract.{CacheFilled, Clearing, FillsCache, ImageMad
 use Rattle.desync_cli.specs.Info.{IdsCounted, NotAsked}
 use Rattle.desync_cli.specs.Make.{ImageStored, IndexWritten, SizesJudged}
 use Rattle.desync_cli.specs.VerifyIndex.{ImageChecked}
+use Rattle.verify_tool.specs.Pruning.{is_listed_in}
+use Rattle.desync_cli.specs.Prune.{StorePruned}
+use Rattle.desync_cli.specs.Verify.{KeepsCounts, StoreVerified}
 use Rattle.command_steps.specs.Seeds.{image_name}
 use Rattle.command_steps.specs.Stores.{name_of}
 use Rattle.dsy_base.specs.Disk.{Disk, Output}
@@ -175,6 +178,36 @@ written_step f n o x p q bytes = record { fair = written_fair (record { files = 
   leaves d e (Ok u) h = writes p h.1
   leaves d e (Err r) h = writes p h.2
 
+-- ---- the steps of `verify` and `prune`
+
+verified_step : (n : Bool) (x : Parts) (q : List ℕ) (repair : Bool) (held : Option (Map (List ℕ))) → name_at x.stores 0 ≡ q → IsStep whole (record { files = true; folders = false; dial = n; out = false }) x (StoreVerified q repair held)
+verified_step n x q repair held same = record { fair = fair; leaves = leaves } where
+  left : (w v : World) → KeepsCounts w v → IsLeft (record { files = true; folders = false; dial = n; out = false }) w v
+  left w v c = record { keeps = record { files = λ t. c.adds.files; folders = λ t. absurd (cc); dial = λ t. c.dial; out = λ t. absurd (cc) }; files = c.adds.counts; folders = c.adds.folder_counts; dial = subst (λ k. w.dial.faults ≤ k.faults) (sym c.dial) (omega arith); out = c.out }
+
+  fair : (w v : World) (o : Outcome) → StoreVerified q repair held w (Err o) v → IsFair x o w v
+  fair w v (ends.DamagedLeft n) h = (tt, tt)
+  fair w v (ends.StoreFault k) h = (tt, subst (λ n. FolderRose w.disk v.disk (name_at x.stores n)) (sym h.0.0) (subst (λ n. FolderRose w.disk v.disk n) (sym same) h.0.1))
+  fair w v ends.OutFault h = (tt, h.0.0)
+  fair w v ends.Memory h = (tt, tt)
+  fair w v other h = absurd h.0
+
+  leaves : (w v : World) (r : Result Unit Outcome) → StoreVerified q repair held w r v → IsLeft (record { files = true; folders = false; dial = n; out = false }) w v
+  leaves w v (Ok u) h = left w v h.1
+  leaves w v (Err o) h = left w v h.1
+
+pruned_step : (f n o : Bool) (x : Parts) (p : Unread) (keeps : List ℕ → Bool) (q : List ℕ) (held : Option (Map (List ℕ))) → name_at x.stores 0 ≡ q
+    → IsStep (round p) (record { files = f; folders = false; dial = n; out = o }) x (StorePruned keeps q held)
+pruned_step f n o x p keeps q held same = record { fair = fair; leaves = leaves } where
+  fair : (d e : Disk) (r : Outcome) → StorePruned keeps q held d (Err r) e → IsFair x r (round p d) (round p e)
+  fair d e (ends.StoreFault k) h = (tt, subst (λ n. FolderRose d e (name_at x.stores n)) (sym h.0.0) (subst (λ n. FolderRose d e n) (sym same) h.0.1))
+  fair d e ends.Memory h = (tt, tt)
+  fair d e other h = absurd h.0
+
+  leaves : (d e : Disk) (r : Result Unit Outcome) → StorePruned keeps q held d r e → IsLeft (record { files = f; folders = false; dial = n; out = o }) (round p d) (round p e)
+  leaves d e (Ok u) h = adds p h.1
+  leaves d e (Err r) h = adds p h.1
+
 judged_fair : (x : Parts) (sizes : List ℕ) (o : Outcome) (w v : World) → SizesJudged sizes (Err o) → IsFair x o w v
 judged_fair x sizes (ends.Sizes fault) w v h = (tt, tt)
 judged_fair x sizes other w v h = absurd h
@@ -189,6 +222,8 @@ command_step (commands.Cache stores cache indexes) = bound (on_disk (λ p. told_
 command_step (commands.ListChunks index) = bound (on_disk (λ p. index_step _ _ p index)) (λ l. on_out (λ d. printed_step _ _ _ _ d (text_of_chunks l)))
 command_step (commands.Extract stores seeds cache in_place workers index target) = bound (on_disk (λ p. index_step _ _ p index)) (λ l. bound (on_disk (λ p. indexes_step _ _ p seeds)) (λ ls. bound (on_disk (λ p. opened_step _ _ p)) (λ u. bound (on_disk (λ p. cache_step _ _ p cache)) (λ u. out_step _ _ (parts (commands.Extract stores seeds cache in_place workers index target)) cache l (record { images = map image_name seeds; listings = ls }) in_place target refl))))
 command_step (commands.Info stores index) = bound (on_disk (λ p. index_step _ _ p index)) (λ l. bound (on_disk (λ p. counted_step _ _ p l)) (λ n. on_out (λ d. printed_step _ _ _ _ d (text_of_info l n))))
+command_step (commands.Verify store repair) = bound (on_disk (λ p. taken_step _ _ _ _ p store)) (λ held. verified_step _ _ store repair held refl)
+command_step (commands.Prune store indexes) = bound (on_disk (λ p. indexes_step _ _ p indexes)) (λ ls. bound (on_disk (λ p. taken_step _ _ _ _ p store)) (λ held. on_disk (λ p. pruned_step _ _ _ _ p (is_listed_in ls) store held refl)))
 command_step commands.Help = on_out (λ d. printed_step _ _ _ _ d (help_text topics.All))
 command_step commands.Version = on_out (λ d. printed_step _ _ _ _ d (help_text topics.Version))
 command_step (commands.HelpOn kind) = on_out (λ d. printed_step _ _ _ _ d (help_text (topics.Command kind)))

@@ -15,3 +15,5 @@ pub mod Wrote
 pub mod RoundTrip
 pub mod CacheFilled
 pub mod Cached
+pub mod Pruned
+pub mod GivenFolders

@@ -18,6 +18,8 @@ use Rattle.desync_cli.specs.Extract.{ExtractEnds, IsExtracted, LeavesOut, tempor
 use Rattle.desync_cli.specs.Info.{InfoEnds}
 use Rattle.desync_cli.specs.ListChunks.{ListChunksEnds}
 use Rattle.desync_cli.specs.Make.{IsMade, MakeEnds}
+use Rattle.desync_cli.specs.Prune.{IsPruned, PruneEnds}
+use Rattle.desync_cli.specs.Verify.{IsVerifiedStore, VerifyEnds}
 use Rattle.command_steps.specs.Blames.{Parts, Spares}
 use Rattle.command_steps.specs.Printing.{Printed}
 use Rattle.command_steps.specs.Steps.{◌>>=◌}
@@ -38,6 +40,8 @@ is_built (commands.ListChunks index) = true
 is_built (commands.Extract stores seeds cache in_place workers index target) =
     nat_le (length seeds) 64 && nat_le 1 (length stores) && nat_le (length stores) 16 && are_folders stores
 is_built (commands.Info stores index) = nat_le (length stores) 16 && are_folders stores
+is_built (commands.Verify store repair) = true
+is_built (commands.Prune store indexes) = true
 is_built commands.Help = true
 is_built commands.Version = true
 is_built (commands.HelpOn kind) = true
@@ -53,6 +57,8 @@ Ends (commands.ListChunks index) = ListChunksEnds index
 Ends (commands.Extract stores seeds cache in_place workers index target) =
     ExtractEnds stores cache seeds in_place index target
 Ends (commands.Info stores index) = InfoEnds stores index
+Ends (commands.Verify store repair) = VerifyEnds store repair
+Ends (commands.Prune store indexes) = PruneEnds store indexes
 Ends commands.Help = OnOut (Printed (help_text topics.All))
 Ends commands.Version = OnOut (Printed (help_text topics.Version))
 Ends (commands.HelpOn kind) = OnOut (Printed (help_text (topics.Command kind)))
@@ -66,6 +72,8 @@ spares (commands.Chop store index image) = record { files = true; folders = fals
 spares (commands.Cache stores cache indexes) = record { files = true; folders = false; dial = true; out = true }
 spares (commands.Extract stores seeds cache in_place workers index target) = record
     { files = false; folders = not (is_some cache); dial = true; out = true }
+spares (commands.Verify store repair) = record { files = true; folders = false; dial = true; out = false }
+spares (commands.Prune store indexes) = record { files = true; folders = false; dial = true; out = true }
 spares other = record { files = true; folders = true; dial = true; out = false }
 
 -- whose files and folders its faults are of, where the outcome doesn't name them
@@ -80,6 +88,8 @@ parts (commands.Cache stores cache indexes) = record
 parts (commands.Extract stores seeds cache in_place workers index target) = record
     { image = []; stores = names_of stores; target = if in_place then target else temporary_out target; cache = [] }
 parts (commands.Info stores index) = record { image = []; stores = names_of stores; target = []; cache = [] }
+parts (commands.Verify store repair) = record { image = []; stores = store ∷ []; target = []; cache = [] }
+parts (commands.Prune store indexes) = record { image = []; stores = store ∷ []; target = []; cache = [] }
 parts other = record { image = []; stores = []; target = []; cache = [] }
 
 -- what Done says of it, beside how it ends
@@ -96,6 +106,12 @@ Achieves (commands.Cache stores cache indexes) w v =
     IsCached b f g cache indexes)))
 Achieves (commands.Extract stores seeds cache in_place workers index target) w v =
     IfSome w.disk.files (λ b. IfSome v.disk.files (λ a. IsExtracted b a index target))
+Achieves (commands.Verify store repair) w v =
+    IfSome w.disk.folders (λ f. IfSome v.disk.folders (λ g.
+    IsVerifiedStore f g w.out.taken v.out.taken store repair))
+Achieves (commands.Prune store indexes) w v =
+    IfSome w.disk.files (λ b. IfSome w.disk.folders (λ f. IfSome v.disk.folders (λ g.
+    IsPruned b f g store indexes)))
 Achieves other w v = Ends other w (Ok tt) v
 
 -- what a refusal leaves of it, beside how it ends

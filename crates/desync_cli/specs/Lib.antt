@@ -8,3 +8,5 @@ pub mod Make
 pub mod RoundTrip
 pub mod VerifyIndex
 pub mod Caching
+pub mod Prune
+pub mod Verify

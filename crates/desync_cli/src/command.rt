@@ -7,4 +7,6 @@ pub mod help;
 pub mod info;
 pub mod list_chunks;
 pub mod make;
+pub mod prune;
+pub mod verify;
 pub mod verify_index;

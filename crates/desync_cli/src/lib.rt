@@ -17,4 +17,6 @@ mod no_dial;
 pub mod run;
 #[cfg(test)]
 mod tests;
+#[cfg(test)]
+mod tool_tests;
 mod words;

@@ -18,6 +18,8 @@ use crate::command::help::help;
 use crate::command::info::info;
 use crate::command::list_chunks::list_chunks;
 use crate::command::make::make;
+use crate::command::prune::prune;
+use crate::command::verify::verify;
 use crate::command::verify_index::verify_index;
 use crate::words::read_command;
 use command_help::help::Topic;
@@ -76,10 +78,9 @@ fn perform<F: Files, D: Dial, O: Sink>(
             cache,
             indexes,
         } => fill_cache(alloc, files, stores, cache, indexes),
-        Command::Verify { .. }
-        | Command::Prune { .. }
-        | Command::ChunkServer { .. }
-        | Command::Demo { .. } => unreachable!(),
+        Command::Verify { store, repair } => verify(alloc, files, out, store, repair),
+        Command::Prune { store, indexes } => prune(alloc, files, store, indexes),
+        Command::ChunkServer { .. } | Command::Demo { .. } => unreachable!(),
     }
 }
 

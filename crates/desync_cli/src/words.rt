@@ -17,6 +17,8 @@ fn is_built(command: &Command) -> bool
     match command {
         Command::VerifyIndex { .. }
         | Command::ListChunks { .. }
+        | Command::Verify { .. }
+        | Command::Prune { .. }
         | Command::Help
         | Command::Version
         | Command::HelpOn(_) => true,

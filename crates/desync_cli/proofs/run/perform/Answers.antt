@@ -20,3 +20,9 @@ returns-in-Info g c = record { ends = rw c.in-Info.is (c.info.ensures.ends _) }
 
 pub returns-in-ListChunks : goal.returns-in-ListChunks
 returns-in-ListChunks g c = record { ends = rw c.in-ListChunks.is (c.list_chunks.ensures.ends _) }
+
+pub returns-in-Prune : goal.returns-in-Prune
+returns-in-Prune g c = record { ends = rw c.in-Prune.is (c.prune.ensures.ends _ _) }
+
+pub returns-in-Verify : goal.returns-in-Verify
+returns-in-Verify g c = record { ends = rw c.in-Verify.is (c.verify.ensures.ends _) }
