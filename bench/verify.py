@@ -1,0 +1,56 @@
+#!/usr/bin/env python3
+"""`desync verify` over a store of chunks of random bytes, beside one `openssl dgst -sha512-256` over all of its files
+together; and over a store of 100,000 small chunk files, beside `find FOLDER -type f | sort`.
+
+The first store has chunks of 64 KiB. Needs the first store's size under the temporary folder, and 100,000 files.
+"""
+
+import os
+import random
+import shutil
+
+import side_by_side
+import formats
+
+CHUNK = 65536
+COUNT = 100_000
+SMALL = 256
+
+
+def lay_out(folder, count, size, seed):
+    """A store of so many chunks of a size; answers their bytes."""
+    chance = random.Random(seed)
+    os.makedirs(folder)
+    for _ in range(count):
+        piece = chance.randbytes(size)
+        formats.write_chunk(folder, formats.name_of(piece), piece)
+    return count * size
+
+
+def shell(what, text):
+    return side_by_side.Row(what, ['-c', text], command=shutil.which('sh'))
+
+
+def verify(what, store, at_most=None):
+    return side_by_side.Row(what, ['verify', '-s', store], at_most=at_most)
+
+
+def main():
+    options = side_by_side.arguments(__doc__, 512)
+    with side_by_side.work_folder() as folder:
+        size = lay_out(os.path.join(folder, 'large'), options.size * side_by_side.MIB // CHUNK, CHUNK, 3)
+        rows = [shell('openssl dgst of all files', 'find large -type f -print0 | xargs -0 openssl dgst -sha512-256'),
+                verify('verify', 'large', 1.6)]
+        side_by_side.measure(rows, folder, options.runs)
+        print(f'{size} bytes in {size // CHUNK} chunks; medians of {options.runs} runs')
+        side_by_side.print_table(rows, size)
+
+        size = lay_out(os.path.join(folder, 'many'), COUNT, SMALL, 4)
+        rows = [shell('find | sort', 'find many -type f | LC_ALL=C sort'), verify('verify', 'many')]
+        side_by_side.measure(rows, folder, options.runs)
+        print(f'{COUNT} chunk files of {SMALL} bytes; medians of {options.runs} runs')
+        side_by_side.print_table(rows, size)
+
+
+if __name__ == '__main__':
+    main()
