@@ -4,3 +4,4 @@ pub mod Said
 pub mod Gets
 pub mod Giving
 pub mod Folders
+pub mod MemStores

@@ -3,6 +3,7 @@
 
 pub mod id;
 pub mod laws;
+pub mod mem_store;
 pub mod path;
 pub mod range;
 pub mod shows;

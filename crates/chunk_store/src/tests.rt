@@ -1,9 +1,12 @@
-//! Ids by vectors of their digests.
+//! Ids by vectors of their digests, and a store in memory through the bounds of its traits.
 
 use crate::id::{ChunkId, DigestKind, NotHex};
+use crate::mem_store::MemStore;
 use crate::range::name_range;
-use dsy_base::fault::{Failed, raise};
+use crate::store::{GetFault, Store, StoreWrite};
+use dsy_base::fault::{Failed, IoFault, raise};
 use dsy_base::view::View;
+use std::process::Abort;
 use std::test::Fail;
 
 // From FIPS 180-4's examples and another program.
@@ -128,4 +131,32 @@ fn ids_are_one_where_all_their_bytes_are(rt: HostRuntime) {
         other[place] = 8;
         assert!(rt; !id.is(&ChunkId(other)));
     }
+}
+
+// Puts chunks into an empty store, through the bound alone.
+fn chunks_are_held_under_their_ids<S: StoreWrite, R: Abort>(
+    rt: &R,
+    mut s: S,
+) -> Result<(), IoFault> {
+    let (one, other) = (ChunkId([1; 32]), ChunkId([2; 32]));
+    let mut out = [9; 4];
+    assert_eq!(rt; s.has(&one), Ok(false));
+    assert_eq!(rt; s.get(&one, &mut out), Err(GetFault::Missing));
+    s.put(&one, b"abcde")?;
+    assert_eq!(rt; s.get(&one, &mut out), Err(GetFault::Longer));
+    s.put(&one, b"abc")?;
+    s.put(&other, b"")?;
+    assert_eq!(rt; s.has(&one), Ok(true));
+    assert_eq!(rt; s.get(&one, &mut out), Ok(3));
+    assert_eq!(rt; out, *b"abc\x09");
+    assert_eq!(rt; s.get(&other, &mut out), Ok(0));
+    assert_eq!(rt; s.has(&ChunkId([3; 32])), Ok(false));
+    Ok(())
+}
+
+#[test]
+fn memory_holds_what_was_put_last(rt: HostRuntime) -> Result<(), Fail> {
+    let alloc = rt.alloc();
+    chunks_are_held_under_their_ids(&rt, MemStore::new(alloc))?;
+    Ok(())
 }
