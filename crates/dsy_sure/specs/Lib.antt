@@ -1,0 +1,2 @@
+pub mod SureSinks
+pub mod SureFiles

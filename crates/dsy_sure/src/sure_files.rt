@@ -1,0 +1,331 @@
+//! Files and folders in memory by their names, whose calls never fail.
+
+ghost use Rattle.std.specs.Prelude.{◌≡◌, ◌≢◌, ℕ, List, [], None, Some, IsSome, IfOk, OnOk, OnErr, unwrap_or};
+ghost use Rattle.std.specs.Option.{option_map};
+ghost use Rattle.dsy_base.specs.Counts.{Counted};
+ghost use Rattle.dsy_base.specs.Files.{OpenGives, FoundThere};
+ghost use Rattle.dsy_base.specs.Maps.{at_name};
+ghost use Rattle.dsy_base.specs.Slots.{held_in};
+ghost use Rattle.dsy_forms.specs.Trees.{map_of};
+ghost use Rattle.dsy_sure.specs.SureFiles.{files_in, folders_in, files_of, folders_of, zeros_in};
+
+use crate::sure_folder::{SureFolder, SureLook};
+use crate::sure_target::SureTarget;
+use crate::sure_view::SureView;
+use dsy_base::fault::{IoFault, Memory, OpenFault};
+use dsy_base::files::Files;
+use dsy_base::name::Name;
+use dsy_base::slots::{Slots, claim, put_back, take_out};
+use std::alloc::{AllocError, Global};
+use std::collections::BTreeMap;
+
+/// Files and folders in memory by their names.
+#[derive(Drop)]
+pub struct SureFiles {
+    alloc: Global,
+    files: Slots<Vec<u8>>,
+    folders: Slots<SureFolder>,
+}
+
+impl SureFiles {
+    pub fn new(alloc: Global) -> SureFiles
+        ensures files { (q : List ℕ) → files_of result q ≡ None }
+        ensures folders { (q : List ℕ) → folders_of result q ≡ None }
+        ensures counts { (q : List ℕ) → zeros_in result.files q ≡ None }
+        ensures folder_counts { (q : List ℕ) → zeros_in result.folders q ≡ None }
+    {
+        SureFiles {
+            alloc,
+            files: BTreeMap::new(alloc),
+            folders: BTreeMap::new(alloc),
+        }
+    }
+
+    /// Puts a file under the name.
+    pub fn set_file(&mut self, name: &str, bytes: Vec<u8>) -> Result<(), Memory>
+        ensures ok { OnOk result (files_of self.new
+            ≡ at_name (files_of self.old) name.now (Some bytes.items)) }
+        ensures err { OnErr result (files_of self.new ≡ files_of self.old) }
+        ensures folders { folders_of self.new ≡ folders_of self.old }
+        ensures counts { Counted (zeros_in self.old.files) (zeros_in self.new.files) name.now }
+        ensures folder_counts { zeros_in self.new.folders ≡ zeros_in self.old.folders }
+    {
+        if claim(self.alloc, &mut self.files, name).is_err() {
+            return Err(Memory);
+        }
+        put_file(&mut self.files, name, bytes);
+        Ok(())
+    }
+
+    /// Puts a folder under the name.
+    pub fn set_folder(&mut self, name: &str, f: SureFolder) -> Result<(), Memory>
+        ensures ok { OnOk result (folders_of self.new
+            ≡ at_name (folders_of self.old) name.now (Some (map_of f.files))) }
+        ensures err { OnErr result (folders_of self.new ≡ folders_of self.old) }
+        ensures files { files_of self.new ≡ files_of self.old }
+        ensures counts { zeros_in self.new.files ≡ zeros_in self.old.files }
+        ensures folder_counts { Counted (zeros_in self.old.folders) (zeros_in self.new.folders) name.now }
+    {
+        if claim(self.alloc, &mut self.folders, name).is_err() {
+            return Err(Memory);
+        }
+        put_folder(&mut self.folders, name, f);
+        Ok(())
+    }
+
+    /// The bytes of the file of this name.
+    pub fn file(&self, name: &str) -> Option<&[u8]>
+        ensures { option_map (λ b. b.now) result ≡ files_of self.now name.now }
+    {
+        match &self.files.get(name)?.held {
+            Some(bytes) => Some(bytes.as_slice()),
+            None => None,
+        }
+    }
+
+    /// The folder of this name.
+    pub fn folder(&self, name: &str) -> Option<&SureFolder>
+        ensures { option_map (λ f. map_of f.now.files) result ≡ folders_of self.now name.now }
+    {
+        match &self.folders.get(name)?.held {
+            Some(folder) => Some(folder),
+            None => None,
+        }
+    }
+}
+
+impl Files for SureFiles {
+    type View = SureView;
+
+    type Target = SureTarget;
+
+    type Look = SureLook;
+
+    type Folder = SureFolder;
+
+    ghost use Rattle.std.specs.Prelude.{Some, true, refl};
+    ghost use Rattle.std.proofs.Common.{rules};
+    ghost use Rattle.dsy_sure.specs.SureFiles.{disk_of};
+
+    ghost disk = { disk_of };
+
+    ghost tells = { true };
+
+    ghost never_fails = { true };
+
+    fn view(&mut self, name: &str) -> Result<SureView, OpenFault> {
+        make_room(self.alloc, &mut self.files, name)?;
+        let Ok(place) = Name::of(self.alloc, name) else {
+            return Err(OpenFault::Memory);
+        };
+        match copy_of(self.alloc, &self.files, name) {
+            Err(_) => Err(OpenFault::Memory),
+            Ok(None) => Err(OpenFault::Absent),
+            Ok(Some(bytes)) => Ok(SureView::of(place, bytes)),
+        }
+    }
+
+    fn end_view(&mut self, v: SureView) {
+        drop(v);
+    }
+
+    fn take(&mut self, name: &str, fresh: bool) -> Result<SureTarget, IoFault> {
+        make_room(self.alloc, &mut self.files, name)?;
+        let Ok(place) = Name::of(self.alloc, name) else {
+            return Err(IoFault::Memory);
+        };
+        let bytes = take_file(self.alloc, &mut self.files, name);
+        if fresh {
+            return Ok(SureTarget::of(place, Vec::new(self.alloc)));
+        }
+        Ok(SureTarget::of(place, bytes))
+    }
+
+    fn give(&mut self, name: &str, t: SureTarget) {
+        put_file(&mut self.files, name, t.into_bytes());
+    }
+
+    fn replace(&mut self, name: &str, b: &[u8]) -> Result<(), IoFault> {
+        make_room(self.alloc, &mut self.files, name)?;
+        let Ok(bytes) = Vec::from_slice(self.alloc, b) else {
+            return Err(IoFault::Memory);
+        };
+        put_file(&mut self.files, name, bytes);
+        Ok(())
+    }
+
+    fn rename(&mut self, from: &str, to: &str) -> Result<(), OpenFault> {
+        make_room(self.alloc, &mut self.files, to)?;
+        rename_file(&mut self.files, from, to)
+    }
+
+    fn remove(&mut self, name: &str) -> Result<(), OpenFault> {
+        make_room(self.alloc, &mut self.files, name)?;
+        remove_file(&mut self.files, name)
+    }
+
+    fn look(&mut self, name: &str) -> Result<SureLook, OpenFault> {
+        make_room(self.alloc, &mut self.folders, name)?;
+        let Ok(place) = Name::of(self.alloc, name) else {
+            return Err(OpenFault::Memory);
+        };
+        look_at(&self.folders, name, place)
+    }
+
+    fn end_look(&mut self, l: SureLook) {
+        drop(l);
+    }
+
+    fn take_folder(&mut self, name: &str) -> Result<SureFolder, OpenFault> {
+        make_room(self.alloc, &mut self.folders, name)?;
+        let Ok(place) = Name::of(self.alloc, name) else {
+            return Err(OpenFault::Memory);
+        };
+        match take_folder_out(&mut self.folders, name) {
+            Some(folder) => Ok(folder.taken(place)),
+            None => Err(OpenFault::Absent),
+        }
+    }
+
+    fn give_folder(&mut self, name: &str, d: SureFolder) {
+        put_folder(&mut self.folders, name, d);
+    }
+
+    ghost told = { λ _. (refl, refl) };
+
+    ghost sure = { Prim.search rules };
+
+    ghost alike = { (λ _. (refl, refl, refl, refl), λ _. (refl, refl, refl, refl)) };
+
+    ghost unnamed = { (refl, refl, refl) };
+}
+
+// Makes room for the name. Its only fault is want of memory.
+fn make_room<V: Drop>(alloc: Global, slots: &mut Slots<V>, name: &str) -> Result<(), IoFault>
+    ensures kept { (q : List ℕ) → held_in slots.new q ≡ held_in slots.old q }
+    ensures counts { Counted (zeros_in slots.old) (zeros_in slots.new) name.now }
+    ensures known { OnOk result (IsSome (zeros_in slots.new name.now)) }
+    ensures only { result ≢ Err IoFault.Failed }
+{
+    match claim(alloc, slots, name) {
+        Ok(()) => Ok(()),
+        Err(_) => Err(IoFault::Memory),
+    }
+}
+
+// Takes out a file, which is empty where there is none.
+fn take_file(alloc: Global, files: &mut Slots<Vec<u8>>, name: &str) -> Vec<u8>
+    ensures bytes { result.items ≡ unwrap_or (files_in files.old name.now) [] }
+    ensures files { (q : List ℕ) → files_in files.new q ≡ at_name (files_in files.old) name.now None q }
+    ensures counts { (q : List ℕ) → zeros_in files.new q ≡ zeros_in files.old q }
+{
+    take_out(files, name).unwrap_or(Vec::new(alloc))
+}
+
+// Puts a file under the name.
+fn put_file(files: &mut Slots<Vec<u8>>, name: &str, bytes: Vec<u8>)
+    requires { IsSome (zeros_in files.old name.now) }
+    ensures files { (q : List ℕ) → files_in files.new q
+        ≡ at_name (files_in files.old) name.now (Some bytes.items) q }
+    ensures counts { (q : List ℕ) → zeros_in files.new q ≡ zeros_in files.old q }
+{
+    put_back(files, name, bytes);
+}
+
+// Takes out the file under the name.
+fn take_file_out(files: &mut Slots<Vec<u8>>, name: &str) -> Option<Vec<u8>>
+    ensures value { option_map (λ f. f.items) result ≡ files_in files.old name.now }
+    ensures files { (q : List ℕ) → files_in files.new q ≡ at_name (files_in files.old) name.now None q }
+    ensures counts { (q : List ℕ) → zeros_in files.new q ≡ zeros_in files.old q }
+{
+    take_out(files, name)
+}
+
+// Puts the file that stands under `from` under `to`.
+#[tactic(auto, using(dsy_forms::proofs::Updates::at_absent, dsy_forms::proofs::Updates::at_renamed))]
+fn rename_file(files: &mut Slots<Vec<u8>>, from: &str, to: &str) -> Result<(), OpenFault>
+    requires apart { from.now ≢ to.now }
+    requires known { IsSome (zeros_in files.old to.now) }
+    ensures found { FoundThere (files_in files.old from.now) result }
+    ensures ok { OnOk result ((q : List ℕ) → files_in files.new q
+        ≡ at_name (at_name (files_in files.old) to.now (files_in files.old from.now)) from.now None q) }
+    ensures err { OnErr result ((q : List ℕ) → files_in files.new q ≡ files_in files.old q) }
+    ensures counts { (q : List ℕ) → zeros_in files.new q ≡ zeros_in files.old q }
+    ensures only { OnErr result (result ≡ Err OpenFault.Absent) }
+{
+    match take_file_out(files, from) {
+        Some(bytes) => {
+            put_file(files, to, bytes);
+            Ok(())
+        }
+        None => Err(OpenFault::Absent),
+    }
+}
+
+// Takes out the file under the name, for good.
+#[tactic(auto, using(dsy_forms::proofs::Updates::at_absent))]
+fn remove_file(files: &mut Slots<Vec<u8>>, name: &str) -> Result<(), OpenFault>
+    ensures found { FoundThere (files_in files.old name.now) result }
+    ensures ok { OnOk result ((q : List ℕ) → files_in files.new q
+        ≡ at_name (files_in files.old) name.now None q) }
+    ensures err { OnErr result ((q : List ℕ) → files_in files.new q ≡ files_in files.old q) }
+    ensures counts { (q : List ℕ) → zeros_in files.new q ≡ zeros_in files.old q }
+    ensures only { OnErr result (result ≡ Err OpenFault.Absent) }
+{
+    match take_file_out(files, name) {
+        Some(_) => Ok(()),
+        None => Err(OpenFault::Absent),
+    }
+}
+
+// Puts a folder under the name.
+fn put_folder(folders: &mut Slots<SureFolder>, name: &str, folder: SureFolder)
+    requires { IsSome (zeros_in folders.old name.now) }
+    ensures folders { (q : List ℕ) → folders_in folders.new q
+        ≡ at_name (folders_in folders.old) name.now (Some (map_of folder.files)) q }
+    ensures counts { (q : List ℕ) → zeros_in folders.new q ≡ zeros_in folders.old q }
+{
+    put_back(folders, name, folder);
+}
+
+// Takes out the folder under the name.
+fn take_folder_out(folders: &mut Slots<SureFolder>, name: &str) -> Option<SureFolder>
+    ensures value { option_map (λ f. map_of f.files) result ≡ folders_in folders.old name.now }
+    ensures folders { (q : List ℕ) → folders_in folders.new q
+        ≡ at_name (folders_in folders.old) name.now None q }
+    ensures counts { (q : List ℕ) → zeros_in folders.new q ≡ zeros_in folders.old q }
+{
+    take_out(folders, name)
+}
+
+// A copy of a file's bytes.
+fn copy_of(alloc: Global, files: &Slots<Vec<u8>>, name: &str) -> Result<Option<Vec<u8>>, AllocError>
+    ensures { IfOk result (λ o. option_map (λ b. b.items) o ≡ files_in files.now name.now) }
+{
+    let Some(slot) = files.get(name) else {
+        return Ok(None);
+    };
+    match &slot.held {
+        Some(bytes) => Ok(Some(Vec::from_slice(alloc, bytes)?)),
+        None => Ok(None),
+    }
+}
+
+// A look at the folder under the name.
+fn look_at(folders: &Slots<SureFolder>, name: &str, place: Name) -> Result<SureLook, OpenFault>
+    ensures found { OpenGives (folders_in folders.now name.now)
+        (λ l f. map_of l.folder.files ≡ f) result }
+    ensures named { IfOk result (λ l. l.folder.name ≡ place) }
+    ensures only { result ≢ Err OpenFault.Failed }
+{
+    let Some(slot) = folders.get(name) else {
+        return Err(OpenFault::Absent);
+    };
+    match &slot.held {
+        Some(folder) => match folder.look(place) {
+            Ok(look) => Ok(look),
+            Err(_) => Err(OpenFault::Memory),
+        },
+        None => Err(OpenFault::Absent),
+    }
+}
