@@ -7,3 +7,5 @@ pub mod Ends
 pub mod Trailers
 pub mod Spelled
 pub mod Ahead
+pub mod Targets
+pub mod Judged

@@ -1,12 +1,12 @@
 //! Which body follows a head by its header lines (RFC 9112, sections 6.1 to 6.3).
 
 ghost use Rattle.std.specs.Prelude.{◌≡◌, ℕ, ◌≤◌, length, map, All};
-ghost use Rattle.std.specs.Str.{str_eq_ignore_ascii_case};
 ghost use Rattle.httparse.specs.Spans.{header_bytes, IsHeaderWithin};
 ghost use Rattle.http_wire.specs.Reply.{agreed, by_coding, coded, length_in, note, notes, unframed};
 
 use crate::body::BodyKind;
 use crate::fault::WireFault;
+use crate::words::is_word;
 use httparse::spans::HeaderSpan;
 
 /// How many digits a `Content-Length` may have. More could pass the range of 64 bits.
@@ -37,13 +37,6 @@ pub enum ContentLength {
 pub struct Framing {
     pub coding: Coding,
     pub told: ContentLength,
-}
-
-// Whether the words are the same but for the case of their letters.
-fn is_word(bytes: &[u8], word: &[u8]) -> bool
-    ensures { result ≡ str_eq_ignore_ascii_case bytes.now word.now }
-{
-    bytes.eq_ignore_ascii_case(word)
 }
 
 // The number that digits write, at least one and not too many.

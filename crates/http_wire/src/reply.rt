@@ -12,7 +12,7 @@ use httparse::Status;
 use httparse::spans::{EMPTY_HEADER_SPAN, parse_response};
 
 /// How many header lines a head may have.
-const FIELD_LIMIT: usize = 64;
+pub(crate) const FIELD_LIMIT: usize = 64;
 
 /// The methods of asks (RFC 9110, section 9.3).
 #[derive(Clone, Copy, Debug, PartialEq, Eq)]

@@ -1,4 +1,5 @@
-//! Asks by their bytes, and replies in pieces of each size, whole, cut short and misspelled.
+//! Asks and replies by their bytes; bodies of replies in pieces of each size, whole, cut short and misspelled; and heads
+//! of requests.
 
 ghost use Rattle.std.specs.Prelude.{◌<◌};
 
@@ -8,7 +9,12 @@ use crate::fault::WireFault;
 use crate::head::head_end;
 use crate::reader::BodyReader;
 use crate::reply::{Method, ReplyHead, read_reply};
+use crate::reply_text::write_reply;
+use crate::request::{Act, Request, read_request};
+use crate::target::id_in;
+use chunk_store::id::ChunkId;
 use dsy_forms::mem_sink::MemSink;
+use std::alloc::{AllocError, Global};
 use std::test::Fail;
 
 const CHUNKED: &[u8] =
@@ -264,5 +270,162 @@ fn asks(rt: HostRuntime) -> Result<(), Fail> {
     let put =
         b"PUT /a HTTP/1.1\r\nHost: h\r\nAccept-Encoding: identity\r\nConnection: close\r\nContent-Length: 3\r\n\r\n";
     assert_eq!(rt; out.taken(), put.as_slice());
+    Ok(())
+}
+
+// The id of the bytes "abc" (FIPS 180-4, the example of SHA-512/256).
+const ABC: ChunkId = ChunkId([
+    0x53, 0x04, 0x8e, 0x26, 0x81, 0x94, 0x1e, 0xf9, 0x9b, 0x2e, 0x29, 0xb7, 0x6b, 0x4c, 0x7d, 0xab,
+    0xe4, 0xc2, 0xd0, 0xc6, 0x34, 0xfc, 0x6d, 0x46, 0xe0, 0xe2, 0xf1, 0x31, 0x07, 0xe7, 0xaf, 0x23,
+]);
+
+const TARGETS: [(&[u8], Option<ChunkId>); 8] = [
+    (
+        b"/5304/53048e2681941ef99b2e29b76b4c7dabe4c2d0c634fc6d46e0e2f13107e7af23",
+        Some(ABC),
+    ),
+    (
+        b"/5304/53048E2681941EF99B2E29B76B4C7DABE4C2D0C634FC6D46E0E2F13107E7AF23",
+        Some(ABC),
+    ),
+    (
+        b"/5305/53048e2681941ef99b2e29b76b4c7dabe4c2d0c634fc6d46e0e2f13107e7af23",
+        None,
+    ),
+    (
+        b"15304/53048e2681941ef99b2e29b76b4c7dabe4c2d0c634fc6d46e0e2f13107e7af23",
+        None,
+    ),
+    (
+        b"/5304153048e2681941ef99b2e29b76b4c7dabe4c2d0c634fc6d46e0e2f13107e7af23",
+        None,
+    ),
+    (
+        b"/5304/53048e2681941ef99b2e29b76b4c7dabe4c2d0c634fc6d46e0e2f13107e7af230",
+        None,
+    ),
+    (
+        b"/5304/53048e2681941ef99b2e29b76b4c7dabe4c2d0c634fc6d46e0e2f13107e7af2",
+        None,
+    ),
+    (b"/", None),
+];
+
+#[test]
+fn targets_that_are_paths(rt: HostRuntime) {
+    for (target, id) in TARGETS {
+        assert_eq!(rt; id_in(target), id);
+    }
+}
+
+const REFUSED: [(&[u8], u16, u64); 10] = [
+    (b"GET /x HTTP/1.1\r\n\r\nx", 400, 0),
+    (b"GET /x HTTP/2\r\n\r\n", 400, 0),
+    (
+        b"POST /x HTTP/1.1\r\nTransfer-Encoding: chunked\r\n\r\n",
+        405,
+        0,
+    ),
+    (b"get /x HTTP/1.1\r\n\r\n", 405, 0),
+    (
+        b"GET /x HTTP/1.1\r\nTransfer-Encoding: gzip\r\nContent-Length: x\r\n\r\n",
+        411,
+        0,
+    ),
+    (b"GET /x HTTP/1.1\r\nContent-Length: 1\r\n\r\n", 400, 0),
+    (b"HEAD /x HTTP/1.1\r\nContent-Length: +0\r\n\r\n", 400, 0),
+    (
+        b"PUT /x HTTP/1.1\r\nContent-Length: 3\r\nContent-Length: 4\r\n\r\n",
+        400,
+        0,
+    ),
+    (b"PUT /x HTTP/1.1\r\n\r\n", 411, 0),
+    (
+        b"PUT /x HTTP/1.1\r\nContent-Length: 67108865\r\n\r\n",
+        413,
+        67_108_865,
+    ),
+];
+
+#[test]
+fn requests_refused(rt: HostRuntime) {
+    for (head, status, body) in REFUSED {
+        let request = read_request(head, true);
+        assert_eq!(rt; request.act, Act::Refuse(status));
+        assert!(rt; request.close);
+        assert_eq!(rt; request.body, body);
+    }
+}
+
+const CLOSES: [(&[u8], bool); 7] = [
+    (b"GET /x HTTP/1.1\r\n\r\n", false),
+    (b"GET /x HTTP/1.0\r\n\r\n", true),
+    (b"GET /x HTTP/1.1\r\nConnection: close\r\n\r\n", true),
+    (b"GET /x HTTP/1.1\r\nConnection: keep-alive\r\n\r\n", false),
+    (
+        b"GET /x HTTP/1.1\r\nCONNECTION: Upgrade ,\tClose , x\r\n\r\n",
+        true,
+    ),
+    (
+        b"GET /x HTTP/1.1\r\nConnection: closed, c lose\r\n\r\n",
+        false,
+    ),
+    (
+        b"GET /x HTTP/1.1\r\nConnection: x\r\nConnection: close\r\n\r\n",
+        true,
+    ),
+];
+
+#[test]
+fn requests_that_close(rt: HostRuntime) {
+    for (head, close) in CLOSES {
+        let request = read_request(head, false);
+        assert_eq!(rt; request.act, Act::Lost);
+        assert_eq!(rt; request.close, close);
+    }
+}
+
+// A head of so many header lines.
+fn head_of(alloc: Global, lines: usize) -> Result<String, AllocError> {
+    let mut head = String::from_str(alloc, "GET /x HTTP/1.1\r\n")?;
+    for _ in 0..lines {
+        head.push_str("a: b\r\n")?;
+    }
+    head.push_str("\r\n")?;
+    Ok(head)
+}
+
+#[test]
+fn requests_taken(rt: HostRuntime) -> Result<(), Fail> {
+    let get =
+        b"GET /5304/53048e2681941ef99b2e29b76b4c7dabe4c2d0c634fc6d46e0e2f13107e7af23 HTTP/1.1\r\nHost: h\r\n\r\n";
+    assert_eq!(rt; read_request(get, false).act, Act::Get(ABC));
+    let head =
+        b"HEAD /5304/53048e2681941ef99b2e29b76b4c7dabe4c2d0c634fc6d46e0e2f13107e7af23 HTTP/1.1\r\nContent-Length: 0\r\n\r\n";
+    assert_eq!(rt; read_request(head, false).act, Act::Head(ABC));
+    let put =
+        b"PUT /5304/53048e2681941ef99b2e29b76b4c7dabe4c2d0c634fc6d46e0e2f13107e7af23 HTTP/1.1\r\nContent-Length: 67108864\r\n\r\n";
+    let taken = Request {
+        act: Act::Put(ABC),
+        close: false,
+        body: 67_108_864,
+    };
+    assert_eq!(rt; read_request(put, true), taken);
+    assert_eq!(rt; read_request(put, false).act, Act::Refuse(405));
+    let most = head_of(rt.alloc(), 64)?;
+    assert_eq!(rt; read_request(most.as_bytes(), false).act, Act::Lost);
+    let more = head_of(rt.alloc(), 65)?;
+    assert_eq!(rt; read_request(more.as_bytes(), false).act, Act::Refuse(400));
+    Ok(())
+}
+
+#[test]
+fn heads_of_own_replies(rt: HostRuntime) -> Result<(), Fail> {
+    let mut out = MemSink::new(rt.alloc(), Vec::new(rt.alloc()));
+    assert_eq!(rt; write_reply(rt.alloc(), 200, 3, false, &mut out), Ok(()));
+    assert_eq!(rt; write_reply(rt.alloc(), 405, 0, true, &mut out), Ok(()));
+    let replies =
+        b"HTTP/1.1 200 OK\r\nContent-Length: 3\r\n\r\nHTTP/1.1 405 Method Not Allowed\r\nContent-Length: 0\r\nConnection: close\r\n\r\n";
+    assert_eq!(rt; out.taken(), replies.as_slice());
     Ok(())
 }

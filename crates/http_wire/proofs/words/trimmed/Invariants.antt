@@ -1,0 +1,23 @@
+use Rattle.std.proofs.Common.{◌≡◌, ◌-◌, ◌≤◌, length, reverse, slice_range}
+use Rattle.httparse.specs.Grammar.{skip_ows, trim_ows}
+use Rattle.http_wire.proofs.words.trimmed.Given as goal
+
+-- the blanks so far are those at the front, and then those at the end
+abbrev pub invariant-loop-start : goal.invariant-loop-start
+invariant-loop-start l = record {
+  ordered : l.start ≤ l.end;
+  rest : skip_ows l.word ≡ skip_ows (slice_range l.word l.start l.end);
+}
+
+abbrev pub decreases-loop-start : goal.decreases-loop-start
+decreases-loop-start l = l.end - l.start
+
+abbrev pub invariant-loop-end : goal.invariant-loop-end
+invariant-loop-end l = record {
+  ordered : l.start ≤ l.end;
+  inside : l.end ≤ length l.word;
+  rest : trim_ows l.word ≡ reverse (skip_ows (reverse (slice_range l.word l.start l.end)));
+}
+
+abbrev pub decreases-loop-end : goal.decreases-loop-end
+decreases-loop-end l = l.end - l.start
