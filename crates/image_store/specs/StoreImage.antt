@@ -70,4 +70,5 @@ AsksOf s told old new = (new ≡ old) ⊎ ((l : Listing) × Lists s told l × As
 
 -- of each id of the index whose file these bytes are, the store has shown or taken bytes of that name
 abbrev pub SaysOf : Sizes → Option (List ℕ) → List ℕ → Said → Type 0
-SaysOf s told bytes said = (l : Listing) × Lists s told l × (bytes ≡ file_of l) × SaysAll l (count_of l) said
+SaysOf s told bytes said = (l : Listing) × Lists s told l × (bytes ≡ file_of l) × IsIndexFile bytes l
+    × SaysAll l (count_of l) said
