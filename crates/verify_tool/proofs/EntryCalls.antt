@@ -1,5 +1,5 @@
 -- What a call for the chunk of an entry does, by what the cache and the stores behind it have done.
-use Rattle.std.proofs.Common.{◌≡◌, ◌⊎◌, ℕ, ◌<◌, List, map, take, Bool, Option, Some, None, IfSome, IsTrue, Result, Ok, Err, refl, sym, subst, ap, ◌∙◌, inl, inr}
+use Rattle.std.proofs.Common.{◌≡◌, ◌⊎◌, ℕ, ◌<◌, List, map, take, Bool, Option, Some, None, IfSome, IsTrue, Result, Ok, Err, sym, subst, ap, ◌∙◌, inl, inr}
 use Rattle.cache_store.proofs.Stocked.{stocks_same}
 use Rattle.cache_store.specs.Shelves.{Shelf, held_on, shelf_of}
 use Rattle.cache_store.specs.Through.{Behind, FromShelf, FromStores}
@@ -18,7 +18,7 @@ use Rattle.store_chain.specs.declared.refused.Refused.{Refused}
 use Rattle.store_chain.specs.declared.refused.Refused.TheVariants as refused
 use Rattle.store_chain.specs.declared.want.Want.{Want}
 use Rattle.verify_tool.proofs.Holding.{any_at, of_wanted, wanted_of}
-use Rattle.verify_tool.specs.Filling.{FillEnds, GivesEntry, IsGivenBy, MayFill, entry_want, fill_fault_of}
+use Rattle.verify_tool.specs.Filling.{FillEnds, GivesEntry, IsGivenBy, MayFill, RefusesEntry, entry_want, fill_fault_of}
 
 -- what is asked for, by the kind and the size that the index tells
 pub want_is : (l : Listing) (i : ℕ) (id : ChunkId) (kind : DigestKind) (n room : ℕ) → kind ≡ kind_of l → n ≡ size_of l i → want_of kind id (Some n) room ≡ entry_want l i id
@@ -63,31 +63,24 @@ module _ {F S : Type 0} (files : F → Option (Map (List ℕ))) (place_of : F �
     abbrev Told : Refused → Type 0
     Told r = FillEnds holds folder place said faults lacks_memory l s0 s1 old.chain.stores new.chain.stores (Err (fill_fault_of i id r))
 
+    refused_at : (r : Refused) → FromStores files place_of faults_of holds said faults lacks_memory asked queried (entry_want l i id) old new (Err r) out
+        → RefusesEntry holds folder place said faults lacks_memory l i id r s0 s1 old.chain.stores new.chain.stores
+    refused_at r h = record {
+      listed = inside;
+      id_is = is_id;
+      shelf = s0;
+      before = old.chain.stores;
+      filled = stocks_same (MayFill holds l old.chain.stores) s0;
+      until = kept_still holds folder place said faults old.chain.stores;
+      unfound = unfound_of (held_on s0) h.unfound;
+      kept = h.added;
+      refused = h.absent;
+      lacks = h.first;
+    }
+
     pub call_refused : (r : Refused) → Ends (entry_want l i id) (Err r) → Told r
     call_refused r (inl h) = subst Told (sym h.answer) tt
-    call_refused refused.Missing (inr h) = record {
-      listed = inside;
-      id_is = is_id;
-      shelf = s0;
-      before = old.chain.stores;
-      filled = stocks_same (MayFill holds l old.chain.stores) s0;
-      until = kept_still holds folder place said faults old.chain.stores;
-      unfound = unfound_of (held_on s0) h.unfound;
-      kept = h.added;
-      refused = h.absent;
-      lacks = h.first;
-    }
-    call_refused (refused.Damaged s x) (inr h) = record {
-      listed = inside;
-      id_is = is_id;
-      shelf = s0;
-      before = old.chain.stores;
-      filled = stocks_same (MayFill holds l old.chain.stores) s0;
-      until = kept_still holds folder place said faults old.chain.stores;
-      unfound = unfound_of (held_on s0) h.unfound;
-      kept = h.added;
-      refused = h.absent;
-      lacks = h.first;
-    }
-    call_refused (refused.StoreFault s) (inr h) = h.cause s refl
+    call_refused refused.Missing (inr h) = refused_at refused.Missing h
+    call_refused (refused.Damaged s x) (inr h) = refused_at (refused.Damaged s x) h
+    call_refused (refused.StoreFault s) (inr h) = (i, id, refused_at (refused.StoreFault s) h)
     call_refused refused.Memory (inr h) = tt

@@ -1,5 +1,5 @@
 -- Filling a cache entry by entry: what the calls for the first entries have come to, and how a refusal ends them.
-use Rattle.std.proofs.Common.{◌≡◌, ◌⊎◌, ℕ, ◌+◌, ◌<◌, ◌≤◌, List, map, slice_index, Bool, Option, Some, None, IfSome, Err, refl, sym, subst, ◌∙◌, inl, inr, arith, below_more}
+use Rattle.std.proofs.Common.{◌≡◌, ◌⊎◌, ℕ, zero, suc, ◌+◌, ◌<◌, ◌≤◌, List, [], ◌∷◌, map, slice_index, Bool, Option, Some, None, IfSome, Err, refl, sym, subst, ◌∙◌, inl, inr, arith, below_more}
 use Rattle.std.specs.List.{AllZip}
 use Rattle.cache_store.proofs.Stocked.{stocks_on, stocks_same, stocks_weaker}
 use Rattle.cache_store.specs.Giving.{SomeGives}
@@ -16,8 +16,10 @@ use Rattle.store_chain.proofs.Pairs.{all_zip_same}
 use Rattle.store_chain.specs.Chains.{AsksOnce, Chained, EachOnce, KeepsStores}
 use Rattle.store_chain.specs.Faults.{EachQuiet}
 use Rattle.store_chain.specs.Giving.{LacksAll}
+use Rattle.store_chain.specs.Refusals.{Refuses}
 use Rattle.store_chain.specs.declared.refused.Refused.{Refused}
 use Rattle.store_chain.specs.declared.refused.Refused.TheVariants as refused
+use Rattle.store_chain.specs.declared.want.Want.{Want}
 use Rattle.verify_tool.proofs.Asked.{each_then, each_weaker}
 use Rattle.verify_tool.proofs.Holding.{damaged_never, each_within, gave_entry, holds_more, holds_none, holds_still, missing_never, not_at_first, quiet_within, rose_never, takes_earlier, told_still}
 use Rattle.verify_tool.specs.Filling.{AsksEntries, EntryUnfound, FillEnds, FillsBy, GivesEntry, HoldsTo, IsGivenBy, EndsAtEntry, FillUnfailed, RefusesEntry, SparesStores, MayFill, entry_want, filled_to}
@@ -28,6 +30,13 @@ use Rattle.verify_tool.specs.declared.fill.FillFault.TheVariants as faults
 rose_wide : (a b c e : ℕ) → a ≤ b → c ≤ e → Rose b c → Rose a e
 rose_wide a b c e ab ce (inl up) = inl (omega (arith, up))
 rose_wide a b c e ab ce (inr top) = inr (omega (arith, top))
+
+-- the first store that failed has counted it
+first_rose : {S : Type 0} (said : S → Said) (faults : S → ℕ) (lacks_memory : Bool) (w : Want) (k : ℕ) (old new : List S) → Refuses said faults lacks_memory w old new (refused.StoreFault k) → Rose (slice_index (map faults old) k) (slice_index (map faults new) k)
+first_rose said faults lacks_memory w k [] new h = absurd h
+first_rose said faults lacks_memory w k (a ∷ old) [] h = absurd h
+first_rose said faults lacks_memory w zero (a ∷ old) (b ∷ new) h = h.0
+first_rose said faults lacks_memory w (suc k) (a ∷ old) (b ∷ new) h = first_rose said faults lacks_memory w k old new h.1
 
 -- ---- how often the stores are asked
 
@@ -219,9 +228,7 @@ module _ {S : Type 0} (holds folder : S → Option (Map (List ℕ))) (place : S 
         → FillEnds holds folder place said store_faults lacks_memory l s0 t c0.stores d.stores (Err fault)
     turn_ends (faults.Missing k id) h = refuses k id refused.Missing h
     turn_ends (faults.Damaged k id s x) h = refuses k id (refused.Damaged s x) h
-    turn_ends (faults.StoreFault k) h =
-        rose_wide (slice_index (map store_faults c0.stores) k) (slice_index (map store_faults c.stores) k) (slice_index (map store_faults d.stores) k) (slice_index (map store_faults d.stores) k)
-        (before.stores.never_fall k) (omega arith) h
+    turn_ends (faults.StoreFault k) h = (h.0, h.1, refuses h.0 h.1 (refused.StoreFault k) h.2)
     turn_ends faults.CacheFault h = rose_wide s0.faults s.faults t.faults t.faults before.stocks.never_falls (omega arith) h
     turn_ends faults.Memory h = tt
 
@@ -249,6 +256,9 @@ module _ {S : Type 0} (holds folder : S → Option (Map (List ℕ))) (place : S 
     turn_exactly (faults.Damaged k id x y) at h m maps nothing =
         (lost_here m maps nothing k id (refused.Damaged x y) at h (damaged_never l k id h.id_is x y maps), subst (λ (n : ℕ). (j : ℕ) → j < n → IsGivenBy l m maps j) (sym at) (given_before m maps nothing))
     turn_exactly (faults.StoreFault k) at h m maps nothing =
-        rose_never (slice_index (map store_faults c0.stores) k) (slice_index (map store_faults d.stores) k) (nothing.stores k) h
+        let first = h.2 in
+        rose_never (slice_index (map store_faults c0.stores) k) (slice_index (map store_faults d.stores) k) (nothing.stores k)
+        (rose_wide (slice_index (map store_faults c0.stores) k) (slice_index (map store_faults first.before) k) (slice_index (map store_faults d.stores) k) (slice_index (map store_faults d.stores) k)
+        (first.until.never_fall k) (omega arith) (first_rose said store_faults lacks_memory (entry_want l h.0 h.1) k first.before d.stores first.refused))
     turn_exactly faults.CacheFault at h m maps nothing = rose_never s0.faults t.faults nothing.shelf h
     turn_exactly faults.Memory at h m maps nothing = tt

@@ -1,6 +1,6 @@
 -- What filling a cache by an index may answer, and what it does to the cache. l lists the chunks, `holds` gives what a
 -- store holds. s0 and s1 are the cache's shelf before and afterwards, c0 and c1 the stores.
-use Rattle.std.specs.Prelude.{◌≡◌, ◌⊎◌, ℕ, ◌+◌, ◌<◌, ◌≤◌, List, ◌∷◌, length, map, Bool, Option, Some, IfSome, Result, Ok, Err, slice_index}
+use Rattle.std.specs.Prelude.{◌≡◌, ◌⊎◌, ℕ, ◌+◌, ◌<◌, ◌≤◌, List, ◌∷◌, length, map, Bool, Option, Some, IfSome, Result, Ok, Err}
 use Rattle.std.specs.List.{AllZip}
 use Rattle.cache_store.specs.Giving.{GiveOneSize, SomeGives, SomeHolds}
 use Rattle.cache_store.specs.Shelves.{Shelf, Stocks, held_on}
@@ -119,13 +119,13 @@ module _ {S : Type 0} (holds folder : S → Option (Map (List ℕ))) (place : S 
     pub refused : Refuses said store_faults lacks_memory (entry_want l k id) before c1 r
     pub lacks : (maps : List (Map (List ℕ))) → map holds c0 ≡ map Some maps → LacksAll (entry_want l k id) maps r
 
-  -- how filling may end: a chunk was refused, a store failed, or the cache
+  -- how filling may end: the chunk of an entry was refused, or the cache failed
   abbrev pub FillEnds : Shelf → Shelf → List S → List S → Result Unit FillFault → Type 0
   FillEnds s0 s1 c0 c1 (Ok u) = Unit {0}
   FillEnds s0 s1 c0 c1 (Err (faults.Missing k id)) = RefusesEntry k id refused.Missing s0 s1 c0 c1
   FillEnds s0 s1 c0 c1 (Err (faults.Damaged k id s x)) = RefusesEntry k id (refused.Damaged s x) s0 s1 c0 c1
   FillEnds s0 s1 c0 c1 (Err (faults.StoreFault s)) =
-      Rose (slice_index (map store_faults c0) s) (slice_index (map store_faults c1) s)
+      (k : ℕ) × (id : ChunkId) × RefusesEntry k id (refused.StoreFault s) s0 s1 c0 c1
   FillEnds s0 s1 c0 c1 (Err faults.CacheFault) = Rose s0.faults s1.faults
   FillEnds s0 s1 c0 c1 (Err faults.Memory) = Unit {0}
 
