@@ -1,6 +1,6 @@
 -- What a store sends to its server: the head of an ask, and after that of a PUT the chunk. Which paths there are is this
 -- project's own.
-use Rattle.std.specs.Prelude.{◌≡◌, ℕ, ◌≤◌, List, [], ◌++◌, length, take, Some, None, codes}
+use Rattle.std.specs.Prelude.{◌≡◌, ℕ, ◌≤◌, List, [], ◌∷◌, ◌++◌, length, take, Some, None, codes}
 use Rattle.chunk_store.specs.Paths.{path_of}
 use Rattle.http_wire.specs.Ask.{ask}
 use Rattle.http_wire.specs.declared.reply.Method.{Method}
@@ -34,3 +34,7 @@ asks_put s id b = asks s method.Put id b
 -- a front of these bytes was sent
 abbrev pub IsFront : List ℕ → List ℕ → Type 0
 IsFront b sent = (n : ℕ) × (n ≤ length b) × (sent ≡ take n b)
+
+-- the server as one list of numbers, which is what is seen of the place of its store
+abbrev pub place_of : Server → List ℕ
+place_of s = s.port ∷ length s.host ∷ s.host ++ s.prefix

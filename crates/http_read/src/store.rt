@@ -245,7 +245,8 @@ impl<D: Dial> HttpStore<D> {
 }
 
 impl<D: Dial> Store for HttpStore<D> {
-    ghost use Rattle.std.specs.Prelude.{[], None, false, true};
+    ghost use Rattle.http_read.specs.Asks.{place_of};
+    ghost use Rattle.std.specs.Prelude.{None, false, true};
     ghost use Rattle.std.proofs.Common.{rules};
     ghost use Rattle.http_read.specs.Remotes.{faults_of, log_of, said_on};
 
@@ -259,7 +260,7 @@ impl<D: Dial> Store for HttpStore<D> {
 
     ghost faults = { λ s. faults_of (log_of D.state s) };
 
-    ghost place = { λ _. [] };
+    ghost place = { λ s. place_of s.server };
 
     ghost tells = { false };
 
