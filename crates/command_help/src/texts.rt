@@ -7,40 +7,41 @@ pub const VERSION: &str = "desync 0.1.0 (rattle-kit-13f)\n";
 pub const HELP: &str = "\
 desync keeps images as chunks in a store, and an index of each image.
 
-  desync make -s FOLDER [-m MIN:AVG:MAX] [-n WORKERS] INDEX IMAGE
+  desync make -s STORE [-m MIN:AVG:MAX] [-n WORKERS] INDEX IMAGE
       cut an image into chunks, store them and write its index
-  desync extract [-k] -s FOLDER.. [-c CACHE] [--seed INDEX..] [-n WORKERS]
+  desync extract [-k] -s STORE.. [-c CACHE] [--seed INDEX..] [-n WORKERS]
       INDEX OUT
       make a file the image that an index lists
   desync verify-index [-n WORKERS] INDEX IMAGE
       check that a file is the image that an index lists
-  desync chop -s FOLDER [-n WORKERS] INDEX IMAGE
+  desync chop -s STORE [-n WORKERS] INDEX IMAGE
       put the chunks of an image that an index lists into a store
-  desync cache -s FOLDER.. -c CACHE [-n WORKERS] INDEX..
+  desync cache -s STORE.. -c CACHE [-n WORKERS] INDEX..
       copy the chunks that indexes list from stores into a cache
   desync list-chunks INDEX
       print the id of each chunk that an index lists
-  desync info [-s FOLDER..] INDEX
+  desync info [-s STORE..] INDEX
       print how many chunks an index lists, their sizes, and how many are there
   desync verify -s FOLDER [-r] [-n WORKERS]
       print which chunks of a store are damaged, or remove them
   desync prune -s FOLDER -y INDEX..
       remove the chunks of a store that no index lists
 
-Options and names may be mixed; `--` ends options. MIN, AVG and MAX are sizes
-in KiB. These commands are read and not built yet: chunk-server, demo.
+Options and names may be mixed; `--` ends options. STORE is a folder or an http
+URL; MIN, AVG and MAX are sizes in KiB. These commands are read and not built
+yet: chunk-server, demo.
 
 `desync COMMAND --help` tells more of a command, `desync --version` the version.
 ";
 
 /// The text of `make --help`.
 pub const MAKE: &str = "\
-usage: desync make -s FOLDER [-m MIN:AVG:MAX] [-n WORKERS] INDEX IMAGE
+usage: desync make -s STORE [-m MIN:AVG:MAX] [-n WORKERS] INDEX IMAGE
 
 Cuts IMAGE into chunks, puts each into the store and writes the file INDEX,
 which lists them. What the store holds already is left where it is right.
 
-  -s, --store FOLDER            the store: the folder that takes the chunks
+  -s, --store STORE             a folder, or an http URL, that takes the chunks
   -m, --chunk-size MIN:AVG:MAX  sizes of chunks in KiB, 16:64:256 if not given;
                                 the last chunk may be smaller than MIN
   -n, --concurrency WORKERS     1 to 32 workers; for now one does all
@@ -50,7 +51,7 @@ example: desync make -s chunks disk.caibx disk.img
 
 /// The text of `extract --help`.
 pub const EXTRACT: &str = "\
-usage: desync extract [-k] -s FOLDER.. [-c CACHE] [--seed INDEX..] [-n WORKERS]
+usage: desync extract [-k] -s STORE.. [-c CACHE] [--seed INDEX..] [-n WORKERS]
                       INDEX OUT
 
 Makes the file OUT the image that INDEX lists: by way of a temporary file,
@@ -58,7 +59,8 @@ OUT.tmp-desync, which takes OUT's name once it is right; or with -k in place,
 and what OUT holds already is kept where it is right.
 
   -k, --in-place                write OUT in place
-  -s, --store FOLDER            a store of chunks; 1 to 16, asked in order
+  -s, --store STORE             a folder of chunks, or an http URL where they
+                                lie; 1 to 16, asked in order
   -c, --cache CACHE             a folder of chunks that is asked before the
                                 stores, and takes what they give
       --seed INDEX              another image's index, X.caibx, whose image is
@@ -82,12 +84,12 @@ example: desync verify-index disk.caibx disk.img
 
 /// The text of `chop --help`.
 pub const CHOP: &str = "\
-usage: desync chop -s FOLDER [-n WORKERS] INDEX IMAGE
+usage: desync chop -s STORE [-n WORKERS] INDEX IMAGE
 
 Puts the chunks of IMAGE that INDEX lists into the store, up to the first that
 isn't IMAGE's. What the store holds already is left where it is right.
 
-  -s, --store FOLDER            the store: the folder that takes the chunks
+  -s, --store STORE             a folder, or an http URL, that takes the chunks
   -n, --concurrency WORKERS     1 to 32 workers; for now one does all
 
 example: desync chop -s chunks disk.caibx disk.img
@@ -95,13 +97,14 @@ example: desync chop -s chunks disk.caibx disk.img
 
 /// The text of `cache --help`.
 pub const CACHE: &str = "\
-usage: desync cache -s FOLDER.. -c CACHE [-n WORKERS] INDEX..
+usage: desync cache -s STORE.. -c CACHE [-n WORKERS] INDEX..
 
 Copies the chunks that each INDEX lists from the stores into a cache, index by
 index, up to the first that no store gives. What the cache holds already is left
 where it is right.
 
-  -s, --store FOLDER            a store; 1 to 16, asked in order
+  -s, --store STORE             a folder of chunks, or an http URL where they
+                                lie; 1 to 16, asked in order
   -c, --cache CACHE             the folder that takes the chunks
   -n, --concurrency WORKERS     1 to 32 workers; for now one does all
 
@@ -120,13 +123,14 @@ example: desync list-chunks disk.caibx
 
 /// The text of `info --help`.
 pub const INFO: &str = "\
-usage: desync info [-s FOLDER..] INDEX
+usage: desync info [-s STORE..] INDEX
 
 Prints a line of JSON: the average, greatest and least size of chunks and the
 size of the image, in bytes, and the numbers of chunks in all, of different ones
 and, where stores are given, of those that some store has.
 
-  -s, --store FOLDER            a store of chunks; 0 to 16, asked in order
+  -s, --store STORE             a folder of chunks, or an http URL where they
+                                lie; 0 to 16, asked in order
 
 example: desync info -s chunks disk.caibx
 ";

@@ -4,7 +4,8 @@ use Rattle.std.specs.Map.{count_at}
 use Rattle.cache_store.specs.Shelves.{Shelf}
 use Rattle.command_outcome.specs.declared.outcome.Outcome.{Outcome}
 use Rattle.command_outcome.specs.declared.outcome.Outcome.TheVariants as ends
-use Rattle.command_steps.proofs.Numbers.{counted_known, counted_le, rose_longer}
+use Rattle.command_steps.proofs.Numbers.{rose_longer}
+use Rattle.command_steps.proofs.Taken.{adds_none, gives_adds}
 use Rattle.command_steps.specs.Cache.{CacheGiven, CacheOpened, folders_with}
 use Rattle.command_steps.specs.Stores.{NotReached}
 use Rattle.command_steps.specs.Worlds.{Adds, Reads}
@@ -47,16 +48,8 @@ given_folders None d e h = ap (λ (x : Disk). x.folders) h
 given_folders (Some s) d e h = h.0
 
 pub given_adds : (o : Option Shelf) (d e : Disk) → CacheGiven o d e → Adds d e
-given_adds None d e h = subst (Adds d) (sym h) (record { files = refl; counts = λ q. omega arith; folder_counts = λ q. omega arith; known = λ q is. is; folder_known = λ q is. is })
-given_adds (Some s) d e h =
-    let g = h.1 in
-    record {
-      files = g.files;
-      counts = λ q. let same = ap (λ (m : Map ℕ). count_at m q) g.counts in omega (arith, same);
-      folder_counts = λ q. counted_le d.folder_counts e.folder_counts s.place g.folder_counts.counted q;
-      known = λ q is. subst (λ (m : Map ℕ). IsSome (m q)) (sym g.counts) is;
-      folder_known = λ q is. counted_known d.folder_counts e.folder_counts s.place g.folder_counts.counted q is;
-    }
+given_adds None d e h = subst (Adds d) (sym h) (adds_none d)
+given_adds (Some s) d e h = gives_adds d e s.place s.faults h.1
 
 pub given_files : (o : Option Shelf) (d e : Disk) → CacheGiven o d e → e.file_counts ≡ d.file_counts
 given_files None d e h = ap (λ (x : Disk). x.file_counts) h

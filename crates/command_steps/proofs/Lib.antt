@@ -1,6 +1,11 @@
 pub mod Numbers
 pub mod Lent
 pub mod Opened
+pub mod OpenedSources
+pub mod Dialed
+pub mod Consulted
+pub mod Given
+pub mod Taken
 pub mod Cached
 pub mod Texts
 pub mod Fair

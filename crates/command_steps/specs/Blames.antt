@@ -1,9 +1,15 @@
 -- What holds of each command over the world before it and after it: what it spares, and whose fault it tells.
-use Rattle.std.specs.Prelude.{◌≡◌, ◌⊎◌, ℕ, Bool, IsTrue, List, slice_index_or, []}
+use Rattle.std.specs.Prelude.{◌≡◌, ◌⊎◌, ℕ, Bool, IsSomeAnd, IsTrue, List, slice_index_or, []}
+use Rattle.std.specs.List.{Any}
+use Rattle.command_line.specs.declared.command.Location.{Location}
+use Rattle.command_line.specs.declared.command.Location.TheVariants as locations
 use Rattle.command_outcome.specs.declared.outcome.Outcome.{Outcome}
 use Rattle.command_outcome.specs.declared.outcome.Outcome.TheVariants as ends
+use Rattle.command_steps.specs.Dials.{since}
+use Rattle.command_steps.specs.Sources.{StoreRose, server_at, sources_of, store_at}
 use Rattle.command_steps.specs.Worlds.{FileRose, FolderRose, World}
 use Rattle.dsy_base.specs.Counts.{Rose}
+use Rattle.http_read.specs.Refusals.{IsUnacceptable}
 
 -- what no outcome of a command changes
 pub record Spares : Type 0 where
@@ -18,10 +24,10 @@ pub record Keeps (s : Spares) (w v : World) : Type 0 where
   pub dial : IsTrue s.dial → v.dial ≡ w.dial
   pub out : IsTrue s.out → v.out.taken ≡ w.out.taken
 
--- whose files and folders a command's faults are of, where the outcome doesn't name them
+-- whose files, folders and servers a command's faults are of, where the outcome doesn't name them
 pub record Parts : Type 0 where
   pub image : List ℕ
-  pub stores : List (List ℕ)
+  pub stores : List Location
   pub target : List ℕ
   pub cache : List ℕ
 
@@ -32,7 +38,7 @@ name_at names k = slice_index_or names k []
 -- the fault that is told has raised its count
 abbrev pub Blames : Parts → Outcome → World → World → Type 0
 Blames x ends.ImageFault w v = FileRose w.disk v.disk x.image
-Blames x (ends.StoreFault s) w v = FolderRose w.disk v.disk (name_at x.stores s)
+Blames x (ends.StoreFault s) w v = StoreRose (sources_of w) (sources_of v) (store_at x.stores s)
 Blames x ends.TargetFault w v = FileRose w.disk v.disk x.target
 Blames x ends.CacheFault w v = FolderRose w.disk v.disk x.cache
 Blames x (ends.FileFault name) w v = FileRose w.disk v.disk name ⊎ FolderRose w.disk v.disk name
@@ -48,3 +54,9 @@ NothingFailed ends.TargetFault = ⊥
 NothingFailed ends.CacheFault = ⊥
 NothingFailed ends.OutFault = ⊥
 NothingFailed other = Unit {0}
+
+-- each reply that a server has given since was taken, where it is one. Where connections aren't told this isn't known
+abbrev pub RepliesTaken : World → World → Location → Type 0
+RepliesTaken w v (locations.Folder q) = Unit {0}
+RepliesTaken w v (locations.Http host port prefix) = IsSomeAnd (since w.dial.ended v.dial.ended)
+    (λ ended. Any (IsUnacceptable (server_at host port prefix)) ended → ⊥)

@@ -2,8 +2,11 @@ pub mod Worlds
 pub mod Steps
 pub mod Openings
 pub mod Printing
-pub mod Blames
-pub mod AnyStores
 pub mod Stores
+pub mod Dials
+pub mod Sources
+pub mod AnySources
+pub mod Taking
+pub mod Blames
 pub mod Cache
 pub mod Seeds

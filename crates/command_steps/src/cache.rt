@@ -1,6 +1,6 @@
 //! The cache of a command: its folder is taken to be written, and given back.
 
-ghost use Rattle.std.specs.Prelude.{◌≡◌, Ok, Err, IfSome, IfOk, IfErr, OnOk, IsSome};
+ghost use Rattle.std.specs.Prelude.{◌≡◌, Ok, Err, Some, IfSome, IfOk, IfErr, OnOk, IsSome};
 ghost use Rattle.std.specs.Option.{option_map};
 ghost use Rattle.cache_store.specs.Shelves.{shelf_of};
 ghost use Rattle.chunk_store.specs.declared.id.DigestKind.TheVariants as kinds;
@@ -13,6 +13,35 @@ use command_outcome::outcome::Outcome;
 use dsy_base::files::Files;
 use dsy_base::name::Name;
 use std::alloc::Global;
+
+/// Takes the folder of this name as a cache.
+pub fn take_shelf<F: Files>(
+    alloc: Global,
+    files: &mut F,
+    name: &str,
+) -> Result<CacheShelf<F::Folder>, Outcome>
+    ensures ok { IfOk result (λ s. CacheOpened (Some name.now) (F.disk files.old) (Ok tt) (with_cache
+        (Some (shelf_of F.Folder.files F.Folder.place F.Folder.faults s)) (F.disk files.new))) }
+    ensures named { IfOk result (λ s. F.Folder.place s.folder ≡ name.now) }
+    ensures fresh { IfOk result (λ s. (F.Folder.faults s.folder ≡ 0) × (s.kind ≡ kinds.Sha512T256)) }
+    ensures known { OnOk result (IsSome ((F.disk files.new).folder_counts name.now)) }
+    ensures err { IfErr result (λ o. CacheOpened (Some name.now) (F.disk files.old) (Err o) (F.disk files.new)) }
+{
+    match files.take_folder(name) {
+        Ok(folder) => Ok(CacheShelf::new(folder)),
+        Err(fault) => Err(not_reached(alloc, name, fault)),
+    }
+}
+
+/// Gives the folder of a cache back.
+pub fn give_shelf<F: Files>(files: &mut F, name: &str, shelf: CacheShelf<F::Folder>)
+    requires named { F.Folder.place shelf.folder ≡ name.now }
+    requires known { IsSome ((F.disk files.old).folder_counts name.now) }
+    ensures given { CacheGiven (Some (shelf_of F.Folder.files F.Folder.place F.Folder.faults shelf))
+        (F.disk files.old) (F.disk files.new) }
+{
+    files.give_folder(name, shelf.into_inner())
+}
 
 /// Takes the folder of a cache, where there is one.
 pub fn take_cache<F: Files>(
@@ -30,10 +59,8 @@ pub fn take_cache<F: Files>(
     let Some(name) = cache else {
         return Ok(None);
     };
-    match files.take_folder(name.as_str()) {
-        Ok(folder) => Ok(Some(CacheShelf::new(folder))),
-        Err(fault) => Err(not_reached(alloc, name.as_str(), fault)),
-    }
+    let shelf = take_shelf(alloc, files, name.as_str())?;
+    Ok(Some(shelf))
 }
 
 /// Gives the folder of a cache back, where there is one.
@@ -53,5 +80,5 @@ pub fn give_cache<F: Files>(
     let Some(name) = cache else {
         return;
     };
-    files.give_folder(name.as_str(), shelf.into_inner())
+    give_shelf(files, name.as_str(), shelf)
 }

@@ -1,9 +1,11 @@
 //! The steps that commands share. Each gives what the next ones need, or the outcome that ends the command.
 #![tactic(auto)]
 
-pub mod any_store;
+pub mod any_source;
 pub mod cache;
 pub mod openings;
 pub mod printing;
 pub mod seeds;
-pub mod stores;
+pub mod sources;
+mod stores;
+pub mod taking;

@@ -24,7 +24,9 @@ use Rattle.store_chain.specs.Giving.{LacksAll}
 use Rattle.store_chain.specs.declared.refused.Refused.{Refused}
 use Rattle.store_chain.specs.declared.refused.Refused.TheVariants as refused
 use Rattle.desync_cli.proofs.Seeded.{given_had, had_given}
-use Rattle.desync_cli.specs.Extract.{Assembled, CacheLacksEntry, CanBeHad, Into, IsLacking, Leaves, SeedHas, Seeds, StopsFailed, StopsSomewhere, Told, Undisturbed, answer_of_assembly, answer_of_taking, base_of, folder_of, old_of}
+use Rattle.command_line.specs.declared.command.Location.{Location}
+use Rattle.command_steps.specs.Sources.{Sources, told_at}
+use Rattle.desync_cli.specs.Extract.{Assembled, CacheLacksEntry, CanBeHad, HaveLacked, Into, IsLacking, Leaves, SeedHas, Seeds, StopsFailed, StopsSomewhere, Told, Undisturbed, WhereFolders, answer_of_assembly, answer_of_taking, base_of, folder_of, old_of}
 use Rattle.command_steps.specs.Seeds.{IsViewed}
 use Rattle.command_steps.specs.Worlds.{DiskQuiet, FileRose}
 
@@ -115,32 +117,36 @@ abbrev pub TargetAs : Type 0 → ExtractFault → Type 0
 TargetAs P faults.TargetFault = P
 TargetAs P other = Unit {0}
 
-module _ (d e : Disk) (names : List (List ℕ)) (cache : Option (List ℕ)) (out : Into) (l : Listing) (x : Seeds) where
+module _ (w v : Sources) (stores : List Location) (cache : Option (List ℕ)) (out : Into) (l : Listing) (x : Seeds) where
+  abbrev d : Disk
+  d = w.disk
+
+  abbrev e : Disk
+  e = v.disk
+
   -- where all is told
   pub record Facts (r : Result Report ExtractFault) (b : Map (List ℕ)) (n : Map (Map (List ℕ))) (a : Map (List ℕ)) : Type 0 where
-    pub fs : List (Map (List ℕ))
-    pub there : map n names ≡ map Some fs
     pub cs : List (Map (List ℕ))
     pub cached : map n (folder_of cache) ≡ map Some cs
     pub t : List ℕ
     pub leaves : Leaves b a out t
     pub assembles : Assembles l (FileRose d e out.name) r (old_of b out) t
-    pub lacks : IfErr r (LostAs (IsLacking d e b cache out l x fs))
-    pub verdict : Undisturbed d e cache l cs fs → Verdict l (CanBeHad l (base_of b out l) b x (map chunks cs ++ map chunks fs)) r
-    pub settled : Undisturbed d e cache l cs fs → After l (CanBeHad l (base_of b out l) b x (map chunks cs ++ map chunks fs)) (base_of b out l) t r
+    pub lacks : IfErr r (LostAs (IsLacking w v b n cache out l x stores))
+    pub verdict : WhereFolders n stores (λ fs. Undisturbed d e cache l cs fs → Verdict l (CanBeHad l (base_of b out l) b x (map chunks cs ++ map chunks fs)) r)
+    pub settled : WhereFolders n stores (λ fs. Undisturbed d e cache l cs fs → After l (CanBeHad l (base_of b out l) b x (map chunks cs ++ map chunks fs)) (base_of b out l) t r)
 
   abbrev AllFacts : Result Report ExtractFault → Type 0
   AllFacts r = (b : Map (List ℕ)) (n : Map (Map (List ℕ))) (a : Map (List ℕ)) → d.files ≡ Some b → d.folders ≡ Some n → e.files ≡ Some a → Facts r b n a
 
-  told : (r : Result Report ExtractFault) (P : Map (List ℕ) → Map (List ℕ) → List (Map (List ℕ)) → List (Map (List ℕ)) → Type 0) → AllFacts r → ((b : Map (List ℕ)) (n : Map (Map (List ℕ))) (a : Map (List ℕ)) (f : Facts r b n a) → P b a f.cs f.fs) → Told d e names cache P
-  told r P facts p = over_told d.files d.folders e.files _ (λ b n a x y z. let f = facts b n a x y z in (f.fs, f.there, f.cs, f.cached, p b n a f))
+  told : (r : Result Report ExtractFault) (P : Map (List ℕ) → Map (List ℕ) → Map (Map (List ℕ)) → List (Map (List ℕ)) → Type 0) → AllFacts r → ((b : Map (List ℕ)) (n : Map (Map (List ℕ))) (a : Map (List ℕ)) (f : Facts r b n a) → P b a n f.cs) → Told d e cache P
+  told r P facts p = over_told d.files d.folders e.files _ (λ b n a x y z. let f = facts b n a x y z in (f.cs, f.cached, p b n a f))
 
   somewhere : (b a : Map (List ℕ)) (t : List ℕ) → Leaves b a out t → (t ≡ old_of b out) ⊎ KeepsBase l (FileRose d e out.name) (base_of b out l) t → StopsSomewhere d e b a out l
   somewhere b a t leaves (inl same) = inr (inl (subst (λ (s : List ℕ). Leaves b a out s) same leaves))
   somewhere b a t leaves (inr keeps) = inr (inr (t, (leaves, keeps)))
 
-  pub assembled : (r : Result Report ExtractFault) → AllFacts r → IfErr r (TargetAs (FileRose d e out.name)) → IfErr r (StoreAs (StopsFailed d e names l))
-      → Assembled d e names cache out l x (answer_of_assembly r)
+  pub assembled : (r : Result Report ExtractFault) → AllFacts r → IfErr r (TargetAs (FileRose d e out.name)) → IfErr r (StoreAs (StopsFailed w v stores l))
+      → Assembled w v stores cache out l x (answer_of_assembly r)
   assembled (Ok r) facts target store = told _ _ facts (λ b n a f. ((f.t, (f.leaves, f.assembles.1), f.assembles.0), f.verdict))
   assembled (Err (faults.Missing k id)) facts target store = told _ _ facts (λ b n a f. ((f.t, (f.leaves, f.assembles.0), f.assembles.1, f.settled), f.lacks, f.verdict))
   assembled (Err (faults.Damaged k id s y)) facts target store = told _ _ facts (λ b n a f. ((f.t, (f.leaves, f.assembles.0), f.assembles.1, f.settled), f.lacks, f.verdict))
@@ -149,81 +155,81 @@ module _ (d e : Disk) (names : List (List ℕ)) (cache : Option (List ℕ)) (out
   assembled (Err faults.Memory) facts target store = told _ _ facts (λ b n a f. somewhere b a f.t f.leaves f.assembles)
 
   -- where OUT wasn't taken all is as it was
-  pub stopped_before : (looks : List (Option (Map (List ℕ)))) (C : List (Map (List ℕ)) → Type 0) → IfSome d.folders (λ m. (fs : List (Map (List ℕ))) × (map m names ≡ map Some fs) × (looks ≡ map Some fs))
-      → IfSome d.folders (λ n. (cs : List (Map (List ℕ))) × (map n (folder_of cache) ≡ map Some cs) × C cs) → e.files ≡ d.files → Told d e names cache (λ b a cs fs. StopsSomewhere d e b a out l)
-  stopped_before looks C found cached same = over_told d.files d.folders e.files _ (λ b n a is y z.
-      let f : (fs : List (Map (List ℕ))) × (map n names ≡ map Some fs) × (looks ≡ map Some fs) = subst (λ o. IfSome o (λ m. (fs : List (Map (List ℕ))) × (map m names ≡ map Some fs) × (looks ≡ map Some fs))) y found in
+  pub stopped_before : (C : List (Map (List ℕ)) → Type 0) → IfSome d.folders (λ n. (cs : List (Map (List ℕ))) × (map n (folder_of cache) ≡ map Some cs) × C cs) → e.files ≡ d.files → Told d e cache (λ b a n cs. StopsSomewhere d e b a out l)
+  stopped_before C cached same = over_told d.files d.folders e.files _ (λ b n a is y z.
       let g : (cs : List (Map (List ℕ))) × (map n (folder_of cache) ≡ map Some cs) × C cs = subst (λ o. IfSome o (λ n. (cs : List (Map (List ℕ))) × (map n (folder_of cache) ≡ map Some cs) × C cs)) y cached in
       let kept : Some a ≡ Some b = sym z ∙ same ∙ is in
       let as_before : a ≡ b = cc in
-      (f.0, f.1, g.0, g.1, inl as_before))
+      (g.0, g.1, inl as_before))
 
-  pub not_taken_as : (fault : IoFault) → Told d e names cache (λ b a cs fs. StopsSomewhere d e b a out l) → (fault ≡ io.Failed → FileRose d e out.name) → Assembled d e names cache out l x (answer_of_taking fault)
+  pub not_taken_as : (fault : IoFault) → Told d e cache (λ b a n cs. StopsSomewhere d e b a out l) → (fault ≡ io.Failed → FileRose d e out.name) → Assembled w v stores cache out l x (answer_of_taking fault)
   not_taken_as io.Failed before rose = (rose refl, before)
   not_taken_as io.Memory before rose = before
 
   -- the same as `IsLacking`, over the bytes that OUT had
-  abbrev pub LackingOver : List ℕ → List (Map (List ℕ)) → ℕ → ChunkId → Refused → Type 0
-  LackingOver o fs k id r = (k < count_of l) × (id.0 ≡ id_of l k) × LacksAll (chunk_of (kind_of l) id (size_of l k)) (map chunks fs) r
+  abbrev pub LackingOver : Map (Map (List ℕ)) → List ℕ → ℕ → ChunkId → Refused → Type 0
+  LackingOver n o k id r = (k < count_of l) × (id.0 ≡ id_of l k) × HaveLacked (chunk_of (kind_of l) id (size_of l k)) w v stores r
+      × WhereFolders n stores (λ fs. LacksAll (chunk_of (kind_of l) id (size_of l k)) (map chunks fs) r)
       × (RightAlike l (resized o (image_length l)) k → FileRose d e out.name)
 
   -- a seed that has the chunk of entry k has failed, and the cache doesn't give it
   abbrev pub OthersLack : Map (List ℕ) → ℕ → ChunkId → Refused → Type 0
   OthersLack b k id r = ((s : ℕ) (h : SeedHas b x (id_of l k) (size_of l k) s) → FileRose d e h.image) × CacheLacksEntry d e cache l k
 
-  lacking : (b : Map (List ℕ)) (fs : List (Map (List ℕ))) (k : ℕ) (id : ChunkId) (r : Refused) → LackingOver (old_of b out) fs k id r → OthersLack b k id r → IsLacking d e b cache out l x fs k id r
-  lacking b fs k id r h others = record { listed = h.0; id_is = h.1; lacks = h.2; copies = h.3; seeds = others.0; uncached = others.1 }
+  lacking : (b : Map (List ℕ)) (n : Map (Map (List ℕ))) (k : ℕ) (id : ChunkId) (r : Refused) → LackingOver n (old_of b out) k id r → OthersLack b k id r → IsLacking w v b n cache out l x stores k id r
+  lacking b n k id r h others = record { listed = h.0; id_is = h.1; said = h.2; lacks = h.3; copies = h.4; seeds = others.0; uncached = others.1 }
 
   module _ (P : List (Map (List ℕ)) → List ℕ → ℕ → Type 0) (had : (b : Map (List ℕ)) → d.files ≡ Some b → (maps : List (Map (List ℕ))) (base : List ℕ) (i : ℕ) → i < count_of l → P maps base i → CanBeHad l base b x maps i)
       (back : (b : Map (List ℕ)) → d.files ≡ Some b → DiskQuiet d e → (maps : List (Map (List ℕ))) (base : List ℕ) (i : ℕ) → i < count_of l → CanBeHad l base b x maps i → P maps base i) where
     pub facts_of : (r : Result Report ExtractFault) (looks : List (Option (Map (List ℕ)))) (C : List (Map (List ℕ)) → Type 0) (t0 t1 : Option (List ℕ)) (F : Type 0) (N : List (Map (List ℕ)) → List (Map (List ℕ)) → Type 0)
-        → IfSome d.folders (λ m. (fs : List (Map (List ℕ))) × (map m names ≡ map Some fs) × (looks ≡ map Some fs))
+        → IfSome d.folders (λ m. looks ≡ map (told_at m) stores)
         → IfSome d.folders (λ n. (cs : List (Map (List ℕ))) × (map n (folder_of cache) ≡ map Some cs) × C cs)
         → IfSome d.files (λ m. t0 ≡ Some (old_of m out)) → is_some t0 ≡ is_some t1
         → e.files ≡ option_map (λ m. at_name m out.name t1) (option_map (λ m. at_name m out.name None) d.files)
         → (F → FileRose d e out.name)
         → WhereTold t0 t1 (Assembles l F r)
-        → ((fs : List (Map (List ℕ))) → looks ≡ map Some fs → IfSome t0 (λ o. IfErr r (LostAs (LackingOver o fs))))
+        → ((n : Map (Map (List ℕ))) → d.folders ≡ Some n → IfSome t0 (λ o. IfErr r (LostAs (LackingOver n o))))
         → ((b : Map (List ℕ)) → d.files ≡ Some b → IfErr r (LostAs (OthersLack b)))
         → ((cached maps : List (Map (List ℕ))) → N cached maps → IfSome t0 (λ o. Verdict l (P (cached ++ maps) (resized o (image_length l))) r))
         → ((cached maps : List (Map (List ℕ))) → N cached maps → WhereTold t0 t1 (λ o t. After l (P (cached ++ maps) (resized o (image_length l))) (resized o (image_length l)) t r))
-        → ((b : Map (List ℕ)) → d.files ≡ Some b → (fs : List (Map (List ℕ))) → looks ≡ map Some fs → (cs : List (Map (List ℕ))) → C cs → Undisturbed d e cache l cs fs → N (map chunks cs) (map chunks fs)) → AllFacts r
+        → ((b : Map (List ℕ)) → d.files ≡ Some b → (n : Map (Map (List ℕ))) (fs : List (Map (List ℕ))) → map (told_at n) stores ≡ map Some fs → looks ≡ map Some fs → (cs : List (Map (List ℕ))) → C cs → Undisturbed d e cache l cs fs → N (map chunks cs) (map chunks fs)) → AllFacts r
     facts_of r looks C t0 t1 F N found cached took told left rose bytes lacks lack exactly after quiet b n a is y z =
-        let f : (fs : List (Map (List ℕ))) × (map n names ≡ map Some fs) × (looks ≡ map Some fs) =
-        subst (λ o. IfSome o (λ m. (fs : List (Map (List ℕ))) × (map m names ≡ map Some fs) × (looks ≡ map Some fs))) y found in
+        let f : looks ≡ map (told_at n) stores = subst (λ o. IfSome o (λ m. looks ≡ map (told_at m) stores)) y found in
         let g : (cs : List (Map (List ℕ))) × (map n (folder_of cache) ≡ map Some cs) × C cs = subst (λ o. IfSome o (λ n. (cs : List (Map (List ℕ))) × (map n (folder_of cache) ≡ map Some cs) × C cs)) y cached in
         let o : t0 ≡ Some (old_of b out) = subst (λ o. IfSome o (λ m. t0 ≡ Some (old_of m out))) is took in
         let lf : e.files ≡ option_map (λ m. at_name m out.name t1) (option_map (λ m. at_name m out.name None) (Some b)) =
         subst (λ s. e.files ≡ option_map (λ m. at_name m out.name t1) (option_map (λ m. at_name m out.name None) s)) is left in
-        go (old_of b out) t0 t1 o (subst (λ s. is_some s ≡ is_some t1) o told) (sym z ∙ lf) f.0 f.1 g.0 g.1 bytes (lacks f.0 f.2) (λ k. exactly (map chunks g.0) (map chunks f.0) (quiet b is f.0 f.2 g.0 g.2 k)) (λ k. after (map chunks g.0) (map chunks f.0) (quiet b is f.0 f.2 g.0 g.2 k)) refl where
+        go (old_of b out) t0 t1 o (subst (λ s. is_some s ≡ is_some t1) o told) (sym z ∙ lf) g.0 g.1 bytes (lacks n y) (λ fs there k. exactly (map chunks g.0) (map chunks fs) (quiet b is n fs there (f ∙ there) g.0 g.2 k))
+        (λ fs there k. after (map chunks g.0) (map chunks fs) (quiet b is n fs there (f ∙ there) g.0 g.2 k)) refl where
           go : (old : List ℕ) (s0 s1 : Option (List ℕ)) → s0 ≡ Some old → true ≡ is_some s1 → Some a ≡ Some (at_name (at_name b out.name None) out.name s1)
-              → (fs : List (Map (List ℕ))) → map n names ≡ map Some fs → (cs : List (Map (List ℕ))) → map n (folder_of cache) ≡ map Some cs → WhereTold s0 s1 (Assembles l F r) → IfSome s0 (λ o. IfErr r (LostAs (LackingOver o fs)))
-              → (Undisturbed d e cache l cs fs → IfSome s0 (λ o. Verdict l (P (map chunks cs ++ map chunks fs) (resized o (image_length l))) r))
-              → (Undisturbed d e cache l cs fs → WhereTold s0 s1 (λ o t. After l (P (map chunks cs ++ map chunks fs) (resized o (image_length l))) (resized o (image_length l)) t r))
+              → (cs : List (Map (List ℕ))) → map n (folder_of cache) ≡ map Some cs → WhereTold s0 s1 (Assembles l F r) → IfSome s0 (λ o. IfErr r (LostAs (LackingOver n o)))
+              → WhereFolders n stores (λ fs. Undisturbed d e cache l cs fs → IfSome s0 (λ o. Verdict l (P (map chunks cs ++ map chunks fs) (resized o (image_length l))) r))
+              → WhereFolders n stores (λ fs. Undisturbed d e cache l cs fs → WhereTold s0 s1 (λ o t. After l (P (map chunks cs ++ map chunks fs) (resized o (image_length l))) (resized o (image_length l)) t r))
               → old ≡ old_of b out → Facts r b n a
-          go old None s1 same is_told are fs there cs shelf bs ls v w at = absurd (cc)
-          go old (Some o) None same is_told are fs there cs shelf bs ls v w at = absurd (cc)
-          go old (Some o) (Some t) same is_told are fs there cs shelf bs ls v w at =
+          go old None s1 same is_told are cs shelf bs ls verdict settled at = absurd (cc)
+          go old (Some o) None same is_told are cs shelf bs ls verdict settled at = absurd (cc)
+          go old (Some o) (Some t) same is_told are cs shelf bs ls verdict settled at =
               let was : o ≡ old_of b out = cc in
-              over o was bs ls v w where
-                over : (p : List ℕ) → p ≡ old_of b out → Assembles l F r p t → IfErr r (LostAs (LackingOver p fs))
-                    → (Undisturbed d e cache l cs fs → Verdict l (P (map chunks cs ++ map chunks fs) (resized p (image_length l))) r)
-                    → (Undisturbed d e cache l cs fs → After l (P (map chunks cs ++ map chunks fs) (resized p (image_length l))) (resized p (image_length l)) t r) → Facts r b n a
-                over p was bs ls v w =
-                    let maps = map chunks cs ++ map chunks fs in
+              over o was bs ls verdict settled where
+                over : (p : List ℕ) → p ≡ old_of b out → Assembles l F r p t → IfErr r (LostAs (LackingOver n p))
+                    → WhereFolders n stores (λ fs. Undisturbed d e cache l cs fs → Verdict l (P (map chunks cs ++ map chunks fs) (resized p (image_length l))) r)
+                    → WhereFolders n stores (λ fs. Undisturbed d e cache l cs fs → After l (P (map chunks cs ++ map chunks fs) (resized p (image_length l))) (resized p (image_length l)) t r) → Facts r b n a
+                over p was bs ls verdict settled =
                     record {
-                      fs = fs;
-                      there = there;
                       cs = cs;
                       cached = shelf;
                       t = t;
                       leaves = ap (λ o. unwrap_or o a) are ∙ at_name_twice b out.name None (Some t);
                       assembles = subst (λ (q : List ℕ). Assembles l (FileRose d e out.name) r q t) was (assembles_as l F (FileRose d e out.name) r p t rose bs);
-                      lacks = lost_both (LackingOver (old_of b out) fs) (OthersLack b) (IsLacking d e b cache out l x fs) (lacking b fs) r (subst (λ (q : List ℕ). IfErr r (LostAs (LackingOver q fs))) was ls) (lack b is);
-                      verdict = λ k. subst (λ (q : List ℕ). Verdict l (CanBeHad l (resized q (image_length l)) b x maps) r) was
+                      lacks = lost_both (LackingOver n (old_of b out)) (OthersLack b) (IsLacking w v b n cache out l x stores) (lacking b n) r (subst (λ (q : List ℕ). IfErr r (LostAs (LackingOver n q))) was ls) (lack b is);
+                      verdict = λ fs there k.
+                          let maps = map chunks cs ++ map chunks fs in
+                          subst (λ (q : List ℕ). Verdict l (CanBeHad l (resized q (image_length l)) b x maps) r) was
                           (verdict_as l (P maps (resized p (image_length l))) (CanBeHad l (resized p (image_length l)) b x maps) (had b is maps (resized p (image_length l)))
-                          (back b is k.0 maps (resized p (image_length l))) r (lost_both (LackingOver p fs) (OthersLack b) (λ i id y. i < count_of l) (λ i id y h c. h.0) r ls (lack b is)) (v k));
-                      settled = λ k. subst (λ (q : List ℕ). After l (CanBeHad l (resized q (image_length l)) b x maps) (resized q (image_length l)) t r) was
+                          (back b is k.0 maps (resized p (image_length l))) r (lost_both (LackingOver n p) (OthersLack b) (λ i id y. i < count_of l) (λ i id y h c. h.0) r ls (lack b is)) (verdict fs there k));
+                      settled = λ fs there k.
+                          let maps = map chunks cs ++ map chunks fs in
+                          subst (λ (q : List ℕ). After l (CanBeHad l (resized q (image_length l)) b x maps) (resized q (image_length l)) t r) was
                           (after_as l (P maps (resized p (image_length l))) (CanBeHad l (resized p (image_length l)) b x maps) (resized p (image_length l)) t (had b is maps (resized p (image_length l)))
-                          (back b is k.0 maps (resized p (image_length l))) r (w k));
+                          (back b is k.0 maps (resized p (image_length l))) r (settled fs there k));
                     }

@@ -10,7 +10,8 @@ use Rattle.store_chain.specs.declared.refused.HasFault.TheVariants as has
 use Rattle.chunk_store.specs.Folders.{chunks}
 use Rattle.dsy_base.specs.Maps.{Map}
 use Rattle.verify_tool.specs.Counts.{AsksBefore, FailsAtEntry, held_count}
-use Rattle.desync_cli.specs.Info.{IsCount}
+use Rattle.command_line.specs.declared.command.Location.{Location}
+use Rattle.command_steps.specs.Sources.{told_at}
 
 map_map : {A B C : Type 0} (g : B → C) (f : A → B) (xs : List A) → map (λ x. g (f x)) xs ≡ map g (map f xs)
 map_map g f [] = refl
@@ -24,33 +25,32 @@ some_chunks (f ∷ fs) = ap (λ l. Some (chunks f) ∷ l) (some_chunks fs)
 pub held_maps : {S : Type 0} (files : S → Option (Map (List ℕ))) (xs : List S) (fs : List (Map (List ℕ))) → map files xs ≡ map Some fs → map (λ s. option_map chunks (files s)) xs ≡ map Some (map chunks fs)
 held_maps files xs fs h = map_map (option_map chunks) files xs ∙ ap (map (option_map chunks)) h ∙ some_chunks fs
 
-pub counted_told : {S : Type 0} (folders : Option (Map (Map (List ℕ)))) (names : List (List ℕ)) (l : Listing) (files : S → Option (Map (List ℕ))) (xs : List S) (n : ℕ)
-    → IfSome folders (λ m. (fs : List (Map (List ℕ))) × (map m names ≡ map Some fs) × (map files xs ≡ map Some fs))
+-- the count is exact where the stores are folders that tell
+pub counted_told : {S : Type 0} (folders : Option (Map (Map (List ℕ)))) (stores : List Location) (l : Listing) (files : S → Option (Map (List ℕ))) (xs : List S) (n : ℕ)
+    → IfSome folders (λ m. map files xs ≡ map (told_at m) stores)
     → ((maps : List (Map (List ℕ))) → map (λ s. option_map chunks (files s)) xs ≡ map Some maps → n ≡ held_count l maps)
-    → IfSome folders (λ m. IsCount m names l n)
-counted_told None names l files xs n found value = tt
-counted_told (Some m) names l files xs n found value = record { stores = found.0; there = found.1; counts = value (map chunks found.0) (held_maps files xs found.0 found.2) }
+    → IfSome folders (λ m. (fs : List (Map (List ℕ))) → map (told_at m) stores ≡ map Some fs → n ≡ held_count l (map chunks fs))
+counted_told None stores l files xs n found value = tt
+counted_told (Some m) stores l files xs n found value = λ fs told. value (map chunks fs) (held_maps files xs fs (found ∙ told))
 
-pub all_there : {S : Type 0} (folders : Option (Map (Map (List ℕ)))) (names : List (List ℕ)) (files : S → Option (Map (List ℕ))) (xs : List S)
-    → IfSome folders (λ m. (fs : List (Map (List ℕ))) × (map m names ≡ map Some fs) × (map files xs ≡ map Some fs))
-    → IfSome folders (λ m. (fs : List (Map (List ℕ))) × (map m names ≡ map Some fs))
-all_there None names files xs found = tt
-all_there (Some m) names files xs found = (found.0, found.1)
+-- what stands of the files of stores stands still where no call has changed it
+pub held_after : {S : Type 0} (folders : Option (Map (Map (List ℕ)))) (stores : List Location) (files : S → Option (Map (List ℕ))) (before after : List S) → IfSome folders (λ m. map files before ≡ map (told_at m) stores) → map files after ≡ map files before
+    → IfSome folders (λ m. map files after ≡ map (told_at m) stores)
+held_after None stores files before after found kept = tt
+held_after (Some m) stores files before after found kept = kept ∙ found
 
--- from what the stores hold to what the folders' files are
-pub over_told : {S : Type 0} (o : Option (List ℕ)) (files : S → Option (Map (List ℕ))) (xs : List S) (P : List ℕ → List (Map (List ℕ)) → Type 0)
-    → IfSome o (λ a. (maps : List (Map (List ℕ))) → map (λ s. option_map chunks (files s)) xs ≡ map Some maps → P a maps)
-    → IfSome o (λ a. (fs : List (Map (List ℕ))) → map files xs ≡ map Some fs → P a (map chunks fs))
-over_told None files xs P h = tt
-over_told (Some a) files xs P h = λ fs told. h (map chunks fs) (held_maps files xs fs told)
+-- what was found of them stands of folders that were only read since
+pub found_still : {S : Type 0} (files : S → Option (Map (List ℕ))) (location : S → Location) (old new : Option (Map (Map (List ℕ)))) (stores : List Location) (xs : List S) → IfSome old (λ m. map files xs ≡ map (told_at m) stores) → map location xs ≡ stores → new ≡ old
+    → IfSome new (λ m. map files xs ≡ map (told_at m) (map location xs))
+found_still files location old new stores xs found located same =
+    subst (λ o. IfSome o (λ m. map files xs ≡ map (told_at m) (map location xs))) (sym same)
+    (subst (λ (names : List Location). IfSome old (λ m. map files xs ≡ map (told_at m) names)) (sym located) found)
 
--- so they hold still where a call has changed nothing of it
-pub there_after : {S : Type 0} (folders : Option (Map (Map (List ℕ)))) (names : List (List ℕ)) (files : S → Option (Map (List ℕ))) (before after : List S)
-    → IfSome folders (λ m. (fs : List (Map (List ℕ))) × (map m names ≡ map Some fs) × (map files before ≡ map Some fs))
-    → map (λ s. option_map chunks (files s)) after ≡ map (λ s. option_map chunks (files s)) before
-    → IfSome folders (λ m. (fs : List (Map (List ℕ))) × (map m names ≡ map Some fs) × (map (λ s. option_map chunks (files s)) after ≡ map Some (map chunks fs)))
-there_after None names files before after found held = tt
-there_after (Some m) names files before after found held = (found.0, found.1, held ∙ held_maps files before found.0 found.2)
+-- where the stores are folders, they hold the chunks of those
+pub held_where : {S : Type 0} (folders : Option (Map (Map (List ℕ)))) (stores : List Location) (files : S → Option (Map (List ℕ))) (xs : List S) → IfSome folders (λ m. map files xs ≡ map (told_at m) stores)
+    → IfSome folders (λ m. (fs : List (Map (List ℕ))) → map (told_at m) stores ≡ map Some fs → map (λ s. option_map chunks (files s)) xs ≡ map Some (map chunks fs))
+held_where None stores files xs found = tt
+held_where (Some m) stores files xs found = λ fs told. held_maps files xs fs (found ∙ told)
 
 -- a count that a store's fault ended: when the stores were asked for the id of an entry, that one was the first to fail
 pub record Ended {S : Type 0} (said : S → Said) (faults : S → ℕ) (l : Listing) (s : ℕ) (after : List S) : Type 0 where

@@ -16,7 +16,7 @@ use Rattle.desync_cli.proofs.Pruned.{pruned_to, verified_store}
 use Rattle.desync_cli.proofs.Verified.{verified}
 
 achieves : (c : Command) (w v : World) → is_some w.disk.files ≡ is_some w.disk.folders → Ends c w (Ok tt) v → Achieves c w v
-achieves (commands.Make store sizes workers index image) w v told h = made store sizes index image w v h
+achieves (commands.Make store sizes workers index image) w v told h = made store sizes index image w v told h
 achieves (commands.Extract stores seeds cache in_place workers index target) w v told h = extracted stores cache seeds in_place index target w v told h
 achieves (commands.VerifyIndex index image) w v told h = verified index image w v h
 achieves (commands.Chop store index image) w v told h = chopped store index image w v h

@@ -1,5 +1,6 @@
 -- What each command leaves, and what its refusals tell: a lemma for each step of its own, and a line a command.
-use Rattle.std.proofs.Common.{◌≤◌, ◌≡◌, ℕ, List, [], ◌∷◌, map, IfSome, Bool, IsTrue, is_some, not, true, false, Option, Some, None, Result, Ok, Err, refl, sym, subst, inl, inr, arith, cond}
+use Rattle.std.proofs.Common.{◌≡◌, ℕ, zero, suc, List, [], ◌∷◌, map, All, IfSome, IsSomeAnd, Bool, IsTrue, is_some, not, true, false, Option, Some, None, Result, Ok, Err, refl, sym, subst, inl, inr, arith, cond}
+use Rattle.std.specs.List.{Any}
 use Rattle.std.specs.Map.{count_at}
 use Rattle.buzhash_cut.specs.Sizes.{Sizes}
 use Rattle.caibx_codec.specs.Listing.{Listing, id_of}
@@ -8,47 +9,60 @@ use Rattle.command_help.specs.declared.help.Topic.TheVariants as topics
 use Rattle.command_line.specs.CommandLine.{command_line}
 use Rattle.command_line.specs.declared.command.Command.{Command}
 use Rattle.command_line.specs.declared.command.Command.TheVariants as commands
+use Rattle.command_line.specs.declared.command.Location.{Location}
+use Rattle.command_line.specs.declared.command.Location.TheVariants as locations
 use Rattle.command_line.specs.declared.usage.UsageWhy.{UsageWhy}
 use Rattle.command_line.specs.declared.usage.UsageWhy.TheVariants as whys
 use Rattle.command_line.specs.declared.usage.WordsFault.{WordsFault}
 use Rattle.command_outcome.specs.declared.outcome.Outcome.{Outcome}
 use Rattle.command_outcome.specs.declared.outcome.Outcome.TheVariants as ends
-use Rattle.command_steps.specs.Blames.{Blames, Keeps, NothingFailed, Parts, Spares, name_at}
+use Rattle.command_steps.specs.Blames.{Blames, Keeps, NothingFailed, Parts, RepliesTaken, Spares}
 use Rattle.command_steps.specs.Steps.{Passed, answer_of, outcome_of}
-use Rattle.command_steps.specs.Worlds.{DiskQuiet, FileRose, FolderRose, NoFault, Step, World}
-use Rattle.command_steps.proofs.Fair.{IsFair, IsLeft, IsRefusal, IsStep, Unread, adds, between, bound, cache_step, fair_longer, first_failed, first_fair, image_step, index_step, indexes_step, left_twice, not_read_fair, on_disk, on_out, opened_step, printed_step, pure_step, reads, round, taken_step, whole, writes}
+use Rattle.command_steps.specs.Worlds.{FileRose, FolderRose, NoFault, Step, World, Writes, world}
+use Rattle.command_steps.proofs.Dialed.{dials_same}
+use Rattle.command_steps.proofs.Fair.{IsFair, IsLeft, IsRefusal, IsStep, Unread, adds, behind, between, bound, consults, cache_step, fair_longer, image_step, index_step, indexes_step, left_twice, not_read_fair, on_disk, on_out, on_sources, printed_step, pure_step, reads, round, source_failed, source_taken_step, sources_fair, sources_step, taken_step, whole, writes, unread_fair}
 use Rattle.command_steps.proofs.Numbers.{rose_not_quiet}
-use Rattle.desync_cli.specs.Caching.{IndexesFilled, FillTells, NotFilled, StoresHeld, outcome_of_fill}
+use Rattle.desync_cli.specs.Caching.{FillTells, IndexesFilled, NotFilled, of_command, outcome_of_fill}
 use Rattle.desync_cli.specs.Chop.{ImageChopped}
 use Rattle.desync_cli.specs.Commands.{DesyncEnds, Ends, NoCommand, TellsRefusal, WordsRead, built_in, command_of, is_built, parts, refusal_in, refusal_of, spares}
 use Rattle.desync_cli.specs.Extract.{CacheFilled, Clearing, FillsCache, ImageMade, Into, LacksEntry, OutMade, Renamed, Seeds, beside, in_place, temporary_out}
 use Rattle.desync_cli.specs.Info.{IdsCounted, NotAsked}
-use Rattle.desync_cli.specs.Make.{ImageStored, IndexWritten, SizesJudged}
+use Rattle.desync_cli.specs.Make.{ImageStored, IndexWritten, SizesJudged, WritesStore}
 use Rattle.desync_cli.specs.VerifyIndex.{ImageChecked}
 use Rattle.verify_tool.specs.Pruning.{is_listed_in}
 use Rattle.desync_cli.specs.Prune.{StorePruned}
 use Rattle.desync_cli.specs.Verify.{KeepsCounts, StoreVerified}
 use Rattle.command_steps.specs.Seeds.{image_name}
-use Rattle.command_steps.specs.Stores.{name_of}
+use Rattle.command_steps.specs.Dials.{since}
+use Rattle.command_steps.specs.Sources.{DialsStores, NotAsking, Sources, StoreRose, server_at, sources, sources_of, store_at}
+use Rattle.command_steps.specs.Stores.{are_folders, is_folder}
 use Rattle.dsy_base.specs.Disk.{Disk, Output}
+use Rattle.dsy_base.specs.Links.{Traffic}
 use Rattle.dsy_base.specs.Maps.{Map}
+use Rattle.http_read.specs.Refusals.{IsUnacceptable}
+use Rattle.store_chain.specs.Refusals.{Lacks}
+use Rattle.verify_tool.specs.Filling.{entry_want}
 use Rattle.verify_tool.specs.Texts.{text_of_chunks, text_of_info}
 use Rattle.verify_tool.specs.declared.fill.FillFault.{FillFault}
 use Rattle.verify_tool.specs.declared.fill.FillFault.TheVariants as fills
 
 -- ---- the steps of one command
 
+module _ (s : Spares) (x : Parts) (p : Output) (spared : IsTrue s.dial → IsTrue (are_folders x.stores)) where
+  asked_fair : (l : Listing) (w v : Sources) (o : Outcome) → NotAsked w v x.stores l o → IsFair x o (behind p w) (behind p v)
+  asked_fair l w v (ends.StoreFault k) h = (tt, source_failed (λ y. y.denied (id_of l h.1.0)) (behind p w) (behind p v) k x.stores h.1.2)
+  asked_fair l w v ends.Memory h = (tt, tt)
+  asked_fair l w v other h = absurd h
+
+  counted_step : (l : Listing) → IsStep (behind p) s x (IdsCounted x.stores l)
+  counted_step l = record { fair = go; leaves = λ w v r h. consults p x.stores spared h.1 } where
+    go : (w v : Sources) (o : Outcome) → IdsCounted x.stores l w (Err o) v → IsFair x o (behind p w) (behind p v)
+    go w v o h = elim h.0 [
+      | inl k ↦ sources_fair s x p w v x.stores o k
+      | inr k ↦ asked_fair l w v o k
+    ]
+
 module _ (s : Spares) (x : Parts) (p : Unread) where
-  asked_fair : (l : Listing) (d e : Disk) (o : Outcome) → NotAsked d e x.stores l o → IsFair x o (round p d) (round p e)
-  asked_fair l d e (ends.StoreFault k) h = (tt, first_failed (λ m. m (id_of l h.1.0) ≡ None) d e k x.stores h.1.2)
-  asked_fair l d e ends.Memory h = (tt, tt)
-  asked_fair l d e other h = absurd h
-
-  counted_step : (l : Listing) → IsStep (round p) s x (IdsCounted x.stores l)
-  counted_step l = record { fair = go; leaves = λ d e r h. reads p h.1 } where
-    go : (d e : Disk) (o : Outcome) → IdsCounted x.stores l d (Err o) e → IsFair x o (round p d) (round p e)
-    go d e o h = elim h.0 [ inl k ↦ first_fair s x p d e x.stores o k | inr k ↦ asked_fair l d e o k ]
-
   checked_step : (l : Listing) (told : Option (List ℕ)) → IsStep (round p) s x (ImageChecked x.image l told)
   checked_step l told = record { fair = go; leaves = λ d e r h. reads p h.1 } where
     go : (d e : Disk) (o : Outcome) → ImageChecked x.image l told d (Err o) e → IsFair x o (round p d) (round p e)
@@ -58,87 +72,85 @@ module _ (s : Spares) (x : Parts) (p : Unread) where
     go d e ends.Memory h = (tt, tt)
     go d e other h = absurd h.0
 
-  assembled_fair : (cache : Option (List ℕ)) (l : Listing) (z : Seeds) (i : Into) → i.name ≡ x.target → (d e : Disk) (o : Outcome) → ImageMade x.stores cache i l z d (Err o) e → IsFair x o (round p d) (round p e)
-  assembled_fair cache l z i is d e (ends.Missing k id) h = (tt, tt)
-  assembled_fair cache l z i is d e (ends.Damaged k id store shows) h = (tt, tt)
-  assembled_fair cache l z i is d e (ends.StoreFault k) h = (tt, first_failed (LacksEntry l h.0.0.0) d e k x.stores h.0.0.1)
-  assembled_fair cache l z i is d e ends.TargetFault h = (tt, subst (λ q. FileRose d e q) is h.0.0)
-  assembled_fair cache l z i is d e ends.Memory h = (tt, tt)
-  assembled_fair cache l z i is d e other h = absurd h.0
-
-  stored_fair : (z : Sizes) (told : Option (List ℕ)) (q : List ℕ) (held : Option (Map (List ℕ))) → name_at x.stores 0 ≡ q → (d e : Disk) (o : Outcome) → ImageStored z x.image told q held d (Err o) e → IsFair x o (round p d) (round p e)
-  stored_fair z told q held same d e ends.TooManyItems h = (tt, tt)
-  stored_fair z told q held same d e ends.ImageFault h = (tt, h.0.0)
-  stored_fair z told q held same d e (ends.Changed k was got) h = (tt, tt)
-  stored_fair z told q held same d e (ends.StoreFault k) h = (tt, subst (λ n. FolderRose d e (name_at x.stores n)) (sym h.0.0) (subst (λ n. FolderRose d e n) (sym same) h.0.1))
-  stored_fair z told q held same d e ends.Memory h = (tt, tt)
-  stored_fair z told q held same d e other h = absurd h.0
-
-  chopped_fair : (l : Listing) (told : Option (List ℕ)) (q : List ℕ) (held : Option (Map (List ℕ))) → name_at x.stores 0 ≡ q → (d e : Disk) (o : Outcome) → ImageChopped l x.image told q held d (Err o) e → IsFair x o (round p d) (round p e)
-  chopped_fair l told q held same d e (ends.Length n) h = (tt, tt)
-  chopped_fair l told q held same d e (ends.Mismatch k got) h = (tt, tt)
-  chopped_fair l told q held same d e ends.ImageFault h = (tt, h.0.1)
-  chopped_fair l told q held same d e (ends.StoreFault k) h = (tt, subst (λ n. FolderRose d e (name_at x.stores n)) (sym h.0.0) (subst (λ n. FolderRose d e n) (sym same) h.0.2))
-  chopped_fair l told q held same d e ends.Memory h = (tt, tt)
-  chopped_fair l told q held same d e other h = absurd h.0
-
   written_fair : (q bytes : List ℕ) (d e : Disk) (o : Outcome) → IndexWritten q bytes d (Err o) e → IsFair x o (round p d) (round p e)
   written_fair q bytes d e (ends.FileFault name) h = (tt, inl (subst (λ n. FileRose d e n) (sym h.0.0) h.0.1))
   written_fair q bytes d e ends.Memory h = (tt, tt)
   written_fair q bytes d e other h = absurd h.0
 
--- what a step leaves that writes files, and the folder of a cache
-filled : {n o : Bool} {names : List (List ℕ)} {cache : Option (List ℕ)} {l : Listing} {d e : Disk} (p : Unread) → FillsCache names cache l d e → IsLeft (record { files = false; folders = not (is_some cache); dial = n; out = o }) (round p d) (round p e)
-filled {n} {o} {names} {cache} {l} {d} {e} p r = record { keeps = record { files = λ t. absurd (cc); folders = go cache r.folders; dial = λ t. refl; out = λ t. refl }; files = r.counts; folders = r.folder_counts; dial = omega arith; out = omega arith } where
-  go : (cache : Option (List ℕ)) → CacheFilled names cache l d e → IsTrue (not (is_some cache)) → e.folders ≡ d.folders
+-- what a step leaves that writes files, and the folder of a cache, and asks servers
+filled : {o : Bool} {stores : List Location} {cache : Option (List ℕ)} {l : Listing} {w v : Sources} (p : Output) → FillsCache stores cache l w.disk v.disk → DialsStores stores w.dial v.dial
+    → IsLeft (record { files = false; folders = not (is_some cache); dial = are_folders stores; out = o }) (behind p w) (behind p v)
+filled {o} {stores} {cache} {l} {w} {v} p r dials = record {
+  keeps = record { files = λ t. absurd (cc); folders = go cache r.folders; dial = dials.1; out = λ t. refl };
+  files = r.counts;
+  folders = r.folder_counts;
+  dial = dials.0;
+  out = omega arith;
+} where
+  go : (cache : Option (List ℕ)) → CacheFilled stores cache l w.disk v.disk → IsTrue (not (is_some cache)) → v.disk.folders ≡ w.disk.folders
   go None same t = same
   go (Some c) h t = absurd (cc)
 
-assembled_step : (n o : Bool) (x : Parts) (p : Unread) (cache : Option (List ℕ)) (l : Listing) (z : Seeds) (i : Into) → i.name ≡ x.target → IsStep (round p) (record { files = false; folders = not (is_some cache); dial = n; out = o }) x (ImageMade x.stores cache i l z)
-assembled_step n o x p cache l z i is = record { fair = assembled_fair (record { files = false; folders = not (is_some cache); dial = n; out = o }) x p cache l z i is; leaves = λ d e r h. filled p h.1 }
+assembled_step : (o : Bool) (x : Parts) (p : Output) (cache : Option (List ℕ)) (l : Listing) (z : Seeds) (i : Into) → i.name ≡ x.target
+    → IsStep (behind p) (record { files = false; folders = not (is_some cache); dial = are_folders x.stores; out = o }) x (ImageMade x.stores cache i l z)
+assembled_step o x p cache l z i is = record { fair = fair; leaves = λ w v r h. filled p h.1 h.3 } where
+  fair : (w v : Sources) (o : Outcome) → ImageMade x.stores cache i l z w (Err o) v → IsFair x o (behind p w) (behind p v)
+  fair w v (ends.Missing k id) h = (tt, tt)
+  fair w v (ends.Damaged k id store shows) h = (tt, tt)
+  fair w v (ends.StoreFault k) h = (tt, source_failed (LacksEntry l h.0.0.0) (behind p w) (behind p v) k x.stores h.0.0.1)
+  fair w v ends.TargetFault h = (tt, subst (λ q. FileRose w.disk v.disk q) is h.0.0)
+  fair w v ends.Memory h = (tt, tt)
+  fair w v other h = absurd h.0
 
 -- ---- the steps of `cache`
 
-module _ (s : Spares) (x : Parts) (p : Unread) where
-  told_step : IsStep (round p) s x (StoresHeld x.stores)
-  told_step = record { fair = λ d e o h. first_fair s x p d e x.stores o h.0; leaves = leaves } where
-    leaves : (d e : Disk) (r : Result (Option (List (Map (List ℕ)))) Outcome) → StoresHeld x.stores d r e → IsLeft s (round p d) (round p e)
-    leaves d e (Ok told) h = reads p h.1
-    leaves d e (Err o) h = reads p h.1
+module _ (x : Parts) (p : Output) (w v : Sources) where
+  fill_fair : (l : Listing) (y : Option (Map (List ℕ))) (fault : FillFault) → FillTells (of_command w v x.stores x.cache) l y (Err fault) → IsFair x (outcome_of_fill fault) (behind p w) (behind p v)
+  fill_fair l y (fills.Missing k id) h = (tt, tt)
+  fill_fair l y (fills.Damaged k id store shows) h = (tt, tt)
+  fill_fair l y (fills.StoreFault k) h = (tt, source_failed (Lacks (entry_want l h.0 h.1)) (behind p w) (behind p v) k x.stores h.2.said)
+  fill_fair l y fills.CacheFault h = (tt, h)
+  fill_fair l y fills.Memory h = (tt, tt)
 
-  module _ (told : Option (List (Map (List ℕ)))) (Q : Type 0) (d e : Disk) where
-    fill_fair : (l : Listing) (y : Option (Map (List ℕ))) (fault : FillFault) → FillTells told (λ k. FolderRose d e (name_at x.stores k)) (FolderRose d e x.cache) Q l y (Err fault)
-        → IsFair x (outcome_of_fill fault) (round p d) (round p e)
-    fill_fair l y (fills.Missing k id) h = (tt, tt)
-    fill_fair l y (fills.Damaged k id store shows) h = (tt, tt)
-    fill_fair l y (fills.StoreFault k) h = (tt, h)
-    fill_fair l y fills.CacheFault h = (tt, h)
-    fill_fair l y fills.Memory h = (tt, tt)
+  each_fair : (indexes : List (List ℕ)) (held files : Option (Map (List ℕ))) (o : Outcome) → NotFilled (of_command w v x.stores x.cache) w.disk v.disk indexes held files o → IsFair x o (behind p w) (behind p v)
+  each_fair [] held files o h = absurd h
+  each_fair (q ∷ indexes) held files o (inl h) = unread_fair x (behind p w) (behind p v) q o h.0
+  each_fair (q ∷ indexes) held files o (inr (l, listed, inl (fault, is, filled))) = subst (λ r. IsFair x r (behind p w) (behind p v)) (sym is) (fill_fair l files fault filled.tells)
+  each_fair (q ∷ indexes) held files o (inr (l, listed, inr (z, filled, rest))) = each_fair indexes z files o rest
 
-    each_fair : (indexes : List (List ℕ)) (held files : Option (Map (List ℕ))) (o : Outcome) → NotFilled told (λ k. FolderRose d e (name_at x.stores k)) (FolderRose d e x.cache) Q d e indexes held files o
-        → IsFair x o (round p d) (round p e)
-    each_fair [] held files o h = absurd h
-    each_fair (q ∷ indexes) held files o (inl h) = not_read_fair s x p d e q o h.0
-    each_fair (q ∷ indexes) held files o (inr (l, listed, inl (fault, is, filled))) = subst (λ r. IsFair x r (round p d) (round p e)) (sym is) (fill_fair l files fault filled.tells)
-    each_fair (q ∷ indexes) held files o (inr (l, listed, inr (z, filled, rest))) = each_fair indexes z files o rest
-
-filled_step : (f n o : Bool) (x : Parts) (p : Unread) (indexes : List (List ℕ)) (told : Option (List (Map (List ℕ)))) (held : Option (Map (List ℕ)))
-    → IsStep (round p) (record { files = f; folders = false; dial = n; out = o }) x (IndexesFilled x.stores x.cache indexes told held)
-filled_step f n o x p indexes told held = record {
-  fair = λ d e r h. each_fair (record { files = f; folders = false; dial = n; out = o }) x p told (DiskQuiet d e) d e indexes held h.files r h.filled;
-  leaves = λ d e r h. adds p h.adds;
+filled_step : (f o : Bool) (x : Parts) (p : Output) (indexes : List (List ℕ)) → IsStep (behind p) (record { files = f; folders = false; dial = are_folders x.stores; out = o }) x (IndexesFilled x.stores x.cache indexes)
+filled_step f o x p indexes = record {
+  fair = λ w v r h. each_fair x p w v indexes h.held h.now r h.filled;
+  leaves = λ w v r h. record {
+    keeps = record { files = λ t. h.adds.files; folders = λ t. absurd (cc); dial = h.dials.1; out = λ t. refl };
+    files = h.adds.counts;
+    folders = h.adds.folder_counts;
+    dial = h.dials.0;
+    out = omega arith;
+  };
 }
 
 -- after whose refusal a file is cleared
-cleared_step : (f n o : Bool) (x : Parts) (p : Unread) (q : List ℕ) (step : Step Disk Unit) → IsStep (round p) (record { files = false; folders = f; dial = n; out = o }) x step → IsStep (round p) (record { files = false; folders = f; dial = n; out = o }) x (Clearing q step)
+cleared_step : (f n o : Bool) (x : Parts) (p : Output) (q : List ℕ) (step : Step Sources Unit) → IsStep (behind p) (record { files = false; folders = f; dial = n; out = o }) x step → IsStep (behind p) (record { files = false; folders = f; dial = n; out = o }) x (Clearing q step)
 cleared_step f n o x p q step is = record { fair = fair; leaves = leaves } where
-  fair : (d e : Disk) (r : Outcome) → Clearing q step d (Err r) e → IsFair x r (round p d) (round p e)
-  fair d e r (c, u, did, inl same, cleared) = subst (λ r. IsFair x r (round p d) (round p e)) (sym same) (fair_longer (round p d) (round p c) (round p e) x u (writes {f = f} {n = n} {o = o} p cleared.1) (is.fair d c u did))
-  fair d e r (c, u, did, inr memory, cleared) = subst (λ r. IsFair x r (round p d) (round p e)) (sym memory) (tt, tt)
+  rest : (c : Disk) (v : Sources) → Writes c v.disk → IsLeft (record { files = false; folders = f; dial = n; out = o }) (behind p (sources c v.dial)) (behind p v)
+  rest c v r = writes {f = f} {n = n} {o = o} (record { dial = v.dial; out = p }) r
 
-  leaves : (d e : Disk) (r : Result Unit Outcome) → Clearing q step d r e → IsLeft (record { files = false; folders = f; dial = n; out = o }) (round p d) (round p e)
-  leaves d e (Ok t) h = is.leaves d e (Ok t) h
-  leaves d e (Err r) (c, u, did, same, cleared) = left_twice (is.leaves d c (Err u) did) (writes p cleared.1)
+  fair : (w v : Sources) (r : Outcome) → Clearing q step w (Err r) v → IsFair x r (behind p w) (behind p v)
+  fair w v r (c, u, did, inl same, cleared) = subst (λ r. IsFair x r (behind p w) (behind p v)) (sym same)
+      (fair_longer (behind p w) (behind p (sources c v.dial)) (behind p v) x u (is.leaves w (sources c v.dial) (Err u) did) (rest c v cleared.1) (is.fair w (sources c v.dial) u did))
+  fair w v r (c, u, did, inr memory, cleared) = subst (λ r. IsFair x r (behind p w) (behind p v)) (sym memory) (tt, tt)
+
+  leaves : (w v : Sources) (r : Result Unit Outcome) → Clearing q step w r v → IsLeft (record { files = false; folders = f; dial = n; out = o }) (behind p w) (behind p v)
+  leaves w v (Ok t) h = is.leaves w v (Ok t) h
+  leaves w v (Err r) (c, u, did, same, cleared) = left_twice (is.leaves w (sources c v.dial) (Err u) did) (rest c v cleared.1)
+
+-- a step over files and folders alone
+unasked_step : {A : Type 0} {s : Spares} {x : Parts} (p : Output) (step : Step Disk A) → ((q : Unread) → IsStep (round q) s x step) → IsStep (behind p) s x (NotAsking step)
+unasked_step {A} {s} {x} p step k = record {
+  fair = λ w v o h. subst (λ n. IsFair x o (behind p w) (world v.disk n p)) (sym h.1) ((k (record { dial = w.dial; out = p })).fair w.disk v.disk o h.0);
+  leaves = λ w v r h. subst (λ n. IsLeft s (behind p w) (world v.disk n p)) (sym h.1) ((k (record { dial = w.dial; out = p })).leaves w.disk v.disk r h.0);
+}
 
 renamed_step : (f n o : Bool) (x : Parts) (p : Unread) (from to : List ℕ) → IsStep (round p) (record { files = false; folders = f; dial = n; out = o }) x (Renamed from to)
 renamed_step f n o x p from to = record { fair = fair; leaves = leaves } where
@@ -152,25 +164,60 @@ renamed_step f n o x p from to = record { fair = fair; leaves = leaves } where
   leaves d e (Ok t) h = writes p h.1
   leaves d e (Err r) h = writes p h.2
 
-out_step : (n o : Bool) (x : Parts) (cache : Option (List ℕ)) (l : Listing) (z : Seeds) (place : Bool) (out : List ℕ) → x.target ≡ cond place out (temporary_out out) → IsStep whole (record { files = false; folders = not (is_some cache); dial = n; out = o }) x (OutMade place x.stores cache out l z)
-out_step n o x cache l z true out is = on_disk (λ p. assembled_step n o x p cache l z (in_place out) (sym is))
-out_step n o x cache l z false out is =
-    bound (on_disk (λ p. cleared_step _ n o x p (temporary_out out) _ (assembled_step n o x p cache l z (beside out) (sym is))))
-    (λ u. on_disk (λ p. cleared_step _ n o x p (temporary_out out) _ (renamed_step _ n o x p (temporary_out out) out)))
+out_step : (o : Bool) (x : Parts) (cache : Option (List ℕ)) (l : Listing) (z : Seeds) (place : Bool) (out : List ℕ) → x.target ≡ cond place out (temporary_out out)
+    → IsStep whole (record { files = false; folders = not (is_some cache); dial = are_folders x.stores; out = o }) x (OutMade place x.stores cache out l z)
+out_step o x cache l z true out is = on_sources (λ p. assembled_step o x p cache l z (in_place out) (sym is))
+out_step o x cache l z false out is =
+    bound (on_sources (λ p. cleared_step _ _ o x p (temporary_out out) _ (assembled_step o x p cache l z (beside out) (sym is))))
+    (λ u. on_sources (λ p. cleared_step _ _ o x p (temporary_out out) _ (unasked_step p _ (λ q. renamed_step _ _ o x q (temporary_out out) out))))
 
-stored_step : (f n o : Bool) (x : Parts) (p : Unread) (z : Sizes) (told : Option (List ℕ)) (q : List ℕ) (held : Option (Map (List ℕ))) → name_at x.stores 0 ≡ q
-    → IsStep (round p) (record { files = f; folders = false; dial = n; out = o }) x (ImageStored z x.image told q held)
-stored_step f n o x p z told q held same = record { fair = stored_fair (record { files = f; folders = false; dial = n; out = o }) x p z told q held same; leaves = leaves } where
-  leaves : (d e : Disk) (r : Result (List ℕ) Outcome) → ImageStored z x.image told q held d r e → IsLeft (record { files = f; folders = false; dial = n; out = o }) (round p d) (round p e)
-  leaves d e (Ok bytes) h = adds p h.2
-  leaves d e (Err r) h = adds p h.1
+one_folder : (store : Location) → IsTrue (is_folder store) → IsTrue (are_folders (store ∷ []))
+one_folder (locations.Folder q) t = refl
+one_folder (locations.Http host port prefix) t = absurd (cc)
 
-chopped_step : (f n o : Bool) (x : Parts) (p : Unread) (l : Listing) (told : Option (List ℕ)) (q : List ℕ) (held : Option (Map (List ℕ))) → name_at x.stores 0 ≡ q
-    → IsStep (round p) (record { files = f; folders = false; dial = n; out = o }) x (ImageChopped l x.image told q held)
-chopped_step f n o x p l told q held same = record { fair = chopped_fair (record { files = f; folders = false; dial = n; out = o }) x p l told q held same; leaves = leaves } where
-  leaves : (d e : Disk) (r : Result Unit Outcome) → ImageChopped l x.image told q held d r e → IsLeft (record { files = f; folders = false; dial = n; out = o }) (round p d) (round p e)
-  leaves d e (Ok u) h = adds p h.2
-  leaves d e (Err r) h = adds p h.1
+-- what a step leaves that writes a store
+stocked : {o : Bool} {w v : Sources} (f : Bool) (p : Output) (store : Location) → WritesStore store w v → IsLeft (record { files = f; folders = not (is_folder store); dial = is_folder store; out = o }) (behind p w) (behind p v)
+stocked f p store r = record {
+  keeps = record { files = λ t. r.adds.files; folders = r.folders; dial = λ t. r.dials.1 (one_folder store t); out = λ t. refl };
+  files = r.adds.counts;
+  folders = r.adds.folder_counts;
+  dial = r.dials.0;
+  out = omega arith;
+}
+
+module _ (x : Parts) (p : Output) (store : Location) (same : store_at x.stores 0 ≡ store) where
+  first_rose : (w v : Sources) (k : ℕ) → k ≡ 0 → StoreRose w v store → StoreRose w v (store_at x.stores k)
+  first_rose w v k is rose = subst (λ n. StoreRose w v (store_at x.stores n)) (sym is) (subst (λ s. StoreRose w v s) (sym same) rose)
+
+  stored_step : (f o : Bool) (z : Sizes) (told : Option (List ℕ)) (held : Option (Map (List ℕ)))
+      → IsStep (behind p) (record { files = f; folders = not (is_folder store); dial = is_folder store; out = o }) x (ImageStored z x.image told store held)
+  stored_step f o z told held = record { fair = fair; leaves = leaves } where
+    fair : (w v : Sources) (r : Outcome) → ImageStored z x.image told store held w (Err r) v → IsFair x r (behind p w) (behind p v)
+    fair w v ends.TooManyItems h = (tt, tt)
+    fair w v ends.ImageFault h = (tt, h.0.0)
+    fair w v (ends.Changed k was got) h = (tt, tt)
+    fair w v (ends.StoreFault k) h = (tt, first_rose w v k h.0.0 h.0.1)
+    fair w v ends.Memory h = (tt, tt)
+    fair w v other h = absurd h.0
+
+    leaves : (w v : Sources) (r : Result (List ℕ) Outcome) → ImageStored z x.image told store held w r v → IsLeft (record { files = f; folders = not (is_folder store); dial = is_folder store; out = o }) (behind p w) (behind p v)
+    leaves w v (Ok bytes) h = stocked f p store h.2
+    leaves w v (Err r) h = stocked f p store h.1
+
+  chopped_step : (f o : Bool) (l : Listing) (told : Option (List ℕ)) (held : Option (Map (List ℕ)))
+      → IsStep (behind p) (record { files = f; folders = not (is_folder store); dial = is_folder store; out = o }) x (ImageChopped l x.image told store held)
+  chopped_step f o l told held = record { fair = fair; leaves = leaves } where
+    fair : (w v : Sources) (r : Outcome) → ImageChopped l x.image told store held w (Err r) v → IsFair x r (behind p w) (behind p v)
+    fair w v (ends.Length n) h = (tt, tt)
+    fair w v (ends.Mismatch k got) h = (tt, tt)
+    fair w v ends.ImageFault h = (tt, h.0.1)
+    fair w v (ends.StoreFault k) h = (tt, first_rose w v k h.0.0 h.0.2)
+    fair w v ends.Memory h = (tt, tt)
+    fair w v other h = absurd h.0
+
+    leaves : (w v : Sources) (r : Result Unit Outcome) → ImageChopped l x.image told store held w r v → IsLeft (record { files = f; folders = not (is_folder store); dial = is_folder store; out = o }) (behind p w) (behind p v)
+    leaves w v (Ok u) h = stocked f p store h.2
+    leaves w v (Err r) h = stocked f p store h.1
 
 written_step : (f n o : Bool) (x : Parts) (p : Unread) (q bytes : List ℕ) → IsStep (round p) (record { files = false; folders = f; dial = n; out = o }) x (IndexWritten q bytes)
 written_step f n o x p q bytes = record { fair = written_fair (record { files = false; folders = f; dial = n; out = o }) x p q bytes; leaves = leaves } where
@@ -180,14 +227,14 @@ written_step f n o x p q bytes = record { fair = written_fair (record { files = 
 
 -- ---- the steps of `verify` and `prune`
 
-verified_step : (n : Bool) (x : Parts) (q : List ℕ) (repair : Bool) (held : Option (Map (List ℕ))) → name_at x.stores 0 ≡ q → IsStep whole (record { files = true; folders = false; dial = n; out = false }) x (StoreVerified q repair held)
+verified_step : (n : Bool) (x : Parts) (q : List ℕ) (repair : Bool) (held : Option (Map (List ℕ))) → store_at x.stores 0 ≡ locations.Folder q → IsStep whole (record { files = true; folders = false; dial = n; out = false }) x (StoreVerified q repair held)
 verified_step n x q repair held same = record { fair = fair; leaves = leaves } where
   left : (w v : World) → KeepsCounts w v → IsLeft (record { files = true; folders = false; dial = n; out = false }) w v
-  left w v c = record { keeps = record { files = λ t. c.adds.files; folders = λ t. absurd (cc); dial = λ t. c.dial; out = λ t. absurd (cc) }; files = c.adds.counts; folders = c.adds.folder_counts; dial = subst (λ k. w.dial.faults ≤ k.faults) (sym c.dial) (omega arith); out = c.out }
+  left w v c = record { keeps = record { files = λ t. c.adds.files; folders = λ t. absurd (cc); dial = λ t. c.dial; out = λ t. absurd (cc) }; files = c.adds.counts; folders = c.adds.folder_counts; dial = dials_same w.dial v.dial c.dial; out = c.out }
 
   fair : (w v : World) (o : Outcome) → StoreVerified q repair held w (Err o) v → IsFair x o w v
   fair w v (ends.DamagedLeft n) h = (tt, tt)
-  fair w v (ends.StoreFault k) h = (tt, subst (λ n. FolderRose w.disk v.disk (name_at x.stores n)) (sym h.0.0) (subst (λ n. FolderRose w.disk v.disk n) (sym same) h.0.1))
+  fair w v (ends.StoreFault k) h = (tt, subst (λ n. StoreRose (sources_of w) (sources_of v) (store_at x.stores n)) (sym h.0.0) (subst (λ s. StoreRose (sources_of w) (sources_of v) s) (sym same) h.0.1))
   fair w v ends.OutFault h = (tt, h.0.0)
   fair w v ends.Memory h = (tt, tt)
   fair w v other h = absurd h.0
@@ -196,11 +243,11 @@ verified_step n x q repair held same = record { fair = fair; leaves = leaves } w
   leaves w v (Ok u) h = left w v h.1
   leaves w v (Err o) h = left w v h.1
 
-pruned_step : (f n o : Bool) (x : Parts) (p : Unread) (keeps : List ℕ → Bool) (q : List ℕ) (held : Option (Map (List ℕ))) → name_at x.stores 0 ≡ q
+pruned_step : (f n o : Bool) (x : Parts) (p : Unread) (keeps : List ℕ → Bool) (q : List ℕ) (held : Option (Map (List ℕ))) → store_at x.stores 0 ≡ locations.Folder q
     → IsStep (round p) (record { files = f; folders = false; dial = n; out = o }) x (StorePruned keeps q held)
 pruned_step f n o x p keeps q held same = record { fair = fair; leaves = leaves } where
   fair : (d e : Disk) (r : Outcome) → StorePruned keeps q held d (Err r) e → IsFair x r (round p d) (round p e)
-  fair d e (ends.StoreFault k) h = (tt, subst (λ n. FolderRose d e (name_at x.stores n)) (sym h.0.0) (subst (λ n. FolderRose d e n) (sym same) h.0.1))
+  fair d e (ends.StoreFault k) h = (tt, subst (λ n. StoreRose (sources_of (round p d)) (sources_of (round p e)) (store_at x.stores n)) (sym h.0.0) (subst (λ s. StoreRose (sources_of (round p d)) (sources_of (round p e)) s) (sym same) h.0.1))
   fair d e ends.Memory h = (tt, tt)
   fair d e other h = absurd h.0
 
@@ -215,13 +262,13 @@ judged_fair x sizes other w v h = absurd h
 -- ---- the commands
 
 command_step : (c : Command) → IsStep whole (spares c) (parts c) (Ends c)
-command_step (commands.Make store sizes workers index image) = bound (pure_step (SizesJudged sizes) (judged_fair (parts (commands.Make store sizes workers index image)) sizes)) (λ z. bound (on_disk (λ p. image_step _ _ p)) (λ told. bound (on_disk (λ p. taken_step _ _ _ _ p (name_of store))) (λ held. bound (on_disk (λ p. stored_step _ _ _ _ p z told (name_of store) held refl)) (λ bytes. on_disk (λ p. written_step _ _ _ _ p index bytes)))))
+command_step (commands.Make store sizes workers index image) = bound (pure_step (SizesJudged sizes) (judged_fair (parts (commands.Make store sizes workers index image)) sizes)) (λ z. bound (on_disk (λ p. image_step _ _ p)) (λ told. bound (on_disk (λ p. source_taken_step _ _ _ _ p store)) (λ held. bound (on_sources (λ p. stored_step _ p store refl _ _ z told held)) (λ bytes. on_disk (λ p. written_step _ _ _ _ p index bytes)))))
 command_step (commands.VerifyIndex index image) = bound (on_disk (λ p. index_step _ _ p index)) (λ l. bound (on_disk (λ p. image_step _ _ p)) (λ told. on_disk (λ p. checked_step _ _ p l told)))
-command_step (commands.Chop store index image) = bound (on_disk (λ p. index_step _ _ p index)) (λ l. bound (on_disk (λ p. image_step _ _ p)) (λ told. bound (on_disk (λ p. taken_step _ _ _ _ p (name_of store))) (λ held. on_disk (λ p. chopped_step _ _ _ _ p l told (name_of store) held refl))))
-command_step (commands.Cache stores cache indexes) = bound (on_disk (λ p. told_step _ _ p)) (λ told. bound (on_disk (λ p. taken_step _ _ _ _ p cache)) (λ held. on_disk (λ p. filled_step _ _ _ _ p indexes told held)))
+command_step (commands.Chop store index image) = bound (on_disk (λ p. index_step _ _ p index)) (λ l. bound (on_disk (λ p. image_step _ _ p)) (λ told. bound (on_disk (λ p. source_taken_step _ _ _ _ p store)) (λ held. on_sources (λ p. chopped_step _ p store refl _ _ l told held))))
+command_step (commands.Cache stores cache indexes) = bound (on_disk (λ p. sources_step _ _ p stores)) (λ u. bound (on_disk (λ p. cache_step _ _ p (Some cache))) (λ u. on_sources (λ p. filled_step _ _ (parts (commands.Cache stores cache indexes)) p indexes)))
 command_step (commands.ListChunks index) = bound (on_disk (λ p. index_step _ _ p index)) (λ l. on_out (λ d. printed_step _ _ _ _ d (text_of_chunks l)))
-command_step (commands.Extract stores seeds cache in_place workers index target) = bound (on_disk (λ p. index_step _ _ p index)) (λ l. bound (on_disk (λ p. indexes_step _ _ p seeds)) (λ ls. bound (on_disk (λ p. opened_step _ _ p)) (λ u. bound (on_disk (λ p. cache_step _ _ p cache)) (λ u. out_step _ _ (parts (commands.Extract stores seeds cache in_place workers index target)) cache l (record { images = map image_name seeds; listings = ls }) in_place target refl))))
-command_step (commands.Info stores index) = bound (on_disk (λ p. index_step _ _ p index)) (λ l. bound (on_disk (λ p. counted_step _ _ p l)) (λ n. on_out (λ d. printed_step _ _ _ _ d (text_of_info l n))))
+command_step (commands.Extract stores seeds cache in_place workers index target) = bound (on_disk (λ p. index_step _ _ p index)) (λ l. bound (on_disk (λ p. indexes_step _ _ p seeds)) (λ ls. bound (on_disk (λ p. sources_step _ _ p stores)) (λ u. bound (on_disk (λ p. cache_step _ _ p cache)) (λ u. out_step _ (parts (commands.Extract stores seeds cache in_place workers index target)) cache l (record { images = map image_name seeds; listings = ls }) in_place target refl))))
+command_step (commands.Info stores index) = bound (on_disk (λ p. index_step _ _ p index)) (λ l. bound (on_sources (λ p. counted_step _ _ p (λ t. t) l)) (λ n. on_out (λ d. printed_step _ _ _ _ d (text_of_info l n))))
 command_step (commands.Verify store repair) = bound (on_disk (λ p. taken_step _ _ _ _ p store)) (λ held. verified_step _ _ store repair held refl)
 command_step (commands.Prune store indexes) = bound (on_disk (λ p. indexes_step _ _ p indexes)) (λ ls. bound (on_disk (λ p. taken_step _ _ _ _ p store)) (λ held. on_disk (λ p. pruned_step _ _ _ _ p (is_listed_in ls) store held refl)))
 command_step commands.Help = on_out (λ d. printed_step _ _ _ _ d (help_text topics.All))
@@ -274,8 +321,23 @@ blamed words w v (Ok u) h = if_any (command_of words) _ (λ c. tt)
 blamed words w v (Err o) (inl h) = if_any (command_of words) _ (λ c. words_blame words (parts c) w v o h.0)
 blamed words w v (Err o) (inr h) = let b = begun words w v (Err o) h in if_some (command_of words) _ b.0 b.1 ((command_step b.0).fair w v o b.2).1
 
-quiet : (x : Parts) (w v : World) (o : Outcome) → NoFault w v → Blames x o w v → NothingFailed o
-quiet x w v o n h = go o h where
+-- a store hasn't failed where no count rose and its replies were taken
+store_quiet : (w v : World) → NoFault w v → (s : Location) → RepliesTaken w v s → StoreRose (sources_of w) (sources_of v) s → ⊥
+store_quiet w v n (locations.Folder q) taken rose = rose_not_quiet (count_at w.disk.folder_counts q) (count_at w.disk.folder_counts q) (count_at v.disk.folder_counts q) (omega arith) rose (n.disk.folders q)
+store_quiet w v n (locations.Http host port prefix) taken (inl rose) = rose_not_quiet w.dial.faults w.dial.faults v.dial.faults (omega arith) rose n.dial
+store_quiet w v n (locations.Http host port prefix) taken (inr bad) = over (since w.dial.ended v.dial.ended) taken bad where
+  over : (o : Option (List Traffic)) → IsSomeAnd o (λ ended. Any (IsUnacceptable (server_at host port prefix)) ended → ⊥) → IfSome o (Any (IsUnacceptable (server_at host port prefix))) → ⊥
+  over None t b = absurd t
+  over (Some ended) t b = t b
+
+-- the store of a number is one of them, or no server
+numbered : (w v : World) (names : List Location) (k : ℕ) → All (RepliesTaken w v) names → RepliesTaken w v (store_at names k)
+numbered w v [] k all = tt
+numbered w v (q ∷ names) zero all = all 0 q (omega arith)
+numbered w v (q ∷ names) (suc k) all = numbered w v names k (λ j y lt. all (suc j) y (omega (arith, lt)))
+
+quiet : (x : Parts) (w v : World) (o : Outcome) → NoFault w v → All (RepliesTaken w v) x.stores → Blames x o w v → NothingFailed o
+quiet x w v o n taken h = go o h where
   file : (q : List ℕ) → FileRose w.disk v.disk q → ⊥
   file q rose = rose_not_quiet (count_at w.disk.file_counts q) (count_at w.disk.file_counts q) (count_at v.disk.file_counts q) (omega arith) rose (n.disk.files q)
 
@@ -284,7 +346,7 @@ quiet x w v o n h = go o h where
 
   go : (o : Outcome) → Blames x o w v → NothingFailed o
   go ends.ImageFault r = file x.image r
-  go (ends.StoreFault s) r = folder (name_at x.stores s) r
+  go (ends.StoreFault s) r = store_quiet w v n (store_at x.stores s) (numbered w v x.stores s taken) r
   go ends.TargetFault r = file x.target r
   go ends.CacheFault r = folder x.cache r
   go (ends.FileFault name) (inl r) = file name r
@@ -297,10 +359,12 @@ words_quiet words (ends.Usage place why) h = tt
 words_quiet words ends.Memory h = tt
 words_quiet words other h = absurd h
 
-pub nothing_failed : (words : List (List ℕ)) (w v : World) (r : Result Unit Outcome) → DesyncEnds words w r v → NoFault w v → NothingFailed (outcome_of r)
-nothing_failed words w v (Ok u) h n = tt
-nothing_failed words w v (Err o) (inl h) n = words_quiet words o h.0
-nothing_failed words w v (Err o) (inr h) n = let b = begun words w v (Err o) h in quiet (parts b.0) w v o n ((command_step b.0).fair w v o b.2).1
+pub nothing_failed : (words : List (List ℕ)) (w v : World) (r : Result Unit Outcome) → DesyncEnds words w r v → NoFault w v → IfSome (command_of words) (λ c. All (RepliesTaken w v) (parts c).stores) → NothingFailed (outcome_of r)
+nothing_failed words w v (Ok u) h n taken = tt
+nothing_failed words w v (Err o) (inl h) n taken = words_quiet words o h.0
+nothing_failed words w v (Err o) (inr h) n taken =
+    let b = begun words w v (Err o) h in
+    quiet (parts b.0) w v o n (subst (λ c. IfSome c (λ c. All (RepliesTaken w v) (parts c).stores)) b.1 taken) ((command_step b.0).fair w v o b.2).1
 
 abbrev not_yet : ℕ × UsageWhy
 not_yet = (0, whys.NotYet)

@@ -1,24 +1,14 @@
 -- A folder that was taken, and given back with what it has counted.
-use Rattle.std.proofs.Common.{◌≡◌, ◌≢◌, ◌≤◌, ◌==◌, ℕ, List, Bool, true, false, cond, Option, Result, Ok, Err, IsSome, refl, sym, ap, subst, ◌∙◌, arith, eq-eqb, eqb-true}
+use Rattle.std.proofs.Common.{◌≡◌, ◌≢◌, ◌==◌, ℕ, List, Bool, true, false, cond, Option, Ok, Err, refl, sym, subst, ◌∙◌, arith, eq-eqb, eqb-true}
 use Rattle.std.specs.Map.{count_at}
-use Rattle.command_outcome.specs.declared.outcome.Outcome.{Outcome}
 use Rattle.command_outcome.specs.declared.outcome.Outcome.TheVariants as ends
-use Rattle.command_steps.proofs.Numbers.{counted_known, counted_le, given_rose}
-use Rattle.command_steps.specs.Worlds.{Adds, FolderRose, Reads, World}
+use Rattle.command_steps.proofs.Numbers.{given_rose}
+use Rattle.command_steps.specs.Worlds.{FolderRose, Reads, World}
 use Rattle.desync_cli.specs.Verify.{KeepsCounts, StoreVerified, VerifiedBack, answer_of_left}
 use Rattle.dsy_base.specs.Counts.{Rose}
 use Rattle.dsy_base.specs.Disk.{Disk, GivesFolder}
 use Rattle.dsy_base.specs.Maps.{Map}
 use Rattle.verify_tool.specs.Verifying.{IsStoreChecked}
-
-pub gives_adds : (d e : Disk) (q : List ℕ) (n : ℕ) → GivesFolder d e q n → Adds d e
-gives_adds d e q n given = record {
-  files = given.files;
-  counts = λ p. let same : count_at e.file_counts p ≡ count_at d.file_counts p = ap (λ m. count_at m p) given.counts in omega (arith, same);
-  folder_counts = counted_le d.folder_counts e.folder_counts q given.folder_counts.counted;
-  known = λ p is. subst (λ (m : Map ℕ). IsSome (m p)) (sym given.counts) is;
-  folder_known = counted_known d.folder_counts e.folder_counts q given.folder_counts.counted;
-}
 
 -- a fault of a folder that had counted none is one of its name
 pub gives_rose : (d e : Disk) (q : List ℕ) (m n : ℕ) → GivesFolder d e q n → m ≡ 0 → Rose m n → FolderRose d e q

@@ -6,6 +6,7 @@ pub mod Counting
 pub mod Done
 pub mod Extracted
 pub mod Fair
+pub mod Lacked
 pub mod Lost
 pub mod Seeded
 pub mod Made
@@ -17,3 +18,4 @@ pub mod CacheFilled
 pub mod Cached
 pub mod Pruned
 pub mod GivenFolders
+pub mod GivenStores

@@ -1,9 +1,7 @@
 -- The entry, the store or the target that an assembly over lent folders names.
-use Rattle.std.proofs.Common.{ap, All, arith, ◌⊎◌, ◌≤◌, ◌≡◌, ℕ, suc, ◌<◌, List, [], ◌∷◌, length, map, slice_index, Bool, Option, Some, None, IfSome, IfErr, subst, ◌∙◌, sym, inl, inr, Result, Ok, Err}
-use Rattle.std.proofs.lemmas.List.{length-map}
+use Rattle.std.proofs.Common.{ap, All, arith, ◌⊎◌, ◌≤◌, ◌≡◌, ℕ, suc, List, [], ◌∷◌, length, map, slice_index, Bool, Option, Some, None, IfSome, IfErr, subst, ◌∙◌, sym, inl, inr, Result, Ok, Err}
 use Rattle.std.proofs.lemmas.List.Elements.{All-cons, All-nil}
 use Rattle.std.specs.List.{AllZip}
-use Rattle.std.specs.Map.{count_at}
 use Rattle.assembler.specs.Assemblies.{IsUnobtained, RightAlike}
 use Rattle.assembler.specs.Caches.{CacheLacks}
 use Rattle.assembler.specs.Faults.{fault_of}
@@ -16,24 +14,27 @@ use Rattle.assembler.specs.declared.fault.Lost.{Lost}
 use Rattle.assembler.specs.declared.kit.Kit.{Kit}
 use Rattle.assembler.specs.declared.report.Report.{Report}
 use Rattle.cache_store.specs.Shelves.{Shelf}
-use Rattle.caibx_codec.specs.Listing.{Listing, count_of, id_of, image_length, kind_of, size_of}
+use Rattle.caibx_codec.specs.Listing.{Listing, id_of, image_length, kind_of, size_of}
 use Rattle.chunk_store.specs.Folders.{chunks}
 use Rattle.chunk_store.specs.Giving.{IsChunk}
-use Rattle.chunk_store.specs.Said.{Said, said_by}
+use Rattle.chunk_store.specs.Said.{KeepsOf, Said}
 use Rattle.chunk_store.specs.declared.id.ChunkId.{ChunkId}
 use Rattle.chunk_store.specs.declared.id.DigestKind.{DigestKind}
 use Rattle.chunk_store.specs.declared.shows.Shows.{Shows}
 use Rattle.chunk_store.specs.declared.shows.Shows.TheVariants as shows
-use Rattle.command_steps.proofs.Lent.{fails_first}
+use Rattle.command_line.specs.declared.command.Location.{Location}
+use Rattle.command_steps.proofs.Given.{Stands, first_as}
+use Rattle.command_steps.proofs.Numbers.{rose_later, rose_longer}
 use Rattle.command_steps.specs.Blames.{name_at}
 use Rattle.command_steps.specs.Seeds.{IsViewed}
-use Rattle.command_steps.specs.Stores.{FailsFirst}
+use Rattle.command_steps.specs.Sources.{Sources, StoreRose, said_at, told_at}
 use Rattle.command_steps.specs.Worlds.{FileRose}
 use Rattle.desync_cli.proofs.Assembled.{LackingOver, LostAs, OthersLack, StoreAs, TargetAs}
+use Rattle.desync_cli.proofs.Lacked.{have_lacked, lacks_still, same_length}
 use Rattle.desync_cli.proofs.Seeded.{had_failed, label_of}
-use Rattle.desync_cli.specs.Extract.{CacheLacksEntry, Into, Seeds, StopsFailed}
+use Rattle.desync_cli.specs.Extract.{CacheLacksEntry, Into, LacksEntry, Seeds, StopsFailed}
 use Rattle.dsy_base.specs.Bytes.{Held, resized}
-use Rattle.dsy_base.specs.Counts.{Rose, raised}
+use Rattle.dsy_base.specs.Counts.{Rose}
 use Rattle.dsy_base.specs.Disk.{Disk}
 use Rattle.dsy_base.specs.Maps.{Map}
 use Rattle.extract_plan.specs.Deal.{Deal}
@@ -41,7 +42,6 @@ use Rattle.extract_plan.specs.Places.{IsSeedIndex, Placed, places_at}
 use Rattle.extract_plan.specs.Seeds.{faults_in, held_in}
 use Rattle.store_chain.specs.Chains.{KeepsStores}
 use Rattle.store_chain.specs.Faults.{NoneFalls}
-use Rattle.store_chain.specs.Giving.{LacksAll}
 use Rattle.store_chain.specs.Refusals.{Lacks, Refuses}
 use Rattle.store_chain.specs.Wants.{ShowsElse}
 use Rattle.store_chain.specs.declared.refused.Refused.{Refused}
@@ -130,67 +130,56 @@ shown_else kind id size b shows.Longer h c = absurd (omega (arith, h, c.sized))
 shown_else kind id size b (shows.Digest x) h c = h.2 (h.1 ∙ c.named)
 shown_else kind id size b (shows.Length n) h c = h.3 (h.2 ∙ c.sized)
 
--- what was said of a map's store that lacks it
-said_lacks : (kind : DigestKind) (id : ChunkId) (size : ℕ) (holds : Option (Map (List ℕ))) → Lacks (chunk_of kind id size) (said_by holds)
-    → IfSome holds (λ m. (m id.0 ≡ None) ⊎ ((b : List ℕ) × (m id.0 ≡ Some b) × (IsChunk kind id.0 size b → ⊥)))
-said_lacks kind id size None h = tt
-said_lacks kind id size (Some m) (inl none) = inl none
-said_lacks kind id size (Some m) (inr (shows.Longer, h)) = inr (h.0, h.1, shown_else kind id size h.0 shows.Longer h.2)
-said_lacks kind id size (Some m) (inr (shows.Digest x, h)) = inr (h.0, h.1, shown_else kind id size h.0 (shows.Digest x) h.2)
-said_lacks kind id size (Some m) (inr (shows.Length n, h)) = inr (h.0, h.1, shown_else kind id size h.0 (shows.Length n) h.2)
+-- what a store has said that lacks it is of the entry
+entry_lacks : (l : Listing) (n : ℕ) (id : ChunkId) (s : Said) → id.0 ≡ id_of l n → Lacks (chunk_of (kind_of l) id (size_of l n)) s → LacksEntry l n s
+entry_lacks l n id s named h = subst Lacked named (go h) where
+  Lacked : List ℕ → Type 0
+  Lacked q = s.denied q ⊎ (s.longer q (size_of l n) ⊎ ((b : List ℕ) × s.shown q b × (IsChunk (kind_of l) q (size_of l n) b → ⊥)))
 
-same_length : {S X : Type 0} (f : S → X) (a b : List S) → map f a ≡ map f b → length a ≡ length b
-same_length f a b same = sym (length-map a f) ∙ ap length same ∙ length-map b f
+  go : Lacks (chunk_of (kind_of l) id (size_of l n)) s → Lacked id.0
+  go (inl none) = inl none
+  go (inr (shows.Longer, h)) = inr (inl h)
+  go (inr (shows.Digest x, h)) = inr (inr (h.0, h.1, shown_else (kind_of l) id (size_of l n) h.0 (shows.Digest x) h.2))
+  go (inr (shows.Length m, h)) = inr (inr (h.0, h.1, shown_else (kind_of l) id (size_of l n) h.0 (shows.Length m) h.2))
 
--- stores whose counts were added later had no more to add before
-gained_before : {S : Type 0} (place : S → List ℕ) (counted : S → ℕ) (mid last : Map ℕ) (a b : List S) → map place b ≡ map place a → NoneFalls (map counted a) (map counted b)
-    → All (λ s. raised (count_at mid (place s)) (counted s) ≤ count_at last (place s)) b → All (λ s. raised (count_at mid (place s)) (counted s) ≤ count_at last (place s)) a
-gained_before place counted mid last [] b same le gained = All-nil (λ s. raised (count_at mid (place s)) (counted s) ≤ count_at last (place s))
-gained_before place counted mid last (x ∷ a) [] same le gained = absurd (cc)
-gained_before place counted mid last (x ∷ a) (y ∷ b) same le gained =
-    let here : place y ≡ place x = cc in
-    let rest : map place b ≡ map place a = cc in
-    let more : counted x ≤ counted y = le 0 in
-    let later : raised (count_at mid (place x)) (counted y) ≤ count_at last (place x) = subst (λ (q : List ℕ). raised (count_at mid q) (counted y) ≤ count_at last q) here (gained 0 y (omega arith)) in
-    All-cons (λ s. raised (count_at mid (place s)) (counted s) ≤ count_at last (place s)) x a (omega (arith, more, later))
-    (gained_before place counted mid last a b rest (λ k. le (suc k)) (λ j q lt. gained (suc j) q (omega (arith, lt))))
+keeps_twice : (a b c : Said) (id : List ℕ) → KeepsOf a b id → KeepsOf b c id → KeepsOf a c id
+keeps_twice a b c id u w = record { denied = λ h. w.denied (u.denied h); shown = λ x h. w.shown x (u.shown x h); longer = λ n h. w.longer n (u.longer n h); taken = λ x h. w.taken x (u.taken x h) }
+
+-- stores that stand so later stood so before
+module _ {S : Type 0} (location : S → Location) (said : S → Said) (counted : S → ℕ) (w v : Sources) where
+  stood : (a b : List S) → map location b ≡ map location a → AllZip (λ x y. (q : List ℕ) → KeepsOf (said x) (said y) q) a b → NoneFalls (map counted a) (map counted b) → All (Stands location said counted w v) b → All (Stands location said counted w v) a
+  stood [] b same says le stand = All-nil (Stands location said counted w v)
+  stood (x ∷ a) [] same says le stand = absurd (cc)
+  stood (x ∷ a) (y ∷ b) same says le stand =
+      let here : location y ≡ location x = cc in
+      let rest : map location b ≡ map location a = cc in
+      let more : counted x ≤ counted y = le 0 in
+      let last = stand 0 y (omega arith) in
+      All-cons (Stands location said counted w v) x a
+      (record {
+        says = λ id. keeps_twice (said x) (said y) (said_at w v (location x)) id (says.0 id) (subst (λ q. KeepsOf (said y) (said_at w v q) id) here (last.says id));
+        rises = λ rose. subst (StoreRose w v) here (last.rises (rose_longer 0 (counted x) (counted y) more rose));
+      })
+      (stood a b rest says.1 (λ k. le (suc k)) (λ j q lt. stand (suc j) q (omega (arith, lt))))
 
 -- ---- what a lost entry tells
 
-module _ {S V : Type 0} (holds folder : S → Option (Map (List ℕ))) (place : S → List ℕ) (counted : S → ℕ) (lacks_memory : Bool) (view : V → Held) (view_faults : V → ℕ) (l : Listing) (p : Deal) (x : Placed)
-    (d e : Disk) (names : List (List ℕ)) (cache : Option (List ℕ)) (out : Into) (seeds : Seeds) (t0 : Option (List ℕ)) (old new : ℕ) (k j : Kit S V) (e0 e1 : Option Shelf) where
-  abbrev said_of : S → Said
-  said_of s = said_by (holds s)
+module _ {S V : Type 0} (holds folder : S → Option (Map (List ℕ))) (place : S → List ℕ) (location : S → Location) (said : S → Said) (counted : S → ℕ) (lacks_memory : Bool) (view : V → Held) (view_faults : V → ℕ) (l : Listing) (p : Deal) (x : Placed)
+    (w v : Sources) (stores : List Location) (cache : Option (List ℕ)) (out : Into) (seeds : Seeds) (t0 : Option (List ℕ)) (old new : ℕ) (k j : Kit S V) (e0 e1 : Option Shelf) where
+  abbrev d : Disk
+  d = w.disk
+
+  abbrev e : Disk
+  e = v.disk
 
   abbrev IsLostHere : Lost → Type 0
-  IsLostHere u = IsUnobtained holds folder place said_of counted lacks_memory view view_faults l p x t0 old new k j e0 e1 u
-
-  lacking : (o : Option (List ℕ)) (fs : List (Map (List ℕ))) (n : ℕ) (id : ChunkId) (r : Refused) → n < count_of l → id.0 ≡ id_of l n → LacksAll (chunk_of (kind_of l) id (size_of l n)) (map chunks fs) r
-      → IfSome o (λ b. RightAlike l (resized b (image_length l)) n → Rose old new) → (Rose old new → FileRose d e out.name) → IfSome o (λ b. LackingOver d e names cache out l seeds b fs n id r)
-  lacking None fs n id r inside named lacks copies rose = tt
-  lacking (Some b) fs n id r inside named lacks copies rose = (inside, named, lacks, λ a. rose (copies a))
-
-  -- it is lacking from the stores, which held these chunks
-  lacks_at : (fs : List (Map (List ℕ))) → map holds k.chain.stores ≡ map Some (map chunks fs) → (Rose old new → FileRose d e out.name) → (u : Lost) → IsLostHere u → IfSome t0 (λ o. LackingOver d e names cache out l seeds o fs u.entry u.id u.refused)
-  lacks_at fs held rose u h = lacking t0 fs u.entry u.id u.refused h.listed h.id_is (h.stores.refused.lacks (map chunks fs) (h.stores.until.held ∙ held)) h.copies rose
-
-  none_lost : (o : Option (List ℕ)) → IfSome o (λ b. Unit {0})
-  none_lost None = tt
-  none_lost (Some b) = tt
-
-  pub lacks_told : (F : Type 0) (r : Result Report ExtractFault) (fs : List (Map (List ℕ))) → map holds k.chain.stores ≡ map Some (map chunks fs) → (Rose old new → FileRose d e out.name) → EndsBy IsLostHere F r → IfSome t0 (λ o. IfErr r (LostAs (LackingOver d e names cache out l seeds o fs)))
-  lacks_told F (Ok r) fs held rose h = none_lost t0
-  lacks_told F (Err (faults.Missing n id)) fs held rose h = lost_as IsLostHere F (λ n id r. IfSome t0 (λ o. LackingOver d e names cache out l seeds o fs n id r)) (lacks_at fs held rose) (Err (faults.Missing n id)) h
-  lacks_told F (Err (faults.Damaged n id s y)) fs held rose h = lost_as IsLostHere F (λ n id r. IfSome t0 (λ o. LackingOver d e names cache out l seeds o fs n id r)) (lacks_at fs held rose) (Err (faults.Damaged n id s y)) h
-  lacks_told F (Err (faults.StoreFault s)) fs held rose h = none_lost t0
-  lacks_told F (Err faults.TargetFault) fs held rose h = none_lost t0
-  lacks_told F (Err faults.Memory) fs held rose h = none_lost t0
+  IsLostHere u = IsUnobtained holds folder place said counted lacks_memory view view_faults l p x t0 old new k j e0 e1 u
 
   -- the seeds that have its chunk have failed, and the cache doesn't give it
   module _ (mid : Disk) (b : Map (List ℕ)) (told : d.files ≡ Some b) (zip : AllZip (IsViewed d mid) seeds.images (map (held_in view) k.seeds.items)) (is : IsSeedIndex l p seeds.listings x) (later : (q : List ℕ) → FileRose d mid q → FileRose d e q)
       (rises : (n : ℕ) → Rose (slice_index (map (faults_in view_faults) k.seeds.items) n) (slice_index (map (faults_in view_faults) j.seeds.items) n) → FileRose d e (name_at (map label_of (map (held_in view) k.seeds.items)) n))
       (gone : (n : ℕ) → CacheLacks (kind_of l) (id_of l n) (size_of l n) e0 e1 → CacheLacksEntry d e cache l n) where
-    others_at : (u : Lost) → IsLostHere u → OthersLack d e names cache out l seeds b u.entry u.id u.refused
+    others_at : (u : Lost) → IsLostHere u → OthersLack w v stores cache out l seeds b u.entry u.id u.refused
     others_at u h = (
       had_failed d mid b told seeds (map (held_in view) k.seeds.items) zip (id_of l u.entry) (size_of l u.entry) (places_at x (want_at p u.entry)) (is.places u.entry h.listed) e later
           (map (faults_in view_faults) k.seeds.items) (map (faults_in view_faults) j.seeds.items) rises
@@ -198,23 +187,71 @@ module _ {S V : Type 0} (holds folder : S → Option (Map (List ℕ))) (place : 
       gone u.entry h.cache,
     )
 
-    pub others_lack : (F : Type 0) (r : Result Report ExtractFault) → EndsBy IsLostHere F r → IfErr r (LostAs (OthersLack d e names cache out l seeds b))
-    others_lack F r h = lost_as IsLostHere F (OthersLack d e names cache out l seeds b) others_at r h
+    pub others_lack : (F : Type 0) (r : Result Report ExtractFault) → EndsBy IsLostHere F r → IfErr r (LostAs (OthersLack w v stores cache out l seeds b))
+    others_lack F r h = lost_as IsLostHere F (OthersLack w v stores cache out l seeds b) others_at r h
 
-  module _ (mid : Map ℕ) (le : (q : List ℕ) → count_at d.folder_counts q ≤ count_at mid q) (kept : KeepsStores holds folder place said_of counted k.chain.stores j.chain.stores) (same : map place k.chain.stores ≡ names)
-      (there : (after : List S) → map holds after ≡ map holds k.chain.stores → IfSome d.folders (λ m. (fs : List (Map (List ℕ))) × (map m names ≡ map Some fs) × (map holds after ≡ map Some (map chunks fs))))
-      (added : All (λ s. raised (count_at mid (place s)) (counted s) ≤ count_at e.folder_counts (place s)) j.chain.stores) where
-    stopped_at : (u : Lost) (s : ℕ) → u.refused ≡ refused.StoreFault s → IsLostHere u → StopsFailed d e names l s
+  -- over stores that were given back: these stand so
+  module _ (kept : KeepsStores holds folder place said counted k.chain.stores j.chain.stores) (located : (ys : List S) → map place ys ≡ map place k.chain.stores → map location ys ≡ stores) (stand : All (Stands location said counted w v) j.chain.stores) where
+    -- how the stores stood when the entry's chunk was asked for
+    record StoodAt (u : Lost) (h : IsLostHere u) : Type 0 where
+      many : length h.stores.before ≡ length h.stores.after
+      at : map location h.stores.after ≡ stores
+      all : All (Stands location said counted w v) h.stores.after
+
+    stood_at : (u : Lost) (h : IsLostHere u) → StoodAt u h
+    stood_at u h =
+        let a = h.stores in
+        let placed : map place a.after ≡ map place k.chain.stores = sym a.since.places ∙ kept.places in
+        let here : map location a.after ≡ stores = located a.after placed in
+        record {
+          many = same_length place a.before a.after (a.until.places ∙ sym placed);
+          at = here;
+          all = stood location said counted w v a.after j.chain.stores (located j.chain.stores kept.places ∙ sym here) a.since.says a.since.never_fall stand;
+        }
+
+    module _ (n : Map (Map (List ℕ))) (held : (fs : List (Map (List ℕ))) → map (told_at n) stores ≡ map Some fs → map holds k.chain.stores ≡ map Some (map chunks fs)) (rose : Rose old new → FileRose d e out.name) where
+      lacks_over : (o : Option (List ℕ)) (u : Lost) (h : IsLostHere u) → IfSome o (λ b. RightAlike l (resized b (image_length l)) u.entry → Rose old new) → IfSome o (λ b. LackingOver w v stores cache out l seeds n b u.entry u.id u.refused)
+      lacks_over None u h copies = tt
+      lacks_over (Some b) u h copies =
+          let s = stood_at u h in (
+            h.listed,
+            h.id_is,
+            have_lacked location said counted lacks_memory w v stores (lost_want l u) u.refused h.stores.before h.stores.after s.many s.at s.all h.stores.refused.told,
+            λ fs told. h.stores.refused.lacks (map chunks fs) (h.stores.until.held ∙ held fs told),
+            λ a. rose (copies a),
+          )
+
+      lacks_at : (u : Lost) → IsLostHere u → IfSome t0 (λ o. LackingOver w v stores cache out l seeds n o u.entry u.id u.refused)
+      lacks_at u h = lacks_over t0 u h h.copies
+
+      none_lost : (o : Option (List ℕ)) → IfSome o (λ b. Unit {0})
+      none_lost None = tt
+      none_lost (Some b) = tt
+
+      pub lacks_told : (F : Type 0) (r : Result Report ExtractFault) → EndsBy IsLostHere F r → IfSome t0 (λ o. IfErr r (LostAs (LackingOver w v stores cache out l seeds n o)))
+      lacks_told F (Ok r) h = none_lost t0
+      lacks_told F (Err (faults.Missing m id)) h = lost_as IsLostHere F (λ m id r. IfSome t0 (λ o. LackingOver w v stores cache out l seeds n o m id r)) lacks_at (Err (faults.Missing m id)) h
+      lacks_told F (Err (faults.Damaged m id s y)) h = lost_as IsLostHere F (λ m id r. IfSome t0 (λ o. LackingOver w v stores cache out l seeds n o m id r)) lacks_at (Err (faults.Damaged m id s y)) h
+      lacks_told F (Err (faults.StoreFault s)) h = none_lost t0
+      lacks_told F (Err faults.TargetFault) h = none_lost t0
+      lacks_told F (Err faults.Memory) h = none_lost t0
+
+    stopped_at : (u : Lost) (s : ℕ) → u.refused ≡ refused.StoreFault s → IsLostHere u → StopsFailed w v stores l s
     stopped_at u s is h =
-        let w : Want = lost_want l u in
-        let at = h.stores in
-        let told = subst (λ (r : Refused). Refuses said_of counted lacks_memory w at.before at.after r) is at.refused.told in
-        let lacks : Map (List ℕ) → Type 0 = λ m. (m u.id.0 ≡ None) ⊎ ((b : List ℕ) × (m u.id.0 ≡ Some b) × (IsChunk (kind_of l) u.id.0 (size_of l u.entry) b → ⊥)) in
-        let placed : map place at.after ≡ map place k.chain.stores = sym at.since.places ∙ kept.places in
-        let many : length at.before ≡ length at.after = same_length place at.before at.after (at.until.places ∙ sym placed) in
-        let fails : FailsFirst lacks d e s names = fails_first holds place counted lacks (λ q. Lacks w (said_of q.1)) (λ q y. said_lacks (kind_of l) u.id (size_of l u.entry) (holds q.1) y) d e mid le s names at.before at.after many (placed ∙ same)
-        (there at.after (sym at.since.held ∙ kept.held)) (gained_before place counted mid e.folder_counts at.after j.chain.stores at.since.places at.since.never_fall added) told in
-        (u.entry, subst (λ (id : List ℕ). FailsFirst (λ m. (m id ≡ None) ⊎ ((b : List ℕ) × (m id ≡ Some b) × (IsChunk (kind_of l) id (size_of l u.entry) b → ⊥))) d e s names) h.id_is fails, h.listed)
+        let c : Want = lost_want l u in
+        let a = stood_at u h in
+        let told = subst (λ (r : Refused). Refuses said counted lacks_memory c h.stores.before h.stores.after r) is h.stores.refused.told in
+        let lacked : (q : S × S) → Stands location said counted w v q.1 → Lacks c (said q.1) → LacksEntry l u.entry (said_at w v (location q.1)) =
+        λ q s y. entry_lacks l u.entry u.id (said_at w v (location q.1)) h.id_is (lacks_still c (said q.1) (said_at w v (location q.1)) (s.says u.id.0) y) in
+        let failed : (q : S × S) → Stands location said counted w v q.1 → Rose (counted q.0) (counted q.1) → StoreRose w v (location q.1) =
+        λ q s y. s.rises (rose_later 0 (counted q.0) (counted q.1) (omega arith) y) in
+        let either : (q : S × S) → Stands location said counted w v q.1 → Lacks c (said q.1) ⊎ Rose (counted q.0) (counted q.1) → LacksEntry l u.entry (said_at w v (location q.1)) ⊎ StoreRose w v (location q.1) =
+        λ q s y. elim y [ inl z ↦ inl (lacked q s z) | inr z ↦ inr (failed q s z) ] in (
+          u.entry,
+          first_as location said counted w v (λ q. Lacks c (said q.1)) (λ q. Rose (counted q.0) (counted q.1)) (λ q. Lacks c (said q.1) ⊎ Rose (counted q.0) (counted q.1))
+              (λ s. LacksEntry l u.entry (said_at w v s)) (StoreRose w v) (λ s. LacksEntry l u.entry (said_at w v s) ⊎ StoreRose w v s) lacked failed either s h.stores.before h.stores.after stores a.many a.at a.all told,
+          h.listed,
+        )
 
-    pub store_told : (F : Type 0) (r : Result Report ExtractFault) → EndsBy IsLostHere F r → IfErr r (StoreAs (StopsFailed d e names l))
-    store_told F r h = store_as IsLostHere F (StopsFailed d e names l) stopped_at r h
+    pub store_told : (F : Type 0) (r : Result Report ExtractFault) → EndsBy IsLostHere F r → IfErr r (StoreAs (StopsFailed w v stores l))
+    store_told F r h = store_as IsLostHere F (StopsFailed w v stores l) stopped_at r h

@@ -13,7 +13,7 @@ use Rattle.command_steps.specs.Cache.{CacheOpened}
 use Rattle.command_steps.specs.Openings.{IndexRead, Listed}
 use Rattle.command_steps.specs.Seeds.{AllListed, IndexesRead, image_name}
 use Rattle.command_steps.specs.Steps.{◌>>=◌, Passed, outcome_of}
-use Rattle.command_steps.specs.Stores.{StoresOpened, name_of, names_of}
+use Rattle.command_steps.specs.Sources.{Sources, SourcesOpened, sources}
 use Rattle.command_steps.specs.Worlds.{OnDisk, Reads, Step, World, world}
 use Rattle.desync_cli.proofs.Fair.{begun, if_any, if_some}
 use Rattle.desync_cli.proofs.Seeded.{zipped_many}
@@ -69,21 +69,27 @@ module _ (tmp : List ℕ) where
   ]
 
   -- over files and folders that tell, and over such that don't
-  over_told : (f : Option (Map (List ℕ))) (y : Option (Map (Map (List ℕ)))) (g : Option (Map (List ℕ))) (names : List (List ℕ)) (cache : Option (List ℕ)) (P : Map (List ℕ) → Map (List ℕ) → List (Map (List ℕ)) → List (Map (List ℕ)) → Type 0) → is_some f ≡ is_some y → is_some g ≡ is_some f
-      → ((b a : Map (List ℕ)) (cs fs : List (Map (List ℕ))) → P b a cs fs → (w : Option (List ℕ)) × ((a ≡ b) ⊎ (a ≡ at_name b tmp w)))
-      → IfSome f (λ b. IfSome y (λ n. IfSome g (λ a. (fs : List (Map (List ℕ))) × (map n names ≡ map Some fs) × (cs : List (Map (List ℕ))) × (map n (folder_of cache) ≡ map Some cs) × P b a cs fs))) → Only f g
-  over_told None y None names cache P told tells p h = tt
-  over_told None y (Some a) names cache P told tells p h = let no : true ≡ false = tells in absurd (cc)
-  over_told (Some b) None g names cache P told tells p h = let no : true ≡ false = told in absurd (cc)
-  over_told (Some b) (Some n) None names cache P told tells p h = let no : false ≡ true = tells in absurd (cc)
-  over_told (Some b) (Some n) (Some a) names cache P told tells p h =
-      let at = p b a h.2 h.0 h.4 in
+  over_told : (f : Option (Map (List ℕ))) (y : Option (Map (Map (List ℕ)))) (g : Option (Map (List ℕ))) (cache : Option (List ℕ)) (P : Map (List ℕ) → Map (List ℕ) → Map (Map (List ℕ)) → List (Map (List ℕ)) → Type 0) → is_some f ≡ is_some y → is_some g ≡ is_some f
+      → ((b a : Map (List ℕ)) (n : Map (Map (List ℕ))) (cs : List (Map (List ℕ))) → P b a n cs → (w : Option (List ℕ)) × ((a ≡ b) ⊎ (a ≡ at_name b tmp w)))
+      → IfSome f (λ b. IfSome y (λ n. IfSome g (λ a. (cs : List (Map (List ℕ))) × (map n (folder_of cache) ≡ map Some cs) × P b a n cs))) → Only f g
+  over_told None y None cache P told tells p h = tt
+  over_told None y (Some a) cache P told tells p h = let no : true ≡ false = tells in absurd (cc)
+  over_told (Some b) None g cache P told tells p h = let no : true ≡ false = told in absurd (cc)
+  over_told (Some b) (Some n) None cache P told tells p h = let no : false ≡ true = tells in absurd (cc)
+  over_told (Some b) (Some n) (Some a) cache P told tells p h =
+      let at = p b a n h.0 h.2 in
       elim at.1 [
         | inl same ↦ only_same (Some b) (Some a) (ap Some same)
         | inr set ↦ only_at (Some b) (Some a) at.0 (ap Some set)
       ]
 
-module _ (names : List (List ℕ)) (cache : Option (List ℕ)) (i : Into) (l : Listing) (x : Seeds) (d e : Disk) (told : is_some d.files ≡ is_some d.folders) (tells : is_some e.files ≡ is_some d.files) where
+module _ (stores : List Location) (cache : Option (List ℕ)) (i : Into) (l : Listing) (x : Seeds) (w v : Sources) (told : is_some w.disk.files ≡ is_some w.disk.folders) (tells : is_some v.disk.files ≡ is_some w.disk.files) where
+  abbrev d : Disk
+  d = w.disk
+
+  abbrev e : Disk
+  e = v.disk
+
   kept_at : (b a : Map (List ℕ)) → (t : List ℕ) × KeepsIn d e b a i l t → (w : Option (List ℕ)) × ((a ≡ b) ⊎ (a ≡ at_name b i.name w))
   kept_at b a h = (Some h.0, inr h.1.0)
 
@@ -93,17 +99,17 @@ module _ (names : List (List ℕ)) (cache : Option (List ℕ)) (i : Into) (l : L
   stopped_at b a (inr (inr kept)) = kept_at b a kept
 
   -- an assembly that was refused has changed no other file
-  only_assembled : (o : Outcome) → Assembled d e names cache i l x (Err o) → Only i.name d.files e.files
-  only_assembled (ends.Missing k id) h = over_told i.name d.files d.folders e.files names cache _ told tells (λ b a cs fs p. (Some p.0.0, inr p.0.1.0)) h
-  only_assembled (ends.Damaged k id store shows) h = over_told i.name d.files d.folders e.files names cache _ told tells (λ b a cs fs p. (Some p.0.0, inr p.0.1.0)) h
-  only_assembled (ends.StoreFault s) h = over_told i.name d.files d.folders e.files names cache _ told tells (λ b a cs fs p. kept_at b a p) h.1
-  only_assembled ends.TargetFault h = over_told i.name d.files d.folders e.files names cache _ told tells (λ b a cs fs p. stopped_at b a p) h.1
-  only_assembled ends.Memory h = over_told i.name d.files d.folders e.files names cache _ told tells (λ b a cs fs p. stopped_at b a p) h
+  only_assembled : (o : Outcome) → Assembled w v stores cache i l x (Err o) → Only i.name d.files e.files
+  only_assembled (ends.Missing k id) h = over_told i.name d.files d.folders e.files cache _ told tells (λ b a n cs p. (Some p.0.0, inr p.0.1.0)) h
+  only_assembled (ends.Damaged k id store shows) h = over_told i.name d.files d.folders e.files cache _ told tells (λ b a n cs p. (Some p.0.0, inr p.0.1.0)) h
+  only_assembled (ends.StoreFault s) h = over_told i.name d.files d.folders e.files cache _ told tells (λ b a n cs p. kept_at b a p) h.1
+  only_assembled ends.TargetFault h = over_told i.name d.files d.folders e.files cache _ told tells (λ b a n cs p. stopped_at b a p) h.1
+  only_assembled ends.Memory h = over_told i.name d.files d.folders e.files cache _ told tells (λ b a n cs p. stopped_at b a p) h
   only_assembled other h = absurd h
 
   -- nor has one that was done
-  only_made : Assembled d e names cache i l x (Ok tt) → Only i.name d.files e.files
-  only_made h = over_told i.name d.files d.folders e.files names cache _ told tells (λ b a cs fs p. (Some p.0.0, inr p.0.1.0)) h
+  only_made : Assembled w v stores cache i l x (Ok tt) → Only i.name d.files e.files
+  only_made h = over_told i.name d.files d.folders e.files cache _ told tells (λ b a n cs p. (Some p.0.0, inr p.0.1.0)) h
 
 left_over : (out : List ℕ) (w v : World) → Only (temporary_out out) w.disk.files v.disk.files → LeavesOut false out w v
 left_over out w v only = go w.disk.files v.disk.files only where
@@ -127,7 +133,7 @@ left_out stores cache seeds false index out w v o told (inr h) = go h.then where
   first : h.disk.files ≡ w.disk.files
   first = h.did.0.1.files
 
-  go : (OnDisk (IndexesRead seeds) >>= (λ ls. OnDisk (StoresOpened (names_of stores)) >>= (λ u. OnDisk (CacheOpened cache) >>= (λ u. OutMade false (names_of stores) cache out h.gave (record { images = map image_name seeds; listings = ls }))))) (world h.disk h.dial h.out) (Err o) v → LeavesOut false out w v
+  go : (OnDisk (IndexesRead seeds) >>= (λ ls. OnDisk (SourcesOpened stores) >>= (λ u. OnDisk (CacheOpened cache) >>= (λ u. OutMade false stores cache out h.gave (record { images = map image_name seeds; listings = ls }))))) (world h.disk h.dial h.out) (Err o) v → LeavesOut false out w v
   go (inl k) = left_same false out w v (k.0.1.files ∙ first)
   go (inr k) = opened k.then where
     read : k.disk.files ≡ w.disk.files
@@ -136,13 +142,13 @@ left_out stores cache seeds false index out w v o told (inr h) = go h.then where
     x : Seeds
     x = record { images = map image_name seeds; listings = k.gave }
 
-    opened : (OnDisk (StoresOpened (names_of stores)) >>= (λ u. OnDisk (CacheOpened cache) >>= (λ u. OutMade false (names_of stores) cache out h.gave x))) (world k.disk k.dial k.out) (Err o) v → LeavesOut false out w v
+    opened : (OnDisk (SourcesOpened stores) >>= (λ u. OnDisk (CacheOpened cache) >>= (λ u. OutMade false stores cache out h.gave x))) (world k.disk k.dial k.out) (Err o) v → LeavesOut false out w v
     opened (inl m) = left_same false out w v (m.0.1.files ∙ read)
     opened (inr g) = shelved g.then where
       open_files : g.disk.files ≡ w.disk.files
       open_files = g.did.0.1.files ∙ read
 
-      shelved : (OnDisk (CacheOpened cache) >>= (λ u. OutMade false (names_of stores) cache out h.gave x)) (world g.disk g.dial g.out) (Err o) v → LeavesOut false out w v
+      shelved : (OnDisk (CacheOpened cache) >>= (λ u. OutMade false stores cache out h.gave x)) (world g.disk g.dial g.out) (Err o) v → LeavesOut false out w v
       shelved (inl m) = left_same false out w v ((cache_reads cache g.disk v.disk (Err o) m.0).files ∙ open_files)
       shelved (inr m) = made m.then where
         reached : Reads g.disk m.disk
@@ -160,24 +166,24 @@ left_out stores cache seeds false index out w v o told (inr h) = go h.then where
         from : (u : Option (Map (List ℕ))) → Only tmp m.disk.files u → Only tmp w.disk.files u
         from u only = subst (λ f. Only tmp f u) files only
 
-        made : OutMade false (names_of stores) cache out h.gave x (world m.disk m.dial m.out) (Err o) v → LeavesOut false out w v
-        made (inl ((c, p, did, same, cleared), dial_same, out_same)) =
-            left_over out w v (from v.disk.files (only_then tmp m.disk.files c.files v.disk.files (only_assembled (names_of stores) cache (beside out) h.gave x m.disk c tells did.2 p did.0) (only_cleared tmp c v.disk o cleared)))
+        made : OutMade false stores cache out h.gave x (world m.disk m.dial m.out) (Err o) v → LeavesOut false out w v
+        made (inl ((c, p, did, same, cleared), rest_same)) =
+            left_over out w v (from v.disk.files (only_then tmp m.disk.files c.files v.disk.files (only_assembled stores cache (beside out) h.gave x (sources m.disk m.dial) (sources c v.dial) tells did.2 p did.0) (only_cleared tmp c v.disk o cleared)))
         made (inr n) =
             let did = n.did.0 in
-            let first_only = only_made (names_of stores) cache (beside out) h.gave x m.disk n.disk tells did.2 did.0 in
+            let first_only = only_made stores cache (beside out) h.gave x (sources m.disk m.dial) (sources n.disk n.dial) tells did.2 did.0 in
             let c = n.then.0 in
-            let second : Only tmp n.disk.files v.disk.files = only_then tmp n.disk.files c.0.files v.disk.files (only_same tmp n.disk.files c.0.files c.2.1) (only_cleared tmp c.0 v.disk o c.4) in
+            let second : Only tmp n.disk.files v.disk.files = only_then tmp n.disk.files c.0.files v.disk.files (only_same tmp n.disk.files c.0.files c.2.0.1) (only_cleared tmp c.0 v.disk o c.4) in
             left_over out w v (from v.disk.files (only_then tmp m.disk.files n.disk.files v.disk.files first_only second))
 
 -- ---- the steps in order
 
 -- a step that answered so, and was then cleared
-pub clears : (tmp : List ℕ) (step : Step Disk Unit) (d c e : Disk) (r a : Result Unit Outcome) → step d r c → ClearedAfter tmp c r a e → Clearing tmp step d a e
-clears tmp step d c e (Ok u) (Ok v) did same = subst (λ x. step d (Ok v) x) (sym same) did
-clears tmp step d c e (Ok u) (Err o) did h = absurd h
-clears tmp step d c e (Err p) (Ok v) did h = absurd h
-clears tmp step d c e (Err p) (Err o) did h = (c, p, did, h.0, h.1)
+pub clears : (tmp : List ℕ) (step : Step Sources Unit) (w : Sources) (c e : Disk) (k : DialState) (r a : Result Unit Outcome) → step w r (sources c k) → ClearedAfter tmp c r a e → Clearing tmp step w a (sources e k)
+clears tmp step w c e k (Ok u) (Ok v) did same = subst (λ x. step w (Ok v) (sources x k)) (sym same) did
+clears tmp step w c e k (Ok u) (Err o) did h = absurd h
+clears tmp step w c e k (Err p) (Ok v) did h = absurd h
+clears tmp step w c e k (Err p) (Err o) did h = (c, p, did, h.0, h.1)
 
 -- what follows on a step that passed
 pub passed_any : {A B : Type 0} (step : Step World A) (next : A → Step World B) (w : World) (r : Result B Outcome) (v : World) → Passed step next w r v → (step >>= next) w r v
@@ -185,23 +191,23 @@ passed_any step next w (Ok b) v h = h
 passed_any step next w (Err o) v h = inr h
 
 -- OUT was made so after the steps before it
-pub ends_with : (stores : List Location) (cache : Option (List ℕ)) (seeds : List (List ℕ)) (place : Bool) (index out : List ℕ) (l : Listing) (ls : List Listing) (d b c f m e : Disk) (k : DialState) (p : Output) (r : Result Unit Outcome)
-    → IndexRead index d (Ok l) b → IndexesRead seeds b (Ok ls) c → StoresOpened (names_of stores) c (Ok tt) f → CacheOpened cache f (Ok tt) m → OutMade place (names_of stores) cache out l (record { images = map image_name seeds; listings = ls }) (world m k p) r (world e k p)
-    → ExtractEnds stores cache seeds place index out (world d k p) r (world e k p)
-ends_with stores cache seeds place index out l ls d b c f m e k p r listed read opened shelved made =
-    passed_any _ _ (world d k p) r (world e k p) (record {
+pub ends_with : (stores : List Location) (cache : Option (List ℕ)) (seeds : List (List ℕ)) (place : Bool) (index out : List ℕ) (l : Listing) (ls : List Listing) (d b c f m e : Disk) (k j : DialState) (p : Output) (r : Result Unit Outcome)
+    → IndexRead index d (Ok l) b → IndexesRead seeds b (Ok ls) c → SourcesOpened stores c (Ok tt) f → CacheOpened cache f (Ok tt) m → OutMade place stores cache out l (record { images = map image_name seeds; listings = ls }) (world m k p) r (world e j p)
+    → ExtractEnds stores cache seeds place index out (world d k p) r (world e j p)
+ends_with stores cache seeds place index out l ls d b c f m e k j p r listed read opened shelved made =
+    passed_any _ _ (world d k p) r (world e j p) (record {
       disk = b;
       dial = k;
       out = p;
       gave = l;
       did = (listed, refl, refl);
-      then = passed_any _ _ (world b k p) r (world e k p) (record {
+      then = passed_any _ _ (world b k p) r (world e j p) (record {
         disk = c;
         dial = k;
         out = p;
         gave = ls;
         did = (read, refl, refl);
-        then = passed_any _ _ (world c k p) r (world e k p) (record { disk = f; dial = k; out = p; gave = tt; did = (opened, refl, refl); then = passed_any _ _ (world f k p) r (world e k p) (record { disk = m; dial = k; out = p; gave = tt; did = (shelved, refl, refl); then = made }) });
+        then = passed_any _ _ (world c k p) r (world e j p) (record { disk = f; dial = k; out = p; gave = tt; did = (opened, refl, refl); then = passed_any _ _ (world f k p) r (world e j p) (record { disk = m; dial = k; out = p; gave = tt; did = (shelved, refl, refl); then = made }) });
       });
     })
 
@@ -214,9 +220,9 @@ known_places_of d seeds ls l k p x listed same known =
     subst (λ (n : ℕ). PlacesKnown k p x n) (sym many) (subst (λ i. PlacesKnown i p x (length ls)) (sym same) known)
 
 -- as many stores were opened as are named
-pub opened_many : {S : Type 0} (place : S → List ℕ) (stores : List Location) (items : List S) → map place items ≡ names_of stores → (1 ≤ length stores) × (length stores ≤ 16) → (1 ≤ length items) × (length items ≤ 16)
-opened_many place stores items same few =
-    let many : length items ≡ length stores = sym (length-map items place) ∙ ap length same ∙ length-map stores name_of in
+pub opened_many : {S : Type 0} (location : S → Location) (stores : List Location) (items : List S) → map location items ≡ stores → (1 ≤ length stores) × (length stores ≤ 16) → (1 ≤ length items) × (length items ≤ 16)
+opened_many location stores items same few =
+    let many : length items ≡ length stores = sym (length-map items location) ∙ ap length same in
     (omega (arith, many, few.0), omega (arith, many, few.1))
 
 -- ---- what the top call says

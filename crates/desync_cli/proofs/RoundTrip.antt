@@ -8,7 +8,6 @@ use Rattle.caibx_codec.specs.Right.{IsRight}
 use Rattle.caibx_codec.specs.Spelling.{IsIndexFile}
 use Rattle.command_line.specs.declared.command.Command.{Command}
 use Rattle.command_line.specs.declared.command.Command.TheVariants as commands
-use Rattle.command_steps.specs.Stores.{name_of}
 use Rattle.command_steps.specs.Worlds.{world}
 use Rattle.desync_cli.specs.Commands.{Achieves}
 use Rattle.desync_cli.specs.Extract.{IsExtracted}
@@ -23,23 +22,23 @@ tells files folders counts folder_counts = record { files = Some files; folders 
 
 module _ (one : (b : List ℕ) (l m : Listing) → IsIndexFile b l → IsIndexFile b m → l ≡ m)
     (law : (s : Sizes) (image t : List ℕ) (l : Listing) → IsIndexOfImage s image l → IsRight t l → (t ≡ image) ⊎ HasTwins t image l) where
-  back : (before between after : Map (List ℕ)) (folders folders_after : Map (Map (List ℕ))) (folder sizes index image out : List ℕ) → IsMade before folders between folders_after folder sizes index image → IsExtracted between after index out → ComesBack before after image out
-  back before between after folders folders_after folder sizes index image out m x =
+  back : (before between after : Map (List ℕ)) (sizes index image out : List ℕ) (l : Listing) → IsMade before between sizes index image l → IsExtracted between after index out → ComesBack before after image out
+  back before between after sizes index image out l m x =
       let read : Some x.listed.bytes ≡ Some m.file = sym x.listed.there ∙ m.written in
       let bytes : x.listed.bytes ≡ m.file = cc in
-      let same : x.listing ≡ m.listing = one m.file x.listing m.listing (subst (λ b. IsIndexFile b x.listing) bytes x.listed.file) m.is_file in
+      let same : x.listing ≡ l = one m.file x.listing l (subst (λ b. IsIndexFile b x.listing) bytes x.listed.file) m.is_file in
       record {
         bytes = m.bytes;
         was = m.image_was;
         now = x.image;
         is = x.holds;
-        listing = m.listing;
-        same = law _ m.bytes x.image m.listing m.of_image (subst (λ l. IsRight x.image l) same x.right);
+        listing = l;
+        same = law _ m.bytes x.image l m.of_image (subst (λ l. IsRight x.image l) same x.right);
       }
 
   over : (first then : Command) (b m a : Map (List ℕ)) (f g h : Map (Map (List ℕ))) (bc fc mc gc ac hc : Map ℕ) (i j k : DialState) (p q r : Output) → Achieves first (world (tells b f bc fc) i p) (world (tells m g mc gc) j q) → Achieves then (world (tells m g mc gc) j q) (world (tells a h ac hc) k r)
       → RoundTrip (Some first) (Some then) b a
-  over (commands.Make store sizes workers index image) (commands.Extract stores seeds cache in_place n other out) b m a f g h bc fc mc gc ac hc i j k p q r x y = λ same. back b m a f g (name_of store) sizes index image out x (subst (λ i. IsExtracted m a i out) same y)
+  over (commands.Make store sizes workers index image) (commands.Extract stores seeds cache in_place n other out) b m a f g h bc fc mc gc ac hc i j k p q r x y = λ same. back b m a sizes index image out x.0 x.1 (subst (λ i. IsExtracted m a i out) same y)
   over first then b m a f g h bc fc mc gc ac hc i j k p q r x y = tt
 
   no_second : (first : Command) (b a : Map (List ℕ)) → RoundTrip (Some first) None b a

@@ -12,6 +12,8 @@ use Rattle.chunk_store.specs.Giving.{GivesChunk}
 use Rattle.chunk_store.specs.declared.id.DigestKind.{DigestKind}
 use Rattle.command_steps.proofs.Numbers.{given_quiet, given_rose, rose_longer}
 use Rattle.command_steps.specs.Cache.{CacheGiven, folders_with}
+use Rattle.command_line.specs.declared.command.Location.{Location}
+use Rattle.command_steps.specs.Sources.{told_at}
 use Rattle.command_steps.specs.Worlds.{DiskQuiet, FolderRose}
 use Rattle.desync_cli.proofs.Assembled.{at_name_twice}
 use Rattle.desync_cli.specs.Extract.{CacheFilled, CacheGrows, CacheLacksEntry, IsForCache, folder_of}
@@ -97,6 +99,11 @@ fresh_faults files place faults kind (Some s) fresh = fresh.0
 
 -- ---- what is seen of it
 
+-- its digest names chunks as it did
+pub same_kind : {F : Type 0} (files : F → Option (Map (List ℕ))) (place : F → List ℕ) (faults : F → ℕ) (kind : DigestKind) (o : Option (Shelved F)) → IfSome o (λ s. (faults s.folder ≡ 0) × (s.kind ≡ kind)) → IfSome (seen files place faults o) (λ s. s.kind ≡ kind)
+same_kind files place faults kind None fresh = tt
+same_kind files place faults kind (Some s) fresh = fresh.1
+
 pub same_names : {F : Type 0} (files : F → Option (Map (List ℕ))) (place : F → List ℕ) (faults : F → ℕ) (o : Option (Shelved F)) → name_in (seen files place faults o) ≡ option_map (λ s. place s.folder) o
 same_names files place faults None = refl
 same_names files place faults (Some s) = refl
@@ -121,48 +128,47 @@ name_after Takes (Some s) (Some t) cache stocked is = ap Some stocked.place ∙ 
 
 -- ---- what was added to it
 
-module _ (names : List (List ℕ)) (l : Listing) (c : List ℕ) where
+module _ (stores : List Location) (l : Listing) (c : List ℕ) where
   abbrev Filled : Option (Map (Map (List ℕ))) → Option (Map (Map (List ℕ))) → Type 0
-  Filled y z = (is_some z ≡ is_some y) × IfSome y (λ m. IfSome z (λ n. (fs : List (Map (List ℕ))) × (map m names ≡ map Some fs)
-      × (f : Map (List ℕ)) × (m c ≡ Some f) × (g : Map (List ℕ)) × (n ≡ at_name m c (Some g)) × CacheGrows l fs f g))
+  Filled y z = (is_some z ≡ is_some y) × IfSome y (λ m. IfSome z (λ n. (f : Map (List ℕ)) × (m c ≡ Some f) × (g : Map (List ℕ)) × (n ≡ at_name m c (Some g)) × CacheGrows l m stores f g))
 
-  filled_at : (m : Map (Map (List ℕ))) (fs : List (Map (List ℕ))) (x y : Option (Map (List ℕ))) (f g : Map (List ℕ)) → x ≡ Some f → y ≡ Some g → map (at_name m c x) names ≡ map Some fs → CacheGrows l fs f g
+  filled_at : (m : Map (Map (List ℕ))) (x y : Option (Map (List ℕ))) (f g : Map (List ℕ)) → x ≡ Some f → y ≡ Some g → CacheGrows l (at_name m c x) stores f g
       → Filled (Some (at_name m c x)) (Some (at_name m c y))
-  filled_at m fs x y f g is now there grows = (refl, (fs, there, f, at_same m c x ∙ is, g, ap (at_name m c) now ∙ sym (at_name_twice m c x (Some g)), grows))
+  filled_at m x y f g is now grows = (refl, (f, at_same m c x ∙ is, g, ap (at_name m c) now ∙ sym (at_name_twice m c x (Some g)), grows))
 
-module _ {S : Type 0} (holds : S → Option (Map (List ℕ))) (stores : List S) (l : Listing) (fs : List (Map (List ℕ))) (held : map holds stores ≡ map Some (map chunks fs)) where
-  for_cache : (q b : List ℕ) → TakesListed holds l stores q b → IsForCache l fs q b
-  for_cache q b h = (h.0, h.1, h.2.0, h.2.1, h.2.2 (map chunks fs) held)
+module _ {S : Type 0} (holds : S → Option (Map (List ℕ))) (xs : List S) (l : Listing) (n : Map (Map (List ℕ))) (stores : List Location) (held : (fs : List (Map (List ℕ))) → map (told_at n) stores ≡ map Some fs → map holds xs ≡ map Some (map chunks fs)) where
+  for_cache : (q b : List ℕ) → TakesListed holds l xs q b → IsForCache l n stores q b
+  for_cache q b h = (h.0, h.1, h.2.0, h.2.1, λ fs told. h.2.2 (map chunks fs) (held fs told))
 
-  grows : (s t : Shelf) (f g : Map (List ℕ)) → s.files ≡ Some f → t.files ≡ Some g → Stocked (TakesListed holds l stores) (Some s) (Some t) → CacheGrows l fs f g
+  grows : (s t : Shelf) (f g : Map (List ℕ)) → s.files ≡ Some f → t.files ≡ Some g → Stocked (TakesListed holds l xs) (Some s) (Some t) → CacheGrows l n stores f g
   grows s t f g is now stocked = record {
     held = λ q. elim (at q) [ inl same ↦ inl same | inr new ↦ inr (new.0, new.1, for_cache q new.0 new.2) ];
     strangers = subst (λ o. IfSome o (λ n. (q : List ℕ) → IsTrue (is_stranger q) → n q ≡ f q)) now
         (subst (λ o. IfSome o (λ m. IfSome t.files (λ n. (q : List ℕ) → IsTrue (is_stranger q) → n q ≡ m q))) is stocked.strangers);
   } where
-    at : (q : List ℕ) → (chunks g q ≡ chunks f q) ⊎ ((b : List ℕ) × (chunks g q ≡ Some b) × TakesListed holds l stores q b)
-    at = subst (λ o. IfSome o (λ n. (q : List ℕ) → (chunks n q ≡ chunks f q) ⊎ ((b : List ℕ) × (chunks n q ≡ Some b) × TakesListed holds l stores q b))) now
-        (subst (λ o. IfSome o (λ m. IfSome t.files (λ n. (q : List ℕ) → (chunks n q ≡ chunks m q) ⊎ ((b : List ℕ) × (chunks n q ≡ Some b) × TakesListed holds l stores q b)))) is stocked.chunks)
+    at : (q : List ℕ) → (chunks g q ≡ chunks f q) ⊎ ((b : List ℕ) × (chunks g q ≡ Some b) × TakesListed holds l xs q b)
+    at = subst (λ o. IfSome o (λ n. (q : List ℕ) → (chunks n q ≡ chunks f q) ⊎ ((b : List ℕ) × (chunks n q ≡ Some b) × TakesListed holds l xs q b))) now
+        (subst (λ o. IfSome o (λ m. IfSome t.files (λ n. (q : List ℕ) → (chunks n q ≡ chunks m q) ⊎ ((b : List ℕ) × (chunks n q ≡ Some b) × TakesListed holds l xs q b)))) is stocked.chunks)
 
-pub cache_filled : {S : Type 0} (holds : S → Option (Map (List ℕ))) (stores : List S) (names : List (List ℕ)) (l : Listing) (e0 e1 : Option Shelf) (cache : Option (List ℕ)) (folders : Option (Map (Map (List ℕ)))) (d e : Disk)
-    → name_in e0 ≡ cache → d.folders ≡ folders_with e0 folders → e.folders ≡ folders_with e1 folders → IsTold e0 folders → Stocked (TakesListed holds l stores) e0 e1
-    → IfSome d.folders (λ m. (fs : List (Map (List ℕ))) × (map m names ≡ map Some fs) × (map holds stores ≡ map Some (map chunks fs)))
-    → CacheFilled names cache l d e
-cache_filled {S} holds stores names l None None cache folders d e is was now told stocked there = subst (λ c. CacheFilled names c l d e) is (now ∙ sym was)
-cache_filled {S} holds stores names l None (Some t) cache folders d e is was now told stocked there = absurd stocked
-cache_filled {S} holds stores names l (Some s) None cache folders d e is was now told stocked there = absurd stocked
-cache_filled {S} holds stores names l (Some s) (Some t) cache folders d e is was now told stocked there =
-    subst (λ c. CacheFilled names c l d e) is (subst (λ y. Filled names l s.place y e.folders) (sym was) (subst (λ z. Filled names l s.place (folders_with (Some s) folders) z) (sym now)
+pub cache_filled : {S : Type 0} (holds : S → Option (Map (List ℕ))) (xs : List S) (stores : List Location) (l : Listing) (e0 e1 : Option Shelf) (cache : Option (List ℕ)) (folders : Option (Map (Map (List ℕ)))) (d e : Disk)
+    → name_in e0 ≡ cache → d.folders ≡ folders_with e0 folders → e.folders ≡ folders_with e1 folders → IsTold e0 folders → Stocked (TakesListed holds l xs) e0 e1
+    → IfSome d.folders (λ m. (fs : List (Map (List ℕ))) → map (told_at m) stores ≡ map Some fs → map holds xs ≡ map Some (map chunks fs))
+    → CacheFilled stores cache l d e
+cache_filled {S} holds xs stores l None None cache folders d e is was now told stocked there = subst (λ c. CacheFilled stores c l d e) is (now ∙ sym was)
+cache_filled {S} holds xs stores l None (Some t) cache folders d e is was now told stocked there = absurd stocked
+cache_filled {S} holds xs stores l (Some s) None cache folders d e is was now told stocked there = absurd stocked
+cache_filled {S} holds xs stores l (Some s) (Some t) cache folders d e is was now told stocked there =
+    subst (λ c. CacheFilled stores c l d e) is (subst (λ y. Filled stores l s.place y e.folders) (sym was) (subst (λ z. Filled stores l s.place (folders_with (Some s) folders) z) (sym now)
     (over folders told (subst (λ y. IfSome y There) was there)))) where
       There : Map (Map (List ℕ)) → Type 0
-      There m = (fs : List (Map (List ℕ))) × (map m names ≡ map Some fs) × (map holds stores ≡ map Some (map chunks fs))
+      There m = (fs : List (Map (List ℕ))) → map (told_at m) stores ≡ map Some fs → map holds xs ≡ map Some (map chunks fs)
 
-      over : (folders : Option (Map (Map (List ℕ)))) → IsTold (Some s) folders → IfSome (folders_with (Some s) folders) There → Filled names l s.place (folders_with (Some s) folders) (folders_with (Some t) folders)
+      over : (folders : Option (Map (Map (List ℕ)))) → IsTold (Some s) folders → IfSome (folders_with (Some s) folders) There → Filled stores l s.place (folders_with (Some s) folders) (folders_with (Some t) folders)
       over None told there = (refl, tt)
       over (Some m) told there = at s.files t.files refl refl (told m refl) where
-        at : (x y : Option (Map (List ℕ))) → s.files ≡ x → t.files ≡ y → is_some s.files ≡ true → Filled names l s.place (folders_with (Some s) (Some m)) (folders_with (Some t) (Some m))
+        at : (x y : Option (Map (List ℕ))) → s.files ≡ x → t.files ≡ y → is_some s.files ≡ true → Filled stores l s.place (folders_with (Some s) (Some m)) (folders_with (Some t) (Some m))
         at None y x_is y_is some = absurd (true≢false (sym some ∙ ap is_some x_is))
         at (Some f) None x_is y_is some = absurd (true≢false (sym some ∙ sym stocked.told ∙ ap is_some y_is))
         at (Some f) (Some g) x_is y_is some =
-            subst (λ (p : List ℕ). Filled names l s.place (Some (at_name m s.place s.files)) (Some (at_name m p t.files))) (sym stocked.place)
-            (filled_at names l s.place m there.0 s.files t.files f g x_is y_is there.1 (grows holds stores l there.0 there.2 s t f g x_is y_is stocked))
+            subst (λ (p : List ℕ). Filled stores l s.place (Some (at_name m s.place s.files)) (Some (at_name m p t.files))) (sym stocked.place)
+            (filled_at stores l s.place m s.files t.files f g x_is y_is (grows holds xs l (at_name m s.place s.files) stores there s t f g x_is y_is stocked))

@@ -1,11 +1,13 @@
 -- What the words are to do, and what each command does.
 use Rattle.std.specs.Prelude.{◌≡◌, ◌&&◌, ℕ, nat_le, length, Bool, true, false, not, is_some, if◌then◌else◌}
 use Rattle.std.specs.Prelude.{List, [], ◌∷◌, Option, Some, None, IfSome, Result, Ok, Err}
+use Rattle.caibx_codec.specs.Listing.{Listing}
 use Rattle.command_help.specs.Help.{help_text}
 use Rattle.command_help.specs.declared.help.Topic.TheVariants as topics
 use Rattle.command_line.specs.CommandLine.{command_line}
 use Rattle.command_line.specs.declared.command.Command.{Command}
 use Rattle.command_line.specs.declared.command.Command.TheVariants as commands
+use Rattle.command_line.specs.declared.command.Location.TheVariants as locations
 use Rattle.command_line.specs.declared.usage.UsageWhy.{UsageWhy}
 use Rattle.command_line.specs.declared.usage.UsageWhy.TheVariants as whys
 use Rattle.command_line.specs.declared.usage.WordsFault.{WordsFault}
@@ -17,13 +19,14 @@ use Rattle.desync_cli.specs.Chop.{ChopEnds, IsChopped}
 use Rattle.desync_cli.specs.Extract.{ExtractEnds, IsExtracted, LeavesOut, temporary_out}
 use Rattle.desync_cli.specs.Info.{InfoEnds}
 use Rattle.desync_cli.specs.ListChunks.{ListChunksEnds}
-use Rattle.desync_cli.specs.Make.{IsMade, MakeEnds}
+use Rattle.desync_cli.specs.Make.{IsMade, MakeEnds, StoreHas}
 use Rattle.desync_cli.specs.Prune.{IsPruned, PruneEnds}
 use Rattle.desync_cli.specs.Verify.{IsVerifiedStore, VerifyEnds}
 use Rattle.command_steps.specs.Blames.{Parts, Spares}
 use Rattle.command_steps.specs.Printing.{Printed}
+use Rattle.command_steps.specs.Sources.{sources_of}
 use Rattle.command_steps.specs.Steps.{◌>>=◌}
-use Rattle.command_steps.specs.Stores.{are_folders, is_folder, name_of, names_of}
+use Rattle.command_steps.specs.Stores.{are_folders, is_folder}
 use Rattle.command_steps.specs.Worlds.{OnOut, Step, World}
 use Rattle.desync_cli.specs.VerifyIndex.{IsVerified, VerifyIndexEnds}
 
@@ -31,15 +34,14 @@ use Rattle.desync_cli.specs.VerifyIndex.{IsVerified, VerifyIndexEnds}
 
 -- the commands that are built
 abbrev pub is_built : Command → Bool
-is_built (commands.Make store sizes workers index image) = is_folder store
+is_built (commands.Make store sizes workers index image) = true
 is_built (commands.VerifyIndex index image) = true
-is_built (commands.Chop store index image) = is_folder store
-is_built (commands.Cache stores cache indexes) =
-    nat_le 1 (length stores) && nat_le (length stores) 16 && are_folders stores
+is_built (commands.Chop store index image) = true
+is_built (commands.Cache stores cache indexes) = nat_le 1 (length stores) && nat_le (length stores) 16
 is_built (commands.ListChunks index) = true
 is_built (commands.Extract stores seeds cache in_place workers index target) =
-    nat_le (length seeds) 64 && nat_le 1 (length stores) && nat_le (length stores) 16 && are_folders stores
-is_built (commands.Info stores index) = nat_le (length stores) 16 && are_folders stores
+    nat_le (length seeds) 64 && nat_le 1 (length stores) && nat_le (length stores) 16
+is_built (commands.Info stores index) = nat_le (length stores) 16
 is_built (commands.Verify store repair) = true
 is_built (commands.Prune store indexes) = true
 is_built commands.Help = true
@@ -66,41 +68,43 @@ Ends other = λ w r v. ⊥
 
 -- what no outcome of it changes
 abbrev pub spares : Command → Spares
-spares (commands.Make store sizes workers index image) = record { files = false; folders = false; dial = true; out = true }
+spares (commands.Make store sizes workers index image) = record
+    { files = false; folders = not (is_folder store); dial = is_folder store; out = true }
 spares (commands.VerifyIndex index image) = record { files = true; folders = true; dial = true; out = true }
-spares (commands.Chop store index image) = record { files = true; folders = false; dial = true; out = true }
-spares (commands.Cache stores cache indexes) = record { files = true; folders = false; dial = true; out = true }
+spares (commands.Chop store index image) = record
+    { files = true; folders = not (is_folder store); dial = is_folder store; out = true }
+spares (commands.Cache stores cache indexes) = record
+    { files = true; folders = false; dial = are_folders stores; out = true }
 spares (commands.Extract stores seeds cache in_place workers index target) = record
-    { files = false; folders = not (is_some cache); dial = true; out = true }
+    { files = false; folders = not (is_some cache); dial = are_folders stores; out = true }
+spares (commands.Info stores index) = record { files = true; folders = true; dial = are_folders stores; out = false }
 spares (commands.Verify store repair) = record { files = true; folders = false; dial = true; out = false }
 spares (commands.Prune store indexes) = record { files = true; folders = false; dial = true; out = true }
 spares other = record { files = true; folders = true; dial = true; out = false }
 
--- whose files and folders its faults are of, where the outcome doesn't name them
+-- whose files, folders and servers its faults are of, where the outcome doesn't name them
 abbrev pub parts : Command → Parts
 parts (commands.Make store sizes workers index image) = record
-    { image = image; stores = name_of store ∷ []; target = []; cache = [] }
+    { image = image; stores = store ∷ []; target = []; cache = [] }
 parts (commands.VerifyIndex index image) = record { image = image; stores = []; target = []; cache = [] }
-parts (commands.Chop store index image) = record
-    { image = image; stores = name_of store ∷ []; target = []; cache = [] }
+parts (commands.Chop store index image) = record { image = image; stores = store ∷ []; target = []; cache = [] }
 parts (commands.Cache stores cache indexes) = record
-    { image = []; stores = names_of stores; target = []; cache = cache }
+    { image = []; stores = stores; target = []; cache = cache }
 parts (commands.Extract stores seeds cache in_place workers index target) = record
-    { image = []; stores = names_of stores; target = if in_place then target else temporary_out target; cache = [] }
-parts (commands.Info stores index) = record { image = []; stores = names_of stores; target = []; cache = [] }
-parts (commands.Verify store repair) = record { image = []; stores = store ∷ []; target = []; cache = [] }
-parts (commands.Prune store indexes) = record { image = []; stores = store ∷ []; target = []; cache = [] }
+    { image = []; stores = stores; target = if in_place then target else temporary_out target; cache = [] }
+parts (commands.Info stores index) = record { image = []; stores = stores; target = []; cache = [] }
+parts (commands.Verify store repair) = record { image = []; stores = locations.Folder store ∷ []; target = []; cache = [] }
+parts (commands.Prune store indexes) = record { image = []; stores = locations.Folder store ∷ []; target = []; cache = [] }
 parts other = record { image = []; stores = []; target = []; cache = [] }
 
 -- what Done says of it, beside how it ends
 abbrev pub Achieves : Command → World → World → Type 0
 Achieves (commands.Make store sizes workers index image) w v =
-    IfSome w.disk.files (λ b. IfSome w.disk.folders (λ f. IfSome v.disk.files (λ a. IfSome v.disk.folders (λ g.
-    IsMade b f a g (name_of store) sizes index image))))
+    IfSome w.disk.files (λ b. IfSome v.disk.files (λ a. (l : Listing)
+    × IsMade b a sizes index image l × StoreHas (sources_of w) (sources_of v) store l))
 Achieves (commands.VerifyIndex index image) w v = IfSome w.disk.files (λ m. IsVerified m index image)
-Achieves (commands.Chop store index image) w v =
-    IfSome w.disk.files (λ b. IfSome w.disk.folders (λ f. IfSome v.disk.folders (λ g.
-    IsChopped b f g (name_of store) index image)))
+Achieves (commands.Chop store index image) w v = IfSome w.disk.files (λ b. (l : Listing)
+    × IsChopped b index image l × StoreHas (sources_of w) (sources_of v) store l)
 Achieves (commands.Cache stores cache indexes) w v =
     IfSome w.disk.files (λ b. IfSome w.disk.folders (λ f. IfSome v.disk.folders (λ g.
     IsCached b f g cache indexes)))

@@ -1,8 +1,8 @@
--- `extract [-k] -s FOLDER.. -c FOLDER --seed INDEX.. INDEX OUT`. A name is its bytes.
+-- `extract [-k] -s STORE.. -c FOLDER --seed INDEX.. INDEX OUT`. A name is its bytes.
 use Rattle.std.specs.Prelude.{◌≡◌, ◌≢◌, ◌⊎◌, ◌++◌, codes, Bool, true, false, if◌then◌else◌, is_some, ℕ, ◌+◌, ◌<◌, ◌≤◌}
 use Rattle.std.specs.Prelude.{length, List, [], ◌∷◌, map, Option, Some, None, IfSome, IsSome, IsTrue, Result, Ok, Err}
 use Rattle.std.specs.Prelude.{unwrap_or}
-use Rattle.std.specs.List.{Any, slice_get}
+use Rattle.std.specs.List.{All, Any, slice_get}
 use Rattle.std.specs.Map.{count_at}
 use Rattle.std.specs.Option.{option_map}
 use Rattle.assembler.specs.Assemblies.{IsLeast, KeepsBase, RightAlike}
@@ -16,6 +16,7 @@ use Rattle.caibx_codec.specs.Listing.{Listing, count_of, id_of, kind_of, size_of
 use Rattle.caibx_codec.specs.Right.{IsRight, IsRightAt}
 use Rattle.chunk_store.specs.Folders.{chunks}
 use Rattle.chunk_store.specs.Giving.{GivesChunk, IsChunk}
+use Rattle.chunk_store.specs.Said.{Said}
 use Rattle.chunk_store.specs.declared.id.ChunkId.{ChunkId}
 use Rattle.command_line.specs.declared.command.Location.{Location}
 use Rattle.command_outcome.specs.declared.outcome.Outcome.{Outcome}
@@ -29,12 +30,15 @@ use Rattle.command_steps.specs.Cache.{CacheOpened}
 use Rattle.command_steps.specs.Openings.{IndexRead, IsListed}
 use Rattle.command_steps.specs.Seeds.{IndexesRead, image_name}
 use Rattle.command_steps.specs.Steps.{◌>>=◌}
-use Rattle.command_steps.specs.Stores.{FailsFirst, StoresOpened, names_of}
+use Rattle.command_steps.specs.Sources.{DialsStores, FailsFirst, NotAsking, OnSources, Sources, SourcesOpened, said_at, sources, told_at}
 use Rattle.command_steps.specs.Worlds.{DiskQuiet, FileRose, FolderRose, OnDisk, Step, World, Writes}
 use Rattle.dsy_base.specs.Disk.{Disk}
 use Rattle.store_chain.specs.Giving.{LacksAll}
+use Rattle.store_chain.specs.Lists.{FirstAt}
+use Rattle.store_chain.specs.Refusals.{HasShown, Lacks}
 use Rattle.store_chain.specs.declared.refused.Refused.{Refused}
 use Rattle.store_chain.specs.declared.refused.Refused.TheVariants as refused
+use Rattle.store_chain.specs.declared.want.Want.{Want}
 
 -- the file that becomes the image: its name, and whether it begins with no bytes, whatever stands under that name
 pub record Into : Type 0 where
@@ -109,34 +113,46 @@ CacheLacksEntry d e None l k = Unit {0}
 CacheLacksEntry d e (Some c) l k = IfSome e.folders (λ n. IfSome (n c) (λ g.
     GivesChunk (kind_of l) (id_of l k) (size_of l k) (chunks g (id_of l k)) → FolderRose d e c))
 
--- the chunk of entry k can't be had from the folders, for this reason; an alike entry that is right in the base
--- couldn't be read, and no seed that has the chunk; and the cache doesn't give it
-pub record IsLacking (d e : Disk) (before : Map (List ℕ)) (cache : Option (List ℕ)) (out : Into) (l : Listing)
-    (x : Seeds) (stores : List (Map (List ℕ))) (k : ℕ) (id : ChunkId) (r : Refused) : Type 0 where
+-- so it is where all stores are folders of these, whose files are told
+abbrev pub WhereFolders : Map (Map (List ℕ)) → List Location → (List (Map (List ℕ)) → Type 0) → Type 0
+WhereFolders n stores P = (fs : List (Map (List ℕ))) → map (told_at n) stores ≡ map Some fs → P fs
+
+-- what stores have said that lack a chunk: all have denied it; or this is the first that has shown something else
+-- under its id, and all lack it; or this is the first that failed, and all others lack it or failed too
+abbrev pub HaveLacked : Want → Sources → Sources → List Location → Refused → Type 0
+HaveLacked c w v stores refused.Missing = All (λ s. (said_at w v s).denied c.id.0) stores
+HaveLacked c w v stores (refused.Damaged s x) = FirstAt (λ s. (said_at w v s).denied c.id.0)
+    (λ s. HasShown c x (said_at w v s)) (λ s. Lacks c (said_at w v s)) s stores
+HaveLacked c w v stores (refused.StoreFault s) = FailsFirst (Lacks c) w v s stores
+HaveLacked c w v stores refused.Memory = Unit {0}
+
+-- the chunk of entry k can't be had from the stores, for this reason; an alike entry that is right in the base
+-- couldn't be read, and no seed that has the chunk; and the cache doesn't give it. n are the folders
+pub record IsLacking (w v : Sources) (before : Map (List ℕ)) (n : Map (Map (List ℕ))) (cache : Option (List ℕ))
+    (out : Into) (l : Listing) (x : Seeds) (stores : List Location) (k : ℕ) (id : ChunkId) (r : Refused) : Type 0 where
   pub listed : k < count_of l
   pub id_is : id.0 ≡ id_of l k
-  pub lacks : LacksAll (chunk_of (kind_of l) id (size_of l k)) (map chunks stores) r
-  pub copies : RightAlike l (base_of before out l) k → FileRose d e out.name
-  pub seeds : (s : ℕ) (h : SeedHas before x (id_of l k) (size_of l k) s) → FileRose d e h.image
-  pub uncached : CacheLacksEntry d e cache l k
+  pub said : HaveLacked (chunk_of (kind_of l) id (size_of l k)) w v stores r
+  pub lacks : WhereFolders n stores (λ fs. LacksAll (chunk_of (kind_of l) id (size_of l k)) (map chunks fs) r)
+  pub copies : RightAlike l (base_of before out l) k → FileRose w.disk v.disk out.name
+  pub seeds : (s : ℕ) (h : SeedHas before x (id_of l k) (size_of l k) s) → FileRose w.disk v.disk h.image
+  pub uncached : CacheLacksEntry w.disk v.disk cache l k
 
--- a store that holds these chunks lacks that of entry k: it holds nothing under its id, or bytes that aren't it
-abbrev pub LacksEntry : Listing → ℕ → Map (List ℕ) → Type 0
-LacksEntry l k m = (m (id_of l k) ≡ None)
-    ⊎ ((b : List ℕ) × (m (id_of l k) ≡ Some b) × (IsChunk (kind_of l) (id_of l k) (size_of l k) b → ⊥))
+-- a store that has said this lacks the chunk of entry k: it has denied its id, or shown bytes under it that aren't it
+abbrev pub LacksEntry : Listing → ℕ → Said → Type 0
+LacksEntry l k s = s.denied (id_of l k) ⊎ (s.longer (id_of l k) (size_of l k)
+    ⊎ ((b : List ℕ) × s.shown (id_of l k) b × (IsChunk (kind_of l) (id_of l k) (size_of l k) b → ⊥)))
 
 -- the name of the cache's folder, where there is a cache
 abbrev pub folder_of : Option (List ℕ) → List (List ℕ)
 folder_of None = []
 folder_of (Some name) = name ∷ []
 
--- so it is where files and folders are told; these are the files of the cache's folder, and those of the stores'
--- folders
-abbrev pub Told : Disk → Disk → List (List ℕ) → Option (List ℕ)
-    → (Map (List ℕ) → Map (List ℕ) → List (Map (List ℕ)) → List (Map (List ℕ)) → Type 0) → Type 0
-Told d e names cache P = IfSome d.files (λ b. IfSome d.folders (λ n. IfSome e.files (λ a. (fs : List (Map (List ℕ)))
-    × (map n names ≡ map Some fs) × (cs : List (Map (List ℕ))) × (map n (folder_of cache) ≡ map Some cs)
-    × P b a cs fs)))
+-- so it is where files and folders are told; these are the folders, and the files of the cache's
+abbrev pub Told : Disk → Disk → Option (List ℕ)
+    → (Map (List ℕ) → Map (List ℕ) → Map (Map (List ℕ)) → List (Map (List ℕ)) → Type 0) → Type 0
+Told d e cache P = IfSome d.files (λ b. IfSome d.folders (λ n. IfSome e.files (λ a. (cs : List (Map (List ℕ)))
+    × (map n (folder_of cache) ≡ map Some cs) × P b a n cs)))
 
 -- nothing fails. Where there is a cache, the folders also have, of each id that the index lists with several sizes,
 -- chunks of one size alone
@@ -144,36 +160,40 @@ abbrev pub Undisturbed : Disk → Disk → Option (List ℕ) → Listing → Lis
 Undisturbed d e cache l cs fs = DiskQuiet d e
     × (IsSome cache → GiveOneSize (IsListedAs l) (kind_of l) (map chunks cs ++ map chunks fs))
 
--- entry k is named, for this reason, and each before it is right. Undisturbed, k is the least that can't be had, and
--- each that can be had was made right
-abbrev pub StopsLacking : Disk → Disk → List (List ℕ) → Option (List ℕ) → Into → Listing → Seeds → ℕ → ChunkId
+-- entry k is named, for this reason, and each before it is right. Where stores are folders, undisturbed, k is the least
+-- that can't be had, and each that can be had was made right
+abbrev pub StopsLacking : Sources → Sources → List Location → Option (List ℕ) → Into → Listing → Seeds → ℕ → ChunkId
     → Refused → Type 0
-StopsLacking d e names cache out l x k id r = Told d e names cache (λ b a cs fs.
-    ((t : List ℕ) × KeepsIn d e b a out l t × ((i : ℕ) → i < k → IsRightAt t l i)
-    × (Undisturbed d e cache l cs fs → AreFilled l (HadFrom b out l x cs fs) (base_of b out l) t))
-    × IsLacking d e b cache out l x fs k id r
-    × (Undisturbed d e cache l cs fs → IsLeast (HadFrom b out l x cs fs) k))
+StopsLacking w v stores cache out l x k id r = Told w.disk v.disk cache (λ b a n cs.
+    ((t : List ℕ) × KeepsIn w.disk v.disk b a out l t × ((i : ℕ) → i < k → IsRightAt t l i)
+    × WhereFolders n stores (λ fs. Undisturbed w.disk v.disk cache l cs fs
+    → AreFilled l (HadFrom b out l x cs fs) (base_of b out l) t))
+    × IsLacking w v b n cache out l x stores k id r
+    × WhereFolders n stores (λ fs. Undisturbed w.disk v.disk cache l cs fs → IsLeast (HadFrom b out l x cs fs) k))
 
 -- the first store that failed is named, where no store gave the chunk of some entry
-abbrev pub StopsFailed : Disk → Disk → List (List ℕ) → Listing → ℕ → Type 0
-StopsFailed d e names l s = (k : ℕ) × FailsFirst (LacksEntry l k) d e s names × (k < count_of l)
+abbrev pub StopsFailed : Sources → Sources → List Location → Listing → ℕ → Type 0
+StopsFailed w v stores l s = (k : ℕ) × FailsFirst (LacksEntry l k) w v s stores × (k < count_of l)
 
--- the file became the image of the index, with chunks from the seeds, the cache and the folders, or why not.
--- Undisturbed, it does so exactly where each entry can be had; else the first that can't be had is named
-abbrev pub Assembled : Disk → Disk → List (List ℕ) → Option (List ℕ) → Into → Listing → Seeds → Result Unit Outcome
-    → Type 0
-Assembled d e names cache out l x (Ok u) = Told d e names cache (λ b a cs fs.
-    ((t : List ℕ) × KeepsIn d e b a out l t × IsRight t l)
-    × (Undisturbed d e cache l cs fs → (i : ℕ) → i < count_of l → HadFrom b out l x cs fs i))
-Assembled d e names cache out l x (Err (ends.Missing k id)) = StopsLacking d e names cache out l x k id refused.Missing
-Assembled d e names cache out l x (Err (ends.Damaged k id store shows)) = StopsLacking d e names cache out l x k id
+-- the file became the image of the index, with chunks from the seeds, the cache and the stores, or why not. Where stores
+-- are folders, undisturbed, it does so exactly where each entry can be had; else the first that can't be had is named
+abbrev pub Assembled : Sources → Sources → List Location → Option (List ℕ) → Into → Listing → Seeds
+    → Result Unit Outcome → Type 0
+Assembled w v stores cache out l x (Ok u) = Told w.disk v.disk cache (λ b a n cs.
+    ((t : List ℕ) × KeepsIn w.disk v.disk b a out l t × IsRight t l)
+    × WhereFolders n stores (λ fs. Undisturbed w.disk v.disk cache l cs fs
+    → (i : ℕ) → i < count_of l → HadFrom b out l x cs fs i))
+Assembled w v stores cache out l x (Err (ends.Missing k id)) = StopsLacking w v stores cache out l x k id
+    refused.Missing
+Assembled w v stores cache out l x (Err (ends.Damaged k id store shows)) = StopsLacking w v stores cache out l x k id
     (refused.Damaged store shows)
-Assembled d e names cache out l x (Err (ends.StoreFault s)) = StopsFailed d e names l s
-    × Told d e names cache (λ b a cs fs. (t : List ℕ) × KeepsIn d e b a out l t)
-Assembled d e names cache out l x (Err ends.TargetFault) =
-    FileRose d e out.name × Told d e names cache (λ b a cs fs. StopsSomewhere d e b a out l)
-Assembled d e names cache out l x (Err ends.Memory) = Told d e names cache (λ b a cs fs. StopsSomewhere d e b a out l)
-Assembled d e names cache out l x (Err other) = ⊥
+Assembled w v stores cache out l x (Err (ends.StoreFault s)) = StopsFailed w v stores l s
+    × Told w.disk v.disk cache (λ b a n cs. (t : List ℕ) × KeepsIn w.disk v.disk b a out l t)
+Assembled w v stores cache out l x (Err ends.TargetFault) = FileRose w.disk v.disk out.name
+    × Told w.disk v.disk cache (λ b a n cs. StopsSomewhere w.disk v.disk b a out l)
+Assembled w v stores cache out l x (Err ends.Memory) =
+    Told w.disk v.disk cache (λ b a n cs. StopsSomewhere w.disk v.disk b a out l)
+Assembled w v stores cache out l x (Err other) = ⊥
 
 -- OUT holds afterwards the image that INDEX listed before
 pub record IsExtracted (before after : Map (List ℕ)) (index out : List ℕ) : Type 0 where
@@ -198,35 +218,37 @@ answer_of_taking io.Memory = Err ends.Memory
 
 -- ---- what is added to the cache
 
--- the bytes are the chunk of an entry, which one of the stores holds, whose folders hold these
-abbrev pub IsForCache : Listing → List (Map (List ℕ)) → List ℕ → List ℕ → Type 0
-IsForCache l fs id b = (i : ℕ) × (i < count_of l) × (id ≡ id_of l i)
-    × IsChunk (kind_of l) (id_of l i) (size_of l i) b × Any (λ m. m (id_of l i) ≡ Some b) (map chunks fs)
+-- the bytes are the chunk of an entry; where stores are folders of these, one of them holds it
+abbrev pub IsForCache : Listing → Map (Map (List ℕ)) → List Location → List ℕ → List ℕ → Type 0
+IsForCache l n stores id b = (i : ℕ) × (i < count_of l) × (id ≡ id_of l i)
+    × IsChunk (kind_of l) (id_of l i) (size_of l i) b
+    × WhereFolders n stores (λ fs. Any (λ m. m (id_of l i) ≡ Some b) (map chunks fs))
 
 -- chunks were added to a folder: under each id it holds what it held, or such bytes. Each file that is neither a
 -- chunk's nor a temporary one stands as before
-pub record CacheGrows (l : Listing) (fs : List (Map (List ℕ))) (old new : Map (List ℕ)) : Type 0 where
+pub record CacheGrows (l : Listing) (n : Map (Map (List ℕ))) (stores : List Location) (old new : Map (List ℕ))
+    : Type 0 where
   pub held : (id : List ℕ) → (chunks new id ≡ chunks old id)
-      ⊎ ((b : List ℕ) × (chunks new id ≡ Some b) × IsForCache l fs id b)
+      ⊎ ((b : List ℕ) × (chunks new id ≡ Some b) × IsForCache l n stores id b)
   pub strangers : (q : List ℕ) → IsTrue (is_stranger q) → new q ≡ old q
 
 -- no folder but the cache's has changed, and that one so
-abbrev pub CacheFilled : List (List ℕ) → Option (List ℕ) → Listing → Disk → Disk → Type 0
-CacheFilled names None l d e = e.folders ≡ d.folders
-CacheFilled names (Some c) l d e = (is_some e.folders ≡ is_some d.folders) × IfSome d.folders (λ m.
-    IfSome e.folders (λ n. (fs : List (Map (List ℕ))) × (map m names ≡ map Some fs)
-    × (f : Map (List ℕ)) × (m c ≡ Some f) × (g : Map (List ℕ)) × (n ≡ at_name m c (Some g)) × CacheGrows l fs f g))
+abbrev pub CacheFilled : List Location → Option (List ℕ) → Listing → Disk → Disk → Type 0
+CacheFilled stores None l d e = e.folders ≡ d.folders
+CacheFilled stores (Some c) l d e = (is_some e.folders ≡ is_some d.folders) × IfSome d.folders (λ m.
+    IfSome e.folders (λ n. (f : Map (List ℕ)) × (m c ≡ Some f) × (g : Map (List ℕ)) × (n ≡ at_name m c (Some g))
+    × CacheGrows l m stores f g))
 
 -- a disk whose files were written, and the cache's folder. No number falls
-pub record FillsCache (names : List (List ℕ)) (cache : Option (List ℕ)) (l : Listing) (d e : Disk) : Type 0 where
-  pub folders : CacheFilled names cache l d e
+pub record FillsCache (stores : List Location) (cache : Option (List ℕ)) (l : Listing) (d e : Disk) : Type 0 where
+  pub folders : CacheFilled stores cache l d e
   pub counts : (q : List ℕ) → count_at d.file_counts q ≤ count_at e.file_counts q
   pub folder_counts : (q : List ℕ) → count_at d.folder_counts q ≤ count_at e.folder_counts q
 
 -- files tell afterwards where they told before
-abbrev pub ImageMade : List (List ℕ) → Option (List ℕ) → Into → Listing → Seeds → Step Disk Unit
-ImageMade names cache out l x d r e = Assembled d e names cache out l x r × FillsCache names cache l d e
-    × (is_some e.files ≡ is_some d.files)
+abbrev pub ImageMade : List Location → Option (List ℕ) → Into → Listing → Seeds → Step Sources Unit
+ImageMade stores cache out l x w r v = Assembled w v stores cache out l x r × FillsCache stores cache l w.disk v.disk
+    × (is_some v.disk.files ≡ is_some w.disk.files) × DialsStores stores w.dial v.dial
 
 -- ---- by way of a temporary file
 
@@ -245,10 +267,10 @@ Cleared name d o e = ((e.files ≡ option_map (λ m. at_name m name None) d.file
     × Writes d e
 
 -- the step, after whose refusal the file of this name is cleared. Want of memory is told in the place of its refusal
-abbrev pub Clearing : List ℕ → Step Disk Unit → Step Disk Unit
-Clearing name step d (Ok u) e = step d (Ok u) e
-Clearing name step d (Err o) e = (c : Disk) × (p : Outcome) × step d (Err p) c
-    × ((o ≡ p) ⊎ (o ≡ ends.Memory)) × Cleared name c o e
+abbrev pub Clearing : List ℕ → Step Sources Unit → Step Sources Unit
+Clearing name step w (Ok u) v = step w (Ok u) v
+Clearing name step w (Err o) v = (c : Disk) × (p : Outcome) × step w (Err p) (sources c v.dial)
+    × ((o ≡ p) ⊎ (o ≡ ends.Memory)) × Cleared name c o v.disk
 
 -- so it is with the refusal of a step that answered so
 abbrev pub ClearedAfter : List ℕ → Disk → Result Unit Outcome → Result Unit Outcome → Disk → Type 0
@@ -278,20 +300,20 @@ Renamed from to d (Err o) e = NotRenamed from to d o e × (e.files ≡ d.files) 
 -- ---- the command
 
 -- OUT becomes the image: it is made it in its place; or the temporary file is, and takes OUT's name
-abbrev pub OutMade : Bool → List (List ℕ) → Option (List ℕ) → List ℕ → Listing → Seeds → Step World Unit
-OutMade true names cache out l x = OnDisk (ImageMade names cache (in_place out) l x)
-OutMade false names cache out l x = do
-  _ ← OnDisk (Clearing (temporary_out out) (ImageMade names cache (beside out) l x))
-  OnDisk (Clearing (temporary_out out) (Renamed (temporary_out out) out))
+abbrev pub OutMade : Bool → List Location → Option (List ℕ) → List ℕ → Listing → Seeds → Step World Unit
+OutMade true stores cache out l x = OnSources (ImageMade stores cache (in_place out) l x)
+OutMade false stores cache out l x = do
+  _ ← OnSources (Clearing (temporary_out out) (ImageMade stores cache (beside out) l x))
+  OnSources (Clearing (temporary_out out) (NotAsking (Renamed (temporary_out out) out)))
 
 -- while the cache is used its folder counts as there
 abbrev pub ExtractEnds : List Location → Option (List ℕ) → List (List ℕ) → Bool → List ℕ → List ℕ → Step World Unit
 ExtractEnds stores cache seeds in_place index out = do
   l ← OnDisk (IndexRead index)
   ls ← OnDisk (IndexesRead seeds)
-  _ ← OnDisk (StoresOpened (names_of stores))
+  _ ← OnDisk (SourcesOpened stores)
   _ ← OnDisk (CacheOpened cache)
-  OutMade in_place (names_of stores) cache out l (record { images = map image_name seeds; listings = ls })
+  OutMade in_place stores cache out l (record { images = map image_name seeds; listings = ls })
 
 -- a refusal leaves all files as they were, but for the temporary one
 abbrev pub LeavesOut : Bool → List ℕ → World → World → Type 0

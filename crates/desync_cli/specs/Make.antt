@@ -1,22 +1,27 @@
 -- `make -s STORE INDEX IMAGE`. A name is its bytes; t are the image's bytes.
-use Rattle.std.specs.Prelude.{◌≡◌, ◌≢◌, ℕ, ◌<◌, List, slice_index, Option, Some, None, IfSome, Result, Ok, Err}
+use Rattle.std.specs.Prelude.{◌≡◌, ◌≢◌, ℕ, ◌<◌, List, [], ◌∷◌, slice_index, Option, Some, None, IfSome, IsTrue, not}
+use Rattle.std.specs.Prelude.{Result, Ok, Err}
 use Rattle.std.specs.Option.{option_map}
 use Rattle.buzhash_cut.specs.Image.{HasTooManyCuts, IsIndexOfImage}
 use Rattle.buzhash_cut.specs.Sizes.{Sizes, size_fault}
 use Rattle.caibx_codec.specs.Listing.{Listing, count_of, id_of}
 use Rattle.caibx_codec.specs.Spelling.{IsIndexFile, file_of}
 use Rattle.chunk_store.specs.Folders.{chunks}
+use Rattle.chunk_store.specs.Said.{Said}
 use Rattle.command_line.specs.declared.command.Location.{Location}
+use Rattle.command_line.specs.declared.command.Location.TheVariants as locations
 use Rattle.command_outcome.specs.declared.outcome.Outcome.{Outcome}
 use Rattle.command_outcome.specs.declared.outcome.Outcome.TheVariants as ends
 use Rattle.command_steps.specs.Openings.{ImageOpened}
+use Rattle.command_steps.specs.Sources.{DialsStores, OnSources, Sources, StoreRose, said_at}
 use Rattle.command_steps.specs.Steps.{◌>>=◌}
-use Rattle.command_steps.specs.Stores.{StoreTaken, name_of}
-use Rattle.command_steps.specs.Worlds.{Adds, FileRose, FolderRose, OnDisk, Pure, Step, World, Writes}
+use Rattle.command_steps.specs.Stores.{is_folder}
+use Rattle.command_steps.specs.Taking.{SourceTaken}
+use Rattle.command_steps.specs.Worlds.{Adds, FileRose, OnDisk, Pure, Step, World, Writes}
 use Rattle.dsy_base.specs.Disk.{Disk}
 use Rattle.dsy_base.specs.Maps.{Map, at_name}
-use Rattle.image_store.specs.PutChunks.{HoldsAll}
-use Rattle.image_store.specs.StoreImage.{PutsFilesOf, StoresImage}
+use Rattle.image_store.specs.PutChunks.{HoldsAll, SaysAll}
+use Rattle.image_store.specs.StoreImage.{PutsFilesOf, SaysOf, StoresImage}
 use Rattle.image_store.specs.declared.put_chunks.MakeFault.{MakeFault}
 use Rattle.image_store.specs.declared.put_chunks.MakeFault.TheVariants as faults
 
@@ -31,12 +36,29 @@ SizesJudged n (Ok s) = (s ≡ sizes_of n) × (size_fault (sizes_of n) ≡ None)
 SizesJudged n (Err (ends.Sizes fault)) = size_fault (sizes_of n) ≡ Some fault
 SizesJudged n (Err other) = ⊥
 
--- ---- storing the image in a folder that was taken
+-- ---- storing the image in a store that was taken
 
 -- the folder, whose files were `held`, was given back, and its files stand to those as P says
 abbrev pub GivenBack : Disk → Disk → List ℕ → Option (Map (List ℕ)) → (Map (List ℕ) → Map (List ℕ) → Type 0) → Type 0
 GivenBack d e q held P =
     IfSome d.folders (λ m. IfSome held (λ f. (g : Map (List ℕ)) × (e.folders ≡ Some (at_name m q (Some g))) × P f g))
+
+-- so it was with the folder of a store. Where it is a server, Q is so of what that has said since
+abbrev pub StoreGiven : Location → Option (Map (List ℕ)) → (Map (List ℕ) → Map (List ℕ) → Type 0) → (Said → Type 0)
+    → Sources → Sources → Type 0
+StoreGiven (locations.Folder q) held P Q w v = GivenBack w.disk v.disk q held P
+StoreGiven (locations.Http host port prefix) held P Q w v = Q (said_at w v (locations.Http host port prefix))
+
+-- nothing is claimed of what it has said
+abbrev pub AnySaid : Said → Type 0
+AnySaid said = Unit {0}
+
+-- what a step leaves that writes a store: files stay, and no number falls. Where it is a server, folders stay too; where
+-- it is a folder, no server was asked
+pub record WritesStore (store : Location) (w v : Sources) : Type 0 where
+  pub adds : Adds w.disk v.disk
+  pub folders : IsTrue (not (is_folder store)) → v.disk.folders ≡ w.disk.folders
+  pub dials : DialsStores (store ∷ []) w.dial v.dial
 
 -- what storing the image made of the folder's files f: g. `told` are the image's bytes, where they are told
 pub record MadeOf (s : Sizes) (told : Option (List ℕ)) (r : Result (List ℕ) MakeFault) (f g : Map (List ℕ)) : Type 0
@@ -48,21 +70,23 @@ pub record MadeOf (s : Sizes) (told : Option (List ℕ)) (r : Result (List ℕ) 
 abbrev pub HasFewCuts : Sizes → Option (List ℕ) → Type 0
 HasFewCuts s told = IfSome told (λ t. HasTooManyCuts s t → ⊥)
 
-module _ (s : Sizes) (image : List ℕ) (told : Option (List ℕ)) (q : List ℕ) (held : Option (Map (List ℕ))) where
-  abbrev pub NotStored : Disk → Disk → Outcome → Type 0
-  NotStored d e ends.TooManyItems =
-      GivenBack d e q held (λ f g. (g ≡ f) × MadeOf s told (Err faults.TooManyItems) f g)
-  NotStored d e ends.ImageFault = FileRose d e image × GivenBack d e q held (MadeOf s told (Err faults.ImageFault))
-  NotStored d e (ends.Changed k was got) =
-      (was.0 ≢ got.0) × HasFewCuts s told × GivenBack d e q held (MadeOf s told (Err (faults.Changed k was got)))
-  NotStored d e (ends.StoreFault k) =
-      (k ≡ 0) × FolderRose d e q × HasFewCuts s told × GivenBack d e q held (MadeOf s told (Err faults.StoreFault))
-  NotStored d e ends.Memory = GivenBack d e q held (MadeOf s told (Err faults.Memory))
-  NotStored d e other = ⊥
+module _ (s : Sizes) (image : List ℕ) (told : Option (List ℕ)) (store : Location) (held : Option (Map (List ℕ))) where
+  abbrev pub NotStored : Sources → Sources → Outcome → Type 0
+  NotStored w v ends.TooManyItems =
+      StoreGiven store held (λ f g. (g ≡ f) × MadeOf s told (Err faults.TooManyItems) f g) AnySaid w v
+  NotStored w v ends.ImageFault = FileRose w.disk v.disk image
+      × StoreGiven store held (MadeOf s told (Err faults.ImageFault)) AnySaid w v
+  NotStored w v (ends.Changed k was got) = (was.0 ≢ got.0) × HasFewCuts s told
+      × StoreGiven store held (MadeOf s told (Err (faults.Changed k was got))) AnySaid w v
+  NotStored w v (ends.StoreFault k) = (k ≡ 0) × StoreRose w v store × HasFewCuts s told
+      × StoreGiven store held (MadeOf s told (Err faults.StoreFault)) AnySaid w v
+  NotStored w v ends.Memory = StoreGiven store held (MadeOf s told (Err faults.Memory)) AnySaid w v
+  NotStored w v other = ⊥
 
-  abbrev pub ImageStored : Step Disk (List ℕ)
-  ImageStored d (Ok bytes) e = HasFewCuts s told × GivenBack d e q held (MadeOf s told (Ok bytes)) × Adds d e
-  ImageStored d (Err o) e = NotStored d e o × Adds d e
+  abbrev pub ImageStored : Step Sources (List ℕ)
+  ImageStored w (Ok bytes) v = HasFewCuts s told
+      × StoreGiven store held (MadeOf s told (Ok bytes)) (SaysOf s told bytes) w v × WritesStore store w v
+  ImageStored w (Err o) v = NotStored w v o × WritesStore store w v
 
 -- ---- writing the index
 
@@ -81,26 +105,30 @@ abbrev pub MakeEnds : Location → List ℕ → List ℕ → List ℕ → Step W
 MakeEnds store sizes index image = do
   s ← Pure (SizesJudged sizes)
   told ← OnDisk (ImageOpened image)
-  held ← OnDisk (StoreTaken (name_of store))
-  bytes ← OnDisk (ImageStored s image told (name_of store) held)
+  held ← OnDisk (SourceTaken store)
+  bytes ← OnSources (ImageStored s image told store held)
   OnDisk (IndexWritten index bytes)
 
--- INDEX holds an index file, of the image that IMAGE held, and the store's folder holds under each listed id bytes of
--- that name, and under each other id what it held
-pub record IsMade (files : Map (List ℕ)) (folders : Map (Map (List ℕ))) (files_after : Map (List ℕ))
-    (folders_after : Map (Map (List ℕ)))
-    (folder sizes index image : List ℕ) : Type 0 where
+-- INDEX holds the index file of this index, which is that of the image that IMAGE held
+pub record IsMade (files files_after : Map (List ℕ)) (sizes index image : List ℕ) (l : Listing) : Type 0 where
   pub bytes : List ℕ
   pub image_was : files image ≡ Some bytes
-  pub listing : Listing
-  pub of_image : IsIndexOfImage (sizes_of sizes) bytes listing
+  pub of_image : IsIndexOfImage (sizes_of sizes) bytes l
   pub file : List ℕ
   pub written : files_after index ≡ Some file
-  pub is_file : IsIndexFile file listing
-  pub spelled : file ≡ file_of listing
+  pub is_file : IsIndexFile file l
+  pub spelled : file ≡ file_of l
+
+-- the folder holds under each id that l lists bytes of that name, and under each other id what it held
+pub record FolderHas (folders folders_after : Map (Map (List ℕ))) (folder : List ℕ) (l : Listing) : Type 0 where
   pub held : Map (List ℕ)
   pub folder_was : folders folder ≡ Some held
   pub now : Map (List ℕ)
   pub folder_is : folders_after folder ≡ Some now
-  pub holds : HoldsAll listing (count_of listing) (chunks now)
-  pub others : (id : List ℕ) → ((i : ℕ) → i < count_of listing → id_of listing i ≢ id) → chunks now id ≡ chunks held id
+  pub holds : HoldsAll l (count_of l) (chunks now)
+  pub others : (id : List ℕ) → ((i : ℕ) → i < count_of l → id_of l i ≢ id) → chunks now id ≡ chunks held id
+
+-- so it is with the folder of a store. A server has taken or shown, under each listed id, bytes of that name
+abbrev pub StoreHas : Sources → Sources → Location → Listing → Type 0
+StoreHas w v (locations.Folder q) l = IfSome w.disk.folders (λ f. IfSome v.disk.folders (λ g. FolderHas f g q l))
+StoreHas w v (locations.Http host port prefix) l = SaysAll l (count_of l) (said_at w v (locations.Http host port prefix))

@@ -1,9 +1,9 @@
 //! What the tests of the commands share: files in memory, and words that are run over them.
 
 use crate::in_memory::desync_in_memory;
-use crate::no_dial::NoDial;
 use chunk_store::id::{ChunkId, DigestKind};
 use dsy_base::folder::Folder;
+use dsy_forms::mem_dial::MemDial;
 use dsy_forms::mem_files::MemFiles;
 use dsy_forms::mem_folder::MemFolder;
 use dsy_forms::mem_sink::MemSink;
@@ -73,20 +73,26 @@ pub fn words_of(alloc: Global, words: &str) -> Result<Vec<String>, Fail> {
     Ok(list)
 }
 
-// Runs the words, which are parted by spaces, and compares what is printed and the line that tells how it ended.
-pub fn ends(
+// A dialer with no connections: each call of `dial` fails.
+pub fn no_dial(alloc: Global) -> MemDial {
+    MemDial::new(alloc, Vec::new(alloc), Vec::new(alloc))
+}
+
+// Runs the words, which are parted by spaces, with this dialer, and compares what is printed and the line that tells how
+// it ended.
+pub fn ends_over(
     rt: &impl Abort,
     alloc: Global,
     words: &str,
     files: &mut MemFiles,
+    dial: &mut MemDial,
     printed: &str,
     line: &str,
 ) -> Result<(), Fail> {
     let list = words_of(alloc, words)?;
-    let mut dial = NoDial { faults: 0 };
     let mut out = MemSink::new(alloc, Vec::new(alloc));
     let mut err = MemSink::new(alloc, Vec::new(alloc));
-    let ended = desync_in_memory(alloc, &list, files, &mut dial, &mut out, &mut err);
+    let ended = desync_in_memory(alloc, &list, files, dial, &mut out, &mut err);
     assert_eq!(rt; err.taken(), line.as_bytes(), "{words}");
     assert_eq!(rt; out.taken(), printed.as_bytes(), "{words}");
     assert_eq!(rt;
@@ -95,4 +101,16 @@ pub fn ends(
         "{words}"
     );
     Ok(())
+}
+
+// The same with no connections.
+pub fn ends(
+    rt: &impl Abort,
+    alloc: Global,
+    words: &str,
+    files: &mut MemFiles,
+    printed: &str,
+    line: &str,
+) -> Result<(), Fail> {
+    ends_over(rt, alloc, words, files, &mut no_dial(alloc), printed, line)
 }

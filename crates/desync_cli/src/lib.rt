@@ -12,11 +12,11 @@ pub mod command;
 pub mod in_memory;
 #[cfg(test)]
 mod make_tests;
-#[cfg(test)]
-mod no_dial;
 pub mod run;
 #[cfg(test)]
 mod tests;
 #[cfg(test)]
 mod tool_tests;
+#[cfg(test)]
+mod url_tests;
 mod words;

@@ -1,8 +1,7 @@
 //! Making over files in memory: the index file, byte by byte, and what the store holds.
 
-use crate::cases::{ABC_INDEX, EMPTY_INDEX, ends, store_of, words_of};
+use crate::cases::{ABC_INDEX, EMPTY_INDEX, ends, no_dial, store_of, words_of};
 use crate::in_memory::make_then_extract;
-use crate::no_dial::NoDial;
 use chunk_store::id::{ChunkId, DigestKind};
 use dsy_base::files::Files;
 use dsy_base::look::Look;
@@ -144,7 +143,7 @@ fn what_was_made_is_extracted(rt: HostRuntime) -> Result<(), Fail> {
     files.set_folder("st", store_of(alloc, &[]).ok_or("no memory")?)?;
     let make = words_of(alloc, MAKE)?;
     let extract = words_of(alloc, "extract -s st i o")?;
-    let mut dial = NoDial { faults: 0 };
+    let mut dial = no_dial(alloc);
     let mut out = MemSink::new(alloc, Vec::new(alloc));
     let mut err = MemSink::new(alloc, Vec::new(alloc));
     let (made, extracted) = make_then_extract(

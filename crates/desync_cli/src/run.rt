@@ -1,10 +1,10 @@
 //! The top call: words in, an outcome out.
 
-ghost use Rattle.std.specs.Prelude.{◌≡◌, ◌≢◌, None, Some, IfSome, IsTrue, map, string_bytes};
+ghost use Rattle.std.specs.Prelude.{◌≡◌, ◌≢◌, All, None, Some, IfSome, IsTrue, map, string_bytes};
 ghost use Rattle.command_line.specs.declared.command.Command.{Command};
 ghost use Rattle.command_outcome.specs.ErrorLines.{error_line_of};
 ghost use Rattle.command_outcome.specs.Statuses.{status_of};
-ghost use Rattle.command_steps.specs.Blames.{Blames, Keeps, NothingFailed};
+ghost use Rattle.command_steps.specs.Blames.{Blames, RepliesTaken, Keeps, NothingFailed};
 ghost use Rattle.desync_cli.specs.Commands.{Achieves, DesyncEnds, Ends, TellsRefusal, command_of, is_built, parts};
 ghost use Rattle.desync_cli.specs.Commands.{LeavesBehind, refusal_of, spares};
 ghost use Rattle.desync_cli.specs.Lines.{TakesLine};
@@ -52,7 +52,7 @@ fn perform<F: Files, D: Dial, O: Sink>(
             index,
             image,
             ..
-        } => make(alloc, files, store, sizes, index, image),
+        } => make(alloc, files, dial, store, sizes, index, image),
         Command::VerifyIndex { index, image } => verify_index(alloc, files, index, image),
         Command::ListChunks { index } => list_chunks(alloc, files, out, index),
         Command::Extract {
@@ -63,8 +63,10 @@ fn perform<F: Files, D: Dial, O: Sink>(
             index,
             target,
             ..
-        } => extract(alloc, files, stores, cache, seeds, in_place, index, target),
-        Command::Info { stores, index } => info(alloc, files, out, stores, index),
+        } => extract(
+            alloc, files, dial, stores, cache, seeds, in_place, index, target,
+        ),
+        Command::Info { stores, index } => info(alloc, files, dial, out, stores, index),
         Command::Help => help(out, Topic::All),
         Command::Version => help(out, Topic::Version),
         Command::HelpOn(kind) => help(out, Topic::Command(kind)),
@@ -72,12 +74,12 @@ fn perform<F: Files, D: Dial, O: Sink>(
             store,
             index,
             image,
-        } => chop(alloc, files, store, index, image),
+        } => chop(alloc, files, dial, store, index, image),
         Command::Cache {
             stores,
             cache,
             indexes,
-        } => fill_cache(alloc, files, stores, cache, indexes),
+        } => fill_cache(alloc, files, dial, stores, cache, indexes),
         Command::Verify { store, repair } => verify(alloc, files, out, store, repair),
         Command::Prune { store, indexes } => prune(alloc, files, store, indexes),
         Command::ChunkServer { .. } | Command::Demo { .. } => unreachable!(),
@@ -164,10 +166,13 @@ pub fn desync<F: Files, D: Dial, O: Sink, E: Sink>(
         (world (F.disk files.old) (D.state dial.old) (O.output out.old))
         (world (F.disk files.new) (D.state dial.new) (O.output out.new))) }
 
-    // Where no count of faults rises, no call has failed.
+    // Where no count of faults rises, and each reply of a server was taken, no call has failed.
     ensures quiet { NoFault
         (world (F.disk files.old) (D.state dial.old) (O.output out.old))
         (world (F.disk files.new) (D.state dial.new) (O.output out.new))
+        → IfSome (command_of (map string_bytes words.now)) (λ c. All (RepliesTaken
+        (world (F.disk files.old) (D.state dial.old) (O.output out.old))
+        (world (F.disk files.new) (D.state dial.new) (O.output out.new))) (parts c).stores)
         → NothingFailed result.outcome }
 {
     let outcome = outcome_of(run(alloc, words, files, dial, out));

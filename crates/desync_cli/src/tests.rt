@@ -157,10 +157,10 @@ fn other_words_are_refused_by_place_and_reason(rt: HostRuntime) -> Result<(), Fa
     ends(&rt, alloc, "extract -k a b", &mut files, "", "desync: word 4: MissingOption\n")?;
     ends(&rt, alloc, "make -s st -n 33 a b", &mut files, "", "desync: word 4: BadNumber\n")?;
     ends(&rt, alloc, "make -s https://h/ a b", &mut files, "", "desync: word 2: BadLocation\n")?;
-    ends(&rt, alloc, "make -s http://h/ a b", &mut files, "", "desync: word 0: NotYet\n")?;
-    ends(&rt, alloc, "extract -c c -s http://h/ a b", &mut files, "", "desync: word 0: NotYet\n")?;
+    ends(&rt, alloc, "make -s http://h/ a b", &mut files, "", "desync: b: no such file\n")?;
+    ends(&rt, alloc, "extract -c c -s http://h/ a b", &mut files, "", "desync: a: no such file\n")?;
     ends(&rt, alloc, "prune -s st a", &mut files, "", "desync: word 4: NeedsYes\n")?;
-    ends(&rt, alloc, "chop -s http://h/ a b", &mut files, "", "desync: word 0: NotYet\n")
+    ends(&rt, alloc, "chop -s http://h/ a b", &mut files, "", "desync: a: no such file\n")
 }
 
 // Extracts "abc" by way of the temporary file, of which so many writes fail, from a store with these chunks.

@@ -7,7 +7,6 @@ use command_line::command::Command;
 use command_line::read_words;
 use command_line::usage::{UsageWhy, WordsFault};
 use command_outcome::outcome::Outcome;
-use command_steps::stores::{are_folders, is_folder};
 use std::alloc::Global;
 
 // Whether the command is built.
@@ -15,7 +14,9 @@ fn is_built(command: &Command) -> bool
     ensures { result ≡ is_built command.now }
 {
     match command {
-        Command::VerifyIndex { .. }
+        Command::Make { .. }
+        | Command::VerifyIndex { .. }
+        | Command::Chop { .. }
         | Command::ListChunks { .. }
         | Command::Verify { .. }
         | Command::Prune { .. }
@@ -24,18 +25,13 @@ fn is_built(command: &Command) -> bool
         | Command::HelpOn(_) => true,
         Command::Extract { stores, seeds, .. } => {
             let stores = stores.as_slice();
-            seeds.as_slice().len() <= 64
-                && 1 <= stores.len()
-                && stores.len() <= 16
-                && are_folders(stores)
+            seeds.as_slice().len() <= 64 && 1 <= stores.len() && stores.len() <= 16
         }
-        Command::Make { store, .. } | Command::Chop { store, .. } => is_folder(store),
         Command::Cache { stores, .. } => {
             let stores = stores.as_slice();
-            1 <= stores.len() && stores.len() <= 16 && are_folders(stores)
+            1 <= stores.len() && stores.len() <= 16
         }
-        Command::Info { stores, .. } => stores.as_slice().len() <= 16
-            && are_folders(stores.as_slice()),
+        Command::Info { stores, .. } => stores.as_slice().len() <= 16,
         _ => false,
     }
 }

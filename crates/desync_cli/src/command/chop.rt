@@ -1,20 +1,19 @@
 //! `chop -s STORE INDEX IMAGE`: STORE holds each chunk that INDEX lists, which are IMAGE's.
 
 ghost use Rattle.std.specs.Prelude.{◌≡◌, IsSome};
-ghost use Rattle.command_steps.specs.AnyStores.{faults_in, files_in, place_in};
-ghost use Rattle.command_steps.specs.Stores.{name_of};
+ghost use Rattle.command_steps.specs.AnySources.{IsKnown, faults_in, files_in, location_in};
+ghost use Rattle.command_steps.specs.Sources.{sources};
 ghost use Rattle.command_steps.specs.Worlds.{world};
 ghost use Rattle.desync_cli.specs.Chop.{ChopEnds, ImageChopped};
 ghost use Rattle.dsy_base.specs.Disk.{Output};
-ghost use Rattle.dsy_base.specs.Links.{DialState};
 
-use crate::beside::take_beside;
+use crate::beside::{give_beside, take_beside};
 use caibx_codec::index::Index;
 use command_line::command::Location;
 use command_outcome::outcome::Outcome;
-use command_steps::any_store::AnyStore;
+use command_steps::any_source::AnySource;
 use command_steps::openings::{open_image, read_index};
-use command_steps::stores::give_store;
+use dsy_base::dial::Dial;
 use dsy_base::files::Files;
 use dsy_base::folder::Folder;
 use dsy_base::look::Look;
@@ -23,25 +22,26 @@ use dsy_base::view::View;
 use image_store::chop::{ChopFault, chop as chop_image};
 use std::alloc::Global;
 
-// Chops the image into the store's folder that was taken. Image and folder are given back, whatever the answer is.
-fn chop_between<F: Files>(
+// Chops the image into the store that was taken. Image and store are given back, whatever the answer is.
+fn chop_between<F: Files, D: Dial>(
     alloc: Global,
     files: &mut F,
+    dial: &mut D,
     index: &Index,
     mut view: F::View,
     store: &Location,
-    mut taken: AnyStore<F::Folder>,
+    mut taken: AnySource<F::Folder, D>,
 ) -> Result<(), Outcome>
     requires image { IsSome ((F.disk files.old).file_counts (F.View.held view).name) }
-    requires folder { IsSome ((F.disk files.old).folder_counts (name_of store.now)) }
-    requires named { place_in F.Folder.place taken ≡ name_of store.now }
-    requires fresh { (F.View.faults view ≡ 0) × (faults_in F.Folder.faults taken ≡ 0) }
-    ensures { ImageChopped index.now (F.View.held view).name (F.View.held view).bytes (name_of store.now)
-        (files_in F.Folder.files taken) (F.disk files.old) result (F.disk files.new) }
+    requires known { IsKnown (F.disk files.old).folder_counts store.now }
+    requires located { location_in F.Folder.place taken ≡ store.now }
+    requires fresh { (F.View.faults view ≡ 0) × (faults_in F.Folder.faults D.state taken ≡ 0) }
+    ensures { ImageChopped index.now (F.View.held view).name (F.View.held view).bytes store.now
+        (files_in F.Folder.files taken) (sources (F.disk files.old) (D.state dial.old)) result
+        (sources (F.disk files.new) (D.state dial.new)) }
 {
     let chopped = chop_image(alloc, index, &mut view, &mut taken);
-    files.end_view(view);
-    give_store(files, store, taken);
+    give_beside(files, dial, view, store, taken);
     match chopped {
         Ok(()) => Ok(()),
         Err(fault) => match fault {
@@ -56,20 +56,21 @@ fn chop_between<F: Files>(
 
 /// Puts the chunks of IMAGE that INDEX lists into STORE, in order, up to the first that isn't IMAGE's. What STORE holds
 /// already is left where it is right.
-pub fn chop<F: Files>(
+pub fn chop<F: Files, D: Dial>(
     alloc: Global,
     files: &mut F,
+    dial: &mut D,
     store: Location,
     index: Name,
     image: Name,
 ) -> Result<(), Outcome>
-    ensures ends { (k : DialState) (p : Output) → ChopEnds store index image
-        (world (F.disk files.old) k p) result
-        (world (F.disk files.new) k p) }
+    ensures ends { (p : Output) → ChopEnds store index image
+        (world (F.disk files.old) (D.state dial.old) p) result
+        (world (F.disk files.new) (D.state dial.new) p) }
 {
     let listed = read_index(alloc, files, index)?;
     let view = open_image(files, image)?;
-    let (view, taken) = take_beside(alloc, files, view, &store)?;
-    chop_between(alloc, files, &listed, view, &store, taken)?;
+    let (view, taken) = take_beside(alloc, files, dial, view, &store)?;
+    chop_between(alloc, files, dial, &listed, view, &store, taken)?;
     Ok(())
 }

@@ -1,23 +1,21 @@
-//! `extract [-k] -s FOLDER.. -c FOLDER --seed INDEX.. INDEX OUT`: OUT becomes the image that INDEX lists, with chunks
-//! from up to 64 seeds, from a cache and from 1 to 16 folders.
+//! `extract [-k] -s STORE.. -c FOLDER --seed INDEX.. INDEX OUT`: OUT becomes the image that INDEX lists, with chunks
+//! from up to 64 seeds, from a cache and from 1 to 16 stores.
 
-ghost use Rattle.std.specs.Prelude.{◌≡◌, ◌≢◌, ℕ, List, ◌<◌, ◌≤◌, ◌^◌, map, Some, IfOk, IfSome, IsSome, length, is_some};
+ghost use Rattle.std.specs.Prelude.{◌≡◌, ◌≢◌, ℕ, List, ◌<◌, ◌≤◌, ◌^◌, map, All, IfOk, IfSome, IsSome, length, is_some};
 ghost use Rattle.std.specs.Prelude.{string_bytes, true, false};
 ghost use Rattle.std.specs.Option.{option_map};
 ghost use Rattle.assembler.specs.Caches.{seen};
 ghost use Rattle.caibx_codec.specs.Listing.{Listing};
 ghost use Rattle.chunk_store.specs.declared.id.DigestKind.TheVariants as kinds;
-ghost use Rattle.command_steps.specs.AnyStores.{faults_in, files_in, place_in};
+ghost use Rattle.command_steps.specs.AnySources.{IsKnown, faults_in, files_in, location_in};
 ghost use Rattle.command_steps.specs.Cache.{with_cache};
 ghost use Rattle.command_steps.specs.Seeds.{image_name};
-ghost use Rattle.command_steps.specs.Stores.{AllKnown};
+ghost use Rattle.command_steps.specs.Sources.{DialsStores, sources, told_at};
 ghost use Rattle.command_steps.specs.Worlds.{world};
 ghost use Rattle.desync_cli.specs.Extract.{Assembled, ClearedAfter, ExtractEnds, FillsCache, IsNoFile, OutMade};
 ghost use Rattle.desync_cli.specs.Extract.{Renamed, answer_of_assembly, answer_of_taking};
 ghost use Rattle.desync_cli.specs.Extract.{temporary_out};
 ghost use Rattle.dsy_base.specs.Disk.{Output};
-ghost use Rattle.dsy_base.specs.Links.{DialState};
-ghost use Rattle.dsy_base.specs.Maps.{Map};
 ghost use Rattle.extract_plan.specs.Deal.{AreWants};
 ghost use Rattle.extract_plan.specs.Places.{IsSeedIndex, PlacesKnown, items_of, seed_item_limit};
 
@@ -29,11 +27,12 @@ use cache_store::shelf::CacheShelf;
 use caibx_codec::index::Index;
 use command_line::command::{Locations, Names};
 use command_outcome::outcome::Outcome;
-use command_steps::any_store::AnyStore;
+use command_steps::any_source::AnySource;
 use command_steps::cache::{give_cache, take_cache};
 use command_steps::openings::read_index;
 use command_steps::seeds::{close_seeds, open_seeds, read_indexes};
-use command_steps::stores::{close_stores, open_stores};
+use command_steps::sources::{close_sources, drop_sources, open_sources};
+use dsy_base::dial::Dial;
 use dsy_base::fault::{IoFault, Memory, OpenFault};
 use dsy_base::files::Files;
 use dsy_base::folder::Folder;
@@ -112,11 +111,12 @@ fn plan_of(alloc: Global, index: Index, seeds: Vec<Index>) -> Result<Planned, Me
 // Makes the file the image, and gives stores, cache and seeds back whatever the answer is. It begins with no bytes
 // where
 // `fresh` is true.
-fn assemble_into<F: Files>(
+fn assemble_into<F: Files, D: Dial>(
     alloc: Global,
     files: &mut F,
+    dial: &mut D,
     planned: &Planned,
-    stores: Vec<AnyStore<F::Look>>,
+    stores: Vec<AnySource<F::Look, D>>,
     cache: &Option<Name>,
     mut shelf: Option<CacheShelf<F::Folder>>,
     seeds: &[Name],
@@ -126,36 +126,37 @@ fn assemble_into<F: Files>(
     requires wants { AreWants planned.now.index planned.now.plan.wants planned.now.plan.want_of }
     requires known_places { PlacesKnown planned.now.index planned.now.plan planned.now.places (length seeds.now) }
     requires size { (1 ≤ length stores.items) × (length stores.items ≤ 16) }
-    requires known { AllKnown (place_in F.Look.place) (F.disk files.old).folder_counts stores.items }
-    requires fresh { map (faults_in F.Look.faults) stores.items ≡ map (λ q. 0)
-        (map (place_in F.Look.place) stores.items) }
+    requires known { All (IsKnown (F.disk files.old).folder_counts) (map (location_in F.Look.place) stores.items) }
+    requires fresh { map (faults_in F.Look.faults D.state) stores.items ≡ map (λ q. 0)
+        (map (location_in F.Look.place) stores.items) }
     requires cache_named { option_map (λ s. F.Folder.place s.folder) shelf ≡ cache.now }
     requires cache_known { IfSome cache.now (λ q. IsSome ((F.disk files.old).folder_counts q)) }
     requires cache_fresh { IfSome shelf (λ s. (F.Folder.faults s.folder ≡ 0) × (s.kind ≡ kinds.Sha512T256)) }
     requires found { IfSome (with_cache (seen F.Folder.files F.Folder.place F.Folder.faults shelf)
-        (F.disk files.old)).folders (λ m. (fs : List (Map (List ℕ)))
-        × (map m (map (place_in F.Look.place) stores.items) ≡ map Some fs)
-        × (map (files_in F.Look.files) stores.items ≡ map Some fs)) }
+        (F.disk files.old)).folders (λ m. map (files_in F.Look.files) stores.items
+        ≡ map (told_at m) (map (location_in F.Look.place) stores.items)) }
     ensures assembled { (ls : List Listing) → IsSeedIndex planned.now.index planned.now.plan ls planned.now.places →
-        Assembled (with_cache (seen F.Folder.files F.Folder.place F.Folder.faults shelf) (F.disk files.old))
-        (F.disk files.new) (map (place_in F.Look.place) stores.items) cache.now
+        Assembled (sources (with_cache (seen F.Folder.files F.Folder.place F.Folder.faults shelf) (F.disk files.old))
+        (D.state dial.old)) (sources (F.disk files.new) (D.state dial.new))
+        (map (location_in F.Look.place) stores.items) cache.now
         (record { name = target.now; fresh = fresh }) planned.now.index
         (record { images = map image_name seeds.now; listings = ls }) result }
-    ensures kept { FillsCache (map (place_in F.Look.place) stores.items) cache.now planned.now.index
+    ensures kept { FillsCache (map (location_in F.Look.place) stores.items) cache.now planned.now.index
         (with_cache (seen F.Folder.files F.Folder.place F.Folder.faults shelf) (F.disk files.old))
         (F.disk files.new) }
     ensures tells { is_some (F.disk files.new).files ≡ is_some (F.disk files.old).files }
+    ensures dialed { DialsStores (map (location_in F.Look.place) stores.items) (D.state dial.old) (D.state dial.new) }
 {
     let Ok(seeds) = open_seeds(alloc, files, seeds) else {
         give_cache(files, cache, shelf);
-        close_stores(files, stores);
+        drop_sources(files, stores);
         return Err(Outcome::Memory);
     };
     let mut taken = match files.take(target, fresh) {
         Ok(taken) => taken,
         Err(fault) => {
             give_cache(files, cache, shelf);
-            close_stores(files, stores);
+            drop_sources(files, stores);
             close_seeds(files, seeds);
             return not_taken(fault);
         }
@@ -169,7 +170,7 @@ fn assemble_into<F: Files>(
     let ended = assemble(alloc, index, plan, places, &mut taken, &mut kit, &mut shelf);
     let Kit { chain, seeds, .. } = kit;
     give_cache(files, cache, shelf);
-    close_stores(files, chain.into_stores());
+    close_sources(files, dial, chain.into_stores());
     close_seeds(files, seeds);
     files.give(target, taken);
     answer_of(ended)
@@ -221,11 +222,12 @@ fn rename<F: Files>(alloc: Global, files: &mut F, from: &str, to: Name) -> Resul
 }
 
 // Makes the temporary file the image, which then takes OUT's name.
-fn assemble_beside<F: Files>(
+fn assemble_beside<F: Files, D: Dial>(
     alloc: Global,
     files: &mut F,
+    dial: &mut D,
     planned: &Planned,
-    stores: Vec<AnyStore<F::Look>>,
+    stores: Vec<AnySource<F::Look, D>>,
     cache: &Option<Name>,
     shelf: Option<CacheShelf<F::Folder>>,
     seeds: &[Name],
@@ -235,26 +237,25 @@ fn assemble_beside<F: Files>(
     requires wants { AreWants planned.now.index planned.now.plan.wants planned.now.plan.want_of }
     requires known_places { PlacesKnown planned.now.index planned.now.plan planned.now.places (length seeds.now) }
     requires size { (1 ≤ length stores.items) × (length stores.items ≤ 16) }
-    requires known { AllKnown (place_in F.Look.place) (F.disk files.old).folder_counts stores.items }
-    requires fresh { map (faults_in F.Look.faults) stores.items ≡ map (λ q. 0)
-        (map (place_in F.Look.place) stores.items) }
+    requires known { All (IsKnown (F.disk files.old).folder_counts) (map (location_in F.Look.place) stores.items) }
+    requires fresh { map (faults_in F.Look.faults D.state) stores.items ≡ map (λ q. 0)
+        (map (location_in F.Look.place) stores.items) }
     requires cache_named { option_map (λ s. F.Folder.place s.folder) shelf ≡ cache.now }
     requires cache_known { IfSome cache.now (λ q. IsSome ((F.disk files.old).folder_counts q)) }
     requires cache_fresh { IfSome shelf (λ s. (F.Folder.faults s.folder ≡ 0) × (s.kind ≡ kinds.Sha512T256)) }
     requires found { IfSome (with_cache (seen F.Folder.files F.Folder.place F.Folder.faults shelf)
-        (F.disk files.old)).folders (λ m. (fs : List (Map (List ℕ)))
-        × (map m (map (place_in F.Look.place) stores.items) ≡ map Some fs)
-        × (map (files_in F.Look.files) stores.items ≡ map Some fs)) }
+        (F.disk files.old)).folders (λ m. map (files_in F.Look.files) stores.items
+        ≡ map (told_at m) (map (location_in F.Look.place) stores.items)) }
     requires named { temporary.now ≡ temporary_out target }
-    ensures made { (ls : List Listing) (k : DialState) (p : Output) →
+    ensures made { (ls : List Listing) (p : Output) →
         IsSeedIndex planned.now.index planned.now.plan ls planned.now.places → OutMade false
-        (map (place_in F.Look.place) stores.items) cache.now target planned.now.index
+        (map (location_in F.Look.place) stores.items) cache.now target planned.now.index
         (record { images = map image_name seeds.now; listings = ls })
-        (world (with_cache (seen F.Folder.files F.Folder.place F.Folder.faults shelf) (F.disk files.old)) k p) result
-        (world (F.disk files.new) k p) }
+        (world (with_cache (seen F.Folder.files F.Folder.place F.Folder.faults shelf) (F.disk files.old))
+        (D.state dial.old) p) result (world (F.disk files.new) (D.state dial.new) p) }
 {
     let made = assemble_into(
-        alloc, files, planned, stores, cache, shelf, seeds, temporary, true,
+        alloc, files, dial, planned, stores, cache, shelf, seeds, temporary, true,
     );
     clear(files, temporary, made)?;
     let renamed = rename(alloc, files, temporary, target);
@@ -263,10 +264,11 @@ fn assemble_beside<F: Files>(
 
 /// Makes OUT the image that INDEX lists: in its place, where what it holds already is kept where it is right; or by way
 /// of a temporary file, which takes OUT's name when it is the image. Chunks come from the images of the seeds, else
-/// from the cache, and else from the folders, which are asked in order. What a folder gave is added to the cache.
-pub fn extract<F: Files>(
+/// from the cache, and else from the stores, which are asked in order. What a store gave is added to the cache.
+pub fn extract<F: Files, D: Dial>(
     alloc: Global,
     files: &mut F,
+    dial: &mut D,
     stores: Locations,
     cache: Option<Name>,
     seeds: Names,
@@ -276,9 +278,9 @@ pub fn extract<F: Files>(
 ) -> Result<(), Outcome>
     requires stores { (1 ≤ length stores) × (length stores ≤ 16) }
     requires seeds { length seeds ≤ 64 }
-    ensures ends { (k : DialState) (p : Output) → ExtractEnds stores cache seeds in_place index target
-        (world (F.disk files.old) k p) result
-        (world (F.disk files.new) k p) }
+    ensures ends { (p : Output) → ExtractEnds stores cache seeds in_place index target
+        (world (F.disk files.old) (D.state dial.old) p) result
+        (world (F.disk files.new) (D.state dial.new) p) }
 {
     let listed = read_index(alloc, files, index)?;
     let indexes = read_indexes(alloc, files, seeds.as_slice())?;
@@ -288,11 +290,11 @@ pub fn extract<F: Files>(
     let Ok(temporary) = temporary_out(alloc, target.as_str()) else {
         return Err(Outcome::Memory);
     };
-    let opened = open_stores(alloc, files, stores.as_slice())?;
+    let opened = open_sources(alloc, files, dial, stores.as_slice())?;
     let shelf = match take_cache(alloc, files, &cache) {
         Ok(shelf) => shelf,
         Err(outcome) => {
-            close_stores(files, opened);
+            drop_sources(files, opened);
             return Err(outcome);
         }
     };
@@ -301,6 +303,7 @@ pub fn extract<F: Files>(
         assemble_into(
             alloc,
             files,
+            dial,
             &planned,
             opened,
             &cache,
@@ -311,7 +314,7 @@ pub fn extract<F: Files>(
         )
     } else {
         assemble_beside(
-            alloc, files, &planned, opened, &cache, shelf, seeds, &temporary, target,
+            alloc, files, dial, &planned, opened, &cache, shelf, seeds, &temporary, target,
         )
     }
 }

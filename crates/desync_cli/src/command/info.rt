@@ -1,11 +1,10 @@
-//! `info -s FOLDER.. INDEX`: the figures of an index, and how many of its ids the folders hold where some are given.
+//! `info -s STORE.. INDEX`: the figures of an index, and how many of its ids the stores hold where some are given.
 
 ghost use Rattle.std.specs.Prelude.{◌≡◌, ◌≤◌, length, Some};
 ghost use Rattle.desync_cli.specs.Info.{Counted, InfoEnds};
 ghost use Rattle.command_steps.specs.Printing.{Printed};
-ghost use Rattle.command_steps.specs.Stores.{names_of};
-ghost use Rattle.command_steps.specs.Worlds.{Reads, world};
-ghost use Rattle.dsy_base.specs.Links.{DialState};
+ghost use Rattle.command_steps.specs.Sources.{ConsultsStores, sources};
+ghost use Rattle.command_steps.specs.Worlds.{world};
 ghost use Rattle.verify_tool.specs.Texts.{text_of_info};
 
 use caibx_codec::index::Index;
@@ -13,7 +12,8 @@ use command_line::command::{Location, Locations};
 use command_outcome::outcome::Outcome;
 use command_steps::openings::read_index;
 use command_steps::printing::printed;
-use command_steps::stores::{close_stores, open_stores};
+use command_steps::sources::{close_sources, open_sources};
+use dsy_base::dial::Dial;
 use dsy_base::files::Files;
 use dsy_base::name::Name;
 use dsy_base::sink::Sink;
@@ -23,26 +23,27 @@ use store_chain::refused::HasFault;
 use verify_tool::count::count_in_store;
 use verify_tool::info::info as put_figures;
 
-// How many different listed ids the folders hold, where some are given.
-fn count<F: Files>(
+// How many different listed ids the stores hold, where some are given.
+fn count<F: Files, D: Dial>(
     alloc: Global,
     files: &mut F,
+    dial: &mut D,
     index: &Index,
     stores: &[Location],
 ) -> Result<Option<u64>, Outcome>
     requires { length stores.now ≤ 16 }
-    ensures counted { Counted (F.disk files.old)
-        (F.disk files.new) (names_of stores.now) index.now result }
-    ensures kept { Reads (F.disk files.old)
-        (F.disk files.new) }
+    ensures counted { Counted (sources (F.disk files.old) (D.state dial.old))
+        (sources (F.disk files.new) (D.state dial.new)) stores.now index.now result }
+    ensures kept { ConsultsStores stores.now (sources (F.disk files.old) (D.state dial.old))
+        (sources (F.disk files.new) (D.state dial.new)) }
 {
     if stores.is_empty() {
         return Ok(None);
     }
-    let opened = open_stores(alloc, files, stores)?;
+    let opened = open_sources(alloc, files, dial, stores)?;
     let mut chain = Chain::new(opened);
     let counted = count_in_store(alloc, index, &mut chain);
-    close_stores(files, chain.into_stores());
+    close_sources(files, dial, chain.into_stores());
     match counted {
         Ok(n) => Ok(Some(n)),
         Err(fault) => match fault {
@@ -66,21 +67,22 @@ fn print<O: Sink>(
     printed(put_figures(alloc, index, held, out))
 }
 
-/// Prints the figures of INDEX, with the number of its ids in the folders where some are given.
-pub fn info<F: Files, O: Sink>(
+/// Prints the figures of INDEX, with the number of its ids in the stores where some are given.
+pub fn info<F: Files, D: Dial, O: Sink>(
     alloc: Global,
     files: &mut F,
+    dial: &mut D,
     out: &mut O,
     stores: Locations,
     index: Name,
 ) -> Result<(), Outcome>
     requires { length stores ≤ 16 }
-    ensures ends { (k : DialState) → InfoEnds stores index
-        (world (F.disk files.old) k (O.output out.old)) result
-        (world (F.disk files.new) k (O.output out.new)) }
+    ensures ends { InfoEnds stores index
+        (world (F.disk files.old) (D.state dial.old) (O.output out.old)) result
+        (world (F.disk files.new) (D.state dial.new) (O.output out.new)) }
 {
     let listed = read_index(alloc, files, index)?;
-    let held = count(alloc, files, &listed, stores.as_slice())?;
+    let held = count(alloc, files, dial, &listed, stores.as_slice())?;
     print(alloc, &listed, held, out)?;
     Ok(())
 }

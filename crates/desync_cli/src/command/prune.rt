@@ -1,8 +1,6 @@
 //! `prune -s STORE -y INDEX..`: STORE keeps no chunk but those that the indexes list.
 
 ghost use Rattle.std.specs.Prelude.{◌≡◌, IsSome};
-ghost use Rattle.command_steps.specs.AnyStores.{faults_in, files_in, place_in};
-ghost use Rattle.command_steps.specs.Stores.{name_of};
 ghost use Rattle.command_steps.specs.Worlds.{world};
 ghost use Rattle.desync_cli.specs.Prune.{PruneEnds, StorePruned};
 ghost use Rattle.dsy_base.specs.Disk.{Output};
@@ -10,11 +8,11 @@ ghost use Rattle.dsy_base.specs.Links.{DialState};
 ghost use Rattle.verify_tool.specs.Pruning.{has_id};
 
 use chunk_store::id::ChunkId;
-use command_line::command::{Location, Names};
+use command_line::command::Names;
 use command_outcome::outcome::Outcome;
-use command_steps::any_store::AnyStore;
 use command_steps::seeds::read_indexes;
-use command_steps::stores::{folder_of, give_store, take_store};
+use command_steps::taking::{give_folder, take_folder};
+use dir_store::store::DirStore;
 use dsy_base::fault::IoFault;
 use dsy_base::files::Files;
 use dsy_base::folder::Folder;
@@ -27,19 +25,18 @@ use verify_tool::prune::{listed_ids, prune as prune_store};
 // Prunes the store whose folder was taken. The folder is given back, whatever the answer is.
 fn prune_taken<F: Files>(
     files: &mut F,
-    store: &Location,
-    taken: AnyStore<F::Folder>,
+    store: &str,
+    mut taken: DirStore<F::Folder>,
     keep: &BTreeSet<ChunkId>,
 ) -> Result<(), Outcome>
-    requires folder { IsSome ((F.disk files.old).folder_counts (name_of store.now)) }
-    requires named { place_in F.Folder.place taken ≡ name_of store.now }
-    requires fresh { faults_in F.Folder.faults taken ≡ 0 }
-    ensures { StorePruned (has_id keep.now) (name_of store.now) (files_in F.Folder.files taken)
+    requires folder { IsSome ((F.disk files.old).folder_counts store.now) }
+    requires named { F.Folder.place taken ≡ store.now }
+    requires fresh { F.Folder.faults taken ≡ 0 }
+    ensures { StorePruned (has_id keep.now) store.now (F.Folder.files taken)
         (F.disk files.old) result (F.disk files.new) }
 {
-    let mut folder = folder_of(taken);
-    let pruned = prune_store(&mut folder, keep);
-    give_store(files, store, AnyStore::Folder(folder));
+    let pruned = prune_store(&mut taken, keep);
+    give_folder(files, store, taken);
     match pruned {
         Ok(_) => Ok(()),
         Err(IoFault::Failed) => Err(Outcome::StoreFault { store: 0 }),
@@ -62,8 +59,7 @@ pub fn prune<F: Files>(
     let Ok(keep) = listed_ids(alloc, &listed) else {
         return Err(Outcome::Memory);
     };
-    let place = Location::Folder(store);
-    let taken = take_store(alloc, files, &place)?;
-    prune_taken(files, &place, taken, &keep)?;
+    let taken = take_folder(alloc, files, store.as_str())?;
+    prune_taken(files, store.as_str(), taken, &keep)?;
     Ok(())
 }

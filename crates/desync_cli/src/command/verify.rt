@@ -1,16 +1,13 @@
 //! `verify -s STORE -r`: which chunk files of STORE are damaged. With `-r` they are removed.
 
 ghost use Rattle.std.specs.Prelude.{◌≡◌, IsSome};
-ghost use Rattle.command_steps.specs.AnyStores.{faults_in, files_in, place_in};
-ghost use Rattle.command_steps.specs.Stores.{name_of};
 ghost use Rattle.command_steps.specs.Worlds.{world};
 ghost use Rattle.desync_cli.specs.Verify.{StoreVerified, VerifyEnds, answer_of_left};
 ghost use Rattle.dsy_base.specs.Links.{DialState};
 
-use command_line::command::Location;
 use command_outcome::outcome::Outcome;
-use command_steps::any_store::AnyStore;
-use command_steps::stores::{folder_of, give_store, take_store};
+use command_steps::taking::{give_folder, take_folder};
+use dir_store::store::DirStore;
 use dsy_base::files::Files;
 use dsy_base::folder::Folder;
 use dsy_base::look::Look;
@@ -35,20 +32,19 @@ fn verify_taken<F: Files, O: Sink>(
     alloc: Global,
     files: &mut F,
     out: &mut O,
-    store: &Location,
-    taken: AnyStore<F::Folder>,
+    store: &str,
+    mut taken: DirStore<F::Folder>,
     repair: bool,
 ) -> Result<(), Outcome>
-    requires folder { IsSome ((F.disk files.old).folder_counts (name_of store.now)) }
-    requires named { place_in F.Folder.place taken ≡ name_of store.now }
-    requires fresh { faults_in F.Folder.faults taken ≡ 0 }
-    ensures { (k : DialState) → StoreVerified (name_of store.now) repair (files_in F.Folder.files taken)
+    requires folder { IsSome ((F.disk files.old).folder_counts store.now) }
+    requires named { F.Folder.place taken ≡ store.now }
+    requires fresh { F.Folder.faults taken ≡ 0 }
+    ensures { (k : DialState) → StoreVerified store.now repair (F.Folder.files taken)
         (world (F.disk files.old) k (O.output out.old)) result
         (world (F.disk files.new) k (O.output out.new)) }
 {
-    let mut folder = folder_of(taken);
-    let verified = verify_store(alloc, &mut folder, repair, out);
-    give_store(files, store, AnyStore::Folder(folder));
+    let verified = verify_store(alloc, &mut taken, repair, out);
+    give_folder(files, store, taken);
     match verified {
         Ok(count) => none_left(count),
         Err(StoreCheck::StoreFault) => Err(Outcome::StoreFault { store: 0 }),
@@ -70,8 +66,7 @@ pub fn verify<F: Files, O: Sink>(
         (world (F.disk files.old) k (O.output out.old)) result
         (world (F.disk files.new) k (O.output out.new)) }
 {
-    let place = Location::Folder(store);
-    let taken = take_store(alloc, files, &place)?;
-    verify_taken(alloc, files, out, &place, taken, repair)?;
+    let taken = take_folder(alloc, files, store.as_str())?;
+    verify_taken(alloc, files, out, store.as_str(), taken, repair)?;
     Ok(())
 }

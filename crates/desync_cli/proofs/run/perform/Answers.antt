@@ -1,22 +1,19 @@
 use Rattle.desync_cli.proofs.run.perform.Goals as goal
 
 pub returns-in-Make : goal.returns-in-Make
-returns-in-Make g c = record { ends = rw c.in-Make.is (c.make.ensures.ends _ _) }
+returns-in-Make g c = record { ends = rw c.in-Make.is (c.make.ensures.ends _) }
 
 pub returns-in-VerifyIndex : goal.returns-in-VerifyIndex
 returns-in-VerifyIndex g c = record { ends = rw c.in-VerifyIndex.is (c.verify_index.ensures.ends _ _) }
 
 pub returns-in-Extract : goal.returns-in-Extract
-returns-in-Extract g c = record { ends = rw c.in-Extract.is (c.extract.ensures.ends _ _) }
+returns-in-Extract g c = record { ends = rw c.in-Extract.is (c.extract.ensures.ends _) }
 
 pub returns-in-Chop : goal.returns-in-Chop
-returns-in-Chop g c = record { ends = rw c.in-Chop.is (c.chop.ensures.ends _ _) }
+returns-in-Chop g c = record { ends = rw c.in-Chop.is (c.chop.ensures.ends _) }
 
 pub returns-in-Cache : goal.returns-in-Cache
-returns-in-Cache g c = record { ends = rw c.in-Cache.is (c.cache.ensures.ends _ _) }
-
-pub returns-in-Info : goal.returns-in-Info
-returns-in-Info g c = record { ends = rw c.in-Info.is (c.info.ensures.ends _) }
+returns-in-Cache g c = record { ends = rw c.in-Cache.is (c.cache.ensures.ends _) }
 
 pub returns-in-ListChunks : goal.returns-in-ListChunks
 returns-in-ListChunks g c = record { ends = rw c.in-ListChunks.is (c.list_chunks.ensures.ends _) }

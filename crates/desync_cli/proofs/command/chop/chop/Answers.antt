@@ -1,7 +1,7 @@
 use Rattle.std.proofs.Common.{ℕ, List, Ok, Err, inr, refl, subst}
 use Rattle.std.proofs.lemmas.Result.{err_from_is_err_and}
-use Rattle.command_steps.specs.AnyStores.{files_in}
-use Rattle.command_steps.specs.Stores.{name_of}
+use Rattle.command_steps.specs.AnySources.{files_in}
+use Rattle.command_steps.specs.Sources.{sources}
 use Rattle.desync_cli.specs.Chop.{ImageChopped}
 use Rattle.desync_cli.proofs.command.chop.chop.Goals as goal
 
@@ -9,57 +9,31 @@ pub returns-in_err-chop_between : goal.returns-in_err-chop_between
 returns-in_err-chop_between g c =
     let p = err_from_is_err_and c.from_residual-in_err-chop_between.result c.from_residual-in_err-chop_between.ensures.1 in
     let at = g.F.Files.disk in
+    let state = g.D.Dial.state in
     let held = g.F.View.View.held in
     let listed = c.in_ok-listed.ensures in
     let view = c.in_ok-view.ensures in
     let took = c.in_ok-view-2.ensures in
     let l = c.in_ok-listed.listed in
     let files = files_in g.F.Folder.Look.files c.in_ok-view-2.taken in
-    let of_view = subst (λ v. ImageChopped l (held v).name (held v).bytes (name_of c.args.store) files (at c.take_beside.new.files) (Err c.in_err-chop_between.field-0.0) (at c.chop_between.new.files)) took.ok.0 c.in_err-chop_between.ensures in
-    let chopped = subst (λ (n : List ℕ). ImageChopped l n (held c.in_ok-view.view).bytes (name_of c.args.store) files (at c.take_beside.new.files) (Err c.in_err-chop_between.field-0.0) (at c.chop_between.new.files)) view.fresh.1 of_view in
-    record {
-      ends = λ k o. rw (p.1, p.2) (inr (record {
-        disk = _;
-        dial = _;
-        out = _;
-        gave = l;
-        did = ((listed.ok, listed.kept), refl, refl);
-        then = inr (record {
-          disk = _;
-          dial = _;
-          out = _;
-          gave = _;
-          did = ((view.ok, view.kept), refl, refl);
-          then = inr (record { disk = _; dial = _; out = _; gave = files; did = ((took.ok.1.found, took.changed), refl, refl); then = (chopped, refl, refl) });
-        });
-      }));
-    }
+    let w = sources (at c.take_beside.new.files) (state c.args.dial.now) in
+    let v = sources (at c.chop_between.new.files) (state c.chop_between.new.dial) in
+    let of_view = subst (λ y. ImageChopped l (held y).name (held y).bytes c.args.store files w (Err c.in_err-chop_between.field-0.0) v) took.kept c.in_err-chop_between.ensures in
+    let chopped = subst (λ (n : List ℕ). ImageChopped l n (held c.in_ok-view.view).bytes c.args.store files w (Err c.in_err-chop_between.field-0.0) v) view.fresh.1 of_view in
+    record { ends = λ o. rw (p.1, p.2) (inr (record { disk = _; dial = _; out = _; gave = l; did = ((listed.ok, listed.kept), refl, refl); then = inr (record { disk = _; dial = _; out = _; gave = _; did = ((view.ok, view.kept), refl, refl); then = inr (record { disk = _; dial = _; out = _; gave = files; did = (took.ok, refl, refl); then = (chopped, refl) }) }) })) }
 
 pub returns : goal.returns
 returns g c =
     let at = g.F.Files.disk in
+    let state = g.D.Dial.state in
     let held = g.F.View.View.held in
     let listed = c.in_ok-listed.ensures in
     let view = c.in_ok-view.ensures in
     let took = c.in_ok-view-2.ensures in
     let l = c.in_ok-listed.listed in
     let files = files_in g.F.Folder.Look.files c.in_ok-view-2.taken in
-    let of_view = subst (λ v. ImageChopped l (held v).name (held v).bytes (name_of c.args.store) files (at c.take_beside.new.files) (Ok tt) (at c.chop_between.new.files)) took.ok.0 c.in_ok-chop_between.ensures in
-    let chopped = subst (λ (n : List ℕ). ImageChopped l n (held c.in_ok-view.view).bytes (name_of c.args.store) files (at c.take_beside.new.files) (Ok tt) (at c.chop_between.new.files)) view.fresh.1 of_view in
-    record {
-      ends = λ k o. record {
-        disk = _;
-        dial = _;
-        out = _;
-        gave = l;
-        did = ((listed.ok, listed.kept), refl, refl);
-        then = record {
-          disk = _;
-          dial = _;
-          out = _;
-          gave = _;
-          did = ((view.ok, view.kept), refl, refl);
-          then = record { disk = _; dial = _; out = _; gave = files; did = ((took.ok.1.found, took.changed), refl, refl); then = (chopped, refl, refl) };
-        };
-      };
-    }
+    let w = sources (at c.take_beside.new.files) (state c.args.dial.now) in
+    let v = sources (at c.chop_between.new.files) (state c.chop_between.new.dial) in
+    let of_view = subst (λ y. ImageChopped l (held y).name (held y).bytes c.args.store files w (Ok tt) v) took.kept c.in_ok-chop_between.ensures in
+    let chopped = subst (λ (n : List ℕ). ImageChopped l n (held c.in_ok-view.view).bytes c.args.store files w (Ok tt) v) view.fresh.1 of_view in
+    record { ends = λ o. record { disk = _; dial = _; out = _; gave = l; did = ((listed.ok, listed.kept), refl, refl); then = record { disk = _; dial = _; out = _; gave = _; did = ((view.ok, view.kept), refl, refl); then = record { disk = _; dial = _; out = _; gave = files; did = (took.ok, refl, refl); then = (chopped, refl) } } } }

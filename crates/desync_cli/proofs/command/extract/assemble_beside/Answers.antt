@@ -4,8 +4,9 @@ use Rattle.assembler.specs.Caches.{seen}
 use Rattle.cache_store.specs.Shelves.{Shelf, Shelved}
 use Rattle.command_steps.specs.Cache.{with_cache}
 use Rattle.desync_cli.proofs.command.extract.assemble_beside.Given.{Over}
-use Rattle.command_steps.specs.AnyStores.{place_in}
+use Rattle.command_steps.specs.AnySources.{location_in}
 use Rattle.command_steps.specs.Seeds.{image_name}
+use Rattle.command_steps.specs.Sources.{NotAsking, sources}
 use Rattle.command_steps.specs.Worlds.{world}
 use Rattle.desync_cli.proofs.Replaced.{beside_apart, clears, passed_any}
 use Rattle.desync_cli.proofs.command.extract.assemble_beside.Goals as goal
@@ -24,15 +25,18 @@ returns-in_err-clear g c =
     let e = err_from_is_err_and c.from_residual.result c.from_residual.ensures.1 in
     let d = with_cache (see g c.args.shelf) (at c.args.files.now) in
     let b = at c.assemble_into-made.new.files in
-    let names = map (place_in g.F.Look.Look.place) c.args.stores.items in
+    let k0 = g.D.Dial.state c.args.dial.now in
+    let k1 = g.D.Dial.state c.assemble_into-made.new.dial in
+    let w = sources d k0 in
+    let names = map (location_in g.F.Look.Look.place) c.args.stores.items in
     let l = c.args.planned.now.index in
     record {
-      made = λ ls k p is.
+      made = λ ls p is.
           let z : Seeds = record { images = map image_name c.args.seeds.now; listings = ls } in
           let made = c.assemble_into-made.ensures in
-          let image = subst (λ (n : List ℕ). ImageMade names c.args.cache.now (record { name = n; fresh = true }) l z d c.assemble_into-made.result b) c.requires.named (made.assembled ls is, made.kept, made.tells) in
+          let image = subst (λ (n : List ℕ). ImageMade names c.args.cache.now (record { name = n; fresh = true }) l z w c.assemble_into-made.result (sources b k1)) c.requires.named (made.assembled ls is, made.kept, made.tells, made.dialed) in
           let cleared = subst (λ (n : List ℕ). ClearedAfter n b c.assemble_into-made.result (Err c.in_err-clear.field-0.0) (at c.clear.new.files)) c.requires.named c.in_err-clear.ensures in
-          rw (e.1, e.2) (inl (clears _ (ImageMade names c.args.cache.now (beside c.args.target) l z) d b (at c.clear.new.files) c.assemble_into-made.result (Err c.in_err-clear.field-0.0) image cleared, refl, refl));
+          rw (e.1, e.2) (inl (clears _ (ImageMade names c.args.cache.now (beside c.args.target) l z) w b (at c.clear.new.files) k1 c.assemble_into-made.result (Err c.in_err-clear.field-0.0) image cleared, refl));
     }
 
 pub returns : goal.returns
@@ -40,25 +44,28 @@ returns g c =
     let at = g.F.Files.disk in
     let d = with_cache (see g c.args.shelf) (at c.args.files.now) in
     let b = at c.assemble_into-made.new.files in
+    let k0 = g.D.Dial.state c.args.dial.now in
+    let k1 = g.D.Dial.state c.assemble_into-made.new.dial in
+    let w = sources d k0 in
     let m = at c.clear.new.files in
     let n = at c.rename-renamed.new.files in
     let f = at c.clear-2.new.files in
-    let names = map (place_in g.F.Look.Look.place) c.args.stores.items in
+    let names = map (location_in g.F.Look.Look.place) c.args.stores.items in
     let l = c.args.planned.now.index in
     record {
-      made = λ ls k p is.
+      made = λ ls p is.
           let z : Seeds = record { images = map image_name c.args.seeds.now; listings = ls } in
           let made = c.assemble_into-made.ensures in
-          let image = subst (λ (n : List ℕ). ImageMade names c.args.cache.now (record { name = n; fresh = true }) l z d c.assemble_into-made.result b) c.requires.named (made.assembled ls is, made.kept, made.tells) in
+          let image = subst (λ (n : List ℕ). ImageMade names c.args.cache.now (record { name = n; fresh = true }) l z w c.assemble_into-made.result (sources b k1)) c.requires.named (made.assembled ls is, made.kept, made.tells, made.dialed) in
           let cleared = subst (λ (n : List ℕ). ClearedAfter n b c.assemble_into-made.result (Ok tt) m) c.requires.named c.in_ok-clear.ensures in
           let renamed = subst (λ (q : List ℕ). Renamed q c.args.target m c.rename-renamed.result n) c.requires.named c.rename-renamed.ensures in
           let last = subst (λ (q : List ℕ). ClearedAfter q n c.rename-renamed.result c.clear-2.result f) c.requires.named c.clear-2.ensures in
-          passed_any _ _ (world d k p) c.clear-2.result (world f k p) (record {
+          passed_any _ _ (world d k0 p) c.clear-2.result (world f k1 p) (record {
             disk = m;
-            dial = k;
+            dial = k1;
             out = p;
             gave = tt;
-            did = (clears _ (ImageMade names c.args.cache.now (beside c.args.target) l z) d b m c.assemble_into-made.result (Ok tt) image cleared, refl, refl);
-            then = (clears _ (Renamed _ c.args.target) m n f c.rename-renamed.result c.clear-2.result renamed last, refl, refl);
+            did = (clears _ (ImageMade names c.args.cache.now (beside c.args.target) l z) w b m k1 c.assemble_into-made.result (Ok tt) image cleared, refl);
+            then = (clears _ (NotAsking (Renamed _ c.args.target)) (sources m k1) n f k1 c.rename-renamed.result c.clear-2.result (renamed, refl) last, refl);
           });
     }

@@ -1,18 +1,18 @@
-use Rattle.std.proofs.Common.{ℕ, List, Option, Ok, Err, arith, true, false, inl, inr, map, refl, subst, sym}
+use Rattle.std.proofs.Common.{◌∙◌, All, ℕ, List, Option, Ok, Err, arith, true, false, inl, inr, map, refl, subst, sym}
 use Rattle.std.proofs.lemmas.Result.{err_from_is_err_and}
 use Rattle.caibx_codec.specs.Listing.{Listing}
-use Rattle.command_steps.proofs.Lent.{known_places}
+use Rattle.command_line.specs.declared.command.Location.{Location}
+use Rattle.command_steps.proofs.Given.{all_later}
 use Rattle.assembler.specs.Caches.{seen}
 use Rattle.cache_store.specs.Shelves.{Shelf, Shelved}
 use Rattle.command_steps.proofs.Cached.{cache_longer, cache_reads}
 use Rattle.command_steps.specs.Cache.{with_cache}
 use Rattle.desync_cli.proofs.command.extract.extract.Given.{Over}
-use Rattle.command_steps.specs.AnyStores.{files_in, place_in}
+use Rattle.command_steps.specs.AnySources.{IsKnown, files_in, location_in}
 use Rattle.command_steps.specs.Openings.{Listed}
 use Rattle.command_steps.specs.Seeds.{image_name}
-use Rattle.command_steps.specs.Stores.{names_of}
 use Rattle.command_steps.specs.Worlds.{world}
-use Rattle.desync_cli.proofs.Counting.{all_there}
+use Rattle.desync_cli.proofs.Counting.{found_still}
 use Rattle.desync_cli.proofs.Replaced.{ends_with, known_places_of, opened_many}
 use Rattle.desync_cli.proofs.Seeded.{zipped_many}
 use Rattle.desync_cli.proofs.command.extract.extract.Goals as goal
@@ -35,7 +35,7 @@ returns-in_err-opened g c =
     let read = c.in_ok-indexes.ensures in
     let none = rw c.as_slice-2.ensures at c.in_err-opened.ensures.err in
     record {
-      ends = λ k o. rw (e.1, e.2) (inr (record {
+      ends = λ o. rw (e.1, e.2) (inr (record {
         disk = _;
         dial = _;
         out = _;
@@ -53,16 +53,16 @@ assemble_into-requires-clause-known_places g c =
 
 pub assemble_into-requires-clause-size : goal.assemble_into-requires-clause-size
 assemble_into-requires-clause-size g c =
-    let fresh = rw c.as_slice-2.ensures at c.in_ok-opened.ensures.fresh in
-    opened_many (place_in g.F.Look.Look.place) c.args.stores c.in_ok-opened.opened.items fresh.0 c.requires.stores
+    let located = rw c.as_slice-2.ensures at c.in_ok-opened.ensures.located in
+    opened_many (location_in g.F.Look.Look.place) c.args.stores c.in_ok-opened.opened.items located c.requires.stores
 
 pub assemble_into-requires-clause-known : goal.assemble_into-requires-clause-known
 assemble_into-requires-clause-known g c =
     let at = g.F.Files.disk in
-    let known = rw c.as_slice-2.ensures at c.in_ok-opened.ensures.known in
-    let fresh = rw c.as_slice-2.ensures at c.in_ok-opened.ensures.fresh in
-    let reached = cache_reads c.args.cache (at c.open_stores.new.files) (with_cache (see g c.in-Ok-take_cache.shelf) (at c.take_cache.new.files)) (Ok tt) c.in-Ok-take_cache.ensures.ok in
-    λ k y lt. reached.folder_known _ (known_places (place_in g.F.Look.Look.place) (at c.open_stores.new.files).folder_counts c.in_ok-opened.opened.items (names_of c.args.stores) fresh.0 known k y lt)
+    let opened = c.in_ok-opened.ensures in
+    let reached = cache_reads c.args.cache (at c.open_sources.new.files) (with_cache (see g c.in-Ok-take_cache.shelf) (at c.take_cache.new.files)) (Ok tt) c.in-Ok-take_cache.ensures.ok in
+    let known = all_later (at c.open_sources.new.files).folder_counts (at c.take_cache.new.files).folder_counts reached.folder_known c.as_slice-2.result.now opened.known in
+    subst (λ (l : List Location). All (IsKnown (at c.take_cache.new.files).folder_counts) l) (sym opened.located) known
 
 pub assemble_beside-requires-clause-known_places : goal.assemble_beside-requires-clause-known_places
 assemble_beside-requires-clause-known_places g c =
@@ -72,24 +72,40 @@ assemble_beside-requires-clause-known_places g c =
 
 pub assemble_beside-requires-clause-size : goal.assemble_beside-requires-clause-size
 assemble_beside-requires-clause-size g c =
-    let fresh = rw c.as_slice-2.ensures at c.in_ok-opened.ensures.fresh in
-    opened_many (place_in g.F.Look.Look.place) c.args.stores c.in_ok-opened.opened.items fresh.0 c.requires.stores
+    let located = rw c.as_slice-2.ensures at c.in_ok-opened.ensures.located in
+    opened_many (location_in g.F.Look.Look.place) c.args.stores c.in_ok-opened.opened.items located c.requires.stores
 
 pub assemble_beside-requires-clause-known : goal.assemble_beside-requires-clause-known
 assemble_beside-requires-clause-known g c =
     let at = g.F.Files.disk in
-    let known = rw c.as_slice-2.ensures at c.in_ok-opened.ensures.known in
-    let fresh = rw c.as_slice-2.ensures at c.in_ok-opened.ensures.fresh in
-    let reached = cache_reads c.args.cache (at c.open_stores.new.files) (with_cache (see g c.in-Ok-take_cache.shelf) (at c.take_cache.new.files)) (Ok tt) c.in-Ok-take_cache.ensures.ok in
-    λ k y lt. reached.folder_known _ (known_places (place_in g.F.Look.Look.place) (at c.open_stores.new.files).folder_counts c.in_ok-opened.opened.items (names_of c.args.stores) fresh.0 known k y lt)
+    let opened = c.in_ok-opened.ensures in
+    let reached = cache_reads c.args.cache (at c.open_sources.new.files) (with_cache (see g c.in-Ok-take_cache.shelf) (at c.take_cache.new.files)) (Ok tt) c.in-Ok-take_cache.ensures.ok in
+    let known = all_later (at c.open_sources.new.files).folder_counts (at c.take_cache.new.files).folder_counts reached.folder_known c.as_slice-2.result.now opened.known in
+    subst (λ (l : List Location). All (IsKnown (at c.take_cache.new.files).folder_counts) l) (sym opened.located) known
 
-pub close_stores-requires : goal.close_stores-requires
-close_stores-requires g c =
+pub assemble_into-requires-clause-found : goal.assemble_into-requires-clause-found
+assemble_into-requires-clause-found g c =
     let at = g.F.Files.disk in
-    let known = rw c.as_slice-2.ensures at c.in_ok-opened.ensures.known in
-    let fresh = rw c.as_slice-2.ensures at c.in_ok-opened.ensures.fresh in
-    let reached = cache_reads c.args.cache (at c.open_stores.new.files) (at c.take_cache.new.files) (Err c.in-Err.outcome) c.in-Err.ensures.err in
-    record { known = λ k y lt. reached.folder_known _ (known_places (place_in g.F.Look.Look.place) (at c.open_stores.new.files).folder_counts c.in_ok-opened.opened.items (names_of c.args.stores) fresh.0 known k y lt) }
+    let opened = c.in_ok-opened.ensures in
+    let m = with_cache (see g c.in-Ok-take_cache.shelf) (at c.take_cache.new.files) in
+    let reached = cache_reads c.args.cache (at c.open_sources.new.files) m (Ok tt) c.in-Ok-take_cache.ensures.ok in
+    found_still (files_in g.F.Look.Look.files) (location_in g.F.Look.Look.place) (at c.read_indexes.new.files).folders m.folders c.as_slice-2.result.now c.in_ok-opened.opened.items opened.found opened.located (reached.folders ∙ opened.kept.folders)
+
+pub assemble_beside-requires-clause-found : goal.assemble_beside-requires-clause-found
+assemble_beside-requires-clause-found g c =
+    let at = g.F.Files.disk in
+    let opened = c.in_ok-opened.ensures in
+    let m = with_cache (see g c.in-Ok-take_cache.shelf) (at c.take_cache.new.files) in
+    let reached = cache_reads c.args.cache (at c.open_sources.new.files) m (Ok tt) c.in-Ok-take_cache.ensures.ok in
+    found_still (files_in g.F.Look.Look.files) (location_in g.F.Look.Look.place) (at c.read_indexes.new.files).folders m.folders c.as_slice-2.result.now c.in_ok-opened.opened.items opened.found opened.located (reached.folders ∙ opened.kept.folders)
+
+pub drop_sources-requires : goal.drop_sources-requires
+drop_sources-requires g c =
+    let at = g.F.Files.disk in
+    let opened = c.in_ok-opened.ensures in
+    let reached = cache_reads c.args.cache (at c.open_sources.new.files) (at c.take_cache.new.files) (Err c.in-Err.outcome) c.in-Err.ensures.err in
+    let known = all_later (at c.open_sources.new.files).folder_counts (at c.take_cache.new.files).folder_counts reached.folder_known c.as_slice-2.result.now opened.known in
+    record { known = subst (λ (l : List Location). All (IsKnown (at c.take_cache.new.files).folder_counts) l) (sym opened.located) known }
 
 pub returns-in-Err : goal.returns-in-Err
 returns-in-Err g c =
@@ -97,11 +113,10 @@ returns-in-Err g c =
     let listed = c.in_ok-listed.ensures in
     let read = c.in_ok-indexes.ensures in
     let opened = c.in_ok-opened.ensures in
-    let names = names_of c.args.stores in
-    let found = rw c.as_slice-2.ensures at opened.found in
-    let refused = cache_longer c.args.cache (at c.open_stores.new.files) (at c.take_cache.new.files) (at c.close_stores.new.files) c.in-Err.outcome c.in-Err.ensures.err c.close_stores.ensures.kept in
+    let there = rw c.as_slice-2.ensures at opened.there in
+    let refused = cache_longer c.args.cache (at c.open_sources.new.files) (at c.take_cache.new.files) (at c.drop_sources.new.files) c.in-Err.outcome c.in-Err.ensures.err c.drop_sources.ensures.kept in
     record {
-      ends = λ k o. inr (record {
+      ends = λ o. inr (record {
         disk = _;
         dial = _;
         out = _;
@@ -118,7 +133,7 @@ returns-in-Err g c =
             dial = _;
             out = _;
             gave = tt;
-            did = ((all_there (at c.read_indexes.new.files).folders names (files_in g.F.Look.Look.files) c.in_ok-opened.opened.items found, opened.kept), refl, refl);
+            did = ((there, opened.kept), refl, refl);
             then = inl (refused, refl, refl);
           });
         });
@@ -129,10 +144,11 @@ pub returns-then-in_place : goal.returns-then-in_place
 returns-then-in_place g c =
     let at = g.F.Files.disk in
     let d = at c.args.files.now in
-    let f = at c.open_stores.new.files in
+    let f = at c.open_sources.new.files in
     let m = with_cache (see g c.in-Ok-take_cache.shelf) (at c.take_cache.new.files) in
     let e = at c.assemble_into.new.files in
-    let names = names_of c.args.stores in
+    let j = g.D.Dial.state c.assemble_into.new.dial in
+    let names = c.args.stores in
     let cache = c.args.cache in
     let items = c.in_ok-opened.opened.items in
     let ls = c.in_ok-indexes.indexes.items in
@@ -140,20 +156,21 @@ returns-then-in_place g c =
     let listed = c.in_ok-listed.ensures in
     let read = c.in_ok-indexes.ensures in
     let opened = c.in_ok-opened.ensures in
-    let fresh = rw c.as_slice-2.ensures at opened.fresh in
-    let found = rw c.as_slice-2.ensures at opened.found in
+    let located = rw c.as_slice-2.ensures at opened.located in
+    let there = rw c.as_slice-2.ensures at opened.there in
+    let k = g.D.Dial.state c.args.dial.now in
     record {
-      ends = λ k p.
-          let ended : List (List ℕ) → List (List ℕ) → List ℕ → Listing → Type 0 = λ n images q l. OutMade true n cache q l (record { images = map image_name images; listings = ls }) (world m k p) c.assemble_into.result (world e k p) in
+      ends = λ p.
+          let ended : List Location → List (List ℕ) → List ℕ → Listing → Type 0 = λ n images q l. OutMade true n cache q l (record { images = map image_name images; listings = ls }) (world m k p) c.assemble_into.result (world e j p) in
           let made = c.assemble_into.ensures in
-          let over : ended (map (place_in g.F.Look.Look.place) items) c.as_slice-seeds.result.now c.as_str-then-in_place.result.now c.in-Ok.planned.index = ((made.assembled ls (rw c.in-Ok.ensures.index c.in-Ok.ensures.places), made.kept, made.tells), refl, refl) in
-          let named = subst (λ q. ended (map (place_in g.F.Look.Look.place) items) c.as_slice-seeds.result.now q c.in-Ok.planned.index) c.as_str-then-in_place.ensures over in
+          let over : ended (map (location_in g.F.Look.Look.place) items) c.as_slice-seeds.result.now c.as_str-then-in_place.result.now c.in-Ok.planned.index = ((made.assembled ls (rw c.in-Ok.ensures.index c.in-Ok.ensures.places), made.kept, made.tells, made.dialed), refl) in
+          let named = subst (λ q. ended (map (location_in g.F.Look.Look.place) items) c.as_slice-seeds.result.now q c.in-Ok.planned.index) c.as_str-then-in_place.ensures over in
           let into : ended names c.args.seeds c.args.target l =
-          subst (λ n. ended n c.args.seeds c.args.target l) fresh.0 (subst (λ q. ended (map (place_in g.F.Look.Look.place) items) q c.args.target l) c.as_slice-seeds.ensures
-          (subst (λ l. ended (map (place_in g.F.Look.Look.place) items) c.as_slice-seeds.result.now c.args.target l) c.in-Ok.ensures.index named)) in
-          subst (λ place. ExtractEnds c.args.stores cache c.args.seeds place c.args.index c.args.target (world d k p) c.assemble_into.result (world e k p)) (sym c.if-in_place.true)
-          (ends_with c.args.stores cache c.args.seeds true c.args.index c.args.target l ls d (at c.read_index.new.files) (at c.read_indexes.new.files) f m e k p c.assemble_into.result
-          (listed.ok, listed.kept) ((rw c.as_slice.ensures at read.ok, read.few), read.kept) (all_there (at c.read_indexes.new.files).folders names (files_in g.F.Look.Look.files) items found, opened.kept)
+          subst (λ n. ended n c.args.seeds c.args.target l) located (subst (λ q. ended (map (location_in g.F.Look.Look.place) items) q c.args.target l) c.as_slice-seeds.ensures
+          (subst (λ l. ended (map (location_in g.F.Look.Look.place) items) c.as_slice-seeds.result.now c.args.target l) c.in-Ok.ensures.index named)) in
+          subst (λ place. ExtractEnds c.args.stores cache c.args.seeds place c.args.index c.args.target (world d k p) c.assemble_into.result (world e j p)) (sym c.if-in_place.true)
+          (ends_with c.args.stores cache c.args.seeds true c.args.index c.args.target l ls d (at c.read_index.new.files) (at c.read_indexes.new.files) f m e k j p c.assemble_into.result
+          (listed.ok, listed.kept) ((rw c.as_slice.ensures at read.ok, read.few), read.kept) (there, opened.kept)
           c.in-Ok-take_cache.ensures.ok into);
     }
 
@@ -161,10 +178,11 @@ pub returns : goal.returns
 returns g c =
     let at = g.F.Files.disk in
     let d = at c.args.files.now in
-    let f = at c.open_stores.new.files in
+    let f = at c.open_sources.new.files in
     let m = with_cache (see g c.in-Ok-take_cache.shelf) (at c.take_cache.new.files) in
     let e = at c.assemble_beside.new.files in
-    let names = names_of c.args.stores in
+    let j = g.D.Dial.state c.assemble_beside.new.dial in
+    let names = c.args.stores in
     let cache = c.args.cache in
     let items = c.in_ok-opened.opened.items in
     let ls = c.in_ok-indexes.indexes.items in
@@ -172,17 +190,18 @@ returns g c =
     let listed = c.in_ok-listed.ensures in
     let read = c.in_ok-indexes.ensures in
     let opened = c.in_ok-opened.ensures in
-    let fresh = rw c.as_slice-2.ensures at opened.fresh in
-    let found = rw c.as_slice-2.ensures at opened.found in
+    let located = rw c.as_slice-2.ensures at opened.located in
+    let there = rw c.as_slice-2.ensures at opened.there in
+    let k = g.D.Dial.state c.args.dial.now in
     record {
-      ends = λ k p.
-          let ended : List (List ℕ) → List (List ℕ) → List ℕ → Listing → Type 0 = λ n images q l. OutMade false n cache q l (record { images = map image_name images; listings = ls }) (world m k p) c.assemble_beside.result (world e k p) in
-          let named : ended (map (place_in g.F.Look.Look.place) items) c.as_slice-seeds.result.now c.args.target c.in-Ok.planned.index = c.assemble_beside.ensures.made ls k p (rw c.in-Ok.ensures.index c.in-Ok.ensures.places) in
+      ends = λ p.
+          let ended : List Location → List (List ℕ) → List ℕ → Listing → Type 0 = λ n images q l. OutMade false n cache q l (record { images = map image_name images; listings = ls }) (world m k p) c.assemble_beside.result (world e j p) in
+          let named : ended (map (location_in g.F.Look.Look.place) items) c.as_slice-seeds.result.now c.args.target c.in-Ok.planned.index = c.assemble_beside.ensures.made ls p (rw c.in-Ok.ensures.index c.in-Ok.ensures.places) in
           let into : ended names c.args.seeds c.args.target l =
-          subst (λ n. ended n c.args.seeds c.args.target l) fresh.0 (subst (λ q. ended (map (place_in g.F.Look.Look.place) items) q c.args.target l) c.as_slice-seeds.ensures
-          (subst (λ l. ended (map (place_in g.F.Look.Look.place) items) c.as_slice-seeds.result.now c.args.target l) c.in-Ok.ensures.index named)) in
-          subst (λ place. ExtractEnds c.args.stores cache c.args.seeds place c.args.index c.args.target (world d k p) c.assemble_beside.result (world e k p)) (sym c.if-in_place.false)
-          (ends_with c.args.stores cache c.args.seeds false c.args.index c.args.target l ls d (at c.read_index.new.files) (at c.read_indexes.new.files) f m e k p c.assemble_beside.result
-          (listed.ok, listed.kept) ((rw c.as_slice.ensures at read.ok, read.few), read.kept) (all_there (at c.read_indexes.new.files).folders names (files_in g.F.Look.Look.files) items found, opened.kept)
+          subst (λ n. ended n c.args.seeds c.args.target l) located (subst (λ q. ended (map (location_in g.F.Look.Look.place) items) q c.args.target l) c.as_slice-seeds.ensures
+          (subst (λ l. ended (map (location_in g.F.Look.Look.place) items) c.as_slice-seeds.result.now c.args.target l) c.in-Ok.ensures.index named)) in
+          subst (λ place. ExtractEnds c.args.stores cache c.args.seeds place c.args.index c.args.target (world d k p) c.assemble_beside.result (world e j p)) (sym c.if-in_place.false)
+          (ends_with c.args.stores cache c.args.seeds false c.args.index c.args.target l ls d (at c.read_index.new.files) (at c.read_indexes.new.files) f m e k j p c.assemble_beside.result
+          (listed.ok, listed.kept) ((rw c.as_slice.ensures at read.ok, read.few), read.kept) (there, opened.kept)
           c.in-Ok-take_cache.ensures.ok into);
     }

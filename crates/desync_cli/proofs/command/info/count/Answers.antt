@@ -1,52 +1,118 @@
-use Rattle.std.proofs.Common.{◌≡◌, ◌<◌, ◌∙◌, ℕ, List, None, arith, inr, length}
+use Rattle.std.proofs.Common.{◌<◌, ◌∙◌, ℕ, All, List, arith, inr, length, slice_index_or, subst, sym}
 use Rattle.std.proofs.lemmas.Grind.{common_steps}
-use Rattle.std.proofs.lemmas.List.{length-map}
 use Rattle.std.proofs.lemmas.List.Elements.{length_all_zip}
-use Rattle.chunk_store.specs.Said.{KeepsOf}
 use Rattle.caibx_codec.specs.Listing.{id_of}
-use Rattle.command_steps.specs.AnyStores.{chunks_in, faults_in, files_in, place_in, said_in}
-use Rattle.command_steps.specs.Stores.{name_of, names_of}
-use Rattle.desync_cli.proofs.Counting.{all_there, counted_told, ended_by, there_after}
-use Rattle.command_steps.proofs.Lent.{fails_first, known_places}
+use Rattle.chunk_store.specs.Said.{KeepsOf}
+use Rattle.command_steps.proofs.Consulted.{only_read, reads_consult}
+use Rattle.command_steps.proofs.Dialed.{dials_none}
+use Rattle.command_steps.proofs.Given.{all_stand, fails_first, given_earlier, stand_still}
+use Rattle.command_steps.specs.AnySources.{IsGiven, IsKnown, chunks_in, faults_in, files_in, location_in, said_in}
+use Rattle.command_steps.specs.Sources.{ConsultsStores, sources}
+use Rattle.command_line.specs.declared.command.Location.{Location}
+use Rattle.desync_cli.proofs.Counting.{counted_told, ended_by, held_after}
 use Rattle.desync_cli.proofs.command.info.count.Goals as goal
 
-pub close_stores-requires : goal.close_stores-requires
-close_stores-requires g c =
-    let place = (rw c.new-chain.ensures.value at c.count_in_store-counted.ensures.kept).places in
-    record { known = rw c.into_stores.ensures.value (known_places (place_in g.F.Look.Look.place) (g.F.Files.disk c.open_stores.new.files).folder_counts c.count_in_store-counted.new.chain.stores (names_of c.args.stores.now) (place ∙ c.in_ok-opened.ensures.fresh.0) c.in_ok-opened.ensures.known) }
+pub close_sources-requires : goal.close_sources-requires
+close_sources-requires g c =
+    let at = g.F.Files.disk in
+    let place = g.F.Look.Look.place in
+    let opened = c.in_ok-opened.ensures in
+    let before = c.in_ok-opened.opened.items in
+    let after = c.count_in_store-counted.new.chain.stores in
+    let kept = rw c.new-chain.ensures.value at c.count_in_store-counted.ensures.kept in
+    let located = stand_still place before after kept.places ∙ opened.located in
+    let known = subst (λ (l : List Location). All (IsKnown (at c.open_sources.new.files).folder_counts) l) (sym located) opened.known in
+    record { known = rw c.into_stores.ensures.value known }
+
+pub returns-in_err-opened-clause-kept : goal.returns-in_err-opened-clause-kept
+returns-in_err-opened-clause-kept g c = only_read (g.F.Files.disk c.args.files.now) (g.F.Files.disk c.open_sources.new.files) (g.D.Dial.state c.args.dial.now) c.args.stores.now c.in_err-opened.ensures.kept
 
 pub returns-in-Ok-clause-counted : goal.returns-in-Ok-clause-counted
 returns-in-Ok-clause-counted g c =
-    let same : length (names_of c.args.stores.now) ≡ length c.args.stores.now = length-map c.args.stores.now name_of in
-    let some_names : 0 < length (names_of c.args.stores.now) = grind (arith, common_steps, same) in (
-      some_names,
-      counted_told (g.F.Files.disk c.args.files.now).folders (names_of c.args.stores.now) c.args.index.now (files_in g.F.Look.Look.files) c.in_ok-opened.opened.items c.in-Ok.n
-          c.in_ok-opened.ensures.found (rw c.new-chain.ensures.value at c.in-Ok.ensures.value),
+    let opened = c.in_ok-opened.ensures in
+    let some : 0 < length c.args.stores.now = grind (arith, common_steps) in (
+      some,
+      record {
+        there = opened.there;
+        size = c.in-Ok.ensures.size;
+        counts = counted_told (g.F.Files.disk c.args.files.now).folders c.args.stores.now c.args.index.now (files_in g.F.Look.Look.files) c.in_ok-opened.opened.items c.in-Ok.n
+            opened.found (rw c.new-chain.ensures.value at c.in-Ok.ensures.value);
+      },
     )
+
+pub returns-in-Ok-clause-kept : goal.returns-in-Ok-clause-kept
+returns-in-Ok-clause-kept g c =
+    let at = g.F.Files.disk in
+    let place = g.F.Look.Look.place in
+    let opened = c.in_ok-opened.ensures in
+    let before = c.in_ok-opened.opened.items in
+    let after = c.count_in_store-counted.new.chain.stores in
+    let kept = rw c.new-chain.ensures.value at c.count_in_store-counted.ensures.kept in
+    let located = stand_still place before after kept.places ∙ opened.located in
+    let closed = rw c.into_stores.ensures.value at c.close_sources.ensures.kept in
+    let now = sources (at c.close_sources.new.files) (g.D.Dial.state c.close_sources.new.dial) in
+    reads_consult (at c.args.files.now) (at c.open_sources.new.files) (g.D.Dial.state c.args.dial.now) now c.args.stores.now opened.kept
+    (subst (λ (l : List Location). ConsultsStores l (sources (at c.open_sources.new.files) (g.D.Dial.state c.args.dial.now)) now) located closed)
+
+pub returns-in-StoreFault-clause-kept : goal.returns-in-StoreFault-clause-kept
+returns-in-StoreFault-clause-kept g c =
+    let at = g.F.Files.disk in
+    let place = g.F.Look.Look.place in
+    let opened = c.in_ok-opened.ensures in
+    let before = c.in_ok-opened.opened.items in
+    let after = c.count_in_store-counted.new.chain.stores in
+    let kept = rw c.new-chain.ensures.value at c.count_in_store-counted.ensures.kept in
+    let located = stand_still place before after kept.places ∙ opened.located in
+    let closed = rw c.into_stores.ensures.value at c.close_sources.ensures.kept in
+    let now = sources (at c.close_sources.new.files) (g.D.Dial.state c.close_sources.new.dial) in
+    reads_consult (at c.args.files.now) (at c.open_sources.new.files) (g.D.Dial.state c.args.dial.now) now c.args.stores.now opened.kept
+    (subst (λ (l : List Location). ConsultsStores l (sources (at c.open_sources.new.files) (g.D.Dial.state c.args.dial.now)) now) located closed)
+
+pub returns-in-Memory-clause-kept : goal.returns-in-Memory-clause-kept
+returns-in-Memory-clause-kept g c =
+    let at = g.F.Files.disk in
+    let place = g.F.Look.Look.place in
+    let opened = c.in_ok-opened.ensures in
+    let before = c.in_ok-opened.opened.items in
+    let after = c.count_in_store-counted.new.chain.stores in
+    let kept = rw c.new-chain.ensures.value at c.count_in_store-counted.ensures.kept in
+    let located = stand_still place before after kept.places ∙ opened.located in
+    let closed = rw c.into_stores.ensures.value at c.close_sources.ensures.kept in
+    let now = sources (at c.close_sources.new.files) (g.D.Dial.state c.close_sources.new.dial) in
+    reads_consult (at c.args.files.now) (at c.open_sources.new.files) (g.D.Dial.state c.args.dial.now) now c.args.stores.now opened.kept
+    (subst (λ (l : List Location). ConsultsStores l (sources (at c.open_sources.new.files) (g.D.Dial.state c.args.dial.now)) now) located closed)
 
 pub returns-in-StoreFault-clause-counted : goal.returns-in-StoreFault-clause-counted
 returns-in-StoreFault-clause-counted g c =
     let at = g.F.Files.disk in
-    let files = files_in g.F.Look.Look.files in
-    let place = place_in g.F.Look.Look.place in
-    let faults = faults_in g.F.Look.Look.faults in
-    let names = names_of c.args.stores.now in
-    let d = at c.args.files.now in
+    let place = g.F.Look.Look.place in
+    let opened = c.in_ok-opened.ensures in
     let before = c.in_ok-opened.opened.items in
     let after = c.count_in_store-counted.new.chain.stores in
-    let opened = c.in_ok-opened.ensures in
     let kept = rw c.new-chain.ensures.value at c.count_in_store-counted.ensures.kept in
-    let said = said_in g.F.Look.Look.files in
+    let located = stand_still place before after kept.places ∙ opened.located in
+    let state = g.D.Dial.state in
+    let files = files_in g.F.Look.Look.files in
+    let faults = faults_in g.F.Look.Look.faults state in
+    let said = said_in g.F.Look.Look.files state in
+    let stores = c.args.stores.now in
+    let d = at c.args.files.now in
+    let k = state c.args.dial.now in
+    let mid = sources (at c.open_sources.new.files) k in
+    let w = sources d k in
+    let v = sources (at c.close_sources.new.files) (state c.close_sources.new.dial) in
+    let dialed = c.close_sources.ensures.kept.0.dial in
+    let closed = rw c.into_stores.ensures.value at c.close_sources.ensures.given in
+    let given : All (IsGiven place g.F.Look.Look.faults state w v) after = λ n s lt. given_earlier place g.F.Look.Look.faults state w mid v opened.kept.folder_counts (dials_none k) dialed (slice_index_or after n s) (closed n s lt) in
+    let stand = all_stand g.F.Look.Look.files place g.F.Look.Look.faults state w v after stores located (held_after d.folders stores files before after opened.found kept.files) given in
     let many = length_all_zip (λ a b. (q : List ℕ) → KeepsOf (said a) (said b) q) before after kept.says in
     let last = ended_by (chunks_in g.F.Look.Look.files) said (λ s q. 0) faults c.args.index.now before after c.in-Err.fault c.in-StoreFault.store c.in-StoreFault.is many (rw c.new-chain.ensures.value at c.in-Err.ensures.first) in
-    let there = there_after d.folders names files before after opened.found kept.held in
+    let id = id_of c.args.index.now last.entry in
     inr (
-      all_there d.folders names files before opened.found,
+      opened.there,
       (
         last.entry,
         last.listed,
-        fails_first (chunks_in g.F.Look.Look.files) place faults (λ m. m (id_of c.args.index.now last.entry) ≡ None)
-            (λ p. (said p.1).denied (id_of c.args.index.now last.entry)) (λ p h. h) d (at c.close_stores.new.files) (at c.open_stores.new.files).folder_counts opened.kept.folder_counts c.in-StoreFault.store names last.before after last.many
-            (kept.places ∙ opened.fresh.0) there (rw c.into_stores.ensures.value at c.close_stores.ensures.added) last.fails,
+        fails_first (location_in place) said faults w v (λ x. x.denied id) id (λ a b keeps h. keeps.denied h) c.in-StoreFault.store last.before after stores last.many located stand last.fails,
       ),
     )

@@ -1,6 +1,5 @@
 use Rattle.std.proofs.Common.{◌≡◌, List, ℕ, Bool, Ok, Err, inl, inr, refl, subst, ap, ◌∙◌}
 use Rattle.std.proofs.lemmas.Result.{err_from_is_err_and}
-use Rattle.command_steps.specs.AnyStores.{files_in}
 use Rattle.command_steps.specs.Seeds.{IndexesRead, NoneListed}
 use Rattle.desync_cli.proofs.GivenFolders.{reads_still}
 use Rattle.desync_cli.specs.Prune.{StorePruned}
@@ -38,10 +37,10 @@ returns-in_err-prune_taken g c =
     let ls = c.in_ok-listed.listed.items in
     let read = subst (λ (qs : List (List ℕ)). IndexesRead qs (at c.args.files.now) (Ok ls) (at c.read_indexes.new.files)) c.as_slice.ensures ((listed.ok, listed.few), listed.kept) in
     let took = c.in_ok-taken.ensures in
-    let held = files_in g.F.Folder.Look.files c.in_ok-taken.taken in
+    let held = g.F.Folder.Look.files c.in_ok-taken.taken in
     let told : has_id c.in-Ok.keep ≡ is_listed_in c.deref.result.now = (λ i q. (c.in-Ok.ensures.value q) i) in
     let same : has_id c.in-Ok.keep ≡ is_listed_in ls = told ∙ ap is_listed_in c.deref.ensures.value in
-    let pruned = subst (λ (k : List ℕ → Bool). StorePruned k c.args.store held (at c.take_store.new.files) (Err c.in_err-prune_taken.field-0.0) (at c.prune_taken.new.files)) same c.in_err-prune_taken.ensures in
+    let pruned = subst (λ (k : List ℕ → Bool). StorePruned k c.args.store held (at c.take_folder.new.files) (Err c.in_err-prune_taken.field-0.0) (at c.prune_taken.new.files)) same c.in_err-prune_taken.ensures in
     record {
       ends = λ k o. rw (p.1, p.2) (inr (record { disk = _; dial = _; out = _; gave = ls; did = (read, refl, refl); then = inr (record { disk = _; dial = _; out = _; gave = held; did = ((took.ok.found, took.changed), refl, refl); then = (pruned, refl, refl) }) }));
     }
@@ -53,10 +52,10 @@ returns g c =
     let ls = c.in_ok-listed.listed.items in
     let read = subst (λ (qs : List (List ℕ)). IndexesRead qs (at c.args.files.now) (Ok ls) (at c.read_indexes.new.files)) c.as_slice.ensures ((listed.ok, listed.few), listed.kept) in
     let took = c.in_ok-taken.ensures in
-    let held = files_in g.F.Folder.Look.files c.in_ok-taken.taken in
+    let held = g.F.Folder.Look.files c.in_ok-taken.taken in
     let told : has_id c.in-Ok.keep ≡ is_listed_in c.deref.result.now = (λ i q. (c.in-Ok.ensures.value q) i) in
     let same : has_id c.in-Ok.keep ≡ is_listed_in ls = told ∙ ap is_listed_in c.deref.ensures.value in
-    let pruned = subst (λ (k : List ℕ → Bool). StorePruned k c.args.store held (at c.take_store.new.files) (Ok tt) (at c.prune_taken.new.files)) same c.in_ok-prune_taken.ensures in
+    let pruned = subst (λ (k : List ℕ → Bool). StorePruned k c.args.store held (at c.take_folder.new.files) (Ok tt) (at c.prune_taken.new.files)) same c.in_ok-prune_taken.ensures in
     record {
       ends = λ k o. record { disk = _; dial = _; out = _; gave = ls; did = (read, refl, refl); then = record { disk = _; dial = _; out = _; gave = held; did = ((took.ok.found, took.changed), refl, refl); then = (pruned, refl, refl) } };
     }

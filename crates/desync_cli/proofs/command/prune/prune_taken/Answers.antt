@@ -1,7 +1,7 @@
 use Rattle.std.proofs.Common.{◌≡◌, List, ℕ, Option, Err, ap, refl, rules, ◌∙◌, subst}
 use Rattle.std.specs.Option.{option_map}
-use Rattle.command_steps.specs.Stores.{name_of}
-use Rattle.desync_cli.proofs.GivenFolders.{gives_adds, gives_rose}
+use Rattle.command_steps.proofs.Taken.{gives_adds}
+use Rattle.desync_cli.proofs.GivenFolders.{gives_rose}
 use Rattle.desync_cli.proofs.command.prune.prune_taken.Goals as goal
 use Rattle.dsy_base.specs.Maps.{Map}
 use Rattle.dsy_base.specs.declared.fault.IoFault.TheVariants as io
@@ -12,14 +12,14 @@ returns-in-Ok g c =
     let D = g.F.Folder.Look in
     let at = g.F.Files.disk in
     let d = at c.args.files.now in
-    let e = at c.give_store.new.files in
-    let q = name_of c.args.store.now in (
+    let e = at c.give_folder.new.files in
+    let q = c.args.store.now in (
       record {
         files = D.files c.prune-pruned.new.store;
-        back = c.give_store.ensures.folders;
-        change = c.in-Ok.ensures.ok ∙ ap (option_map (pruned (has_id c.args.keep.now))) c.folder_of-folder.ensures.files;
+        back = c.give_folder.ensures.folders;
+        change = c.in-Ok.ensures.ok;
       },
-      gives_adds d e q (D.faults c.prune-pruned.new.store) c.give_store.ensures.counts,
+      gives_adds d e q (D.faults c.prune-pruned.new.store) c.give_folder.ensures.counts,
     )
 
 pub returns-in-Err-Failed : goal.returns-in-Err-Failed
@@ -27,18 +27,18 @@ returns-in-Err-Failed g c =
     let D = g.F.Folder.Look in
     let at = g.F.Files.disk in
     let d = at c.args.files.now in
-    let e = at c.give_store.new.files in
-    let q = name_of c.args.store.now in
+    let e = at c.give_folder.new.files in
+    let q = c.args.store.now in
     let new = D.files c.prune-pruned.new.store in
-    let none = c.folder_of-folder.ensures.faults ∙ c.requires.fresh in
+    let none = c.requires.fresh in
     let failed : c.prune-pruned.result ≡ Err io.Failed = search rules in
-    let stops = subst (λ (x : Option (Map (List ℕ))). StopsPruning (has_id c.args.keep.now) x new) c.folder_of-folder.ensures.files (rw c.in-Err-Failed.is at c.prune-pruned.ensures.err) in (
+    let stops = rw c.in-Err-Failed.is at c.prune-pruned.ensures.err in (
       (
         refl,
-        gives_rose d e q (D.faults c.folder_of-folder.result) (D.faults c.prune-pruned.new.store) c.give_store.ensures.counts none (c.prune-pruned.ensures.faults.cause failed),
-        record { files = new; back = c.give_store.ensures.folders; change = stops },
+        gives_rose d e q (D.faults c.args.taken) (D.faults c.prune-pruned.new.store) c.give_folder.ensures.counts none (c.prune-pruned.ensures.faults.cause failed),
+        record { files = new; back = c.give_folder.ensures.folders; change = stops },
       ),
-      gives_adds d e q (D.faults c.prune-pruned.new.store) c.give_store.ensures.counts,
+      gives_adds d e q (D.faults c.prune-pruned.new.store) c.give_folder.ensures.counts,
     )
 
 pub returns-in-Err-Memory : goal.returns-in-Err-Memory
@@ -46,8 +46,8 @@ returns-in-Err-Memory g c =
     let D = g.F.Folder.Look in
     let at = g.F.Files.disk in
     let d = at c.args.files.now in
-    let e = at c.give_store.new.files in
-    let q = name_of c.args.store.now in
+    let e = at c.give_folder.new.files in
+    let q = c.args.store.now in
     let new = D.files c.prune-pruned.new.store in
-    let stops = subst (λ (x : Option (Map (List ℕ))). StopsPruning (has_id c.args.keep.now) x new) c.folder_of-folder.ensures.files (rw c.in-Err-Memory.is at c.prune-pruned.ensures.err) in
-    (record { files = new; back = c.give_store.ensures.folders; change = stops }, gives_adds d e q (D.faults c.prune-pruned.new.store) c.give_store.ensures.counts)
+    let stops = rw c.in-Err-Memory.is at c.prune-pruned.ensures.err in
+    (record { files = new; back = c.give_folder.ensures.folders; change = stops }, gives_adds d e q (D.faults c.prune-pruned.new.store) c.give_folder.ensures.counts)

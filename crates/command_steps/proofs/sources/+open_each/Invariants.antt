@@ -1,5 +1,5 @@
 use Rattle.std.proofs.Common.{length}
-use Rattle.command_steps.proofs.stores.+open_each.Given as goal
+use Rattle.command_steps.proofs.sources.+open_each.Given as goal
 
 abbrev pub decreases-open_each : goal.decreases-open_each
 decreases-open_each g l = length l.names.now

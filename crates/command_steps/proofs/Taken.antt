@@ -1,0 +1,29 @@
+-- A store that was taken, and given back with what it has counted.
+use Rattle.std.proofs.Common.{◌≡◌, ◌∙◌, ◌&&◌, ℕ, List, [], ◌∷◌, Option, Some, None, Result, Ok, Err, IfSome, IsSome, IsTrue, false, true, refl, sym, ap, subst, arith}
+use Rattle.std.specs.Map.{count_at}
+use Rattle.chunk_store.specs.Said.{KeepsOf, Said}
+use Rattle.command_line.specs.declared.command.Location.{Location}
+use Rattle.command_line.specs.declared.command.Location.TheVariants as locations
+use Rattle.command_steps.proofs.Dialed.{dials_none}
+use Rattle.command_steps.proofs.Numbers.{counted_known, counted_le}
+use Rattle.command_steps.specs.Sources.{DialsStores}
+use Rattle.command_steps.specs.Worlds.{Adds}
+use Rattle.dsy_base.specs.Disk.{Disk, GivesFolder}
+use Rattle.dsy_base.specs.Links.{DialState}
+use Rattle.dsy_base.specs.Maps.{Map}
+
+pub adds_none : (d : Disk) → Adds d d
+adds_none d = record { files = refl; counts = λ q. omega arith; folder_counts = λ q. omega arith; known = λ q is. is; folder_known = λ q is. is }
+
+pub gives_adds : (d e : Disk) (q : List ℕ) (n : ℕ) → GivesFolder d e q n → Adds d e
+gives_adds d e q n given = record {
+  files = given.files;
+  counts = λ p. let same : count_at e.file_counts p ≡ count_at d.file_counts p = ap (λ m. count_at m p) given.counts in omega (arith, same);
+  folder_counts = counted_le d.folder_counts e.folder_counts q given.folder_counts.counted;
+  known = λ p is. subst (λ (m : Map ℕ). IsSome (m p)) (sym given.counts) is;
+  folder_known = counted_known d.folder_counts e.folder_counts q given.folder_counts.counted;
+}
+
+-- no server is asked
+pub not_dialed : (stores : List Location) (k : DialState) → DialsStores stores k k
+not_dialed stores k = (dials_none k, λ t. refl)

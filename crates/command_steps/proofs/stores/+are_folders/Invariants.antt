@@ -1,5 +1,0 @@
-use Rattle.std.proofs.Common.{length}
-use Rattle.command_steps.proofs.stores.+are_folders.Given as goal
-
-abbrev pub decreases-are_folders : goal.decreases-are_folders
-decreases-are_folders l = length l.stores.now

@@ -1,0 +1,82 @@
+-- What contracts see of a store of a command. L is the type of its folder, D that of its dialer, and K that of
+-- its connections.
+use Rattle.std.specs.Prelude.{◌≡◌, ◌++◌, ◌≤◌, ℕ, List, ◌∷◌, length, Option, Some, None, IfSome, IsSome}
+use Rattle.std.specs.Map.{count_at}
+use Rattle.std.specs.Option.{option_map}
+use Rattle.chunk_store.specs.Folders.{chunks}
+use Rattle.chunk_store.specs.Said.{Said, SaysMap, said_by, says_map}
+use Rattle.command_line.specs.declared.command.Location.{Location}
+use Rattle.command_line.specs.declared.command.Location.TheVariants as locations
+use Rattle.command_steps.specs.Dials.{AreAmong, since}
+use Rattle.command_steps.specs.Sources.{Sources}
+use Rattle.command_steps.specs.declared.any_source.AnySource.{AnySource}
+use Rattle.command_steps.specs.declared.any_source.AnySource.TheVariants as stores
+use Rattle.dir_store.specs.Stores.{lies_map}
+use Rattle.dsy_base.specs.Counts.{raised}
+use Rattle.dsy_base.specs.Links.{DialState}
+use Rattle.dsy_base.specs.Maps.{Map}
+use Rattle.http_read.specs.Asks.{Server}
+use Rattle.http_read.specs.Remotes.{HasCause, said_on}
+
+-- the words that name it
+abbrev pub location_in : {L D K : Type 0} → (L → List ℕ) → AnySource L D K → Location
+location_in place (stores.Folder l) = locations.Folder (place l)
+location_in place (stores.Http r) = locations.Http r.server.host r.server.port r.server.prefix
+
+-- the same as one list of numbers, which is what is seen of its place
+abbrev pub code_of : Location → List ℕ
+code_of (locations.Folder q) = 0 ∷ q
+code_of (locations.Http host port prefix) = 1 ∷ port ∷ length host ∷ host ++ prefix
+
+abbrev pub place_in : {L D K : Type 0} → (L → List ℕ) → AnySource L D K → List ℕ
+place_in place s = code_of (location_in place s)
+
+-- the files of its folder, where it has one and they are told, and the chunks that it holds by their ids
+abbrev pub files_in : {L D K : Type 0} → (L → Option (Map (List ℕ))) → AnySource L D K → Option (Map (List ℕ))
+files_in files (stores.Folder l) = files l
+files_in files (stores.Http r) = None
+
+abbrev pub chunks_in : {L D K : Type 0} → (L → Option (Map (List ℕ))) → AnySource L D K → Option (Map (List ℕ))
+chunks_in files s = option_map chunks (files_in files s)
+
+-- what it has said of them
+abbrev pub said_in : {L D K : Type 0} → (L → Option (Map (List ℕ))) → (D → DialState) → AnySource L D K → Said
+said_in files state (stores.Folder l) = said_by (option_map chunks (files l))
+said_in files state (stores.Http r) = said_on r.server (state r.dial).ended
+
+-- how often a call on it has failed, or a reply to it wasn't taken
+abbrev pub faults_in : {L D K : Type 0} → (L → ℕ) → (D → DialState) → AnySource L D K → ℕ
+faults_in faults state (stores.Folder l) = faults l
+faults_in faults state (stores.Http r) = raised (state r.dial).faults r.refused
+
+-- ---- giving it back
+
+-- its place has a number, where it is a folder
+abbrev pub IsKnown : Map ℕ → Location → Type 0
+IsKnown counts (locations.Folder q) = IsSome (counts q)
+IsKnown counts (locations.Http host port prefix) = Unit {0}
+
+-- what a store over connections has counted and heard, with this dialer, was added to a dialer; and replies weren't taken
+-- only where a connection shows one
+pub record IsJoined (k j : DialState) (server : Server) (dial : DialState) (refused : ℕ) : Type 0 where
+  pub faults : raised k.faults dial.faults ≤ j.faults
+  pub ended : AreAmong dial.ended (since k.ended j.ended)
+  pub cause : HasCause server refused dial.ended
+
+-- what it has counted was added to the number of its folder, at the least, or to what was dialed
+abbrev pub IsGiven : {L D K : Type 0} → (L → List ℕ) → (L → ℕ) → (D → DialState) → Sources → Sources → AnySource L D K → Type 0
+IsGiven place faults state w v (stores.Folder l) =
+    raised (count_at w.disk.folder_counts (place l)) (faults l) ≤ count_at v.disk.folder_counts (place l)
+IsGiven place faults state w v (stores.Http r) = IsJoined w.dial v.dial r.server (state r.dial) r.refused
+
+-- ---- what each store of a command keeps to
+
+pub says_any : {L D K : Type 0} (files : L → Option (Map (List ℕ))) (state : D → DialState) (s : AnySource L D K)
+    → IfSome (chunks_in files s) (SaysMap (said_in files state s))
+says_any files state (stores.Folder l) = says_map (option_map chunks (files l))
+says_any files state (stores.Http r) = tt
+
+pub lies_any : {L D K : Type 0} (files : L → Option (Map (List ℕ))) (s : AnySource L D K)
+    → IfSome (files_in files s) (λ m. chunks_in files s ≡ Some (chunks m))
+lies_any files (stores.Folder l) = lies_map (files l)
+lies_any files (stores.Http r) = tt

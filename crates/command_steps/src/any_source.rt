@@ -1,0 +1,79 @@
+//! What commands know of a store: one type for all of them. Stores are opened in order and given back.
+
+use chunk_store::id::ChunkId;
+use chunk_store::store::{GetFault, Store, StoreWrite};
+use dir_store::store::DirStore;
+use dsy_base::dial::Dial;
+use dsy_base::fault::IoFault;
+use dsy_base::folder::Folder;
+use dsy_base::look::Look;
+use http_read::store::HttpStore;
+
+/// A store that words name.
+#[derive(Drop)]
+pub enum AnySource<L: Look, D: Dial> {
+    /// The chunk files of a folder.
+    Folder(DirStore<L>),
+    /// A server of chunks.
+    Http(HttpStore<D>),
+}
+
+impl<L: Look, D: Dial> Store for AnySource<L, D> {
+    ghost use Rattle.std.specs.Prelude.{false, true};
+    ghost use Rattle.std.proofs.Common.{rules};
+    ghost use Rattle.command_steps.specs.AnySources.{chunks_in, files_in, place_in, faults_in, said_in, lies_any, says_any};
+    ghost use Rattle.dir_store.specs.Stores.{unasked_map};
+
+    ghost holds = { chunks_in L.files };
+
+    ghost folder = { files_in L.files };
+
+    ghost said = { said_in L.files D.state };
+
+    ghost asked = { λ _ _. 0 };
+
+    ghost queried = { λ _ _. 0 };
+
+    ghost faults = { faults_in L.faults D.state };
+
+    ghost place = { place_in L.place };
+
+    ghost tells = { false };
+
+    ghost never_fails = { false };
+
+    ghost may_lack_memory = { true };
+
+    fn get(&mut self, id: &ChunkId, out: &mut [u8]) -> Result<usize, GetFault> {
+        match self {
+            AnySource::Folder(store) => store.get(id, out),
+            AnySource::Http(store) => store.get(id, out),
+        }
+    }
+
+    fn has(&mut self, id: &ChunkId) -> Result<bool, IoFault> {
+        match self {
+            AnySource::Folder(store) => store.has(id),
+            AnySource::Http(store) => store.has(id),
+        }
+    }
+
+    ghost says = { says_any L.files D.state };
+
+    ghost lies = { lies_any L.files };
+
+    ghost unasked = { λ s. unasked_map (chunks_in L.files s) };
+
+    ghost told = { Prim.search rules };
+
+    ghost sure = { Prim.search rules };
+}
+
+impl<F: Folder, D: Dial> StoreWrite for AnySource<F, D> {
+    fn put(&mut self, id: &ChunkId, b: &[u8]) -> Result<(), IoFault> {
+        match self {
+            AnySource::Folder(store) => store.put(id, b),
+            AnySource::Http(store) => store.put(id, b),
+        }
+    }
+}
