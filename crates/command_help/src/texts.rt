@@ -26,10 +26,12 @@ desync keeps images as chunks in a store, and an index of each image.
       print which chunks of a store are damaged, or remove them
   desync prune -s FOLDER -y INDEX..
       remove the chunks of a store that no index lists
+  desync demo [-n WORKERS] NUMBER SIZE
+      make, store and extract an image in memory, and print what that took
 
 Options and names may be mixed; `--` ends options. STORE is a folder or an http
-URL; MIN, AVG and MAX are sizes in KiB. These commands are read and not built
-yet: chunk-server, demo.
+URL; MIN, AVG and MAX are sizes in KiB. This command is read and not built yet:
+chunk-server.
 
 `desync COMMAND --help` tells more of a command, `desync --version` the version.
 ";
@@ -180,8 +182,10 @@ example: desync chunk-server -s chunks -l localhost:8080
 pub const DEMO: &str = "\
 usage: desync demo [-n WORKERS] NUMBER SIZE
 
-Cuts, stores and extracts SIZE bytes in memory, which NUMBER determines. Not
-built yet.
+Makes SIZE bytes, up to 2^29, which NUMBER determines, and cuts, stores and
+extracts them in memory, with a seed that differs in the middle. Prints what the
+extraction took: bytes, chunks, different chunks, and how many chunks were kept,
+copied, and given by the seed and by the store. No file is touched.
 
   -n, --concurrency WORKERS     1 to 32 workers; for now one does all
 

@@ -1,5 +1,5 @@
 -- The folder of a cache: how reaching it leaves the disk, and what counts when it is given back.
-use Rattle.std.proofs.Common.{◌≡◌, ℕ, List, Option, Some, None, IsSome, Ok, Err, Result, refl, ap, subst, sym, arith, ◌∙◌}
+use Rattle.std.proofs.Common.{◌≡◌, ℕ, List, Option, Some, None, Ok, Err, Result, refl, ap, subst, sym, arith, ◌∙◌}
 use Rattle.std.specs.Map.{count_at}
 use Rattle.cache_store.specs.Shelves.{Shelf}
 use Rattle.command_outcome.specs.declared.outcome.Outcome.{Outcome}
@@ -10,7 +10,6 @@ use Rattle.command_steps.specs.Cache.{CacheGiven, CacheOpened, folders_with}
 use Rattle.command_steps.specs.Stores.{NotReached}
 use Rattle.command_steps.specs.Worlds.{Adds, Reads}
 use Rattle.dsy_base.specs.Disk.{Disk}
-use Rattle.dsy_base.specs.Maps.{Map}
 
 still : (d e : Disk) → e ≡ d → Reads d e
 still d e same = subst (Reads d) (sym same) (record { files = refl; folders = refl; counts = λ q. omega arith; folder_counts = λ q. omega arith; known = λ q is. is; folder_known = λ q is. is })

@@ -1,6 +1,6 @@
 -- What a step leaves, and what its refusals tell: none is Done, and a fault that is told has raised its count. Proved once a
 -- step, and composed.
-use Rattle.std.proofs.Common.{◌≡◌, ◌∙◌, ◌+◌, ◌≤◌, ℕ, zero, suc, Bool, false, true, not, IsTrue, List, [], ◌∷◌, map, Option, Some, None, Result, Ok, Err, refl, sym, subst, inl, inr, arith}
+use Rattle.std.proofs.Common.{◌∙◌, ◌+◌, ◌≤◌, ℕ, zero, suc, Bool, false, true, not, IsTrue, List, [], ◌∷◌, Option, Some, None, Result, Ok, Err, refl, sym, subst, inl, inr, arith}
 use Rattle.std.specs.Map.{count_at}
 use Rattle.caibx_codec.specs.Listing.{Listing, count_of}
 use Rattle.chunk_store.specs.Said.{Said}

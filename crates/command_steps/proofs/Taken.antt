@@ -1,9 +1,7 @@
 -- A store that was taken, and given back with what it has counted.
-use Rattle.std.proofs.Common.{◌≡◌, ◌∙◌, ◌&&◌, ℕ, List, [], ◌∷◌, Option, Some, None, Result, Ok, Err, IfSome, IsSome, IsTrue, false, true, refl, sym, ap, subst, arith}
+use Rattle.std.proofs.Common.{◌≡◌, ℕ, List, IsSome, refl, sym, ap, subst, arith}
 use Rattle.std.specs.Map.{count_at}
-use Rattle.chunk_store.specs.Said.{KeepsOf, Said}
 use Rattle.command_line.specs.declared.command.Location.{Location}
-use Rattle.command_line.specs.declared.command.Location.TheVariants as locations
 use Rattle.command_steps.proofs.Dialed.{dials_none}
 use Rattle.command_steps.proofs.Numbers.{counted_known, counted_le}
 use Rattle.command_steps.specs.Sources.{DialsStores}

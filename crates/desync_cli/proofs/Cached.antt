@@ -84,7 +84,7 @@ was_there : (y : Option (Map (Map (List ℕ)))) (cache : List ℕ) (held : Optio
 was_there None cache held there was = tt
 was_there (Some m) cache held there was = go (m cache) refl there where
   go : (o : Option (Map (List ℕ))) → m cache ≡ o → IsSome o → (f : Map (List ℕ)) × (m cache ≡ Some f) × (held ≡ Some f)
-  go None is some = absurd some
+  go None is some = absurd (true_false (sym some))
   go (Some f) is some = (f, is, sym was ∙ is)
 
 pub cached : (stores : List Location) (cache : List ℕ) (indexes : List (List ℕ)) (w v : World) → CacheEnds stores cache indexes w (Ok tt) v

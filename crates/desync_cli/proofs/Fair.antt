@@ -20,11 +20,12 @@ use Rattle.command_steps.specs.Blames.{Blames, Keeps, NothingFailed, Parts, Repl
 use Rattle.command_steps.specs.Steps.{Passed, answer_of, outcome_of}
 use Rattle.command_steps.specs.Worlds.{FileRose, FolderRose, NoFault, Step, World, Writes, world}
 use Rattle.command_steps.proofs.Dialed.{dials_same}
-use Rattle.command_steps.proofs.Fair.{IsFair, IsLeft, IsRefusal, IsStep, Unread, adds, behind, between, bound, consults, cache_step, fair_longer, image_step, index_step, indexes_step, left_twice, not_read_fair, on_disk, on_out, on_sources, printed_step, pure_step, reads, round, source_failed, source_taken_step, sources_fair, sources_step, taken_step, whole, writes, unread_fair}
+use Rattle.command_steps.proofs.Fair.{IsFair, IsLeft, IsRefusal, IsStep, Unread, adds, behind, between, bound, consults, cache_step, fair_longer, image_step, index_step, indexes_step, left_twice, on_disk, on_out, on_sources, printed_step, pure_step, reads, round, source_failed, source_taken_step, sources_fair, sources_step, taken_step, whole, writes, unread_fair}
 use Rattle.command_steps.proofs.Numbers.{rose_not_quiet}
 use Rattle.desync_cli.specs.Caching.{FillTells, IndexesFilled, NotFilled, of_command, outcome_of_fill}
 use Rattle.desync_cli.specs.Chop.{ImageChopped}
 use Rattle.desync_cli.specs.Commands.{DesyncEnds, Ends, NoCommand, TellsRefusal, WordsRead, built_in, command_of, is_built, parts, refusal_in, refusal_of, spares}
+use Rattle.desync_cli.specs.Demo.{Rehearsed}
 use Rattle.desync_cli.specs.Extract.{CacheFilled, Clearing, FillsCache, ImageMade, Into, LacksEntry, OutMade, Renamed, Seeds, beside, in_place, temporary_out}
 use Rattle.desync_cli.specs.Info.{IdsCounted, NotAsked}
 use Rattle.desync_cli.specs.Make.{ImageStored, IndexWritten, SizesJudged, WritesStore}
@@ -42,6 +43,7 @@ use Rattle.dsy_base.specs.Maps.{Map}
 use Rattle.http_read.specs.Refusals.{IsUnacceptable}
 use Rattle.store_chain.specs.Refusals.{Lacks}
 use Rattle.verify_tool.specs.Filling.{entry_want}
+use Rattle.image_demo.specs.Figures.{text_of_figures}
 use Rattle.verify_tool.specs.Texts.{text_of_chunks, text_of_info}
 use Rattle.verify_tool.specs.declared.fill.FillFault.{FillFault}
 use Rattle.verify_tool.specs.declared.fill.FillFault.TheVariants as fills
@@ -259,6 +261,11 @@ judged_fair : (x : Parts) (sizes : List ℕ) (o : Outcome) (w v : World) → Siz
 judged_fair x sizes (ends.Sizes fault) w v h = (tt, tt)
 judged_fair x sizes other w v h = absurd h
 
+rehearsed_fair : (x : Parts) (number size : ℕ) (o : Outcome) (w v : World) → Rehearsed number size (Err o) → IsFair x o w v
+rehearsed_fair x number size (ends.Mismatch k got) w v h = (tt, tt)
+rehearsed_fair x number size ends.Memory w v h = (tt, tt)
+rehearsed_fair x number size other w v h = absurd h
+
 -- ---- the commands
 
 command_step : (c : Command) → IsStep whole (spares c) (parts c) (Ends c)
@@ -271,6 +278,7 @@ command_step (commands.Extract stores seeds cache in_place workers index target)
 command_step (commands.Info stores index) = bound (on_disk (λ p. index_step _ _ p index)) (λ l. bound (on_sources (λ p. counted_step _ _ p (λ t. t) l)) (λ n. on_out (λ d. printed_step _ _ _ _ d (text_of_info l n))))
 command_step (commands.Verify store repair) = bound (on_disk (λ p. taken_step _ _ _ _ p store)) (λ held. verified_step _ _ store repair held refl)
 command_step (commands.Prune store indexes) = bound (on_disk (λ p. indexes_step _ _ p indexes)) (λ ls. bound (on_disk (λ p. taken_step _ _ _ _ p store)) (λ held. on_disk (λ p. pruned_step _ _ _ _ p (is_listed_in ls) store held refl)))
+command_step (commands.Demo number size workers) = bound (pure_step (Rehearsed number size) (rehearsed_fair (parts (commands.Demo number size workers)) number size)) (λ f. on_out (λ d. printed_step _ _ _ _ d (text_of_figures f)))
 command_step commands.Help = on_out (λ d. printed_step _ _ _ _ d (help_text topics.All))
 command_step commands.Version = on_out (λ d. printed_step _ _ _ _ d (help_text topics.Version))
 command_step (commands.HelpOn kind) = on_out (λ d. printed_step _ _ _ _ d (help_text (topics.Command kind)))

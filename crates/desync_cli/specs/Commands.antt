@@ -16,6 +16,7 @@ use Rattle.command_outcome.specs.declared.outcome.Outcome.{Outcome}
 use Rattle.command_outcome.specs.declared.outcome.Outcome.TheVariants as ends
 use Rattle.desync_cli.specs.Caching.{CacheEnds, IsCached}
 use Rattle.desync_cli.specs.Chop.{ChopEnds, IsChopped}
+use Rattle.desync_cli.specs.Demo.{DemoEnds}
 use Rattle.desync_cli.specs.Extract.{ExtractEnds, IsExtracted, LeavesOut, temporary_out}
 use Rattle.desync_cli.specs.Info.{InfoEnds}
 use Rattle.desync_cli.specs.ListChunks.{ListChunksEnds}
@@ -44,6 +45,7 @@ is_built (commands.Extract stores seeds cache in_place workers index target) =
 is_built (commands.Info stores index) = nat_le (length stores) 16
 is_built (commands.Verify store repair) = true
 is_built (commands.Prune store indexes) = true
+is_built (commands.Demo number size workers) = nat_le size 536870912
 is_built commands.Help = true
 is_built commands.Version = true
 is_built (commands.HelpOn kind) = true
@@ -61,6 +63,7 @@ Ends (commands.Extract stores seeds cache in_place workers index target) =
 Ends (commands.Info stores index) = InfoEnds stores index
 Ends (commands.Verify store repair) = VerifyEnds store repair
 Ends (commands.Prune store indexes) = PruneEnds store indexes
+Ends (commands.Demo number size workers) = DemoEnds number size
 Ends commands.Help = OnOut (Printed (help_text topics.All))
 Ends commands.Version = OnOut (Printed (help_text topics.Version))
 Ends (commands.HelpOn kind) = OnOut (Printed (help_text (topics.Command kind)))

@@ -10,3 +10,4 @@ pub mod VerifyIndex
 pub mod Caching
 pub mod Prune
 pub mod Verify
+pub mod Demo

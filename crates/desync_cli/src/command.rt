@@ -2,6 +2,7 @@
 
 pub mod cache;
 pub mod chop;
+pub mod demo;
 pub mod extract;
 pub mod help;
 pub mod info;

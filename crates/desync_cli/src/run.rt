@@ -13,6 +13,7 @@ ghost use Rattle.command_steps.specs.Worlds.{NoFault, world};
 
 use crate::command::cache::cache as fill_cache;
 use crate::command::chop::chop;
+use crate::command::demo::demo;
 use crate::command::extract::extract;
 use crate::command::help::help;
 use crate::command::info::info;
@@ -82,7 +83,8 @@ fn perform<F: Files, D: Dial, O: Sink>(
         } => fill_cache(alloc, files, dial, stores, cache, indexes),
         Command::Verify { store, repair } => verify(alloc, files, out, store, repair),
         Command::Prune { store, indexes } => prune(alloc, files, store, indexes),
-        Command::ChunkServer { .. } | Command::Demo { .. } => unreachable!(),
+        Command::Demo { number, size, .. } => demo(alloc, out, number, size),
+        Command::ChunkServer { .. } => unreachable!(),
     }
 }
 

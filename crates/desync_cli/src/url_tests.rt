@@ -220,7 +220,7 @@ fn a_cache_is_filled_from_a_server(rt: HostRuntime) -> Result<(), Fail> {
     let path = format!(in alloc; "5304/{ABC}")?;
     assert_eq!(&rt; look.read(path.as_str(), &mut room), Ok(3));
     let (front, _) = room.split_at(3);
-    assert_eq!(&rt; front, b"abc");
+    assert_eq!(&rt; front, b"abc".as_slice());
     Ok(())
 }
 

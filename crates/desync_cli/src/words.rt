@@ -32,6 +32,7 @@ fn is_built(command: &Command) -> bool
             1 <= stores.len() && stores.len() <= 16
         }
         Command::Info { stores, .. } => stores.as_slice().len() <= 16,
+        Command::Demo { size, .. } => *size <= 536_870_912,
         _ => false,
     }
 }

@@ -23,3 +23,6 @@ returns-in-Prune g c = record { ends = rw c.in-Prune.is (c.prune.ensures.ends _ 
 
 pub returns-in-Verify : goal.returns-in-Verify
 returns-in-Verify g c = record { ends = rw c.in-Verify.is (c.verify.ensures.ends _) }
+
+pub returns-in-Demo : goal.returns-in-Demo
+returns-in-Demo g c = record { ends = rw c.in-Demo.is (c.demo.ensures.ends _ _) }

@@ -1,6 +1,6 @@
 use Rattle.std.proofs.Common.{◌≡◌, ◌∙◌, ap, rules, refl, Ok, Err}
 use Rattle.command_steps.proofs.Given.{stands_there}
-use Rattle.command_steps.specs.AnySources.{faults_in, files_in}
+use Rattle.command_steps.specs.AnySources.{files_in}
 use Rattle.command_steps.specs.Sources.{sources}
 use Rattle.desync_cli.proofs.Chopped.{another_length, chopped_to, has_length, unchanged}
 use Rattle.desync_cli.proofs.GivenStores.{back, rose, says_more, view_rose}
@@ -9,7 +9,6 @@ use Rattle.desync_cli.specs.Make.{AnySaid}
 use Rattle.desync_cli.proofs.command.chop.chop_between.Goals as goal
 use Rattle.image_store.specs.Chopping.{seen_to}
 use Rattle.image_store.specs.PutChunks.{SaysAll}
-use Rattle.image_store.specs.declared.chop.ChopFault.{ChopFault}
 use Rattle.image_store.specs.declared.chop.ChopFault.TheVariants as faults
 
 pub give_beside-requires : goal.give_beside-requires

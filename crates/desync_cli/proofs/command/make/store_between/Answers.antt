@@ -1,8 +1,7 @@
 use Rattle.std.proofs.Common.{◌≡◌, ◌∙◌, ap, rules, refl, Ok, Err}
 use Rattle.command_steps.proofs.Given.{stands_there}
-use Rattle.command_steps.specs.AnySources.{faults_in, files_in}
+use Rattle.command_steps.specs.AnySources.{files_in}
 use Rattle.command_steps.specs.Sources.{sources}
-use Rattle.desync_cli.proofs.Chopped.{unchanged}
 use Rattle.desync_cli.proofs.GivenStores.{back, rose, stored_more, view_rose}
 use Rattle.desync_cli.proofs.Made.{made_of, unmade}
 use Rattle.desync_cli.specs.Make.{AnySaid, MadeOf}

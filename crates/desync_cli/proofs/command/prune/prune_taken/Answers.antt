@@ -1,11 +1,8 @@
-use Rattle.std.proofs.Common.{◌≡◌, List, ℕ, Option, Err, ap, refl, rules, ◌∙◌, subst}
-use Rattle.std.specs.Option.{option_map}
+use Rattle.std.proofs.Common.{◌≡◌, Err, refl, rules}
 use Rattle.command_steps.proofs.Taken.{gives_adds}
 use Rattle.desync_cli.proofs.GivenFolders.{gives_rose}
 use Rattle.desync_cli.proofs.command.prune.prune_taken.Goals as goal
-use Rattle.dsy_base.specs.Maps.{Map}
 use Rattle.dsy_base.specs.declared.fault.IoFault.TheVariants as io
-use Rattle.verify_tool.specs.Pruning.{StopsPruning, has_id, pruned}
 
 pub returns-in-Ok : goal.returns-in-Ok
 returns-in-Ok g c =

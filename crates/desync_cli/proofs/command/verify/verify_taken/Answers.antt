@@ -1,10 +1,9 @@
-use Rattle.std.proofs.Common.{◌≡◌, List, ℕ, Option, Err, refl, ◌∙◌, subst, sym, rules}
+use Rattle.std.proofs.Common.{◌≡◌, Err, refl, subst, sym, rules}
 use Rattle.command_steps.specs.Worlds.{world}
 use Rattle.command_steps.proofs.Taken.{gives_adds}
 use Rattle.desync_cli.proofs.GivenFolders.{gives_rose, left_ends}
 use Rattle.desync_cli.specs.Verify.{KeepsCounts, StoreVerified, VerifiedBack}
 use Rattle.desync_cli.proofs.command.verify.verify_taken.Goals as goal
-use Rattle.dsy_base.specs.Maps.{Map}
 use Rattle.verify_tool.specs.declared.verify.StoreCheck.TheVariants as checks
 use Rattle.verify_tool.specs.Verifying.{IsStoreChecked, StopsVerifying}
 

@@ -1,0 +1,5 @@
+pub mod FirstEntries
+pub mod Generated
+pub mod Given
+pub mod Quiet
+pub mod Sources

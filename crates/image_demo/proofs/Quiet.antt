@@ -1,0 +1,55 @@
+-- An assembly from sources that never fail.
+use Rattle.std.proofs.Common.{◌≡◌, ℕ, zero, suc, ◌+◌, ◌<◌, ◌≤◌, ◌^◌, List, [], ◌∷◌, map, slice_index, Option, Some, None, IsSome, IfSome, Result, Ok, Err, OnOk, Bool, IsTrue, refl, sym, ap, subst, ◌∙◌, arith, inl, inr, unwrap_or}
+use Rattle.std.specs.Option.{option_map}
+use Rattle.assembler.specs.Caches.{HaveOneSize, Stocked, cache_faults, cached_in}
+use Rattle.assembler.specs.Sources.{SourcesQuiet}
+use Rattle.cache_store.specs.Shelves.{Shelf}
+use Rattle.caibx_codec.specs.Listing.{Listing}
+use Rattle.dsy_base.specs.Counts.{Quiet, Rose}
+use Rattle.dsy_base.specs.Maps.{Map}
+use Rattle.extract_plan.specs.Seeds.{faults_in}
+use Rattle.extract_plan.specs.declared.seed.Seed.{Seed}
+use Rattle.store_chain.specs.Faults.{EachQuiet}
+
+pub still : (a b : ℕ) → a ≡ 0 → b ≡ 0 → Quiet a b
+still a b old new = record { same = omega (arith, old, new); below = omega (arith, new) }
+
+no_count : {X : Type 0} (f : X → ℕ) → ((x : X) → f x ≡ 0) → (xs : List X) (k : ℕ) → slice_index (map f xs) k ≡ 0
+no_count f none [] k = refl
+no_count f none (x ∷ xs) zero = none x
+no_count f none (x ∷ xs) (suc k) = no_count f none xs k
+
+all_still : {X : Type 0} (f : X → ℕ) → ((x : X) → f x ≡ 0) → (xs ys : List X) → EachQuiet (map f xs) (map f ys)
+all_still f none xs ys k = still _ _ (no_count f none xs k) (no_count f none ys k)
+
+seed_still : {V : Type 0} (f : V → ℕ) → ((v : V) → f v ≡ 0) → (s : Seed V) → faults_in f s ≡ 0
+seed_still f none s = go s.view where
+  go : (o : Option _) → unwrap_or (option_map f o) 0 ≡ 0
+  go None = refl
+  go (Some v) = none v
+
+no_cache : (Takes : List ℕ → List ℕ → Type 0) (e : Option Shelf) → Stocked Takes None e → cache_faults e ≡ 0
+no_cache Takes None h = refl
+no_cache Takes (Some s) h = absurd h
+
+module _ {S V : Type 0} (holds : S → Option (Map (List ℕ))) (store_faults : S → ℕ) (view_faults : V → ℕ) where
+  pub nothing_fails : (tells : Bool) (old new : ℕ) (s0 s1 : List (Seed V)) (e1 : Option Shelf) (c0 c1 : List S) (maps : List (Map (List ℕ))) (Takes : List ℕ → List ℕ → Type 0)
+      → IsTrue tells → old ≡ 0 → new ≡ 0 → ((s : S) → store_faults s ≡ 0) → ((v : V) → view_faults v ≡ 0) → Stocked Takes None e1 → map holds c0 ≡ map Some maps
+      → SourcesQuiet holds store_faults view_faults tells old new s0 s1 None e1 c0 c1 [] maps
+  nothing_fails tells old new s0 s1 e1 c0 c1 maps Takes t o n stores views none told = record {
+    target = still old new o n;
+    telling = t;
+    seeds = all_still (faults_in view_faults) (seed_still view_faults views) s0 s1;
+    told_cache = refl;
+    cache = still 0 (cache_faults e1) refl (no_cache Takes e1 none);
+    told = told;
+    stores = all_still store_faults stores c0 c1;
+  }
+
+-- where there is no cache, sizes don't matter
+pub no_sizes : (l : Listing) (maps : List (Map (List ℕ))) → HaveOneSize l None [] maps
+no_sizes l maps h = absurd (cc)
+
+pub not_risen : (a b : ℕ) → a ≡ 0 → b ≡ 0 → Rose a b → ⊥
+not_risen a b old new (inl up) = omega (arith, old, new, up)
+not_risen a b old new (inr top) = omega (arith, new, top)

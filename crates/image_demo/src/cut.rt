@@ -1,0 +1,67 @@
+//! Images in memory with their indexes.
+
+ghost use Rattle.std.specs.Prelude.{◌≡◌, ◌≤◌, IfOk, IfErr, IfSome};
+ghost use Rattle.buzhash_cut.specs.Image.{IndexGiven, IsIndexOfImage};
+ghost use Rattle.caibx_codec.specs.Listing.{count_of, image_length};
+ghost use Rattle.dsy_base.specs.Counts.{CountsFaults};
+ghost use Rattle.image_demo.specs.Images.{usual_sizes};
+
+use crate::fault::DemoFault;
+use buzhash_cut::image::{CutFault, index_view};
+use buzhash_cut::sizes::CutSizes;
+use caibx_codec::index::Index;
+use dsy_base::view::View;
+use std::alloc::Global;
+
+/// An image and its index.
+#[derive(Drop)]
+pub struct Indexed<V: View> {
+    pub view: V,
+    pub index: Index,
+}
+
+// The sizes by which images are cut where none are said.
+fn usual() -> CutSizes
+    ensures { result ≡ usual_sizes }
+{
+    let Ok(sizes) = CutSizes::new(16_384, 65_536, 262_144) else {
+        unreachable!();
+    };
+    sizes
+}
+
+// Indexes the image behind one view, and hands the view back.
+fn index_one<V: View>(alloc: Global, view: V) -> (V, Result<Index, CutFault>)
+    ensures exactly { IfSome (V.held view).bytes (λ t. IndexGiven usual_sizes t result.1) }
+    ensures size { IfOk result.1 (λ l. image_length l ≡ (V.held view).size) }
+    ensures kept { V.held result.0 ≡ V.held view }
+    ensures few { IfOk result.1 (λ l. count_of l ≤ 4194304) }
+    ensures faults { CountsFaults CutFault.ImageFault CutFault.Memory (V.faults view) (V.faults result.0) result.1 }
+{
+    let mut views = Vec::new(alloc);
+    if let Err(refused) = views.push(view) {
+        return (refused.value, Err(CutFault::Memory));
+    }
+    let sizes = usual();
+    let (mut views, made) = index_view(alloc, views, &sizes);
+    let Some(view) = views.pop() else {
+        unreachable!();
+    };
+    (view, made)
+}
+
+/// Cuts an image of at most 2^29 bytes by the usual sizes.
+pub fn cut<V: View>(alloc: Global, view: V) -> Result<Indexed<V>, DemoFault>
+    ensures exactly { IfOk result (λ x. IfSome (V.held view).bytes (λ t. IsIndexOfImage usual_sizes t x.index)) }
+    ensures size { IfOk result (λ x. image_length x.index ≡ (V.held view).size) }
+    ensures few { IfOk result (λ x. count_of x.index ≤ 4194304) }
+    ensures kept { IfOk result (λ x. V.held x.view ≡ V.held view) }
+    ensures err { IfErr result (λ e. e ≡ DemoFault.Memory) }
+{
+    let (view, made) = index_one(alloc, view);
+    match made {
+        Ok(index) => Ok(Indexed { view, index }),
+        // The view never fails, and so few bytes have few chunks, so it is for want of memory.
+        Err(_) => Err(DemoFault::Memory),
+    }
+}

@@ -1,0 +1,44 @@
+//! The whole of it: an image is made of a number, cut, stored, and extracted into an empty target, with a seed.
+
+ghost use Rattle.std.specs.Prelude.{◌≤◌, ◌^◌};
+ghost use Rattle.image_demo.specs.Figures.{Rehearses};
+
+use crate::bytes;
+use crate::compare::compare;
+use crate::cut::{Indexed, cut};
+use crate::fault::DemoFault;
+use crate::figures::Figures;
+use crate::make::make;
+use crate::stock::stock;
+use buzhash_cut::laws::image_is_right;
+use chunk_store::mem_store::MemStore;
+use dsy_sure::sure_target::SureTarget;
+use dsy_sure::sure_view::SureView;
+use std::alloc::Global;
+
+/// The figures of the image that the number makes, of so many bytes. The seed is the same but for up to 2^20 bytes from
+/// the middle on, of which all bits are turned round.
+pub fn demo(alloc: Global, number: u64, size: u64) -> Result<Figures, DemoFault>
+    requires { size ≤ 2 ^ 29 }
+    ensures { Rehearses number size result }
+{
+    image_is_right();
+    let Ok(bytes) = bytes::image(alloc, number, size as usize) else {
+        return Err(DemoFault::Memory);
+    };
+    let Ok(turned) = bytes::seed(alloc, &bytes) else {
+        return Err(DemoFault::Memory);
+    };
+    let Ok(image) = Vec::from_slice(alloc, &bytes) else {
+        return Err(DemoFault::Memory);
+    };
+    let indexed = cut(alloc, SureView::new(alloc, bytes))?;
+    let Indexed { mut view, index } = indexed;
+    let seed = cut(alloc, SureView::new(alloc, turned))?;
+    let mut store = MemStore::new(alloc);
+    stock(alloc, &index, &mut view, &mut store)?;
+    let mut target = SureTarget::new(alloc, Vec::new(alloc));
+    let figures = make(alloc, &index, &mut target, store, seed)?;
+    compare(&index, target.bytes(), &image)?;
+    Ok(figures)
+}

@@ -1,0 +1,133 @@
+//! An image made in an empty target, by a seed and a store. Entries count from 0.
+
+ghost use Rattle.std.specs.Prelude.{◌≡◌, ◌≤◌, ◌+◌, ℕ, List, [], length, map, Some, None, IfOk, IfSome, OnOk, IsTrue};
+ghost use Rattle.assembler.specs.Assemblies.{IsObtainable, Verdict};
+ghost use Rattle.assembler.specs.Economy.{ReportsExactly, source_of};
+ghost use Rattle.assembler.specs.Reports.{right_below};
+ghost use Rattle.caibx_codec.specs.Listing.{count_of, image_length, kind_of};
+ghost use Rattle.caibx_codec.specs.Right.{IsRight};
+ghost use Rattle.dsy_base.specs.Bytes.{resized};
+ghost use Rattle.dsy_base.specs.Maps.{Map};
+ghost use Rattle.extract_plan.specs.Deal.{AreWants};
+ghost use Rattle.extract_plan.specs.Places.{PlacesKnown};
+ghost use Rattle.extract_plan.specs.Seeds.{held_in};
+ghost use Rattle.image_demo.specs.Figures.{Gives};
+ghost use Rattle.image_demo.specs.Stocks.{IsNamed, IsStocked, fault_of};
+
+use crate::cut::Indexed;
+use crate::fault::DemoFault;
+use crate::figures::Figures;
+use crate::plan::{Planned, kit_of};
+use assembler::assemble::assemble;
+use assembler::fault::ExtractFault;
+use assembler::kit::Kit;
+use assembler::report::Report;
+use cache_store::shelf::CacheShelf;
+use caibx_codec::index::Index;
+use chunk_store::store::Store;
+use dsy_base::view::{Target, View};
+use dsy_sure::sure_folder::SureFolder;
+use std::alloc::Global;
+
+// Makes the target the image, without a cache, where nothing fails.
+fn assemble_quietly<T: Target, S: Store, V: View>(
+    alloc: Global,
+    index: &Index,
+    planned: &Planned,
+    target: &mut T,
+    kit: &mut Kit<S, V>,
+) -> Result<Report, ExtractFault>
+    requires wants { AreWants index.now planned.now.plan.wants planned.now.plan.want_of }
+    requires places { PlacesKnown index.now planned.now.plan planned.now.places (length kit.old.seeds.items) }
+    requires kind { kit.old.chain.kind ≡ kind_of index.now }
+    requires tells { IsTrue V.tells }
+    requires sure { (IsTrue T.never_fails) × (IsTrue S.never_fails) × (IsTrue V.never_fails) }
+    ensures verdict { (maps : List (Map (List ℕ))) → map S.holds kit.old.chain.stores ≡ map Some maps →
+        IfSome (T.held target.old).bytes (λ o. Verdict index.now (IsObtainable index.now planned.now.plan
+        planned.now.places (resized o (image_length index.now)) (map (held_in V.held) kit.old.seeds.items) maps)
+        result) }
+    ensures reported { (maps : List (Map (List ℕ))) → map S.holds kit.old.chain.stores ≡ map Some maps →
+        IfSome (T.held target.old).bytes (λ o. IfOk result (ReportsExactly (source_of index.now planned.now.plan
+        planned.now.places (resized o (image_length index.now)) (map (held_in V.held) kit.old.seeds.items) [] maps)
+        planned.now.plan.wants)) }
+    ensures report { IfOk result (λ r. r.kept + r.copied + r.seeded + r.cached + r.fetched ≡ count_of index.now) }
+    ensures kept { IfOk result (λ r. IfSome (T.held target.old).bytes
+        (λ o. r.kept ≡ right_below index.now (resized o (image_length index.now)) (count_of index.now))) }
+    ensures right { OnOk result (IfSome (T.held target.old).bytes (λ _. IfSome (T.held target.new).bytes
+        (λ t. IsRight t index.now))) }
+    ensures named { IsNamed index.now result }
+{
+    let mut cache: Option<CacheShelf<SureFolder>> = None;
+    let Planned { plan, places } = planned;
+    assemble(alloc, index, plan, places, target, kit, &mut cache)
+}
+
+// Why an image wasn't made.
+fn fault_of(fault: ExtractFault) -> DemoFault
+    ensures { result ≡ fault_of fault }
+{
+    match fault {
+        ExtractFault::Missing { entry, id } => DemoFault::Mismatch { entry, id },
+        ExtractFault::Damaged { entry, id, .. } => DemoFault::Mismatch { entry, id },
+        // Neither store nor target fails, so it is for want of memory.
+        ExtractFault::StoreFault { .. } | ExtractFault::TargetFault | ExtractFault::Memory => {
+            DemoFault::Memory
+        }
+    }
+}
+
+// The figures of an image that was made.
+fn figures(index: &Index, planned: &Planned, report: &Report) -> Figures
+    ensures { result ≡ record {
+      bytes = image_length index.now;
+      chunks = count_of index.now;
+      distinct = planned.now.plan.wants;
+      kept = report.now.kept;
+      copied = report.now.copied;
+      seeded = report.now.seeded;
+      fetched = report.now.fetched;
+    } }
+{
+    Figures {
+        bytes: index.length(),
+        chunks: index.count() as u64,
+        distinct: planned.plan.wants() as u64,
+        kept: report.kept,
+        copied: report.copied,
+        seeded: report.seeded,
+        fetched: report.fetched,
+    }
+}
+
+/// Makes an empty target the image that the index lists, from zeros, from the seed, and from the store, which has each
+/// chunk of the image.
+pub fn make<T: Target, S: Store, V: View>(
+    alloc: Global,
+    index: &Index,
+    target: &mut T,
+    store: S,
+    seed: Indexed<V>,
+) -> Result<Figures, DemoFault>
+    requires none { (T.held target.old).bytes ≡ Some [] }
+    requires stocked { (t : List ℕ) × IsRight t index.now × IsStocked index.now t (S.holds store) }
+    requires seeds { IfSome (V.held seed.view).bytes (λ t. IsRight t seed.index) }
+    requires size { image_length seed.index ≡ (V.held seed.view).size }
+    requires few { count_of seed.index ≤ 4194304 }
+    requires tells { IsTrue V.tells }
+    requires sure { (IsTrue T.never_fails) × (IsTrue S.never_fails) × (IsTrue V.never_fails) }
+    ensures value { Gives index.now seed.index (image_length index.now) result }
+    ensures right { OnOk result (IfSome (T.held target.new).bytes (λ t. IsRight t index.now)) }
+{
+    index.rules();
+    seed.index.rules();
+    let Indexed {
+        view,
+        index: listed,
+    } = seed;
+    let planned = Planned::of(alloc, index, listed)?;
+    let mut kit = kit_of(alloc, store, view)?;
+    match assemble_quietly(alloc, index, &planned, target, &mut kit) {
+        Ok(report) => Ok(figures(index, &planned, &report)),
+        Err(fault) => Err(fault_of(fault)),
+    }
+}

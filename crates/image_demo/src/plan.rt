@@ -1,0 +1,66 @@
+//! What an image is made with. Wants count from 0.
+
+ghost use Rattle.std.specs.Prelude.{◌≡◌, ◌≤◌, [], ◌∷◌, Some, IfOk, IfErr};
+ghost use Rattle.caibx_codec.specs.Listing.{count_of};
+ghost use Rattle.chunk_store.specs.declared.id.DigestKind.TheVariants as kinds;
+ghost use Rattle.extract_plan.specs.Deal.{AreWants};
+ghost use Rattle.extract_plan.specs.Places.{IsSeedIndex, PlacesKnown};
+
+use crate::fault::DemoFault;
+use assembler::kit::Kit;
+use caibx_codec::index::Index;
+use chunk_store::store::Store;
+use dsy_base::view::View;
+use extract_plan::plan::Plan;
+use extract_plan::seed::Seed;
+use extract_plan::seeds::SeedIndex;
+use std::alloc::Global;
+use store_chain::chain::Chain;
+
+/// The plan of an index, and where a seed lists its chunks.
+#[derive(Drop)]
+pub struct Planned {
+    pub plan: Plan,
+    pub places: SeedIndex,
+}
+
+impl Planned {
+    /// The plan with one seed, whose index this is.
+    pub fn of(alloc: Global, index: &Index, seed: Index) -> Result<Planned, DemoFault>
+        requires few { count_of seed ≤ 4194304 }
+        ensures wants { IfOk result (λ p. AreWants index.now p.plan.wants p.plan.want_of) }
+        ensures places { IfOk result (λ p. IsSeedIndex index.now p.plan (seed ∷ []) p.places) }
+        ensures known { IfOk result (λ p. PlacesKnown index.now p.plan p.places 1) }
+        ensures err { IfErr result (λ e. e ≡ DemoFault.Memory) }
+    {
+        let Ok(plan) = Plan::of(alloc, index, 1) else {
+            return Err(DemoFault::Memory);
+        };
+        let mut seeds = Vec::new(alloc);
+        let Ok(()) = seeds.push(seed) else {
+            return Err(DemoFault::Memory);
+        };
+        match SeedIndex::of(alloc, &plan, index, &seeds) {
+            Ok(places) => Ok(Planned { plan, places }),
+            // The seed lists no more items than seeds may, so it is for want of memory.
+            Err(_) => Err(DemoFault::Memory),
+        }
+    }
+}
+
+/// A kit of one store and one seed.
+pub fn kit_of<S: Store, V: View>(alloc: Global, store: S, seed: V) -> Result<Kit<S, V>, DemoFault>
+    ensures chain { IfOk result (λ k. k.chain ≡ record { stores = store ∷ []; asks = 0; kind = kinds.Sha512T256 }) }
+    ensures seeds { IfOk result (λ k. k.seeds.items ≡ record { view = Some seed } ∷ []) }
+    ensures err { IfErr result (λ e. e ≡ DemoFault.Memory) }
+{
+    let mut stores = Vec::new(alloc);
+    let Ok(()) = stores.push(store) else {
+        return Err(DemoFault::Memory);
+    };
+    let mut seeds = Vec::new(alloc);
+    let Ok(()) = seeds.push(Seed { view: Some(seed) }) else {
+        return Err(DemoFault::Memory);
+    };
+    Ok(Kit::new(alloc, Chain::new(stores), seeds))
+}
