@@ -592,8 +592,7 @@ def no_commands(cases):
         ([b'\xff', *right[1:]], 'a word is no text in UTF-8'), ([*right[:5], b'\xff'], 'a word is no text in UTF-8'),
     ]
     not_yet = [
-        ['extract', '-k', '-s', 'http://localhost/', INDEX, OUT],
-        ['chop', '-s', 'http://localhost/', INDEX, OUT], ['demo', '7', '1'],
+        ['chunk-server', '-s', STORE, '-l', 'localhost:8080'],
     ]
     for words, text in never + [(words, 'word 0: NotYet') for words in not_yet]:
         with cases.case(f'the words {words}') as folder:

@@ -1,45 +1,106 @@
 #!/usr/bin/env python3
 """The guide: the commands of docs/GUIDE.md, as they are typed, in one folder, and what they print.
 
-What the guide says of chunks is held against tests/formats.py, which cuts the same images by itself.
+Its servers are started as it says, but at free ports, and nginx over the same folder. Blocks whose tool isn't installed
+are skipped. What the guide says of chunks is held against tests/formats.py, which cuts the same images by itself.
 """
 
+import contextlib
 import os
 import re
+import shutil
 import subprocess
 import sys
+import textwrap
 
 import formats
 import program
+import servers
 from checks import Cases, expect, expect_equal, needs_program
 
 GUIDE = os.path.join(program.TOP, 'docs', 'GUIDE.md')
 IMAGES = {'v1.img': 'seq 60000', 'v2.img': "seq 60000 | sed 's/^30000$/thirty thousand/'"}
+STATIC, NGINX, SERVED = 'localhost:8080', 'images.example.com', '/srv/images'
+LOCATION = re.compile(r'^    location .*?^    }\n', re.DOTALL | re.MULTILINE)
 
 
-def steps(text):
-    """The commands of the guide's blocks, each with what it prints."""
+def steps(block):
+    """The commands of a block, each with what it prints."""
     found = []
-    for block in re.findall(r'^```console\n(.*?)^```$', text, re.DOTALL | re.MULTILINE):
-        for line in block.splitlines():
-            if line.startswith('$ '):
-                found.append((line[2:], []))
-            else:
-                found[-1][1].append(line)
+    for line in block.splitlines():
+        if line.startswith('$ '):
+            found.append((line[2:], []))
+        else:
+            found[-1][1].append(line)
     return [(command, ''.join(line + '\n' for line in lines)) for command, lines in found]
 
 
-def typed(cases, text):
-    found = steps(text)
-    with cases.case('what the commands print') as folder:
+class Reader:
+    """Does what the guide's blocks say, one after the other, in a folder. Servers run until the end of `held`."""
+
+    def __init__(self, cases, folder, held):
+        self.cases = cases
+        self.folder = folder
+        self.held = held
+        self.typed = 0
+        # Where the guide's servers are in truth, and the last block `server` of nginx.
+        self.hosts = {}
+        self.server = None
+        self.nginx = held.enter_context(contextlib.ExitStack())
+
+    def do(self, kind, block):
+        if kind == 'sh' and block.startswith('python3 -m http.server'):
+            self.serve_files(block)
+        elif kind == 'nginx':
+            self.serve_by_nginx(block)
+        elif kind == 'console':
+            self.type(block)
+
+    def serve_files(self, block):
+        folder = re.search(r'--directory (\S+) 8080\n', block)[1]
+        port = self.held.enter_context(servers.static(os.path.join(self.folder, folder)))
+        self.hosts[STATIC] = f'localhost:{port}'
+
+    def serve_by_nginx(self, block):
+        """Runs nginx with a block `server`, or with the last one and a block `location` in the place of its own."""
+        if block.startswith('location'):
+            block, count = LOCATION.subn(lambda _: textwrap.indent(block, '    '), self.server)
+            expect_equal(count, 1, 'the number of places in the block of nginx')
+        self.server = block
+        if servers.nginx_program() is None:
+            return
+        port = servers.free_port()
+        for word, other in (('listen 80;', f'listen 127.0.0.1:{port};'), (SERVED, self.folder)):
+            expect(word in block, f'the block of nginx has no {word}')
+            block = block.replace(word, other)
+        self.nginx.close()
+        self.nginx.enter_context(servers.nginx_of(block, port, os.path.join(self.folder, 'nginx')))
+        self.hosts[NGINX] = f'localhost:{port}'
+
+    def type(self, block):
+        for tool, word, there in (('casync', 'casync ', shutil.which('casync')), ('nginx', NGINX, servers.nginx_program())):
+            if word in block and not there:
+                self.cases.skip(f'the block that begins {steps(block)[0][0]!r}', f'{tool} isn\'t installed')
+                return
         path = os.path.dirname(program.DESYNC) + os.pathsep + os.environ['PATH']
-        expect(len(found) > 30, f'the guide has {len(found)} commands')
-        for command, printed in found:
-            ended = subprocess.run(['bash', '-c', command], cwd=folder, env={**os.environ, 'PATH': path, 'LC_ALL': 'C'},
+        for command, printed in steps(block):
+            words = command
+            for host, other in self.hosts.items():
+                words = words.replace(host, other)
+            ended = subprocess.run(['bash', '-c', words], cwd=self.folder, env={**os.environ, 'PATH': path, 'LC_ALL': 'C'},
                                    stdin=subprocess.DEVNULL, stdout=subprocess.PIPE, stderr=subprocess.STDOUT, check=False)
             expect_equal(ended.stdout.decode(), printed, f'what `{command}` prints')
             refused = printed.startswith('desync: ') or '\ndesync: ' in printed
             expect_equal(ended.returncode, 1 if refused else 0, f'the status of `{command}`')
+            self.typed += 1
+
+
+def typed(cases, text):
+    with cases.case('what the commands print') as folder, contextlib.ExitStack() as held:
+        reader = Reader(cases, folder, held)
+        for kind, block in re.findall(r'^```(\w+)\n(.*?)^```$', text, re.DOTALL | re.MULTILINE):
+            reader.do(kind, block)
+        expect(reader.typed > 30, f'the guide has {reader.typed} commands')
 
 
 def told(cases, text):

@@ -273,10 +273,11 @@ def refused_words(cases):
                ('list-chunks -s st a', 'word 1: UnknownOption'), ('info', 'word 1: Operands'),
                ('info a b', 'word 2: Operands'), ('make -k -s st a b', 'word 1: UnknownOption'),
                ('make -s st -s st a b', 'word 3: TooMany'), ('make -s', 'word 2: NoValue'),
-               ('extract -k -s st --seed x a b', 'word 5: BadSeed'), ('chop -s http://h/ a b', 'word 0: NotYet'),
+               ('extract -k -s st --seed x a b', 'word 5: BadSeed'),
                ('prune -s st a', 'word 4: NeedsYes'), ('verify -s http://h/', 'word 2: NeedsFolder'),
                ('chunk-server -s st -l x', 'word 4: BadListen'), ('cache -s st a', 'word 4: MissingOption'),
-               ('extract -c c -c c -s st a b', 'word 3: TooMany'), ('info -s http://localhost/ a', 'word 0: NotYet')]
+               ('extract -c c -c c -s st a b', 'word 3: TooMany'),
+               ('chunk-server -s st -l localhost:8080', 'word 0: NotYet')]
     for words, text in refused:
         with cases.case(f'the words {words}') as folder:
             put_file(os.path.join(folder, 'a'), b'a')

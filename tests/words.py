@@ -3,7 +3,7 @@
 
 The tables of options and commands stand here once more, by the document and not by the program. Words are laid out from
 them: each option once too often, each spelling, and random words. The program runs in an empty folder, so words that
-are taken end with a name that isn't there, with sizes that no image is cut by, or as not built. Each error line is
+are taken end with a name that isn't there, with sizes that no image is cut by, as not built, or done (`demo`). Each error line is
 compared, and nothing is ever written.
 """
 
@@ -25,6 +25,9 @@ OPTIONS = [('store', ['-s', '--store'], 'location'), ('sizes', ['-m', '--chunk-s
 NAMED = {spelling: option for option, spellings, _ in OPTIONS for spelling in spellings}
 SPELLED = {option: spellings for option, spellings, _ in OPTIONS}
 VALUES = {option: value for option, _, value in OPTIONS if value}
+
+# The greatest SIZE of `demo`, which would take minutes, so such words are read and not run.
+LARGE = '536870912'
 
 # A command's options with the least and the greatest number of times, and its operands alike.
 N = {'workers': (0, 1)}
@@ -159,9 +162,8 @@ def why_not_sizes(value):
 
 
 def is_built(said):
-    if any(location(store) == 'url' for store in said.given['store']):
-        return False
-    return said.command in ('extract', 'make', 'verify-index', 'chop', 'cache', 'list-chunks', 'info', 'verify', 'prune')
+    return said.command in ('extract', 'make', 'verify-index', 'chop', 'cache', 'list-chunks', 'info', 'verify', 'prune',
+                            'demo')
 
 
 def text_of(said):
@@ -172,8 +174,11 @@ def text_of(said):
         whys = [why_not_sizes(value) for value in said.given['sizes']]
         if any(whys):
             return f'bad chunk sizes: {whys[0]}'
+    if said.command == 'demo':
+        return ''
     if said.command in ('cache', 'verify'):
-        return f'{said.given["store"][0]}: no such folder'
+        folders = [store for store in said.given['store'] if location(store) != 'url'] + said.given['cache']
+        return f'{folders[0]}: no such folder'
     absent = said.operands[1 if said.command == 'make' else 0]
     return f'{absent}: no such file'
 
@@ -196,10 +201,15 @@ def refusal_of(words):
 def agrees(words, folder):
     """Runs the words, and compares the line with the second reading; says why they aren't taken, or `taken`."""
     text, why = refusal_of(words)
+    if words[:1] == ['demo'] and why == 'taken' and LARGE in words:
+        return why
     ended = program.run(words, folder)
     if words[1:] == ['--help'] and words[0] in COMMANDS:
         text, why = '', 'taken'
         expect(ended.out.startswith(b'usage: desync '), f'{words} print {ended.out!r}')
+        ended.out = b''
+    elif words[:1] == ['demo'] and why == 'taken':
+        expect(ended.out.startswith(b'bytes '), f'{words} print {ended.out!r}')
         ended.out = b''
     expect_ended(ended, text, what=words)
     expect_equal(os.listdir(folder), [], f'the folder after {words}')
@@ -270,7 +280,7 @@ def random_words(chance):
             value = ([GOOD[VALUES[option]] if good else random_value(chance, option)] if option in VALUES else [])
             parts.append([chance.choice(SPELLED[option]), *value])
     for _ in range(chance.choice([least] * 6 + [min(most, 3), 0, least + 1])):
-        parts.append([chance.choice(['7', '0', 'a', 'a.caibx', '18446744073709551615', '536870912'] if chance.random() < .9
+        parts.append([chance.choice(['7', '0', 'a', 'a.caibx', '18446744073709551615', LARGE] if chance.random() < .9
                                     else ['', '07', '18446744073709551616', '536870913', '٣'])])
     if chance.random() < .15:
         parts.append([chance.choice(list(NAMED))])

@@ -1,0 +1,237 @@
+"""Servers of chunks on the loopback interface, each of which ends with its `with`.
+
+A chunk's path is a prefix, the first four digits of its id, and all 64. `Server` answers each connection by a function
+of the request's bytes; `static` and `nginx` serve a folder as files.
+"""
+
+import contextlib
+import os
+import re
+import shutil
+import socket
+import subprocess
+import sys
+import threading
+import time
+import traceback
+
+HEAD_END = b'\r\n\r\n'
+SECONDS = 20
+WAIT = 'wait'
+
+
+class Server:
+    """Takes connections one after the other, and hands each with its request to `answer(peer, method, path, body)`.
+
+    `asked` has the method and path of each request, and `heads` their bytes up to the empty line. Where an answer is
+    `WAIT`, the connection stays open to the end. A request that isn't whole, or has more, and an answer that raises
+    fail the `with`.
+    """
+
+    def __init__(self, answer, host='127.0.0.1'):
+        self.answer = answer
+        self.asked = []
+        self.heads = []
+        self.failures = []
+        self.over = threading.Event()
+        family = socket.AF_INET6 if ':' in host else socket.AF_INET
+        self.listener = socket.create_server((host, 0), family=family)
+        self.address = self.listener.getsockname()
+        self.port = self.address[1]
+        self.thread = threading.Thread(target=self._serve, daemon=True)
+
+    def url(self, prefix=''):
+        return f'http://localhost:{self.port}{prefix}'
+
+    def __enter__(self):
+        self.thread.start()
+        return self
+
+    def __exit__(self, kind, *_):
+        self.over.set()
+        with contextlib.suppress(OSError):
+            socket.create_connection(self.address[:2], 1).close()
+        self.thread.join(SECONDS)
+        self.listener.close()
+        if kind is None and self.failures:
+            raise AssertionError(f'the server: {self.failures[0]}')
+
+    def _serve(self):
+        while True:
+            peer, _ = self.listener.accept()
+            with peer:
+                if self.over.is_set():
+                    return
+                peer.settimeout(SECONDS)
+                try:
+                    self._connection(peer)
+                except OSError:
+                    # The program has hung up, as it may.
+                    pass
+                except Exception:
+                    self.failures.append(traceback.format_exc())
+
+    def _connection(self, peer):
+        got = b''
+        while HEAD_END not in got:
+            piece = peer.recv(65536)
+            if not piece:
+                self.failures.append(f'a request ends with its head: {got!r}')
+                return
+            got += piece
+        head, body = got.split(HEAD_END, 1)
+        length = re.search(rb'\r\nContent-Length: (\d+)', head)
+        wanted = int(length[1]) if length else 0
+        while len(body) < wanted:
+            piece = peer.recv(65536)
+            if not piece:
+                self.failures.append(f'a body has {len(body)} bytes, and {wanted} were told')
+                return
+            body += piece
+        if len(body) > wanted:
+            self.failures.append(f'a request of {wanted} bytes has {len(body)}')
+        method, path, _ = head.split(b'\r\n')[0].decode().split(' ')
+        self.asked.append((method, path))
+        self.heads.append(head)
+        if self.answer(peer, method, path, body) == WAIT:
+            self.over.wait()
+
+
+@contextlib.contextmanager
+def deaf():
+    """A listener that takes no connection: its queue is full, so that the system drops each attempt. Gives its port."""
+    with socket.create_server(('127.0.0.1', 0), backlog=0) as listener, contextlib.ExitStack() as full:
+        for _ in range(4):
+            peer = full.enter_context(socket.socket())
+            peer.setblocking(False)
+            peer.connect_ex(listener.getsockname())
+        yield listener.getsockname()[1]
+
+
+def reply(status, body=b'', *lines, length=None):
+    """The bytes of a reply whose body has a length."""
+    head = [f'HTTP/1.1 {status} Reason', f'Content-Length: {len(body) if length is None else length}', *lines]
+    return '\r\n'.join(head).encode() + HEAD_END + body
+
+
+def to_the_end(body, *lines):
+    """The bytes of a 200 whose body ends with the connection."""
+    return '\r\n'.join(['HTTP/1.1 200 OK', *lines]).encode() + HEAD_END + body
+
+
+def in_chunks(body, size=1000, extension=b'', trailer=b''):
+    """The bytes of a 200 whose body comes in chunks."""
+    pieces = [body[at:at + size] for at in range(0, len(body), size)]
+    spelled = b''.join(b'%x%s\r\n%s\r\n' % (len(piece), extension, piece) for piece in pieces)
+    end = b'0' + extension + b'\r\n' + trailer + b'\r\n'
+    return to_the_end(spelled + end, 'Transfer-Encoding: chunked')
+
+
+def file_at(folder, prefix, path):
+    """The bytes of the file that a path below a prefix names, or None."""
+    if not path.startswith(prefix + '/'):
+        return None
+    try:
+        with open(os.path.join(folder, path[len(prefix) + 1:]), 'rb') as file:
+            return file.read()
+    except OSError:
+        return None
+
+
+def store(folder, prefix='', spell=lambda body: reply(200, body), taken=201, host='127.0.0.1'):
+    """A server of a folder's chunks, which takes them too, with the status `taken`. `spell` gives the reply to a GET of a
+    chunk that is there."""
+    def answer(peer, method, path, body):
+        held = file_at(folder, prefix, path)
+        if method == 'PUT' and path.startswith(prefix + '/'):
+            name = os.path.join(folder, path[len(prefix) + 1:])
+            os.makedirs(os.path.dirname(name), exist_ok=True)
+            with open(name, 'wb') as file:
+                file.write(body)
+            peer.sendall(reply(taken))
+        elif held is None:
+            peer.sendall(reply(404, b'' if method == 'HEAD' else b'nothing here'))
+        elif method == 'HEAD':
+            peer.sendall(reply(200, length=len(held)))
+        else:
+            peer.sendall(spell(held))
+    return Server(answer, host)
+
+
+@contextlib.contextmanager
+def static(folder):
+    """`python3 -m http.server` over a folder's files; gives its port."""
+    words = [sys.executable, '-u', '-m', 'http.server', '--bind', '127.0.0.1', '--directory', folder, '0']
+    process = subprocess.Popen(words, cwd=folder, stdin=subprocess.DEVNULL, stdout=subprocess.PIPE,
+                               stderr=subprocess.DEVNULL, text=True)
+    try:
+        yield int(re.search(r'port (\d+)', process.stdout.readline())[1])
+    finally:
+        process.terminate()
+        process.communicate(timeout=SECONDS)
+
+
+# One process and one worker, and no file outside the folder `top`.
+NGINX = '''daemon off; master_process off; pid {top}/pid; error_log {top}/error;
+events {{}}
+http {{
+    access_log off; sendfile on; tcp_nopush on;
+    client_body_temp_path {top}/body; proxy_temp_path {top}/proxy; fastcgi_temp_path {top}/fastcgi;
+    uwsgi_temp_path {top}/uwsgi; scgi_temp_path {top}/scgi;
+    {server}
+}}
+'''
+SERVER = 'server {{ listen 127.0.0.1:{port}; root {folder}; {lines} }}'
+# As docs/GUIDE.md has it.
+TAKES_CHUNKS = '''location / {
+    client_max_body_size 64m; dav_methods PUT; create_full_put_path on; dav_access group:r all:r;
+    limit_except GET { allow 127.0.0.1; deny all; }
+}'''
+
+
+def nginx_program():
+    """The path of nginx, or None where it isn't installed; its folder isn't in everybody's PATH."""
+    return shutil.which('nginx', path=os.pathsep.join([os.environ.get('PATH', ''), '/usr/sbin', '/usr/local/sbin']))
+
+
+def free_port():
+    with socket.create_server(('127.0.0.1', 0)) as free:
+        return free.getsockname()[1]
+
+
+@contextlib.contextmanager
+def nginx(folder, top, lines=''):
+    """nginx over a folder's files; gives its port. It keeps its own files in the folder `top`."""
+    port = free_port()
+    with nginx_of(SERVER.format(port=port, folder=folder, lines=lines), port, top):
+        yield port
+
+
+@contextlib.contextmanager
+def nginx_of(server, port, top):
+    """nginx with this block `server`, which listens at the port."""
+    os.makedirs(top, exist_ok=True)
+    with open(os.path.join(top, 'conf'), 'w', encoding='utf-8') as file:
+        file.write(NGINX.format(top=top, server=server))
+    with open(os.path.join(top, 'error'), 'ab') as errors:
+        process = subprocess.Popen([nginx_program(), '-c', os.path.join(top, 'conf')], stdin=subprocess.DEVNULL,
+                                   stdout=errors, stderr=errors)
+    try:
+        for _ in range(20 * SECONDS):
+            if process.poll() is not None or _listens(port):
+                break
+            time.sleep(0.05)
+        if process.poll() is not None:
+            with open(os.path.join(top, 'error'), encoding='utf-8') as file:
+                raise AssertionError(f'nginx has ended: {file.read()}')
+        yield
+    finally:
+        process.terminate()
+        process.wait(SECONDS)
+
+
+def _listens(port):
+    with contextlib.suppress(OSError):
+        socket.create_connection(('127.0.0.1', port), 1).close()
+        return True
+    return False
