@@ -1,0 +1,118 @@
+-- The steps of a shelf, by what was found and put.
+use Rattle.std.proofs.Common.{◌≡◌, ◌≢◌, ℕ, ◌≤◌, List, [], length, take, Result, Ok, Err, Bool, true, false, cond, Option, Some, None, inl, refl, sym, ap, subst, ◌∙◌, arith}
+use Rattle.std.specs.Prelude.{IfOk, IfSome}
+use Rattle.std.specs.Option.{option_map}
+use Rattle.std.specs.Str.{bytes_eq}
+use Rattle.std.proofs.lemmas.Bool.{false_from_ne_true}
+use Rattle.std.proofs.lemmas.Grind.{common_steps}
+use Rattle.std.proofs.lemmas.Slice.Eq.{bytes_eq-Decides}
+use Rattle.chunk_store.specs.Folders.{chunks}
+use Rattle.chunk_store.specs.Names.{name_of}
+use Rattle.chunk_store.specs.Paths.{path_of}
+use Rattle.chunk_store.specs.declared.id.ChunkId.{ChunkId}
+use Rattle.chunk_store.specs.declared.id.DigestKind.{DigestKind}
+use Rattle.dsy_base.specs.Folders.{put_in}
+use Rattle.dsy_base.specs.Maps.{Map}
+use Rattle.http_wire.specs.declared.request.Act.{Act}
+use Rattle.http_wire.specs.declared.request.Act.TheVariants as act
+use Rattle.chunk_server.specs.Answers.{Answer, answer_of, bare, chunk_held, files_after, with_chunk, with_length}
+use Rattle.chunk_server.specs.Shelves.{Shelved, Steps}
+
+told_more : {P Q : Map (List ℕ) → Type 0} (o : Option (Map (List ℕ))) → ((m : Map (List ℕ)) → P m → Q m) → IfSome o P → IfSome o Q
+told_more None f p = tt
+told_more (Some m) f p = f m p
+
+always : {Q : Map (List ℕ) → Type 0} (o : Option (Map (List ℕ))) → ((m : Map (List ℕ)) → Q m) → IfSome o Q
+always None f = tt
+always (Some m) f = f m
+
+mapped : (f g : Map (List ℕ) → Map (List ℕ)) (o : Option (Map (List ℕ))) → ((m : Map (List ℕ)) → f m ≡ g m) → option_map f o ≡ option_map g o
+mapped f g None same = refl
+mapped f g (Some m) same = ap Some (same m)
+
+unmapped : (f : Map (List ℕ) → Map (List ℕ)) (o : Option (Map (List ℕ))) → ((m : Map (List ℕ)) → f m ≡ m) → o ≡ option_map f o
+unmapped f None same = refl
+unmapped f (Some m) same = ap Some (sym (same m))
+
+module _ (kind : DigestKind) (old new : Shelved) (id : ChunkId) (body : List ℕ) (r : Answer) where
+  -- ---- what was found
+
+  pub get_goes : (found : Option (List ℕ)) → IfSome old.files (λ m. chunk_held kind id.0 (chunks m id.0) ≡ found) → r ≡ with_chunk found → new.files ≡ old.files → old.faults ≤ new.faults → Steps kind old (act.Get id) body r new
+  unfolding answer_of files_after
+  get_goes found held is kept faults = inl (record {
+    answer = told_more old.files (λ m h. is ∙ ap with_chunk (sym h)) held;
+    files = kept ∙ unmapped (λ m. m) old.files (λ m. refl);
+    faults = faults;
+  })
+
+  pub head_goes : (found : Option (List ℕ)) → IfSome old.files (λ m. chunk_held kind id.0 (chunks m id.0) ≡ found) → r ≡ with_length found → new.files ≡ old.files → old.faults ≤ new.faults → Steps kind old (act.Head id) body r new
+  unfolding answer_of files_after
+  head_goes found held is kept faults = inl (record {
+    answer = told_more old.files (λ m h. is ∙ ap with_length (sym h)) held;
+    files = kept ∙ unmapped (λ m. m) old.files (λ m. refl);
+    faults = faults;
+  })
+
+  -- ---- what was put
+
+  named : name_of kind body ≡ id.0 → bytes_eq (name_of kind body) id.0 ≡ true
+  named is = (bytes_eq-Decides (name_of kind body) id.0).1 is
+
+  misnamed : name_of kind body ≢ id.0 → bytes_eq (name_of kind body) id.0 ≡ false
+  misnamed other = false_from_ne_true (bytes_eq (name_of kind body) id.0) (λ h. other ((bytes_eq-Decides (name_of kind body) id.0).0 h))
+
+  put_with : (b : Bool) → bytes_eq (name_of kind body) id.0 ≡ b → r ≡ bare (cond b 200 400) → new.files ≡ option_map (λ m. cond b (put_in m (path_of id.0) body) m) old.files → old.faults ≤ new.faults → Steps kind old (act.Put id) body r new
+  unfolding answer_of files_after
+  put_with b test is files faults = inl (record {
+    answer = always old.files (λ m. is ∙ ap (λ t. bare (cond t 200 400)) (sym test));
+    files = files ∙ mapped (λ m. cond b (put_in m (path_of id.0) body) m) _ old.files (λ m. ap (λ t. cond t (put_in m (path_of id.0) body) m) (sym test));
+    faults = faults;
+  })
+
+  pub put_goes : (path : List ℕ) → path ≡ path_of id.0 → name_of kind body ≡ id.0 → r ≡ bare 200 → new.files ≡ option_map (λ m. put_in m path body) old.files → old.faults ≤ new.faults → Steps kind old (act.Put id) body r new
+  put_goes path at is reply files faults =
+      put_with true (named is) reply (files ∙ ap (λ p. option_map (λ m. put_in m p body) old.files) at) faults
+
+  pub put_refused : name_of kind body ≢ id.0 → r ≡ bare 400 → new.files ≡ old.files → old.faults ≤ new.faults → Steps kind old (act.Put id) body r new
+  put_refused other reply files faults =
+      put_with false (misnamed other) reply (files ∙ unmapped (λ m. m) old.files (λ m. refl)) faults
+
+-- ---- what names no chunk
+
+pub lost_goes : (kind : DigestKind) (old new : Shelved) (body : List ℕ) (r : Answer) → r ≡ bare 404 → new.files ≡ old.files → old.faults ≤ new.faults → Steps kind old act.Lost body r new
+unfolding answer_of files_after
+lost_goes kind old new body r is kept faults = inl (record {
+  answer = always old.files (λ m. is);
+  files = kept ∙ unmapped (λ m. m) old.files (λ m. refl);
+  faults = faults;
+})
+
+-- a reply with the length alone
+abbrev told : ℕ → List ℕ → Answer
+told n body = record { status = 200; size = n; body = body }
+
+pub length_told : (n : ℕ) (b body : List ℕ) → n ≤ length b → body ≡ [] → told n body ≡ with_length (Some (take n b))
+length_told n b body inside none =
+    let size : n ≡ length (take n b) = grind (arith, common_steps) in
+    (λ i. told (size i) (none i))
+
+pub ok_more : {A E : Type 0} {P Q : A → Type 0} (r : Result A E) → ((x : A) → P x → Q x) → IfOk r P → IfOk r Q
+ok_more (Ok x) f p = f x p
+ok_more (Err e) f p = tt
+
+-- ---- what is refused
+
+abbrev refusal : ℕ → List ℕ → Answer
+refusal status body = record { status = status; size = 0; body = body }
+
+refused_step : (kind : DigestKind) (old : Shelved) (status : ℕ) (body none : List ℕ) → none ≡ [] → Steps kind old (act.Refuse status) body (refusal status none) old
+unfolding answer_of files_after
+refused_step kind old status body none is = inl (record {
+  answer = always old.files (λ m. ap (refusal status) is);
+  files = unmapped (λ m. m) old.files (λ m. refl);
+  faults = omega arith;
+})
+
+pub refuse_goes : (kind : DigestKind) (old : Shelved) (a : Act) (status : ℕ) (body none : List ℕ) → a ≡ act.Refuse status → none ≡ [] → IfSome old.files (λ m. Steps kind old a body (refusal status none) old)
+refuse_goes kind old a status body none is empty =
+    subst (λ (x : Act). IfSome old.files (λ m. Steps kind old x body (refusal status none) old)) (sym is) (always old.files (λ m. refused_step kind old status body none empty))

@@ -1,0 +1,15 @@
+use Rattle.std.proofs.Common.{◌≡◌, ◌-◌, ◌≤◌, length}
+use Rattle.chunk_server.specs.Requests.{head_limit}
+use Rattle.chunk_server.specs.Streams.{stream_in}
+use Rattle.chunk_server.proofs.receiving.receive_head.Given as goal
+
+-- bytes have come, and no more than a head may have
+abbrev pub invariant-loop-waiting : goal.invariant-loop-waiting
+invariant-loop-waiting g l = record {
+  size : length l.waiting.items ≤ head_limit;
+  bytes : stream_in l.waiting.items (g.K.Link.state l.link).traffic ≡ stream_in l.fn.waiting.items (g.K.Link.state l.fn.link).traffic;
+  faults : (g.K.Link.state l.link).faults ≡ (g.K.Link.state l.fn.link).faults;
+}
+
+abbrev pub decreases-loop-waiting : goal.decreases-loop-waiting
+decreases-loop-waiting g l = head_limit - length l.waiting.items

@@ -1,0 +1,6 @@
+pub mod Requests
+pub mod Answers
+pub mod Shelves
+pub mod Turns
+pub mod Streams
+pub mod States

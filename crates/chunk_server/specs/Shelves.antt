@@ -1,0 +1,77 @@
+-- What contracts see of a shelf, and how its answers change that.
+use Rattle.std.specs.Prelude.{◌≡◌, ℕ, ◌≤◌, ◌⊎◌, List, [], length, false, Option, Some, None, IfSome}
+use Rattle.std.specs.Option.{option_map}
+use Rattle.chunk_store.specs.Names.{name_of}
+use Rattle.chunk_store.specs.declared.id.DigestKind.{DigestKind}
+use Rattle.dir_store.specs.Names.{is_temporary}
+use Rattle.dsy_base.specs.Counts.{Rose}
+use Rattle.dsy_base.specs.Maps.{Map}
+use Rattle.chunk_server.specs.Answers.{Answer, answer_of, bare, files_after}
+use Rattle.chunk_server.specs.declared.shelf.Reply.{Reply}
+use Rattle.http_wire.specs.declared.request.Act.{Act}
+use Rattle.http_wire.specs.declared.request.Act.TheVariants as act
+
+-- the files of its folder, where they are told, and how often a call on it has failed
+pub record Shelved : Type 0 where
+  pub files : Option (Map (List ℕ))
+  pub faults : ℕ
+
+-- a folder as a shelf sees it
+abbrev pub shelved : {F : Type 0} → (F → Option (Map (List ℕ))) → (F → ℕ) → F → Shelved
+shelved files faults folder = record { files = files folder; faults = faults folder }
+
+-- a reply as an answer
+abbrev pub answer_in : Reply → Answer
+answer_in r = record { status = r.status; size = r.length; body = r.body.items }
+
+-- the files differ in temporary ones alone
+abbrev pub AreAlike : Option (Map (List ℕ)) → Option (Map (List ℕ)) → Type 0
+AreAlike (Some m) (Some n) = (q : List ℕ) → is_temporary q ≡ false → n q ≡ m q
+AreAlike (Some m) None = ⊥
+AreAlike None (Some n) = ⊥
+AreAlike None None = Unit {0}
+
+-- the request was answered as the files say
+pub record IsStep (kind : DigestKind) (old : Shelved) (a : Act) (body : List ℕ) (r : Answer) (new : Shelved) : Type 0 where
+  pub answer : IfSome old.files (λ m. r ≡ answer_of kind m a body)
+  pub files : new.files ≡ option_map (λ m. files_after kind m a body) old.files
+  pub faults : old.faults ≤ new.faults
+
+-- a call on the folder has failed, and was counted
+pub record Fails (old : Shelved) (r : Answer) (new : Shelved) : Type 0 where
+  pub answer : r ≡ bare 500
+  pub files : AreAlike old.files new.files
+  pub faults : old.faults ≤ new.faults
+  pub cause : Rose old.faults new.faults
+
+-- one or the other
+abbrev pub Steps : DigestKind → Shelved → Act → List ℕ → Answer → Shelved → Type 0
+Steps kind old a body r new = IsStep kind old a body r new ⊎ Fails old r new
+
+-- there was no memory: the files are as before the step, or as after it
+pub record Lacks (kind : DigestKind) (old : Shelved) (a : Act) (body : List ℕ) (new : Shelved) : Type 0 where
+  pub files : AreAlike old.files new.files ⊎ AreAlike (option_map (λ m. files_after kind m a body) old.files) new.files
+  pub faults : old.faults ≤ new.faults
+
+-- a status that tells of no chunk
+abbrev pub IsBare : Answer → Type 0
+IsBare r = (r ≡ bare 400) ⊎ ((r ≡ bare 404) ⊎ (r ≡ bare 500))
+
+-- the chunk of this id
+pub record GivesChunk (kind : DigestKind) (id : List ℕ) (r : Answer) : Type 0 where
+  pub status : r.status ≡ 200
+  pub named : name_of kind r.body ≡ id
+  pub size : r.size ≡ length r.body
+
+-- its length
+pub record GivesLength (r : Answer) : Type 0 where
+  pub status : r.status ≡ 200
+  pub body : r.body ≡ []
+
+-- what each shelf may answer
+abbrev pub IsAnswer : DigestKind → Act → Answer → Type 0
+IsAnswer kind (act.Get id) r = GivesChunk kind id.0 r ⊎ IsBare r
+IsAnswer kind (act.Head id) r = GivesLength r ⊎ IsBare r
+IsAnswer kind (act.Put id) r = (r ≡ bare 200) ⊎ IsBare r
+IsAnswer kind act.Lost r = r ≡ bare 404
+IsAnswer kind (act.Refuse status) r = r ≡ bare status

@@ -1,0 +1,61 @@
+//! Shelves: what answers requests for chunks.
+
+ghost use Rattle.std.specs.Prelude.{◌≡◌, ℕ, Bool, List, ◌≤◌, length, IfOk, IfSome, OnErr, false};
+ghost use Rattle.chunk_server.specs.Answers.{Answer};
+ghost use Rattle.chunk_server.specs.Shelves.{IsAnswer, Lacks, Shelved, Steps, answer_in};
+ghost use Rattle.chunk_store.specs.declared.id.DigestKind.{DigestKind};
+ghost use Rattle.http_wire.specs.Request.{body_limit, is_refusal};
+ghost use Rattle.http_wire.specs.declared.request.Act.{Act};
+
+use chunk_store::id::DigestKind;
+use dsy_base::fault::Memory;
+use http_wire::request::Act;
+
+/// A reply: its status, the length that it tells, and the body that is sent. Only a 200 to GET has one.
+#[derive(Debug, Drop)]
+pub struct Reply {
+    pub status: u16,
+    pub length: u64,
+    pub body: Vec<u8>,
+}
+
+/// What answers the requests on a connection.
+pub trait Shelf: Drop {
+    /// The files of its folder, where it tells them, and how often a call on it has failed.
+    ghost state: { Self → Shelved };
+
+    /// The name that its folder was taken under.
+    ghost place: { Self → List ℕ };
+
+    /// Which digest names its chunks.
+    ghost digest: { Self → DigestKind };
+
+    /// Whether chunks may be put.
+    ghost takes: { Self → Bool };
+
+    /// The replies that it may give to an act with a body, beside what holds of every shelf.
+    ghost may: { Act → List ℕ → Answer → Type 0 };
+
+    /// Answers a request.
+    fn answer(&mut self, act: &Act, body: &[u8]) -> Result<Reply, Memory>
+        requires taken { is_refusal act.now ≡ false }
+        requires size { length body.now ≤ body_limit }
+        ensures only { IfOk result (λ r. IsAnswer (digest self.old) act.now (answer_in r)) }
+        ensures may { IfOk result (λ r. may act.now body.now (answer_in r)) }
+        ensures ok { IfOk result (λ r. IfSome (state self.old).files (λ _.
+            Steps (digest self.old) (state self.old) act.now body.now (answer_in r) (state self.new))) }
+        ensures err { OnErr result (IfSome (state self.old).files (λ _.
+            Lacks (digest self.old) (state self.old) act.now body.now (state self.new))) }
+        ensures kind { digest self.new ≡ digest self.old }
+        ensures kept { takes self.new ≡ takes self.old }
+        ensures place { place self.new ≡ place self.old }
+        ensures faults { (state self.old).faults ≤ (state self.new).faults };
+
+    /// Which digest names its chunks.
+    fn kind(&self) -> DigestKind
+        ensures { result ≡ digest self.now };
+
+    /// Whether chunks may be put.
+    fn writable(&self) -> bool
+        ensures { result ≡ takes self.now };
+}

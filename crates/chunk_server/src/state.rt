@@ -1,0 +1,321 @@
+//! A folder of chunks as a shelf. Sizes are in bytes.
+
+ghost use Rattle.std.specs.Prelude.{◌≡◌, ℕ, ◌<◌, ◌≤◌, [], List, length, take, false, Err, IfErr, IfOk, IfSome, OnErr, OnOk, Some};
+ghost use Rattle.std.specs.Option.{option_map};
+ghost use Rattle.chunk_server.specs.Answers.{bare, chunk_held, with_chunk};
+ghost use Rattle.chunk_server.specs.Shelves.{AreAlike, IsAnswer, Steps, answer_in, shelved};
+ghost use Rattle.chunk_server.specs.States.{CountsCause, IsFound};
+ghost use Rattle.chunk_store.specs.Folders.{chunks};
+ghost use Rattle.chunk_store.specs.declared.id.DigestKind.TheVariants as kinds;
+ghost use Rattle.dsy_base.specs.Maps.{ReadGives};
+ghost use Rattle.http_wire.specs.Request.{body_limit, is_refusal};
+
+use crate::shelf::{Reply, Shelf};
+use chunk_store::id::{ChunkId, DigestKind};
+use dir_store::laws::put_leaves_a_temporary;
+use dsy_base::fault::{FileFault, IoFault, Memory};
+use dsy_base::folder::Folder;
+use http_wire::request::Act;
+use std::alloc::{AllocError, Global};
+use std::marker::Model;
+
+/// How many bytes of a chunk file are read at first: 256 KiB.
+const FIRST: usize = 262_144;
+
+/// How many are read at most: 64 MiB, the size of the greatest chunk.
+const LONGEST: usize = 67_108_864;
+
+// Makes the buffer longer, at least twice as long where it may be.
+fn grow(buffer: &mut Vec<u8>) -> Result<(), AllocError>
+    requires room { length buffer.old.items < body_limit }
+    ensures ok { OnOk result (length buffer.old.items < length buffer.new.items) }
+    ensures room { length buffer.new.items ≤ body_limit }
+{
+    let size = (buffer.len() * 2).max(FIRST).min(LONGEST);
+    buffer.resize(size, 0)
+}
+
+// Reads the file of this id. `Longer`: it has more than 64 MiB.
+fn read_file<F: Folder>(
+    folder: &mut F,
+    id: &ChunkId,
+    buffer: &mut Vec<u8>,
+) -> Result<usize, FileFault>
+    requires room { length buffer.old.items ≤ body_limit }
+    ensures room { length buffer.new.items ≤ body_limit }
+    ensures bytes { IfSome (F.files folder.old) (λ m. ReadGives (chunks m id.now.0) result buffer.new.items) }
+    ensures size { IfOk result (λ n. n ≤ length buffer.new.items) }
+    ensures longer { result ≡ Err FileFault.Longer → body_limit ≤ length buffer.new.items }
+    ensures kept { F.files folder.new ≡ F.files folder.old }
+    ensures place { F.place folder.new ≡ F.place folder.old }
+    ensures faults { CountsCause FileFault.Failed (F.faults folder.old) (F.faults folder.new) result }
+{
+    let path = id.path();
+    while buffer.len() < LONGEST {
+        match folder.read(path.as_str(), buffer.as_mut_slice()) {
+            Err(FileFault::Longer) => {}
+            answer => return answer,
+        }
+        match grow(buffer) {
+            Ok(()) => {}
+            Err(_) => return Err(FileFault::Memory),
+        }
+    }
+    folder.read(path.as_str(), buffer.as_mut_slice())
+}
+
+// Finds the chunk of this id, and leaves it at the front of the buffer. Bytes of another name, or more than 64 MiB, are
+// none.
+fn find<F: Folder>(
+    folder: &mut F,
+    kind: DigestKind,
+    id: &ChunkId,
+    buffer: &mut Vec<u8>,
+) -> Result<Option<usize>, IoFault>
+    requires room { length buffer.old.items ≤ body_limit }
+    ensures room { length buffer.new.items ≤ body_limit }
+    ensures found { IfOk result (λ o. IfSome (F.files folder.old) (λ m.
+        chunk_held kind id.now.0 (chunks m id.now.0) ≡ option_map (λ n. take n buffer.new.items) o)) }
+    ensures named { IfOk result (λ o. IfSome o (IsFound kind id.now.0 buffer.new.items)) }
+    ensures kept { F.files folder.new ≡ F.files folder.old }
+    ensures place { F.place folder.new ≡ F.place folder.old }
+    ensures faults { CountsCause IoFault.Failed (F.faults folder.old) (F.faults folder.new) result }
+{
+    match read_file(folder, id, buffer) {
+        Ok(n) => {
+            let (chunk, _) = buffer.as_slice().split_at(n);
+            if id.is_of(kind, chunk) {
+                Ok(Some(n))
+            } else {
+                Ok(None)
+            }
+        }
+        Err(FileFault::Absent) => Ok(None),
+        Err(FileFault::Longer) => Ok(None),
+        Err(FileFault::Failed) => Err(IoFault::Failed),
+        Err(FileFault::Memory) => Err(IoFault::Memory),
+    }
+}
+
+// A reply without a body.
+fn bare(alloc: Global, status: u16) -> Reply
+    ensures { answer_in result ≡ bare status }
+{
+    Reply {
+        status,
+        length: 0,
+        body: Vec::new(alloc),
+    }
+}
+
+// The reply to a GET of this chunk.
+fn with_chunk(alloc: Global, chunk: &[u8]) -> Result<Reply, Memory>
+    ensures ok { IfOk result (λ r. answer_in r ≡ with_chunk (Some chunk.now)) }
+{
+    let mut body = Vec::new(alloc);
+    match body.extend_from_slice(chunk) {
+        Ok(()) => Ok(Reply {
+            status: 200,
+            length: chunk.len() as u64,
+            body,
+        }),
+        Err(_) => Err(Memory),
+    }
+}
+
+// The answer to a GET.
+fn get<F: Folder>(
+    alloc: Global,
+    folder: &mut F,
+    kind: DigestKind,
+    id: &ChunkId,
+    buffer: &mut Vec<u8>,
+) -> Result<Reply, Memory>
+    requires room { length buffer.old.items ≤ body_limit }
+    ensures room { length buffer.new.items ≤ body_limit }
+    ensures only { IfOk result (λ r. IsAnswer kind (Act.Get id.now) (answer_in r)) }
+    ensures ok { IfOk result (λ r. (body : List ℕ) → Steps kind (shelved F.files F.faults folder.old) (Act.Get id.now) body
+        (answer_in r) (shelved F.files F.faults folder.new)) }
+    ensures kept { F.files folder.new ≡ F.files folder.old }
+    ensures place { F.place folder.new ≡ F.place folder.old }
+    ensures faults { F.faults folder.old ≤ F.faults folder.new }
+{
+    match find(folder, kind, id, buffer) {
+        Ok(Some(n)) => {
+            let (chunk, _) = buffer.as_slice().split_at(n);
+            with_chunk(alloc, chunk)
+        }
+        Ok(None) => Ok(bare(alloc, 404)),
+        Err(IoFault::Failed) => Ok(bare(alloc, 500)),
+        Err(IoFault::Memory) => Err(Memory),
+    }
+}
+
+// The answer to a HEAD.
+fn head<F: Folder>(
+    alloc: Global,
+    folder: &mut F,
+    kind: DigestKind,
+    id: &ChunkId,
+    buffer: &mut Vec<u8>,
+) -> Result<Reply, Memory>
+    requires room { length buffer.old.items ≤ body_limit }
+    ensures room { length buffer.new.items ≤ body_limit }
+    ensures only { IfOk result (λ r. IsAnswer kind (Act.Head id.now) (answer_in r)) }
+    ensures ok { IfOk result (λ r. (body : List ℕ) → Steps kind (shelved F.files F.faults folder.old) (Act.Head id.now) body
+        (answer_in r) (shelved F.files F.faults folder.new)) }
+    ensures kept { F.files folder.new ≡ F.files folder.old }
+    ensures place { F.place folder.new ≡ F.place folder.old }
+    ensures faults { F.faults folder.old ≤ F.faults folder.new }
+{
+    match find(folder, kind, id, buffer) {
+        Ok(Some(n)) => Ok(Reply {
+            status: 200,
+            length: n as u64,
+            body: Vec::new(alloc),
+        }),
+        Ok(None) => Ok(bare(alloc, 404)),
+        Err(IoFault::Failed) => Ok(bare(alloc, 500)),
+        Err(IoFault::Memory) => Err(Memory),
+    }
+}
+
+// The answer to a PUT.
+fn put<F: Folder>(
+    alloc: Global,
+    folder: &mut F,
+    kind: DigestKind,
+    id: &ChunkId,
+    body: &[u8],
+) -> Result<Reply, Memory>
+    ensures only { IfOk result (λ r. IsAnswer kind (Act.Put id.now) (answer_in r)) }
+    ensures ok { IfOk result (λ r. Steps kind (shelved F.files F.faults folder.old) (Act.Put id.now) body.now
+        (answer_in r) (shelved F.files F.faults folder.new)) }
+    ensures err { OnErr result (AreAlike (F.files folder.old) (F.files folder.new)) }
+    ensures place { F.place folder.new ≡ F.place folder.old }
+    ensures faults { F.faults folder.old ≤ F.faults folder.new }
+{
+    put_leaves_a_temporary();
+    if !id.is_of(kind, body) {
+        return Ok(bare(alloc, 400));
+    }
+    let path = id.path();
+    match folder.put(path.as_str(), body) {
+        Ok(()) => Ok(bare(alloc, 200)),
+        Err(IoFault::Failed) => Ok(bare(alloc, 500)),
+        Err(IoFault::Memory) => Err(Memory),
+    }
+}
+
+/// A folder of chunks, which answers requests one by one. Contracts see it as the folder, the digest that names its
+/// chunks, and whether chunks may be put.
+#[derive(Drop)]
+pub struct ShelfState<F: Folder> {
+    alloc: Global,
+    folder: F,
+    kind: DigestKind,
+    writable: bool,
+    buffer: Vec<u8>,
+}
+
+impl<F: Folder> Model for ShelfState<F> {
+    ghost use Rattle.std.specs.Prelude.{◌≤◌, length};
+    ghost use Rattle.chunk_server.specs.States.{Standing};
+    ghost use Rattle.http_wire.specs.Request.{body_limit};
+
+    ghost Value = { Standing F };
+
+    ghost view = { λ s. record { folder = s.folder; kind = s.kind; writable = s.writable } };
+
+    ghost invariant = { λ s. length s.buffer.items ≤ body_limit };
+}
+
+impl<F: Folder> ShelfState<F> {
+    /// The chunks of this folder, which are named by SHA-512/256. Where nothing may be put, a PUT is refused before its
+    /// body is read.
+    pub fn new(alloc: Global, folder: F, writable: bool) -> Result<ShelfState<F>, (F, Memory)>
+        requires opening { IfSome F.opening (λ m. F.files folder ≡ Some m) }
+        ensures ok { IfOk result (λ s. s ≡ record { folder = folder; kind = kinds.Sha512T256; writable = writable }) }
+        ensures err { IfErr result (λ e. e.0 ≡ folder) }
+    {
+        let mut buffer = Vec::new(alloc);
+        match buffer.resize(FIRST, 0) {
+            Ok(()) => Ok(ShelfState {
+                alloc,
+                folder,
+                kind: DigestKind::Sha512T256,
+                writable,
+                buffer,
+            }),
+            Err(_) => Err((folder, Memory)),
+        }
+    }
+
+    pub fn into_inner(self) -> F
+        ensures { result ≡ self.folder }
+    {
+        self.folder
+    }
+
+    /// Answers a request. GET: 200 with the chunk where bytes of its name are held under the id, at most 64 MiB, else 404.
+    /// HEAD: the same without the chunk. PUT: 400 where the body has another name than the id, else 200 once it is held.
+    /// A target that is no chunk's path: 404. 500: a call on the folder has failed.
+    pub fn apply(&mut self, act: &Act, body: &[u8]) -> Result<Reply, Memory>
+        requires taken { is_refusal act.now ≡ false }
+        requires size { length body.now ≤ body_limit }
+        ensures only { IfOk result (λ r. IsAnswer self.old.kind act.now (answer_in r)) }
+        ensures ok { IfOk result (λ r. Steps self.old.kind (shelved F.files F.faults self.old.folder) act.now body.now
+            (answer_in r) (shelved F.files F.faults self.new.folder)) }
+        ensures err { OnErr result (AreAlike (F.files self.old.folder) (F.files self.new.folder)) }
+        ensures place { F.place self.new.folder ≡ F.place self.old.folder }
+        ensures faults { F.faults self.old.folder ≤ F.faults self.new.folder }
+        ensures kind { self.new.kind ≡ self.old.kind }
+        ensures kept { self.new.writable ≡ self.old.writable }
+    {
+        match act {
+            Act::Get(id) => get(
+                self.alloc,
+                &mut self.folder,
+                self.kind,
+                id,
+                &mut self.buffer,
+            ),
+            Act::Head(id) => head(
+                self.alloc,
+                &mut self.folder,
+                self.kind,
+                id,
+                &mut self.buffer,
+            ),
+            Act::Put(id) => put(self.alloc, &mut self.folder, self.kind, id, body),
+            Act::Lost => Ok(bare(self.alloc, 404)),
+            Act::Refuse(_) => unreachable!(),
+        }
+    }
+}
+
+impl<F: Folder> Shelf for ShelfState<F> {
+    ghost use Rattle.chunk_server.specs.Shelves.{shelved};
+
+    ghost state = { λ s. shelved F.files F.faults s.folder };
+
+    ghost place = { λ s. F.place s.folder };
+
+    ghost digest = { λ s. s.kind };
+
+    ghost takes = { λ s. s.writable };
+
+    ghost may = { λ _ _ _. Unit {0} };
+
+    fn answer(&mut self, act: &Act, body: &[u8]) -> Result<Reply, Memory> {
+        self.apply(act, body)
+    }
+
+    fn kind(&self) -> DigestKind {
+        self.kind
+    }
+
+    fn writable(&self) -> bool {
+        self.writable
+    }
+}
