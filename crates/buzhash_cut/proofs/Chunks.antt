@@ -1,18 +1,20 @@
 -- What the index of an image says of each chunk by its number.
-use Rattle.std.proofs.Common.{◌≡◌, ℕ, zero, suc, ◌-◌, ◌<◌, ◌≤◌, ◌==◌, if◌then◌else◌, List, [], ◌∷◌, length, slice_index_or, slice_range, refl, sym, ap, subst, ◌∙◌, arith, Option, Some, None, IfSome, Err}
+use Rattle.std.proofs.Common.{◌≡◌, ℕ, zero, suc, ◌-◌, ◌<◌, ◌≤◌, ◌==◌, if◌then◌else◌, List, [], ◌∷◌, length, slice_index_or, slice_range, refl, sym, ap, subst, ◌∙◌, arith, append-nil, Option, Some, None, IfSome, Err}
 use Rattle.std.proofs.lemmas.Bool.Decides.{nat_tests}
 use Rattle.buzhash_cut.proofs.Cutting.{length-named_from}
+use Rattle.buzhash_cut.proofs.Joins.{ends_in, cuts_of, names_of}
 use Rattle.buzhash_cut.specs.Cuts.{AreCuts}
 use Rattle.buzhash_cut.specs.Image.{named_from, listing_of, IsIndexOfImage, IndexGiven, HasTooManyCuts}
 use Rattle.buzhash_cut.specs.declared.image.CutFault.{CutFault}
 use Rattle.buzhash_cut.specs.declared.image.CutFault.TheVariants as faults
-use Rattle.buzhash_cut.specs.Entries.{ends_in, AllAreCut, AllAreNamed}
+use Rattle.buzhash_cut.specs.Entries.{IsChunk, IsStep, AreLinked, AreAll}
 use Rattle.caibx_codec.specs.Right.{IsRight}
 use Rattle.buzhash_cut.specs.Sizes.{Sizes}
 use Rattle.caibx_codec.specs.Listing.{Listing, count_of, start_of, end_of, id_of, slice_of, image_length}
 use Rattle.chunk_store.specs.Names.{name_of}
 use Rattle.chunk_store.specs.declared.id.DigestKind.{DigestKind}
 use Rattle.chunk_store.specs.declared.id.DigestKind.TheVariants as kinds
+use Rattle.dsy_base.specs.Bytes.{Held}
 
 abbrev end_at : List (ℕ × List ℕ) → ℕ → ℕ
 end_at es i = (slice_index_or es i (0, [])).0
@@ -86,30 +88,30 @@ image_right s image l is =
     record { size = sym named.whole; entries = named.named }
 
 -- the last of all entries ends with the image
-entries_end : (s : Sizes) (image : List ℕ) (start : ℕ) (es : List (ℕ × List ℕ)) → AreCuts s image start (ends_in es) → start_at start es (length es) ≡ length image
-entries_end s image start [] cuts = cuts
-entries_end s image start (e ∷ []) cuts = cuts.3
-entries_end s image start (e ∷ next ∷ es) cuts =
+entries_end : (greatest start end : ℕ) (es : List (ℕ × List ℕ)) → AreLinked (IsStep greatest) start es end → start_at start es (length es) ≡ end
+entries_end greatest start end [] steps = steps
+entries_end greatest start end (e ∷ []) steps = steps.1
+entries_end greatest start end (e ∷ next ∷ es) steps =
     let here : start_at start (e ∷ next ∷ es) (suc (suc (length es))) ≡ end_at (next ∷ es) (length es) = start_at-suc start (e ∷ next ∷ es) (suc (length es)) in
     let there : start_at e.0 (next ∷ es) (suc (length es)) ≡ end_at (next ∷ es) (length es) = start_at-suc e.0 (next ∷ es) (length es) in
-    here ∙ sym there ∙ entries_end s image e.0 (next ∷ es) cuts.3
+    here ∙ sym there ∙ entries_end greatest e.0 end (next ∷ es) steps.1
 
 abbrev made_of : ℕ → ℕ → ℕ → List (ℕ × List ℕ) → Listing
 made_of least average greatest es = record { flags = 0xa000000000000000; least = least; average = average; greatest = greatest; entries = es }
 
-module _ (s : Sizes) (image : List ℕ) (es : List (ℕ × List ℕ)) (least average greatest : ℕ) (l : Listing)
-    (is : l ≡ record { flags = 0xa000000000000000; least = least; average = average; greatest = greatest; entries = es }) (all : AllAreCut s image es) where
-  -- so the index has its length
-  pub listed_length : image_length l ≡ length image
-  listed_length = ap image_length is ∙ entries_end s image 0 es all.cuts
+module _ (s : Sizes) (h : Held) (es : List (ℕ × List ℕ)) (least average greatest : ℕ) (l : Listing)
+    (is : l ≡ record { flags = 0xa000000000000000; least = least; average = average; greatest = greatest; entries = es }) (all : AreAll s h es) where
+  -- so the index has the image's length
+  pub listed_length : image_length l ≡ h.size
+  listed_length = ap image_length is ∙ entries_end s.greatest 0 h.size es all.entries.steps
 
   -- what lists all chunks with their names is the index
-  pub listed_index : (t : List ℕ) → image ≡ t → AllAreNamed t es → least ≡ s.least → average ≡ s.average → greatest ≡ s.greatest → IsIndexOfImage s t l
-  listed_index t same named a b c = record {
+  pub listed_index : (t : List ℕ) → length t ≡ h.size → AreLinked (IsChunk s t) 0 es h.size → least ≡ s.least → average ≡ s.average → greatest ≡ s.greatest → IsIndexOfImage s t l
+  listed_index t long chunks a b c = record {
     ends = ends_in es;
-    cuts = subst (λ (x : List ℕ). AreCuts s x 0 (ends_in es)) same all.cuts;
+    cuts = subst (AreCuts s t 0) (append-nil (ends_in es)) (cuts_of s t 0 h.size es [] chunks (sym long));
     lists = is ∙ ap (λ (n : ℕ). made_of n average greatest es) a ∙ ap (λ (n : ℕ). made_of s.least n greatest es) b
-        ∙ ap (λ (n : ℕ). made_of s.least s.average n es) c ∙ ap (made_of s.least s.average s.greatest) named;
+        ∙ ap (λ (n : ℕ). made_of s.least s.average n es) c ∙ ap (made_of s.least s.average s.greatest) (names_of s t 0 h.size es chunks);
   }
 
 -- what a fault says

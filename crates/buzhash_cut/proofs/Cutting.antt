@@ -1,15 +1,16 @@
--- What the cuts of an image are like: they rise, no chunk is above the greatest size, and the index breaks no rule.
-use Rattle.std.proofs.Common.{◌≡◌, ℕ, ◌+◌, ◌-◌, ◌≤◌, List, [], ◌∷◌, length, take, drop, true, false, nat_lt, nat_le, Some, None, refl, sym, ap, ◌∙◌, arith, inl, inr, eq-eqb}
+-- No chunk is above the greatest size, and an image's index breaks no rule.
+use Rattle.std.proofs.Common.{◌≡◌, ℕ, ◌+◌, ◌-◌, ◌≤◌, List, [], ◌∷◌, length, take, true, false, nat_lt, nat_le, Some, None, refl, sym, ap, ◌∙◌, arith, inl, inr, eq-eqb}
 use Rattle.std.proofs.lemmas.Bool.{cases_lt}
 use Rattle.std.proofs.lemmas.Bool.Decides.{nat_tests}
 use Rattle.std.proofs.lemmas.List.{length-take-le}
-use Rattle.buzhash_cut.specs.Cuts.{closes, IsCut, AreCuts}
+use Rattle.buzhash_cut.specs.Cuts.{closes, IsCut}
 use Rattle.buzhash_cut.specs.Image.{named_from}
-use Rattle.buzhash_cut.specs.Entries.{ends_in, AllAreCut}
+use Rattle.buzhash_cut.specs.Entries.{IsStep, AreLinked, AreAll}
 use Rattle.buzhash_cut.specs.Sizes.{Sizes, AreSizes}
 use Rattle.caibx_codec.specs.Judge.{entry_fault, fault_of}
 use Rattle.caibx_codec.specs.declared.fault.IndexFault.{IndexFault}
 use Rattle.chunk_store.specs.declared.id.DigestKind.{DigestKind}
+use Rattle.dsy_base.specs.Bytes.{Held}
 
 -- a chunk of the greatest size ends there
 pub closes_full : (s : Sizes) (chunk : List ℕ) → length chunk ≡ s.greatest → closes s chunk ≡ true
@@ -27,37 +28,34 @@ cut_at_most s rest n sizes cut = elim (cases_lt s.greatest n) [
   | inr at_least ↦ at_least
 ]
 
-entries_fine : (s : Sizes) (image : List ℕ) (k start : ℕ) (es : List (ℕ × List ℕ)) → AreSizes s → AreCuts s image start (ends_in es)
-    → entry_fault s.greatest k start es ≡ None
-entries_fine s image k start [] sizes cuts = refl
-entries_fine s image k start (e ∷ es) sizes cuts =
-    let some : 1 ≤ cuts.0 = cuts.1.some in
-    let fits : cuts.0 ≤ s.greatest = cut_at_most s (drop start image) cuts.0 sizes cuts.1 in
-    let is : e.0 ≡ start + cuts.0 = cuts.2 in
+entries_fine : (greatest k start end : ℕ) (es : List (ℕ × List ℕ)) → AreLinked (IsStep greatest) start es end → entry_fault greatest k start es ≡ None
+entries_fine greatest k start end [] steps = refl
+entries_fine greatest k start end (e ∷ es) steps =
+    let here : IsStep greatest start e = steps.0 in
     let above : nat_le e.0 start ≡ false = grind (arith, nat_tests) in
-    let small : nat_lt s.greatest (e.0 - start) ≡ false = grind (arith, nat_tests) in
-    rw (above, small) (entries_fine s image (k + 1) e.0 es sizes cuts.3)
+    let small : nat_lt greatest (e.0 - start) ≡ false = grind (arith, nat_tests) in
+    rw (above, small) (entries_fine greatest (k + 1) e.0 end es steps.1)
 
 -- each end is listed once
 pub length-named_from : (kind : DigestKind) (image : List ℕ) (start : ℕ) (ends : List ℕ) → length (named_from kind image start ends) ≡ length ends
 length-named_from kind image start [] = refl
 length-named_from kind image start (end ∷ ends) = let e = length-named_from kind image end ends in omega (arith, e)
 
--- the index of an image breaks no rule
-index_fine : (s : Sizes) (image : List ℕ) (es : List (ℕ × List ℕ)) → AreSizes s → AllAreCut s image es
+-- entries of all chunks break no rule of an index
+index_fine : (s : Sizes) (h : Held) (es : List (ℕ × List ℕ)) → AreSizes s → AreAll s h es
     → fault_of (record { flags = 0xa000000000000000; least = s.least; average = s.average; greatest = s.greatest; entries = es }) ≡ None
-index_fine s image es sizes all =
-    let none = entries_fine s image 0 0 es sizes all.cuts in
+index_fine s h es sizes all =
+    let none = entries_fine s.greatest 0 0 h.size es all.entries.steps in
     let small : nat_lt 67108864 s.greatest ≡ false = grind (arith, nat_tests, sizes.greatest) in
     let fits : nat_lt 4194304 (length es) ≡ false = grind (arith, nat_tests, all.few) in
     rw (small, fits) none
 
 -- so it isn't refused
-pub index_taken : (s : Sizes) (image : List ℕ) (es : List (ℕ × List ℕ)) (least average greatest : ℕ) (f : IndexFault) → AreSizes s → AllAreCut s image es
+pub index_taken : (s : Sizes) (h : Held) (es : List (ℕ × List ℕ)) (least average greatest : ℕ) (f : IndexFault) → AreSizes s → AreAll s h es
     → least ≡ s.least → average ≡ s.average → greatest ≡ s.greatest
     → fault_of (record { flags = 0xa000000000000000; least = least; average = average; greatest = greatest; entries = es }) ≡ Some f → ⊥
-index_taken s image es least average greatest f sizes all a b c fault =
-    let fine = index_fine s image es sizes all in
+index_taken s h es least average greatest f sizes all a b c fault =
+    let fine = index_fine s h es sizes all in
     let listed = λ (l m g : ℕ). fault_of (record { flags = 0xa000000000000000; least = l; average = m; greatest = g; entries = es }) in
     let same : listed least average greatest ≡ listed s.least s.average s.greatest =
     ap (λ x. listed x average greatest) a ∙ (ap (λ x. listed s.least x greatest) b ∙ ap (listed s.least s.average) c) in

@@ -11,5 +11,8 @@ pub mod Places
 pub mod Seams
 pub mod Closed
 pub mod Feeds
-pub mod SoFar
+pub mod Cuttable
+pub mod Joins
+pub mod Crews
 pub mod Pieces
+pub mod Views

@@ -1,33 +1,26 @@
 -- The bytes of an image, piece by piece.
-use Rattle.std.proofs.Common.{◌≡◌, ℕ, ◌+◌, ◌-◌, ◌≤◌, List, ◌++◌, length, take, drop, slice_range, Option, Some, None, IfSome, Result, Ok, Err, OnOk, sym, ap, ◌∙◌, arith}
+use Rattle.std.proofs.Common.{◌≡◌, ℕ, ◌+◌, ◌-◌, ◌≤◌, List, [], ◌++◌, length, take, drop, slice_range, sym, ap, subst, ◌∙◌, arith, length-drop}
 use Rattle.std.proofs.Math.Seq.{take-add}
-use Rattle.std.proofs.lemmas.List.{take-append-drop, drop-take, take_all}
+use Rattle.std.proofs.lemmas.List.{take-append-drop, take-append-le, drop-take, take_all}
 use Rattle.std.proofs.lemmas.Grind.{common_steps}
 use Rattle.buzhash_cut.proofs.Seams.{take-take-le}
-use Rattle.buzhash_cut.specs.declared.image.CutFault.{CutFault}
-
-pub if_both : (o : Option (List ℕ)) (P Q R : List ℕ → Type 0) → IfSome o P → IfSome o Q → ((t : List ℕ) → P t → Q t → R t) → IfSome o R
-if_both None P Q R h k f = tt
-if_both (Some t) P Q R h k f = f t h k
-
-pub if_one : (o : Option (List ℕ)) (P R : List ℕ → Type 0) → IfSome o P → ((t : List ℕ) → P t → R t) → IfSome o R
-if_one None P R h f = tt
-if_one (Some t) P R h f = f t h
-
-pub on_ok : (r : Result (Unit {0}) CutFault) (P Q : Type 0) → OnOk r P → (P → Q) → OnOk r Q
-on_ok (Ok x) P Q h f = f h
-on_ok (Err e) P Q h f = tt
+use Rattle.buzhash_cut.specs.Cuts.{IsCut}
+use Rattle.buzhash_cut.specs.Feeding.{Kept, WasFed}
+use Rattle.buzhash_cut.specs.Sizes.{Sizes}
 
 pub drop-add : (a n : ℕ) (xs : List ℕ) → drop (a + n) xs ≡ drop n (drop a xs)
 drop-add a n xs = grind (arith, common_steps)
 
 -- n bytes more of the image
-pub taken_on : (t image p : List ℕ) (at k n : ℕ) → image ≡ take at t → p ≡ slice_range t at (at + k) → n ≤ k → image ++ take n p ≡ take (at + n) t
-taken_on t image p at k n is piece few =
+pub range_on : (t p : List ℕ) (start at k n : ℕ) → start ≤ at → p ≡ slice_range t at (at + k) → n ≤ k → slice_range t start at ++ take n p ≡ slice_range t start (at + n)
+range_on t p start at k n le piece few =
     let size : at + k - at ≡ k = omega arith in
-    let here : take n p ≡ take n (drop at t) =
-    ap (take n) (piece ∙ ap (λ (i : ℕ). take i (drop at t)) size) ∙ take-take-le n k (drop at t) few in
-    ap (λ (x : List ℕ). x ++ take n p) is ∙ ap (λ (x : List ℕ). take at t ++ x) here ∙ sym (take-add at n t)
+    let far : start + (at - start) ≡ at = omega arith in
+    let long : at - start + n ≡ at + n - start = omega arith in
+    let here : take n p ≡ take n (drop (at - start) (drop start t)) =
+    ap (take n) (piece ∙ ap (λ (i : ℕ). take i (drop at t)) size) ∙ take-take-le n k (drop at t) few
+    ∙ ap (λ (i : ℕ). take n (drop i t)) (sym far) ∙ ap (take n) (drop-add start (at - start) t) in
+    ap (λ (x : List ℕ). slice_range t start at ++ x) here ∙ sym (take-add (at - start) n (drop start t)) ∙ ap (λ (i : ℕ). take i (drop start t)) long
 
 -- what is left of a range
 slice_later : (p : List ℕ) (a b n : ℕ) → a + n ≤ b → slice_range p (a + n) b ≡ drop n (slice_range p a b)
@@ -42,13 +35,51 @@ left_on t p at from upto n le same =
     slice_later p from upto n le ∙ ap (drop n) same ∙ sym (slice_later t at (at + (upto - from)) n (omega arith))
     ∙ ap (slice_range t (at + n)) (sym end)
 
--- what was taken, the piece and the rest are the image
-pub whole_in : (t image p : List ℕ) (at k : ℕ) → image ≡ take at t → p ≡ slice_range t at (at + k) → image ++ (p ++ drop k (drop at t)) ≡ t
-whole_in t image p at k is piece =
-    let size : at + k - at ≡ k = omega arith in
-    ap (λ (x : List ℕ). x ++ (p ++ drop k (drop at t))) is
-    ∙ ap (λ (x : List ℕ). take at t ++ (x ++ drop k (drop at t))) (piece ∙ ap (λ (i : ℕ). take i (drop at t)) size)
-    ∙ ap (λ (x : List ℕ). take at t ++ x) (take-append-drop k (drop at t)) ∙ take-append-drop at t
+-- a range and what follows it
+range_rest : (t : List ℕ) (a b : ℕ) → a ≤ b → slice_range t a b ++ drop b t ≡ drop a t
+range_rest t a b le =
+    let far : a + (b - a) ≡ b = omega arith in
+    ap (λ (x : List ℕ). slice_range t a b ++ x) (ap (λ (i : ℕ). drop i t) (sym far) ∙ drop-add a (b - a) t) ∙ take-append-drop (b - a) (drop a t)
 
-pub whole_is : (t image : List ℕ) (at : ℕ) → image ≡ take at t → length t ≤ at → image ≡ t
-whole_is t image at is all = is ∙ take_all at t all
+-- a range that ends with the image
+pub range_last : (t : List ℕ) (a b : ℕ) → a ≤ b → length t ≤ b → slice_range t a b ≡ drop a t
+range_last t a b le all = take_all (b - a) (drop a t) (omega (arith, length-drop a t))
+
+-- a front of what was read into the piece, which has m bytes
+pub front_of : (a b : List ℕ) (n m : ℕ) → n ≤ m → n ≤ length a → slice_range (take m (a ++ b)) 0 n ≡ slice_range a 0 n
+front_of a b n m le inside = take-take-le (n - 0) m (a ++ b) (omega arith) ∙ take-append-le (n - 0) a b (omega arith)
+
+-- an empty range
+pub range_none : (t : List ℕ) (a b : ℕ) → b ≡ a → slice_range t a b ≡ []
+range_none t a b is = let none : b - a ≡ 0 = omega arith in ap (λ (i : ℕ). take i (drop a t)) none
+
+-- the cutter was given the bytes from `start` to `at`, and then n bytes of the piece p
+module _ (t p q : List ℕ) (start at from upto n : ℕ) (same : q ≡ p) (le : start ≤ at) (inside : from + n ≤ upto) (piece : slice_range p from upto ≡ slice_range t at (at + (upto - from))) where
+  piece_is : slice_range q from upto ≡ slice_range t at (at + (upto - from))
+  piece_is = ap (λ (x : List ℕ). slice_range x from upto) same ∙ piece
+
+  -- what it was given in all, and what is left
+  pub read_on : (c d : Kept) → WasFed c (slice_range t start at) → ((image : List ℕ) → WasFed c image → WasFed d (image ++ take n (slice_range q from upto)))
+      → WasFed d (slice_range t start (at + n)) × (slice_range p (from + n) upto ≡ slice_range t (at + n) (at + n + (upto - (from + n))))
+  read_on c d fed on =
+      (subst (WasFed d) (range_on t (slice_range q from upto) start at (upto - from) n le piece_is (omega arith)) (on (slice_range t start at) fed), left_on t p at from upto n inside piece)
+
+  -- the cut that is found there is the image's
+  pub cut_in : (s : Sizes) (begun e : ℕ) → ((more : List ℕ) → IsCut s (drop begun ((slice_range t start at ++ take n (slice_range q from upto)) ++ more)) (e - begun))
+      → IsCut s (drop (start + begun) t) (start + e - (start + begun))
+  cut_in s begun e cut =
+      let size : e - begun ≡ start + e - (start + begun) = omega arith in
+      let next : List ℕ = take n (slice_range q from upto) in
+      let whole : (slice_range t start at ++ next) ++ drop (at + n) t ≡ drop start t =
+      ap (λ (x : List ℕ). x ++ drop (at + n) t) (range_on t (slice_range q from upto) start at (upto - from) n le piece_is (omega arith)) ∙ range_rest t start (at + n) (omega arith) in
+      let rest : drop begun ((slice_range t start at ++ next) ++ drop (at + n) t) ≡ drop (start + begun) t =
+      ap (drop begun) whole ∙ sym (drop-add start begun t) in
+      subst (IsCut s (drop (start + begun) t)) size (subst (λ (x : List ℕ). IsCut s x (e - begun)) rest (cut (drop (at + n) t)))
+
+-- the last cut, of all bytes from `start` on
+pub cut_last : (s : Sizes) (t : List ℕ) (start at begun e : ℕ) → start ≤ at → length t ≤ at → IsCut s (drop begun (slice_range t start at)) (e - begun)
+    → IsCut s (drop (start + begun) t) (start + e - (start + begun))
+cut_last s t start at begun e le all cut =
+    let size : e - begun ≡ start + e - (start + begun) = omega arith in
+    let rest : drop begun (slice_range t start at) ≡ drop (start + begun) t = ap (drop begun) (range_last t start at le all) ∙ sym (drop-add start begun t) in
+    subst (IsCut s (drop (start + begun) t)) size (subst (λ (x : List ℕ). IsCut s x (e - begun)) rest cut)

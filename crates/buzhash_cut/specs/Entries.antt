@@ -1,33 +1,44 @@
--- The index of an image as far as the image was cut.
-use Rattle.std.specs.Prelude.{◌≡◌, ℕ, ◌≤◌, List, ◌++◌, length, map}
-use Rattle.buzhash_cut.specs.Cuts.{AreCuts}
-use Rattle.buzhash_cut.specs.Feeding.{Kept, WasFed}
-use Rattle.buzhash_cut.specs.Image.{named_from}
+-- The chunks of an image as entries: where each ends, and its name.
+use Rattle.std.specs.Prelude.{◌≡◌, ℕ, ◌+◌, ◌-◌, ◌<◌, ◌≤◌, List, [], ◌∷◌, length, drop, slice_range, Option}
+use Rattle.std.specs.Prelude.{IfSome}
+use Rattle.buzhash_cut.specs.Cuts.{IsCut}
+use Rattle.buzhash_cut.specs.Image.{HasTooManyCuts}
 use Rattle.buzhash_cut.specs.Sizes.{Sizes}
+use Rattle.chunk_store.specs.Names.{name_of}
 use Rattle.chunk_store.specs.declared.id.DigestKind.TheVariants as kinds
+use Rattle.dsy_base.specs.Bytes.{Held}
 
--- where the entries end
-abbrev pub ends_in : List (ℕ × List ℕ) → List ℕ
-ends_in entries = map (λ e. e.0) entries
+-- the entry is that of the image's chunk that begins at `start`
+pub record IsChunk (s : Sizes) (image : List ℕ) (start : ℕ) (e : ℕ × List ℕ) : Type 0 where
+  pub after : start < e.0
+  pub cut : IsCut s (drop start image) (e.0 - start)
+  pub named : e.1 ≡ name_of kinds.Sha512T256 (slice_range image start e.0)
 
--- the cutter was given these bytes, and the entries end where it ended chunks: those ends, and then the cuts of the
--- rest and of whatever follows, are the cuts of all
-pub record SoFar (c : Kept) (image : List ℕ) (entries : List (ℕ × List ℕ)) : Type 0 where
-  pub fed : WasFed c image
-  pub few : length entries ≤ 4194304
-  pub cuts : (more rest : List ℕ) → AreCuts c.sizes (image ++ more) c.begun rest
-      → AreCuts c.sizes (image ++ more) 0 (ends_in entries ++ rest)
+-- an entry's end is after `start`, by no more than the greatest size of a chunk
+abbrev pub IsStep : ℕ → ℕ → ℕ × List ℕ → Type 0
+IsStep greatest start e = (start < e.0) × (e.0 ≤ start + greatest)
 
--- the entries name the chunks of the image before `begun`
-pub record AreNamed (image : List ℕ) (begun : ℕ) (entries : List (ℕ × List ℕ)) : Type 0 where
-  pub named : (rest : List ℕ) → named_from kinds.Sha512T256 image 0 (ends_in entries ++ rest)
-      ≡ entries ++ named_from kinds.Sha512T256 image begun rest
+-- each entry is such from where the one before it ends, the first from `start`, and the last ends at `end`
+abbrev pub AreLinked : (ℕ → ℕ × List ℕ → Type 0) → ℕ → List (ℕ × List ℕ) → ℕ → Type 0
+AreLinked P start [] end = start ≡ end
+AreLinked P start (e ∷ es) end = P start e × AreLinked P e.0 es end
 
--- the entries end where the whole image is cut, and an index may list them
-pub record AllAreCut (s : Sizes) (image : List ℕ) (entries : List (ℕ × List ℕ)) : Type 0 where
-  pub few : length entries ≤ 4194304
-  pub cuts : AreCuts s image 0 (ends_in entries)
+-- what cutting from `start` to `end` gives: the entries of the chunks of the bytes, where these are told
+pub record AreEntries (s : Sizes) (bytes : Option (List ℕ)) (start : ℕ) (es : List (ℕ × List ℕ)) (end : ℕ) : Type 0 where
+  pub steps : AreLinked (IsStep s.greatest) start es end
+  pub chunks : IfSome bytes (λ t. AreLinked (IsChunk s t) start es end)
 
--- the entries name all chunks
-abbrev pub AllAreNamed : List ℕ → List (ℕ × List ℕ) → Type 0
-AllAreNamed image entries = entries ≡ named_from kinds.Sha512T256 image 0 (ends_in entries)
+-- what a worker leaves that cut from `start` on, however far it came
+pub record IsRun (s : Sizes) (h : Held) (start : ℕ) (es : List (ℕ × List ℕ)) : Type 0 where
+  pub end : ℕ
+  pub inside : end ≤ h.size
+  pub entries : AreEntries s h.bytes start es end
+
+-- the entries of all chunks of the image
+pub record AreAll (s : Sizes) (h : Held) (es : List (ℕ × List ℕ)) : Type 0 where
+  pub few : length es ≤ 4194304
+  pub entries : AreEntries s h.bytes 0 es h.size
+
+-- the bytes are told, and are cut into more chunks than an index may list; or they aren't told
+abbrev pub AreTooMany : Sizes → Held → Type 0
+AreTooMany s h = IfSome h.bytes (HasTooManyCuts s)

@@ -1,11 +1,12 @@
 -- The index of an image: its chunks by their ends, each with its name.
-use Rattle.std.specs.Prelude.{◌≡◌, ℕ, ◌<◌, ◌≤◌, List, [], ◌∷◌, length, slice_index, slice_range, Result, Ok, Err, OnOk}
+use Rattle.std.specs.Prelude.{◌≡◌, ℕ, ◌<◌, ◌≤◌, List, [], ◌∷◌, length, slice_index, slice_range, All, Result, Ok, Err}
 use Rattle.buzhash_cut.specs.Cuts.{AreCuts}
 use Rattle.buzhash_cut.specs.Sizes.{Sizes}
 use Rattle.buzhash_cut.specs.declared.image.CutFault.{CutFault}
 use Rattle.buzhash_cut.specs.declared.image.CutFault.TheVariants as faults
 use Rattle.caibx_codec.specs.Listing.{Listing}
-use Rattle.dsy_base.specs.Counts.{Rose}
+use Rattle.dsy_base.specs.Bytes.{Held}
+use Rattle.dsy_base.specs.Counts.{CountsFaults}
 use Rattle.chunk_store.specs.Names.{name_of}
 use Rattle.chunk_store.specs.declared.id.DigestKind.{DigestKind}
 use Rattle.chunk_store.specs.declared.id.DigestKind.TheVariants as kinds
@@ -45,14 +46,12 @@ IndexGiven s image (Err faults.TooManyItems) = HasTooManyCuts s image
 IndexGiven s image (Err faults.ImageFault) = Unit {0}
 IndexGiven s image (Err faults.Memory) = Unit {0}
 
--- some of several counts of faults rose
-abbrev pub SomeRose : List ℕ → List ℕ → Type 0
-SomeRose old new = (i : ℕ) × (i < length old) × Rose (slice_index old i) (slice_index new i)
+-- what views hold is one image: they are of one size and, where they tell, of the same bytes
+abbrev pub AreOfOneImage : List Held → Type 0
+AreOfOneImage hs = All (λ h. All (λ k. (k.size ≡ h.size) × (k.bytes ≡ h.bytes)) hs) hs
 
--- how the counts of the views go over cutting: none falls, some rises where the image couldn't be read, and all stay
--- where there is an index or no memory
+-- how the counts of the views go over cutting: none falls, and the first view's is that of the answer: it rises where
+-- the image couldn't be read, and stays where there is an index or no memory
 pub record CountsViews {A : Type 0} (old new : List ℕ) (result : Result A CutFault) : Type 0 where
   pub never_falls : (i : ℕ) → slice_index old i ≤ slice_index new i
-  pub cause : result ≡ Err faults.ImageFault → SomeRose old new
-  pub done : OnOk result (new ≡ old)
-  pub unfailed : result ≡ Err faults.Memory → new ≡ old
+  pub first : CountsFaults faults.ImageFault faults.Memory (slice_index old 0) (slice_index new 0) result

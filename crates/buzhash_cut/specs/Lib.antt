@@ -6,3 +6,5 @@ pub mod Right
 pub mod Image
 pub mod Feeding
 pub mod Entries
+pub mod Slicing
+pub mod Runs

@@ -61,6 +61,16 @@ impl Cutter {
         })
     }
 
+    /// Forgets what it was given.
+    pub(crate) fn restart(&mut self)
+        ensures sizes { self.new.sizes ≡ self.old.sizes }
+        ensures none { (self.new.begun ≡ 0) × (self.new.at ≡ 0) × WasFed self.new [] }
+    {
+        self.at = 0;
+        self.begun = 0;
+        self.last.clear()
+    }
+
     /// The last end of a chunk, or 0 where there is none.
     pub fn begun(&self) -> u64
         ensures value { result ≡ self.now.begun }

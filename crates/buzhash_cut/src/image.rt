@@ -1,12 +1,13 @@
 //! The index of an image. Offsets and sizes are in bytes.
 
-ghost use Rattle.std.specs.Prelude.{◌≡◌, ◌≢◌, ◌≤◌, ◌<◌, length, map, vec_len, All, IfOk, IfSome, OnOk, OnErr};
-ghost use Rattle.buzhash_cut.specs.Image.{IndexGiven, CountsViews};
+ghost use Rattle.std.specs.Prelude.{◌≡◌, ◌-◌, ◌≤◌, ◌<◌, map, reverse, slice_index_or, vec_len, All, IfOk, IfSome};
+ghost use Rattle.buzhash_cut.specs.Image.{AreOfOneImage, IndexGiven, CountsViews};
+ghost use Rattle.buzhash_cut.specs.Runs.{IsReady};
 ghost use Rattle.caibx_codec.specs.Listing.{count_of, image_length};
-ghost use Rattle.dsy_base.specs.Counts.{CountsFaults};
 
-use crate::entries::entries_of_view;
+use crate::run::Worker;
 use crate::sizes::CutSizes;
+use crate::workers::{dismiss, entries_by, hire};
 use caibx_codec::index::Index;
 use dsy_base::view::View;
 use std::alloc::{AllocError, Global};
@@ -34,15 +35,26 @@ impl From<AllocError> for CutFault {
     }
 }
 
-// The index of the bytes of one view.
-fn index_of_view<V: View>(alloc: Global, view: &mut V, sizes: &CutSizes) -> Result<Index, CutFault>
-    ensures exactly { IfSome (V.held view.old).bytes (λ t. IndexGiven sizes.now t result) }
-    ensures size { IfOk result (λ l. image_length l ≡ (V.held view.old).size) }
-    ensures kept { V.held view.new ≡ V.held view.old }
+// The index of the image that the workers cut.
+fn index_by<V: View>(
+    alloc: Global,
+    workers: &mut Vec<Worker<V>>,
+    sizes: &CutSizes,
+) -> Result<Index, CutFault>
+    requires some { 0 < vec_len workers.old }
+    requires alike { AreOfOneImage (map (λ w. V.held w.view) workers.old.items) }
+    requires ready { All (λ w. IsReady (V.held w.view).size w.run) workers.old.items }
+    requires first { (d : Worker V) → (slice_index_or workers.old.items (vec_len workers.old - 1) d).run.start ≡ 0 }
+    ensures exactly { All (λ h. IfSome h.bytes (λ t. IndexGiven sizes.now t result))
+        (map (λ w. V.held w.view) workers.old.items) }
+    ensures size { IfOk result (λ l. All (λ h. image_length l ≡ h.size) (map (λ w. V.held w.view) workers.old.items)) }
     ensures few { IfOk result (λ l. count_of l ≤ 4194304) }
-    ensures faults { CountsFaults CutFault.ImageFault CutFault.Memory (V.faults view.old) (V.faults view.new) result }
+    ensures kept { map (λ w. V.held w.view) workers.new.items ≡ map (λ w. V.held w.view) workers.old.items }
+    ensures len { vec_len workers.new ≡ vec_len workers.old }
+    ensures faults { CountsViews (reverse (map (λ w. V.faults w.view) workers.old.items))
+        (reverse (map (λ w. V.faults w.view) workers.new.items)) result }
 {
-    let entries = match entries_of_view(alloc, view, sizes) {
+    let entries = match entries_by(alloc, workers, sizes) {
         Ok(entries) => entries,
         Err(fault) => return Err(fault),
     };
@@ -54,13 +66,15 @@ fn index_of_view<V: View>(alloc: Global, view: &mut V, sizes: &CutSizes) -> Resu
     Ok(index)
 }
 
-/// The index of an image, cut by these sizes. The views come back in their order, whatever the answer is.
+/// The index of an image, cut by these sizes with as many workers as there are views. The views come back in their
+/// order, whatever the answer is.
 pub fn index_view<V: View>(
     alloc: Global,
     views: Vec<V>,
     sizes: &CutSizes,
 ) -> (Vec<V>, Result<Index, CutFault>)
-    requires one { vec_len views ≡ 1 }
+    requires some { 0 < vec_len views }
+    requires alike { AreOfOneImage (map V.held views.items) }
     ensures exactly { All (λ v. IfSome (V.held v).bytes (λ t. IndexGiven sizes.now t result.1))
         views.items }
     ensures size { IfOk result.1 (λ l. All (λ v. image_length l ≡ (V.held v).size) views.items) }
@@ -69,7 +83,11 @@ pub fn index_view<V: View>(
     ensures faults { CountsViews (map V.faults views.items) (map V.faults result.0.items) result.1 }
 {
     let mut views = views;
-    let view = &mut views[0];
-    let answer = index_of_view(alloc, view, sizes);
-    (views, answer)
+    let Ok(mut workers) = Vec::with_capacity(alloc, views.len()) else {
+        return (views, Err(CutFault::Memory));
+    };
+    hire(alloc, &mut views, &mut workers);
+    let made = index_by(alloc, &mut workers, sizes);
+    dismiss(&mut workers, &mut views);
+    (views, made)
 }

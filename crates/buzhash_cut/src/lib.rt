@@ -7,9 +7,13 @@ mod entries;
 pub mod image;
 pub mod laws;
 mod rolling;
+mod run;
 mod seam;
 pub mod sizes;
+mod slicer;
 mod table;
 #[cfg(test)]
 mod tests;
+mod walk;
 pub mod window;
+mod workers;

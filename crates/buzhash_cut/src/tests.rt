@@ -1,10 +1,13 @@
 //! Cutting by vectors, and by what another program answers. Offsets and sizes are in bytes.
 
+ghost use Rattle.std.specs.Prelude.{◌≡◌, vec_len, All, IfOk};
+
 use crate::cutter::Cutter;
 use crate::image::index_view;
 use crate::sizes::{CutSizes, SizeFault};
 use crate::table::TABLE;
 use crate::window::window_hash;
+use caibx_codec::index::Index;
 use chunk_store::id::{ChunkId, DigestKind};
 use dsy_base::fault::Failed;
 use dsy_base::view::View;
@@ -219,26 +222,85 @@ fn mixed(alloc: Global, length: usize) -> Result<Image, Fail> {
     Ok(Image { bytes })
 }
 
-#[test]
-fn an_index_names_each_chunk(rt: HostRuntime) -> Result<(), Fail> {
-    let alloc = rt.alloc();
+// So many views of the same bytes.
+fn views_of(alloc: Global, bytes: &[u8], count: usize) -> Result<Vec<Image>, Fail>
+    ensures len { IfOk result (λ v. vec_len v ≡ count) }
+    ensures bytes { IfOk result (λ v. All (λ i. i.bytes.items ≡ bytes.now) v.items) }
+{
     let mut views = Vec::new(alloc);
-    views.push(mixed(alloc, 3000)?)?;
-    assert_eq!(rt; views.len(), 1);
-    let (views, answer) = index_view(alloc, views, &sizes_of(&rt, 64, 128, 512));
-    let index = answer?;
-    assert_eq!(rt; views.len(), 1);
-    assert_eq!(rt; index.flags(), 0xa000_0000_0000_0000);
-    assert_eq!(rt; (index.min(), index.avg(), index.max()), (64, 128, 512));
-    assert_eq!(rt; index.count(), ENDS.len());
+    while views.len() < count {
+        let bytes = Vec::from_slice(alloc, bytes)?;
+        views.push(Image { bytes })?;
+    }
+    Ok(views)
+}
+
+// The index lists these ends, each with the name of its chunk.
+fn lists(rt: &impl Abort, index: &Index, image: &[u8], ends: &[u64]) {
+    assert_eq!(rt; index.count(), ends.len());
     let mut start = 0;
-    for i in 0..ENDS.len() {
-        assert_eq!(rt; index.end(i), ENDS[i]);
-        let end = ENDS[i] as usize;
-        assert!(rt; start <= end && end <= views[0].bytes.len());
-        let slice = &views[0].bytes[start..end];
-        assert!(rt; index.id(i).is_of(DigestKind::Sha512T256, slice), "{i}");
+    for i in 0..ends.len() {
+        assert_eq!(rt; index.end(i), ends[i]);
+        let end = ends[i] as usize;
+        assert!(rt; start <= end && end <= image.len());
+        assert!(rt;
+            index
+                .id(i)
+                .is_of(DigestKind::Sha512T256, &image[start..end]),
+            "{i}"
+        );
         start = end;
     }
+}
+
+// The index of the image is the same by any number of views.
+fn indexed_alike(
+    rt: &impl Abort,
+    alloc: Global,
+    sizes: &CutSizes,
+    image: &[u8],
+    ends: &[u64],
+) -> Result<(), Fail> {
+    for count in [1, 2, 3, 32] {
+        let views = views_of(alloc, image, count)?;
+        let (views, answer) = index_view(alloc, views, sizes);
+        let index = answer?;
+        assert_eq!(rt; views.len(), count);
+        assert_eq!(rt; index.flags(), 0xa000_0000_0000_0000);
+        assert_eq!(rt; index.min(), sizes.min());
+        assert_eq!(rt; index.avg(), sizes.avg());
+        assert_eq!(rt; index.max(), sizes.max());
+        lists(rt, &index, image, ends);
+    }
     Ok(())
+}
+
+// Ones and zeros are the specification's examples.
+#[test]
+fn an_index_is_the_same_by_any_number_of_views(rt: HostRuntime) -> Result<(), Fail> {
+    let alloc = rt.alloc();
+    let small = sizes_of(&rt, 48, 63, 100);
+    let ones = vec![in alloc; 0xffu8; 100]?;
+    indexed_alike(&rt, alloc, &small, &ones, [48, 96, 100].as_slice())?;
+    indexed_alike(&rt, alloc, &small, &ones.as_slice()[..7], [7].as_slice())?;
+    indexed_alike(&rt, alloc, &small, &[], &[])?;
+    let zeros = vec![in alloc; 0u8; 200]?;
+    indexed_alike(&rt, alloc, &small, &zeros, [100, 200].as_slice())?;
+    let usual = sizes_of(&rt, 16_384, 65_536, 262_144);
+    let zeros = vec![in alloc; 0u8; 600_000]?;
+    indexed_alike(
+        &rt,
+        alloc,
+        &usual,
+        &zeros,
+        [262_144, 524_288, 600_000].as_slice(),
+    )?;
+    let image = mixed(alloc, 3000)?;
+    indexed_alike(
+        &rt,
+        alloc,
+        &sizes_of(&rt, 64, 128, 512),
+        &image.bytes,
+        &ENDS,
+    )
 }

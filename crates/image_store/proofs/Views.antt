@@ -1,9 +1,9 @@
 -- One view among the views that cutting hands back.
-use Rattle.std.proofs.Common.{◌≡◌, ℕ, List, [], ◌∷◌, ◌++◌, length, map, ap, arith, ◌∙◌, refl, subst, length-append, zero, suc, Result, Ok, Err, OnOk}
-use Rattle.buzhash_cut.specs.Image.{CountsViews, SomeRose}
+use Rattle.std.proofs.Common.{◌≡◌, ℕ, List, [], ◌∷◌, ◌++◌, length, map, ap, arith, ◌∙◌, refl, subst, length-append, Result}
+use Rattle.buzhash_cut.specs.Image.{CountsViews}
 use Rattle.buzhash_cut.specs.declared.image.CutFault.{CutFault}
 use Rattle.buzhash_cut.specs.declared.image.CutFault.TheVariants as faults
-use Rattle.dsy_base.specs.Counts.{CountsFaults, Rose}
+use Rattle.dsy_base.specs.Counts.{CountsFaults}
 
 one_long : {X Y : Type 0} (H : X → Y) (old new : List X) (v : X) → old ≡ v ∷ [] → map H new ≡ map H old → length new ≡ 1
 one_long {X} H old new v one same = go new (same ∙ ap (map H) one) where
@@ -20,29 +20,9 @@ one_view : {X Y : Type 0} (f : X → ℕ) (H : X → Y) (old new rest : List X) 
     → new ≡ w ∷ []
 one_view f H old new rest v w one same is = one_left rest new w is (one_long H old new v one same)
 
--- the counts of one view
-one_counts : {A : Type 0} (old new : ℕ) (result : Result A CutFault) → CountsViews (old ∷ []) (new ∷ []) result → CountsFaults faults.ImageFault faults.Memory old new result
-one_counts {A = A} old new result counts = record {
-  never_falls = counts.never_falls 0;
-  cause = λ is. rose (counts.cause is);
-  done = same result counts.done;
-  unfailed = λ is. first (counts.unfailed is);
-} where
-  first : new ∷ [] ≡ old ∷ [] → new ≡ old
-  first e = cc
-
-  rose : SomeRose (old ∷ []) (new ∷ []) → Rose old new
-  rose (zero, inside, up) = up
-  rose (suc i, inside, up) = absurd (omega arith)
-
-  same : (r : Result A CutFault) → OnOk r (new ∷ [] ≡ old ∷ []) → OnOk r (new ≡ old)
-  same (Ok x) e = first e
-  same (Err f) e = tt
-
 -- the counts of the view among them
 pub view_counts : {X Y A : Type 0} (f : X → ℕ) (H : X → Y) (old new rest : List X) (v w : X) (result : Result A CutFault) → old ≡ v ∷ [] → map H new ≡ map H old → new ≡ rest ++ w ∷ []
     → CountsViews (map f old) (map f new) result → CountsFaults faults.ImageFault faults.Memory (f v) (f w) result
 view_counts {X} f H old new rest v w result one same is counts =
     let last = one_view f H old new rest v w one same is in
-    one_counts (f v) (f w) result
-    (subst (λ (l : List X). CountsViews (map f l) (f w ∷ []) result) one (subst (λ (l : List X). CountsViews (map f old) (map f l) result) last counts))
+    (subst (λ (l : List X). CountsViews (map f l) (f w ∷ []) result) one (subst (λ (l : List X). CountsViews (map f old) (map f l) result) last counts)).first

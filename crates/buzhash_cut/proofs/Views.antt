@@ -1,0 +1,55 @@
+-- Views and their workers, who stand the other way round.
+use Rattle.std.proofs.Common.{◌≡◌, zero, suc, ◌-◌, ◌<◌, List, [], ◌∷◌, ◌++◌, length, map, reverse, slice_index_or, All, refl, sym, ap, subst, ◌∙◌, arith, IfSome}
+use Rattle.std.proofs.lemmas.List.{get_or-map, get_or-reverse, length-map, length-reverse, map-append, reverse-append, reverse-reverse}
+use Rattle.std.proofs.lemmas.List.Elements.{All-map}
+use Rattle.buzhash_cut.specs.Image.{AreOfOneImage}
+use Rattle.dsy_base.specs.Bytes.{Held}
+
+map_reversed : {X Y : Type 0} (f : X → Y) (xs : List X) → map f (reverse xs) ≡ reverse (map f xs)
+map_reversed f [] = refl
+map_reversed {X} {Y} f (x ∷ xs) =
+    ap (map f) (reverse-append (x ∷ []) xs) ∙ map-append f (reverse xs) (x ∷ []) ∙ ap (λ (ys : List Y). ys ++ f x ∷ []) (map_reversed f xs) ∙ sym (reverse-append (f x ∷ []) (map f xs))
+
+map_twice : {W V X : Type 0} (f : V → X) (view : W → V) (ws : List W) → map f (map view ws) ≡ map (λ w. f (view w)) ws
+map_twice f view [] = refl
+map_twice {W} {V} {X} f view (w ∷ ws) = ap (λ (xs : List X). f (view w) ∷ xs) (map_twice f view ws)
+
+-- what is seen of the views is seen of the workers
+pub seen_by : {W V X : Type 0} (f : V → X) (view : W → V) (vs : List V) (ws : List W) → vs ≡ reverse (map view ws) → map f vs ≡ reverse (map (λ w. f (view w)) ws)
+seen_by f view vs ws is = ap (map f) is ∙ map_reversed f (map view ws) ∙ ap reverse (map_twice f view ws)
+
+all_reversed : {X : Type 0} (P : X → Type 0) (xs : List X) → All P xs → All P (reverse xs)
+all_reversed P xs all k d lt =
+    let inside : k < length xs = omega (arith, lt, length-reverse xs) in
+    subst P (sym (get_or-reverse xs k d inside)) (all (length xs - 1 - k) d (omega arith))
+
+all_unmapped : {X Y : Type 0} (f : X → Y) (P : Y → Type 0) (xs : List X) → All P (map f xs) → All (λ x. P (f x)) xs
+all_unmapped f P xs all k d lt = subst P (get_or-map f xs k d (f d) lt) (all k (f d) (omega (arith, lt, length-map xs f)))
+
+-- what holds of what the workers' views hold holds of each view
+pub all_views : {W V : Type 0} (H : V → Held) (view : W → V) (vs : List V) (ws : List W) (P : Held → Type 0) → vs ≡ reverse (map view ws) → All P (map (λ w. H (view w)) ws) → All (λ v. P (H v)) vs
+all_views H view vs ws P is all =
+    all_unmapped H P vs (subst (All P) (sym (seen_by H view vs ws is)) (all_reversed P (map (λ w. H (view w)) ws) all))
+
+alike_reversed : (hs : List Held) → AreOfOneImage hs → AreOfOneImage (reverse hs)
+alike_reversed hs alike =
+    let R = λ (h k : Held). (k.size ≡ h.size) × (k.bytes ≡ h.bytes) in
+    all_reversed (λ h. All (R h) (reverse hs)) hs (λ i d lt. all_reversed (R (slice_index_or hs i d)) hs (alike i d lt))
+
+pub alike_by : {W V : Type 0} (H : V → Held) (view : W → V) (vs : List V) (ws : List W) → vs ≡ reverse (map view ws) → AreOfOneImage (map H vs) → AreOfOneImage (map (λ w. H (view w)) ws)
+alike_by H view vs ws is alike =
+    subst AreOfOneImage (ap reverse (seen_by H view vs ws is) ∙ reverse-reverse (map (λ w. H (view w)) ws)) (alike_reversed (map H vs) alike)
+
+-- told bytes are as many as the size says
+pub all_sized : {W : Type 0} (H : W → Held) → ((w : W) → IfSome (H w).bytes (λ t. length t ≡ (H w).size)) → (ws : List W) → All (λ h. IfSome h.bytes (λ t. length t ≡ h.size)) (map H ws)
+all_sized H law [] k d lt = absurd (omega arith)
+all_sized H law (w ∷ ws) zero d lt = law w
+all_sized H law (w ∷ ws) (suc k) d lt = all_sized H law ws k d (omega arith)
+
+-- views that all hold the same are of one image
+pub alike_all : {V : Type 0} (H : V → Held) (vs : List V) (h : Held) → All (λ v. ((H v).size ≡ h.size) × ((H v).bytes ≡ h.bytes)) vs → AreOfOneImage (map H vs)
+alike_all H vs h all i d lt j e within =
+    let each = All-map (λ (k : Held). (k.size ≡ h.size) × (k.bytes ≡ h.bytes)) H vs all in
+    let one = each i d lt in
+    let other = each j e within in
+    (other.0 ∙ sym one.0, other.1 ∙ sym one.1)

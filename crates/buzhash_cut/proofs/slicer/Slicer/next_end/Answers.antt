@@ -1,0 +1,20 @@
+use Rattle.std.proofs.Common.{ℕ, ◌+◌, ◌-◌, ◌≤◌, drop, slice_range, subst, arith}
+use Rattle.buzhash_cut.proofs.Joins.{if_both}
+use Rattle.buzhash_cut.proofs.Pieces.{cut_last}
+use Rattle.buzhash_cut.specs.Cuts.{IsCut}
+use Rattle.buzhash_cut.specs.Sizes.{Sizes}
+use Rattle.buzhash_cut.specs.Slicing.{HasRead, begun_by}
+use Rattle.buzhash_cut.proofs.slicer.Slicer.next_end.Goals as goal
+
+-- the last chunk ends with the image
+pub returns-clause-cut : goal.returns-clause-cut
+returns-clause-cut g c =
+    let r = c.loop-self.self in
+    let inv = c.loop-self.invariant in
+    let e : ℕ = c.in-Some-finish.end in
+    let le : r.start ≤ r.at = omega (arith, inv.within.given) in
+    if_both (g.V.View.held c.args.view.now).bytes _ _ _ inv.read (g.met.V.View.sized c.args.view.now) (λ t on long far.
+    let h : HasRead r t = on far in
+    let here = cut_last r.cutter.sizes t r.start r.at r.cutter.begun e le (omega (arith, long)) (c.in-Some-finish.ensures.cut (slice_range t r.start r.at) h.fed) in
+    subst (λ (b : ℕ). IsCut c.args.self.now.cutter.sizes (drop b t) (r.start + e - b)) inv.begun
+    (subst (λ (s : Sizes). IsCut s (drop (begun_by r) t) (r.start + e - begun_by r)) inv.sizes here))

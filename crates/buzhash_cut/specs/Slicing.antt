@@ -1,0 +1,20 @@
+-- Cutting an image from a place on, as a view gives it in pieces.
+use Rattle.std.specs.Prelude.{◌≡◌, ℕ, ◌+◌, ◌-◌, ◌<◌, ◌≤◌, List, min, slice_range, vec_len}
+use Rattle.buzhash_cut.specs.Feeding.{WasFed}
+use Rattle.buzhash_cut.specs.declared.slicer.Slicer.{Slicer}
+
+-- where the chunk begins that is cut next
+abbrev pub begun_by : Slicer → ℕ
+begun_by c = c.start + c.cutter.begun
+
+-- the cutter was given as many bytes as lie between `start` and `at`, and there is room for what follows
+pub record IsWithin (c : Slicer) (size : ℕ) : Type 0 where
+  pub given : c.start + c.cutter.at ≡ c.at
+  pub left : (c.from ≤ c.upto) × (c.upto ≤ vec_len c.piece) × (c.at + (c.upto - c.from) ≤ size)
+  pub piece : 0 < vec_len c.piece
+  pub chunk : min size c.cutter.sizes.greatest ≤ vec_len c.chunk
+
+-- these bytes were the image's, and those in the piece are
+pub record HasRead (c : Slicer) (image : List ℕ) : Type 0 where
+  pub fed : WasFed c.cutter (slice_range image c.start c.at)
+  pub left : slice_range c.piece.items c.from c.upto ≡ slice_range image c.at (c.at + (c.upto - c.from))

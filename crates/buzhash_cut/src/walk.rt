@@ -1,0 +1,153 @@
+//! The runs of several workers joined to the chunks of the image. Offsets are in bytes.
+
+ghost use Rattle.std.specs.Prelude.{◌≡◌, ℕ, ◌<◌, ◌≤◌, length, All, IfOk, IfErr, IfSome, OnOk};
+ghost use Rattle.buzhash_cut.specs.Entries.{AreAll, AreEntries, AreTooMany, IsRun};
+ghost use Rattle.buzhash_cut.specs.Sizes.{Sizes};
+ghost use Rattle.buzhash_cut.specs.Slicing.{IsWithin};
+ghost use Rattle.caibx_codec.specs.Seen.{pairs};
+ghost use Rattle.dsy_base.specs.Bytes.{Held};
+ghost use Rattle.dsy_base.specs.Counts.{CountsFaults};
+
+use crate::entries::{add_run, cut_on};
+use crate::image::CutFault;
+use crate::run::Worker;
+use crate::sizes::CutSizes;
+use crate::slicer::Slicer;
+use caibx_codec::index::Entry;
+use dsy_base::view::View;
+use std::alloc::Global;
+use std::mem;
+
+// The entries of the chunks from `at` on, where some worker cut such.
+fn run_from<V: View>(others: &[Worker<V>], at: u64) -> Option<&[Entry]>
+    ensures some { IfSome result (λ r. 0 < length r.now) }
+    ensures chunks { IfSome result (λ r. (s : Sizes) (h : Held) →
+        All (λ w. IsRun s h w.run.start (pairs w.run.entries.items)) others.now → IsRun s h at (pairs r.now)) }
+{
+    for worker in others {
+        let run = worker.run.from(at);
+        if !run.is_empty() {
+            return Some(run);
+        }
+    }
+    None
+}
+
+// The first place after `at` at which a chunk of some worker begins, or else where the image ends.
+fn next_place<V: View>(others: &[Worker<V>], at: u64, size: u64) -> u64
+    requires more { at < size }
+    ensures after { (at < result) × (result ≤ size) }
+{
+    let mut next = size;
+    for worker in others {
+        if let Some(place) = worker.run.place_after(at) {
+            if at < place && place < next {
+                next = place;
+            }
+        }
+    }
+    next
+}
+
+// Goes on from a true end: by what a worker cut from there, or by cutting to where some worker's chunk begins.
+fn walk_on<V: View>(
+    view: &mut V,
+    slicer: &mut Slicer,
+    others: &[Worker<V>],
+    at: u64,
+    entries: &mut Vec<Entry>,
+) -> Result<u64, CutFault>
+    requires within { IsWithin slicer.old (V.held view.old).size }
+    requires more { at < (V.held view.old).size }
+    requires runs { All (λ w. IsRun slicer.old.cutter.sizes (V.held view.old) w.run.start
+        (pairs w.run.entries.items)) others.now }
+    requires few { length (pairs entries.old.items) ≤ 4194304 }
+    requires chunks { AreEntries slicer.old.cutter.sizes (V.held view.old).bytes 0 (pairs entries.old.items) at }
+
+    ensures end { IfOk result (λ e. (at < e) × (e ≤ (V.held view.old).size)) }
+    ensures chunks { IfOk result (λ e.
+        AreEntries slicer.old.cutter.sizes (V.held view.old).bytes 0 (pairs entries.new.items) e) }
+    ensures few { OnOk result (length (pairs entries.new.items) ≤ 4194304) }
+    ensures many { IfErr result (λ f. f ≡ CutFault.TooManyItems →
+        AreTooMany slicer.old.cutter.sizes (V.held view.old)) }
+
+    ensures within { OnOk result (IsWithin slicer.new (V.held view.old).size) }
+    ensures sizes { slicer.new.cutter.sizes ≡ slicer.old.cutter.sizes }
+    ensures kept { V.held view.new ≡ V.held view.old }
+    ensures faults { CountsFaults CutFault.ImageFault CutFault.Memory (V.faults view.old) (V.faults view.new) result }
+{
+    if let Some(run) = run_from(others, at) {
+        return add_run(entries, run);
+    }
+    slicer.restart(at);
+    let next = next_place(others, at, view.size());
+    cut_on(view, slicer, at, next, entries)
+}
+
+// Goes on to the end of the image.
+fn walk<V: View>(
+    alloc: Global,
+    view: &mut V,
+    sizes: &CutSizes,
+    others: &[Worker<V>],
+    begun: u64,
+    entries: &mut Vec<Entry>,
+) -> Result<(), CutFault>
+    requires inside { begun ≤ (V.held view.old).size }
+    requires runs { All (λ w. IsRun sizes.now (V.held view.old) w.run.start (pairs w.run.entries.items)) others.now }
+    requires few { length (pairs entries.old.items) ≤ 4194304 }
+    requires chunks { AreEntries sizes.now (V.held view.old).bytes 0 (pairs entries.old.items) begun }
+    ensures all { OnOk result (AreAll sizes.now (V.held view.old) (pairs entries.new.items)) }
+    ensures many { IfErr result (λ f. f ≡ CutFault.TooManyItems → AreTooMany sizes.now (V.held view.old)) }
+    ensures kept { V.held view.new ≡ V.held view.old }
+    ensures faults { CountsFaults CutFault.ImageFault CutFault.Memory (V.faults view.old) (V.faults view.new) result }
+{
+    let size = view.size();
+    if size <= begun {
+        return Ok(());
+    }
+    let Ok(mut slicer) = Slicer::new(alloc, sizes, size, begun) else {
+        return Err(CutFault::Memory);
+    };
+    let mut at = begun;
+    while at < size {
+        at = match walk_on(view, &mut slicer, others, at, entries) {
+            Ok(end) => end,
+            Err(fault) => return Err(fault),
+        };
+    }
+    Ok(())
+}
+
+/// The entries of the index of the image, of which the first worker has cut the first part and the others the rest.
+pub(crate) fn joined<V: View>(
+    alloc: Global,
+    first: &mut Worker<V>,
+    others: &[Worker<V>],
+    sizes: &CutSizes,
+) -> Result<Vec<Entry>, CutFault>
+    requires runs { All (λ w. IsRun sizes.now (V.held first.old.view) w.run.start
+        (pairs w.run.entries.items)) others.now }
+    requires few { length (pairs first.old.run.entries.items) ≤ 4194304 }
+    requires end { IfOk first.old.run.end (λ e. (e ≤ (V.held first.old.view).size)
+        × AreEntries sizes.now (V.held first.old.view).bytes 0 (pairs first.old.run.entries.items) e) }
+    requires many { IfErr first.old.run.end (λ f. f ≡ CutFault.TooManyItems
+        → AreTooMany sizes.now (V.held first.old.view)) }
+    ensures all { IfOk result (λ v. AreAll sizes.now (V.held first.old.view) (pairs v.items)) }
+    ensures many { IfErr result (λ f. f ≡ CutFault.TooManyItems → AreTooMany sizes.now (V.held first.old.view)) }
+    ensures kept { V.held first.new.view ≡ V.held first.old.view }
+    // Over cutting the first part and this call.
+    ensures faults { (old : ℕ) → CountsFaults CutFault.ImageFault CutFault.Memory
+        old (V.faults first.old.view) first.old.run.end
+        → CountsFaults CutFault.ImageFault CutFault.Memory old (V.faults first.new.view) result }
+{
+    let begun = match first.run.end {
+        Ok(begun) => begun,
+        Err(fault) => return Err(fault),
+    };
+    let mut entries = mem::replace(&mut first.run.entries, Vec::new(alloc));
+    match walk(alloc, &mut first.view, sizes, others, begun, &mut entries) {
+        Ok(()) => Ok(entries),
+        Err(fault) => Err(fault),
+    }
+}
