@@ -37,7 +37,7 @@ length_later : (k : CommandKind) (before : List Role) (words : List (List ℕ)) 
 length_later k before [] = refl
 length_later k before (w ∷ words) = ap suc (length_later k (before ++ role_of k before w ∷ []) words)
 
-roles_length : (k : CommandKind) (words : List (List ℕ)) → length (roles_of k words) ≡ length words
+pub roles_length : (k : CommandKind) (words : List (List ℕ)) → length (roles_of k words) ≡ length words
 roles_length k words = ap length (grows k [] words) ∙ length_later k [] words
 
 pub roles_stay : (k : CommandKind) (words more : List (List ℕ)) → take (length words) (roles_of k (words ++ more)) ≡ roles_of k words
@@ -49,7 +49,7 @@ last_is : (roles : List Role) (r : Role) → slice_get (roles ++ r ∷ []) (leng
 last_is [] r = refl
 last_is (q ∷ roles) r = last_is roles r
 
-awaited_after : (roles : List Role) (r : Role) → awaited (roles ++ r ∷ []) ≡ opens r
+pub awaited_after : (roles : List Role) (r : Role) → awaited (roles ++ r ∷ []) ≡ opens r
 awaited_after roles r = ap (λ o. elim o [ None ↦ None | Some q ↦ opens q ])
     (ap (slice_get (roles ++ r ∷ [])) (omega (arith, length_push roles r)) ∙ last_is roles r)
 
@@ -99,7 +99,7 @@ found_by p a n i false is rest e =
     let r = rest e in
     (omega (arith, r.0), r.1, λ j lo hi. elim (cases_eq j a) [ inl here ↦ ap p here ∙ is | inr other ↦ r.2 j (omega (arith, lo, other)) hi ])
 
-found : (p : ℕ → Bool) (a n i : ℕ) → find p (range_with_len a n) ≡ Some i → IsFound p a n i
+pub found : (p : ℕ → Bool) (a n i : ℕ) → find p (range_with_len a n) ≡ Some i → IsFound p a n i
 found p a zero i e = absurd (none-some i e)
 found p a (suc n) i e = found_by p a n i (p a) refl (found p (a + 1) n i) e
 
@@ -108,15 +108,15 @@ missed_by : (p : ℕ → Bool) (a n : ℕ) (b : Bool) → p a ≡ b → (find p 
 missed_by p a n true is rest e = absurd (none-some a (sym e))
 missed_by p a n false is rest e = λ j lo hi. elim (cases_eq j a) [ inl here ↦ ap p here ∙ is | inr other ↦ rest e j (omega (arith, lo, other)) (omega (arith, hi)) ]
 
-missed : (p : ℕ → Bool) (a n : ℕ) → find p (range_with_len a n) ≡ None → (j : ℕ) → a ≤ j → j < a + n → p j ≡ false
+pub missed : (p : ℕ → Bool) (a n : ℕ) → find p (range_with_len a n) ≡ None → (j : ℕ) → a ≤ j → j < a + n → p j ≡ false
 missed p a zero e j lo hi = absurd (omega arith)
 missed p a (suc n) e j lo hi = missed_by p a n (p a) refl (missed p (a + 1) n) e j lo hi
 
-is_none : {X : Type 0} (o : Option X) → is_some o ≡ false → o ≡ None
+pub is_none : {X : Type 0} (o : Option X) → is_some o ≡ false → o ≡ None
 is_none None e = refl
 is_none (Some x) e = absurd (true≢false e)
 
-is_one : {X : Type 0} (o : Option X) → is_some o ≡ true → (x : X) × (o ≡ Some x)
+pub is_one : {X : Type 0} (o : Option X) → is_some o ≡ true → (x : X) × (o ≡ Some x)
 is_one None e = absurd (false≢true e)
 is_one (Some x) e = (x, refl)
 

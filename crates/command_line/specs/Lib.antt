@@ -4,3 +4,4 @@ pub mod Locations
 pub mod Roles
 pub mod Judging
 pub mod CommandLine
+pub mod Limits

@@ -1,9 +1,10 @@
 //! Reading the words of the command line, those after the program's name. A place is a word's, from
 //! 0 for the command.
 
-ghost use Rattle.std.specs.Prelude.{◌≡◌, ◌<◌, ◌+◌, ◌^◌, ℕ, List, length, map, string_bytes, codes, Err};
+ghost use Rattle.std.specs.Prelude.{◌≡◌, ◌<◌, ◌+◌, ◌^◌, ℕ, List, length, map, string_bytes, codes, Err, IfOk};
 ghost use Rattle.command_line.specs.CommandLine.{Reads, FindsNoRoom, command_with, command_or_help, is_alone};
 ghost use Rattle.command_line.specs.Judging.{AnswersBy};
+ghost use Rattle.command_line.specs.Limits.{Fits};
 ghost use Rattle.command_line.specs.OptionTable.{command_named};
 
 use crate::command::Command;
@@ -82,6 +83,7 @@ pub fn read_words(alloc: Global, words: &[String]) -> Result<Command, WordsFault
     ensures exactly { Reads (map string_bytes words.now) result }
     // A URL that finds no room is answered so, however much memory there is.
     ensures room { FindsNoRoom (map string_bytes words.now) → result ≡ Err WordsFault.Memory }
+    ensures fits { IfOk result Fits }
 {
     read_line(alloc, words)
 }

@@ -1,10 +1,13 @@
-//! Laws of the words after a command, from 0. Nothing is done: each function's contract is the law.
+//! Laws of words. Those after a command count from 0. Nothing is done: each function's contract is the
+//! law.
 
-ghost use Rattle.std.specs.Prelude.{◌≡◌, ◌+◌, ◌++◌, ◌∷◌, [], true, ℕ, List, Some, None, Err, length, map, take};
-ghost use Rattle.command_line.specs.CommandLine.{command_with};
+ghost use Rattle.std.specs.Prelude.{◌≡◌, ◌+◌, ◌++◌, ◌∷◌, [], true, ℕ, List, Some, None, Ok, Err, length, map, take};
+ghost use Rattle.command_line.specs.CommandLine.{command_line, command_with};
 ghost use Rattle.command_line.specs.Judging.{refusal_after, first_refused};
+ghost use Rattle.command_line.specs.Limits.{Fits};
 ghost use Rattle.command_line.specs.OptionTable.{takes_value};
 ghost use Rattle.command_line.specs.Roles.{role_of, roles_of};
+ghost use Rattle.command_line.specs.declared.command.Command.{Command};
 ghost use Rattle.command_line.specs.declared.option_table.CommandKind.{CommandKind};
 ghost use Rattle.command_line.specs.declared.option_table.OptionKind.{OptionKind};
 ghost use Rattle.command_line.specs.declared.usage.UsageWhy.{UsageWhy};
@@ -40,4 +43,9 @@ pub fn operands_follow()
     ensures value { (k : CommandKind) (before after : List (List ℕ)) (w : List ℕ) →
         role_of k (roles_of k before) w ≡ Role.Dashes →
         roles_of k (before ++ w ∷ after) ≡ roles_of k before ++ Role.Dashes ∷ map (λ v. Role.Operand) after }
+{}
+
+/// Each command that words are keeps the limits of the tables.
+pub fn commands_fit()
+    ensures fits { (words : List (List ℕ)) (c : Command) → command_line words ≡ Ok c → Fits c }
 {}

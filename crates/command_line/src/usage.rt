@@ -34,8 +34,6 @@ pub enum UsageWhy {
     NeedsYes,
     /// Too few operands, or too many.
     Operands,
-    /// The words are of a form that isn't built.
-    NotYet,
 }
 
 /// Why words weren't read.

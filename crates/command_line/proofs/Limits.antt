@@ -1,0 +1,203 @@
+-- The commands that words say keep the limits of the table of options.
+use Rattle.std.proofs.Common.{◌≡◌, ◌≤◌, ℕ, ◌+◌, ◌*◌, ◌-◌, ◌&&◌, ◌||◌, Bool, true, false, List, [], ◌∷◌, length, nat_lt, nat_le, codes, if◌then◌else◌, Option, Some, None, unwrap_or, Result, Ok, Err, IfOk, refl, sym, ap, subst, ◌∙◌, arith}
+use Rattle.std.specs.Char.{is_ascii_digit}
+use Rattle.std.proofs.lemmas.Bool.{leb-true, ltb-false}
+use Rattle.std.proofs.lemmas.Option.{none-some}
+use Rattle.std.proofs.lemmas.List.{length-map}
+use Rattle.command_line.specs.declared.command.Command.{Command}
+use Rattle.command_line.specs.declared.command.Command.TheVariants as said
+use Rattle.command_line.specs.declared.option_table.CommandKind.{CommandKind}
+use Rattle.command_line.specs.declared.option_table.CommandKind.TheVariants as command
+use Rattle.command_line.specs.declared.option_table.OptionKind.{OptionKind}
+use Rattle.command_line.specs.declared.option_table.OptionKind.TheVariants as option
+use Rattle.command_line.specs.declared.roles.Role.{Role}
+use Rattle.command_line.specs.declared.roles.Role.TheVariants as role
+use Rattle.command_line.specs.declared.usage.UsageWhy.{UsageWhy}
+use Rattle.command_line.specs.declared.usage.UsageWhy.TheVariants as why
+use Rattle.command_line.specs.declared.usage.WordsFault.{WordsFault}
+use Rattle.command_line.specs.CommandLine.{command_by, command_line, command_of, command_or_help, command_with, complete, is_alone, number, operand, read_location, stores, Reads}
+use Rattle.command_line.specs.Judging.{judged, lacks, missing}
+use Rattle.command_line.specs.Limits.{Fits}
+use Rattle.command_line.specs.Locations.{location_of}
+use Rattle.command_line.specs.OptionTable.{times, names, folder_and_names, command_named, takes_of, takes_value, times_of, command_rows, option_rows}
+use Rattle.command_line.specs.Roles.{by_role, count_of, words_as}
+use Rattle.command_line.specs.Values.{number_of, number_up_to, with_digit, with_digits}
+use Rattle.command_line.proofs.Counts.{Passes, judged_right, operands_bounded, options_bounded, values_counted}
+use Rattle.command_line.proofs.Following.{roles_length}
+use Rattle.command_line.proofs.Lists.{words_counted}
+
+-- ---- the rows that limit
+
+stores_of_extract : times_of command.Extract option.Store ≡ times 1 16
+unfolding times_of command_rows
+stores_of_extract = refl
+
+seeds_of_extract : times_of command.Extract option.Seed ≡ times 0 64
+unfolding times_of command_rows
+seeds_of_extract = refl
+
+stores_of_cache : times_of command.Cache option.Store ≡ times 1 16
+unfolding times_of command_rows
+stores_of_cache = refl
+
+stores_of_info : times_of command.Info option.Store ≡ times 0 16
+unfolding times_of command_rows
+stores_of_info = refl
+
+names_of_cache : takes_of command.Cache ≡ names 1 64
+unfolding takes_of command_rows
+names_of_cache = refl
+
+names_of_prune : takes_of command.Prune ≡ folder_and_names 1 64
+unfolding takes_of command_rows
+names_of_prune = refl
+
+store_takes : takes_value option.Store ≡ true
+unfolding takes_value option_rows
+store_takes = refl
+
+seed_takes : takes_value option.Seed ≡ true
+unfolding takes_value option_rows
+seed_takes = refl
+
+-- ---- what is missing once all words have passed
+
+has_enough : (store cache listen agreed few : Bool) → (if store || (cache || listen) then Some why.MissingOption else (if agreed then Some why.NeedsYes else (if few then Some why.Operands else None))) ≡ None
+    → (store ≡ false) × (few ≡ false)
+has_enough true cache listen agreed few e = absurd (none-some why.MissingOption (sym e))
+has_enough false true listen agreed few e = absurd (none-some why.MissingOption (sym e))
+has_enough false false true agreed few e = absurd (none-some why.MissingOption (sym e))
+has_enough false false false true few e = absurd (none-some why.NeedsYes (sym e))
+has_enough false false false false true e = absurd (none-some why.Operands (sym e))
+has_enough false false false false false e = (refl, refl)
+
+-- ---- how many words have each role
+
+record Counts (k : CommandKind) (roles : List Role) (words : List (List ℕ)) : Type 0 where
+  least : (times_of k option.Store).least ≤ count_of (role.Value option.Store) roles
+  greatest : (o : OptionKind) → takes_value o ≡ true → count_of (role.Value o) roles ≤ (times_of k o).greatest
+  operands_least : (takes_of k).operands.least ≤ count_of role.Operand roles
+  operands_greatest : (takes_of k).takes_numbers ≡ false → count_of role.Operand roles ≤ (takes_of k).operands.greatest
+  as_many : (r : Role) → length (words_as r roles words) ≡ count_of r roles
+
+counts : (k : CommandKind) (words : List (List ℕ)) (roles : List Role) → Passes k words roles → missing k roles ≡ None → Counts k roles words
+counts k words roles p none =
+    let enough = has_enough (lacks k roles option.Store) (lacks k roles option.Cache) (lacks k roles option.Listen) (lacks k roles option.Yes) (nat_lt (count_of role.Operand roles) (takes_of k).operands.least) none in
+    let values : (o : OptionKind) → takes_value o ≡ true → count_of (role.Value o) roles ≡ count_of (role.Given o) roles
+    = λ o takes. subst (λ r. count_of (role.Value o) r ≡ count_of (role.Given o) r) (sym p.roles_are) (values_counted k words o takes p.pass p.ended) in
+    record {
+      least = omega (arith, ltb-false _ _ enough.0, values option.Store store_takes);
+      greatest = λ o takes. omega (arith, values o takes, subst (λ r. count_of (role.Given o) r ≤ (times_of k o).greatest) (sym p.roles_are) (options_bounded k words o p.pass));
+      operands_least = omega (arith, ltb-false _ _ enough.1);
+      operands_greatest = λ names. subst (λ r. count_of role.Operand r ≤ (takes_of k).operands.greatest) (sym p.roles_are) (operands_bounded k words names p.pass);
+      as_many = λ r. words_counted r roles words (ap length p.roles_are ∙ roles_length k words);
+    }
+
+stores_counted : (k : CommandKind) (roles : List Role) (words : List (List ℕ)) → Counts k roles words → length (stores (by_role roles words)) ≡ count_of (role.Value option.Store) roles
+stores_counted k roles words c = length-map (words_as (role.Value option.Store) roles words) (λ w. read_location (location_of w)) ∙ c.as_many (role.Value option.Store)
+
+-- ---- a number
+
+same_some : (x y : ℕ) → Some x ≡ Some y → x ≡ y
+same_some x y e = cc
+
+digit_by : (most m n : ℕ) (digit small : Bool) → nat_le n most ≡ small → (if digit && small then Some n else None) ≡ Some m → m ≤ most
+digit_by most m n true true le e = omega (arith, same_some _ _ e, leb-true n most le)
+digit_by most m n true false le e = absurd (none-some m e)
+digit_by most m n false small le e = absurd (none-some m e)
+
+digit_bounded : (most n c m : ℕ) → with_digit most n c ≡ Some m → m ≤ most
+digit_bounded most n c m e = digit_by most m (n * 10 + (c - 48)) (is_ascii_digit c) (nat_le (n * 10 + (c - 48)) most) refl e
+
+digits_by : (most m : ℕ) (cs : List ℕ) (d : Option ℕ) → ((n : ℕ) → d ≡ Some n → n ≤ most) → ((n : ℕ) → n ≤ most → with_digits most n cs ≡ Some m → m ≤ most)
+    → elim d [ None ↦ None | Some n ↦ with_digits most n cs ] ≡ Some m → m ≤ most
+digits_by most m cs None small rest e = absurd (none-some m e)
+digits_by most m cs (Some n) small rest e = rest n (small n refl) e
+
+digits_bounded : (most n m : ℕ) (w : List ℕ) → n ≤ most → with_digits most n w ≡ Some m → m ≤ most
+digits_bounded most n m [] le e = omega (arith, le, same_some _ _ e)
+digits_bounded most n m (c ∷ cs) le e = digits_by most m cs (with_digit most n c) (digit_bounded most n c) (λ d le. digits_bounded most d m cs le) e
+
+-- what a test lets through
+else_by : (most m : ℕ) (b : Bool) (o : Option ℕ) → ((n : ℕ) → o ≡ Some n → n ≤ most) → (if b then None else o) ≡ Some m → m ≤ most
+else_by most m true o small e = absurd (none-some m e)
+else_by most m false o small e = small m e
+
+then_by : (most m n : ℕ) (b : Bool) → n ≤ most → (if b then Some n else None) ≡ Some m → m ≤ most
+then_by most m n true le e = omega (arith, le, same_some _ _ e)
+then_by most m n false le e = absurd (none-some m e)
+
+from_by : (least most m : ℕ) (o : Option ℕ) → ((n : ℕ) → o ≡ Some n → n ≤ most) → elim o [ None ↦ None | Some n ↦ if nat_le least n then Some n else None ] ≡ Some m → m ≤ most
+from_by least most m None small e = absurd (none-some m e)
+from_by least most m (Some n) small e = then_by most m n (nat_le least n) (small n refl) e
+
+unwrapped : (most : ℕ) (o : Option ℕ) → ((n : ℕ) → o ≡ Some n → n ≤ most) → unwrap_or o 0 ≤ most
+unwrapped most None small = omega arith
+unwrapped most (Some n) small = small n refl
+
+number_bounded : (most : ℕ) (w : List ℕ) → number most w ≤ most
+number_bounded most w = unwrapped most (number_of 0 most w) (λ n. from_by 0 most n (number_up_to most w) (λ m. else_by most m _ (with_digits most 0 w) (λ d. digits_bounded most 0 d w (omega arith))))
+
+-- ---- each command
+
+kept : (k : CommandKind) (roles : List Role) (words : List (List ℕ)) → Counts k roles words → Fits (command_of k (by_role roles words))
+kept command.Make roles words c = tt
+kept command.Extract roles words c =
+    let stores = stores_counted command.Extract roles words c in (
+      omega (arith, stores, c.least, ap (λ t. t.least) stores_of_extract),
+      omega (arith, stores, c.greatest option.Store store_takes, ap (λ t. t.greatest) stores_of_extract),
+      omega (arith, c.as_many (role.Value option.Seed), c.greatest option.Seed seed_takes, ap (λ t. t.greatest) seeds_of_extract),
+    )
+kept command.VerifyIndex roles words c = tt
+kept command.Chop roles words c = tt
+kept command.Cache roles words c =
+    let stores = stores_counted command.Cache roles words c in (
+      omega (arith, stores, c.least, ap (λ t. t.least) stores_of_cache),
+      omega (arith, stores, c.greatest option.Store store_takes, ap (λ t. t.greatest) stores_of_cache),
+      omega (arith, c.as_many role.Operand, c.operands_least, ap (λ t. t.operands.least) names_of_cache),
+      omega (arith, c.as_many role.Operand, c.operands_greatest (ap (λ t. t.takes_numbers) names_of_cache), ap (λ t. t.operands.greatest) names_of_cache),
+    )
+kept command.ListChunks roles words c = tt
+kept command.Info roles words c = omega (arith, stores_counted command.Info roles words c, c.greatest option.Store store_takes, ap (λ t. t.greatest) stores_of_info)
+kept command.Verify roles words c = tt
+kept command.Prune roles words c = (
+  omega (arith, c.as_many role.Operand, c.operands_least, ap (λ t. t.operands.least) names_of_prune),
+  omega (arith, c.as_many role.Operand, c.operands_greatest (ap (λ t. t.takes_numbers) names_of_prune), ap (λ t. t.operands.greatest) names_of_prune),
+)
+kept command.ChunkServer roles words c = tt
+kept command.Demo roles words c = number_bounded 536870912 (operand 1 (by_role roles words))
+
+-- ---- all words
+
+is_ok : (r : Result Command WordsFault) (x y : Command) → r ≡ Ok x → r ≡ Ok y → x ≡ y
+is_ok r x y a b = cc
+
+complete_fits : (missed : Option UsageWhy) (place : ℕ) (c d : Command) → (missed ≡ None → Fits c) → complete missed place c ≡ Ok d → Fits d
+complete_fits (Some y) place c d fits e = absurd cc
+complete_fits None place c d fits e = subst Fits (is_ok (Ok c) c d refl e) (fits refl)
+
+by_fits : (k : CommandKind) (words : List (List ℕ)) (c : Command) (r : Result (List Role) WordsFault) → judged k words ≡ r → command_by k words r ≡ Ok c → Fits c
+by_fits k words c (Err f) is e = absurd cc
+by_fits k words c (Ok roles) is e = complete_fits (missing k roles) _ _ c (λ none. kept k roles words (counts k words roles (judged_right k words roles is) none)) e
+
+if_fits : (b : Bool) (d c : Command) (rest : Result Command WordsFault) → Fits d → (rest ≡ Ok c → Fits c) → (if b then Ok d else rest) ≡ Ok c → Fits c
+if_fits true d c rest now later e = subst Fits (is_ok (Ok d) d c refl e) now
+if_fits false d c rest now later e = later e
+
+named_fits : (k : Option CommandKind) (words : List (List ℕ)) (c : Command) → command_or_help k words ≡ Ok c → Fits c
+named_fits None words c e = absurd cc
+named_fits (Some k) words c e = if_fits (is_alone words (codes "--help")) (said.HelpOn k) c (command_with k words) tt (by_fits k words c (judged k words) refl) e
+
+pub fits : (words : List (List ℕ)) (c : Command) → command_line words ≡ Ok c → Fits c
+fits [] c e = absurd cc
+fits (w ∷ words) c e =
+    let help = is_alone (w ∷ words) (codes "--help") in
+    let version = is_alone (w ∷ words) (codes "--version") in
+    let rest = command_or_help (command_named w) words in
+    if_fits help said.Help c (if version then Ok said.Version else rest) tt
+    (if_fits version said.Version c rest tt (named_fits (command_named w) words c)) e
+
+-- what is answered of the words fits where it is a command
+pub answer_fits : (words : List (List ℕ)) (result : Result Command WordsFault) → Reads words result → IfOk result Fits
+answer_fits words (Ok c) e = fits words c e
+answer_fits words (Err f) e = tt
