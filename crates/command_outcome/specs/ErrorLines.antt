@@ -34,7 +34,6 @@ why_text usage.BadListen = codes "BadListen"
 why_text usage.MissingOption = codes "MissingOption"
 why_text usage.NeedsYes = codes "NeedsYes"
 why_text usage.Operands = codes "Operands"
-why_text usage.NotYet = codes "NotYet"
 
 -- why images can't be cut by the sizes: the variant's name
 abbrev pub size_text : SizeFault → List ℕ
@@ -80,6 +79,7 @@ text_of ends.TargetFault = codes "the target failed"
 text_of (ends.FileFault name) = name ++ codes ": failed"
 text_of ends.OutFault = codes "the output failed"
 text_of ends.ImageFault = codes "the image failed"
+text_of ends.ListenFault = codes "the listener failed"
 text_of (ends.DamagedLeft count) = codes "damaged chunks left: " ++ decimal count
 text_of ends.TooManyItems = codes "too many chunks"
 text_of ends.Memory = codes "no memory"

@@ -43,7 +43,6 @@ fn why_text(why: UsageWhy) -> &'static str
         UsageWhy::MissingOption => "MissingOption",
         UsageWhy::NeedsYes => "NeedsYes",
         UsageWhy::Operands => "Operands",
-        UsageWhy::NotYet => "NotYet",
     }
 }
 
@@ -202,6 +201,7 @@ fn text_of(alloc: Global, outcome: &Outcome) -> Result<String, AllocError>
         Outcome::FileFault { name } => name_text(alloc, name, ": failed"),
         Outcome::OutFault => String::from_str(alloc, "the output failed"),
         Outcome::ImageFault => String::from_str(alloc, "the image failed"),
+        Outcome::ListenFault => String::from_str(alloc, "the listener failed"),
         Outcome::DamagedLeft { count } => format!(in alloc; "damaged chunks left: {count}"),
         Outcome::TooManyItems => String::from_str(alloc, "too many chunks"),
         Outcome::Memory => String::from_str(alloc, "no memory"),

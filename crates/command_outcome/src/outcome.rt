@@ -73,6 +73,8 @@ pub enum Outcome {
     OutFault,
     /// Opening or reading the image failed.
     ImageFault,
+    /// Listening at an address, or taking the next connection there, failed.
+    ListenFault,
     /// So many damaged chunk files were found and left.
     DamagedLeft {
         count: u64,

@@ -82,6 +82,7 @@ fair_earlier {s} {z} w u v x o a b h = (h.0, go o h.1) where
   go (ends.FileFault name) (inl r) = inl (file name r)
   go (ends.FileFault name) (inr r) = inr (folder name r)
   go ends.OutFault r = rose_later w.out.faults u.out.faults v.out.faults a.out r
+  go ends.ListenFault r = r
   go other r = r
 
 -- a fault before other steps is one over all of them
@@ -101,6 +102,7 @@ fair_longer {s} {z} w v u x o b a h = (h.0, go o h.1) where
   go (ends.FileFault name) (inl r) = inl (file name r)
   go (ends.FileFault name) (inr r) = inr (folder name r)
   go ends.OutFault r = rose_longer w.out.faults v.out.faults u.out.faults a.out r
+  go ends.ListenFault r = r
   go other r = r
 
 abbrev pub whole : World → World

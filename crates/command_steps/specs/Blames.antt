@@ -30,6 +30,12 @@ pub record Parts : Type 0 where
   pub stores : List Location
   pub target : List ℕ
   pub cache : List ℕ
+  -- how often calls on the listener have failed before and after
+  pub listener : ℕ × ℕ
+
+-- no listener was used
+abbrev pub unheard : ℕ × ℕ
+unheard = (0, 0)
 
 -- the name of this number
 abbrev pub name_at : List (List ℕ) → ℕ → List ℕ
@@ -43,6 +49,7 @@ Blames x ends.TargetFault w v = FileRose w.disk v.disk x.target
 Blames x ends.CacheFault w v = FolderRose w.disk v.disk x.cache
 Blames x (ends.FileFault name) w v = FileRose w.disk v.disk name ⊎ FolderRose w.disk v.disk name
 Blames x ends.OutFault w v = Rose w.out.faults v.out.faults
+Blames x ends.ListenFault w v = Rose x.listener.0 x.listener.1
 Blames x other w v = Unit {0}
 
 -- no call failed
@@ -53,6 +60,7 @@ NothingFailed (ends.FileFault name) = ⊥
 NothingFailed ends.TargetFault = ⊥
 NothingFailed ends.CacheFault = ⊥
 NothingFailed ends.OutFault = ⊥
+NothingFailed ends.ListenFault = ⊥
 NothingFailed other = Unit {0}
 
 -- each reply that a server has given since was taken, where it is one. Where connections aren't told this isn't known

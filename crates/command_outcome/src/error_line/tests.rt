@@ -66,6 +66,7 @@ fn each_other_outcome_has_its_line(rt: HostRuntime) -> Result<(), Fail> {
     line_is(&rt, alloc, Outcome::TargetFault, "desync: the target failed\n")?;
     line_is(&rt, alloc, Outcome::OutFault, "desync: the output failed\n")?;
     line_is(&rt, alloc, Outcome::ImageFault, "desync: the image failed\n")?;
+    line_is(&rt, alloc, Outcome::ListenFault, "desync: the listener failed\n")?;
     line_is(&rt, alloc, Outcome::TooManyItems, "desync: too many chunks\n")?;
     let left = Outcome::DamagedLeft { count: 10 };
     line_is(&rt, alloc, left, "desync: damaged chunks left: 10\n")?;
@@ -98,8 +99,7 @@ fn faulty_words_are_told_by_place_and_reason(rt: HostRuntime) -> Result<(), Fail
     usage_is(&rt, alloc, UsageWhy::NoCommand, "desync: word 5: NoCommand\n")?;
     usage_is(&rt, alloc, UsageWhy::UnknownCommand, "desync: word 5: UnknownCommand\n")?;
     usage_is(&rt, alloc, UsageWhy::BadLocation, "desync: word 5: BadLocation\n")?;
-    usage_is(&rt, alloc, UsageWhy::MissingOption, "desync: word 5: MissingOption\n")?;
-    usage_is(&rt, alloc, UsageWhy::NotYet, "desync: word 5: NotYet\n")
+    usage_is(&rt, alloc, UsageWhy::MissingOption, "desync: word 5: MissingOption\n")
 }
 
 #[test]
