@@ -26,12 +26,13 @@ desync keeps images as chunks in a store, and an index of each image.
       print which chunks of a store are damaged, or remove them
   desync prune -s FOLDER -y INDEX..
       remove the chunks of a store that no index lists
+  desync chunk-server -s FOLDER -l HOST:PORT [-w] [-n WORKERS]
+      serve the chunks of a store over HTTP
   desync demo [-n WORKERS] NUMBER SIZE
       make, store and extract an image in memory, and print what that took
 
 Options and names may be mixed; `--` ends options. STORE is a folder or an http
-URL; MIN, AVG and MAX are sizes in KiB. This command is read and not built yet:
-chunk-server.
+URL; MIN, AVG and MAX are sizes in KiB.
 
 `desync COMMAND --help` tells more of a command, `desync --version` the version.
 ";
@@ -168,7 +169,9 @@ example: desync prune -s chunks -y disk.caibx
 pub const CHUNK_SERVER: &str = "\
 usage: desync chunk-server -s FOLDER -l HOST:PORT [-w] [-n WORKERS]
 
-Serves the chunks of the store over HTTP. Not built yet.
+Serves the chunks of the store over HTTP, one connection after the other, until
+it is killed. What doesn't have a chunk's digest is neither given nor taken.
+Nobody is asked who they are: listen at localhost, or put a proxy in front.
 
   -s, --store FOLDER            the store
   -l, --listen HOST:PORT        the address; no HOST means all addresses

@@ -7,6 +7,7 @@ use Rattle.command_outcome.specs.declared.outcome.Outcome.TheVariants as ends
 use Rattle.command_steps.specs.Steps.{answer_of, outcome_of}
 use Rattle.command_steps.specs.Worlds.{World}
 use Rattle.desync_cli.specs.Commands.{Achieves, DesyncEnds, Ends, command_of}
+use Rattle.desync_cli.specs.Serving.{Heard}
 use Rattle.desync_cli.proofs.Fair.{answered, begun, if_some}
 use Rattle.desync_cli.proofs.Cached.{cached}
 use Rattle.desync_cli.proofs.Chopped.{chopped}
@@ -15,18 +16,18 @@ use Rattle.desync_cli.proofs.Made.{made}
 use Rattle.desync_cli.proofs.Pruned.{pruned_to, verified_store}
 use Rattle.desync_cli.proofs.Verified.{verified}
 
-achieves : (c : Command) (w v : World) → is_some w.disk.files ≡ is_some w.disk.folders → Ends c w (Ok tt) v → Achieves c w v
-achieves (commands.Make store sizes workers index image) w v told h = made store sizes index image w v told h
-achieves (commands.Extract stores seeds cache in_place workers index target) w v told h = extracted stores cache seeds in_place index target w v told h
-achieves (commands.VerifyIndex index image) w v told h = verified index image w v h
-achieves (commands.Chop store index image) w v told h = chopped store index image w v h
-achieves (commands.Cache stores cache indexes) w v told h = cached stores cache indexes w v h
-achieves (commands.Verify store repair) w v told h = verified_store store repair w v h
-achieves (commands.Prune store indexes) w v told h = pruned_to store indexes w v h
-achieves other w v told h = h
+achieves : (k : Heard) (c : Command) (w v : World) → is_some w.disk.files ≡ is_some w.disk.folders → Ends k c w (Ok tt) v → Achieves k c w v
+achieves k (commands.Make store sizes workers index image) w v told h = made store sizes index image w v told h
+achieves k (commands.Extract stores seeds cache in_place workers index target) w v told h = extracted stores cache seeds in_place index target w v told h
+achieves k (commands.VerifyIndex index image) w v told h = verified index image w v h
+achieves k (commands.Chop store index image) w v told h = chopped store index image w v h
+achieves k (commands.Cache stores cache indexes) w v told h = cached stores cache indexes w v h
+achieves k (commands.Verify store repair) w v told h = verified_store store repair w v h
+achieves k (commands.Prune store indexes) w v told h = pruned_to store indexes w v h
+achieves k other w v told h = h
 
-pub achieved : (words : List (List ℕ)) (w v : World) (r : Result Unit Outcome) → is_some w.disk.files ≡ is_some w.disk.folders → DesyncEnds words w r v → outcome_of r ≡ ends.Done → IfSome (command_of words) (λ c. Achieves c w v)
-achieved words w v r told h done =
-    let a : DesyncEnds words w (Ok tt) v = subst (λ o. DesyncEnds words w (answer_of o) v) done (answered words w v r h) in
-    let b = begun words w v (Ok tt) a in
-    if_some (command_of words) (λ c. Achieves c w v) b.0 b.1 (achieves b.0 w v told b.2)
+pub achieved : (k : Heard) (words : List (List ℕ)) (w v : World) (r : Result Unit Outcome) → is_some w.disk.files ≡ is_some w.disk.folders → DesyncEnds k words w r v → outcome_of r ≡ ends.Done → IfSome (command_of words) (λ c. Achieves k c w v)
+achieved k words w v r told h done =
+    let a : DesyncEnds k words w (Ok tt) v = subst (λ o. DesyncEnds k words w (answer_of o) v) done (answered k words w v r h) in
+    let b = begun k words w v (Ok tt) a in
+    if_some (command_of words) (λ c. Achieves k c w v) b.0 b.1 (achieves k b.0 w v told b.2)

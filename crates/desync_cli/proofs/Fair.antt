@@ -11,8 +11,6 @@ use Rattle.command_line.specs.declared.command.Command.{Command}
 use Rattle.command_line.specs.declared.command.Command.TheVariants as commands
 use Rattle.command_line.specs.declared.command.Location.{Location}
 use Rattle.command_line.specs.declared.command.Location.TheVariants as locations
-use Rattle.command_line.specs.declared.usage.UsageWhy.{UsageWhy}
-use Rattle.command_line.specs.declared.usage.UsageWhy.TheVariants as whys
 use Rattle.command_line.specs.declared.usage.WordsFault.{WordsFault}
 use Rattle.command_outcome.specs.declared.outcome.Outcome.{Outcome}
 use Rattle.command_outcome.specs.declared.outcome.Outcome.TheVariants as ends
@@ -24,11 +22,12 @@ use Rattle.command_steps.proofs.Fair.{IsFair, IsLeft, IsRefusal, IsStep, Unread,
 use Rattle.command_steps.proofs.Numbers.{rose_not_quiet}
 use Rattle.desync_cli.specs.Caching.{FillTells, IndexesFilled, NotFilled, of_command, outcome_of_fill}
 use Rattle.desync_cli.specs.Chop.{ImageChopped}
-use Rattle.desync_cli.specs.Commands.{DesyncEnds, Ends, NoCommand, TellsRefusal, WordsRead, built_in, command_of, is_built, parts, refusal_in, refusal_of, spares}
+use Rattle.desync_cli.specs.Commands.{DesyncEnds, Ends, NoCommand, TellsRefusal, WordsRead, command_of, parts, refusal_in, refusal_of, said_in, spares}
 use Rattle.desync_cli.specs.Demo.{Rehearsed}
 use Rattle.desync_cli.specs.Extract.{CacheFilled, Clearing, FillsCache, ImageMade, Into, LacksEntry, OutMade, Renamed, Seeds, beside, in_place, temporary_out}
 use Rattle.desync_cli.specs.Info.{IdsCounted, NotAsked}
 use Rattle.desync_cli.specs.Make.{ImageStored, IndexWritten, SizesJudged, WritesStore}
+use Rattle.desync_cli.specs.Serving.{FolderServed, Heard, TakenUnheard}
 use Rattle.desync_cli.specs.VerifyIndex.{ImageChecked}
 use Rattle.verify_tool.specs.Pruning.{is_listed_in}
 use Rattle.desync_cli.specs.Prune.{StorePruned}
@@ -37,6 +36,7 @@ use Rattle.command_steps.specs.Seeds.{image_name}
 use Rattle.command_steps.specs.Dials.{since}
 use Rattle.command_steps.specs.Sources.{DialsStores, NotAsking, Sources, StoreRose, server_at, sources, sources_of, store_at}
 use Rattle.command_steps.specs.Stores.{are_folders, is_folder}
+use Rattle.dsy_base.specs.Counts.{Quiet, Rose}
 use Rattle.dsy_base.specs.Disk.{Disk, Output}
 use Rattle.dsy_base.specs.Links.{Traffic}
 use Rattle.dsy_base.specs.Maps.{Map}
@@ -257,6 +257,26 @@ pruned_step f n o x p keeps q held same = record { fair = fair; leaves = leaves 
   leaves d e (Ok u) h = adds p h.1
   leaves d e (Err r) h = adds p h.1
 
+-- ---- the steps of `chunk-server`
+
+unheard_step : (f n o : Bool) (x : Parts) (p : Unread) (h : Heard) (q : List ℕ) → IsStep (round p) (record { files = f; folders = false; dial = n; out = o }) x (TakenUnheard h q)
+unheard_step f n o x p h q = record { fair = λ d e r t. (taken_step f n o x p q).fair d e r t.0; leaves = leaves } where
+  leaves : (d e : Disk) (r : Result (Option (Map (List ℕ))) Outcome) → TakenUnheard h q d r e → IsLeft (record { files = f; folders = false; dial = n; out = o }) (round p d) (round p e)
+  leaves d e (Ok held) t = (taken_step f n o x p q).leaves d e (Ok held) t
+  leaves d e (Err r) t = (taken_step f n o x p q).leaves d e (Err r) t.0
+
+served_step : (f n o : Bool) (x : Parts) (p : Unread) (h : Heard) (writable : Bool) (q : List ℕ) (held : Option (Map (List ℕ))) → x.listener ≡ (h.old.faults, h.new.faults)
+    → IsStep (round p) (record { files = f; folders = false; dial = n; out = o }) x (FolderServed h writable q held)
+served_step f n o x p h writable q held same = record { fair = fair; leaves = leaves } where
+  fair : (d e : Disk) (r : Outcome) → FolderServed h writable q held d (Err r) e → IsFair x r (round p d) (round p e)
+  fair d e ends.ListenFault t = (tt, subst (λ (y : ℕ × ℕ). Rose y.0 y.1) (sym same) t.0.0)
+  fair d e ends.Memory t = (tt, tt)
+  fair d e other t = absurd t.0
+
+  leaves : (d e : Disk) (r : Result Unit Outcome) → FolderServed h writable q held d r e → IsLeft (record { files = f; folders = false; dial = n; out = o }) (round p d) (round p e)
+  leaves d e (Ok u) t = adds p t.1
+  leaves d e (Err r) t = adds p t.1
+
 judged_fair : (x : Parts) (sizes : List ℕ) (o : Outcome) (w v : World) → SizesJudged sizes (Err o) → IsFair x o w v
 judged_fair x sizes (ends.Sizes fault) w v h = (tt, tt)
 judged_fair x sizes other w v h = absurd h
@@ -268,27 +288,27 @@ rehearsed_fair x number size other w v h = absurd h
 
 -- ---- the commands
 
-command_step : (c : Command) → IsStep whole (spares c) (parts c) (Ends c)
-command_step (commands.Make store sizes workers index image) = bound (pure_step (SizesJudged sizes) (judged_fair (parts (commands.Make store sizes workers index image)) sizes)) (λ z. bound (on_disk (λ p. image_step _ _ p)) (λ told. bound (on_disk (λ p. source_taken_step _ _ _ _ p store)) (λ held. bound (on_sources (λ p. stored_step _ p store refl _ _ z told held)) (λ bytes. on_disk (λ p. written_step _ _ _ _ p index bytes)))))
-command_step (commands.VerifyIndex index image) = bound (on_disk (λ p. index_step _ _ p index)) (λ l. bound (on_disk (λ p. image_step _ _ p)) (λ told. on_disk (λ p. checked_step _ _ p l told)))
-command_step (commands.Chop store index image) = bound (on_disk (λ p. index_step _ _ p index)) (λ l. bound (on_disk (λ p. image_step _ _ p)) (λ told. bound (on_disk (λ p. source_taken_step _ _ _ _ p store)) (λ held. on_sources (λ p. chopped_step _ p store refl _ _ l told held))))
-command_step (commands.Cache stores cache indexes) = bound (on_disk (λ p. sources_step _ _ p stores)) (λ u. bound (on_disk (λ p. cache_step _ _ p (Some cache))) (λ u. on_sources (λ p. filled_step _ _ (parts (commands.Cache stores cache indexes)) p indexes)))
-command_step (commands.ListChunks index) = bound (on_disk (λ p. index_step _ _ p index)) (λ l. on_out (λ d. printed_step _ _ _ _ d (text_of_chunks l)))
-command_step (commands.Extract stores seeds cache in_place workers index target) = bound (on_disk (λ p. index_step _ _ p index)) (λ l. bound (on_disk (λ p. indexes_step _ _ p seeds)) (λ ls. bound (on_disk (λ p. sources_step _ _ p stores)) (λ u. bound (on_disk (λ p. cache_step _ _ p cache)) (λ u. out_step _ (parts (commands.Extract stores seeds cache in_place workers index target)) cache l (record { images = map image_name seeds; listings = ls }) in_place target refl))))
-command_step (commands.Info stores index) = bound (on_disk (λ p. index_step _ _ p index)) (λ l. bound (on_sources (λ p. counted_step _ _ p (λ t. t) l)) (λ n. on_out (λ d. printed_step _ _ _ _ d (text_of_info l n))))
-command_step (commands.Verify store repair) = bound (on_disk (λ p. taken_step _ _ _ _ p store)) (λ held. verified_step _ _ store repair held refl)
-command_step (commands.Prune store indexes) = bound (on_disk (λ p. indexes_step _ _ p indexes)) (λ ls. bound (on_disk (λ p. taken_step _ _ _ _ p store)) (λ held. on_disk (λ p. pruned_step _ _ _ _ p (is_listed_in ls) store held refl)))
-command_step (commands.Demo number size workers) = bound (pure_step (Rehearsed number size) (rehearsed_fair (parts (commands.Demo number size workers)) number size)) (λ f. on_out (λ d. printed_step _ _ _ _ d (text_of_figures f)))
-command_step commands.Help = on_out (λ d. printed_step _ _ _ _ d (help_text topics.All))
-command_step commands.Version = on_out (λ d. printed_step _ _ _ _ d (help_text topics.Version))
-command_step (commands.HelpOn kind) = on_out (λ d. printed_step _ _ _ _ d (help_text (topics.Command kind)))
-command_step other = record { fair = λ w v o h. absurd h; leaves = λ w v r h. absurd h }
+command_step : (h : Heard) (c : Command) → IsStep whole (spares c) (parts h c) (Ends h c)
+command_step h (commands.Make store sizes workers index image) = bound (pure_step (SizesJudged sizes) (judged_fair (parts h (commands.Make store sizes workers index image)) sizes)) (λ z. bound (on_disk (λ p. image_step _ _ p)) (λ told. bound (on_disk (λ p. source_taken_step _ _ _ _ p store)) (λ held. bound (on_sources (λ p. stored_step _ p store refl _ _ z told held)) (λ bytes. on_disk (λ p. written_step _ _ _ _ p index bytes)))))
+command_step h (commands.VerifyIndex index image) = bound (on_disk (λ p. index_step _ _ p index)) (λ l. bound (on_disk (λ p. image_step _ _ p)) (λ told. on_disk (λ p. checked_step _ _ p l told)))
+command_step h (commands.Chop store index image) = bound (on_disk (λ p. index_step _ _ p index)) (λ l. bound (on_disk (λ p. image_step _ _ p)) (λ told. bound (on_disk (λ p. source_taken_step _ _ _ _ p store)) (λ held. on_sources (λ p. chopped_step _ p store refl _ _ l told held))))
+command_step h (commands.Cache stores cache indexes) = bound (on_disk (λ p. sources_step _ _ p stores)) (λ u. bound (on_disk (λ p. cache_step _ _ p (Some cache))) (λ u. on_sources (λ p. filled_step _ _ (parts h (commands.Cache stores cache indexes)) p indexes)))
+command_step h (commands.ListChunks index) = bound (on_disk (λ p. index_step _ _ p index)) (λ l. on_out (λ d. printed_step _ _ _ _ d (text_of_chunks l)))
+command_step h (commands.Extract stores seeds cache in_place workers index target) = bound (on_disk (λ p. index_step _ _ p index)) (λ l. bound (on_disk (λ p. indexes_step _ _ p seeds)) (λ ls. bound (on_disk (λ p. sources_step _ _ p stores)) (λ u. bound (on_disk (λ p. cache_step _ _ p cache)) (λ u. out_step _ (parts h (commands.Extract stores seeds cache in_place workers index target)) cache l (record { images = map image_name seeds; listings = ls }) in_place target refl))))
+command_step h (commands.Info stores index) = bound (on_disk (λ p. index_step _ _ p index)) (λ l. bound (on_sources (λ p. counted_step _ _ p (λ t. t) l)) (λ n. on_out (λ d. printed_step _ _ _ _ d (text_of_info l n))))
+command_step h (commands.Verify store repair) = bound (on_disk (λ p. taken_step _ _ _ _ p store)) (λ held. verified_step _ _ store repair held refl)
+command_step h (commands.Prune store indexes) = bound (on_disk (λ p. indexes_step _ _ p indexes)) (λ ls. bound (on_disk (λ p. taken_step _ _ _ _ p store)) (λ held. on_disk (λ p. pruned_step _ _ _ _ p (is_listed_in ls) store held refl)))
+command_step h (commands.Demo number size workers) = bound (pure_step (Rehearsed number size) (rehearsed_fair (parts h (commands.Demo number size workers)) number size)) (λ f. on_out (λ d. printed_step _ _ _ _ d (text_of_figures f)))
+command_step h commands.Help = on_out (λ d. printed_step _ _ _ _ d (help_text topics.All))
+command_step h commands.Version = on_out (λ d. printed_step _ _ _ _ d (help_text topics.Version))
+command_step h (commands.HelpOn kind) = on_out (λ d. printed_step _ _ _ _ d (help_text (topics.Command kind)))
+command_step h (commands.ChunkServer store host port writable workers) = bound (on_disk (λ p. unheard_step _ _ _ _ p h store)) (λ held. on_disk (λ p. served_step _ _ _ _ p h writable store held refl))
 
 -- ---- what the top call says
 
 -- the command began where the words were read
-pub begun : (words : List (List ℕ)) (w v : World) (r : Result Unit Outcome) → Passed (WordsRead words) Ends w r v → (c : Command) × (command_of words ≡ Some c) × Ends c w r v
-begun words w v r h = (h.gave, h.did.0, subst (λ u. Ends h.gave u r v) h.did.1 h.then)
+pub begun : (k : Heard) (words : List (List ℕ)) (w v : World) (r : Result Unit Outcome) → Passed (WordsRead words) (Ends k) w r v → (c : Command) × (command_of words ≡ Some c) × Ends k c w r v
+begun k words w v r h = (h.gave, h.did.0, subst (λ u. Ends k h.gave u r v) h.did.1 h.then)
 
 pub if_some : {X : Type 0} (o : Option X) (P : X → Type 0) (x : X) → o ≡ Some x → P x → IfSome o P
 if_some o P x is p = subst (λ r. IfSome r P) (sym is) p
@@ -306,28 +326,28 @@ words_answer : (words : List (List ℕ)) (o : Outcome) → NoCommand words o →
 words_answer words ends.Done h = absurd h
 words_answer words other h = refl
 
-answer_is : (words : List (List ℕ)) (w v : World) (o : Outcome) → DesyncEnds words w (Err o) v → answer_of o ≡ Err o
-answer_is words w v o (inl h) = words_answer words o h.0
-answer_is words w v o (inr h) = as_answer o ((command_step h.gave).fair (between h) v o h.then).0
+answer_is : (k : Heard) (words : List (List ℕ)) (w v : World) (o : Outcome) → DesyncEnds k words w (Err o) v → answer_of o ≡ Err o
+answer_is k words w v o (inl h) = words_answer words o h.0
+answer_is k words w v o (inr h) = as_answer o ((command_step k h.gave).fair (between h) v o h.then).0
 
-pub answered : (words : List (List ℕ)) (w v : World) (r : Result Unit Outcome) → DesyncEnds words w r v → DesyncEnds words w (answer_of (outcome_of r)) v
-answered words w v (Ok u) h = h
-answered words w v (Err o) h = subst (λ (r : Result Unit Outcome). DesyncEnds words w r v) (sym (answer_is words w v o h)) h
+pub answered : (k : Heard) (words : List (List ℕ)) (w v : World) (r : Result Unit Outcome) → DesyncEnds k words w r v → DesyncEnds k words w (answer_of (outcome_of r)) v
+answered k words w v (Ok u) h = h
+answered k words w v (Err o) h = subst (λ (r : Result Unit Outcome). DesyncEnds k words w r v) (sym (answer_is k words w v o h)) h
 
-pub kept : (words : List (List ℕ)) (w v : World) (r : Result Unit Outcome) → DesyncEnds words w r v → IfSome (command_of words) (λ c. Keeps (spares c) w v)
-kept words w v (Ok u) h = let b = begun words w v (Ok u) h in if_some (command_of words) _ b.0 b.1 ((command_step b.0).leaves w v (Ok u) b.2).keeps
-kept words w v (Err o) (inl h) = if_any (command_of words) _ (λ c. subst (λ u. Keeps (spares c) w u) (sym h.1) (record { files = λ t. refl; folders = λ t. refl; dial = λ t. refl; out = λ t. refl }))
-kept words w v (Err o) (inr h) = let b = begun words w v (Err o) h in if_some (command_of words) _ b.0 b.1 ((command_step b.0).leaves w v (Err o) b.2).keeps
+pub kept : (k : Heard) (words : List (List ℕ)) (w v : World) (r : Result Unit Outcome) → DesyncEnds k words w r v → IfSome (command_of words) (λ c. Keeps (spares c) w v)
+kept k words w v (Ok u) h = let b = begun k words w v (Ok u) h in if_some (command_of words) _ b.0 b.1 ((command_step k b.0).leaves w v (Ok u) b.2).keeps
+kept k words w v (Err o) (inl h) = if_any (command_of words) _ (λ c. subst (λ u. Keeps (spares c) w u) (sym h.1) (record { files = λ t. refl; folders = λ t. refl; dial = λ t. refl; out = λ t. refl }))
+kept k words w v (Err o) (inr h) = let b = begun k words w v (Err o) h in if_some (command_of words) _ b.0 b.1 ((command_step k b.0).leaves w v (Err o) b.2).keeps
 
 words_blame : (words : List (List ℕ)) (x : Parts) (w v : World) (o : Outcome) → NoCommand words o → Blames x o w v
 words_blame words x w v (ends.Usage place why) h = tt
 words_blame words x w v ends.Memory h = tt
 words_blame words x w v other h = absurd h
 
-pub blamed : (words : List (List ℕ)) (w v : World) (r : Result Unit Outcome) → DesyncEnds words w r v → IfSome (command_of words) (λ c. Blames (parts c) (outcome_of r) w v)
-blamed words w v (Ok u) h = if_any (command_of words) _ (λ c. tt)
-blamed words w v (Err o) (inl h) = if_any (command_of words) _ (λ c. words_blame words (parts c) w v o h.0)
-blamed words w v (Err o) (inr h) = let b = begun words w v (Err o) h in if_some (command_of words) _ b.0 b.1 ((command_step b.0).fair w v o b.2).1
+pub blamed : (k : Heard) (words : List (List ℕ)) (w v : World) (r : Result Unit Outcome) → DesyncEnds k words w r v → IfSome (command_of words) (λ c. Blames (parts k c) (outcome_of r) w v)
+blamed k words w v (Ok u) h = if_any (command_of words) _ (λ c. tt)
+blamed k words w v (Err o) (inl h) = if_any (command_of words) _ (λ c. words_blame words (parts k c) w v o h.0)
+blamed k words w v (Err o) (inr h) = let b = begun k words w v (Err o) h in if_some (command_of words) _ b.0 b.1 ((command_step k b.0).fair w v o b.2).1
 
 -- a store hasn't failed where no count rose and its replies were taken
 store_quiet : (w v : World) → NoFault w v → (s : Location) → RepliesTaken w v s → StoreRose (sources_of w) (sources_of v) s → ⊥
@@ -344,8 +364,8 @@ numbered w v [] k all = tt
 numbered w v (q ∷ names) zero all = all 0 q (omega arith)
 numbered w v (q ∷ names) (suc k) all = numbered w v names k (λ j y lt. all (suc j) y (omega (arith, lt)))
 
-quiet : (x : Parts) (w v : World) (o : Outcome) → NoFault w v → All (RepliesTaken w v) x.stores → Blames x o w v → NothingFailed o
-quiet x w v o n taken h = go o h where
+quiet : (x : Parts) (w v : World) (o : Outcome) → NoFault w v → Quiet x.listener.0 x.listener.1 → All (RepliesTaken w v) x.stores → Blames x o w v → NothingFailed o
+quiet x w v o n heard taken h = go o h where
   file : (q : List ℕ) → FileRose w.disk v.disk q → ⊥
   file q rose = rose_not_quiet (count_at w.disk.file_counts q) (count_at w.disk.file_counts q) (count_at v.disk.file_counts q) (omega arith) rose (n.disk.files q)
 
@@ -360,6 +380,7 @@ quiet x w v o n taken h = go o h where
   go (ends.FileFault name) (inl r) = file name r
   go (ends.FileFault name) (inr r) = folder name r
   go ends.OutFault r = rose_not_quiet w.out.faults w.out.faults v.out.faults (omega arith) r n.out
+  go ends.ListenFault r = rose_not_quiet x.listener.0 x.listener.0 x.listener.1 (omega arith) r heard
   go other r = tt
 
 words_quiet : (words : List (List ℕ)) (o : Outcome) → NoCommand words o → NothingFailed o
@@ -367,21 +388,20 @@ words_quiet words (ends.Usage place why) h = tt
 words_quiet words ends.Memory h = tt
 words_quiet words other h = absurd h
 
-pub nothing_failed : (words : List (List ℕ)) (w v : World) (r : Result Unit Outcome) → DesyncEnds words w r v → NoFault w v → IfSome (command_of words) (λ c. All (RepliesTaken w v) (parts c).stores) → NothingFailed (outcome_of r)
-nothing_failed words w v (Ok u) h n taken = tt
-nothing_failed words w v (Err o) (inl h) n taken = words_quiet words o h.0
-nothing_failed words w v (Err o) (inr h) n taken =
-    let b = begun words w v (Err o) h in
-    quiet (parts b.0) w v o n (subst (λ c. IfSome c (λ c. All (RepliesTaken w v) (parts c).stores)) b.1 taken) ((command_step b.0).fair w v o b.2).1
+-- a listener that isn't used hasn't failed
+quiet_listener : (k : Heard) (c : Command) → Quiet k.old.faults k.new.faults → Quiet (parts k c).listener.0 (parts k c).listener.1
+quiet_listener k (commands.ChunkServer store host port writable workers) h = h
+quiet_listener k other h = record { same = omega arith; below = omega arith }
 
-abbrev not_yet : ℕ × UsageWhy
-not_yet = (0, whys.NotYet)
+pub nothing_failed : (k : Heard) (words : List (List ℕ)) (w v : World) (r : Result Unit Outcome) → DesyncEnds k words w r v → NoFault w v → Quiet k.old.faults k.new.faults → IfSome (command_of words) (λ c. All (RepliesTaken w v) (parts k c).stores) → NothingFailed (outcome_of r)
+nothing_failed k words w v (Ok u) h n heard taken = tt
+nothing_failed k words w v (Err o) (inl h) n heard taken = words_quiet words o h.0
+nothing_failed k words w v (Err o) (inr h) n heard taken =
+    let b = begun k words w v (Err o) h in
+    quiet (parts k b.0) w v o n (quiet_listener k b.0 heard) (subst (λ c. IfSome c (λ c. All (RepliesTaken w v) (parts k c).stores)) b.1 taken) ((command_step k b.0).fair w v o b.2).1
 
-unrefused : (r : Result Command WordsFault) (c : Command) → built_in r ≡ Some c → refusal_in r ≡ None
-unrefused (Ok d) c h = go (is_built d) h where
-  go : (b : Bool) → cond b (Some d) None ≡ Some c → cond b None (Some not_yet) ≡ None
-  go true h = refl
-  go false h = absurd (cc)
+unrefused : (r : Result Command WordsFault) (c : Command) → said_in r ≡ Some c → refusal_in r ≡ None
+unrefused (Ok d) c h = refl
 unrefused (Err e) c h = absurd (cc)
 
 words_tell : (words : List (List ℕ)) (o : Outcome) → NoCommand words o → TellsRefusal (refusal_of words) o
@@ -394,7 +414,7 @@ command_tells words (ends.Usage place why) r h = absurd r
 command_tells words ends.Memory r h = tt
 command_tells words other r h = h
 
-pub tells_refusal : (words : List (List ℕ)) (w v : World) (r : Result Unit Outcome) → DesyncEnds words w r v → TellsRefusal (refusal_of words) (outcome_of r)
-tells_refusal words w v (Ok u) h = unrefused (command_line words) h.gave h.did.0
-tells_refusal words w v (Err o) (inl h) = words_tell words o h.0
-tells_refusal words w v (Err o) (inr h) = command_tells words o ((command_step h.gave).fair (between h) v o h.then).0 (unrefused (command_line words) h.gave h.did.0)
+pub tells_refusal : (k : Heard) (words : List (List ℕ)) (w v : World) (r : Result Unit Outcome) → DesyncEnds k words w r v → TellsRefusal (refusal_of words) (outcome_of r)
+tells_refusal k words w v (Ok u) h = unrefused (command_line words) h.gave h.did.0
+tells_refusal k words w v (Err o) (inl h) = words_tell words o h.0
+tells_refusal k words w v (Err o) (inr h) = command_tells words o ((command_step k h.gave).fair (between h) v o h.then).0 (unrefused (command_line words) h.gave h.did.0)

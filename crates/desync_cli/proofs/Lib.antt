@@ -19,3 +19,4 @@ pub mod Cached
 pub mod Pruned
 pub mod GivenFolders
 pub mod GivenStores
+pub mod Listened

@@ -18,6 +18,7 @@ use Rattle.command_steps.specs.Worlds.{OnDisk, Reads, Step, World, world}
 use Rattle.desync_cli.proofs.Fair.{begun, if_any, if_some}
 use Rattle.desync_cli.proofs.Seeded.{zipped_many}
 use Rattle.desync_cli.specs.Commands.{DesyncEnds, Ends, LeavesBehind, command_of}
+use Rattle.desync_cli.specs.Serving.{Heard}
 use Rattle.desync_cli.specs.Extract.{Assembled, Cleared, ClearedAfter, Clearing, ExtractEnds, Into, KeepsIn, LeavesOut, OutMade, Seeds, StopsSomewhere, beside, folder_of, old_of, temporary_out}
 use Rattle.dsy_base.proofs.Counts.{at_other}
 use Rattle.dsy_base.specs.Disk.{Disk, Output}
@@ -227,15 +228,15 @@ opened_many location stores items same few =
 
 -- ---- what the top call says
 
-left_of : (c : Command) (w v : World) (o : Outcome) → is_some w.disk.files ≡ is_some w.disk.folders → Ends c w (Err o) v → LeavesBehind c w v
-left_of (commands.Extract stores seeds cache place workers index target) w v o told h = left_out stores cache seeds place index target w v o told h
-left_of other w v o told h = tt
+left_of : (k : Heard) (c : Command) (w v : World) (o : Outcome) → is_some w.disk.files ≡ is_some w.disk.folders → Ends k c w (Err o) v → LeavesBehind c w v
+left_of k (commands.Extract stores seeds cache place workers index target) w v o told h = left_out stores cache seeds place index target w v o told h
+left_of k other w v o told h = tt
 
 left_none : (c : Command) (w v : World) → v ≡ w → LeavesBehind c w v
 left_none (commands.Extract stores seeds cache place workers index target) w v same = left_same place target w v (ap (λ u. u.disk.files) same)
 left_none other w v same = tt
 
-pub left_behind : (words : List (List ℕ)) (w v : World) (r : Result Unit Outcome) → is_some w.disk.files ≡ is_some w.disk.folders → DesyncEnds words w r v → outcome_of r ≢ ends.Done → IfSome (command_of words) (λ c. LeavesBehind c w v)
-left_behind words w v (Ok u) told h refused = absurd (refused refl)
-left_behind words w v (Err o) told (inl h) refused = if_any (command_of words) _ (λ c. left_none c w v h.1)
-left_behind words w v (Err o) told (inr h) refused = let b = begun words w v (Err o) h in if_some (command_of words) _ b.0 b.1 (left_of b.0 w v o told b.2)
+pub left_behind : (k : Heard) (words : List (List ℕ)) (w v : World) (r : Result Unit Outcome) → is_some w.disk.files ≡ is_some w.disk.folders → DesyncEnds k words w r v → outcome_of r ≢ ends.Done → IfSome (command_of words) (λ c. LeavesBehind c w v)
+left_behind k words w v (Ok u) told h refused = absurd (refused refl)
+left_behind k words w v (Err o) told (inl h) refused = if_any (command_of words) _ (λ c. left_none c w v h.1)
+left_behind k words w v (Err o) told (inr h) refused = let b = begun k words w v (Err o) h in if_some (command_of words) _ b.0 b.1 (left_of k b.0 w v o told b.2)

@@ -13,6 +13,7 @@ use Rattle.desync_cli.specs.Commands.{Achieves}
 use Rattle.desync_cli.specs.Extract.{IsExtracted}
 use Rattle.desync_cli.specs.Make.{IsMade}
 use Rattle.desync_cli.specs.RoundTrip.{ComesBack, RoundTrip}
+use Rattle.desync_cli.specs.Serving.{Heard}
 use Rattle.dsy_base.specs.Disk.{Disk, Output}
 use Rattle.dsy_base.specs.Links.{DialState}
 use Rattle.dsy_base.specs.Maps.{Map}
@@ -36,17 +37,17 @@ module _ (one : (b : List ℕ) (l m : Listing) → IsIndexFile b l → IsIndexFi
         same = law _ m.bytes x.image l m.of_image (subst (λ l. IsRight x.image l) same x.right);
       }
 
-  over : (first then : Command) (b m a : Map (List ℕ)) (f g h : Map (Map (List ℕ))) (bc fc mc gc ac hc : Map ℕ) (i j k : DialState) (p q r : Output) → Achieves first (world (tells b f bc fc) i p) (world (tells m g mc gc) j q) → Achieves then (world (tells m g mc gc) j q) (world (tells a h ac hc) k r)
+  over : (x y : Heard) (first then : Command) (b m a : Map (List ℕ)) (f g h : Map (Map (List ℕ))) (bc fc mc gc ac hc : Map ℕ) (i j k : DialState) (p q r : Output) → Achieves x first (world (tells b f bc fc) i p) (world (tells m g mc gc) j q) → Achieves y then (world (tells m g mc gc) j q) (world (tells a h ac hc) k r)
       → RoundTrip (Some first) (Some then) b a
-  over (commands.Make store sizes workers index image) (commands.Extract stores seeds cache in_place n other out) b m a f g h bc fc mc gc ac hc i j k p q r x y = λ same. back b m a sizes index image out x.0 x.1 (subst (λ i. IsExtracted m a i out) same y)
-  over first then b m a f g h bc fc mc gc ac hc i j k p q r x y = tt
+  over x y (commands.Make store sizes workers index image) (commands.Extract stores seeds cache in_place n other out) b m a f g h bc fc mc gc ac hc i j k p q r made got = λ same. back b m a sizes index image out made.0 made.1 (subst (λ i. IsExtracted m a i out) same got)
+  over x y first then b m a f g h bc fc mc gc ac hc i j k p q r made got = tt
 
   no_second : (first : Command) (b a : Map (List ℕ)) → RoundTrip (Some first) None b a
   no_second (commands.Make store sizes workers index image) b a = tt
   no_second other b a = tt
 
-  pub round_trip : (first then : Option Command) (b m a : Map (List ℕ)) (f g h : Map (Map (List ℕ))) (bc fc mc gc ac hc : Map ℕ) (i j k : DialState) (p q r : Output) → IfSome first (λ c. Achieves c (world (tells b f bc fc) i p) (world (tells m g mc gc) j q)) → IfSome then (λ c. Achieves c (world (tells m g mc gc) j q) (world (tells a h ac hc) k r))
+  pub round_trip : (x y : Heard) (first then : Option Command) (b m a : Map (List ℕ)) (f g h : Map (Map (List ℕ))) (bc fc mc gc ac hc : Map ℕ) (i j k : DialState) (p q r : Output) → IfSome first (λ c. Achieves x c (world (tells b f bc fc) i p) (world (tells m g mc gc) j q)) → IfSome then (λ c. Achieves y c (world (tells m g mc gc) j q) (world (tells a h ac hc) k r))
       → RoundTrip first then b a
-  round_trip None then b m a f g h bc fc mc gc ac hc i j k p q r x y = tt
-  round_trip (Some first) None b m a f g h bc fc mc gc ac hc i j k p q r x y = no_second first b a
-  round_trip (Some first) (Some then) b m a f g h bc fc mc gc ac hc i j k p q r x y = over first then b m a f g h bc fc mc gc ac hc i j k p q r x y
+  round_trip x y None then b m a f g h bc fc mc gc ac hc i j k p q r made got = tt
+  round_trip x y (Some first) None b m a f g h bc fc mc gc ac hc i j k p q r made got = no_second first b a
+  round_trip x y (Some first) (Some then) b m a f g h bc fc mc gc ac hc i j k p q r made got = over x y first then b m a f g h bc fc mc gc ac hc i j k p q r made got

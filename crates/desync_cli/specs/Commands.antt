@@ -1,5 +1,5 @@
 -- What the words are to do, and what each command does.
-use Rattle.std.specs.Prelude.{◌≡◌, ◌&&◌, ℕ, nat_le, length, Bool, true, false, not, is_some, if◌then◌else◌}
+use Rattle.std.specs.Prelude.{◌≡◌, ℕ, Bool, true, false, not, is_some, if◌then◌else◌}
 use Rattle.std.specs.Prelude.{List, [], ◌∷◌, Option, Some, None, IfSome, Result, Ok, Err}
 use Rattle.caibx_codec.specs.Listing.{Listing}
 use Rattle.command_help.specs.Help.{help_text}
@@ -9,7 +9,6 @@ use Rattle.command_line.specs.declared.command.Command.{Command}
 use Rattle.command_line.specs.declared.command.Command.TheVariants as commands
 use Rattle.command_line.specs.declared.command.Location.TheVariants as locations
 use Rattle.command_line.specs.declared.usage.UsageWhy.{UsageWhy}
-use Rattle.command_line.specs.declared.usage.UsageWhy.TheVariants as whys
 use Rattle.command_line.specs.declared.usage.WordsFault.{WordsFault}
 use Rattle.command_line.specs.declared.usage.WordsFault.TheVariants as faults
 use Rattle.command_outcome.specs.declared.outcome.Outcome.{Outcome}
@@ -22,8 +21,9 @@ use Rattle.desync_cli.specs.Info.{InfoEnds}
 use Rattle.desync_cli.specs.ListChunks.{ListChunksEnds}
 use Rattle.desync_cli.specs.Make.{IsMade, MakeEnds, StoreHas}
 use Rattle.desync_cli.specs.Prune.{IsPruned, PruneEnds}
+use Rattle.desync_cli.specs.Serving.{ChunkServerEnds, Heard}
 use Rattle.desync_cli.specs.Verify.{IsVerifiedStore, VerifyEnds}
-use Rattle.command_steps.specs.Blames.{Parts, Spares}
+use Rattle.command_steps.specs.Blames.{Parts, Spares, unheard}
 use Rattle.command_steps.specs.Printing.{Printed}
 use Rattle.command_steps.specs.Sources.{sources_of}
 use Rattle.command_steps.specs.Steps.{◌>>=◌}
@@ -33,41 +33,28 @@ use Rattle.desync_cli.specs.VerifyIndex.{IsVerified, VerifyIndexEnds}
 
 -- ---- a row a command
 
--- the commands that are built
-abbrev pub is_built : Command → Bool
-is_built (commands.Make store sizes workers index image) = true
-is_built (commands.VerifyIndex index image) = true
-is_built (commands.Chop store index image) = true
-is_built (commands.Cache stores cache indexes) = nat_le 1 (length stores) && nat_le (length stores) 16
-is_built (commands.ListChunks index) = true
-is_built (commands.Extract stores seeds cache in_place workers index target) =
-    nat_le (length seeds) 64 && nat_le 1 (length stores) && nat_le (length stores) 16
-is_built (commands.Info stores index) = nat_le (length stores) 16
-is_built (commands.Verify store repair) = true
-is_built (commands.Prune store indexes) = true
-is_built (commands.Demo number size workers) = nat_le size 536870912
-is_built commands.Help = true
-is_built commands.Version = true
-is_built (commands.HelpOn kind) = true
-is_built other = false
+-- whether it listens for connections
+abbrev pub listens : Command → Bool
+listens (commands.ChunkServer store host port writable workers) = true
+listens other = false
 
--- how each ends, from the world before it to the world after it
-abbrev pub Ends : Command → Step World Unit
-Ends (commands.Make store sizes workers index image) = MakeEnds store sizes index image
-Ends (commands.VerifyIndex index image) = VerifyIndexEnds index image
-Ends (commands.Chop store index image) = ChopEnds store index image
-Ends (commands.Cache stores cache indexes) = CacheEnds stores cache indexes
-Ends (commands.ListChunks index) = ListChunksEnds index
-Ends (commands.Extract stores seeds cache in_place workers index target) =
+-- how each ends, from the world before it to the world after it, where this was heard
+abbrev pub Ends : Heard → Command → Step World Unit
+Ends h (commands.Make store sizes workers index image) = MakeEnds store sizes index image
+Ends h (commands.VerifyIndex index image) = VerifyIndexEnds index image
+Ends h (commands.Chop store index image) = ChopEnds store index image
+Ends h (commands.Cache stores cache indexes) = CacheEnds stores cache indexes
+Ends h (commands.ListChunks index) = ListChunksEnds index
+Ends h (commands.Extract stores seeds cache in_place workers index target) =
     ExtractEnds stores cache seeds in_place index target
-Ends (commands.Info stores index) = InfoEnds stores index
-Ends (commands.Verify store repair) = VerifyEnds store repair
-Ends (commands.Prune store indexes) = PruneEnds store indexes
-Ends (commands.Demo number size workers) = DemoEnds number size
-Ends commands.Help = OnOut (Printed (help_text topics.All))
-Ends commands.Version = OnOut (Printed (help_text topics.Version))
-Ends (commands.HelpOn kind) = OnOut (Printed (help_text (topics.Command kind)))
-Ends other = λ w r v. ⊥
+Ends h (commands.Info stores index) = InfoEnds stores index
+Ends h (commands.Verify store repair) = VerifyEnds store repair
+Ends h (commands.Prune store indexes) = PruneEnds store indexes
+Ends h (commands.Demo number size workers) = DemoEnds number size
+Ends h commands.Help = OnOut (Printed (help_text topics.All))
+Ends h commands.Version = OnOut (Printed (help_text topics.Version))
+Ends h (commands.HelpOn kind) = OnOut (Printed (help_text (topics.Command kind)))
+Ends h (commands.ChunkServer store host port writable workers) = ChunkServerEnds h store writable
 
 -- what no outcome of it changes
 abbrev pub spares : Command → Spares
@@ -83,43 +70,52 @@ spares (commands.Extract stores seeds cache in_place workers index target) = rec
 spares (commands.Info stores index) = record { files = true; folders = true; dial = are_folders stores; out = false }
 spares (commands.Verify store repair) = record { files = true; folders = false; dial = true; out = false }
 spares (commands.Prune store indexes) = record { files = true; folders = false; dial = true; out = true }
+spares (commands.ChunkServer store host port writable workers) = record
+    { files = true; folders = false; dial = true; out = true }
 spares other = record { files = true; folders = true; dial = true; out = false }
 
 -- whose files, folders and servers its faults are of, where the outcome doesn't name them
-abbrev pub parts : Command → Parts
-parts (commands.Make store sizes workers index image) = record
-    { image = image; stores = store ∷ []; target = []; cache = [] }
-parts (commands.VerifyIndex index image) = record { image = image; stores = []; target = []; cache = [] }
-parts (commands.Chop store index image) = record { image = image; stores = store ∷ []; target = []; cache = [] }
-parts (commands.Cache stores cache indexes) = record
-    { image = []; stores = stores; target = []; cache = cache }
-parts (commands.Extract stores seeds cache in_place workers index target) = record
-    { image = []; stores = stores; target = if in_place then target else temporary_out target; cache = [] }
-parts (commands.Info stores index) = record { image = []; stores = stores; target = []; cache = [] }
-parts (commands.Verify store repair) = record { image = []; stores = locations.Folder store ∷ []; target = []; cache = [] }
-parts (commands.Prune store indexes) = record { image = []; stores = locations.Folder store ∷ []; target = []; cache = [] }
-parts other = record { image = []; stores = []; target = []; cache = [] }
+abbrev pub parts : Heard → Command → Parts
+parts h (commands.Make store sizes workers index image) = record
+    { image = image; stores = store ∷ []; target = []; cache = []; listener = unheard }
+parts h (commands.VerifyIndex index image) = record
+    { image = image; stores = []; target = []; cache = []; listener = unheard }
+parts h (commands.Chop store index image) = record
+    { image = image; stores = store ∷ []; target = []; cache = []; listener = unheard }
+parts h (commands.Cache stores cache indexes) = record
+    { image = []; stores = stores; target = []; cache = cache; listener = unheard }
+parts h (commands.Extract stores seeds cache in_place workers index target) = record
+    { image = []; stores = stores; target = if in_place then target else temporary_out target; cache = []; listener = unheard }
+parts h (commands.Info stores index) = record
+    { image = []; stores = stores; target = []; cache = []; listener = unheard }
+parts h (commands.Verify store repair) = record
+    { image = []; stores = locations.Folder store ∷ []; target = []; cache = []; listener = unheard }
+parts h (commands.Prune store indexes) = record
+    { image = []; stores = locations.Folder store ∷ []; target = []; cache = []; listener = unheard }
+parts h (commands.ChunkServer store host port writable workers) = record
+    { image = []; stores = []; target = []; cache = []; listener = (h.old.faults, h.new.faults) }
+parts h other = record { image = []; stores = []; target = []; cache = []; listener = unheard }
 
 -- what Done says of it, beside how it ends
-abbrev pub Achieves : Command → World → World → Type 0
-Achieves (commands.Make store sizes workers index image) w v =
+abbrev pub Achieves : Heard → Command → World → World → Type 0
+Achieves h (commands.Make store sizes workers index image) w v =
     IfSome w.disk.files (λ b. IfSome v.disk.files (λ a. (l : Listing)
     × IsMade b a sizes index image l × StoreHas (sources_of w) (sources_of v) store l))
-Achieves (commands.VerifyIndex index image) w v = IfSome w.disk.files (λ m. IsVerified m index image)
-Achieves (commands.Chop store index image) w v = IfSome w.disk.files (λ b. (l : Listing)
+Achieves h (commands.VerifyIndex index image) w v = IfSome w.disk.files (λ m. IsVerified m index image)
+Achieves h (commands.Chop store index image) w v = IfSome w.disk.files (λ b. (l : Listing)
     × IsChopped b index image l × StoreHas (sources_of w) (sources_of v) store l)
-Achieves (commands.Cache stores cache indexes) w v =
+Achieves h (commands.Cache stores cache indexes) w v =
     IfSome w.disk.files (λ b. IfSome w.disk.folders (λ f. IfSome v.disk.folders (λ g.
     IsCached b f g cache indexes)))
-Achieves (commands.Extract stores seeds cache in_place workers index target) w v =
+Achieves h (commands.Extract stores seeds cache in_place workers index target) w v =
     IfSome w.disk.files (λ b. IfSome v.disk.files (λ a. IsExtracted b a index target))
-Achieves (commands.Verify store repair) w v =
+Achieves h (commands.Verify store repair) w v =
     IfSome w.disk.folders (λ f. IfSome v.disk.folders (λ g.
     IsVerifiedStore f g w.out.taken v.out.taken store repair))
-Achieves (commands.Prune store indexes) w v =
+Achieves h (commands.Prune store indexes) w v =
     IfSome w.disk.files (λ b. IfSome w.disk.folders (λ f. IfSome v.disk.folders (λ g.
     IsPruned b f g store indexes)))
-Achieves other w v = Ends other w (Ok tt) v
+Achieves h other w v = Ends h other w (Ok tt) v
 
 -- what a refusal leaves of it, beside how it ends
 abbrev pub LeavesBehind : Command → World → World → Type 0
@@ -128,16 +124,16 @@ LeavesBehind other w v = Unit {0}
 
 -- ---- the words
 
--- the command of the words, where it is built, and why else they are refused
-abbrev pub built_in : Result Command WordsFault → Option Command
-built_in (Ok c) = if is_built c then Some c else None
-built_in (Err fault) = None
+-- the command of the words, and why else they are refused
+abbrev pub said_in : Result Command WordsFault → Option Command
+said_in (Ok c) = Some c
+said_in (Err fault) = None
 
 abbrev pub command_of : List (List ℕ) → Option Command
-command_of words = built_in (command_line words)
+command_of words = said_in (command_line words)
 
 abbrev pub refusal_in : Result Command WordsFault → Option (ℕ × UsageWhy)
-refusal_in (Ok c) = if is_built c then None else Some (0, whys.NotYet)
+refusal_in (Ok c) = None
 refusal_in (Err (faults.Usage place why)) = Some (place, why)
 refusal_in (Err faults.Memory) = None
 
@@ -160,7 +156,7 @@ WordsRead words w (Ok c) v = (command_of words ≡ Some c) × (v ≡ w)
 WordsRead words w (Err o) v = NoCommand words o × (v ≡ w)
 
 -- the words are read, and then the command does its steps
-abbrev pub DesyncEnds : List (List ℕ) → Step World Unit
-DesyncEnds words = do
+abbrev pub DesyncEnds : Heard → List (List ℕ) → Step World Unit
+DesyncEnds h words = do
   c ← WordsRead words
-  Ends c
+  Ends h c

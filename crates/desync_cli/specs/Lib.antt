@@ -11,3 +11,4 @@ pub mod Caching
 pub mod Prune
 pub mod Verify
 pub mod Demo
+pub mod Serving

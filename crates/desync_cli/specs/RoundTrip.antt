@@ -8,6 +8,8 @@ use Rattle.command_outcome.specs.declared.outcome.Outcome.{Outcome}
 use Rattle.command_steps.specs.Steps.{answer_of}
 use Rattle.command_steps.specs.Worlds.{World}
 use Rattle.desync_cli.specs.Commands.{DesyncEnds}
+use Rattle.desync_cli.specs.Serving.{heard}
+use Rattle.dsy_base.specs.Links.{ListenState}
 use Rattle.dsy_base.specs.Maps.{Map}
 
 -- OUT holds afterwards what IMAGE held before, or a chunk shows two unequal pieces of bytes that have one name
@@ -27,6 +29,8 @@ RoundTrip (Some (commands.Make store sizes workers index image))
 RoundTrip first then before after = Unit {0}
 
 -- two commands, one after the other: each ended so from what stood there before it
-abbrev pub InTurn : List (List ℕ) → List (List ℕ) → World → Outcome → Outcome → World → Type 0
-InTurn first then w one two v =
-    (between : World) × DesyncEnds first w (answer_of one) between × DesyncEnds then between (answer_of two) v
+abbrev pub InTurn : ListenState → ListenState → List (List ℕ) → List (List ℕ) → World → Outcome → Outcome → World → Type 0
+InTurn old new first then w one two v =
+    (mid : ListenState) × (between : World)
+    × DesyncEnds (heard old mid) first w (answer_of one) between
+    × DesyncEnds (heard mid new) then between (answer_of two) v

@@ -6,6 +6,7 @@ use dsy_base::folder::Folder;
 use dsy_forms::mem_dial::MemDial;
 use dsy_forms::mem_files::MemFiles;
 use dsy_forms::mem_folder::MemFolder;
+use dsy_forms::mem_listen::MemListen;
 use dsy_forms::mem_sink::MemSink;
 use std::alloc::{AllocError, Global};
 use std::process::Abort;
@@ -78,6 +79,11 @@ pub fn no_dial(alloc: Global) -> MemDial {
     MemDial::new(alloc, Vec::new(alloc), Vec::new(alloc))
 }
 
+// A listener to which nobody connects.
+pub fn no_listen(alloc: Global) -> MemListen {
+    MemListen::new(alloc, Vec::new(alloc), Vec::new(alloc))
+}
+
 // Runs the words, which are parted by spaces, with this dialer, and compares what is printed and the line that tells how
 // it ended.
 pub fn ends_over(
@@ -92,7 +98,8 @@ pub fn ends_over(
     let list = words_of(alloc, words)?;
     let mut out = MemSink::new(alloc, Vec::new(alloc));
     let mut err = MemSink::new(alloc, Vec::new(alloc));
-    let ended = desync_in_memory(alloc, &list, files, dial, &mut out, &mut err);
+    let mut listen = no_listen(alloc);
+    let ended = desync_in_memory(alloc, &list, files, dial, &mut listen, &mut out, &mut err);
     assert_eq!(rt; err.taken(), line.as_bytes(), "{words}");
     assert_eq!(rt; out.taken(), printed.as_bytes(), "{words}");
     assert_eq!(rt;

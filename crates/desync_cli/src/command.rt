@@ -9,5 +9,6 @@ pub mod info;
 pub mod list_chunks;
 pub mod make;
 pub mod prune;
+pub mod server;
 pub mod verify;
 pub mod verify_index;

@@ -5,6 +5,7 @@ ghost use Rattle.command_steps.specs.Steps.{answer_of};
 ghost use Rattle.command_steps.specs.Worlds.{world};
 ghost use Rattle.desync_cli.specs.Commands.{Achieves, DesyncEnds, command_of};
 ghost use Rattle.desync_cli.specs.RoundTrip.{InTurn, RoundTrip};
+ghost use Rattle.desync_cli.specs.Serving.{heard};
 ghost use Rattle.dsy_base.specs.Disk.{Output};
 ghost use Rattle.dsy_forms.specs.MemFiles.{disk_of, files_of};
 ghost use Rattle.dsy_forms.specs.MemSinks.{output_of};
@@ -14,39 +15,44 @@ use buzhash_cut::laws::cutting;
 use caibx_codec::laws::one_index;
 use command_outcome::outcome::{Ended, Outcome};
 use dsy_base::dial::Dial;
+use dsy_base::listen::Listen;
 use dsy_forms::mem_files::MemFiles;
 use dsy_forms::mem_sink::MemSink;
 use std::alloc::Global;
 
 /// Does what the words say. Here each clause of `desync` speaks of what stands under the names, with nothing left open.
-pub fn desync_in_memory<D: Dial>(
+pub fn desync_in_memory<D: Dial, L: Listen>(
     alloc: Global,
     words: &[String],
     files: &mut MemFiles,
     dial: &mut D,
+    listen: &mut L,
     out: &mut MemSink,
     err: &mut MemSink,
 ) -> Ended
-    ensures done { result.outcome ≡ Outcome.Done → IfSome (command_of (map string_bytes words.now)) (λ c. Achieves c
+    ensures done { result.outcome ≡ Outcome.Done → IfSome (command_of (map string_bytes words.now))
+        (λ c. Achieves (heard (L.state listen.old) (L.state listen.new)) c
         (world (disk_of files.old) (D.state dial.old) (output_of out.old)) (world (disk_of files.new) (D.state dial.new) (output_of out.new))) }
-    ensures ends { DesyncEnds (map string_bytes words.now) (world (disk_of files.old) (D.state dial.old) (output_of out.old))
+    ensures ends { DesyncEnds (heard (L.state listen.old) (L.state listen.new)) (map string_bytes words.now)
+        (world (disk_of files.old) (D.state dial.old) (output_of out.old))
         (answer_of result.outcome) (world (disk_of files.new) (D.state dial.new) (output_of out.new)) }
 {
-    desync(alloc, words, files, dial, out, err)
+    desync(alloc, words, files, dial, listen, out, err)
 }
 
 /// Does what the first words say and then what the second say. Where these are a `make` and an `extract` of its
 /// index, and both are done, the image has come back.
-pub fn make_then_extract<D: Dial>(
+pub fn make_then_extract<D: Dial, L: Listen>(
     alloc: Global,
     make: &[String],
     extract: &[String],
     files: &mut MemFiles,
     dial: &mut D,
+    listen: &mut L,
     out: &mut MemSink,
     err: &mut MemSink,
 ) -> (Ended, Ended)
-    ensures ends { InTurn (map string_bytes make.now) (map string_bytes extract.now)
+    ensures ends { InTurn (L.state listen.old) (L.state listen.new) (map string_bytes make.now) (map string_bytes extract.now)
         (world (disk_of files.old) (D.state dial.old) (output_of out.old)) result.0.outcome result.1.outcome
         (world (disk_of files.new) (D.state dial.new) (output_of out.new)) }
     ensures done { result.0.outcome ≡ Outcome.Done → result.1.outcome ≡ Outcome.Done →
@@ -55,7 +61,7 @@ pub fn make_then_extract<D: Dial>(
 {
     one_index();
     cutting();
-    let made = desync_in_memory(alloc, make, files, dial, out, err);
-    let extracted = desync_in_memory(alloc, extract, files, dial, out, err);
+    let made = desync_in_memory(alloc, make, files, dial, listen, out, err);
+    let extracted = desync_in_memory(alloc, extract, files, dial, listen, out, err);
     (made, extracted)
 }

@@ -14,6 +14,10 @@ pub mod in_memory;
 mod make_tests;
 pub mod run;
 #[cfg(test)]
+mod server_tests;
+#[cfg(test)]
+mod sure_tests;
+#[cfg(test)]
 mod tests;
 #[cfg(test)]
 mod tool_tests;

@@ -1,6 +1,6 @@
 //! Making over files in memory: the index file, byte by byte, and what the store holds.
 
-use crate::cases::{ABC_INDEX, EMPTY_INDEX, ends, no_dial, store_of, words_of};
+use crate::cases::{ABC_INDEX, EMPTY_INDEX, ends, no_dial, no_listen, store_of, words_of};
 use crate::in_memory::make_then_extract;
 use chunk_store::id::{ChunkId, DigestKind};
 use dsy_base::files::Files;
@@ -146,8 +146,16 @@ fn what_was_made_is_extracted(rt: HostRuntime) -> Result<(), Fail> {
     let mut dial = no_dial(alloc);
     let mut out = MemSink::new(alloc, Vec::new(alloc));
     let mut err = MemSink::new(alloc, Vec::new(alloc));
+    let mut listen = no_listen(alloc);
     let (made, extracted) = make_then_extract(
-        alloc, &make, &extract, &mut files, &mut dial, &mut out, &mut err,
+        alloc,
+        &make,
+        &extract,
+        &mut files,
+        &mut dial,
+        &mut listen,
+        &mut out,
+        &mut err,
     );
     assert_eq!(&rt; made.status, 0);
     assert_eq!(&rt; extracted.status, 0);

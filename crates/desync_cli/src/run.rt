@@ -1,13 +1,16 @@
 //! The top call: words in, an outcome out.
 
-ghost use Rattle.std.specs.Prelude.{◌≡◌, ◌≢◌, All, None, Some, IfSome, IsTrue, map, string_bytes};
+ghost use Rattle.std.specs.Prelude.{◌≡◌, ◌≢◌, All, None, Some, IfSome, false, map, string_bytes};
+ghost use Rattle.command_line.specs.Limits.{Fits};
 ghost use Rattle.command_line.specs.declared.command.Command.{Command};
 ghost use Rattle.command_outcome.specs.ErrorLines.{error_line_of};
 ghost use Rattle.command_outcome.specs.Statuses.{status_of};
 ghost use Rattle.command_steps.specs.Blames.{Blames, RepliesTaken, Keeps, NothingFailed};
-ghost use Rattle.desync_cli.specs.Commands.{Achieves, DesyncEnds, Ends, TellsRefusal, command_of, is_built, parts};
+ghost use Rattle.desync_cli.specs.Commands.{Achieves, DesyncEnds, Ends, TellsRefusal, command_of, listens, parts};
 ghost use Rattle.desync_cli.specs.Commands.{LeavesBehind, refusal_of, spares};
 ghost use Rattle.desync_cli.specs.Lines.{TakesLine};
+ghost use Rattle.desync_cli.specs.Serving.{heard};
+ghost use Rattle.dsy_base.specs.Counts.{Quiet};
 ghost use Rattle.command_steps.specs.Steps.{answer_of, outcome_of};
 ghost use Rattle.command_steps.specs.Worlds.{NoFault, world};
 
@@ -20,6 +23,7 @@ use crate::command::info::info;
 use crate::command::list_chunks::list_chunks;
 use crate::command::make::make;
 use crate::command::prune::prune;
+use crate::command::server::chunk_server;
 use crate::command::verify::verify;
 use crate::command::verify_index::verify_index;
 use crate::words::read_command;
@@ -30,19 +34,22 @@ use command_outcome::outcome::{Ended, Outcome};
 use dsy_base::dial::Dial;
 use dsy_base::fault::IoFault;
 use dsy_base::files::Files;
+use dsy_base::listen::Listen;
 use dsy_base::sink::Sink;
 use std::alloc::Global;
 
 // Does the command.
-fn perform<F: Files, D: Dial, O: Sink>(
+fn perform<F: Files, D: Dial, L: Listen, O: Sink>(
     alloc: Global,
     command: Command,
     files: &mut F,
     dial: &mut D,
+    listen: &mut L,
     out: &mut O,
 ) -> Result<(), Outcome>
-    requires { IsTrue (is_built command) }
-    ensures ends { Ends command
+    requires { Fits command }
+    ensures unheard { listens command ≡ false → listen.new ≡ listen.old }
+    ensures ends { Ends (heard (L.state listen.old) (L.state listen.new)) command
         (world (F.disk files.old) (D.state dial.old) (O.output out.old)) result
         (world (F.disk files.new) (D.state dial.new) (O.output out.new)) }
 {
@@ -84,26 +91,34 @@ fn perform<F: Files, D: Dial, O: Sink>(
         Command::Verify { store, repair } => verify(alloc, files, out, store, repair),
         Command::Prune { store, indexes } => prune(alloc, files, store, indexes),
         Command::Demo { number, size, .. } => demo(alloc, out, number, size),
-        Command::ChunkServer { .. } => unreachable!(),
+        Command::ChunkServer {
+            store,
+            host,
+            port,
+            writable,
+            ..
+        } => chunk_server(alloc, files, listen, store, host, port, writable),
     }
 }
 
 // Does what the words say.
-fn run<F: Files, D: Dial, O: Sink>(
+fn run<F: Files, D: Dial, L: Listen, O: Sink>(
     alloc: Global,
     words: &[String],
     files: &mut F,
     dial: &mut D,
+    listen: &mut L,
     out: &mut O,
 ) -> Result<(), Outcome>
     ensures refused { command_of (map string_bytes words.now) ≡ None → (files.new ≡ files.old)
-        × (dial.new ≡ dial.old) × (out.new ≡ out.old) }
-    ensures ends { DesyncEnds (map string_bytes words.now)
+        × (dial.new ≡ dial.old) × (listen.new ≡ listen.old) × (out.new ≡ out.old) }
+    ensures unheard { IfSome (command_of (map string_bytes words.now)) (λ c. listens c ≡ false → listen.new ≡ listen.old) }
+    ensures ends { DesyncEnds (heard (L.state listen.old) (L.state listen.new)) (map string_bytes words.now)
         (world (F.disk files.old) (D.state dial.old) (O.output out.old)) result
         (world (F.disk files.new) (D.state dial.new) (O.output out.new)) }
 {
     let command = read_command(alloc, words)?;
-    perform(alloc, command, files, dial, out)
+    perform(alloc, command, files, dial, listen, out)
 }
 
 // The outcome of a command.
@@ -127,30 +142,33 @@ fn tell<E: Sink>(alloc: Global, outcome: &Outcome, err: &mut E)
     }
 }
 
-/// Does what the words say, with servers that `dial` connects to, prints to `out`, and tells `err` how it ended.
-pub fn desync<F: Files, D: Dial, O: Sink, E: Sink>(
+/// Does what the words say, with servers that `dial` connects to and clients that connect to `listen`, prints to `out`,
+/// and tells `err` how it ended.
+pub fn desync<F: Files, D: Dial, L: Listen, O: Sink, E: Sink>(
     alloc: Global,
     words: &[String],
     files: &mut F,
     dial: &mut D,
+    listen: &mut L,
     out: &mut O,
     err: &mut E,
 ) -> Ended
     ensures status { result.status ≡ status_of result.outcome }
     ensures line { TakesLine (error_line_of result.outcome) (E.output err.old) (E.output err.new) }
 
-    // Words that are no command of a form that is built change nothing, and only they are refused as such.
+    // Words that are no command change nothing, and only they are refused as such.
     ensures usage { TellsRefusal (refusal_of (map string_bytes words.now)) result.outcome }
     ensures refused { command_of (map string_bytes words.now) ≡ None → (files.new ≡ files.old)
-        × (dial.new ≡ dial.old) × (out.new ≡ out.old) }
+        × (dial.new ≡ dial.old) × (listen.new ≡ listen.old) × (out.new ≡ out.old) }
 
     // What the command that is done has achieved.
-    ensures done { result.outcome ≡ Outcome.Done → IfSome (command_of (map string_bytes words.now)) (λ c. Achieves c
+    ensures done { result.outcome ≡ Outcome.Done → IfSome (command_of (map string_bytes words.now))
+        (λ c. Achieves (heard (L.state listen.old) (L.state listen.new)) c
         (world (F.disk files.old) (D.state dial.old) (O.output out.old))
         (world (F.disk files.new) (D.state dial.new) (O.output out.new))) }
 
     // Each outcome comes only from a step whose refusal it is, where the steps before it have passed.
-    ensures ends { DesyncEnds (map string_bytes words.now)
+    ensures ends { DesyncEnds (heard (L.state listen.old) (L.state listen.new)) (map string_bytes words.now)
         (world (F.disk files.old) (D.state dial.old) (O.output out.old))
         (answer_of result.outcome)
         (world (F.disk files.new) (D.state dial.new) (O.output out.new)) }
@@ -158,13 +176,17 @@ pub fn desync<F: Files, D: Dial, O: Sink, E: Sink>(
         (world (F.disk files.old) (D.state dial.old) (O.output out.old))
         (world (F.disk files.new) (D.state dial.new) (O.output out.new))) }
 
+    // A command that doesn't listen leaves the listener as it was.
+    ensures unheard { IfSome (command_of (map string_bytes words.now)) (λ c. listens c ≡ false → listen.new ≡ listen.old) }
+
     // What a refusal leaves of what the command would have written.
     ensures left { result.outcome ≢ Outcome.Done → IfSome (command_of (map string_bytes words.now)) (λ c. LeavesBehind c
         (world (F.disk files.old) (D.state dial.old) (O.output out.old))
         (world (F.disk files.new) (D.state dial.new) (O.output out.new))) }
 
     // A fault is named only where its count rose.
-    ensures cause { IfSome (command_of (map string_bytes words.now)) (λ c. Blames (parts c) result.outcome
+    ensures cause { IfSome (command_of (map string_bytes words.now)) (λ c. Blames
+        (parts (heard (L.state listen.old) (L.state listen.new)) c) result.outcome
         (world (F.disk files.old) (D.state dial.old) (O.output out.old))
         (world (F.disk files.new) (D.state dial.new) (O.output out.new))) }
 
@@ -172,12 +194,14 @@ pub fn desync<F: Files, D: Dial, O: Sink, E: Sink>(
     ensures quiet { NoFault
         (world (F.disk files.old) (D.state dial.old) (O.output out.old))
         (world (F.disk files.new) (D.state dial.new) (O.output out.new))
+        → Quiet (L.state listen.old).faults (L.state listen.new).faults
         → IfSome (command_of (map string_bytes words.now)) (λ c. All (RepliesTaken
         (world (F.disk files.old) (D.state dial.old) (O.output out.old))
-        (world (F.disk files.new) (D.state dial.new) (O.output out.new))) (parts c).stores)
+        (world (F.disk files.new) (D.state dial.new) (O.output out.new)))
+        (parts (heard (L.state listen.old) (L.state listen.new)) c).stores)
         → NothingFailed result.outcome }
 {
-    let outcome = outcome_of(run(alloc, words, files, dial, out));
+    let outcome = outcome_of(run(alloc, words, files, dial, listen, out));
     let status = outcome.status();
     tell(alloc, &outcome, err);
     Ended { status, outcome }

@@ -1,38 +1,39 @@
 use Rattle.std.proofs.Common.{map, string_bytes, sym, ◌∙◌}
 use Rattle.command_steps.specs.Worlds.{world}
 use Rattle.desync_cli.proofs.Replaced.{left_behind}
+use Rattle.desync_cli.specs.Serving.{heard}
 use Rattle.desync_cli.proofs.Done.{achieved}
 use Rattle.desync_cli.proofs.Fair.{answered, blamed, kept, nothing_failed, tells_refusal}
 use Rattle.desync_cli.proofs.run.desync.Goals as goal
 
 pub returns-clause-usage : goal.returns-clause-usage
 returns-clause-usage g c =
-    rw c.outcome_of-outcome.ensures (tells_refusal (map string_bytes c.args.words.now) (world (g.F.Files.disk c.args.files.now) (g.D.Dial.state c.args.dial.now) (g.O.Sink.output c.args.out.now)) (world (g.F.Files.disk c.run.new.files) (g.D.Dial.state c.run.new.dial) (g.O.Sink.output c.run.new.out)) c.run.result c.run.ensures.ends)
+    rw c.outcome_of-outcome.ensures (tells_refusal (heard (g.L.Listen.state c.args.listen.now) (g.L.Listen.state c.run.new.listen)) (map string_bytes c.args.words.now) (world (g.F.Files.disk c.args.files.now) (g.D.Dial.state c.args.dial.now) (g.O.Sink.output c.args.out.now)) (world (g.F.Files.disk c.run.new.files) (g.D.Dial.state c.run.new.dial) (g.O.Sink.output c.run.new.out)) c.run.result c.run.ensures.ends)
 
 pub returns-clause-ends : goal.returns-clause-ends
 returns-clause-ends g c =
-    rw c.outcome_of-outcome.ensures (answered (map string_bytes c.args.words.now) (world (g.F.Files.disk c.args.files.now) (g.D.Dial.state c.args.dial.now) (g.O.Sink.output c.args.out.now)) (world (g.F.Files.disk c.run.new.files) (g.D.Dial.state c.run.new.dial) (g.O.Sink.output c.run.new.out)) c.run.result c.run.ensures.ends)
+    rw c.outcome_of-outcome.ensures (answered (heard (g.L.Listen.state c.args.listen.now) (g.L.Listen.state c.run.new.listen)) (map string_bytes c.args.words.now) (world (g.F.Files.disk c.args.files.now) (g.D.Dial.state c.args.dial.now) (g.O.Sink.output c.args.out.now)) (world (g.F.Files.disk c.run.new.files) (g.D.Dial.state c.run.new.dial) (g.O.Sink.output c.run.new.out)) c.run.result c.run.ensures.ends)
 
 pub returns-clause-kept : goal.returns-clause-kept
 returns-clause-kept g c =
-    (kept (map string_bytes c.args.words.now) (world (g.F.Files.disk c.args.files.now) (g.D.Dial.state c.args.dial.now) (g.O.Sink.output c.args.out.now)) (world (g.F.Files.disk c.run.new.files) (g.D.Dial.state c.run.new.dial) (g.O.Sink.output c.run.new.out)) c.run.result c.run.ensures.ends)
+    (kept (heard (g.L.Listen.state c.args.listen.now) (g.L.Listen.state c.run.new.listen)) (map string_bytes c.args.words.now) (world (g.F.Files.disk c.args.files.now) (g.D.Dial.state c.args.dial.now) (g.O.Sink.output c.args.out.now)) (world (g.F.Files.disk c.run.new.files) (g.D.Dial.state c.run.new.dial) (g.O.Sink.output c.run.new.out)) c.run.result c.run.ensures.ends)
 
 pub returns-clause-cause : goal.returns-clause-cause
 returns-clause-cause g c =
-    rw c.outcome_of-outcome.ensures (blamed (map string_bytes c.args.words.now) (world (g.F.Files.disk c.args.files.now) (g.D.Dial.state c.args.dial.now) (g.O.Sink.output c.args.out.now)) (world (g.F.Files.disk c.run.new.files) (g.D.Dial.state c.run.new.dial) (g.O.Sink.output c.run.new.out)) c.run.result c.run.ensures.ends)
+    rw c.outcome_of-outcome.ensures (blamed (heard (g.L.Listen.state c.args.listen.now) (g.L.Listen.state c.run.new.listen)) (map string_bytes c.args.words.now) (world (g.F.Files.disk c.args.files.now) (g.D.Dial.state c.args.dial.now) (g.O.Sink.output c.args.out.now)) (world (g.F.Files.disk c.run.new.files) (g.D.Dial.state c.run.new.dial) (g.O.Sink.output c.run.new.out)) c.run.result c.run.ensures.ends)
 
 pub returns-clause-quiet : goal.returns-clause-quiet
 returns-clause-quiet g c =
-    rw c.outcome_of-outcome.ensures (nothing_failed (map string_bytes c.args.words.now) (world (g.F.Files.disk c.args.files.now) (g.D.Dial.state c.args.dial.now) (g.O.Sink.output c.args.out.now)) (world (g.F.Files.disk c.run.new.files) (g.D.Dial.state c.run.new.dial) (g.O.Sink.output c.run.new.out)) c.run.result c.run.ensures.ends)
+    rw c.outcome_of-outcome.ensures (nothing_failed (heard (g.L.Listen.state c.args.listen.now) (g.L.Listen.state c.run.new.listen)) (map string_bytes c.args.words.now) (world (g.F.Files.disk c.args.files.now) (g.D.Dial.state c.args.dial.now) (g.O.Sink.output c.args.out.now)) (world (g.F.Files.disk c.run.new.files) (g.D.Dial.state c.run.new.dial) (g.O.Sink.output c.run.new.out)) c.run.result c.run.ensures.ends)
 
 pub returns-clause-done : goal.returns-clause-done
 returns-clause-done g c =
     let told = g.met.F.Files.told c.args.files.now in
     rw c.outcome_of-outcome.ensures (λ done.
-    achieved (map string_bytes c.args.words.now) (world (g.F.Files.disk c.args.files.now) (g.D.Dial.state c.args.dial.now) (g.O.Sink.output c.args.out.now)) (world (g.F.Files.disk c.run.new.files) (g.D.Dial.state c.run.new.dial) (g.O.Sink.output c.run.new.out)) c.run.result (told.0 ∙ sym told.1) c.run.ensures.ends done)
+    achieved (heard (g.L.Listen.state c.args.listen.now) (g.L.Listen.state c.run.new.listen)) (map string_bytes c.args.words.now) (world (g.F.Files.disk c.args.files.now) (g.D.Dial.state c.args.dial.now) (g.O.Sink.output c.args.out.now)) (world (g.F.Files.disk c.run.new.files) (g.D.Dial.state c.run.new.dial) (g.O.Sink.output c.run.new.out)) c.run.result (told.0 ∙ sym told.1) c.run.ensures.ends done)
 
 pub returns-clause-left : goal.returns-clause-left
 returns-clause-left g c =
     let told = g.met.F.Files.told c.args.files.now in
     rw c.outcome_of-outcome.ensures (λ refused.
-    left_behind (map string_bytes c.args.words.now) (world (g.F.Files.disk c.args.files.now) (g.D.Dial.state c.args.dial.now) (g.O.Sink.output c.args.out.now)) (world (g.F.Files.disk c.run.new.files) (g.D.Dial.state c.run.new.dial) (g.O.Sink.output c.run.new.out)) c.run.result (told.0 ∙ sym told.1) c.run.ensures.ends refused)
+    left_behind (heard (g.L.Listen.state c.args.listen.now) (g.L.Listen.state c.run.new.listen)) (map string_bytes c.args.words.now) (world (g.F.Files.disk c.args.files.now) (g.D.Dial.state c.args.dial.now) (g.O.Sink.output c.args.out.now)) (world (g.F.Files.disk c.run.new.files) (g.D.Dial.state c.run.new.dial) (g.O.Sink.output c.run.new.out)) c.run.result (told.0 ∙ sym told.1) c.run.ensures.ends refused)

@@ -1,0 +1,140 @@
+-- `chunk-server -s STORE -l HOST:PORT -w -n N`. Connections are taken in the order in which they come, and each is served to
+-- its end before the next one is taken.
+use Rattle.std.specs.Prelude.{◌≡◌, ℕ, ◌⊎◌, Bool, List, [], ◌∷◌, ◌++◌, Option, Some, IfSome, Result, Ok, Err}
+use Rattle.std.specs.Map.{count_at}
+use Rattle.std.specs.Option.{option_map}
+use Rattle.chunk_server.specs.Answers.{Answer}
+use Rattle.chunk_server.specs.Shelves.{Shelved}
+use Rattle.chunk_server.specs.Turns.{Cut, Lacking, Served}
+use Rattle.chunk_store.specs.declared.id.DigestKind.TheVariants as kinds
+use Rattle.command_outcome.specs.declared.outcome.Outcome.{Outcome}
+use Rattle.command_outcome.specs.declared.outcome.Outcome.TheVariants as ends
+use Rattle.command_steps.specs.Steps.{◌>>=◌}
+use Rattle.command_steps.specs.Stores.{StoreTaken}
+use Rattle.command_steps.specs.Worlds.{Adds, OnDisk, Step, World}
+use Rattle.dsy_base.specs.Counts.{Rose, raised}
+use Rattle.dsy_base.specs.Disk.{Disk}
+use Rattle.dsy_base.specs.Links.{ListenState, Traffic}
+use Rattle.dsy_base.specs.Maps.{Map, at_name}
+use Rattle.dsy_base.specs.declared.fault.IoFault.{IoFault}
+use Rattle.dsy_base.specs.declared.fault.IoFault.TheVariants as faults
+use Rattle.http_wire.specs.declared.request.Act.{Act}
+
+-- a listener before a command and after it
+pub record Heard : Type 0 where
+  pub old : ListenState
+  pub new : ListenState
+
+abbrev pub heard : ListenState → ListenState → Heard
+heard old new = record { old = old; new = new }
+
+-- ---- connections
+
+-- how a connection came and how it ended, and the store before it and after it
+abbrev pub Serves : Type 1
+Serves = Traffic → Shelved → Traffic → Shelved → Type 0
+
+-- a folder of chunks gives each answer that is right
+abbrev pub any_answer : Act → List ℕ → Answer → Type 0
+any_answer a body r = Unit {0}
+
+-- it was served to its end, or broken off
+abbrev pub IsServed : Bool → Serves
+IsServed writable t old u new =
+    Served kinds.Sha512T256 any_answer writable t old u new ⊎ Cut kinds.Sha512T256 any_answer writable t old u new
+
+-- there was no memory for it
+abbrev pub LacksMemory : Bool → Serves
+LacksMemory writable t old u new = Lacking kinds.Sha512T256 any_answer writable t old u new
+
+-- these connections came and ended so, each served over the files that the one before it left
+unfoldable pub AreServed : Bool → List Traffic → Shelved → List Traffic → Shelved → Type 0
+AreServed writable [] old [] new = new ≡ old
+AreServed writable [] old (u ∷ gone) new = ⊥
+AreServed writable (t ∷ came) old [] new = ⊥
+AreServed writable (t ∷ came) old (u ∷ gone) new =
+    (next : Shelved) × IsServed writable t old u next × AreServed writable came next gone new
+
+-- ---- a listener
+
+-- neither a connection was taken nor has one ended
+pub record IsIdle (old new : ListenState) : Type 0 where
+  pub coming : new.coming ≡ old.coming
+  pub ended : new.ended ≡ old.ended
+
+-- of the connections that were to come, `queue`, the first was taken, and it has ended behind those that had, `done`
+pub record TakesOne (serves : Serves) (queue done : List Traffic) (m : ListenState) (old new : Shelved) : Type 0 where
+  pub came : Traffic
+  pub gone : Traffic
+  pub rest : List Traffic
+  pub were : queue ≡ came ∷ rest
+  pub coming : m.coming ≡ Some rest
+  pub ended : m.ended ≡ Some (done ++ gone ∷ [])
+  pub served : serves came old gone new
+
+abbrev pub Hears : Serves → ListenState → ListenState → Shelved → Shelved → Type 0
+Hears serves l m old new =
+    IfSome l.coming (λ queue. IfSome l.ended (λ done. TakesOne serves queue done m old new))
+
+-- the first ones were taken and served, and no others
+pub record TakesFront (writable : Bool) (queue done : List Traffic) (m : ListenState) (old new : Shelved) : Type 0 where
+  pub came : List Traffic
+  pub gone : List Traffic
+  pub rest : List Traffic
+  pub were : queue ≡ came ++ rest
+  pub coming : m.coming ≡ Some rest
+  pub ended : m.ended ≡ Some (done ++ gone)
+  pub served : AreServed writable came old gone new
+
+abbrev pub Listens : Bool → ListenState → ListenState → Shelved → Shelved → Type 0
+Listens writable l m old new =
+    IfSome l.coming (λ queue. IfSome l.ended (λ done. TakesFront writable queue done m old new))
+
+-- and then there was no memory, for one more connection or without one
+abbrev pub RunsOut : Bool → ListenState → ListenState → Shelved → Shelved → Type 0
+RunsOut writable l m old new = Listens writable l m old new
+    ⊎ ((k : ListenState) × (mid : Shelved)
+    × Listens writable l k old mid × Hears (LacksMemory writable) k m mid new)
+
+-- ---- the command
+
+-- the answer after serving
+abbrev pub answer_of_serving : Result Unit IoFault → Result Unit Outcome
+answer_of_serving (Ok u) = Ok u
+answer_of_serving (Err faults.Failed) = Err ends.ListenFault
+answer_of_serving (Err faults.Memory) = Err ends.Memory
+
+-- a folder that was taken
+abbrev pub fresh : Option (Map (List ℕ)) → Shelved
+fresh held = record { files = held; faults = 0 }
+
+-- the folder, whose files were `held`, was given back as serving left it, with the faults that it has counted
+pub record ServedBack (q : List ℕ) (held : Option (Map (List ℕ))) (Serving : Shelved → Shelved → Type 0) (d e : Disk)
+    : Type 0 where
+  pub left : Shelved
+  pub back : e.folders ≡ option_map (λ m. at_name m q left.files) d.folders
+  pub counted : count_at e.folder_counts q ≡ raised (count_at d.folder_counts q) left.faults
+  pub serving : Serving (fresh held) left
+
+module _ (h : Heard) (writable : Bool) (q : List ℕ) (held : Option (Map (List ℕ))) where
+  abbrev pub NotServed : Disk → Disk → Outcome → Type 0
+  NotServed d e ends.ListenFault =
+      Rose h.old.faults h.new.faults × ServedBack q held (Listens writable h.old h.new) d e
+  NotServed d e ends.Memory = ServedBack q held (RunsOut writable h.old h.new) d e
+  NotServed d e other = ⊥
+
+  -- it is done where no more connections come
+  abbrev pub FolderServed : Step Disk Unit
+  FolderServed d (Ok u) e =
+      ((h.new.coming ≡ Some []) × ServedBack q held (Listens writable h.old h.new) d e) × Adds d e
+  FolderServed d (Err o) e = NotServed d e o × Adds d e
+
+-- where the folder isn't reached, nobody is heard
+abbrev pub TakenUnheard : Heard → List ℕ → Step Disk (Option (Map (List ℕ)))
+TakenUnheard h q d (Ok held) e = StoreTaken q d (Ok held) e
+TakenUnheard h q d (Err o) e = StoreTaken q d (Err o) e × (h.new ≡ h.old)
+
+abbrev pub ChunkServerEnds : Heard → List ℕ → Bool → Step World Unit
+ChunkServerEnds h store writable = do
+  held ← OnDisk (TakenUnheard h store)
+  OnDisk (FolderServed h writable store held)
