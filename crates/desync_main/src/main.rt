@@ -4,6 +4,8 @@
 mod real_dial;
 mod real_files;
 mod real_folder;
+mod real_link;
+mod real_listen;
 mod real_sink;
 mod real_target;
 mod real_view;
@@ -13,6 +15,7 @@ mod tests;
 use desync_cli::run::desync;
 use real_dial::RealDial;
 use real_files::RealFiles;
+use real_listen::RealListen;
 use real_sink::RealSink;
 use std::env::Env;
 use std::io::ErrorKind;
@@ -42,6 +45,7 @@ fn main(rt: HostRuntime) -> ExitCode {
     let (stdout, stderr) = (rt.stdout(), rt.stderr());
     let mut files = RealFiles::new(&rt, rt.alloc());
     let mut dial = RealDial::new(&rt);
+    let mut listen = RealListen::new(&rt);
     let mut out = RealSink::new(io::writer(&stdout));
     let mut err = RealSink::new(io::writer(&stderr));
     let ended = desync(
@@ -49,6 +53,7 @@ fn main(rt: HostRuntime) -> ExitCode {
         &words,
         &mut files,
         &mut dial,
+        &mut listen,
         &mut out,
         &mut err,
     );

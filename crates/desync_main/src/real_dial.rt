@@ -1,27 +1,17 @@
 //! Connections over TCP, by the names that the system looks up. They don't tell contracts what comes and goes.
 
-ghost use Rattle.std.specs.Prelude.{◌≡◌};
-ghost use Rattle.std.specs.Io.{ReadsAtMost};
+ghost use Rattle.std.specs.Prelude.{◌≡◌, IfOk};
 
+use crate::real_link::RealLink;
 use dsy_base::dial::Dial;
-use dsy_base::fault::{Failed, IoFault, Memory, raise};
-use dsy_base::link::Link;
+use dsy_base::fault::{IoFault, Memory, raise};
 use std::io;
-use std::io::{ErrorKind, Read, Write};
-use std::net::{Net, OpenStream, Shutdown, TcpStream, ToSocketAddrs};
+use std::io::ErrorKind;
+use std::net::{Net, TcpStream, ToSocketAddrs};
 use std::time::Duration;
 
-// How many seconds an address may take to answer, and each read and each write.
+// How many seconds an address may take to answer.
 const SECONDS_TO_CONNECT: u64 = 10;
-
-const SECONDS_TO_WAIT: u64 = 60;
-
-/// A connection over TCP.
-#[derive(Drop)]
-pub struct RealLink<S: Read + Write + Drop> {
-    stream: S,
-    faults: u64,
-}
 
 /// What connects over TCP.
 #[derive(Drop)]
@@ -44,79 +34,27 @@ impl<'a, R: Net> RealDial<'a, R> {
     }
 }
 
-// Reads once, where no signal comes between.
-fn read_once<S: Read>(stream: &mut S, out: &mut [u8]) -> io::Result<usize>
-    ensures { ReadsAtMost result out.new }
-{
-    for _ in 0..u64::MAX {
-        match stream.read(out) {
-            Err(error) if error.kind() == ErrorKind::Interrupted => {}
-            ended => return ended,
-        }
-    }
-    Err(io::Error::from(ErrorKind::Interrupted))
-}
-
-// A host as the system looks it up: an address of version 6 has no brackets.
-fn unbracketed(host: &str) -> &str {
+/// A host as the system looks it up: an address of version 6 has no brackets.
+pub(crate) fn unbracketed(host: &str) -> &str {
     match host.strip_prefix('[') {
         Some(rest) => rest.strip_suffix(']').unwrap_or(host),
         None => host,
     }
 }
 
-// Says how long the stream waits, and that it sends at once what it is given.
-fn set_up<S: OpenStream>(stream: &S) -> io::Result<()> {
-    let wait = Some(Duration::from_secs(SECONDS_TO_WAIT));
-    stream.set_read_timeout(wait)?;
-    stream.set_write_timeout(wait)?;
-    stream.set_nodelay(true)
-}
-
 // Connects to the first address of the host that answers.
-fn connect<R: Net>(rt: &R, host: &str, port: u16) -> io::Result<R::Stream> {
+fn connect<R: Net>(rt: &R, host: &str, port: u16) -> io::Result<RealLink<R::Stream>>
+    ensures faults { IfOk result (λ l. l.faults ≡ 0) }
+{
     let timeout = Duration::from_secs(SECONDS_TO_CONNECT);
     let mut last = io::Error::from(ErrorKind::NotFound);
     for address in (unbracketed(host), port).to_socket_addrs(rt)? {
         match TcpStream::connect_timeout(rt, &address, timeout) {
-            Ok(stream) => {
-                set_up(&stream)?;
-                return Ok(stream);
-            }
+            Ok(stream) => return RealLink::new(stream),
             Err(error) => last = error,
         }
     }
     Err(last)
-}
-
-impl<S: Read + Write + Drop> Link for RealLink<S> {
-    ghost use Rattle.std.specs.Prelude.{None, false, refl};
-
-    ghost state = { λ l. record { traffic = None; faults = l.faults } };
-
-    ghost tells = { false };
-
-    fn read(&mut self, out: &mut [u8]) -> Result<usize, Failed> {
-        match read_once(&mut self.stream, out) {
-            Ok(n) => Ok(n),
-            Err(_) => {
-                self.faults = raise(self.faults, 1);
-                Err(Failed)
-            }
-        }
-    }
-
-    fn write(&mut self, b: &[u8]) -> Result<(), IoFault> {
-        match self.stream.write_all(b) {
-            Ok(()) => Ok(()),
-            Err(_) => {
-                self.faults = raise(self.faults, 1);
-                Err(IoFault::Failed)
-            }
-        }
-    }
-
-    ghost told = { λ _. refl };
 }
 
 impl<R: Net> Dial for RealDial<'_, R> {
@@ -134,7 +72,7 @@ impl<R: Net> Dial for RealDial<'_, R> {
 
     fn dial(&mut self, host: &str, port: u16) -> Result<RealLink<R::Stream>, IoFault> {
         match connect(self.rt, host, port) {
-            Ok(stream) => Ok(RealLink { stream, faults: 0 }),
+            Ok(link) => Ok(link),
             Err(_) => {
                 self.faults = raise(self.faults, 1);
                 Err(IoFault::Failed)
@@ -142,10 +80,9 @@ impl<R: Net> Dial for RealDial<'_, R> {
         }
     }
 
-    // A fault of saying that nothing more is sent is passed over, since all that was wanted has come.
     fn hang_up(&mut self, link: RealLink<R::Stream>) {
-        let _ = link.stream.shutdown(Shutdown::Write);
-        self.faults = raise(self.faults, link.faults);
+        link.shut();
+        self.faults = raise(self.faults, link.faults());
     }
 
     fn join(&mut self, other: Self) {

@@ -3,11 +3,13 @@
 
 use crate::real_dial::RealDial;
 use crate::real_files::RealFiles;
+use crate::real_listen::RealListen;
 use dsy_base::dial::Dial;
 use dsy_base::fault::{IoFault, OpenFault};
 use dsy_base::files::Files;
 use dsy_base::folder::Folder;
 use dsy_base::link::Link;
+use dsy_base::listen::Listen;
 use dsy_base::look::Look;
 use dsy_base::view::{Part, Target, View};
 use std::alloc::AllocError;
@@ -196,5 +198,54 @@ fn a_refused_connection_is_counted(rt: HostRuntime) -> Result<(), Fail> {
     assert_eq!(rt; other.faults(), 0);
     dial.join(other);
     assert_eq!(rt; dial.faults(), 1);
+    Ok(())
+}
+
+#[test]
+fn a_client_is_heard_and_told_of_the_end(rt: HostRuntime) -> Result<(), Fail> {
+    let mut listen = RealListen::new(&rt);
+    assert!(rt; listen.bind("127.0.0.1", 0).is_ok());
+    let port = listen.port().ok_or("no port")?;
+    let mut dial = RealDial::new(&rt);
+    let mut near = dial.dial("127.0.0.1", port).ok().ok_or("no answer")?;
+    let mut far = listen.accept().ok().ok_or("a fault")?.ok_or("none")?;
+    let mut got = [0; 4];
+    assert!(rt; near.write(b"abc").is_ok());
+    assert_eq!(rt; far.read(&mut got).ok(), Some(3));
+    assert_eq!(rt; got, *b"abc\0");
+    assert!(rt; far.write(b"xy").is_ok());
+    // What still comes is taken, and the reply arrives all the same.
+    assert!(rt; near.write(b"more").is_ok());
+    near.shut();
+    listen.end(far);
+    assert_eq!(rt; near.read(&mut got).ok(), Some(2));
+    assert_eq!(rt; got, *b"xyc\0");
+    assert_eq!(rt; near.read(&mut got).ok(), Some(0));
+    assert_eq!(rt; listen.faults(), 0);
+    Ok(())
+}
+
+#[test]
+fn without_a_host_all_addresses_are_listened_at(rt: HostRuntime) -> Result<(), Fail> {
+    let mut listen = RealListen::new(&rt);
+    assert!(rt; listen.bind("", 0).is_ok());
+    let port = listen.port().ok_or("no port")?;
+    let mut dial = RealDial::new(&rt);
+    let near = dial.dial("127.0.0.1", port).ok().ok_or("no answer")?;
+    let far = listen.accept().ok().ok_or("a fault")?.ok_or("none")?;
+    dial.hang_up(near);
+    listen.end(far);
+    Ok(())
+}
+
+#[test]
+fn an_address_in_use_is_counted(rt: HostRuntime) -> Result<(), Fail> {
+    let mut first = RealListen::new(&rt);
+    let mut second = RealListen::new(&rt);
+    assert!(rt; first.bind("127.0.0.1", 0).is_ok());
+    let port = first.port().ok_or("no port")?;
+    assert_eq!(rt; second.bind("127.0.0.1", port), Err(IoFault::Failed));
+    assert!(rt; matches!(second.accept(), Err(IoFault::Failed)));
+    assert_eq!(rt; (first.faults(), second.faults()), (0, 2));
     Ok(())
 }

@@ -1,0 +1,120 @@
+//! A connection over TCP. It doesn't tell contracts what comes and goes.
+
+ghost use Rattle.std.specs.Prelude.{◌≡◌, IfOk};
+ghost use Rattle.std.specs.Io.{ReadsAtMost};
+
+use dsy_base::fault::{Failed, IoFault, raise};
+use dsy_base::link::Link;
+use std::io;
+use std::io::{ErrorKind, Read, Write};
+use std::net::{OpenStream, Shutdown};
+use std::time::Duration;
+
+// How many seconds each read and each write may take.
+const SECONDS_TO_WAIT: u64 = 60;
+
+// How many seconds each read may take once the peer was told of the end, and how many reads there are then at most.
+const SECONDS_TO_LINGER: u64 = 1;
+
+const READS_TO_LINGER: u64 = 1_024;
+
+/// A connection over TCP.
+#[derive(Drop)]
+pub struct RealLink<S: Read + Write + Drop> {
+    stream: S,
+    faults: u64,
+}
+
+// Reads once, where no signal comes between.
+fn read_once<S: Read>(stream: &mut S, out: &mut [u8]) -> io::Result<usize>
+    ensures { ReadsAtMost result out.new }
+{
+    for _ in 0..u64::MAX {
+        match stream.read(out) {
+            Err(error) if error.kind() == ErrorKind::Interrupted => {}
+            ended => return ended,
+        }
+    }
+    Err(io::Error::from(ErrorKind::Interrupted))
+}
+
+// Says how long the stream waits, and that it sends at once what it is given.
+fn set_up<S: OpenStream>(stream: &S) -> io::Result<()> {
+    let wait = Some(Duration::from_secs(SECONDS_TO_WAIT));
+    stream.set_read_timeout(wait)?;
+    stream.set_write_timeout(wait)?;
+    stream.set_nodelay(true)
+}
+
+impl<S: Read + Write + OpenStream + Drop> RealLink<S> {
+    /// The connection of this stream, each of whose reads and writes takes at most 60 seconds.
+    pub fn new(stream: S) -> io::Result<RealLink<S>>
+        ensures faults { IfOk result (λ l. l.faults ≡ 0) }
+    {
+        set_up(&stream)?;
+        Ok(RealLink { stream, faults: 0 })
+    }
+
+    /// How often a call has failed.
+    pub fn faults(&self) -> u64
+        ensures { result ≡ self.now.faults }
+    {
+        self.faults
+    }
+
+    /// Says that nothing more is sent. A fault of that is passed over, since all that was to be sent has gone.
+    pub fn shut(&self) {
+        let _ = self.stream.shutdown(Shutdown::Write);
+    }
+
+    /// Says that nothing more is sent, and takes what the peer still sends, for a short time: the end of a connection that is
+    /// closed before that was taken may reach the peer before the last reply does (RFC 9112, section 9.6). Where a call on
+    /// it has failed nothing is waited for.
+    pub fn linger(&mut self) {
+        if self.faults > 0 || self.stream.shutdown(Shutdown::Write).is_err() {
+            return;
+        }
+        let wait = Some(Duration::from_secs(SECONDS_TO_LINGER));
+        if self.stream.set_read_timeout(wait).is_err() {
+            return;
+        }
+        let mut buffer = [0u8; 16_384];
+        for _ in 0..READS_TO_LINGER {
+            match read_once(&mut self.stream, &mut buffer) {
+                Ok(0) => return,
+                Ok(_) => {}
+                Err(_) => return,
+            }
+        }
+    }
+}
+
+impl<S: Read + Write + Drop> Link for RealLink<S> {
+    ghost use Rattle.std.specs.Prelude.{None, false, refl};
+
+    ghost state = { λ l. record { traffic = None; faults = l.faults } };
+
+    ghost tells = { false };
+
+    fn read(&mut self, out: &mut [u8]) -> Result<usize, Failed> {
+        match read_once(&mut self.stream, out) {
+            Ok(n) => Ok(n),
+            Err(_) => {
+                self.faults = raise(self.faults, 1);
+                Err(Failed)
+            }
+        }
+    }
+
+    fn write(&mut self, b: &[u8]) -> Result<(), IoFault> {
+        match self.stream.write_all(b) {
+            Ok(()) => Ok(()),
+            Err(_) => {
+                self.faults = raise(self.faults, 1);
+                Err(IoFault::Failed)
+            }
+        }
+    }
+
+    ghost told = { λ _. refl };
+}
