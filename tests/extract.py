@@ -591,10 +591,7 @@ def no_commands(cases):
         (['extract', '-k', '-s', 'a|b', INDEX, OUT], 'word 3: BadLocation'),
         ([b'\xff', *right[1:]], 'a word is no text in UTF-8'), ([*right[:5], b'\xff'], 'a word is no text in UTF-8'),
     ]
-    not_yet = [
-        ['chunk-server', '-s', STORE, '-l', 'localhost:8080'],
-    ]
-    for words, text in never + [(words, 'word 0: NotYet') for words in not_yet]:
+    for words, text in never:
         with cases.case(f'the words {words}') as folder:
             lay_out(folder, old=b'old')
             put_file(os.path.join(folder, 'a'), ABC_INDEX)

@@ -1,7 +1,7 @@
 #!/usr/bin/env python3
 """The guide: the commands of docs/GUIDE.md, as they are typed, in one folder, and what they print.
 
-Its servers are started as it says, but at free ports, and nginx over the same folder. Blocks whose tool isn't installed
+Its servers are started as it says, but at free ports, and nginx over the same folder. Blocks whose tools aren't installed
 are skipped. What the guide says of chunks is held against tests/formats.py, which cuts the same images by itself.
 """
 
@@ -20,7 +20,8 @@ from checks import Cases, expect, expect_equal, needs_program
 
 GUIDE = os.path.join(program.TOP, 'docs', 'GUIDE.md')
 IMAGES = {'v1.img': 'seq 60000', 'v2.img': "seq 60000 | sed 's/^30000$/thirty thousand/'"}
-STATIC, NGINX, SERVED = 'localhost:8080', 'images.example.com', '/srv/images'
+OURS, STATIC, NGINX, SERVED = 'localhost:8080', 'localhost:8000', 'images.example.com', '/srv/images'
+BEHIND = '127.0.0.1:8080'
 LOCATION = re.compile(r'^    location .*?^    }\n', re.DOTALL | re.MULTILINE)
 
 
@@ -46,18 +47,29 @@ class Reader:
         # Where the guide's servers are in truth, and the last block `server` of nginx.
         self.hosts = {}
         self.server = None
+        self.ours = held.enter_context(contextlib.ExitStack())
         self.nginx = held.enter_context(contextlib.ExitStack())
 
     def do(self, kind, block):
-        if kind == 'sh' and block.startswith('python3 -m http.server'):
+        if kind == 'sh' and block.startswith('desync chunk-server'):
+            self.serve_chunks(block)
+        elif kind == 'sh' and block.startswith('python3 -m http.server'):
             self.serve_files(block)
         elif kind == 'nginx':
             self.serve_by_nginx(block)
         elif kind == 'console':
             self.type(block)
 
+    def serve_chunks(self, block):
+        """Runs `chunk-server` in the place of the one before it."""
+        store, more = re.fullmatch(r'desync chunk-server -s (\S+) -l localhost:8080(.*)\n', block).groups()
+        self.ours.close()
+        server = servers.ChunkServer(self.folder, *more.split(), store=store, host='localhost', address='localhost')
+        self.ours.enter_context(server)
+        self.hosts[OURS] = self.hosts[BEHIND] = f'localhost:{server.port}'
+
     def serve_files(self, block):
-        folder = re.search(r'--directory (\S+) 8080\n', block)[1]
+        folder = re.search(r'--directory (\S+) 8000\n', block)[1]
         port = self.held.enter_context(servers.static(os.path.join(self.folder, folder)))
         self.hosts[STATIC] = f'localhost:{port}'
 
@@ -70,15 +82,16 @@ class Reader:
         if servers.nginx_program() is None:
             return
         port = servers.free_port()
-        for word, other in (('listen 80;', f'listen 127.0.0.1:{port};'), (SERVED, self.folder)):
-            expect(word in block, f'the block of nginx has no {word}')
+        expect('listen 80;' in block and (SERVED in block or BEHIND in block), f'the block of nginx is {block}')
+        for word, other in (('listen 80;', f'listen 127.0.0.1:{port};'), (SERVED, self.folder), (BEHIND, self.hosts[BEHIND])):
             block = block.replace(word, other)
         self.nginx.close()
         self.nginx.enter_context(servers.nginx_of(block, port, os.path.join(self.folder, 'nginx')))
         self.hosts[NGINX] = f'localhost:{port}'
 
     def type(self, block):
-        for tool, word, there in (('casync', 'casync ', shutil.which('casync')), ('nginx', NGINX, servers.nginx_program())):
+        for tool, word, there in (('casync', 'casync ', shutil.which('casync')), ('nginx', NGINX, servers.nginx_program()),
+                                  ('openssl', 'openssl ', shutil.which('openssl'))):
             if word in block and not there:
                 self.cases.skip(f'the block that begins {steps(block)[0][0]!r}', f'{tool} isn\'t installed')
                 return

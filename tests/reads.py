@@ -276,8 +276,8 @@ def refused_words(cases):
                ('extract -k -s st --seed x a b', 'word 5: BadSeed'),
                ('prune -s st a', 'word 4: NeedsYes'), ('verify -s http://h/', 'word 2: NeedsFolder'),
                ('chunk-server -s st -l x', 'word 4: BadListen'), ('cache -s st a', 'word 4: MissingOption'),
-               ('extract -c c -c c -s st a b', 'word 3: TooMany'),
-               ('chunk-server -s st -l localhost:8080', 'word 0: NotYet')]
+               ('extract -c c -c c -s st a b', 'word 3: TooMany'), ('chunk-server -s st', 'word 3: MissingOption'),
+               ('chunk-server -s st -l localhost:8080 -w a', 'word 6: Operands')]
     for words, text in refused:
         with cases.case(f'the words {words}') as folder:
             put_file(os.path.join(folder, 'a'), b'a')

@@ -1,7 +1,7 @@
 """Servers of chunks on the loopback interface, each of which ends with its `with`.
 
 A chunk's path is a prefix, the first four digits of its id, and all 64. `Server` answers each connection by a function
-of the request's bytes; `static` and `nginx` serve a folder as files.
+of the request's bytes; `static` and `nginx` serve a folder as files; `chunk_server` is ours.
 """
 
 import contextlib
@@ -14,6 +14,8 @@ import sys
 import threading
 import time
 import traceback
+
+import program
 
 HEAD_END = b'\r\n\r\n'
 SECONDS = 20
@@ -230,8 +232,44 @@ def nginx_of(server, port, top):
         process.wait(SECONDS)
 
 
-def _listens(port):
+class ChunkServer:
+    """`desync chunk-server` over a store in a folder, with more words. It listens at a port of the host `host`, where it is
+    reached at `address`, and ends with its `with`: up to then it is to run, and it is to say nothing."""
+
+    def __init__(self, folder, *words, store='st', host='127.0.0.1', address='127.0.0.1', port=None):
+        self.folder = folder
+        self.address = address
+        self.port = port or free_port()
+        self.words = ['chunk-server', '-s', store, '-l', f'{host}:{self.port}', *words]
+        self.process = None
+
+    def url(self, path=''):
+        return f'http://localhost:{self.port}{path}'
+
+    def connect(self):
+        return socket.create_connection((self.address, self.port), SECONDS)
+
+    def __enter__(self):
+        self.process = program.start(self.words, self.folder)
+        for _ in range(20 * SECONDS):
+            if self.process.poll() is not None:
+                raise AssertionError(f'{self.words} has ended: {program.ended(self.process).err!r}')
+            if _listens(self.port, self.address):
+                return self
+            time.sleep(0.05)
+        self.process.kill()
+        raise AssertionError(f'{self.words} doesn\'t listen after {SECONDS} seconds')
+
+    def __exit__(self, kind, *_):
+        runs = self.process.poll() is None
+        self.process.terminate()
+        ended = program.ended(self.process)
+        if kind is None and (not runs or ended.out or ended.err):
+            raise AssertionError(f'{self.words} {"ran" if runs else "had ended"}, and said {ended.out + ended.err!r}')
+
+
+def _listens(port, address='127.0.0.1'):
     with contextlib.suppress(OSError):
-        socket.create_connection(('127.0.0.1', port), 1).close()
+        socket.create_connection((address, port), 1).close()
         return True
     return False

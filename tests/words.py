@@ -3,7 +3,7 @@
 
 The tables of options and commands stand here once more, by the document and not by the program. Words are laid out from
 them: each option once too often, each spelling, and random words. The program runs in an empty folder, so words that
-are taken end with a name that isn't there, with sizes that no image is cut by, as not built, or done (`demo`). Each error line is
+are taken end with a name that isn't there, with sizes that no image is cut by, or done (`demo`). Each error line is
 compared, and nothing is ever written.
 """
 
@@ -161,22 +161,15 @@ def why_not_sizes(value):
     return 'MaxTooLarge' if greatest > 64 << 20 else None
 
 
-def is_built(said):
-    return said.command in ('extract', 'make', 'verify-index', 'chop', 'cache', 'list-chunks', 'info', 'verify', 'prune',
-                            'demo')
-
-
 def text_of(said):
     """The text in a folder that holds nothing."""
-    if not is_built(said):
-        return 'word 0: NotYet'
     if said.command == 'make':
         whys = [why_not_sizes(value) for value in said.given['sizes']]
         if any(whys):
             return f'bad chunk sizes: {whys[0]}'
     if said.command == 'demo':
         return ''
-    if said.command in ('cache', 'verify'):
+    if said.command in ('cache', 'verify', 'chunk-server'):
         folders = [store for store in said.given['store'] if location(store) != 'url'] + said.given['cache']
         return f'{folders[0]}: no such folder'
     absent = said.operands[1 if said.command == 'make' else 0]
