@@ -1,0 +1,108 @@
+#!/usr/bin/env python3
+"""`desync chunk-server` on the loopback interface, beside nginx over the same folder.
+
+One client asks for chunks of 64 KiB of random bytes on one connection, one after the other, each once a run. It is measured
+twice: as a client that checks each chunk against its digest before it asks for the next one, as `extract` does, and as one
+that takes them alone, whose bytes are checked behind the part that is timed. nginx has one worker, and sends files as they
+are; ours reads and names each chunk before it is sent. Needs nginx, and the size under the temporary folder and in memory.
+"""
+
+import os
+import random
+import re
+import socket
+import statistics
+import sys
+import time
+
+import side_by_side
+import formats
+import servers
+
+CHUNK = 65536
+# nginx closes a connection after 1,000 requests where nothing else is said.
+STAY_OPEN = 'keepalive_requests 1000000000;'
+LENGTH = re.compile(rb'\r\nContent-Length: (\d+)\r\n', re.IGNORECASE)
+
+
+def lay_out(folder, count):
+    """The names of the store's chunks."""
+    chance = random.Random(3)
+    names = []
+    for _ in range(count):
+        piece = chance.randbytes(CHUNK)
+        names.append(formats.name_of(piece))
+        formats.write_chunk(os.path.join(folder, 'st'), names[-1], piece)
+    # nginx's worker may be another user.
+    os.chmod(folder, 0o755)
+    return names
+
+
+def receive(peer, piece):
+    """Receives a reply of 200 whose body is as long as the piece, and fills that."""
+    got = b''
+    while servers.HEAD_END not in got:
+        got += received(peer.recv(len(piece)))
+    head, front = got.split(servers.HEAD_END, 1)
+    told = LENGTH.search(head + b'\r\n')
+    if not head.startswith(b'HTTP/1.1 200 ') or told is None or int(told[1]) != len(piece):
+        sys.exit(f'the head of a reply is {head}')
+    filled = len(front)
+    piece[:filled] = front
+    while filled < len(piece):
+        filled += received(peer.recv_into(piece[filled:]))
+
+
+def received(some):
+    return some or sys.exit('the connection was closed')
+
+
+def seconds_for(port, names, room, checks):
+    """How many seconds it takes to ask for all chunks on one connection, whose bytes then stand in the room. Each is checked
+    before the next one is asked for, or none is."""
+    asks = [f'GET {formats.chunk_path("/", name)} HTTP/1.1\r\nHost: localhost\r\n\r\n'.encode() for name in names]
+    with socket.create_connection(('127.0.0.1', port)) as peer:
+        peer.setsockopt(socket.IPPROTO_TCP, socket.TCP_NODELAY, 1)
+        begun = time.monotonic()
+        for place, ask in enumerate(asks):
+            peer.sendall(ask)
+            receive(peer, room[place * CHUNK:(place + 1) * CHUNK])
+            if checks:
+                check(names[place], place, room)
+        return time.monotonic() - begun
+
+
+def check(name, place, room):
+    if formats.name_of(room[place * CHUNK:(place + 1) * CHUNK]) != name:
+        sys.exit(f'{name.hex()} has other bytes')
+
+
+def main():
+    options = side_by_side.arguments(__doc__, 256)
+    if servers.nginx_program() is None:
+        sys.exit('nginx isn\'t installed')
+    count = options.size * side_by_side.MIB // CHUNK
+    with side_by_side.work_folder() as folder:
+        names = lay_out(folder, count)
+        room = memoryview(bytearray(count * CHUNK))
+        seconds = {(what, checks): [] for checks in (True, False) for what in ('nginx', 'chunk-server')}
+        with servers.ChunkServer(folder) as ours, \
+                servers.nginx(os.path.join(folder, 'st'), os.path.join(folder, 'nginx'), STAY_OPEN) as nginx:
+            ports = {'nginx': nginx, 'chunk-server': ours.port}
+            for _ in range(options.runs):
+                for (what, checks), each in seconds.items():
+                    each.append(seconds_for(ports[what], names, room, checks))
+                    for place, name in enumerate(names):
+                        check(name, place, room)
+                    room[:] = bytes(len(room))
+    rates = {run: count / statistics.median(each) for run, each in seconds.items()}
+    print(f'{count} chunks of {CHUNK} bytes, on one connection; medians of {options.runs} runs')
+    print(f'{"":30} {"requests/s":>11} {"MB/s":>8} {"ratio":>7} {"at least":>9}')
+    for (what, checks), rate in rates.items():
+        shown = f'{what}, {"each checked" if checks else "taken alone"}'
+        wanted = '0.50' if what == 'chunk-server' and checks else ''
+        print(f'{shown:30} {rate:11.0f} {rate * CHUNK / 1e6:8.1f} {rate / rates["nginx", checks]:7.2f} {wanted:>9}')
+
+
+if __name__ == '__main__':
+    main()
