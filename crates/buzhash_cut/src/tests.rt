@@ -118,7 +118,7 @@ fn cut_alike(
     Ok(())
 }
 
-// Ones and zeros are the specification's examples.
+// Ones close at the least size, zeros at the greatest alone.
 #[test]
 fn pieces_do_not_matter(rt: HostRuntime) -> Result<(), Fail> {
     let alloc = rt.alloc();
@@ -275,7 +275,7 @@ fn indexed_alike(
     Ok(())
 }
 
-// Ones and zeros are the specification's examples.
+// Ones close at the least size, zeros at the greatest alone.
 #[test]
 fn an_index_is_the_same_by_any_number_of_views(rt: HostRuntime) -> Result<(), Fail> {
     let alloc = rt.alloc();
