@@ -100,7 +100,7 @@ def main():
     print(f'{"":30} {"requests/s":>11} {"MB/s":>8} {"ratio":>7} {"at least":>9}')
     for (what, checks), rate in rates.items():
         shown = f'{what}, {"each checked" if checks else "taken alone"}'
-        wanted = '0.50' if what == 'chunk-server' and checks else ''
+        wanted = '0.50' if what == 'chunk-server' else ''
         print(f'{shown:30} {rate:11.0f} {rate * CHUNK / 1e6:8.1f} {rate / rates["nginx", checks]:7.2f} {wanted:>9}')
 
 
