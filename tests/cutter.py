@@ -1,7 +1,7 @@
 """A program over the library's `Cutter`: it cuts a file that it reads in pieces of a size, and prints the ends.
 
 No command cuts in pieces of other sizes than the library's own, or without naming what it cut. So this lays the
-program out in a copy of the crates below it, where `rt` proves and builds it, which takes minutes.
+program out in a copy of the crate below it, where `rt` proves and builds it, which takes minutes.
 """
 
 import os
@@ -9,7 +9,7 @@ import shutil
 import subprocess
 
 TOP = os.path.join(os.path.dirname(os.path.abspath(__file__)), '..')
-BELOW = ('dsy_base', 'dsy_forms', 'chunk_store', 'caibx_codec', 'buzhash_cut')
+BELOW = ('chunk_ends',)
 CRATE = 'cut_file'
 
 FILES = {
@@ -18,8 +18,8 @@ FILES = {
 
 ghost use Rattle.std.specs.Prelude.{◌≡◌, ◌+◌, ◌^◌, ◌<◌, ◌≤◌, length, OnOk};
 
-use buzhash_cut::cutter::Cutter;
-use buzhash_cut::sizes::CutSizes;
+use chunk_ends::cutter::Cutter;
+use chunk_ends::sizes::CutSizes;
 use std::alloc::AllocError;
 use std::env::Env;
 use std::fs::File;
@@ -154,7 +154,7 @@ def build(folder):
     with open(os.path.join(TOP, 'crates.txt'), encoding='utf-8') as file:
         lines = [line for line in file if line.split(':')[0] in BELOW]
     with open(os.path.join(folder, 'crates.txt'), 'w', encoding='utf-8') as file:
-        file.writelines([*lines, f'{CRATE}: buzhash_cut\n'])
+        file.writelines([*lines, f'{CRATE}: chunk_ends\n'])
     shutil.copy(os.path.join(TOP, 'HANDLES'), folder)
     for name in BELOW:
         shutil.copytree(os.path.join(TOP, 'crates', name), os.path.join(folder, 'crates', name),

@@ -3,13 +3,13 @@ use Rattle.std.proofs.Common.{◌≡◌, ℕ, zero, suc, ◌-◌, ◌<◌, ◌�
 use Rattle.std.proofs.lemmas.Bool.Decides.{nat_tests}
 use Rattle.buzhash_cut.proofs.Cutting.{length-named_from}
 use Rattle.buzhash_cut.proofs.Joins.{ends_in, cuts_of, names_of}
-use Rattle.buzhash_cut.specs.Cuts.{AreCuts}
+use Rattle.chunk_ends.specs.Cuts.{AreCuts}
 use Rattle.buzhash_cut.specs.Image.{named_from, listing_of, IsIndexOfImage, IndexGiven, HasTooManyCuts}
 use Rattle.buzhash_cut.specs.declared.image.CutFault.{CutFault}
 use Rattle.buzhash_cut.specs.declared.image.CutFault.TheVariants as faults
 use Rattle.buzhash_cut.specs.Entries.{IsChunk, IsStep, AreLinked, AreAll}
 use Rattle.caibx_codec.specs.Right.{IsRight}
-use Rattle.buzhash_cut.specs.Sizes.{Sizes}
+use Rattle.chunk_ends.specs.Sizes.{Sizes}
 use Rattle.caibx_codec.specs.Listing.{Listing, count_of, start_of, end_of, id_of, slice_of, image_length}
 use Rattle.chunk_store.specs.Names.{name_of}
 use Rattle.chunk_store.specs.declared.id.DigestKind.{DigestKind}

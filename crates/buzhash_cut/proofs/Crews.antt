@@ -5,7 +5,7 @@ use Rattle.std.proofs.lemmas.List.{get_or-map, get_or-reverse, take-append-le, t
 use Rattle.buzhash_cut.specs.Entries.{AreAll, AreEntries, AreTooMany, IsRun}
 use Rattle.buzhash_cut.specs.Image.{AreOfOneImage, CountsViews, HasTooManyCuts}
 use Rattle.buzhash_cut.specs.Runs.{HasCut}
-use Rattle.buzhash_cut.specs.Sizes.{Sizes}
+use Rattle.chunk_ends.specs.Sizes.{Sizes}
 use Rattle.buzhash_cut.specs.declared.image.CutFault.{CutFault}
 use Rattle.buzhash_cut.specs.declared.image.CutFault.TheVariants as faults
 use Rattle.buzhash_cut.specs.declared.run.Run.{Run}
@@ -33,6 +33,7 @@ module _ (s : Sizes) (h k : Held) (size : k.size ≡ h.size) (bytes : k.bytes �
   all_alike es all = record {
     few = all.few;
     entries = subst (λ (n : ℕ). AreEntries s k.bytes 0 es n) (sym size) (entries_alike 0 h.size es all.entries);
+    sized = subst (λ (o : Option (List ℕ)). IfSome o (λ t. length t ≡ k.size)) (sym bytes) (subst (λ (n : ℕ). IfSome h.bytes (λ t. length t ≡ n)) (sym size) all.sized);
   }
 
   many_alike : AreTooMany s h → AreTooMany s k
@@ -164,7 +165,7 @@ module _ {W : Type 0} (F : W → ℕ) (H : W → Held) (R : W → Run) (s : Size
     first_new =
         ap (λ (xs : List ℕ). slice_index xs 0) (ap reverse (map-append F rest (next ∷ [])) ∙ reverse-append (map F rest) (F next ∷ []))
 
-    pub counts_of : CountsViews (reverse (map F olds)) (reverse (map F (rest ++ next ∷ []))) result
+    pub counts_of : CountsViews faults.ImageFault faults.Memory (reverse (map F olds)) (reverse (map F (rest ++ next ∷ []))) result
     counts_of = record {
       never_falls = fell_at;
       first = subst (λ (a : ℕ). CountsFaults faults.ImageFault faults.Memory a (slice_index (reverse (map F (rest ++ next ∷ []))) 0) result) (sym first_old)

@@ -1,32 +1,13 @@
--- No chunk is above the greatest size, and an image's index breaks no rule.
-use Rattle.std.proofs.Common.{◌≡◌, ℕ, ◌+◌, ◌-◌, ◌≤◌, List, [], ◌∷◌, length, take, true, false, nat_lt, nat_le, Some, None, refl, sym, ap, ◌∙◌, arith, inl, inr, eq-eqb}
-use Rattle.std.proofs.lemmas.Bool.{cases_lt}
+-- An image's index breaks no rule.
+use Rattle.std.proofs.Common.{◌≡◌, ℕ, ◌+◌, ◌-◌, List, [], ◌∷◌, length, false, nat_lt, nat_le, Some, None, refl, sym, ap, ◌∙◌, arith}
 use Rattle.std.proofs.lemmas.Bool.Decides.{nat_tests}
-use Rattle.std.proofs.lemmas.List.{length-take-le}
-use Rattle.buzhash_cut.specs.Cuts.{closes, IsCut}
 use Rattle.buzhash_cut.specs.Image.{named_from}
 use Rattle.buzhash_cut.specs.Entries.{IsStep, AreLinked, AreAll}
-use Rattle.buzhash_cut.specs.Sizes.{Sizes, AreSizes}
+use Rattle.chunk_ends.specs.Sizes.{Sizes, AreSizes}
 use Rattle.caibx_codec.specs.Judge.{entry_fault, fault_of}
 use Rattle.caibx_codec.specs.declared.fault.IndexFault.{IndexFault}
 use Rattle.chunk_store.specs.declared.id.DigestKind.{DigestKind}
 use Rattle.dsy_base.specs.Bytes.{Held}
-
--- a chunk of the greatest size ends there
-pub closes_full : (s : Sizes) (chunk : List ℕ) → length chunk ≡ s.greatest → closes s chunk ≡ true
-unfolding closes
-closes_full s chunk full = rw (eq-eqb (length chunk) s.greatest full) refl
-
--- no chunk is above the greatest size
-pub cut_at_most : (s : Sizes) (rest : List ℕ) (n : ℕ) → AreSizes s → IsCut s rest n → n ≤ s.greatest
-cut_at_most s rest n sizes cut = elim (cases_lt s.greatest n) [
-  | inl below ↦
-      let full = closes_full s (take s.greatest rest) (length-take-le s.greatest rest (omega (arith, cut.inside))) in
-      let none = cut.least s.greatest (omega (arith, sizes.window, sizes.rises, sizes.ordered)) below in
-      let both : true ≡ false = sym full ∙ none in
-      cc
-  | inr at_least ↦ at_least
-]
 
 entries_fine : (greatest k start end : ℕ) (es : List (ℕ × List ℕ)) → AreLinked (IsStep greatest) start es end → entry_fault greatest k start es ≡ None
 entries_fine greatest k start end [] steps = refl

@@ -2,10 +2,10 @@
 use Rattle.std.proofs.Common.{◌≡◌, ℕ, zero, suc, ◌+◌, ◌-◌, ◌<◌, ◌≤◌, List, [], ◌∷◌, ◌++◌, length, map, take, drop, slice_index_or, slice_range, refl, sym, ap, subst, ◌∙◌, arith, length-append, Option, Some, None, IfSome, Result, Ok, Err, IfOk, IfErr, OnOk, OnErr}
 use Rattle.std.proofs.lemmas.List.{length-drop, take_all}
 use Rattle.buzhash_cut.proofs.Cuttable.{cuts_exist}
-use Rattle.buzhash_cut.specs.Cuts.{AreCuts}
+use Rattle.chunk_ends.specs.Cuts.{AreCuts}
 use Rattle.buzhash_cut.specs.Entries.{IsChunk, IsStep, AreLinked, AreEntries, AreTooMany, IsRun}
 use Rattle.buzhash_cut.specs.Image.{named_from, HasTooManyCuts}
-use Rattle.buzhash_cut.specs.Sizes.{Sizes}
+use Rattle.chunk_ends.specs.Sizes.{Sizes}
 use Rattle.buzhash_cut.specs.declared.image.CutFault.{CutFault}
 use Rattle.buzhash_cut.specs.declared.image.CutFault.TheVariants as faults
 use Rattle.caibx_codec.specs.Seen.{pairs}

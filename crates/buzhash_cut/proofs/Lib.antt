@@ -1,16 +1,7 @@
-pub mod Words
-pub mod Windows
 pub mod Cutting
 pub mod Uniqueness
 pub mod Chunks
 pub mod Twins
-pub mod Rotations
-pub mod Divides
-pub mod RollLaw
-pub mod Places
-pub mod Seams
-pub mod Closed
-pub mod Feeds
 pub mod Cuttable
 pub mod Joins
 pub mod Crews

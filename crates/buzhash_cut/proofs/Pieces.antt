@@ -3,13 +3,15 @@ use Rattle.std.proofs.Common.{◌≡◌, ℕ, ◌+◌, ◌-◌, ◌≤◌, List,
 use Rattle.std.proofs.Math.Seq.{take-add}
 use Rattle.std.proofs.lemmas.List.{take-append-drop, take-append-le, drop-take, take_all}
 use Rattle.std.proofs.lemmas.Grind.{common_steps}
-use Rattle.buzhash_cut.proofs.Seams.{take-take-le}
-use Rattle.buzhash_cut.specs.Cuts.{IsCut}
-use Rattle.buzhash_cut.specs.Feeding.{Kept, WasFed}
-use Rattle.buzhash_cut.specs.Sizes.{Sizes}
+use Rattle.chunk_ends.specs.Cuts.{IsCut}
+use Rattle.chunk_ends.specs.Feeding.{Kept, WasFed}
+use Rattle.chunk_ends.specs.Sizes.{Sizes}
 
 pub drop-add : (a n : ℕ) (xs : List ℕ) → drop (a + n) xs ≡ drop n (drop a xs)
 drop-add a n xs = grind (arith, common_steps)
+
+take-take-le : (i j : ℕ) (xs : List ℕ) → i ≤ j → take i (take j xs) ≡ take i xs
+take-take-le i j xs le = grind (arith, common_steps)
 
 -- n bytes more of the image
 pub range_on : (t p : List ℕ) (start at k n : ℕ) → start ≤ at → p ≡ slice_range t at (at + k) → n ≤ k → slice_range t start at ++ take n p ≡ slice_range t start (at + n)

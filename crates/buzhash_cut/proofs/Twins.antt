@@ -9,7 +9,7 @@ use Rattle.buzhash_cut.proofs.Chunks.{index_named, image_right, start_of-suc}
 use Rattle.buzhash_cut.specs.Image.{IsIndexOfImage}
 use Rattle.caibx_codec.specs.Right.{IsRight}
 use Rattle.buzhash_cut.specs.Right.{HasTwins}
-use Rattle.buzhash_cut.specs.Sizes.{Sizes}
+use Rattle.chunk_ends.specs.Sizes.{Sizes}
 use Rattle.caibx_codec.specs.Listing.{Listing, count_of, start_of, end_of, slice_of, image_length}
 
 same_or_apart : (a b : List ℕ) (t : Bool) → bytes_eq a b ≡ t → (a ≡ b) ⊎ (a ≢ b)

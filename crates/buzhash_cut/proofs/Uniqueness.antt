@@ -3,9 +3,9 @@ use Rattle.std.proofs.Common.{◌≡◌, ℕ, ◌<◌, List, [], ◌∷◌, leng
 use Rattle.std.proofs.lemmas.Bool.{cases_lt}
 use Rattle.std.proofs.lemmas.List.{length-drop}
 use Rattle.buzhash_cut.proofs.Cutting.{length-named_from}
-use Rattle.buzhash_cut.specs.Cuts.{IsCut, AreCuts}
+use Rattle.chunk_ends.specs.Cuts.{IsCut, AreCuts}
 use Rattle.buzhash_cut.specs.Image.{HasTooManyCuts, IsIndexOfImage, listing_of}
-use Rattle.buzhash_cut.specs.Sizes.{Sizes}
+use Rattle.chunk_ends.specs.Sizes.{Sizes}
 use Rattle.caibx_codec.specs.Listing.{Listing, count_of}
 use Rattle.chunk_store.specs.declared.id.DigestKind.TheVariants as kinds
 

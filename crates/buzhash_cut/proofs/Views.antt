@@ -1,5 +1,5 @@
 -- Views and their workers, who stand the other way round.
-use Rattle.std.proofs.Common.{◌≡◌, zero, suc, ◌-◌, ◌<◌, List, [], ◌∷◌, ◌++◌, length, map, reverse, slice_index_or, All, refl, sym, ap, subst, ◌∙◌, arith, IfSome}
+use Rattle.std.proofs.Common.{◌≡◌, ℕ, suc, ◌-◌, ◌<◌, List, [], ◌∷◌, ◌++◌, length, map, reverse, slice_index_or, All, refl, sym, ap, subst, ◌∙◌, arith}
 use Rattle.std.proofs.lemmas.List.{get_or-map, get_or-reverse, length-map, length-reverse, map-append, reverse-append, reverse-reverse}
 use Rattle.std.proofs.lemmas.List.Elements.{All-map}
 use Rattle.buzhash_cut.specs.Image.{AreOfOneImage}
@@ -13,6 +13,16 @@ map_reversed {X} {Y} f (x ∷ xs) =
 map_twice : {W V X : Type 0} (f : V → X) (view : W → V) (ws : List W) → map f (map view ws) ≡ map (λ w. f (view w)) ws
 map_twice f view [] = refl
 map_twice {W} {V} {X} f view (w ∷ ws) = ap (λ (xs : List X). f (view w) ∷ xs) (map_twice f view ws)
+
+-- what is seen of each is alike
+pub maps_alike : {W X : Type 0} (f : W → X) (xs ys : List W) → length ys ≡ length xs → ((k : ℕ) (d : W) → k < length xs → f (slice_index_or ys k d) ≡ f (slice_index_or xs k d)) → map f ys ≡ map f xs
+maps_alike f [] [] long same = refl
+maps_alike f [] (y ∷ ys) long same = absurd (omega arith)
+maps_alike f (x ∷ xs) [] long same = absurd (omega arith)
+maps_alike f (x ∷ xs) (y ∷ ys) long same =
+    let first : f y ≡ f x = same 0 x (omega arith) in
+    let rest : map f ys ≡ map f xs = maps_alike f xs ys (omega arith) (λ k d lt. same (suc k) d (omega arith)) in
+    cc
 
 -- what is seen of the views is seen of the workers
 pub seen_by : {W V X : Type 0} (f : V → X) (view : W → V) (vs : List V) (ws : List W) → vs ≡ reverse (map view ws) → map f vs ≡ reverse (map (λ w. f (view w)) ws)
@@ -39,12 +49,6 @@ alike_reversed hs alike =
 pub alike_by : {W V : Type 0} (H : V → Held) (view : W → V) (vs : List V) (ws : List W) → vs ≡ reverse (map view ws) → AreOfOneImage (map H vs) → AreOfOneImage (map (λ w. H (view w)) ws)
 alike_by H view vs ws is alike =
     subst AreOfOneImage (ap reverse (seen_by H view vs ws is) ∙ reverse-reverse (map (λ w. H (view w)) ws)) (alike_reversed (map H vs) alike)
-
--- told bytes are as many as the size says
-pub all_sized : {W : Type 0} (H : W → Held) → ((w : W) → IfSome (H w).bytes (λ t. length t ≡ (H w).size)) → (ws : List W) → All (λ h. IfSome h.bytes (λ t. length t ≡ h.size)) (map H ws)
-all_sized H law [] k d lt = absurd (omega arith)
-all_sized H law (w ∷ ws) zero d lt = law w
-all_sized H law (w ∷ ws) (suc k) d lt = all_sized H law ws k d (omega arith)
 
 -- views that all hold the same are of one image
 pub alike_all : {V : Type 0} (H : V → Held) (vs : List V) (h : Held) → All (λ v. ((H v).size ≡ h.size) × ((H v).bytes ≡ h.bytes)) vs → AreOfOneImage (map H vs)

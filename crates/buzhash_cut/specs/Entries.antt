@@ -1,9 +1,9 @@
 -- The chunks of an image as entries: where each ends, and its name.
 use Rattle.std.specs.Prelude.{◌≡◌, ℕ, ◌+◌, ◌-◌, ◌<◌, ◌≤◌, List, [], ◌∷◌, length, drop, slice_range, Option}
 use Rattle.std.specs.Prelude.{IfSome}
-use Rattle.buzhash_cut.specs.Cuts.{IsCut}
+use Rattle.chunk_ends.specs.Cuts.{IsCut}
 use Rattle.buzhash_cut.specs.Image.{HasTooManyCuts}
-use Rattle.buzhash_cut.specs.Sizes.{Sizes}
+use Rattle.chunk_ends.specs.Sizes.{Sizes}
 use Rattle.chunk_store.specs.Names.{name_of}
 use Rattle.chunk_store.specs.declared.id.DigestKind.TheVariants as kinds
 use Rattle.dsy_base.specs.Bytes.{Held}
@@ -38,6 +38,7 @@ pub record IsRun (s : Sizes) (h : Held) (start : ℕ) (es : List (ℕ × List �
 pub record AreAll (s : Sizes) (h : Held) (es : List (ℕ × List ℕ)) : Type 0 where
   pub few : length es ≤ 4194304
   pub entries : AreEntries s h.bytes 0 es h.size
+  pub sized : IfSome h.bytes (λ t. length t ≡ h.size)
 
 -- the bytes are told, and are cut into more chunks than an index may list; or they aren't told
 abbrev pub AreTooMany : Sizes → Held → Type 0

@@ -1,7 +1,7 @@
 -- The index of an image: its chunks by their ends, each with its name.
 use Rattle.std.specs.Prelude.{◌≡◌, ℕ, ◌<◌, ◌≤◌, List, [], ◌∷◌, length, slice_index, slice_range, All, Result, Ok, Err}
-use Rattle.buzhash_cut.specs.Cuts.{AreCuts}
-use Rattle.buzhash_cut.specs.Sizes.{Sizes}
+use Rattle.chunk_ends.specs.Cuts.{AreCuts}
+use Rattle.chunk_ends.specs.Sizes.{Sizes}
 use Rattle.buzhash_cut.specs.declared.image.CutFault.{CutFault}
 use Rattle.buzhash_cut.specs.declared.image.CutFault.TheVariants as faults
 use Rattle.caibx_codec.specs.Listing.{Listing}
@@ -52,6 +52,6 @@ AreOfOneImage hs = All (λ h. All (λ k. (k.size ≡ h.size) × (k.bytes ≡ h.b
 
 -- how the counts of the views go over cutting: none falls, and the first view's is that of the answer: it rises where
 -- the image couldn't be read, and stays where there is an index or no memory
-pub record CountsViews {A : Type 0} (old new : List ℕ) (result : Result A CutFault) : Type 0 where
+pub record CountsViews {A E : Type 0} (failed memory : E) (old new : List ℕ) (result : Result A E) : Type 0 where
   pub never_falls : (i : ℕ) → slice_index old i ≤ slice_index new i
-  pub first : CountsFaults faults.ImageFault faults.Memory (slice_index old 0) (slice_index new 0) result
+  pub first : CountsFaults failed memory (slice_index old 0) (slice_index new 0) result

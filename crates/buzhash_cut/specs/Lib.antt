@@ -1,10 +1,6 @@
-pub mod Table
-pub mod Window
 pub mod Sizes
-pub mod Cuts
 pub mod Right
 pub mod Image
-pub mod Feeding
 pub mod Entries
 pub mod Slicing
 pub mod Runs

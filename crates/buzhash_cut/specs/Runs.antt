@@ -1,7 +1,7 @@
 -- What workers cut of an image, each from another place on.
 use Rattle.std.specs.Prelude.{◌≡◌, ℕ, ◌≤◌, [], length, IfOk, IfErr}
 use Rattle.buzhash_cut.specs.Entries.{AreEntries, AreTooMany, IsRun}
-use Rattle.buzhash_cut.specs.Sizes.{Sizes}
+use Rattle.chunk_ends.specs.Sizes.{Sizes}
 use Rattle.buzhash_cut.specs.declared.image.CutFault.TheVariants as faults
 use Rattle.buzhash_cut.specs.declared.run.Run.{Run}
 use Rattle.caibx_codec.specs.Seen.{pairs}

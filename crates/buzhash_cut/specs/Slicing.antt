@@ -1,6 +1,6 @@
 -- Cutting an image from a place on, as a view gives it in pieces.
 use Rattle.std.specs.Prelude.{◌≡◌, ℕ, ◌+◌, ◌-◌, ◌<◌, ◌≤◌, List, min, slice_range, vec_len}
-use Rattle.buzhash_cut.specs.Feeding.{WasFed}
+use Rattle.chunk_ends.specs.Feeding.{WasFed}
 use Rattle.buzhash_cut.specs.declared.slicer.Slicer.{Slicer}
 
 -- where the chunk begins that is cut next

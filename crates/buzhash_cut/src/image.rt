@@ -6,11 +6,12 @@ ghost use Rattle.buzhash_cut.specs.Runs.{IsReady};
 ghost use Rattle.caibx_codec.specs.Listing.{count_of, image_length};
 
 use crate::run::Worker;
-use crate::sizes::CutSizes;
 use crate::workers::{dismiss, entries_by, hire};
 use caibx_codec::index::Index;
+use chunk_ends::sizes::CutSizes;
 use dsy_base::view::View;
 use std::alloc::{AllocError, Global};
+use std::thread::Threads;
 
 /// What the head of each index that is made says: ids by SHA-512/256, and casync's flag 0x8000000000000000.
 const FLAGS: u64 = 0xa000_0000_0000_0000;
@@ -36,7 +37,8 @@ impl From<AllocError> for CutFault {
 }
 
 // The index of the image that the workers cut.
-fn index_by<V: View>(
+fn index_by<R: Threads + Sync, V: View + Send>(
+    rt: &R,
     alloc: Global,
     workers: &mut Vec<Worker<V>>,
     sizes: &CutSizes,
@@ -51,10 +53,10 @@ fn index_by<V: View>(
     ensures few { IfOk result (λ l. count_of l ≤ 4194304) }
     ensures kept { map (λ w. V.held w.view) workers.new.items ≡ map (λ w. V.held w.view) workers.old.items }
     ensures len { vec_len workers.new ≡ vec_len workers.old }
-    ensures faults { CountsViews (reverse (map (λ w. V.faults w.view) workers.old.items))
+    ensures faults { CountsViews CutFault.ImageFault CutFault.Memory (reverse (map (λ w. V.faults w.view) workers.old.items))
         (reverse (map (λ w. V.faults w.view) workers.new.items)) result }
 {
-    let entries = match entries_by(alloc, workers, sizes) {
+    let entries = match entries_by(rt, alloc, workers, sizes) {
         Ok(entries) => entries,
         Err(fault) => return Err(fault),
     };
@@ -68,7 +70,8 @@ fn index_by<V: View>(
 
 /// The index of an image, cut by these sizes with as many workers as there are views. The views come back in their
 /// order, whatever the answer is.
-pub fn index_view<V: View>(
+pub fn index_view<R: Threads + Sync, V: View + Send>(
+    rt: &R,
     alloc: Global,
     views: Vec<V>,
     sizes: &CutSizes,
@@ -80,14 +83,14 @@ pub fn index_view<V: View>(
     ensures size { IfOk result.1 (λ l. All (λ v. image_length l ≡ (V.held v).size) views.items) }
     ensures kept { map V.held result.0.items ≡ map V.held views.items }
     ensures few { IfOk result.1 (λ l. count_of l ≤ 4194304) }
-    ensures faults { CountsViews (map V.faults views.items) (map V.faults result.0.items) result.1 }
+    ensures faults { CountsViews CutFault.ImageFault CutFault.Memory (map V.faults views.items) (map V.faults result.0.items) result.1 }
 {
     let mut views = views;
     let Ok(mut workers) = Vec::with_capacity(alloc, views.len()) else {
         return (views, Err(CutFault::Memory));
     };
     hire(alloc, &mut views, &mut workers);
-    let made = index_by(alloc, &mut workers, sizes);
+    let made = index_by(rt, alloc, &mut workers, sizes);
     dismiss(&mut workers, &mut views);
     (views, made)
 }

@@ -4,7 +4,7 @@ ghost use Rattle.std.specs.Prelude.{◌≡◌, ◌<◌, ◌⊎◌, ℕ, List};
 ghost use Rattle.buzhash_cut.specs.Image.{HasTooManyCuts, IsIndexOfImage};
 ghost use Rattle.caibx_codec.specs.Right.{IsRight};
 ghost use Rattle.buzhash_cut.specs.Right.{HasTwins};
-ghost use Rattle.buzhash_cut.specs.Sizes.{Sizes};
+ghost use Rattle.chunk_ends.specs.Sizes.{Sizes};
 ghost use Rattle.caibx_codec.specs.Listing.{Listing, count_of};
 
 /// The image is what its index lists.

@@ -3,16 +3,16 @@
 ghost use Rattle.std.specs.Prelude.{◌≡◌, ◌<◌, ◌≤◌, [], length, IfOk, IfErr};
 ghost use Rattle.buzhash_cut.specs.Entries.{AreEntries, AreTooMany, IsRun};
 ghost use Rattle.buzhash_cut.specs.Runs.{IsReady, HasCut};
-ghost use Rattle.buzhash_cut.specs.Sizes.{Sizes};
+ghost use Rattle.chunk_ends.specs.Sizes.{Sizes};
 ghost use Rattle.caibx_codec.specs.Seen.{pairs};
 ghost use Rattle.dsy_base.specs.Bytes.{Held};
 ghost use Rattle.dsy_base.specs.Counts.{CountsFaults};
 
 use crate::entries::cut_on;
 use crate::image::CutFault;
-use crate::sizes::CutSizes;
 use crate::slicer::Slicer;
 use caibx_codec::index::Entry;
+use chunk_ends::sizes::CutSizes;
 use dsy_base::view::View;
 use std::alloc::Global;
 

@@ -3,16 +3,16 @@
 
 ghost use Rattle.std.specs.Prelude.{◌≡◌, ℕ, ◌+◌, ◌-◌, ◌^◌, ◌<◌, ◌≤◌, length, min, slice_range, IfOk};
 ghost use Rattle.std.specs.Prelude.{IfSome, OnOk, MatchOption, List, drop};
-ghost use Rattle.buzhash_cut.specs.Cuts.{IsCut};
+ghost use Rattle.chunk_ends.specs.Cuts.{IsCut};
 ghost use Rattle.buzhash_cut.specs.Entries.{IsChunk};
 ghost use Rattle.buzhash_cut.specs.Slicing.{IsWithin, HasRead, begun_by};
 ghost use Rattle.caibx_codec.specs.Seen.{pair};
 ghost use Rattle.chunk_store.specs.Names.{name_of};
 ghost use Rattle.dsy_base.specs.Counts.{CountsRefusals};
 
-use crate::cutter::Cutter;
-use crate::sizes::CutSizes;
 use caibx_codec::index::Entry;
+use chunk_ends::cutter::Cutter;
+use chunk_ends::sizes::CutSizes;
 use chunk_store::id::{ChunkId, DigestKind};
 use chunk_store::range::name_range;
 use dsy_base::fault::Failed;

@@ -1,22 +1,23 @@
-//! Cutting by vectors, and by what another program answers. Offsets and sizes are in bytes.
+//! Images indexed with any number of views, by what another program answers. Offsets and sizes are in bytes.
 
 ghost use Rattle.std.specs.Prelude.{◌≡◌, vec_len, All, IfOk};
 
-use crate::cutter::Cutter;
 use crate::image::index_view;
-use crate::sizes::{CutSizes, SizeFault};
-use crate::table::TABLE;
-use crate::window::window_hash;
 use caibx_codec::index::Index;
-use chunk_store::id::{ChunkId, DigestKind};
+use chunk_ends::sizes::CutSizes;
+use chunk_store::id::DigestKind;
 use dsy_base::fault::Failed;
 use dsy_base::view::View;
 use std::alloc::Global;
 use std::process::Abort;
+use std::sync::Arc;
+use std::sync::atomic::{AtomicU64, Ordering};
 use std::test::Fail;
+use std::thread;
+use std::thread::Threads;
 
-// The SHA-256 of the table's words, low byte first, by another program.
-const TABLE_DIGEST: &str = "5b52080d38287da9d2e278466e3e0db7ec98e5e8b226f50612a56fa012b1f660";
+// How many turns a view waits for the other one.
+const TURNS: u64 = 10_000_000;
 
 // Where 3000 mixed bytes are cut by the sizes 64, 128 and 512, by another program.
 const ENDS: [u64; 22] = [
@@ -24,162 +25,36 @@ const ENDS: [u64; 22] = [
     2652, 2775, 2872, 2945, 3000,
 ];
 
-#[test]
-fn the_table_has_its_words(rt: HostRuntime) -> Result<(), Fail> {
-    let mut bytes = Vec::new(rt.alloc());
-    for word in &TABLE {
-        for byte in word.to_le_bytes() {
-            bytes.push(byte)?;
-        }
-    }
-    let digest = ChunkId::of(DigestKind::Sha256, bytes.as_slice());
-    assert_eq!(rt; digest.to_hex().as_slice(), TABLE_DIGEST.as_bytes());
-    Ok(())
-}
-
-#[test]
-fn windows_have_their_hashes(rt: HostRuntime) {
-    assert_eq!(rt; window_hash(&[0; 48]), 0x9e48_9e48);
-    assert_eq!(rt; window_hash(&[0xff; 48]), 0xfdc4_023b);
-    let mut rising = [0; 48];
-    for i in 0..48u8 {
-        rising[i as usize] = i;
-    }
-    assert_eq!(rt; window_hash(&rising), 0x6b67_dec6);
-}
-
-#[test]
-fn sizes_have_their_faults_and_discriminators(rt: HostRuntime) {
-    let cases = [
-        (47, 40, 30, Err(SizeFault::MinTooSmall)),
-        (48, 47, 100, Err(SizeFault::Order)),
-        (48, 101, 100, Err(SizeFault::Order)),
-        (48, 4_194_305, 67_108_865, Err(SizeFault::AvgTooLarge)),
-        (48, 48, 67_108_865, Err(SizeFault::MaxTooLarge)),
-        (48, 48, 48, Ok(36)),
-        (48, 63, 100, Ok(47)),
-        (16_384, 65_536, 262_144, Ok(49_535)),
-        (4_194_304, 4_194_304, 67_108_864, Ok(5_721_670)),
-    ];
-    for (min, avg, max, want) in cases {
-        let got = CutSizes::new(min, avg, max).map(|sizes| sizes.discriminator());
-        assert_eq!(rt; got, want, "{min} {avg} {max}");
-    }
-}
-
 fn sizes_of(rt: &impl Abort, min: u64, avg: u64, max: u64) -> CutSizes {
     CutSizes::new(min, avg, max).expect(rt, "sizes")
 }
 
-// The ends that a cutter gives of the bytes in pieces of one size.
-fn ends_in_pieces(
-    rt: &impl Abort,
-    alloc: Global,
-    sizes: CutSizes,
-    image: &[u8],
-    size: usize,
-) -> Result<Vec<u64>, Fail> {
-    assert!(rt; image.len() < 1_000_000 && 0 < size);
-    let mut cutter = Cutter::new(alloc, sizes)?;
-    let mut ends = Vec::new(alloc);
-    let mut at = 0usize;
-    for piece in image.chunks(size) {
-        let mut from = 0usize;
-        while from < piece.len() {
-            assert!(rt; at < 1_000_000);
-            let fed = cutter.feed(&piece[from..]);
-            assert!(rt; 0 < fed.taken && fed.taken <= piece.len() - from);
-            from += fed.taken;
-            at += fed.taken;
-            if let Some(end) = fed.end {
-                ends.push(end)?;
+// Where the view of an image waits in its first read, for so many turns at most, until the other one is read.
+#[derive(Drop)]
+struct Gate {
+    here: Arc<AtomicU64, Global>,
+    there: Arc<AtomicU64, Global>,
+    passed: bool,
+}
+
+impl Gate {
+    fn wait(&mut self) {
+        self.here.store(1, Ordering::SeqCst);
+        for _ in 0..TURNS {
+            if self.there.load(Ordering::SeqCst) == 1 {
+                self.passed = true;
+                return;
             }
+            thread::yield_now();
         }
     }
-    if let Some(end) = cutter.finish() {
-        ends.push(end)?;
-    }
-    Ok(ends)
 }
 
-// Cuts the image in pieces of each of these sizes and whole.
-fn cut_alike(
-    rt: &impl Abort,
-    alloc: Global,
-    sizes: CutSizes,
-    image: &[u8],
-    want: &[u64],
-) -> Result<(), Fail> {
-    assert!(rt; 0 < image.len());
-    for size in [1, 47, 48, 49, 64, 1000, image.len()] {
-        let ends = ends_in_pieces(rt, alloc, sizes, image, size)?;
-        assert_eq!(rt; ends.as_slice(), want, "{size}");
-    }
-    Ok(())
-}
-
-// Ones close at the least size, zeros at the greatest alone.
-#[test]
-fn pieces_do_not_matter(rt: HostRuntime) -> Result<(), Fail> {
-    let alloc = rt.alloc();
-    let small = sizes_of(&rt, 48, 63, 100);
-    let ones = vec![in alloc; 0xffu8; 100]?;
-    cut_alike(&rt, alloc, small, ones.as_slice(), [48, 96, 100].as_slice())?;
-    cut_alike(&rt, alloc, small, &ones.as_slice()[..48], [48].as_slice())?;
-    cut_alike(&rt, alloc, small, &ones.as_slice()[..47], [47].as_slice())?;
-    let zeros = vec![in alloc; 0u8; 200]?;
-    cut_alike(&rt, alloc, small, zeros.as_slice(), [100, 200].as_slice())?;
-    let usual = sizes_of(&rt, 16_384, 65_536, 262_144);
-    let zeros = vec![in alloc; 0u8; 600_000]?;
-    let ends = ends_in_pieces(&rt, alloc, usual, zeros.as_slice(), 65_536)?;
-    assert_eq!(rt; ends.as_slice(), [262_144, 524_288, 600_000].as_slice());
-    assert_eq!(rt; ends_in_pieces(&rt, alloc, usual, &[], 1)?.len(), 0);
-    Ok(())
-}
-
-// The ends are those of another program.
-#[test]
-fn images_are_cut_by_their_bytes(rt: HostRuntime) -> Result<(), Fail> {
-    let alloc = rt.alloc();
-    let image = mixed(alloc, 3000)?;
-    let bytes = image.bytes.as_slice();
-    cut_alike(&rt, alloc, sizes_of(&rt, 64, 128, 512), bytes, &ENDS)?;
-    // The greatest size is never met.
-    cut_alike(
-        &rt,
-        alloc,
-        sizes_of(&rt, 64, 128, 67_108_864),
-        bytes,
-        [
-            109, 220, 360, 483, 602, 724, 1399, 1631, 1715, 1850, 1946, 2031, 2154, 2243, 2392,
-            2496, 2652, 2775, 2872, 2945, 3000,
-        ]
-        .as_slice(),
-    )?;
-    // The least size is the average, and near the greatest.
-    cut_alike(
-        &rt,
-        alloc,
-        sizes_of(&rt, 128, 128, 512),
-        bytes,
-        [
-            132, 360, 529, 724, 1236, 1399, 1631, 1850, 1991, 2154, 2286, 2496, 2652, 2872, 3000,
-        ]
-        .as_slice(),
-    )?;
-    cut_alike(
-        &rt,
-        alloc,
-        sizes_of(&rt, 256, 256, 300),
-        bytes,
-        [300, 600, 900, 1200, 1500, 1800, 2100, 2400, 2700, 3000].as_slice(),
-    )
-}
-
-// An image in memory, which is always read.
+// An image in memory, which is always read, and where it has a gate at first through that.
 #[derive(Drop)]
 struct Image {
     bytes: Vec<u8>,
+    gate: Option<Gate>,
 }
 
 impl View for Image {
@@ -199,6 +74,11 @@ impl View for Image {
     }
 
     fn read_at(&mut self, at: u64, out: &mut [u8]) -> Result<(), Failed> {
+        if let Some(gate) = &mut self.gate {
+            if !gate.passed {
+                gate.wait();
+            }
+        }
         let at = at as usize;
         out.copy_from_slice(&self.bytes[at..at + out.len()]);
         Ok(())
@@ -219,7 +99,7 @@ fn mixed(alloc: Global, length: usize) -> Result<Image, Fail> {
         state = state.wrapping_mul(1_103_515_245).wrapping_add(12_345) % 0x8000_0000;
         bytes.push((state >> 16 & 0xff) as u8)?;
     }
-    Ok(Image { bytes })
+    Ok(Image { bytes, gate: None })
 }
 
 // So many views of the same bytes.
@@ -230,7 +110,7 @@ fn views_of(alloc: Global, bytes: &[u8], count: usize) -> Result<Vec<Image>, Fai
     let mut views = Vec::new(alloc);
     while views.len() < count {
         let bytes = Vec::from_slice(alloc, bytes)?;
-        views.push(Image { bytes })?;
+        views.push(Image { bytes, gate: None })?;
     }
     Ok(views)
 }
@@ -254,8 +134,8 @@ fn lists(rt: &impl Abort, index: &Index, image: &[u8], ends: &[u64]) {
 }
 
 // The index of the image is the same by any number of views.
-fn indexed_alike(
-    rt: &impl Abort,
+fn indexed_alike<R: Abort + Threads + Sync>(
+    rt: &R,
     alloc: Global,
     sizes: &CutSizes,
     image: &[u8],
@@ -263,7 +143,7 @@ fn indexed_alike(
 ) -> Result<(), Fail> {
     for count in [1, 2, 3, 32] {
         let views = views_of(alloc, image, count)?;
-        let (views, answer) = index_view(alloc, views, sizes);
+        let (views, answer) = index_view(rt, alloc, views, sizes);
         let index = answer?;
         assert_eq!(rt; views.len(), count);
         assert_eq!(rt; index.flags(), 0xa000_0000_0000_0000);
@@ -303,4 +183,56 @@ fn an_index_is_the_same_by_any_number_of_views(rt: HostRuntime) -> Result<(), Fa
         &image.bytes,
         &ENDS,
     )
+}
+
+// Two views of the same bytes, each with a gate until the other one is read.
+fn gated(alloc: Global, bytes: &[u8]) -> Result<Vec<Image>, Fail>
+    ensures len { IfOk result (λ v. vec_len v ≡ 2) }
+    ensures bytes { IfOk result (λ v. All (λ i. i.bytes.items ≡ bytes.now) v.items) }
+{
+    let one = Arc::new(alloc, AtomicU64::new(0))?;
+    let two = Arc::new(alloc, AtomicU64::new(0))?;
+    let first = Gate {
+        here: Arc::try_clone(&one)?,
+        there: Arc::try_clone(&two)?,
+        passed: false,
+    };
+    let second = Gate {
+        here: two,
+        there: one,
+        passed: false,
+    };
+    let mut views = Vec::new(alloc);
+    views.push(Image {
+        bytes: Vec::from_slice(alloc, bytes)?,
+        gate: Some(first),
+    })?;
+    views.push(Image {
+        bytes: Vec::from_slice(alloc, bytes)?,
+        gate: Some(second),
+    })?;
+    Ok(views)
+}
+
+fn has_passed(image: &Image) -> bool {
+    match &image.gate {
+        Some(gate) => gate.passed,
+        None => false,
+    }
+}
+
+// Two views of zeros, which both are read before either has read anything.
+fn read_at_once<R: Abort + Threads + Sync>(rt: &R, alloc: Global) -> Result<(), Fail> {
+    let zeros = vec![in alloc; 0u8; 600_000]?;
+    let views = gated(alloc, &zeros)?;
+    let (views, answer) = index_view(rt, alloc, views, &sizes_of(rt, 16_384, 65_536, 262_144));
+    lists(rt, &answer?, &zeros, [262_144, 524_288, 600_000].as_slice());
+    assert_eq!(rt; views.len(), 2);
+    assert!(rt; has_passed(&views[0]) && has_passed(&views[1]));
+    Ok(())
+}
+
+#[test]
+fn two_views_are_read_at_once(rt: HostRuntime) -> Result<(), Fail> {
+    read_at_once(&rt, rt.alloc())
 }

@@ -2,7 +2,7 @@
 
 ghost use Rattle.std.specs.Prelude.{◌≡◌, ℕ, ◌<◌, ◌≤◌, length, All, IfOk, IfErr, IfSome, OnOk};
 ghost use Rattle.buzhash_cut.specs.Entries.{AreAll, AreEntries, AreTooMany, IsRun};
-ghost use Rattle.buzhash_cut.specs.Sizes.{Sizes};
+ghost use Rattle.chunk_ends.specs.Sizes.{Sizes};
 ghost use Rattle.buzhash_cut.specs.Slicing.{IsWithin};
 ghost use Rattle.caibx_codec.specs.Seen.{pairs};
 ghost use Rattle.dsy_base.specs.Bytes.{Held};
@@ -11,9 +11,9 @@ ghost use Rattle.dsy_base.specs.Counts.{CountsFaults};
 use crate::entries::{add_run, cut_on};
 use crate::image::CutFault;
 use crate::run::Worker;
-use crate::sizes::CutSizes;
 use crate::slicer::Slicer;
 use caibx_codec::index::Entry;
+use chunk_ends::sizes::CutSizes;
 use dsy_base::view::View;
 use std::alloc::Global;
 use std::mem;

@@ -9,11 +9,13 @@ ghost use Rattle.caibx_codec.specs.Seen.{pairs};
 
 use crate::image::CutFault;
 use crate::run::{Run, Worker};
-use crate::sizes::CutSizes;
 use crate::walk::joined;
 use caibx_codec::index::Entry;
+use chunk_ends::sizes::CutSizes;
 use dsy_base::view::View;
 use std::alloc::Global;
+use std::thread;
+use std::thread::Threads;
 
 // Where part `number` of so many begins.
 fn part(size: u64, number: u64, count: u64) -> u64
@@ -65,8 +67,13 @@ pub(crate) fn dismiss<V: View>(workers: &mut Vec<Worker<V>>, views: &mut Vec<V>)
     }
 }
 
-// Each worker cuts its part.
-fn cut_all<V: View>(alloc: Global, workers: &mut [Worker<V>], sizes: &CutSizes)
+// Each worker cuts its part, beside the others.
+fn cut_all<R: Threads + Sync, V: View + Send>(
+    rt: &R,
+    alloc: Global,
+    workers: &mut [Worker<V>],
+    sizes: &CutSizes,
+)
     requires ready { All (λ w. IsReady (V.held w.view).size w.run) workers.old }
     ensures cut { (k : ℕ) (d : Worker V) → k < length workers.old →
         HasCut sizes.now (V.held (slice_index_or workers.old k d).view) (slice_index_or workers.old k d).run.start
@@ -74,13 +81,23 @@ fn cut_all<V: View>(alloc: Global, workers: &mut [Worker<V>], sizes: &CutSizes)
         (slice_index_or workers.new k d).run }
     ensures kept { map (λ w. V.held w.view) workers.new ≡ map (λ w. V.held w.view) workers.old }
 {
-    for i in 0..workers.len() {
-        workers[i].cut(alloc, sizes);
-    }
+    let threads = workers.len().max(1);
+    thread::for_each_mut(
+        rt,
+        workers,
+        threads,
+        &|_, worker: &mut Worker<V>|
+            requires { IsReady (V.held worker.old.view).size worker.old.run }
+            ensures cut { HasCut sizes.entry.now (V.held worker.old.view) worker.old.run.start
+                (V.faults worker.old.view) (V.faults worker.new.view) worker.new.run }
+            ensures kept { V.held worker.new.view ≡ V.held worker.old.view }
+        { worker.cut(alloc, sizes) },
+    );
 }
 
 /// The entries of the index of the image that the workers cut.
-pub(crate) fn entries_by<V: View>(
+pub(crate) fn entries_by<R: Threads + Sync, V: View + Send>(
+    rt: &R,
     alloc: Global,
     workers: &mut Vec<Worker<V>>,
     sizes: &CutSizes,
@@ -95,10 +112,10 @@ pub(crate) fn entries_by<V: View>(
         All (AreTooMany sizes.now) (map (λ w. V.held w.view) workers.old.items)) }
     ensures kept { map (λ w. V.held w.view) workers.new.items ≡ map (λ w. V.held w.view) workers.old.items }
     ensures len { vec_len workers.new ≡ vec_len workers.old }
-    ensures faults { CountsViews (reverse (map (λ w. V.faults w.view) workers.old.items))
+    ensures faults { CountsViews CutFault.ImageFault CutFault.Memory (reverse (map (λ w. V.faults w.view) workers.old.items))
         (reverse (map (λ w. V.faults w.view) workers.new.items)) result }
 {
-    cut_all(alloc, workers, sizes);
+    cut_all(rt, alloc, workers, sizes);
     let Some(mut first) = workers.pop() else {
         unreachable!();
     };

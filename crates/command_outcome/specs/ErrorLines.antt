@@ -4,8 +4,8 @@ use Rattle.std.specs.Prelude.{ℕ, List, [], ◌∷◌, ◌++◌, codes}
 use Rattle.std.specs.Fmt.{decimal}
 use Rattle.std.specs.Int.{w64, to_be_bytes}
 use Rattle.hex.specs.Hex.{encode_lower}
-use Rattle.buzhash_cut.specs.declared.sizes.SizeFault.{SizeFault}
-use Rattle.buzhash_cut.specs.declared.sizes.SizeFault.TheVariants as sizes
+use Rattle.chunk_ends.specs.declared.sizes.SizeFault.{SizeFault}
+use Rattle.chunk_ends.specs.declared.sizes.SizeFault.TheVariants as sizes
 use Rattle.caibx_codec.specs.declared.fault.IndexFault.{IndexFault}
 use Rattle.caibx_codec.specs.declared.fault.IndexFault.TheVariants as bad
 use Rattle.command_outcome.specs.declared.outcome.Outcome.{Outcome}

@@ -3,8 +3,8 @@
 ghost use Rattle.std.specs.Prelude.{◌≡◌};
 ghost use Rattle.command_outcome.specs.Statuses.{status_of};
 
-use buzhash_cut::sizes::SizeFault;
 use caibx_codec::fault::IndexFault;
+use chunk_ends::sizes::SizeFault;
 use chunk_store::id::ChunkId;
 use chunk_store::shows::Shows;
 use command_line::usage::UsageWhy;

@@ -2,8 +2,8 @@
 
 use crate::error_line::put_error_line;
 use crate::outcome::Outcome;
-use buzhash_cut::sizes::SizeFault;
 use caibx_codec::fault::IndexFault;
+use chunk_ends::sizes::SizeFault;
 use chunk_store::id::ChunkId;
 use chunk_store::shows::Shows;
 use command_line::usage::UsageWhy;

@@ -1,7 +1,7 @@
 use Rattle.std.proofs.Common.{◌≡◌, IfSome, ap, subst, ◌∙◌, arith}
 use Rattle.buzhash_cut.proofs.Joins.{if_both, entries_more, many_next}
 use Rattle.buzhash_cut.specs.Entries.{IsChunk}
-use Rattle.buzhash_cut.specs.Sizes.{Sizes}
+use Rattle.chunk_ends.specs.Sizes.{Sizes}
 use Rattle.buzhash_cut.specs.Slicing.{IsWithin, HasRead}
 use Rattle.caibx_codec.specs.Seen.{pair, pairs}
 use Rattle.dsy_base.specs.Bytes.{Held}

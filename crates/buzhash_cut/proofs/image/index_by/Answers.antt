@@ -3,7 +3,6 @@ use Rattle.std.proofs.lemmas.List.{length-map}
 use Rattle.buzhash_cut.proofs.Chunks.{listed_length, listed_index}
 use Rattle.buzhash_cut.proofs.Cutting.{index_taken}
 use Rattle.buzhash_cut.proofs.Joins.{if_both}
-use Rattle.buzhash_cut.proofs.Views.{all_sized}
 use Rattle.caibx_codec.specs.Seen.{pairs}
 use Rattle.dsy_base.specs.Bytes.{Held}
 use Rattle.buzhash_cut.proofs.image.index_by.Goals as goal
@@ -23,7 +22,6 @@ returns-clause-size g c = λ k d lt.
 pub returns-clause-exactly : goal.returns-clause-exactly
 returns-clause-exactly g c = λ k d lt.
     let all = c.in-Ok.ensures.all k d lt in
-    let sized = all_sized (λ w. g.V.View.held w.view) (λ w. g.met.V.View.sized w.view) c.args.workers.now.items k d lt in
-    if_both _ _ _ _ all.entries.chunks sized (λ t chunks long.
+    if_both _ _ _ _ all.entries.chunks all.sized (λ t chunks long.
     listed_index c.args.sizes.now _ (pairs c.in-Ok.entries.items) c.min.result c.avg.result c.max.result c.in-Ok-new.index c.in-Ok-new.ensures.1 all
     t long chunks c.min.ensures.value c.avg.ensures.value c.max.ensures.value)

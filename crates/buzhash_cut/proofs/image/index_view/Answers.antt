@@ -1,12 +1,13 @@
 use Rattle.std.proofs.Common.{◌≡◌, ℕ, List, map, reverse, ap, sym, subst, ◌∙◌, IfSome}
 use Rattle.buzhash_cut.proofs.Crews.{if_ok}
 use Rattle.buzhash_cut.proofs.Views.{all_views, alike_by, seen_by}
+use Rattle.buzhash_cut.specs.declared.image.CutFault.TheVariants as faults
 use Rattle.buzhash_cut.specs.Image.{CountsViews, IndexGiven}
 use Rattle.caibx_codec.specs.Listing.{image_length}
 use Rattle.buzhash_cut.proofs.image.index_view.Goals as goal
 
 pub index_by-made-requires-clause-alike : goal.index_by-made-requires-clause-alike
-index_by-made-requires-clause-alike g c = alike_by (λ v. g.V.View.held v) (λ w. w.view) c.args.views.items c.hire.new.workers.items c.hire.ensures.views c.requires.alike
+index_by-made-requires-clause-alike g c κs lives = alike_by (λ v. g.V.View.held v) (λ w. w.view) c.args.views.items c.hire.new.workers.items c.hire.ensures.views c.requires.alike
 
 pub returns-clause-exactly : goal.returns-clause-exactly
 returns-clause-exactly g c =
@@ -24,7 +25,7 @@ returns-clause-kept g c =
 
 pub returns-clause-faults : goal.returns-clause-faults
 returns-clause-faults g c =
-    subst (λ (old : List ℕ). CountsViews old (map (λ v. g.V.View.faults v) c.dismiss.new.views.items) c.index_by-made.result)
+    subst (λ (old : List ℕ). CountsViews faults.ImageFault faults.Memory old (map (λ v. g.V.View.faults v) c.dismiss.new.views.items) c.index_by-made.result)
     (sym (seen_by (λ v. g.V.View.faults v) (λ w. w.view) c.args.views.items c.hire.new.workers.items c.hire.ensures.views))
-    (subst (λ (new : List ℕ). CountsViews (reverse (map (λ w. g.V.View.faults w.view) c.hire.new.workers.items)) new c.index_by-made.result)
+    (subst (λ (new : List ℕ). CountsViews faults.ImageFault faults.Memory (reverse (map (λ w. g.V.View.faults w.view) c.hire.new.workers.items)) new c.index_by-made.result)
     (sym (seen_by (λ v. g.V.View.faults v) (λ w. w.view) c.dismiss.new.views.items c.index_by-made.new.workers.items c.dismiss.ensures.views)) c.index_by-made.ensures.faults)

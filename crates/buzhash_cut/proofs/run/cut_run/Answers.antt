@@ -1,7 +1,7 @@
 use Rattle.std.proofs.Common.{subst}
 use Rattle.buzhash_cut.proofs.Joins.{entries_none, run_of}
 use Rattle.buzhash_cut.specs.Entries.{IsRun}
-use Rattle.buzhash_cut.specs.Sizes.{Sizes}
+use Rattle.chunk_ends.specs.Sizes.{Sizes}
 use Rattle.caibx_codec.specs.Seen.{pairs}
 use Rattle.buzhash_cut.proofs.run.cut_run.Goals as goal
 

@@ -1,6 +1,7 @@
 use Rattle.std.proofs.Common.{length, drop, map, reverse, refl, sym, subst, All}
 use Rattle.buzhash_cut.proofs.Crews.{others_cut, first_cut, all_of, many_of, counts_of, if_ok, if_err}
 use Rattle.buzhash_cut.specs.Entries.{IsRun}
+use Rattle.buzhash_cut.specs.declared.image.CutFault.TheVariants as faults
 use Rattle.buzhash_cut.specs.Image.{CountsViews}
 use Rattle.caibx_codec.specs.Seen.{pairs}
 use Rattle.buzhash_cut.proofs.workers.entries_by.Goals as goal
@@ -42,7 +43,7 @@ returns-clause-many g c = if_err c.joined-made.result _ _ (λ f many is. many_of
 
 pub returns-clause-faults : goal.returns-clause-faults
 returns-clause-faults g c =
-    subst (λ ws. CountsViews (reverse (map (λ w. g.V.View.faults w.view) c.args.workers.now.items)) (reverse (map (λ w. g.V.View.faults w.view) ws)) c.joined-made.result) (sym c.in-Ok.ensures.items)
+    subst (λ ws. CountsViews faults.ImageFault faults.Memory (reverse (map (λ w. g.V.View.faults w.view) c.args.workers.now.items)) (reverse (map (λ w. g.V.View.faults w.view) ws)) c.joined-made.result) (sym c.in-Ok.ensures.items)
     (counts_of (λ w. g.V.View.faults w.view) (λ w. g.V.View.held w.view) (λ w. w.run) c.args.sizes.now c.args.workers.now.items c.deref_mut.result.now c.cut_all.new.workers
     (drop (length c.cut_all.new.workers) c.args.workers.now.items) c.pop.new.self.items c.in-Some.first c.args.workers.now.len c.deref_mut.ensures.value c.deref_mut.ensures.len
     c.in-Some.ensures.items c.cut_all.ensures.kept c.requires.alike c.cut_all.ensures.cut c.requires.first

@@ -2,8 +2,8 @@ use Rattle.std.proofs.Common.{ℕ, ◌+◌, ◌-◌, ◌≤◌, drop, subst, ari
 use Rattle.std.proofs.lemmas.List.{length-take}
 use Rattle.buzhash_cut.proofs.Joins.{if_one}
 use Rattle.buzhash_cut.proofs.Pieces.{cut_in, read_on}
-use Rattle.buzhash_cut.specs.Cuts.{IsCut}
-use Rattle.buzhash_cut.specs.Feeding.{Kept}
+use Rattle.chunk_ends.specs.Cuts.{IsCut}
+use Rattle.chunk_ends.specs.Feeding.{Kept}
 use Rattle.buzhash_cut.specs.Slicing.{HasRead}
 use Rattle.buzhash_cut.proofs.slicer.Slicer.give.Goals as goal
 

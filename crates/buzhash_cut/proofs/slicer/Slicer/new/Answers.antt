@@ -1,6 +1,6 @@
 use Rattle.std.proofs.Common.{◌+◌, refl, sym, subst, arith}
 use Rattle.buzhash_cut.proofs.Pieces.{range_none}
-use Rattle.buzhash_cut.specs.Feeding.{WasFed}
+use Rattle.chunk_ends.specs.Feeding.{WasFed}
 use Rattle.buzhash_cut.proofs.slicer.Slicer.new.Goals as goal
 
 pub returns-clause-read : goal.returns-clause-read

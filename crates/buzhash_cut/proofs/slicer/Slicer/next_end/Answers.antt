@@ -1,8 +1,8 @@
 use Rattle.std.proofs.Common.{ℕ, ◌+◌, ◌-◌, ◌≤◌, drop, slice_range, subst, arith}
 use Rattle.buzhash_cut.proofs.Joins.{if_both}
 use Rattle.buzhash_cut.proofs.Pieces.{cut_last}
-use Rattle.buzhash_cut.specs.Cuts.{IsCut}
-use Rattle.buzhash_cut.specs.Sizes.{Sizes}
+use Rattle.chunk_ends.specs.Cuts.{IsCut}
+use Rattle.chunk_ends.specs.Sizes.{Sizes}
 use Rattle.buzhash_cut.specs.Slicing.{HasRead, begun_by}
 use Rattle.buzhash_cut.proofs.slicer.Slicer.next_end.Goals as goal
 

@@ -1,8 +1,0 @@
-use Rattle.std.proofs.Common.{◌≡◌, fold, map, bit_xor}
-use Rattle.std.specs.List.{range_with_len}
-use Rattle.buzhash_cut.specs.Window.{turned}
-use Rattle.buzhash_cut.proofs.window.window_hash.Given as goal
-
--- the hash of the first i bytes
-abbrev pub invariant-loop-i : goal.invariant-loop-i
-invariant-loop-i l = l.hash ≡ fold bit_xor 0 (map (turned l.window) (range_with_len 0 l.i))

@@ -1,0 +1,9 @@
+pub mod Words
+pub mod Windows
+pub mod Rotations
+pub mod Divides
+pub mod RollLaw
+pub mod Places
+pub mod Seams
+pub mod Closed
+pub mod Feeds

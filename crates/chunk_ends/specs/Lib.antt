@@ -1,0 +1,5 @@
+pub mod Table
+pub mod Window
+pub mod Sizes
+pub mod Cuts
+pub mod Feeding
