@@ -1,13 +1,13 @@
 -- What storing an image answers, from what cutting it and seeing to its chunks have answered.
-use Rattle.std.proofs.Common.{◌≡◌, ℕ, List, Option, Some, None, IfSome, Ok, sym, ◌∙◌, inr}
-use Rattle.buzhash_cut.specs.Image.{IsIndexOfImage}
+use Rattle.std.proofs.Common.{◌≡◌, ◌≢◌, ◌≤◌, ℕ, List, Option, Some, None, IfSome, Result, Ok, Err, refl, sym, ap, subst, ◌∙◌, inr}
+use Rattle.buzhash_cut.specs.Image.{HasTooManyCuts, IsIndexOfImage}
 use Rattle.buzhash_cut.specs.Sizes.{Sizes}
 use Rattle.caibx_codec.specs.Listing.{Listing, count_of}
 use Rattle.caibx_codec.specs.Right.{IsRight}
 use Rattle.caibx_codec.specs.Spelling.{IsIndexFile, file_of}
 use Rattle.dsy_base.specs.Maps.{Map}
-use Rattle.image_store.specs.PutChunks.{HoldsAll, Stands, PutsEnd}
-use Rattle.image_store.specs.StoreImage.{Indexes, IsStoredAs, EndsEarly}
+use Rattle.image_store.specs.PutChunks.{CountsCause, HoldsAll, Stands, PutsEnd}
+use Rattle.image_store.specs.StoreImage.{Indexes, IsOfStoring, IsStoredAs, EndsEarly}
 use Rattle.image_store.specs.declared.put_chunks.MakeFault.{MakeFault}
 use Rattle.image_store.specs.declared.put_chunks.MakeFault.TheVariants as faults
 
@@ -34,3 +34,29 @@ module _ (s : Sizes) (l : Listing) where
   stored_whole (Some t) None now bytes index holds stands is file = tt
   stored_whole (Some t) (Some a) None bytes index holds stands is file = tt
   stored_whole (Some t) (Some a) (Some b) bytes index holds stands is file = (l, index, holds, stands, is, file)
+
+-- a fault of storing is none of cutting, and what is named as changed has another name
+pub few_end : (l : Listing) (told : Option (List ℕ)) (fault : MakeFault) → PutsEnd l told fault → fault ≢ faults.TooManyItems
+few_end l told fault end = λ e. subst (PutsEnd l told) e end
+
+pub storing_end : (l : Listing) (told : Option (List ℕ)) (fault : MakeFault) → PutsEnd l told fault → IsOfStoring fault
+storing_end l told faults.TooManyItems end = tt
+storing_end l told faults.ImageFault end = tt
+storing_end l told faults.StoreFault end = tt
+storing_end l told faults.Memory end = tt
+storing_end l told (faults.Changed k was got) end = end.0
+
+same_err : {B : Type 0} (x y : Result B MakeFault) (a b : MakeFault) → x ≡ Err a → y ≡ Err b → x ≡ y → a ≡ b
+same_err x y a b p q e = cc
+
+-- the store's count over one more step, which doesn't ask it
+pub counts_same : {A B : Type 0} (fault : MakeFault) (old new : ℕ) → CountsCause {A = A} faults.StoreFault old new (Err fault) → CountsCause {A = B} faults.StoreFault old new (Err fault)
+counts_same {A} {B} fault old new counts = record { never_falls = counts.never_falls; cause = λ e. counts.cause (ap (λ (f : MakeFault). Err f) (same_err {B = B} (Err fault) (Err faults.StoreFault) fault faults.StoreFault refl refl e)) }
+
+pub counts_else : {A : Type 0} (r : Result A MakeFault) (old new : ℕ) → r ≢ Err faults.StoreFault → old ≤ new → CountsCause faults.StoreFault old new r
+counts_else r old new other le = record { never_falls = le; cause = λ e. absurd (other e) }
+
+-- an image whose index this is hasn't too many cuts
+pub few_cuts : (s : Sizes) (told : Option (List ℕ)) (l : Listing) (X : Type 0) → ((t : List ℕ) → HasTooManyCuts s t → IsIndexOfImage s t l → ⊥) → IfSome told (λ t. IsIndexOfImage s t l) → IfSome told (λ t. HasTooManyCuts s t → X)
+few_cuts s None l X law index = tt
+few_cuts s (Some t) l X law index = λ many. absurd (law t many index)

@@ -2,26 +2,20 @@
 use Rattle.std.proofs.Common.{◌≡◌, ◌≢◌, ℕ, ◌+◌, List, Bool, true, false, cond, refl, sym, ap, ◌∙◌, inl, inr, arith, not, ◌||◌}
 use Rattle.std.proofs.lemmas.Map.Text.{is_eq-slice_cmp}
 use Rattle.std.proofs.lemmas.Slice.Eq.{bytes_eq-Decides}
-use Rattle.std.specs.BTreeSet.{BTreeSet, contains}
+use Rattle.std.specs.BTreeSet.{BTreeSet}
 use Rattle.std.specs.Cmp.Lexicographic.{slice_cmp}
 use Rattle.std.specs.Ordering.{nat_cmp, is_eq}
 use Rattle.std.specs.Str.{bytes_eq}
 use Rattle.caibx_codec.specs.Listing.{Listing, id_of}
 use Rattle.image_store.proofs.Names.{apart_is, equal_or_not}
 use Rattle.image_store.specs.PutChunks.{IsListed}
+use Rattle.image_store.specs.Putting.{AreSeen, is_seen}
 
 pub seen_more : (id q : List ℕ) (old new : Bool) → new ≡ cond (is_eq (slice_cmp nat_cmp id q)) true old → new ≡ (bytes_eq id q || old)
 seen_more id q old new h = h ∙ ap (λ b. cond b true old) (is_eq-slice_cmp id q) ∙ go (bytes_eq id q) where
   go : (b : Bool) → cond b true old ≡ (b || old)
   go true = refl
   go false = refl
-
-abbrev pub is_seen : BTreeSet (List ℕ) → List ℕ → Bool
-is_seen seen q = contains (slice_cmp nat_cmp) seen q
-
--- each id in the set is that of one of the first k entries
-abbrev pub AreSeen : Listing → ℕ → BTreeSet (List ℕ) → Type 0
-AreSeen l k seen = (q : List ℕ) → is_seen seen q ≡ true → IsListed l k q
 
 pub seen_on : (l : Listing) (i : ℕ) (id : List ℕ) (old new : BTreeSet (List ℕ)) → id ≡ id_of l i
     → ((q : List ℕ) → is_seen new q ≡ (bytes_eq id q || is_seen old q)) → AreSeen l i old → AreSeen l (i + 1) new

@@ -12,10 +12,7 @@ use Rattle.dsy_base.specs.Folders.{temporary_of}
 use Rattle.dsy_base.specs.Maps.{Map, at_name}
 use Rattle.image_store.proofs.Names.{equal_or_not, other_name, same_name}
 use Rattle.image_store.specs.PutChunks.{PutsRight, PutsLacked, HoldsNamed, SaysNamed, IsListed, IsStored, Stands, HoldsAll, SaysAll, IsPut, PutsFiles, AsksEach}
-
--- under the id the same is held now as at first, where both are told
-abbrev pub HoldsStill : List ℕ → Option (Map (List ℕ)) → Option (Map (List ℕ)) → Type 0
-HoldsStill q first now = IfSome first (λ m. IfSome now (λ n. n q ≡ m q))
+use Rattle.image_store.specs.Putting.{HoldsStill}
 
 -- one of the first k entries lists the id, and the image's slice wasn't held under it at first
 pub record WasLacked (l : Listing) (told : Option (List ℕ)) (held : Option (Map (List ℕ))) (k : ℕ) (q : List ℕ) : Type 0 where

@@ -62,7 +62,7 @@ fn chop_entry<V: View, S: StoreWrite>(
         (V.faults image.old) (V.faults image.new) result }
     ensures store_faults { CountsCause ChopFault.StoreFault (S.faults store.old) (S.faults store.new) result }
 {
-    match put_entry(index, i, image, store, chunk, room) {
+    match put_entry(index, i, image, store, chunk, room, None) {
         Ok(()) => Ok(()),
         Err(fault) => match fault {
             MakeFault::Changed { entry, got, .. } => Err(ChopFault::Mismatch { entry, got }),

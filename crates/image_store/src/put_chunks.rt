@@ -4,17 +4,18 @@ ghost use Rattle.std.specs.Prelude.{◌≡◌, ◌≢◌, ◌⊎◌, ℕ, List, 
 ghost use Rattle.std.specs.Prelude.{IfSome, IfOk, IfErr, OnOk, slice_range, is_some, true, false};
 ghost use Rattle.std.specs.BTreeSet.{contains};
 ghost use Rattle.std.specs.Cmp.Lexicographic.{slice_cmp};
-ghost use Rattle.std.specs.Option.{option_map};
 ghost use Rattle.std.specs.Ordering.{nat_cmp};
 ghost use Rattle.std.specs.Str.{bytes_eq};
-ghost use Rattle.caibx_codec.specs.Listing.{count_of, id_of, kind_of, size_of, slice_of, image_length};
+ghost use Rattle.caibx_codec.specs.Listing.{count_of, id_of, kind_of, size_of, image_length};
 ghost use Rattle.caibx_codec.specs.Right.{IsRightAt};
 ghost use Rattle.chunk_store.specs.Names.{name_of};
 ghost use Rattle.chunk_store.specs.Said.{KeepsOf, AskedOnce};
 ghost use Rattle.dsy_base.specs.Counts.{CountsFaults};
+ghost use Rattle.image_store.specs.Ahead.{IsSlice};
 ghost use Rattle.image_store.specs.PutChunks.{told_range, told_slice, CountsCause, PutsUnder, PutsRight, PutsLacked};
 ghost use Rattle.image_store.specs.PutChunks.{HoldsNamed, SaysNamed, HoldsAll, SaysAll, Stands, PutsFiles, AsksEach};
 ghost use Rattle.image_store.specs.PutChunks.{EndsAt, RereadsTo, PutsEnd};
+ghost use Rattle.image_store.specs.Putting.{HasPut, SeesTo};
 
 use caibx_codec::index::Index;
 use chunk_store::id::{ChunkId, DigestKind};
@@ -24,6 +25,7 @@ use dsy_base::fault::{Failed, IoFault};
 use dsy_base::view::View;
 use std::alloc::Global;
 use std::collections::BTreeSet;
+use std::snapshot::Snapshot;
 
 /// Why an image wasn't stored.
 #[derive(Clone, Copy, Debug, PartialEq, Eq)]
@@ -142,6 +144,34 @@ fn keep<S: StoreWrite>(
     store.put(id, chunk)
 }
 
+// Sees to it that the store holds this chunk, whose name is the id. `room` is as long as the chunk.
+fn put_named<S: StoreWrite>(
+    store: &mut S,
+    kind: DigestKind,
+    id: &ChunkId,
+    chunk: &[u8],
+    room: &mut [u8],
+) -> Result<(), MakeFault>
+    requires named { name_of kind chunk.now ≡ id.now.0 }
+    requires room { length room.old ≡ length chunk.now }
+    ensures ok { OnOk result (IfSome (S.holds store.new) (λ m. HoldsNamed kind id.now.0 (m id.now.0))) }
+    ensures told { OnOk result (SaysNamed kind id.now.0 (S.said store.new)) }
+    ensures changed { PutsRight kind id.now.0 (Some chunk.now) (S.holds store.old) (S.holds store.new) }
+    ensures files { PutsLacked id.now.0 (Some chunk.now) (S.holds store.old) (S.folder store.old) (S.folder store.new) }
+    ensures only { IfErr result (λ e. (e ≡ MakeFault.StoreFault) ⊎ (e ≡ MakeFault.Memory)) }
+    ensures place { S.place store.new ≡ S.place store.old }
+    ensures said { (q : List ℕ) → q ≢ id.now.0 → KeepsOf (S.said store.old) (S.said store.new) q }
+    ensures asks { AskedOnce (S.asked store.old) (S.asked store.new) id.now.0 }
+    ensures queries { S.queried store.new ≡ S.queried store.old }
+    ensures faults { CountsCause MakeFault.StoreFault (S.faults store.old) (S.faults store.new) result }
+{
+    match keep(store, id, chunk, room) {
+        Ok(()) => Ok(()),
+        Err(IoFault::Failed) => Err(MakeFault::StoreFault),
+        Err(IoFault::Memory) => Err(MakeFault::Memory),
+    }
+}
+
 // Sees to one entry.
 fn see_to<V: View, S: StoreWrite>(
     image: &mut V,
@@ -177,14 +207,10 @@ fn see_to<V: View, S: StoreWrite>(
     ensures store_faults { CountsCause MakeFault.StoreFault (S.faults store.old) (S.faults store.new) result }
 {
     read_again(image, kind, entry, id, start, chunk)?;
-    match keep(store, id, chunk, room) {
-        Ok(()) => Ok(()),
-        Err(IoFault::Failed) => Err(MakeFault::StoreFault),
-        Err(IoFault::Memory) => Err(MakeFault::Memory),
-    }
+    put_named(store, kind, id, chunk, room)
 }
 
-// Sees to entry i.
+// Sees to entry i. Its slice may have been read, and then it isn't read again.
 pub(crate) fn put_entry<V: View, S: StoreWrite>(
     index: &Index,
     i: usize,
@@ -192,11 +218,13 @@ pub(crate) fn put_entry<V: View, S: StoreWrite>(
     store: &mut S,
     chunk: &mut [u8],
     room: &mut [u8],
+    read: Option<&[u8]>,
 ) -> Result<(), MakeFault>
     requires listed { i < count_of index.now }
     requires size { image_length index.now ≡ (V.held image.old).size }
     requires inside { size_of index.now i ≤ length chunk.old }
     requires room { size_of index.now i ≤ length room.old }
+    requires read { IfSome read (λ b. IsSlice index.now (V.held image.old).bytes i b.now) }
     ensures ok { OnOk result (IfSome (S.holds store.new)
         (λ m. HoldsNamed (kind_of index.now) (id_of index.now i) (m (id_of index.now i)))) }
     ensures told { OnOk result (SaysNamed (kind_of index.now) (id_of index.now i) (S.said store.new)) }
@@ -220,8 +248,11 @@ pub(crate) fn put_entry<V: View, S: StoreWrite>(
 {
     let kind = index.kind();
     let listed = index.entry(i);
-    let (bytes, _) = chunk.split_at_mut(listed.size);
     let (held, _) = room.split_at_mut(listed.size);
+    if let Some(bytes) = read {
+        return put_named(store, kind, &listed.id, bytes, held);
+    }
+    let (bytes, _) = chunk.split_at_mut(listed.size);
     see_to(
         image,
         store,
@@ -232,6 +263,33 @@ pub(crate) fn put_entry<V: View, S: StoreWrite>(
         bytes,
         held,
     )
+}
+
+// Sees to entry i, unless its id was seen to.
+pub(crate) fn see_next<V: View, S: StoreWrite>(
+    index: &Index,
+    i: usize,
+    first: &Snapshot<S>,
+    seen: &mut BTreeSet<[u8; 32]>,
+    image: &mut V,
+    store: &mut S,
+    chunk: &mut [u8],
+    room: &mut [u8],
+    read: Option<&[u8]>,
+) -> Result<(), MakeFault>
+    requires listed { i < count_of index.now }
+    requires size { image_length index.now ≡ (V.held image.old).size }
+    requires inside { size_of index.now i ≤ length chunk.old }
+    requires room { size_of index.now i ≤ length room.old }
+    requires read { IfSome read (λ b. IsSlice index.now (V.held image.old).bytes i b.now) }
+    requires put { HasPut S.Store index.now (V.held image.old).bytes i first.now.value store.old seen.old }
+    ensures { SeesTo V.View S.Store index.now (i + 1) first.now.value image.old image.new store.new seen.new result }
+{
+    let id = index.id(i);
+    if is_new(seen, &id)? {
+        return put_entry(index, i, image, store, chunk, room, read);
+    }
+    Ok(())
 }
 
 /// Sees to it that the store holds each chunk that the index lists, in order, each id once. What is held already isn't
@@ -266,12 +324,10 @@ pub fn put_chunks<V: View, S: StoreWrite>(
         (V.faults image.old) (V.faults image.new) result }
     ensures store_faults { CountsCause MakeFault.StoreFault (S.faults store.old) (S.faults store.new) result }
 {
+    let first = Snapshot::of(store);
     let mut seen = BTreeSet::new(alloc);
     for i in 0..index.count() {
-        let id = index.id(i);
-        if is_new(&mut seen, &id)? {
-            put_entry(index, i, image, store, chunk, room)?;
-        }
+        see_next(index, i, &first, &mut seen, image, store, chunk, room, None)?;
     }
     Ok(())
 }

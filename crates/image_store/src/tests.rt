@@ -1,6 +1,6 @@
 //! Images stored in, and chopped into, a store that counts what is put into it.
 
-ghost use Rattle.std.specs.Prelude.{◌≡◌};
+ghost use Rattle.std.specs.Prelude.{◌≡◌, [], ◌∷◌, All, IfOk, vec_len};
 
 use crate::chop::{ChopFault, chop};
 use crate::put_chunks::MakeFault;
@@ -15,6 +15,7 @@ use dsy_base::view::View;
 use dsy_forms::mem_view::MemView;
 use std::alloc::Global;
 use std::test::Fail;
+use std::thread::Threads;
 
 // A store in memory. Its calls count from 0, and the one of this number fails.
 #[derive(Drop)]
@@ -140,6 +141,17 @@ fn view_of(alloc: Global, bytes: &[u8]) -> Result<MemView, Fail> {
     Ok(MemView::new(alloc, Vec::from_slice(alloc, bytes)?, Vec::new(alloc)))
 }
 
+// A list of one view.
+fn one_view<V: View>(alloc: Global, view: V) -> Result<Vec<V>, Fail>
+    ensures { IfOk result (λ v. v.items ≡ view ∷ []) }
+{
+    let mut views = Vec::new(alloc);
+    if views.push(view).is_err() {
+        return Err(Fail::from("no memory"));
+    }
+    Ok(views)
+}
+
 fn sizes() -> Result<CutSizes, Fail> {
     Ok(CutSizes::new(48, 48, 48).ok().ok_or("no sizes")?)
 }
@@ -156,7 +168,8 @@ fn an_image_is_stored_or_its_store_is_at_fault(rt: HostRuntime) -> Result<(), Fa
     ];
     for (fails, want, held) in cases {
         let store = Counting::new(alloc, fails);
-        let (_view, store, made) = store_image(alloc, &sizes()?, view_of(alloc, b"abc")?, store);
+        let views = one_view(alloc, view_of(alloc, b"abc")?)?;
+        let (_views, store, made) = store_image(&rt, alloc, &sizes()?, views, store);
         assert_eq!(rt; made.map(|bytes| bytes.len()), want);
         assert_eq!(rt; store.held(&id), held);
     }
@@ -164,16 +177,16 @@ fn an_image_is_stored_or_its_store_is_at_fault(rt: HostRuntime) -> Result<(), Fa
 }
 
 // Stores an image of three chunks, of which two are alike, and answers how many calls and puts there were.
-fn store_three(alloc: Global, store: Counting) -> Result<(Counting, u64, u64), Fail> {
+fn store_three<R: Threads + Sync>(
+    rt: &R,
+    alloc: Global,
+    store: Counting,
+) -> Result<(Counting, u64, u64), Fail> {
     let mut image = vec![in alloc; 0u8; 96]?;
     image.extend_from_slice(b"abc")?;
     let (calls, puts) = (store.calls, store.puts);
-    let (_view, store, made) = store_image(
-        alloc,
-        &sizes()?,
-        view_of(alloc, image.as_slice())?,
-        store,
-    );
+    let views = one_view(alloc, view_of(alloc, image.as_slice())?)?;
+    let (_views, store, made) = store_image(rt, alloc, &sizes()?, views, store);
     if made.is_err() {
         return Err(Fail::from("the image wasn't stored"));
     }
@@ -187,9 +200,9 @@ fn store_three(alloc: Global, store: Counting) -> Result<(Counting, u64, u64), F
 #[test]
 fn each_chunk_is_asked_for_once_and_put_where_it_is_lacked(rt: HostRuntime) -> Result<(), Fail> {
     let alloc = rt.alloc();
-    let (store, calls, puts) = store_three(alloc, Counting::new(alloc, None))?;
+    let (store, calls, puts) = store_three(&rt, alloc, Counting::new(alloc, None))?;
     assert_eq!(rt; (calls, puts), (4, 2));
-    let (mut store, calls, puts) = store_three(alloc, store)?;
+    let (mut store, calls, puts) = store_three(&rt, alloc, store)?;
     assert_eq!(rt; (calls, puts), (2, 0));
     // A chunk whose last byte is another one is put again, and so is one that is too long.
     let id = ChunkId::of(DigestKind::Sha512T256, b"abc");
@@ -197,7 +210,7 @@ fn each_chunk_is_asked_for_once_and_put_where_it_is_lacked(rt: HostRuntime) -> R
         if store.put(&id, spoiled).is_err() {
             return Err(Fail::from("nothing was put"));
         }
-        let (again, calls, puts) = store_three(alloc, store)?;
+        let (again, calls, puts) = store_three(&rt, alloc, store)?;
         assert_eq!(rt; (calls, puts), (3, 1));
         assert_eq!(rt; again.held(&id), Some(b"abc".as_slice()));
         store = again;
@@ -255,31 +268,181 @@ impl View for ChangingView {
     ghost sure = { Prim.search rules };
 }
 
-// Stores "abc" where the second reading gives other bytes or none.
-fn stored_twice(alloc: Global, then: &[u8]) -> Result<Result<(), MakeFault>, Fail> {
-    let view = ChangingView {
+// What a view of "abc" gives once it is read again.
+#[derive(Clone, Copy)]
+enum Then {
+    Same,
+    Other,
+    Fault,
+}
+
+fn changing_view(alloc: Global, then: Then) -> Result<ChangingView, Fail> {
+    let then = match then {
+        Then::Same => None,
+        Then::Other => Some(Vec::from_slice(alloc, b"abX")?),
+        Then::Fault => Some(Vec::new(alloc)),
+    };
+    Ok(ChangingView {
         now: Vec::from_slice(alloc, b"abc")?,
-        then: Some(Vec::from_slice(alloc, then)?),
+        then,
         reads: 0,
         faults: 0,
         name: Name::empty(alloc),
-    };
-    let (_view, store, stored) = store_image(alloc, &sizes()?, view, Counting::new(alloc, None));
-    if 0 < store.calls {
-        return Err(Fail::from("the store was asked"));
+    })
+}
+
+// Stores "abc" with so many views. Answers how often the store was called and the first view read, too.
+fn stored_twice<R: Threads + Sync>(
+    rt: &R,
+    alloc: Global,
+    first: Then,
+    others: Then,
+    count: u64,
+) -> Result<(u64, u64, Result<(), MakeFault>), Fail> {
+    let mut views = Vec::new(alloc);
+    for k in 0..count {
+        let view = changing_view(alloc, if k == 0 { first } else { others })?;
+        views.push(view).ok().ok_or("no memory")?;
     }
-    Ok(stored.map(|_| ()))
+    if views.is_empty() {
+        return Err(Fail::from("no view"));
+    }
+    let store = Counting::new(alloc, None);
+    let (views, store, stored) = store_image(rt, alloc, &sizes()?, views, store);
+    let reads = views.first().ok_or("no view")?.reads;
+    Ok((store.calls, reads, stored.map(|_| ())))
 }
 
 #[test]
 fn an_image_that_changes_is_told_and_not_stored(rt: HostRuntime) -> Result<(), Fail> {
+    let alloc = rt.alloc();
     let changed = MakeFault::Changed {
         entry: 0,
         was: ChunkId::of(DigestKind::Sha512T256, b"abc"),
         got: ChunkId::of(DigestKind::Sha512T256, b"abX"),
     };
-    assert_eq!(rt; stored_twice(rt.alloc(), b"abX")?, Err(changed));
-    assert_eq!(rt; stored_twice(rt.alloc(), b"")?, Err(MakeFault::ImageFault));
+    // What others than the first read right isn't read again. What they can't read, or read wrong, is.
+    let cases: [(Then, Then, u64, u64, u64, Result<(), MakeFault>); 8] = [
+        (Then::Other, Then::Other, 1, 0, 3, Err(changed)),
+        (Then::Other, Then::Other, 3, 0, 3, Err(changed)),
+        (
+            Then::Fault,
+            Then::Fault,
+            1,
+            0,
+            2,
+            Err(MakeFault::ImageFault),
+        ),
+        (
+            Then::Fault,
+            Then::Fault,
+            3,
+            0,
+            2,
+            Err(MakeFault::ImageFault),
+        ),
+        (Then::Same, Then::Fault, 3, 2, 3, Ok(())),
+        (Then::Same, Then::Other, 3, 2, 3, Ok(())),
+        (Then::Same, Then::Same, 1, 2, 3, Ok(())),
+        (Then::Same, Then::Same, 3, 2, 2, Ok(())),
+    ];
+    for (first, others, count, calls, reads, want) in cases {
+        let stored = stored_twice(&rt, alloc, first, others, count)?;
+        assert_eq!(rt; stored, (calls, reads, want));
+    }
+    Ok(())
+}
+
+// An image in memory, which is always read.
+#[derive(Drop)]
+struct Image {
+    bytes: Vec<u8>,
+}
+
+impl View for Image {
+    ghost use Rattle.std.specs.Prelude.{length, Some, true, [], refl};
+
+    ghost held = { λ v. record { bytes = Some v.bytes.items; size = length v.bytes.items; name = [] } };
+
+    ghost faults = { λ _. 0 };
+
+    ghost tells = { true };
+
+    ghost never_fails = { true };
+
+    fn size(&self) -> u64 {
+        self.bytes.len() as u64
+    }
+
+    fn read_at(&mut self, at: u64, out: &mut [u8]) -> Result<(), Failed> {
+        let at = at as usize;
+        out.copy_from_slice(&self.bytes[at..at + out.len()]);
+        Ok(())
+    }
+
+    ghost told = { λ _. refl };
+
+    ghost sized = { λ _. refl };
+
+    ghost sure = { λ _ _. refl };
+}
+
+// So many views of the same bytes.
+fn views_of(alloc: Global, bytes: &[u8], count: usize) -> Result<Vec<Image>, Fail>
+    ensures len { IfOk result (λ v. vec_len v ≡ count) }
+    ensures bytes { IfOk result (λ v. All (λ i. i.bytes.items ≡ bytes.now) v.items) }
+{
+    let mut views = Vec::new(alloc);
+    while views.len() < count {
+        let bytes = Vec::from_slice(alloc, bytes)?;
+        views.push(Image { bytes })?;
+    }
+    Ok(views)
+}
+
+// What storing the image with so many views gives: the index file, and the store.
+fn stored_by<R: Threads + Sync>(
+    rt: &R,
+    alloc: Global,
+    image: &[u8],
+    count: usize,
+) -> Result<(Vec<u8>, Counting), Fail> {
+    if count == 0 {
+        return Err(Fail::from("no view"));
+    }
+    let sizes = CutSizes::new(16_384, 65_536, 262_144)
+        .ok()
+        .ok_or("no sizes")?;
+    let views = views_of(alloc, image, count)?;
+    let (_views, store, stored) = store_image(rt, alloc, &sizes, views, Counting::new(alloc, None));
+    match stored {
+        Ok(bytes) => Ok((bytes, store)),
+        Err(_) => Err(Fail::from("the image wasn't stored")),
+    }
+}
+
+// Mixed bytes twice, and zeros: more than a reader reads at a time.
+#[test]
+fn the_same_is_stored_by_any_number_of_views(rt: HostRuntime) -> Result<(), Fail> {
+    let alloc = rt.alloc();
+    let mut image = Vec::new(alloc);
+    let mut state = 1u64;
+    for _ in 0..400_000 {
+        state = state.wrapping_mul(1_103_515_245).wrapping_add(12_345) % 0x8000_0000;
+        image.push((state >> 16 & 0xff) as u8)?;
+    }
+    let again = Vec::from_slice(alloc, &image)?;
+    image.extend_from_slice(&again)?;
+    image.resize(1_400_000, 0)?;
+    let (bytes, store) = stored_by(&rt, alloc, &image, 1)?;
+    for count in [2, 3, 32] {
+        let (others, by) = stored_by(&rt, alloc, &image, count)?;
+        assert!(rt; others == bytes, "{count}");
+        assert_eq!(rt; (by.calls, by.puts), (store.calls, store.puts));
+        for chunk in by.chunks.iter() {
+            assert!(rt; chunk.0.is_of(DigestKind::Sha512T256, chunk.1.as_slice()));
+        }
+    }
     Ok(())
 }
 

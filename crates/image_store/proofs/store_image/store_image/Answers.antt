@@ -1,18 +1,45 @@
-use Rattle.image_store.proofs.Answered.{stored_early, stored_whole}
+use Rattle.std.proofs.Common.{◌≡◌, IfSome, length, ap, arith, sym}
+use Rattle.std.proofs.lemmas.List.{length-map}
+use Rattle.buzhash_cut.specs.Image.{IsIndexOfImage}
+use Rattle.caibx_codec.specs.Listing.{image_length}
+use Rattle.image_store.proofs.Answered.{few_cuts}
+use Rattle.image_store.proofs.Views.{all_kept, if_ok}
+use Rattle.image_store.specs.StoreImage.{StoresImage, PutsFilesOf, SaysOf, AsksOf}
 use Rattle.image_store.proofs.store_image.store_image.Goals as goal
 
-pub returns-in-Err-put-clause-exactly : goal.returns-in-Err-put-clause-exactly
-returns-in-Err-put-clause-exactly g c =
-    let kept = c.index_of-view.ensures.kept in
-    let index = rw c.in-Ok.is at c.index_of-view.ensures.exactly in
-    let end = rw (c.in-Err-put.is, kept) at c.store_chunks-store.ensures.err in
-    let stands = rw kept at c.store_chunks-store.ensures.changed in
-    stored_early c.args.sizes.now _ _ _ _ c.in-Err-put.fault (λ t. c.image_is_right.ensures.value c.args.sizes.now t _) index end stands
+pub store_listed-requires-clause-some : goal.store_listed-requires-clause-some
+store_listed-requires-clause-some g c =
+    omega (arith, ap length c.index_of-views.ensures.kept, length-map c.args.views.items (λ v. g.V.View.held v), length-map c.index_of-views.result.0.items (λ v. g.V.View.held v), c.requires.some)
 
-pub returns-in-Ok-spell-clause-exactly : goal.returns-in-Ok-spell-clause-exactly
-returns-in-Ok-spell-clause-exactly g c =
-    let kept = c.index_of-view.ensures.kept in
-    let index = rw c.in-Ok.is at c.index_of-view.ensures.exactly in
-    let holds = rw c.in_default.is at c.store_chunks-store.ensures.ok in
-    let stands = rw kept at c.store_chunks-store.ensures.changed in
-    stored_whole c.args.sizes.now _ _ _ _ c.in-Ok-spell.bytes.items index holds stands c.in-Ok-spell.ensures.ok c.in-Ok-spell.ensures.bytes
+pub store_listed-requires-clause-index : goal.store_listed-requires-clause-index
+store_listed-requires-clause-index g c = λ lifetimes bounds. all_kept (λ v. g.V.View.held v) (λ h. IfSome h.bytes (λ t. IsIndexOfImage c.args.sizes.now t c.in-Ok.index)) c.args.views.items c.index_of-views.result.0.items c.index_of-views.ensures.kept
+    (rw c.in-Ok.is at c.index_of-views.ensures.exactly)
+
+pub store_listed-requires-clause-size : goal.store_listed-requires-clause-size
+store_listed-requires-clause-size g c = λ lifetimes bounds. all_kept (λ v. g.V.View.held v) (λ h. image_length c.in-Ok.index ≡ h.size) c.args.views.items c.index_of-views.result.0.items c.index_of-views.ensures.kept
+    (rw c.in-Ok.is at c.index_of-views.ensures.size)
+
+pub returns-clause-exactly : goal.returns-clause-exactly
+returns-clause-exactly g c = all_kept (λ v. g.V.View.held v)
+    (λ h. IfSome h.bytes (λ t. IfSome (g.S.Store.holds c.args.store) (λ old. IfSome (g.S.Store.holds c.store_listed.result.1) (λ new. StoresImage c.args.sizes.now (λ b. b.items) t old new c.store_listed.result.2))))
+    c.index_of-views.result.0.items c.args.views.items (sym c.index_of-views.ensures.kept) c.store_listed.ensures.exactly
+
+pub returns-clause-files : goal.returns-clause-files
+returns-clause-files g c = all_kept (λ v. g.V.View.held v)
+    (λ h. PutsFilesOf c.args.sizes.now h.bytes (g.S.Store.holds c.args.store) (g.S.Store.folder c.args.store) (g.S.Store.folder c.store_listed.result.1))
+    c.index_of-views.result.0.items c.args.views.items (sym c.index_of-views.ensures.kept) c.store_listed.ensures.files
+
+pub returns-clause-said : goal.returns-clause-said
+returns-clause-said g c = if_ok c.store_listed.result.2 _ _ (λ b. all_kept (λ v. g.V.View.held v)
+    (λ h. SaysOf c.args.sizes.now h.bytes b.items (g.S.Store.said c.store_listed.result.1))
+    c.index_of-views.result.0.items c.args.views.items (sym c.index_of-views.ensures.kept)) c.store_listed.ensures.said
+
+pub returns-clause-many : goal.returns-clause-many
+returns-clause-many g c = λ k d lt. few_cuts c.args.sizes.now _ c.in-Ok.index _ (λ t many index.
+    let more = c.many_cuts.ensures.value c.args.sizes.now t c.in-Ok.index many index in
+    omega (arith, more, rw c.in-Ok.is at c.index_of-views.ensures.few)) ((rw c.in-Ok.is at c.index_of-views.ensures.exactly) k d lt)
+
+pub returns-clause-asks : goal.returns-clause-asks
+returns-clause-asks g c = all_kept (λ v. g.V.View.held v)
+    (λ h. AsksOf c.args.sizes.now h.bytes (g.S.Store.asked c.args.store) (g.S.Store.asked c.store_listed.result.1))
+    c.index_of-views.result.0.items c.args.views.items (sym c.index_of-views.ensures.kept) c.store_listed.ensures.asks

@@ -1,0 +1,18 @@
+use Rattle.std.proofs.Common.{◌≡◌, ◌-◌, ◌≤◌, All, Ok, map}
+use Rattle.caibx_codec.specs.Listing.{count_of}
+use Rattle.image_store.specs.Ahead.{IsAhead, NoneFalls}
+use Rattle.image_store.specs.Storing.{GoesOn}
+use Rattle.image_store.proofs.rounds.put_by_rounds.Given as goal
+
+-- the entries before `at` were read ahead
+abbrev pub invariant-loop-at : goal.invariant-loop-at
+invariant-loop-at g l = record {
+  on : GoesOn g.V.View g.S.Store l.index l.fn.storing l.storing (Ok tt);
+  inside : l.at ≤ count_of l.index;
+  ready : All (IsAhead l.index (g.V.View.held l.fn.storing.image).bytes) l.ready;
+  kept : map (λ r. g.V.View.held r.view) l.readers ≡ map (λ r. g.V.View.held r.view) l.fn.readers;
+  faults : NoneFalls (map (λ r. g.V.View.faults r.view) l.fn.readers) (map (λ r. g.V.View.faults r.view) l.readers);
+}
+
+abbrev pub decreases-loop-at : goal.decreases-loop-at
+decreases-loop-at g l = count_of l.index - l.at

@@ -1,9 +1,0 @@
-use Rattle.image_store.proofs.Stored.{stands_same, files_same}
-use Rattle.image_store.proofs.store_image.store_chunks.Goals as goal
-
--- nothing was seen to
-pub returns-in_default-room-clause-changed : goal.returns-in_default-room-clause-changed
-returns-in_default-room-clause-changed g c = stands_same c.args.index.now _ _ _
-
-pub returns-in_default-room-clause-files : goal.returns-in_default-room-clause-files
-returns-in_default-room-clause-files g c = files_same c.args.index.now _ _ _ _

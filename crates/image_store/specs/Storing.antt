@@ -1,0 +1,43 @@
+-- What storing the entries of an index with a view has come to. l lists the chunks.
+use Rattle.std.specs.Prelude.{◌≡◌, ℕ, ◌<◌, ◌≤◌, All, IfErr, IfSome, List, OnOk, Option, Result, length, map}
+use Rattle.buzhash_cut.specs.Image.{CountsViews}
+use Rattle.caibx_codec.specs.Listing.{Listing, count_of, image_length, size_of}
+use Rattle.chunk_store.specs.declared.store.Store.{Ghosts as StoreWords}
+use Rattle.dsy_base.specs.declared.view.View.{Ghosts as ViewWords}
+use Rattle.image_store.specs.PutChunks.{CountsCause, HoldsAll, PutsEnd, SaysAll}
+use Rattle.image_store.specs.Putting.{Ends, HasPut, HasTouched}
+use Rattle.image_store.specs.declared.put_chunks.MakeFault.{MakeFault}
+use Rattle.image_store.specs.declared.put_chunks.MakeFault.TheVariants as faults
+use Rattle.image_store.specs.declared.storing.Storing.{Storing}
+
+module _ {V S : Type 0} (view : ViewWords V) (store : StoreWords S) (l : Listing) where
+  -- the entries before `at` were seen to, and it can go on
+  pub record IsStoring (w : Storing V S) : Type 0 where
+    pub size : image_length l ≡ (view.held w.image).size
+    pub at : w.at ≤ count_of l
+    pub chunk : (i : ℕ) → i < count_of l → size_of l i ≤ length w.chunk.items
+    pub room : (i : ℕ) → i < count_of l → size_of l i ≤ length w.room.items
+    pub put : HasPut store l (view.held w.image).bytes w.at w.first.value w.store w.seen
+
+  -- it went on, and ended so
+  pub record GoesOn (old new : Storing V S) (result : Result Unit MakeFault) : Type 0 where
+    pub next : OnOk result (IsStoring new)
+    pub first : new.first.value ≡ old.first.value
+    pub ends : Ends view store l new.first.value old.image new.image new.store result
+
+-- seeing to all entries of an image of these bytes ended so
+pub record HasStored {S : Type 0} (store : StoreWords S) (l : Listing) (told : Option (List ℕ)) (first now : S)
+    (result : Result Unit MakeFault) : Type 0 where
+  pub holds : OnOk result (IfSome (store.holds now) (λ m. HoldsAll l (count_of l) m))
+  pub says : OnOk result (SaysAll l (count_of l) (store.said now))
+  pub touched : HasTouched store l told (count_of l) first now
+  pub err : IfErr result (PutsEnd l told)
+  pub faults : CountsCause faults.StoreFault (store.faults first) (store.faults now) result
+
+-- it did with these views of the image, which hold what they held
+pub record IsStoredBy {V S : Type 0} (view : ViewWords V) (store : StoreWords S) (l : Listing) (old new : List V) (first now : S)
+    (result : Result Unit MakeFault) : Type 0 where
+  pub stored : All (λ v. HasStored store l (view.held v).bytes first now result) old
+  pub once : (told : Option (List ℕ)) × HasStored store l told first now result
+  pub kept : map view.held new ≡ map view.held old
+  pub image_faults : CountsViews faults.ImageFault faults.Memory (map view.faults old) (map view.faults new) result

@@ -1,0 +1,189 @@
+//! Views that read slices of an image ahead, each into a room of its own. Entries are numbered from 0.
+
+ghost use Rattle.std.specs.Prelude.{◌≡◌, ℕ, ◌+◌, ◌<◌, ◌≤◌, [], ◌∷◌, All, List, Option, IfOk, length, map};
+ghost use Rattle.std.specs.Prelude.{vec_capacity, vec_len};
+ghost use Rattle.caibx_codec.specs.Listing.{Listing, count_of, image_length};
+ghost use Rattle.image_store.specs.Ahead.{IsAhead, NoneFalls};
+
+use crate::ahead::Ahead;
+use caibx_codec::index::Index;
+use dsy_base::view::View;
+use std::alloc::{AllocError, Global};
+use std::mem::swap;
+use std::thread;
+use std::thread::Threads;
+
+/// A view, and the room that it reads into.
+#[derive(Drop)]
+pub(crate) struct Reader<V> {
+    pub view: V,
+    pub ahead: Ahead,
+}
+
+impl<V: View> Reader<V> {
+    // Chooses the next entries from `at` on to be read. Answers the entry after them.
+    fn plan(&mut self, index: &Index, at: usize) -> usize
+        requires { at ≤ count_of index.now }
+        ensures ahead { (told : Option (List ℕ)) → IsAhead index.now told self.new.ahead }
+        ensures inside { result ≤ count_of index.now }
+        ensures more { (at ≤ result) × (at < count_of index.now → at < result) }
+        ensures view { self.new.view ≡ self.old.view }
+    {
+        self.ahead.plan(index, at)
+    }
+
+    // Reads the slices of its entries.
+    fn read(&mut self, index: &Index)
+        requires size { image_length index.now ≡ (V.held self.old.view).size }
+        requires ahead { IsAhead index.now (V.held self.old.view).bytes self.old.ahead }
+        ensures ahead { IsAhead index.now (V.held self.new.view).bytes self.new.ahead }
+        ensures kept { V.held self.new.view ≡ V.held self.old.view }
+        ensures faults { V.faults self.old.view ≤ V.faults self.new.view }
+    {
+        self.ahead.read(index, &mut self.view);
+    }
+
+    // Gives away what was read, for another room.
+    fn change(&mut self, ready: &mut Ahead)
+        ensures ready { ready.new ≡ self.old.ahead }
+        ensures view { self.new.view ≡ self.old.view }
+    {
+        swap(&mut self.ahead, ready);
+    }
+}
+
+/// Gives each reader the next entries from `at` on to be read. Answers the entry after them.
+pub(crate) fn plan_all<V: View>(index: &Index, readers: &mut [Reader<V>], at: usize) -> usize
+    requires inside { at ≤ count_of index.now }
+    requires some { 0 < length readers.old }
+    ensures ahead { All (λ r. (told : Option (List ℕ)) → IsAhead index.now told r.ahead) readers.new }
+    ensures inside { result ≤ count_of index.now }
+    ensures more { at < count_of index.now → at < result }
+    ensures views { map (λ r. r.view) readers.new ≡ map (λ r. r.view) readers.old }
+{
+    let mut end = at;
+    for k in 0..readers.len() {
+        end = readers[k].plan(index, end);
+    }
+    end
+}
+
+/// Each reader reads its entries, beside the others.
+pub(crate) fn read_all<R: Threads + Sync, V: View + Send>(
+    rt: &R,
+    index: &Index,
+    readers: &mut [Reader<V>],
+)
+    requires size { All (λ r. image_length index.now ≡ (V.held r.view).size) readers.old }
+    requires ahead { All (λ r. IsAhead index.now (V.held r.view).bytes r.ahead) readers.old }
+    ensures ahead { All (λ r. IsAhead index.now (V.held r.view).bytes r.ahead) readers.new }
+    ensures kept { map (λ r. V.held r.view) readers.new ≡ map (λ r. V.held r.view) readers.old }
+    ensures faults { NoneFalls (map (λ r. V.faults r.view) readers.old) (map (λ r. V.faults r.view) readers.new) }
+{
+    let threads = readers.len().max(1);
+    thread::for_each_mut(
+        rt,
+        readers,
+        threads,
+        &|_, reader: &mut Reader<V>|
+            requires size { image_length index.now ≡ (V.held reader.old.view).size }
+            requires ahead { IsAhead index.now (V.held reader.old.view).bytes reader.old.ahead }
+            ensures ahead { IsAhead index.entry.now (V.held reader.new.view).bytes reader.new.ahead }
+            ensures kept { V.held reader.new.view ≡ V.held reader.old.view }
+            ensures faults { V.faults reader.old.view ≤ V.faults reader.new.view }
+        { reader.read(index) },
+    );
+}
+
+/// Takes from each reader what it has read, and gives it another room.
+pub(crate) fn change_all<V: View>(readers: &mut [Reader<V>], ready: &mut [Ahead])
+    requires { length ready.old ≡ length readers.old }
+    ensures ready { ready.new ≡ map (λ r. r.ahead) readers.old }
+    ensures views { map (λ r. r.view) readers.new ≡ map (λ r. r.view) readers.old }
+{
+    for k in 0..readers.len() {
+        readers[k].change(&mut ready[k]);
+    }
+}
+
+// So many rooms, in which nothing stands.
+fn rooms(alloc: Global, count: usize) -> Result<Vec<Ahead>, AllocError>
+    ensures len { IfOk result (λ v. vec_len v ≡ count) }
+    ensures ahead { IfOk result (λ v. (l : Listing) (told : Option (List ℕ)) → All (IsAhead l told) v.items) }
+{
+    let mut rooms = Vec::with_capacity(alloc, count)?;
+    while rooms.len() < count {
+        rooms.push(Ahead::new(alloc)?)?;
+    }
+    Ok(rooms)
+}
+
+/// What readers need: `rooms` to read into, `ready` rooms to be stored, and a place for each reader.
+#[derive(Drop)]
+pub(crate) struct Crew<V> {
+    pub readers: Vec<Reader<V>>,
+    pub rooms: Vec<Ahead>,
+    pub ready: Vec<Ahead>,
+}
+
+impl<V: View> Crew<V> {
+    /// For so many readers. None is hired.
+    pub(crate) fn new(alloc: Global, count: usize) -> Result<Crew<V>, AllocError>
+        ensures none { IfOk result (λ c. c.readers.items ≡ []) }
+        ensures room { IfOk result (λ c. count ≤ vec_capacity c.readers) }
+        ensures len { IfOk result (λ c. (vec_len c.rooms ≡ count) × (vec_len c.ready ≡ count)) }
+        ensures ahead { IfOk result (λ c. (l : Listing) (told : Option (List ℕ)) → All (IsAhead l told) c.ready.items) }
+    {
+        Ok(Crew {
+            readers: Vec::with_capacity(alloc, count)?,
+            rooms: rooms(alloc, count)?,
+            ready: rooms(alloc, count)?,
+        })
+    }
+}
+
+/// Makes a reader of each view but the first, which is handed out.
+pub(crate) fn hire<V: View>(
+    views: &mut Vec<V>,
+    rooms: &mut Vec<Ahead>,
+    readers: &mut Vec<Reader<V>>,
+) -> V
+    requires some { vec_len views.old ≡ vec_len rooms.old + 1 }
+    requires none { readers.old.items ≡ [] }
+    requires room { vec_len rooms.old ≤ vec_capacity readers.old }
+    ensures views { views.old.items ≡ result ∷ map (λ r. r.view) readers.new.items }
+    ensures none { views.new.items ≡ [] }
+    ensures room { vec_len readers.new + 1 ≤ vec_capacity views.new }
+    ensures len { vec_len readers.new ≡ vec_len rooms.old }
+{
+    views.reverse();
+    let Some(first) = views.pop() else {
+        unreachable!();
+    };
+    while let Some(view) = views.pop() {
+        let Some(ahead) = rooms.pop() else {
+            unreachable!();
+        };
+        let Ok(()) = readers.push(Reader { view, ahead }) else {
+            unreachable!();
+        };
+    }
+    first
+}
+
+/// Takes the views back, in their order.
+pub(crate) fn dismiss<V: View>(first: V, readers: &mut Vec<Reader<V>>, views: &mut Vec<V>)
+    requires none { views.old.items ≡ [] }
+    requires room { vec_len readers.old + 1 ≤ vec_capacity views.old }
+    ensures { views.new.items ≡ first ∷ map (λ r. r.view) readers.old.items }
+{
+    while let Some(reader) = readers.pop() {
+        let Ok(()) = views.push(reader.view) else {
+            unreachable!();
+        };
+    }
+    let Ok(()) = views.push(first) else {
+        unreachable!();
+    };
+    views.reverse();
+}

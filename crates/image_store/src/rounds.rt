@@ -1,0 +1,177 @@
+//! Storing an image's entries with one view, while other views read and name slices ahead. Entries are numbered from 0.
+
+ghost use Rattle.std.specs.Prelude.{◌≡◌, ℕ, ◌+◌, ◌<◌, ◌≤◌, [], All, List, OnOk, Option, length, map};
+ghost use Rattle.std.specs.Prelude.{vec_capacity, vec_len};
+ghost use Rattle.buzhash_cut.specs.Image.{AreOfOneImage};
+ghost use Rattle.caibx_codec.specs.Listing.{Listing, count_of, image_length, size_of};
+ghost use Rattle.image_store.specs.Ahead.{IsAhead, IsAlike, NoneFalls};
+ghost use Rattle.image_store.specs.Storing.{GoesOn, IsStoredBy, IsStoring};
+
+use crate::ahead::Ahead;
+use crate::put_chunks::{MakeFault, put_chunks};
+use crate::reader::{Crew, Reader, change_all, dismiss, hire, plan_all, read_all};
+use crate::storing::Storing;
+use caibx_codec::index::Index;
+use chunk_store::store::{Store, StoreWrite};
+use dsy_base::view::View;
+use std::alloc::Global;
+use std::thread::{Threads, join_mut};
+
+// Sees to the entries that are ready, while the readers read theirs.
+fn round<R: Threads + Sync, V: View, S: StoreWrite, W: View + Send>(
+    rt: &R,
+    index: &Index,
+    storing: &mut Storing<V, S>,
+    readers: &mut [Reader<W>],
+    ready: &[Ahead],
+) -> Result<(), MakeFault>
+    requires storing { IsStoring V.View S.Store index.now storing.old }
+    requires ready { All (IsAhead index.now (V.held storing.old.image).bytes) ready.now }
+    requires size { All (λ r. image_length index.now ≡ (W.held r.view).size) readers.old }
+    requires ahead { All (λ r. IsAhead index.now (W.held r.view).bytes r.ahead) readers.old }
+    ensures on { GoesOn V.View S.Store index.now storing.old storing.new result }
+    ensures ahead { All (λ r. IsAhead index.now (W.held r.view).bytes r.ahead) readers.new }
+    ensures kept { map (λ r. W.held r.view) readers.new ≡ map (λ r. W.held r.view) readers.old }
+    ensures faults { NoneFalls (map (λ r. W.faults r.view) readers.old) (map (λ r. W.faults r.view) readers.new) }
+{
+    let mut read = ||
+        requires size { All (λ r. image_length index.now ≡ (W.held r.view).size) readers.now }
+        requires ahead { All (λ r. IsAhead index.now (W.held r.view).bytes r.ahead) readers.now }
+        ensures ahead { All (λ r. IsAhead index.entry.now (W.held r.view).bytes r.ahead) readers.exit.now }
+        ensures kept { map (λ r. W.held r.view) readers.exit.now ≡ map (λ r. W.held r.view) readers.entry.now }
+        ensures faults { NoneFalls (map (λ r. W.faults r.view) readers.entry.now)
+            (map (λ r. W.faults r.view) readers.exit.now) }
+    { read_all(rt, index, readers) };
+    let mut store = || -> Result<(), MakeFault>
+        requires storing { IsStoring V.View S.Store index.now storing.now }
+        requires ready { All (IsAhead index.now (V.held storing.now.image).bytes) ready.now }
+        ensures { GoesOn V.View S.Store index.entry.now storing.entry.now storing.exit.now result }
+    { storing.put_ready(index, ready) };
+    let (_, put) = join_mut(rt, &mut read, &mut store);
+    put
+}
+
+// Sees to all entries.
+fn put_by_rounds<R: Threads + Sync, V: View + Send, S: StoreWrite>(
+    rt: &R,
+    alloc: Global,
+    index: &Index,
+    storing: &mut Storing<V, S>,
+    readers: &mut [Reader<V>],
+    ready: &mut [Ahead],
+) -> Result<(), MakeFault>
+    requires some { 0 < length readers.old }
+    requires rooms { length ready.old ≡ length readers.old }
+    requires storing { IsStoring V.View S.Store index.now storing.old }
+    requires ready { All (IsAhead index.now (V.held storing.old.image).bytes) ready.old }
+    requires alike { All (IsAlike (V.held storing.old.image)) (map (λ r. V.held r.view) readers.old) }
+    ensures on { GoesOn V.View S.Store index.now storing.old storing.new result }
+    ensures all { OnOk result (storing.new.at ≡ count_of index.now) }
+    ensures kept { map (λ r. V.held r.view) readers.new ≡ map (λ r. V.held r.view) readers.old }
+    ensures faults { NoneFalls (map (λ r. V.faults r.view) readers.old) (map (λ r. V.faults r.view) readers.new) }
+{
+    let mut at = 0;
+    while at < index.count() {
+        at = plan_all(index, readers, at);
+        round(rt, index, storing, readers, ready)?;
+        change_all(readers, ready);
+    }
+    storing.put_ready(index, ready)?;
+    storing.put_to(index, index.count(), &Ahead::none(alloc))
+}
+
+// Sees to all entries with the first view alone.
+fn store_alone<V: View, S: StoreWrite>(
+    alloc: Global,
+    index: &Index,
+    views: Vec<V>,
+    store: S,
+    chunk: Vec<u8>,
+    room: Vec<u8>,
+) -> (Vec<V>, S, Result<(), MakeFault>)
+    requires some { 0 < vec_len views }
+    requires alike { AreOfOneImage (map V.held views.items) }
+    requires size { All (λ v. image_length index.now ≡ (V.held v).size) views.items }
+    requires chunk { (i : ℕ) → i < count_of index.now → size_of index.now i ≤ length chunk.items }
+    requires room { (i : ℕ) → i < count_of index.now → size_of index.now i ≤ length room.items }
+    ensures { IsStoredBy V.View S.Store index.now views.items result.0.items store result.1 result.2 }
+{
+    let (mut views, mut store, mut chunk, mut room) = (views, store, chunk, room);
+    let put = put_chunks(
+        alloc,
+        index,
+        &mut views[0],
+        &mut store,
+        &mut chunk,
+        &mut room,
+    );
+    (views, store, put)
+}
+
+// Sees to all entries with the first view, for which the others read ahead.
+fn store_ahead<R: Threads + Sync, V: View + Send, S: StoreWrite>(
+    rt: &R,
+    alloc: Global,
+    index: &Index,
+    views: Vec<V>,
+    crew: Crew<V>,
+    store: S,
+    chunk: Vec<u8>,
+    room: Vec<u8>,
+) -> (Vec<V>, S, Result<(), MakeFault>)
+    requires some { 0 < vec_len crew.rooms }
+    requires none { crew.readers.items ≡ [] }
+    requires crew { (vec_len views ≡ vec_len crew.rooms + 1) × (vec_len crew.ready ≡ vec_len crew.rooms)
+        × (vec_len crew.rooms ≤ vec_capacity crew.readers) }
+    requires ready { (l : Listing) (told : Option (List ℕ)) → All (IsAhead l told) crew.ready.items }
+    requires alike { AreOfOneImage (map V.held views.items) }
+    requires size { All (λ v. image_length index.now ≡ (V.held v).size) views.items }
+    requires chunk { (i : ℕ) → i < count_of index.now → size_of index.now i ≤ length chunk.items }
+    requires room { (i : ℕ) → i < count_of index.now → size_of index.now i ≤ length room.items }
+    ensures { IsStoredBy V.View S.Store index.now views.items result.0.items store result.1 result.2 }
+{
+    let (mut views, mut crew) = (views, crew);
+    let image = hire(&mut views, &mut crew.rooms, &mut crew.readers);
+    let mut storing = Storing::new(alloc, image, store, chunk, room);
+    let put = put_by_rounds(
+        rt,
+        alloc,
+        index,
+        &mut storing,
+        &mut crew.readers,
+        &mut crew.ready,
+    );
+    let (image, store) = storing.end();
+    dismiss(image, &mut crew.readers, &mut views);
+    (views, store, put)
+}
+
+/// Sees to it that the store holds each chunk that the index lists, in order, each id once. The first view is read; each
+/// other one reads and names slices ahead, where there is memory for its rooms, in a thread of its own.
+pub(crate) fn store_entries<R: Threads + Sync, V: View + Send, S: StoreWrite>(
+    rt: &R,
+    alloc: Global,
+    index: &Index,
+    views: Vec<V>,
+    store: S,
+) -> (Vec<V>, S, Result<(), MakeFault>)
+    requires some { 0 < vec_len views }
+    requires alike { AreOfOneImage (map V.held views.items) }
+    requires size { All (λ v. image_length index.now ≡ (V.held v).size) views.items }
+    ensures { IsStoredBy V.View S.Store index.now views.items result.0.items store result.1 result.2 }
+{
+    let Ok(chunk) = index.room(alloc) else {
+        return (views, store, Err(MakeFault::Memory));
+    };
+    let Ok(room) = index.room(alloc) else {
+        return (views, store, Err(MakeFault::Memory));
+    };
+    let others = views.len() - 1;
+    if others == 0 {
+        return store_alone(alloc, index, views, store, chunk, room);
+    }
+    match Crew::new(alloc, others) {
+        Ok(crew) => store_ahead(rt, alloc, index, views, crew, store, chunk, room),
+        Err(_) => store_alone(alloc, index, views, store, chunk, room),
+    }
+}
