@@ -34,6 +34,19 @@ pub fn read_index<F: Files>(alloc: Global, files: &mut F, name: Name) -> Result<
     }
 }
 
+/// What a command ends with whose image isn't opened.
+pub fn unopened(fault: OpenFault, name: Name) -> Outcome
+    ensures absent { fault ≡ OpenFault.Absent → result ≡ Outcome.NoFile (name) }
+    ensures failed { fault ≡ OpenFault.Failed → result ≡ Outcome.ImageFault }
+    ensures lacking { fault ≡ OpenFault.Memory → result ≡ Outcome.Memory }
+{
+    match fault {
+        OpenFault::Absent => Outcome::NoFile { name },
+        OpenFault::Failed => Outcome::ImageFault,
+        OpenFault::Memory => Outcome::Memory,
+    }
+}
+
 /// Opens the image of this name.
 pub fn open_image<F: Files>(files: &mut F, name: Name) -> Result<F::View, Outcome>
     ensures ok { IfOk result (λ v. Holds (F.disk files.old) name (F.View.held v).bytes) }
@@ -44,8 +57,6 @@ pub fn open_image<F: Files>(files: &mut F, name: Name) -> Result<F::View, Outcom
 {
     match files.view(name.as_str()) {
         Ok(view) => Ok(view),
-        Err(OpenFault::Absent) => Err(Outcome::NoFile { name }),
-        Err(OpenFault::Failed) => Err(Outcome::ImageFault),
-        Err(OpenFault::Memory) => Err(Outcome::Memory),
+        Err(fault) => Err(unopened(fault, name)),
     }
 }

@@ -1,16 +1,15 @@
 -- The different chunks of an index: those of first entries are as many as its wants, and a sum over wants is one over
 -- first entries.
-use Rattle.std.proofs.Common.{◌≡◌, ◌⊎◌, ℕ, zero, suc, ◌+◌, ◌<◌, ◌≤◌, ◌&&◌, ◌==◌, not, List, [], ◌∷◌, Bool, true, false, length, slice_index, Decides, refl, sym, ap, subst, ◌∙◌, inl, inr, arith, if◌then◌else◌}
-use Rattle.std.proofs.lemmas.Bool.{cases_Bool, cases_lt}
+use Rattle.std.proofs.Common.{◌≡◌, ◌⊎◌, ℕ, zero, suc, ◌+◌, ◌<◌, ◌≤◌, ◌&&◌, ◌==◌, not, ◌∷◌, Bool, true, false, length, slice_index, Decides, refl, sym, ap, subst, ◌∙◌, inl, inr, arith, if◌then◌else◌}
+use Rattle.std.proofs.lemmas.Bool.{cases_lt}
 use Rattle.std.proofs.lemmas.Bool.Decides.{Decides-eqb}
 use Rattle.std.proofs.lemmas.Slice.Eq.{bytes_eq-Decides}
 use Rattle.std.specs.Bool.{one_answer}
 use Rattle.std.specs.List.{filter, list_any, range_with_len}
-use Rattle.std.specs.Str.{bytes_eq}
 use Rattle.assembler.specs.Economy.{sum_below}
 use Rattle.caibx_codec.specs.Listing.{Listing, count_of, id_of, size_of}
 use Rattle.image_demo.specs.Figures.{alike_in, firsts, firsts_below, is_alike, is_first}
-use Rattle.extract_plan.specs.Deal.{AreAlike, AreWants, Deal, of_want}
+use Rattle.extract_plan.specs.Deal.{AreWants, Deal, of_want}
 
 both : (a b : Bool) (P Q : Type 0) → Decides a P → Decides b Q → Decides (a && b) (P × Q)
 both true true P Q d e = (λ t. (d.0 refl, e.0 refl), λ h. refl)

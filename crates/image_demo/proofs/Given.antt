@@ -1,15 +1,15 @@
 -- What making an image gives, where nothing fails: its figures, or two unequal pieces of bytes of one name.
-use Rattle.std.proofs.Common.{◌≡◌, ◌≢◌, ◌⊎◌, ℕ, zero, suc, ◌+◌, ◌-◌, ◌<◌, ◌≤◌, ◌&&◌, not, List, [], ◌∷◌, Bool, true, false, length, take, drop, replicate, slice_index, Option, Some, None, Result, Ok, Err, refl, sym, ap, subst, ◌∙◌, inl, inr, arith, map, IfSome, IfOk, is_some}
+use Rattle.std.proofs.Common.{◌≡◌, ◌≢◌, ◌⊎◌, ℕ, zero, suc, ◌+◌, ◌-◌, ◌<◌, ◌≤◌, ◌&&◌, not, List, [], ◌∷◌, true, length, drop, replicate, Option, Some, None, Result, Ok, Err, refl, sym, ap, subst, ◌∙◌, inl, inr, arith, map, IfSome, IfOk, is_some}
 use Rattle.std.proofs.lemmas.List.{length-take-le, length-drop}
 use Rattle.assembler.specs.Assemblies.{IsObtainable, Verdict}
 use Rattle.assembler.specs.Economy.{ReportsExactly, source_of, sum_below}
-use Rattle.assembler.specs.Reports.{one_if, right_below}
+use Rattle.assembler.specs.Reports.{right_below}
 use Rattle.assembler.specs.declared.fault.ExtractFault.{ExtractFault}
 use Rattle.assembler.specs.declared.fault.ExtractFault.TheVariants as faults
 use Rattle.assembler.specs.declared.report.Report.{Report}
 use Rattle.buzhash_cut.specs.Image.{IsIndexOfImage}
 use Rattle.buzhash_cut.specs.Sizes.{Sizes}
-use Rattle.caibx_codec.specs.Listing.{Listing, Rules, count_of, end_of, id_of, image_length, kind_of, size_of, slice_of, start_of}
+use Rattle.caibx_codec.specs.Listing.{Listing, Rules, count_of, end_of, id_of, image_length, size_of, slice_of, start_of}
 use Rattle.caibx_codec.specs.Right.{IsRight, IsRightAt}
 use Rattle.chunk_store.specs.declared.id.ChunkId.{ChunkId}
 use Rattle.chunk_store.specs.declared.id.DigestKind.TheVariants as kinds
@@ -27,7 +27,6 @@ use Rattle.image_demo.specs.Images.{image_of, seed_of, usual_sizes}
 use Rattle.image_demo.specs.Stocks.{IsNamed, IsStocked, fault_of}
 use Rattle.image_demo.specs.declared.figures.Figures.{Figures}
 use Rattle.image_store.specs.PutChunks.{HoldsAll, IsStored, Stands}
-use Rattle.range_survey.specs.declared.fate.Fate.TheVariants as fate
 use Rattle.store_chain.specs.Chains.{Chained}
 
 no_sum : (f : ℕ → ℕ) (n : ℕ) → ((w : ℕ) → f w ≡ 0) → sum_below f n ≡ 0

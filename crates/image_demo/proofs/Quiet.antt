@@ -1,7 +1,7 @@
 -- An assembly from sources that never fail.
-use Rattle.std.proofs.Common.{◌≡◌, ℕ, zero, suc, ◌+◌, ◌<◌, ◌≤◌, ◌^◌, List, [], ◌∷◌, map, slice_index, Option, Some, None, IsSome, IfSome, Result, Ok, Err, OnOk, Bool, IsTrue, refl, sym, ap, subst, ◌∙◌, arith, inl, inr, unwrap_or}
+use Rattle.std.proofs.Common.{◌≡◌, ℕ, zero, suc, List, [], ◌∷◌, map, slice_index, Option, Some, None, Bool, IsTrue, refl, arith, inl, inr, unwrap_or}
 use Rattle.std.specs.Option.{option_map}
-use Rattle.assembler.specs.Caches.{HaveOneSize, Stocked, cache_faults, cached_in}
+use Rattle.assembler.specs.Caches.{HaveOneSize, Stocked, cache_faults}
 use Rattle.assembler.specs.Sources.{SourcesQuiet}
 use Rattle.cache_store.specs.Shelves.{Shelf}
 use Rattle.caibx_codec.specs.Listing.{Listing}

@@ -1,32 +1,28 @@
 -- Where the chunk of an entry comes from, where nothing fails: out of zeros, or else from one seed, or else from one
 -- store.
-use Rattle.std.proofs.Common.{◌≡◌, ◌≢◌, ◌⊎◌, ℕ, zero, suc, ◌+◌, ◌-◌, ◌<◌, ◌≤◌, ◌&&◌, ◌||◌, ◌==◌, not, nat_le, List, [], ◌∷◌, ◌++◌, Bool, true, false, length, take, replicate, slice_index, slice_index_or, slice_range, Option, Some, None, Decides, refl, sym, ap, subst, ◌∙◌, inl, inr, arith, if◌then◌else◌, cond}
+use Rattle.std.proofs.Common.{◌≡◌, ℕ, zero, suc, ◌+◌, ◌-◌, ◌<◌, ◌≤◌, ◌&&◌, ◌||◌, ◌==◌, not, nat_le, List, [], ◌∷◌, Bool, true, false, length, replicate, slice_index, slice_index_or, slice_range, Option, Some, None, refl, sym, ap, subst, ◌∙◌, inl, inr, arith, if◌then◌else◌}
 use Rattle.std.proofs.lemmas.Bool.{le-leb}
 use Rattle.std.proofs.lemmas.Bool.Decides.{Decides-eqb}
 use Rattle.std.proofs.lemmas.Slice.Eq.{bytes_eq-Decides}
-use Rattle.std.specs.Bool.{one_answer}
-use Rattle.std.specs.List.{Any, list_any, slice_get, range_with_len}
+use Rattle.std.specs.List.{list_any, slice_get}
 use Rattle.std.specs.Str.{bytes_eq}
 use Rattle.assembler.proofs.Entries.{among, first_among, ids_same}
 use Rattle.assembler.specs.Assemblies.{IsObtainable, RightAlike}
-use Rattle.assembler.specs.Economy.{given_at, is_chunk, seeds_give, source_of, source_among, stores_give, told_at}
+use Rattle.assembler.specs.Economy.{given_at, seeds_give, source_of, stores_give}
 use Rattle.assembler.specs.Reports.{one_if}
-use Rattle.assembler.specs.Sources.{HeldAt, SeedsGive}
 use Rattle.cache_store.specs.Giving.{SomeGives}
-use Rattle.caibx_codec.specs.Listing.{Listing, Rules, count_of, end_of, id_of, image_length, kind_of, size_of, slice_of, start_of}
+use Rattle.caibx_codec.specs.Listing.{Listing, Rules, count_of, end_of, id_of, image_length, kind_of, size_of, start_of}
 use Rattle.caibx_codec.specs.Right.{IsRight, IsRightAt}
-use Rattle.chunk_store.specs.Giving.{GivesChunk}
 use Rattle.chunk_store.specs.Names.{name_of}
 use Rattle.chunk_store.specs.declared.id.DigestKind.{DigestKind}
 use Rattle.chunk_store.specs.declared.id.DigestKind.TheVariants as kinds
 use Rattle.dsy_base.specs.Bytes.{Held, resized}
 use Rattle.dsy_base.specs.Maps.{Map}
 use Rattle.extract_plan.specs.Deal.{AreWants, Deal, first_of, of_want, want_id}
-use Rattle.extract_plan.specs.Places.{ArePlaces, IsPlace, IsSeedIndex, Placed, nth_place, place, places_at}
-use Rattle.extract_plan.specs.Seeds.{bytes_at, place_end}
+use Rattle.extract_plan.specs.Places.{IsSeedIndex, Placed, nth_place, place, places_at}
 use Rattle.extract_plan.specs.declared.seed.SeedPlace.{SeedPlace}
 use Rattle.image_demo.proofs.FirstEntries.{alike_decides, any_filtered, any_in_range, any_of_range, entries_alike}
-use Rattle.image_demo.specs.Figures.{alike_in, is_alike, is_in_seed, is_in_zeros}
+use Rattle.image_demo.specs.Figures.{is_alike, is_in_seed, is_in_zeros}
 use Rattle.range_survey.specs.Fates.{is_right_at}
 use Rattle.range_survey.specs.declared.fate.Fate.{Fate}
 use Rattle.range_survey.specs.declared.fate.Fate.TheVariants as fate

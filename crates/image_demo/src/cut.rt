@@ -12,6 +12,7 @@ use buzhash_cut::sizes::CutSizes;
 use caibx_codec::index::Index;
 use dsy_base::view::View;
 use std::alloc::Global;
+use std::thread::Threads;
 
 /// An image and its index.
 #[derive(Drop)]
@@ -31,7 +32,11 @@ fn usual() -> CutSizes
 }
 
 // Indexes the image behind one view, and hands the view back.
-fn index_one<V: View>(alloc: Global, view: V) -> (V, Result<Index, CutFault>)
+fn index_one<R: Threads + Sync, V: View + Send>(
+    rt: &R,
+    alloc: Global,
+    view: V,
+) -> (V, Result<Index, CutFault>)
     ensures exactly { IfSome (V.held view).bytes (λ t. IndexGiven usual_sizes t result.1) }
     ensures size { IfOk result.1 (λ l. image_length l ≡ (V.held view).size) }
     ensures kept { V.held result.0 ≡ V.held view }
@@ -43,7 +48,7 @@ fn index_one<V: View>(alloc: Global, view: V) -> (V, Result<Index, CutFault>)
         return (refused.value, Err(CutFault::Memory));
     }
     let sizes = usual();
-    let (mut views, made) = index_view(alloc, views, &sizes);
+    let (mut views, made) = index_view(rt, alloc, views, &sizes);
     let Some(view) = views.pop() else {
         unreachable!();
     };
@@ -51,14 +56,18 @@ fn index_one<V: View>(alloc: Global, view: V) -> (V, Result<Index, CutFault>)
 }
 
 /// Cuts an image of at most 2^29 bytes by the usual sizes.
-pub fn cut<V: View>(alloc: Global, view: V) -> Result<Indexed<V>, DemoFault>
+pub fn cut<R: Threads + Sync, V: View + Send>(
+    rt: &R,
+    alloc: Global,
+    view: V,
+) -> Result<Indexed<V>, DemoFault>
     ensures exactly { IfOk result (λ x. IfSome (V.held view).bytes (λ t. IsIndexOfImage usual_sizes t x.index)) }
     ensures size { IfOk result (λ x. image_length x.index ≡ (V.held view).size) }
     ensures few { IfOk result (λ x. count_of x.index ≤ 4194304) }
     ensures kept { IfOk result (λ x. V.held x.view ≡ V.held view) }
     ensures err { IfErr result (λ e. e ≡ DemoFault.Memory) }
 {
-    let (view, made) = index_one(alloc, view);
+    let (view, made) = index_one(rt, alloc, view);
     match made {
         Ok(index) => Ok(Indexed { view, index }),
         // The view never fails, and so few bytes have few chunks, so it is for want of memory.

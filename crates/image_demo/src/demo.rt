@@ -15,10 +15,16 @@ use chunk_store::mem_store::MemStore;
 use dsy_sure::sure_target::SureTarget;
 use dsy_sure::sure_view::SureView;
 use std::alloc::Global;
+use std::thread::Threads;
 
 /// The figures of the image that the number makes, of so many bytes. The seed is the same but for up to 2^20 bytes from
 /// the middle on, of which all bits are turned round.
-pub fn demo(alloc: Global, number: u64, size: u64) -> Result<Figures, DemoFault>
+pub fn demo<R: Threads + Sync>(
+    rt: &R,
+    alloc: Global,
+    number: u64,
+    size: u64,
+) -> Result<Figures, DemoFault>
     requires { size ≤ 2 ^ 29 }
     ensures { Rehearses number size result }
 {
@@ -32,9 +38,9 @@ pub fn demo(alloc: Global, number: u64, size: u64) -> Result<Figures, DemoFault>
     let Ok(image) = Vec::from_slice(alloc, &bytes) else {
         return Err(DemoFault::Memory);
     };
-    let indexed = cut(alloc, SureView::new(alloc, bytes))?;
+    let indexed = cut(rt, alloc, SureView::new(alloc, bytes))?;
     let Indexed { mut view, index } = indexed;
-    let seed = cut(alloc, SureView::new(alloc, turned))?;
+    let seed = cut(rt, alloc, SureView::new(alloc, turned))?;
     let mut store = MemStore::new(alloc);
     stock(alloc, &index, &mut view, &mut store)?;
     let mut target = SureTarget::new(alloc, Vec::new(alloc));

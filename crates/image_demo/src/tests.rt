@@ -20,7 +20,7 @@ fn one_byte_is_fetched(rt: HostRuntime) -> Result<(), Fail> {
         bytes::image(rt.alloc(), 7, 1)?.as_slice(),
         b"\x7e".as_slice()
     );
-    assert_eq!(rt; demo(rt.alloc(), 7, 1), Ok(figures));
+    assert_eq!(rt; demo(&rt, rt.alloc(), 7, 1), Ok(figures));
     Ok(())
 }
 
@@ -35,7 +35,7 @@ fn no_bytes_take_nothing(rt: HostRuntime) {
         seeded: 0,
         fetched: 0,
     };
-    assert_eq!(rt; demo(rt.alloc(), 7, 0), Ok(figures));
+    assert_eq!(rt; demo(&rt, rt.alloc(), 7, 0), Ok(figures));
 }
 
 #[test]
