@@ -31,7 +31,7 @@ use Rattle.image_store.specs.StoreImage.{SaysOf}
 
 -- ---- giving both back
 
-ends_read : (d b : Disk) (q : List ℕ) (n : ℕ) → HoldsSame d b → GivesFile d b q n → Reads d b
+pub ends_read : (d b : Disk) (q : List ℕ) (n : ℕ) → HoldsSame d b → GivesFile d b q n → Reads d b
 ends_read d b q n h g = record {
   files = h.files;
   folders = h.folders;
@@ -42,9 +42,9 @@ ends_read d b q n h g = record {
 }
 
 -- what was refused before the image was given back
-pub taken_longer : (store : Location) (d e f : Disk) (q : List ℕ) (n : ℕ) (o : Outcome) → SourceTaken store d (Err o) e → HoldsSame e f → GivesFile e f q n → SourceTaken store d (Err o) f
-taken_longer (locations.Folder name) d e f q n o taken h g = (given_back d e f (ends_read e f q n h g) name o taken.0, reads_twice d e f taken.1 (ends_read e f q n h g))
-taken_longer (locations.Http host port prefix) d e f q n o taken h g = (taken.0, reads_twice d e f taken.1 (ends_read e f q n h g))
+pub taken_longer : (store : Location) (d e f : Disk) (o : Outcome) → SourceTaken store d (Err o) e → Reads e f → SourceTaken store d (Err o) f
+taken_longer (locations.Folder name) d e f o taken read = (given_back d e f read name o taken.0, reads_twice d e f taken.1 read)
+taken_longer (locations.Http host port prefix) d e f o taken read = (taken.0, reads_twice d e f taken.1 read)
 
 read_adds : (d b e : Disk) → Reads d b → Adds b e → Adds d e
 read_adds d b e r a = record {
@@ -59,16 +59,14 @@ server_stays : (store : Location) (files : Option (Map (List ℕ))) (folders : O
 server_stays (locations.Folder q) files folders t = absurd (cc)
 server_stays (locations.Http host port prefix) files folders t = refl
 
-pub folders_back : (d b e : Disk) (store : Location) (files : Option (Map (List ℕ))) → HoldsSame d b → e.folders ≡ given_to store files b.folders → e.folders ≡ given_to store files d.folders
-folders_back d b e store files h is = is ∙ ap (given_to store files) h.folders
+pub folders_back : (d b e : Disk) (store : Location) (files : Option (Map (List ℕ))) → Reads d b → e.folders ≡ given_to store files b.folders → e.folders ≡ given_to store files d.folders
+folders_back d b e store files read is = is ∙ ap (given_to store files) read.folders
 
-pub wrote : (d b e : Disk) (k j : DialState) (store : Location) (files : Option (Map (List ℕ))) (q : List ℕ) (n : ℕ) → HoldsSame d b → GivesFile d b q n → e.folders ≡ given_to store files b.folders → Adds b e → DialsStores (store ∷ []) k j
-    → WritesStore store (sources d k) (sources e j)
-wrote d b e k j store files q n h g is adds dials = record { adds = read_adds d b e (ends_read d b q n h g) adds; folders = λ t. is ∙ server_stays store files b.folders t ∙ h.folders; dials = dials }
+pub wrote : (d b e : Disk) (k j : DialState) (store : Location) (files : Option (Map (List ℕ))) → Reads d b → e.folders ≡ given_to store files b.folders → Adds b e → DialsStores (store ∷ []) k j → WritesStore store (sources d k) (sources e j)
+wrote d b e k j store files read is adds dials = record { adds = read_adds d b e read adds; folders = λ t. is ∙ server_stays store files b.folders t ∙ read.folders; dials = dials }
 
-pub given_since : {L D K : Type 0} (place : L → List ℕ) (faults : L → ℕ) (state : D → DialState) (d b e : Disk) (k j : DialState) (store : Location) (s : AnySource L D K) (q : List ℕ) (n : ℕ) → HoldsSame d b → GivesFile d b q n
-    → DialsStores (store ∷ []) k j → IsGiven place faults state (sources b k) (sources e j) s → IsGiven place faults state (sources d k) (sources e j) s
-given_since place faults state d b e k j store s q n h g dials given = given_earlier place faults state (sources d k) (sources b k) (sources e j) (ends_read d b q n h g).folder_counts (dials_none k) dials.0 s given
+pub given_since : {L D K : Type 0} (place : L → List ℕ) (faults : L → ℕ) (state : D → DialState) (d b e : Disk) (k j : DialState) (store : Location) (s : AnySource L D K) → Reads d b → DialsStores (store ∷ []) k j → IsGiven place faults state (sources b k) (sources e j) s → IsGiven place faults state (sources d k) (sources e j) s
+given_since place faults state d b e k j store s read dials given = given_earlier place faults state (sources d k) (sources b k) (sources e j) read.folder_counts (dials_none k) dials.0 s given
 
 -- a fault of a view that had counted none is one of its name
 pub view_rose : (d e : Disk) (q : List ℕ) (m n : ℕ) → count_at e.file_counts q ≡ raised (count_at d.file_counts q) n → m ≡ 0 → Rose m n → FileRose d e q

@@ -20,3 +20,4 @@ pub mod Pruned
 pub mod GivenFolders
 pub mod GivenStores
 pub mod Listened
+pub mod Viewed

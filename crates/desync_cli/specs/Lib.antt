@@ -12,3 +12,4 @@ pub mod Prune
 pub mod Verify
 pub mod Demo
 pub mod Serving
+pub mod Views

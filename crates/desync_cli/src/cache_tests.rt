@@ -10,11 +10,12 @@ use dsy_forms::ranges::RangeFails;
 use std::alloc::Global;
 use std::process::Abort;
 use std::test::Fail;
+use std::thread::Threads;
 
 // Fills the cache "ca" by the indexes of "abc" and of "def", and compares the line, and what the cache holds under
 // their ids.
 fn cache_case(
-    rt: &impl Abort,
+    rt: &(impl Abort + Threads + Sync),
     alloc: Global,
     store: MemFolder,
     cache: MemFolder,

@@ -11,6 +11,7 @@ use dsy_forms::mem_sink::MemSink;
 use std::alloc::{AllocError, Global};
 use std::process::Abort;
 use std::test::Fail;
+use std::thread::Threads;
 
 // The id of "abc" (FIPS 180-4's example message), as its 64 digits.
 pub const ABC: &str = "53048e2681941ef99b2e29b76b4c7dabe4c2d0c634fc6d46e0e2f13107e7af23";
@@ -87,7 +88,7 @@ pub fn no_listen(alloc: Global) -> MemListen {
 // Runs the words, which are parted by spaces, with this dialer, and compares what is printed and the line that tells how
 // it ended.
 pub fn ends_over(
-    rt: &impl Abort,
+    rt: &(impl Abort + Threads + Sync),
     alloc: Global,
     words: &str,
     files: &mut MemFiles,
@@ -99,7 +100,16 @@ pub fn ends_over(
     let mut out = MemSink::new(alloc, Vec::new(alloc));
     let mut err = MemSink::new(alloc, Vec::new(alloc));
     let mut listen = no_listen(alloc);
-    let ended = desync_in_memory(alloc, &list, files, dial, &mut listen, &mut out, &mut err);
+    let ended = desync_in_memory(
+        rt,
+        alloc,
+        &list,
+        files,
+        dial,
+        &mut listen,
+        &mut out,
+        &mut err,
+    );
     assert_eq!(rt; err.taken(), line.as_bytes(), "{words}");
     assert_eq!(rt; out.taken(), printed.as_bytes(), "{words}");
     assert_eq!(rt;
@@ -112,7 +122,7 @@ pub fn ends_over(
 
 // The same with no connections.
 pub fn ends(
-    rt: &impl Abort,
+    rt: &(impl Abort + Threads + Sync),
     alloc: Global,
     words: &str,
     files: &mut MemFiles,

@@ -10,10 +10,11 @@ use dsy_forms::ranges::RangeFails;
 use std::alloc::Global;
 use std::process::Abort;
 use std::test::Fail;
+use std::thread::Threads;
 
 // Chops the image by the index of "abc" and "def", and compares the line, and what the store holds under their ids.
 fn chop_case(
-    rt: &impl Abort,
+    rt: &(impl Abort + Threads + Sync),
     alloc: Global,
     image: &[u8],
     store: MemFolder,

@@ -19,9 +19,11 @@ use dsy_base::listen::Listen;
 use dsy_forms::mem_files::MemFiles;
 use dsy_forms::mem_sink::MemSink;
 use std::alloc::Global;
+use std::thread::Threads;
 
 /// Does what the words say. Here each clause of `desync` speaks of what stands under the names, with nothing left open.
-pub fn desync_in_memory<D: Dial, L: Listen>(
+pub fn desync_in_memory<R: Threads + Sync, D: Dial, L: Listen>(
+    rt: &R,
     alloc: Global,
     words: &[String],
     files: &mut MemFiles,
@@ -37,12 +39,13 @@ pub fn desync_in_memory<D: Dial, L: Listen>(
         (world (disk_of files.old) (D.state dial.old) (output_of out.old))
         (answer_of result.outcome) (world (disk_of files.new) (D.state dial.new) (output_of out.new)) }
 {
-    desync(alloc, words, files, dial, listen, out, err)
+    desync(rt, alloc, words, files, dial, listen, out, err)
 }
 
 /// Does what the first words say and then what the second say. Where these are a `make` and an `extract` of its
 /// index, and both are done, the image has come back.
-pub fn make_then_extract<D: Dial, L: Listen>(
+pub fn make_then_extract<R: Threads + Sync, D: Dial, L: Listen>(
+    rt: &R,
     alloc: Global,
     make: &[String],
     extract: &[String],
@@ -61,7 +64,7 @@ pub fn make_then_extract<D: Dial, L: Listen>(
 {
     one_index();
     cutting();
-    let made = desync_in_memory(alloc, make, files, dial, listen, out, err);
-    let extracted = desync_in_memory(alloc, extract, files, dial, listen, out, err);
+    let made = desync_in_memory(rt, alloc, make, files, dial, listen, out, err);
+    let extracted = desync_in_memory(rt, alloc, extract, files, dial, listen, out, err);
     (made, extracted)
 }

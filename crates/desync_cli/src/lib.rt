@@ -9,6 +9,7 @@ mod cases;
 #[cfg(test)]
 mod chop_tests;
 pub mod command;
+pub mod image_files;
 pub mod in_memory;
 #[cfg(test)]
 mod make_tests;
@@ -23,4 +24,5 @@ mod tests;
 mod tool_tests;
 #[cfg(test)]
 mod url_tests;
+mod views;
 mod words;

@@ -12,12 +12,13 @@ use dsy_forms::ranges::RangeFails;
 use std::alloc::Global;
 use std::process::Abort;
 use std::test::Fail;
+use std::thread::Threads;
 
 const MAKE: &str = "make -s st i img";
 
 // Makes the index of the image over an older one, and compares the line, INDEX and what the store holds of "abc".
 fn make_case(
-    rt: &impl Abort,
+    rt: &(impl Abort + Threads + Sync),
     alloc: Global,
     image: &[u8],
     store: MemFolder,
@@ -59,7 +60,7 @@ fn an_image_becomes_its_index_and_its_chunks(rt: HostRuntime) -> Result<(), Fail
 
 // Makes with calls on the image's range, the store and the files that fail, and compares the line and INDEX.
 fn refused(
-    rt: &impl Abort,
+    rt: &(impl Abort + Threads + Sync),
     alloc: Global,
     reads: &[(u64, u32)],
     store: &[u64],
@@ -88,7 +89,40 @@ fn a_refusal_leaves_the_index(rt: HostRuntime) -> Result<(), Fail> {
     refused(&rt, alloc, &[(1, 1)], &[], &[], "desync: the image failed\n")?;
     refused(&rt, alloc, &[], &[0], &[], "desync: store 0 failed\n")?;
     refused(&rt, alloc, &[], &[1], &[], "desync: store 0 failed\n")?;
-    refused(&rt, alloc, &[], &[], &[2], "desync: i: failed\n")
+    // The image is opened by ten workers, and then comes the store.
+    refused(&rt, alloc, &[], &[], &[11], "desync: i: failed\n")
+}
+
+// Makes the index of "abc" by these words, over files of which some calls fail.
+fn makes_abc(
+    rt: &(impl Abort + Threads + Sync),
+    alloc: Global,
+    words: &str,
+    calls: &[u64],
+) -> Result<(), Fail> {
+    let mut files = MemFiles::new(alloc, Vec::from_slice(alloc, calls)?);
+    files.set_file(
+        "img",
+        Vec::from_slice(alloc, b"abc")?,
+        RangeFails::none(alloc),
+    )?;
+    files.set_folder("st", MemFolder::new(alloc, Vec::new(alloc)))?;
+    ends(rt, alloc, words, &mut files, "", "")?;
+    let bytes = hex::decode(alloc, ABC_INDEX).ok().ok_or("no digits")?;
+    assert_eq!(rt; files.file("i"), Some(bytes.as_slice()), "{words}");
+    Ok(())
+}
+
+#[test]
+#[rattlefmt::skip]
+fn any_number_of_workers_makes_the_index(rt: HostRuntime) -> Result<(), Fail> {
+    let alloc = rt.alloc();
+    makes_abc(&rt, alloc, "make -s st -n 1 i img", &[])?;
+    makes_abc(&rt, alloc, "make -s st -n 3 i img", &[])?;
+    makes_abc(&rt, alloc, "make -s st -n 32 i img", &[])?;
+    // A worker whose view of the image can't be opened is left out.
+    makes_abc(&rt, alloc, "make -s st -n 3 i img", &[2])?;
+    makes_abc(&rt, alloc, "make -s st i img", &[1, 4, 9])
 }
 
 #[test]
@@ -148,6 +182,7 @@ fn what_was_made_is_extracted(rt: HostRuntime) -> Result<(), Fail> {
     let mut err = MemSink::new(alloc, Vec::new(alloc));
     let mut listen = no_listen(alloc);
     let (made, extracted) = make_then_extract(
+        &rt,
         alloc,
         &make,
         &extract,

@@ -26,6 +26,7 @@ use crate::command::prune::prune;
 use crate::command::server::chunk_server;
 use crate::command::verify::verify;
 use crate::command::verify_index::verify_index;
+use crate::image_files::ImageFiles;
 use crate::words::read_command;
 use command_help::help::Topic;
 use command_line::command::Command;
@@ -37,9 +38,11 @@ use dsy_base::files::Files;
 use dsy_base::listen::Listen;
 use dsy_base::sink::Sink;
 use std::alloc::Global;
+use std::thread::Threads;
 
 // Does the command.
-fn perform<F: Files, D: Dial, L: Listen, O: Sink>(
+fn perform<R: Threads + Sync, F: ImageFiles, D: Dial, L: Listen, O: Sink>(
+    rt: &R,
     alloc: Global,
     command: Command,
     files: &mut F,
@@ -47,6 +50,8 @@ fn perform<F: Files, D: Dial, L: Listen, O: Sink>(
     listen: &mut L,
     out: &mut O,
 ) -> Result<(), Outcome>
+where
+    F::View: Send,
     requires { Fits command }
     ensures unheard { listens command ≡ false → listen.new ≡ listen.old }
     ensures ends { Ends (heard (L.state listen.old) (L.state listen.new)) command
@@ -57,10 +62,10 @@ fn perform<F: Files, D: Dial, L: Listen, O: Sink>(
         Command::Make {
             store,
             sizes,
+            workers,
             index,
             image,
-            ..
-        } => make(alloc, files, dial, store, sizes, index, image),
+        } => make(rt, alloc, files, dial, store, sizes, workers, index, image),
         Command::VerifyIndex { index, image } => verify_index(alloc, files, index, image),
         Command::ListChunks { index } => list_chunks(alloc, files, out, index),
         Command::Extract {
@@ -90,7 +95,7 @@ fn perform<F: Files, D: Dial, L: Listen, O: Sink>(
         } => fill_cache(alloc, files, dial, stores, cache, indexes),
         Command::Verify { store, repair } => verify(alloc, files, out, store, repair),
         Command::Prune { store, indexes } => prune(alloc, files, store, indexes),
-        Command::Demo { number, size, .. } => demo(alloc, out, number, size),
+        Command::Demo { number, size, .. } => demo(rt, alloc, out, number, size),
         Command::ChunkServer {
             store,
             host,
@@ -102,7 +107,8 @@ fn perform<F: Files, D: Dial, L: Listen, O: Sink>(
 }
 
 // Does what the words say.
-fn run<F: Files, D: Dial, L: Listen, O: Sink>(
+fn run<R: Threads + Sync, F: ImageFiles, D: Dial, L: Listen, O: Sink>(
+    rt: &R,
     alloc: Global,
     words: &[String],
     files: &mut F,
@@ -110,6 +116,8 @@ fn run<F: Files, D: Dial, L: Listen, O: Sink>(
     listen: &mut L,
     out: &mut O,
 ) -> Result<(), Outcome>
+where
+    F::View: Send,
     ensures refused { command_of (map string_bytes words.now) ≡ None → (files.new ≡ files.old)
         × (dial.new ≡ dial.old) × (listen.new ≡ listen.old) × (out.new ≡ out.old) }
     ensures unheard { IfSome (command_of (map string_bytes words.now)) (λ c. listens c ≡ false → listen.new ≡ listen.old) }
@@ -118,7 +126,7 @@ fn run<F: Files, D: Dial, L: Listen, O: Sink>(
         (world (F.disk files.new) (D.state dial.new) (O.output out.new)) }
 {
     let command = read_command(alloc, words)?;
-    perform(alloc, command, files, dial, listen, out)
+    perform(rt, alloc, command, files, dial, listen, out)
 }
 
 // The outcome of a command.
@@ -144,7 +152,8 @@ fn tell<E: Sink>(alloc: Global, outcome: &Outcome, err: &mut E)
 
 /// Does what the words say, with servers that `dial` connects to and clients that connect to `listen`, prints to `out`,
 /// and tells `err` how it ended.
-pub fn desync<F: Files, D: Dial, L: Listen, O: Sink, E: Sink>(
+pub fn desync<R: Threads + Sync, F: ImageFiles, D: Dial, L: Listen, O: Sink, E: Sink>(
+    rt: &R,
     alloc: Global,
     words: &[String],
     files: &mut F,
@@ -153,6 +162,8 @@ pub fn desync<F: Files, D: Dial, L: Listen, O: Sink, E: Sink>(
     out: &mut O,
     err: &mut E,
 ) -> Ended
+where
+    F::View: Send,
     ensures status { result.status ≡ status_of result.outcome }
     ensures line { TakesLine (error_line_of result.outcome) (E.output err.old) (E.output err.new) }
 
@@ -201,7 +212,7 @@ pub fn desync<F: Files, D: Dial, L: Listen, O: Sink, E: Sink>(
         (parts (heard (L.state listen.old) (L.state listen.new)) c).stores)
         → NothingFailed result.outcome }
 {
-    let outcome = outcome_of(run(alloc, words, files, dial, listen, out));
+    let outcome = outcome_of(run(rt, alloc, words, files, dial, listen, out));
     let status = outcome.status();
     tell(alloc, &outcome, err);
     Ended { status, outcome }

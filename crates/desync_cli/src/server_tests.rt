@@ -18,6 +18,7 @@ use dsy_forms::open_link::OpenLink;
 use std::alloc::{AllocError, Global};
 use std::process::Abort;
 use std::test::Fail;
+use std::thread::Threads;
 
 const WRITABLE: &str = "chunk-server -s st -l localhost:8080 -w -n 1";
 
@@ -94,7 +95,7 @@ fn request(alloc: Global, method: &str, path: &str, rest: &str) -> Result<String
 }
 
 // Runs the words, and looks at the line that tells how it ended, and at where it listened.
-fn serves<R: Abort>(
+fn serves<R: Abort + Threads + Sync>(
     rt: &R,
     alloc: Global,
     words: &str,
@@ -106,7 +107,9 @@ fn serves<R: Abort>(
     let mut out = MemSink::new(alloc, Vec::new(alloc));
     let mut err = MemSink::new(alloc, Vec::new(alloc));
     let mut dial = no_dial(alloc);
-    let ended = desync_in_memory(alloc, &list, files, &mut dial, listen, &mut out, &mut err);
+    let ended = desync_in_memory(
+        rt, alloc, &list, files, &mut dial, listen, &mut out, &mut err,
+    );
     assert_eq!(rt; err.taken(), line.as_bytes());
     assert_eq!(rt; out.taken().len(), 0);
     assert_eq!(rt; ended.status, if line.is_empty() { 0 } else { 1 });

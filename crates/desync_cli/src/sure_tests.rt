@@ -32,6 +32,7 @@ fn out_is_what_the_index_lists(rt: HostRuntime) -> Result<(), Fail> {
     let mut dial = no_dial(alloc);
     let mut listen = no_listen(alloc);
     let ended = desync(
+        &rt,
         alloc,
         &words,
         &mut files,

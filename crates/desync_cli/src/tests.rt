@@ -8,6 +8,7 @@ use dsy_forms::ranges::RangeFails;
 use std::alloc::Global;
 use std::process::Abort;
 use std::test::Fail;
+use std::thread::Threads;
 
 // An image in three pieces.
 const THREE: &[&[u8]] = &[b"abc", b"def", b"ghi"];
@@ -19,7 +20,7 @@ const ABC_PATH: &str = "5304/53048e2681941ef99b2e29b76b4c7dabe4c2d0c634fc6d46e0e
 
 // Extracts from a store with these chunks over this OUT what lists the pieces, and compares the line and OUT.
 fn extract_case(
-    rt: &impl Abort,
+    rt: &(impl Abort + Threads + Sync),
     alloc: Global,
     pieces: &[&[u8]],
     chunks: &[(&[u8], &[u8])],
@@ -121,7 +122,7 @@ fn what_is_not_there_is_named(rt: HostRuntime) -> Result<(), Fail> {
 
 // Extracts "abcdef" from a store that has both chunks, over an OUT of which so many writes at offset 3 fail.
 fn failing_writes_case(
-    rt: &impl Abort,
+    rt: &(impl Abort + Threads + Sync),
     alloc: Global,
     failing: u32,
     line: &str,
@@ -165,7 +166,7 @@ fn other_words_are_refused_by_place_and_reason(rt: HostRuntime) -> Result<(), Fa
 
 // Extracts "abc" by way of the temporary file, of which so many writes fail, from a store with these chunks.
 fn replacing_case(
-    rt: &impl Abort,
+    rt: &(impl Abort + Threads + Sync),
     alloc: Global,
     chunks: &[(&[u8], &[u8])],
     failing: u32,
@@ -207,7 +208,7 @@ fn out_is_replaced_or_as_before(rt: HostRuntime) -> Result<(), Fail> {
 
 // Extracts "abc" with a seed whose image holds these bytes, or isn't there, from a store with these chunks.
 fn seed_case(
-    rt: &impl Abort,
+    rt: &(impl Abort + Threads + Sync),
     alloc: Global,
     image: Option<&[u8]>,
     chunks: &[(&[u8], &[u8])],
@@ -255,7 +256,7 @@ fn chunks_come_from_seeds_too(rt: HostRuntime) -> Result<(), Fail> {
 
 // Extracts "abc" from stores with these chunks, and compares the line, OUT and what the cache then holds of "abc".
 fn cache_case(
-    rt: &impl Abort,
+    rt: &(impl Abort + Threads + Sync),
     alloc: Global,
     chunks: &[(&[u8], &[u8])],
     cached: &[(&[u8], &[u8])],

@@ -9,6 +9,7 @@ use dsy_forms::ranges::RangeFails;
 use std::alloc::Global;
 use std::process::Abort;
 use std::test::Fail;
+use std::thread::Threads;
 
 const ABC_FILE: &str = "5304/53048e2681941ef99b2e29b76b4c7dabe4c2d0c634fc6d46e0e2f13107e7af23";
 
@@ -19,7 +20,11 @@ const ABC_STRANGER: &str =
 const DEF_FILE: &str = "f391/f391834ba55302124fbcfc8df6831a666e468b310e99295e1fce0abf8ef9ec3f";
 
 // Compares the names of all files of the store "st".
-fn same_names(rt: &impl Abort, files: &mut MemFiles, want: &[&str]) -> Result<(), Fail> {
+fn same_names(
+    rt: &(impl Abort + Threads + Sync),
+    files: &mut MemFiles,
+    want: &[&str],
+) -> Result<(), Fail> {
     let mut look = files.look("st").ok().ok_or("no folder")?;
     let names = look.names()?;
     assert_eq!(rt; names.len(), want.len());

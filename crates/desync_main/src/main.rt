@@ -49,6 +49,7 @@ fn main(rt: HostRuntime) -> ExitCode {
     let mut out = RealSink::new(io::writer(&stdout));
     let mut err = RealSink::new(io::writer(&stderr));
     let ended = desync(
+        &rt,
         rt.alloc(),
         &words,
         &mut files,

@@ -8,6 +8,7 @@ ghost use Rattle.dsy_base.specs.Slots.{counts_in};
 use crate::real_folder::{RealFolder, put_file, remove_file};
 use crate::real_target::RealTarget;
 use crate::real_view::RealView;
+use desync_cli::image_files::ImageFiles;
 use dsy_base::fault::{IoFault, OpenFault};
 use dsy_base::files::Files;
 use dsy_base::name::Name;
@@ -301,4 +302,8 @@ impl<'a, R: System<File = File> + AllocGlobal + Clone + Drop> Files for RealFile
     ghost alike = { Prim.search rules };
 
     ghost unnamed = { (refl, refl, refl) };
+}
+
+impl<'a, R: System<File = File> + AllocGlobal + Clone + Drop> ImageFiles for RealFiles<'a, R> {
+    ghost untold = { λ t. t };
 }

@@ -15,13 +15,19 @@ use image_demo::demo::demo as figures_of;
 use image_demo::fault::DemoFault;
 use image_demo::figures::Figures;
 use std::alloc::Global;
+use std::thread::Threads;
 
 // Makes, stores and extracts the image.
-fn rehearse(alloc: Global, number: u64, size: u64) -> Result<Figures, Outcome>
+fn rehearse<R: Threads + Sync>(
+    rt: &R,
+    alloc: Global,
+    number: u64,
+    size: u64,
+) -> Result<Figures, Outcome>
     requires { size ≤ 2 ^ 29 }
     ensures { Rehearsed number size result }
 {
-    match figures_of(alloc, number, size) {
+    match figures_of(rt, alloc, number, size) {
         Ok(figures) => Ok(figures),
         Err(DemoFault::Mismatch { entry, id }) => Err(Outcome::Mismatch { entry, got: id }),
         Err(DemoFault::Memory) => Err(Outcome::Memory),
@@ -37,12 +43,18 @@ fn print<O: Sink>(alloc: Global, figures: &Figures, out: &mut O) -> Result<(), O
 }
 
 /// Prints what it takes to make the image of NUMBER and SIZE from a seed and a store in memory.
-pub fn demo<O: Sink>(alloc: Global, out: &mut O, number: u64, size: u64) -> Result<(), Outcome>
+pub fn demo<R: Threads + Sync, O: Sink>(
+    rt: &R,
+    alloc: Global,
+    out: &mut O,
+    number: u64,
+    size: u64,
+) -> Result<(), Outcome>
     requires { size ≤ 2 ^ 29 }
     ensures ends { (d : Disk) (k : DialState) → DemoEnds number size (world d k (O.output out.old)) result
         (world d k (O.output out.new)) }
 {
-    let figures = rehearse(alloc, number, size)?;
+    let figures = rehearse(rt, alloc, number, size)?;
     print(alloc, &figures, out)?;
     Ok(())
 }
