@@ -47,7 +47,8 @@ which lists them. What the store holds already is left where it is right.
   -s, --store STORE             a folder, or an http URL, that takes the chunks
   -m, --chunk-size MIN:AVG:MAX  sizes of chunks in KiB, 16:64:256 if not given;
                                 the last chunk may be smaller than MIN
-  -n, --concurrency WORKERS     1 to 32 workers; for now one does all
+  -n, --concurrency WORKERS     1 to 32 workers that cut IMAGE, 10 if not given;
+                                the index is the same with any number
 
 example: desync make -s chunks disk.caibx disk.img
 ";
