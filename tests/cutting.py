@@ -102,20 +102,24 @@ def by_program(cases):
 
 
 def a_large_image(cases):
-    with cases.case('make cuts 4 GiB of zeros, in 8 MiB beside index and buffers') as folder:
-        greatest = formats.DEFAULT_SIZES[2]
-        with open(os.path.join(folder, IMAGE), 'wb') as image:
-            image.truncate(4 * GIB)
-        os.mkdir(os.path.join(folder, STORE))
-        ended, _, peak = program.run_measured(['make', '-s', STORE, INDEX, IMAGE], folder)
-        expect_equal(ended.status, 0, 'the status')
-        spelled = file_bytes(os.path.join(folder, INDEX))
-        name = formats.name_of(bytes(greatest))
-        wanted = [(end, name) for end in range(greatest, 4 * GIB + 1, greatest)]
-        expect_equal(formats.read_index(spelled).entries, wanted, 'the entries')
-        # A bare Python starts the program, and its memory is counted where the program's own is less.
-        room = max(8 * MIB + len(spelled) + 2 * greatest, 12 * MIB)
-        expect(KIB * peak <= room, f'the peak memory is {peak} KiB')
+    greatest = formats.DEFAULT_SIZES[2]
+    for workers in (1, 4):
+        with cases.case(f'make -n {workers} cuts 4 GiB of zeros, in 8 MiB beside index and buffers') as folder:
+            with open(os.path.join(folder, IMAGE), 'wb') as image:
+                image.truncate(4 * GIB)
+            os.mkdir(os.path.join(folder, STORE))
+            words = ['make', '-s', STORE, '-n', str(workers), INDEX, IMAGE]
+            ended, _, peak = program.run_measured(words, folder)
+            expect_equal(ended.status, 0, 'the status')
+            spelled = file_bytes(os.path.join(folder, INDEX))
+            name = formats.name_of(bytes(greatest))
+            wanted = [(end, name) for end in range(greatest, 4 * GIB + 1, greatest)]
+            expect_equal(formats.read_index(spelled).entries, wanted, 'the entries')
+            # A bare Python starts the program, and its memory is counted where the program's own is less. Each worker
+            # has a buffer, 1 MiB, and what it has listed.
+            each = (greatest + MIB + len(spelled)) if workers > 1 else 0
+            room = max(8 * MIB + len(spelled) + 2 * greatest, 12 * MIB) + workers * each
+            expect(KIB * peak <= room, f'the peak memory is {peak} KiB')
 
 
 def by_casync(cases):

@@ -180,7 +180,7 @@ def changed_while_it_runs(cases):
     with cases.case('the image changes between its two readings') as folder:
         image = random.Random(8).randbytes(24 << 20)
         lay_out(folder, image, OLD_INDEX)
-        process = program.start(['make', '-s', STORE, INDEX, IMAGE], folder)
+        process = program.start(['make', '-s', STORE, '-n', '1', INDEX, IMAGE], folder)
         # Cutting reads each byte, and naming a chunk reads it again. Storing reads it for the third time.
         wait_until_read(process, 2 * len(image))
         with open(os.path.join(folder, IMAGE), 'r+b') as file:

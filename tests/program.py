@@ -77,30 +77,36 @@ def run_without_rights(words, folder):
     return _ended(process)
 
 
-# Runs the words after the limit with that much address space, and prints status, peak memory and the error line.
+# Runs the words after the first two with so much address space and on these processors (none named: on all), and prints
+# status and peak memory.
 MEASURER = """
 import os, resource, sys
 limit = int(sys.argv[1])
+processors = [int(number) for number in sys.argv[2].split()]
 number = os.fork()
 if number == 0:
     resource.setrlimit(resource.RLIMIT_AS, (limit, limit))
+    if processors:
+        os.sched_setaffinity(0, processors)
     null = os.open(os.devnull, os.O_RDWR)
     for stream in range(2):
         os.dup2(null, stream)
-    os.execvp(sys.argv[2], sys.argv[2:])
+    os.execvp(sys.argv[3], sys.argv[3:])
 _, status, usage = os.wait4(number, 0)
 print(os.waitstatus_to_exitcode(status), usage.ru_maxrss)
 """
 
 
-def run_measured(words, folder, program=DESYNC):
-    """Runs a program with a bound on its address space: how it ended, its seconds and its peak memory in KiB.
+def run_measured(words, folder, program=DESYNC, processors=()):
+    """Runs a program with a bound on its address space: how it ended, its seconds and its peak memory in KiB. It runs
+    on these processors, where any are named.
 
-    What it prints on standard output goes nowhere. A bare Python starts it. The kernel counts a child's memory from its parent's, so a peak below that
-    of a bare Python, some 9 MiB, isn't seen.
+    What it prints on standard output goes nowhere. A bare Python starts it. The kernel counts a child's memory from its
+    parent's, so a peak below that of a bare Python, some 9 MiB, isn't seen.
     """
     begun = time.monotonic()
-    measured = subprocess.run([sys.executable, '-I', '-S', '-c', MEASURER, str(ADDRESS_LIMIT), program, *words],
+    bounds = [str(ADDRESS_LIMIT), ' '.join(map(str, processors))]
+    measured = subprocess.run([sys.executable, '-I', '-S', '-c', MEASURER, *bounds, program, *words],
                               cwd=folder, check=True, **_streams())
     seconds = time.monotonic() - begun
     status, peak = measured.stdout.split()
