@@ -1,16 +1,19 @@
 #!/usr/bin/env python3
-"""`desync make` of images of random bytes, of text and of zeros, beside openssl's digest and beside `casync make`.
+"""`desync make` of images of random bytes, of text and of zeros on one processor, beside openssl's digest and beside
+`casync make`; and with several workers, of random bytes and of a file system image, beside one worker.
 
-All runs are on one processor. Each is timed into an empty store and into one that has all chunks, and the cutting is
-timed alone, by a program over the library's `Cutter` that `rt` builds first (minutes; without `rt` that row is left
-out). casync runs where it is installed. A store that is to be empty is a new folder each time, and nothing is removed
-between the runs: a file system may take far longer to find room for new files right after it has removed others. Needs
-the image's size under the temporary folder for each run into an empty store, and four times more.
+On one processor the cutting is timed alone too, by a program over the library's `Cutter` that `rt` builds first
+(minutes; without `rt` that row is left out). The file system image is ext4 by `mke2fs`, of at most 1 GiB, with copies
+of the files under a folder. All runs are timed into an empty store and into one that has all chunks. casync runs
+where it is installed. A store that is to be empty is a new folder each time, and nothing is removed before all is
+done: a file system may take far longer to find room for new files right after it has removed others. Needs the
+image's size under the temporary folder for each run into an empty store, and four times more for each image.
 """
 
 import os
 import random
 import shutil
+import subprocess
 import sys
 import tempfile
 
@@ -20,6 +23,14 @@ import formats
 
 IMAGE, INDEX, PIECE = 'image', 'image.caibx', 65536
 WORDS = [''.join(random.Random(number).choices('etaoinshrdlu', k=2 + number % 9)) for number in range(4000)]
+BLOCK = 4096
+GREATEST_FILE_SYSTEM = 1024
+# The parts of the bench: those on one processor with their images, and those with several workers.
+ALONE, BESIDE = ('random', 'text', 'zeros'), ('workers', 'files')
+# Numbers of workers, of processors, and the wanted ratio to one worker.
+CREWS = ((2, 2, 0.65), (4, 2, 0.65), (4, 4, 0.4))
+MOST_WORKERS = 32
+WANTED_PACE = 6
 
 
 def write_random(path, size):
@@ -43,6 +54,44 @@ def write_zeros(path, size):
             image.write(bytes(min(side_by_side.MIB, size - at)))
 
 
+def file_system_tool():
+    return shutil.which('mke2fs') or shutil.which('mke2fs', path='/usr/sbin:/sbin')
+
+
+def file_system_of(source):
+    """What writes an image of at most a size that holds files under the folder, as many as find room."""
+    def write(path, size):
+        size = min(size, GREATEST_FILE_SYSTEM * side_by_side.MIB)
+        tree = f'{path}-files'
+        # A MiB and three of 16 parts are for the journal, the tables of inodes and what else isn't a file.
+        count, taken = copy_files(source, tree, max(0, size - side_by_side.MIB) * 13 // 16)
+        if count == 0:
+            sys.exit(f'{source} has no file that finds room')
+        needed = -(-taken * 16 // 13 // side_by_side.MIB) + 1
+        subprocess.run([file_system_tool(), '-q', '-F', '-t', 'ext4', '-N', str(count + 64), '-d', tree, path,
+                        f'{needed}m'], check=True, stdin=subprocess.DEVNULL, stdout=subprocess.DEVNULL)
+    return write
+
+
+def copy_files(source, tree, limit):
+    """Copies the folder's files, in the order of their names, but for those that no longer find room. Answers how many
+    files and folders were made, and how many bytes they take in whole blocks."""
+    count, taken = 0, 0
+    for folder, folders, names in os.walk(source):
+        folders.sort()
+        copy = os.path.join(tree, os.path.relpath(folder, source))
+        for name in sorted(names):
+            path = os.path.join(folder, name)
+            if os.path.islink(path) or not os.path.isfile(path) or not os.access(path, os.R_OK):
+                continue
+            room = -(-os.path.getsize(path) // BLOCK) * BLOCK + (0 if os.path.isdir(copy) else BLOCK)
+            if taken + room <= limit:
+                os.makedirs(copy, exist_ok=True)
+                shutil.copyfile(path, os.path.join(copy, name))
+                count, taken = count + 2, taken + room
+    return count, taken
+
+
 def check(folder, store, size):
     """Reads index and store back by the formats: each chunk is the image's slice. Answers the index."""
     with open(os.path.join(folder, INDEX), 'rb') as file:
@@ -57,6 +106,19 @@ def check(folder, store, size):
     return index
 
 
+def same_index(folder):
+    """What compares the index that a run has left with the first run's."""
+    first = []
+
+    def compare():
+        with open(os.path.join(folder, INDEX), 'rb') as file:
+            first.append(file.read())
+        if first[-1] != first[0]:
+            sys.exit('a run has left another index')
+        del first[1:]
+    return compare
+
+
 def anew(folder, store):
     """What puts a store aside and makes it anew, empty."""
     def prepare():
@@ -66,61 +128,152 @@ def anew(folder, store):
     return prepare
 
 
-def pair(folder, name, words_of, at_most=(None, None), command=side_by_side.program.DESYNC):
-    """A run into an empty store and one into a store that has all chunks, for which it is filled here."""
-    empty, full = (os.path.join(folder, f'{name} {which}') for which in ('empty', 'full'))
-    os.mkdir(full)
-    side_by_side.Row('the first run', words_of(full), command=command).run(folder)
-    return [side_by_side.Row(f'{name}, store empty', words_of(empty), anew(folder, empty), at_most=at_most[0],
-                             command=command),
-            side_by_side.Row(f'{name}, store has all chunks', words_of(full), at_most=at_most[1], command=command)]
+def ours(workers):
+    """The words of a make with so many workers, by its store."""
+    return lambda store: ['make', '-n', str(workers), '-s', store, INDEX, IMAGE]
 
 
-def rows_of(folder, built):
-    """All runs over the image, and those of make and of casync among them."""
+def theirs(store):
+    return ['make', f'--store={store}', '--digest=sha512-256', 'theirs.caibx', IMAGE]
+
+
+def casync():
+    found = shutil.which('casync')
+    if found is None:
+        print('casync isn\'t there, so it isn\'t measured')
+    return found
+
+
+def into_empty(folder, what, name, words, **more):
+    """A run into a store of this name that is empty each time."""
+    store = os.path.join(folder, f'{name} empty')
+    return side_by_side.Row(what, words(store), anew(folder, store), **more)
+
+
+def over_full(folder, what, name, words, **more):
+    """A run into a store of this name that has all chunks. It is filled here where it isn't there yet."""
+    store = os.path.join(folder, f'{name} full')
+    row = side_by_side.Row(what, words(store), **more)
+    if not os.path.isdir(store):
+        os.mkdir(store)
+        side_by_side.Row('the first run', row.words, command=row.command).run(folder)
+    return row
+
+
+def pair(folder, name, words, at_most=(None, None), **more):
+    """A run into an empty store, and one into a store that has all chunks."""
+    return [into_empty(folder, f'{name}, store empty', name, words, at_most=at_most[0], **more),
+            over_full(folder, f'{name}, store has all chunks', name, words, at_most=at_most[1], **more)]
+
+
+def measure_alone(kind, folder, runs, built):
+    """Makes on one processor, beside openssl."""
+    size = os.path.getsize(os.path.join(folder, IMAGE))
     rows = [side_by_side.openssl(os.path.join(folder, IMAGE))]
     if built is not None:
         words = cutter.words(os.path.join(folder, IMAGE), PIECE, formats.DEFAULT_SIZES)
         rows.append(side_by_side.Row('cutting alone', words, at_most=0.9, command=built))
-    ours = pair(folder, 'make', lambda store: ['make', '-s', store, INDEX, IMAGE], (4.6, 4.1))
-    theirs = []
-    casync = shutil.which('casync')
-    if casync is None:
-        print('casync isn\'t there, so it isn\'t measured')
-    else:
-        theirs = pair(folder, 'casync make', lambda store: ['make', f'--store={store}', '--digest=sha512-256',
-                                                            'theirs.caibx', IMAGE], command=casync)
-    return rows + ours + theirs, ours, theirs
+    own = pair(folder, 'make', ours(1), (4.6, 4.1))
+    program = casync()
+    others = [] if program is None else pair(folder, 'casync make', theirs, command=program)
+    rows += own + others
+    for row in rows:
+        row.processors = [max(os.sched_getaffinity(0))]
+    side_by_side.measure(rows, folder, runs)
+    for which in ('empty', 'full'):
+        index = check(folder, os.path.join(folder, f'make {which}'), size)
+    print(f'{kind}: {size} bytes, {len(index.entries)} chunks; medians of {runs} runs on one processor')
+    side_by_side.print_table(rows, size)
+    for row, other in zip(own, others):
+        print(f'{row.what}: {other.median() / row.median():.2f} times the pace of casync')
+    if kind == 'random bytes':
+        for row in own:
+            side_by_side.print_openings(row, folder, os.path.join(folder, IMAGE))
 
 
-def measure(kind, write, options, built):
-    size = options.size * side_by_side.MIB
-    with side_by_side.work_folder() as folder:
-        write(os.path.join(folder, IMAGE), size)
-        rows, ours, theirs = rows_of(folder, built)
-        side_by_side.measure(rows, folder, options.runs)
-        for which in ('empty', 'full'):
-            index = check(folder, os.path.join(folder, f'make {which}'), size)
-        print(f'{kind}: {size} bytes, {len(index.entries)} chunks; medians of {options.runs} runs on one processor')
-        side_by_side.print_table(rows, size)
-        for own, their in zip(ours, theirs):
-            print(f'{own.what}: {their.median() / own.median():.2f} times the pace of casync')
-        if kind == 'random bytes':
-            for row in ours:
-                side_by_side.print_openings(row, folder, os.path.join(folder, IMAGE))
+def crews():
+    """Numbers of workers with their processors (none named: all) and the wanted ratio to the first, which is one."""
+    here = sorted(os.sched_getaffinity(0))
+    print(f'processors: {len(here)}')
+    there = [(1, (), None)]
+    for workers, count, at_most in CREWS:
+        if count <= len(here):
+            there.append((workers, here[:count], at_most))
+        else:
+            print(f'{workers} workers on {count} processors aren\'t measured, since there aren\'t so many')
+    return there
+
+
+def crew_rows(folder, there, same):
+    """The crews' runs into an empty store, each with stores of its own, and those over one that has all chunks."""
+    empty, full = [], []
+    for workers, processors, at_most in there:
+        what = f'make -n {workers}' + (f', {len(processors)} processors' if processors else '')
+        more = {'after': same, 'at_most': at_most, 'processors': processors}
+        empty.append(into_empty(folder, what, what, ours(workers), **more))
+        full.append(over_full(folder, what, 'make', ours(workers), **more))
+    full.append(over_full(folder, f'make -n {MOST_WORKERS}', 'make', ours(MOST_WORKERS), after=same))
+    return empty, full
+
+
+def measure_beside(kind, folder, runs):
+    """Makes with several workers, beside one worker."""
+    size = os.path.getsize(os.path.join(folder, IMAGE))
+    there = crews()
+    empty, full = crew_rows(folder, there, same_index(folder))
+    program = casync()
+    others = []
+    if program is not None:
+        others = [place(folder, 'casync make', 'casync make', theirs, command=program)
+                  for place in (into_empty, over_full)]
+    side_by_side.measure(empty + full + others, folder, runs)
+    for row in empty:
+        check(folder, os.path.join(folder, f'{row.what} empty'), size)
+    index = check(folder, os.path.join(folder, 'make full'), size)
+    print(f'{kind}: {size} bytes, {len(index.entries)} chunks; medians of {runs} runs')
+    for what, rows, other in zip(('store empty', 'store has all chunks'), (empty, full), others or (None, None)):
+        print(what)
+        side_by_side.print_table(rows + [other] * (other is not None), size)
+        if other is not None:
+            fastest = rows[len(there) - 1]
+            print(f'{fastest.what}: {other.median() / fastest.median():.2f} times the pace of casync; '
+                  f'wanted with four at least {WANTED_PACE}')
+
+
+def build_cutter(folder):
+    try:
+        return cutter.build(folder)
+    except cutter.NoCutter as why:
+        print(f'cutting alone isn\'t measured: {why}')
+        return None
 
 
 def main():
-    options = side_by_side.arguments(__doc__, 512)
-    os.sched_setaffinity(0, {max(os.sched_getaffinity(0))})
-    with tempfile.TemporaryDirectory(prefix='desync-cutter-') as copy:
-        try:
-            built = cutter.build(copy)
-        except cutter.NoCutter as why:
-            print(f'cutting alone isn\'t measured: {why}')
-            built = None
-        for kind, write in (('random bytes', write_random), ('text', write_text), ('zeros', write_zeros)):
-            measure(kind, write, options, built)
+    parser = side_by_side.options(__doc__, 512)
+    parts = [*ALONE, *BESIDE]
+    parser.add_argument('--only', nargs='+', choices=parts, default=parts, metavar='PART',
+                        help=f'what is measured, of {", ".join(ALONE)} (on one processor), {" and ".join(BESIDE)} '
+                        '(with several workers); all if not given')
+    parser.add_argument('--files', default='/usr/lib', metavar='FOLDER',
+                        help='whose files the file system image has (default /usr/lib)')
+    options = parser.parse_args()
+    images = {'random': ('random bytes', write_random), 'text': ('text', write_text), 'zeros': ('zeros', write_zeros),
+              'workers': ('random bytes', write_random),
+              'files': (f'a file system image with files of {options.files}', file_system_of(options.files))}
+    with side_by_side.work_folder() as top, tempfile.TemporaryDirectory(prefix='desync-cutter-') as copy:
+        built = build_cutter(copy) if set(options.only) & set(ALONE) else None
+        for part in dict.fromkeys(options.only):
+            if part == 'files' and file_system_tool() is None:
+                print('NOT MEASURED: a file system image, since mke2fs isn\'t there')
+                continue
+            kind, write = images[part]
+            folder = os.path.join(top, part)
+            os.mkdir(folder)
+            write(os.path.join(folder, IMAGE), options.size * side_by_side.MIB)
+            if part in ALONE:
+                measure_alone(kind, folder, options.runs, built)
+            else:
+                measure_beside(kind, folder, options.runs)
 
 
 if __name__ == '__main__':

@@ -23,10 +23,15 @@ PAIRS = 20000
 
 def arguments(about, size):
     """The options that every bench has; the size is in MiB."""
+    return options(about, size).parse_args()
+
+
+def options(about, size):
+    """A reader of these options, which may be given more."""
     parser = argparse.ArgumentParser(description=about)
     parser.add_argument('--size', type=int, default=size, help=f'MiB of the image (default {size})')
     parser.add_argument('--runs', type=int, default=3, help='rounds, of which medians are taken (default 3)')
-    return parser.parse_args()
+    return parser
 
 
 def work_folder():
@@ -38,10 +43,11 @@ def work_folder():
 
 
 class Row:
-    """One command that is measured: its words, and what is done right before and right after each run."""
+    """One command that is measured: its words, what is done right before and right after each run, and on which
+    processors it runs (none named: on all)."""
 
     def __init__(self, what, words, prepare=lambda: None, after=lambda: None, at_most=None,
-                 command=program.DESYNC, wanted=0):
+                 command=program.DESYNC, wanted=0, processors=()):
         self.what = what
         self.words = words
         self.prepare = prepare
@@ -49,13 +55,14 @@ class Row:
         self.at_most = at_most
         self.command = command
         self.wanted = wanted
+        self.processors = processors
         self.seconds = []
         self.peak = 0
 
     def run(self, folder):
         self.prepare()
         os.sync()
-        ended, seconds, peak = program.run_measured(self.words, folder, self.command)
+        ended, seconds, peak = program.run_measured(self.words, folder, self.command, self.processors)
         self.after()
         if ended.status != self.wanted:
             sys.exit(f'{self.what}: status {ended.status}')
