@@ -104,7 +104,8 @@ def by_program(cases):
 def a_large_image(cases):
     greatest = formats.DEFAULT_SIZES[2]
     for workers in (1, 4):
-        with cases.case(f'make -n {workers} cuts 4 GiB of zeros, in 8 MiB beside index and buffers') as folder:
+        beside = 'index and buffers' if workers == 1 else 'index, buffers and 1 MiB a worker'
+        with cases.case(f'make -n {workers} cuts 4 GiB of zeros, in 8 MiB beside {beside}') as folder:
             with open(os.path.join(folder, IMAGE), 'wb') as image:
                 image.truncate(4 * GIB)
             os.mkdir(os.path.join(folder, STORE))
