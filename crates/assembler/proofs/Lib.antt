@@ -31,3 +31,4 @@ pub mod EconomyFilled
 pub mod EconomyRetried
 pub mod EconomyPasses
 pub mod EconomyReported
+pub mod OnePlan

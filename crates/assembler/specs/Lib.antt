@@ -5,6 +5,7 @@ pub mod Fills
 pub mod Sources
 pub mod Kits
 pub mod Losses
+pub mod OneKit
 pub mod Asks
 pub mod Passes
 pub mod Reports

@@ -1,7 +1,8 @@
 //! The assembly of an image: the length, the survey, and two passes over what isn't right.
 
 ghost use Rattle.std.specs.Prelude.{◌≡◌, ◌⊎◌, ◌++◌, ℕ, List, IsTrue, ◌+◌, ◌<◌, ◌≤◌, length, map, None, Some, IfSome};
-ghost use Rattle.std.specs.Prelude.{IfOk, IfErr, OnOk, true, false};
+ghost use Rattle.std.specs.Prelude.{IfOk, IfErr, OnOk, true, false, vec_len};
+ghost use Rattle.std.specs.List.{All};
 ghost use Rattle.assembler.specs.Assemblies.{After, Assembles, AssemblyAsks, IsObtainable, IsUnobtained, NothingFails};
 ghost use Rattle.assembler.specs.Assemblies.{Verdict};
 ghost use Rattle.assembler.specs.Caches.{HaveOneSize, Stocked, TakesListed, TakesWants, cached_in, seen};
@@ -9,6 +10,7 @@ ghost use Rattle.assembler.specs.Economy.{AsksExactly, AssembledBy, ReportsExact
 ghost use Rattle.assembler.specs.Economy.{source_over};
 ghost use Rattle.assembler.specs.Fills.{WhereTold};
 ghost use Rattle.assembler.specs.Kits.{KeepsSeeds, Ready, Step};
+ghost use Rattle.assembler.specs.OneKit.{ByPlan, OfKit};
 ghost use Rattle.assembler.specs.Passes.{EndsBy, HadAt, IsLost, PassesAsk, want_at};
 ghost use Rattle.assembler.specs.Reports.{right_below};
 ghost use Rattle.assembler.specs.declared.fault.Lost.{Lost};
@@ -16,7 +18,7 @@ ghost use Rattle.caibx_codec.specs.Listing.{count_of, image_length, kind_of, siz
 ghost use Rattle.dsy_base.specs.Bytes.{held_resized, resized};
 ghost use Rattle.dsy_base.specs.Counts.{Quiet, Rose};
 ghost use Rattle.dsy_base.specs.Maps.{Map};
-ghost use Rattle.extract_plan.specs.Deal.{AreWants};
+ghost use Rattle.extract_plan.specs.Deal.{AreWants, Deal, IsPlan};
 ghost use Rattle.extract_plan.specs.Places.{PlacesKnown};
 ghost use Rattle.extract_plan.specs.Seeds.{held_in};
 ghost use Rattle.range_survey.specs.Fates.{FirstFates, OpenWrong, SettledRight, settled};
@@ -136,11 +138,8 @@ fn survey_first<T: Target, S: Store, V: View>(
     }
 }
 
-/// Makes the target the image that the index lists. What is right in it already stays. The chunk of each other want
-/// comes from an alike entry that is right, or from a seed, or from the cache, or else from the stores; what a store
-/// gives is added to the cache, whose faults are passed over. The plan and the places are of this index, and of the
-/// kit's seeds. Goes on past wants whose chunk no source gives, and answers for the first entry of them.
-pub fn assemble<T: Target, S: Store, V: View, F: Folder>(
+// What `assemble` does once it has a plan, with what it is lent.
+fn assemble_lent<T: Target, S: Store, V: View, F: Folder>(
     alloc: Global,
     index: &Index,
     plan: &Plan,
@@ -210,4 +209,116 @@ pub fn assemble<T: Target, S: Store, V: View, F: Folder>(
     let mut fates = survey_first(alloc, index, target, kit)?;
     settle_all(alloc, index, plan, places, target, kit, cache, &mut fates)?;
     Ok(Report::of(&fates))
+}
+
+/// What was handed over comes back, the kits in their order, with the answer.
+#[derive(Drop)]
+pub struct Assembled<T: Target, S: Store, V: View, F: Folder> {
+    pub target: T,
+    pub kits: Vec<Kit<S, V>>,
+    pub cache: Option<CacheShelf<F>>,
+    pub answer: Result<Report, ExtractFault>,
+}
+
+/// Makes the target the image that the index lists. What is right in it already stays. The chunk of each other want
+/// comes from an alike entry that is right, or from a seed, or from the cache, or else from the stores; what a store
+/// gives is added to the cache, whose faults are passed over. There is one kit. The places are those in its seeds, by
+/// the plan of this index for one worker. Goes on past wants whose chunk no source gives, and answers for the first
+/// entry of them. What was handed over comes back whatever the answer is. Where there is no memory for the plan, it is
+/// as it was, and the answer is `Memory`.
+pub fn assemble<T: Target, S: Store, V: View, F: Folder>(
+    alloc: Global,
+    index: &Index,
+    places: &SeedIndex,
+    mut target: T,
+    mut kits: Vec<Kit<S, V>>,
+    mut cache: Option<CacheShelf<F>>,
+) -> Assembled<T, S, V, F>
+    requires size { vec_len kits ≡ 1 }
+    requires places { (d : Deal) × IsPlan index.now 1 d
+        × All (λ k. PlacesKnown index.now d places.now (length k.seeds.items)) kits.items }
+    requires kind { All (λ k. k.chain.kind ≡ kind_of index.now) kits.items }
+    requires cache { IfSome (seen F.files F.place F.faults cache) (λ s. s.kind ≡ kind_of index.now) }
+    requires unnamed { (F.pairs ≡ None) × (F.stores ≡ None) }
+    ensures bytes { WhereTold (T.held target).bytes (T.held result.target).bytes
+        (Assembles index.now (Rose (T.faults target) (T.faults result.target)) result.answer) }
+    ensures lost { ByPlan index.now kits.items result.kits.items (λ d k j. EndsBy (λ lost.
+        IsUnobtained S.holds S.folder S.place S.said S.faults S.may_lack_memory V.held V.faults index.now d places.now
+        (T.held target).bytes (T.faults target) (T.faults result.target) k j (seen F.files F.place F.faults cache)
+        (seen F.files F.place F.faults result.cache) lost) (Rose (T.faults target) (T.faults result.target))
+        result.answer) }
+
+    // Where nothing fails.
+    ensures exactly { ByPlan index.now kits.items result.kits.items (λ d k j. (cached maps : List (Map (List ℕ))) →
+        NothingFails S.holds S.folder S.place S.said S.faults S.may_lack_memory V.held V.faults index.now d places.now
+        V.tells (T.faults target) (T.faults result.target) k j (seen F.files F.place F.faults cache)
+        (seen F.files F.place F.faults result.cache) cached maps →
+        HaveOneSize index.now (seen F.files F.place F.faults cache) cached maps →
+        IfSome (T.held target).bytes (λ o. Verdict index.now (IsObtainable index.now d places.now
+        (resized o (image_length index.now)) (map (held_in V.held) k.seeds.items) (cached ++ maps)) result.answer)) }
+    ensures after { ByPlan index.now kits.items result.kits.items (λ d k j. (cached maps : List (Map (List ℕ))) →
+        NothingFails S.holds S.folder S.place S.said S.faults S.may_lack_memory V.held V.faults index.now d places.now
+        V.tells (T.faults target) (T.faults result.target) k j (seen F.files F.place F.faults cache)
+        (seen F.files F.place F.faults result.cache) cached maps →
+        HaveOneSize index.now (seen F.files F.place F.faults cache) cached maps →
+        WhereTold (T.held target).bytes (T.held result.target).bytes (λ o t. After index.now (IsObtainable index.now d
+        places.now (resized o (image_length index.now)) (map (held_in V.held) k.seeds.items) (cached ++ maps))
+        (resized o (image_length index.now)) t result.answer)) }
+    ensures economy { ByPlan index.now kits.items result.kits.items (λ d k j. (cached maps : List (Map (List ℕ))) →
+        NothingFails S.holds S.folder S.place S.said S.faults S.may_lack_memory V.held V.faults index.now d places.now
+        V.tells (T.faults target) (T.faults result.target) k j (seen F.files F.place F.faults cache)
+        (seen F.files F.place F.faults result.cache) cached maps →
+        HaveOneSize index.now (seen F.files F.place F.faults cache) cached maps →
+        IfSome (T.held target).bytes (λ o. AsksExactly (source_of index.now d places.now
+        (resized o (image_length index.now)) (map (held_in V.held) k.seeds.items) cached maps) d.wants k.chain j.chain
+        result.answer)) }
+    ensures reported { ByPlan index.now kits.items result.kits.items (λ d k j. (cached maps : List (Map (List ℕ))) →
+        NothingFails S.holds S.folder S.place S.said S.faults S.may_lack_memory V.held V.faults index.now d places.now
+        V.tells (T.faults target) (T.faults result.target) k j (seen F.files F.place F.faults cache)
+        (seen F.files F.place F.faults result.cache) cached maps →
+        HaveOneSize index.now (seen F.files F.place F.faults cache) cached maps →
+        IfSome (T.held target).bytes (λ o. IfOk result.answer (ReportsExactly (source_of index.now d places.now
+        (resized o (image_length index.now)) (map (held_in V.held) k.seeds.items) cached maps) d.wants))) }
+
+    ensures report { IfOk result.answer
+        (λ r. r.kept + r.copied + r.seeded + r.cached + r.fetched ≡ count_of index.now) }
+    ensures kept { IfOk result.answer (λ r. Quiet (T.faults target) (T.faults result.target) →
+        IfSome (T.held target).bytes (λ o. r.kept ≡ right_below index.now (resized o (image_length index.now))
+        (count_of index.now))) }
+    ensures asks { ByPlan index.now kits.items result.kits.items (λ d k j. AssemblyAsks S.asked V.held V.faults
+        index.now d places.now (T.held target).bytes (T.faults target) (T.faults result.target) k j) }
+
+    ensures size { vec_len result.kits ≡ 1 }
+    ensures name { (T.held result.target).name ≡ (T.held target).name }
+    ensures faults { T.faults target ≤ T.faults result.target }
+    ensures stores { OfKit kits.items result.kits.items
+        (λ k j. KeepsStores S.holds S.folder S.place S.said S.faults k.chain.stores j.chain.stores) }
+    ensures kind { OfKit kits.items result.kits.items (λ k j. j.chain.kind ≡ k.chain.kind) }
+    ensures stocked { OfKit kits.items result.kits.items (λ k j. Stocked (TakesListed S.holds index.now k.chain.stores)
+        (seen F.files F.place F.faults cache) (seen F.files F.place F.faults result.cache)) }
+    ensures seeds { OfKit kits.items result.kits.items (λ k j. KeepsSeeds V.held V.faults k.seeds.items j.seeds.items) }
+{
+    let Ok(plan) = Plan::of(alloc, index, kits.len()) else {
+        return Assembled {
+            target,
+            kits,
+            cache,
+            answer: Err(ExtractFault::Memory),
+        };
+    };
+    let answer = assemble_lent(
+        alloc,
+        index,
+        &plan,
+        places,
+        &mut target,
+        &mut kits[0],
+        &mut cache,
+    );
+    Assembled {
+        target,
+        kits,
+        cache,
+        answer,
+    }
 }

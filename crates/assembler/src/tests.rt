@@ -3,7 +3,7 @@
 ghost use Rattle.std.specs.Prelude.{◌≡◌, length, IfOk};
 ghost use Rattle.chunk_store.specs.declared.id.DigestKind.TheVariants as kinds;
 
-use crate::assemble::assemble;
+use crate::assemble::{Assembled, assemble};
 use crate::fault::ExtractFault;
 use crate::kit::Kit;
 use crate::report::Report;
@@ -90,7 +90,7 @@ fn assembles_with(
     alloc: Global,
     pieces: &[&[u8]],
     old: (&[u8], RangeFails),
-    mut kit: Kit<DirStore<MemFolder>, MemView>,
+    kit: Kit<DirStore<MemFolder>, MemView>,
     cache: Option<MemFolder>,
     ended: Result<Report, ExtractFault>,
     new: &[u8],
@@ -107,23 +107,21 @@ fn assembles_with(
     let Ok(places) = SeedIndex::of(alloc, &plan, &index, &seeds) else {
         return Err(Fail::new("no places"));
     };
-    let mut target = MemTarget::new(alloc, Vec::from_slice(alloc, old.0)?, old.1);
-    let mut cache = match cache {
+    let target = MemTarget::new(alloc, Vec::from_slice(alloc, old.0)?, old.1);
+    let cache = match cache {
         Some(folder) => Some(CacheShelf::new(folder)),
         None => None,
     };
-    let got = assemble(
-        alloc,
-        &index,
-        &plan,
-        &places,
-        &mut target,
-        &mut kit,
-        &mut cache,
-    );
-    assert_eq!(rt; got, ended);
+    let kits = vec![in alloc; kit]?;
+    let Assembled {
+        target,
+        kits,
+        cache,
+        answer,
+    } = assemble(alloc, &index, &places, target, kits, cache);
+    assert_eq!(rt; answer, ended);
     assert_eq!(rt; target.bytes(), new);
-    assert_eq!(rt; kit.chain.asks(), asks);
+    assert_eq!(rt; kits[0].chain.asks(), asks);
     match cache {
         Some(shelf) => Ok(Some(shelf.into_inner())),
         None => Ok(None),

@@ -21,3 +21,4 @@ pub mod GivenFolders
 pub mod GivenStores
 pub mod Listened
 pub mod Viewed
+pub mod Kits

@@ -1,15 +1,23 @@
 -- An assembly from sources that never fail.
-use Rattle.std.proofs.Common.{◌≡◌, ℕ, zero, suc, List, [], ◌∷◌, map, slice_index, Option, Some, None, Bool, IsTrue, refl, arith, inl, inr, unwrap_or}
+use Rattle.std.proofs.Common.{◌≡◌, ℕ, zero, suc, List, [], ◌∷◌, map, slice_index, Option, Some, None, Bool, IsTrue, refl, arith, inl, inr, sym, subst, unwrap_or, Result, Ok, Err, IfOk, IfSome, ◌<◌}
 use Rattle.std.specs.Option.{option_map}
 use Rattle.assembler.specs.Caches.{HaveOneSize, Stocked, cache_faults}
+use Rattle.assembler.specs.Faults.{fault_of}
+use Rattle.assembler.specs.Passes.{EndsBy}
 use Rattle.assembler.specs.Sources.{SourcesQuiet}
+use Rattle.assembler.specs.declared.fault.ExtractFault.{ExtractFault}
+use Rattle.assembler.specs.declared.fault.Lost.{Lost}
 use Rattle.cache_store.specs.Shelves.{Shelf}
-use Rattle.caibx_codec.specs.Listing.{Listing}
+use Rattle.caibx_codec.specs.Listing.{Listing, count_of, id_of}
+use Rattle.chunk_store.specs.declared.id.ChunkId.{ChunkId}
 use Rattle.dsy_base.specs.Counts.{Quiet, Rose}
 use Rattle.dsy_base.specs.Maps.{Map}
 use Rattle.extract_plan.specs.Seeds.{faults_in}
 use Rattle.extract_plan.specs.declared.seed.Seed.{Seed}
+use Rattle.image_demo.specs.Stocks.{IsNamed}
 use Rattle.store_chain.specs.Faults.{EachQuiet}
+use Rattle.store_chain.specs.declared.refused.Refused.{Refused}
+use Rattle.store_chain.specs.declared.refused.Refused.TheVariants as refused
 
 pub still : (a b : ℕ) → a ≡ 0 → b ≡ 0 → Quiet a b
 still a b old new = record { same = omega (arith, old, new); below = omega (arith, new) }
@@ -53,3 +61,22 @@ no_sizes l maps h = absurd (cc)
 pub not_risen : (a b : ℕ) → a ≡ 0 → b ≡ 0 → Rose a b → ⊥
 not_risen a b old new (inl up) = omega (arith, old, new, up)
 not_risen a b old new (inr top) = omega (arith, new, top)
+
+-- what holds of an answer where nothing failed, holds
+pub once_quiet : {A E B : Type 0} (r : Result A E) (o : Option B) (P : A → B → Type 0) (old new : ℕ) → Quiet old new → IfOk r (λ a. Quiet old new → IfSome o (P a)) → IfOk r (λ a. IfSome o (P a))
+once_quiet (Ok a) o P old new quiet has = has quiet
+once_quiet (Err e) o P old new quiet has = tt
+
+-- an entry that no source gave is named
+named : (A : Type 0) (l : Listing) (k : ℕ) (id : ChunkId) (r : Refused) → (k < count_of l) × (id.0 ≡ id_of l k) → IsNamed {A = A} l (Err (fault_of k id r))
+named A l k id refused.Missing is = is
+named A l k id (refused.Damaged s shows) is = is
+named A l k id (refused.StoreFault s) is = tt
+named A l k id refused.Memory is = tt
+
+pub named_by : {A : Type 0} (l : Listing) (P : Lost → Type 0) (F : Type 0) (r : Result A ExtractFault) → ((x : Lost) → P x → (x.entry < count_of l) × (x.id.0 ≡ id_of l x.entry)) → EndsBy P F r
+    → IsNamed l r
+named_by l P F (Ok a) is ends = tt
+named_by {A} l P F (Err e) is (inl (lost, same, has)) = subst (λ f. IsNamed {A = A} l (Err f)) (sym same) (named A l lost.entry lost.id lost.refused (is lost has))
+named_by {A} l P F (Err e) is (inr (inl (same, failed))) = subst (λ f. IsNamed {A = A} l (Err f)) (sym same) tt
+named_by {A} l P F (Err e) is (inr (inr same)) = subst (λ f. IsNamed {A = A} l (Err f)) (sym same) tt

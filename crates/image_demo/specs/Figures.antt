@@ -105,11 +105,6 @@ abbrev pub IsRefused : DemoFault → Type 0
 IsRefused (faults.Mismatch entry id) = HasTwoPieces id.0
 IsRefused faults.Memory = Unit {0}
 
--- what making an image with this index may answer, by a seed with that index
-abbrev pub Gives : Listing → Listing → ℕ → Result Figures DemoFault → Type 0
-Gives l m size (Ok f) = f ≡ figures_of l m size
-Gives l m size (Err fault) = IsRefused fault
-
 -- what `demo` may answer
 abbrev pub Rehearses : ℕ → ℕ → Result Figures DemoFault → Type 0
 Rehearses number size (Ok f) = AreFigures number size f

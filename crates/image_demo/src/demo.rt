@@ -43,8 +43,8 @@ pub fn demo<R: Threads + Sync>(
     let seed = cut(rt, alloc, SureView::new(alloc, turned))?;
     let mut store = MemStore::new(alloc);
     stock(alloc, &index, &mut view, &mut store)?;
-    let mut target = SureTarget::new(alloc, Vec::new(alloc));
-    let figures = make(alloc, &index, &mut target, store, seed)?;
-    compare(&index, target.bytes(), &image)?;
-    Ok(figures)
+    let target = SureTarget::new(alloc, Vec::new(alloc));
+    let made = make(alloc, &index, target, store, seed)?;
+    compare(&index, made.target.bytes(), &image)?;
+    Ok(made.figures)
 }

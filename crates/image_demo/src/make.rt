@@ -1,6 +1,7 @@
 //! An image made in an empty target, by a seed and a store. Entries count from 0.
 
-ghost use Rattle.std.specs.Prelude.{◌≡◌, ◌≤◌, ◌+◌, ℕ, List, [], length, map, Some, None, IfOk, IfSome, OnOk, IsTrue};
+ghost use Rattle.std.specs.Prelude.{◌≡◌, ◌≤◌, ◌+◌, ℕ, List, [], length, map, Some, None, IfOk, IfErr, IfSome, OnOk};
+ghost use Rattle.std.specs.Prelude.{IsTrue};
 ghost use Rattle.assembler.specs.Assemblies.{IsObtainable, Verdict};
 ghost use Rattle.assembler.specs.Economy.{ReportsExactly, source_of};
 ghost use Rattle.assembler.specs.Reports.{right_below};
@@ -8,10 +9,10 @@ ghost use Rattle.caibx_codec.specs.Listing.{count_of, image_length, kind_of};
 ghost use Rattle.caibx_codec.specs.Right.{IsRight};
 ghost use Rattle.dsy_base.specs.Bytes.{resized};
 ghost use Rattle.dsy_base.specs.Maps.{Map};
-ghost use Rattle.extract_plan.specs.Deal.{AreWants};
+ghost use Rattle.extract_plan.specs.Deal.{IsPlan};
 ghost use Rattle.extract_plan.specs.Places.{PlacesKnown};
 ghost use Rattle.extract_plan.specs.Seeds.{held_in};
-ghost use Rattle.image_demo.specs.Figures.{Gives};
+ghost use Rattle.image_demo.specs.Figures.{IsRefused, figures_of};
 ghost use Rattle.image_demo.specs.Stocks.{IsNamed, IsStocked, fault_of};
 
 use crate::cut::Indexed;
@@ -29,37 +30,54 @@ use dsy_base::view::{Target, View};
 use dsy_sure::sure_folder::SureFolder;
 use std::alloc::Global;
 
+// A target, and how its assembly ended.
+#[derive(Drop)]
+struct Ended<T: Target> {
+    target: T,
+    answer: Result<Report, ExtractFault>,
+}
+
 // Makes the target the image, without a cache, where nothing fails.
 fn assemble_quietly<T: Target, S: Store, V: View>(
     alloc: Global,
     index: &Index,
     planned: &Planned,
-    target: &mut T,
-    kit: &mut Kit<S, V>,
-) -> Result<Report, ExtractFault>
-    requires wants { AreWants index.now planned.now.plan.wants planned.now.plan.want_of }
-    requires places { PlacesKnown index.now planned.now.plan planned.now.places (length kit.old.seeds.items) }
-    requires kind { kit.old.chain.kind ≡ kind_of index.now }
+    target: T,
+    kit: Kit<S, V>,
+) -> Ended<T>
+    requires plan { IsPlan index.now 1 planned.now.plan }
+    requires places { PlacesKnown index.now planned.now.plan planned.now.places (length kit.seeds.items) }
+    requires kind { kit.chain.kind ≡ kind_of index.now }
     requires tells { IsTrue V.tells }
     requires sure { (IsTrue T.never_fails) × (IsTrue S.never_fails) × (IsTrue V.never_fails) }
-    ensures verdict { (maps : List (Map (List ℕ))) → map S.holds kit.old.chain.stores ≡ map Some maps →
-        IfSome (T.held target.old).bytes (λ o. Verdict index.now (IsObtainable index.now planned.now.plan
-        planned.now.places (resized o (image_length index.now)) (map (held_in V.held) kit.old.seeds.items) maps)
-        result) }
-    ensures reported { (maps : List (Map (List ℕ))) → map S.holds kit.old.chain.stores ≡ map Some maps →
-        IfSome (T.held target.old).bytes (λ o. IfOk result (ReportsExactly (source_of index.now planned.now.plan
-        planned.now.places (resized o (image_length index.now)) (map (held_in V.held) kit.old.seeds.items) [] maps)
+    ensures verdict { (maps : List (Map (List ℕ))) → map S.holds kit.chain.stores ≡ map Some maps →
+        IfSome (T.held target).bytes (λ o. Verdict index.now (IsObtainable index.now planned.now.plan
+        planned.now.places (resized o (image_length index.now)) (map (held_in V.held) kit.seeds.items) maps)
+        result.answer) }
+    ensures reported { (maps : List (Map (List ℕ))) → map S.holds kit.chain.stores ≡ map Some maps →
+        IfSome (T.held target).bytes (λ o. IfOk result.answer (ReportsExactly (source_of index.now planned.now.plan
+        planned.now.places (resized o (image_length index.now)) (map (held_in V.held) kit.seeds.items) [] maps)
         planned.now.plan.wants)) }
-    ensures report { IfOk result (λ r. r.kept + r.copied + r.seeded + r.cached + r.fetched ≡ count_of index.now) }
-    ensures kept { IfOk result (λ r. IfSome (T.held target.old).bytes
+    ensures report { IfOk result.answer
+        (λ r. r.kept + r.copied + r.seeded + r.cached + r.fetched ≡ count_of index.now) }
+    ensures kept { IfOk result.answer (λ r. IfSome (T.held target).bytes
         (λ o. r.kept ≡ right_below index.now (resized o (image_length index.now)) (count_of index.now))) }
-    ensures right { OnOk result (IfSome (T.held target.old).bytes (λ _. IfSome (T.held target.new).bytes
+    ensures right { OnOk result.answer (IfSome (T.held target).bytes (λ _. IfSome (T.held result.target).bytes
         (λ t. IsRight t index.now))) }
-    ensures named { IsNamed index.now result }
+    ensures named { IsNamed index.now result.answer }
 {
-    let mut cache: Option<CacheShelf<SureFolder>> = None;
-    let Planned { plan, places } = planned;
-    assemble(alloc, index, plan, places, target, kit, &mut cache)
+    let Ok(kits) = vec![in alloc; kit] else {
+        return Ended {
+            target,
+            answer: Err(ExtractFault::Memory),
+        };
+    };
+    let cache: Option<CacheShelf<SureFolder>> = None;
+    let ended = assemble(alloc, index, &planned.places, target, kits, cache);
+    Ended {
+        target: ended.target,
+        answer: ended.answer,
+    }
 }
 
 // Why an image wasn't made.
@@ -99,24 +117,32 @@ fn figures(index: &Index, planned: &Planned, report: &Report) -> Figures
     }
 }
 
+/// A target that was made an image, and what that took.
+#[derive(Drop)]
+pub struct Made<T: Target> {
+    pub target: T,
+    pub figures: Figures,
+}
+
 /// Makes an empty target the image that the index lists, from zeros, from the seed, and from the store, which has each
 /// chunk of the image.
 pub fn make<T: Target, S: Store, V: View>(
     alloc: Global,
     index: &Index,
-    target: &mut T,
+    target: T,
     store: S,
     seed: Indexed<V>,
-) -> Result<Figures, DemoFault>
-    requires none { (T.held target.old).bytes ≡ Some [] }
+) -> Result<Made<T>, DemoFault>
+    requires none { (T.held target).bytes ≡ Some [] }
     requires stocked { (t : List ℕ) × IsRight t index.now × IsStocked index.now t (S.holds store) }
     requires seeds { IfSome (V.held seed.view).bytes (λ t. IsRight t seed.index) }
     requires size { image_length seed.index ≡ (V.held seed.view).size }
     requires few { count_of seed.index ≤ 4194304 }
     requires tells { IsTrue V.tells }
     requires sure { (IsTrue T.never_fails) × (IsTrue S.never_fails) × (IsTrue V.never_fails) }
-    ensures value { Gives index.now seed.index (image_length index.now) result }
-    ensures right { OnOk result (IfSome (T.held target.new).bytes (λ t. IsRight t index.now)) }
+    ensures value { IfOk result (λ m. m.figures ≡ figures_of index.now seed.index (image_length index.now)) }
+    ensures right { IfOk result (λ m. IfSome (T.held m.target).bytes (λ t. IsRight t index.now)) }
+    ensures err { IfErr result IsRefused }
 {
     index.rules();
     seed.index.rules();
@@ -125,9 +151,13 @@ pub fn make<T: Target, S: Store, V: View>(
         index: listed,
     } = seed;
     let planned = Planned::of(alloc, index, listed)?;
-    let mut kit = kit_of(alloc, store, view)?;
-    match assemble_quietly(alloc, index, &planned, target, &mut kit) {
-        Ok(report) => Ok(figures(index, &planned, &report)),
+    let kit = kit_of(alloc, store, view)?;
+    let Ended { target, answer } = assemble_quietly(alloc, index, &planned, target, kit);
+    match answer {
+        Ok(report) => Ok(Made {
+            target,
+            figures: figures(index, &planned, &report),
+        }),
         Err(fault) => Err(fault_of(fault)),
     }
 }

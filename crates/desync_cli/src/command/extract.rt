@@ -2,7 +2,7 @@
 //! from up to 64 seeds, from a cache and from 1 to 16 stores.
 
 ghost use Rattle.std.specs.Prelude.{◌≡◌, ◌≢◌, ℕ, List, ◌<◌, ◌≤◌, ◌^◌, map, All, IfOk, IfSome, IsSome, length, is_some};
-ghost use Rattle.std.specs.Prelude.{string_bytes, true, false};
+ghost use Rattle.std.specs.Prelude.{[], string_bytes, true, false, vec_capacity};
 ghost use Rattle.std.specs.Option.{option_map};
 ghost use Rattle.assembler.specs.Caches.{seen};
 ghost use Rattle.caibx_codec.specs.Listing.{Listing};
@@ -16,7 +16,7 @@ ghost use Rattle.desync_cli.specs.Extract.{Assembled, ClearedAfter, ExtractEnds,
 ghost use Rattle.desync_cli.specs.Extract.{Renamed, answer_of_assembly, answer_of_taking};
 ghost use Rattle.desync_cli.specs.Extract.{temporary_out};
 ghost use Rattle.dsy_base.specs.Disk.{Output};
-ghost use Rattle.extract_plan.specs.Deal.{AreWants};
+ghost use Rattle.extract_plan.specs.Deal.{Deal, IsPlan};
 ghost use Rattle.extract_plan.specs.Places.{IsSeedIndex, PlacesKnown, items_of, seed_item_limit};
 
 use assembler::assemble::assemble;
@@ -43,11 +43,10 @@ use extract_plan::seeds::SeedIndex;
 use std::alloc::{AllocError, Global};
 use store_chain::chain::Chain;
 
-// What is to be assembled: an index, its plan, and where seeds list its chunks.
+// What is to be assembled: an index, and where seeds list its chunks, by its plan for one worker.
 #[derive(Drop)]
 struct Planned {
     index: Index,
-    plan: Plan,
     places: SeedIndex,
 }
 
@@ -92,25 +91,19 @@ fn plan_of(alloc: Global, index: Index, seeds: Vec<Index>) -> Result<Planned, Me
     requires few { length seeds.items < 2 ^ 32 }
     requires items { items_of seeds.items ≤ seed_item_limit }
     ensures index { IfOk result (λ p. p.index ≡ index) }
-    ensures wants { IfOk result (λ p. AreWants index p.plan.wants p.plan.want_of) }
-    ensures places { IfOk result (λ p. IsSeedIndex index p.plan seeds.items p.places) }
-    ensures known { IfOk result (λ p. PlacesKnown index p.plan p.places (length seeds.items)) }
+    ensures plan { IfOk result (λ p. (d : Deal) × IsPlan index 1 d × IsSeedIndex index d seeds.items p.places
+        × PlacesKnown index d p.places (length seeds.items)) }
 {
     let plan = Plan::of(alloc, &index, 1)?;
     match SeedIndex::of(alloc, &plan, &index, &seeds) {
-        Ok(places) => Ok(Planned {
-            index,
-            plan,
-            places,
-        }),
+        Ok(places) => Ok(Planned { index, places }),
         // The seeds list no more items than they may, so it is for want of memory.
         Err(_) => Err(Memory),
     }
 }
 
 // Makes the file the image, and gives stores, cache and seeds back whatever the answer is. It begins with no bytes
-// where
-// `fresh` is true.
+// where `fresh` is true. There is room for the kit in `kits`.
 fn assemble_into<F: Files, D: Dial>(
     alloc: Global,
     files: &mut F,
@@ -118,15 +111,17 @@ fn assemble_into<F: Files, D: Dial>(
     planned: &Planned,
     stores: Vec<AnySource<F::Look, D>>,
     cache: &Option<Name>,
-    mut shelf: Option<CacheShelf<F::Folder>>,
+    shelf: Option<CacheShelf<F::Folder>>,
     seeds: &[Name],
+    mut kits: Vec<Kit<AnySource<F::Look, D>, F::View>>,
     target: &str,
     fresh: bool,
 ) -> Result<(), Outcome>
-    requires wants { AreWants planned.now.index planned.now.plan.wants planned.now.plan.want_of }
-    requires known_places { PlacesKnown planned.now.index planned.now.plan planned.now.places (length seeds.now) }
+    requires plan { (d : Deal) × IsPlan planned.now.index 1 d
+        × PlacesKnown planned.now.index d planned.now.places (length seeds.now) }
     requires size { (1 ≤ length stores.items) × (length stores.items ≤ 16) }
     requires known { All (IsKnown (F.disk files.old).folder_counts) (map (location_in F.Look.place) stores.items) }
+    requires room { (kits.items ≡ []) × (1 ≤ vec_capacity kits) }
     requires fresh { map (faults_in F.Look.faults D.state) stores.items ≡ map (λ q. 0)
         (map (location_in F.Look.place) stores.items) }
     requires cache_named { option_map (λ s. F.Folder.place s.folder) shelf ≡ cache.now }
@@ -135,7 +130,8 @@ fn assemble_into<F: Files, D: Dial>(
     requires found { IfSome (with_cache (seen F.Folder.files F.Folder.place F.Folder.faults shelf)
         (F.disk files.old)).folders (λ m. map (files_in F.Look.files) stores.items
         ≡ map (told_at m) (map (location_in F.Look.place) stores.items)) }
-    ensures assembled { (ls : List Listing) → IsSeedIndex planned.now.index planned.now.plan ls planned.now.places →
+    ensures assembled { (d : Deal) (ls : List Listing) → IsPlan planned.now.index 1 d →
+        IsSeedIndex planned.now.index d ls planned.now.places →
         Assembled (sources (with_cache (seen F.Folder.files F.Folder.place F.Folder.faults shelf) (F.disk files.old))
         (D.state dial.old)) (sources (F.disk files.new) (D.state dial.new))
         (map (location_in F.Look.place) stores.items) cache.now
@@ -152,7 +148,7 @@ fn assemble_into<F: Files, D: Dial>(
         drop_sources(files, stores);
         return Err(Outcome::Memory);
     };
-    let mut taken = match files.take(target, fresh) {
+    let taken = match files.take(target, fresh) {
         Ok(taken) => taken,
         Err(fault) => {
             give_cache(files, cache, shelf);
@@ -161,19 +157,17 @@ fn assemble_into<F: Files, D: Dial>(
             return not_taken(fault);
         }
     };
-    let mut kit = Kit::new(alloc, Chain::new(stores), seeds);
-    let Planned {
-        index,
-        plan,
-        places,
-    } = planned;
-    let ended = assemble(alloc, index, plan, places, &mut taken, &mut kit, &mut shelf);
+    let kit = Kit::new(alloc, Chain::new(stores), seeds);
+    kits.push(kit).unwrap();
+    let ended = assemble(alloc, &planned.index, &planned.places, taken, kits, shelf);
+    let mut kits = ended.kits;
+    let kit = kits.swap_remove(0);
     let Kit { chain, seeds, .. } = kit;
-    give_cache(files, cache, shelf);
+    give_cache(files, cache, ended.cache);
     close_sources(files, dial, chain.into_stores());
     close_seeds(files, seeds);
-    files.give(target, taken);
-    answer_of(ended)
+    files.give(target, ended.target);
+    answer_of(ended.answer)
 }
 
 // The name of the temporary file beside OUT.
@@ -231,13 +225,15 @@ fn assemble_beside<F: Files, D: Dial>(
     cache: &Option<Name>,
     shelf: Option<CacheShelf<F::Folder>>,
     seeds: &[Name],
+    kits: Vec<Kit<AnySource<F::Look, D>, F::View>>,
     temporary: &str,
     target: Name,
 ) -> Result<(), Outcome>
-    requires wants { AreWants planned.now.index planned.now.plan.wants planned.now.plan.want_of }
-    requires known_places { PlacesKnown planned.now.index planned.now.plan planned.now.places (length seeds.now) }
+    requires plan { (d : Deal) × IsPlan planned.now.index 1 d
+        × PlacesKnown planned.now.index d planned.now.places (length seeds.now) }
     requires size { (1 ≤ length stores.items) × (length stores.items ≤ 16) }
     requires known { All (IsKnown (F.disk files.old).folder_counts) (map (location_in F.Look.place) stores.items) }
+    requires room { (kits.items ≡ []) × (1 ≤ vec_capacity kits) }
     requires fresh { map (faults_in F.Look.faults D.state) stores.items ≡ map (λ q. 0)
         (map (location_in F.Look.place) stores.items) }
     requires cache_named { option_map (λ s. F.Folder.place s.folder) shelf ≡ cache.now }
@@ -247,15 +243,15 @@ fn assemble_beside<F: Files, D: Dial>(
         (F.disk files.old)).folders (λ m. map (files_in F.Look.files) stores.items
         ≡ map (told_at m) (map (location_in F.Look.place) stores.items)) }
     requires named { temporary.now ≡ temporary_out target }
-    ensures made { (ls : List Listing) (p : Output) →
-        IsSeedIndex planned.now.index planned.now.plan ls planned.now.places → OutMade false
+    ensures made { (d : Deal) (ls : List Listing) (p : Output) → IsPlan planned.now.index 1 d →
+        IsSeedIndex planned.now.index d ls planned.now.places → OutMade false
         (map (location_in F.Look.place) stores.items) cache.now target planned.now.index
         (record { images = map image_name seeds.now; listings = ls })
         (world (with_cache (seen F.Folder.files F.Folder.place F.Folder.faults shelf) (F.disk files.old))
         (D.state dial.old) p) result (world (F.disk files.new) (D.state dial.new) p) }
 {
     let made = assemble_into(
-        alloc, files, dial, planned, stores, cache, shelf, seeds, temporary, true,
+        alloc, files, dial, planned, stores, cache, shelf, seeds, kits, temporary, true,
     );
     clear(files, temporary, made)?;
     let renamed = rename(alloc, files, temporary, target);
@@ -290,6 +286,9 @@ pub fn extract<F: Files, D: Dial>(
     let Ok(temporary) = temporary_out(alloc, target.as_str()) else {
         return Err(Outcome::Memory);
     };
+    let Ok(kits) = Vec::with_capacity(alloc, 1) else {
+        return Err(Outcome::Memory);
+    };
     let opened = open_sources(alloc, files, dial, stores.as_slice())?;
     let shelf = match take_cache(alloc, files, &cache) {
         Ok(shelf) => shelf,
@@ -309,12 +308,13 @@ pub fn extract<F: Files, D: Dial>(
             &cache,
             shelf,
             seeds,
+            kits,
             target.as_str(),
             false,
         )
     } else {
         assemble_beside(
-            alloc, files, dial, &planned, opened, &cache, shelf, seeds, &temporary, target,
+            alloc, files, dial, &planned, opened, &cache, shelf, seeds, kits, &temporary, target,
         )
     }
 }

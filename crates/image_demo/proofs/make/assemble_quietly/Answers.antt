@@ -1,13 +1,41 @@
+use Rattle.std.proofs.Common.{◌≡◌, ◌∙◌, ℕ, List, sym}
+use Rattle.assembler.proofs.OnePlan.{one_of}
 use Rattle.assembler.specs.Caches.{TakesListed}
-use Rattle.image_demo.proofs.Quiet.{no_sizes, nothing_fails}
+use Rattle.assembler.specs.Reports.{right_below}
+use Rattle.assembler.specs.declared.report.Report.{Report}
+use Rattle.caibx_codec.specs.Listing.{count_of, image_length}
+use Rattle.dsy_base.specs.Bytes.{resized}
+use Rattle.image_demo.proofs.Quiet.{named_by, no_sizes, nothing_fails, once_quiet, still}
 use Rattle.image_demo.proofs.make.assemble_quietly.Goals as goal
 
 pub returns-clause-verdict : goal.returns-clause-verdict
-returns-clause-verdict g c = λ maps told. c.assemble.ensures.exactly _ maps
-    (nothing_fails g.S.Store.holds g.S.Store.faults g.V.View.faults _ _ _ _ _ _ _ _ maps (TakesListed g.S.Store.holds c.args.index.now c.args.kit.now.chain.stores) c.requires.tells (g.met.T.View.sure _ c.requires.sure.0) (g.met.T.View.sure _ c.requires.sure.0) (λ s. g.met.S.Store.sure s c.requires.sure.1) (λ v. g.met.V.View.sure v c.requires.sure.2) c.assemble.ensures.stocked told)
+returns-clause-verdict g c = λ maps told.
+    let ended = c.assemble-ended.ensures in
+    let kits = c.assemble-ended.result.kits in
+    let j = one_of kits.items (sym kits.ok.0 ∙ ended.size) in
+    ended.exactly.so c.args.planned.now.plan c.args.kit j.0 c.requires.plan c.in-Ok.ensures.items j.1 _ maps
+    (nothing_fails g.S.Store.holds g.S.Store.faults g.V.View.faults _ _ _ _ _ _ _ _ maps (TakesListed g.S.Store.holds c.args.index.now c.args.kit.chain.stores) c.requires.tells (g.met.T.View.sure _ c.requires.sure.0) (g.met.T.View.sure _ c.requires.sure.0) (λ s. g.met.S.Store.sure s c.requires.sure.1) (λ v. g.met.V.View.sure v c.requires.sure.2) (ended.stocked.so c.args.kit j.0 c.in-Ok.ensures.items j.1) told)
     (no_sizes c.args.index.now maps)
 
 pub returns-clause-reported : goal.returns-clause-reported
-returns-clause-reported g c = λ maps told. c.assemble.ensures.reported _ maps
-    (nothing_fails g.S.Store.holds g.S.Store.faults g.V.View.faults _ _ _ _ _ _ _ _ maps (TakesListed g.S.Store.holds c.args.index.now c.args.kit.now.chain.stores) c.requires.tells (g.met.T.View.sure _ c.requires.sure.0) (g.met.T.View.sure _ c.requires.sure.0) (λ s. g.met.S.Store.sure s c.requires.sure.1) (λ v. g.met.V.View.sure v c.requires.sure.2) c.assemble.ensures.stocked told)
+returns-clause-reported g c = λ maps told.
+    let ended = c.assemble-ended.ensures in
+    let kits = c.assemble-ended.result.kits in
+    let j = one_of kits.items (sym kits.ok.0 ∙ ended.size) in
+    ended.reported.so c.args.planned.now.plan c.args.kit j.0 c.requires.plan c.in-Ok.ensures.items j.1 _ maps
+    (nothing_fails g.S.Store.holds g.S.Store.faults g.V.View.faults _ _ _ _ _ _ _ _ maps (TakesListed g.S.Store.holds c.args.index.now c.args.kit.chain.stores) c.requires.tells (g.met.T.View.sure _ c.requires.sure.0) (g.met.T.View.sure _ c.requires.sure.0) (λ s. g.met.S.Store.sure s c.requires.sure.1) (λ v. g.met.V.View.sure v c.requires.sure.2) (ended.stocked.so c.args.kit j.0 c.in-Ok.ensures.items j.1) told)
     (no_sizes c.args.index.now maps)
+
+pub returns-clause-kept : goal.returns-clause-kept
+returns-clause-kept g c =
+    let l = c.args.index.now in
+    let never : (t : g.row.T.Denot) → g.T.View.faults t ≡ 0 = λ t. g.met.T.View.sure t c.requires.sure.0 in
+    once_quiet c.assemble-ended.result.answer (g.T.View.held c.args.target).bytes (λ (r : Report) (o : List ℕ). r.kept ≡ right_below l (resized o (image_length l)) (count_of l)) _ _
+    (still _ _ (never c.args.target) (never c.assemble-ended.result.target)) c.assemble-ended.ensures.kept
+
+pub returns-clause-named : goal.returns-clause-named
+returns-clause-named g c =
+    let ended = c.assemble-ended.ensures in
+    let kits = c.assemble-ended.result.kits in
+    let j = one_of kits.items (sym kits.ok.0 ∙ ended.size) in
+    named_by c.args.index.now _ _ c.assemble-ended.result.answer (λ x is. (is.listed, is.id_is)) (ended.lost.so c.args.planned.now.plan c.args.kit j.0 c.requires.plan c.in-Ok.ensures.items j.1)

@@ -1,10 +1,13 @@
-use Rattle.std.proofs.Common.{subst, sym, IfSome, Some, [], ◌∷◌, ◌≡◌, ◌∙◌}
+use Rattle.std.proofs.Common.{subst, sym, IfOk, IfSome, Some, [], ◌∷◌, ◌≡◌, ◌∙◌, ◌+◌, Result}
 use Rattle.assembler.specs.Reports.{right_below}
+use Rattle.assembler.specs.declared.fault.ExtractFault.{ExtractFault}
+use Rattle.assembler.specs.declared.report.Report.{Report}
 use Rattle.caibx_codec.specs.Listing.{count_of, image_length}
 use Rattle.caibx_codec.specs.Right.{IsRight}
 use Rattle.dsy_base.specs.Bytes.{resized}
 use Rattle.image_demo.proofs.Given.{base_of, judged, made_figures, refusal, told_bytes, told_report}
 use Rattle.image_demo.specs.Figures.{IsRefused}
+use Rattle.image_demo.specs.Stocks.{IsNamed}
 use Rattle.image_demo.proofs.make.make.Goals as goal
 
 pub returns-in-Ok-clause-value : goal.returns-in-Ok-clause-value
@@ -17,22 +20,23 @@ returns-in-Ok-clause-value g c =
     let held = g.V.View.held c.args.seed.view in
     let told = told_bytes held.bytes (g.met.V.View.told c.args.seed.view ∙ c.requires.tells) in
     let right = subst (λ o. IfSome o (λ t. IsRight t m)) told.1 c.requires.seeds in
-    let target = (g.T.View.held c.args.target.now).bytes in
+    let target = (g.T.View.held c.args.target).bytes in
     let kit = c.in_ok-kit.kit in
-    made_figures l m d x c.in_ok-planned.ensures.wants c.in_ok-planned.ensures.places held told.0 told.1 right c.rules-2.ensures c.requires.size s.map (image_length l) c.in-Ok.report
-    (judged g.S.Store.holds g.V.View.held c.args.store c.args.seed.view l d x kit.chain kit.seeds.items target c.in_ok-kit.ensures.chain c.in_ok-kit.ensures.seeds c.requires.none s.map s.told c.assemble_quietly.result _ c.in-Ok.is c.assemble_quietly.ensures.verdict)
-    (told_report g.S.Store.holds g.V.View.held c.args.store c.args.seed.view l d x kit.chain kit.seeds.items target c.in_ok-kit.ensures.chain c.in_ok-kit.ensures.seeds c.requires.none s.map s.told c.assemble_quietly.result c.in-Ok.report c.in-Ok.is c.assemble_quietly.ensures.reported)
-    c.in-Ok.ensures.report
-    (subst (λ o. IfSome o (λ b. c.in-Ok.report.kept ≡ right_below l (resized b (image_length l)) (count_of l))) c.requires.none c.in-Ok.ensures.kept)
+    made_figures l m d x c.in_ok-planned.ensures.plan.wants c.in_ok-planned.ensures.places held told.0 told.1 right c.rules-2.ensures c.requires.size s.map (image_length l) c.in-Ok.report
+    (judged g.S.Store.holds g.V.View.held c.args.store c.args.seed.view l d x kit.chain kit.seeds.items target c.in_ok-kit.ensures.chain c.in_ok-kit.ensures.seeds c.requires.none s.map s.told c.assemble_quietly-target.result.answer _ c.in-Ok.is c.assemble_quietly-target.ensures.verdict)
+    (told_report g.S.Store.holds g.V.View.held c.args.store c.args.seed.view l d x kit.chain kit.seeds.items target c.in_ok-kit.ensures.chain c.in_ok-kit.ensures.seeds c.requires.none s.map s.told c.assemble_quietly-target.result.answer c.in-Ok.report c.in-Ok.is c.assemble_quietly-target.ensures.reported)
+    (subst (λ (r : Result Report ExtractFault). IfOk r (λ n. n.kept + n.copied + n.seeded + n.cached + n.fetched ≡ count_of l)) c.in-Ok.is c.assemble_quietly-target.ensures.report)
+    (subst (λ o. IfSome o (λ b. c.in-Ok.report.kept ≡ right_below l (resized b (image_length l)) (count_of l))) c.requires.none
+    (subst (λ (r : Result Report ExtractFault). IfOk r (λ n. IfSome target (λ b. n.kept ≡ right_below l (resized b (image_length l)) (count_of l)))) c.in-Ok.is c.assemble_quietly-target.ensures.kept))
     c.figures.result c.figures.ensures
 
-pub returns-clause-value : goal.returns-clause-value
-returns-clause-value g c =
+pub returns-clause-err : goal.returns-clause-err
+returns-clause-err g c =
     let l = c.args.index.now in
     let d = c.in_ok-planned.planned.plan in
     let x = c.in_ok-planned.planned.places in
     let s = c.requires.stocked.2 in
     let kit = c.in_ok-kit.kit in
     subst IsRefused (sym c.fault_of.ensures) (refusal l d x (base_of l) (Some (g.V.View.held c.args.seed.view) ∷ []) c.rules.ensures c.requires.stocked.0 c.requires.stocked.1 (g.S.Store.holds c.args.store) s c.in-Err.fault
-    (judged g.S.Store.holds g.V.View.held c.args.store c.args.seed.view l d x kit.chain kit.seeds.items (g.T.View.held c.args.target.now).bytes c.in_ok-kit.ensures.chain c.in_ok-kit.ensures.seeds c.requires.none s.map s.told c.assemble_quietly.result _ c.in-Err.is c.assemble_quietly.ensures.verdict)
-    c.in-Err.ensures.named)
+    (judged g.S.Store.holds g.V.View.held c.args.store c.args.seed.view l d x kit.chain kit.seeds.items (g.T.View.held c.args.target).bytes c.in_ok-kit.ensures.chain c.in_ok-kit.ensures.seeds c.requires.none s.map s.told c.assemble_quietly-target.result.answer _ c.in-Err.is c.assemble_quietly-target.ensures.verdict)
+    (subst (λ (r : Result Report ExtractFault). IsNamed l r) c.in-Err.is c.assemble_quietly-target.ensures.named))

@@ -3,6 +3,7 @@ use Rattle.std.proofs.lemmas.List.{length-map}
 use Rattle.std.specs.List.{AllZip}
 use Rattle.std.specs.Map.{count_at}
 use Rattle.std.specs.Option.{option_map}
+use Rattle.assembler.proofs.OnePlan.{all_alone, alone}
 use Rattle.assembler.specs.Assemblies.{IsObtainable}
 use Rattle.assembler.proofs.Cached.{stocked_none}
 use Rattle.assembler.specs.Caches.{HaveOneSize, Stocked, TakesListed, cache_faults, cached_in, seen}
@@ -25,6 +26,7 @@ use Rattle.command_steps.specs.Seeds.{IsViewed, image_name, label_in}
 use Rattle.command_steps.specs.Worlds.{FileRose}
 use Rattle.desync_cli.proofs.Assembled.{assembled, facts_of, had_of, not_taken_as, obtainable_of, stopped_before}
 use Rattle.desync_cli.proofs.Counting.{held_after, held_maps, held_where}
+use Rattle.desync_cli.proofs.Kits.{pushed}
 use Rattle.desync_cli.proofs.Lost.{lacks_told, others_lack, store_told, target_as}
 use Rattle.desync_cli.proofs.Seeded.{all_known_later, label_of, labels_are, same_known, same_labels, zeros, zipped_many}
 use Rattle.desync_cli.proofs.Shelved.{IsTold, cache_filled, cache_lacking, cache_quiet, cache_rose, cached_there, fresh_faults, known_still, name_after, name_in, one_size, same_kind, same_names, told_files}
@@ -56,7 +58,7 @@ drop_sources-requires g c =
     record { known = all_later (at c.args.files.now).folder_counts (at c.give_cache.new.files).folder_counts (λ q is. gave.folder_known q (c.in_default.ensures.kept.folder_known q is)) stores c.requires.known }
 
 pub returns-in_default-clause-assembled : goal.returns-in_default-clause-assembled
-returns-in_default-clause-assembled g c = λ ls is.
+returns-in_default-clause-assembled g c = λ p ls plan is.
     let at = g.F.Files.disk in
     let o = see g c.args.shelf in
     let d' = at c.args.files.now in
@@ -104,7 +106,7 @@ drop_sources-requires-in-Err g c =
     }
 
 pub returns-in-Err-clause-assembled : goal.returns-in-Err-clause-assembled
-returns-in-Err-clause-assembled g c = λ ls is.
+returns-in-Err-clause-assembled g c = λ p ls plan is.
     let at = g.F.Files.disk in
     let s = see g c.args.shelf in
     let d' = at c.args.files.now in
@@ -159,11 +161,19 @@ returns-in-Err-clause-kept g c =
       folder_counts = λ q. omega (arith, read.folder_counts q, took.folder_counts q, gave.folder_counts q, closed.folder_counts q, ended.folder_counts q);
     }
 
+pub returns-in-Err-clause-tells : goal.returns-in-Err-clause-tells
+returns-in-Err-clause-tells g c = (g.met.F.Files.told c.close_seeds.new.files).0 ∙ sym ((g.met.F.Files.told c.args.files.now).0)
+
 pub returns-clause-kept : goal.returns-clause-kept
 returns-clause-kept g c =
+    let k = c.new-kit.result in
+    let back = c.assemble-ended.result.kits in
+    let j = c.swap_remove-kit.result in
+    let one = pushed c.args.kits.items c.push.new.self.items k c.push.result c.unwrap.result c.requires.room.0 c.unwrap.ensures c.push.ensures.items in
+    let other = alone back.items j (sym back.ok.0 ∙ c.assemble-ended.ensures.size) c.swap_remove-kit.ensures.value in
     let at = g.F.Files.disk in
     let s = see g c.args.shelf in
-    let t = see g c.assemble-ended.new.cache in
+    let t = see g c.assemble-ended.result.cache in
     let d' = at c.args.files.now in
     let d = with_cache s d' in
     let b = at c.open_seeds.new.files in
@@ -184,7 +194,7 @@ returns-clause-kept g c =
     let names = map (location_in g.F.Look.Look.place) items in
     let l = c.args.planned.now.index in
     let same : c.new-kit.result.chain.stores ≡ items = ap (λ k. k.stores) (c.new-kit.ensures.chain ∙ c.new.ensures.value) in
-    let stocked = subst (λ xs. Stocked (TakesListed holds l xs) s t) same c.assemble-ended.ensures.stocked in
+    let stocked = subst (λ xs. Stocked (TakesListed holds l xs) s t) same (c.assemble-ended.ensures.stocked.so k j one other) in
     record {
       folders = cache_filled holds items names l s t c.args.cache.now d'.folders d e (named g c.args.cache.now c.args.shelf c.requires.cache_named) refl
           (back.folders ∙ ended.folders ∙ closed.folders ∙ given_folders t b2 b3 c.give_cache-2.ensures.given ∙ ap (folders_with t) (took.folders ∙ read.folders)) (cache_told g c.args.files.now c.args.shelf)
@@ -200,6 +210,11 @@ give_cache-requires-2-clause-known g c =
     known_still c.args.cache.now (at c.args.files.now).folder_counts (at c.take.new.self).folder_counts
     (λ q is. subst (λ (m : Map ℕ). IsSome (m q)) (sym c.in-Ok-take.ensures.counts.folder_counts) (c.in-Ok.ensures.kept.folder_known q is)) c.requires.cache_known
 
+pub unwrap-requires : goal.unwrap-requires
+unwrap-requires g c =
+    let none = c.args.kits.ok.0 ∙ ap length c.requires.room.0 in
+    c.push.ensures.succeeds (omega (arith, none, c.requires.room.1))
+
 pub assemble-ended-requires-clause-places : goal.assemble-ended-requires-clause-places
 assemble-ended-requires-clause-places g c =
     let view = g.F.View.View.held in
@@ -207,21 +222,37 @@ assemble-ended-requires-clause-places g c =
     let zipped = zipped_many (IsViewed (g.F.Files.disk c.args.files.now) (g.F.Files.disk c.open_seeds.new.files)) (map image_name c.args.seeds.now) (map (seeds.held_in view) items) c.in-Ok.ensures.found in
     let many : length items ≡ length c.args.seeds.now = sym (length-map items (seeds.held_in view)) ∙ sym zipped ∙ length-map c.args.seeds.now image_name in
     let same : length c.new-kit.result.seeds.items ≡ length c.args.seeds.now = ap (λ v. length v.items) c.new-kit.ensures.seeds ∙ many in
-    subst (λ (n : ℕ). PlacesKnown c.args.planned.now.index c.args.planned.now.plan c.args.planned.now.places n) (sym same) c.requires.known_places
+    let k = c.new-kit.result in
+    let one = pushed c.args.kits.items c.push.new.self.items k c.push.result c.unwrap.result c.requires.room.0 c.unwrap.ensures c.push.ensures.items in (
+      c.requires.plan.0,
+      c.requires.plan.1,
+      all_alone (λ q. PlacesKnown c.args.planned.now.index c.requires.plan.0 c.args.planned.now.places (length q.seeds.items)) c.push.new.self.items k one
+          (subst (λ (n : ℕ). PlacesKnown c.args.planned.now.index c.requires.plan.0 c.args.planned.now.places n) (sym same) c.requires.plan.2),
+    )
 
 pub assemble-ended-requires-clause-cache : goal.assemble-ended-requires-clause-cache
 assemble-ended-requires-clause-cache g c = same_kind g.F.Folder.Look.files g.F.Folder.Look.place g.F.Folder.Look.faults _ c.args.shelf c.requires.cache_fresh
 
 pub give_cache-requires-2-clause-named : goal.give_cache-requires-2-clause-named
 give_cache-requires-2-clause-named g c =
+    let k = c.new-kit.result in
+    let back = c.assemble-ended.result.kits in
+    let j = c.swap_remove-kit.result in
+    let one = pushed c.args.kits.items c.push.new.self.items k c.push.result c.unwrap.result c.requires.room.0 c.unwrap.ensures c.push.ensures.items in
+    let other = alone back.items j (sym back.ok.0 ∙ c.assemble-ended.ensures.size) c.swap_remove-kit.ensures.value in
     let e0 = see g c.args.shelf in
-    let e1 = see g c.assemble-ended.new.cache in
+    let e1 = see g c.assemble-ended.result.cache in
     let cache = c.args.cache.now in
-    let now : name_in e1 ≡ cache = name_after _ e0 e1 cache c.assemble-ended.ensures.stocked (named g cache c.args.shelf c.requires.cache_named) in
-    sym (same_names g.F.Folder.Look.files g.F.Folder.Look.place g.F.Folder.Look.faults c.assemble-ended.new.cache) ∙ now
+    let now : name_in e1 ≡ cache = name_after _ e0 e1 cache (c.assemble-ended.ensures.stocked.so k j one other) (named g cache c.args.shelf c.requires.cache_named) in
+    sym (same_names g.F.Folder.Look.files g.F.Folder.Look.place g.F.Folder.Look.faults c.assemble-ended.result.cache) ∙ now
 
 pub close_sources-requires : goal.close_sources-requires
 close_sources-requires g c =
+    let k = c.new-kit.result in
+    let back = c.assemble-ended.result.kits in
+    let j = c.swap_remove-kit.result in
+    let one = pushed c.args.kits.items c.push.new.self.items k c.push.result c.unwrap.result c.requires.room.0 c.unwrap.ensures c.push.ensures.items in
+    let other = alone back.items j (sym back.ok.0 ∙ c.assemble-ended.ensures.size) c.swap_remove-kit.ensures.value in
     let at = g.F.Files.disk in
     let place = g.F.Look.Look.place in
     let location = location_in place in
@@ -229,10 +260,10 @@ close_sources-requires g c =
     let xs = c.args.stores.items in
     let same : c.new-kit.result.chain.stores ≡ xs = ap (λ k. k.stores) (c.new-kit.ensures.chain ∙ c.new.ensures.value) in
     let b2 = at c.take.new.self in
-    let gave = given_adds (see g c.assemble-ended.new.cache) b2 (at c.give_cache-2.new.files) c.give_cache-2.ensures.given in
+    let gave = given_adds (see g c.assemble-ended.result.cache) b2 (at c.give_cache-2.new.files) c.give_cache-2.ensures.given in
     let now = all_later (at c.args.files.now).folder_counts counts
     (λ q is. gave.folder_known q (subst (λ (m : Map ℕ). IsSome (m q)) (sym c.in-Ok-take.ensures.counts.folder_counts) (c.in-Ok.ensures.kept.folder_known q is))) (map location xs) c.requires.known in
-    let located = stand_still place c.new-kit.result.chain.stores c.assemble-ended.new.kit.chain.stores c.assemble-ended.ensures.stores.places ∙ ap (map location) same in
+    let located = stand_still place c.new-kit.result.chain.stores c.swap_remove-kit.result.chain.stores (c.assemble-ended.ensures.stores.so k j one other).places ∙ ap (map location) same in
     record { known = rw c.into_stores.ensures.value (subst (λ (q : List Location). All (IsKnown counts) q) (sym located) now) }
 
 pub close_seeds-requires : goal.close_seeds-requires
@@ -246,27 +277,32 @@ close_seeds-requires g c =
 
 pub close_seeds-requires-2 : goal.close_seeds-requires-2
 close_seeds-requires-2 g c =
+    let k = c.new-kit.result in
+    let back = c.assemble-ended.result.kits in
+    let j = c.swap_remove-kit.result in
+    let one = pushed c.args.kits.items c.push.new.self.items k c.push.result c.unwrap.result c.requires.room.0 c.unwrap.ensures c.push.ensures.items in
+    let other = alone back.items j (sym back.ok.0 ∙ c.assemble-ended.ensures.size) c.swap_remove-kit.ensures.value in
     let at = g.F.Files.disk in
     let view = g.F.View.View.held in
     let b = at c.open_seeds.new.files in
     let b3 = at c.close_sources.new.files in
-    let gave = given_adds (see g c.assemble-ended.new.cache) (at c.take.new.self) (at c.give_cache-2.new.files) c.give_cache-2.ensures.given in
+    let gave = given_adds (see g c.assemble-ended.result.cache) (at c.take.new.self) (at c.give_cache-2.new.files) c.give_cache-2.ensures.given in
     let later : (q : List ℕ) → IsSome (b.file_counts q) → IsSome (b3.file_counts q) = λ q known. c.close_sources.ensures.kept.0.disk.known q (gave.known q (counted_known b.file_counts (at c.take.new.self).file_counts _ c.in-Ok-take.ensures.counts.counts q known)) in
     let opened = all_known_later view b.file_counts b3.file_counts later c.in-Ok.seeds.items c.in-Ok.ensures.known in
     let same : map (seeds.held_in view) c.new-kit.result.seeds.items ≡ map (seeds.held_in view) c.in-Ok.seeds.items = ap (λ v. map (seeds.held_in view) v.items) c.new-kit.ensures.seeds in
-    record { known = same_known view b3.file_counts c.in-Ok.seeds.items c.assemble-ended.new.kit.seeds.items (c.assemble-ended.ensures.seeds.held ∙ same) opened }
+    record { known = same_known view b3.file_counts c.in-Ok.seeds.items c.swap_remove-kit.result.seeds.items ((c.assemble-ended.ensures.seeds.so k j one other).held ∙ same) opened }
 
 pub give-requires-clause-known : goal.give-requires-clause-known
 give-requires-clause-known g c =
     let at = g.F.Files.disk in
-    let gave = given_adds (see g c.assemble-ended.new.cache) (at c.take.new.self) (at c.give_cache-2.new.files) c.give_cache-2.ensures.given in
+    let gave = given_adds (see g c.assemble-ended.result.cache) (at c.take.new.self) (at c.give_cache-2.new.files) c.give_cache-2.ensures.given in
     c.close_seeds-2.ensures.kept.known _ (c.close_sources.ensures.kept.0.disk.known _ (gave.known _ c.in-Ok-take.ensures.known))
 
 pub returns-clause-assembled : goal.returns-clause-assembled
-returns-clause-assembled g c = λ ls is.
+returns-clause-assembled g c = λ p ls plan is.
     let at = g.F.Files.disk in
     let e0 = see g c.args.shelf in
-    let e1 = see g c.assemble-ended.new.cache in
+    let e1 = see g c.assemble-ended.result.cache in
     let cache = c.args.cache.now in
     let d' = at c.args.files.now in
     let d = with_cache e0 d' in
@@ -292,25 +328,33 @@ returns-clause-assembled g c = λ ls is.
     let q = c.args.target.now in
     let o : Into = record { name = q; fresh = c.args.fresh } in
     let k = c.new-kit.result in
-    let j = c.assemble-ended.new.kit in
+    let back = c.assemble-ended.result.kits in
+    let j = c.swap_remove-kit.result in
+    let one = pushed c.args.kits.items c.push.new.self.items k c.push.result c.unwrap.result c.requires.room.0 c.unwrap.ensures c.push.ensures.items in
+    let other = alone back.items j (sym back.ok.0 ∙ c.assemble-ended.ensures.size) c.swap_remove-kit.ensures.value in
     let before = k.chain.stores in
     let after = j.chain.stores in
     let names = map location before in
     let w = sources d k0 in
     let v = sources e k1 in
     let l = c.args.planned.now.index in
-    let p = c.args.planned.now.plan in
     let x = c.args.planned.now.places in
     let z : Seeds = record { images = map image_name c.args.seeds.now; listings = ls } in
     let items = k.seeds.items in
     let views = map (seeds.held_in view) items in
     let labels = map label_of views in
-    let r = c.assemble-ended.result in
+    let r = c.assemble-ended.result.answer in
     let over = c.assemble-ended.ensures in
+    let stores = over.stores.so k j one other in
+    let stocked = over.stocked.so k j one other in
+    let kept = over.seeds.so k j one other in
+    let lost = over.lost.so p k j plan one other in
+    let exactly = over.exactly.so p k j plan one other in
+    let after_all = over.after.so p k j plan one other in
     let t0 = (held c.in-Ok-take.taken).bytes in
-    let t1 = (held c.assemble-ended.new.target).bytes in
+    let t1 = (held c.assemble-ended.result.target).bytes in
     let f0 = g.F.Target.View.faults c.in-Ok-take.taken in
-    let f1 = g.F.Target.View.faults c.assemble-ended.new.target in
+    let f1 = g.F.Target.View.faults c.assemble-ended.result.target in
     let opens = c.in-Ok.ensures in
     let same : before ≡ c.args.stores.items = ap (λ k. k.stores) (c.new-kit.ensures.chain ∙ c.new.ensures.value) in
     let found = subst (λ xs. IfSome d.folders (λ m. map files xs ≡ map (told_at m) (map location xs))) (sym same) c.requires.found in
@@ -352,10 +396,10 @@ returns-clause-assembled g c = λ ls is.
     given_longer at_place g.F.Look.Look.faults state w (sources b3 k1) v counted_on dialed (dials_none k1) (slice_index_or after n s)
     (given_earlier at_place g.F.Look.Look.faults state w (sources bc k0) (sources b3 k1) opened (dials_none k0) dialed (slice_index_or after n s) (closed n s lt)) in
     let located : (ys : List (AnySource g.row.F-Look.Denot g.row.D.Denot g.row.D-Link.Denot)) → map place ys ≡ map place before → map location ys ≡ names = λ ys placed. stand_still at_place before ys placed in
-    let after_at = located after over.stores.places in
-    let stand = all_stand g.F.Look.Look.files at_place g.F.Look.Look.faults state w v after names after_at (held_after d.folders names files before after found over.stores.files) given_stores in
+    let after_at = located after stores.places in
+    let stand = all_stand g.F.Look.Look.files at_place g.F.Look.Look.faults state w v after names after_at (held_after d.folders names files before after found stores.files) given_stores in
     let name = named g cache c.args.shelf c.requires.cache_named in
-    let name_now = name_after _ e0 e1 cache over.stocked name in
+    let name_now = name_after _ e0 e1 cache stocked name in
     let none = fresh_faults g.F.Folder.Look.files g.F.Folder.Look.place g.F.Folder.Look.faults _ c.args.shelf c.requires.cache_fresh in
     let shelf_rose = cache_rose d e b2 bc reached ended (cache_faults e0) e1 none c.give_cache-2.ensures.given in
     let shelf_now : e.folders ≡ folders_with e1 d'.folders = c.give.ensures.counts.folders ∙ c.close_seeds-2.ensures.kept.folders ∙ c.close_sources.ensures.kept.0.disk.folders ∙ given_folders e1 b2 bc c.give_cache-2.ensures.given
@@ -364,7 +408,7 @@ returns-clause-assembled g c = λ ls is.
     let here = c.close_seeds-2.ensures.added n s lt in
     let on = given (label_in view (slice_index_or j.seeds.items n s)) in
     omega (arith, here, on) in
-    let labelled : map (label_in view) j.seeds.items ≡ labels = same_labels view items j.seeds.items over.seeds.held ∙ labels_are view items in
+    let labelled : map (label_in view) j.seeds.items ≡ labels = same_labels view items j.seeds.items kept.held ∙ labels_are view items in
     let rises = store_rose (seeds.faults_in view_faults) (label_in view) d.file_counts b3.file_counts e.file_counts le_mid items j.seeds.items labels fresh_seeds labelled seeds_added in
     let later : (y : List ℕ) → FileRose d b y → FileRose d e y = λ y.
     let next = counted_le b.file_counts b2.file_counts _ c.in-Ok-take.ensures.counts.counts y in
@@ -381,12 +425,12 @@ returns-clause-assembled g c = λ ls is.
     r (map files before) (λ cs. cached_in e0 ≡ Some (map chunks cs)) t0 t1 (Rose f0 f1)
     (λ cached maps. SourcesQuiet holds faults view_faults g.F.View.View.tells f0 f1 k.seeds.items j.seeds.items e0 e1 k.chain.stores j.chain.stores cached maps × HaveOneSize l e0 cached maps)
     found (cached_there e0 cache name d'.folders (cache_told g c.args.files.now c.args.shelf)) took
-    (g.met.F.Target.View.told c.in-Ok-take.taken ∙ sym (g.met.F.Target.View.told c.assemble-ended.new.target))
+    (g.met.F.Target.View.told c.in-Ok-take.taken ∙ sym (g.met.F.Target.View.told c.assemble-ended.result.target))
     left rose over.bytes
-    (λ n y. lacks_told holds files place location said faults _ view view_faults l p x w v names cache o z t0 f0 f1 k j e0 e1 over.stores located stand n
-    (λ fs told. held_maps files before fs (subst (λ o. IfSome o (λ m. map files before ≡ map (told_at m) names)) y found ∙ told)) rose (Rose f0 f1) r over.lost)
-    (λ m told. others_lack holds files place location said faults _ view view_faults l p x w v names cache o z t0 f0 f1 k j e0 e1 b m told zip is later rises (cache_lacking d e e0 e1 cache l d'.folders name_now shelf_now shelf_rose) (Rose f0 f1) r over.lost)
-    (λ cached maps n. over.exactly cached maps n.0 n.1) (λ cached maps n. over.after cached maps n.0 n.1)
+    (λ n y. lacks_told holds files place location said faults _ view view_faults l p x w v names cache o z t0 f0 f1 k j e0 e1 stores located stand n
+    (λ fs told. held_maps files before fs (subst (λ o. IfSome o (λ m. map files before ≡ map (told_at m) names)) y found ∙ told)) rose (Rose f0 f1) r lost)
+    (λ m told. others_lack holds files place location said faults _ view view_faults l p x w v names cache o z t0 f0 f1 k j e0 e1 b m told zip is later rises (cache_lacking d e e0 e1 cache l d'.folders name_now shelf_now shelf_rose) (Rose f0 f1) r lost)
+    (λ cached maps n. exactly cached maps n.0 n.1) (λ cached maps n. after_all cached maps n.0 n.1)
     (λ m y n fs told looks cs shelved quiet. (
       record {
         target = rw c.in-Ok-take.ensures.fresh.0 (given_quiet _ _ _ _ le added (quiet.0.files q));
@@ -395,12 +439,12 @@ returns-clause-assembled g c = λ ls is.
         told_cache = shelved;
         cache = cache_quiet d e b2 bc reached ended (cache_faults e0) e1 none c.give_cache-2.ensures.given quiet.0;
         told = held_maps files before fs looks;
-        stores = folders_quiet g.F.Look.Look.files at_place g.F.Look.Look.faults state w v names fs before after fresh_stores (over.stores.files ∙ looks) given_stores quiet.0.folders;
+        stores = folders_quiet g.F.Look.Look.files at_place g.F.Look.Look.faults state w v names fs before after fresh_stores (stores.files ∙ looks) given_stores quiet.0.folders;
       },
       one_size e0 cache l (map chunks cs) (map chunks fs) name quiet.1,
     )))
-    (target_as _ (Rose f0 f1) (FileRose d e q) rose r over.lost)
-    (store_told holds files place location said faults _ view view_faults l p x w v names cache o z t0 f0 f1 k j e0 e1 over.stores located stand (Rose f0 f1) r over.lost) in
+    (target_as _ (Rose f0 f1) (FileRose d e q) rose r lost)
+    (store_told holds files place location said faults _ view view_faults l p x w v names cache o z t0 f0 f1 k j e0 e1 stores located stand (Rose f0 f1) r lost) in
     rw c.answer_of.ensures (subst (λ xs. Assembled w v (map location xs) cache o l z (answer_of_assembly r)) same made)
 
 pub returns-in_default-clause-dialed : goal.returns-in_default-clause-dialed
@@ -411,9 +455,14 @@ returns-in-Err-clause-dialed g c = (dials_none _, λ t. refl)
 
 pub returns-clause-dialed : goal.returns-clause-dialed
 returns-clause-dialed g c =
+    let k = c.new-kit.result in
+    let back = c.assemble-ended.result.kits in
+    let j = c.swap_remove-kit.result in
+    let one = pushed c.args.kits.items c.push.new.self.items k c.push.result c.unwrap.result c.requires.room.0 c.unwrap.ensures c.push.ensures.items in
+    let other = alone back.items j (sym back.ok.0 ∙ c.assemble-ended.ensures.size) c.swap_remove-kit.ensures.value in
     let place = g.F.Look.Look.place in
     let same : c.new-kit.result.chain.stores ≡ c.args.stores.items = ap (λ k. k.stores) (c.new-kit.ensures.chain ∙ c.new.ensures.value) in
-    let located = stand_still place c.new-kit.result.chain.stores c.assemble-ended.new.kit.chain.stores c.assemble-ended.ensures.stores.places ∙ ap (map (location_in place)) same in
+    let located = stand_still place c.new-kit.result.chain.stores c.swap_remove-kit.result.chain.stores (c.assemble-ended.ensures.stores.so k j one other).places ∙ ap (map (location_in place)) same in
     let kept = rw c.into_stores.ensures.value at c.close_sources.ensures.kept in
     (kept.0.dial, λ t. kept.1 (subst (λ (l : List Location). IsTrue (are_folders l)) (sym located) t))
 

@@ -45,11 +45,15 @@ returns-in_err-opened g c =
       }));
     }
 
-pub assemble_into-requires-clause-known_places : goal.assemble_into-requires-clause-known_places
-assemble_into-requires-clause-known_places g c =
+pub assemble_into-requires-clause-plan : goal.assemble_into-requires-clause-plan
+assemble_into-requires-clause-plan g c =
     let listed = rw c.as_slice.ensures at c.in_ok-indexes.ensures.ok in
     let p = c.in-Ok.planned in
-    rw c.as_slice-seeds.ensures (known_places_of (g.F.Files.disk c.read_index.new.files) c.args.seeds c.in_ok-indexes.indexes.items c.in_ok-listed.listed p.index p.plan p.places listed c.in-Ok.ensures.index c.in-Ok.ensures.known)
+    let plan = c.in-Ok.ensures.plan in (
+      plan.0,
+      rw c.in-Ok.ensures.index plan.1,
+      rw c.as_slice-seeds.ensures (known_places_of (g.F.Files.disk c.read_index.new.files) c.args.seeds c.in_ok-indexes.indexes.items c.in_ok-listed.listed p.index plan.0 p.places listed c.in-Ok.ensures.index plan.3),
+    )
 
 pub assemble_into-requires-clause-size : goal.assemble_into-requires-clause-size
 assemble_into-requires-clause-size g c =
@@ -64,11 +68,15 @@ assemble_into-requires-clause-known g c =
     let known = all_later (at c.open_sources.new.files).folder_counts (at c.take_cache.new.files).folder_counts reached.folder_known c.as_slice-2.result.now opened.known in
     subst (λ (l : List Location). All (IsKnown (at c.take_cache.new.files).folder_counts) l) (sym opened.located) known
 
-pub assemble_beside-requires-clause-known_places : goal.assemble_beside-requires-clause-known_places
-assemble_beside-requires-clause-known_places g c =
+pub assemble_beside-requires-clause-plan : goal.assemble_beside-requires-clause-plan
+assemble_beside-requires-clause-plan g c =
     let listed = rw c.as_slice.ensures at c.in_ok-indexes.ensures.ok in
     let p = c.in-Ok.planned in
-    rw c.as_slice-seeds.ensures (known_places_of (g.F.Files.disk c.read_index.new.files) c.args.seeds c.in_ok-indexes.indexes.items c.in_ok-listed.listed p.index p.plan p.places listed c.in-Ok.ensures.index c.in-Ok.ensures.known)
+    let plan = c.in-Ok.ensures.plan in (
+      plan.0,
+      rw c.in-Ok.ensures.index plan.1,
+      rw c.as_slice-seeds.ensures (known_places_of (g.F.Files.disk c.read_index.new.files) c.args.seeds c.in_ok-indexes.indexes.items c.in_ok-listed.listed p.index plan.0 p.places listed c.in-Ok.ensures.index plan.3),
+    )
 
 pub assemble_beside-requires-clause-size : goal.assemble_beside-requires-clause-size
 assemble_beside-requires-clause-size g c =
@@ -163,7 +171,7 @@ returns-then-in_place g c =
       ends = λ p.
           let ended : List Location → List (List ℕ) → List ℕ → Listing → Type 0 = λ n images q l. OutMade true n cache q l (record { images = map image_name images; listings = ls }) (world m k p) c.assemble_into.result (world e j p) in
           let made = c.assemble_into.ensures in
-          let over : ended (map (location_in g.F.Look.Look.place) items) c.as_slice-seeds.result.now c.as_str-then-in_place.result.now c.in-Ok.planned.index = ((made.assembled ls (rw c.in-Ok.ensures.index c.in-Ok.ensures.places), made.kept, made.tells, made.dialed), refl) in
+          let over : ended (map (location_in g.F.Look.Look.place) items) c.as_slice-seeds.result.now c.as_str-then-in_place.result.now c.in-Ok.planned.index = ((made.assembled c.in-Ok.ensures.plan.0 ls (rw c.in-Ok.ensures.index c.in-Ok.ensures.plan.1) (rw c.in-Ok.ensures.index c.in-Ok.ensures.plan.2), made.kept, made.tells, made.dialed), refl) in
           let named = subst (λ q. ended (map (location_in g.F.Look.Look.place) items) c.as_slice-seeds.result.now q c.in-Ok.planned.index) c.as_str-then-in_place.ensures over in
           let into : ended names c.args.seeds c.args.target l =
           subst (λ n. ended n c.args.seeds c.args.target l) located (subst (λ q. ended (map (location_in g.F.Look.Look.place) items) q c.args.target l) c.as_slice-seeds.ensures
@@ -196,7 +204,7 @@ returns g c =
     record {
       ends = λ p.
           let ended : List Location → List (List ℕ) → List ℕ → Listing → Type 0 = λ n images q l. OutMade false n cache q l (record { images = map image_name images; listings = ls }) (world m k p) c.assemble_beside.result (world e j p) in
-          let named : ended (map (location_in g.F.Look.Look.place) items) c.as_slice-seeds.result.now c.args.target c.in-Ok.planned.index = c.assemble_beside.ensures.made ls p (rw c.in-Ok.ensures.index c.in-Ok.ensures.places) in
+          let named : ended (map (location_in g.F.Look.Look.place) items) c.as_slice-seeds.result.now c.args.target c.in-Ok.planned.index = c.assemble_beside.ensures.made c.in-Ok.ensures.plan.0 ls p (rw c.in-Ok.ensures.index c.in-Ok.ensures.plan.1) (rw c.in-Ok.ensures.index c.in-Ok.ensures.plan.2) in
           let into : ended names c.args.seeds c.args.target l =
           subst (λ n. ended n c.args.seeds c.args.target l) located (subst (λ q. ended (map (location_in g.F.Look.Look.place) items) q c.args.target l) c.as_slice-seeds.ensures
           (subst (λ l. ended (map (location_in g.F.Look.Look.place) items) c.as_slice-seeds.result.now c.args.target l) c.in-Ok.ensures.index named)) in
