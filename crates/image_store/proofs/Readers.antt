@@ -74,6 +74,22 @@ hired {W} vs ms left first none is =
     sym (reverse-reverse vs) ∙ ap reverse (sym is ∙ ap (λ (xs : List W). (xs ++ reverse ms) ++ first ∷ []) none)
     ∙ reverse-append (reverse ms) (first ∷ []) ∙ ap (λ (xs : List W). first ∷ xs) (reverse-reverse ms)
 
+pub all_cons : {W : Type 0} (P : W → Type 0) (x : W) (xs : List W) → P x → All P xs → All P (x ∷ xs)
+all_cons P x xs here rest zero d lt = here
+all_cons P x xs here rest (suc k) d lt = rest k d (omega arith)
+
+-- of a list and of its first and the rest the same holds
+pub all_first : {W : Type 0} (P : W → Type 0) (xs : List W) (x : W) (rest : List W) → xs ≡ x ∷ rest → All P xs → P x × All P rest
+all_first {W} P xs x rest is all =
+    let here : All P (x ∷ rest) = subst (All P) is all in
+    (here 0 x (omega arith), λ k d lt. here (suc k) d (omega arith))
+
+pub falls_cons : {W : Type 0} (f : W → ℕ) (olds : List W) (x : W) (n : ℕ) (xs ys : List W) → olds ≡ x ∷ xs → f x ≤ n → NoneFalls (map f xs) (map f ys) → NoneFalls (map f olds) (n ∷ map f ys)
+falls_cons {W} f olds x n xs ys is up rest = subst (λ (zs : List W). NoneFalls (map f zs) (n ∷ map f ys)) (sym is) (record { never_falls = at }) where
+  at : (i : ℕ) → slice_index (map f (x ∷ xs)) i ≤ slice_index (n ∷ map f ys) i
+  at zero = up
+  at (suc i) = rest.never_falls i
+
 pub all_one : {W : Type 0} (P : W → Type 0) (x : W) → P x → All P (x ∷ [])
 all_one P x here zero d lt = here
 all_one P x here (suc k) d lt = absurd (omega arith)

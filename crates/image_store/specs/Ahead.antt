@@ -1,5 +1,5 @@
--- Slices of an image that stand in a piece of room before they are put. l lists the chunks, `told` are the image's bytes
--- where they are told.
+-- Slices of an image that stand in a piece of room before they are put. l lists the chunks, `told` are the image's
+-- bytes where they are told.
 use Rattle.std.specs.Prelude.{◌≡◌, ℕ, ◌-◌, ◌<◌, ◌≤◌, List, length, slice_index, slice_range, Option, IfSome}
 use Rattle.caibx_codec.specs.Listing.{Listing, count_of, end_of, id_of, kind_of, size_of, slice_of, start_of}
 use Rattle.chunk_store.specs.Names.{name_of}

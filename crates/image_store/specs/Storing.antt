@@ -35,8 +35,8 @@ pub record HasStored {S : Type 0} (store : StoreWords S) (l : Listing) (told : O
   pub faults : CountsCause faults.StoreFault (store.faults first) (store.faults now) result
 
 -- it did with these views of the image, which hold what they held
-pub record IsStoredBy {V S : Type 0} (view : ViewWords V) (store : StoreWords S) (l : Listing) (old new : List V) (first now : S)
-    (result : Result Unit MakeFault) : Type 0 where
+pub record IsStoredBy {V S : Type 0} (view : ViewWords V) (store : StoreWords S) (l : Listing) (old new : List V)
+    (first now : S) (result : Result Unit MakeFault) : Type 0 where
   pub stored : All (λ v. HasStored store l (view.held v).bytes first now result) old
   pub once : (told : Option (List ℕ)) × HasStored store l told first now result
   pub kept : map view.held new ≡ map view.held old

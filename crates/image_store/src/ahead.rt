@@ -1,7 +1,7 @@
 //! Slices of an image that are read and named before they are stored. Entries are numbered from 0, sizes are in bytes.
 
-ghost use Rattle.std.specs.Prelude.{◌≡◌, ℕ, ◌+◌, ◌-◌, ◌<◌, ◌≤◌, IsTrue, List, Option, IfOk, IfSome, length, slice_range};
-ghost use Rattle.std.specs.Prelude.{take};
+ghost use Rattle.std.specs.Prelude.{◌≡◌, ℕ, ◌+◌, ◌-◌, ◌<◌, ◌≤◌, IsTrue, List, Option, IfOk, IfSome, length};
+ghost use Rattle.std.specs.Prelude.{slice_range, take};
 ghost use Rattle.caibx_codec.specs.Listing.{Listing, count_of, end_of, image_length, size_of, start_of};
 ghost use Rattle.chunk_store.specs.Names.{name_of};
 ghost use Rattle.image_store.specs.Ahead.{HasRoom, IsAhead, IsSlice};
@@ -12,9 +12,6 @@ use chunk_store::range::name_range;
 use dsy_base::fault::Failed;
 use dsy_base::view::View;
 use std::alloc::{AllocError, Global};
-
-/// How many bytes are read ahead into one piece of room: 512 KiB, twice the greatest chunk that is made by default.
-const READ_AHEAD: usize = 524_288;
 
 /// A piece of room. The slices of the entries from `from` to `good` stand in it one after another, each with its listed
 /// name; those of the entries from there to `to` may follow.
@@ -53,28 +50,16 @@ fn read_named<V: View>(
 }
 
 impl Ahead {
-    /// A piece of room in which nothing stands.
-    pub(crate) fn new(alloc: Global) -> Result<Ahead, AllocError>
+    /// A piece of room of so many bytes, in which nothing stands.
+    pub(crate) fn new(alloc: Global, size: usize) -> Result<Ahead, AllocError>
         ensures { IfOk result (λ a. (l : Listing) (told : Option (List ℕ)) → IsAhead l told a) }
     {
         Ok(Ahead {
-            room: vec![in alloc; 0u8; READ_AHEAD]?,
+            room: vec![in alloc; 0u8; size]?,
             from: 0,
             good: 0,
             to: 0,
         })
-    }
-
-    /// No room.
-    pub(crate) fn none(alloc: Global) -> Ahead
-        ensures { (l : Listing) (told : Option (List ℕ)) → IsAhead l told result }
-    {
-        Ahead {
-            room: Vec::new(alloc),
-            from: 0,
-            good: 0,
-            to: 0,
-        }
     }
 
     // Whether the slice of entry i may be read where that of `from` stands at the front. One with the id of the entry

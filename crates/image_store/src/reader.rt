@@ -3,15 +3,13 @@
 ghost use Rattle.std.specs.Prelude.{◌≡◌, ℕ, ◌+◌, ◌<◌, ◌≤◌, [], ◌∷◌, All, List, Option, IfOk, length, map};
 ghost use Rattle.std.specs.Prelude.{vec_capacity, vec_len};
 ghost use Rattle.caibx_codec.specs.Listing.{Listing, count_of, image_length};
-ghost use Rattle.image_store.specs.Ahead.{IsAhead, NoneFalls};
+ghost use Rattle.image_store.specs.Ahead.{IsAhead};
 
 use crate::ahead::Ahead;
 use caibx_codec::index::Index;
 use dsy_base::view::View;
 use std::alloc::{AllocError, Global};
 use std::mem::swap;
-use std::thread;
-use std::thread::Threads;
 
 /// A view, and the room that it reads into.
 #[derive(Drop)]
@@ -32,8 +30,8 @@ impl<V: View> Reader<V> {
         self.ahead.plan(index, at)
     }
 
-    // Reads the slices of its entries.
-    fn read(&mut self, index: &Index)
+    /// Reads the slices of its entries.
+    pub(crate) fn read(&mut self, index: &Index)
         requires size { image_length index.now ≡ (V.held self.old.view).size }
         requires ahead { IsAhead index.now (V.held self.old.view).bytes self.old.ahead }
         ensures ahead { IsAhead index.now (V.held self.new.view).bytes self.new.ahead }
@@ -58,7 +56,7 @@ pub(crate) fn plan_all<V: View>(index: &Index, readers: &mut [Reader<V>], at: us
     requires some { 0 < length readers.old }
     ensures ahead { All (λ r. (told : Option (List ℕ)) → IsAhead index.now told r.ahead) readers.new }
     ensures inside { result ≤ count_of index.now }
-    ensures more { at < count_of index.now → at < result }
+    ensures more { (at ≤ result) × (at < count_of index.now → at < result) }
     ensures views { map (λ r. r.view) readers.new ≡ map (λ r. r.view) readers.old }
 {
     let mut end = at;
@@ -66,33 +64,6 @@ pub(crate) fn plan_all<V: View>(index: &Index, readers: &mut [Reader<V>], at: us
         end = readers[k].plan(index, end);
     }
     end
-}
-
-/// Each reader reads its entries, beside the others.
-pub(crate) fn read_all<R: Threads + Sync, V: View + Send>(
-    rt: &R,
-    index: &Index,
-    readers: &mut [Reader<V>],
-)
-    requires size { All (λ r. image_length index.now ≡ (V.held r.view).size) readers.old }
-    requires ahead { All (λ r. IsAhead index.now (V.held r.view).bytes r.ahead) readers.old }
-    ensures ahead { All (λ r. IsAhead index.now (V.held r.view).bytes r.ahead) readers.new }
-    ensures kept { map (λ r. V.held r.view) readers.new ≡ map (λ r. V.held r.view) readers.old }
-    ensures faults { NoneFalls (map (λ r. V.faults r.view) readers.old) (map (λ r. V.faults r.view) readers.new) }
-{
-    let threads = readers.len().max(1);
-    thread::for_each_mut(
-        rt,
-        readers,
-        threads,
-        &|_, reader: &mut Reader<V>|
-            requires size { image_length index.now ≡ (V.held reader.old.view).size }
-            requires ahead { IsAhead index.now (V.held reader.old.view).bytes reader.old.ahead }
-            ensures ahead { IsAhead index.entry.now (V.held reader.new.view).bytes reader.new.ahead }
-            ensures kept { V.held reader.new.view ≡ V.held reader.old.view }
-            ensures faults { V.faults reader.old.view ≤ V.faults reader.new.view }
-        { reader.read(index) },
-    );
 }
 
 /// Takes from each reader what it has read, and gives it another room.
@@ -106,14 +77,14 @@ pub(crate) fn change_all<V: View>(readers: &mut [Reader<V>], ready: &mut [Ahead]
     }
 }
 
-// So many rooms, in which nothing stands.
-fn rooms(alloc: Global, count: usize) -> Result<Vec<Ahead>, AllocError>
+// So many rooms of so many bytes, in which nothing stands.
+fn rooms(alloc: Global, count: usize, size: usize) -> Result<Vec<Ahead>, AllocError>
     ensures len { IfOk result (λ v. vec_len v ≡ count) }
     ensures ahead { IfOk result (λ v. (l : Listing) (told : Option (List ℕ)) → All (IsAhead l told) v.items) }
 {
     let mut rooms = Vec::with_capacity(alloc, count)?;
     while rooms.len() < count {
-        rooms.push(Ahead::new(alloc)?)?;
+        rooms.push(Ahead::new(alloc, size)?)?;
     }
     Ok(rooms)
 }
@@ -127,8 +98,8 @@ pub(crate) struct Crew<V> {
 }
 
 impl<V: View> Crew<V> {
-    /// For so many readers. None is hired.
-    pub(crate) fn new(alloc: Global, count: usize) -> Result<Crew<V>, AllocError>
+    /// For so many readers, with rooms of so many bytes. None is hired.
+    pub(crate) fn new(alloc: Global, count: usize, size: usize) -> Result<Crew<V>, AllocError>
         ensures none { IfOk result (λ c. c.readers.items ≡ []) }
         ensures room { IfOk result (λ c. count ≤ vec_capacity c.readers) }
         ensures len { IfOk result (λ c. (vec_len c.rooms ≡ count) × (vec_len c.ready ≡ count)) }
@@ -136,8 +107,8 @@ impl<V: View> Crew<V> {
     {
         Ok(Crew {
             readers: Vec::with_capacity(alloc, count)?,
-            rooms: rooms(alloc, count)?,
-            ready: rooms(alloc, count)?,
+            rooms: rooms(alloc, count, size)?,
+            ready: rooms(alloc, count, size)?,
         })
     }
 }

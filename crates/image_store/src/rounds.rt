@@ -9,7 +9,7 @@ ghost use Rattle.image_store.specs.Storing.{GoesOn, IsStoredBy, IsStoring};
 
 use crate::ahead::Ahead;
 use crate::put_chunks::{MakeFault, put_chunks};
-use crate::reader::{Crew, Reader, change_all, dismiss, hire, plan_all, read_all};
+use crate::reader::{Crew, Reader, change_all, dismiss, hire, plan_all};
 use crate::storing::Storing;
 use caibx_codec::index::Index;
 use chunk_store::store::{Store, StoreWrite};
@@ -17,16 +17,23 @@ use dsy_base::view::View;
 use std::alloc::Global;
 use std::thread::{Threads, join_mut};
 
-// Sees to the entries that are ready, while the readers read theirs.
+/// How many bytes are read ahead into a piece of room, besides half a buffer of the largest chunk.
+const READ_AHEAD: usize = 524_288;
+
+// Sees to the entries that are ready and to those from there to `own`, while each reader reads its entries in a thread.
+// This thread begins all of them, so that none waits for another one to begin it.
+#[cycle(round)]
 fn round<R: Threads + Sync, V: View, S: StoreWrite, W: View + Send>(
     rt: &R,
     index: &Index,
     storing: &mut Storing<V, S>,
     readers: &mut [Reader<W>],
     ready: &[Ahead],
+    own: usize,
 ) -> Result<(), MakeFault>
     requires storing { IsStoring V.View S.Store index.now storing.old }
     requires ready { All (IsAhead index.now (V.held storing.old.image).bytes) ready.now }
+    requires own { own ≤ count_of index.now }
     requires size { All (λ r. image_length index.now ≡ (W.held r.view).size) readers.old }
     requires ahead { All (λ r. IsAhead index.now (W.held r.view).bytes r.ahead) readers.old }
     ensures on { GoesOn V.View S.Store index.now storing.old storing.new result }
@@ -34,27 +41,59 @@ fn round<R: Threads + Sync, V: View, S: StoreWrite, W: View + Send>(
     ensures kept { map (λ r. W.held r.view) readers.new ≡ map (λ r. W.held r.view) readers.old }
     ensures faults { NoneFalls (map (λ r. W.faults r.view) readers.old) (map (λ r. W.faults r.view) readers.new) }
 {
+    let Some((reader, rest)) = readers.split_first_mut() else {
+        return storing.put_ready(index, ready, own);
+    };
     let mut read = ||
-        requires size { All (λ r. image_length index.now ≡ (W.held r.view).size) readers.now }
-        requires ahead { All (λ r. IsAhead index.now (W.held r.view).bytes r.ahead) readers.now }
-        ensures ahead { All (λ r. IsAhead index.entry.now (W.held r.view).bytes r.ahead) readers.exit.now }
-        ensures kept { map (λ r. W.held r.view) readers.exit.now ≡ map (λ r. W.held r.view) readers.entry.now }
-        ensures faults { NoneFalls (map (λ r. W.faults r.view) readers.entry.now)
-            (map (λ r. W.faults r.view) readers.exit.now) }
-    { read_all(rt, index, readers) };
-    let mut store = || -> Result<(), MakeFault>
+        requires size { image_length index.now ≡ (W.held reader.now.view).size }
+        requires ahead { IsAhead index.now (W.held reader.now.view).bytes reader.now.ahead }
+        ensures ahead { IsAhead index.entry.now (W.held reader.exit.now.view).bytes reader.exit.now.ahead }
+        ensures kept { W.held reader.exit.now.view ≡ W.held reader.entry.now.view }
+        ensures faults { W.faults reader.entry.now.view ≤ W.faults reader.exit.now.view }
+    { reader.read(index) };
+    let mut go_on = || -> Result<(), MakeFault>
         requires storing { IsStoring V.View S.Store index.now storing.now }
         requires ready { All (IsAhead index.now (V.held storing.now.image).bytes) ready.now }
-        ensures { GoesOn V.View S.Store index.entry.now storing.entry.now storing.exit.now result }
-    { storing.put_ready(index, ready) };
-    let (_, put) = join_mut(rt, &mut read, &mut store);
+        requires own { own ≤ count_of index.now }
+        requires size { All (λ r. image_length index.now ≡ (W.held r.view).size) rest.now }
+        requires ahead { All (λ r. IsAhead index.now (W.held r.view).bytes r.ahead) rest.now }
+        ensures on { GoesOn V.View S.Store index.entry.now storing.entry.now storing.exit.now result }
+        ensures ahead { All (λ r. IsAhead index.entry.now (W.held r.view).bytes r.ahead) rest.exit.now }
+        ensures kept { map (λ r. W.held r.view) rest.exit.now ≡ map (λ r. W.held r.view) rest.entry.now }
+        ensures faults { NoneFalls (map (λ r. W.faults r.view) rest.entry.now)
+            (map (λ r. W.faults r.view) rest.exit.now) }
+    { round(rt, index, storing, rest, ready, own) };
+    let (_, put) = join_mut(rt, &mut read, &mut go_on);
     put
+}
+
+// How many bytes the first view reads itself in a round, beside so many readers, each of which reads `size` bytes. It
+// stores what they have read: while a byte is named, about ten are compared with the store's, or two are put, of which
+// there were so many in the last round.
+fn own_share(readers: usize, size: usize, put: usize) -> usize {
+    let compared = readers.saturating_mul(size) / 10;
+    size.saturating_sub(compared).saturating_sub(put / 2)
+}
+
+// The entry after those from `at` on that are in the next so many bytes.
+fn entries_in(index: &Index, at: usize, bytes: usize) -> usize
+    requires { at ≤ count_of index.now }
+    ensures { (at ≤ result) × (result ≤ count_of index.now) }
+{
+    let mut left = bytes;
+    for i in at..index.count() {
+        let size = index.entry(i).size;
+        if left < size {
+            return i;
+        }
+        left -= size;
+    }
+    index.count()
 }
 
 // Sees to all entries.
 fn put_by_rounds<R: Threads + Sync, V: View + Send, S: StoreWrite>(
     rt: &R,
-    alloc: Global,
     index: &Index,
     storing: &mut Storing<V, S>,
     readers: &mut [Reader<V>],
@@ -71,13 +110,20 @@ fn put_by_rounds<R: Threads + Sync, V: View + Send, S: StoreWrite>(
     ensures faults { NoneFalls (map (λ r. V.faults r.view) readers.old) (map (λ r. V.faults r.view) readers.new) }
 {
     let mut at = 0;
+    let mut share = 0;
     while at < index.count() {
-        at = plan_all(index, readers, at);
-        round(rt, index, storing, readers, ready)?;
+        let own = entries_in(index, at, share);
+        at = plan_all(index, readers, own);
+        let before = storing.put;
+        round(rt, index, storing, readers, ready, own)?;
         change_all(readers, ready);
+        share = own_share(
+            readers.len(),
+            ready[0].room.len(),
+            storing.put.saturating_sub(before),
+        );
     }
-    storing.put_ready(index, ready)?;
-    storing.put_to(index, index.count(), &Ahead::none(alloc))
+    storing.put_ready(index, ready, index.count())
 }
 
 // Sees to all entries with the first view alone.
@@ -133,21 +179,14 @@ fn store_ahead<R: Threads + Sync, V: View + Send, S: StoreWrite>(
     let (mut views, mut crew) = (views, crew);
     let image = hire(&mut views, &mut crew.rooms, &mut crew.readers);
     let mut storing = Storing::new(alloc, image, store, chunk, room);
-    let put = put_by_rounds(
-        rt,
-        alloc,
-        index,
-        &mut storing,
-        &mut crew.readers,
-        &mut crew.ready,
-    );
+    let put = put_by_rounds(rt, index, &mut storing, &mut crew.readers, &mut crew.ready);
     let (image, store) = storing.end();
     dismiss(image, &mut crew.readers, &mut views);
     (views, store, put)
 }
 
-/// Sees to it that the store holds each chunk that the index lists, in order, each id once. The first view is read; each
-/// other one reads and names slices ahead, where there is memory for its rooms, in a thread of its own.
+/// Sees to it that the store holds each chunk that the index lists, in order, each id once. The first view is read;
+/// each other one reads and names slices ahead in a thread of its own, where there is memory for its rooms.
 pub(crate) fn store_entries<R: Threads + Sync, V: View + Send, S: StoreWrite>(
     rt: &R,
     alloc: Global,
@@ -170,7 +209,7 @@ pub(crate) fn store_entries<R: Threads + Sync, V: View + Send, S: StoreWrite>(
     if others == 0 {
         return store_alone(alloc, index, views, store, chunk, room);
     }
-    match Crew::new(alloc, others) {
+    match Crew::new(alloc, others, READ_AHEAD + chunk.len() / 2) {
         Ok(crew) => store_ahead(rt, alloc, index, views, crew, store, chunk, room),
         Err(_) => store_alone(alloc, index, views, store, chunk, room),
     }

@@ -64,7 +64,8 @@ fn store_listed<R: Threads + Sync, V: View + Send, S: StoreWrite>(
         IfSome (S.holds result.1) (λ new. StoresImage sizes.now (λ b. b.items) t old new result.2)))) views.items }
     ensures files { All (λ v. PutsFilesOf sizes.now (V.held v).bytes (S.holds store)
         (S.folder store) (S.folder result.1)) views.items }
-    ensures said { IfOk result.2 (λ b. All (λ v. SaysOf sizes.now (V.held v).bytes b.items (S.said result.1)) views.items) }
+    ensures said { IfOk result.2 (λ b.
+        All (λ v. SaysOf sizes.now (V.held v).bytes b.items (S.said result.1)) views.items) }
     ensures few { result.2 ≢ Err MakeFault.TooManyItems }
     ensures only { IfErr result.2 IsOfStoring }
     ensures tells { is_some (S.holds result.1) ≡ is_some (S.holds store) }
@@ -87,9 +88,9 @@ fn store_listed<R: Threads + Sync, V: View + Send, S: StoreWrite>(
     }
 }
 
-/// Stores the image behind the views, cut by these sizes, in the store, and gives the bytes of its index file. Each view
-/// is cut in a thread of its own. The first is read again, and each other one reads slices of up to 512 KiB ahead of it.
-/// Views and store come back, whatever the answer is.
+/// Stores the image behind the views, cut by these sizes, in the store, and gives the bytes of its index file. Each
+/// view is cut in a thread of its own. The first is read again, and each other one reads slices ahead of it, into twice
+/// 512 KiB and the size of the largest chunk. Views and store come back, whatever the answer is.
 pub fn store_image<R: Threads + Sync, V: View + Send, S: StoreWrite>(
     rt: &R,
     alloc: Global,
@@ -105,7 +106,8 @@ pub fn store_image<R: Threads + Sync, V: View + Send, S: StoreWrite>(
         IfSome (S.holds result.1) (λ new. StoresImage sizes.now (λ b. b.items) t old new result.2)))) views.items }
     ensures files { All (λ v. PutsFilesOf sizes.now (V.held v).bytes (S.holds store)
         (S.folder store) (S.folder result.1)) views.items }
-    ensures said { IfOk result.2 (λ b. All (λ v. SaysOf sizes.now (V.held v).bytes b.items (S.said result.1)) views.items) }
+    ensures said { IfOk result.2 (λ b.
+        All (λ v. SaysOf sizes.now (V.held v).bytes b.items (S.said result.1)) views.items) }
 
     // An image with too many cuts leaves the store as it is.
     ensures many { All (λ v. IfSome (V.held v).bytes (λ t. HasTooManyCuts sizes.now t →

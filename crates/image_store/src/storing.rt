@@ -1,6 +1,6 @@
 //! The storing of an image's entries, one after another. Entries are numbered from 0.
 
-ghost use Rattle.std.specs.Prelude.{◌≡◌, ℕ, ◌+◌, ◌<◌, ◌≤◌, All, OnOk, length};
+ghost use Rattle.std.specs.Prelude.{◌≡◌, ℕ, ◌+◌, ◌<◌, ◌≤◌, All, IfSome, OnOk, length};
 ghost use Rattle.caibx_codec.specs.Listing.{Listing, count_of, image_length, size_of};
 ghost use Rattle.image_store.specs.Ahead.{IsAhead};
 ghost use Rattle.image_store.specs.Storing.{GoesOn, IsStoring};
@@ -14,8 +14,8 @@ use std::alloc::Global;
 use std::collections::BTreeSet;
 use std::snapshot::Snapshot;
 
-/// A view of the image, the store, and how far the storing has come: the entries before `at` were seen to, and `first` is
-/// the store as it was before. `chunk` and `room` have room for the largest.
+/// A view of the image, the store, and how far the storing has come: the entries before `at` were seen to, and `first`
+/// is the store as it was before. `chunk` and `room` have room for the largest. So many bytes were `put`.
 #[derive(Drop)]
 pub(crate) struct Storing<V, S> {
     pub image: V,
@@ -25,6 +25,7 @@ pub(crate) struct Storing<V, S> {
     pub seen: BTreeSet<[u8; 32]>,
     pub chunk: Vec<u8>,
     pub room: Vec<u8>,
+    pub put: usize,
 }
 
 impl<V: View, S: StoreWrite> Storing<V, S> {
@@ -52,19 +53,24 @@ impl<V: View, S: StoreWrite> Storing<V, S> {
             seen: BTreeSet::new(alloc),
             chunk,
             room,
+            put: 0,
         }
     }
 
     // Sees to the next entry.
-    fn put_next(&mut self, index: &Index, ahead: &Ahead) -> Result<(), MakeFault>
+    fn put_next(&mut self, index: &Index, ahead: Option<&Ahead>) -> Result<(), MakeFault>
         requires more { self.old.at < count_of index.now }
         requires storing { IsStoring V.View S.Store index.now self.old }
-        requires ahead { IsAhead index.now (V.held self.old.image).bytes ahead.now }
+        requires ahead { IfSome ahead (λ a. IsAhead index.now (V.held self.old.image).bytes a.now) }
         ensures on { GoesOn V.View S.Store index.now self.old self.new result }
         ensures next { OnOk result (self.new.at ≡ self.old.at + 1) }
     {
         index.rules();
-        see_next(
+        let read = match ahead {
+            Some(ahead) => ahead.slice(index, self.at),
+            None => None,
+        };
+        let size = if see_next(
             index,
             self.at,
             &self.first,
@@ -73,8 +79,13 @@ impl<V: View, S: StoreWrite> Storing<V, S> {
             &mut self.store,
             &mut self.chunk,
             &mut self.room,
-            ahead.slice(index, self.at),
-        )?;
+            read,
+        )? {
+            index.entry(self.at).size
+        } else {
+            0
+        };
+        self.put = self.put.saturating_add(size);
         self.at += 1;
         Ok(())
     }
@@ -84,11 +95,11 @@ impl<V: View, S: StoreWrite> Storing<V, S> {
         &mut self,
         index: &Index,
         to: usize,
-        ahead: &Ahead,
+        ahead: Option<&Ahead>,
     ) -> Result<(), MakeFault>
         requires inside { to ≤ count_of index.now }
         requires storing { IsStoring V.View S.Store index.now self.old }
-        requires ahead { IsAhead index.now (V.held self.old.image).bytes ahead.now }
+        requires ahead { IfSome ahead (λ a. IsAhead index.now (V.held self.old.image).bytes a.now) }
         ensures on { GoesOn V.View S.Store index.now self.old self.new result }
         ensures to { OnOk result (to ≤ self.new.at) }
     {
@@ -98,16 +109,23 @@ impl<V: View, S: StoreWrite> Storing<V, S> {
         Ok(())
     }
 
-    /// Sees to the entries up to the last of those that are ready.
-    pub(crate) fn put_ready(&mut self, index: &Index, ready: &[Ahead]) -> Result<(), MakeFault>
+    /// Sees to the entries up to the last of those that are ready, and to those before `to`.
+    pub(crate) fn put_ready(
+        &mut self,
+        index: &Index,
+        ready: &[Ahead],
+        to: usize,
+    ) -> Result<(), MakeFault>
+        requires inside { to ≤ count_of index.now }
         requires storing { IsStoring V.View S.Store index.now self.old }
         requires ahead { All (IsAhead index.now (V.held self.old.image).bytes) ready.now }
-        ensures { GoesOn V.View S.Store index.now self.old self.new result }
+        ensures on { GoesOn V.View S.Store index.now self.old self.new result }
+        ensures to { OnOk result (to ≤ self.new.at) }
     {
         for ahead in ready {
-            self.put_to(index, ahead.to, ahead)?;
+            self.put_to(index, ahead.to, Some(ahead))?;
         }
-        Ok(())
+        self.put_to(index, to, None)
     }
 
     /// Hands the view and the store back.

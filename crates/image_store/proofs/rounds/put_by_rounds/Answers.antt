@@ -1,8 +1,9 @@
-use Rattle.std.proofs.Common.{All, Ok, map, sym, subst, ◌∙◌}
+use Rattle.std.proofs.Common.{All, Ok, arith, inl, inr, map, sym, subst, ◌∙◌}
+use Rattle.std.proofs.lemmas.Bool.{cases_lt}
 use Rattle.image_store.specs.Ahead.{IsAhead, IsAlike, NoneFalls}
 use Rattle.image_store.proofs.Crews.{falls_on, ready_all, seen_through, sizes_all}
 use Rattle.image_store.proofs.Going.{goes_on}
-use Rattle.caibx_codec.specs.Listing.{image_length}
+use Rattle.caibx_codec.specs.Listing.{count_of, image_length}
 use Rattle.image_store.proofs.rounds.put_by_rounds.Goals as goal
 
 pub round-requires-clause-size : goal.round-requires-clause-size
@@ -23,6 +24,12 @@ pub returns-in_err-round-clause-faults : goal.returns-in_err-round-clause-faults
 returns-in_err-round-clause-faults g c =
     falls_on _ _ _ _ c.loop-at.invariant.faults (seen_through (λ v. g.V.View.faults v) (λ r. r.view) c.loop-at.readers c.plan_all-at.new.readers c.plan_all-at.ensures.views) c.in_err-round.ensures.faults
 
+pub loop-at-smaller : goal.loop-at-smaller
+loop-at-smaller g c = elim (cases_lt c.entries_in-own.result (count_of c.args.index.now)) [
+  | inl less ↦ omega (arith, c.plan_all-at.ensures.more.1 less, c.entries_in-own.ensures.0, c.plan_all-at.ensures.inside)
+  | inr all ↦ omega (arith, c.plan_all-at.ensures.more.0, c.plan_all-at.ensures.inside, c.loop-at-test.true)
+]
+
 pub loop-at-preserved : goal.loop-at-preserved
 loop-at-preserved g c =
     let l = c.args.index.now in
@@ -40,6 +47,3 @@ loop-at-preserved g c =
       faults = subst (NoneFalls (map (λ r. g.V.View.faults r.view) c.args.readers.now)) (sym (seen_through (λ v. g.V.View.faults v) (λ r. r.view) read c.change_all.new.readers c.change_all.ensures.views))
           (falls_on _ _ _ _ inv.faults (seen_through (λ v. g.V.View.faults v) (λ r. r.view) c.loop-at.readers planned c.plan_all-at.ensures.views) done.faults);
     }
-
-pub put_to-requires-clause-ahead : goal.put_to-requires-clause-ahead
-put_to-requires-clause-ahead g c = c.none.ensures c.args.index.now _
