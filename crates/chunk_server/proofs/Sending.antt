@@ -1,9 +1,8 @@
 -- A reply that is sent in two parts.
-use Rattle.std.proofs.Common.{◌≡◌, ℕ, ◌+◌, ◌≤◌, List, [], ◌++◌, length, take, Option, Some, None, Result, Ok, Err, refl, sym, ap, ◌∙◌, append_assoc}
+use Rattle.std.proofs.Common.{◌≡◌, ℕ, ◌+◌, ◌≤◌, List, ◌++◌, length, take, Option, Some, None, Result, Ok, Err, refl, sym, ap, ◌∙◌, append_assoc}
 use Rattle.std.specs.Prelude.{OnErr}
 use Rattle.std.specs.Option.{option_map}
 use Rattle.std.proofs.Math.Seq.{take-add, take-append_seam, drop-append_seam}
-use Rattle.std.proofs.lemmas.List.{append-nil, take-append-le}
 use Rattle.dsy_base.specs.Links.{Traffic, sends}
 use Rattle.dsy_base.specs.declared.fault.IoFault.{IoFault}
 use Rattle.dsy_base.specs.declared.fault.IoFault.TheVariants as io
@@ -12,10 +11,6 @@ use Rattle.chunk_server.specs.Streams.{SendsFront}
 abbrev with_sent : Traffic → List ℕ → Option Traffic
 with_sent t x = Some (record { received = t.received; coming = t.coming; sent = x })
 
-sends_none : (old : Option Traffic) → old ≡ option_map (sends []) old
-sends_none None = refl
-sends_none (Some t) = ap (with_sent t) (sym (append-nil t.sent))
-
 sends_both : (a b : List ℕ) (old : Option Traffic) → option_map (sends b) (option_map (sends a) old) ≡ option_map (sends (a ++ b)) old
 sends_both a b None = refl
 sends_both a b (Some t) = ap (with_sent t) (append_assoc t.sent a b)
@@ -23,12 +18,6 @@ sends_both a b (Some t) = ap (with_sent t) (append_assoc t.sent a b)
 -- what a write that was refused has sent
 abbrev Wrote : {A : Type 0} → Result A IoFault → List ℕ → Option Traffic → Option Traffic → Type 0
 Wrote r b old new = r ≡ Err io.Failed → (n : ℕ) × (n ≤ length b) × (new ≡ option_map (sends (take n b)) old)
-
-pub first_part : {A : Type 0} (fault : IoFault) (h b : List ℕ) (old new : Option Traffic) → Wrote {A = A} (Err fault) h old new → (◌≡◌ {A = Result A IoFault} (Err fault) (Err io.Memory) → new ≡ old) → SendsFront (h ++ b) old new
-first_part io.Failed h b old new failed none =
-    let f = failed refl in
-    (f.0, f.2 ∙ ap (λ x. option_map (sends x) old) (sym (take-append-le f.0 h b f.1)))
-first_part io.Memory h b old new failed none = (0, none refl ∙ sends_none old)
 
 pub second_part : {A : Type 0} (r : Result A IoFault) (h b : List ℕ) (old mid new : Option Traffic) → mid ≡ option_map (sends h) old → Wrote r b mid new → (r ≡ Err io.Memory → new ≡ mid) → OnErr r (SendsFront (h ++ b) old new)
 second_part (Ok x) h b old mid new is failed none = tt

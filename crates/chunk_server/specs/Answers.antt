@@ -1,5 +1,5 @@
--- How a request is answered against the files of a folder of chunks, and which files it leaves. Statuses are those of RFC
--- 9110, section 15; when each comes is this project's own.
+-- How a request is answered against the files of a folder of chunks, and which files it leaves. Statuses are those of
+-- RFC 9110, section 15; when each comes is this project's own.
 use Rattle.std.specs.Prelude.{ℕ, List, [], length, nat_le, if◌then◌else◌, ◌&&◌, Option, Some, None}
 use Rattle.std.specs.Str.{bytes_eq}
 use Rattle.chunk_store.specs.Folders.{chunks}

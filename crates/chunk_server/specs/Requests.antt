@@ -1,7 +1,8 @@
--- The requests on a connection, over all bytes that come (RFC 9112, sections 2.2, 6.3, 9.3 and 9.6): each is a head and, behind
--- it, so many bytes as the head tells. A head says one thing (`http_wire`), so that these requests are a function of the
--- bytes. How long a head may be is this project's own.
-use Rattle.std.specs.Prelude.{◌≡◌, ℕ, ◌+◌, ◌<◌, ◌≤◌, ◌⊎◌, List, [], ◌∷◌, length, take, drop, Bool, true, false, if◌then◌else◌, Option, Some, None}
+-- The requests on a connection, over all bytes that come (RFC 9112, sections 2.2, 6.3, 9.3 and 9.6): each is a head
+-- and, behind it, so many bytes as the head tells. A head says one thing (`http_wire`), so that these requests are a
+-- function of the bytes. How long a head may be is this project's own.
+use Rattle.std.specs.Prelude.{◌≡◌, ℕ, ◌+◌, ◌<◌, ◌≤◌, ◌⊎◌, List, [], ◌∷◌, length, take, drop, Bool, true, false}
+use Rattle.std.specs.Prelude.{if◌then◌else◌, Option, Some, None}
 use Rattle.httparse.specs.Grammar.{RequestHead}
 use Rattle.chunk_server.specs.declared.receiving.Heading.{Heading}
 use Rattle.chunk_server.specs.declared.receiving.Heading.TheVariants as heading

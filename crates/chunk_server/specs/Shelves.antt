@@ -32,10 +32,12 @@ AreAlike None (Some n) = ⊥
 AreAlike None None = Unit {0}
 
 -- the request was answered as the files say
-pub record IsStep (kind : DigestKind) (old : Shelved) (a : Act) (body : List ℕ) (r : Answer) (new : Shelved) : Type 0 where
-  pub answer : IfSome old.files (λ m. r ≡ answer_of kind m a body)
-  pub files : new.files ≡ option_map (λ m. files_after kind m a body) old.files
-  pub faults : old.faults ≤ new.faults
+pub record IsStep (kind : DigestKind) (old : Shelved) (a : Act) (body : List ℕ) (r : Answer) (new : Shelved) :
+    Type 0
+  where
+    pub answer : IfSome old.files (λ m. r ≡ answer_of kind m a body)
+    pub files : new.files ≡ option_map (λ m. files_after kind m a body) old.files
+    pub faults : old.faults ≤ new.faults
 
 -- a call on the folder has failed, and was counted
 pub record Fails (old : Shelved) (r : Answer) (new : Shelved) : Type 0 where

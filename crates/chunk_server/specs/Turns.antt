@@ -117,11 +117,13 @@ Fails kind may writable old shelf new shelf' = IfSome old (λ s. IfSome new (λ 
 
 -- there was no memory
 abbrev pub Lingers : DigestKind → (Act → List ℕ → Answer → Type 0) → Bool → Between
-Lingers kind may writable old shelf new shelf' = IfSome old (λ s. IfSome new (λ u. (left : Option (List ℕ)) × (mid : Shelved)
+Lingers kind may writable old shelf new shelf' = IfSome old (λ s. IfSome new (λ u.
+    (left : Option (List ℕ)) × (mid : Shelved)
     × BreaksOff kind may writable s.left s.sent shelf left u.sent mid × IsNear kind writable left mid shelf'))
 
 -- a connection that was served to its end, which had received nothing yet that wasn't looked at
-abbrev pub Served : DigestKind → (Act → List ℕ → Answer → Type 0) → Bool → Traffic → Shelved → Traffic → Shelved → Type 0
+abbrev pub Served : DigestKind → (Act → List ℕ → Answer → Type 0) → Bool → Traffic → Shelved → Traffic → Shelved
+    → Type 0
 Served kind may writable t old u new =
     (left : Option (List ℕ)) × Goes kind may writable t.coming t.sent old left u.sent new × IsOver writable left
 
@@ -131,7 +133,8 @@ Cut kind may writable t old u new =
     (left : Option (List ℕ)) × BreaksOff kind may writable t.coming t.sent old left u.sent new
 
 -- one for which there was no memory
-abbrev pub Lacking : DigestKind → (Act → List ℕ → Answer → Type 0) → Bool → Traffic → Shelved → Traffic → Shelved → Type 0
+abbrev pub Lacking : DigestKind → (Act → List ℕ → Answer → Type 0) → Bool → Traffic → Shelved → Traffic → Shelved
+    → Type 0
 Lacking kind may writable t old u new =
     (left : Option (List ℕ)) × (mid : Shelved)
     × BreaksOff kind may writable t.coming t.sent old left u.sent mid × IsNear kind writable left mid new

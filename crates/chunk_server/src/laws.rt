@@ -7,8 +7,8 @@ ghost use Rattle.chunk_store.specs.declared.id.DigestKind.{DigestKind};
 ghost use Rattle.dsy_base.specs.Counts.{Quiet};
 ghost use Rattle.dsy_base.specs.Maps.{Map};
 
-/// Where the folder counts no fault, each request is answered as the files say, and the files are those that the requests
-/// leave.
+/// Where the folder counts no fault, each request is answered as the files say, and the files are those that the
+/// requests leave.
 pub fn turns_are_exact()
     ensures value { (kind : DigestKind) (old new : Shelved) (m : Map (List ℕ)) (turns : List Turn)
         → Takes kind old turns new → old.files ≡ Some m → Quiet old.faults new.faults

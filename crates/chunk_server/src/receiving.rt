@@ -1,7 +1,9 @@
 //! Requests are received, head and body. Everything is counted in bytes.
 
-ghost use Rattle.std.specs.Prelude.{◌≡◌, ℕ, ◌<◌, ◌≤◌, List, [], ◌++◌, length, take, false, true, IfOk, IfSome, None, Ok, OnOk, Some};
-ghost use Rattle.chunk_server.specs.Requests.{HasNone, Heads, IsHead, IsInside, IsNext, asked_in, body_size, endless, head_limit};
+ghost use Rattle.std.specs.Prelude.{◌≡◌, ℕ, ◌<◌, ◌≤◌, List, [], ◌++◌, length, take, false, true, IfOk, IfSome, None};
+ghost use Rattle.std.specs.Prelude.{Ok, OnOk, Some};
+ghost use Rattle.chunk_server.specs.Requests.{HasNone, Heads, IsHead, IsInside, IsNext, asked_in, body_size, endless};
+ghost use Rattle.chunk_server.specs.Requests.{head_limit};
 ghost use Rattle.chunk_server.specs.Streams.{Moves, sent_in, skips, stream_in};
 ghost use Rattle.dsy_base.specs.Counts.{CountsFaults};
 ghost use Rattle.http_wire.specs.HeadEnd.{IsFirstEnd};
@@ -43,7 +45,8 @@ fn receive_head<K: Link>(link: &mut K, waiting: &mut Vec<u8>) -> Result<Heading,
     ensures inside { IfOk result (IsInside waiting.new.items) }
     ensures found { IfOk result (λ h. IfSome (stream_in waiting.new.items (K.state link.new).traffic)
         (λ s. Heads s.left h)) }
-    ensures faults { CountsFaults IoFault.Failed IoFault.Memory (K.state link.old).faults (K.state link.new).faults result }
+    ensures faults { CountsFaults IoFault.Failed IoFault.Memory
+        (K.state link.old).faults (K.state link.new).faults result }
 {
     while waiting.len() < HEAD_LIMIT {
         if let Some(head) = head_end(waiting.as_slice()) {
@@ -68,10 +71,12 @@ fn read_where_none<K: Link>(link: &mut K, waiting: &mut Vec<u8>) -> Result<bool,
     ensures ok { OnOk result (stream_in waiting.new.items (K.state link.new).traffic
         ≡ stream_in waiting.old.items (K.state link.old).traffic) }
     ensures some { result ≡ Ok true → 0 < length waiting.new.items }
-    ensures end { result ≡ Ok false → IfSome (stream_in waiting.new.items (K.state link.new).traffic) (λ s. s.left ≡ []) }
+    ensures end { result ≡ Ok false → IfSome (stream_in waiting.new.items (K.state link.new).traffic)
+        (λ s. s.left ≡ []) }
     ensures kept { sent_in (stream_in waiting.new.items (K.state link.new).traffic)
         ≡ sent_in (stream_in waiting.old.items (K.state link.old).traffic) }
-    ensures faults { CountsFaults IoFault.Failed IoFault.Memory (K.state link.old).faults (K.state link.new).faults result }
+    ensures faults { CountsFaults IoFault.Failed IoFault.Memory
+        (K.state link.old).faults (K.state link.new).faults result }
 {
     if waiting.is_empty() {
         read_on(link, waiting)
@@ -98,7 +103,8 @@ fn receive_more<K: Link>(
     ensures room { length body.new.items ≤ size }
     ensures end { result ≡ Ok false → (body.new.items ≡ body.old.items)
         × IfSome (stream_in waiting.new.items (K.state link.new).traffic) (λ s. s.left ≡ []) }
-    ensures faults { CountsFaults IoFault.Failed IoFault.Memory (K.state link.old).faults (K.state link.new).faults result }
+    ensures faults { CountsFaults IoFault.Failed IoFault.Memory
+        (K.state link.old).faults (K.state link.new).faults result }
 {
     match read_where_none(link, waiting) {
         Ok(true) => {}
@@ -124,14 +130,17 @@ fn receive_body<K: Link>(
 ) -> Result<Option<Vec<u8>>, IoFault>
     requires size { length waiting.old.items ≤ head_limit }
     ensures size { length waiting.new.items ≤ head_limit }
-    ensures found { IfOk result (λ o. IfSome o (λ body. IfSome (stream_in waiting.old.items (K.state link.old).traffic) (λ s.
+    ensures found { IfOk result (λ o. IfSome o (λ body.
+        IfSome (stream_in waiting.old.items (K.state link.old).traffic) (λ s.
         (size ≤ length s.left) × (body.items ≡ take size s.left)
         × (stream_in waiting.new.items (K.state link.new).traffic ≡ Some (skips size s))))) }
     ensures room { IfOk result (λ o. IfSome o (λ body. length body.items ≡ size)) }
-    ensures absent { result ≡ Ok None → IfSome (stream_in waiting.old.items (K.state link.old).traffic) (λ s. length s.left < size) }
+    ensures absent { result ≡ Ok None → IfSome (stream_in waiting.old.items (K.state link.old).traffic)
+        (λ s. length s.left < size) }
     ensures kept { sent_in (stream_in waiting.new.items (K.state link.new).traffic)
         ≡ sent_in (stream_in waiting.old.items (K.state link.old).traffic) }
-    ensures faults { CountsFaults IoFault.Failed IoFault.Memory (K.state link.old).faults (K.state link.new).faults result }
+    ensures faults { CountsFaults IoFault.Failed IoFault.Memory
+        (K.state link.old).faults (K.state link.new).faults result }
 {
     let mut body = Vec::new(alloc);
     'pieces: while body.len() < size {
@@ -190,7 +199,8 @@ pub(crate) fn receive_request<K: Link>(
 ) -> Result<Option<Received>, IoFault>
     requires size { length waiting.old.items ≤ head_limit }
     ensures size { length waiting.new.items ≤ head_limit }
-    ensures found { IfOk result (λ o. IfSome o (λ r. IfSome (stream_in waiting.old.items (K.state link.old).traffic) (λ s.
+    ensures found { IfOk result (λ o. IfSome o (λ r.
+        IfSome (stream_in waiting.old.items (K.state link.old).traffic) (λ s.
         (n : ℕ) × IsNext writable s.left n (asked_in r)
         × (stream_in waiting.new.items (K.state link.new).traffic ≡ Some (skips n s))))) }
     ensures room { IfOk result (λ o. IfSome o (λ r. length r.body.items ≤ body_limit)) }
@@ -199,7 +209,8 @@ pub(crate) fn receive_request<K: Link>(
         (λ s. HasNone writable s.left) }
     ensures kept { sent_in (stream_in waiting.new.items (K.state link.new).traffic)
         ≡ sent_in (stream_in waiting.old.items (K.state link.old).traffic) }
-    ensures faults { CountsFaults IoFault.Failed IoFault.Memory (K.state link.old).faults (K.state link.new).faults result }
+    ensures faults { CountsFaults IoFault.Failed IoFault.Memory
+        (K.state link.old).faults (K.state link.new).faults result }
 {
     let head = match receive_head(link, waiting) {
         Ok(Heading::Ends(head)) => head,

@@ -4,7 +4,8 @@ ghost use Rattle.std.specs.Prelude.{◌≡◌, ◌≤◌, ℕ, List, length, fal
 ghost use Rattle.chunk_server.specs.Requests.{asked_in, head_limit};
 ghost use Rattle.chunk_server.specs.Shelves.{Lacks, Steps, answer_in};
 ghost use Rattle.chunk_server.specs.Streams.{stream_in};
-ghost use Rattle.chunk_server.specs.Turns.{Cut, Fails, IsFair, Lacking, Lingers, Served as ServedWhole, Stays, Stops, turn_of};
+ghost use Rattle.chunk_server.specs.Turns.{Cut, Fails, IsFair, Lacking, Lingers, Served as ServedWhole, Stays, Stops};
+ghost use Rattle.chunk_server.specs.Turns.{turn_of};
 ghost use Rattle.dsy_base.specs.Counts.{CountsFaults, Rose};
 ghost use Rattle.http_wire.specs.Request.{body_limit};
 
@@ -76,7 +77,8 @@ fn take_turn<K: Link, H: Shelf>(
     ensures kept { H.takes shelf.new ≡ H.takes shelf.old }
     ensures place { H.place shelf.new ≡ H.place shelf.old }
     ensures shelf_faults { (H.state shelf.old).faults ≤ (H.state shelf.new).faults }
-    ensures faults { CountsFaults IoFault.Failed IoFault.Memory (K.state link.old).faults (K.state link.new).faults result }
+    ensures faults { CountsFaults IoFault.Failed IoFault.Memory
+        (K.state link.old).faults (K.state link.new).faults result }
 {
     let received = match receive_request(alloc, link, waiting, shelf.writable()) {
         Ok(Some(received)) => received,
@@ -88,7 +90,7 @@ fn take_turn<K: Link, H: Shelf>(
         Err(_) => return Err(IoFault::Memory),
     };
     let close = received.request.close;
-    match send_reply(alloc, link, &reply, close) {
+    match send_reply(alloc, link, reply, close) {
         Ok(()) => Ok(!close),
         Err(fault) => Err(fault),
     }
@@ -99,10 +101,10 @@ fn take_turn<K: Link, H: Shelf>(
 /// connection ends. So it does, without a reply, where the bytes end before a request does. `LinkFault`: a call on the
 /// connection has failed.
 pub fn serve<K: Link, H: Shelf>(alloc: Global, link: &mut K, shelf: &mut H) -> Served
-    ensures ok { result ≡ Served.Closed → IfSome (K.state link.old).traffic (λ t. IfSome (K.state link.new).traffic (λ u.
-        ServedWhole (H.digest shelf.old) H.may (H.takes shelf.old) t (H.state shelf.old) u (H.state shelf.new))) }
-    ensures cut { result ≡ Served.LinkFault → IfSome (K.state link.old).traffic (λ t. IfSome (K.state link.new).traffic (λ u.
-        Cut (H.digest shelf.old) H.may (H.takes shelf.old) t (H.state shelf.old) u (H.state shelf.new))) }
+    ensures ok { result ≡ Served.Closed → IfSome (K.state link.old).traffic (λ t. IfSome (K.state link.new).traffic
+        (λ u. ServedWhole (H.digest shelf.old) H.may (H.takes shelf.old) t (H.state shelf.old) u (H.state shelf.new))) }
+    ensures cut { result ≡ Served.LinkFault → IfSome (K.state link.old).traffic (λ t. IfSome (K.state link.new).traffic
+        (λ u. Cut (H.digest shelf.old) H.may (H.takes shelf.old) t (H.state shelf.old) u (H.state shelf.new))) }
     ensures lacking { result ≡ Served.Memory → IfSome (K.state link.old).traffic (λ t. IfSome (K.state link.new).traffic
         (λ u. Lacking (H.digest shelf.old) H.may (H.takes shelf.old) t (H.state shelf.old) u (H.state shelf.new))) }
     ensures cause { result ≡ Served.LinkFault → Rose (K.state link.old).faults (K.state link.new).faults }

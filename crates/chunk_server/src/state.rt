@@ -1,6 +1,7 @@
 //! A folder of chunks as a shelf. Sizes are in bytes.
 
-ghost use Rattle.std.specs.Prelude.{◌≡◌, ℕ, ◌<◌, ◌≤◌, [], List, length, take, false, Err, IfErr, IfOk, IfSome, OnErr, OnOk, Some};
+ghost use Rattle.std.specs.Prelude.{◌≡◌, ℕ, ◌<◌, ◌≤◌, [], List, length, take, false, Err, IfErr, IfOk, IfSome, OnErr};
+ghost use Rattle.std.specs.Prelude.{OnOk, Some};
 ghost use Rattle.std.specs.Option.{option_map};
 ghost use Rattle.chunk_server.specs.Answers.{bare, chunk_held, with_chunk};
 ghost use Rattle.chunk_server.specs.Shelves.{AreAlike, IsAnswer, Steps, answer_in, shelved};
@@ -10,6 +11,7 @@ ghost use Rattle.chunk_store.specs.declared.id.DigestKind.TheVariants as kinds;
 ghost use Rattle.dsy_base.specs.Maps.{ReadGives};
 ghost use Rattle.http_wire.specs.Request.{body_limit, is_refusal};
 
+use crate::replying::HEAD_ROOM;
 use crate::shelf::{Reply, Shelf};
 use chunk_store::id::{ChunkId, DigestKind};
 use dir_store::laws::put_leaves_a_temporary;
@@ -108,11 +110,13 @@ fn bare(alloc: Global, status: u16) -> Reply
     }
 }
 
-// The reply to a GET of this chunk.
+// The reply to a GET of this chunk, which has room for its head.
 fn with_chunk(alloc: Global, chunk: &[u8]) -> Result<Reply, Memory>
     ensures ok { IfOk result (λ r. answer_in r ≡ with_chunk (Some chunk.now)) }
 {
-    let mut body = Vec::new(alloc);
+    let Ok(mut body) = Vec::with_capacity(alloc, chunk.len() + HEAD_ROOM) else {
+        return Err(Memory);
+    };
     match body.extend_from_slice(chunk) {
         Ok(()) => Ok(Reply {
             status: 200,
@@ -134,8 +138,9 @@ fn get<F: Folder>(
     requires room { length buffer.old.items ≤ body_limit }
     ensures room { length buffer.new.items ≤ body_limit }
     ensures only { IfOk result (λ r. IsAnswer kind (Act.Get id.now) (answer_in r)) }
-    ensures ok { IfOk result (λ r. (body : List ℕ) → Steps kind (shelved F.files F.faults folder.old) (Act.Get id.now) body
-        (answer_in r) (shelved F.files F.faults folder.new)) }
+    ensures ok { IfOk result (λ r. (body : List ℕ) →
+        Steps kind (shelved F.files F.faults folder.old) (Act.Get id.now) body (answer_in r)
+        (shelved F.files F.faults folder.new)) }
     ensures kept { F.files folder.new ≡ F.files folder.old }
     ensures place { F.place folder.new ≡ F.place folder.old }
     ensures faults { F.faults folder.old ≤ F.faults folder.new }
@@ -162,8 +167,9 @@ fn head<F: Folder>(
     requires room { length buffer.old.items ≤ body_limit }
     ensures room { length buffer.new.items ≤ body_limit }
     ensures only { IfOk result (λ r. IsAnswer kind (Act.Head id.now) (answer_in r)) }
-    ensures ok { IfOk result (λ r. (body : List ℕ) → Steps kind (shelved F.files F.faults folder.old) (Act.Head id.now) body
-        (answer_in r) (shelved F.files F.faults folder.new)) }
+    ensures ok { IfOk result (λ r. (body : List ℕ) →
+        Steps kind (shelved F.files F.faults folder.old) (Act.Head id.now) body (answer_in r)
+        (shelved F.files F.faults folder.new)) }
     ensures kept { F.files folder.new ≡ F.files folder.old }
     ensures place { F.place folder.new ≡ F.place folder.old }
     ensures faults { F.faults folder.old ≤ F.faults folder.new }
@@ -257,9 +263,9 @@ impl<F: Folder> ShelfState<F> {
         self.folder
     }
 
-    /// Answers a request. GET: 200 with the chunk where bytes of its name are held under the id, at most 64 MiB, else 404.
-    /// HEAD: the same without the chunk. PUT: 400 where the body has another name than the id, else 200 once it is held.
-    /// A target that is no chunk's path: 404. 500: a call on the folder has failed.
+    /// Answers a request. GET: 200 with the chunk where bytes of its name are held under the id, at most 64 MiB, else
+    /// 404. HEAD: the same without the chunk. PUT: 400 where the body has another name than the id, else 200 once it is
+    /// held. A target that is no chunk's path: 404. 500: a call on the folder has failed.
     pub fn apply(&mut self, act: &Act, body: &[u8]) -> Result<Reply, Memory>
         requires taken { is_refusal act.now ≡ false }
         requires size { length body.now ≤ body_limit }

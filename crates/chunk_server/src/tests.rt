@@ -3,8 +3,9 @@
 ghost use Rattle.std.specs.Prelude.{◌≡◌, ◌<◌, ◌≤◌, length, false};
 ghost use Rattle.http_wire.specs.Request.{body_limit, is_refusal};
 
+use crate::replying::send_reply;
 use crate::serve::{Served, serve};
-use crate::shelf::Shelf;
+use crate::shelf::{Reply, Shelf};
 use crate::state::ShelfState;
 use chunk_store::id::{ChunkId, DigestKind};
 use dsy_base::folder::Folder;
@@ -279,5 +280,29 @@ fn a_failed_read_ends_a_connection(rt: HostRuntime) -> Result<(), Fail> {
     let mut link = MemLink::new(alloc, pieces, vec![in alloc; 1]?);
     assert_eq!(rt; serve(alloc, &mut link, &mut shelf), Served::LinkFault);
     assert_eq!(rt; link.sent().len(), 0);
+    Ok(())
+}
+
+// How many bytes of a reply with a body of this size are sent where the second write fails.
+fn sent_at_first(alloc: Global, size: usize) -> Result<usize, Fail> {
+    let mut body = Vec::new(alloc);
+    body.resize(size, b'x')?;
+    let reply = Reply {
+        status: 200,
+        length: size as u64,
+        body,
+    };
+    let mut link = MemLink::new(alloc, Vec::new(alloc), vec![in alloc; 1]?);
+    let _ = send_reply(alloc, &mut link, reply, false);
+    Ok(link.sent().len())
+}
+
+#[test]
+fn a_body_of_256_kib_leaves_with_its_head(rt: HostRuntime) -> Result<(), Fail> {
+    let alloc = rt.alloc();
+    assert_eq!(rt; sent_at_first(alloc, 0)?, OK_0.len());
+    assert_eq!(rt; sent_at_first(alloc, 3)?, OK_3.len() + 3);
+    assert_eq!(rt; sent_at_first(alloc, 262_144)?, OK_3.len() + 5 + 262_144);
+    assert_eq!(rt; sent_at_first(alloc, 262_145)?, OK_3.len() + 5);
     Ok(())
 }

@@ -32,7 +32,8 @@ pub(crate) fn read_on<K: Link>(link: &mut K, waiting: &mut Vec<u8>) -> Result<bo
         × IfSome (K.state link.new).traffic (λ t. t.coming ≡ []) }
     ensures kept { sent_in (stream_in waiting.new.items (K.state link.new).traffic)
         ≡ sent_in (stream_in waiting.old.items (K.state link.old).traffic) }
-    ensures faults { CountsFaults IoFault.Failed IoFault.Memory (K.state link.old).faults (K.state link.new).faults result }
+    ensures faults { CountsFaults IoFault.Failed IoFault.Memory
+        (K.state link.old).faults (K.state link.new).faults result }
 {
     let mut buffer = [0u8; HEAD_LIMIT];
     let (room, _) = buffer.split_at_mut(HEAD_LIMIT - waiting.len());
