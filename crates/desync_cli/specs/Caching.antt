@@ -1,6 +1,6 @@
 -- `cache -s STORE.. -c CACHE INDEX..`. A name is its bytes; files are a folder's, where they are told.
-use Rattle.std.specs.Prelude.{◌≡◌, ◌⊎◌, ℕ, ◌<◌, List, [], ◌∷◌, length, map, Option, Some, IfSome, IsSomeAnd, IsTrue, true}
-use Rattle.std.specs.Prelude.{is_some, Result, Ok, Err}
+use Rattle.std.specs.Prelude.{◌≡◌, ◌⊎◌, ℕ, ◌<◌, List, [], ◌∷◌, length, map}
+use Rattle.std.specs.Prelude.{Option, Some, IfSome, IsSomeAnd, IsTrue, true, is_some, Result, Ok, Err}
 use Rattle.std.specs.List.{All, AllZip, Any}
 use Rattle.std.specs.Option.{option_map}
 use Rattle.cache_store.specs.Giving.{GiveOneSize}
@@ -54,7 +54,8 @@ of_command w v stores cache = record {
 }
 
 -- over calls that led from the stores `before` to those `after`, and the count of the cache's faults from m to n
-abbrev pub of_calls : {S : Type 0} → (S → Option (Map (List ℕ))) → (S → Said) → (S → ℕ) → List S → List S → ℕ → ℕ → Evidence
+abbrev pub of_calls : {S : Type 0} → (S → Option (Map (List ℕ))) → (S → Said) → (S → ℕ)
+    → List S → List S → ℕ → ℕ → Evidence
 of_calls {S} files said counted before after m n = record {
   holds = λ fs. map files before ≡ map Some fs;
   refused = λ c r. (asked : List S) × (length asked ≡ length after) × Refuses said counted true c asked after r;
@@ -81,7 +82,8 @@ answer_of_fill (Err fault) = Err (outcome_of_fill fault)
 module _ (over : Evidence) where
   -- ---- filling the cache by one index, from files x to files y
 
-  -- the bytes are listed under the id with their size; and where all stores are folders that tell, some store holds them
+  -- the bytes are listed under the id with their size; and where all stores are folders that tell,
+  -- some store holds them
   abbrev pub IsHeldListed : Listing → List ℕ → List ℕ → Type 0
   IsHeldListed l q b = ((n : ℕ) × ListsSize l q n × IsChunk (kind_of l) q n b)
       × ((fs : List (Map (List ℕ))) → over.holds fs → Any (λ m. m q ≡ Some b) (map chunks fs))

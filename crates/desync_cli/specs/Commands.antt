@@ -84,8 +84,13 @@ parts h (commands.Chop store index image) = record
     { image = image; stores = store ∷ []; target = []; cache = []; listener = unheard }
 parts h (commands.Cache stores cache indexes) = record
     { image = []; stores = stores; target = []; cache = cache; listener = unheard }
-parts h (commands.Extract stores seeds cache in_place workers index target) = record
-    { image = []; stores = stores; target = if in_place then target else temporary_out target; cache = []; listener = unheard }
+parts h (commands.Extract stores seeds cache in_place workers index target) = record {
+  image = [];
+  stores = stores;
+  target = if in_place then target else temporary_out target;
+  cache = [];
+  listener = unheard;
+}
 parts h (commands.Info stores index) = record
     { image = []; stores = stores; target = []; cache = []; listener = unheard }
 parts h (commands.Verify store repair) = record

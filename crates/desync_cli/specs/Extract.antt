@@ -30,7 +30,8 @@ use Rattle.command_steps.specs.Cache.{CacheOpened}
 use Rattle.command_steps.specs.Openings.{IndexRead, IsListed}
 use Rattle.command_steps.specs.Seeds.{IndexesRead, image_name}
 use Rattle.command_steps.specs.Steps.{◌>>=◌}
-use Rattle.command_steps.specs.Sources.{DialsStores, FailsFirst, NotAsking, OnSources, Sources, SourcesOpened, said_at, sources, told_at}
+use Rattle.command_steps.specs.Sources.{DialsStores, FailsFirst, NotAsking, OnSources, Sources, SourcesOpened}
+use Rattle.command_steps.specs.Sources.{said_at, sources, told_at}
 use Rattle.command_steps.specs.Worlds.{DiskQuiet, FileRose, FolderRose, OnDisk, Step, World, Writes}
 use Rattle.dsy_base.specs.Disk.{Disk}
 use Rattle.store_chain.specs.Giving.{LacksAll}
@@ -175,8 +176,9 @@ StopsLacking w v stores cache out l x k id r = Told w.disk v.disk cache (λ b a 
 abbrev pub StopsFailed : Sources → Sources → List Location → Listing → ℕ → Type 0
 StopsFailed w v stores l s = (k : ℕ) × FailsFirst (LacksEntry l k) w v s stores × (k < count_of l)
 
--- the file became the image of the index, with chunks from the seeds, the cache and the stores, or why not. Where stores
--- are folders, undisturbed, it does so exactly where each entry can be had; else the first that can't be had is named
+-- the file became the image of the index, with chunks from the seeds, the cache and the stores, or why not. Where
+-- stores are folders, undisturbed, it does so exactly where each entry can be had; else the first that can't
+-- be had is named
 abbrev pub Assembled : Sources → Sources → List Location → Option (List ℕ) → Into → Listing → Seeds
     → Result Unit Outcome → Type 0
 Assembled w v stores cache out l x (Ok u) = Told w.disk v.disk cache (λ b a n cs.

@@ -11,7 +11,8 @@ use Rattle.verify_tool.specs.Texts.{text_of_info, unique_count}
 use Rattle.command_steps.specs.Openings.{IndexRead}
 use Rattle.command_steps.specs.Printing.{Printed}
 use Rattle.command_steps.specs.Steps.{◌>>=◌}
-use Rattle.command_steps.specs.Sources.{AllThere, ConsultsStores, FailsFirst, FirstUnreached, OnSources, Sources, told_at}
+use Rattle.command_steps.specs.Sources.{AllThere, ConsultsStores, FailsFirst, FirstUnreached}
+use Rattle.command_steps.specs.Sources.{OnSources, Sources, told_at}
 use Rattle.command_steps.specs.Worlds.{OnDisk, OnOut, Step, World}
 use Rattle.dsy_base.specs.Disk.{Disk}
 

@@ -53,8 +53,8 @@ StoreGiven (locations.Http host port prefix) held P Q w v = Q (said_at w v (loca
 abbrev pub AnySaid : Said → Type 0
 AnySaid said = Unit {0}
 
--- what a step leaves that writes a store: files stay, and no number falls. Where it is a server, folders stay too; where
--- it is a folder, no server was asked
+-- what a step leaves that writes a store: files stay, and no number falls. Where it is a server, folders stay too;
+-- where it is a folder, no server was asked
 pub record WritesStore (store : Location) (w v : Sources) : Type 0 where
   pub adds : Adds w.disk v.disk
   pub folders : IsTrue (not (is_folder store)) → v.disk.folders ≡ w.disk.folders
@@ -131,4 +131,5 @@ pub record FolderHas (folders folders_after : Map (Map (List ℕ))) (folder : Li
 -- so it is with the folder of a store. A server has taken or shown, under each listed id, bytes of that name
 abbrev pub StoreHas : Sources → Sources → Location → Listing → Type 0
 StoreHas w v (locations.Folder q) l = IfSome w.disk.folders (λ f. IfSome v.disk.folders (λ g. FolderHas f g q l))
-StoreHas w v (locations.Http host port prefix) l = SaysAll l (count_of l) (said_at w v (locations.Http host port prefix))
+StoreHas w v (locations.Http host port prefix) l =
+    SaysAll l (count_of l) (said_at w v (locations.Http host port prefix))

@@ -29,7 +29,8 @@ RoundTrip (Some (commands.Make store sizes workers index image))
 RoundTrip first then before after = Unit {0}
 
 -- two commands, one after the other: each ended so from what stood there before it
-abbrev pub InTurn : ListenState → ListenState → List (List ℕ) → List (List ℕ) → World → Outcome → Outcome → World → Type 0
+abbrev pub InTurn : ListenState → ListenState → List (List ℕ) → List (List ℕ)
+    → World → Outcome → Outcome → World → Type 0
 InTurn old new first then w one two v =
     (mid : ListenState) × (between : World)
     × DesyncEnds (heard old mid) first w (answer_of one) between

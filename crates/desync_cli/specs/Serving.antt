@@ -1,5 +1,5 @@
--- `chunk-server -s STORE -l HOST:PORT -w -n N`. Connections are taken in the order in which they come, and each is served to
--- its end before the next one is taken.
+-- `chunk-server -s STORE -l HOST:PORT -w -n N`. Connections are taken in the order in which they come, and each is
+-- served to its end before the next one is taken.
 use Rattle.std.specs.Prelude.{◌≡◌, ℕ, ◌⊎◌, Bool, List, [], ◌∷◌, ◌++◌, Option, Some, IfSome, Result, Ok, Err}
 use Rattle.std.specs.Map.{count_at}
 use Rattle.std.specs.Option.{option_map}

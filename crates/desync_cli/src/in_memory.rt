@@ -34,7 +34,8 @@ pub fn desync_in_memory<R: Threads + Sync, D: Dial, L: Listen>(
 ) -> Ended
     ensures done { result.outcome ≡ Outcome.Done → IfSome (command_of (map string_bytes words.now))
         (λ c. Achieves (heard (L.state listen.old) (L.state listen.new)) c
-        (world (disk_of files.old) (D.state dial.old) (output_of out.old)) (world (disk_of files.new) (D.state dial.new) (output_of out.new))) }
+        (world (disk_of files.old) (D.state dial.old) (output_of out.old))
+        (world (disk_of files.new) (D.state dial.new) (output_of out.new))) }
     ensures ends { DesyncEnds (heard (L.state listen.old) (L.state listen.new)) (map string_bytes words.now)
         (world (disk_of files.old) (D.state dial.old) (output_of out.old))
         (answer_of result.outcome) (world (disk_of files.new) (D.state dial.new) (output_of out.new)) }
@@ -55,7 +56,8 @@ pub fn make_then_extract<R: Threads + Sync, D: Dial, L: Listen>(
     out: &mut MemSink,
     err: &mut MemSink,
 ) -> (Ended, Ended)
-    ensures ends { InTurn (L.state listen.old) (L.state listen.new) (map string_bytes make.now) (map string_bytes extract.now)
+    ensures ends { InTurn (L.state listen.old) (L.state listen.new)
+        (map string_bytes make.now) (map string_bytes extract.now)
         (world (disk_of files.old) (D.state dial.old) (output_of out.old)) result.0.outcome result.1.outcome
         (world (disk_of files.new) (D.state dial.new) (output_of out.new)) }
     ensures done { result.0.outcome ≡ Outcome.Done → result.1.outcome ≡ Outcome.Done →

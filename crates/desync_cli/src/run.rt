@@ -120,7 +120,8 @@ where
     F::View: Send,
     ensures refused { command_of (map string_bytes words.now) ≡ None → (files.new ≡ files.old)
         × (dial.new ≡ dial.old) × (listen.new ≡ listen.old) × (out.new ≡ out.old) }
-    ensures unheard { IfSome (command_of (map string_bytes words.now)) (λ c. listens c ≡ false → listen.new ≡ listen.old) }
+    ensures unheard { IfSome (command_of (map string_bytes words.now))
+        (λ c. listens c ≡ false → listen.new ≡ listen.old) }
     ensures ends { DesyncEnds (heard (L.state listen.old) (L.state listen.new)) (map string_bytes words.now)
         (world (F.disk files.old) (D.state dial.old) (O.output out.old)) result
         (world (F.disk files.new) (D.state dial.new) (O.output out.new)) }
@@ -188,7 +189,8 @@ where
         (world (F.disk files.new) (D.state dial.new) (O.output out.new))) }
 
     // A command that doesn't listen leaves the listener as it was.
-    ensures unheard { IfSome (command_of (map string_bytes words.now)) (λ c. listens c ≡ false → listen.new ≡ listen.old) }
+    ensures unheard { IfSome (command_of (map string_bytes words.now))
+        (λ c. listens c ≡ false → listen.new ≡ listen.old) }
 
     // What a refusal leaves of what the command would have written.
     ensures left { result.outcome ≢ Outcome.Done → IfSome (command_of (map string_bytes words.now)) (λ c. LeavesBehind c

@@ -3,7 +3,8 @@
 ghost use Rattle.std.specs.Prelude.{◌≡◌, ℕ, List, ◌≤◌, All, map, length, IfSome, IsSome, Some};
 ghost use Rattle.cache_store.specs.Shelves.{shelf_of};
 ghost use Rattle.chunk_store.specs.declared.id.DigestKind.TheVariants as kinds;
-ghost use Rattle.command_steps.specs.AnySources.{IsKnown, chunks_in, faults_in, files_in, location_in, place_in, said_in};
+ghost use Rattle.command_steps.specs.AnySources.{IsKnown, chunks_in, faults_in, files_in};
+ghost use Rattle.command_steps.specs.AnySources.{location_in, place_in, said_in};
 ghost use Rattle.command_steps.specs.Cache.{with_cache};
 ghost use Rattle.command_steps.specs.Sources.{sources, told_at};
 ghost use Rattle.command_steps.specs.Worlds.{Reads, world};

@@ -1,6 +1,7 @@
 //! `make -s STORE INDEX IMAGE`: INDEX becomes the index of IMAGE, and STORE holds each of its chunks.
 
-ghost use Rattle.std.specs.Prelude.{◌≡◌, ℕ, ◌<◌, ◌≤◌, List, Option, map, vec_len, All, Ok, Err, IfErr, IfOk, IsSome, OnOk};
+ghost use Rattle.std.specs.Prelude.{◌≡◌, ℕ, ◌<◌, ◌≤◌, List, Option, map, vec_len, All};
+ghost use Rattle.std.specs.Prelude.{Ok, Err, IfErr, IfOk, IsSome, OnOk};
 ghost use Rattle.std.specs.Map.{count_at};
 ghost use Rattle.buzhash_cut.specs.Image.{AreOfOneImage};
 ghost use Rattle.command_steps.specs.AnySources.{IsGiven, IsKnown, faults_in, files_in, location_in};
@@ -148,8 +149,8 @@ fn write_index<F: Files>(files: &mut F, name: Name, bytes: &[u8]) -> Result<(), 
     }
 }
 
-/// Makes INDEX the index of IMAGE, cut by the sizes with so many workers, and puts its chunks into STORE. What STORE holds
-/// already is left where it is right.
+/// Makes INDEX the index of IMAGE, cut by the sizes with so many workers, and puts its chunks into STORE. What STORE
+/// holds already is left where it is right.
 pub fn make<R: Threads + Sync, F: ImageFiles, D: Dial>(
     rt: &R,
     alloc: Global,

@@ -5,8 +5,8 @@ ghost use Rattle.std.specs.Prelude.{◌≡◌, ◌≤◌, ◌⊎◌, [], false, 
 ghost use Rattle.chunk_server.specs.Shelves.{shelved};
 ghost use Rattle.chunk_store.specs.declared.id.DigestKind.TheVariants as kinds;
 ghost use Rattle.command_steps.specs.Worlds.{world};
-ghost use Rattle.desync_cli.specs.Serving.{ChunkServerEnds, FolderServed, Hears, IsIdle, IsServed, LacksMemory, Listens, RunsOut};
-ghost use Rattle.desync_cli.specs.Serving.{answer_of_serving, heard};
+ghost use Rattle.desync_cli.specs.Serving.{ChunkServerEnds, FolderServed, Hears, IsIdle, IsServed, LacksMemory};
+ghost use Rattle.desync_cli.specs.Serving.{Listens, RunsOut, answer_of_serving, heard};
 ghost use Rattle.dsy_base.specs.Counts.{Rose};
 ghost use Rattle.dsy_base.specs.Disk.{Output};
 ghost use Rattle.dsy_base.specs.Links.{DialState};
@@ -159,8 +159,8 @@ fn serve_taken<F: Files, L: Listen>(
     ended(served)
 }
 
-/// Serves the chunks of STORE over the connections that come at an address, until no more come. Where `writable` is true
-/// chunks may be put.
+/// Serves the chunks of STORE over the connections that come at an address, until no more come. Where `writable` is
+/// true chunks may be put.
 pub fn chunk_server<F: Files, L: Listen>(
     alloc: Global,
     files: &mut F,
