@@ -1,7 +1,7 @@
 #!/bin/bash
 # What must never stand in the repository, and what must: tags and names of planning papers, paths of one
-# machine, files that are too long, crates that crates.txt or a document leaves out, and what a document names that
-# isn't there: crates, labels of clauses, definitions and functions.
+# machine, files and lines that are too long, crates that crates.txt or a document leaves out, and what a document
+# names that isn't there: crates, labels of clauses, definitions and functions.
 cd "$(dirname "$0")/.." || exit 1
 passed=0
 failed=0
@@ -28,6 +28,18 @@ files() {
 # Lines of text files that match an extended regular expression.
 lines() { files | xargs -0 -r grep -nHIE -- "$1" 2> /dev/null; }
 
+# Lines of the files in src and specs that have more than 120 characters, whatever the locale.
+wide() {
+    python3 - << 'END'
+from glob import glob
+for path in sorted(glob('crates/*/src/**/*.rt', recursive=True) + glob('crates/*/specs/**/*.antt', recursive=True)):
+    with open(path, encoding='utf-8') as file:
+        for number, line in enumerate(file, 1):
+            if len(line.rstrip('\n')) > 120:
+                print(f'{path}:{number}')
+END
+}
+
 crates() { for folder in crates/*/; do [ -d "$folder" ] && basename "$folder"; done; }
 
 listed() { sed -n -E 's/^([a-z][a-z0-9_]*)[ :].*/\1/p' crates.txt; }
@@ -37,6 +49,7 @@ check 'names of planning papers' "$(lines '\<(scope|promises|roadmap|formats|set
 check 'paths of one machine' "$(lines '(^|[^A-Za-z0-9_.~-])/(opt|work|root)[/]')"
 check 'files of more than 800 lines' "$(files | xargs -0 -r wc -l 2> /dev/null |
     awk '$2 ~ /^(\.\/)?crates\// && $1 > 800')"
+check 'lines of more than 120 columns' "$(wide)"
 check 'files that are built' "$(files | tr '\0' '\n' | grep -E '(^|/)(out|bin|__pycache__)/')"
 check 'crates that crates.txt leaves out' "$(comm -23 <(crates | sort) <(listed | sort))"
 check 'crates of crates.txt that are not there' "$(comm -13 <(crates | sort) <(listed | sort))"

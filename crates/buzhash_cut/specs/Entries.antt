@@ -24,9 +24,11 @@ AreLinked P start [] end = start ≡ end
 AreLinked P start (e ∷ es) end = P start e × AreLinked P e.0 es end
 
 -- what cutting from `start` to `end` gives: the entries of the chunks of the bytes, where these are told
-pub record AreEntries (s : Sizes) (bytes : Option (List ℕ)) (start : ℕ) (es : List (ℕ × List ℕ)) (end : ℕ) : Type 0 where
-  pub steps : AreLinked (IsStep s.greatest) start es end
-  pub chunks : IfSome bytes (λ t. AreLinked (IsChunk s t) start es end)
+pub record AreEntries (s : Sizes) (bytes : Option (List ℕ)) (start : ℕ) (es : List (ℕ × List ℕ)) (end : ℕ) :
+    Type 0
+  where
+    pub steps : AreLinked (IsStep s.greatest) start es end
+    pub chunks : IfSome bytes (λ t. AreLinked (IsChunk s t) start es end)
 
 -- what a worker leaves that cut from `start` on, however far it came
 pub record IsRun (s : Sizes) (h : Held) (start : ℕ) (es : List (ℕ × List ℕ)) : Type 0 where

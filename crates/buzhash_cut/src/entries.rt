@@ -1,6 +1,7 @@
 //! The entries of an index, as an image is cut.
 
-ghost use Rattle.std.specs.Prelude.{◌≡◌, ◌≢◌, ℕ, ◌+◌, ◌<◌, ◌≤◌, [], ◌∷◌, ◌++◌, length, IfOk, IfErr, IfSome, OnOk, OnErr};
+ghost use Rattle.std.specs.Prelude.{◌≡◌, ◌≢◌, ℕ, ◌+◌, ◌<◌, ◌≤◌, [], ◌∷◌, ◌++◌, length, IfOk, IfErr, IfSome, OnOk};
+ghost use Rattle.std.specs.Prelude.{OnErr};
 ghost use Rattle.buzhash_cut.specs.Entries.{AreEntries, AreLinked, AreTooMany, IsRun, IsStep};
 ghost use Rattle.buzhash_cut.specs.Slicing.{IsWithin, HasRead, begun_by};
 ghost use Rattle.caibx_codec.specs.Seen.{pair, pairs};
@@ -36,7 +37,8 @@ pub(crate) fn add_run(entries: &mut Vec<Entry>, run: &[Entry]) -> Result<u64, Cu
     requires some { 0 < length run.now }
     requires few { length (pairs entries.old.items) ≤ 4194304 }
     ensures added { OnOk result (pairs entries.new.items ≡ pairs entries.old.items ++ pairs run.now) }
-    ensures end { IfOk result (λ e. (greatest start end : ℕ) → AreLinked (IsStep greatest) start (pairs run.now) end → e ≡ end) }
+    ensures end { IfOk result (λ e. (greatest start end : ℕ) → AreLinked (IsStep greatest) start (pairs run.now) end
+        → e ≡ end) }
     ensures few { OnOk result (length (pairs entries.new.items) ≤ 4194304) }
     ensures many { IfErr result (λ f. f ≡ CutFault.TooManyItems →
         4194304 < length (pairs entries.old.items) + length (pairs run.now)) }

@@ -53,7 +53,8 @@ fn index_by<R: Threads + Sync, V: View + Send>(
     ensures few { IfOk result (λ l. count_of l ≤ 4194304) }
     ensures kept { map (λ w. V.held w.view) workers.new.items ≡ map (λ w. V.held w.view) workers.old.items }
     ensures len { vec_len workers.new ≡ vec_len workers.old }
-    ensures faults { CountsViews CutFault.ImageFault CutFault.Memory (reverse (map (λ w. V.faults w.view) workers.old.items))
+    ensures faults { CountsViews CutFault.ImageFault CutFault.Memory
+        (reverse (map (λ w. V.faults w.view) workers.old.items))
         (reverse (map (λ w. V.faults w.view) workers.new.items)) result }
 {
     let entries = match entries_by(rt, alloc, workers, sizes) {
@@ -83,7 +84,8 @@ pub fn index_view<R: Threads + Sync, V: View + Send>(
     ensures size { IfOk result.1 (λ l. All (λ v. image_length l ≡ (V.held v).size) views.items) }
     ensures kept { map V.held result.0.items ≡ map V.held views.items }
     ensures few { IfOk result.1 (λ l. count_of l ≤ 4194304) }
-    ensures faults { CountsViews CutFault.ImageFault CutFault.Memory (map V.faults views.items) (map V.faults result.0.items) result.1 }
+    ensures faults { CountsViews CutFault.ImageFault CutFault.Memory
+        (map V.faults views.items) (map V.faults result.0.items) result.1 }
 {
     let mut views = views;
     let Ok(mut workers) = Vec::with_capacity(alloc, views.len()) else {

@@ -114,7 +114,8 @@ impl Slicer {
         requires more { self.old.at < (V.held view.old).size }
         ensures within { OnOk result (IsWithin self.new (V.held view.old).size) }
         ensures some { OnOk result (self.new.from < self.new.upto) }
-        ensures same { (self.new.cutter ≡ self.old.cutter) × (self.new.start ≡ self.old.start) × (self.new.at ≡ self.old.at) }
+        ensures same { (self.new.cutter ≡ self.old.cutter) × (self.new.start ≡ self.old.start)
+            × (self.new.at ≡ self.old.at) }
         ensures read { OnOk result (IfSome (V.held view.old).bytes (λ t. HasRead self.old t → HasRead self.new t)) }
         ensures kept { V.held view.new ≡ V.held view.old }
         ensures faults { CountsRefusals (V.faults view.old) (V.faults view.new) result }

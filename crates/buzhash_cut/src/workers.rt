@@ -112,7 +112,8 @@ pub(crate) fn entries_by<R: Threads + Sync, V: View + Send>(
         All (AreTooMany sizes.now) (map (λ w. V.held w.view) workers.old.items)) }
     ensures kept { map (λ w. V.held w.view) workers.new.items ≡ map (λ w. V.held w.view) workers.old.items }
     ensures len { vec_len workers.new ≡ vec_len workers.old }
-    ensures faults { CountsViews CutFault.ImageFault CutFault.Memory (reverse (map (λ w. V.faults w.view) workers.old.items))
+    ensures faults { CountsViews CutFault.ImageFault CutFault.Memory
+        (reverse (map (λ w. V.faults w.view) workers.old.items))
         (reverse (map (λ w. V.faults w.view) workers.new.items)) result }
 {
     cut_all(rt, alloc, workers, sizes);

@@ -52,8 +52,8 @@ pub record KeepsShelf (old new : Shelf) : Type 0 where
   pub kind : new.kind ≡ old.kind
   pub never_falls : old.faults ≤ new.faults
 
--- chunks were added to a shelf: under each id it holds what it held, or bytes that may stand there by `Takes`. Each file
--- that is neither a chunk's nor a temporary one stands as before
+-- chunks were added to a shelf: under each id it holds what it held, or bytes that may stand there by `Takes`. Each
+-- file that is neither a chunk's nor a temporary one stands as before
 pub record Stocks (Takes : List ℕ → List ℕ → Type 0) (old new : Shelf) : Type 0 where
   pub told : is_some new.files ≡ is_some old.files
   pub chunks : IfSome old.files (λ m. IfSome new.files (λ n. (q : List ℕ) →

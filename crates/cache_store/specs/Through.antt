@@ -1,5 +1,6 @@
 -- How a chunk is had through a shelf: from it, or else from a chain of stores, and then added to it.
-use Rattle.std.specs.Prelude.{◌≡◌, ℕ, List, map, take, true, false, Option, Some, IfSome, IfOk, IfErr, IsTrue, Bool, Result, Ok, Err, slice_index}
+use Rattle.std.specs.Prelude.{◌≡◌, ℕ, List, map, take, true, false, Option, Some, IfSome, IfOk, IfErr, IsTrue}
+use Rattle.std.specs.Prelude.{Bool, Result, Ok, Err, slice_index}
 use Rattle.cache_store.specs.Shelves.{KeepsShelf, Shelf, Shelved, held_on, shelf_of}
 use Rattle.cache_store.specs.declared.cached.Got.{Got}
 use Rattle.cache_store.specs.declared.cached.Kept.{Kept}
@@ -58,9 +59,11 @@ module _ {F S : Type 0} (files : F → Option (Map (List ℕ))) (place : F → L
     -- the shelf didn't give it, and the stores were asked once: what they gave was added to the shelf
     pub record FromStores (w : Want) (old new : Behind F S) (r : Result Got Refused) (out : List ℕ) : Type 0 where
       pub unfound : Unfound w (shelf_of files place faults_of old.shelf) (shelf_of files place faults_of new.shelf)
-      pub added : ShelfAdds w (shelf_of files place faults_of old.shelf) (shelf_of files place faults_of new.shelf) r out
+      pub added : ShelfAdds w (shelf_of files place faults_of old.shelf)
+          (shelf_of files place faults_of new.shelf) r out
       pub asks : AsksOnce asked queried w.id.0 old.chain new.chain
-      pub found : IfOk r (λ got. GivenBy said faults lacks_memory w (take got.size out) old.chain.stores new.chain.stores)
+      pub found : IfOk r
+          (λ got. GivenBy said faults lacks_memory w (take got.size out) old.chain.stores new.chain.stores)
       pub absent : IfErr r (Refuses said faults lacks_memory w old.chain.stores new.chain.stores)
       pub first : (maps : List (Map (List ℕ))) → map holds old.chain.stores ≡ map Some maps → IfErr r (LacksAll w maps)
       pub exactly : (maps : List (Map (List ℕ))) → map holds old.chain.stores ≡ map Some maps

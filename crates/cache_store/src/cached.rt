@@ -100,11 +100,11 @@ pub fn obtain_through<F: Folder, S: Store>(
     requires unnamed { (F.pairs ≡ None) × (F.stores ≡ None) }
     ensures ok { IfOk result (λ got. IsGiven (want_of chain.old.kind id.now size (length out.old)) got.size out.new) }
     ensures ends { FromShelf F.files F.place F.faults (want_of chain.old.kind id.now size (length out.old))
-        (record { shelf = shelf.old; chain = chain.old }) (record { shelf = shelf.new; chain = chain.new }) result out.new
+        (record { shelf = shelf.old; chain = chain.old })
+        (record { shelf = shelf.new; chain = chain.new }) result out.new
         ⊎ FromStores F.files F.place F.faults S.holds S.said S.faults S.may_lack_memory S.asked S.queried
-        (want_of chain.old.kind id.now size (length out.old))
-        (record { shelf = shelf.old; chain = chain.old }) (record { shelf = shelf.new; chain = chain.new }) result
-        out.new }
+        (want_of chain.old.kind id.now size (length out.old)) (record { shelf = shelf.old; chain = chain.old })
+        (record { shelf = shelf.new; chain = chain.new }) result out.new }
     ensures stocks { Stocks (λ q b. (q ≡ id.now.0) × IsWanted (want_of chain.old.kind id.now size (length out.old)) b
         × SomeHolds S.holds chain.old.stores q b) (shelf_of F.files F.place F.faults shelf.old)
         (shelf_of F.files F.place F.faults shelf.new) }

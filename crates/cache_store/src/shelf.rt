@@ -1,4 +1,5 @@
-//! A folder of chunks as a shelf: what is found on it is named first, and what is added has its name. Sizes are in bytes.
+//! A folder of chunks as a shelf: what is found on it is named first, and what is added has its name.
+//! Sizes are in bytes.
 
 ghost use Rattle.std.specs.Prelude.{◌≡◌, ◌≤◌, length, Some, IfSome, IfOk, OnOk, OnErr};
 ghost use Rattle.std.specs.List.{Any};

@@ -56,15 +56,16 @@ abbrev pub IsKnown : Map ℕ → Location → Type 0
 IsKnown counts (locations.Folder q) = IsSome (counts q)
 IsKnown counts (locations.Http host port prefix) = Unit {0}
 
--- what a store over connections has counted and heard, with this dialer, was added to a dialer; and replies weren't taken
--- only where a connection shows one
+-- what a store over connections has counted and heard, with this dialer, was added to a dialer; and replies weren't
+-- taken only where a connection shows one
 pub record IsJoined (k j : DialState) (server : Server) (dial : DialState) (refused : ℕ) : Type 0 where
   pub faults : raised k.faults dial.faults ≤ j.faults
   pub ended : AreAmong dial.ended (since k.ended j.ended)
   pub cause : HasCause server refused dial.ended
 
 -- what it has counted was added to the number of its folder, at the least, or to what was dialed
-abbrev pub IsGiven : {L D K : Type 0} → (L → List ℕ) → (L → ℕ) → (D → DialState) → Sources → Sources → AnySource L D K → Type 0
+abbrev pub IsGiven : {L D K : Type 0} → (L → List ℕ) → (L → ℕ) → (D → DialState)
+    → Sources → Sources → AnySource L D K → Type 0
 IsGiven place faults state w v (stores.Folder l) =
     raised (count_at w.disk.folder_counts (place l)) (faults l) ≤ count_at v.disk.folder_counts (place l)
 IsGiven place faults state w v (stores.Http r) = IsJoined w.dial v.dial r.server (state r.dial) r.refused

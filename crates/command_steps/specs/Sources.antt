@@ -1,5 +1,7 @@
--- What stores are reached through, files and folders, and connections to servers; and what is known of a store over a step.
-use Rattle.std.specs.Prelude.{◌≡◌, ◌⊎◌, ◌++◌, ℕ, List, [], ◌∷◌, Option, Some, None, IfSome, IsSome, IsTrue, slice_index_or, Ok, Err}
+-- What stores are reached through, files and folders, and connections to servers; and what is known of
+-- a store over a step.
+use Rattle.std.specs.Prelude.{◌≡◌, ◌⊎◌, ◌++◌, ℕ, List, [], ◌∷◌}
+use Rattle.std.specs.Prelude.{Option, Some, None, IfSome, IsSome, IsTrue, slice_index_or, Ok, Err}
 use Rattle.std.specs.List.{All, Any}
 use Rattle.std.specs.Option.{option_map}
 use Rattle.chunk_store.specs.Folders.{chunks}
@@ -94,7 +96,8 @@ StoreRose w v (locations.Http host port prefix) = Rose w.dial.faults v.dial.faul
 -- when the stores were asked for something, that of this number failed, each before it lacks it, and each after it
 -- lacks it or failed too
 abbrev pub FailsFirst : (Said → Type 0) → Sources → Sources → ℕ → List Location → Type 0
-FailsFirst lacks w v = FirstAt (λ s. lacks (said_at w v s)) (StoreRose w v) (λ s. lacks (said_at w v s) ⊎ StoreRose w v s)
+FailsFirst lacks w v =
+    FirstAt (λ s. lacks (said_at w v s)) (StoreRose w v) (λ s. lacks (said_at w v s) ⊎ StoreRose w v s)
 
 -- ---- how opening may refuse
 

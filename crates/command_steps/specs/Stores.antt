@@ -1,5 +1,5 @@
--- What words name as stores, and how their folders are reached. A store is seen by its folder's files, its place and its
--- faults.
+-- What words name as stores, and how their folders are reached. A store is seen by its folder's files, its place and
+-- its faults.
 use Rattle.std.specs.Prelude.{◌≡◌, ℕ, ◌&&◌, Bool, true, false, List, [], ◌∷◌, Option, Some, None, IfSome, Ok, Err}
 use Rattle.std.specs.Option.{option_map}
 use Rattle.command_line.specs.declared.command.Location.{Location}

@@ -21,7 +21,8 @@ pub enum AnySource<L: Look, D: Dial> {
 impl<L: Look, D: Dial> Store for AnySource<L, D> {
     ghost use Rattle.std.specs.Prelude.{false, true};
     ghost use Rattle.std.proofs.Common.{rules};
-    ghost use Rattle.command_steps.specs.AnySources.{chunks_in, files_in, place_in, faults_in, said_in, lies_any, says_any};
+    ghost use Rattle.command_steps.specs.AnySources.{chunks_in, files_in, place_in, faults_in, said_in};
+    ghost use Rattle.command_steps.specs.AnySources.{lies_any, says_any};
     ghost use Rattle.dir_store.specs.Stores.{unasked_map};
 
     ghost holds = { chunks_in L.files };

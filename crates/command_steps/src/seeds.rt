@@ -1,12 +1,13 @@
 //! Seeds: other images at hand, each named by its index. The index `X.caibx` is that of the image X.
 
-ghost use Rattle.std.specs.Prelude.{◌≡◌, ℕ, ◌≤◌, ◌+◌, List, ◌∷◌, [], ◌++◌, map, IfSome, IfOk, IfErr, IsSome, OnErr, OnOk};
+ghost use Rattle.std.specs.Prelude.{◌≡◌, ℕ, ◌≤◌, ◌+◌, List, ◌∷◌, [], ◌++◌, map};
+ghost use Rattle.std.specs.Prelude.{IfSome, IfOk, IfErr, IsSome, OnErr, OnOk};
 ghost use Rattle.std.specs.List.{All, AllZip};
 ghost use Rattle.std.specs.Map.{count_at};
 ghost use Rattle.caibx_codec.specs.Listing.{Listing, count_of};
 ghost use Rattle.command_steps.specs.Openings.{Listed};
-ghost use Rattle.command_steps.specs.Seeds.{AllListed, IsSeedAt, IsViewed, NoneListed, OpensSeeds, SeedsKnown, image_name, items_with};
-ghost use Rattle.command_steps.specs.Seeds.{label_in};
+ghost use Rattle.command_steps.specs.Seeds.{AllListed, IsSeedAt, IsViewed, NoneListed, OpensSeeds, SeedsKnown};
+ghost use Rattle.command_steps.specs.Seeds.{image_name, items_with, label_in};
 ghost use Rattle.command_steps.specs.Worlds.{Reads};
 ghost use Rattle.dsy_base.specs.Counts.{raised};
 ghost use Rattle.extract_plan.specs.Places.{items_of, seed_item_limit};
@@ -85,7 +86,8 @@ pub fn read_indexes<F: Files>(
 // Opens one image. A seed has no view where the file isn't there, or where opening it fails.
 fn open<F: Files>(files: &mut F, image: &str) -> Result<Seed<F::View>, Memory>
     ensures ok { IfOk result (IsSeedAt F.View.held F.View.faults (F.disk files.old) (F.disk files.new) image.now) }
-    ensures known { IfOk result (λ s. IfSome s.view (λ v. IsSome ((F.disk files.new).file_counts (F.View.held v).name))) }
+    ensures known { IfOk result
+        (λ s. IfSome s.view (λ v. IsSome ((F.disk files.new).file_counts (F.View.held v).name))) }
     ensures kept { Reads (F.disk files.old) (F.disk files.new) }
 {
     match files.view(image) {

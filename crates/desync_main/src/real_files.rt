@@ -52,8 +52,8 @@ fn stat<R: System<File = File>>(rt: &R, name: &str) -> Found {
     }
 }
 
-// The size of the file, which is made where there is none. A fresh one isn't the file that stood there, so that what else
-// names or links to that stays as it is.
+// The size of the file, which is made where there is none. A fresh one isn't the file that stood there, so that what
+// else names or links to that stays as it is.
 fn open_file<R: System<File = File>>(rt: &R, name: &str, fresh: bool) -> io::Result<u64> {
     if fresh && fs::symlink_metadata(rt, name).is_ok() {
         fs::remove_file(rt, name)?;

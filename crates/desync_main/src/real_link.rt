@@ -67,9 +67,9 @@ impl<S: Read + Write + OpenStream + Drop> RealLink<S> {
         let _ = self.stream.shutdown(Shutdown::Write);
     }
 
-    /// Says that nothing more is sent, and takes what the peer still sends, for a short time: the end of a connection that is
-    /// closed before that was taken may reach the peer before the last reply does (RFC 9112, section 9.6). Where a call on
-    /// it has failed nothing is waited for.
+    /// Says that nothing more is sent, and takes what the peer still sends, for a short time: the end of a connection
+    /// that is closed before that was taken may reach the peer before the last reply does (RFC 9112, section 9.6).
+    /// Where a call on it has failed nothing is waited for.
     pub fn linger(&mut self) {
         if self.faults > 0 || self.stream.shutdown(Shutdown::Write).is_err() {
             return;

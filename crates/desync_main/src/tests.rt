@@ -1,5 +1,5 @@
-//! The adapters over real files, in a folder of their own under the system's temporary folder, and over connections from
-//! the machine to itself.
+//! The adapters over real files, in a folder of their own under the system's temporary folder, and over connections
+//! from the machine to itself.
 
 use crate::real_dial::RealDial;
 use crate::real_files::RealFiles;

@@ -87,7 +87,8 @@ fn beginning(id: &ChunkId) -> u32 {
 fn place_of(sorted: &[Keyed], key: &ChunkKey) -> usize
     requires { IsSorted keyed_cmp sorted.now }
     ensures inside { result ≤ length sorted.now }
-    ensures below { (j : ℕ) (d : Keyed) → j < result → is_lt (key_cmp (slice_index_or sorted.now j d).key key.now) ≡ true }
+    ensures below { (j : ℕ) (d : Keyed) → j < result →
+        is_lt (key_cmp (slice_index_or sorted.now j d).key key.now) ≡ true }
     ensures above { (d : Keyed) → result < length sorted.now →
         is_lt (key_cmp (slice_index_or sorted.now result d).key key.now) ≡ false }
 {

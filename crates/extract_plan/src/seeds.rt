@@ -7,7 +7,8 @@ ghost use Rattle.caibx_codec.specs.Listing.{Listing, count_of};
 ghost use Rattle.extract_plan.specs.Deal.{AreWants};
 ghost use Rattle.extract_plan.specs.Found.{AreFound, AreNumbered};
 ghost use Rattle.extract_plan.specs.Keys.{keyed_cmp, number_of};
-ghost use Rattle.extract_plan.specs.Places.{IsPlaced, IsSeedIndex, PlacesKnown, items_of, nth_place, places_at, seed_item_limit};
+ghost use Rattle.extract_plan.specs.Places.{IsPlaced, IsSeedIndex, PlacesKnown};
+ghost use Rattle.extract_plan.specs.Places.{items_of, nth_place, places_at, seed_item_limit};
 ghost use Rattle.extract_plan.specs.declared.seeds.SeedFault.TheVariants.{TooManyItems};
 
 use crate::keyed::{Keyed, number_in};

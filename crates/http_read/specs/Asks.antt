@@ -1,5 +1,5 @@
--- What a store sends to its server: the head of an ask, and after that of a PUT the chunk. Which paths there are is this
--- project's own.
+-- What a store sends to its server: the head of an ask, and after that of a PUT the chunk. Which paths there are is
+-- this project's own.
 use Rattle.std.specs.Prelude.{◌≡◌, ℕ, ◌≤◌, List, [], ◌∷◌, ◌++◌, length, take, Some, None, codes}
 use Rattle.chunk_store.specs.Paths.{path_of}
 use Rattle.http_wire.specs.Ask.{ask}

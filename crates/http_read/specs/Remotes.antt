@@ -17,8 +17,8 @@ pub record Remote (D : Type 0) : Type 0 where
   pub refused : ℕ
   pub last : Option BadReply
 
--- the connections that have ended, where they are told, what the dialer has counted, how many replies weren't taken, and
--- why the last of these wasn't
+-- the connections that have ended, where they are told, what the dialer has counted, how many replies weren't taken,
+-- and why the last of these wasn't
 pub record Log : Type 0 where
   pub ended : Option (List Traffic)
   pub faults : ℕ
@@ -53,8 +53,8 @@ pub record CountsBad (m : Method) (ask : List ℕ) (room : ℕ) (old new : Log) 
 
 -- what a call leaves that sends this ask, where there is so much room for a body. It makes at most one connection. It
 -- fails where the dialer counted a fault or the reply wasn't taken, and only a call that fails counts such a reply
-pub record Calls {A E : Type 0} (m : Method) (ask : List ℕ) (room : ℕ) (failed : E) (old new : Log) (result : Result A E)
-    : Type 0 where
+pub record Calls {A E : Type 0} (m : Method) (ask : List ℕ) (room : ℕ) (failed : E) (old new : Log)
+    (result : Result A E) : Type 0 where
   pub ended : (new.ended ≡ old.ended) ⊎ AddsOne (λ t. IsFront ask t.sent) old.ended new.ended
   pub counts : KeepsCount old new ⊎ ((result ≡ Err failed) × CountsBad m ask room old new)
   pub cause : result ≡ Err failed → Rose old.faults new.faults ⊎ CountsBad m ask room old new

@@ -1,5 +1,5 @@
--- How many bytes of a body may still come before it is whole or has a fault. Each chunk of one byte or more has a size line
--- and a line end, so the bound goes by the room that is left.
+-- How many bytes of a body may still come before it is whole or has a fault. Each chunk of one byte or more has a size
+-- line and a line end, so the bound goes by the room that is left.
 use Rattle.std.specs.Prelude.{ℕ, ◌+◌, ◌-◌, ◌*◌, length}
 use Rattle.http_wire.specs.Seen.{Kept}
 use Rattle.http_wire.specs.declared.progress.Next.{Next}

@@ -1,6 +1,6 @@
 -- The bytes of an ask up to the empty line after its head: the request line (RFC 9112, section 3), `Host` (RFC 9110,
--- section 7.2), `Accept-Encoding` (RFC 9110, section 12.5.3), `Connection` (RFC 9112, section 9.6) and `Content-Length` (RFC
--- 9112, section 6.2). Which lines there are, and their order, is this project's own.
+-- section 7.2), `Accept-Encoding` (RFC 9110, section 12.5.3), `Connection` (RFC 9112, section 9.6) and `Content-Length`
+-- (RFC 9112, section 6.2). Which lines there are, and their order, is this project's own.
 use Rattle.std.specs.Prelude.{ℕ, List, [], ◌++◌, if◌then◌else◌, ◌==◌, Option, Some, None, codes}
 use Rattle.std.specs.Fmt.{decimal}
 use Rattle.http_wire.specs.declared.reply.Method.{Method}

@@ -1,6 +1,7 @@
--- Reading the body of a reply byte by byte, up to the first fault (RFC 9112, sections 6.3, 7.1 and 8). The limits are this
--- project's own.
-use Rattle.std.specs.Prelude.{ℕ, ◌+◌, ◌-◌, List, [], ◌∷◌, ◌++◌, length, Result, Ok, Err, nat_lt, nat_le, ◌==◌, if◌then◌else◌, Bool, true, false, Option, Some, None}
+-- Reading the body of a reply byte by byte, up to the first fault (RFC 9112, sections 6.3, 7.1 and 8). The limits are
+-- this project's own.
+use Rattle.std.specs.Prelude.{ℕ, ◌+◌, ◌-◌, List, [], ◌∷◌, ◌++◌, length, Result, Ok, Err, nat_lt, nat_le, ◌==◌}
+use Rattle.std.specs.Prelude.{if◌then◌else◌, Bool, true, false, Option, Some, None}
 use Rattle.http_wire.specs.declared.fault.WireFault.{WireFault}
 use Rattle.http_wire.specs.declared.fault.WireFault.TheVariants as faults
 use Rattle.http_wire.specs.declared.body.BodyKind.{BodyKind}
@@ -64,7 +65,8 @@ expected wanted after r b = if b == wanted then Ok (record r { next = after }) e
 -- a byte of the trailer that doesn't end it
 unfoldable pub trailed : Next → Reading → Result Reading WireFault
 trailed after r =
-    if nat_le trailer_limit (r.trailer + 1) then Err faults.BadChunk else Ok (record r { next = after; trailer = r.trailer + 1 })
+    if nat_le trailer_limit (r.trailer + 1) then Err faults.BadChunk
+    else Ok (record r { next = after; trailer = r.trailer + 1 })
 
 -- the body is whole
 abbrev pub over : Reading → Reading

@@ -1,5 +1,6 @@
 -- Where a head ends: after its first empty line (RFC 9112, sections 2.1 and 2.2). LF alone may end a line.
-use Rattle.std.specs.Prelude.{◌≡◌, ℕ, ◌-◌, ◌<◌, ◌≤◌, List, length, slice_index, nat_le, ◌==◌, Bool, true, false, ◌&&◌, ◌||◌}
+use Rattle.std.specs.Prelude.{◌≡◌, ℕ, ◌-◌, ◌<◌, ◌≤◌, List, length, slice_index, nat_le}
+use Rattle.std.specs.Prelude.{◌==◌, Bool, true, false, ◌&&◌, ◌||◌}
 
 -- the first n bytes end with LF LF or LF CR LF
 unfoldable pub ends_at : List ℕ → ℕ → Bool

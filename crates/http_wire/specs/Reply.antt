@@ -1,6 +1,7 @@
--- What the head of a reply says: its status, and which body follows (RFC 9112, sections 4 and 6.1 to 6.3). The limits, and
--- that no coding but `chunked` is taken, are this project's own.
-use Rattle.std.specs.Prelude.{ℕ, ◌≤◌, List, [], ◌∷◌, length, Result, Ok, Err, nat_lt, nat_le, ◌==◌, if◌then◌else◌, Bool, true, ◌&&◌, ◌||◌, Option, Some, None, codes}
+-- What the head of a reply says: its status, and which body follows (RFC 9112, sections 4 and 6.1 to 6.3). The limits,
+-- and that no coding but `chunked` is taken, are this project's own.
+use Rattle.std.specs.Prelude.{ℕ, ◌≤◌, List, [], ◌∷◌, length, Result, Ok, Err, nat_lt, nat_le, ◌==◌}
+use Rattle.std.specs.Prelude.{if◌then◌else◌, Bool, true, ◌&&◌, ◌||◌, Option, Some, None, codes}
 use Rattle.std.specs.List.{list_all}
 use Rattle.std.specs.Char.{is_ascii_digit}
 use Rattle.std.specs.Str.{str_eq_ignore_ascii_case}
@@ -34,7 +35,8 @@ pub record IsHead (head : List ℕ) (h : ResponseHead) : Type 0 where
 -- the number that 1 to 18 digits write
 unfoldable pub length_in : List ℕ → Option ℕ
 length_in v =
-    if nat_lt 0 (length v) && nat_le (length v) digit_limit && list_all is_ascii_digit v then Some (digits_value 10 v) else None
+    if nat_lt 0 (length v) && nat_le (length v) digit_limit && list_all is_ascii_digit v
+    then Some (digits_value 10 v) else None
 
 -- one value of Content-Length more: all must tell one number
 abbrev pub agreed : ContentLength → Option ℕ → ContentLength
@@ -52,7 +54,8 @@ coded _ v = coding.Other
 unfoldable pub note : Framing → List ℕ × List ℕ → Framing
 note f line =
     if str_eq_ignore_ascii_case line.0 (codes "transfer-encoding") then record f { coding = coded f.coding line.1 }
-    else if str_eq_ignore_ascii_case line.0 (codes "content-length") then record f { told = agreed f.told (length_in line.1) }
+    else if str_eq_ignore_ascii_case line.0 (codes "content-length")
+    then record f { told = agreed f.told (length_in line.1) }
     else f
 
 -- more lines, as names and values

@@ -1,6 +1,7 @@
--- What the head of a request asks for (RFC 9112, sections 3, 6.1, 6.2 and 9.6; RFC 9110, sections 7.6.1 and 9.1). The limits,
--- the methods, and the order in which a request is judged are this project's own.
-use Rattle.std.specs.Prelude.{ℕ, ◌≤◌, List, [], length, map, Result, Ok, Err, nat_lt, ◌==◌, if◌then◌else◌, Bool, true, false, ◌&&◌, ◌||◌, Option, Some, None, codes, is_err}
+-- What the head of a request asks for (RFC 9112, sections 3, 6.1, 6.2 and 9.6; RFC 9110, sections 7.6.1 and 9.1). The
+-- limits, the methods, and the order in which a request is judged are this project's own.
+use Rattle.std.specs.Prelude.{ℕ, ◌≤◌, List, [], length, map, Result, Ok, Err, nat_lt, ◌==◌}
+use Rattle.std.specs.Prelude.{if◌then◌else◌, Bool, true, false, ◌&&◌, ◌||◌, Option, Some, None, codes, is_err}
 use Rattle.std.specs.List.{list_any, slice_split}
 use Rattle.std.specs.Str.{bytes_eq, str_eq_ignore_ascii_case}
 use Rattle.httparse.specs.Grammar.{RequestHead, ReadsRequest, trim_ows}

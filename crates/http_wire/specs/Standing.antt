@@ -1,5 +1,6 @@
 -- What a reader and its slice stand for.
-use Rattle.std.specs.Prelude.{◌≡◌, ℕ, ◌+◌, ◌-◌, ◌<◌, ◌≤◌, List, ◌++◌, take, length, nat_le, if◌then◌else◌, Result, Ok, Err}
+use Rattle.std.specs.Prelude.{◌≡◌, ℕ, ◌+◌, ◌-◌, ◌<◌, ◌≤◌, List, ◌++◌, take, length, nat_le}
+use Rattle.std.specs.Prelude.{if◌then◌else◌, Result, Ok, Err}
 use Rattle.http_wire.specs.declared.fault.WireFault.{WireFault}
 use Rattle.http_wire.specs.declared.fault.WireFault.TheVariants as faults
 use Rattle.http_wire.specs.declared.progress.Next.{Next}
@@ -16,7 +17,11 @@ Steps room r bytes (Err f) s = reads room r bytes ≡ Err f
 abbrev pub TakesCounted : ℕ → Next → Reading → List ℕ → Result ℕ WireFault → Reading → Type 0
 TakesCounted room after r bytes (Ok n) s =
     (n ≤ r.left) × (length r.body + r.left ≤ room)
-    × (s ≡ record r { next = if nat_le r.left n then after else r.next; left = r.left - n; body = r.body ++ take n bytes })
+    × (s ≡ record r {
+      next = if nat_le r.left n then after else r.next;
+      left = r.left - n;
+      body = r.body ++ take n bytes;
+    })
 TakesCounted room after r bytes (Err f) s = (room < length r.body + r.left) × (f ≡ faults.BodyTooLong)
 
 -- all of the bytes are read

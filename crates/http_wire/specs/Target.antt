@@ -1,5 +1,5 @@
--- The targets of requests that are paths of chunks (RFC 9112, section 3.2.1). How a chunk's path looks is this project's
--- own.
+-- The targets of requests that are paths of chunks (RFC 9112, section 3.2.1). How a chunk's path looks is this
+-- project's own.
 use Rattle.std.specs.Prelude.{ℕ, List, [], ◌∷◌, drop, ◌==◌, if◌then◌else◌, Option, Some, None, Result, Ok, Err}
 use Rattle.std.specs.Str.{str_eq_ignore_ascii_case}
 use Rattle.chunk_store.specs.Paths.{path_of}

@@ -1,6 +1,6 @@
-//! Messages of HTTP/1.1 (RFC 9112). For the side that asks the head of an ask is written, and the reply to it is read, its
-//! body in pieces. For the side that answers the head of a request is read, and that of the reply written. Nothing is
-//! sent or received here.
+//! Messages of HTTP/1.1 (RFC 9112). For the side that asks the head of an ask is written, and the reply to it is read,
+//! its body in pieces. For the side that answers the head of a request is read, and that of the reply written. Nothing
+//! is sent or received here.
 #![tactic(auto)]
 
 pub mod ask;

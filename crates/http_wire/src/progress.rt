@@ -161,7 +161,8 @@ impl Progress {
     fn take_trailer_byte(&mut self, after: Next) -> Result<(), WireFault>
         requires between { IsBetween after }
         ensures kept { self.new.filled ≡ self.old.filled }
-        ensures value { (body : List ℕ) → Goes (trailed after (with_body self.old body)) result (with_body self.new body) }
+        ensures value { (body : List ℕ) →
+            Goes (trailed after (with_body self.old body)) result (with_body self.new body) }
     {
         if self.trailer >= TRAILER_LIMIT - 1 {
             return Err(WireFault::BadChunk);
@@ -176,7 +177,8 @@ impl Progress {
     fn expect(&mut self, byte: u8, wanted: u8, after: Next) -> Result<(), WireFault>
         requires between { IsBetween after }
         ensures kept { self.new.filled ≡ self.old.filled }
-        ensures value { (body : List ℕ) → Goes (expected wanted after (with_body self.old body) byte) result (with_body self.new body) }
+        ensures value { (body : List ℕ) →
+            Goes (expected wanted after (with_body self.old body) byte) result (with_body self.new body) }
     {
         if byte != wanted {
             return Err(WireFault::BadChunk);
@@ -221,7 +223,8 @@ impl Progress {
         requires after { Misses after 0 }
         ensures inside { self.new.filled ≤ length out.new }
         ensures size { IfOk result (λ n. (0 < n) × (n ≤ length bytes.now)) }
-        ensures value { TakesCounted (length out.old) after (seen self.old out.old) bytes.now result (seen self.new out.new) }
+        ensures value { TakesCounted (length out.old) after (seen self.old out.old) bytes.now result
+            (seen self.new out.new) }
     {
         if self.left > (out.len() - self.filled) as u64 {
             return Err(WireFault::BodyTooLong);

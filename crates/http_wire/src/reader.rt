@@ -40,9 +40,9 @@ impl BodyReader {
         }
     }
 
-    /// Takes the next bytes, and fills in those of the body. Each piece is lent the same slice, unchanged. Bytes after a
-    /// body that is whole are left alone. `BadChunk` and `BodyTooLong` come with the first byte that shows them; after a
-    /// fault the reader answers it again.
+    /// Takes the next bytes, and fills in those of the body. Each piece is lent the same slice, unchanged. Bytes after
+    /// a body that is whole are left alone. `BadChunk` and `BodyTooLong` come with the first byte that shows them;
+    /// after a fault the reader answers it again.
     pub fn feed(&mut self, piece: &[u8], out: &mut [u8]) -> Result<(), WireFault>
         requires inside { IfOk self.old (λ h. h.filled ≤ length out.old) }
         ensures inside { IfOk self.new (λ h. h.filled ≤ length out.new) }
@@ -79,10 +79,11 @@ impl BodyReader {
         self.progress.filled()
     }
 
-    /// The number of bytes of the body, where the connection's bytes end here. `CutShort`: a body by length or by chunks
-    /// isn't whole.
+    /// The number of bytes of the body, where the connection's bytes end here. `CutShort`: a body by length or by
+    /// chunks isn't whole.
     pub fn finish(&mut self) -> Result<usize, WireFault>
-        ensures first { IfOk self.old (λ h. (k : BodyKind) (b out : List ℕ) → StandsFor k b h out → Ends k b out result) }
+        ensures first { IfOk self.old (λ h. (k : BodyKind) (b out : List ℕ) → StandsFor k b h out
+            → Ends k b out result) }
         ensures ok { IfOk result (λ n. self.new ≡ self.old) }
         ensures size { IfOk result (λ n. IfOk self.old (λ h. n ≡ h.filled)) }
         ensures err { IfErr result (λ f. self.new ≡ Err f) }

@@ -37,8 +37,8 @@ fn has_no_body(method: Method, status: u16) -> bool
 }
 
 /// Reads the head of a reply to an ask with this method. All of the bytes have to be one head, as `head_end` bounds it.
-/// `BadHead`: they aren't, or there are more than 64 header lines. `Framing`: a `Content-Length` isn't 1 to 18 digits or
-/// contradicts another one, or there is a `Transfer-Encoding` other than one `chunked`.
+/// `BadHead`: they aren't, or there are more than 64 header lines. `Framing`: a `Content-Length` isn't 1 to 18 digits
+/// or contradicts another one, or there is a `Transfer-Encoding` other than one `chunked`.
 #[tactic(auto, unfolding(crate::specs::Reply::body_of))]
 pub fn read_reply(head: &[u8], method: Method) -> Result<ReplyHead, WireFault>
     ensures found { (h : ResponseHead) → IsHead head.now h

@@ -61,8 +61,8 @@ pub fn reply_text(
 }
 
 /// Writes the head of a reply, up to its empty line. The length is the number of bytes of the body, which the caller
-/// writes after the head unless the method was HEAD. With `close` the head tells that the connection is closed, which the
-/// caller does. `Failed` comes where the sink failed.
+/// writes after the head unless the method was HEAD. With `close` the head tells that the connection is closed, which
+/// the caller does. `Failed` comes where the sink failed.
 pub fn write_reply<S: Sink>(
     alloc: Global,
     status: u16,

@@ -5,7 +5,8 @@ ghost use Rattle.std.specs.List.{list_any};
 ghost use Rattle.std.specs.Option.{option_map};
 ghost use Rattle.httparse.specs.Grammar.{RequestHead};
 ghost use Rattle.httparse.specs.Spans.{header_bytes, IsHeaderWithin};
-ghost use Rattle.http_wire.specs.Request.{act_of, allowed, asks_close, bad_request, body_limit, body_told, has_close, is_refusal, judged, method_of, request_of, sized, uncoded, IsRequest};
+ghost use Rattle.http_wire.specs.Request.{act_of, allowed, asks_close, bad_request, body_limit, body_told, has_close};
+ghost use Rattle.http_wire.specs.Request.{is_refusal, judged, method_of, request_of, sized, uncoded, IsRequest};
 
 use crate::framing::{Coding, ContentLength, Framing};
 use crate::reply::{FIELD_LIMIT, Method};
@@ -156,11 +157,11 @@ fn ask_close(head: &[u8], lines: &[HeaderSpan]) -> bool
     false
 }
 
-/// Reads the head of a request to a server of chunks, which takes PUT only where it is writable. All of the bytes have to
-/// be one head, as `head_end` bounds it. A request is refused, with the status of the first that holds: 400 where the
-/// bytes aren't a head, or one of more than 64 header lines; 405 where the method isn't taken; 411 where there is a
-/// `Transfer-Encoding`; 400 where a `Content-Length` isn't 1 to 18 digits, contradicts another one, or isn't 0 for GET or
-/// HEAD; 411 where a PUT has none; 413 where it is above `BODY_LIMIT`. Behind a refusal the connection is closed.
+/// Reads the head of a request to a server of chunks, which takes PUT only where it is writable. All of the bytes have
+/// to be one head, as `head_end` bounds it. A request is refused, with the status of the first that holds: 400 where
+/// the bytes aren't a head, or one of more than 64 header lines; 405 where the method isn't taken; 411 where there is a
+/// `Transfer-Encoding`; 400 where a `Content-Length` isn't 1 to 18 digits, contradicts another one, or isn't 0 for GET
+/// or HEAD; 411 where a PUT has none; 413 where it is above `BODY_LIMIT`. Behind a refusal the connection is closed.
 #[tactic(auto, unfolding(crate::specs::Request::request_with))]
 pub fn read_request(head: &[u8], writable: bool) -> Request
     ensures found { (h : RequestHead) → IsRequest head.now h → result ≡ request_of writable h }

@@ -1,5 +1,5 @@
-//! Asks and replies by their bytes; bodies of replies in pieces of each size, whole, cut short and misspelled; and heads
-//! of requests.
+//! Asks and replies by their bytes; bodies of replies in pieces of each size, whole, cut short and misspelled; and
+//! heads of requests.
 
 ghost use Rattle.std.specs.Prelude.{◌<◌};
 
@@ -401,10 +401,12 @@ fn requests_taken(rt: HostRuntime) -> Result<(), Fail> {
         b"GET /5304/53048e2681941ef99b2e29b76b4c7dabe4c2d0c634fc6d46e0e2f13107e7af23 HTTP/1.1\r\nHost: h\r\n\r\n";
     assert_eq!(rt; read_request(get, false).act, Act::Get(ABC));
     let head =
-        b"HEAD /5304/53048e2681941ef99b2e29b76b4c7dabe4c2d0c634fc6d46e0e2f13107e7af23 HTTP/1.1\r\nContent-Length: 0\r\n\r\n";
+        b"HEAD /5304/53048e2681941ef99b2e29b76b4c7dabe4c2d0c634fc6d46e0e2f13107e7af23 HTTP/1.1\r\n\
+        Content-Length: 0\r\n\r\n";
     assert_eq!(rt; read_request(head, false).act, Act::Head(ABC));
     let put =
-        b"PUT /5304/53048e2681941ef99b2e29b76b4c7dabe4c2d0c634fc6d46e0e2f13107e7af23 HTTP/1.1\r\nContent-Length: 67108864\r\n\r\n";
+        b"PUT /5304/53048e2681941ef99b2e29b76b4c7dabe4c2d0c634fc6d46e0e2f13107e7af23 HTTP/1.1\r\n\
+        Content-Length: 67108864\r\n\r\n";
     let taken = Request {
         act: Act::Put(ABC),
         close: false,
@@ -424,8 +426,8 @@ fn heads_of_own_replies(rt: HostRuntime) -> Result<(), Fail> {
     let mut out = MemSink::new(rt.alloc(), Vec::new(rt.alloc()));
     assert_eq!(rt; write_reply(rt.alloc(), 200, 3, false, &mut out), Ok(()));
     assert_eq!(rt; write_reply(rt.alloc(), 405, 0, true, &mut out), Ok(()));
-    let replies =
-        b"HTTP/1.1 200 OK\r\nContent-Length: 3\r\n\r\nHTTP/1.1 405 Method Not Allowed\r\nContent-Length: 0\r\nConnection: close\r\n\r\n";
+    let replies = b"HTTP/1.1 200 OK\r\nContent-Length: 3\r\n\r\n\
+        HTTP/1.1 405 Method Not Allowed\r\nContent-Length: 0\r\nConnection: close\r\n\r\n";
     assert_eq!(rt; out.taken(), replies.as_slice());
     Ok(())
 }

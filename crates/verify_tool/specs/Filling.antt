@@ -1,6 +1,7 @@
 -- What filling a cache by an index may answer, and what it does to the cache. l lists the chunks, `holds` gives what a
 -- store holds. s0 and s1 are the cache's shelf before and afterwards, c0 and c1 the stores.
-use Rattle.std.specs.Prelude.{◌≡◌, ◌⊎◌, ℕ, ◌+◌, ◌<◌, ◌≤◌, List, ◌∷◌, length, map, Bool, Option, Some, IfSome, Result, Ok, Err}
+use Rattle.std.specs.Prelude.{◌≡◌, ◌⊎◌, ℕ, ◌+◌, ◌<◌, ◌≤◌, List, ◌∷◌, length, map}
+use Rattle.std.specs.Prelude.{Bool, Option, Some, IfSome, Result, Ok, Err}
 use Rattle.std.specs.List.{AllZip}
 use Rattle.cache_store.specs.Giving.{GiveOneSize, SomeGives, SomeHolds}
 use Rattle.cache_store.specs.Shelves.{Shelf, Stocks, held_on}

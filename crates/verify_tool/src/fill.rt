@@ -1,4 +1,5 @@
-//! Filling a cache: each chunk that an index lists is had through it, and stands in it then. Entries are numbered from 0.
+//! Filling a cache: each chunk that an index lists is had through it, and stands in it then.
+//! Entries are numbered from 0.
 
 ghost use Rattle.std.specs.Prelude.{◌≡◌, ◌⊎◌, ℕ, List, ◌<◌, ◌≤◌, Some, None, IfSome, IfErr, OnOk, length, map};
 ghost use Rattle.cache_store.specs.Shelves.{Stocks, held_on, shelf_of};

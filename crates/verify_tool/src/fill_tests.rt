@@ -79,8 +79,8 @@ fn has(folder: &mut MemFolder, id: &str, wanted: Option<&[u8]>) -> Result<bool, 
     }
 }
 
-// Fills a cache from a store by the index of "abc" and "def", and compares how it ended, what the cache then holds under
-// the two ids, and how often the stores were asked.
+// Fills a cache from a store by the index of "abc" and "def", and compares how it ended, what the cache then holds
+// under the two ids, and how often the stores were asked.
 fn fills(
     rt: &impl Abort,
     alloc: Global,
