@@ -6,8 +6,9 @@ On one processor the cutting is timed alone too, by a program over the library's
 (minutes; without `rt` that row is left out). The file system image is ext4 by `mke2fs`, of at most 1 GiB, with copies
 of the files under a folder. All runs are timed into an empty store and into one that has all chunks. casync runs
 where it is installed. A store that is to be empty is a new folder each time, and nothing is removed before all is
-done: a file system may take far longer to find room for new files right after it has removed others. Needs the
-image's size under the temporary folder for each run into an empty store, and four times more for each image.
+done: a file system may take far longer to find room for new files right after it has removed others. Memory that is
+free is filled first, so that what a run writes needs none that was never used. Needs the image's size under the
+temporary folder for each run into an empty store, and four times more for each image.
 """
 
 import os
@@ -262,6 +263,7 @@ def main():
               'files': (f'a file system image with files of {options.files}', file_system_of(options.files))}
     with side_by_side.work_folder() as top, tempfile.TemporaryDirectory(prefix='desync-cutter-') as copy:
         built = build_cutter(copy) if set(options.only) & set(ALONE) else None
+        side_by_side.fill_memory(top)
         for part in dict.fromkeys(options.only):
             if part == 'files' and file_system_tool() is None:
                 print('NOT MEASURED: a file system image, since mke2fs isn\'t there')

@@ -42,6 +42,23 @@ def work_folder():
     return tempfile.TemporaryDirectory(prefix='desync-bench-')
 
 
+def free_bytes():
+    with open('/proc/meminfo', encoding='ascii') as file:
+        return next(1024 * int(line.split()[1]) for line in file if line.startswith('MemFree:'))
+
+
+def fill_memory(folder):
+    """Reads a sparse file as long as the memory that is free, so that the system keeps its bytes and later uses their
+    memory for what the runs write, as on a machine that has been up for a while. A virtual machine may have to get
+    memory that it hasn't used yet from its host, a page at a time, which can take longer than what is measured."""
+    path = os.path.join(folder, 'sparse')
+    with open(path, 'wb') as file:
+        file.truncate(free_bytes())
+    with open(path, 'rb') as file:
+        while file.read(MIB):
+            pass
+
+
 class Row:
     """One command that is measured: its words, what is done right before and right after each run, and on which
     processors it runs (none named: on all)."""
