@@ -1,5 +1,11 @@
 //! What the tests of the commands share: files in memory, and words that are run over them.
 
+ghost use Rattle.std.specs.Prelude.{◌≡◌, [], OnOk, Some};
+ghost use Rattle.command_cases.specs.Cases.{HasRun};
+ghost use Rattle.dsy_base.specs.Links.{DialState};
+ghost use Rattle.dsy_forms.specs.MemFiles.{disk_of};
+ghost use Rattle.dsy_forms.specs.MemLinks.{dial_of, listen_of};
+
 use chunk_store::id::{ChunkId, DigestKind};
 use desync_cli::in_memory::desync_in_memory;
 use dsy_base::folder::Folder;
@@ -75,17 +81,27 @@ pub fn words_of(alloc: Global, words: &str) -> Result<Vec<String>, Fail> {
 }
 
 /// A dialer with no connections: each call of `dial` fails.
-pub fn no_dial(alloc: Global) -> MemDial {
+pub fn no_dial(alloc: Global) -> MemDial
+    ensures ended { (dial_of result).ended ≡ Some [] }
+    ensures none { result.links.items ≡ [] }
+    ensures faults { (dial_of result).faults ≡ 0 }
+{
     MemDial::new(alloc, Vec::new(alloc), Vec::new(alloc))
 }
 
 /// A listener to which nobody connects.
-pub fn no_listen(alloc: Global) -> MemListen {
+pub fn no_listen(alloc: Global) -> MemListen
+    ensures coming { (listen_of result).coming ≡ Some [] }
+    ensures ended { (listen_of result).ended ≡ Some [] }
+    ensures faults { (listen_of result).faults ≡ 0 }
+{
     MemListen::new(alloc, Vec::new(alloc), Vec::new(alloc))
 }
 
 // Compares what a sink has taken after these words with what is wanted.
-fn same(words: &str, taken: &[u8], wanted: &[u8]) -> Result<(), Fail> {
+fn same(words: &str, taken: &[u8], wanted: &[u8]) -> Result<(), Fail>
+    ensures { OnOk result (taken.now ≡ wanted.now) }
+{
     if taken == wanted {
         return Ok(());
     }
@@ -103,7 +119,10 @@ pub fn ends_over(
     dial: &mut MemDial,
     printed: &str,
     line: &str,
-) -> Result<(), Fail> {
+) -> Result<(), Fail>
+    ensures { OnOk result (HasRun (disk_of files.old) (disk_of files.new) (dial_of dial.old) (dial_of dial.new)
+        printed.now) }
+{
     let list = words_of(alloc, words)?;
     let mut out = MemSink::new(alloc, Vec::new(alloc));
     let mut err = MemSink::new(alloc, Vec::new(alloc));
@@ -135,6 +154,9 @@ pub fn ends(
     files: &mut MemFiles,
     printed: &str,
     line: &str,
-) -> Result<(), Fail> {
+) -> Result<(), Fail>
+    ensures { OnOk result ((before after : DialState) × HasRun (disk_of files.old) (disk_of files.new) before after
+        printed.now) }
+{
     ends_over(rt, alloc, words, files, &mut no_dial(alloc), printed, line)
 }
