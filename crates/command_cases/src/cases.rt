@@ -8,7 +8,9 @@ ghost use Rattle.dsy_forms.specs.MemLinks.{dial_of, listen_of};
 
 use chunk_store::id::{ChunkId, DigestKind};
 use desync_cli::in_memory::desync_in_memory;
+use dsy_base::files::Files;
 use dsy_base::folder::Folder;
+use dsy_base::look::Look;
 use dsy_forms::mem_dial::MemDial;
 use dsy_forms::mem_files::MemFiles;
 use dsy_forms::mem_folder::MemFolder;
@@ -159,4 +161,15 @@ pub fn ends(
         printed.now) }
 {
     ends_over(rt, alloc, words, files, &mut no_dial(alloc), printed, line)
+}
+
+/// Compares what a folder holds under the id of a piece with what is wanted: no bytes where it has no file of it, or
+/// one of more than eight bytes.
+pub fn holds(files: &mut MemFiles, folder: &str, named: &[u8], wanted: &[u8]) -> Result<(), Fail> {
+    let mut look = files.look(folder).ok().ok_or("no folder")?;
+    let path = ChunkId::of(DigestKind::Sha512T256, named).path();
+    let mut room = [0u8; 8];
+    let n = look.read(path.as_str(), &mut room).unwrap_or(0);
+    let (front, _) = room.split_at(n);
+    same(path.as_str(), front, wanted)
 }

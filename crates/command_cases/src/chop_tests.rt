@@ -1,20 +1,16 @@
 //! Chopping over files in memory: the line, and what the store holds.
 
-use crate::cases::{ends, index_of, store_of};
-use chunk_store::id::{ChunkId, DigestKind};
-use dsy_base::files::Files;
-use dsy_base::look::Look;
+use crate::cases::{ends, holds, index_of, store_of};
 use dsy_forms::mem_files::MemFiles;
 use dsy_forms::mem_folder::MemFolder;
 use dsy_forms::ranges::RangeFails;
 use std::alloc::Global;
-use std::process::Abort;
 use std::test::Fail;
 use std::thread::Threads;
 
 // Chops the image by the index of "abc" and "def", and compares the line, and what the store holds under their ids.
 fn chop_case(
-    rt: &(impl Abort + Threads + Sync),
+    rt: &(impl Threads + Sync),
     alloc: Global,
     image: &[u8],
     store: MemFolder,
@@ -31,15 +27,8 @@ fn chop_case(
     )?;
     files.set_folder("st", store)?;
     ends(rt, alloc, "chop -s st i img", &mut files, "", line)?;
-    let mut look = files.look("st").ok().ok_or("no folder")?;
-    for (piece, bytes) in [(b"abc", held[0]), (b"def", held[1])] {
-        let path = ChunkId::of(DigestKind::Sha512T256, piece).path();
-        let mut room = [0u8; 8];
-        let n = look.read(path.as_str(), &mut room).unwrap_or(0);
-        let (front, _) = room.split_at(n);
-        assert_eq!(rt; front, bytes);
-    }
-    Ok(())
+    holds(&mut files, "st", b"abc", held[0])?;
+    holds(&mut files, "st", b"def", held[1])
 }
 
 // Of "deX": SHA-512/256 by another program.

@@ -1,8 +1,6 @@
 //! Extraction over files in memory: the outcome, and each byte of OUT.
 
-use crate::cases::{ends, index_of, store_of};
-use dsy_base::files::Files;
-use dsy_base::look::Look;
+use crate::cases::{ends, holds, index_of, store_of};
 use dsy_forms::mem_files::MemFiles;
 use dsy_forms::ranges::RangeFails;
 use std::alloc::Global;
@@ -14,9 +12,6 @@ use std::thread::Threads;
 const THREE: &[&[u8]] = &[b"abc", b"def", b"ghi"];
 
 const EXTRACT: &str = "extract -k -s st i o";
-
-// Where a store's folder has the chunk "abc".
-const ABC_PATH: &str = "5304/53048e2681941ef99b2e29b76b4c7dabe4c2d0c634fc6d46e0e2f13107e7af23";
 
 // Extracts from a store with these chunks over this OUT what lists the pieces, and compares the line and OUT.
 fn extract_case(
@@ -277,12 +272,7 @@ fn cache_case(
         None
     };
     assert_eq!(rt; files.file("o"), out);
-    let mut look = files.look("c").ok().ok_or("no folder")?;
-    let mut room = [0u8; 8];
-    let n = look.read(ABC_PATH, &mut room).unwrap_or(0);
-    let (front, _) = room.split_at(n);
-    assert_eq!(rt; front, held);
-    Ok(())
+    holds(&mut files, "c", b"abc", held)
 }
 
 #[test]

@@ -1,10 +1,7 @@
 //! Making over files in memory: the index file, byte by byte, and what the store holds.
 
-use crate::cases::{ABC_INDEX, EMPTY_INDEX, ends, no_dial, no_listen, store_of, words_of};
-use chunk_store::id::{ChunkId, DigestKind};
+use crate::cases::{ABC_INDEX, EMPTY_INDEX, ends, holds, no_dial, no_listen, store_of, words_of};
 use desync_cli::in_memory::make_then_extract;
-use dsy_base::files::Files;
-use dsy_base::look::Look;
 use dsy_forms::mem_files::MemFiles;
 use dsy_forms::mem_folder::MemFolder;
 use dsy_forms::mem_sink::MemSink;
@@ -40,13 +37,7 @@ fn make_case(
     ends(rt, alloc, MAKE, &mut files, "", "")?;
     let bytes = hex::decode(alloc, index).ok().ok_or("no digits")?;
     assert_eq!(rt; files.file("i"), Some(bytes.as_slice()));
-    let mut look = files.look("st").ok().ok_or("no folder")?;
-    let path = ChunkId::of(DigestKind::Sha512T256, b"abc").path();
-    let mut room = [0u8; 8];
-    let n = look.read(path.as_str(), &mut room).unwrap_or(0);
-    let (front, _) = room.split_at(n);
-    assert_eq!(rt; front, held);
-    Ok(())
+    holds(&mut files, "st", b"abc", held)
 }
 
 #[test]

@@ -1,21 +1,17 @@
 //! Filling a cache over files in memory: the line, and what the cache holds.
 
-use chunk_store::id::{ChunkId, DigestKind};
-use command_cases::cases::{ends, index_of, store_of};
-use dsy_base::files::Files;
-use dsy_base::look::Look;
+use command_cases::cases::{ends, holds, index_of, store_of};
 use dsy_forms::mem_files::MemFiles;
 use dsy_forms::mem_folder::MemFolder;
 use dsy_forms::ranges::RangeFails;
 use std::alloc::Global;
-use std::process::Abort;
 use std::test::Fail;
 use std::thread::Threads;
 
 // Fills the cache "ca" by the indexes of "abc" and of "def", and compares the line, and what the cache holds under
 // their ids.
 fn cache_case(
-    rt: &(impl Abort + Threads + Sync),
+    rt: &(impl Threads + Sync),
     alloc: Global,
     store: MemFolder,
     cache: MemFolder,
@@ -30,15 +26,8 @@ fn cache_case(
     files.set_folder("st", store)?;
     files.set_folder("ca", cache)?;
     ends(rt, alloc, "cache -s st -c ca a d", &mut files, "", line)?;
-    let mut look = files.look("ca").ok().ok_or("no folder")?;
-    for (piece, bytes) in [(b"abc", held[0]), (b"def", held[1])] {
-        let path = ChunkId::of(DigestKind::Sha512T256, piece).path();
-        let mut room = [0u8; 8];
-        let n = look.read(path.as_str(), &mut room).unwrap_or(0);
-        let (front, _) = room.split_at(n);
-        assert_eq!(rt; front, bytes);
-    }
-    Ok(())
+    holds(&mut files, "ca", b"abc", held[0])?;
+    holds(&mut files, "ca", b"def", held[1])
 }
 
 // SHA-512/256 of "abc" is from FIPS 180-4's example, that of "def" by another program.

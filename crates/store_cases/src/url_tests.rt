@@ -5,9 +5,7 @@ ghost use Rattle.std.specs.Prelude.{All, IfOk};
 ghost use Rattle.dsy_base.specs.Links.{IsFreshLink};
 ghost use Rattle.dsy_forms.specs.MemLinks.{link_of};
 
-use command_cases::cases::{ABC, ABC_INDEX, ends, ends_over, index_of};
-use dsy_base::files::Files;
-use dsy_base::look::Look;
+use command_cases::cases::{ABC, ABC_INDEX, ends, ends_over, holds, index_of};
 use dsy_forms::mem_dial::MemDial;
 use dsy_forms::mem_files::MemFiles;
 use dsy_forms::mem_folder::MemFolder;
@@ -215,13 +213,7 @@ fn a_cache_is_filled_from_a_server(rt: HostRuntime) -> Result<(), Fail> {
     ends_over(&rt, alloc, FILL, &mut files, &mut dial, "", "")?;
     let sent = dial.ended(0).ok_or("no connection")?;
     assert_eq!(&rt; sent.sent(), ask_of(alloc, "GET")?.as_bytes());
-    let mut room = [0u8; 8];
-    let mut look = files.look("ca").ok().ok_or("no folder")?;
-    let path = format!(in alloc; "5304/{ABC}")?;
-    assert_eq!(&rt; look.read(path.as_str(), &mut room), Ok(3));
-    let (front, _) = room.split_at(3);
-    assert_eq!(&rt; front, b"abc".as_slice());
-    Ok(())
+    holds(&mut files, "ca", b"abc", b"abc")
 }
 
 #[test]
