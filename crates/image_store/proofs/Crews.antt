@@ -10,14 +10,14 @@ use Rattle.dsy_base.specs.declared.view.View.{Ghosts as ViewWords}
 use Rattle.caibx_codec.specs.Listing.{Listing, count_of}
 use Rattle.image_store.proofs.Putting.{on_ok}
 use Rattle.image_store.proofs.Views.{all_of_first}
-use Rattle.image_store.specs.Ahead.{IsAhead, IsAlike, NoneFalls}
 use Rattle.image_store.specs.Putting.{Ends, HasPut}
-use Rattle.image_store.specs.Storing.{GoesOn, HasStored, IsStoredBy, IsStoring}
+use Rattle.image_store.specs.Storing.{GoesOn, HasStored, IsAlike, IsStoredBy, IsStoring, NoneFalls}
 use Rattle.image_store.specs.declared.put_chunks.MakeFault.{MakeFault}
 use Rattle.image_store.specs.declared.put_chunks.MakeFault.TheVariants as faults
-use Rattle.image_store.specs.declared.ahead.Ahead.{Ahead}
-use Rattle.image_store.specs.declared.reader.Reader.{Reader}
 use Rattle.image_store.specs.declared.storing.Storing.{Storing}
+use Rattle.read_ahead.specs.Ahead.{IsAhead}
+use Rattle.read_ahead.specs.declared.ahead.Ahead.{Ahead}
+use Rattle.read_ahead.specs.declared.reader.Reader.{Reader}
 
 pub map_twice : {W V X : Type 0} (f : V → X) (of : W → V) (ws : List W) → map f (map of ws) ≡ map (λ w. f (of w)) ws
 map_twice f of [] = refl
@@ -30,6 +30,13 @@ seen_through f of olds news same = sym (map_twice f of news) ∙ ap (map f) same
 -- counts that don't fall, and then don't either
 pub falls_on : (old now here new : List ℕ) → NoneFalls old now → here ≡ now → NoneFalls here new → NoneFalls old new
 falls_on old now here new one same two = record { never_falls = λ i. omega (arith, one.never_falls i, two.never_falls i, ap (λ (xs : List ℕ). slice_index xs i) same) }
+
+-- and those of a list whose first and whose others don't
+pub falls_cons : {W : Type 0} (f : W → ℕ) (olds : List W) (x : W) (n : ℕ) (xs ys : List W) → olds ≡ x ∷ xs → f x ≤ n → NoneFalls (map f xs) (map f ys) → NoneFalls (map f olds) (n ∷ map f ys)
+falls_cons {W} f olds x n xs ys is up rest = subst (λ (zs : List W). NoneFalls (map f zs) (n ∷ map f ys)) (sym is) (record { never_falls = at }) where
+  at : (i : ℕ) → slice_index (map f (x ∷ xs)) i ≤ slice_index (n ∷ map f ys) i
+  at zero = up
+  at (suc i) = rest.never_falls i
 
 ready_from : {V : Type 0} (rs : List (Reader V)) (P : Reader V → Type 0) (Q : Ahead → Type 0) → ((k : ℕ) (d : Reader V) → k < length rs → P (slice_index_or rs k d) → Q (slice_index_or rs k d).ahead) → All P rs → All Q (map (λ r. r.ahead) rs)
 ready_from [] P Q on all k d lt = absurd (omega arith)

@@ -1,10 +1,10 @@
 -- Storing that goes on.
-use Rattle.std.proofs.Common.{◌≡◌, ℕ, ◌+◌, ◌<◌, length, Result, Err, Ok, refl, sym, ap, subst, ◌∙◌, arith}
+use Rattle.std.proofs.Common.{◌≡◌, ℕ, ◌+◌, ◌<◌, length, Result, Ok, refl, sym, ap, subst, ◌∙◌, arith}
 use Rattle.caibx_codec.specs.Listing.{Listing, count_of}
 use Rattle.chunk_store.specs.declared.store.Store.{Ghosts as StoreWords}
 use Rattle.dsy_base.specs.Bytes.{Held}
 use Rattle.dsy_base.specs.declared.view.View.{Ghosts as ViewWords}
-use Rattle.image_store.proofs.Putting.{ends_err, ends_on, ends_still}
+use Rattle.image_store.proofs.Putting.{ends_on, ends_still}
 use Rattle.image_store.specs.Putting.{Ends, HasPut}
 use Rattle.image_store.specs.Storing.{GoesOn, IsStoring}
 use Rattle.image_store.specs.declared.put_chunks.MakeFault.{MakeFault}
@@ -12,24 +12,15 @@ use Rattle.image_store.specs.declared.storing.Storing.{Storing}
 
 module _ {V S : Type 0} (view : ViewWords V) (store : StoreWords S) (l : Listing) where
   pub goes_none : (w : Storing V S) → IsStoring view store l w → GoesOn view store l w w (Ok tt)
-  goes_none w is = record { next = is; first = refl; ends = ends_still view store l w.at w.first.value w.image w.store tt is.at is.put.touched }
+  goes_none w is = record { next = is; first = refl; ends = ends_still view store l w.at w.first.value w.image w.store is.at is.put.touched }
 
   pub goes_on : (a b c : Storing V S) (r : Result Unit MakeFault) → GoesOn view store l a b (Ok tt) → GoesOn view store l b c r → GoesOn view store l a c r
   goes_on a b c r one two = record {
     next = two.next;
     first = two.first ∙ one.first;
-    ends = ends_on view store l c.first.value a.image b.image c.image b.store c.store tt r
+    ends = ends_on view store l c.first.value a.image b.image c.image b.store c.store r
         (subst (λ (f : S). Ends view store l f a.image b.image b.store (Ok tt)) (sym two.first) one.ends) two.ends;
   }
-
-  -- it ended early, with a fault of a step that answers something else
-  pub goes_failed : {A : Type 0} (a b : Storing V S) (q : Result A MakeFault) (r : Result Unit MakeFault) (e : MakeFault) → q ≡ Err e → r ≡ Err e → b.first.value ≡ a.first.value
-      → Ends view store l b.first.value a.image b.image b.store q → GoesOn view store l a b r
-  goes_failed {A = A} a b q r e step is first ends = subst (λ (x : Result Unit MakeFault). GoesOn view store l a b x) (sym is) (record {
-    next = tt;
-    first = first;
-    ends = ends_err view store l b.first.value a.image b.image b.store e (subst (λ (x : Result A MakeFault). Ends view store l b.first.value a.image b.image b.store x) step ends);
-  })
 
   -- one entry more was seen to
   pub storing_next : (a b : Storing V S) → IsStoring view store l a → a.at < count_of l → b.at ≡ a.at + 1 → b.first.value ≡ a.first.value → view.held b.image ≡ view.held a.image

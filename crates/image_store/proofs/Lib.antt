@@ -2,8 +2,6 @@ pub mod Names
 pub mod Seen
 pub mod Stored
 pub mod Putting
-pub mod Rooms
-pub mod Readers
 pub mod Crews
 pub mod Going
 pub mod Chopped

@@ -21,7 +21,7 @@ pub on_ok : {A E : Type 0} (r : Result A E) (P Q R : Type 0) → (P → Q → R)
 on_ok (Ok x) P Q R f p q = f p q
 on_ok (Err e) P Q R f p q = tt
 
-pub end_at : {A : Type 0} (l : Listing) (told : Option (List ℕ)) (i : ℕ) → i < count_of l → (r : Result A MakeFault)
+pub end_at : (l : Listing) (told : Option (List ℕ)) (i : ℕ) → i < count_of l → (r : Result Unit MakeFault)
     → IfErr r (EndsAt (kind_of l) i (id_of l i) (option_map (λ t. slice_of l t i) told)) → IfErr r (PutsEnd l told)
 end_at l told i less (Ok u) end = tt
 end_at l told i less (Err (faults.Changed entry was got)) end = changed told end where
@@ -114,72 +114,37 @@ pub counts_since : {A E : Type 0} (failed : E) (first now then : ℕ) (r : Resul
 counts_since failed first now then r le counts = record { never_falls = omega (arith, counts.never_falls); cause = λ e. rose_since first now then le (counts.cause e) }
 
 -- there was no memory to see to entry i
-pub put_failed : {V S A : Type 0} (view : ViewWords V) (store : StoreWords S) (l : Listing) (i : ℕ) (first : S) (image : V) (now : S) (old new : BTreeSet (List ℕ)) (r : Result A MakeFault)
+pub put_failed : {V S : Type 0} (view : ViewWords V) (store : StoreWords S) (l : Listing) (i : ℕ) (first : S) (image : V) (now : S) (old new : BTreeSet (List ℕ)) (r : Result Unit MakeFault)
     → i < count_of l → HasPut store l (view.held image).bytes i first now old → r ≡ Err faults.Memory → SeesTo view store l (i + 1) first image image now new r
-put_failed {V} {S} {A} view store l i first image now old new r less was is = subst (λ (x : Result A MakeFault). SeesTo view store l (i + 1) first image image now new x) (sym is) (record {
+put_failed view store l i first image now old new r less was is = subst (λ (x : Result Unit MakeFault). SeesTo view store l (i + 1) first image image now new x) (sym is) (record {
   put = tt;
   ends = record {
     touched = touched_later store l (view.held image).bytes i first now (count_of l) (omega (arith, less)) was.touched;
     err = tt;
     kept = refl;
-    image_faults = still_counts {A = A} (view.faults image) (Err faults.Memory) (λ e. absurd (cc));
+    image_faults = still_counts (view.faults image) (Err faults.Memory) (λ e. absurd (cc));
     store_faults = record { never_falls = was.touched.faults; cause = λ e. absurd (cc) };
   };
 })
 
-no_fault : {A : Type 0} (r : Result A MakeFault) (x : A) (e : MakeFault) → r ≡ Ok x → r ≢ Err e
-no_fault r x e is = λ other. absurd (cc)
+no_fault : (r : Result Unit MakeFault) (e : MakeFault) → r ≡ Ok tt → r ≢ Err e
+no_fault r e is = λ other. absurd (cc)
 
 -- nothing more was done
-pub ends_still : {V S A : Type 0} (view : ViewWords V) (store : StoreWords S) (l : Listing) (k : ℕ) (first : S) (image : V) (now : S) (x : A) → k ≤ count_of l
-    → HasTouched store l (view.held image).bytes k first now → Ends view store l first image image now (Ok x)
-ends_still view store l k first image now x le was = record {
+pub ends_still : {V S : Type 0} (view : ViewWords V) (store : StoreWords S) (l : Listing) (k : ℕ) (first : S) (image : V) (now : S) → k ≤ count_of l
+    → HasTouched store l (view.held image).bytes k first now → Ends view store l first image image now (Ok tt)
+ends_still view store l k first image now le was = record {
   touched = touched_later store l (view.held image).bytes k first now (count_of l) le was;
   err = tt;
   kept = refl;
-  image_faults = still_counts (view.faults image) (Ok x) (no_fault (Ok x) x faults.ImageFault refl);
-  store_faults = record { never_falls = was.faults; cause = λ e. absurd (no_fault (Ok x) x faults.StoreFault refl e) };
-}
-
-err_as : {A B : Type 0} (e f : MakeFault) → ◌≡◌ {A = Result B MakeFault} (Err e) (Err f) → ◌≡◌ {A = Result A MakeFault} (Err e) (Err f)
-err_as e f is = let same : e ≡ f = cc in ap Err same
-
--- it ended with the same fault where another kind of answer was wanted
-pub ends_err : {V S A B : Type 0} (view : ViewWords V) (store : StoreWords S) (l : Listing) (first : S) (old new : V) (now : S) (e : MakeFault)
-    → Ends {A = A} view store l first old new now (Err e) → Ends {A = B} view store l first old new now (Err e)
-ends_err view store l first old new now e ends = record {
-  touched = ends.touched;
-  err = ends.err;
-  kept = ends.kept;
-  image_faults = record {
-    never_falls = ends.image_faults.never_falls;
-    cause = λ is. ends.image_faults.cause (err_as e faults.ImageFault is);
-    done = tt;
-    unfailed = λ is. ends.image_faults.unfailed (err_as e faults.Memory is);
-  };
-  store_faults = record { never_falls = ends.store_faults.never_falls; cause = λ is. ends.store_faults.cause (err_as e faults.StoreFault is) };
-}
-
--- what was answered doesn't matter
-pub ends_as : {V S A B : Type 0} (view : ViewWords V) (store : StoreWords S) (l : Listing) (first : S) (old new : V) (now : S) (x : A) (y : B)
-    → Ends view store l first old new now (Ok x) → Ends view store l first old new now (Ok y)
-ends_as view store l first old new now x y ends = record {
-  touched = ends.touched;
-  err = tt;
-  kept = ends.kept;
-  image_faults = record {
-    never_falls = ends.image_faults.never_falls;
-    cause = λ e. absurd (no_fault (Ok y) y faults.ImageFault refl e);
-    done = ends.image_faults.done;
-    unfailed = λ e. absurd (no_fault (Ok y) y faults.Memory refl e);
-  };
-  store_faults = record { never_falls = ends.store_faults.never_falls; cause = λ e. absurd (no_fault (Ok y) y faults.StoreFault refl e) };
+  image_faults = still_counts (view.faults image) (Ok tt) (no_fault (Ok tt) faults.ImageFault refl);
+  store_faults = record { never_falls = was.faults; cause = λ e. absurd (no_fault (Ok tt) faults.StoreFault refl e) };
 }
 
 -- entries were seen to, and then more of them
-pub ends_on : {V S A B : Type 0} (view : ViewWords V) (store : StoreWords S) (l : Listing) (first : S) (a b c : V) (now then : S) (x : A) (result : Result B MakeFault)
-    → Ends view store l first a b now (Ok x) → Ends view store l first b c then result → Ends view store l first a c then result
-ends_on view store l first a b c now then x result one two = record {
+pub ends_on : {V S : Type 0} (view : ViewWords V) (store : StoreWords S) (l : Listing) (first : S) (a b c : V) (now then : S) (result : Result Unit MakeFault)
+    → Ends view store l first a b now (Ok tt) → Ends view store l first b c then result → Ends view store l first a c then result
+ends_on view store l first a b c now then result one two = record {
   touched = subst (λ (h : Held). HasTouched store l h.bytes (count_of l) first then) one.kept two.touched;
   err = subst (λ (h : Held). IfErr result (PutsEnd l h.bytes)) one.kept two.err;
   kept = two.kept ∙ one.kept;
@@ -187,9 +152,9 @@ ends_on view store l first a b c now then x result one two = record {
   store_faults = two.store_faults;
 }
 
-pub sees_on : {V S A B : Type 0} (view : ViewWords V) (store : StoreWords S) (l : Listing) (j k : ℕ) (first : S) (a b c : V) (now then : S) (seen more : BTreeSet (List ℕ)) (x : A) (result : Result B MakeFault)
-    → SeesTo view store l j first a b now seen (Ok x) → SeesTo view store l k first b c then more result → SeesTo view store l k first a c then more result
-sees_on view store l j k first a b c now then seen more x result one two = record {
+pub sees_on : {V S : Type 0} (view : ViewWords V) (store : StoreWords S) (l : Listing) (j k : ℕ) (first : S) (a b c : V) (now then : S) (seen more : BTreeSet (List ℕ)) (result : Result Unit MakeFault)
+    → SeesTo view store l j first a b now seen (Ok tt) → SeesTo view store l k first b c then more result → SeesTo view store l k first a c then more result
+sees_on view store l j k first a b c now then seen more result one two = record {
   put = subst (λ (h : Held). OnOk result (HasPut store l h.bytes k first then more)) one.ends.kept two.put;
-  ends = ends_on view store l first a b c now then x result one.ends two.ends;
+  ends = ends_on view store l first a b c now then result one.ends two.ends;
 }

@@ -1,6 +1,5 @@
 pub mod PutChunks
 pub mod Putting
-pub mod Ahead
 pub mod Storing
 pub mod StoreImage
 pub mod Chopping

@@ -46,8 +46,8 @@ module _ {S : Type 0} (store : StoreWords S) (l : Listing) (told : Option (List 
         → (store.asked now q ≡ store.asked first q) × HoldsStill q (store.holds first) (store.holds now)
 
 -- seeing to entries with this view ended so
-pub record Ends {V S A : Type 0} (view : ViewWords V) (store : StoreWords S) (l : Listing) (first : S) (old new : V)
-    (now : S) (result : Result A MakeFault) : Type 0 where
+pub record Ends {V S : Type 0} (view : ViewWords V) (store : StoreWords S) (l : Listing) (first : S) (old new : V) (now : S)
+    (result : Result Unit MakeFault) : Type 0 where
   pub touched : HasTouched store l (view.held old).bytes (count_of l) first now
   pub err : IfErr result (PutsEnd l (view.held old).bytes)
   pub kept : view.held new ≡ view.held old
@@ -55,7 +55,7 @@ pub record Ends {V S A : Type 0} (view : ViewWords V) (store : StoreWords S) (l 
   pub store_faults : CountsCause faults.StoreFault (store.faults first) (store.faults now) result
 
 -- and after Ok the first k entries were seen to
-pub record SeesTo {V S A : Type 0} (view : ViewWords V) (store : StoreWords S) (l : Listing) (k : ℕ) (first : S)
-    (old new : V) (now : S) (seen : BTreeSet (List ℕ)) (result : Result A MakeFault) : Type 0 where
+pub record SeesTo {V S : Type 0} (view : ViewWords V) (store : StoreWords S) (l : Listing) (k : ℕ) (first : S)
+    (old new : V) (now : S) (seen : BTreeSet (List ℕ)) (result : Result Unit MakeFault) : Type 0 where
   pub put : OnOk result (HasPut store l (view.held old).bytes k first now seen)
   pub ends : Ends view store l first old new now result

@@ -63,7 +63,7 @@ fn chop_entry<V: View, S: StoreWrite>(
     ensures store_faults { CountsCause ChopFault.StoreFault (S.faults store.old) (S.faults store.new) result }
 {
     match put_entry(index, i, image, store, chunk, room, None) {
-        Ok(_) => Ok(()),
+        Ok(()) => Ok(()),
         Err(fault) => match fault {
             MakeFault::Changed { entry, got, .. } => Err(ChopFault::Mismatch { entry, got }),
             MakeFault::ImageFault => Err(ChopFault::ImageFault),

@@ -1,10 +1,8 @@
 //! Storing an image: its index, and each of its chunks in a store.
 #![tactic(auto)]
 
-mod ahead;
 pub mod chop;
 pub mod put_chunks;
-mod reader;
 mod rounds;
 mod spell;
 pub mod store_image;

@@ -11,7 +11,7 @@ ghost use Rattle.caibx_codec.specs.Right.{IsRightAt};
 ghost use Rattle.chunk_store.specs.Names.{name_of};
 ghost use Rattle.chunk_store.specs.Said.{KeepsOf, AskedOnce};
 ghost use Rattle.dsy_base.specs.Counts.{CountsFaults};
-ghost use Rattle.image_store.specs.Ahead.{IsSlice};
+ghost use Rattle.read_ahead.specs.Ahead.{IsSlice};
 ghost use Rattle.image_store.specs.PutChunks.{told_range, told_slice, CountsCause, PutsUnder, PutsRight, PutsLacked};
 ghost use Rattle.image_store.specs.PutChunks.{HoldsNamed, SaysNamed, HoldsAll, SaysAll, Stands, PutsFiles, AsksEach};
 ghost use Rattle.image_store.specs.PutChunks.{EndsAt, RereadsTo, PutsEnd};
@@ -118,13 +118,13 @@ fn is_held<S: Store>(
     }
 }
 
-// Sees to it that the store holds the chunk under the id. It isn't put where it is held. Answers whether it was put.
+// Sees to it that the store holds the chunk under the id. It isn't put where it is held.
 fn keep<S: StoreWrite>(
     store: &mut S,
     id: &ChunkId,
     chunk: &[u8],
     room: &mut [u8],
-) -> Result<bool, IoFault>
+) -> Result<(), IoFault>
     requires room { length room.old ≡ length chunk.now }
     ensures ok { OnOk result (IfSome (S.holds store.new) (λ m. m id.now.0 ≡ Some chunk.now)) }
     ensures told { OnOk result ((S.said store.new).shown id.now.0 chunk.now
@@ -139,23 +139,19 @@ fn keep<S: StoreWrite>(
     ensures faults { CountsCause IoFault.Failed (S.faults store.old) (S.faults store.new) result }
 {
     if is_held(store, id, chunk, room)? {
-        return Ok(false);
+        return Ok(());
     }
-    match store.put(id, chunk) {
-        Ok(()) => Ok(true),
-        Err(fault) => Err(fault),
-    }
+    store.put(id, chunk)
 }
 
-// Sees to it that the store holds this chunk, whose name is the id. `room` is as long as the chunk. Answers whether it
-// was put.
+// Sees to it that the store holds this chunk, whose name is the id. `room` is as long as the chunk.
 fn put_named<S: StoreWrite>(
     store: &mut S,
     kind: DigestKind,
     id: &ChunkId,
     chunk: &[u8],
     room: &mut [u8],
-) -> Result<bool, MakeFault>
+) -> Result<(), MakeFault>
     requires named { name_of kind chunk.now ≡ id.now.0 }
     requires room { length room.old ≡ length chunk.now }
     ensures ok { OnOk result (IfSome (S.holds store.new) (λ m. HoldsNamed kind id.now.0 (m id.now.0))) }
@@ -170,13 +166,13 @@ fn put_named<S: StoreWrite>(
     ensures faults { CountsCause MakeFault.StoreFault (S.faults store.old) (S.faults store.new) result }
 {
     match keep(store, id, chunk, room) {
-        Ok(put) => Ok(put),
+        Ok(()) => Ok(()),
         Err(IoFault::Failed) => Err(MakeFault::StoreFault),
         Err(IoFault::Memory) => Err(MakeFault::Memory),
     }
 }
 
-// Sees to one entry. Answers whether its chunk was put.
+// Sees to one entry.
 fn see_to<V: View, S: StoreWrite>(
     image: &mut V,
     store: &mut S,
@@ -186,7 +182,7 @@ fn see_to<V: View, S: StoreWrite>(
     start: u64,
     chunk: &mut [u8],
     room: &mut [u8],
-) -> Result<bool, MakeFault>
+) -> Result<(), MakeFault>
     requires inside { start + length chunk.old ≤ (V.held image.old).size }
     requires room { length room.old ≡ length chunk.old }
     ensures ok { OnOk result (IfSome (S.holds store.new) (λ m. HoldsNamed kind id.now.0 (m id.now.0))) }
@@ -214,7 +210,7 @@ fn see_to<V: View, S: StoreWrite>(
     put_named(store, kind, id, chunk, room)
 }
 
-// Sees to entry i. Its slice may have been read, and then it isn't read again. Answers whether its chunk was put.
+// Sees to entry i. Its slice may have been read, and then it isn't read again.
 pub(crate) fn put_entry<V: View, S: StoreWrite>(
     index: &Index,
     i: usize,
@@ -223,7 +219,7 @@ pub(crate) fn put_entry<V: View, S: StoreWrite>(
     chunk: &mut [u8],
     room: &mut [u8],
     read: Option<&[u8]>,
-) -> Result<bool, MakeFault>
+) -> Result<(), MakeFault>
     requires listed { i < count_of index.now }
     requires size { image_length index.now ≡ (V.held image.old).size }
     requires inside { size_of index.now i ≤ length chunk.old }
@@ -269,7 +265,7 @@ pub(crate) fn put_entry<V: View, S: StoreWrite>(
     )
 }
 
-// Sees to entry i, unless its id was seen to. Answers whether its chunk was put.
+// Sees to entry i, unless its id was seen to.
 pub(crate) fn see_next<V: View, S: StoreWrite>(
     index: &Index,
     i: usize,
@@ -280,7 +276,7 @@ pub(crate) fn see_next<V: View, S: StoreWrite>(
     chunk: &mut [u8],
     room: &mut [u8],
     read: Option<&[u8]>,
-) -> Result<bool, MakeFault>
+) -> Result<(), MakeFault>
     requires listed { i < count_of index.now }
     requires size { image_length index.now ≡ (V.held image.old).size }
     requires inside { size_of index.now i ≤ length chunk.old }
@@ -293,7 +289,7 @@ pub(crate) fn see_next<V: View, S: StoreWrite>(
     if is_new(seen, &id)? {
         return put_entry(index, i, image, store, chunk, room, read);
     }
-    Ok(false)
+    Ok(())
 }
 
 /// Sees to it that the store holds each chunk that the index lists, in order, each id once. What is held already isn't

@@ -1,94 +1,69 @@
 //! Storing an image's entries with one view, while other views read and name slices ahead. Entries are numbered from 0.
 
-ghost use Rattle.std.specs.Prelude.{◌≡◌, ℕ, ◌+◌, ◌<◌, ◌≤◌, [], All, List, OnOk, Option, length, map};
+ghost use Rattle.std.specs.Prelude.{◌≡◌, ℕ, ◌+◌, ◌<◌, ◌≤◌, [], All, IfSome, List, OnOk, Option, length, map};
 ghost use Rattle.std.specs.Prelude.{vec_capacity, vec_len};
 ghost use Rattle.buzhash_cut.specs.Image.{AreOfOneImage};
 ghost use Rattle.caibx_codec.specs.Listing.{Listing, count_of, image_length, size_of};
-ghost use Rattle.image_store.specs.Ahead.{IsAhead, IsAlike, NoneFalls};
-ghost use Rattle.image_store.specs.Storing.{GoesOn, IsStoredBy, IsStoring};
+ghost use Rattle.image_store.specs.Storing.{GoesOn, IsAlike, IsStoredBy, IsStoring, NoneFalls};
+ghost use Rattle.read_ahead.specs.Ahead.{IsAhead};
 
-use crate::ahead::Ahead;
 use crate::put_chunks::{MakeFault, put_chunks};
-use crate::reader::{Crew, Reader, change_all, dismiss, hire, plan_all};
 use crate::storing::Storing;
 use caibx_codec::index::Index;
 use chunk_store::store::{Store, StoreWrite};
 use dsy_base::view::View;
+use read_ahead::ahead::Ahead;
+use read_ahead::claims::Claims;
+use read_ahead::plan::round_end;
+use read_ahead::reader::{Crew, Reader, change_all, dismiss, hire};
 use std::alloc::Global;
 use std::thread::{Threads, join_mut};
 
-/// How many bytes are read ahead into a piece of room, besides half a buffer of the largest chunk.
-const READ_AHEAD: usize = 524_288;
-
-// Sees to the entries that are ready and to those from there to `own`, while each reader reads its entries in a thread.
-// This thread begins all of them, so that none waits for another one to begin it.
+// Sees to the entries before those of the round and to some of these, while each reader reads others in a thread. This
+// thread begins all of them, so that none waits for another one to begin it, and claims the first entry of each.
 #[cycle(round)]
 fn round<R: Threads + Sync, V: View, S: StoreWrite, W: View + Send>(
     rt: &R,
     index: &Index,
     storing: &mut Storing<V, S>,
     readers: &mut [Reader<W>],
+    claims: &Claims,
     ready: &[Ahead],
-    own: usize,
 ) -> Result<(), MakeFault>
+    requires inside { (claims.now.from ≤ count_of index.now) × (claims.now.to ≤ count_of index.now) }
     requires storing { IsStoring V.View S.Store index.now storing.old }
     requires ready { All (IsAhead index.now (V.held storing.old.image).bytes) ready.now }
-    requires own { own ≤ count_of index.now }
     requires size { All (λ r. image_length index.now ≡ (W.held r.view).size) readers.old }
-    requires ahead { All (λ r. IsAhead index.now (W.held r.view).bytes r.ahead) readers.old }
     ensures on { GoesOn V.View S.Store index.now storing.old storing.new result }
     ensures ahead { All (λ r. IsAhead index.now (W.held r.view).bytes r.ahead) readers.new }
     ensures kept { map (λ r. W.held r.view) readers.new ≡ map (λ r. W.held r.view) readers.old }
     ensures faults { NoneFalls (map (λ r. W.faults r.view) readers.old) (map (λ r. W.faults r.view) readers.new) }
 {
     let Some((reader, rest)) = readers.split_first_mut() else {
-        return storing.put_ready(index, ready, own);
+        return storing.put_round(index, claims, ready);
     };
+    let first = claims.claim();
     let mut read = ||
+        requires first { IfSome first (λ i. i < count_of index.now) }
+        requires inside { claims.now.to ≤ count_of index.now }
         requires size { image_length index.now ≡ (W.held reader.now.view).size }
-        requires ahead { IsAhead index.now (W.held reader.now.view).bytes reader.now.ahead }
         ensures ahead { IsAhead index.entry.now (W.held reader.exit.now.view).bytes reader.exit.now.ahead }
         ensures kept { W.held reader.exit.now.view ≡ W.held reader.entry.now.view }
         ensures faults { W.faults reader.entry.now.view ≤ W.faults reader.exit.now.view }
-    { reader.read(index) };
+    { reader.read(index, first, claims) };
     let mut go_on = || -> Result<(), MakeFault>
+        requires inside { (claims.now.from ≤ count_of index.now) × (claims.now.to ≤ count_of index.now) }
         requires storing { IsStoring V.View S.Store index.now storing.now }
         requires ready { All (IsAhead index.now (V.held storing.now.image).bytes) ready.now }
-        requires own { own ≤ count_of index.now }
         requires size { All (λ r. image_length index.now ≡ (W.held r.view).size) rest.now }
-        requires ahead { All (λ r. IsAhead index.now (W.held r.view).bytes r.ahead) rest.now }
         ensures on { GoesOn V.View S.Store index.entry.now storing.entry.now storing.exit.now result }
         ensures ahead { All (λ r. IsAhead index.entry.now (W.held r.view).bytes r.ahead) rest.exit.now }
         ensures kept { map (λ r. W.held r.view) rest.exit.now ≡ map (λ r. W.held r.view) rest.entry.now }
         ensures faults { NoneFalls (map (λ r. W.faults r.view) rest.entry.now)
             (map (λ r. W.faults r.view) rest.exit.now) }
-    { round(rt, index, storing, rest, ready, own) };
+    { round(rt, index, storing, rest, claims, ready) };
     let (_, put) = join_mut(rt, &mut read, &mut go_on);
     put
-}
-
-// How many bytes the first view reads itself in a round, beside so many readers, each of which reads `size` bytes. It
-// stores what they have read: while a byte is named, about ten are compared with the store's, or two are put, of which
-// there were so many in the last round.
-fn own_share(readers: usize, size: usize, put: usize) -> usize {
-    let compared = readers.saturating_mul(size) / 10;
-    size.saturating_sub(compared).saturating_sub(put / 2)
-}
-
-// The entry after those from `at` on that are in the next so many bytes.
-fn entries_in(index: &Index, at: usize, bytes: usize) -> usize
-    requires { at ≤ count_of index.now }
-    ensures { (at ≤ result) × (result ≤ count_of index.now) }
-{
-    let mut left = bytes;
-    for i in at..index.count() {
-        let size = index.entry(i).size;
-        if left < size {
-            return i;
-        }
-        left -= size;
-    }
-    index.count()
 }
 
 // Sees to all entries.
@@ -99,7 +74,6 @@ fn put_by_rounds<R: Threads + Sync, V: View + Send, S: StoreWrite>(
     readers: &mut [Reader<V>],
     ready: &mut [Ahead],
 ) -> Result<(), MakeFault>
-    requires some { 0 < length readers.old }
     requires rooms { length ready.old ≡ length readers.old }
     requires storing { IsStoring V.View S.Store index.now storing.old }
     requires ready { All (IsAhead index.now (V.held storing.old.image).bytes) ready.old }
@@ -110,20 +84,14 @@ fn put_by_rounds<R: Threads + Sync, V: View + Send, S: StoreWrite>(
     ensures faults { NoneFalls (map (λ r. V.faults r.view) readers.old) (map (λ r. V.faults r.view) readers.new) }
 {
     let mut at = 0;
-    let mut share = 0;
     while at < index.count() {
-        let own = entries_in(index, at, share);
-        at = plan_all(index, readers, own);
-        let before = storing.put;
-        round(rt, index, storing, readers, ready, own)?;
+        let end = round_end(index, at, readers.len());
+        let claims = Claims::new(at, end);
+        round(rt, index, storing, readers, &claims, ready)?;
         change_all(readers, ready);
-        share = own_share(
-            readers.len(),
-            ready[0].room.len(),
-            storing.put.saturating_sub(before),
-        );
+        at = end;
     }
-    storing.put_ready(index, ready, index.count())
+    storing.put_to(index, index.count(), ready)
 }
 
 // Sees to all entries with the first view alone.
@@ -165,7 +133,6 @@ fn store_ahead<R: Threads + Sync, V: View + Send, S: StoreWrite>(
     chunk: Vec<u8>,
     room: Vec<u8>,
 ) -> (Vec<V>, S, Result<(), MakeFault>)
-    requires some { 0 < vec_len crew.rooms }
     requires none { crew.readers.items ≡ [] }
     requires crew { (vec_len views ≡ vec_len crew.rooms + 1) × (vec_len crew.ready ≡ vec_len crew.rooms)
         × (vec_len crew.rooms ≤ vec_capacity crew.readers) }
@@ -209,7 +176,7 @@ pub(crate) fn store_entries<R: Threads + Sync, V: View + Send, S: StoreWrite>(
     if others == 0 {
         return store_alone(alloc, index, views, store, chunk, room);
     }
-    match Crew::new(alloc, others, READ_AHEAD + chunk.len() / 2) {
+    match Crew::new(alloc, others, chunk.len()) {
         Ok(crew) => store_ahead(rt, alloc, index, views, crew, store, chunk, room),
         Err(_) => store_alone(alloc, index, views, store, chunk, room),
     }

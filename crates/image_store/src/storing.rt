@@ -1,21 +1,22 @@
 //! The storing of an image's entries, one after another. Entries are numbered from 0.
 
-ghost use Rattle.std.specs.Prelude.{◌≡◌, ℕ, ◌+◌, ◌<◌, ◌≤◌, All, IfSome, OnOk, length};
+ghost use Rattle.std.specs.Prelude.{◌≡◌, ℕ, ◌+◌, ◌<◌, ◌≤◌, All, OnOk, length};
 ghost use Rattle.caibx_codec.specs.Listing.{Listing, count_of, image_length, size_of};
-ghost use Rattle.image_store.specs.Ahead.{IsAhead};
 ghost use Rattle.image_store.specs.Storing.{GoesOn, IsStoring};
+ghost use Rattle.read_ahead.specs.Ahead.{IsAhead};
 
-use crate::ahead::Ahead;
 use crate::put_chunks::{MakeFault, see_next};
 use caibx_codec::index::Index;
 use chunk_store::store::{Store, StoreWrite};
 use dsy_base::view::View;
+use read_ahead::ahead::{Ahead, slice_among};
+use read_ahead::claims::Claims;
 use std::alloc::Global;
 use std::collections::BTreeSet;
 use std::snapshot::Snapshot;
 
 /// A view of the image, the store, and how far the storing has come: the entries before `at` were seen to, and `first`
-/// is the store as it was before. `chunk` and `room` have room for the largest. So many bytes were `put`.
+/// is the store as it was before. `chunk` and `room` have room for the largest.
 #[derive(Drop)]
 pub(crate) struct Storing<V, S> {
     pub image: V,
@@ -25,7 +26,6 @@ pub(crate) struct Storing<V, S> {
     pub seen: BTreeSet<[u8; 32]>,
     pub chunk: Vec<u8>,
     pub room: Vec<u8>,
-    pub put: usize,
 }
 
 impl<V: View, S: StoreWrite> Storing<V, S> {
@@ -53,24 +53,19 @@ impl<V: View, S: StoreWrite> Storing<V, S> {
             seen: BTreeSet::new(alloc),
             chunk,
             room,
-            put: 0,
         }
     }
 
-    // Sees to the next entry.
-    fn put_next(&mut self, index: &Index, ahead: Option<&Ahead>) -> Result<(), MakeFault>
+    // Sees to the next entry, whose slice may be ready.
+    fn put_next(&mut self, index: &Index, ready: &[Ahead]) -> Result<(), MakeFault>
         requires more { self.old.at < count_of index.now }
         requires storing { IsStoring V.View S.Store index.now self.old }
-        requires ahead { IfSome ahead (λ a. IsAhead index.now (V.held self.old.image).bytes a.now) }
+        requires ready { All (IsAhead index.now (V.held self.old.image).bytes) ready.now }
         ensures on { GoesOn V.View S.Store index.now self.old self.new result }
         ensures next { OnOk result (self.new.at ≡ self.old.at + 1) }
     {
         index.rules();
-        let read = match ahead {
-            Some(ahead) => ahead.slice(index, self.at),
-            None => None,
-        };
-        let size = if see_next(
+        see_next(
             index,
             self.at,
             &self.first,
@@ -79,13 +74,8 @@ impl<V: View, S: StoreWrite> Storing<V, S> {
             &mut self.store,
             &mut self.chunk,
             &mut self.room,
-            read,
-        )? {
-            index.entry(self.at).size
-        } else {
-            0
-        };
-        self.put = self.put.saturating_add(size);
+            slice_among(ready, index, self.at),
+        )?;
         self.at += 1;
         Ok(())
     }
@@ -95,37 +85,37 @@ impl<V: View, S: StoreWrite> Storing<V, S> {
         &mut self,
         index: &Index,
         to: usize,
-        ahead: Option<&Ahead>,
+        ready: &[Ahead],
     ) -> Result<(), MakeFault>
         requires inside { to ≤ count_of index.now }
         requires storing { IsStoring V.View S.Store index.now self.old }
-        requires ahead { IfSome ahead (λ a. IsAhead index.now (V.held self.old.image).bytes a.now) }
+        requires ready { All (IsAhead index.now (V.held self.old.image).bytes) ready.now }
         ensures on { GoesOn V.View S.Store index.now self.old self.new result }
         ensures to { OnOk result (to ≤ self.new.at) }
     {
         while self.at < to {
-            self.put_next(index, ahead)?;
+            self.put_next(index, ready)?;
         }
         Ok(())
     }
 
-    /// Sees to the entries up to the last of those that are ready, and to those before `to`.
-    pub(crate) fn put_ready(
+    /// Sees to the entries before those of the round, and to those that it takes of them.
+    pub(crate) fn put_round(
         &mut self,
         index: &Index,
+        claims: &Claims,
         ready: &[Ahead],
-        to: usize,
     ) -> Result<(), MakeFault>
-        requires inside { to ≤ count_of index.now }
+        requires inside { (claims.now.from ≤ count_of index.now) × (claims.now.to ≤ count_of index.now) }
         requires storing { IsStoring V.View S.Store index.now self.old }
-        requires ahead { All (IsAhead index.now (V.held self.old.image).bytes) ready.now }
-        ensures on { GoesOn V.View S.Store index.now self.old self.new result }
-        ensures to { OnOk result (to ≤ self.new.at) }
+        requires ready { All (IsAhead index.now (V.held self.old.image).bytes) ready.now }
+        ensures { GoesOn V.View S.Store index.now self.old self.new result }
     {
-        for ahead in ready {
-            self.put_to(index, ahead.to, Some(ahead))?;
+        self.put_to(index, claims.from, ready)?;
+        while claims.takes(self.at) {
+            self.put_next(index, ready)?;
         }
-        self.put_to(index, to, None)
+        Ok(())
     }
 
     /// Hands the view and the store back.

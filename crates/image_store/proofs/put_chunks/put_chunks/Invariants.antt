@@ -6,5 +6,5 @@ use Rattle.image_store.proofs.put_chunks.put_chunks.Given as goal
 abbrev pub invariant-loop-i : goal.invariant-loop-i
 invariant-loop-i g l = record {
   first : l.first.value ≡ l.fn.store;
-  sees : SeesTo {A = Unit {0}} g.V.View g.S.Store l.index l.i l.first.value l.fn.image l.image l.store l.seen (Ok tt);
+  sees : SeesTo g.V.View g.S.Store l.index l.i l.first.value l.fn.image l.image l.store l.seen (Ok tt);
 }

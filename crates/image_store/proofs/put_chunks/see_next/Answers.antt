@@ -46,5 +46,5 @@ returns g c =
     let before = listed_before l i c.id-id.result.0 c.args.seen.now c.id-id.ensures (sym c.if-branch.false ∙ c.in_ok-is_new.ensures.found) c.requires.put.seen_are in
     record {
       put = put_again g.S.Store l told i first now c.id-id.result.0 c.id-id.ensures c.args.seen.now c.is_new.new.seen c.in_ok-is_new.ensures.changed c.requires.put before;
-      ends = ends_still g.V.View g.S.Store l i first c.args.image.now now false (omega (arith, c.requires.listed)) c.requires.put.touched;
+      ends = ends_still g.V.View g.S.Store l i first c.args.image.now now (omega (arith, c.requires.listed)) c.requires.put.touched;
     }

@@ -1,20 +1,23 @@
 use denote.Param.Send.{sendable}
 use Rattle.std.proofs.Common.{◌≡◌, ◌≤◌, All, arith, map, rules, subst}
 use Rattle.caibx_codec.specs.Listing.{image_length}
-use Rattle.image_store.specs.Ahead.{IsAhead, NoneFalls}
-use Rattle.image_store.specs.declared.reader.Reader.{Reader}
-use Rattle.image_store.proofs.Readers.{all_cons, all_first, falls_cons}
+use Rattle.std.proofs.lemmas.List.Elements.{All-cons, All-head, All-rest}
+use Rattle.std.proofs.lemmas.Option.{IfSome_then}
+use Rattle.image_store.proofs.Crews.{falls_cons}
+use Rattle.image_store.specs.Storing.{NoneFalls}
+use Rattle.read_ahead.specs.Ahead.{IsAhead}
+use Rattle.read_ahead.specs.declared.reader.Reader.{Reader}
 use Rattle.image_store.proofs.rounds.+round.Goals as goal
 
 pub join_mut-put-requires-after_bounds : goal.join_mut-put-requires-after_bounds
 join_mut-put-requires-after_bounds g t c κs within =
-    let l = c.args.index.now in
-    let first = c.in-Some.ensures.cases in
-    let sizes = all_first (λ r. image_length l ≡ (g.W.View.held r.view).size) c.args.readers.now c.in-Some.reader.now c.in-Some.rest.now first.0 c.requires.size in
-    let ahead = all_first (λ r. IsAhead l (g.W.View.held r.view).bytes r.ahead) c.args.readers.now c.in-Some.reader.now c.in-Some.rest.now first.0 c.requires.ahead in (
-      (sizes.0, ahead.0),
+    let P = λ (r : Reader g.row.W.Denot). image_length c.args.index.now ≡ (g.W.View.held r.view).size in (
       (
-        omega (arith, c.decreases, first.1),
+        IfSome_then c.claim-first.result c.claim-first.ensures (λ i is. omega (arith, is.1, c.requires.inside.1)),
+        (c.requires.inside.1, All-head P _ _ (subst (All P) c.in-Some.ensures.cases.0 c.requires.size)),
+      ),
+      (
+        omega (arith, c.decreases, c.in-Some.ensures.cases.1),
         (
           (λ a m. m),
           (
@@ -24,17 +27,14 @@ join_mut-put-requires-after_bounds g t c κs within =
               (
                 (λ a m. m),
                 (
-                  c.requires.storing,
+                  c.requires.inside,
                   (
-                    c.requires.ready,
+                    c.requires.storing,
                     (
-                      c.requires.own,
+                      c.requires.ready,
                       (
-                        sizes.1,
-                        (
-                          ahead.1,
-                          (search sendable depth 20, search sendable depth 20),
-                        ),
+                        All-rest P _ _ _ c.in-Some.ensures.cases.0 c.requires.size,
+                        (search sendable depth 20, search sendable depth 20),
                       ),
                     ),
                   ),
@@ -49,7 +49,7 @@ join_mut-put-requires-after_bounds g t c κs within =
 pub returns-clause-ahead : goal.returns-clause-ahead
 returns-clause-ahead g t c =
     let P = λ (r : Reader g.row.W.Denot). IsAhead c.args.index.now (g.W.View.held r.view).bytes r.ahead in
-    all_cons P _ _ (subst P (search rules) c.join_mut-put.ensures.0.met.1.0) (subst (All P) (search rules) c.join_mut-put.ensures.1.met.1.1.0)
+    All-cons P _ _ (subst P (search rules) c.join_mut-put.ensures.0.met.1.0) (subst (All P) (search rules) c.join_mut-put.ensures.1.met.1.1.0)
 
 pub returns-clause-faults : goal.returns-clause-faults
 returns-clause-faults g t c =

@@ -1,10 +1,10 @@
 use Rattle.std.proofs.Common.{◌≡◌, ◌-◌, ◌≤◌, All, Ok, map}
 use Rattle.caibx_codec.specs.Listing.{count_of}
-use Rattle.image_store.specs.Ahead.{IsAhead, NoneFalls}
-use Rattle.image_store.specs.Storing.{GoesOn}
+use Rattle.image_store.specs.Storing.{GoesOn, NoneFalls}
+use Rattle.read_ahead.specs.Ahead.{IsAhead}
 use Rattle.image_store.proofs.rounds.put_by_rounds.Given as goal
 
--- the entries before `at` were read ahead
+-- the rounds before entry `at` are over
 abbrev pub invariant-loop-at : goal.invariant-loop-at
 invariant-loop-at g l = record {
   on : GoesOn g.V.View g.S.Store l.index l.fn.storing l.storing (Ok tt);

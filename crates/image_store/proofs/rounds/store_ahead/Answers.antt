@@ -2,8 +2,8 @@ use Rattle.std.proofs.Common.{◌≡◌, ◌∷◌, All, ap, arith, map, sym, su
 use Rattle.std.proofs.lemmas.List.{with_items_is}
 use Rattle.std.specs.Vec.{with_items}
 use Rattle.caibx_codec.specs.Listing.{image_length}
-use Rattle.image_store.specs.Ahead.{IsAhead, IsAlike, NoneFalls}
-use Rattle.image_store.specs.Storing.{IsStoredBy}
+use Rattle.image_store.specs.Storing.{IsAlike, IsStoredBy, NoneFalls}
+use Rattle.read_ahead.specs.Ahead.{IsAhead}
 use Rattle.image_store.proofs.Crews.{by_crew, crew_alike, stored_on}
 use Rattle.image_store.proofs.rounds.store_ahead.Goals as goal
 

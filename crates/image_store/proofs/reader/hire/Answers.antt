@@ -1,8 +1,0 @@
-use Rattle.std.proofs.Common.{◌≡◌, [], map, rules}
-use Rattle.image_store.proofs.Readers.{hired}
-use Rattle.image_store.proofs.reader.hire.Goals as goal
-
-pub returns-clause-views : goal.returns-clause-views
-returns-clause-views g c =
-    let none : c.loop-view.views.items ≡ [] = search rules in
-    hired c.args.views.now.items (map (λ r. r.view) c.loop-view.readers.items) c.loop-view.views.items c.in-Some.first none c.loop-view.invariant.views

@@ -1,0 +1,49 @@
+//! How much is read ahead. Entries are numbered from 0, sizes are in bytes.
+
+ghost use Rattle.std.specs.Prelude.{◌≡◌, ◌-◌, ◌<◌, ◌≤◌, IsTrue};
+ghost use Rattle.caibx_codec.specs.Listing.{count_of, id_of};
+
+use caibx_codec::index::Index;
+
+/// How many bytes are read ahead into a piece of room and its list, besides half a buffer of the largest chunk.
+const READ_AHEAD: usize = 524_288;
+
+/// How many slices stand in a piece of room at most.
+pub(crate) const PIECES: usize = 1_024;
+
+/// What a list of so many pieces takes, at 16 bytes each.
+const LIST: usize = 16_384;
+
+/// The size of a piece of room beside its list, where the largest chunk has so many bytes.
+pub(crate) fn room_size(largest: usize) -> usize {
+    READ_AHEAD - LIST + largest / 2
+}
+
+/// Whether entry i has the id of the entry before it. Then it was seen to, and its slice isn't read.
+pub(crate) fn repeats(index: &Index, i: usize) -> bool
+    requires { i < count_of index.now }
+    ensures { IsTrue result → id_of index.now i ≡ id_of index.now (i - 1) }
+{
+    0 < i && index.id(i).is(&index.id(i - 1))
+}
+
+/// The entry after those of the round that begins with entry `at`: about what the storing thread and so many readers
+/// take, and no more slices than the readers have room for.
+pub fn round_end(index: &Index, at: usize, readers: usize) -> usize
+    requires { at < count_of index.now }
+    ensures { (at < result) × (result ≤ count_of index.now) }
+{
+    let mut bytes = readers.saturating_add(1).saturating_mul(READ_AHEAD);
+    let mut pieces = readers.saturating_mul(PIECES);
+    for i in at..index.count() {
+        if !repeats(index, i) {
+            let size = index.entry(i).size;
+            if at < i && (bytes < size || pieces == 0) {
+                return i;
+            }
+            bytes = bytes.saturating_sub(size);
+            pieces = pieces.saturating_sub(1);
+        }
+    }
+    index.count()
+}

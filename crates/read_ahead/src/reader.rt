@@ -1,0 +1,133 @@
+//! Views that read slices of an image ahead, each into a room of its own. Entries are numbered from 0.
+
+ghost use Rattle.std.specs.Prelude.{◌≡◌, ℕ, ◌+◌, ◌<◌, ◌≤◌, [], ◌∷◌, All, List, Option, IfOk, IfSome, length, map};
+ghost use Rattle.std.specs.Prelude.{vec_capacity, vec_len};
+ghost use Rattle.caibx_codec.specs.Listing.{Listing, count_of, image_length};
+ghost use Rattle.read_ahead.specs.Ahead.{IsAhead};
+
+use crate::ahead::Ahead;
+use crate::claims::Claims;
+use crate::plan::room_size;
+use caibx_codec::index::Index;
+use dsy_base::view::View;
+use std::alloc::{AllocError, Global};
+use std::mem::swap;
+
+/// A view, and the room that it reads into.
+#[derive(Drop)]
+pub struct Reader<V> {
+    pub view: V,
+    pub ahead: Ahead,
+}
+
+impl<V: View> Reader<V> {
+    /// Reads the slices of `first` and of each entry that it claims, as long as they can be read, are right and fit.
+    pub fn read(&mut self, index: &Index, first: Option<usize>, claims: &Claims)
+        requires first { IfSome first (λ i. i < count_of index.now) }
+        requires inside { claims.now.to ≤ count_of index.now }
+        requires size { image_length index.now ≡ (V.held self.old.view).size }
+        ensures ahead { IsAhead index.now (V.held self.new.view).bytes self.new.ahead }
+        ensures kept { V.held self.new.view ≡ V.held self.old.view }
+        ensures faults { V.faults self.old.view ≤ V.faults self.new.view }
+    {
+        self.ahead.read(index, first, claims, &mut self.view);
+    }
+
+    // Gives away what was read, for another room.
+    fn change(&mut self, ready: &mut Ahead)
+        ensures ready { ready.new ≡ self.old.ahead }
+        ensures view { self.new.view ≡ self.old.view }
+    {
+        swap(&mut self.ahead, ready);
+    }
+}
+
+/// Takes from each reader what it has read, and gives it another room.
+pub fn change_all<V: View>(readers: &mut [Reader<V>], ready: &mut [Ahead])
+    requires { length ready.old ≡ length readers.old }
+    ensures ready { ready.new ≡ map (λ r. r.ahead) readers.old }
+    ensures views { map (λ r. r.view) readers.new ≡ map (λ r. r.view) readers.old }
+{
+    for k in 0..readers.len() {
+        readers[k].change(&mut ready[k]);
+    }
+}
+
+// So many rooms of so many bytes, in which nothing stands.
+fn rooms(alloc: Global, count: usize, size: usize) -> Result<Vec<Ahead>, AllocError>
+    ensures len { IfOk result (λ v. vec_len v ≡ count) }
+    ensures ahead { IfOk result (λ v. (l : Listing) (told : Option (List ℕ)) → All (IsAhead l told) v.items) }
+{
+    let mut rooms = Vec::with_capacity(alloc, count)?;
+    while rooms.len() < count {
+        rooms.push(Ahead::new(alloc, size)?)?;
+    }
+    Ok(rooms)
+}
+
+/// What readers need: `rooms` to read into, `ready` rooms to be stored, and a place for each reader.
+#[derive(Drop)]
+pub struct Crew<V> {
+    pub readers: Vec<Reader<V>>,
+    pub rooms: Vec<Ahead>,
+    pub ready: Vec<Ahead>,
+}
+
+impl<V: View> Crew<V> {
+    /// For so many readers of an image whose largest chunk has so many bytes. None is hired.
+    pub fn new(alloc: Global, count: usize, largest: usize) -> Result<Crew<V>, AllocError>
+        ensures none { IfOk result (λ c. c.readers.items ≡ []) }
+        ensures room { IfOk result (λ c. count ≤ vec_capacity c.readers) }
+        ensures len { IfOk result (λ c. (vec_len c.rooms ≡ count) × (vec_len c.ready ≡ count)) }
+        ensures ahead { IfOk result (λ c. (l : Listing) (told : Option (List ℕ)) → All (IsAhead l told) c.ready.items) }
+    {
+        let size = room_size(largest);
+        Ok(Crew {
+            readers: Vec::with_capacity(alloc, count)?,
+            rooms: rooms(alloc, count, size)?,
+            ready: rooms(alloc, count, size)?,
+        })
+    }
+}
+
+/// Makes a reader of each view but the first, which is handed out.
+pub fn hire<V: View>(views: &mut Vec<V>, rooms: &mut Vec<Ahead>, readers: &mut Vec<Reader<V>>) -> V
+    requires some { vec_len views.old ≡ vec_len rooms.old + 1 }
+    requires none { readers.old.items ≡ [] }
+    requires room { vec_len rooms.old ≤ vec_capacity readers.old }
+    ensures views { views.old.items ≡ result ∷ map (λ r. r.view) readers.new.items }
+    ensures none { views.new.items ≡ [] }
+    ensures room { vec_len readers.new + 1 ≤ vec_capacity views.new }
+    ensures len { vec_len readers.new ≡ vec_len rooms.old }
+{
+    views.reverse();
+    let Some(first) = views.pop() else {
+        unreachable!();
+    };
+    while let Some(view) = views.pop() {
+        let Some(ahead) = rooms.pop() else {
+            unreachable!();
+        };
+        let Ok(()) = readers.push(Reader { view, ahead }) else {
+            unreachable!();
+        };
+    }
+    first
+}
+
+/// Takes the views back, in their order.
+pub fn dismiss<V: View>(first: V, readers: &mut Vec<Reader<V>>, views: &mut Vec<V>)
+    requires none { views.old.items ≡ [] }
+    requires room { vec_len readers.old + 1 ≤ vec_capacity views.old }
+    ensures { views.new.items ≡ first ∷ map (λ r. r.view) readers.old.items }
+{
+    while let Some(reader) = readers.pop() {
+        let Ok(()) = views.push(reader.view) else {
+            unreachable!();
+        };
+    }
+    let Ok(()) = views.push(first) else {
+        unreachable!();
+    };
+    views.reverse();
+}
