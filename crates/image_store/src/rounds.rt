@@ -85,7 +85,7 @@ fn put_by_rounds<R: Threads + Sync, V: View + Send, S: StoreWrite>(
 {
     let mut at = 0;
     while at < index.count() {
-        let end = round_end(index, at, readers.len());
+        let end = round_end(index, at, readers.len(), storing.chunk.len());
         let claims = Claims::new(at, end);
         round(rt, index, storing, readers, &claims, ready)?;
         change_all(readers, ready);

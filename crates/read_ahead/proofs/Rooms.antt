@@ -3,7 +3,7 @@ use Rattle.std.proofs.Common.{◌≡◌, ℕ, ◌+◌, ◌-◌, ◌≤◌, List,
 use Rattle.std.proofs.lemmas.List.{drop-take, take-take}
 use Rattle.std.proofs.lemmas.List.Elements.{All-push}
 use Rattle.std.proofs.lemmas.Option.{IfSome_then}
-use Rattle.caibx_codec.specs.Listing.{Listing, end_of, id_of, kind_of, size_of, slice_of, start_of}
+use Rattle.caibx_codec.specs.Listing.{Listing, end_of, id_of, kind_of, size_of, start_of}
 use Rattle.chunk_store.specs.Names.{name_of}
 use Rattle.read_ahead.specs.Ahead.{IsAhead, IsPlaced, IsSlice, slice_at}
 use Rattle.read_ahead.specs.declared.ahead.Ahead.{Ahead}

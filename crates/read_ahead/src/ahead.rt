@@ -78,7 +78,8 @@ impl Ahead {
         self.pieces.len() < self.pieces.capacity() && size <= self.room.len() - self.filled
     }
 
-    // Reads the slice of entry i behind the others, and keeps it where it has its name. Answers whether it was kept.
+    // Reads the slice of entry i behind the others, and keeps it where it has its name. One that is seen to already or
+    // that the whole room can't hold is left out. Answers whether there is more to be read.
     fn read_entry<V: View>(&mut self, index: &Index, i: usize, view: &mut V) -> bool
         requires listed { i < count_of index.now }
         requires size { image_length index.now ≡ (V.held view.old).size }
@@ -88,6 +89,9 @@ impl Ahead {
         ensures faults { V.faults view.old ≤ V.faults view.new }
     {
         let listed = index.entry(i);
+        if repeats(index, i) || self.room.len() < listed.size {
+            return true;
+        }
         let at = self.filled;
         if !self.takes(listed.size) {
             return false;
@@ -125,7 +129,7 @@ impl Ahead {
             let Some(i) = next else {
                 return;
             };
-            if !repeats(index, i) && !self.read_entry(index, i, view) {
+            if !self.read_entry(index, i, view) {
                 return;
             }
             next = claims.claim();

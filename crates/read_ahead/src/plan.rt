@@ -19,7 +19,7 @@ pub(crate) fn room_size(largest: usize) -> usize {
     READ_AHEAD - LIST + largest / 2
 }
 
-/// Whether entry i has the id of the entry before it. Then it was seen to, and its slice isn't read.
+/// Whether entry i has the id of the entry before it. Then its slice isn't read.
 pub(crate) fn repeats(index: &Index, i: usize) -> bool
     requires { i < count_of index.now }
     ensures { IsTrue result → id_of index.now i ≡ id_of index.now (i - 1) }
@@ -27,13 +27,14 @@ pub(crate) fn repeats(index: &Index, i: usize) -> bool
     0 < i && index.id(i).is(&index.id(i - 1))
 }
 
-/// The entry after those of the round that begins with entry `at`: about what the storing thread and so many readers
-/// take, and no more slices than the readers have room for.
-pub fn round_end(index: &Index, at: usize, readers: usize) -> usize
+/// The entry after those of the round that begins with entry `at`: what the storing thread and so many readers are to
+/// read, where the largest chunk has so many bytes. There are no more slices than the readers' lists hold.
+pub fn round_end(index: &Index, at: usize, readers: usize, largest: usize) -> usize
     requires { at < count_of index.now }
     ensures { (at < result) × (result ≤ count_of index.now) }
 {
-    let mut bytes = readers.saturating_add(1).saturating_mul(READ_AHEAD);
+    let share = READ_AHEAD.max(largest / 2);
+    let mut bytes = readers.saturating_add(1).saturating_mul(share);
     let mut pieces = readers.saturating_mul(PIECES);
     for i in at..index.count() {
         if !repeats(index, i) {
