@@ -4,11 +4,12 @@ use Rattle.std.proofs.lemmas.Bool.{cases_lt}
 use Rattle.std.proofs.lemmas.List.{get_or-map, get_or-reverse, take-append-le, take_all, get_or_append_left, get_or-append-add, get_or_past, length-map, length-reverse, map-append, reverse-append}
 use Rattle.buzhash_cut.specs.Entries.{AreAll, AreEntries, AreTooMany, IsRun}
 use Rattle.buzhash_cut.specs.Image.{AreOfOneImage, CountsViews, HasTooManyCuts}
-use Rattle.buzhash_cut.specs.Runs.{HasCut}
+use Rattle.buzhash_cut.specs.Runs.{AreRuns, HasCut, HasCutFirst}
 use Rattle.chunk_ends.specs.Sizes.{Sizes}
 use Rattle.buzhash_cut.specs.declared.image.CutFault.{CutFault}
 use Rattle.buzhash_cut.specs.declared.image.CutFault.TheVariants as faults
 use Rattle.buzhash_cut.specs.declared.run.Run.{Run}
+use Rattle.buzhash_cut.specs.declared.worker.Worker.{Worker}
 use Rattle.caibx_codec.specs.Seen.{pairs}
 use Rattle.dsy_base.specs.Bytes.{Held}
 use Rattle.dsy_base.specs.Counts.{CountsFaults}
@@ -29,6 +30,9 @@ module _ (s : Sizes) (h k : Held) (size : k.size ≡ h.size) (bytes : k.bytes �
   run_alike : (a : ℕ) (es : List (ℕ × List ℕ)) → IsRun s h a es → IsRun s k a es
   run_alike a es run = record { end = run.end; inside = omega (arith, run.inside, size); entries = entries_alike a run.end es run.entries }
 
+  pub runs_alike : (rs : List Run) → AreRuns s h rs → AreRuns s k rs
+  runs_alike rs runs i d lt = run_alike (slice_index_or rs i d).start (pairs (slice_index_or rs i d).entries.items) (runs i d lt)
+
   all_alike : (es : List (ℕ × List ℕ)) → AreAll s h es → AreAll s k es
   all_alike es all = record {
     few = all.few;
@@ -44,16 +48,20 @@ last_at {W = W} rest m d =
     let is : length rest ≡ length rest + 0 = omega arith in
     ap (λ (k : ℕ). slice_index_or (rest ++ m ∷ []) k d) is ∙ get_or-append-add rest (m ∷ []) 0 d
 
--- the workers before and after they have cut. The last of them, which is taken out, cut the first part
-module _ {W : Type 0} (F : W → ℕ) (H : W → Held) (R : W → Run) (s : Sizes) (olds lent mids more rest : List W) (m : W) (n : ℕ) (lent_is : lent ≡ olds) (size : length lent ≡ n)
-    (popped : take n (mids ++ more) ≡ rest ++ m ∷ []) (same : map H mids ≡ map H lent) (alike : AreOfOneImage (map H olds))
-    (has_cut : (k : ℕ) (d : W) → k < length lent → HasCut s (H (slice_index_or lent k d)) (R (slice_index_or lent k d)).start (F (slice_index_or lent k d)) (F (slice_index_or mids k d)) (R (slice_index_or mids k d)))
-    (begins : (d : W) → (R (slice_index_or olds (n - 1) d)).start ≡ 0) where
+-- the workers before and after they have cut. The first of them, which comes last, is taken out
+module _ {V : Type 0} (held : V → Held) (failed : V → ℕ) (s : Sizes) (olds lent mids more rest : List (Worker V)) (m : Worker V) (n : ℕ) (lent_is : lent ≡ olds) (size : length lent ≡ n)
+    (popped : take n (mids ++ more) ≡ rest ++ m ∷ []) (same : map (λ w. held w.view) mids ≡ map (λ w. held w.view) lent) (alike : AreOfOneImage (map (λ w. held w.view) olds)) where
+  abbrev W : Type 0
+  W = Worker V
+
+  abbrev H : W → Held
+  H w = held w.view
+
+  abbrev F : W → ℕ
+  F w = failed w.view
+
   kept : map H mids ≡ map H olds
   kept = same ∙ ap (map H) lent_is
-
-  cut : (k : ℕ) (d : W) → k < length olds → HasCut s (H (slice_index_or olds k d)) (R (slice_index_or olds k d)).start (F (slice_index_or olds k d)) (F (slice_index_or mids k d)) (R (slice_index_or mids k d))
-  cut = subst (λ (xs : List W). (k : ℕ) (d : W) → k < length xs → HasCut s (H (slice_index_or xs k d)) (R (slice_index_or xs k d)).start (F (slice_index_or xs k d)) (F (slice_index_or mids k d)) (R (slice_index_or mids k d))) lent_is has_cut
 
   long : length olds ≡ length mids
   long = sym (length-map olds H) ∙ sym (ap length kept) ∙ length-map mids H
@@ -64,9 +72,6 @@ module _ {W : Type 0} (F : W → ℕ) (H : W → Held) (R : W → Run) (s : Size
   is : mids ≡ rest ++ m ∷ []
   is = sym (take-append-le n mids more (omega (arith, count, long)) ∙ take_all n mids (omega (arith, count, long))) ∙ popped
 
-  zero : (d : W) → (R (slice_index_or olds (length olds - 1) d)).start ≡ 0
-  zero d = ap (λ (k : ℕ). (R (slice_index_or olds (k - 1) d)).start) (sym count) ∙ begins d
-
   longer : length mids ≡ length rest + 1
   longer = ap length is ∙ length-append rest (m ∷ [])
 
@@ -76,60 +81,66 @@ module _ {W : Type 0} (F : W → ℕ) (H : W → Held) (R : W → Run) (s : Size
   last_is : slice_index_or mids (length rest) m ≡ m
   last_is = ap (λ (xs : List W). slice_index_or xs (length rest) m) is ∙ last_at rest m m
 
-  -- the view of the last holds what it held
+  -- the view of the first holds what it held
   held_at : (k : ℕ) → k < length olds → H (slice_index_or olds k m) ≡ H (slice_index_or mids k m)
   held_at k lt = sym (get_or-map H olds k m (H m) lt) ∙ ap (λ (hs : List Held). slice_index_or hs k (H m)) (sym kept) ∙ get_or-map H mids k m (H m) (omega (arith, lt, long))
 
-  held_last : H (slice_index_or olds (length olds - 1) m) ≡ H m
-  held_last =
+  held_first : H (slice_index_or olds (length olds - 1) m) ≡ H m
+  held_first =
       ap (λ (k : ℕ). H (slice_index_or olds k m)) place ∙ held_at (length rest) (omega (arith, long, longer)) ∙ ap H last_is
 
-  alike_last : (k : ℕ) (e : Held) → k < length (map H olds) → ((slice_index_or (map H olds) k e).size ≡ (H m).size) × ((slice_index_or (map H olds) k e).bytes ≡ (H m).bytes)
-  alike_last k e lt =
+  alike_first : (k : ℕ) (e : Held) → k < length (map H olds) → ((slice_index_or (map H olds) k e).size ≡ (H m).size) × ((slice_index_or (map H olds) k e).bytes ≡ (H m).bytes)
+  alike_first k e lt =
       let many : length olds - 1 < length (map H olds) = omega (arith, long, longer, length-map olds H) in
-      let there : slice_index_or (map H olds) (length olds - 1) e ≡ H m = get_or-map H olds (length olds - 1) m e (omega (arith, long, longer)) ∙ held_last in
+      let there : slice_index_or (map H olds) (length olds - 1) e ≡ H m = get_or-map H olds (length olds - 1) m e (omega (arith, long, longer)) ∙ held_first in
       subst (λ (h : Held). ((slice_index_or (map H olds) k e).size ≡ h.size) × ((slice_index_or (map H olds) k e).bytes ≡ h.bytes)) there (alike (length olds - 1) e many k e lt)
 
   pub all_of : (es : List (ℕ × List ℕ)) → AreAll s (H m) es → All (λ h. AreAll s h es) (map H olds)
-  all_of es all k e lt = let same = alike_last k e lt in all_alike s (H m) (slice_index_or (map H olds) k e) same.0 same.1 es all
+  all_of es all k e lt = let same = alike_first k e lt in all_alike s (H m) (slice_index_or (map H olds) k e) same.0 same.1 es all
 
   pub many_of : AreTooMany s (H m) → All (AreTooMany s) (map H olds)
-  many_of many k e lt = let same = alike_last k e lt in many_alike s (H m) (slice_index_or (map H olds) k e) same.0 same.1 many
+  many_of many k e lt = let same = alike_first k e lt in many_alike s (H m) (slice_index_or (map H olds) k e) same.0 same.1 many
 
-  -- what the last has cut
-  pub first_cut : HasCut s (H m) 0 (F (slice_index_or olds (length olds - 1) m)) (F m) (R m)
-  first_cut =
-      let o : W = slice_index_or olds (length olds - 1) m in
+  -- what the first has cut
+  pub first_cut : ((d : W) → HasCutFirst held failed s (slice_index_or lent (length lent - 1) d) (slice_index_or mids (length lent - 1) d))
+      → HasCutFirst held failed s (slice_index_or olds (length olds - 1) m) m
+  first_cut cut =
       let at : slice_index_or mids (length olds - 1) m ≡ m = ap (λ (k : ℕ). slice_index_or mids k m) place ∙ last_is in
-      let here = cut (length olds - 1) m (omega (arith, long, longer)) in
-      subst (λ (h : Held). HasCut s h 0 (F o) (F m) (R m)) held_last
-      (subst (λ (a : ℕ). HasCut s (H o) a (F o) (F m) (R m)) (zero m)
-      (subst (λ (w : W). HasCut s (H o) (R o).start (F o) (F w) (R w)) at here))
+      let here = subst (λ (xs : List W). HasCutFirst held failed s (slice_index_or xs (length xs - 1) m) (slice_index_or mids (length xs - 1) m)) lent_is (cut m) in
+      subst (λ (w : W). HasCutFirst held failed s (slice_index_or olds (length olds - 1) m) w) at here
+
+  pub first_end : ((d : W) → HasCutFirst held failed s (slice_index_or lent (length lent - 1) d) (slice_index_or mids (length lent - 1) d))
+      → IfOk m.end (λ e. (e ≤ (H m).size) × AreEntries s (H m).bytes 0 (pairs m.entries.items) e)
+  first_end cut = subst (λ (h : Held). IfOk m.end (λ e. (e ≤ h.size) × AreEntries s h.bytes 0 (pairs m.entries.items) e)) held_first (first_cut cut).end
+
+  pub first_many : ((d : W) → HasCutFirst held failed s (slice_index_or lent (length lent - 1) d) (slice_index_or mids (length lent - 1) d))
+      → IfErr m.end (λ f. f ≡ faults.TooManyItems → AreTooMany s (H m))
+  first_many cut = subst (λ (h : Held). IfErr m.end (λ f. f ≡ faults.TooManyItems → AreTooMany s h)) held_first (first_cut cut).many
 
   -- and the others
-  pub others_cut : All (λ w. IsRun s (H m) (R w).start (pairs (R w).entries.items)) rest
-  others_cut k d lt =
+  pub others_cut : ((k : ℕ) (d : W) → k < length lent → HasCut held failed s (slice_index_or lent k d) (slice_index_or mids k d)) → All (λ w. AreRuns s (H m) w.runs.items) rest
+  others_cut cut k d lt =
       let inside : k < length olds = omega (arith, lt, long, longer) in
       let o : W = slice_index_or olds k d in
       let at : slice_index_or mids k d ≡ slice_index_or rest k d = ap (λ (xs : List W). slice_index_or xs k d) is ∙ get_or_append_left rest (m ∷ []) d k lt in
-      let here : HasCut s (H o) (R o).start (F o) (F (slice_index_or rest k d)) (R (slice_index_or rest k d)) =
-      subst (λ (w : W). HasCut s (H o) (R o).start (F o) (F w) (R w)) at (cut k d inside) in
+      let here : HasCut held failed s o (slice_index_or rest k d) =
+      subst (λ (w : W). HasCut held failed s o w) at (subst (λ (xs : List W). HasCut held failed s (slice_index_or xs k d) (slice_index_or mids k d)) lent_is (cut k d (omega (arith, inside, count, size)))) in
       let own : H o ≡ slice_index_or (map H olds) k (H m) = sym (get_or-map H olds k d (H m) inside) in
-      let same = alike_last k (H m) (omega (arith, inside, length-map olds H)) in
+      let same = alike_first k (H m) (omega (arith, inside, length-map olds H)) in
       let size : (H m).size ≡ (H o).size = sym (ap (λ (h : Held). h.size) own ∙ same.0) in
       let bytes : (H m).bytes ≡ (H o).bytes = sym (ap (λ (h : Held). h.bytes) own ∙ same.1) in
-      let run = run_alike s (H o) (H m) size bytes (R o).start (pairs (R (slice_index_or rest k d)).entries.items) here.run in
-      subst (λ (a : ℕ). IsRun s (H m) a (pairs (R (slice_index_or rest k d)).entries.items)) (sym here.start_is) run
+      runs_alike s (H o) (H m) size bytes (slice_index_or rest k d).runs.items here.runs
 
-  -- and how the counts went, when the last has gone on to the view of `next`
-  module _ {A : Type 0} (next : W) (result : Result A CutFault) (counts : CountsFaults faults.ImageFault faults.Memory (F (slice_index_or olds (length olds - 1) m)) (F next) result) where
+  -- and how the counts went, when the first has gone on to the view of `next`
+  module _ (cut : (k : ℕ) (d : W) → k < length lent → HasCut held failed s (slice_index_or lent k d) (slice_index_or mids k d)) {A : Type 0} (next : W) (result : Result A CutFault) (counts : CountsFaults faults.ImageFault faults.Memory (F (slice_index_or olds (length olds - 1) m)) (F next) result) where
     count_at : (k : ℕ) → k < length olds → F (slice_index_or olds k m) ≤ F (slice_index_or (rest ++ next ∷ []) k m)
     count_at k lt = elim (cases_lt k (length rest)) [
       | inl inside ↦
           let at : slice_index_or mids k m ≡ slice_index_or (rest ++ next ∷ []) k m =
           ap (λ (xs : List W). slice_index_or xs k m) is ∙ get_or_append_left rest (m ∷ []) m k inside ∙ sym (get_or_append_left rest (next ∷ []) m k inside) in
-          let fell = (cut k m lt).counts.never_falls in
-          subst (λ (w : W). F (slice_index_or olds k m) ≤ F w) at fell
+          let rose : F (slice_index_or olds k m) ≤ F (slice_index_or mids k m) =
+          (subst (λ (xs : List W). HasCut held failed s (slice_index_or xs k m) (slice_index_or mids k m)) lent_is (cut k m (omega (arith, lt, count, size)))).never_falls in
+          subst (λ (w : W). F (slice_index_or olds k m) ≤ F w) at rose
       | inr past ↦
           let place_is : k ≡ length rest = omega (arith, long, longer) in
           let end : length olds - 1 ≡ k = omega (arith, long, longer) in

@@ -1,5 +1,5 @@
 -- Entries one after the other.
-use Rattle.std.proofs.Common.{◌≡◌, ℕ, zero, suc, ◌+◌, ◌-◌, ◌<◌, ◌≤◌, List, [], ◌∷◌, ◌++◌, length, map, take, drop, slice_index_or, slice_range, refl, sym, ap, subst, ◌∙◌, arith, length-append, Option, Some, None, IfSome, Result, Ok, Err, IfOk, IfErr, OnOk, OnErr}
+use Rattle.std.proofs.Common.{◌≡◌, ℕ, zero, suc, ◌+◌, ◌-◌, ◌<◌, ◌≤◌, List, [], ◌∷◌, ◌++◌, length, map, take, drop, slice_index_or, slice_range, refl, sym, ap, subst, ◌∙◌, arith, length-append, Option, Some, None, IfSome, Result, Ok, Err, IfOk, IfErr, OnOk}
 use Rattle.std.proofs.lemmas.List.{length-drop, take_all}
 use Rattle.buzhash_cut.proofs.Cuttable.{cuts_exist}
 use Rattle.chunk_ends.specs.Cuts.{AreCuts}
@@ -23,10 +23,6 @@ pub if_one : (o : Option (List ℕ)) (P R : List ℕ → Type 0) → IfSome o P 
 if_one None P R h f = tt
 if_one (Some t) P R h f = f t h
 
-pub if_always : (o : Option (List ℕ)) (Q : List ℕ → Type 0) → ((t : List ℕ) → Q t) → IfSome o Q
-if_always None Q f = tt
-if_always (Some t) Q f = f t
-
 module _ (P : ℕ → ℕ × List ℕ → Type 0) where
   linked_joined : (a b c : ℕ) (xs ys : List (ℕ × List ℕ)) → AreLinked P a xs b → AreLinked P b ys c → AreLinked P a (xs ++ ys) c
   linked_joined a b c [] ys p q = subst (λ (n : ℕ). AreLinked P n ys c) (sym p) q
@@ -47,12 +43,6 @@ module _ (P : ℕ → ℕ × List ℕ → Type 0) where
       ap (λ (i : ℕ). (slice_index_or (x ∷ y ∷ xs) i d).end) last ∙ linked_last x.end c (y ∷ xs) d (omega arith) p.1
 
 module _ (s : Sizes) (bytes : Option (List ℕ)) where
-  pub entries_none : (a : ℕ) (es : List (ℕ × List ℕ)) → es ≡ [] → AreEntries s bytes a es a
-  entries_none a es none = subst (λ (xs : List (ℕ × List ℕ)). AreEntries s bytes a xs a) (sym none) (record {
-    steps = refl;
-    chunks = if_always bytes (λ t. AreLinked (IsChunk s t) a [] a) (λ t. refl);
-  })
-
   pub entries_joined : (a b c : ℕ) (xs ys : List (ℕ × List ℕ)) → AreEntries s bytes a xs b → AreEntries s bytes b ys c → AreEntries s bytes a (xs ++ ys) c
   entries_joined a b c xs ys p q = record {
     steps = linked_joined (IsStep s.greatest) a b c xs ys p.steps q.steps;
@@ -87,14 +77,6 @@ run_after s h a at xs ys i d same lt is run =
         chunks = if_one h.bytes (λ t. AreLinked (IsChunk s t) a (pairs xs) run.end) (λ t. AreLinked (IsChunk s t) at (pairs (drop (suc i) xs)) run.end) run.entries.chunks (λ t. linked (IsChunk s t));
       };
     })
-
--- what cutting from `start` on left is a run, whatever it answered
-pub run_of : (s : Sizes) (h : Held) (start stop : ℕ) (old new : List (ℕ × List ℕ)) (r : Result ℕ CutFault) → old ≡ []
-    → IfOk r (λ e. (start ≤ e) × (stop ≤ e) × (e ≤ h.size))
-    → IfOk r (λ e. (base : ℕ) → AreEntries s h.bytes base old start → AreEntries s h.bytes base new e)
-    → OnErr r ((base : ℕ) → AreEntries s h.bytes base old start → IsRun s h base new) → IsRun s h start new
-run_of s h start stop old new (Ok e) none within on before = record { end = e; inside = within.2; entries = on start (entries_none s h.bytes start old none) }
-run_of s h start stop old new (Err f) none within on before = before start (entries_none s h.bytes start old none)
 
 -- chunks end where the image is cut
 abbrev pub ends_in : List (ℕ × List ℕ) → List ℕ

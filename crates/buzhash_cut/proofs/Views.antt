@@ -57,3 +57,16 @@ alike_all H vs h all i d lt j e within =
     let one = each i d lt in
     let other = each j e within in
     (other.0 ∙ sym one.0, other.1 ∙ sym one.1)
+
+-- views of one image are of one size
+pub sizes_alike : {W : Type 0} (H : W → Held) (ws : List W) → AreOfOneImage (map H ws) → (i j : ℕ) (d e : W) → i < length ws → j < length ws
+    → (H (slice_index_or ws i d)).size ≡ (H (slice_index_or ws j e)).size
+sizes_alike H ws alike i j d e lt more =
+    let one : slice_index_or (map H ws) i (H d) ≡ H (slice_index_or ws i d) = get_or-map H ws i d (H d) lt in
+    let other : slice_index_or (map H ws) j (H d) ≡ H (slice_index_or ws j e) = get_or-map H ws j e (H d) more in
+    let same = alike j (H d) (omega (arith, more, length-map ws H)) i (H d) (omega (arith, lt, length-map ws H)) in
+    sym (ap (λ (h : Held). h.size) one) ∙ same.0 ∙ ap (λ (h : Held). h.size) other
+
+-- what is said of two workers is said of two that equal them
+pub said_of : {W : Type 0} (P : W → W → Type 0) (a b x y : W) → a ≡ x → b ≡ y → P a b → P x y
+said_of P a b x y is other p = subst (λ w. P x w) other (subst (λ w. P w b) is p)

@@ -1,24 +1,34 @@
--- What workers cut of an image, each from another place on.
-use Rattle.std.specs.Prelude.{◌≡◌, ℕ, ◌≤◌, [], length, IfOk, IfErr}
+-- What workers cut of an image, the first one from 0 on and each other one from other places on.
+use Rattle.std.specs.Prelude.{◌≡◌, ℕ, ◌≤◌, List, [], length, All, IfOk, IfErr}
 use Rattle.buzhash_cut.specs.Entries.{AreEntries, AreTooMany, IsRun}
 use Rattle.chunk_ends.specs.Sizes.{Sizes}
 use Rattle.buzhash_cut.specs.declared.image.CutFault.TheVariants as faults
 use Rattle.buzhash_cut.specs.declared.run.Run.{Run}
+use Rattle.buzhash_cut.specs.declared.worker.Worker.{Worker}
 use Rattle.caibx_codec.specs.Seen.{pairs}
 use Rattle.dsy_base.specs.Bytes.{Held}
 use Rattle.dsy_base.specs.Counts.{CountsFaults}
 
--- nothing was cut of it, and it lies in an image of this size
-pub record IsReady (size : ℕ) (r : Run) : Type 0 where
-  pub start : r.start ≤ size
-  pub stop : r.stop ≤ size
-  pub none : r.entries.items ≡ []
+-- it has cut nothing
+pub record IsReady {V : Type 0} (w : Worker V) : Type 0 where
+  pub entries : w.entries.items ≡ []
+  pub runs : w.runs.items ≡ []
 
--- it was cut from `start` on, with a view whose count of faults went from `old` to `new`
-pub record HasCut (s : Sizes) (h : Held) (start old new : ℕ) (r : Run) : Type 0 where
-  pub start_is : r.start ≡ start
-  pub run : IsRun s h start (pairs r.entries.items)
-  pub end : IfOk r.end (λ e. (e ≤ h.size) × AreEntries s h.bytes start (pairs r.entries.items) e)
-  pub few : length (pairs r.entries.items) ≤ 4194304
-  pub many : IfErr r.end (λ f. f ≡ faults.TooManyItems → start ≡ 0 → AreTooMany s h)
-  pub counts : CountsFaults faults.ImageFault faults.Memory old new r.end
+-- each of these was cut from its start on
+abbrev pub AreRuns : Sizes → Held → List Run → Type 0
+AreRuns s h rs = All (λ r. IsRun s h r.start (pairs r.entries.items)) rs
+
+-- what a worker leaves that has cut, where its view tells by these what it holds and how often it has failed
+module _ {V : Type 0} (held : V → Held) (failed : V → ℕ) (s : Sizes) (old new : Worker V) where
+  pub record HasCut : Type 0 where
+    pub runs : AreRuns s (held old.view) new.runs.items
+    pub kept : held new.view ≡ held old.view
+    pub never_falls : failed old.view ≤ failed new.view
+
+  -- and the first one, whose entries begin at 0
+  pub record HasCutFirst : Type 0 where
+    pub end : IfOk new.end (λ e. (e ≤ (held old.view).size)
+        × AreEntries s (held old.view).bytes 0 (pairs new.entries.items) e)
+    pub few : length (pairs new.entries.items) ≤ 4194304
+    pub many : IfErr new.end (λ f. f ≡ faults.TooManyItems → AreTooMany s (held old.view))
+    pub counts : CountsFaults faults.ImageFault faults.Memory (failed old.view) (failed new.view) new.end

@@ -81,6 +81,8 @@ pub(crate) fn cut_on<V: View>(
         → AreTooMany slicer.old.cutter.sizes (V.held view.old)) }
 
     ensures within { OnOk result (IsWithin slicer.new (V.held view.old).size) }
+    ensures on { IfOk result (λ e. e < (V.held view.old).size → begun_by slicer.new ≡ e) }
+    ensures read { OnOk result (IfSome (V.held view.old).bytes (HasRead slicer.new)) }
     ensures sizes { slicer.new.cutter.sizes ≡ slicer.old.cutter.sizes }
     ensures kept { V.held view.new ≡ V.held view.old }
     ensures faults { CountsFaults CutFault.ImageFault CutFault.Memory (V.faults view.old) (V.faults view.new) result }

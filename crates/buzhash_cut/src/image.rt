@@ -1,11 +1,11 @@
 //! The index of an image. Offsets and sizes are in bytes.
 
-ghost use Rattle.std.specs.Prelude.{◌≡◌, ◌-◌, ◌≤◌, ◌<◌, map, reverse, slice_index_or, vec_len, All, IfOk, IfSome};
+ghost use Rattle.std.specs.Prelude.{◌≡◌, ◌≤◌, ◌<◌, map, reverse, vec_len, All, IfOk, IfSome};
 ghost use Rattle.buzhash_cut.specs.Image.{AreOfOneImage, IndexGiven, CountsViews};
 ghost use Rattle.buzhash_cut.specs.Runs.{IsReady};
 ghost use Rattle.caibx_codec.specs.Listing.{count_of, image_length};
 
-use crate::run::Worker;
+use crate::worker::Worker;
 use crate::workers::{dismiss, entries_by, hire};
 use caibx_codec::index::Index;
 use chunk_ends::sizes::CutSizes;
@@ -45,8 +45,7 @@ fn index_by<R: Threads + Sync, V: View + Send>(
 ) -> Result<Index, CutFault>
     requires some { 0 < vec_len workers.old }
     requires alike { AreOfOneImage (map (λ w. V.held w.view) workers.old.items) }
-    requires ready { All (λ w. IsReady (V.held w.view).size w.run) workers.old.items }
-    requires first { (d : Worker V) → (slice_index_or workers.old.items (vec_len workers.old - 1) d).run.start ≡ 0 }
+    requires none { All IsReady workers.old.items }
     ensures exactly { All (λ h. IfSome h.bytes (λ t. IndexGiven sizes.now t result))
         (map (λ w. V.held w.view) workers.old.items) }
     ensures size { IfOk result (λ l. All (λ h. image_length l ≡ h.size) (map (λ w. V.held w.view) workers.old.items)) }

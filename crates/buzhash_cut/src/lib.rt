@@ -1,6 +1,7 @@
 //! Cutting an image into chunks by its content, and the index of an image.
 #![tactic(auto)]
 
+mod blocks;
 mod entries;
 pub mod image;
 pub mod laws;
@@ -9,6 +10,7 @@ mod slicer;
 #[cfg(test)]
 mod tests;
 mod walk;
+mod worker;
 mod workers;
 
 pub use chunk_ends::{cutter, sizes, window};

@@ -2,6 +2,7 @@
 
 ghost use Rattle.std.specs.Prelude.{◌≡◌, ℕ, ◌<◌, ◌≤◌, length, All, IfOk, IfErr, IfSome, OnOk};
 ghost use Rattle.buzhash_cut.specs.Entries.{AreAll, AreEntries, AreTooMany, IsRun};
+ghost use Rattle.buzhash_cut.specs.Runs.{AreRuns};
 ghost use Rattle.chunk_ends.specs.Sizes.{Sizes};
 ghost use Rattle.buzhash_cut.specs.Slicing.{IsWithin};
 ghost use Rattle.caibx_codec.specs.Seen.{pairs};
@@ -10,27 +11,57 @@ ghost use Rattle.dsy_base.specs.Counts.{CountsFaults};
 
 use crate::entries::{add_run, cut_on};
 use crate::image::CutFault;
-use crate::run::Worker;
+use crate::run::Run;
 use crate::slicer::Slicer;
+use crate::worker::Worker;
 use caibx_codec::index::Entry;
 use chunk_ends::sizes::CutSizes;
 use dsy_base::view::View;
 use std::alloc::Global;
 use std::mem;
 
+// The entries of the chunks from `at` on, where one of these runs has such.
+fn run_among(runs: &[Run], at: u64) -> Option<&[Entry]>
+    ensures some { IfSome result (λ r. 0 < length r.now) }
+    ensures chunks { IfSome result (λ r. (s : Sizes) (h : Held) → AreRuns s h runs.now → IsRun s h at (pairs r.now)) }
+{
+    for run in runs {
+        let entries = run.from(at);
+        if !entries.is_empty() {
+            return Some(entries);
+        }
+    }
+    None
+}
+
 // The entries of the chunks from `at` on, where some worker cut such.
 fn run_from<V: View>(others: &[Worker<V>], at: u64) -> Option<&[Entry]>
     ensures some { IfSome result (λ r. 0 < length r.now) }
     ensures chunks { IfSome result (λ r. (s : Sizes) (h : Held) →
-        All (λ w. IsRun s h w.run.start (pairs w.run.entries.items)) others.now → IsRun s h at (pairs r.now)) }
+        All (λ w. AreRuns s h w.runs.items) others.now → IsRun s h at (pairs r.now)) }
 {
     for worker in others {
-        let run = worker.run.from(at);
-        if !run.is_empty() {
-            return Some(run);
+        if let Some(entries) = run_among(&worker.runs, at) {
+            return Some(entries);
         }
     }
     None
+}
+
+// The first place after `at` at which a chunk of one of these runs begins, where it is before `next`, or else `next`.
+fn place_before(runs: &[Run], at: u64, next: u64) -> u64
+    requires more { at < next }
+    ensures after { (at < result) × (result ≤ next) }
+{
+    let mut first = next;
+    for run in runs {
+        if let Some(place) = run.place_after(at) {
+            if at < place && place < first {
+                first = place;
+            }
+        }
+    }
+    first
 }
 
 // The first place after `at` at which a chunk of some worker begins, or else where the image ends.
@@ -40,11 +71,7 @@ fn next_place<V: View>(others: &[Worker<V>], at: u64, size: u64) -> u64
 {
     let mut next = size;
     for worker in others {
-        if let Some(place) = worker.run.place_after(at) {
-            if at < place && place < next {
-                next = place;
-            }
-        }
+        next = place_before(&worker.runs, at, next);
     }
     next
 }
@@ -59,8 +86,7 @@ fn walk_on<V: View>(
 ) -> Result<u64, CutFault>
     requires within { IsWithin slicer.old (V.held view.old).size }
     requires more { at < (V.held view.old).size }
-    requires runs { All (λ w. IsRun slicer.old.cutter.sizes (V.held view.old) w.run.start
-        (pairs w.run.entries.items)) others.now }
+    requires runs { All (λ w. AreRuns slicer.old.cutter.sizes (V.held view.old) w.runs.items) others.now }
     requires few { length (pairs entries.old.items) ≤ 4194304 }
     requires chunks { AreEntries slicer.old.cutter.sizes (V.held view.old).bytes 0 (pairs entries.old.items) at }
 
@@ -94,7 +120,7 @@ fn walk<V: View>(
     entries: &mut Vec<Entry>,
 ) -> Result<(), CutFault>
     requires inside { begun ≤ (V.held view.old).size }
-    requires runs { All (λ w. IsRun sizes.now (V.held view.old) w.run.start (pairs w.run.entries.items)) others.now }
+    requires runs { All (λ w. AreRuns sizes.now (V.held view.old) w.runs.items) others.now }
     requires few { length (pairs entries.old.items) ≤ 4194304 }
     requires chunks { AreEntries sizes.now (V.held view.old).bytes 0 (pairs entries.old.items) begun }
     ensures all { OnOk result (AreAll sizes.now (V.held view.old) (pairs entries.new.items)) }
@@ -119,33 +145,32 @@ fn walk<V: View>(
     Ok(())
 }
 
-/// The entries of the index of the image, of which the first worker has cut the first part and the others the rest.
+/// The entries of the index of the image, of which the first worker has cut the first part and the others blocks.
 pub(crate) fn joined<V: View>(
     alloc: Global,
     first: &mut Worker<V>,
     others: &[Worker<V>],
     sizes: &CutSizes,
 ) -> Result<Vec<Entry>, CutFault>
-    requires runs { All (λ w. IsRun sizes.now (V.held first.old.view) w.run.start
-        (pairs w.run.entries.items)) others.now }
-    requires few { length (pairs first.old.run.entries.items) ≤ 4194304 }
-    requires end { IfOk first.old.run.end (λ e. (e ≤ (V.held first.old.view).size)
-        × AreEntries sizes.now (V.held first.old.view).bytes 0 (pairs first.old.run.entries.items) e) }
-    requires many { IfErr first.old.run.end (λ f. f ≡ CutFault.TooManyItems
+    requires runs { All (λ w. AreRuns sizes.now (V.held first.old.view) w.runs.items) others.now }
+    requires few { length (pairs first.old.entries.items) ≤ 4194304 }
+    requires end { IfOk first.old.end (λ e. (e ≤ (V.held first.old.view).size)
+        × AreEntries sizes.now (V.held first.old.view).bytes 0 (pairs first.old.entries.items) e) }
+    requires many { IfErr first.old.end (λ f. f ≡ CutFault.TooManyItems
         → AreTooMany sizes.now (V.held first.old.view)) }
     ensures all { IfOk result (λ v. AreAll sizes.now (V.held first.old.view) (pairs v.items)) }
     ensures many { IfErr result (λ f. f ≡ CutFault.TooManyItems → AreTooMany sizes.now (V.held first.old.view)) }
     ensures kept { V.held first.new.view ≡ V.held first.old.view }
     // Over cutting the first part and this call.
     ensures faults { (old : ℕ) → CountsFaults CutFault.ImageFault CutFault.Memory
-        old (V.faults first.old.view) first.old.run.end
+        old (V.faults first.old.view) first.old.end
         → CountsFaults CutFault.ImageFault CutFault.Memory old (V.faults first.new.view) result }
 {
-    let begun = match first.run.end {
+    let begun = match first.end {
         Ok(begun) => begun,
         Err(fault) => return Err(fault),
     };
-    let mut entries = mem::replace(&mut first.run.entries, Vec::new(alloc));
+    let mut entries = mem::replace(&mut first.entries, Vec::new(alloc));
     match walk(alloc, &mut first.view, sizes, others, begun, &mut entries) {
         Ok(()) => Ok(entries),
         Err(fault) => Err(fault),

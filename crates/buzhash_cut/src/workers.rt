@@ -1,15 +1,16 @@
-//! The workers that cut an image, each from another place on. Offsets are in bytes.
+//! The workers that cut an image, beside one another.
 
-ghost use Rattle.std.specs.Prelude.{◌≡◌, ℕ, ◌+◌, ◌-◌, ◌*◌, ◌/◌, ◌<◌, ◌≤◌, [], length, map, reverse, vec_len};
+ghost use Rattle.std.specs.Prelude.{◌≡◌, ℕ, ◌-◌, ◌<◌, ◌≤◌, [], length, map, reverse, vec_len};
 ghost use Rattle.std.specs.Prelude.{vec_capacity, slice_index_or, All, IfOk, IfErr};
 ghost use Rattle.buzhash_cut.specs.Entries.{AreAll, AreTooMany};
 ghost use Rattle.buzhash_cut.specs.Image.{AreOfOneImage, CountsViews};
-ghost use Rattle.buzhash_cut.specs.Runs.{IsReady, HasCut};
+ghost use Rattle.buzhash_cut.specs.Runs.{HasCut, HasCutFirst, IsReady};
 ghost use Rattle.caibx_codec.specs.Seen.{pairs};
 
+use crate::blocks::Blocks;
 use crate::image::CutFault;
-use crate::run::{Run, Worker};
 use crate::walk::joined;
+use crate::worker::Worker;
 use caibx_codec::index::Entry;
 use chunk_ends::sizes::CutSizes;
 use dsy_base::view::View;
@@ -17,38 +18,17 @@ use std::alloc::Global;
 use std::thread;
 use std::thread::Threads;
 
-// Where part `number` of so many begins.
-fn part(size: u64, number: u64, count: u64) -> u64
-    requires some { 0 < count }
-    requires inside { number ≤ count }
-    ensures value { result ≡ size * number / count }
-    ensures first { number ≡ 0 → result ≡ 0 }
-    ensures inside { result ≤ size }
-{
-    (u128::from(size) * u128::from(number) / u128::from(count)) as u64
-}
-
-/// Gives each view a part of the image to cut. The last part comes first.
+/// Gives each view to a worker. The first one comes last.
 pub(crate) fn hire<V: View>(alloc: Global, views: &mut Vec<V>, workers: &mut Vec<Worker<V>>)
-    requires some { 0 < vec_len views.old }
     requires none { workers.old.items ≡ [] }
     requires room { vec_len views.old ≤ vec_capacity workers.old }
     ensures views { views.old.items ≡ reverse (map (λ w. w.view) workers.new.items) }
-    ensures ready { All (λ w. IsReady (V.held w.view).size w.run) workers.new.items }
-    ensures first { (d : Worker V) → (slice_index_or workers.new.items (vec_len workers.new - 1) d).run.start ≡ 0 }
+    ensures ready { All IsReady workers.new.items }
     ensures none { views.new.items ≡ [] }
     ensures room { vec_len workers.new ≤ vec_capacity views.new }
 {
-    let count = views.len() as u64;
     while let Some(view) = views.pop() {
-        let number = views.len() as u64;
-        let size = view.size();
-        let run = Run::new(
-            alloc,
-            part(size, number, count),
-            part(size, number + 1, count),
-        );
-        let Ok(()) = workers.push(Worker { view, run }) else {
+        let Ok(()) = workers.push(Worker::new(alloc, view)) else {
             unreachable!();
         };
     }
@@ -67,31 +47,43 @@ pub(crate) fn dismiss<V: View>(workers: &mut Vec<Worker<V>>, views: &mut Vec<V>)
     }
 }
 
-// Each worker cuts its part, beside the others.
+// The workers cut the image, one beside the other.
 fn cut_all<R: Threads + Sync, V: View + Send>(
     rt: &R,
     alloc: Global,
     workers: &mut [Worker<V>],
     sizes: &CutSizes,
 )
-    requires ready { All (λ w. IsReady (V.held w.view).size w.run) workers.old }
+    requires some { 0 < length workers.old }
+    requires alike { AreOfOneImage (map (λ w. V.held w.view) workers.old) }
+    requires none { All IsReady workers.old }
     ensures cut { (k : ℕ) (d : Worker V) → k < length workers.old →
-        HasCut sizes.now (V.held (slice_index_or workers.old k d).view) (slice_index_or workers.old k d).run.start
-        (V.faults (slice_index_or workers.old k d).view) (V.faults (slice_index_or workers.new k d).view)
-        (slice_index_or workers.new k d).run }
+        HasCut V.held V.faults sizes.now (slice_index_or workers.old k d) (slice_index_or workers.new k d) }
+    ensures first { (d : Worker V) → HasCutFirst V.held V.faults sizes.now
+        (slice_index_or workers.old (length workers.old - 1) d)
+        (slice_index_or workers.new (length workers.old - 1) d) }
     ensures kept { map (λ w. V.held w.view) workers.new ≡ map (λ w. V.held w.view) workers.old }
 {
-    let threads = workers.len().max(1);
+    let count = workers.len();
+    let last = count - 1;
+    let blocks = Blocks::new(workers[last].view.size(), count as u64);
+    let shared = &blocks;
     thread::for_each_mut(
         rt,
         workers,
-        threads,
-        &|_, worker: &mut Worker<V>|
-            requires { IsReady (V.held worker.old.view).size worker.old.run }
-            ensures cut { HasCut sizes.entry.now (V.held worker.old.view) worker.old.run.start
-                (V.faults worker.old.view) (V.faults worker.new.view) worker.new.run }
-            ensures kept { V.held worker.new.view ≡ V.held worker.old.view }
-        { worker.cut(alloc, sizes) },
+        count,
+        &|number, worker: &mut Worker<V>|
+            requires alike { shared.now.size ≡ (V.held worker.old.view).size }
+            requires none { IsReady worker.old }
+            ensures cut { HasCut V.held V.faults sizes.entry.now worker.old worker.new }
+            ensures first { number ≡ last → HasCutFirst V.held V.faults sizes.entry.now worker.old worker.new }
+        {
+            if number == last {
+                worker.cut_first(alloc, sizes, shared);
+            } else {
+                worker.cut_blocks(alloc, sizes, shared);
+            }
+        },
     );
 }
 
@@ -104,8 +96,7 @@ pub(crate) fn entries_by<R: Threads + Sync, V: View + Send>(
 ) -> Result<Vec<Entry>, CutFault>
     requires some { 0 < vec_len workers.old }
     requires alike { AreOfOneImage (map (λ w. V.held w.view) workers.old.items) }
-    requires ready { All (λ w. IsReady (V.held w.view).size w.run) workers.old.items }
-    requires first { (d : Worker V) → (slice_index_or workers.old.items (vec_len workers.old - 1) d).run.start ≡ 0 }
+    requires none { All IsReady workers.old.items }
     ensures all { IfOk result (λ v. All (λ h. AreAll sizes.now h (pairs v.items))
         (map (λ w. V.held w.view) workers.old.items)) }
     ensures many { IfErr result (λ f. f ≡ CutFault.TooManyItems →
