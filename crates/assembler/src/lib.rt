@@ -13,6 +13,4 @@ pub mod report;
 mod retry;
 mod seeding;
 mod settle;
-#[cfg(test)]
-mod tests;
 mod upstream;

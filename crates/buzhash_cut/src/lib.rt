@@ -7,8 +7,6 @@ pub mod image;
 pub mod laws;
 mod run;
 mod slicer;
-#[cfg(test)]
-mod tests;
 mod walk;
 mod worker;
 mod workers;

@@ -3,5 +3,3 @@
 
 pub mod cached;
 pub mod shelf;
-#[cfg(test)]
-mod tests;

@@ -9,6 +9,4 @@ pub mod laws;
 mod partial;
 pub mod reader;
 pub mod reading;
-#[cfg(test)]
-mod tests;
 pub mod writing;

@@ -8,6 +8,4 @@ mod replying;
 pub mod serve;
 pub mod shelf;
 pub mod state;
-#[cfg(test)]
-mod tests;
 mod waiting;

@@ -8,5 +8,3 @@ pub mod path;
 pub mod range;
 pub mod shows;
 pub mod store;
-#[cfg(test)]
-mod tests;

@@ -2,6 +2,4 @@
 #![tactic(auto)]
 
 pub mod help;
-#[cfg(test)]
-mod tests;
 pub mod texts;

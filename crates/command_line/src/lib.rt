@@ -5,8 +5,6 @@ pub mod command;
 mod command_line;
 mod judge;
 pub mod laws;
-#[cfg(test)]
-mod line_tests;
 pub mod location;
 pub mod option_table;
 mod passed;

@@ -20,9 +20,6 @@ use dsy_base::name::Name;
 use dsy_base::sink::Sink;
 use std::alloc::{AllocError, Global};
 
-#[cfg(test)]
-mod tests;
-
 // Why words are no command.
 fn why_text(why: UsageWhy) -> &'static str
     ensures { result.now ≡ why_text why }

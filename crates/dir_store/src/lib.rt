@@ -5,5 +5,3 @@ pub mod laws;
 mod listing;
 pub mod names;
 pub mod store;
-#[cfg(test)]
-mod tests;

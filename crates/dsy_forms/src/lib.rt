@@ -2,8 +2,6 @@
 #![tactic(auto)]
 
 pub mod calls;
-#[cfg(test)]
-mod link_tests;
 pub mod mem_dial;
 pub mod mem_files;
 pub mod mem_folder;
@@ -14,5 +12,3 @@ pub mod mem_target;
 pub mod mem_view;
 pub mod open_link;
 pub mod ranges;
-#[cfg(test)]
-mod tests;

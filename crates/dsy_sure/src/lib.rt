@@ -7,5 +7,3 @@ pub mod sure_folder;
 pub mod sure_sink;
 pub mod sure_target;
 pub mod sure_view;
-#[cfg(test)]
-mod tests;

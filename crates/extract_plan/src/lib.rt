@@ -8,5 +8,3 @@ pub mod plan;
 pub mod seed;
 pub mod seeds;
 mod shard;
-#[cfg(test)]
-mod tests;

@@ -7,5 +7,3 @@ pub mod fault;
 pub mod laws;
 mod receiving;
 pub mod store;
-#[cfg(test)]
-mod tests;

@@ -15,6 +15,4 @@ pub mod reply;
 pub mod reply_text;
 pub mod request;
 pub mod target;
-#[cfg(test)]
-mod tests;
 mod words;

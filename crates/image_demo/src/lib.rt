@@ -11,5 +11,3 @@ pub mod laws;
 mod make;
 mod plan;
 mod stock;
-#[cfg(test)]
-mod tests;

@@ -7,5 +7,3 @@ mod rounds;
 mod spell;
 pub mod store_image;
 mod storing;
-#[cfg(test)]
-mod tests;

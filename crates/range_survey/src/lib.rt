@@ -4,6 +4,4 @@
 pub mod fate;
 mod fed_zeros;
 pub mod survey;
-#[cfg(test)]
-mod tests;
 pub mod zeros;

@@ -5,6 +5,4 @@ mod ask;
 pub mod chain;
 mod has;
 pub mod refused;
-#[cfg(test)]
-mod tests;
 pub mod want;

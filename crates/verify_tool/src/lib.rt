@@ -4,13 +4,7 @@
 pub mod check;
 pub mod count;
 pub mod fill;
-#[cfg(test)]
-mod fill_tests;
 pub mod info;
 pub mod list;
 pub mod prune;
-#[cfg(test)]
-mod store_tests;
-#[cfg(test)]
-mod tests;
 pub mod verify;
