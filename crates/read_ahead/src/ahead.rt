@@ -83,8 +83,8 @@ impl Ahead {
     fn read_entry<V: View>(&mut self, index: &Index, i: usize, view: &mut V) -> bool
         requires listed { i < count_of index.now }
         requires size { image_length index.now ≡ (V.held view.old).size }
-        requires ahead { IsAhead index.now (V.held view.old).bytes self.old }
-        ensures ahead { IsAhead index.now (V.held view.old).bytes self.new }
+        requires right { IsAhead index.now (V.held view.old).bytes self.old }
+        ensures right { IsAhead index.now (V.held view.old).bytes self.new }
         ensures kept { V.held view.new ≡ V.held view.old }
         ensures faults { V.faults view.old ≤ V.faults view.new }
     {
@@ -115,10 +115,10 @@ impl Ahead {
         claims: &Claims,
         view: &mut V,
     )
-        requires first { IfSome first (λ i. i < count_of index.now) }
+        requires listed { IfSome first (λ i. i < count_of index.now) }
         requires inside { claims.now.to ≤ count_of index.now }
         requires size { image_length index.now ≡ (V.held view.old).size }
-        ensures ahead { IsAhead index.now (V.held view.old).bytes self.new }
+        ensures right { IsAhead index.now (V.held view.old).bytes self.new }
         ensures kept { V.held view.new ≡ V.held view.old }
         ensures faults { V.faults view.old ≤ V.faults view.new }
     {

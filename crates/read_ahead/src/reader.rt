@@ -23,10 +23,10 @@ pub struct Reader<V> {
 impl<V: View> Reader<V> {
     /// Reads the slices of `first` and of each entry that it claims, as long as they can be read, are right and fit.
     pub fn read(&mut self, index: &Index, first: Option<usize>, claims: &Claims)
-        requires first { IfSome first (λ i. i < count_of index.now) }
+        requires listed { IfSome first (λ i. i < count_of index.now) }
         requires inside { claims.now.to ≤ count_of index.now }
         requires size { image_length index.now ≡ (V.held self.old.view).size }
-        ensures ahead { IsAhead index.now (V.held self.new.view).bytes self.new.ahead }
+        ensures right { IsAhead index.now (V.held self.new.view).bytes self.new.ahead }
         ensures kept { V.held self.new.view ≡ V.held self.old.view }
         ensures faults { V.faults self.old.view ≤ V.faults self.new.view }
     {
@@ -35,8 +35,8 @@ impl<V: View> Reader<V> {
 
     // Gives away what was read, for another room.
     fn change(&mut self, ready: &mut Ahead)
-        ensures ready { ready.new ≡ self.old.ahead }
-        ensures view { self.new.view ≡ self.old.view }
+        ensures changed { ready.new ≡ self.old.ahead }
+        ensures kept { self.new.view ≡ self.old.view }
     {
         swap(&mut self.ahead, ready);
     }
@@ -45,8 +45,8 @@ impl<V: View> Reader<V> {
 /// Takes from each reader what it has read, and gives it another room.
 pub fn change_all<V: View>(readers: &mut [Reader<V>], ready: &mut [Ahead])
     requires { length ready.old ≡ length readers.old }
-    ensures ready { ready.new ≡ map (λ r. r.ahead) readers.old }
-    ensures views { map (λ r. r.view) readers.new ≡ map (λ r. r.view) readers.old }
+    ensures changed { ready.new ≡ map (λ r. r.ahead) readers.old }
+    ensures kept { map (λ r. r.view) readers.new ≡ map (λ r. r.view) readers.old }
 {
     for k in 0..readers.len() {
         readers[k].change(&mut ready[k]);
@@ -55,8 +55,8 @@ pub fn change_all<V: View>(readers: &mut [Reader<V>], ready: &mut [Ahead])
 
 // So many rooms of so many bytes, in which nothing stands.
 fn rooms(alloc: Global, count: usize, size: usize) -> Result<Vec<Ahead>, AllocError>
-    ensures len { IfOk result (λ v. vec_len v ≡ count) }
-    ensures ahead { IfOk result (λ v. (l : Listing) (told : Option (List ℕ)) → All (IsAhead l told) v.items) }
+    ensures size { IfOk result (λ v. vec_len v ≡ count) }
+    ensures right { IfOk result (λ v. (l : Listing) (told : Option (List ℕ)) → All (IsAhead l told) v.items) }
 {
     let mut rooms = Vec::with_capacity(alloc, count)?;
     while rooms.len() < count {
@@ -78,8 +78,8 @@ impl<V: View> Crew<V> {
     pub fn new(alloc: Global, count: usize, largest: usize) -> Result<Crew<V>, AllocError>
         ensures none { IfOk result (λ c. c.readers.items ≡ []) }
         ensures room { IfOk result (λ c. count ≤ vec_capacity c.readers) }
-        ensures len { IfOk result (λ c. (vec_len c.rooms ≡ count) × (vec_len c.ready ≡ count)) }
-        ensures ahead { IfOk result (λ c. (l : Listing) (told : Option (List ℕ)) → All (IsAhead l told) c.ready.items) }
+        ensures size { IfOk result (λ c. (vec_len c.rooms ≡ count) × (vec_len c.ready ≡ count)) }
+        ensures right { IfOk result (λ c. (l : Listing) (told : Option (List ℕ)) → All (IsAhead l told) c.ready.items) }
     {
         let size = room_size(largest);
         Ok(Crew {
@@ -95,10 +95,10 @@ pub fn hire<V: View>(views: &mut Vec<V>, rooms: &mut Vec<Ahead>, readers: &mut V
     requires some { vec_len views.old ≡ vec_len rooms.old + 1 }
     requires none { readers.old.items ≡ [] }
     requires room { vec_len rooms.old ≤ vec_capacity readers.old }
-    ensures views { views.old.items ≡ result ∷ map (λ r. r.view) readers.new.items }
+    ensures kept { views.old.items ≡ result ∷ map (λ r. r.view) readers.new.items }
     ensures none { views.new.items ≡ [] }
     ensures room { vec_len readers.new + 1 ≤ vec_capacity views.new }
-    ensures len { vec_len readers.new ≡ vec_len rooms.old }
+    ensures size { vec_len readers.new ≡ vec_len rooms.old }
 {
     views.reverse();
     let Some(first) = views.pop() else {

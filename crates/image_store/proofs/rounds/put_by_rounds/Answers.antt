@@ -22,8 +22,8 @@ loop-at-preserved g c =
     record {
       on = goes_on g.V.View g.S.Store l c.args.storing.now c.loop-at.storing c.round.new.storing (Ok tt) inv.on done.on;
       inside = c.round_end-end.ensures.1;
-      ready = subst (All (IsAhead l h.bytes)) (sym c.change_all.ensures.ready) (ready_all (λ v. g.V.View.held v) read h (subst (All (IsAlike h)) (sym kept) c.requires.alike) l done.ahead);
-      kept = seen_through (λ v. g.V.View.held v) (λ r. r.view) read c.change_all.new.readers c.change_all.ensures.views ∙ kept;
-      faults = subst (NoneFalls (map (λ r. g.V.View.faults r.view) c.args.readers.now)) (sym (seen_through (λ v. g.V.View.faults v) (λ r. r.view) read c.change_all.new.readers c.change_all.ensures.views))
+      ready = subst (All (IsAhead l h.bytes)) (sym c.change_all.ensures.changed) (ready_all (λ v. g.V.View.held v) read h (subst (All (IsAlike h)) (sym kept) c.requires.alike) l done.ahead);
+      kept = seen_through (λ v. g.V.View.held v) (λ r. r.view) read c.change_all.new.readers c.change_all.ensures.kept ∙ kept;
+      faults = subst (NoneFalls (map (λ r. g.V.View.faults r.view) c.args.readers.now)) (sym (seen_through (λ v. g.V.View.faults v) (λ r. r.view) read c.change_all.new.readers c.change_all.ensures.kept))
           (falls_on _ _ _ _ inv.faults refl done.faults);
     }

@@ -10,7 +10,7 @@ use Rattle.image_store.proofs.rounds.store_ahead.Goals as goal
 pub put_by_rounds-put-requires-clause-storing : goal.put_by_rounds-put-requires-clause-storing
 put_by_rounds-put-requires-clause-storing g c = λ lifetimes bounds.
     let l = c.args.index.now in
-    let size = (subst (All (λ v. image_length l ≡ (g.V.View.held v).size)) c.hire-image.ensures.views c.requires.size) 0 c.hire-image.result (omega arith) in
+    let size = (subst (All (λ v. image_length l ≡ (g.V.View.held v).size)) c.hire-image.ensures.kept c.requires.size) 0 c.hire-image.result (omega arith) in
     c.new-storing.ensures.storing l size c.requires.chunk c.requires.room
 
 pub put_by_rounds-put-requires-clause-ready : goal.put_by_rounds-put-requires-clause-ready
@@ -20,7 +20,7 @@ pub put_by_rounds-put-requires-clause-alike : goal.put_by_rounds-put-requires-cl
 put_by_rounds-put-requires-clause-alike g c = λ lifetimes bounds.
     subst (λ v. All (IsAlike (g.V.View.held v)) (map (λ r. g.V.View.held r.view) c.deref_mut.result.now)) (sym c.new-storing.ensures.image)
     (subst (λ rs. All (IsAlike (g.V.View.held c.hire-image.result)) (map (λ r. g.V.View.held r.view) rs)) (sym c.deref_mut.ensures.value)
-    (crew_alike (λ v. g.V.View.held v) c.args.views.items c.hire-image.new.readers.items c.hire-image.result c.hire-image.ensures.views c.requires.alike))
+    (crew_alike (λ v. g.V.View.held v) c.args.views.items c.hire-image.new.readers.items c.hire-image.result c.hire-image.ensures.kept c.requires.alike))
 
 pub returns : goal.returns
 returns g c =
@@ -32,7 +32,7 @@ returns g c =
     let rs = c.hire-image.new.readers.items in
     let news = c.put_by_rounds-put.new.readers in
     let items = with_items_is c.hire-image.new.readers news (omega (arith, c.put_by_rounds-put.auto.readers, c.deref_mut.ensures.len)) in
-    let was : c.args.views.items ≡ a.image ∷ map (λ r. r.view) rs = c.hire-image.ensures.views ∙ ap (λ v. v ∷ map (λ r. r.view) rs) (sym c.new-storing.ensures.image) in
+    let was : c.args.views.items ≡ a.image ∷ map (λ r. r.view) rs = c.hire-image.ensures.kept ∙ ap (λ v. v ∷ map (λ r. r.view) rs) (sym c.new-storing.ensures.image) in
     let is : c.dismiss.new.views.items ≡ b.image ∷ map (λ r. r.view) news =
     c.dismiss.ensures ∙ ap (λ v. v ∷ map (λ r. r.view) (with_items c.hire-image.new.readers news).items) c.end-image.ensures.0 ∙ ap (λ rs. b.image ∷ map (λ r. r.view) rs) items in
     let stored = stored_on g.V.View g.S.Store l a b r c.args.store done.on done.all (done.on.first ∙ c.new-storing.ensures.first) in

@@ -12,10 +12,10 @@ loop-k-preserved g c =
     let room : k < length c.loop-k.ready = omega (arith, here, c.loop-k.auto.ready, c.requires) in
     record {
       ready = λ j d e lt. set_below (λ j a. (e : _) → a ≡ (slice_index_or c.args.readers.now j e).ahead) c.loop-k.ready k c.change.new.ready room (λ j d less e. inv.ready j d e less)
-          (λ e. c.change.ensures.ready ∙ ap (λ r. r.ahead) (inv.still k at (omega arith)) ∙ ap (λ r. r.ahead) (within c.args.readers.now k at e here)) j d lt e;
+          (λ e. c.change.ensures.changed ∙ ap (λ r. r.ahead) (inv.still k at (omega arith)) ∙ ap (λ r. r.ahead) (within c.args.readers.now k at e here)) j d lt e;
       still = λ j e past. set_above c.loop-k.readers k c.change.new.self j e past ∙ inv.still j e (omega arith);
-      views = set_alike (λ r. r.view) c.loop-k.readers k c.change.new.self at inside c.change.ensures.view ∙ inv.views;
+      views = set_alike (λ r. r.view) c.loop-k.readers k c.change.new.self at inside c.change.ensures.kept ∙ inv.views;
     }
 
-pub returns-clause-ready : goal.returns-clause-ready
-returns-clause-ready g c = taken_all (λ r. r.ahead) c.args.readers.now c.loop-k.ready (omega (arith, c.loop-k.auto.ready, c.requires)) (λ j d e lt. c.loop-k.invariant.ready j d e (omega arith))
+pub returns-clause-changed : goal.returns-clause-changed
+returns-clause-changed g c = taken_all (λ r. r.ahead) c.args.readers.now c.loop-k.ready (omega (arith, c.loop-k.auto.ready, c.requires)) (λ j d e lt. c.loop-k.invariant.ready j d e (omega arith))

@@ -2,7 +2,7 @@ use Rattle.std.proofs.Common.{◌≡◌, [], map, rules}
 use Rattle.read_ahead.proofs.Readers.{hired}
 use Rattle.read_ahead.proofs.reader.hire.Goals as goal
 
-pub returns-clause-views : goal.returns-clause-views
-returns-clause-views g c =
+pub returns-clause-kept : goal.returns-clause-kept
+returns-clause-kept g c =
     let none : c.loop-view.views.items ≡ [] = search rules in
     hired c.args.views.now.items (map (λ r. r.view) c.loop-view.readers.items) c.loop-view.views.items c.in-Some.first none c.loop-view.invariant.views
