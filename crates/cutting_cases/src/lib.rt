@@ -3,6 +3,8 @@
 #![tactic(auto)]
 
 #[cfg(test)]
+mod ahead_tests;
+#[cfg(test)]
 mod demo_tests;
 #[cfg(test)]
 mod end_tests;

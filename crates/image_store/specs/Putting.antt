@@ -46,8 +46,8 @@ module _ {S : Type 0} (store : StoreWords S) (l : Listing) (told : Option (List 
         → (store.asked now q ≡ store.asked first q) × HoldsStill q (store.holds first) (store.holds now)
 
 -- seeing to entries with this view ended so
-pub record Ends {V S : Type 0} (view : ViewWords V) (store : StoreWords S) (l : Listing) (first : S) (old new : V) (now : S)
-    (result : Result Unit MakeFault) : Type 0 where
+pub record Ends {V S : Type 0} (view : ViewWords V) (store : StoreWords S) (l : Listing) (first : S) (old new : V)
+    (now : S) (result : Result Unit MakeFault) : Type 0 where
   pub touched : HasTouched store l (view.held old).bytes (count_of l) first now
   pub err : IfErr result (PutsEnd l (view.held old).bytes)
   pub kept : view.held new ≡ view.held old

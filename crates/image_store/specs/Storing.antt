@@ -1,5 +1,6 @@
 -- What storing the entries of an index with a view has come to. l lists the chunks.
-use Rattle.std.specs.Prelude.{◌≡◌, ℕ, ◌<◌, ◌≤◌, All, IfErr, IfSome, List, OnOk, Option, Result, length, map, slice_index}
+use Rattle.std.specs.Prelude.{◌≡◌, ℕ, ◌<◌, ◌≤◌, All, IfErr, IfSome, List, OnOk, Option, Result, length, map}
+use Rattle.std.specs.Prelude.{slice_index}
 use Rattle.buzhash_cut.specs.Image.{CountsViews}
 use Rattle.caibx_codec.specs.Listing.{Listing, count_of, image_length, size_of}
 use Rattle.chunk_store.specs.declared.store.Store.{Ghosts as StoreWords}

@@ -59,7 +59,7 @@ fn read_named<V: View>(
 
 impl Ahead {
     /// A piece of room of so many bytes, in which nothing stands.
-    pub(crate) fn new(alloc: Global, size: usize) -> Result<Ahead, AllocError>
+    pub fn new(alloc: Global, size: usize) -> Result<Ahead, AllocError>
         ensures { IfOk result (λ a. (l : Listing) (told : Option (List ℕ)) → IsAhead l told a) }
     {
         Ok(Ahead {

@@ -5,5 +5,3 @@ pub mod ahead;
 pub mod claims;
 pub mod plan;
 pub mod reader;
-#[cfg(test)]
-mod tests;

@@ -1,11 +1,12 @@
 //! Claims on the entries of a round, and slices that are read into a room.
 
-use crate::ahead::Ahead;
-use crate::claims::Claims;
 use caibx_codec::index::{Entry, Index};
 use chunk_store::id::{ChunkId, DigestKind};
 use dsy_base::view::View;
 use dsy_forms::mem_view::MemView;
+use read_ahead::ahead::Ahead;
+use read_ahead::claims::Claims;
+use read_ahead::reader::Reader;
 use std::alloc::Global;
 use std::test::Fail;
 
@@ -48,14 +49,16 @@ fn reads(
     size: usize,
     slices: [Option<&[u8]>; 2],
 ) -> Result<bool, Fail> {
-    let mut view = MemView::new(alloc, Vec::from_slice(alloc, image)?, Vec::new(alloc));
+    let view = MemView::new(alloc, Vec::from_slice(alloc, image)?, Vec::new(alloc));
     if view.size() != index.length() {
         return Err(Fail::from("the image has another size"));
     }
     let claims = Claims::new(0, index.count());
-    let mut ahead = Ahead::new(alloc, size)?;
-    ahead.read(index, claims.claim(), &claims, &mut view);
-    Ok(ahead.slice(index, 0) == slices[0] && ahead.slice(index, 1) == slices[1])
+    let ahead = Ahead::new(alloc, size)?;
+    let mut reader = Reader { view, ahead };
+    reader.read(index, claims.claim(), &claims);
+    let read = [reader.ahead.slice(index, 0), reader.ahead.slice(index, 1)];
+    Ok(read[0] == slices[0] && read[1] == slices[1])
 }
 
 #[test]
