@@ -3,11 +3,16 @@
 
 ghost use Rattle.std.specs.Prelude.{◌≡◌, ◌<◌, ◌≤◌, IfSome};
 
+use chunk_ends::sizes::CutSizes;
 use std::sync::atomic::{AtomicU64, Ordering};
 
 /// The least size of a block, where the image has as much for each worker. It costs little beside a block of this size
-/// that the chunks at its start are cut again, two or three of them, until they end where the block's own do.
+/// that each worker goes on past its blocks.
 const LEAST: u64 = 4_194_304;
+
+/// How many chunks of the average size a worker goes on past a block. Those that begin at a block's start mostly end
+/// where the image's do after two or three.
+const OVERLAP: u64 = 4;
 
 /// How far an image is shared out. What nobody takes, or takes and doesn't cut, is cut in the end by the first worker.
 #[derive(Drop)]
@@ -15,6 +20,7 @@ pub(crate) struct Blocks {
     size: u64,
     workers: u64,
     least: u64,
+    overlap: u64,
     // How many bytes are taken, counted from the image's end.
     taken: AtomicU64,
     // Up to where the first worker has cut, or is cutting.
@@ -24,7 +30,7 @@ pub(crate) struct Blocks {
 
 impl Blocks {
     /// An image of which nothing is taken.
-    pub(crate) fn new(size: u64, workers: u64) -> Blocks
+    pub(crate) fn new(size: u64, workers: u64, sizes: &CutSizes) -> Blocks
         requires some { 0 < workers }
         ensures size { result.size ≡ size }
     {
@@ -33,6 +39,7 @@ impl Blocks {
             size,
             workers,
             least,
+            overlap: sizes.avg().saturating_mul(OVERLAP),
             taken: AtomicU64::new(0),
             begun: AtomicU64::new(least.min(size)),
         }
@@ -65,6 +72,14 @@ impl Blocks {
         let stop = at.saturating_add(self.least).min(open);
         self.begun.store(stop, Ordering::SeqCst);
         stop
+    }
+
+    /// Up to where a worker that has come to `at` goes on past its block, so that its last chunks end where some of the
+    /// block above do.
+    pub(crate) fn past(&self, at: u64) -> u64
+        ensures inside { result ≤ self.now.size }
+    {
+        at.saturating_add(self.overlap).min(self.size)
     }
 
     /// Gives no further block, since nothing comes of the image.

@@ -1,9 +1,9 @@
 //! A worker that cuts an image beside others. Offsets are in bytes.
 
-ghost use Rattle.std.specs.Prelude.{◌≡◌, ◌≤◌, [], length, IfOk, IfErr, OnOk};
-ghost use Rattle.buzhash_cut.specs.Entries.{AreEntries, AreTooMany};
+ghost use Rattle.std.specs.Prelude.{◌≡◌, ◌<◌, ◌≤◌, [], length, IfOk, IfErr, IfSome, OnOk};
+ghost use Rattle.buzhash_cut.specs.Entries.{AreEntries, AreTooMany, IsRun};
 ghost use Rattle.buzhash_cut.specs.Runs.{AreRuns, HasCut, HasCutFirst, IsReady};
-ghost use Rattle.buzhash_cut.specs.Slicing.{IsWithin};
+ghost use Rattle.buzhash_cut.specs.Slicing.{IsWithin, HasRead, begun_by};
 ghost use Rattle.caibx_codec.specs.Seen.{pairs};
 ghost use Rattle.dsy_base.specs.Counts.{CountsFaults};
 
@@ -27,7 +27,83 @@ pub(crate) struct Worker<V: View> {
     pub runs: Vec<Run>,
 }
 
-// Cuts from 0 up, a step at a time, until the first worker has met the others. Answers where the last chunk ends.
+// Whether the last chunks are alike, as in a long run of zeros, and cutting began before them, or else at 0. Who begins
+// among them mostly cuts all of them elsewhere.
+fn repeats(start: u64, entries: &[Entry]) -> bool {
+    match entries {
+        [.., before, last] if before.id == last.id => start == 0 || entries[0].id != last.id,
+        _ => false,
+    }
+}
+
+// Goes on from `begun`, past what was cut from `start` on, and further as long as chunks repeat. Answers where the last
+// chunk ends. After a refusal the entries are those of the chunks before.
+fn cut_past<V: View>(
+    view: &mut V,
+    slicer: &mut Slicer,
+    blocks: &Blocks,
+    start: u64,
+    begun: u64,
+    entries: &mut Vec<Entry>,
+) -> Result<u64, CutFault>
+    requires alike { blocks.now.size ≡ (V.held view.old).size }
+    requires within { IsWithin slicer.old (V.held view.old).size }
+    requires begun { begun < (V.held view.old).size → begun_by slicer.old ≡ begun }
+    requires inside { begun ≤ (V.held view.old).size }
+    requires read { IfSome (V.held view.old).bytes (HasRead slicer.old) }
+    requires few { length (pairs entries.old.items) ≤ 4194304 }
+    requires chunks { AreEntries slicer.old.cutter.sizes (V.held view.old).bytes start (pairs entries.old.items) begun }
+
+    ensures end { IfOk result (λ e. (e ≤ (V.held view.old).size)
+        × AreEntries slicer.old.cutter.sizes (V.held view.old).bytes start (pairs entries.new.items) e) }
+    ensures run { IsRun slicer.old.cutter.sizes (V.held view.old) start (pairs entries.new.items) }
+    ensures few { length (pairs entries.new.items) ≤ 4194304 }
+    ensures many { IfErr result (λ f. f ≡ CutFault.TooManyItems → start ≡ 0
+        → AreTooMany slicer.old.cutter.sizes (V.held view.old)) }
+
+    ensures within { OnOk result (IsWithin slicer.new (V.held view.old).size) }
+    ensures sizes { slicer.new.cutter.sizes ≡ slicer.old.cutter.sizes }
+    ensures kept { V.held view.new ≡ V.held view.old }
+    ensures faults { CountsFaults CutFault.ImageFault CutFault.Memory (V.faults view.old) (V.faults view.new) result }
+{
+    let mut at = begun;
+    let mut stop = blocks.past(at);
+    while at < stop {
+        at = cut_on(view, slicer, at, stop, entries)?;
+        if repeats(start, entries) {
+            stop = blocks.past(at);
+        }
+    }
+    Ok(at)
+}
+
+// Cuts a block and past it as a run, as far as the view gives its bytes.
+fn cut_run<V: View>(
+    view: &mut V,
+    slicer: &mut Slicer,
+    blocks: &Blocks,
+    stop: u64,
+    run: &mut Run,
+) -> Result<(), CutFault>
+    requires alike { blocks.now.size ≡ (V.held view.old).size }
+    requires within { IsWithin slicer.old (V.held view.old).size }
+    requires inside { (run.old.start ≤ (V.held view.old).size) × (stop ≤ (V.held view.old).size) }
+    requires none { run.old.entries.items ≡ [] }
+    ensures start { run.new.start ≡ run.old.start }
+    ensures run { IsRun slicer.old.cutter.sizes (V.held view.old) run.old.start (pairs run.new.entries.items) }
+    ensures within { OnOk result (IsWithin slicer.new (V.held view.old).size) }
+    ensures sizes { slicer.new.cutter.sizes ≡ slicer.old.cutter.sizes }
+    ensures kept { V.held view.new ≡ V.held view.old }
+    ensures faults { V.faults view.old ≤ V.faults view.new }
+{
+    slicer.restart(run.start);
+    let end = cut_on(view, slicer, run.start, stop, &mut run.entries)?;
+    cut_past(view, slicer, blocks, run.start, end, &mut run.entries)?;
+    Ok(())
+}
+
+// Cuts from 0 up, a step at a time, until the first worker has met the others, and past that. Answers where the last
+// chunk ends.
 fn cut_steps<V: View>(
     alloc: Global,
     view: &mut V,
@@ -56,7 +132,7 @@ fn cut_steps<V: View>(
         };
         stop = blocks.reach(at);
     }
-    Ok(at)
+    cut_past(view, &mut slicer, blocks, 0, at, entries)
 }
 
 impl<V: View> Worker<V> {
@@ -86,14 +162,16 @@ impl<V: View> Worker<V> {
         }
     }
 
-    // Cuts a block as a run, as far as the view gives its bytes.
+    // Cuts a block, and keeps its run whatever came of it.
     fn cut_block(
         &mut self,
         alloc: Global,
         slicer: &mut Slicer,
+        blocks: &Blocks,
         start: u64,
         stop: u64,
     ) -> Result<(), CutFault>
+        requires alike { blocks.now.size ≡ (V.held self.old.view).size }
         requires within { IsWithin slicer.old (V.held self.old.view).size }
         requires inside { (start ≤ (V.held self.old.view).size) × (stop ≤ (V.held self.old.view).size) }
         requires runs { AreRuns slicer.old.cutter.sizes (V.held self.old.view) self.old.runs.items }
@@ -104,18 +182,14 @@ impl<V: View> Worker<V> {
         ensures faults { V.faults self.old.view ≤ V.faults self.new.view }
     {
         let mut run = Run::new(alloc, start);
-        slicer.restart(start);
-        let end = cut_on(&mut self.view, slicer, start, stop, &mut run.entries);
+        let cut = cut_run(&mut self.view, slicer, blocks, stop, &mut run);
         if self.runs.push(run).is_err() {
             return Err(CutFault::Memory);
         }
-        match end {
-            Ok(_) => Ok(()),
-            Err(fault) => Err(fault),
-        }
+        cut
     }
 
-    /// Cuts blocks as long as there are any, each to its end.
+    /// Cuts blocks as long as there are any, each to its end and past it.
     pub(crate) fn cut_blocks(&mut self, alloc: Global, sizes: &CutSizes, blocks: &Blocks)
         requires alike { blocks.now.size ≡ (V.held self.old.view).size }
         requires none { IsReady self.old }
@@ -130,7 +204,10 @@ impl<V: View> Worker<V> {
             let Some((start, stop)) = blocks.take() else {
                 return;
             };
-            if self.cut_block(alloc, &mut slicer, start, stop).is_err() {
+            if self
+                .cut_block(alloc, &mut slicer, blocks, start, stop)
+                .is_err()
+            {
                 return;
             }
         }

@@ -66,7 +66,7 @@ fn cut_all<R: Threads + Sync, V: View + Send>(
 {
     let count = workers.len();
     let last = count - 1;
-    let blocks = Blocks::new(workers[last].view.size(), count as u64);
+    let blocks = Blocks::new(workers[last].view.size(), count as u64, sizes);
     let shared = &blocks;
     thread::for_each_mut(
         rt,
