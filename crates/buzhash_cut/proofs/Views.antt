@@ -50,14 +50,6 @@ pub alike_by : {W V : Type 0} (H : V → Held) (view : W → V) (vs : List V) (w
 alike_by H view vs ws is alike =
     subst AreOfOneImage (ap reverse (seen_by H view vs ws is) ∙ reverse-reverse (map (λ w. H (view w)) ws)) (alike_reversed (map H vs) alike)
 
--- views that all hold the same are of one image
-pub alike_all : {V : Type 0} (H : V → Held) (vs : List V) (h : Held) → All (λ v. ((H v).size ≡ h.size) × ((H v).bytes ≡ h.bytes)) vs → AreOfOneImage (map H vs)
-alike_all H vs h all i d lt j e within =
-    let each = All-map (λ (k : Held). (k.size ≡ h.size) × (k.bytes ≡ h.bytes)) H vs all in
-    let one = each i d lt in
-    let other = each j e within in
-    (other.0 ∙ sym one.0, other.1 ∙ sym one.1)
-
 -- views of one image are of one size
 pub sizes_alike : {W : Type 0} (H : W → Held) (ws : List W) → AreOfOneImage (map H ws) → (i j : ℕ) (d e : W) → i < length ws → j < length ws
     → (H (slice_index_or ws i d)).size ≡ (H (slice_index_or ws j e)).size

@@ -69,11 +69,3 @@ one_held h (suc i) d lt j e within = absurd (omega arith)
 
 pub one_image : {X : Type 0} (H : X → Held) (vs : List X) (v : X) → vs ≡ v ∷ [] → AreOfOneImage (map H vs)
 one_image H vs v is = subst AreOfOneImage (sym (ap (map H) is)) (one_held (H v))
-
--- views that all hold the same are of one image
-pub alike_all : {V : Type 0} (H : V → Held) (vs : List V) (h : Held) → All (λ v. ((H v).size ≡ h.size) × ((H v).bytes ≡ h.bytes)) vs → AreOfOneImage (map H vs)
-alike_all H vs h all i d lt j e within =
-    let each = All-map (λ (k : Held). (k.size ≡ h.size) × (k.bytes ≡ h.bytes)) H vs all in
-    let one = each i d lt in
-    let other = each j e within in
-    (other.0 ∙ sym one.0, other.1 ∙ sym one.1)
