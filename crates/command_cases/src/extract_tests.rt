@@ -340,7 +340,7 @@ fn an_index_is_held_against_an_image_and_told(rt: HostRuntime) -> Result<(), Fai
         "{\"chunk-size-avg\":65536,\"chunk-size-max\":262144,\"chunk-size-min\":16384,\"size\":3,\"total\":1,\
             \"unique\":1}\n", "")?;
     ends(&rt, alloc, "info j", &mut files, "", "desync: j: no such file\n")?;
-    ends(&rt, alloc, "--version", &mut files, "desync 0.1.0 (rattle-kit-13f)\n", "")
+    ends(&rt, alloc, "--version", &mut files, "desync 0.1.0 (rattle-kit-13)\n", "")
 }
 
 #[test]

@@ -1,7 +1,7 @@
 //! The texts that tell how the program is called, as constants. Sizes of chunks are told in KiB, each 1,024 bytes.
 
 /// The text of `--version`: the version, and the toolchain it is built with.
-pub const VERSION: &str = "desync 0.1.0 (rattle-kit-13f)\n";
+pub const VERSION: &str = "desync 0.1.0 (rattle-kit-13)\n";
 
 /// The text of `--help`: how each command is called, and what it does.
 pub const HELP: &str = "\

@@ -29,7 +29,7 @@ fn command_begins(
 fn each_topic_is_told_of(rt: HostRuntime) -> Result<(), Fail> {
     let alloc = rt.alloc();
     begins(&rt, alloc, Topic::All, "desync keeps images as chunks in a store")?;
-    begins(&rt, alloc, Topic::Version, "desync 0.1.0 (rattle-kit-13f)\n")?;
+    begins(&rt, alloc, Topic::Version, "desync 0.1.0 (rattle-kit-13)\n")?;
     command_begins(&rt, alloc, CommandKind::Make, "usage: desync make -s STORE")?;
     command_begins(&rt, alloc, CommandKind::Extract, "usage: desync extract [-k]")?;
     command_begins(&rt, alloc, CommandKind::VerifyIndex, "usage: desync verify-index")?;
