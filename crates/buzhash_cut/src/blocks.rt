@@ -11,8 +11,9 @@ use std::sync::atomic::{AtomicU64, Ordering};
 const LEAST: u64 = 4_194_304;
 
 /// How many chunks of the average size a worker goes on past a block. Those that begin at a block's start mostly end
-/// where the image's do after two or three.
-const OVERLAP: u64 = 4;
+/// where the image's do after two or three. At the usual sizes these are two of the greatest size, so that it is seen
+/// where they repeat.
+const OVERLAP: u64 = 8;
 
 /// How far an image is shared out. What nobody takes, or takes and doesn't cut, is cut in the end by the first worker.
 #[derive(Drop)]
