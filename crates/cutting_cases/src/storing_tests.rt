@@ -269,6 +269,16 @@ impl View for ChangingView {
     ghost sure = { Prim.search rules };
 }
 
+impl ChangingView {
+    // The view as it is after its second reading.
+    fn changed(mut self) -> ChangingView {
+        if let Some(then) = self.then.take() {
+            self.now = then;
+        }
+        self
+    }
+}
+
 // What a view of "abc" gives once it is read again.
 #[derive(Clone, Copy)]
 enum Then {
@@ -292,7 +302,8 @@ fn changing_view(alloc: Global, then: Then) -> Result<ChangingView, Fail> {
     })
 }
 
-// Stores "abc" with so many views. Answers how often the store was called and the first view read, too.
+// Stores "abc" with so many views. Those but the first have changed before: it is open whether they cut anything. Answers
+// how often the store was called and the first view read, too.
 fn stored_twice<R: Threads + Sync>(
     rt: &R,
     alloc: Global,
@@ -302,7 +313,11 @@ fn stored_twice<R: Threads + Sync>(
 ) -> Result<(u64, u64, Result<(), MakeFault>), Fail> {
     let mut views = Vec::new(alloc);
     for k in 0..count {
-        let view = changing_view(alloc, if k == 0 { first } else { others })?;
+        let view = if k == 0 {
+            changing_view(alloc, first)?
+        } else {
+            changing_view(alloc, others)?.changed()
+        };
         views.push(view).ok().ok_or("no memory")?;
     }
     if views.is_empty() {
