@@ -302,8 +302,8 @@ fn changing_view(alloc: Global, then: Then) -> Result<ChangingView, Fail> {
     })
 }
 
-// Stores "abc" with so many views. Those but the first have changed before: it is open whether they cut anything. Answers
-// how often the store was called and the first view read, too.
+// Stores "abc" with so many views. Those but the first have changed before: it is open whether they cut anything.
+// Answers how often the store was called and the first view read, too.
 fn stored_twice<R: Threads + Sync>(
     rt: &R,
     alloc: Global,
