@@ -118,7 +118,7 @@ def build(folder):
     shutil.copy(os.path.join(TOP, 'HANDLES'), folder)
     for name in BELOW:
         shutil.copytree(os.path.join(TOP, 'crates', name), os.path.join(folder, 'crates', name),
-                        ignore=shutil.ignore_patterns('must-fail'))
+                        ignore=shutil.ignore_patterns('must-fail', 'further-edits'))
     crate = os.path.join(folder, 'crates', CRATE)
     os.makedirs(os.path.join(crate, 'src'))
     with open(os.path.join(crate, 'src', 'main.rt'), 'w', encoding='utf-8') as file:

@@ -158,7 +158,7 @@ def build(folder):
     shutil.copy(os.path.join(TOP, 'HANDLES'), folder)
     for name in BELOW:
         shutil.copytree(os.path.join(TOP, 'crates', name), os.path.join(folder, 'crates', name),
-                        ignore=shutil.ignore_patterns('out', 'must-fail'))
+                        ignore=shutil.ignore_patterns('out', 'must-fail', 'further-edits'))
     crate = os.path.join(folder, 'crates', CRATE)
     for path, text in FILES.items():
         full = os.path.join(crate, path)

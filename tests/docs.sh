@@ -1,7 +1,7 @@
 #!/bin/bash
 # What must never stand in the repository, and what must: tags and names of planning papers, paths of one
-# machine, files and lines that are too long, crates that crates.txt or a document leaves out, and what a document
-# names that isn't there: crates, labels of clauses, definitions and functions.
+# machine, files and lines that are too long, crates that crates.txt or a document leaves out, what a document names that
+# isn't there (crates, labels of clauses, definitions and functions), and edits that don't fit the code that they change.
 cd "$(dirname "$0")/.." || exit 1
 passed=0
 failed=0
@@ -57,6 +57,7 @@ check 'crates that a document leaves out' "$(python3 tests/names.py crates)"
 check 'labels and crates of docs/PROMISES.md that are not there' "$(python3 tests/names.py labels)"
 check 'labels of clauses that CONTRIBUTING.md does not list' "$(python3 tests/names.py list)"
 check 'names in documents that are nowhere else' "$(python3 tests/names.py names)"
+check 'edits that do not fit the code' "$(tests/further_edits.sh --apply)"
 
 echo "docs: $passed passed, $failed failed"
 [ "$failed" -eq 0 ]
