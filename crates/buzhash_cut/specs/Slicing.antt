@@ -3,6 +3,10 @@ use Rattle.std.specs.Prelude.{◌≡◌, ℕ, ◌+◌, ◌-◌, ◌<◌, ◌≤�
 use Rattle.chunk_ends.specs.Feeding.{WasFed}
 use Rattle.buzhash_cut.specs.declared.slicer.Slicer.{Slicer}
 
+-- how many bytes of an image are read at once
+abbrev pub piece_size : ℕ
+piece_size = 65536
+
 -- where the chunk begins that is cut next
 abbrev pub begun_by : Slicer → ℕ
 begun_by c = c.start + c.cutter.begun

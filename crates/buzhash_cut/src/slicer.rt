@@ -2,10 +2,10 @@
 //! exclusive.
 
 ghost use Rattle.std.specs.Prelude.{◌≡◌, ℕ, ◌+◌, ◌-◌, ◌^◌, ◌<◌, ◌≤◌, length, min, slice_range, IfOk};
-ghost use Rattle.std.specs.Prelude.{IfSome, OnOk, MatchOption, List, drop};
+ghost use Rattle.std.specs.Prelude.{IfSome, OnOk, MatchOption, List, drop, vec_len};
 ghost use Rattle.chunk_ends.specs.Cuts.{IsCut};
 ghost use Rattle.buzhash_cut.specs.Entries.{IsChunk};
-ghost use Rattle.buzhash_cut.specs.Slicing.{IsWithin, HasRead, begun_by};
+ghost use Rattle.buzhash_cut.specs.Slicing.{IsWithin, HasRead, begun_by, piece_size};
 ghost use Rattle.caibx_codec.specs.Seen.{pair};
 ghost use Rattle.chunk_store.specs.Names.{name_of};
 ghost use Rattle.dsy_base.specs.Counts.{CountsRefusals};
@@ -79,6 +79,8 @@ impl Slicer {
         ensures within { IfOk result (λ c. IsWithin c size) }
         ensures begun { IfOk result (λ c. begun_by c ≡ start) }
         ensures read { IfOk result (λ c. (t : List ℕ) → HasRead c t) }
+        ensures bytes { IfOk result (λ c. (vec_len c.piece ≡ piece_size)
+            × (vec_len c.chunk ≡ min size sizes.now.greatest)) }
     {
         let cutter = Cutter::new(alloc, *sizes)?;
         let piece = vec![in alloc; 0u8; PIECE]?;

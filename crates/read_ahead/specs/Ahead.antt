@@ -1,6 +1,6 @@
 -- Slices of an image that stand in a piece of room before they are put. l lists the chunks, `told` are the image's
 -- bytes where they are told.
-use Rattle.std.specs.Prelude.{◌≡◌, ℕ, ◌+◌, ◌<◌, ◌≤◌, All, List, length, slice_range, Option, IfSome}
+use Rattle.std.specs.Prelude.{◌≡◌, ℕ, ◌+◌, ◌/◌, ◌<◌, ◌≤◌, All, List, length, slice_range, Option, IfSome}
 use Rattle.caibx_codec.specs.Listing.{Listing, count_of, id_of, kind_of, size_of, slice_of}
 use Rattle.chunk_store.specs.Names.{name_of}
 use Rattle.read_ahead.specs.declared.ahead.Ahead.{Ahead}
@@ -30,3 +30,11 @@ pub record HasRoom (l : Listing) (a : Ahead) : Type 0 where
 pub record IsAhead (l : Listing) (told : Option (List ℕ)) (a : Ahead) : Type 0 where
   pub room : HasRoom l a
   pub slices : All (λ p. IsSlice l told p.entry (slice_at l a.room.items p)) a.pieces.items
+
+-- how many bytes a room has for slices where the largest chunk has so many: with its list half a MiB, and half a chunk
+abbrev pub room_for : ℕ → ℕ
+room_for largest = 507904 + largest / 2
+
+-- the room has so many bytes
+abbrev pub HasBytes : ℕ → Ahead → Type 0
+HasBytes size a = length a.room.items ≡ size

@@ -4,7 +4,7 @@ ghost use Rattle.std.specs.Prelude.{◌≡◌, ℕ, ◌+◌, ◌<◌, ◌≤◌,
 ghost use Rattle.std.specs.Prelude.{slice_range, take, vec_capacity, vec_len};
 ghost use Rattle.caibx_codec.specs.Listing.{Listing, count_of, image_length, size_of};
 ghost use Rattle.chunk_store.specs.Names.{name_of};
-ghost use Rattle.read_ahead.specs.Ahead.{HasRoom, IsAhead, IsSlice};
+ghost use Rattle.read_ahead.specs.Ahead.{HasBytes, HasRoom, IsAhead, IsSlice};
 
 use crate::claims::Claims;
 use crate::plan::{PIECES, repeats};
@@ -60,7 +60,8 @@ fn read_named<V: View>(
 impl Ahead {
     /// A piece of room of so many bytes, in which nothing stands.
     pub fn new(alloc: Global, size: usize) -> Result<Ahead, AllocError>
-        ensures { IfOk result (λ a. (l : Listing) (told : Option (List ℕ)) → IsAhead l told a) }
+        ensures right { IfOk result (λ a. (l : Listing) (told : Option (List ℕ)) → IsAhead l told a) }
+        ensures bytes { IfOk result (HasBytes size) }
     {
         Ok(Ahead {
             room: vec![in alloc; 0u8; size]?,

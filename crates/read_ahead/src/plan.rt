@@ -2,6 +2,7 @@
 
 ghost use Rattle.std.specs.Prelude.{◌≡◌, ◌-◌, ◌<◌, ◌≤◌, IsTrue};
 ghost use Rattle.caibx_codec.specs.Listing.{count_of, id_of};
+ghost use Rattle.read_ahead.specs.Ahead.{room_for};
 
 use caibx_codec::index::Index;
 
@@ -15,7 +16,9 @@ pub(crate) const PIECES: usize = 1_024;
 const LIST: usize = 16_384;
 
 /// The size of a piece of room beside its list, where the largest chunk has so many bytes.
-pub(crate) fn room_size(largest: usize) -> usize {
+pub(crate) fn room_size(largest: usize) -> usize
+    ensures { result ≡ room_for largest }
+{
     READ_AHEAD - LIST + largest / 2
 }
 

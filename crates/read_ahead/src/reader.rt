@@ -3,7 +3,7 @@
 ghost use Rattle.std.specs.Prelude.{◌≡◌, ℕ, ◌+◌, ◌<◌, ◌≤◌, [], ◌∷◌, All, List, Option, IfOk, IfSome, length, map};
 ghost use Rattle.std.specs.Prelude.{vec_capacity, vec_len};
 ghost use Rattle.caibx_codec.specs.Listing.{Listing, count_of, image_length};
-ghost use Rattle.read_ahead.specs.Ahead.{IsAhead};
+ghost use Rattle.read_ahead.specs.Ahead.{HasBytes, IsAhead, room_for};
 
 use crate::ahead::Ahead;
 use crate::claims::Claims;
@@ -57,6 +57,7 @@ pub fn change_all<V: View>(readers: &mut [Reader<V>], ready: &mut [Ahead])
 fn rooms(alloc: Global, count: usize, size: usize) -> Result<Vec<Ahead>, AllocError>
     ensures size { IfOk result (λ v. vec_len v ≡ count) }
     ensures right { IfOk result (λ v. (l : Listing) (told : Option (List ℕ)) → All (IsAhead l told) v.items) }
+    ensures bytes { IfOk result (λ v. All (HasBytes size) v.items) }
 {
     let mut rooms = Vec::with_capacity(alloc, count)?;
     while rooms.len() < count {
@@ -79,6 +80,8 @@ impl<V: View> Crew<V> {
         ensures none { IfOk result (λ c. c.readers.items ≡ []) }
         ensures room { IfOk result (λ c. count ≤ vec_capacity c.readers) }
         ensures size { IfOk result (λ c. (vec_len c.rooms ≡ count) × (vec_len c.ready ≡ count)) }
+        ensures bytes { IfOk result (λ c. All (HasBytes (room_for largest)) c.rooms.items
+            × All (HasBytes (room_for largest)) c.ready.items) }
         ensures right { IfOk result (λ c. (l : Listing) (told : Option (List ℕ)) → All (IsAhead l told) c.ready.items) }
     {
         let size = room_size(largest);
