@@ -207,8 +207,8 @@ fn put_chunk<R: Files<File = File>>(
     Ok(())
 }
 
-// Puts `b` under the name in the folder. Where a folder isn't there, it is made; where the temporary file was taken
-// away, it is written again.
+// Puts `b` under the name in the folder. The inner folder of the name is made first, since it mostly isn't there yet.
+// Where that or the temporary file was taken away since, all is done again.
 fn put_in<R: Files<File = File>>(
     rt: &R,
     alloc: Global,
@@ -220,8 +220,9 @@ fn put_in<R: Files<File = File>>(
     let beside = temporary_name(alloc, name)?;
     let temporary = path_in(alloc, folder, beside.as_str())?;
     for _ in 0..8 {
+        make_folder(rt, alloc, folder, name)?;
         match put_chunk(rt, alloc, path.as_str(), temporary.as_str(), b) {
-            Err(error) if is_absence(&error) => make_folder(rt, alloc, folder, name)?,
+            Err(error) if is_absence(&error) => {}
             put => return put,
         }
     }
