@@ -3,7 +3,7 @@ use Rattle.std.specs.Prelude.{ℕ, List, [], Some, Result}
 use Rattle.command_outcome.specs.declared.outcome.Outcome.{Outcome}
 use Rattle.command_steps.specs.Worlds.{world}
 use Rattle.desync_cli.specs.Commands.{DesyncEnds}
-use Rattle.desync_cli.specs.Serving.{Heard}
+use Rattle.store_commands.specs.Serving.{Heard}
 use Rattle.dsy_base.specs.Disk.{Disk}
 use Rattle.dsy_base.specs.Links.{DialState}
 

@@ -11,3 +11,5 @@ pub mod Texts
 pub mod Fair
 pub mod SeedsOpened
 pub mod SeedsRead
+pub mod Found
+pub mod Lacked

@@ -1,6 +1,7 @@
 -- A store that was taken, and given back with what it has counted.
-use Rattle.std.proofs.Common.{◌≡◌, ℕ, List, IsSome, refl, sym, ap, subst, arith}
+use Rattle.std.proofs.Common.{◌≡◌, ℕ, List, Bool, true, false, cond, Option, IsSome, refl, sym, ap, subst, arith}
 use Rattle.std.specs.Map.{count_at}
+use Rattle.std.specs.Str.{bytes_eq}
 use Rattle.command_line.specs.declared.command.Location.{Location}
 use Rattle.command_steps.proofs.Dialed.{dials_none}
 use Rattle.command_steps.proofs.Numbers.{counted_known, counted_le}
@@ -8,7 +9,7 @@ use Rattle.command_steps.specs.Sources.{DialsStores}
 use Rattle.command_steps.specs.Worlds.{Adds}
 use Rattle.dsy_base.specs.Disk.{Disk, GivesFolder}
 use Rattle.dsy_base.specs.Links.{DialState}
-use Rattle.dsy_base.specs.Maps.{Map}
+use Rattle.dsy_base.specs.Maps.{Map, at_name}
 
 pub adds_none : (d : Disk) → Adds d d
 adds_none d = record { files = refl; counts = λ q. omega arith; folder_counts = λ q. omega arith; known = λ q is. is; folder_known = λ q is. is }
@@ -25,3 +26,10 @@ gives_adds d e q n given = record {
 -- no server is asked
 pub not_dialed : (stores : List Location) (k : DialState) → DialsStores stores k k
 not_dialed stores k = (dials_none k, λ t. refl)
+
+-- what is written twice under one name
+pub at_name_twice : {X : Type 0} (m : Map X) (name : List ℕ) (u w : Option X) → at_name (at_name m name u) name w ≡ at_name m name w
+at_name_twice m name u w = λ i q. twice (bytes_eq name q) w u (m q) i where
+  twice : {X : Type 0} (b : Bool) (w u r : Option X) → cond b w (cond b u r) ≡ cond b w r
+  twice true w u r = refl
+  twice false w u r = refl

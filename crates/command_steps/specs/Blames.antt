@@ -1,15 +1,11 @@
 -- What holds of each command over the world before it and after it: what it spares, and whose fault it tells.
-use Rattle.std.specs.Prelude.{◌≡◌, ◌⊎◌, ℕ, Bool, IsSomeAnd, IsTrue, List, slice_index_or, []}
-use Rattle.std.specs.List.{Any}
+use Rattle.std.specs.Prelude.{◌≡◌, ◌⊎◌, ℕ, Bool, IsTrue, List, slice_index_or, []}
 use Rattle.command_line.specs.declared.command.Location.{Location}
-use Rattle.command_line.specs.declared.command.Location.TheVariants as locations
 use Rattle.command_outcome.specs.declared.outcome.Outcome.{Outcome}
 use Rattle.command_outcome.specs.declared.outcome.Outcome.TheVariants as ends
-use Rattle.command_steps.specs.Dials.{since}
-use Rattle.command_steps.specs.Sources.{StoreRose, server_at, sources_of, store_at}
+use Rattle.command_steps.specs.Sources.{StoreRose, sources_of, store_at}
 use Rattle.command_steps.specs.Worlds.{FileRose, FolderRose, World}
 use Rattle.dsy_base.specs.Counts.{Rose}
-use Rattle.http_read.specs.Refusals.{IsUnacceptable}
 
 -- what no outcome of a command changes
 pub record Spares : Type 0 where
@@ -51,20 +47,3 @@ Blames x (ends.FileFault name) w v = FileRose w.disk v.disk name ⊎ FolderRose 
 Blames x ends.OutFault w v = Rose w.out.faults v.out.faults
 Blames x ends.ListenFault w v = Rose x.listener.0 x.listener.1
 Blames x other w v = Unit {0}
-
--- no call failed
-abbrev pub NothingFailed : Outcome → Type 0
-NothingFailed ends.ImageFault = ⊥
-NothingFailed (ends.StoreFault store) = ⊥
-NothingFailed (ends.FileFault name) = ⊥
-NothingFailed ends.TargetFault = ⊥
-NothingFailed ends.CacheFault = ⊥
-NothingFailed ends.OutFault = ⊥
-NothingFailed ends.ListenFault = ⊥
-NothingFailed other = Unit {0}
-
--- each reply that a server has given since was taken, where it is one. Where connections aren't told this isn't known
-abbrev pub RepliesTaken : World → World → Location → Type 0
-RepliesTaken w v (locations.Folder q) = Unit {0}
-RepliesTaken w v (locations.Http host port prefix) = IsSomeAnd (since w.dial.ended v.dial.ended)
-    (λ ended. Any (IsUnacceptable (server_at host port prefix)) ended → ⊥)

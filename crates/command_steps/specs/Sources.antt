@@ -21,6 +21,10 @@ use Rattle.http_read.specs.Asks.{Server}
 use Rattle.http_read.specs.Refusals.{IsUnacceptable}
 use Rattle.http_read.specs.Remotes.{said_on}
 use Rattle.store_chain.specs.Lists.{FirstAt}
+use Rattle.store_chain.specs.Refusals.{HasShown, Lacks}
+use Rattle.store_chain.specs.declared.refused.Refused.{Refused}
+use Rattle.store_chain.specs.declared.refused.Refused.TheVariants as refused
+use Rattle.store_chain.specs.declared.want.Want.{Want}
 
 pub record Sources : Type 0 where
   pub disk : Disk
@@ -98,6 +102,15 @@ StoreRose w v (locations.Http host port prefix) = Rose w.dial.faults v.dial.faul
 abbrev pub FailsFirst : (Said → Type 0) → Sources → Sources → ℕ → List Location → Type 0
 FailsFirst lacks w v =
     FirstAt (λ s. lacks (said_at w v s)) (StoreRose w v) (λ s. lacks (said_at w v s) ⊎ StoreRose w v s)
+
+-- what stores have said that lack a chunk: all have denied it; or this is the first that has shown something else
+-- under its id, and all lack it; or this is the first that failed, and all others lack it or failed too
+abbrev pub HaveLacked : Want → Sources → Sources → List Location → Refused → Type 0
+HaveLacked c w v stores refused.Missing = All (λ s. (said_at w v s).denied c.id.0) stores
+HaveLacked c w v stores (refused.Damaged s x) = FirstAt (λ s. (said_at w v s).denied c.id.0)
+    (λ s. HasShown c x (said_at w v s)) (λ s. Lacks c (said_at w v s)) s stores
+HaveLacked c w v stores (refused.StoreFault s) = FailsFirst (Lacks c) w v s stores
+HaveLacked c w v stores refused.Memory = Unit {0}
 
 -- ---- how opening may refuse
 

@@ -9,7 +9,7 @@ use Rattle.command_line.specs.declared.command.Location.{Location}
 use Rattle.command_steps.specs.Openings.{IsListed}
 use Rattle.command_steps.specs.Sources.{sources, sources_of}
 use Rattle.command_steps.specs.Worlds.{World}
-use Rattle.desync_cli.specs.Caching.{AddsListed, AllFilled, CacheEnds, Evidence, IsCached, IsHeldListed, of_command}
+use Rattle.store_commands.specs.Caching.{AddsListed, AllFilled, CacheEnds, Evidence, IsCached, IsHeldListed, of_command}
 use Rattle.dsy_base.specs.Disk.{Disk}
 use Rattle.dsy_base.specs.Maps.{Map, at_name}
 use Rattle.image_store.specs.PutChunks.{HoldsAll, HoldsNamed}

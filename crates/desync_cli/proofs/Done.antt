@@ -7,7 +7,7 @@ use Rattle.command_outcome.specs.declared.outcome.Outcome.TheVariants as ends
 use Rattle.command_steps.specs.Steps.{answer_of, outcome_of}
 use Rattle.command_steps.specs.Worlds.{World}
 use Rattle.desync_cli.specs.Commands.{Achieves, DesyncEnds, Ends, command_of}
-use Rattle.desync_cli.specs.Serving.{Heard}
+use Rattle.store_commands.specs.Serving.{Heard}
 use Rattle.desync_cli.proofs.Fair.{answered, begun, if_some}
 use Rattle.desync_cli.proofs.Cached.{cached}
 use Rattle.desync_cli.proofs.Chopped.{chopped}

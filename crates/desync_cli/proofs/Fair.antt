@@ -14,24 +14,25 @@ use Rattle.command_line.specs.declared.command.Location.TheVariants as locations
 use Rattle.command_line.specs.declared.usage.WordsFault.{WordsFault}
 use Rattle.command_outcome.specs.declared.outcome.Outcome.{Outcome}
 use Rattle.command_outcome.specs.declared.outcome.Outcome.TheVariants as ends
-use Rattle.command_steps.specs.Blames.{Blames, Keeps, NothingFailed, Parts, RepliesTaken, Spares}
+use Rattle.command_steps.specs.Blames.{Blames, Keeps, Parts, Spares}
+use Rattle.desync_cli.specs.Unfailed.{NothingFailed, RepliesTaken}
 use Rattle.command_steps.specs.Steps.{Passed, answer_of, outcome_of}
 use Rattle.command_steps.specs.Worlds.{FileRose, FolderRose, NoFault, Step, World, Writes, world}
 use Rattle.command_steps.proofs.Dialed.{dials_same}
 use Rattle.command_steps.proofs.Fair.{IsFair, IsLeft, IsRefusal, IsStep, Unread, adds, behind, between, bound, consults, cache_step, fair_longer, image_step, index_step, indexes_step, left_twice, on_disk, on_out, on_sources, printed_step, pure_step, reads, round, source_failed, source_taken_step, sources_fair, sources_step, taken_step, whole, writes, unread_fair}
 use Rattle.command_steps.proofs.Numbers.{rose_not_quiet}
-use Rattle.desync_cli.specs.Caching.{FillTells, IndexesFilled, NotFilled, of_command, outcome_of_fill}
-use Rattle.desync_cli.specs.Chop.{ImageChopped}
+use Rattle.store_commands.specs.Caching.{FillTells, IndexesFilled, NotFilled, of_command, outcome_of_fill}
+use Rattle.image_commands.specs.Chop.{ImageChopped}
 use Rattle.desync_cli.specs.Commands.{DesyncEnds, Ends, NoCommand, TellsRefusal, WordsRead, command_of, parts, refusal_in, refusal_of, said_in, spares}
-use Rattle.desync_cli.specs.Demo.{Rehearsed}
-use Rattle.desync_cli.specs.Extract.{CacheFilled, Clearing, FillsCache, ImageMade, Into, LacksEntry, OutMade, Renamed, Seeds, beside, in_place, temporary_out}
-use Rattle.desync_cli.specs.Info.{IdsCounted, NotAsked}
-use Rattle.desync_cli.specs.Make.{ImageStored, IndexWritten, SizesJudged, WritesStore}
-use Rattle.desync_cli.specs.Serving.{FolderServed, Heard, TakenUnheard}
-use Rattle.desync_cli.specs.VerifyIndex.{ImageChecked}
+use Rattle.image_commands.specs.Demo.{Rehearsed}
+use Rattle.image_commands.specs.Extract.{CacheFilled, Clearing, FillsCache, ImageMade, Into, LacksEntry, OutMade, Renamed, Seeds, beside, in_place, temporary_out}
+use Rattle.store_commands.specs.Info.{IdsCounted, NotAsked}
+use Rattle.image_commands.specs.Make.{ImageStored, IndexWritten, SizesJudged, WritesStore}
+use Rattle.store_commands.specs.Serving.{FolderServed, Heard, TakenUnheard}
+use Rattle.image_commands.specs.VerifyIndex.{ImageChecked}
 use Rattle.verify_tool.specs.Pruning.{is_listed_in}
-use Rattle.desync_cli.specs.Prune.{StorePruned}
-use Rattle.desync_cli.specs.Verify.{KeepsCounts, StoreVerified}
+use Rattle.store_commands.specs.Prune.{StorePruned}
+use Rattle.store_commands.specs.Verify.{KeepsCounts, StoreVerified}
 use Rattle.command_steps.specs.Seeds.{image_name}
 use Rattle.command_steps.specs.Dials.{since}
 use Rattle.command_steps.specs.Sources.{DialsStores, NotAsking, Sources, StoreRose, server_at, sources, sources_of, store_at}
@@ -303,6 +304,10 @@ command_step h commands.Help = on_out (λ d. printed_step _ _ _ _ d (help_text t
 command_step h commands.Version = on_out (λ d. printed_step _ _ _ _ d (help_text topics.Version))
 command_step h (commands.HelpOn kind) = on_out (λ d. printed_step _ _ _ _ d (help_text (topics.Command kind)))
 command_step h (commands.ChunkServer store host port writable workers) = bound (on_disk (λ p. unheard_step _ _ _ _ p h store)) (λ held. on_disk (λ p. served_step _ _ _ _ p h writable store held refl))
+
+-- a command that listens is none that doesn't
+pub none_such : {A : Type 0} → true ≡ false → A
+none_such h = absurd (cc)
 
 -- ---- what the top call says
 

@@ -1,5 +1,5 @@
 -- What `make` has made where it is done.
-use Rattle.std.proofs.Common.{ap, ◌≡◌, ◌≢◌, ◌<◌, ℕ, List, Option, Some, None, IfSome, is_some, Result, Ok, inl, inr, subst, sym, true≢false, unwrap_or, ◌∙◌}
+use Rattle.std.proofs.Common.{ap, ◌≡◌, ◌≢◌, ◌<◌, ℕ, List, Option, Some, None, IfSome, is_some, Ok, inl, inr, subst, sym, true≢false, unwrap_or, ◌∙◌}
 use Rattle.std.specs.Option.{option_map}
 use Rattle.buzhash_cut.specs.Image.{IsIndexOfImage}
 use Rattle.buzhash_cut.specs.Sizes.{Sizes}
@@ -10,13 +10,12 @@ use Rattle.command_line.specs.declared.command.Location.{Location}
 use Rattle.command_line.specs.declared.command.Location.TheVariants as locations
 use Rattle.command_steps.specs.Sources.{said_at, sources, sources_of}
 use Rattle.command_steps.specs.Worlds.{World}
-use Rattle.desync_cli.specs.Make.{FolderHas, IsMade, MadeOf, MakeEnds, StoreHas, sizes_of}
+use Rattle.image_commands.specs.Make.{FolderHas, IsMade, MadeOf, MakeEnds, StoreHas, sizes_of}
 use Rattle.dsy_base.proofs.Counts.{at_same}
 use Rattle.dsy_base.specs.Disk.{Disk}
 use Rattle.dsy_base.specs.Maps.{Map, at_name}
 use Rattle.image_store.specs.PutChunks.{SaysAll, Stands}
-use Rattle.image_store.specs.StoreImage.{PutsFilesOf, SaysOf, StoresImage}
-use Rattle.image_store.specs.declared.put_chunks.MakeFault.{MakeFault}
+use Rattle.image_store.specs.StoreImage.{SaysOf}
 
 -- an id that isn't listed holds what it held
 pub others_stay : (l : Listing) (t : List ℕ) (old new : Map (List ℕ)) → Stands l t (count_of l) old new → (id : List ℕ) → ((i : ℕ) → i < count_of l → id_of l i ≢ id) → new id ≡ old id
@@ -24,19 +23,6 @@ others_stay l t old new stands id other = elim (stands id) [
   | inl same ↦ same
   | inr s ↦ absurd (other s.entry s.below (sym s.id))
 ]
-
--- what storing made of the files of a folder
-pub made_of : (s : Sizes) (told : Option (List ℕ)) (r : Result (List ℕ) MakeFault) (old new : Option (Map (List ℕ))) → IfSome told (λ t. IfSome (option_map chunks old) (λ m. IfSome (option_map chunks new) (λ n. StoresImage s (λ b. b) t m n r)))
-    → PutsFilesOf s told (option_map chunks old) old new → IfSome old (λ f. IfSome new (λ g. MadeOf s told r f g))
-made_of s told r None new holds files = tt
-made_of s told r (Some f) None holds files = tt
-made_of s told r (Some f) (Some g) holds files = record { holds = holds; files = files }
-
--- or nothing
-pub unmade : (s : Sizes) (told : Option (List ℕ)) (r : Result (List ℕ) MakeFault) (old new : Option (Map (List ℕ))) → new ≡ old → IfSome old (λ f. IfSome new (λ g. MadeOf s told r f g)) → IfSome old (λ f. IfSome new (λ g. (g ≡ f) × MadeOf s told r f g))
-unmade s told r None new same of = tt
-unmade s told r (Some f) None same of = tt
-unmade s told r (Some f) (Some g) same of = (ap (λ o. unwrap_or o g) same, of)
 
 module _ (sizes q index image : List ℕ) (bytes : List ℕ) where
   -- what storing says of the folder, over the folders among which it was taken

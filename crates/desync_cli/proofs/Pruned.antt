@@ -5,9 +5,9 @@ use Rattle.std.specs.Option.{option_map}
 use Rattle.caibx_codec.specs.Listing.{Listing}
 use Rattle.command_steps.specs.Openings.{IsListed}
 use Rattle.command_steps.specs.Worlds.{World}
-use Rattle.desync_cli.proofs.Assembled.{at_name_twice}
-use Rattle.desync_cli.specs.Prune.{IsPruned, IsPrunedTo, PruneEnds}
-use Rattle.desync_cli.specs.Verify.{IsVerifiedStore, VerifyEnds}
+use Rattle.command_steps.proofs.Taken.{at_name_twice}
+use Rattle.store_commands.specs.Prune.{IsPruned, IsPrunedTo, PruneEnds}
+use Rattle.store_commands.specs.Verify.{IsVerifiedStore, VerifyEnds}
 use Rattle.dsy_base.specs.Maps.{Map, at_name}
 use Rattle.verify_tool.specs.Pruning.{is_listed_in, pruned}
 use Rattle.verify_tool.specs.Verifying.{AreDamaged, IsStoreChecked, left_of}

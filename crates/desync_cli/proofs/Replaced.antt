@@ -1,6 +1,5 @@
 -- What an extraction by way of a temporary file leaves of other files.
-use Rattle.std.proofs.Common.{◌≡◌, ◌≢◌, ◌⊎◌, ℕ, ◌+◌, ◌≤◌, List, length, codes, Bool, true, false, is_some, map, Option, Some, None, IfSome, Result, Ok, Err, refl, sym, ap, subst, ◌∙◌, inl, inr, arith}
-use Rattle.std.proofs.lemmas.List.{length-append, length-map}
+use Rattle.std.proofs.Common.{◌≡◌, ◌≢◌, ◌⊎◌, ℕ, List, Bool, true, false, is_some, map, Option, Some, None, IfSome, Result, Ok, Err, refl, sym, ap, subst, ◌∙◌, inl, inr}
 use Rattle.std.specs.Option.{option_map}
 use Rattle.caibx_codec.specs.Listing.{Listing}
 use Rattle.command_line.specs.declared.command.Command.{Command}
@@ -10,29 +9,18 @@ use Rattle.command_outcome.specs.declared.outcome.Outcome.{Outcome}
 use Rattle.command_outcome.specs.declared.outcome.Outcome.TheVariants as ends
 use Rattle.command_steps.proofs.Cached.{cache_reads}
 use Rattle.command_steps.specs.Cache.{CacheOpened}
-use Rattle.command_steps.specs.Openings.{IndexRead, Listed}
-use Rattle.command_steps.specs.Seeds.{AllListed, IndexesRead, image_name}
-use Rattle.command_steps.specs.Steps.{◌>>=◌, Passed, outcome_of}
+use Rattle.command_steps.specs.Seeds.{IndexesRead, image_name}
+use Rattle.command_steps.specs.Steps.{◌>>=◌, outcome_of}
 use Rattle.command_steps.specs.Sources.{Sources, SourcesOpened, sources}
-use Rattle.command_steps.specs.Worlds.{OnDisk, Reads, Step, World, world}
+use Rattle.command_steps.specs.Worlds.{OnDisk, Reads, World, world}
 use Rattle.desync_cli.proofs.Fair.{begun, if_any, if_some}
-use Rattle.desync_cli.proofs.Seeded.{zipped_many}
 use Rattle.desync_cli.specs.Commands.{DesyncEnds, Ends, LeavesBehind, command_of}
-use Rattle.desync_cli.specs.Serving.{Heard}
-use Rattle.desync_cli.specs.Extract.{Assembled, Cleared, ClearedAfter, Clearing, ExtractEnds, Into, KeepsIn, LeavesOut, OutMade, Seeds, StopsSomewhere, beside, folder_of, old_of, temporary_out}
+use Rattle.store_commands.specs.Serving.{Heard}
+use Rattle.image_commands.specs.Extract.{Assembled, Cleared, ExtractEnds, Into, KeepsIn, OutMade, Seeds, StopsSomewhere, beside, folder_of, old_of, temporary_out}
+use Rattle.desync_cli.specs.Commands.{LeavesOut}
 use Rattle.dsy_base.proofs.Counts.{at_other}
-use Rattle.dsy_base.specs.Disk.{Disk, Output}
-use Rattle.dsy_base.specs.Links.{DialState}
+use Rattle.dsy_base.specs.Disk.{Disk}
 use Rattle.dsy_base.specs.Maps.{Map, at_name}
-use Rattle.extract_plan.specs.Deal.{Deal}
-use Rattle.extract_plan.specs.Places.{Placed, PlacesKnown}
-
--- the temporary file is another one than OUT
-pub beside_apart : (out : List ℕ) → out ≢ temporary_out out
-beside_apart out same =
-    let long : length (temporary_out out) ≡ length out + 11 = length-append out (codes ".tmp-desync") in
-    let equal : length out ≡ length (temporary_out out) = ap length same in
-    absurd (omega (arith, long, equal))
 
 module _ (tmp : List ℕ) where
   -- no file but this one has changed, and files tell as before
@@ -176,55 +164,6 @@ left_out stores cache seeds false index out w v o told (inr h) = go h.then where
             let c = n.then.0 in
             let second : Only tmp n.disk.files v.disk.files = only_then tmp n.disk.files c.0.files v.disk.files (only_same tmp n.disk.files c.0.files c.2.0.1) (only_cleared tmp c.0 v.disk o c.4) in
             left_over out w v (from v.disk.files (only_then tmp m.disk.files n.disk.files v.disk.files first_only second))
-
--- ---- the steps in order
-
--- a step that answered so, and was then cleared
-pub clears : (tmp : List ℕ) (step : Step Sources Unit) (w : Sources) (c e : Disk) (k : DialState) (r a : Result Unit Outcome) → step w r (sources c k) → ClearedAfter tmp c r a e → Clearing tmp step w a (sources e k)
-clears tmp step w c e k (Ok u) (Ok v) did same = subst (λ x. step w (Ok v) (sources x k)) (sym same) did
-clears tmp step w c e k (Ok u) (Err o) did h = absurd h
-clears tmp step w c e k (Err p) (Ok v) did h = absurd h
-clears tmp step w c e k (Err p) (Err o) did h = (c, p, did, h.0, h.1)
-
--- what follows on a step that passed
-pub passed_any : {A B : Type 0} (step : Step World A) (next : A → Step World B) (w : World) (r : Result B Outcome) (v : World) → Passed step next w r v → (step >>= next) w r v
-passed_any step next w (Ok b) v h = h
-passed_any step next w (Err o) v h = inr h
-
--- OUT was made so after the steps before it
-pub ends_with : (stores : List Location) (cache : Option (List ℕ)) (seeds : List (List ℕ)) (place : Bool) (index out : List ℕ) (l : Listing) (ls : List Listing) (d b c f m e : Disk) (k j : DialState) (p : Output) (r : Result Unit Outcome)
-    → IndexRead index d (Ok l) b → IndexesRead seeds b (Ok ls) c → SourcesOpened stores c (Ok tt) f → CacheOpened cache f (Ok tt) m → OutMade place stores cache out l (record { images = map image_name seeds; listings = ls }) (world m k p) r (world e j p)
-    → ExtractEnds stores cache seeds place index out (world d k p) r (world e j p)
-ends_with stores cache seeds place index out l ls d b c f m e k j p r listed read opened shelved made =
-    passed_any _ _ (world d k p) r (world e j p) (record {
-      disk = b;
-      dial = k;
-      out = p;
-      gave = l;
-      did = (listed, refl, refl);
-      then = passed_any _ _ (world b k p) r (world e j p) (record {
-        disk = c;
-        dial = k;
-        out = p;
-        gave = ls;
-        did = (read, refl, refl);
-        then = passed_any _ _ (world c k p) r (world e j p) (record { disk = f; dial = k; out = p; gave = tt; did = (opened, refl, refl); then = passed_any _ _ (world f k p) r (world e j p) (record { disk = m; dial = k; out = p; gave = tt; did = (shelved, refl, refl); then = made }) });
-      });
-    })
-
--- ---- what the assembly needs of them
-
--- the places are in as many seeds as there are names
-pub known_places_of : (d : Disk) (seeds : List (List ℕ)) (ls : List Listing) (l k : Listing) (p : Deal) (x : Placed) → AllListed d seeds ls → k ≡ l → PlacesKnown l p x (length ls) → PlacesKnown k p x (length seeds)
-known_places_of d seeds ls l k p x listed same known =
-    let many = zipped_many (λ q l. Listed d q l) seeds ls listed in
-    subst (λ (n : ℕ). PlacesKnown k p x n) (sym many) (subst (λ i. PlacesKnown i p x (length ls)) (sym same) known)
-
--- as many stores were opened as are named
-pub opened_many : {S : Type 0} (location : S → Location) (stores : List Location) (items : List S) → map location items ≡ stores → (1 ≤ length stores) × (length stores ≤ 16) → (1 ≤ length items) × (length items ≤ 16)
-opened_many location stores items same few =
-    let many : length items ≡ length stores = sym (length-map items location) ∙ ap length same in
-    (omega (arith, many, few.0), omega (arith, many, few.1))
 
 -- ---- what the top call says
 

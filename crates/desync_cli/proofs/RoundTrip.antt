@@ -10,10 +10,10 @@ use Rattle.command_line.specs.declared.command.Command.{Command}
 use Rattle.command_line.specs.declared.command.Command.TheVariants as commands
 use Rattle.command_steps.specs.Worlds.{world}
 use Rattle.desync_cli.specs.Commands.{Achieves}
-use Rattle.desync_cli.specs.Extract.{IsExtracted}
-use Rattle.desync_cli.specs.Make.{IsMade}
+use Rattle.image_commands.specs.Extract.{IsExtracted}
+use Rattle.image_commands.specs.Make.{IsMade}
 use Rattle.desync_cli.specs.RoundTrip.{ComesBack, RoundTrip}
-use Rattle.desync_cli.specs.Serving.{Heard}
+use Rattle.store_commands.specs.Serving.{Heard}
 use Rattle.dsy_base.specs.Disk.{Disk, Output}
 use Rattle.dsy_base.specs.Links.{DialState}
 use Rattle.dsy_base.specs.Maps.{Map}

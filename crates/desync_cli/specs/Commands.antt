@@ -1,5 +1,5 @@
 -- What the words are to do, and what each command does.
-use Rattle.std.specs.Prelude.{◌≡◌, ℕ, Bool, true, false, not, is_some, if◌then◌else◌}
+use Rattle.std.specs.Prelude.{◌≡◌, ◌≢◌, ℕ, Bool, true, false, not, is_some, if◌then◌else◌}
 use Rattle.std.specs.Prelude.{List, [], ◌∷◌, Option, Some, None, IfSome, Result, Ok, Err}
 use Rattle.caibx_codec.specs.Listing.{Listing}
 use Rattle.command_help.specs.Help.{help_text}
@@ -13,23 +13,23 @@ use Rattle.command_line.specs.declared.usage.WordsFault.{WordsFault}
 use Rattle.command_line.specs.declared.usage.WordsFault.TheVariants as faults
 use Rattle.command_outcome.specs.declared.outcome.Outcome.{Outcome}
 use Rattle.command_outcome.specs.declared.outcome.Outcome.TheVariants as ends
-use Rattle.desync_cli.specs.Caching.{CacheEnds, IsCached}
-use Rattle.desync_cli.specs.Chop.{ChopEnds, IsChopped}
-use Rattle.desync_cli.specs.Demo.{DemoEnds}
-use Rattle.desync_cli.specs.Extract.{ExtractEnds, IsExtracted, LeavesOut, temporary_out}
-use Rattle.desync_cli.specs.Info.{InfoEnds}
-use Rattle.desync_cli.specs.ListChunks.{ListChunksEnds}
-use Rattle.desync_cli.specs.Make.{IsMade, MakeEnds, StoreHas}
-use Rattle.desync_cli.specs.Prune.{IsPruned, PruneEnds}
-use Rattle.desync_cli.specs.Serving.{ChunkServerEnds, Heard}
-use Rattle.desync_cli.specs.Verify.{IsVerifiedStore, VerifyEnds}
+use Rattle.image_commands.specs.Chop.{ChopEnds, IsChopped}
+use Rattle.image_commands.specs.Demo.{DemoEnds}
+use Rattle.image_commands.specs.Extract.{ExtractEnds, IsExtracted, temporary_out}
+use Rattle.image_commands.specs.Make.{IsMade, MakeEnds, StoreHas}
+use Rattle.image_commands.specs.VerifyIndex.{IsVerified, VerifyIndexEnds}
+use Rattle.store_commands.specs.Caching.{CacheEnds, IsCached}
+use Rattle.store_commands.specs.Info.{InfoEnds}
+use Rattle.store_commands.specs.ListChunks.{ListChunksEnds}
+use Rattle.store_commands.specs.Prune.{IsPruned, PruneEnds}
+use Rattle.store_commands.specs.Serving.{ChunkServerEnds, Heard}
+use Rattle.store_commands.specs.Verify.{IsVerifiedStore, VerifyEnds}
 use Rattle.command_steps.specs.Blames.{Parts, Spares, unheard}
 use Rattle.command_steps.specs.Printing.{Printed}
 use Rattle.command_steps.specs.Sources.{sources_of}
 use Rattle.command_steps.specs.Steps.{◌>>=◌}
 use Rattle.command_steps.specs.Stores.{are_folders, is_folder}
 use Rattle.command_steps.specs.Worlds.{OnOut, Step, World}
-use Rattle.desync_cli.specs.VerifyIndex.{IsVerified, VerifyIndexEnds}
 
 -- ---- a row a command
 
@@ -121,6 +121,12 @@ Achieves h (commands.Prune store indexes) w v =
     IfSome w.disk.files (λ b. IfSome w.disk.folders (λ f. IfSome v.disk.folders (λ g.
     IsPruned b f g store indexes)))
 Achieves h other w v = Ends h other w (Ok tt) v
+
+-- a refusal leaves all files as they were, but for the temporary one
+abbrev pub LeavesOut : Bool → List ℕ → World → World → Type 0
+LeavesOut true out w v = Unit {0}
+LeavesOut false out w v = IfSome w.disk.files (λ b. IfSome v.disk.files (λ a.
+    (q : List ℕ) → q ≢ temporary_out out → a q ≡ b q))
 
 -- what a refusal leaves of it, beside how it ends
 abbrev pub LeavesBehind : Command → World → World → Type 0

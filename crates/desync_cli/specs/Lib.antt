@@ -1,15 +1,4 @@
-pub mod Chop
 pub mod Commands
-pub mod Extract
-pub mod Info
 pub mod Lines
-pub mod ListChunks
-pub mod Make
 pub mod RoundTrip
-pub mod VerifyIndex
-pub mod Caching
-pub mod Prune
-pub mod Verify
-pub mod Demo
-pub mod Serving
-pub mod Views
+pub mod Unfailed

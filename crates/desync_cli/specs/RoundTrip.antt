@@ -8,7 +8,7 @@ use Rattle.command_outcome.specs.declared.outcome.Outcome.{Outcome}
 use Rattle.command_steps.specs.Steps.{answer_of}
 use Rattle.command_steps.specs.Worlds.{World}
 use Rattle.desync_cli.specs.Commands.{DesyncEnds}
-use Rattle.desync_cli.specs.Serving.{heard}
+use Rattle.store_commands.specs.Serving.{heard}
 use Rattle.dsy_base.specs.Links.{ListenState}
 use Rattle.dsy_base.specs.Maps.{Map}
 

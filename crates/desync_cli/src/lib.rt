@@ -1,10 +1,6 @@
-//! The commands of desync, over files and folders as traits.
+//! What the words say is done, over files and folders as traits.
 #![tactic(auto)]
 
-mod beside;
-pub mod command;
-pub mod image_files;
 pub mod in_memory;
 pub mod run;
-mod views;
 mod words;

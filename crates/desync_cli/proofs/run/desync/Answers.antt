@@ -1,7 +1,7 @@
 use Rattle.std.proofs.Common.{map, string_bytes, sym, ◌∙◌}
 use Rattle.command_steps.specs.Worlds.{world}
 use Rattle.desync_cli.proofs.Replaced.{left_behind}
-use Rattle.desync_cli.specs.Serving.{heard}
+use Rattle.store_commands.specs.Serving.{heard}
 use Rattle.desync_cli.proofs.Done.{achieved}
 use Rattle.desync_cli.proofs.Fair.{answered, blamed, kept, nothing_failed, tells_refusal}
 use Rattle.desync_cli.proofs.run.desync.Goals as goal

@@ -1,5 +1,5 @@
 use Rattle.std.proofs.Common.{refl}
-use Rattle.desync_cli.proofs.Listened.{none_such}
+use Rattle.desync_cli.proofs.Fair.{none_such}
 use Rattle.desync_cli.proofs.run.perform.Goals as goal
 
 pub returns-in-Make : goal.returns-in-Make

@@ -1,0 +1,28 @@
+-- An outcome that is no fault, and what is known where all replies were taken.
+use Rattle.std.specs.Prelude.{IsSomeAnd}
+use Rattle.std.specs.List.{Any}
+use Rattle.command_line.specs.declared.command.Location.{Location}
+use Rattle.command_line.specs.declared.command.Location.TheVariants as locations
+use Rattle.command_outcome.specs.declared.outcome.Outcome.{Outcome}
+use Rattle.command_outcome.specs.declared.outcome.Outcome.TheVariants as ends
+use Rattle.command_steps.specs.Dials.{since}
+use Rattle.command_steps.specs.Sources.{server_at}
+use Rattle.command_steps.specs.Worlds.{World}
+use Rattle.http_read.specs.Refusals.{IsUnacceptable}
+
+-- no call failed
+abbrev pub NothingFailed : Outcome → Type 0
+NothingFailed ends.ImageFault = ⊥
+NothingFailed (ends.StoreFault store) = ⊥
+NothingFailed (ends.FileFault name) = ⊥
+NothingFailed ends.TargetFault = ⊥
+NothingFailed ends.CacheFault = ⊥
+NothingFailed ends.OutFault = ⊥
+NothingFailed ends.ListenFault = ⊥
+NothingFailed other = Unit {0}
+
+-- each reply that a server has given since was taken, where it is one. Where connections aren't told this isn't known
+abbrev pub RepliesTaken : World → World → Location → Type 0
+RepliesTaken w v (locations.Folder q) = Unit {0}
+RepliesTaken w v (locations.Http host port prefix) = IsSomeAnd (since w.dial.ended v.dial.ended)
+    (λ ended. Any (IsUnacceptable (server_at host port prefix)) ended → ⊥)

@@ -1,0 +1,228 @@
+-- What an assembly over taken files and folders makes of the answer.
+use Rattle.std.proofs.Common.{ap, arith, ◌⊎◌, true, is_some, unwrap_or, ◌≡◌, ℕ, ◌<◌, List, ◌++◌, map, Option, Some, None, IfSome, IfErr, refl, subst, ◌∙◌, sym, inl, inr, Result, Ok, Err}
+use Rattle.assembler.specs.Assemblies.{After, Assembles, IsObtainable, KeepsBase, RightAlike, Verdict}
+use Rattle.assembler.specs.Fills.{WhereTold}
+use Rattle.assembler.specs.Losses.{chunk_of}
+use Rattle.assembler.specs.Passes.{want_at}
+use Rattle.assembler.specs.declared.fault.ExtractFault.{ExtractFault}
+use Rattle.assembler.specs.declared.fault.ExtractFault.TheVariants as faults
+use Rattle.assembler.specs.declared.report.Report.{Report}
+use Rattle.caibx_codec.specs.Listing.{Listing, count_of, id_of, image_length, kind_of, size_of}
+use Rattle.chunk_store.specs.Folders.{chunks}
+use Rattle.chunk_store.specs.declared.id.ChunkId.{ChunkId}
+use Rattle.dsy_base.specs.Bytes.{Held, resized}
+use Rattle.dsy_base.specs.Disk.{Disk}
+use Rattle.dsy_base.specs.Maps.{Map, at_name}
+use Rattle.dsy_base.specs.declared.fault.IoFault.{IoFault}
+use Rattle.dsy_base.specs.declared.fault.IoFault.TheVariants as io
+use Rattle.extract_plan.specs.Deal.{Deal}
+use Rattle.extract_plan.specs.Places.{IsSeedIndex, Placed, places_at}
+use Rattle.std.specs.List.{AllZip}
+use Rattle.std.specs.Option.{option_map}
+use Rattle.store_chain.specs.Giving.{LacksAll}
+use Rattle.store_chain.specs.declared.refused.Refused.{Refused}
+use Rattle.store_chain.specs.declared.refused.Refused.TheVariants as refused
+use Rattle.image_commands.proofs.Seeded.{given_had, had_given}
+use Rattle.command_line.specs.declared.command.Location.{Location}
+use Rattle.command_steps.proofs.Taken.{at_name_twice}
+use Rattle.command_steps.specs.Sources.{HaveLacked, Sources, told_at}
+use Rattle.image_commands.specs.Extract.{Assembled, CacheLacksEntry, CanBeHad, Into, IsLacking, Leaves, SeedHas, Seeds, StopsFailed, StopsSomewhere, Told, Undisturbed, WhereFolders, answer_of_assembly, answer_of_taking, base_of, folder_of, old_of}
+use Rattle.command_steps.specs.Seeds.{IsViewed}
+use Rattle.command_steps.specs.Worlds.{DiskQuiet, FileRose}
+
+over_told : {X Y Z : Type 0} (x : Option X) (y : Option Y) (z : Option Z) (P : X → Y → Z → Type 0) → ((a : X) (b : Y) (c : Z) → x ≡ Some a → y ≡ Some b → z ≡ Some c → P a b c) → IfSome x (λ a. IfSome y (λ b. IfSome z (λ c. P a b c)))
+over_told None y z P f = tt
+over_told (Some a) None z P f = tt
+over_told (Some a) (Some b) None P f = tt
+over_told (Some a) (Some b) (Some c) P f = f a b c refl refl refl
+
+-- ---- what can be had
+
+module _ (d b e : Disk) (l : Listing) (p : Deal) (q : Placed) (x : Seeds) (views : List (Option Held)) (zip : AllZip (IsViewed d b) x.images views) (is : IsSeedIndex l p x.listings q)
+    (m : Map (List ℕ)) (told : d.files ≡ Some m) (base : List ℕ) (maps : List (Map (List ℕ))) (i : ℕ) (listed : i < count_of l) where
+  pub had_of : IsObtainable l p q base views maps i → CanBeHad l base m x maps i
+  had_of (inl right) = inl right
+  had_of (inr (inl seed)) = inr (inl (given_had d b m told x views zip (id_of l i) (size_of l i) (places_at q (want_at p i)) (is.places i listed) seed))
+  had_of (inr (inr store)) = inr (inr store)
+
+  pub obtainable_of : ((n : List ℕ) → FileRose d b n → ⊥) → CanBeHad l base m x maps i → IsObtainable l p q base views maps i
+  obtainable_of none (inl right) = inl right
+  obtainable_of none (inr (inl seed)) = inr (inl (had_given d b m told x views zip (id_of l i) (size_of l i) (places_at q (want_at p i)) (is.places i listed) none seed.0 seed.1))
+  obtainable_of none (inr (inr store)) = inr (inr store)
+
+-- ---- the same over other facts
+
+-- the lost entry where one is named
+abbrev pub LostAs : (ℕ → ChunkId → Refused → Type 0) → ExtractFault → Type 0
+LostAs P (faults.Missing k id) = P k id refused.Missing
+LostAs P (faults.Damaged k id s x) = P k id (refused.Damaged s x)
+LostAs P other = Unit {0}
+
+or_as : {A P Q : Type 0} → (P → Q) → A ⊎ P → A ⊎ Q
+or_as f (inl a) = inl a
+or_as f (inr p) = inr (f p)
+
+keeps_as : (l : Listing) (P Q : Type 0) (base t : List ℕ) → (P → Q) → KeepsBase l P base t → KeepsBase l Q base t
+keeps_as l P Q base t f h = record { size = h.size; each = λ i lt. or_as (or_as f) (h.each i lt); kept = λ i lt right. or_as f (h.kept i lt right) }
+
+assembles_as : (l : Listing) (P Q : Type 0) (r : Result Report ExtractFault) (o t : List ℕ) → (P → Q) → Assembles l P r o t → Assembles l Q r o t
+assembles_as l P Q (Ok r) o t f h = (h.0, keeps_as l P Q (resized o (image_length l)) t f h.1)
+assembles_as l P Q (Err (faults.Missing k id)) o t f h = (keeps_as l P Q (resized o (image_length l)) t f h.0, h.1)
+assembles_as l P Q (Err (faults.Damaged k id s x)) o t f h = (keeps_as l P Q (resized o (image_length l)) t f h.0, h.1)
+assembles_as l P Q (Err (faults.StoreFault s)) o t f h = keeps_as l P Q (resized o (image_length l)) t f h
+assembles_as l P Q (Err faults.TargetFault) o t f h = or_as (keeps_as l P Q (resized o (image_length l)) t f) h
+assembles_as l P Q (Err faults.Memory) o t f h = or_as (keeps_as l P Q (resized o (image_length l)) t f) h
+
+verdict_as : (l : Listing) (P Q : ℕ → Type 0) → ((i : ℕ) → i < count_of l → P i → Q i) → ((i : ℕ) → i < count_of l → Q i → P i) → (r : Result Report ExtractFault) → IfErr r (LostAs (λ k id y. k < count_of l)) → Verdict l P r → Verdict l Q r
+verdict_as l P Q to from (Ok r) lt h = λ i less. to i less (h i less)
+verdict_as l P Q to from (Err (faults.Missing k id)) lt h = (λ i less. to i (omega (arith, less, lt)) (h.0 i less), λ q. h.1 (from k lt q))
+verdict_as l P Q to from (Err (faults.Damaged k id s x)) lt h = (λ i less. to i (omega (arith, less, lt)) (h.0 i less), λ q. h.1 (from k lt q))
+verdict_as l P Q to from (Err (faults.StoreFault s)) lt h = h
+verdict_as l P Q to from (Err faults.TargetFault) lt h = h
+verdict_as l P Q to from (Err faults.Memory) lt h = tt
+
+after_as : (l : Listing) (P Q : ℕ → Type 0) (base t : List ℕ) → ((i : ℕ) → i < count_of l → P i → Q i) → ((i : ℕ) → i < count_of l → Q i → P i) → (r : Result Report ExtractFault) → After l P base t r → After l Q base t r
+after_as l P Q base t to from (Ok r) h = λ i lt. (λ q. (h i lt).0 (from i lt q), λ no. (h i lt).1 (λ p. no (to i lt p)))
+after_as l P Q base t to from (Err (faults.Missing k id)) h = λ i lt. (λ q. (h i lt).0 (from i lt q), λ no. (h i lt).1 (λ p. no (to i lt p)))
+after_as l P Q base t to from (Err (faults.Damaged k id s x)) h = λ i lt. (λ q. (h i lt).0 (from i lt q), λ no. (h i lt).1 (λ p. no (to i lt p)))
+after_as l P Q base t to from (Err (faults.StoreFault s)) h = λ i lt. (λ q. (h i lt).0 (from i lt q), λ no. (h i lt).1 (λ p. no (to i lt p)))
+after_as l P Q base t to from (Err faults.TargetFault) h = λ i lt. (λ q. (h i lt).0 (from i lt q), λ no. (h i lt).1 (λ p. no (to i lt p)))
+after_as l P Q base t to from (Err faults.Memory) h = tt
+
+-- of two facts on it
+lost_both : (P Q R : ℕ → ChunkId → Refused → Type 0) → ((k : ℕ) (id : ChunkId) (y : Refused) → P k id y → Q k id y → R k id y) → (r : Result Report ExtractFault) → IfErr r (LostAs P) → IfErr r (LostAs Q) → IfErr r (LostAs R)
+lost_both P Q R f (Ok r) p q = tt
+lost_both P Q R f (Err (faults.Missing k id)) p q = f k id refused.Missing p q
+lost_both P Q R f (Err (faults.Damaged k id s x)) p q = f k id (refused.Damaged s x) p q
+lost_both P Q R f (Err (faults.StoreFault s)) p q = tt
+lost_both P Q R f (Err faults.TargetFault) p q = tt
+lost_both P Q R f (Err faults.Memory) p q = tt
+
+-- ---- what is known of an assembly that ended so
+
+-- the store where one is named
+abbrev pub StoreAs : (ℕ → Type 0) → ExtractFault → Type 0
+StoreAs P (faults.StoreFault s) = P s
+StoreAs P other = Unit {0}
+
+-- that the target failed, where it is named
+abbrev pub TargetAs : Type 0 → ExtractFault → Type 0
+TargetAs P faults.TargetFault = P
+TargetAs P other = Unit {0}
+
+module _ (w v : Sources) (stores : List Location) (cache : Option (List ℕ)) (out : Into) (l : Listing) (x : Seeds) where
+  abbrev d : Disk
+  d = w.disk
+
+  abbrev e : Disk
+  e = v.disk
+
+  -- where all is told
+  pub record Facts (r : Result Report ExtractFault) (b : Map (List ℕ)) (n : Map (Map (List ℕ))) (a : Map (List ℕ)) : Type 0 where
+    pub cs : List (Map (List ℕ))
+    pub cached : map n (folder_of cache) ≡ map Some cs
+    pub t : List ℕ
+    pub leaves : Leaves b a out t
+    pub assembles : Assembles l (FileRose d e out.name) r (old_of b out) t
+    pub lacks : IfErr r (LostAs (IsLacking w v b n cache out l x stores))
+    pub verdict : WhereFolders n stores (λ fs. Undisturbed d e cache l cs fs → Verdict l (CanBeHad l (base_of b out l) b x (map chunks cs ++ map chunks fs)) r)
+    pub settled : WhereFolders n stores (λ fs. Undisturbed d e cache l cs fs → After l (CanBeHad l (base_of b out l) b x (map chunks cs ++ map chunks fs)) (base_of b out l) t r)
+
+  abbrev AllFacts : Result Report ExtractFault → Type 0
+  AllFacts r = (b : Map (List ℕ)) (n : Map (Map (List ℕ))) (a : Map (List ℕ)) → d.files ≡ Some b → d.folders ≡ Some n → e.files ≡ Some a → Facts r b n a
+
+  told : (r : Result Report ExtractFault) (P : Map (List ℕ) → Map (List ℕ) → Map (Map (List ℕ)) → List (Map (List ℕ)) → Type 0) → AllFacts r → ((b : Map (List ℕ)) (n : Map (Map (List ℕ))) (a : Map (List ℕ)) (f : Facts r b n a) → P b a n f.cs) → Told d e cache P
+  told r P facts p = over_told d.files d.folders e.files _ (λ b n a x y z. let f = facts b n a x y z in (f.cs, f.cached, p b n a f))
+
+  somewhere : (b a : Map (List ℕ)) (t : List ℕ) → Leaves b a out t → (t ≡ old_of b out) ⊎ KeepsBase l (FileRose d e out.name) (base_of b out l) t → StopsSomewhere d e b a out l
+  somewhere b a t leaves (inl same) = inr (inl (subst (λ (s : List ℕ). Leaves b a out s) same leaves))
+  somewhere b a t leaves (inr keeps) = inr (inr (t, (leaves, keeps)))
+
+  pub assembled : (r : Result Report ExtractFault) → AllFacts r → IfErr r (TargetAs (FileRose d e out.name)) → IfErr r (StoreAs (StopsFailed w v stores l))
+      → Assembled w v stores cache out l x (answer_of_assembly r)
+  assembled (Ok r) facts target store = told _ _ facts (λ b n a f. ((f.t, (f.leaves, f.assembles.1), f.assembles.0), f.verdict))
+  assembled (Err (faults.Missing k id)) facts target store = told _ _ facts (λ b n a f. ((f.t, (f.leaves, f.assembles.0), f.assembles.1, f.settled), f.lacks, f.verdict))
+  assembled (Err (faults.Damaged k id s y)) facts target store = told _ _ facts (λ b n a f. ((f.t, (f.leaves, f.assembles.0), f.assembles.1, f.settled), f.lacks, f.verdict))
+  assembled (Err (faults.StoreFault s)) facts target store = (store, told _ _ facts (λ b n a f. (f.t, (f.leaves, f.assembles))))
+  assembled (Err faults.TargetFault) facts target store = (target, told _ _ facts (λ b n a f. somewhere b a f.t f.leaves f.assembles))
+  assembled (Err faults.Memory) facts target store = told _ _ facts (λ b n a f. somewhere b a f.t f.leaves f.assembles)
+
+  -- where OUT wasn't taken all is as it was
+  pub stopped_before : (C : List (Map (List ℕ)) → Type 0) → IfSome d.folders (λ n. (cs : List (Map (List ℕ))) × (map n (folder_of cache) ≡ map Some cs) × C cs) → e.files ≡ d.files → Told d e cache (λ b a n cs. StopsSomewhere d e b a out l)
+  stopped_before C cached same = over_told d.files d.folders e.files _ (λ b n a is y z.
+      let g : (cs : List (Map (List ℕ))) × (map n (folder_of cache) ≡ map Some cs) × C cs = subst (λ o. IfSome o (λ n. (cs : List (Map (List ℕ))) × (map n (folder_of cache) ≡ map Some cs) × C cs)) y cached in
+      let kept : Some a ≡ Some b = sym z ∙ same ∙ is in
+      let as_before : a ≡ b = cc in
+      (g.0, g.1, inl as_before))
+
+  pub not_taken_as : (fault : IoFault) → Told d e cache (λ b a n cs. StopsSomewhere d e b a out l) → (fault ≡ io.Failed → FileRose d e out.name) → Assembled w v stores cache out l x (answer_of_taking fault)
+  not_taken_as io.Failed before rose = (rose refl, before)
+  not_taken_as io.Memory before rose = before
+
+  -- the same as `IsLacking`, over the bytes that OUT had
+  abbrev pub LackingOver : Map (Map (List ℕ)) → List ℕ → ℕ → ChunkId → Refused → Type 0
+  LackingOver n o k id r = (k < count_of l) × (id.0 ≡ id_of l k) × HaveLacked (chunk_of (kind_of l) id (size_of l k)) w v stores r
+      × WhereFolders n stores (λ fs. LacksAll (chunk_of (kind_of l) id (size_of l k)) (map chunks fs) r)
+      × (RightAlike l (resized o (image_length l)) k → FileRose d e out.name)
+
+  -- a seed that has the chunk of entry k has failed, and the cache doesn't give it
+  abbrev pub OthersLack : Map (List ℕ) → ℕ → ChunkId → Refused → Type 0
+  OthersLack b k id r = ((s : ℕ) (h : SeedHas b x (id_of l k) (size_of l k) s) → FileRose d e h.image) × CacheLacksEntry d e cache l k
+
+  lacking : (b : Map (List ℕ)) (n : Map (Map (List ℕ))) (k : ℕ) (id : ChunkId) (r : Refused) → LackingOver n (old_of b out) k id r → OthersLack b k id r → IsLacking w v b n cache out l x stores k id r
+  lacking b n k id r h others = record { listed = h.0; id_is = h.1; said = h.2; lacks = h.3; copies = h.4; seeds = others.0; uncached = others.1 }
+
+  module _ (P : List (Map (List ℕ)) → List ℕ → ℕ → Type 0) (had : (b : Map (List ℕ)) → d.files ≡ Some b → (maps : List (Map (List ℕ))) (base : List ℕ) (i : ℕ) → i < count_of l → P maps base i → CanBeHad l base b x maps i)
+      (back : (b : Map (List ℕ)) → d.files ≡ Some b → DiskQuiet d e → (maps : List (Map (List ℕ))) (base : List ℕ) (i : ℕ) → i < count_of l → CanBeHad l base b x maps i → P maps base i) where
+    pub facts_of : (r : Result Report ExtractFault) (looks : List (Option (Map (List ℕ)))) (C : List (Map (List ℕ)) → Type 0) (t0 t1 : Option (List ℕ)) (F : Type 0) (N : List (Map (List ℕ)) → List (Map (List ℕ)) → Type 0)
+        → IfSome d.folders (λ m. looks ≡ map (told_at m) stores)
+        → IfSome d.folders (λ n. (cs : List (Map (List ℕ))) × (map n (folder_of cache) ≡ map Some cs) × C cs)
+        → IfSome d.files (λ m. t0 ≡ Some (old_of m out)) → is_some t0 ≡ is_some t1
+        → e.files ≡ option_map (λ m. at_name m out.name t1) (option_map (λ m. at_name m out.name None) d.files)
+        → (F → FileRose d e out.name)
+        → WhereTold t0 t1 (Assembles l F r)
+        → ((n : Map (Map (List ℕ))) → d.folders ≡ Some n → IfSome t0 (λ o. IfErr r (LostAs (LackingOver n o))))
+        → ((b : Map (List ℕ)) → d.files ≡ Some b → IfErr r (LostAs (OthersLack b)))
+        → ((cached maps : List (Map (List ℕ))) → N cached maps → IfSome t0 (λ o. Verdict l (P (cached ++ maps) (resized o (image_length l))) r))
+        → ((cached maps : List (Map (List ℕ))) → N cached maps → WhereTold t0 t1 (λ o t. After l (P (cached ++ maps) (resized o (image_length l))) (resized o (image_length l)) t r))
+        → ((b : Map (List ℕ)) → d.files ≡ Some b → (n : Map (Map (List ℕ))) (fs : List (Map (List ℕ))) → map (told_at n) stores ≡ map Some fs → looks ≡ map Some fs → (cs : List (Map (List ℕ))) → C cs → Undisturbed d e cache l cs fs → N (map chunks cs) (map chunks fs)) → AllFacts r
+    facts_of r looks C t0 t1 F N found cached took told left rose bytes lacks lack exactly after quiet b n a is y z =
+        let f : looks ≡ map (told_at n) stores = subst (λ o. IfSome o (λ m. looks ≡ map (told_at m) stores)) y found in
+        let g : (cs : List (Map (List ℕ))) × (map n (folder_of cache) ≡ map Some cs) × C cs = subst (λ o. IfSome o (λ n. (cs : List (Map (List ℕ))) × (map n (folder_of cache) ≡ map Some cs) × C cs)) y cached in
+        let o : t0 ≡ Some (old_of b out) = subst (λ o. IfSome o (λ m. t0 ≡ Some (old_of m out))) is took in
+        let lf : e.files ≡ option_map (λ m. at_name m out.name t1) (option_map (λ m. at_name m out.name None) (Some b)) =
+        subst (λ s. e.files ≡ option_map (λ m. at_name m out.name t1) (option_map (λ m. at_name m out.name None) s)) is left in
+        go (old_of b out) t0 t1 o (subst (λ s. is_some s ≡ is_some t1) o told) (sym z ∙ lf) g.0 g.1 bytes (lacks n y) (λ fs there k. exactly (map chunks g.0) (map chunks fs) (quiet b is n fs there (f ∙ there) g.0 g.2 k))
+        (λ fs there k. after (map chunks g.0) (map chunks fs) (quiet b is n fs there (f ∙ there) g.0 g.2 k)) refl where
+          go : (old : List ℕ) (s0 s1 : Option (List ℕ)) → s0 ≡ Some old → true ≡ is_some s1 → Some a ≡ Some (at_name (at_name b out.name None) out.name s1)
+              → (cs : List (Map (List ℕ))) → map n (folder_of cache) ≡ map Some cs → WhereTold s0 s1 (Assembles l F r) → IfSome s0 (λ o. IfErr r (LostAs (LackingOver n o)))
+              → WhereFolders n stores (λ fs. Undisturbed d e cache l cs fs → IfSome s0 (λ o. Verdict l (P (map chunks cs ++ map chunks fs) (resized o (image_length l))) r))
+              → WhereFolders n stores (λ fs. Undisturbed d e cache l cs fs → WhereTold s0 s1 (λ o t. After l (P (map chunks cs ++ map chunks fs) (resized o (image_length l))) (resized o (image_length l)) t r))
+              → old ≡ old_of b out → Facts r b n a
+          go old None s1 same is_told are cs shelf bs ls verdict settled at = absurd (cc)
+          go old (Some o) None same is_told are cs shelf bs ls verdict settled at = absurd (cc)
+          go old (Some o) (Some t) same is_told are cs shelf bs ls verdict settled at =
+              let was : o ≡ old_of b out = cc in
+              over o was bs ls verdict settled where
+                over : (p : List ℕ) → p ≡ old_of b out → Assembles l F r p t → IfErr r (LostAs (LackingOver n p))
+                    → WhereFolders n stores (λ fs. Undisturbed d e cache l cs fs → Verdict l (P (map chunks cs ++ map chunks fs) (resized p (image_length l))) r)
+                    → WhereFolders n stores (λ fs. Undisturbed d e cache l cs fs → After l (P (map chunks cs ++ map chunks fs) (resized p (image_length l))) (resized p (image_length l)) t r) → Facts r b n a
+                over p was bs ls verdict settled =
+                    record {
+                      cs = cs;
+                      cached = shelf;
+                      t = t;
+                      leaves = ap (λ o. unwrap_or o a) are ∙ at_name_twice b out.name None (Some t);
+                      assembles = subst (λ (q : List ℕ). Assembles l (FileRose d e out.name) r q t) was (assembles_as l F (FileRose d e out.name) r p t rose bs);
+                      lacks = lost_both (LackingOver n (old_of b out)) (OthersLack b) (IsLacking w v b n cache out l x stores) (lacking b n) r (subst (λ (q : List ℕ). IfErr r (LostAs (LackingOver n q))) was ls) (lack b is);
+                      verdict = λ fs there k.
+                          let maps = map chunks cs ++ map chunks fs in
+                          subst (λ (q : List ℕ). Verdict l (CanBeHad l (resized q (image_length l)) b x maps) r) was
+                          (verdict_as l (P maps (resized p (image_length l))) (CanBeHad l (resized p (image_length l)) b x maps) (had b is maps (resized p (image_length l)))
+                          (back b is k.0 maps (resized p (image_length l))) r (lost_both (LackingOver n p) (OthersLack b) (λ i id y. i < count_of l) (λ i id y h c. h.0) r ls (lack b is)) (verdict fs there k));
+                      settled = λ fs there k.
+                          let maps = map chunks cs ++ map chunks fs in
+                          subst (λ (q : List ℕ). After l (CanBeHad l (resized q (image_length l)) b x maps) (resized q (image_length l)) t r) was
+                          (after_as l (P maps (resized p (image_length l))) (CanBeHad l (resized p (image_length l)) b x maps) (resized p (image_length l)) t (had b is maps (resized p (image_length l)))
+                          (back b is k.0 maps (resized p (image_length l))) r (settled fs there k));
+                    }

@@ -1,0 +1,119 @@
+-- A store that was taken and written while an image was open, and both given back.
+use Rattle.std.proofs.Common.{◌≡◌, ◌∙◌, ℕ, List, [], ◌∷◌, Option, Some, None, IfSome, IsSome, IsTrue, is_some, not, Err, refl, sym, ap, subst, true≢false, arith, inl, inr}
+use Rattle.std.specs.Map.{count_at}
+use Rattle.std.specs.Option.{option_map}
+use Rattle.buzhash_cut.specs.Sizes.{Sizes}
+use Rattle.caibx_codec.specs.Listing.{Listing, count_of, id_of}
+use Rattle.chunk_store.specs.Folders.{chunks}
+use Rattle.chunk_store.specs.Said.{KeepsOf, Said}
+use Rattle.command_line.specs.declared.command.Location.{Location}
+use Rattle.command_line.specs.declared.command.Location.TheVariants as locations
+use Rattle.command_outcome.specs.declared.outcome.Outcome.{Outcome}
+use Rattle.command_steps.proofs.Consulted.{reads_twice}
+use Rattle.command_steps.proofs.Dialed.{dials_none}
+use Rattle.command_steps.proofs.Given.{given_earlier, stands_there, store_rises, store_says}
+use Rattle.command_steps.proofs.Numbers.{counted_known, counted_le, given_rose}
+use Rattle.command_steps.proofs.Opened.{given_back}
+use Rattle.command_steps.specs.AnySources.{IsGiven, faults_in, files_in, location_in, place_in, said_in}
+use Rattle.command_steps.specs.Sources.{DialsStores, Sources, StoreRose, said_at, sources}
+use Rattle.command_steps.specs.Stores.{is_folder}
+use Rattle.command_steps.specs.Taking.{SourceTaken, given_to}
+use Rattle.command_steps.specs.Worlds.{Adds, FileRose, Reads}
+use Rattle.command_steps.specs.declared.any_source.AnySource.{AnySource}
+use Rattle.command_steps.specs.declared.any_source.AnySource.TheVariants as stores
+use Rattle.image_commands.specs.Make.{StoreGiven, WritesStore}
+use Rattle.dsy_base.specs.Counts.{Rose, raised}
+use Rattle.dsy_base.specs.Disk.{Disk, GivesFile, HoldsSame}
+use Rattle.dsy_base.specs.Links.{DialState}
+use Rattle.dsy_base.specs.Maps.{Map, at_name}
+use Rattle.image_store.specs.PutChunks.{SaysAll}
+use Rattle.image_store.specs.StoreImage.{SaysOf}
+
+-- ---- giving both back
+
+pub ends_read : (d b : Disk) (q : List ℕ) (n : ℕ) → HoldsSame d b → GivesFile d b q n → Reads d b
+ends_read d b q n h g = record {
+  files = h.files;
+  folders = h.folders;
+  counts = counted_le d.file_counts b.file_counts q g.counts.counted;
+  folder_counts = λ p. let same : count_at b.folder_counts p ≡ count_at d.folder_counts p = ap (λ m. count_at m p) g.folder_counts in omega (arith, same);
+  known = counted_known d.file_counts b.file_counts q g.counts.counted;
+  folder_known = λ p is. subst (λ (m : Map ℕ). IsSome (m p)) (sym g.folder_counts) is;
+}
+
+-- what was refused before the image was given back
+pub taken_longer : (store : Location) (d e f : Disk) (o : Outcome) → SourceTaken store d (Err o) e → Reads e f → SourceTaken store d (Err o) f
+taken_longer (locations.Folder name) d e f o taken read = (given_back d e f read name o taken.0, reads_twice d e f taken.1 read)
+taken_longer (locations.Http host port prefix) d e f o taken read = (taken.0, reads_twice d e f taken.1 read)
+
+read_adds : (d b e : Disk) → Reads d b → Adds b e → Adds d e
+read_adds d b e r a = record {
+  files = a.files ∙ r.files;
+  counts = λ q. omega (arith, r.counts q, a.counts q);
+  folder_counts = λ q. omega (arith, r.folder_counts q, a.folder_counts q);
+  known = λ q is. a.known q (r.known q is);
+  folder_known = λ q is. a.folder_known q (r.folder_known q is);
+}
+
+server_stays : (store : Location) (files : Option (Map (List ℕ))) (folders : Option (Map (Map (List ℕ)))) → IsTrue (not (is_folder store)) → given_to store files folders ≡ folders
+server_stays (locations.Folder q) files folders t = absurd (cc)
+server_stays (locations.Http host port prefix) files folders t = refl
+
+pub folders_back : (d b e : Disk) (store : Location) (files : Option (Map (List ℕ))) → Reads d b → e.folders ≡ given_to store files b.folders → e.folders ≡ given_to store files d.folders
+folders_back d b e store files read is = is ∙ ap (given_to store files) read.folders
+
+pub wrote : (d b e : Disk) (k j : DialState) (store : Location) (files : Option (Map (List ℕ))) → Reads d b → e.folders ≡ given_to store files b.folders → Adds b e → DialsStores (store ∷ []) k j → WritesStore store (sources d k) (sources e j)
+wrote d b e k j store files read is adds dials = record { adds = read_adds d b e read adds; folders = λ t. is ∙ server_stays store files b.folders t ∙ read.folders; dials = dials }
+
+pub given_since : {L D K : Type 0} (place : L → List ℕ) (faults : L → ℕ) (state : D → DialState) (d b e : Disk) (k j : DialState) (store : Location) (s : AnySource L D K) → Reads d b → DialsStores (store ∷ []) k j → IsGiven place faults state (sources b k) (sources e j) s → IsGiven place faults state (sources d k) (sources e j) s
+given_since place faults state d b e k j store s read dials given = given_earlier place faults state (sources d k) (sources b k) (sources e j) read.folder_counts (dials_none k) dials.0 s given
+
+-- a fault of a view that had counted none is one of its name
+pub view_rose : (d e : Disk) (q : List ℕ) (m n : ℕ) → count_at e.file_counts q ≡ raised (count_at d.file_counts q) n → m ≡ 0 → Rose m n → FileRose d e q
+view_rose d e q m n added none rose =
+    given_rose (count_at d.file_counts q) (count_at d.file_counts q) (count_at e.file_counts q) n (omega arith) added (subst (λ k. Rose k n) none rose)
+
+-- ---- the store
+
+-- what more is said shows what was said
+pub says_more : (l : Listing) (k : ℕ) (a b : Said) → ((id : List ℕ) → KeepsOf a b id) → SaysAll l k a → SaysAll l k b
+says_more l k a b keeps says = λ i below.
+    let s = says i below in
+    (s.0, s.1, elim s.2 [ inl shown ↦ inl ((keeps (id_of l i)).shown s.0 shown) | inr taken ↦ inr ((keeps (id_of l i)).taken s.0 taken) ])
+
+pub stored_more : (s : Sizes) (told : Option (List ℕ)) (bytes : List ℕ) (a b : Said) → ((id : List ℕ) → KeepsOf a b id) → SaysOf s told bytes a → SaysOf s told bytes b
+stored_more s told bytes a b keeps says = (says.0, says.1, says.2, says.3, says_more says.0 (count_of says.0) a b keeps says.4)
+
+same_there : {A : Type 0} (o : Option A) (y : Option (Map (Map (List ℕ)))) → IfSome y (λ m. o ≡ o)
+same_there o None = tt
+same_there o (Some m) = refl
+
+module _ {L D K : Type 0} (files : L → Option (Map (List ℕ))) (place : L → List ℕ) (faults : L → ℕ) (state : D → DialState) where
+  store_back : (w v : Sources) (s : AnySource L D K) (held : Option (Map (List ℕ))) (P : Map (List ℕ) → Map (List ℕ) → Type 0) (Q : Said → Type 0) → ((a b : Said) → ((id : List ℕ) → KeepsOf a b id) → Q a → Q b)
+      → v.disk.folders ≡ given_to (location_in place s) (files_in files s) w.disk.folders → IsGiven place faults state w v s → is_some (option_map chunks (files_in files s)) ≡ is_some (option_map chunks held)
+      → IfSome held (λ f. IfSome (files_in files s) (P f)) → Q (said_in files state s) → StoreGiven (location_in place s) held P Q w v
+  store_back w v (stores.Folder l) held P Q grows is given tells stands says = go w.disk.folders held (files l) is tells stands where
+    go : (y : Option (Map (Map (List ℕ)))) (a b : Option (Map (List ℕ))) → v.disk.folders ≡ option_map (λ m. at_name m (place l) b) y → is_some (option_map chunks b) ≡ is_some (option_map chunks a) → IfSome a (λ f. IfSome b (P f))
+        → IfSome y (λ m. IfSome a (λ f. (g : Map (List ℕ)) × (v.disk.folders ≡ Some (at_name m (place l) (Some g))) × P f g))
+    go None a b is tells stands = tt
+    go (Some m) None b is tells stands = tt
+    go (Some m) (Some f) None is tells stands = absurd (true≢false (sym tells))
+    go (Some m) (Some f) (Some g) is tells stands = (g, is, stands)
+  store_back w v (stores.Http r) held P Q grows is given tells stands says =
+      let keeps = store_says {L = L} {D = D} {K = K} files place faults state w v (stores.Http r) (same_there (files_in {L = L} {D = D} {K = K} files (stores.Http r)) w.disk.folders) given in
+      grows (said_in {L = L} {D = D} {K = K} files state (stores.Http r)) (said_at w v (location_in {L = L} {D = D} {K = K} place (stores.Http r))) keeps says
+
+  module _ (w v : Sources) (store : Location) (old new : AnySource L D K) (same : place_in place new ≡ place_in place old) (located : location_in place old ≡ store) (folders : v.disk.folders ≡ given_to store (files_in files new) w.disk.folders)
+      (given : IsGiven place faults state w v new) where
+    there : location_in place new ≡ store
+    there = stands_there place old new same ∙ located
+
+    is_back : v.disk.folders ≡ given_to (location_in place new) (files_in files new) w.disk.folders
+    is_back = subst (λ s. v.disk.folders ≡ given_to s (files_in files new) w.disk.folders) (sym there) folders
+
+    pub back : (P : Map (List ℕ) → Map (List ℕ) → Type 0) (Q : Said → Type 0) → ((x y : Said) → ((id : List ℕ) → KeepsOf x y id) → Q x → Q y) → is_some (option_map chunks (files_in files new)) ≡ is_some (option_map chunks (files_in files old))
+        → IfSome (files_in files old) (λ f. IfSome (files_in files new) (P f)) → Q (said_in files state new) → StoreGiven store (files_in files old) P Q w v
+    back P Q grows tells stands says = subst (λ s. StoreGiven s (files_in files old) P Q w v) there (store_back w v new (files_in files old) P Q grows is_back given tells stands says)
+
+    pub rose : faults_in faults state old ≡ 0 → Rose (faults_in faults state old) (faults_in faults state new) → StoreRose w v store
+    rose none more = subst (λ s. StoreRose w v s) there (store_rises files place faults state w v new given (subst (λ n. Rose n (faults_in faults state new)) none more))

@@ -1,0 +1,12 @@
+pub mod Assembled
+pub mod Chopped
+pub mod GivenStores
+pub mod Kits
+pub mod Lost
+pub mod Made
+pub mod Replaced
+pub mod Seeded
+pub mod Shelved
+pub mod VerifyIndex
+pub mod Viewed
+pub mod Wrote

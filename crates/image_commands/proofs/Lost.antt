@@ -1,0 +1,257 @@
+-- The entry, the store or the target that an assembly over lent folders names.
+use Rattle.std.proofs.Common.{ap, All, arith, ◌⊎◌, ◌≤◌, ◌≡◌, ℕ, suc, List, [], ◌∷◌, length, map, slice_index, Bool, Option, Some, None, IfSome, IfErr, subst, ◌∙◌, sym, inl, inr, Result, Ok, Err}
+use Rattle.std.proofs.lemmas.List.Elements.{All-cons, All-nil}
+use Rattle.std.specs.List.{AllZip}
+use Rattle.assembler.specs.Assemblies.{IsUnobtained, RightAlike}
+use Rattle.assembler.specs.Caches.{CacheLacks}
+use Rattle.assembler.specs.Faults.{fault_of}
+use Rattle.assembler.specs.Losses.{chunk_of, lost_want}
+use Rattle.assembler.specs.Passes.{EndsBy, want_at}
+use Rattle.assembler.specs.Sources.{SeedsFailed}
+use Rattle.assembler.specs.declared.fault.ExtractFault.{ExtractFault}
+use Rattle.assembler.specs.declared.fault.ExtractFault.TheVariants as faults
+use Rattle.assembler.specs.declared.fault.Lost.{Lost}
+use Rattle.assembler.specs.declared.kit.Kit.{Kit}
+use Rattle.assembler.specs.declared.report.Report.{Report}
+use Rattle.cache_store.specs.Shelves.{Shelf}
+use Rattle.caibx_codec.specs.Listing.{Listing, id_of, image_length, kind_of, size_of}
+use Rattle.chunk_store.specs.Folders.{chunks}
+use Rattle.chunk_store.specs.Giving.{IsChunk}
+use Rattle.chunk_store.specs.Said.{KeepsOf, Said}
+use Rattle.chunk_store.specs.declared.id.ChunkId.{ChunkId}
+use Rattle.chunk_store.specs.declared.id.DigestKind.{DigestKind}
+use Rattle.chunk_store.specs.declared.shows.Shows.{Shows}
+use Rattle.chunk_store.specs.declared.shows.Shows.TheVariants as shows
+use Rattle.command_line.specs.declared.command.Location.{Location}
+use Rattle.command_steps.proofs.Given.{Stands, first_as}
+use Rattle.command_steps.proofs.Numbers.{rose_later, rose_longer}
+use Rattle.command_steps.specs.Blames.{name_at}
+use Rattle.command_steps.specs.Seeds.{IsViewed}
+use Rattle.command_steps.specs.Sources.{Sources, StoreRose, said_at, told_at}
+use Rattle.command_steps.specs.Worlds.{FileRose}
+use Rattle.image_commands.proofs.Assembled.{LackingOver, LostAs, OthersLack, StoreAs, TargetAs}
+use Rattle.command_steps.proofs.Lacked.{have_lacked, lacks_still, same_length}
+use Rattle.image_commands.proofs.Seeded.{had_failed, label_of}
+use Rattle.image_commands.specs.Extract.{CacheLacksEntry, Into, LacksEntry, Seeds, StopsFailed}
+use Rattle.dsy_base.specs.Bytes.{Held, resized}
+use Rattle.dsy_base.specs.Counts.{Rose}
+use Rattle.dsy_base.specs.Disk.{Disk}
+use Rattle.dsy_base.specs.Maps.{Map}
+use Rattle.extract_plan.specs.Deal.{Deal}
+use Rattle.extract_plan.specs.Places.{IsSeedIndex, Placed, places_at}
+use Rattle.extract_plan.specs.Seeds.{faults_in, held_in}
+use Rattle.store_chain.specs.Chains.{KeepsStores}
+use Rattle.store_chain.specs.Faults.{NoneFalls}
+use Rattle.store_chain.specs.Refusals.{Lacks, Refuses}
+use Rattle.store_chain.specs.Wants.{ShowsElse}
+use Rattle.store_chain.specs.declared.refused.Refused.{Refused}
+use Rattle.store_chain.specs.declared.refused.Refused.TheVariants as refused
+use Rattle.store_chain.specs.declared.want.Want.{Want}
+
+-- ---- which entry, store or target is named
+
+abbrev lost : ℕ → ChunkId → Refused → Lost
+lost k id r = record { entry = k; id = id; refused = r }
+
+module _ (P : Lost → Type 0) (F : Type 0) where
+  of_missing : (k n : ℕ) (id i : ChunkId) (r : Refused) → faults.Missing k id ≡ fault_of n i r → P (lost n i r) → P (lost k id refused.Missing)
+  of_missing k n id i refused.Missing is p =
+      let at : n ≡ k = cc in
+      let named : i ≡ id = cc in
+      subst (λ (m : ℕ). P (lost m id refused.Missing)) at (subst (λ (q : ChunkId). P (lost n q refused.Missing)) named p)
+  of_missing k n id i (refused.Damaged s x) is p = absurd (cc)
+  of_missing k n id i (refused.StoreFault s) is p = absurd (cc)
+  of_missing k n id i refused.Memory is p = absurd (cc)
+
+  of_damaged : (k n : ℕ) (id i : ChunkId) (s : ℕ) (x : Shows) (r : Refused) → faults.Damaged k id s x ≡ fault_of n i r → P (lost n i r) → P (lost k id (refused.Damaged s x))
+  of_damaged k n id i s x refused.Missing is p = absurd (cc)
+  of_damaged k n id i s x (refused.Damaged u y) is p =
+      let at : n ≡ k = cc in
+      let named : i ≡ id = cc in
+      let store : u ≡ s = cc in
+      let shown : y ≡ x = cc in
+      subst (λ (m : ℕ). P (lost m id (refused.Damaged s x))) at (subst (λ (q : ChunkId). P (lost n q (refused.Damaged s x))) named
+      (subst (λ (v : ℕ). P (lost n i (refused.Damaged v x))) store (subst (λ (z : Shows). P (lost n i (refused.Damaged u z))) shown p)))
+  of_damaged k n id i s x (refused.StoreFault u) is p = absurd (cc)
+  of_damaged k n id i s x refused.Memory is p = absurd (cc)
+
+  of_store : (s n : ℕ) (i : ChunkId) (r : Refused) → faults.StoreFault s ≡ fault_of n i r → r ≡ refused.StoreFault s
+  of_store s n i refused.Missing is = absurd (cc)
+  of_store s n i (refused.Damaged u y) is = absurd (cc)
+  of_store s n i (refused.StoreFault u) is = let same : u ≡ s = cc in ap refused.StoreFault same
+  of_store s n i refused.Memory is = absurd (cc)
+
+  of_target : (n : ℕ) (i : ChunkId) (r : Refused) → faults.TargetFault ≡ fault_of n i r → ⊥
+  of_target n i refused.Missing is = absurd (cc)
+  of_target n i (refused.Damaged u y) is = absurd (cc)
+  of_target n i (refused.StoreFault u) is = absurd (cc)
+  of_target n i refused.Memory is = absurd (cc)
+
+  -- the lost entry that is named
+  lost_as : (Q : ℕ → ChunkId → Refused → Type 0) → ((x : Lost) → P x → Q x.entry x.id x.refused) → (r : Result Report ExtractFault) → EndsBy P F r → IfErr r (LostAs Q)
+  lost_as Q f (Ok r) h = tt
+  lost_as Q f (Err (faults.Missing k id)) (inl h) = f (lost k id refused.Missing) (of_missing k h.0.entry id h.0.id h.0.refused h.1 h.2)
+  lost_as Q f (Err (faults.Missing k id)) (inr (inl h)) = let no : faults.Missing k id ≡ faults.TargetFault = h.0 in absurd (cc)
+  lost_as Q f (Err (faults.Missing k id)) (inr (inr h)) = absurd (cc)
+  lost_as Q f (Err (faults.Damaged k id s x)) (inl h) = f (lost k id (refused.Damaged s x)) (of_damaged k h.0.entry id h.0.id s x h.0.refused h.1 h.2)
+  lost_as Q f (Err (faults.Damaged k id s x)) (inr (inl h)) = let no : faults.Damaged k id s x ≡ faults.TargetFault = h.0 in absurd (cc)
+  lost_as Q f (Err (faults.Damaged k id s x)) (inr (inr h)) = absurd (cc)
+  lost_as Q f (Err (faults.StoreFault s)) h = tt
+  lost_as Q f (Err faults.TargetFault) h = tt
+  lost_as Q f (Err faults.Memory) h = tt
+
+  -- the store that is named
+  store_as : (Q : ℕ → Type 0) → ((x : Lost) (s : ℕ) → x.refused ≡ refused.StoreFault s → P x → Q s) → (r : Result Report ExtractFault) → EndsBy P F r → IfErr r (StoreAs Q)
+  store_as Q f (Ok r) h = tt
+  store_as Q f (Err (faults.Missing k id)) h = tt
+  store_as Q f (Err (faults.Damaged k id s x)) h = tt
+  store_as Q f (Err (faults.StoreFault s)) (inl h) = f h.0 s (of_store s h.0.entry h.0.id h.0.refused h.1) h.2
+  store_as Q f (Err (faults.StoreFault s)) (inr (inl h)) = let no : faults.StoreFault s ≡ faults.TargetFault = h.0 in absurd (cc)
+  store_as Q f (Err (faults.StoreFault s)) (inr (inr h)) = absurd (cc)
+  store_as Q f (Err faults.TargetFault) h = tt
+  store_as Q f (Err faults.Memory) h = tt
+
+  -- the target where it is named
+  pub target_as : (Q : Type 0) → (F → Q) → (r : Result Report ExtractFault) → EndsBy P F r → IfErr r (TargetAs Q)
+  target_as Q f (Ok r) h = tt
+  target_as Q f (Err (faults.Missing k id)) h = tt
+  target_as Q f (Err (faults.Damaged k id s x)) h = tt
+  target_as Q f (Err (faults.StoreFault s)) h = tt
+  target_as Q f (Err faults.TargetFault) (inl h) = absurd (of_target h.0.entry h.0.id h.0.refused h.1)
+  target_as Q f (Err faults.TargetFault) (inr (inl h)) = f h.1
+  target_as Q f (Err faults.TargetFault) (inr (inr h)) = absurd (cc)
+  target_as Q f (Err faults.Memory) h = tt
+
+-- ---- the stores that lack the chunk of an entry
+
+-- bytes that show something else aren't the chunk
+shown_else : (kind : DigestKind) (id : ChunkId) (size : ℕ) (b : List ℕ) (x : Shows) → ShowsElse (chunk_of kind id size) b x → IsChunk kind id.0 size b → ⊥
+shown_else kind id size b shows.Longer h c = absurd (omega (arith, h, c.sized))
+shown_else kind id size b (shows.Digest x) h c = h.2 (h.1 ∙ c.named)
+shown_else kind id size b (shows.Length n) h c = h.3 (h.2 ∙ c.sized)
+
+-- what a store has said that lacks it is of the entry
+entry_lacks : (l : Listing) (n : ℕ) (id : ChunkId) (s : Said) → id.0 ≡ id_of l n → Lacks (chunk_of (kind_of l) id (size_of l n)) s → LacksEntry l n s
+entry_lacks l n id s named h = subst Lacked named (go h) where
+  Lacked : List ℕ → Type 0
+  Lacked q = s.denied q ⊎ (s.longer q (size_of l n) ⊎ ((b : List ℕ) × s.shown q b × (IsChunk (kind_of l) q (size_of l n) b → ⊥)))
+
+  go : Lacks (chunk_of (kind_of l) id (size_of l n)) s → Lacked id.0
+  go (inl none) = inl none
+  go (inr (shows.Longer, h)) = inr (inl h)
+  go (inr (shows.Digest x, h)) = inr (inr (h.0, h.1, shown_else (kind_of l) id (size_of l n) h.0 (shows.Digest x) h.2))
+  go (inr (shows.Length m, h)) = inr (inr (h.0, h.1, shown_else (kind_of l) id (size_of l n) h.0 (shows.Length m) h.2))
+
+keeps_twice : (a b c : Said) (id : List ℕ) → KeepsOf a b id → KeepsOf b c id → KeepsOf a c id
+keeps_twice a b c id u w = record { denied = λ h. w.denied (u.denied h); shown = λ x h. w.shown x (u.shown x h); longer = λ n h. w.longer n (u.longer n h); taken = λ x h. w.taken x (u.taken x h) }
+
+-- stores that stand so later stood so before
+module _ {S : Type 0} (location : S → Location) (said : S → Said) (counted : S → ℕ) (w v : Sources) where
+  stood : (a b : List S) → map location b ≡ map location a → AllZip (λ x y. (q : List ℕ) → KeepsOf (said x) (said y) q) a b → NoneFalls (map counted a) (map counted b) → All (Stands location said counted w v) b → All (Stands location said counted w v) a
+  stood [] b same says le stand = All-nil (Stands location said counted w v)
+  stood (x ∷ a) [] same says le stand = absurd (cc)
+  stood (x ∷ a) (y ∷ b) same says le stand =
+      let here : location y ≡ location x = cc in
+      let rest : map location b ≡ map location a = cc in
+      let more : counted x ≤ counted y = le 0 in
+      let last = stand 0 y (omega arith) in
+      All-cons (Stands location said counted w v) x a
+      (record {
+        says = λ id. keeps_twice (said x) (said y) (said_at w v (location x)) id (says.0 id) (subst (λ q. KeepsOf (said y) (said_at w v q) id) here (last.says id));
+        rises = λ rose. subst (StoreRose w v) here (last.rises (rose_longer 0 (counted x) (counted y) more rose));
+      })
+      (stood a b rest says.1 (λ k. le (suc k)) (λ j q lt. stand (suc j) q (omega (arith, lt))))
+
+-- ---- what a lost entry tells
+
+module _ {S V : Type 0} (holds folder : S → Option (Map (List ℕ))) (place : S → List ℕ) (location : S → Location) (said : S → Said) (counted : S → ℕ) (lacks_memory : Bool) (view : V → Held) (view_faults : V → ℕ) (l : Listing) (p : Deal) (x : Placed)
+    (w v : Sources) (stores : List Location) (cache : Option (List ℕ)) (out : Into) (seeds : Seeds) (t0 : Option (List ℕ)) (old new : ℕ) (k j : Kit S V) (e0 e1 : Option Shelf) where
+  abbrev d : Disk
+  d = w.disk
+
+  abbrev e : Disk
+  e = v.disk
+
+  abbrev IsLostHere : Lost → Type 0
+  IsLostHere u = IsUnobtained holds folder place said counted lacks_memory view view_faults l p x t0 old new k j e0 e1 u
+
+  -- the seeds that have its chunk have failed, and the cache doesn't give it
+  module _ (mid : Disk) (b : Map (List ℕ)) (told : d.files ≡ Some b) (zip : AllZip (IsViewed d mid) seeds.images (map (held_in view) k.seeds.items)) (is : IsSeedIndex l p seeds.listings x) (later : (q : List ℕ) → FileRose d mid q → FileRose d e q)
+      (rises : (n : ℕ) → Rose (slice_index (map (faults_in view_faults) k.seeds.items) n) (slice_index (map (faults_in view_faults) j.seeds.items) n) → FileRose d e (name_at (map label_of (map (held_in view) k.seeds.items)) n))
+      (gone : (n : ℕ) → CacheLacks (kind_of l) (id_of l n) (size_of l n) e0 e1 → CacheLacksEntry d e cache l n) where
+    others_at : (u : Lost) → IsLostHere u → OthersLack w v stores cache out l seeds b u.entry u.id u.refused
+    others_at u h = (
+      had_failed d mid b told seeds (map (held_in view) k.seeds.items) zip (id_of l u.entry) (size_of l u.entry) (places_at x (want_at p u.entry)) (is.places u.entry h.listed) e later
+          (map (faults_in view_faults) k.seeds.items) (map (faults_in view_faults) j.seeds.items) rises
+          (subst (λ (id : List ℕ). SeedsFailed (map (held_in view) k.seeds.items) (places_at x (want_at p u.entry)) id (map (faults_in view_faults) k.seeds.items) (map (faults_in view_faults) j.seeds.items)) h.id_is h.seeds),
+      gone u.entry h.cache,
+    )
+
+    pub others_lack : (F : Type 0) (r : Result Report ExtractFault) → EndsBy IsLostHere F r → IfErr r (LostAs (OthersLack w v stores cache out l seeds b))
+    others_lack F r h = lost_as IsLostHere F (OthersLack w v stores cache out l seeds b) others_at r h
+
+  -- over stores that were given back: these stand so
+  module _ (kept : KeepsStores holds folder place said counted k.chain.stores j.chain.stores) (located : (ys : List S) → map place ys ≡ map place k.chain.stores → map location ys ≡ stores) (stand : All (Stands location said counted w v) j.chain.stores) where
+    -- how the stores stood when the entry's chunk was asked for
+    record StoodAt (u : Lost) (h : IsLostHere u) : Type 0 where
+      many : length h.stores.before ≡ length h.stores.after
+      at : map location h.stores.after ≡ stores
+      all : All (Stands location said counted w v) h.stores.after
+
+    stood_at : (u : Lost) (h : IsLostHere u) → StoodAt u h
+    stood_at u h =
+        let a = h.stores in
+        let placed : map place a.after ≡ map place k.chain.stores = sym a.since.places ∙ kept.places in
+        let here : map location a.after ≡ stores = located a.after placed in
+        record {
+          many = same_length place a.before a.after (a.until.places ∙ sym placed);
+          at = here;
+          all = stood location said counted w v a.after j.chain.stores (located j.chain.stores kept.places ∙ sym here) a.since.says a.since.never_fall stand;
+        }
+
+    module _ (n : Map (Map (List ℕ))) (held : (fs : List (Map (List ℕ))) → map (told_at n) stores ≡ map Some fs → map holds k.chain.stores ≡ map Some (map chunks fs)) (rose : Rose old new → FileRose d e out.name) where
+      lacks_over : (o : Option (List ℕ)) (u : Lost) (h : IsLostHere u) → IfSome o (λ b. RightAlike l (resized b (image_length l)) u.entry → Rose old new) → IfSome o (λ b. LackingOver w v stores cache out l seeds n b u.entry u.id u.refused)
+      lacks_over None u h copies = tt
+      lacks_over (Some b) u h copies =
+          let s = stood_at u h in (
+            h.listed,
+            h.id_is,
+            have_lacked location said counted lacks_memory w v stores (lost_want l u) u.refused h.stores.before h.stores.after s.many s.at s.all h.stores.refused.told,
+            λ fs told. h.stores.refused.lacks (map chunks fs) (h.stores.until.held ∙ held fs told),
+            λ a. rose (copies a),
+          )
+
+      lacks_at : (u : Lost) → IsLostHere u → IfSome t0 (λ o. LackingOver w v stores cache out l seeds n o u.entry u.id u.refused)
+      lacks_at u h = lacks_over t0 u h h.copies
+
+      none_lost : (o : Option (List ℕ)) → IfSome o (λ b. Unit {0})
+      none_lost None = tt
+      none_lost (Some b) = tt
+
+      pub lacks_told : (F : Type 0) (r : Result Report ExtractFault) → EndsBy IsLostHere F r → IfSome t0 (λ o. IfErr r (LostAs (LackingOver w v stores cache out l seeds n o)))
+      lacks_told F (Ok r) h = none_lost t0
+      lacks_told F (Err (faults.Missing m id)) h = lost_as IsLostHere F (λ m id r. IfSome t0 (λ o. LackingOver w v stores cache out l seeds n o m id r)) lacks_at (Err (faults.Missing m id)) h
+      lacks_told F (Err (faults.Damaged m id s y)) h = lost_as IsLostHere F (λ m id r. IfSome t0 (λ o. LackingOver w v stores cache out l seeds n o m id r)) lacks_at (Err (faults.Damaged m id s y)) h
+      lacks_told F (Err (faults.StoreFault s)) h = none_lost t0
+      lacks_told F (Err faults.TargetFault) h = none_lost t0
+      lacks_told F (Err faults.Memory) h = none_lost t0
+
+    stopped_at : (u : Lost) (s : ℕ) → u.refused ≡ refused.StoreFault s → IsLostHere u → StopsFailed w v stores l s
+    stopped_at u s is h =
+        let c : Want = lost_want l u in
+        let a = stood_at u h in
+        let told = subst (λ (r : Refused). Refuses said counted lacks_memory c h.stores.before h.stores.after r) is h.stores.refused.told in
+        let lacked : (q : S × S) → Stands location said counted w v q.1 → Lacks c (said q.1) → LacksEntry l u.entry (said_at w v (location q.1)) =
+        λ q s y. entry_lacks l u.entry u.id (said_at w v (location q.1)) h.id_is (lacks_still c (said q.1) (said_at w v (location q.1)) (s.says u.id.0) y) in
+        let failed : (q : S × S) → Stands location said counted w v q.1 → Rose (counted q.0) (counted q.1) → StoreRose w v (location q.1) =
+        λ q s y. s.rises (rose_later 0 (counted q.0) (counted q.1) (omega arith) y) in
+        let either : (q : S × S) → Stands location said counted w v q.1 → Lacks c (said q.1) ⊎ Rose (counted q.0) (counted q.1) → LacksEntry l u.entry (said_at w v (location q.1)) ⊎ StoreRose w v (location q.1) =
+        λ q s y. elim y [ inl z ↦ inl (lacked q s z) | inr z ↦ inr (failed q s z) ] in (
+          u.entry,
+          first_as location said counted w v (λ q. Lacks c (said q.1)) (λ q. Rose (counted q.0) (counted q.1)) (λ q. Lacks c (said q.1) ⊎ Rose (counted q.0) (counted q.1))
+              (λ s. LacksEntry l u.entry (said_at w v s)) (StoreRose w v) (λ s. LacksEntry l u.entry (said_at w v s) ⊎ StoreRose w v s) lacked failed either s h.stores.before h.stores.after stores a.many a.at a.all told,
+          h.listed,
+        )
+
+    pub store_told : (F : Type 0) (r : Result Report ExtractFault) → EndsBy IsLostHere F r → IfErr r (StoreAs (StopsFailed w v stores l))
+    store_told F r h = store_as IsLostHere F (StopsFailed w v stores l) stopped_at r h

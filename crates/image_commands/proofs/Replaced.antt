@@ -1,0 +1,68 @@
+-- An extraction by way of a temporary file: its steps in order, and what they need of one another.
+use Rattle.std.proofs.Common.{◌≡◌, ◌≢◌, ℕ, ◌+◌, List, length, codes, Bool, map, Option, Result, Ok, Err, refl, sym, ap, subst, inr, arith}
+use Rattle.std.proofs.lemmas.List.{length-append}
+use Rattle.caibx_codec.specs.Listing.{Listing}
+use Rattle.command_line.specs.declared.command.Location.{Location}
+use Rattle.command_outcome.specs.declared.outcome.Outcome.{Outcome}
+use Rattle.command_steps.specs.Cache.{CacheOpened}
+use Rattle.command_steps.specs.Openings.{IndexRead, Listed}
+use Rattle.command_steps.specs.Seeds.{AllListed, IndexesRead, image_name}
+use Rattle.command_steps.specs.Steps.{◌>>=◌, Passed}
+use Rattle.command_steps.specs.Sources.{Sources, SourcesOpened, sources}
+use Rattle.command_steps.specs.Worlds.{Step, World, world}
+use Rattle.image_commands.proofs.Seeded.{zipped_many}
+use Rattle.image_commands.specs.Extract.{ClearedAfter, Clearing, ExtractEnds, OutMade, temporary_out}
+use Rattle.dsy_base.specs.Disk.{Disk, Output}
+use Rattle.dsy_base.specs.Links.{DialState}
+use Rattle.extract_plan.specs.Deal.{Deal}
+use Rattle.extract_plan.specs.Places.{Placed, PlacesKnown}
+
+-- the temporary file is another one than OUT
+pub beside_apart : (out : List ℕ) → out ≢ temporary_out out
+beside_apart out same =
+    let long : length (temporary_out out) ≡ length out + 11 = length-append out (codes ".tmp-desync") in
+    let equal : length out ≡ length (temporary_out out) = ap length same in
+    absurd (omega (arith, long, equal))
+
+-- ---- the steps in order
+
+-- a step that answered so, and was then cleared
+pub clears : (tmp : List ℕ) (step : Step Sources Unit) (w : Sources) (c e : Disk) (k : DialState) (r a : Result Unit Outcome) → step w r (sources c k) → ClearedAfter tmp c r a e → Clearing tmp step w a (sources e k)
+clears tmp step w c e k (Ok u) (Ok v) did same = subst (λ x. step w (Ok v) (sources x k)) (sym same) did
+clears tmp step w c e k (Ok u) (Err o) did h = absurd h
+clears tmp step w c e k (Err p) (Ok v) did h = absurd h
+clears tmp step w c e k (Err p) (Err o) did h = (c, p, did, h.0, h.1)
+
+-- what follows on a step that passed
+pub passed_any : {A B : Type 0} (step : Step World A) (next : A → Step World B) (w : World) (r : Result B Outcome) (v : World) → Passed step next w r v → (step >>= next) w r v
+passed_any step next w (Ok b) v h = h
+passed_any step next w (Err o) v h = inr h
+
+-- OUT was made so after the steps before it
+pub ends_with : (stores : List Location) (cache : Option (List ℕ)) (seeds : List (List ℕ)) (place : Bool) (index out : List ℕ) (l : Listing) (ls : List Listing) (d b c f m e : Disk) (k j : DialState) (p : Output) (r : Result Unit Outcome)
+    → IndexRead index d (Ok l) b → IndexesRead seeds b (Ok ls) c → SourcesOpened stores c (Ok tt) f → CacheOpened cache f (Ok tt) m → OutMade place stores cache out l (record { images = map image_name seeds; listings = ls }) (world m k p) r (world e j p)
+    → ExtractEnds stores cache seeds place index out (world d k p) r (world e j p)
+ends_with stores cache seeds place index out l ls d b c f m e k j p r listed read opened shelved made =
+    passed_any _ _ (world d k p) r (world e j p) (record {
+      disk = b;
+      dial = k;
+      out = p;
+      gave = l;
+      did = (listed, refl, refl);
+      then = passed_any _ _ (world b k p) r (world e j p) (record {
+        disk = c;
+        dial = k;
+        out = p;
+        gave = ls;
+        did = (read, refl, refl);
+        then = passed_any _ _ (world c k p) r (world e j p) (record { disk = f; dial = k; out = p; gave = tt; did = (opened, refl, refl); then = passed_any _ _ (world f k p) r (world e j p) (record { disk = m; dial = k; out = p; gave = tt; did = (shelved, refl, refl); then = made }) });
+      });
+    })
+
+-- ---- what the assembly needs of them
+
+-- the places are in as many seeds as there are names
+pub known_places_of : (d : Disk) (seeds : List (List ℕ)) (ls : List Listing) (l k : Listing) (p : Deal) (x : Placed) → AllListed d seeds ls → k ≡ l → PlacesKnown l p x (length ls) → PlacesKnown k p x (length seeds)
+known_places_of d seeds ls l k p x listed same known =
+    let many = zipped_many (λ q l. Listed d q l) seeds ls listed in
+    subst (λ (n : ℕ). PlacesKnown k p x n) (sym many) (subst (λ i. PlacesKnown i p x (length ls)) (sym same) known)

@@ -1,0 +1,143 @@
+-- The views of one file.
+use Rattle.std.proofs.Common.{◌≡◌, ◌∙◌, ℕ, zero, suc, ◌<◌, ◌≤◌, IsSome, Bool, true, false, IsTrue, List, [], ◌∷◌, ◌++◌, length, map, slice_index, slice_index_or, All, Option, Some, None, Result, IfSome, is_some, ap, arith, refl, sym, subst, true≢false, inl, inr, length-append}
+use Rattle.std.proofs.lemmas.List.{append_assoc, get_or-map, get_or_append_left, length-map}
+use Rattle.std.proofs.lemmas.List.Elements.{All-append, All-map}
+use Rattle.buzhash_cut.specs.Image.{AreOfOneImage, HasTooManyCuts}
+use Rattle.buzhash_cut.specs.Sizes.{Sizes}
+use Rattle.chunk_store.specs.Said.{Said}
+use Rattle.command_steps.specs.Openings.{Holds}
+use Rattle.command_steps.specs.Worlds.{FileRose, Reads}
+use Rattle.command_steps.proofs.Numbers.{counted_known, counted_le, given_rose, rose_longer}
+use Rattle.image_commands.specs.Views.{AreOf, GrowsBy, IfFirst, IsViewOf}
+use Rattle.dsy_base.specs.Bytes.{Held}
+use Rattle.std.specs.Map.{count_at}
+use Rattle.dsy_base.specs.Counts.{Rose, raised}
+use Rattle.dsy_base.specs.Disk.{Disk, HoldsSame, OnFile}
+use Rattle.dsy_base.specs.Maps.{Map}
+use Rattle.image_store.specs.PutChunks.{ToldMap}
+use Rattle.image_store.specs.StoreImage.{PutsFilesOf, SaysOf, StoresImage}
+use Rattle.image_store.specs.declared.put_chunks.MakeFault.{MakeFault}
+
+-- one element more
+pub all_grow : {X : Type 0} (P : X → Type 0) (old new : List X) → GrowsBy P old new → All P old → All P new
+all_grow P old new (inl same) all = subst (All P) (sym same) all
+all_grow {X} P old new (inr (x, is, holds)) all = subst (All P) (sym is) (All-append P old (x ∷ []) all (all_one x holds)) where
+  all_one : (x : X) → P x → All P (x ∷ [])
+  all_one x holds zero d lt = holds
+  all_one x holds (suc k) d lt = absurd (omega arith)
+
+-- the views are alike
+module _ (d : Disk) (q : List ℕ) (n : ℕ) (tells : Bool) (told : is_some d.files ≡ tells) where
+  same_bytes : (a b : Option (List ℕ)) → is_some a ≡ tells → is_some b ≡ tells → Holds d q a → Holds d q b → b ≡ a
+  same_bytes a b some_a some_b = go d.files a b (some_a ∙ sym told) (some_b ∙ sym told) where
+    go : (files : Option (Map (List ℕ))) (a b : Option (List ℕ)) → is_some a ≡ is_some files → is_some b ≡ is_some files → IfSome files (λ m. (t : List ℕ) × (m q ≡ Some t) × (a ≡ Some t)) → IfSome files (λ m. (t : List ℕ) × (m q ≡ Some t) × (b ≡ Some t)) → b ≡ a
+    go None None None x y h k = refl
+    go None None (Some b) x y h k = absurd (true≢false y)
+    go None (Some a) b x y h k = absurd (true≢false x)
+    go (Some m) a b x y (t, is_t, a_is) (u, is_u, b_is) = b_is ∙ sym is_u ∙ is_t ∙ sym a_is
+
+  pub alike : (hs : List Held) → All (λ h. is_some h.bytes ≡ tells) hs → All (IsViewOf d q n) hs → AreOfOneImage hs
+  alike hs some are = λ i x lt j y less.
+      let one = are i x lt in
+      let other = are j y less in
+      (other.size ∙ sym one.size, same_bytes _ _ (some i x lt) (some j y less) one.holds other.holds)
+
+  pub of_one : (hs : List Held) → 0 < length hs → All (λ h. is_some h.bytes ≡ tells) hs → All (IsViewOf d q n) hs → (told : Option (List ℕ)) × Holds d q told × AreOf q told hs
+  of_one [] has some are = absurd (omega (arith, has))
+  of_one (h ∷ hs) has some are =
+      let first = are 0 h (omega arith) in
+      (h.bytes, first.holds, λ i x lt. ((are i x lt).name, same_bytes _ _ (some 0 h (omega arith)) (some i x lt) first.holds (are i x lt).holds))
+
+-- the first one is the last that is taken from the end
+pub first_of : {X : Type 0} (P : X → Type 0) (all rest done : List X) (x : X) → (rest ++ x ∷ []) ++ done ≡ all → P x → rest ≡ [] → IfFirst P all
+first_of P all rest done x is holds none = subst (IfFirst P) is (subst (λ r. IfFirst P ((r ++ x ∷ []) ++ done)) (sym none) holds)
+
+-- over what the disk held before
+pub view_earlier : (d e : Disk) (q : List ℕ) (n : ℕ) (h : Held) → e.files ≡ d.files → IsViewOf e q n h → IsViewOf d q n h
+view_earlier d e q n h same is = record { name = is.name; size = is.size; holds = subst (λ (files : Option (Map (List ℕ))). IfSome files (λ m. (t : List ℕ) × (m q ≡ Some t) × (h.bytes ≡ Some t))) same is.holds }
+
+pub grows_as : {X : Type 0} (P Q : X → Type 0) (old new : List X) → ((x : X) → P x → Q x) → GrowsBy P old new → GrowsBy Q old new
+grows_as P Q old new f (inl same) = inl same
+grows_as P Q old new f (inr (x, is, holds)) = inr (x, is, f x holds)
+
+pub long_enough : {X Y : Type 0} (f : X → Y) (xs : List X) → 0 < length xs → 0 < length (map f xs)
+long_enough f xs some = omega (arith, length-map xs f, some)
+
+-- what so many views tell
+same_bool : (t u : Bool) → (IsTrue t → IsTrue u) → (IsTrue u → IsTrue t) → u ≡ t
+same_bool true u up down = up refl
+same_bool false true up down = sym (down refl)
+same_bool false false up down = refl
+
+pub all_tell : {V : Type 0} (tells other : Bool) (held : V → Held) → ((v : V) → is_some (held v).bytes ≡ other) → (IsTrue tells → IsTrue other) → (IsTrue other → IsTrue tells) → (vs : List V) → All (λ h. is_some h.bytes ≡ tells) (map held vs)
+all_tell tells other held told up down vs = All-map (λ h. is_some h.bytes ≡ tells) held vs (λ k d lt. told (slice_index_or vs k d) ∙ same_bool tells other up down)
+
+pub some_grow : {X : Type 0} (P : X → Type 0) (old new : List X) → GrowsBy P old new → 0 < length old → 0 < length new
+some_grow P old new (inl same) some = omega (arith, ap length same, some)
+some_grow P old new (inr (x, is, holds)) some = omega (arith, ap length is, length-append old (x ∷ []), some)
+
+-- what was opened leaves of a disk
+pub opened_read : (d e : Disk) (q : List ℕ) → HoldsSame d e → OnFile d e q → Reads d e
+opened_read d e q h on = record {
+  files = h.files;
+  folders = h.folders;
+  counts = counted_le d.file_counts e.file_counts q on.counts;
+  folder_counts = λ p. let same : count_at e.folder_counts p ≡ count_at d.folder_counts p = ap (λ m. count_at m p) on.folder_counts in omega (arith, same);
+  known = counted_known d.file_counts e.file_counts q on.counts;
+  folder_known = λ p is. subst (λ (m : Map ℕ). IsSome (m p)) (sym on.folder_counts) is;
+}
+
+-- what holds of all holds of a front
+pub all_front : {X : Type 0} (P : X → Type 0) (all xs ys : List X) → xs ++ ys ≡ all → All P all → All P xs
+all_front P all xs ys is holds = λ k d lt.
+    let here : slice_index_or all k d ≡ slice_index_or xs k d = subst (λ l. slice_index_or l k d ≡ slice_index_or xs k d) is (get_or_append_left xs ys d k lt) in
+    subst P here (holds k d (omega (arith, ap length is, length-append xs ys, lt)))
+
+pub more_front : {X : Type 0} (all rest done : List X) (x : X) → (rest ++ x ∷ []) ++ done ≡ all → rest ++ (x ∷ done) ≡ all
+more_front all rest done x is = sym (append_assoc rest (x ∷ []) done) ∙ is
+
+-- a number that has grown before grows by as much at least
+pub raised_more : (a b c n : ℕ) → a ≤ b → c ≡ raised b n → raised a n ≤ c
+raised_more a b c n le is = omega (arith, is)
+
+-- what is so of each view's image is so of what they tell
+pub of_first : {X : Type 0} (H : X → Held) (xs : List X) (q : List ℕ) (told : Option (List ℕ)) → 0 < length xs → AreOf q told (map H xs) → (P : Option (List ℕ) → Type 0) → All (λ v. P (H v).bytes) xs → P told
+of_first H [] q told some are P all = absurd (omega (arith, some))
+of_first H (x ∷ xs) q told some are P all = subst P (are 0 (H x) (omega arith)).1 (all 0 x (omega arith))
+
+-- what holds of the views that were lent holds of those that came back
+pub all_kept : {X : Type 0} (H : X → Held) (old new : List X) → map H new ≡ map H old → (P : Held → Type 0) → All (λ v. P (H v)) old → All (λ v. P (H v)) new
+all_kept H old new same P all = λ k d lt.
+    let mapped : All P (map H new) = subst (All P) (sym same) (All-map P H old all) in
+    subst P (get_or-map H new k d (H d) lt) (mapped k (H d) (omega (arith, length-map new H, lt)))
+
+-- a fault of the first view, where none had counted any, is one of its name
+pub first_rose : {X : Type 0} (H : X → Held) (f : X → ℕ) (d e : Disk) (old new : List X) (q : List ℕ) (told : Option (List ℕ)) → 0 < length old → map H new ≡ map H old → AreOf q told (map H old) → All (λ v. f v ≡ 0) old
+    → IfFirst (λ v. raised (count_at d.file_counts (H v).name) (f v) ≤ count_at e.file_counts (H v).name) new → Rose (slice_index (map f old) 0) (slice_index (map f new) 0) → FileRose d e q
+first_rose H f d e [] new q told some same are none added rose = absurd (omega (arith, some))
+first_rose H f d e (x ∷ xs) [] q told some same are none added rose = absurd (omega (arith, ap length same))
+first_rose H f d e (x ∷ xs) (y ∷ ys) q told some same are none added rose =
+    let name : (H y).name ≡ q = ap (λ (hs : List Held). (slice_index_or hs 0 (H x)).name) same ∙ (are 0 (H x) (omega arith)).0 in
+    let more : Rose 0 (f y) = subst (λ (n : ℕ). Rose n (f y)) (none 0 x (omega arith)) rose in
+    let a : ℕ = count_at d.file_counts (H y).name in
+    subst (FileRose d e) name (rose_longer a (raised a (f y)) (count_at e.file_counts (H y).name) added (given_rose a a (raised a (f y)) (f y) (omega arith) refl more))
+
+-- where no fault of cutting is told there aren't too many cuts
+pub few_cuts : (told : Option (List ℕ)) (X : List ℕ → Type 0) (Y Z : Type 0) → (Y → ⊥) → IfSome told (λ t. X t → Y × Z) → IfSome told (λ t. X t → ⊥)
+few_cuts None X Y Z not many = tt
+few_cuts (Some t) X Y Z not many = λ x. not (many x).0
+
+-- what storing says of each view's image, of what they tell
+module _ {X : Type 0} (H : X → Held) (xs : List X) (q : List ℕ) (told : Option (List ℕ)) (some : 0 < length xs) (are : AreOf q told (map H xs)) (s : Sizes) where
+  pub exactly_of : {A : Type 0} (bytes_of : A → List ℕ) (old new : Option (Map (List ℕ))) (r : Result A MakeFault) → All (λ v. IfSome (H v).bytes (λ t. IfSome old (λ a. IfSome new (λ b. StoresImage s bytes_of t a b r)))) xs
+      → IfSome told (λ t. IfSome old (λ a. IfSome new (λ b. StoresImage s bytes_of t a b r)))
+  exactly_of bytes_of old new r = of_first H xs q told some are (λ o. IfSome o (λ t. IfSome old (λ a. IfSome new (λ b. StoresImage s bytes_of t a b r))))
+
+  pub files_of : (held old new : ToldMap) → All (λ v. PutsFilesOf s (H v).bytes held old new) xs → PutsFilesOf s told held old new
+  files_of held old new = of_first H xs q told some are (λ o. PutsFilesOf s o held old new)
+
+  pub said_of : (bytes : List ℕ) (said : Said) → All (λ v. SaysOf s (H v).bytes bytes said) xs → SaysOf s told bytes said
+  said_of bytes said = of_first H xs q told some are (λ o. SaysOf s o bytes said)
+
+  pub few_of : (Y Z : Type 0) → (Y → ⊥) → All (λ v. IfSome (H v).bytes (λ t. HasTooManyCuts s t → Y × Z)) xs → IfSome told (λ t. HasTooManyCuts s t → ⊥)
+  few_of Y Z not all = few_cuts told (HasTooManyCuts s) Y Z not (of_first H xs q told some are (λ o. IfSome o (λ t. HasTooManyCuts s t → Y × Z)) all)

@@ -1,0 +1,175 @@
+use Rattle.std.proofs.Common.{◌≡◌, ◌<◌, ◌∙◌, ℕ, List, Option, IsSome, length, map, arith, ap, rules, refl, Ok, Err}
+use Rattle.std.specs.Option.{option_map}
+use Rattle.chunk_store.specs.Folders.{chunks}
+use Rattle.command_steps.proofs.Given.{stands_there}
+use Rattle.command_steps.specs.AnySources.{files_in, said_in}
+use Rattle.command_steps.specs.Sources.{sources}
+use Rattle.image_commands.proofs.GivenStores.{back, rose, stored_more}
+use Rattle.image_commands.proofs.Made.{made_of, unmade}
+use Rattle.image_commands.proofs.Viewed.{all_kept, exactly_of, few_of, files_of, first_rose, said_of}
+use Rattle.image_commands.specs.Make.{AnySaid, MadeOf}
+use Rattle.image_commands.specs.Views.{AreOf}
+use Rattle.image_commands.proofs.make.store_between.Goals as goal
+use Rattle.image_store.specs.StoreImage.{SaysOf}
+use Rattle.image_store.specs.declared.put_chunks.MakeFault.TheVariants as faults
+
+pub give_store-requires : goal.give_store-requires
+give_store-requires g c =
+    let held = g.F.View.View.held in
+    let located = stands_there g.F.Folder.Look.place c.args.taken c.store_image-views.result.1 c.store_image-views.ensures.place ∙ c.requires.located in
+    let known = all_kept held c.args.views.items c.store_image-views.result.0.items c.store_image-views.ensures.kept (λ h. IsSome ((g.F.Files.disk c.args.files.now).file_counts h.name)) c.requires.image in
+    record { known = (known, c.requires.known); located = located }
+
+pub returns-in-Ok : goal.returns-in-Ok
+returns-in-Ok g c =
+    let files = g.F.Folder.Look.files in
+    let place = g.F.Folder.Look.place in
+    let counts = g.F.Folder.Look.faults in
+    let state = g.D.Dial.state in
+    let at = g.F.Files.disk in
+    let s = c.args.sizes.now in
+    let held = g.F.View.View.held in
+    let xs = c.args.views.items in
+    let some : 0 < length xs = omega (arith, c.requires.some) in
+    let old = c.args.taken in
+    let new = c.store_image-views.result.1 in
+    let before = option_map chunks (files_in files old) in
+    let after = option_map chunks (files_in files new) in
+    let w = sources (at c.args.files.now) (state c.args.dial.now) in
+    let v = sources (at c.give_store.new.files) (state c.give_store.new.dial) in
+    let gave = c.give_store.ensures in
+    let done = c.store_image-views.ensures in
+    let r = Ok c.in-Ok.bytes.items in
+    let stored = λ (q : List ℕ) (told : Option (List ℕ)) (are : AreOf q told (map held xs)).
+    let holds = made_of s told r (files_in files old) (files_in files new) (rw c.in-Ok.is at (exactly_of held xs q told some are s (λ b. b.items) before after c.store_image-views.result.2 done.exactly)) (files_of held xs q told some are s before (files_in files old) (files_in files new) done.files) in
+    back files place counts state w v c.args.store.now old new done.place c.requires.located gave.folders gave.given (MadeOf s told r) (SaysOf s told c.in-Ok.bytes.items) (stored_more s told c.in-Ok.bytes.items) done.tells (holds) (said_of held xs q told some are s c.in-Ok.bytes.items (said_in files state new) (rw c.in-Ok.is at done.said)) in
+    let few = λ (q : List ℕ) (told : Option (List ℕ)) (are : AreOf q told (map held xs)). few_of held xs q told some are s _ _ (λ (x : ⊥). x) (rw c.in-Ok.is at done.many) in
+    record { ok = λ q told are. (few q told are, stored q told are, gave.kept); err = tt }
+
+pub returns-in-ImageFault : goal.returns-in-ImageFault
+returns-in-ImageFault g c =
+    let files = g.F.Folder.Look.files in
+    let place = g.F.Folder.Look.place in
+    let counts = g.F.Folder.Look.faults in
+    let state = g.D.Dial.state in
+    let at = g.F.Files.disk in
+    let s = c.args.sizes.now in
+    let held = g.F.View.View.held in
+    let xs = c.args.views.items in
+    let some : 0 < length xs = omega (arith, c.requires.some) in
+    let old = c.args.taken in
+    let new = c.store_image-views.result.1 in
+    let before = option_map chunks (files_in files old) in
+    let after = option_map chunks (files_in files new) in
+    let w = sources (at c.args.files.now) (state c.args.dial.now) in
+    let v = sources (at c.give_store.new.files) (state c.give_store.new.dial) in
+    let gave = c.give_store.ensures in
+    let done = c.store_image-views.ensures in
+    let r = Err faults.ImageFault in
+    let stored = λ (q : List ℕ) (told : Option (List ℕ)) (are : AreOf q told (map held xs)).
+    let holds = made_of s told r (files_in files old) (files_in files new) (rw (c.in-Err.is, c.in-ImageFault.is) at (exactly_of held xs q told some are s (λ b. b.items) before after c.store_image-views.result.2 done.exactly)) (files_of held xs q told some are s before (files_in files old) (files_in files new) done.files) in
+    back files place counts state w v c.args.store.now old new done.place c.requires.located gave.folders gave.given (MadeOf s told r) (AnySaid) (λ a b keeps says. tt) done.tells (holds) (tt) in
+    record { ok = tt; err = λ q told are. ((first_rose held g.F.View.View.faults w.disk v.disk xs c.store_image-views.result.0.items q told some done.kept are c.requires.fresh.0 gave.added (done.image_faults.first.cause (search rules)), stored q told are), gave.kept) }
+
+pub returns-in-TooManyItems : goal.returns-in-TooManyItems
+returns-in-TooManyItems g c =
+    let files = g.F.Folder.Look.files in
+    let place = g.F.Folder.Look.place in
+    let counts = g.F.Folder.Look.faults in
+    let state = g.D.Dial.state in
+    let at = g.F.Files.disk in
+    let s = c.args.sizes.now in
+    let held = g.F.View.View.held in
+    let xs = c.args.views.items in
+    let some : 0 < length xs = omega (arith, c.requires.some) in
+    let old = c.args.taken in
+    let new = c.store_image-views.result.1 in
+    let before = option_map chunks (files_in files old) in
+    let after = option_map chunks (files_in files new) in
+    let w = sources (at c.args.files.now) (state c.args.dial.now) in
+    let v = sources (at c.give_store.new.files) (state c.give_store.new.dial) in
+    let gave = c.give_store.ensures in
+    let done = c.store_image-views.ensures in
+    let r = Err faults.TooManyItems in
+    let stored = λ (q : List ℕ) (told : Option (List ℕ)) (are : AreOf q told (map held xs)).
+    let holds = made_of s told r (files_in files old) (files_in files new) (rw (c.in-Err.is, c.in-TooManyItems.is) at (exactly_of held xs q told some are s (λ b. b.items) before after c.store_image-views.result.2 done.exactly)) (files_of held xs q told some are s before (files_in files old) (files_in files new) done.files) in
+    back files place counts state w v c.args.store.now old new done.place c.requires.located gave.folders gave.given (λ f g. (g ≡ f) × MadeOf s told r f g) (AnySaid) (λ a b keeps says. tt) done.tells (unmade s told r (files_in files old) (files_in files new) (ap (files_in files) (done.untouched (search rules))) holds) (tt) in
+    record { ok = tt; err = λ q told are. (stored q told are, gave.kept) }
+
+pub returns-in-Changed : goal.returns-in-Changed
+returns-in-Changed g c =
+    let files = g.F.Folder.Look.files in
+    let place = g.F.Folder.Look.place in
+    let counts = g.F.Folder.Look.faults in
+    let state = g.D.Dial.state in
+    let at = g.F.Files.disk in
+    let s = c.args.sizes.now in
+    let held = g.F.View.View.held in
+    let xs = c.args.views.items in
+    let some : 0 < length xs = omega (arith, c.requires.some) in
+    let old = c.args.taken in
+    let new = c.store_image-views.result.1 in
+    let before = option_map chunks (files_in files old) in
+    let after = option_map chunks (files_in files new) in
+    let w = sources (at c.args.files.now) (state c.args.dial.now) in
+    let v = sources (at c.give_store.new.files) (state c.give_store.new.dial) in
+    let gave = c.give_store.ensures in
+    let done = c.store_image-views.ensures in
+    let r = Err (faults.Changed c.in-Changed.entry c.in-Changed.was c.in-Changed.got) in
+    let stored = λ (q : List ℕ) (told : Option (List ℕ)) (are : AreOf q told (map held xs)).
+    let holds = made_of s told r (files_in files old) (files_in files new) (rw (c.in-Err.is, c.in-Changed.is) at (exactly_of held xs q told some are s (λ b. b.items) before after c.store_image-views.result.2 done.exactly)) (files_of held xs q told some are s before (files_in files old) (files_in files new) done.files) in
+    back files place counts state w v c.args.store.now old new done.place c.requires.located gave.folders gave.given (MadeOf s told r) (AnySaid) (λ a b keeps says. tt) done.tells (holds) (tt) in
+    let few = λ (q : List ℕ) (told : Option (List ℕ)) (are : AreOf q told (map held xs)). few_of held xs q told some are s _ _ (λ (x : ⊥). x) (rw (c.in-Err.is, c.in-Changed.is) at done.many) in
+    record { ok = tt; err = λ q told are. ((rw (c.in-Err.is, c.in-Changed.is) at done.only, few q told are, stored q told are), gave.kept) }
+
+pub returns-in-StoreFault : goal.returns-in-StoreFault
+returns-in-StoreFault g c =
+    let files = g.F.Folder.Look.files in
+    let place = g.F.Folder.Look.place in
+    let counts = g.F.Folder.Look.faults in
+    let state = g.D.Dial.state in
+    let at = g.F.Files.disk in
+    let s = c.args.sizes.now in
+    let held = g.F.View.View.held in
+    let xs = c.args.views.items in
+    let some : 0 < length xs = omega (arith, c.requires.some) in
+    let old = c.args.taken in
+    let new = c.store_image-views.result.1 in
+    let before = option_map chunks (files_in files old) in
+    let after = option_map chunks (files_in files new) in
+    let w = sources (at c.args.files.now) (state c.args.dial.now) in
+    let v = sources (at c.give_store.new.files) (state c.give_store.new.dial) in
+    let gave = c.give_store.ensures in
+    let done = c.store_image-views.ensures in
+    let r = Err faults.StoreFault in
+    let stored = λ (q : List ℕ) (told : Option (List ℕ)) (are : AreOf q told (map held xs)).
+    let holds = made_of s told r (files_in files old) (files_in files new) (rw (c.in-Err.is, c.in-StoreFault.is) at (exactly_of held xs q told some are s (λ b. b.items) before after c.store_image-views.result.2 done.exactly)) (files_of held xs q told some are s before (files_in files old) (files_in files new) done.files) in
+    back files place counts state w v c.args.store.now old new done.place c.requires.located gave.folders gave.given (MadeOf s told r) (AnySaid) (λ a b keeps says. tt) done.tells (holds) (tt) in
+    let few = λ (q : List ℕ) (told : Option (List ℕ)) (are : AreOf q told (map held xs)). few_of held xs q told some are s _ _ (λ (x : ⊥). x) (rw (c.in-Err.is, c.in-StoreFault.is) at done.many) in
+    let risen = rose files place counts state w v c.args.store.now old new done.place c.requires.located gave.folders gave.given c.requires.fresh.1 (done.store_faults.cause (search rules)) in
+    record { ok = tt; err = λ q told are. ((refl, risen, few q told are, stored q told are), gave.kept) }
+
+pub returns-in-Memory : goal.returns-in-Memory
+returns-in-Memory g c =
+    let files = g.F.Folder.Look.files in
+    let place = g.F.Folder.Look.place in
+    let counts = g.F.Folder.Look.faults in
+    let state = g.D.Dial.state in
+    let at = g.F.Files.disk in
+    let s = c.args.sizes.now in
+    let held = g.F.View.View.held in
+    let xs = c.args.views.items in
+    let some : 0 < length xs = omega (arith, c.requires.some) in
+    let old = c.args.taken in
+    let new = c.store_image-views.result.1 in
+    let before = option_map chunks (files_in files old) in
+    let after = option_map chunks (files_in files new) in
+    let w = sources (at c.args.files.now) (state c.args.dial.now) in
+    let v = sources (at c.give_store.new.files) (state c.give_store.new.dial) in
+    let gave = c.give_store.ensures in
+    let done = c.store_image-views.ensures in
+    let r = Err faults.Memory in
+    let stored = λ (q : List ℕ) (told : Option (List ℕ)) (are : AreOf q told (map held xs)).
+    let holds = made_of s told r (files_in files old) (files_in files new) (rw (c.in-Err.is, c.in-Memory.is) at (exactly_of held xs q told some are s (λ b. b.items) before after c.store_image-views.result.2 done.exactly)) (files_of held xs q told some are s before (files_in files old) (files_in files new) done.files) in
+    back files place counts state w v c.args.store.now old new done.place c.requires.located gave.folders gave.given (MadeOf s told r) (AnySaid) (λ a b keeps says. tt) done.tells (holds) (tt) in
+    record { ok = tt; err = λ q told are. (stored q told are, gave.kept) }

@@ -1,0 +1,70 @@
+-- `chop -s STORE INDEX IMAGE`. A name is its bytes; t are the image's bytes.
+use Rattle.std.specs.Prelude.{◌≡◌, ◌≢◌, ℕ, List, length, Option, Some, IfSome, Result, Ok, Err}
+use Rattle.caibx_codec.specs.Listing.{Listing, image_length}
+use Rattle.caibx_codec.specs.Right.{IsRight}
+use Rattle.chunk_store.specs.Folders.{chunks}
+use Rattle.command_line.specs.declared.command.Location.{Location}
+use Rattle.command_outcome.specs.declared.outcome.Outcome.{Outcome}
+use Rattle.command_outcome.specs.declared.outcome.Outcome.TheVariants as ends
+use Rattle.command_steps.specs.Openings.{ImageOpened, IndexRead, IsListed}
+use Rattle.command_steps.specs.Sources.{OnSources, Sources, StoreRose}
+use Rattle.command_steps.specs.Steps.{◌>>=◌}
+use Rattle.command_steps.specs.Taking.{SourceTaken}
+use Rattle.command_steps.specs.Worlds.{FileRose, OnDisk, Step, World}
+use Rattle.image_commands.specs.Make.{AnySaid, WritesStore, StoreGiven}
+use Rattle.dsy_base.specs.Maps.{Map}
+use Rattle.image_store.specs.Chopping.{IsMismatch, most_seen, seen_to}
+use Rattle.image_store.specs.PutChunks.{HoldsAll, PutsFiles, SaysAll, Stands}
+use Rattle.image_store.specs.declared.chop.ChopFault.{ChopFault}
+use Rattle.image_store.specs.declared.chop.ChopFault.TheVariants as faults
+
+-- ---- chopping the image into a store that was taken
+
+-- what chopping made of the folder's files f: g. `told` are the image's bytes, where they are told
+pub record ChoppedTo (l : Listing) (told : Option (List ℕ)) (r : Result Unit ChopFault) (f g : Map (List ℕ)) : Type 0
+  where
+    pub holds : HoldsAll l (seen_to l r) (chunks g)
+    pub changed : IfSome told (λ t. Stands l t (most_seen l r) (chunks f) (chunks g))
+    pub files : PutsFiles l told (Some (chunks f)) (most_seen l r) (Some f) (Some g)
+
+-- the image has the listed length
+abbrev pub HasLength : Listing → Option (List ℕ) → Type 0
+HasLength l told = IfSome told (λ t. length t ≡ image_length l)
+
+module _ (l : Listing) (image : List ℕ) (told : Option (List ℕ)) (store : Location) (held : Option (Map (List ℕ))) where
+  -- the store was given back after chopping that ended so. Of each entry that was seen to, a server has taken or shown
+  -- bytes of the listed name
+  abbrev pub ChopGiven : Result Unit ChopFault → Sources → Sources → Type 0
+  ChopGiven r w v = StoreGiven store held (ChoppedTo l told r) (SaysAll l (seen_to l r)) w v
+
+  abbrev pub NotChopped : Sources → Sources → Outcome → Type 0
+  NotChopped w v (ends.Length n) =
+      (n ≢ image_length l) × IfSome told (λ t. n ≡ length t) × StoreGiven store held (λ f g. g ≡ f) AnySaid w v
+  NotChopped w v (ends.Mismatch k got) = HasLength l told × IsMismatch l told (faults.Mismatch k got)
+      × ChopGiven (Err (faults.Mismatch k got)) w v
+  NotChopped w v ends.ImageFault =
+      HasLength l told × FileRose w.disk v.disk image × ChopGiven (Err faults.ImageFault) w v
+  NotChopped w v (ends.StoreFault k) =
+      (k ≡ 0) × HasLength l told × StoreRose w v store × ChopGiven (Err faults.StoreFault) w v
+  NotChopped w v ends.Memory = HasLength l told × ChopGiven (Err faults.Memory) w v
+  NotChopped w v other = ⊥
+
+  abbrev pub ImageChopped : Step Sources Unit
+  ImageChopped w (Ok u) v = IfSome told (λ t. IsRight t l) × ChopGiven (Ok u) w v × WritesStore store w v
+  ImageChopped w (Err o) v = NotChopped w v o × WritesStore store w v
+
+-- ---- the command
+
+abbrev pub ChopEnds : Location → List ℕ → List ℕ → Step World Unit
+ChopEnds store index image = do
+  l ← OnDisk (IndexRead index)
+  told ← OnDisk (ImageOpened image)
+  held ← OnDisk (SourceTaken store)
+  OnSources (ImageChopped l image told store held)
+
+-- INDEX is the index file of this index, and IMAGE the image that it lists
+pub record IsChopped (files : Map (List ℕ)) (index image : List ℕ) (l : Listing) : Type 0 where
+  pub listed : IsListed files index l
+  pub bytes : List ℕ
+  pub there : files image ≡ Some bytes
+  pub right : IsRight bytes l

@@ -1,0 +1,305 @@
+-- `extract [-k] -s STORE.. -c FOLDER --seed INDEX.. INDEX OUT`. A name is its bytes.
+use Rattle.std.specs.Prelude.{◌≡◌, ◌⊎◌, ◌++◌, codes, Bool, true, false, if◌then◌else◌, is_some, ℕ, ◌+◌, ◌<◌, ◌≤◌}
+use Rattle.std.specs.Prelude.{length, List, [], ◌∷◌, map, Option, Some, None, IfSome, IsSome, IsTrue, Result, Ok, Err}
+use Rattle.std.specs.List.{Any, slice_get}
+use Rattle.std.specs.Map.{count_at}
+use Rattle.std.specs.Option.{option_map, unwrap_or}
+use Rattle.assembler.specs.Assemblies.{IsLeast, KeepsBase, RightAlike}
+use Rattle.assembler.specs.Caches.{IsListedAs}
+use Rattle.assembler.specs.Losses.{chunk_of}
+use Rattle.assembler.specs.declared.fault.ExtractFault.{ExtractFault}
+use Rattle.assembler.specs.declared.fault.ExtractFault.TheVariants as faults
+use Rattle.assembler.specs.declared.report.Report.{Report}
+use Rattle.cache_store.specs.Giving.{GiveOneSize, SomeGives}
+use Rattle.caibx_codec.specs.Listing.{Listing, count_of, id_of, kind_of, size_of, slice_of, start_of, image_length}
+use Rattle.caibx_codec.specs.Right.{IsRight, IsRightAt}
+use Rattle.chunk_store.specs.Folders.{chunks}
+use Rattle.chunk_store.specs.Giving.{GivesChunk, IsChunk}
+use Rattle.chunk_store.specs.Said.{Said}
+use Rattle.chunk_store.specs.declared.id.ChunkId.{ChunkId}
+use Rattle.command_line.specs.declared.command.Location.{Location}
+use Rattle.command_outcome.specs.declared.outcome.Outcome.{Outcome}
+use Rattle.command_outcome.specs.declared.outcome.Outcome.TheVariants as ends
+use Rattle.dir_store.specs.Names.{is_stranger}
+use Rattle.dsy_base.specs.Bytes.{resized}
+use Rattle.dsy_base.specs.Maps.{Map, at_name}
+use Rattle.dsy_base.specs.declared.fault.IoFault.{IoFault}
+use Rattle.dsy_base.specs.declared.fault.IoFault.TheVariants as io
+use Rattle.command_steps.specs.Cache.{CacheOpened}
+use Rattle.command_steps.specs.Openings.{IndexRead, IsListed}
+use Rattle.command_steps.specs.Seeds.{IndexesRead, image_name}
+use Rattle.command_steps.specs.Steps.{◌>>=◌}
+use Rattle.command_steps.specs.Sources.{DialsStores, FailsFirst, HaveLacked, NotAsking, OnSources, Sources}
+use Rattle.command_steps.specs.Sources.{SourcesOpened, sources, told_at}
+use Rattle.command_steps.specs.Worlds.{DiskQuiet, FileRose, FolderRose, OnDisk, Step, World, Writes}
+use Rattle.dsy_base.specs.Disk.{Disk}
+use Rattle.store_chain.specs.Giving.{LacksAll}
+use Rattle.store_chain.specs.declared.refused.Refused.{Refused}
+use Rattle.store_chain.specs.declared.refused.Refused.TheVariants as refused
+
+-- the file that becomes the image: its name, and whether it begins with no bytes, whatever stands under that name
+pub record Into : Type 0 where
+  pub name : List ℕ
+  pub fresh : Bool
+
+abbrev pub in_place : List ℕ → Into
+in_place out = record { name = out; fresh = false }
+
+-- what it begins with, which is nothing where it isn't there, and the base that the assembly begins with
+abbrev pub old_of : Map (List ℕ) → Into → List ℕ
+old_of files out = if out.fresh then [] else unwrap_or (files out.name) []
+
+abbrev pub base_of : Map (List ℕ) → Into → Listing → List ℕ
+base_of files out l = resized (old_of files out) (image_length l)
+
+-- it alone has changed, and holds t
+abbrev pub Leaves : Map (List ℕ) → Map (List ℕ) → Into → List ℕ → Type 0
+Leaves before after out t = after ≡ at_name before out.name (Some t)
+
+-- the seeds of an extraction: the names of their images, and what their indexes list
+pub record Seeds : Type 0 where
+  pub images : List (List ℕ)
+  pub listings : List Listing
+
+-- the image of seed s is one of these files. An entry of the seed's index with this id and size lies inside it, and is
+-- right in it
+pub record SeedHas (files : Map (List ℕ)) (x : Seeds) (id : List ℕ) (size s : ℕ) : Type 0 where
+  pub image : List ℕ
+  pub named : slice_get x.images s ≡ Some image
+  pub listing : Listing
+  pub listed : slice_get x.listings s ≡ Some listing
+  pub bytes : List ℕ
+  pub there : files image ≡ Some bytes
+  pub entry : ℕ
+  pub inside : entry < count_of listing
+  pub id_is : id_of listing entry ≡ id
+  pub size_is : size_of listing entry ≡ size
+  pub fits : start_of listing entry + size ≤ length bytes
+  pub right : IsRightAt bytes listing entry
+
+-- entry i can be had: an alike one is right in the base, or a seed has its chunk in one of these files, or the cache or
+-- a store gives it, which hold these maps
+abbrev pub CanBeHad : Listing → List ℕ → Map (List ℕ) → Seeds → List (Map (List ℕ)) → ℕ → Type 0
+CanBeHad l base files x maps i = RightAlike l base i ⊎ (((s : ℕ) × SeedHas files x (id_of l i) (size_of l i) s)
+    ⊎ SomeGives (kind_of l) (id_of l i) (size_of l i) maps)
+
+-- so it is where the base and the images of seeds are of these files, and the folders of the cache and of the stores
+-- hold these
+abbrev pub HadFrom : Map (List ℕ) → Into → Listing → Seeds → List (Map (List ℕ)) → List (Map (List ℕ)) → ℕ → Type 0
+HadFrom before out l x cached stores =
+    CanBeHad l (base_of before out l) before x (map chunks cached ++ map chunks stores)
+
+-- each entry that can be had is right in t, and each other has the base's bytes
+abbrev pub AreFilled : Listing → (ℕ → Type 0) → List ℕ → List ℕ → Type 0
+AreFilled l P base t =
+    (i : ℕ) → i < count_of l → (P i → IsRightAt t l i) × ((P i → ⊥) → slice_of l t i ≡ slice_of l base i)
+
+-- the file alone has changed. It holds t, in which each range is right or the base's unless the file failed
+abbrev pub KeepsIn : Disk → Disk → Map (List ℕ) → Map (List ℕ) → Into → Listing → List ℕ → Type 0
+KeepsIn d e before after out l t =
+    Leaves before after out t × KeepsBase l (FileRose d e out.name) (base_of before out l) t
+
+-- what stands there where no entry is named: it wasn't taken, or has what it began with, or keeps the base
+abbrev pub StopsSomewhere : Disk → Disk → Map (List ℕ) → Map (List ℕ) → Into → Listing → Type 0
+StopsSomewhere d e before after out l =
+    (after ≡ before) ⊎ (Leaves before after out (old_of before out) ⊎ ((t : List ℕ) × KeepsIn d e before after out l t))
+
+-- afterwards the folder of the cache doesn't give the chunk of entry k, unless calls on it have failed
+abbrev pub CacheLacksEntry : Disk → Disk → Option (List ℕ) → Listing → ℕ → Type 0
+CacheLacksEntry d e None l k = Unit {0}
+CacheLacksEntry d e (Some c) l k = IfSome e.folders (λ n. IfSome (n c) (λ g.
+    GivesChunk (kind_of l) (id_of l k) (size_of l k) (chunks g (id_of l k)) → FolderRose d e c))
+
+-- so it is where all stores are folders of these, whose files are told
+abbrev pub WhereFolders : Map (Map (List ℕ)) → List Location → (List (Map (List ℕ)) → Type 0) → Type 0
+WhereFolders n stores P = (fs : List (Map (List ℕ))) → map (told_at n) stores ≡ map Some fs → P fs
+
+-- the chunk of entry k can't be had from the stores, for this reason; an alike entry that is right in the base
+-- couldn't be read, and no seed that has the chunk; and the cache doesn't give it. n are the folders
+pub record IsLacking (w v : Sources) (before : Map (List ℕ)) (n : Map (Map (List ℕ))) (cache : Option (List ℕ))
+    (out : Into) (l : Listing) (x : Seeds) (stores : List Location) (k : ℕ) (id : ChunkId) (r : Refused) : Type 0 where
+  pub listed : k < count_of l
+  pub id_is : id.0 ≡ id_of l k
+  pub said : HaveLacked (chunk_of (kind_of l) id (size_of l k)) w v stores r
+  pub lacks : WhereFolders n stores (λ fs. LacksAll (chunk_of (kind_of l) id (size_of l k)) (map chunks fs) r)
+  pub copies : RightAlike l (base_of before out l) k → FileRose w.disk v.disk out.name
+  pub seeds : (s : ℕ) (h : SeedHas before x (id_of l k) (size_of l k) s) → FileRose w.disk v.disk h.image
+  pub uncached : CacheLacksEntry w.disk v.disk cache l k
+
+-- a store that has said this lacks the chunk of entry k: it has denied its id, or shown bytes under it that aren't it
+abbrev pub LacksEntry : Listing → ℕ → Said → Type 0
+LacksEntry l k s = s.denied (id_of l k) ⊎ (s.longer (id_of l k) (size_of l k)
+    ⊎ ((b : List ℕ) × s.shown (id_of l k) b × (IsChunk (kind_of l) (id_of l k) (size_of l k) b → ⊥)))
+
+-- the name of the cache's folder, where there is a cache
+abbrev pub folder_of : Option (List ℕ) → List (List ℕ)
+folder_of None = []
+folder_of (Some name) = name ∷ []
+
+-- so it is where files and folders are told; these are the folders, and the files of the cache's
+abbrev pub Told : Disk → Disk → Option (List ℕ)
+    → (Map (List ℕ) → Map (List ℕ) → Map (Map (List ℕ)) → List (Map (List ℕ)) → Type 0) → Type 0
+Told d e cache P = IfSome d.files (λ b. IfSome d.folders (λ n. IfSome e.files (λ a. (cs : List (Map (List ℕ)))
+    × (map n (folder_of cache) ≡ map Some cs) × P b a n cs)))
+
+-- nothing fails. Where there is a cache, the folders also have, of each id that the index lists with several sizes,
+-- chunks of one size alone
+abbrev pub Undisturbed : Disk → Disk → Option (List ℕ) → Listing → List (Map (List ℕ)) → List (Map (List ℕ)) → Type 0
+Undisturbed d e cache l cs fs = DiskQuiet d e
+    × (IsSome cache → GiveOneSize (IsListedAs l) (kind_of l) (map chunks cs ++ map chunks fs))
+
+-- entry k is named, for this reason, and each before it is right. Where stores are folders, undisturbed, k is the least
+-- that can't be had, and each that can be had was made right
+abbrev pub StopsLacking : Sources → Sources → List Location → Option (List ℕ) → Into → Listing → Seeds → ℕ → ChunkId
+    → Refused → Type 0
+StopsLacking w v stores cache out l x k id r = Told w.disk v.disk cache (λ b a n cs.
+    ((t : List ℕ) × KeepsIn w.disk v.disk b a out l t × ((i : ℕ) → i < k → IsRightAt t l i)
+    × WhereFolders n stores (λ fs. Undisturbed w.disk v.disk cache l cs fs
+    → AreFilled l (HadFrom b out l x cs fs) (base_of b out l) t))
+    × IsLacking w v b n cache out l x stores k id r
+    × WhereFolders n stores (λ fs. Undisturbed w.disk v.disk cache l cs fs → IsLeast (HadFrom b out l x cs fs) k))
+
+-- the first store that failed is named, where no store gave the chunk of some entry
+abbrev pub StopsFailed : Sources → Sources → List Location → Listing → ℕ → Type 0
+StopsFailed w v stores l s = (k : ℕ) × FailsFirst (LacksEntry l k) w v s stores × (k < count_of l)
+
+-- the file became the image of the index, with chunks from the seeds, the cache and the stores, or why not. Where
+-- stores are folders, undisturbed, it does so exactly where each entry can be had; else the first that can't
+-- be had is named
+abbrev pub Assembled : Sources → Sources → List Location → Option (List ℕ) → Into → Listing → Seeds
+    → Result Unit Outcome → Type 0
+Assembled w v stores cache out l x (Ok u) = Told w.disk v.disk cache (λ b a n cs.
+    ((t : List ℕ) × KeepsIn w.disk v.disk b a out l t × IsRight t l)
+    × WhereFolders n stores (λ fs. Undisturbed w.disk v.disk cache l cs fs
+    → (i : ℕ) → i < count_of l → HadFrom b out l x cs fs i))
+Assembled w v stores cache out l x (Err (ends.Missing k id)) = StopsLacking w v stores cache out l x k id
+    refused.Missing
+Assembled w v stores cache out l x (Err (ends.Damaged k id store shows)) = StopsLacking w v stores cache out l x k id
+    (refused.Damaged store shows)
+Assembled w v stores cache out l x (Err (ends.StoreFault s)) = StopsFailed w v stores l s
+    × Told w.disk v.disk cache (λ b a n cs. (t : List ℕ) × KeepsIn w.disk v.disk b a out l t)
+Assembled w v stores cache out l x (Err ends.TargetFault) = FileRose w.disk v.disk out.name
+    × Told w.disk v.disk cache (λ b a n cs. StopsSomewhere w.disk v.disk b a out l)
+Assembled w v stores cache out l x (Err ends.Memory) =
+    Told w.disk v.disk cache (λ b a n cs. StopsSomewhere w.disk v.disk b a out l)
+Assembled w v stores cache out l x (Err other) = ⊥
+
+-- OUT holds afterwards the image that INDEX listed before
+pub record IsExtracted (before after : Map (List ℕ)) (index out : List ℕ) : Type 0 where
+  pub listing : Listing
+  pub listed : IsListed before index listing
+  pub image : List ℕ
+  pub holds : after out ≡ Some image
+  pub right : IsRight image listing
+
+-- the answer of an assembly, and that where OUT can't be taken
+abbrev pub answer_of_assembly : Result Report ExtractFault → Result Unit Outcome
+answer_of_assembly (Ok r) = Ok tt
+answer_of_assembly (Err (faults.Missing k id)) = Err (ends.Missing k id)
+answer_of_assembly (Err (faults.Damaged k id store shows)) = Err (ends.Damaged k id store shows)
+answer_of_assembly (Err (faults.StoreFault store)) = Err (ends.StoreFault store)
+answer_of_assembly (Err faults.TargetFault) = Err ends.TargetFault
+answer_of_assembly (Err faults.Memory) = Err ends.Memory
+
+abbrev pub answer_of_taking : IoFault → Result Unit Outcome
+answer_of_taking io.Failed = Err ends.TargetFault
+answer_of_taking io.Memory = Err ends.Memory
+
+-- ---- what is added to the cache
+
+-- the bytes are the chunk of an entry; where stores are folders of these, one of them holds it
+abbrev pub IsForCache : Listing → Map (Map (List ℕ)) → List Location → List ℕ → List ℕ → Type 0
+IsForCache l n stores id b = (i : ℕ) × (i < count_of l) × (id ≡ id_of l i)
+    × IsChunk (kind_of l) (id_of l i) (size_of l i) b
+    × WhereFolders n stores (λ fs. Any (λ m. m (id_of l i) ≡ Some b) (map chunks fs))
+
+-- chunks were added to a folder: under each id it holds what it held, or such bytes. Each file that is neither a
+-- chunk's nor a temporary one stands as before
+pub record CacheGrows (l : Listing) (n : Map (Map (List ℕ))) (stores : List Location) (old new : Map (List ℕ))
+    : Type 0 where
+  pub held : (id : List ℕ) → (chunks new id ≡ chunks old id)
+      ⊎ ((b : List ℕ) × (chunks new id ≡ Some b) × IsForCache l n stores id b)
+  pub strangers : (q : List ℕ) → IsTrue (is_stranger q) → new q ≡ old q
+
+-- no folder but the cache's has changed, and that one so
+abbrev pub CacheFilled : List Location → Option (List ℕ) → Listing → Disk → Disk → Type 0
+CacheFilled stores None l d e = e.folders ≡ d.folders
+CacheFilled stores (Some c) l d e = (is_some e.folders ≡ is_some d.folders) × IfSome d.folders (λ m.
+    IfSome e.folders (λ n. (f : Map (List ℕ)) × (m c ≡ Some f) × (g : Map (List ℕ)) × (n ≡ at_name m c (Some g))
+    × CacheGrows l m stores f g))
+
+-- a disk whose files were written, and the cache's folder. No number falls
+pub record FillsCache (stores : List Location) (cache : Option (List ℕ)) (l : Listing) (d e : Disk) : Type 0 where
+  pub folders : CacheFilled stores cache l d e
+  pub counts : (q : List ℕ) → count_at d.file_counts q ≤ count_at e.file_counts q
+  pub folder_counts : (q : List ℕ) → count_at d.folder_counts q ≤ count_at e.folder_counts q
+
+-- files tell afterwards where they told before
+abbrev pub ImageMade : List Location → Option (List ℕ) → Into → Listing → Seeds → Step Sources Unit
+ImageMade stores cache out l x w r v = Assembled w v stores cache out l x r × FillsCache stores cache l w.disk v.disk
+    × (is_some v.disk.files ≡ is_some w.disk.files) × DialsStores stores w.dial v.dial
+
+-- ---- by way of a temporary file
+
+-- the temporary file beside OUT
+abbrev pub temporary_out : List ℕ → List ℕ
+temporary_out out = out ++ codes ".tmp-desync"
+
+abbrev pub beside : List ℕ → Into
+beside out = record { name = temporary_out out; fresh = true }
+
+-- the file isn't there any more; where it still is, removing it failed, or there was no memory. Nothing else has
+-- changed
+abbrev pub Cleared : List ℕ → Disk → Outcome → Disk → Type 0
+Cleared name d o e = ((e.files ≡ option_map (λ m. at_name m name None) d.files)
+    ⊎ ((e.files ≡ d.files) × (IfSome d.files (λ m. m name ≡ None) ⊎ (FileRose d e name ⊎ (o ≡ ends.Memory)))))
+    × Writes d e
+
+-- the step, after whose refusal the file of this name is cleared. Want of memory is told in the place of its refusal
+abbrev pub Clearing : List ℕ → Step Sources Unit → Step Sources Unit
+Clearing name step w (Ok u) v = step w (Ok u) v
+Clearing name step w (Err o) v = (c : Disk) × (p : Outcome) × step w (Err p) (sources c v.dial)
+    × ((o ≡ p) ⊎ (o ≡ ends.Memory)) × Cleared name c o v.disk
+
+-- so it is with the refusal of a step that answered so
+abbrev pub ClearedAfter : List ℕ → Disk → Result Unit Outcome → Result Unit Outcome → Disk → Type 0
+ClearedAfter name d (Ok u) (Ok v) e = e ≡ d
+ClearedAfter name d (Ok u) (Err o) e = ⊥
+ClearedAfter name d (Err p) (Ok v) e = ⊥
+ClearedAfter name d (Err p) (Err o) e = ((o ≡ p) ⊎ (o ≡ ends.Memory)) × Cleared name d o e
+
+-- it isn't there. Want of memory is free, since the outcome keeps the name
+abbrev pub IsNoFile : List ℕ → Outcome → Type 0
+IsNoFile q (ends.NoFile name) = name ≡ q
+IsNoFile q ends.Memory = Unit {0}
+IsNoFile q other = ⊥
+
+-- the temporary file became OUT
+abbrev pub NotRenamed : List ℕ → List ℕ → Disk → Outcome → Disk → Type 0
+NotRenamed from to d (ends.NoFile name) e = (name ≡ from) × IfSome d.files (λ m. m from ≡ None)
+NotRenamed from to d (ends.FileFault name) e = (name ≡ to) × FileRose d e to
+NotRenamed from to d ends.Memory e = Unit {0}
+NotRenamed from to d other e = ⊥
+
+abbrev pub Renamed : List ℕ → List ℕ → Step Disk Unit
+Renamed from to d (Ok u) e =
+    (e.files ≡ option_map (λ m. at_name (at_name m to (m from)) from None) d.files) × Writes d e
+Renamed from to d (Err o) e = NotRenamed from to d o e × (e.files ≡ d.files) × Writes d e
+
+-- ---- the command
+
+-- OUT becomes the image: it is made it in its place; or the temporary file is, and takes OUT's name
+abbrev pub OutMade : Bool → List Location → Option (List ℕ) → List ℕ → Listing → Seeds → Step World Unit
+OutMade true stores cache out l x = OnSources (ImageMade stores cache (in_place out) l x)
+OutMade false stores cache out l x = do
+  _ ← OnSources (Clearing (temporary_out out) (ImageMade stores cache (beside out) l x))
+  OnSources (Clearing (temporary_out out) (NotAsking (Renamed (temporary_out out) out)))
+
+-- while the cache is used its folder counts as there
+abbrev pub ExtractEnds : List Location → Option (List ℕ) → List (List ℕ) → Bool → List ℕ → List ℕ → Step World Unit
+ExtractEnds stores cache seeds in_place index out = do
+  l ← OnDisk (IndexRead index)
+  ls ← OnDisk (IndexesRead seeds)
+  _ ← OnDisk (SourcesOpened stores)
+  _ ← OnDisk (CacheOpened cache)
+  OutMade in_place stores cache out l (record { images = map image_name seeds; listings = ls })

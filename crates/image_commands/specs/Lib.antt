@@ -1,0 +1,6 @@
+pub mod Chop
+pub mod Demo
+pub mod Extract
+pub mod Make
+pub mod VerifyIndex
+pub mod Views

@@ -1,0 +1,60 @@
+//! `demo NUMBER SIZE`: an image that NUMBER makes is cut, stored and extracted, all in memory.
+
+ghost use Rattle.std.specs.Prelude.{◌≤◌, ◌^◌};
+ghost use Rattle.command_steps.specs.Printing.{Printed};
+ghost use Rattle.command_steps.specs.Worlds.{world};
+ghost use Rattle.image_commands.specs.Demo.{DemoEnds, Rehearsed};
+ghost use Rattle.dsy_base.specs.Disk.{Disk};
+ghost use Rattle.dsy_base.specs.Links.{DialState};
+ghost use Rattle.image_demo.specs.Figures.{text_of_figures};
+
+use command_outcome::outcome::Outcome;
+use command_steps::printing::printed;
+use dsy_base::sink::Sink;
+use image_demo::demo::demo as figures_of;
+use image_demo::fault::DemoFault;
+use image_demo::figures::Figures;
+use std::alloc::Global;
+use std::thread::Threads;
+
+// Makes, stores and extracts the image.
+fn rehearse<R: Threads + Sync>(
+    rt: &R,
+    alloc: Global,
+    number: u64,
+    size: u64,
+) -> Result<Figures, Outcome>
+    requires { size ≤ 2 ^ 29 }
+    ensures { Rehearsed number size result }
+{
+    match figures_of(rt, alloc, number, size) {
+        Ok(figures) => Ok(figures),
+        Err(DemoFault::Mismatch { entry, id }) => Err(Outcome::Mismatch { entry, got: id }),
+        Err(DemoFault::Memory) => Err(Outcome::Memory),
+    }
+}
+
+// Prints the figures.
+#[tactic(auto, using(command_steps::proofs::Texts::text_put))]
+fn print<O: Sink>(alloc: Global, figures: &Figures, out: &mut O) -> Result<(), Outcome>
+    ensures printed { Printed (text_of_figures figures.now) (O.output out.old) result (O.output out.new) }
+{
+    printed(figures.put(alloc, out))
+}
+
+/// Prints what it takes to make the image of NUMBER and SIZE from a seed and a store in memory.
+pub fn demo<R: Threads + Sync, O: Sink>(
+    rt: &R,
+    alloc: Global,
+    out: &mut O,
+    number: u64,
+    size: u64,
+) -> Result<(), Outcome>
+    requires { size ≤ 2 ^ 29 }
+    ensures ends { (d : Disk) (k : DialState) → DemoEnds number size (world d k (O.output out.old)) result
+        (world d k (O.output out.new)) }
+{
+    let figures = rehearse(rt, alloc, number, size)?;
+    print(alloc, &figures, out)?;
+    Ok(())
+}

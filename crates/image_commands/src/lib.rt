@@ -1,0 +1,11 @@
+//! The commands on images, a file each: an image is indexed, stored, made of chunks, or held against an index.
+#![tactic(auto)]
+
+mod beside;
+pub mod chop;
+pub mod demo;
+pub mod extract;
+pub mod image_files;
+pub mod make;
+pub mod verify_index;
+mod views;

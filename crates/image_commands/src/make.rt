@@ -1,0 +1,177 @@
+//! `make -s STORE INDEX IMAGE`: INDEX becomes the index of IMAGE, and STORE holds each of its chunks.
+
+ghost use Rattle.std.specs.Prelude.{◌≡◌, ℕ, ◌<◌, ◌≤◌, List, Option, map, vec_len, All};
+ghost use Rattle.std.specs.Prelude.{Ok, Err, IfErr, IfOk, IsSome, OnOk};
+ghost use Rattle.std.specs.Map.{count_at};
+ghost use Rattle.buzhash_cut.specs.Image.{AreOfOneImage};
+ghost use Rattle.command_steps.specs.AnySources.{IsGiven, IsKnown, faults_in, files_in, location_in};
+ghost use Rattle.command_steps.specs.Sources.{sources};
+ghost use Rattle.command_steps.specs.Taking.{SourceTaken, given_to};
+ghost use Rattle.image_commands.specs.Views.{AreOf, IfFirst};
+ghost use Rattle.command_steps.specs.Worlds.{Adds, world};
+ghost use Rattle.image_commands.specs.Make.{ImageStored, IndexWritten, MakeEnds, SizesJudged, WritesStore};
+ghost use Rattle.dsy_base.specs.Counts.{raised};
+ghost use Rattle.dsy_base.specs.Disk.{Output};
+
+use crate::image_files::ImageFiles;
+use crate::views::{end_views, open_views};
+use buzhash_cut::sizes::CutSizes;
+use command_line::command::Location;
+use command_outcome::outcome::Outcome;
+use command_steps::any_source::AnySource;
+use command_steps::taking::{give_source, take_source};
+use dsy_base::dial::Dial;
+use dsy_base::fault::IoFault;
+use dsy_base::files::Files;
+use dsy_base::folder::Folder;
+use dsy_base::look::Look;
+use dsy_base::name::Name;
+use dsy_base::view::View;
+use image_store::put_chunks::MakeFault;
+use image_store::store_image::store_image;
+use std::alloc::Global;
+use std::thread::Threads;
+
+// The sizes, unless they are refused.
+fn judge(sizes: [u64; 3]) -> Result<CutSizes, Outcome>
+    ensures { SizesJudged sizes result }
+{
+    match CutSizes::new(sizes[0], sizes[1], sizes[2]) {
+        Ok(sizes) => Ok(sizes),
+        Err(fault) => Err(Outcome::Sizes(fault)),
+    }
+}
+
+// Takes the store. Where it isn't reached, the views are given back.
+fn take_store<F: Files, D: Dial>(
+    alloc: Global,
+    files: &mut F,
+    dial: &D,
+    views: Vec<F::View>,
+    store: &Location,
+) -> Result<(Vec<F::View>, AnySource<F::Folder, D>), Outcome>
+    requires known { All (λ v. IsSome ((F.disk files.old).file_counts (F.View.held v).name)) views.items }
+    ensures kept { IfOk result (λ r. r.0 ≡ views) }
+    ensures ok { IfOk result (λ r. SourceTaken store.now (F.disk files.old) (Ok (files_in F.Folder.files r.1))
+        (F.disk files.new)) }
+    ensures changed { OnOk result (Adds (F.disk files.old) (F.disk files.new)) }
+    ensures located { IfOk result (λ r. location_in F.Folder.place r.1 ≡ store.now) }
+    ensures fresh { IfOk result (λ r. faults_in F.Folder.faults D.state r.1 ≡ 0) }
+    ensures known { OnOk result (IsKnown (F.disk files.new).folder_counts store.now) }
+    ensures err { IfErr result (λ o. SourceTaken store.now (F.disk files.old) (Err o) (F.disk files.new)) }
+{
+    match take_source(alloc, files, dial, store) {
+        Ok(taken) => Ok((views, taken)),
+        Err(outcome) => {
+            end_views(files, views);
+            Err(outcome)
+        }
+    }
+}
+
+// Gives the views and the store back.
+fn give_store<F: Files, D: Dial>(
+    files: &mut F,
+    dial: &mut D,
+    views: Vec<F::View>,
+    store: &Location,
+    taken: AnySource<F::Folder, D>,
+)
+    requires known { All (λ v. IsSome ((F.disk files.old).file_counts (F.View.held v).name)) views.items
+        × IsKnown (F.disk files.old).folder_counts store.now }
+    requires located { location_in F.Folder.place taken ≡ store.now }
+    ensures folders { (F.disk files.new).folders
+        ≡ given_to store.now (files_in F.Folder.files taken) (F.disk files.old).folders }
+    ensures kept { WritesStore store.now (sources (F.disk files.old) (D.state dial.old))
+        (sources (F.disk files.new) (D.state dial.new)) }
+    ensures given { IsGiven F.Folder.place F.Folder.faults D.state
+        (sources (F.disk files.old) (D.state dial.old)) (sources (F.disk files.new) (D.state dial.new)) taken }
+    ensures added { IfFirst (λ v.
+        raised (count_at (F.disk files.old).file_counts (F.View.held v).name) (F.View.faults v)
+        ≤ count_at (F.disk files.new).file_counts (F.View.held v).name) views.items }
+{
+    end_views(files, views);
+    give_source(files, dial, store, taken)
+}
+
+// Stores the image in the store that was taken, and gives the bytes of its index file. Views and store are given back,
+// whatever the answer is.
+fn store_between<R: Threads + Sync, F: Files, D: Dial>(
+    rt: &R,
+    alloc: Global,
+    files: &mut F,
+    dial: &mut D,
+    sizes: &CutSizes,
+    views: Vec<F::View>,
+    store: &Location,
+    taken: AnySource<F::Folder, D>,
+) -> Result<Vec<u8>, Outcome>
+where
+    F::View: Send,
+    requires some { 0 < vec_len views }
+    requires alike { AreOfOneImage (map F.View.held views.items) }
+    requires image { All (λ v. IsSome ((F.disk files.old).file_counts (F.View.held v).name)) views.items }
+    requires known { IsKnown (F.disk files.old).folder_counts store.now }
+    requires located { location_in F.Folder.place taken ≡ store.now }
+    requires fresh { All (λ v. F.View.faults v ≡ 0) views.items
+        × (faults_in F.Folder.faults D.state taken ≡ 0) }
+    ensures ok { IfOk result (λ b. (q : List ℕ) (told : Option (List ℕ)) →
+        AreOf q told (map F.View.held views.items) →
+        ImageStored sizes.now q told store.now (files_in F.Folder.files taken)
+        (sources (F.disk files.old) (D.state dial.old)) (Ok b.items) (sources (F.disk files.new) (D.state dial.new))) }
+    ensures err { IfErr result (λ o. (q : List ℕ) (told : Option (List ℕ)) →
+        AreOf q told (map F.View.held views.items) →
+        ImageStored sizes.now q told store.now (files_in F.Folder.files taken)
+        (sources (F.disk files.old) (D.state dial.old)) (Err o) (sources (F.disk files.new) (D.state dial.new))) }
+{
+    let (views, taken, stored) = store_image(rt, alloc, sizes, views, taken);
+    give_store(files, dial, views, store, taken);
+    match stored {
+        Ok(bytes) => Ok(bytes),
+        Err(fault) => match fault {
+            MakeFault::ImageFault => Err(Outcome::ImageFault),
+            MakeFault::TooManyItems => Err(Outcome::TooManyItems),
+            MakeFault::Changed { entry, was, got } => Err(Outcome::Changed { entry, was, got }),
+            MakeFault::StoreFault => Err(Outcome::StoreFault { store: 0 }),
+            MakeFault::Memory => Err(Outcome::Memory),
+        },
+    }
+}
+
+// Writes the index file of this name.
+fn write_index<F: Files>(files: &mut F, name: Name, bytes: &[u8]) -> Result<(), Outcome>
+    ensures { IndexWritten name bytes.now (F.disk files.old) result (F.disk files.new) }
+{
+    match files.replace(name.as_str(), bytes) {
+        Ok(()) => Ok(()),
+        Err(IoFault::Failed) => Err(Outcome::FileFault { name }),
+        Err(IoFault::Memory) => Err(Outcome::Memory),
+    }
+}
+
+/// Makes INDEX the index of IMAGE, cut by the sizes with so many workers, and puts its chunks into STORE. What STORE
+/// holds already is left where it is right.
+pub fn make<R: Threads + Sync, F: ImageFiles, D: Dial>(
+    rt: &R,
+    alloc: Global,
+    files: &mut F,
+    dial: &mut D,
+    store: Location,
+    sizes: [u64; 3],
+    workers: u32,
+    index: Name,
+    image: Name,
+) -> Result<(), Outcome>
+where
+    F::View: Send,
+    ensures ends { (p : Output) → MakeEnds store sizes index image
+        (world (F.disk files.old) (D.state dial.old) p) result
+        (world (F.disk files.new) (D.state dial.new) p) }
+{
+    let sizes = judge(sizes)?;
+    let views = open_views(alloc, files, image, workers)?;
+    let (views, taken) = take_store(alloc, files, dial, views, &store)?;
+    let bytes = store_between(rt, alloc, files, dial, &sizes, views, &store, taken)?;
+    write_index(files, index, &bytes)?;
+    Ok(())
+}

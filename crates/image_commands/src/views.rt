@@ -1,0 +1,84 @@
+//! The views of an image that is cut: as many as there are workers.
+
+ghost use Rattle.std.specs.Prelude.{◌≡◌, ℕ, ◌<◌, ◌≤◌, List, map, vec_len, All, Option, IfOk, IfErr, IsSome};
+ghost use Rattle.std.specs.Map.{count_at};
+ghost use Rattle.buzhash_cut.specs.Image.{AreOfOneImage};
+ghost use Rattle.command_steps.specs.Openings.{Holds, NotOpened};
+ghost use Rattle.command_steps.specs.Worlds.{Reads};
+ghost use Rattle.image_commands.specs.Views.{AreOf, GrowsBy, IfFirst, IsViewOf};
+ghost use Rattle.dsy_base.specs.Counts.{raised};
+
+use crate::image_files::ImageFiles;
+use command_outcome::outcome::Outcome;
+use command_steps::openings::unopened;
+use dsy_base::files::Files;
+use dsy_base::name::Name;
+use dsy_base::view::View;
+use std::alloc::Global;
+
+// Opens one view more. One that can't be opened, or that is of another size, is left out.
+fn add_view<F: Files>(files: &mut F, image: &str, size: u64, views: &mut Vec<F::View>)
+    ensures kept { Reads (F.disk files.old) (F.disk files.new) }
+    ensures changed { GrowsBy (λ v. (F.View.faults v ≡ 0)
+        × IsViewOf (F.disk files.old) image.now size (F.View.held v)
+        × IsSome ((F.disk files.new).file_counts image.now)) views.old.items views.new.items }
+{
+    let Ok(view) = files.view(image) else {
+        return;
+    };
+    if view.size() != size {
+        files.end_view(view);
+        return;
+    }
+    if let Err(refused) = views.push(view) {
+        files.end_view(refused.value);
+    }
+}
+
+/// Opens the image as often as `count` says, and once at least. A view that can't be opened after the first one, or
+/// whose size isn't the first one's, is left out.
+pub fn open_views<F: ImageFiles>(
+    alloc: Global,
+    files: &mut F,
+    image: Name,
+    count: u32,
+) -> Result<Vec<F::View>, Outcome>
+    ensures some { IfOk result (λ vs. 0 < vec_len vs) }
+    ensures bytes { IfOk result (λ vs. (told : Option (List ℕ)) × Holds (F.disk files.old) image told
+        × AreOf image told (map F.View.held vs.items)) }
+    ensures alike { IfOk result (λ vs. AreOfOneImage (map F.View.held vs.items)) }
+    ensures fresh { IfOk result (λ vs. All (λ v. F.View.faults v ≡ 0) vs.items) }
+    ensures known { IfOk result (λ vs.
+        All (λ v. IsSome ((F.disk files.new).file_counts (F.View.held v).name)) vs.items) }
+    ensures err { IfErr result (NotOpened (F.disk files.old) (F.disk files.new) image) }
+    ensures kept { Reads (F.disk files.old) (F.disk files.new) }
+{
+    let first = match files.view(image.as_str()) {
+        Ok(view) => view,
+        Err(fault) => return Err(unopened(fault, image)),
+    };
+    let size = first.size();
+    let mut views = Vec::new(alloc);
+    if let Err(refused) = views.push(first) {
+        files.end_view(refused.value);
+        return Err(Outcome::Memory);
+    }
+    for _ in 1..count {
+        add_view(files, image.as_str(), size, &mut views);
+    }
+    Ok(views)
+}
+
+/// Gives all views back.
+pub fn end_views<F: Files>(files: &mut F, views: Vec<F::View>)
+    requires known { All (λ v. IsSome ((F.disk files.old).file_counts (F.View.held v).name)) views.items }
+    ensures kept { Reads (F.disk files.old) (F.disk files.new) }
+    ensures added { IfFirst (λ v.
+        raised (count_at (F.disk files.old).file_counts (F.View.held v).name) (F.View.faults v)
+        ≤ count_at (F.disk files.new).file_counts (F.View.held v).name) views.items }
+{
+    let mut views = views;
+    while let Some(view) = views.pop() {
+        files.end_view(view);
+    }
+}

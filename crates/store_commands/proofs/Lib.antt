@@ -1,0 +1,4 @@
+pub mod CacheFilled
+pub mod Counting
+pub mod GivenFolders
+pub mod Listened

@@ -1,0 +1,88 @@
+//! `info -s STORE.. INDEX`: the figures of an index, and how many of its ids the stores hold where some are given.
+
+ghost use Rattle.std.specs.Prelude.{◌≡◌, ◌≤◌, length, Some};
+ghost use Rattle.store_commands.specs.Info.{Counted, InfoEnds};
+ghost use Rattle.command_steps.specs.Printing.{Printed};
+ghost use Rattle.command_steps.specs.Sources.{ConsultsStores, sources};
+ghost use Rattle.command_steps.specs.Worlds.{world};
+ghost use Rattle.verify_tool.specs.Texts.{text_of_info};
+
+use caibx_codec::index::Index;
+use command_line::command::{Location, Locations};
+use command_outcome::outcome::Outcome;
+use command_steps::openings::read_index;
+use command_steps::printing::printed;
+use command_steps::sources::{close_sources, open_sources};
+use dsy_base::dial::Dial;
+use dsy_base::files::Files;
+use dsy_base::name::Name;
+use dsy_base::sink::Sink;
+use std::alloc::Global;
+use store_chain::chain::Chain;
+use store_chain::refused::HasFault;
+use verify_tool::count::count_in_store;
+use verify_tool::info::info as put_figures;
+
+// How many different listed ids the stores hold, where some are given.
+fn count<F: Files, D: Dial>(
+    alloc: Global,
+    files: &mut F,
+    dial: &mut D,
+    index: &Index,
+    stores: &[Location],
+) -> Result<Option<u64>, Outcome>
+    requires { length stores.now ≤ 16 }
+    ensures counted { Counted (sources (F.disk files.old) (D.state dial.old))
+        (sources (F.disk files.new) (D.state dial.new)) stores.now index.now result }
+    ensures kept { ConsultsStores stores.now (sources (F.disk files.old) (D.state dial.old))
+        (sources (F.disk files.new) (D.state dial.new)) }
+{
+    if stores.is_empty() {
+        return Ok(None);
+    }
+    let opened = open_sources(alloc, files, dial, stores)?;
+    let mut chain = Chain::new(opened);
+    let counted = count_in_store(alloc, index, &mut chain);
+    close_sources(files, dial, chain.into_stores());
+    match counted {
+        Ok(n) => Ok(Some(n)),
+        Err(fault) => match fault {
+            HasFault::StoreFault { store } => Err(Outcome::StoreFault { store }),
+            HasFault::Memory => Err(Outcome::Memory),
+        },
+    }
+}
+
+// Prints the figures.
+#[tactic(auto, using(command_steps::proofs::Texts::text_put))]
+fn print<O: Sink>(
+    alloc: Global,
+    index: &Index,
+    held: Option<u64>,
+    out: &mut O,
+) -> Result<(), Outcome>
+    ensures printed { Printed (text_of_info index.now held) (O.output out.old)
+        result (O.output out.new) }
+{
+    printed(put_figures(alloc, index, held, out))
+}
+
+/// Prints the figures of INDEX, with the number of its ids in the stores where some are given.
+pub fn info<F: Files, D: Dial, O: Sink>(
+    alloc: Global,
+    files: &mut F,
+    dial: &mut D,
+    out: &mut O,
+    stores: Locations,
+    index: Name,
+) -> Result<(), Outcome>
+    requires { length stores ≤ 16 }
+    ensures ends { InfoEnds stores index
+        (world (F.disk files.old) (D.state dial.old) (O.output out.old)) result
+        (world (F.disk files.new) (D.state dial.new) (O.output out.new)) }
+{
+    let listed = read_index(alloc, files, index)?;
+    let held = count(alloc, files, dial, &listed, stores.as_slice())?;
+    print(alloc, &listed, held, out)?;
+    Ok(())
+}

@@ -1,0 +1,31 @@
+//! `list-chunks INDEX`: the id of each chunk that INDEX lists.
+
+ghost use Rattle.command_steps.specs.Worlds.{world};
+ghost use Rattle.store_commands.specs.ListChunks.{ListChunksEnds};
+ghost use Rattle.dsy_base.specs.Links.{DialState};
+
+use command_outcome::outcome::Outcome;
+use command_steps::openings::read_index;
+use command_steps::printing::printed;
+use dsy_base::files::Files;
+use dsy_base::name::Name;
+use dsy_base::sink::Sink;
+use std::alloc::Global;
+use verify_tool::list::list_chunks as put_ids;
+
+/// Prints the id of each chunk that INDEX lists.
+#[tactic(auto, using(command_steps::proofs::Texts::text_put))]
+pub fn list_chunks<F: Files, O: Sink>(
+    alloc: Global,
+    files: &mut F,
+    out: &mut O,
+    index: Name,
+) -> Result<(), Outcome>
+    ensures ends { (k : DialState) → ListChunksEnds index
+        (world (F.disk files.old) k (O.output out.old)) result
+        (world (F.disk files.new) k (O.output out.new)) }
+{
+    let listed = read_index(alloc, files, index)?;
+    printed(put_ids(alloc, &listed, out))?;
+    Ok(())
+}

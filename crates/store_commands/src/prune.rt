@@ -1,0 +1,65 @@
+//! `prune -s STORE -y INDEX..`: STORE keeps no chunk but those that the indexes list.
+
+ghost use Rattle.std.specs.Prelude.{◌≡◌, IsSome};
+ghost use Rattle.command_steps.specs.Worlds.{world};
+ghost use Rattle.store_commands.specs.Prune.{PruneEnds, StorePruned};
+ghost use Rattle.dsy_base.specs.Disk.{Output};
+ghost use Rattle.dsy_base.specs.Links.{DialState};
+ghost use Rattle.verify_tool.specs.Pruning.{has_id};
+
+use chunk_store::id::ChunkId;
+use command_line::command::Names;
+use command_outcome::outcome::Outcome;
+use command_steps::seeds::read_indexes;
+use command_steps::taking::{give_folder, take_folder};
+use dir_store::store::DirStore;
+use dsy_base::fault::IoFault;
+use dsy_base::files::Files;
+use dsy_base::folder::Folder;
+use dsy_base::look::Look;
+use dsy_base::name::Name;
+use std::alloc::Global;
+use std::collections::BTreeSet;
+use verify_tool::prune::{listed_ids, prune as prune_store};
+
+// Prunes the store whose folder was taken. The folder is given back, whatever the answer is.
+fn prune_taken<F: Files>(
+    files: &mut F,
+    store: &str,
+    mut taken: DirStore<F::Folder>,
+    keep: &BTreeSet<ChunkId>,
+) -> Result<(), Outcome>
+    requires folder { IsSome ((F.disk files.old).folder_counts store.now) }
+    requires named { F.Folder.place taken ≡ store.now }
+    requires fresh { F.Folder.faults taken ≡ 0 }
+    ensures { StorePruned (has_id keep.now) store.now (F.Folder.files taken)
+        (F.disk files.old) result (F.disk files.new) }
+{
+    let pruned = prune_store(&mut taken, keep);
+    give_folder(files, store, taken);
+    match pruned {
+        Ok(_) => Ok(()),
+        Err(IoFault::Failed) => Err(Outcome::StoreFault { store: 0 }),
+        Err(IoFault::Memory) => Err(Outcome::Memory),
+    }
+}
+
+/// Removes the chunk files of STORE that no INDEX lists, and temporary files, once all indexes have been read.
+pub fn prune<F: Files>(
+    alloc: Global,
+    files: &mut F,
+    store: Name,
+    indexes: Names,
+) -> Result<(), Outcome>
+    ensures ends { (k : DialState) (p : Output) → PruneEnds store indexes
+        (world (F.disk files.old) k p) result
+        (world (F.disk files.new) k p) }
+{
+    let listed = read_indexes(alloc, files, indexes.as_slice())?;
+    let Ok(keep) = listed_ids(alloc, &listed) else {
+        return Err(Outcome::Memory);
+    };
+    let taken = take_folder(alloc, files, store.as_str())?;
+    prune_taken(files, store.as_str(), taken, &keep)?;
+    Ok(())
+}

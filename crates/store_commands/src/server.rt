@@ -1,0 +1,188 @@
+//! `chunk-server -s STORE -l HOST:PORT -w -n N`: the chunks of STORE over connections, which are served one after the
+//! other.
+
+ghost use Rattle.std.specs.Prelude.{◌≡◌, ◌≤◌, ◌⊎◌, [], false, true, Ok, Err, IsSome, OnOk, Some};
+ghost use Rattle.chunk_server.specs.Shelves.{shelved};
+ghost use Rattle.chunk_store.specs.declared.id.DigestKind.TheVariants as kinds;
+ghost use Rattle.command_steps.specs.Worlds.{world};
+ghost use Rattle.store_commands.specs.Serving.{ChunkServerEnds, FolderServed, Hears, IsIdle, IsServed, LacksMemory};
+ghost use Rattle.store_commands.specs.Serving.{Listens, RunsOut, answer_of_serving, heard};
+ghost use Rattle.dsy_base.specs.Counts.{Rose};
+ghost use Rattle.dsy_base.specs.Disk.{Output};
+ghost use Rattle.dsy_base.specs.Links.{DialState};
+
+use chunk_server::serve::{Served, serve};
+use chunk_server::state::ShelfState;
+use command_outcome::outcome::Outcome;
+use command_steps::taking::{give_folder, take_folder};
+use dir_store::store::DirStore;
+use dsy_base::fault::IoFault;
+use dsy_base::files::Files;
+use dsy_base::folder::Folder;
+use dsy_base::listen::Listen;
+use dsy_base::look::Look;
+use dsy_base::name::Name;
+use std::alloc::Global;
+
+// Where a listener listens.
+#[derive(Drop)]
+struct Address {
+    host: Name,
+    port: u16,
+}
+
+// Serves the connection that comes next, and answers whether one came. A call that fails on it ends it alone.
+fn serve_next<L: Listen, F: Folder>(
+    alloc: Global,
+    listen: &mut L,
+    shelf: &mut ShelfState<F>,
+) -> Result<bool, IoFault>
+    requires kind { shelf.old.kind ≡ kinds.Sha512T256 }
+    ensures served { result ≡ Ok true → Hears (IsServed shelf.old.writable) (L.state listen.old) (L.state listen.new)
+        (shelved F.files F.faults shelf.old.folder) (shelved F.files F.faults shelf.new.folder) }
+    ensures end { result ≡ Ok false → ((L.state listen.new).coming ≡ Some [])
+        × IsIdle (L.state listen.old) (L.state listen.new) × (shelf.new ≡ shelf.old) }
+    ensures failed { result ≡ Err IoFault.Failed → Rose (L.state listen.old).faults (L.state listen.new).faults
+        × IsIdle (L.state listen.old) (L.state listen.new) × (shelf.new ≡ shelf.old) }
+    ensures lacking { result ≡ Err IoFault.Memory →
+        (IsIdle (L.state listen.old) (L.state listen.new) × (shelf.new ≡ shelf.old))
+        ⊎ Hears (LacksMemory shelf.old.writable) (L.state listen.old) (L.state listen.new)
+        (shelved F.files F.faults shelf.old.folder) (shelved F.files F.faults shelf.new.folder) }
+    ensures kind { shelf.new.kind ≡ shelf.old.kind }
+    ensures kept { shelf.new.writable ≡ shelf.old.writable }
+    ensures place { F.place shelf.new.folder ≡ F.place shelf.old.folder }
+    ensures faults { (L.state listen.old).faults ≤ (L.state listen.new).faults }
+{
+    let mut link = match listen.accept() {
+        Ok(Some(link)) => link,
+        Ok(None) => return Ok(false),
+        Err(fault) => return Err(fault),
+    };
+    let served = serve(alloc, &mut link, shelf);
+    listen.end(link);
+    match served {
+        Served::Closed => Ok(true),
+        Served::LinkFault => Ok(true),
+        Served::Memory => Err(IoFault::Memory),
+    }
+}
+
+// Serves each connection that comes, until no more come.
+fn serve_each<L: Listen, F: Folder>(
+    alloc: Global,
+    listen: &mut L,
+    shelf: &mut ShelfState<F>,
+) -> Result<(), IoFault>
+    requires kind { shelf.old.kind ≡ kinds.Sha512T256 }
+    ensures end { OnOk result ((L.state listen.new).coming ≡ Some []) }
+    ensures served { OnOk result (Listens shelf.old.writable (L.state listen.old) (L.state listen.new)
+        (shelved F.files F.faults shelf.old.folder) (shelved F.files F.faults shelf.new.folder)) }
+    ensures failed { result ≡ Err IoFault.Failed → Rose (L.state listen.old).faults (L.state listen.new).faults
+        × Listens shelf.old.writable (L.state listen.old) (L.state listen.new)
+        (shelved F.files F.faults shelf.old.folder) (shelved F.files F.faults shelf.new.folder) }
+    ensures lacking { result ≡ Err IoFault.Memory → RunsOut shelf.old.writable (L.state listen.old) (L.state listen.new)
+        (shelved F.files F.faults shelf.old.folder) (shelved F.files F.faults shelf.new.folder) }
+    ensures place { F.place shelf.new.folder ≡ F.place shelf.old.folder }
+    ensures faults { (L.state listen.old).faults ≤ (L.state listen.new).faults }
+{
+    'links: for _ in 0..u64::MAX {
+        match serve_next(alloc, listen, shelf) {
+            Ok(true) => {}
+            Ok(false) => return Ok(()),
+            Err(fault) => return Err(fault),
+        }
+    }
+    // More connections than 64 bits count.
+    Err(IoFault::Memory)
+}
+
+// Listens at the address, and serves each connection that comes.
+fn serve_at<L: Listen, F: Folder>(
+    alloc: Global,
+    listen: &mut L,
+    address: &Address,
+    shelf: &mut ShelfState<F>,
+) -> Result<(), IoFault>
+    requires kind { shelf.old.kind ≡ kinds.Sha512T256 }
+    ensures end { OnOk result ((L.state listen.new).coming ≡ Some []) }
+    ensures served { OnOk result (Listens shelf.old.writable (L.state listen.old) (L.state listen.new)
+        (shelved F.files F.faults shelf.old.folder) (shelved F.files F.faults shelf.new.folder)) }
+    ensures failed { result ≡ Err IoFault.Failed → Rose (L.state listen.old).faults (L.state listen.new).faults
+        × Listens shelf.old.writable (L.state listen.old) (L.state listen.new)
+        (shelved F.files F.faults shelf.old.folder) (shelved F.files F.faults shelf.new.folder) }
+    ensures lacking { result ≡ Err IoFault.Memory → RunsOut shelf.old.writable (L.state listen.old) (L.state listen.new)
+        (shelved F.files F.faults shelf.old.folder) (shelved F.files F.faults shelf.new.folder) }
+    ensures place { F.place shelf.new.folder ≡ F.place shelf.old.folder }
+{
+    match listen.bind(address.host.as_str(), address.port) {
+        Ok(()) => serve_each(alloc, listen, shelf),
+        Err(fault) => Err(fault),
+    }
+}
+
+// How the command ends.
+fn ended(served: Result<(), IoFault>) -> Result<(), Outcome>
+    ensures { result ≡ answer_of_serving served }
+{
+    match served {
+        Ok(()) => Ok(()),
+        Err(IoFault::Failed) => Err(Outcome::ListenFault),
+        Err(IoFault::Memory) => Err(Outcome::Memory),
+    }
+}
+
+// Serves the store whose folder was taken. The folder is given back, whatever the answer is.
+fn serve_taken<F: Files, L: Listen>(
+    alloc: Global,
+    files: &mut F,
+    listen: &mut L,
+    store: &str,
+    taken: DirStore<F::Folder>,
+    address: &Address,
+    writable: bool,
+) -> Result<(), Outcome>
+    requires folder { IsSome ((F.disk files.old).folder_counts store.now) }
+    requires named { F.Folder.place taken ≡ store.now }
+    requires fresh { F.Folder.faults taken ≡ 0 }
+    ensures { FolderServed (heard (L.state listen.old) (L.state listen.new)) writable store.now (F.Folder.files taken)
+        (F.disk files.old) result (F.disk files.new) }
+{
+    let mut shelf = match ShelfState::new(alloc, taken.into_inner(), writable) {
+        Ok(shelf) => shelf,
+        Err((folder, _)) => {
+            give_folder(files, store, DirStore::new(folder));
+            return Err(Outcome::Memory);
+        }
+    };
+    let served = serve_at(alloc, listen, address, &mut shelf);
+    give_folder(files, store, DirStore::new(shelf.into_inner()));
+    ended(served)
+}
+
+/// Serves the chunks of STORE over the connections that come at an address, until no more come. Where `writable` is
+/// true chunks may be put.
+pub fn chunk_server<F: Files, L: Listen>(
+    alloc: Global,
+    files: &mut F,
+    listen: &mut L,
+    store: Name,
+    host: Name,
+    port: u16,
+    writable: bool,
+) -> Result<(), Outcome>
+    ensures ends { (k : DialState) (p : Output) → ChunkServerEnds (heard (L.state listen.old) (L.state listen.new))
+        store writable (world (F.disk files.old) k p) result (world (F.disk files.new) k p) }
+{
+    let address = Address { host, port };
+    let taken = take_folder(alloc, files, store.as_str())?;
+    serve_taken(
+        alloc,
+        files,
+        listen,
+        store.as_str(),
+        taken,
+        &address,
+        writable,
+    )?;
+    Ok(())
+}
