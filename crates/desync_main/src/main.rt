@@ -1,22 +1,11 @@
 //! The program `desync`: files, folders and connections of the operating system under the commands.
 #![tactic(auto)]
 
-mod real_dial;
-mod real_files;
-mod real_folder;
-mod real_link;
-mod real_listen;
-mod real_sink;
-mod real_target;
-mod real_view;
-#[cfg(test)]
-mod tests;
-
 use desync_cli::run::desync;
-use real_dial::RealDial;
-use real_files::RealFiles;
-use real_listen::RealListen;
-use real_sink::RealSink;
+use dsy_real::real_dial::RealDial;
+use dsy_real::real_files::RealFiles;
+use dsy_real::real_listen::RealListen;
+use dsy_real::real_sink::RealSink;
 use std::env::Env;
 use std::io::ErrorKind;
 use std::process::ExitCode;

@@ -5,7 +5,6 @@ mod beside;
 pub mod chop;
 pub mod demo;
 pub mod extract;
-pub mod image_files;
 pub mod make;
 pub mod verify_index;
 mod views;

@@ -13,7 +13,6 @@ ghost use Rattle.image_commands.specs.Make.{ImageStored, IndexWritten, MakeEnds,
 ghost use Rattle.dsy_base.specs.Counts.{raised};
 ghost use Rattle.dsy_base.specs.Disk.{Output};
 
-use crate::image_files::ImageFiles;
 use crate::views::{end_views, open_views};
 use buzhash_cut::sizes::CutSizes;
 use command_line::command::Location;
@@ -29,6 +28,7 @@ use dsy_base::name::Name;
 use dsy_base::view::View;
 use image_store::put_chunks::MakeFault;
 use image_store::store_image::store_image;
+use several_views::image_files::ImageFiles;
 use std::alloc::Global;
 use std::thread::Threads;
 

@@ -8,12 +8,12 @@ ghost use Rattle.command_steps.specs.Worlds.{Reads};
 ghost use Rattle.image_commands.specs.Views.{AreOf, GrowsBy, IfFirst, IsViewOf};
 ghost use Rattle.dsy_base.specs.Counts.{raised};
 
-use crate::image_files::ImageFiles;
 use command_outcome::outcome::Outcome;
 use command_steps::openings::unopened;
 use dsy_base::files::Files;
 use dsy_base::name::Name;
 use dsy_base::view::View;
+use several_views::image_files::ImageFiles;
 use std::alloc::Global;
 
 // Opens one view more. One that can't be opened, or that is of another size, is left out.

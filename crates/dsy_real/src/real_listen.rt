@@ -1,6 +1,6 @@
 //! What clients connect to over TCP. It doesn't tell contracts what connects.
 
-ghost use Rattle.std.specs.Prelude.{◌≡◌, IfOk};
+ghost use Rattle.std.specs.Prelude.{◌≡◌, IfOk, IsNone};
 
 use crate::real_dial::unbracketed;
 use crate::real_link::RealLink;
@@ -30,14 +30,16 @@ impl<'a, R: Net> RealListen<'a, R> {
     }
 
     /// How often a call has failed.
-    #[cfg(test)]
-    pub fn faults(&self) -> u64 {
+    pub fn faults(&self) -> u64
+        ensures { result ≡ self.now.faults }
+    {
         self.faults
     }
 
-    /// The port that it listens at.
-    #[cfg(test)]
-    pub fn port(&self) -> Option<u16> {
+    /// The port that it listens at, where the system tells it.
+    pub fn port(&self) -> Option<u16>
+        ensures absent { IsNone self.now.listener → IsNone result }
+    {
         let address = self.listener.as_ref()?.local_addr().ok()?;
         Some(address.port())
     }

@@ -20,7 +20,7 @@ pub struct RealView<'a, R: Files<File = File>> {
 }
 
 /// Fills `out` with the bytes of the file from offset `at` on.
-pub fn read_at<R: Files<File = File>>(
+pub(crate) fn read_at<R: Files<File = File>>(
     rt: &R,
     name: &str,
     at: u64,

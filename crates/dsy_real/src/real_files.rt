@@ -12,7 +12,7 @@ use dsy_base::fault::{IoFault, OpenFault};
 use dsy_base::files::Files;
 use dsy_base::name::Name;
 use dsy_base::slots::{Slots, claim, count};
-use image_commands::image_files::ImageFiles;
+use several_views::image_files::ImageFiles;
 use std::alloc::{AllocError, Global};
 use std::collections::BTreeMap;
 use std::fs::{File, OpenOptions};

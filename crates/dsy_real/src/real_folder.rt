@@ -151,7 +151,7 @@ fn create_beside<R: Files<File = File>>(
 
 /// Puts `b` under the path: into a temporary file beside it, which is then renamed. A refusal leaves no temporary file
 /// that can be removed. Answers whether the temporary file had the name that it was to have.
-pub fn put_file<R: Files<File = File>>(
+pub(crate) fn put_file<R: Files<File = File>>(
     rt: &R,
     alloc: Global,
     path: &str,
@@ -230,7 +230,7 @@ fn put_in<R: Files<File = File>>(
 }
 
 /// Removes the file of this path, or the link, and answers whether there was one. A folder there is refused.
-pub fn remove_file<R: Files<File = File>>(rt: &R, path: &str) -> Result<bool, IoFault> {
+pub(crate) fn remove_file<R: Files<File = File>>(rt: &R, path: &str) -> Result<bool, IoFault> {
     match fs::remove_file(rt, path) {
         Ok(()) => Ok(true),
         Err(error) if is_absence(&error) => Ok(false),

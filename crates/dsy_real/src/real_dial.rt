@@ -28,8 +28,9 @@ impl<'a, R: Net> RealDial<'a, R> {
     }
 
     /// How often a call has failed.
-    #[cfg(test)]
-    pub fn faults(&self) -> u64 {
+    pub fn faults(&self) -> u64
+        ensures { result ≡ self.now.faults }
+    {
         self.faults
     }
 }
