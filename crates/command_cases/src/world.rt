@@ -1,0 +1,79 @@
+//! What a case has made.
+
+ghost use Rattle.std.specs.Prelude.{All, IfOk};
+ghost use Rattle.dsy_base.specs.Links.{IsFreshLink};
+ghost use Rattle.dsy_forms.specs.MemLinks.{link_of};
+
+use crate::listening::Noting;
+use dsy_forms::mem_dial::MemDial;
+use dsy_forms::mem_files::MemFiles;
+use dsy_forms::mem_link::MemLink;
+use dsy_forms::mem_listen::MemListen;
+use std::alloc::{AllocError, Global};
+
+/// Files and connections in memory.
+#[derive(Drop)]
+pub struct World {
+    pub alloc: Global,
+    pub files: MemFiles,
+    /// What comes on each connection to a server.
+    pub servers: Vec<Vec<u8>>,
+    /// What each client sends.
+    pub clients: Vec<Vec<u8>>,
+    /// The numbers of the calls of the listener that fail.
+    pub listener_fails: Vec<u64>,
+    /// The dialer of the last run.
+    pub dial: MemDial,
+    /// The listener of the last run.
+    pub listen: Noting,
+}
+
+impl World {
+    /// A world in which nothing is.
+    pub fn new(alloc: Global) -> World {
+        World {
+            alloc,
+            files: MemFiles::new(alloc, Vec::new(alloc)),
+            servers: Vec::new(alloc),
+            clients: Vec::new(alloc),
+            listener_fails: Vec::new(alloc),
+            dial: MemDial::new(alloc, Vec::new(alloc), Vec::new(alloc)),
+            listen: Noting {
+                alloc,
+                inner: MemListen::new(alloc, Vec::new(alloc), Vec::new(alloc)),
+                places: Vec::new(alloc),
+            },
+        }
+    }
+
+    /// Makes the dialer and the listener anew, with all connections that are stated.
+    pub fn connect(&mut self) -> Result<(), AllocError> {
+        let alloc = self.alloc;
+        self.dial = MemDial::new(alloc, links_of(alloc, &self.servers)?, Vec::new(alloc));
+        let fails = Vec::from_slice(alloc, &self.listener_fails)?;
+        self.listen = Noting {
+            alloc,
+            inner: MemListen::new(alloc, links_of(alloc, &self.clients)?, fails),
+            places: Vec::new(alloc),
+        };
+        Ok(())
+    }
+}
+
+// Bytes that come in one piece.
+fn piece_of(alloc: Global, bytes: &[u8]) -> Result<Vec<Vec<u8>>, AllocError> {
+    let mut pieces = Vec::new(alloc);
+    pieces.push(Vec::from_slice(alloc, bytes)?)?;
+    Ok(pieces)
+}
+
+// Connections on which these come.
+fn links_of(alloc: Global, coming: &[Vec<u8>]) -> Result<Vec<MemLink>, AllocError>
+    ensures { IfOk result (λ links. All (λ l. IsFreshLink (link_of l)) links.items) }
+{
+    let mut links = Vec::new(alloc);
+    for bytes in coming {
+        links.push(MemLink::new(alloc, piece_of(alloc, bytes)?, Vec::new(alloc)))?;
+    }
+    Ok(links)
+}
