@@ -1,0 +1,68 @@
+//! Tests of folders, whose files have names relative to them.
+
+ghost use Rattle.std.specs.Prelude.{◌≡◌};
+
+use crate::fresh_folder::fresh_folder;
+use dsy_base::fault::IoFault;
+use dsy_base::files::Files;
+use dsy_base::folder::Folder;
+use dsy_base::look::Look;
+use dsy_real::real_files::RealFiles;
+use std::fs;
+use std::process::Abort;
+
+// What is put last under a name is read from there.
+fn reads_what_is_put<D: Folder, R: Abort>(rt: &R, folder: &mut D)
+    ensures place { D.place folder.new ≡ D.place folder.old }
+{
+    let mut bytes = [0; 4];
+    assert!(rt; folder.put("ab/cd", b"one").is_ok());
+    assert!(rt; folder.put("ab/cd", b"two").is_ok());
+    assert!(rt; folder.read("ab/cd", &mut bytes) == Ok(3));
+    assert!(rt; bytes == *b"two\0");
+}
+
+// The folder that the file lies in can't be read as a file.
+fn has_files_alone<D: Folder, R: Abort>(rt: &R, folder: &mut D)
+    ensures place { D.place folder.new ≡ D.place folder.old }
+{
+    assert!(rt; folder.has("ab/cd") == Ok(true));
+    assert!(rt; folder.has("ab/ce") == Ok(false));
+    assert!(rt; folder.has("ab") == Err(IoFault::Failed));
+}
+
+// How many names it lists.
+fn count_of_names<D: Folder>(folder: &mut D) -> Option<usize>
+    ensures place { D.place folder.new ≡ D.place folder.old }
+{
+    Some(folder.names().ok()?.len())
+}
+
+fn removes_once<D: Folder, R: Abort>(rt: &R, folder: &mut D)
+    ensures place { D.place folder.new ≡ D.place folder.old }
+{
+    assert!(rt; folder.remove("ab/cd") == Ok(true));
+    assert!(rt; folder.remove("ab/cd") == Ok(false));
+}
+
+fn holds_what_is_put<D: Folder, R: Abort>(rt: &R, folder: &mut D)
+    ensures place { D.place folder.new ≡ D.place folder.old }
+{
+    reads_what_is_put(rt, folder);
+    has_files_alone(rt, folder);
+    assert!(rt; count_of_names(folder) == Some(1));
+    removes_once(rt, folder);
+}
+
+#[test]
+fn a_folder_holds_what_was_put(rt: HostRuntime) {
+    let path = fresh_folder(&rt, "put").expect(&rt, "no folder");
+    let mut files = RealFiles::new(&rt, rt.alloc());
+    let mut folder = files
+        .take_folder(path.as_str())
+        .ok()
+        .expect(&rt, "not taken");
+    holds_what_is_put(&rt, &mut folder);
+    files.give_folder(path.as_str(), folder);
+    assert!(rt; fs::remove_dir_all(&rt, path.as_str()).is_ok());
+}
