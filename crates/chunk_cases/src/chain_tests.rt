@@ -1,12 +1,15 @@
 //! Chains over stores that answer as they are told, for the chunk `abc`.
 
+ghost use Rattle.std.specs.Prelude.{◌≤◌, IfSome};
+
+use crate::compare::{ok, same};
 use crate::digests::{ABC, NOTHING};
 use chunk_store::id::ChunkId;
 use chunk_store::shows::Shows;
 use chunk_store::store::{GetFault, Store};
 use dsy_base::fault::{IoFault, raise};
-use std::alloc::{AllocError, Global};
-use std::test::Fail;
+use std::alloc::Global;
+use std::process::Abort;
 use store_chain::chain::Chain;
 use store_chain::refused::{HasFault, Refused};
 
@@ -90,19 +93,16 @@ impl Store for Told {
     ghost sure = { Prim.search rules };
 }
 
-fn chain_of(alloc: Global, first: Held, second: Held) -> Result<Chain<Told>, AllocError> {
-    let first = Told {
-        held: first,
+fn store_of(held: Held) -> Told {
+    Told {
+        held,
         faults: 0,
         asks: 0,
-    };
-    let second = Told {
-        held: second,
-        faults: 0,
-        asks: 0,
-    };
-    let stores = vec![in alloc; first, second]?;
-    Ok(Chain::new(stores))
+    }
+}
+
+fn chain_of(rt: &impl Abort, alloc: Global, first: Held, second: Held) -> Chain<Told> {
+    Chain::new(ok(rt, vec![in alloc; store_of(first), store_of(second)]))
 }
 
 const GOOD: Held = Held::Bytes(b"abc");
@@ -111,82 +111,124 @@ const SPOILED: Held = Held::Bytes(b"");
 
 const LONG: Held = Held::Bytes(b"abcdefghi");
 
-#[test]
-fn the_first_store_that_gives_answers(rt: HostRuntime) -> Result<(), Fail> {
-    let id = ChunkId::from_hex(ABC)?;
-    let other = ChunkId::from_hex(NOTHING)?;
-    let fault = |store: u32| Err(Refused::StoreFault { store });
-    let shows = |store: u32, shows: Shows| Err(Refused::Damaged { store, shows });
-    let cases: [(Held, Held, Option<usize>, Result<usize, Refused>); 16] = [
-        (GOOD, Held::Fault, Some(3), Ok(3)),
-        (GOOD, Held::Nothing, None, Ok(3)),
-        (Held::Nothing, GOOD, Some(3), Ok(3)),
-        (SPOILED, GOOD, Some(3), Ok(3)),
-        (Held::Fault, GOOD, Some(3), Ok(3)),
-        (Held::NoMemory, GOOD, Some(3), Ok(3)),
-        (Held::Nothing, Held::Nothing, Some(3), Err(Refused::Missing)),
-        (Held::Fault, Held::Nothing, Some(3), fault(0)),
-        (Held::Nothing, Held::Fault, Some(3), fault(1)),
-        (SPOILED, Held::Fault, Some(3), fault(1)),
-        (Held::Fault, Held::NoMemory, Some(3), Err(Refused::Memory)),
-        (SPOILED, LONG, Some(3), shows(0, Shows::Digest(other))),
-        (Held::Nothing, GOOD, Some(2), shows(1, Shows::Longer)),
-        (GOOD, SPOILED, Some(4), shows(0, Shows::Length(3))),
-        (LONG, SPOILED, Some(3), shows(0, Shows::Longer)),
-        (SPOILED, Held::Nothing, None, shows(0, Shows::Digest(other))),
-    ];
-    for (i, (first, second, size, wanted)) in cases.into_iter().enumerate() {
-        let mut chain = chain_of(rt.alloc(), first, second)?;
-        let mut out = [0u8; 8];
-        let got = match size {
-            Some(n) => {
-                assert!(rt; n <= out.len());
-                chain.obtain(&id, Some(n), &mut out)
-            }
-            None => chain.obtain(&id, None, &mut out),
-        };
-        assert_eq!(rt; got, wanted, "case {i}");
-        assert_eq!(rt; chain.asks(), 1, "case {i}");
-    }
-    Ok(())
+// What a chain of two such stores answers, with room for eight bytes.
+fn obtains(
+    rt: &impl Abort,
+    alloc: Global,
+    first: Held,
+    second: Held,
+    size: Option<usize>,
+    wanted: Result<usize, Refused>,
+)
+    requires { IfSome size (λ n. n ≤ 8) }
+{
+    let id = ok(rt, ChunkId::from_hex(ABC));
+    let mut chain = chain_of(rt, alloc, first, second);
+    same(rt, chain.obtain(&id, size, &mut [0u8; 8]), wanted);
+    same(rt, chain.asks(), 1);
 }
 
 #[test]
-fn each_store_is_asked_once_and_none_after_one_that_gave(rt: HostRuntime) -> Result<(), Fail> {
-    let id = ChunkId::from_hex(ABC)?;
-    let cases = [
-        (GOOD, GOOD, [1, 0]),
-        (SPOILED, GOOD, [1, 1]),
-        (Held::Fault, SPOILED, [1, 1]),
-    ];
-    for (first, second, wanted) in cases {
-        let mut chain = chain_of(rt.alloc(), first, second)?;
-        let _ = chain.obtain(&id, Some(3), &mut [0u8; 8]);
-        let stores = chain.into_stores();
-        for (store, asks) in stores.iter().zip(wanted.iter()) {
-            assert_eq!(rt; store.asks, *asks, "{first:?} {second:?}");
-        }
-    }
-    Ok(())
+fn the_first_store_that_gives_answers(rt: HostRuntime) {
+    let alloc = rt.alloc();
+    obtains(&rt, alloc, GOOD, Held::Fault, Some(3), Ok(3));
+    obtains(&rt, alloc, GOOD, Held::Nothing, None, Ok(3));
+    obtains(&rt, alloc, Held::Nothing, GOOD, Some(3), Ok(3));
+    obtains(&rt, alloc, SPOILED, GOOD, Some(3), Ok(3));
+    obtains(&rt, alloc, Held::Fault, GOOD, Some(3), Ok(3));
+    obtains(&rt, alloc, Held::NoMemory, GOOD, Some(3), Ok(3));
+}
+
+fn fault(store: u32) -> Result<usize, Refused> {
+    Err(Refused::StoreFault { store })
 }
 
 #[test]
-fn some_store_has_it(rt: HostRuntime) -> Result<(), Fail> {
-    let id = ChunkId::from_hex(ABC)?;
-    let fault = |store: u32| Err(HasFault::StoreFault { store });
-    let cases: [(Held, Held, Result<bool, HasFault>); 7] = [
-        (Held::Nothing, GOOD, Ok(true)),
-        (GOOD, Held::Fault, Ok(true)),
-        (Held::Fault, GOOD, Ok(true)),
-        (Held::Nothing, Held::Nothing, Ok(false)),
-        (Held::Nothing, Held::Fault, fault(1)),
-        (Held::Fault, Held::Fault, fault(0)),
-        (Held::Fault, Held::NoMemory, Err(HasFault::Memory)),
-    ];
-    for (i, (first, second, wanted)) in cases.into_iter().enumerate() {
-        let mut chain = chain_of(rt.alloc(), first, second)?;
-        assert_eq!(rt; chain.has(&id), wanted, "case {i}");
-        assert_eq!(rt; chain.asks(), 0, "case {i}");
+fn a_failed_store_is_told_where_none_gives(rt: HostRuntime) {
+    let alloc = rt.alloc();
+    let missing = Err(Refused::Missing);
+    obtains(&rt, alloc, Held::Nothing, Held::Nothing, Some(3), missing);
+    obtains(&rt, alloc, Held::Fault, Held::Nothing, Some(3), fault(0));
+    obtains(&rt, alloc, Held::Nothing, Held::Fault, Some(3), fault(1));
+    obtains(&rt, alloc, SPOILED, Held::Fault, Some(3), fault(1));
+    let memory = Err(Refused::Memory);
+    obtains(&rt, alloc, Held::Fault, Held::NoMemory, Some(3), memory);
+}
+
+fn damaged(store: u32, shows: Shows) -> Result<usize, Refused> {
+    Err(Refused::Damaged { store, shows })
+}
+
+#[test]
+fn the_first_damaged_chunk_is_told_where_none_gives(rt: HostRuntime) {
+    let alloc = rt.alloc();
+    let other = damaged(0, Shows::Digest(ok(&rt, ChunkId::from_hex(NOTHING))));
+    obtains(&rt, alloc, SPOILED, LONG, Some(3), other);
+    obtains(&rt, alloc, SPOILED, Held::Nothing, None, other);
+    obtains(
+        &rt,
+        alloc,
+        Held::Nothing,
+        GOOD,
+        Some(2),
+        damaged(1, Shows::Longer),
+    );
+    obtains(
+        &rt,
+        alloc,
+        GOOD,
+        SPOILED,
+        Some(4),
+        damaged(0, Shows::Length(3)),
+    );
+    obtains(
+        &rt,
+        alloc,
+        LONG,
+        SPOILED,
+        Some(3),
+        damaged(0, Shows::Longer),
+    );
+}
+
+// How often each of two such stores is asked.
+fn asks(rt: &impl Abort, alloc: Global, first: Held, second: Held, wanted: [u64; 2]) {
+    let id = ok(rt, ChunkId::from_hex(ABC));
+    let mut chain = chain_of(rt, alloc, first, second);
+    let _ = chain.obtain(&id, Some(3), &mut [0u8; 8]);
+    let stores = chain.into_stores();
+    for (store, asks) in stores.iter().zip(wanted) {
+        same(rt, store.asks, asks);
     }
-    Ok(())
+}
+
+#[test]
+fn each_store_is_asked_once_and_none_after_one_that_gave(rt: HostRuntime) {
+    let alloc = rt.alloc();
+    asks(&rt, alloc, GOOD, GOOD, [1, 0]);
+    asks(&rt, alloc, SPOILED, GOOD, [1, 1]);
+    asks(&rt, alloc, Held::Fault, SPOILED, [1, 1]);
+}
+
+// Whether one of two such stores has it.
+fn has(rt: &impl Abort, alloc: Global, first: Held, second: Held, wanted: Result<bool, HasFault>) {
+    let id = ok(rt, ChunkId::from_hex(ABC));
+    let mut chain = chain_of(rt, alloc, first, second);
+    same(rt, chain.has(&id), wanted);
+    same(rt, chain.asks(), 0);
+}
+
+#[test]
+fn some_store_has_it(rt: HostRuntime) {
+    let alloc = rt.alloc();
+    has(&rt, alloc, Held::Nothing, GOOD, Ok(true));
+    has(&rt, alloc, GOOD, Held::Fault, Ok(true));
+    has(&rt, alloc, Held::Fault, GOOD, Ok(true));
+    has(&rt, alloc, Held::Nothing, Held::Nothing, Ok(false));
+    let fault = Err(HasFault::StoreFault { store: 1 });
+    has(&rt, alloc, Held::Nothing, Held::Fault, fault);
+    let fault = Err(HasFault::StoreFault { store: 0 });
+    has(&rt, alloc, Held::Fault, Held::Fault, fault);
+    let memory = Err(HasFault::Memory);
+    has(&rt, alloc, Held::Fault, Held::NoMemory, memory);
 }

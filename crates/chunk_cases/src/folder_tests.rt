@@ -1,5 +1,6 @@
 //! Folder stores over folders in memory, through the bounds of their trait.
 
+use crate::compare::{ok, same};
 use chunk_store::id::{ChunkId, DigestKind};
 use chunk_store::store::{GetFault, Store, StoreWrite};
 use dir_store::names::is_temporary;
@@ -7,11 +8,8 @@ use dir_store::store::DirStore;
 use dsy_base::fault::IoFault;
 use dsy_base::folder::Folder;
 use dsy_base::name::Name;
-use dsy_forms::calls::Fails;
 use dsy_forms::mem_folder::MemFolder;
-use std::alloc::Global;
 use std::process::Abort;
-use std::test::Fail;
 
 // The digests are from FIPS 180-4's examples and another program: SHA-512/256 of `abc`, SHA-256 of `abc`, and
 // SHA-512/256 of nothing.
@@ -45,77 +43,85 @@ fn nothing() -> ChunkId {
     ChunkId::of(DigestKind::Sha512T256, b"")
 }
 
-fn same_names<R: Abort>(rt: &R, names: &[Name], want: &[&str]) {
-    assert_eq!(rt; names.len(), want.len());
+fn same_names(rt: &impl Abort, names: &[Name], want: &[&str]) {
+    same(rt, names.len(), want.len());
     for (name, text) in names.iter().zip(want) {
-        assert_eq!(rt; name.as_str(), *text);
+        same(rt, name.as_str(), *text);
     }
 }
 
-fn each_file_is_listed_by_its_name<D: Folder, R: Abort>(rt: &R, mut d: D) -> Result<(), Fail> {
-    for names in [STRANGERS.as_slice(), &CHUNKS, &TEMPORARIES] {
-        for name in names {
-            d.put(name, name.as_bytes())?;
-        }
+fn same_paths(rt: &impl Abort, ids: &[ChunkId], want: &[&str]) {
+    same(rt, ids.len(), want.len());
+    for (id, path) in ids.iter().zip(want) {
+        same(rt, id.path().as_str(), *path);
     }
+}
+
+// Each file holds its name.
+fn put_files<D: Folder>(rt: &impl Abort, d: &mut D, names: &[&str]) {
+    for name in names {
+        ok(rt, d.put(name, name.as_bytes()));
+    }
+}
+
+fn each_file_is_listed_by_its_name<D: Folder>(rt: &impl Abort, mut d: D) {
+    put_files(rt, &mut d, &STRANGERS);
+    put_files(rt, &mut d, &CHUNKS);
+    put_files(rt, &mut d, &TEMPORARIES);
     let mut store = DirStore::new(d);
-    let ids = store.ids()?;
-    assert_eq!(rt; ids.len(), 3);
-    for (id, path) in ids.iter().zip(CHUNKS) {
-        assert_eq!(rt; id.path().as_str(), path);
-    }
-    let temporaries = store.temporaries()?;
+    let ids = ok(rt, store.ids());
+    same_paths(rt, &ids, &CHUNKS);
+    let temporaries = ok(rt, store.temporaries());
     same_names(rt, &temporaries, &TEMPORARIES);
-    let strangers = store.strangers()?;
+    let strangers = ok(rt, store.strangers());
     same_names(rt, &strangers, &STRANGERS);
-    Ok(())
 }
 
-fn what_is_named_is_removed<D: Folder, R: Abort>(rt: &R, d: D) -> Result<(), Fail> {
+fn what_is_named_is_removed<D: Folder>(rt: &impl Abort, d: D) {
     let mut store = DirStore::new(d);
-    store.put(&abc(), b"abc")?;
-    store.put(&nothing(), b"")?;
+    ok(rt, store.put(&abc(), b"abc"));
+    ok(rt, store.put(&nothing(), b""));
     for want in [true, false] {
-        assert_eq!(rt; store.has(&abc()), Ok(want));
-        assert_eq!(rt; store.remove(&abc()), Ok(want));
+        same(rt, store.has(&abc()), Ok(want));
+        same(rt, store.remove(&abc()), Ok(want));
     }
     let mut out = [0u8; 3];
-    assert_eq!(rt; store.get(&abc(), &mut out), Err(GetFault::Missing));
-    assert_eq!(rt; store.get(&nothing(), &mut out), Ok(0));
-    Ok(())
+    same(rt, store.get(&abc(), &mut out), Err(GetFault::Missing));
+    same(rt, store.get(&nothing(), &mut out), Ok(0));
 }
 
 #[test]
-fn folders_without_failing_calls(rt: HostRuntime) -> Result<(), Fail> {
+fn folders_without_failing_calls(rt: HostRuntime) {
     let alloc = rt.alloc();
-    each_file_is_listed_by_its_name(&rt, MemFolder::new(alloc, Vec::new(alloc)))?;
-    what_is_named_is_removed(&rt, MemFolder::new(alloc, Vec::new(alloc)))
+    each_file_is_listed_by_its_name(&rt, MemFolder::new(alloc, Vec::new(alloc)));
+    what_is_named_is_removed(&rt, MemFolder::new(alloc, Vec::new(alloc)));
 }
 
-// The first, the third, .. of the calls.
-fn every_other(alloc: Global) -> Result<Fails, Fail> {
-    Ok(vec![in alloc; 0u64, 2, 4, 6, 8]?)
-}
-
-#[test]
-fn a_failing_call_leaves_what_was_there(rt: HostRuntime) -> Result<(), Fail> {
-    let alloc = rt.alloc();
-    let mut store = DirStore::new(MemFolder::new(alloc, every_other(alloc)?));
-    assert_eq!(rt; store.put(&abc(), b"abc"), Err(IoFault::Failed));
-    assert_eq!(rt; store.has(&abc()), Ok(false));
-    assert_eq!(rt; store.temporaries().err(), Some(IoFault::Failed));
-    let left = store.temporaries()?;
-    same_names(&rt, &left, &TEMPORARIES[2..]);
+// The temporary file of `abc` is listed, and removed by the second call.
+fn a_failed_removal_leaves_it<D: Folder>(rt: &impl Abort, store: &mut DirStore<D>) {
+    let left = ok(rt, store.temporaries());
+    same_names(rt, &left, &TEMPORARIES[2..]);
     for name in &left {
         let text = name.as_str();
         assert!(rt; is_temporary(text));
-        assert_eq!(rt; store.remove_temporary(text), Err(IoFault::Failed));
-        assert_eq!(rt; store.remove_temporary(text), Ok(true));
+        same(rt, store.remove_temporary(text), Err(IoFault::Failed));
+        same(rt, store.remove_temporary(text), Ok(true));
     }
-    assert_eq!(rt; store.ids().err(), Some(IoFault::Failed));
-    store.put(&abc(), b"abc")?;
-    assert_eq!(rt; store.remove(&abc()), Err(IoFault::Failed));
-    assert_eq!(rt; store.has(&abc()), Ok(true));
-    assert_eq!(rt; store.temporaries()?.len(), 0);
-    Ok(())
+}
+
+// The first, the third, .. of the calls fail.
+#[test]
+fn a_failing_call_leaves_what_was_there(rt: HostRuntime) {
+    let alloc = rt.alloc();
+    let every_other = ok(&rt, vec![in alloc; 0u64, 2, 4, 6, 8]);
+    let mut store = DirStore::new(MemFolder::new(alloc, every_other));
+    same(&rt, store.put(&abc(), b"abc"), Err(IoFault::Failed));
+    same(&rt, store.has(&abc()), Ok(false));
+    same(&rt, store.temporaries().err(), Some(IoFault::Failed));
+    a_failed_removal_leaves_it(&rt, &mut store);
+    same(&rt, store.ids().err(), Some(IoFault::Failed));
+    ok(&rt, store.put(&abc(), b"abc"));
+    same(&rt, store.remove(&abc()), Err(IoFault::Failed));
+    same(&rt, store.has(&abc()), Ok(true));
+    same(&rt, ok(&rt, store.temporaries()).len(), 0);
 }

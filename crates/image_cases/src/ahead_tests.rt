@@ -1,0 +1,74 @@
+//! Claims on the entries of a round, and slices that are read into a room.
+
+use crate::compare::{ok, same};
+use crate::indexes::index_of_pieces;
+use caibx_codec::index::Index;
+use dsy_base::view::View;
+use dsy_forms::mem_view::MemView;
+use read_ahead::ahead::Ahead;
+use read_ahead::claims::Claims;
+use read_ahead::reader::Reader;
+use std::alloc::Global;
+use std::process::Abort;
+
+#[test]
+fn entries_are_claimed_from_the_end_and_taken_from_the_front(rt: HostRuntime) {
+    let claims = Claims::new(3, 8);
+    same(&rt, claims.claim(), Some(7));
+    same(&rt, claims.takes(3), true);
+    same(&rt, claims.claim(), Some(6));
+    same(&rt, claims.takes(4), true);
+    same(&rt, claims.takes(5), true);
+    same(&rt, claims.takes(6), false);
+    same(&rt, claims.claim(), None);
+    same(&rt, Claims::new(3, 3).claim(), None);
+    same(&rt, Claims::new(3, 3).takes(3), false);
+}
+
+// These are the slices of entries 0 and 1 after all entries of the image were read into so many bytes.
+fn reads(
+    rt: &impl Abort,
+    alloc: Global,
+    index: &Index,
+    image: &[u8],
+    size: usize,
+    first: Option<&[u8]>,
+    second: Option<&[u8]>,
+) {
+    let view = MemView::new(
+        alloc,
+        ok(rt, Vec::from_slice(alloc, image)),
+        Vec::new(alloc),
+    );
+    assert!(rt; view.size() == index.length());
+    let claims = Claims::new(0, index.count());
+    let ahead = ok(rt, Ahead::new(alloc, size));
+    let mut reader = Reader { view, ahead };
+    reader.read(index, claims.claim(), &claims);
+    same(rt, reader.ahead.slice(index, 0), first);
+    same(rt, reader.ahead.slice(index, 1), second);
+}
+
+#[test]
+fn a_slice_of_another_name_is_not_kept(rt: HostRuntime) {
+    let alloc = rt.alloc();
+    let index = index_of_pieces(&rt, alloc, &[b"abc", b"def"]);
+    reads(&rt, alloc, &index, b"abcdef", 6, Some(b"abc"), Some(b"def"));
+    reads(&rt, alloc, &index, b"abXdef", 6, None, Some(b"def"));
+    reads(&rt, alloc, &index, b"abcdeX", 6, None, None);
+}
+
+#[test]
+fn what_does_not_fit_the_room_is_not_read(rt: HostRuntime) {
+    let alloc = rt.alloc();
+    let index = index_of_pieces(&rt, alloc, &[b"abc", b"def"]);
+    reads(&rt, alloc, &index, b"abcdef", 5, None, Some(b"def"));
+    reads(&rt, alloc, &index, b"abcdef", 2, None, None);
+}
+
+#[test]
+fn an_id_that_is_listed_again_is_read_once(rt: HostRuntime) {
+    let alloc = rt.alloc();
+    let index = index_of_pieces(&rt, alloc, &[b"abc", b"abc"]);
+    reads(&rt, alloc, &index, b"abcabc", 3, Some(b"abc"), None);
+}

@@ -1,0 +1,304 @@
+//! Small indexes, checked, listed, described and looked for in stores. The names are from FIPS 180-4's example and
+//! another program.
+
+use crate::calls::fails;
+use crate::compare::{ok, same};
+use crate::indexes::{ABC, ABX, DEF, DEX, id_of, index_of};
+use caibx_codec::index::Index;
+use chunk_store::id::ChunkId;
+use chunk_store::store::{GetFault, Store};
+use dsy_base::fault::{Failed, IoFault, raise};
+use dsy_base::view::View;
+use dsy_forms::mem_sink::MemSink;
+use dsy_forms::mem_view::MemView;
+use std::alloc::Global;
+use std::process::Abort;
+use store_chain::chain::Chain;
+use store_chain::refused::HasFault;
+use verify_tool::check::{CheckFault, verify_index};
+use verify_tool::count::count_in_store;
+use verify_tool::info::info;
+use verify_tool::list::list_chunks;
+
+fn view_of(rt: &impl Abort, alloc: Global, image: &[u8], fails: Vec<u64>) -> MemView {
+    MemView::new(alloc, ok(rt, Vec::from_slice(alloc, image)), fails)
+}
+
+// What comes of these bytes beside the index.
+fn is_checked(
+    rt: &impl Abort,
+    alloc: Global,
+    index: &Index,
+    image: &[u8],
+    want: Result<(), CheckFault>,
+) {
+    let mut view = view_of(rt, alloc, image, Vec::new(alloc));
+    same(rt, verify_index(alloc, index, &mut view), want);
+}
+
+// The chunk that is another one has this name.
+fn mismatch(rt: &impl Abort, entry: u64, got: &str) -> Result<(), CheckFault> {
+    let got = id_of(rt, got);
+    Err(CheckFault::Mismatch { entry, got })
+}
+
+#[test]
+fn the_first_wrong_chunk_is_named(rt: HostRuntime) {
+    let alloc = rt.alloc();
+    let one = index_of(&rt, alloc, &[ABC]);
+    is_checked(&rt, alloc, &one, b"abc", Ok(()));
+    is_checked(&rt, alloc, &one, b"abX", mismatch(&rt, 0, ABX));
+    is_checked(
+        &rt,
+        alloc,
+        &one,
+        b"abcd",
+        Err(CheckFault::Length { size: 4 }),
+    );
+    let two = index_of(&rt, alloc, &[ABC, DEF]);
+    is_checked(&rt, alloc, &two, b"abcdeX", mismatch(&rt, 1, DEX));
+    is_checked(&rt, alloc, &two, b"abXdeX", mismatch(&rt, 0, ABX));
+    is_checked(&rt, alloc, &index_of(&rt, alloc, &[]), b"", Ok(()));
+}
+
+#[test]
+fn a_failed_read_is_no_mismatch(rt: HostRuntime) {
+    let alloc = rt.alloc();
+    let two = index_of(&rt, alloc, &[ABC, DEF]);
+    let mut view = view_of(&rt, alloc, b"abcdeX", fails(&rt, alloc, 1));
+    let checked = verify_index(alloc, &two, &mut view);
+    same(&rt, checked, Err(CheckFault::ImageFault));
+}
+
+#[test]
+fn a_wrong_length_is_told_before_any_read(rt: HostRuntime) {
+    let alloc = rt.alloc();
+    let two = index_of(&rt, alloc, &[ABC, DEF]);
+    let mut view = view_of(&rt, alloc, b"abXdeXg", fails(&rt, alloc, 0));
+    let checked = verify_index(alloc, &two, &mut view);
+    same(&rt, checked, Err(CheckFault::Length { size: 7 }));
+    // The first read fails, and it has not been made yet.
+    same(&rt, view.read_at(0, &mut [0; 7]), Err(Failed));
+}
+
+// The index is listed in this text.
+fn is_listed(rt: &impl Abort, alloc: Global, index: &Index, text: &str) {
+    let mut sink = MemSink::new(alloc, Vec::new(alloc));
+    same(rt, list_chunks(alloc, index, &mut sink), Ok(()));
+    same(rt, sink.taken(), text.as_bytes());
+}
+
+// So much of the list is put where this call fails.
+fn is_listed_up_to(rt: &impl Abort, alloc: Global, index: &Index, call: u64, size: usize) {
+    let mut failing = MemSink::new(alloc, fails(rt, alloc, call));
+    let listed = list_chunks(alloc, index, &mut failing);
+    same(rt, listed, Err(IoFault::Failed));
+    same(rt, failing.taken().len(), size);
+}
+
+#[test]
+fn each_entry_has_a_line(rt: HostRuntime) {
+    let alloc = rt.alloc();
+    let index = index_of(&rt, alloc, &[ABC, DEF, ABC]);
+    is_listed(
+        &rt,
+        alloc,
+        &index,
+        "\
+53048e2681941ef99b2e29b76b4c7dabe4c2d0c634fc6d46e0e2f13107e7af23
+f391834ba55302124fbcfc8df6831a666e468b310e99295e1fce0abf8ef9ec3f
+53048e2681941ef99b2e29b76b4c7dabe4c2d0c634fc6d46e0e2f13107e7af23
+",
+    );
+    is_listed_up_to(&rt, alloc, &index, 0, 0);
+}
+
+#[test]
+fn long_lists_are_put_in_blocks(rt: HostRuntime) {
+    let alloc = rt.alloc();
+    let names = ok(&rt, vec![in alloc; DEF; 1_000]);
+    let index = index_of(&rt, alloc, names.as_slice());
+    let mut sink = MemSink::new(alloc, Vec::new(alloc));
+    same(&rt, list_chunks(alloc, &index, &mut sink), Ok(()));
+    same(&rt, sink.taken().len(), 65_000);
+    is_listed_up_to(&rt, alloc, &index, 1, 33_280);
+}
+
+// The figures of the index are this line.
+fn has_figures(rt: &impl Abort, alloc: Global, index: &Index, in_store: Option<u64>, line: &str) {
+    let mut sink = MemSink::new(alloc, Vec::new(alloc));
+    same(rt, info(alloc, index, in_store, &mut sink), Ok(()));
+    same(rt, sink.taken(), line.as_bytes());
+}
+
+const ONE_HAD: &str = "\
+{\"chunk-size-avg\":65536,\"chunk-size-max\":262144,\"chunk-size-min\":16384,\
+\"in-store\":1,\"size\":3,\"total\":1,\"unique\":1}\n";
+
+const ONE: &str = "\
+{\"chunk-size-avg\":65536,\"chunk-size-max\":262144,\"chunk-size-min\":16384,\
+\"size\":3,\"total\":1,\"unique\":1}\n";
+
+const THREE_LACKED: &str = "\
+{\"chunk-size-avg\":65536,\"chunk-size-max\":262144,\"chunk-size-min\":16384,\
+\"in-store\":0,\"size\":9,\"total\":3,\"unique\":2}\n";
+
+#[test]
+fn figures_are_one_line(rt: HostRuntime) {
+    let alloc = rt.alloc();
+    let one = index_of(&rt, alloc, &[ABC]);
+    has_figures(&rt, alloc, &one, Some(1), ONE_HAD);
+    has_figures(&rt, alloc, &one, None, ONE);
+    let three = index_of(&rt, alloc, &[ABC, DEF, ABC]);
+    has_figures(&rt, alloc, &three, Some(0), THREE_LACKED);
+    let mut failing = MemSink::new(alloc, fails(&rt, alloc, 0));
+    same(
+        &rt,
+        info(alloc, &one, None, &mut failing),
+        Err(IoFault::Failed),
+    );
+}
+
+// What a store has.
+#[derive(Clone, Copy)]
+enum Held {
+    Nothing,
+    One(ChunkId),
+    Fault,
+    FaultAt(ChunkId),
+}
+
+// A store that counts how often it was asked, and gives nothing.
+#[derive(Drop)]
+struct Told {
+    held: Held,
+    calls: u64,
+    faults: u64,
+}
+
+impl Store for Told {
+    ghost use Rattle.std.specs.Prelude.{None, [], true, false};
+    ghost use Rattle.std.proofs.Common.{rules};
+    ghost use Rattle.chunk_store.specs.Said.{said_by};
+
+    ghost holds = { λ _. None };
+
+    ghost said = { λ _. said_by None };
+
+    ghost asked = { λ _ _. 0 };
+
+    ghost queried = { λ _ _. 0 };
+
+    ghost faults = { λ s. s.faults };
+
+    ghost place = { λ _. [] };
+
+    ghost tells = { false };
+
+    ghost never_fails = { false };
+
+    ghost may_lack_memory = { true };
+
+    fn get(&mut self, _id: &ChunkId, _out: &mut [u8]) -> Result<usize, GetFault> {
+        Err(GetFault::Missing)
+    }
+
+    fn has(&mut self, id: &ChunkId) -> Result<bool, IoFault> {
+        self.calls = raise(self.calls, 1);
+        let fails = match self.held {
+            Held::Fault => true,
+            Held::FaultAt(at) => at == *id,
+            Held::Nothing | Held::One(_) => false,
+        };
+        if fails {
+            self.faults = raise(self.faults, 1);
+            return Err(IoFault::Failed);
+        }
+        match self.held {
+            Held::One(held) => Ok(held == *id),
+            _ => Ok(false),
+        }
+    }
+
+    ghost says = { λ _. tt };
+
+    ghost lies = { λ _. tt };
+
+    ghost unasked = { λ _. tt };
+
+    ghost told = { λ _ t. t };
+
+    ghost sure = { Prim.search rules };
+}
+
+fn store_of(held: Held) -> Told {
+    Told {
+        held,
+        calls: 0,
+        faults: 0,
+    }
+}
+
+fn chain_of(rt: &impl Abort, alloc: Global, first: Held, second: Held) -> Chain<Told> {
+    Chain::new(ok(rt, vec![in alloc; store_of(first), store_of(second)]))
+}
+
+// So many listed ids are had by one of two such stores.
+fn are_had(
+    rt: &impl Abort,
+    alloc: Global,
+    index: &Index,
+    first: Held,
+    second: Held,
+    wanted: Result<u64, HasFault>,
+) {
+    let mut chain = chain_of(rt, alloc, first, second);
+    same(rt, count_in_store(alloc, index, &mut chain), wanted);
+    same(rt, chain.asks(), 0);
+}
+
+fn fault(store: u32) -> Result<u64, HasFault> {
+    Err(HasFault::StoreFault { store })
+}
+
+#[test]
+fn an_id_counts_once_where_some_store_has_it(rt: HostRuntime) {
+    let alloc = rt.alloc();
+    let index = index_of(&rt, alloc, &[ABC, DEF, ABC]);
+    let abc = Held::One(id_of(&rt, ABC));
+    let def = Held::One(id_of(&rt, DEF));
+    are_had(&rt, alloc, &index, abc, Held::Nothing, Ok(1));
+    are_had(&rt, alloc, &index, abc, abc, Ok(1));
+    are_had(&rt, alloc, &index, Held::Nothing, def, Ok(1));
+    are_had(&rt, alloc, &index, def, abc, Ok(2));
+    are_had(&rt, alloc, &index, Held::Nothing, Held::Nothing, Ok(0));
+    are_had(&rt, alloc, &index, Held::Nothing, Held::Fault, fault(1));
+    are_had(&rt, alloc, &index, Held::Fault, abc, fault(0));
+}
+
+// Each store was asked twice.
+fn two_calls(rt: &impl Abort, chain: Chain<Told>) {
+    let stores = chain.into_stores();
+    for store in &stores {
+        same(rt, store.calls, 2);
+    }
+}
+
+#[test]
+fn each_id_is_asked_for_once(rt: HostRuntime) {
+    let alloc = rt.alloc();
+    let index = index_of(&rt, alloc, &[ABC, DEF, ABC, DEF, ABC]);
+    let mut chain = chain_of(&rt, alloc, Held::Nothing, Held::Nothing);
+    same(&rt, count_in_store(alloc, &index, &mut chain), Ok(0));
+    two_calls(&rt, chain);
+}
+
+#[test]
+fn ids_are_asked_for_in_order_up_to_a_fault(rt: HostRuntime) {
+    let alloc = rt.alloc();
+    let index = index_of(&rt, alloc, &[ABC, ABC, DEF, DEX, ABX]);
+    let failing = Held::FaultAt(id_of(&rt, DEF));
+    let mut chain = chain_of(&rt, alloc, Held::Nothing, failing);
+    same(&rt, count_in_store(alloc, &index, &mut chain), fault(1));
+    two_calls(&rt, chain);
+}

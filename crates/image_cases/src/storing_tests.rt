@@ -1,0 +1,516 @@
+//! Images stored in, and chopped into, a store that counts what is put into it.
+
+ghost use Rattle.std.specs.Prelude.{◌≡◌, ◌<◌, [], ◌∷◌};
+
+use crate::compare::{ok, same};
+use crate::images::{mixed, sizes_of, views_of};
+use crate::indexes::index_of_pieces;
+use buzhash_cut::sizes::CutSizes;
+use caibx_codec::index::Index;
+use chunk_store::id::{ChunkId, DigestKind};
+use chunk_store::store::{GetFault, Store, StoreWrite};
+use dsy_base::fault::{Failed, IoFault, raise};
+use dsy_base::name::Name;
+use dsy_base::view::View;
+use dsy_forms::mem_view::MemView;
+use image_store::chop::{ChopFault, chop};
+use image_store::put_chunks::MakeFault;
+use image_store::store_image::store_image;
+use std::alloc::Global;
+use std::process::Abort;
+use std::thread::Threads;
+
+// A store in memory. Its calls count from 0, and the one of this number fails.
+#[derive(Drop)]
+struct Counting {
+    chunks: Vec<(ChunkId, Vec<u8>)>,
+    fails: Option<u64>,
+    calls: u64,
+    puts: u64,
+    faults: u64,
+    alloc: Global,
+}
+
+impl Counting {
+    fn new(alloc: Global, fails: Option<u64>) -> Counting {
+        Counting {
+            chunks: Vec::new(alloc),
+            fails,
+            calls: 0,
+            puts: 0,
+            faults: 0,
+            alloc,
+        }
+    }
+
+    // What is held under the id.
+    fn held(&self, id: &ChunkId) -> Option<&[u8]> {
+        for chunk in self.chunks.iter() {
+            if chunk.0.is(id) {
+                return Some(chunk.1.as_slice());
+            }
+        }
+        None
+    }
+
+    // Counts a call, and says whether it is to fail.
+    fn fails_now(&mut self) -> bool
+        ensures { self.new.faults ≡ self.old.faults }
+    {
+        let fails = self.fails == Some(self.calls);
+        self.calls = raise(self.calls, 1);
+        fails
+    }
+}
+
+impl Store for Counting {
+    ghost use Rattle.std.specs.Prelude.{None, [], true, false};
+    ghost use Rattle.std.proofs.Common.{rules};
+    ghost use Rattle.chunk_store.specs.Said.{said_by};
+
+    ghost holds = { λ _. None };
+
+    ghost said = { λ _. said_by None };
+
+    ghost asked = { λ _ _. 0 };
+
+    ghost queried = { λ _ _. 0 };
+
+    ghost faults = { λ s. s.faults };
+
+    ghost place = { λ _. [] };
+
+    ghost tells = { false };
+
+    ghost never_fails = { false };
+
+    ghost may_lack_memory = { true };
+
+    fn get(&mut self, id: &ChunkId, out: &mut [u8]) -> Result<usize, GetFault> {
+        if self.fails_now() {
+            self.faults = raise(self.faults, 1);
+            return Err(GetFault::Failed);
+        }
+        match self.held(id) {
+            None => Err(GetFault::Missing),
+            Some(bytes) if bytes.len() <= out.len() => {
+                let (front, _) = out.split_at_mut(bytes.len());
+                front.copy_from_slice(bytes);
+                Ok(bytes.len())
+            }
+            Some(_) => Err(GetFault::Longer),
+        }
+    }
+
+    fn has(&mut self, id: &ChunkId) -> Result<bool, IoFault> {
+        Ok(self.held(id).is_some())
+    }
+
+    ghost says = { λ _. tt };
+
+    ghost lies = { λ _. tt };
+
+    ghost unasked = { λ _. tt };
+
+    ghost told = { λ _ t. t };
+
+    ghost sure = { Prim.search rules };
+}
+
+impl StoreWrite for Counting {
+    fn put(&mut self, id: &ChunkId, b: &[u8]) -> Result<(), IoFault> {
+        if self.fails_now() {
+            self.faults = raise(self.faults, 1);
+            return Err(IoFault::Failed);
+        }
+        self.puts = raise(self.puts, 1);
+        let Ok(bytes) = Vec::from_slice(self.alloc, b) else {
+            return Err(IoFault::Memory);
+        };
+        for chunk in self.chunks.iter_mut() {
+            if chunk.0.is(id) {
+                chunk.1 = bytes;
+                return Ok(());
+            }
+        }
+        match self.chunks.push((*id, bytes)) {
+            Ok(()) => Ok(()),
+            Err(_) => Err(IoFault::Memory),
+        }
+    }
+}
+
+fn view_of(rt: &impl Abort, alloc: Global, bytes: &[u8]) -> MemView {
+    let bytes = ok(rt, Vec::from_slice(alloc, bytes));
+    MemView::new(alloc, bytes, Vec::new(alloc))
+}
+
+// A list of one view.
+fn one_view<V: View>(rt: &impl Abort, alloc: Global, view: V) -> Vec<V>
+    ensures { result.items ≡ view ∷ [] }
+{
+    let mut views = Vec::new(alloc);
+    if views.push(view).is_err() {
+        rt.panic("no memory")
+    }
+    views
+}
+
+// Stores the image, cut by 48 bytes, through one view. Answers the number of bytes of its index, too.
+fn stores<R: Abort + Threads + Sync>(
+    rt: &R,
+    alloc: Global,
+    image: &[u8],
+    store: Counting,
+) -> (Counting, Result<usize, MakeFault>) {
+    let views = one_view(rt, alloc, view_of(rt, alloc, image));
+    let sizes = sizes_of(rt, 48, 48, 48);
+    let (_views, store, made) = store_image(rt, alloc, &sizes, views, store);
+    match made {
+        Ok(bytes) => (store, Ok(bytes.len())),
+        Err(fault) => (store, Err(fault)),
+    }
+}
+
+// How "abc" is stored where this call of the store fails, and what is then held of it.
+fn abc_is_stored<R: Abort + Threads + Sync>(
+    rt: &R,
+    alloc: Global,
+    fails: Option<u64>,
+    want: Result<usize, MakeFault>,
+    held: Option<&[u8]>,
+) {
+    let id = ChunkId::of(DigestKind::Sha512T256, b"abc");
+    let (store, made) = stores(rt, alloc, b"abc", Counting::new(alloc, fails));
+    same(rt, made, want);
+    same(rt, store.held(&id), held);
+}
+
+// An index of one chunk has 144 bytes. The first call asks for the chunk, the second puts it.
+#[test]
+fn an_image_is_stored_or_its_store_is_at_fault(rt: HostRuntime) {
+    let alloc = rt.alloc();
+    abc_is_stored(&rt, alloc, None, Ok(144), Some(b"abc"));
+    abc_is_stored(&rt, alloc, Some(0), Err(MakeFault::StoreFault), None);
+    abc_is_stored(&rt, alloc, Some(1), Err(MakeFault::StoreFault), None);
+}
+
+// Stores an image of three chunks, of which two are alike, by so many calls and puts.
+fn store_three<R: Abort + Threads + Sync>(
+    rt: &R,
+    alloc: Global,
+    store: Counting,
+    calls: u64,
+    puts: u64,
+) -> Counting {
+    let mut image = [0; 99];
+    image[96] = b'a';
+    image[97] = b'b';
+    image[98] = b'c';
+    let calls = store.calls.saturating_add(calls);
+    let puts = store.puts.saturating_add(puts);
+    let (store, made) = stores(rt, alloc, &image, store);
+    same(rt, made.is_ok(), true);
+    same(rt, store.calls, calls);
+    same(rt, store.puts, puts);
+    store
+}
+
+// Stores the three again, where other bytes are held in the place of "abc".
+fn is_put_again<R: Abort + Threads + Sync>(
+    rt: &R,
+    alloc: Global,
+    mut store: Counting,
+    spoiled: &[u8],
+) -> Counting {
+    let id = ChunkId::of(DigestKind::Sha512T256, b"abc");
+    ok(rt, store.put(&id, spoiled));
+    let store = store_three(rt, alloc, store, 3, 1);
+    same(rt, store.held(&id), Some(b"abc".as_slice()));
+    store
+}
+
+// A chunk whose last byte is another one is put again, and so is one that is too short or too long.
+#[test]
+fn each_chunk_is_asked_for_once_and_put_where_it_is_lacked(rt: HostRuntime) {
+    let alloc = rt.alloc();
+    let store = store_three(&rt, alloc, Counting::new(alloc, None), 4, 2);
+    let store = store_three(&rt, alloc, store, 2, 0);
+    let store = is_put_again(&rt, alloc, store, b"abX");
+    let store = is_put_again(&rt, alloc, store, b"ab");
+    is_put_again(&rt, alloc, store, b"abcd");
+}
+
+// A view whose bytes are others, or can't be read, after its second reading: it was cut and named.
+#[derive(Drop)]
+struct ChangingView {
+    now: Vec<u8>,
+    then: Option<Vec<u8>>,
+    reads: u64,
+    faults: u64,
+    name: Name,
+}
+
+impl View for ChangingView {
+    ghost use Rattle.std.specs.Prelude.{None, false, refl, vec_len};
+    ghost use Rattle.std.proofs.Common.{rules};
+
+    ghost held = { λ v. record { bytes = None; size = 3; name = v.name } };
+
+    ghost faults = { λ v. v.faults };
+
+    ghost tells = { false };
+
+    ghost never_fails = { false };
+
+    fn size(&self) -> u64 {
+        3
+    }
+
+    fn read_at(&mut self, at: u64, out: &mut [u8]) -> Result<(), Failed> {
+        let start = at as usize;
+        let end = start.saturating_add(out.len());
+        if self.now.len() < end {
+            self.faults = raise(self.faults, 1);
+            return Err(Failed);
+        }
+        out.copy_from_slice(&self.now[start..end]);
+        self.reads = raise(self.reads, 1);
+        if self.reads == 2
+            && let Some(then) = self.then.take()
+        {
+            self.now = then;
+        }
+        Ok(())
+    }
+
+    ghost told = { λ _. refl };
+
+    ghost sized = { λ _. tt };
+
+    ghost sure = { Prim.search rules };
+}
+
+impl ChangingView {
+    // The view as it is after its second reading.
+    fn changed(mut self) -> ChangingView {
+        if let Some(then) = self.then.take() {
+            self.now = then;
+        }
+        self
+    }
+}
+
+// What a view of "abc" gives once it is read again.
+#[derive(Clone, Copy)]
+enum Then {
+    Same,
+    Other,
+    Fault,
+}
+
+fn changing_view(rt: &impl Abort, alloc: Global, then: Then) -> ChangingView {
+    let then = match then {
+        Then::Same => None,
+        Then::Other => Some(ok(rt, Vec::from_slice(alloc, b"abX"))),
+        Then::Fault => Some(Vec::new(alloc)),
+    };
+    ChangingView {
+        now: ok(rt, Vec::from_slice(alloc, b"abc")),
+        then,
+        reads: 0,
+        faults: 0,
+        name: Name::empty(alloc),
+    }
+}
+
+// So many views of "abc". Those but the first have changed before.
+fn changing_views(
+    rt: &impl Abort,
+    alloc: Global,
+    first: Then,
+    others: Then,
+    count: u64,
+) -> Vec<ChangingView> {
+    let mut views = one_view(rt, alloc, changing_view(rt, alloc, first));
+    for _ in 1..count {
+        let view = changing_view(rt, alloc, others).changed();
+        same(rt, views.push(view).is_ok(), true);
+    }
+    views
+}
+
+// Stores "abc" with so many views: it is open whether the others cut anything. Compares how often the store was called
+// and the first view read.
+fn stored_twice<R: Abort + Threads + Sync>(
+    rt: &R,
+    alloc: Global,
+    first: Then,
+    others: Then,
+    count: u64,
+    told: (u64, u64, Result<(), MakeFault>),
+) {
+    let views = changing_views(rt, alloc, first, others, count);
+    assert!(rt; 0 < views.len());
+    let store = Counting::new(alloc, None);
+    let sizes = sizes_of(rt, 48, 48, 48);
+    let (views, store, stored) = store_image(rt, alloc, &sizes, views, store);
+    let (calls, reads, want) = told;
+    same(rt, store.calls, calls);
+    assert!(rt; 0 < views.len());
+    same(rt, views[0].reads, reads);
+    same(rt, stored.err(), want.err());
+}
+
+#[test]
+fn an_image_that_changes_is_told_and_not_stored(rt: HostRuntime) {
+    let alloc = rt.alloc();
+    let changed = MakeFault::Changed {
+        entry: 0,
+        was: ChunkId::of(DigestKind::Sha512T256, b"abc"),
+        got: ChunkId::of(DigestKind::Sha512T256, b"abX"),
+    };
+    let told = (0, 3, Err(changed));
+    stored_twice(&rt, alloc, Then::Other, Then::Other, 1, told);
+    stored_twice(&rt, alloc, Then::Other, Then::Other, 3, told);
+    let told = (0, 2, Err(MakeFault::ImageFault));
+    stored_twice(&rt, alloc, Then::Fault, Then::Fault, 1, told);
+    stored_twice(&rt, alloc, Then::Fault, Then::Fault, 3, told);
+}
+
+// What others than the first read right isn't read again. What they can't read, or read wrong, is.
+#[test]
+fn an_image_is_stored_whatever_other_views_read(rt: HostRuntime) {
+    let alloc = rt.alloc();
+    stored_twice(&rt, alloc, Then::Same, Then::Fault, 3, (2, 3, Ok(())));
+    stored_twice(&rt, alloc, Then::Same, Then::Other, 3, (2, 3, Ok(())));
+    stored_twice(&rt, alloc, Then::Same, Then::Same, 1, (2, 3, Ok(())));
+    stored_twice(&rt, alloc, Then::Same, Then::Same, 3, (2, 2, Ok(())));
+}
+
+// What storing the image with so many views gives: the index file, and the store.
+fn stored_by<R: Abort + Threads + Sync>(
+    rt: &R,
+    alloc: Global,
+    image: &[u8],
+    count: usize,
+) -> (Vec<u8>, Counting)
+    requires { 0 < count }
+{
+    let sizes = sizes_of(rt, 16_384, 65_536, 262_144);
+    let views = views_of(rt, alloc, image, count);
+    let (_views, store, stored) = store_image(rt, alloc, &sizes, views, Counting::new(alloc, None));
+    (ok(rt, stored), store)
+}
+
+// Mixed bytes twice, and zeros: more than a reader reads at a time.
+fn repeated(rt: &impl Abort, alloc: Global) -> Vec<u8> {
+    let mut image = mixed(rt, alloc, 400_000);
+    let again = ok(rt, Vec::from_slice(alloc, &image));
+    ok(rt, image.extend_from_slice(&again));
+    ok(rt, image.resize(1_400_000, 0));
+    image
+}
+
+fn each_has_its_name(rt: &impl Abort, chunks: &[(ChunkId, Vec<u8>)]) {
+    for chunk in chunks {
+        let bytes = chunk.1.as_slice();
+        same(rt, chunk.0.is_of(DigestKind::Sha512T256, bytes), true);
+    }
+}
+
+#[test]
+fn the_same_is_stored_by_any_number_of_views(rt: HostRuntime) {
+    let alloc = rt.alloc();
+    let image = repeated(&rt, alloc);
+    let (bytes, store) = stored_by(&rt, alloc, &image, 1);
+    for count in [2, 3, 32] {
+        assert!(rt; 0 < count);
+        let (others, by) = stored_by(&rt, alloc, &image, count);
+        same(&rt, others == bytes, true);
+        same(&rt, by.calls, store.calls);
+        same(&rt, by.puts, store.puts);
+        each_has_its_name(&rt, &by.chunks);
+    }
+}
+
+// The mismatch of an entry whose slice is `got`.
+fn mismatch(entry: u64, got: &[u8]) -> Result<(), ChopFault> {
+    let got = ChunkId::of(DigestKind::Sha512T256, got);
+    Err(ChopFault::Mismatch { entry, got })
+}
+
+// Chops the image by the index, and compares how it ended, and how many chunks were put.
+fn chops(
+    rt: &impl Abort,
+    alloc: Global,
+    index: &Index,
+    image: &[u8],
+    store: &mut Counting,
+    want: Result<(), ChopFault>,
+    puts: u64,
+) {
+    let chopped = chop(alloc, index, &mut view_of(rt, alloc, image), store);
+    same(rt, chopped, want);
+    same(rt, store.puts, puts);
+}
+
+// Each chunk is asked for and put.
+#[test]
+fn an_image_is_chopped_up_to_the_first_refusal(rt: HostRuntime) {
+    let alloc = rt.alloc();
+    let index = index_of_pieces(&rt, alloc, &[b"abc", b"def"]);
+    let mut store = Counting::new(alloc, None);
+    let length = Err(ChopFault::Length { size: 5 });
+    chops(&rt, alloc, &index, b"abcde", &mut store, length, 0);
+    chops(
+        &rt,
+        alloc,
+        &index,
+        b"abXdef",
+        &mut store,
+        mismatch(0, b"abX"),
+        0,
+    );
+    chops(
+        &rt,
+        alloc,
+        &index,
+        b"abcdeX",
+        &mut store,
+        mismatch(1, b"deX"),
+        1,
+    );
+    let mut store = Counting::new(alloc, None);
+    chops(&rt, alloc, &index, b"abcdef", &mut store, Ok(()), 2);
+}
+
+#[test]
+fn a_store_that_fails_ends_the_chopping(rt: HostRuntime) {
+    let alloc = rt.alloc();
+    let index = index_of_pieces(&rt, alloc, &[b"abc", b"def"]);
+    let fault = Err(ChopFault::StoreFault);
+    let mut store = Counting::new(alloc, Some(0));
+    chops(&rt, alloc, &index, b"abcdef", &mut store, fault, 0);
+    let mut store = Counting::new(alloc, Some(3));
+    chops(&rt, alloc, &index, b"abcdef", &mut store, fault, 1);
+}
+
+#[test]
+fn an_id_that_is_listed_twice_is_seen_to_twice(rt: HostRuntime) {
+    let alloc = rt.alloc();
+    let index = index_of_pieces(&rt, alloc, &[b"abc", b"abc"]);
+    let mut store = Counting::new(alloc, None);
+    chops(
+        &rt,
+        alloc,
+        &index,
+        b"abcabX",
+        &mut store,
+        mismatch(1, b"abX"),
+        1,
+    );
+    same(&rt, store.calls, 2);
+    chops(&rt, alloc, &index, b"abcabc", &mut store, Ok(()), 1);
+    same(&rt, store.calls, 4);
+}

@@ -1,0 +1,101 @@
+//! Targets in memory that are surveyed. Offsets are bytes from 0.
+
+use crate::compare::{ok, same};
+use crate::indexes::{id_of, index_of_pieces};
+use caibx_codec::index::Index;
+use dsy_base::fault::IoFault;
+use dsy_forms::mem_target::MemTarget;
+use dsy_forms::ranges::RangeFails;
+use range_survey::fate::Fate;
+use range_survey::survey::survey_resized;
+use range_survey::zeros::ZeroNames;
+use std::alloc::Global;
+use std::process::Abort;
+
+// The index of an image in four pieces, of which two are one.
+fn index(rt: &impl Abort, alloc: Global) -> Index {
+    index_of_pieces(rt, alloc, &[b"abc", b"\0\0\0\0", b"gh", b"abc"])
+}
+
+// Surveys a target, and compares how that ended. Answers the fates of the four entries.
+fn surveys(
+    rt: &impl Abort,
+    alloc: Global,
+    target: &mut MemTarget,
+    ended: Result<(), IoFault>,
+) -> Vec<Fate> {
+    let index = index(rt, alloc);
+    let mut buf = ok(rt, index.room(alloc));
+    let mut fates = ok(rt, vec![in alloc; Fate::Fetched; index.count()]);
+    let surveyed = survey_resized(alloc, &index, target, &mut buf, &mut fates);
+    same(rt, surveyed, ended);
+    fates
+}
+
+// Surveys these bytes, of which the read of this offset fails once, and compares which entries were kept. The others
+// are open.
+fn keeps(rt: &impl Abort, alloc: Global, old: &[u8], fails_at: u64, kept: [bool; 4]) {
+    let mut fails = RangeFails::none(alloc);
+    ok(rt, fails.reads.push((fails_at, 1)));
+    let mut target = MemTarget::new(alloc, ok(rt, Vec::from_slice(alloc, old)), fails);
+    let fates = surveys(rt, alloc, &mut target, Ok(()));
+    same(rt, target.bytes().len(), 12);
+    same(rt, fates.len(), 4);
+    for (fate, kept) in fates.iter().zip(kept) {
+        same(rt, *fate, if kept { Fate::Kept } else { Fate::Open });
+    }
+}
+
+#[test]
+fn ranges_past_the_old_length_are_not_read(rt: HostRuntime) {
+    let alloc = rt.alloc();
+    // Entry 1 lies past the old length, and its read would fail.
+    keeps(&rt, alloc, b"abc", 4, [true, true, false, false]);
+    // It begins before the old length, is read, and the read fails.
+    keeps(&rt, alloc, b"abc\0", 4, [true, false, false, false]);
+    keeps(&rt, alloc, b"abc\0", 100, [true, true, false, false]);
+    keeps(&rt, alloc, b"abc", 1, [false, true, false, false]);
+    keeps(
+        &rt,
+        alloc,
+        b"abc\0\0\0\0ghabcdef",
+        100,
+        [true, true, true, true],
+    );
+}
+
+#[test]
+fn a_length_that_cannot_be_set_is_told(rt: HostRuntime) {
+    let alloc = rt.alloc();
+    let mut fails = RangeFails::none(alloc);
+    fails.set_len = 1;
+    let mut target = MemTarget::new(alloc, ok(&rt, Vec::from_slice(alloc, b"abc")), fails);
+    surveys(&rt, alloc, &mut target, Err(IoFault::Failed));
+    same(&rt, target.bytes(), b"abc".as_slice());
+}
+
+// The table for a target of the old length has this name, in digits, for so many zeros.
+fn names(rt: &impl Abort, alloc: Global, old: u64, size: usize, digits: Option<&str>) {
+    let index = index(rt, alloc);
+    let mut buf = ok(rt, index.room(alloc));
+    let zeros = ok(rt, ZeroNames::of(alloc, &index, old, &mut buf));
+    let name = match digits {
+        Some(digits) => Some(id_of(rt, digits)),
+        None => None,
+    };
+    same(rt, zeros.name(size), name);
+}
+
+// The digests are those that OpenSSL tells of zeros.
+#[test]
+fn only_sizes_past_the_old_length_are_named(rt: HostRuntime) {
+    let alloc = rt.alloc();
+    let three = "57635d1312569b5a4c4c26fd7b5df0ed403045e9608e9b14eae870588848e4d9";
+    let four = "b5e076ab7609c7f8c763b5c571d07aea80b06b41452231b1437370f4964ed66e";
+    names(&rt, alloc, 3, 3, Some(three));
+    names(&rt, alloc, 3, 4, Some(four));
+    names(&rt, alloc, 3, 5, None);
+    names(&rt, alloc, 4, 4, None);
+    names(&rt, alloc, 9, 3, Some(three));
+    names(&rt, alloc, 12, 3, None);
+}
