@@ -1,6 +1,6 @@
 use Rattle.std.proofs.Common.{◌≤◌, length}
 use Rattle.std.specs.Prelude.{IfOk}
-use Rattle.wire_cases.proofs.wire_tests.read.Given as goal
+use Rattle.text_cases.proofs.wire_tests.read.Given as goal
 
 abbrev pub invariant-loop-piece : goal.invariant-loop-piece
 invariant-loop-piece l =

@@ -1,0 +1,217 @@
+//! Words that are refused, with their places, and words that are read.
+
+use crate::compare::{ok, same};
+use command_line::command::{Command, Location};
+use command_line::read_words;
+use command_line::usage::WordsFault;
+use dsy_base::name::Name;
+use std::alloc::{AllocError, Global};
+use std::process::Abort;
+
+// The words of a line, of which `''` stands for the empty one.
+fn words_of(rt: &impl Abort, alloc: Global, line: &str) -> Vec<String> {
+    let mut all = Vec::new(alloc);
+    for word in line.split_whitespace() {
+        let word = if word == "''" { "" } else { word };
+        push(rt, &mut all, word);
+    }
+    all
+}
+
+fn push(rt: &impl Abort, words: &mut Vec<String>, word: &str) {
+    let word = ok(rt, String::from_str(*words.allocator(), word));
+    ok(rt, words.push(word));
+}
+
+// Words, the place at which they are refused, and why.
+const REFUSED: &str = "\
+-> 0 NoCommand
+frob -> 0 UnknownCommand
+--help x -> 0 UnknownCommand
+extract -k a b -> 4 MissingOption
+make -s st -n 33 a b -> 4 BadNumber
+make -s https://h/ a b -> 2 BadLocation
+prune -s st a.caibx b.caibx -> 5 NeedsYes
+make -s st -n 0 a b -> 4 BadNumber
+make -s st -n 04 a b -> 4 BadNumber
+make -s st -n '' a b -> 4 BadNumber
+make -s st -n +1 a b -> 4 BadNumber
+make -s st -m 16:64:10000000 a b -> 4 BadSizes
+make -s st -m 16:64 a b -> 4 BadSizes
+make -s st -m 16:64:256:1 a b -> 4 BadSizes
+make -s st -m '' a b -> 4 BadSizes
+make -s st a '' -> 4 Empty
+make -s st a b c -> 5 Operands
+make -s st a b '' -> 5 Empty
+make -s st a -> 4 Operands
+make -s st --store st a b -> 3 TooMany
+make -s st -s -> 3 TooMany
+make a b -s -> 4 NoValue
+make - a -> 1 UnknownOption
+make --help a -> 1 UnknownOption
+make -k a -> 1 UnknownOption
+list-chunks -n 1 a -> 1 UnknownOption
+extract -s st -c '' i o -> 4 Empty
+extract -s '' i o -> 2 Empty
+extract -s st --seed .caibx i o -> 4 BadSeed
+extract -s st --seed x i o -> 4 BadSeed
+extract -s st --seed '' i o -> 4 Empty
+extract -s a|b i o -> 2 BadLocation
+extract -s -- -q o -> 3 UnknownOption
+cache -s st a -> 4 MissingOption
+verify -s http://h/ -> 2 NeedsFolder
+verify -s https://h/ -> 2 BadLocation
+verify -s st x -> 3 Operands
+make -s http://h/? a b -> 2 BadLocation
+make -s http://h/?q a b -> 2 BadLocation
+make -s http://u@h/ a b -> 2 BadLocation
+make -s http://h/#f a b -> 2 BadLocation
+make -s http://h:x/ a b -> 2 BadLocation
+chunk-server -s st -> 3 MissingOption
+chunk-server -s st -l h:0 -> 4 BadListen
+chunk-server -s st -l h:65536 -> 4 BadListen
+chunk-server -s st -l h -> 4 BadListen
+demo 1 536870913 -> 2 BadNumber
+demo 18446744073709551616 1 -> 1 BadNumber
+demo '' 1 -> 1 Empty
+demo 1 1 '' -> 3 Empty
+demo 1 1 1 -> 3 Operands
+info -- -s x -> 3 Operands
+info -> 1 Operands
+";
+
+// How the words were refused, if they were.
+fn refusal(alloc: Global, words: &[String]) -> Result<String, AllocError> {
+    match read_words(alloc, words) {
+        Err(WordsFault::Usage { place, why }) => format!(in alloc; "{place} {why:?}"),
+        _ => String::from_str(alloc, "not refused"),
+    }
+}
+
+fn is_refused(rt: &impl Abort, alloc: Global, line: &str) {
+    let (words, told) = line.split_once("->").expect(rt, "no refusal is told");
+    let refused = ok(rt, refusal(alloc, &words_of(rt, alloc, words)));
+    same(rt, refused.as_str(), told.trim());
+}
+
+#[test]
+fn words_are_refused_at_their_places(rt: HostRuntime) {
+    for line in REFUSED.lines() {
+        is_refused(&rt, rt.alloc(), line);
+    }
+}
+
+// `extract` with so many stores and seeds.
+fn many(rt: &impl Abort, alloc: Global, stores: usize, seeds: usize) -> Vec<String> {
+    let mut words = words_of(rt, alloc, "extract");
+    for _ in 0..stores {
+        push(rt, &mut words, "-s");
+        push(rt, &mut words, "st");
+    }
+    for _ in 0..seeds {
+        push(rt, &mut words, "--seed");
+        push(rt, &mut words, "a.caibx");
+    }
+    push(rt, &mut words, "i");
+    push(rt, &mut words, "o");
+    words
+}
+
+// So many stores and seeds are refused as this tells.
+fn are_too_many(rt: &impl Abort, alloc: Global, stores: usize, seeds: usize, told: &str) {
+    let refused = ok(rt, refusal(alloc, &many(rt, alloc, stores, seeds)));
+    same(rt, refused.as_str(), told);
+}
+
+#[test]
+fn sixteen_stores_and_sixty_four_seeds_are_the_most(rt: HostRuntime) {
+    let alloc = rt.alloc();
+    are_too_many(&rt, alloc, 17, 0, "33 TooMany");
+    are_too_many(&rt, alloc, 1, 65, "131 TooMany");
+    match read_words(alloc, &many(&rt, alloc, 16, 64)) {
+        Ok(Command::Extract { stores, seeds, .. }) => {
+            same(&rt, stores.as_slice().len(), 16);
+            same(&rt, seeds.as_slice().len(), 64);
+        }
+        _ => rt.panic("refused"),
+    }
+}
+
+// The sizes and the number of workers of `make`, and its two names.
+fn make_has(
+    rt: &impl Abort,
+    alloc: Global,
+    line: &str,
+    wanted: ([u64; 3], u32),
+    index_name: &str,
+    image_name: &str,
+) {
+    match read_words(alloc, &words_of(rt, alloc, line)) {
+        Ok(
+            Command::Make {
+                sizes,
+                workers,
+                index,
+                image,
+                ..
+            },
+        ) => {
+            same(rt, (sizes, workers), wanted);
+            same(rt, index.as_str(), index_name);
+            same(rt, image.as_str(), image_name);
+        }
+        _ => rt.panic("refused"),
+    }
+}
+
+#[test]
+#[rattlefmt::skip]
+fn words_of_make_are_read(rt: HostRuntime) {
+    let alloc = rt.alloc();
+    let usual = [16384, 65536, 262144];
+    make_has(&rt, alloc, "make -s st -m 16:64:256 i o", (usual, 10), "i", "o");
+    make_has(&rt, alloc, "make i o -s st -n 32", (usual, 32), "i", "o");
+    make_has(&rt, alloc, "make -s -k -- -n --", (usual, 10), "-n", "--");
+}
+
+// The stores are the folder "/srv/a" and a server.
+fn are_a_folder_and_a_server(rt: &impl Abort, stores: &[Location]) {
+    match stores {
+        [
+            Location::Folder(folder),
+            Location::Http { host, port, prefix },
+        ] => {
+            same(rt, folder.as_str(), "/srv/a");
+            same(rt, host.as_str(), "localhost");
+            same(rt, *port, 8080);
+            same(rt, prefix.as_str(), "");
+        }
+        _ => rt.panic("other stores"),
+    }
+}
+
+fn is_one_name(rt: &impl Abort, names: &[Name], name: &str) {
+    match names {
+        [one] => same(rt, one.as_str(), name),
+        _ => rt.panic("other names"),
+    }
+}
+
+#[test]
+#[rattlefmt::skip]
+fn words_of_extract_are_read(rt: HostRuntime) {
+    let line = "extract -s /srv/a -s http://localhost:8080/ -c /var/cache/d \
+        --seed old.img.caibx -n 4 new.img.caibx new.img";
+    match read_words(rt.alloc(), &words_of(&rt, rt.alloc(), line)) {
+        Ok(Command::Extract { stores, seeds, cache, in_place, workers, index, target }) => {
+            are_a_folder_and_a_server(&rt, stores.as_slice());
+            is_one_name(&rt, seeds.as_slice(), "old.img.caibx");
+            same(&rt, cache.expect(&rt, "a cache").as_str(), "/var/cache/d");
+            same(&rt, in_place, false);
+            same(&rt, workers, 4);
+            same(&rt, index.as_str(), "new.img.caibx");
+            same(&rt, target.as_str(), "new.img");
+        }
+        _ => rt.panic("refused"),
+    }
+}
