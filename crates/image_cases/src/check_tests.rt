@@ -78,6 +78,7 @@ fn a_wrong_length_is_told_before_any_read(rt: HostRuntime) {
     let checked = verify_index(alloc, &two, &mut view);
     same(&rt, checked, Err(CheckFault::Length { size: 7 }));
     // The first read fails, and it has not been made yet.
+    assert!(rt; view.size() == 7);
     same(&rt, view.read_at(0, &mut [0; 7]), Err(Failed));
 }
 
