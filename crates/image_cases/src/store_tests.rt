@@ -44,8 +44,8 @@ fn same_names(rt: &impl Abort, store: &mut DirStore<MemFolder>, want: &[&str]) {
     }
 }
 
-// Verifies the store over a sink of which these calls fail, and compares how it ended, what was printed, and which files
-// are left.
+// Verifies the store over a sink of which these calls fail, and compares how it ended, what was printed, and which
+// files are left.
 fn verifies(
     rt: &impl Abort,
     alloc: Global,

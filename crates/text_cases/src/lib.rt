@@ -1,5 +1,5 @@
-//! The tests of texts: what is asked and answered over HTTP, by a store that asks and a shelf that answers; and the words
-//! of the command line, those that tell how a command ended, and those of the help.
+//! The tests of texts: what is asked and answered over HTTP, by a store that asks and a shelf that answers; and the
+//! words of the command line, those that tell how a command ended, and those of the help.
 #![tactic(auto)]
 
 #[cfg(test)]
