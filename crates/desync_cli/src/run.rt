@@ -53,6 +53,7 @@ fn perform<R: Threads + Sync, F: ImageFiles, D: Dial, L: Listen, O: Sink>(
 ) -> Result<(), Outcome>
 where
     F::View: Send,
+    F::Inner: Sync,
     requires { Fits command }
     ensures unheard { listens command ≡ false → listen.new ≡ listen.old }
     ensures ends { Ends (heard (L.state listen.old) (L.state listen.new)) command
@@ -119,6 +120,7 @@ fn run<R: Threads + Sync, F: ImageFiles, D: Dial, L: Listen, O: Sink>(
 ) -> Result<(), Outcome>
 where
     F::View: Send,
+    F::Inner: Sync,
     ensures refused { command_of (map string_bytes words.now) ≡ None → (files.new ≡ files.old)
         × (dial.new ≡ dial.old) × (listen.new ≡ listen.old) × (out.new ≡ out.old) }
     ensures unheard { IfSome (command_of (map string_bytes words.now))
@@ -166,6 +168,7 @@ pub fn desync<R: Threads + Sync, F: ImageFiles, D: Dial, L: Listen, O: Sink, E: 
 ) -> Ended
 where
     F::View: Send,
+    F::Inner: Sync,
     ensures status { result.status ≡ status_of result.outcome }
     ensures line { TakesLine (error_line_of result.outcome) (E.output err.old) (E.output err.new) }
 

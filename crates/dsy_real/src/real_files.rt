@@ -5,7 +5,7 @@ ghost use Rattle.std.specs.Map.{count_at};
 ghost use Rattle.dsy_base.specs.Counts.{Rose, Counted};
 ghost use Rattle.dsy_base.specs.Slots.{counts_in};
 
-use crate::real_folder::{RealFolder, put_file, remove_file};
+use crate::real_folder::{RealFolder, RealInner, put_file, remove_file};
 use crate::real_target::RealTarget;
 use crate::real_view::RealView;
 use dsy_base::fault::{IoFault, OpenFault};
@@ -305,5 +305,14 @@ impl<'a, R: System<File = File> + AllocGlobal + Clone + Drop> Files for RealFile
 }
 
 impl<'a, R: System<File = File> + AllocGlobal + Clone + Drop> ImageFiles for RealFiles<'a, R> {
+    type Inner = RealInner<'a, R>;
+
+    fn inner(&self, folder: &str) -> Option<RealInner<'a, R>> {
+        let Ok(name) = Name::of(self.alloc, folder) else {
+            return None;
+        };
+        Some(RealInner::new(self.rt, self.alloc, name))
+    }
+
     ghost untold = { λ t. t };
 }

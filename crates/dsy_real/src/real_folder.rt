@@ -9,6 +9,7 @@ use dsy_base::folder::Folder;
 use dsy_base::look::Look;
 use dsy_base::name::Name;
 use dsy_base::temporary::temporary_name;
+use inner_folders::folders::InnerFolders;
 use std::alloc::{AllocError, Global};
 use std::fs::{File, OpenOptions};
 use std::io::ErrorKind;
@@ -275,6 +276,27 @@ impl<'a, R: Files<File = File>> RealFolder<'a, R> {
     // The path of a file in it.
     fn path(&self, name: &str) -> Result<String, AllocError> {
         path_in(self.alloc, self.name.as_str(), name)
+    }
+}
+
+/// The folders inside a folder.
+#[derive(Drop)]
+pub struct RealInner<'a, R: Files<File = File>> {
+    rt: &'a R,
+    alloc: Global,
+    name: Name,
+}
+
+impl<'a, R: Files<File = File>> RealInner<'a, R> {
+    /// Those inside the folder of this name.
+    pub fn new(rt: &'a R, alloc: Global, name: Name) -> RealInner<'a, R> {
+        RealInner { rt, alloc, name }
+    }
+}
+
+impl<R: Files<File = File>> InnerFolders for RealInner<'_, R> {
+    fn make_for(&self, name: &str) {
+        let _ = make_folder(self.rt, self.alloc, self.name.as_str(), name);
     }
 }
 

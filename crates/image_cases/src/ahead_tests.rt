@@ -5,11 +5,13 @@ use crate::indexes::index_of_pieces;
 use caibx_codec::index::Index;
 use dsy_base::view::View;
 use dsy_forms::mem_view::MemView;
+use inner_folders::folders::{InnerFolders, NoFolders};
 use read_ahead::ahead::Ahead;
 use read_ahead::claims::Claims;
 use read_ahead::reader::Reader;
 use std::alloc::Global;
 use std::process::Abort;
+use std::sync::atomic::{AtomicU64, Ordering};
 
 #[test]
 fn entries_are_claimed_from_the_end_and_taken_from_the_front(rt: HostRuntime) {
@@ -44,7 +46,7 @@ fn reads(
     let claims = Claims::new(0, index.count());
     let ahead = ok(rt, Ahead::new(alloc, size));
     let mut reader = Reader { view, ahead };
-    reader.read(index, claims.claim(), &claims);
+    reader.read(index, claims.claim(), &claims, &NoFolders);
     same(rt, reader.ahead.slice(index, 0), first);
     same(rt, reader.ahead.slice(index, 1), second);
 }
@@ -71,4 +73,54 @@ fn an_id_that_is_listed_again_is_read_once(rt: HostRuntime) {
     let alloc = rt.alloc();
     let index = index_of_pieces(&rt, alloc, &[b"abc", b"abc"]);
     reads(&rt, alloc, &index, b"abcabc", 3, Some(b"abc"), None);
+}
+
+// Counts the folders that are to be made for files of this name, and those for other files.
+#[derive(Drop)]
+struct Named<'a> {
+    name: &'a str,
+    asked: AtomicU64,
+    others: AtomicU64,
+}
+
+impl InnerFolders for Named<'_> {
+    fn make_for(&self, name: &str) {
+        let count = if name == self.name {
+            &self.asked
+        } else {
+            &self.others
+        };
+        let _ = count.fetch_add(1, Ordering::SeqCst);
+    }
+}
+
+// How many folders a reader of both pieces has made for the first one's chunk, and for others.
+fn folders_made(rt: &impl Abort, alloc: Global, index: &Index, image: &[u8], made: (u64, u64)) {
+    let view = MemView::new(
+        alloc,
+        ok(rt, Vec::from_slice(alloc, image)),
+        Vec::new(alloc),
+    );
+    assert!(rt; view.size() == index.length());
+    assert!(rt; 0 < index.count());
+    let path = index.id(0).path();
+    let inner = Named {
+        name: path.as_str(),
+        asked: AtomicU64::new(0),
+        others: AtomicU64::new(0),
+    };
+    let claims = Claims::new(0, index.count());
+    let ahead = ok(rt, Ahead::new(alloc, 6));
+    let mut reader = Reader { view, ahead };
+    reader.read(index, claims.claim(), &claims, &inner);
+    same(rt, inner.asked.load(Ordering::SeqCst), made.0);
+    same(rt, inner.others.load(Ordering::SeqCst), made.1);
+}
+
+#[test]
+fn the_folder_of_each_chunk_that_is_read_is_made(rt: HostRuntime) {
+    let alloc = rt.alloc();
+    let index = index_of_pieces(&rt, alloc, &[b"abc", b"def"]);
+    folders_made(&rt, alloc, &index, b"abcdef", (1, 1));
+    folders_made(&rt, alloc, &index, b"abXdef", (0, 1));
 }

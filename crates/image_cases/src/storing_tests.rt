@@ -16,6 +16,7 @@ use dsy_forms::mem_view::MemView;
 use image_store::chop::{ChopFault, chop};
 use image_store::put_chunks::MakeFault;
 use image_store::store_image::store_image;
+use inner_folders::folders::NoFolders;
 use std::alloc::Global;
 use std::process::Abort;
 use std::thread::Threads;
@@ -165,7 +166,7 @@ fn stores<R: Abort + Threads + Sync>(
 ) -> (Counting, Result<usize, MakeFault>) {
     let views = one_view(rt, alloc, view_of(rt, alloc, image));
     let sizes = sizes_of(rt, 48, 48, 48);
-    let (_views, store, made) = store_image(rt, alloc, &sizes, views, store);
+    let (_views, store, made) = store_image(rt, alloc, &sizes, views, store, &NoFolders);
     match made {
         Ok(bytes) => (store, Ok(bytes.len())),
         Err(fault) => (store, Err(fault)),
@@ -354,7 +355,7 @@ fn stored_twice<R: Abort + Threads + Sync>(
     assert!(rt; 0 < views.len());
     let store = Counting::new(alloc, None);
     let sizes = sizes_of(rt, 48, 48, 48);
-    let (views, store, stored) = store_image(rt, alloc, &sizes, views, store);
+    let (views, store, stored) = store_image(rt, alloc, &sizes, views, store, &NoFolders);
     let (calls, reads, want) = told;
     same(rt, store.calls, calls);
     assert!(rt; 0 < views.len());
@@ -399,7 +400,8 @@ fn stored_by<R: Abort + Threads + Sync>(
 {
     let sizes = sizes_of(rt, 16_384, 65_536, 262_144);
     let views = views_of(rt, alloc, image, count);
-    let (_views, store, stored) = store_image(rt, alloc, &sizes, views, Counting::new(alloc, None));
+    let store = Counting::new(alloc, None);
+    let (_views, store, stored) = store_image(rt, alloc, &sizes, views, store, &NoFolders);
     (ok(rt, stored), store)
 }
 

@@ -94,9 +94,17 @@ fn give_store<F: Files, D: Dial>(
     give_source(files, dial, store, taken)
 }
 
+// The folders inside the store's folder, where it is one.
+fn inner_of<F: ImageFiles>(files: &F, store: &Location) -> Option<F::Inner> {
+    match store {
+        Location::Folder(name) => files.inner(name.as_str()),
+        Location::Http { .. } => None,
+    }
+}
+
 // Stores the image in the store that was taken, and gives the bytes of its index file. Views and store are given back,
 // whatever the answer is.
-fn store_between<R: Threads + Sync, F: Files, D: Dial>(
+fn store_between<R: Threads + Sync, F: ImageFiles, D: Dial>(
     rt: &R,
     alloc: Global,
     files: &mut F,
@@ -108,6 +116,7 @@ fn store_between<R: Threads + Sync, F: Files, D: Dial>(
 ) -> Result<Vec<u8>, Outcome>
 where
     F::View: Send,
+    F::Inner: Sync,
     requires some { 0 < vec_len views }
     requires alike { AreOfOneImage (map F.View.held views.items) }
     requires image { All (λ v. IsSome ((F.disk files.old).file_counts (F.View.held v).name)) views.items }
@@ -124,7 +133,14 @@ where
         ImageStored sizes.now q told store.now (files_in F.Folder.files taken)
         (sources (F.disk files.old) (D.state dial.old)) (Err o) (sources (F.disk files.new) (D.state dial.new))) }
 {
-    let (views, taken, stored) = store_image(rt, alloc, sizes, views, taken);
+    let (views, taken, stored) = store_image(
+        rt,
+        alloc,
+        sizes,
+        views,
+        taken,
+        &inner_of(files, store),
+    );
     give_store(files, dial, views, store, taken);
     match stored {
         Ok(bytes) => Ok(bytes),
@@ -164,6 +180,7 @@ pub fn make<R: Threads + Sync, F: ImageFiles, D: Dial>(
 ) -> Result<(), Outcome>
 where
     F::View: Send,
+    F::Inner: Sync,
     ensures ends { (p : Output) → MakeEnds store sizes index image
         (world (F.disk files.old) (D.state dial.old) p) result
         (world (F.disk files.new) (D.state dial.new) p) }

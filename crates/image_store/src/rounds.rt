@@ -12,6 +12,7 @@ use crate::storing::Storing;
 use caibx_codec::index::Index;
 use chunk_store::store::{Store, StoreWrite};
 use dsy_base::view::View;
+use inner_folders::folders::InnerFolders;
 use read_ahead::ahead::Ahead;
 use read_ahead::claims::Claims;
 use read_ahead::plan::round_end;
@@ -22,13 +23,14 @@ use std::thread::{Threads, join_mut};
 // Sees to the entries before those of the round and to some of these, while each reader reads others in a thread. This
 // thread begins all of them, so that none waits for another one to begin it, and claims the first entry of each.
 #[cycle(round)]
-fn round<R: Threads + Sync, V: View, S: StoreWrite, W: View + Send>(
+fn round<R: Threads + Sync, V: View, S: StoreWrite, W: View + Send, I: InnerFolders + Sync>(
     rt: &R,
     index: &Index,
     storing: &mut Storing<V, S>,
     readers: &mut [Reader<W>],
     claims: &Claims,
     ready: &[Ahead],
+    inner: &I,
 ) -> Result<(), MakeFault>
     requires inside { (claims.now.from ≤ count_of index.now) × (claims.now.to ≤ count_of index.now) }
     requires storing { IsStoring V.View S.Store index.now storing.old }
@@ -50,7 +52,7 @@ fn round<R: Threads + Sync, V: View, S: StoreWrite, W: View + Send>(
         ensures ahead { IsAhead index.entry.now (W.held reader.exit.now.view).bytes reader.exit.now.ahead }
         ensures kept { W.held reader.exit.now.view ≡ W.held reader.entry.now.view }
         ensures faults { W.faults reader.entry.now.view ≤ W.faults reader.exit.now.view }
-    { reader.read(index, first, claims) };
+    { reader.read(index, first, claims, inner) };
     let mut go_on = || -> Result<(), MakeFault>
         requires inside { (claims.now.from ≤ count_of index.now) × (claims.now.to ≤ count_of index.now) }
         requires storing { IsStoring V.View S.Store index.now storing.now }
@@ -61,18 +63,19 @@ fn round<R: Threads + Sync, V: View, S: StoreWrite, W: View + Send>(
         ensures kept { map (λ r. W.held r.view) rest.exit.now ≡ map (λ r. W.held r.view) rest.entry.now }
         ensures faults { NoneFalls (map (λ r. W.faults r.view) rest.entry.now)
             (map (λ r. W.faults r.view) rest.exit.now) }
-    { round(rt, index, storing, rest, claims, ready) };
+    { round(rt, index, storing, rest, claims, ready, inner) };
     let (_, put) = join_mut(rt, &mut read, &mut go_on);
     put
 }
 
 // Sees to all entries.
-fn put_by_rounds<R: Threads + Sync, V: View + Send, S: StoreWrite>(
+fn put_by_rounds<R: Threads + Sync, V: View + Send, S: StoreWrite, I: InnerFolders + Sync>(
     rt: &R,
     index: &Index,
     storing: &mut Storing<V, S>,
     readers: &mut [Reader<V>],
     ready: &mut [Ahead],
+    inner: &I,
 ) -> Result<(), MakeFault>
     requires rooms { length ready.old ≡ length readers.old }
     requires storing { IsStoring V.View S.Store index.now storing.old }
@@ -87,7 +90,7 @@ fn put_by_rounds<R: Threads + Sync, V: View + Send, S: StoreWrite>(
     while at < index.count() {
         let end = round_end(index, at, readers.len(), storing.chunk.len());
         let claims = Claims::new(at, end);
-        round(rt, index, storing, readers, &claims, ready)?;
+        round(rt, index, storing, readers, &claims, ready, inner)?;
         change_all(readers, ready);
         at = end;
     }
@@ -123,13 +126,14 @@ fn store_alone<V: View, S: StoreWrite>(
 }
 
 // Sees to all entries with the first view, for which the others read ahead.
-fn store_ahead<R: Threads + Sync, V: View + Send, S: StoreWrite>(
+fn store_ahead<R: Threads + Sync, V: View + Send, S: StoreWrite, I: InnerFolders + Sync>(
     rt: &R,
     alloc: Global,
     index: &Index,
     views: Vec<V>,
     crew: Crew<V>,
     store: S,
+    inner: &I,
     chunk: Vec<u8>,
     room: Vec<u8>,
 ) -> (Vec<V>, S, Result<(), MakeFault>)
@@ -146,20 +150,34 @@ fn store_ahead<R: Threads + Sync, V: View + Send, S: StoreWrite>(
     let (mut views, mut crew) = (views, crew);
     let image = hire(&mut views, &mut crew.rooms, &mut crew.readers);
     let mut storing = Storing::new(alloc, image, store, chunk, room);
-    let put = put_by_rounds(rt, index, &mut storing, &mut crew.readers, &mut crew.ready);
+    let put = put_by_rounds(
+        rt,
+        index,
+        &mut storing,
+        &mut crew.readers,
+        &mut crew.ready,
+        inner,
+    );
     let (image, store) = storing.end();
     dismiss(image, &mut crew.readers, &mut views);
     (views, store, put)
 }
 
 /// Sees to it that the store holds each chunk that the index lists, in order, each id once. The first view is read;
-/// each other one reads and names slices ahead in a thread of its own, where there is memory for its rooms.
-pub(crate) fn store_entries<R: Threads + Sync, V: View + Send, S: StoreWrite>(
+/// each other one reads and names slices ahead in a thread of its own, which makes the inner folders of their chunks'
+/// files, where there is memory for its rooms.
+pub(crate) fn store_entries<
+    R: Threads + Sync,
+    V: View + Send,
+    S: StoreWrite,
+    I: InnerFolders + Sync,
+>(
     rt: &R,
     alloc: Global,
     index: &Index,
     views: Vec<V>,
     store: S,
+    inner: &I,
 ) -> (Vec<V>, S, Result<(), MakeFault>)
     requires some { 0 < vec_len views }
     requires alike { AreOfOneImage (map V.held views.items) }
@@ -177,7 +195,7 @@ pub(crate) fn store_entries<R: Threads + Sync, V: View + Send, S: StoreWrite>(
         return store_alone(alloc, index, views, store, chunk, room);
     }
     match Crew::new(alloc, others, chunk.len()) {
-        Ok(crew) => store_ahead(rt, alloc, index, views, crew, store, chunk, room),
+        Ok(crew) => store_ahead(rt, alloc, index, views, crew, store, inner, chunk, room),
         Err(_) => store_alone(alloc, index, views, store, chunk, room),
     }
 }

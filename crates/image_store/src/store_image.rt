@@ -17,6 +17,7 @@ use buzhash_cut::sizes::CutSizes;
 use caibx_codec::index::Index;
 use chunk_store::store::{Store, StoreWrite};
 use dsy_base::view::View;
+use inner_folders::folders::InnerFolders;
 use std::alloc::Global;
 use std::thread::Threads;
 
@@ -47,13 +48,14 @@ fn index_of<R: Threads + Sync, V: View + Send>(
 }
 
 // Stores the image behind the views, whose index this is, in the store, and gives the bytes of the index file.
-fn store_listed<R: Threads + Sync, V: View + Send, S: StoreWrite>(
+fn store_listed<R: Threads + Sync, V: View + Send, S: StoreWrite, I: InnerFolders + Sync>(
     rt: &R,
     alloc: Global,
     sizes: &CutSizes,
     index: &Index,
     views: Vec<V>,
     store: S,
+    inner: &I,
 ) -> (Vec<V>, S, Result<Vec<u8>, MakeFault>)
     requires some { 0 < vec_len views }
     requires alike { AreOfOneImage (map V.held views.items) }
@@ -78,7 +80,7 @@ fn store_listed<R: Threads + Sync, V: View + Send, S: StoreWrite>(
     ensures store_faults { CountsCause MakeFault.StoreFault (S.faults store) (S.faults result.1) result.2 }
 {
     image_is_right();
-    let (views, store, put) = store_entries(rt, alloc, index, views, store);
+    let (views, store, put) = store_entries(rt, alloc, index, views, store, inner);
     if let Err(fault) = put {
         return (views, store, Err(fault));
     }
@@ -90,13 +92,15 @@ fn store_listed<R: Threads + Sync, V: View + Send, S: StoreWrite>(
 
 /// Stores the image behind the views, cut by these sizes, in the store, and gives the bytes of its index file. Each
 /// view is cut in a thread of its own. The first is read again, and each other one reads slices ahead of it, into twice
-/// 512 KiB and the size of the largest chunk. Views and store come back, whatever the answer is.
-pub fn store_image<R: Threads + Sync, V: View + Send, S: StoreWrite>(
+/// 512 KiB and the size of the largest chunk, and makes the inner folders of their chunks' files. Views and store come
+/// back, whatever the answer is.
+pub fn store_image<R: Threads + Sync, V: View + Send, S: StoreWrite, I: InnerFolders + Sync>(
     rt: &R,
     alloc: Global,
     sizes: &CutSizes,
     views: Vec<V>,
     store: S,
+    inner: &I,
 ) -> (Vec<V>, S, Result<Vec<u8>, MakeFault>)
     requires some { 0 < vec_len views }
     requires alike { AreOfOneImage (map V.held views.items) }
@@ -130,5 +134,5 @@ pub fn store_image<R: Threads + Sync, V: View + Send, S: StoreWrite>(
         Ok(index) => index,
         Err(fault) => return (views, store, Err(fault)),
     };
-    store_listed(rt, alloc, sizes, &index, views, store)
+    store_listed(rt, alloc, sizes, &index, views, store, inner)
 }

@@ -13,6 +13,7 @@ use chunk_store::id::DigestKind;
 use chunk_store::range::name_range;
 use dsy_base::fault::Failed;
 use dsy_base::view::View;
+use inner_folders::folders::InnerFolders;
 use std::alloc::{AllocError, Global};
 
 /// Where in a room the slice of an entry stands.
@@ -79,9 +80,16 @@ impl Ahead {
         self.pieces.len() < self.pieces.capacity() && size <= self.room.len() - self.filled
     }
 
-    // Reads the slice of entry i behind the others, and keeps it where it has its name. One that is seen to already or
-    // that the whole room can't hold is left out. Answers whether there is more to be read.
-    fn read_entry<V: View>(&mut self, index: &Index, i: usize, view: &mut V) -> bool
+    // Reads the slice of entry i behind the others, and keeps it where it has its name; then the folder of its chunk's
+    // file is made. One that is seen to already or that the whole room can't hold is left out. Answers whether there is
+    // more to be read.
+    fn read_entry<V: View, I: InnerFolders>(
+        &mut self,
+        index: &Index,
+        i: usize,
+        view: &mut V,
+        inner: &I,
+    ) -> bool
         requires listed { i < count_of index.now }
         requires size { image_length index.now ≡ (V.held view.old).size }
         requires right { IsAhead index.now (V.held view.old).bytes self.old }
@@ -104,17 +112,20 @@ impl Ahead {
             unreachable!();
         };
         self.filled += listed.size;
+        let path = listed.id.path();
+        inner.make_for(path.as_str());
         true
     }
 
     /// Reads the slices of entries anew, of `first` and of each that it claims, up to one that doesn't fit, can't be
-    /// read or has another name.
-    pub(crate) fn read<V: View>(
+    /// read or has another name. The inner folders of their chunks' files are made.
+    pub(crate) fn read<V: View, I: InnerFolders>(
         &mut self,
         index: &Index,
         first: Option<usize>,
         claims: &Claims,
         view: &mut V,
+        inner: &I,
     )
         requires listed { IfSome first (λ i. i < count_of index.now) }
         requires inside { claims.now.to ≤ count_of index.now }
@@ -130,7 +141,7 @@ impl Ahead {
             let Some(i) = next else {
                 return;
             };
-            if !self.read_entry(index, i, view) {
+            if !self.read_entry(index, i, view, inner) {
                 return;
             }
             next = claims.claim();

@@ -10,6 +10,7 @@ use crate::claims::Claims;
 use crate::plan::room_size;
 use caibx_codec::index::Index;
 use dsy_base::view::View;
+use inner_folders::folders::InnerFolders;
 use std::alloc::{AllocError, Global};
 use std::mem::swap;
 
@@ -22,7 +23,14 @@ pub struct Reader<V> {
 
 impl<V: View> Reader<V> {
     /// Reads the slices of `first` and of each entry that it claims, as long as they can be read, are right and fit.
-    pub fn read(&mut self, index: &Index, first: Option<usize>, claims: &Claims)
+    /// The inner folders of their chunks' files are made.
+    pub fn read<I: InnerFolders>(
+        &mut self,
+        index: &Index,
+        first: Option<usize>,
+        claims: &Claims,
+        inner: &I,
+    )
         requires listed { IfSome first (λ i. i < count_of index.now) }
         requires inside { claims.now.to ≤ count_of index.now }
         requires size { image_length index.now ≡ (V.held self.old.view).size }
@@ -30,7 +38,7 @@ impl<V: View> Reader<V> {
         ensures kept { V.held self.new.view ≡ V.held self.old.view }
         ensures faults { V.faults self.old.view ≤ V.faults self.new.view }
     {
-        self.ahead.read(index, first, claims, &mut self.view);
+        self.ahead.read(index, first, claims, &mut self.view, inner);
     }
 
     // Gives away what was read, for another room.

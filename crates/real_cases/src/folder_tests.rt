@@ -2,12 +2,14 @@
 
 ghost use Rattle.std.specs.Prelude.{◌≡◌};
 
-use crate::fresh_folder::fresh_folder;
+use crate::fresh_folder::{fresh_folder, inside};
 use dsy_base::fault::IoFault;
 use dsy_base::files::Files;
 use dsy_base::folder::Folder;
 use dsy_base::look::Look;
 use dsy_real::real_files::RealFiles;
+use inner_folders::folders::InnerFolders;
+use several_views::image_files::ImageFiles;
 use std::fs;
 use std::process::Abort;
 
@@ -64,5 +66,27 @@ fn a_folder_holds_what_was_put(rt: HostRuntime) {
         .expect(&rt, "not taken");
     holds_what_is_put(&rt, &mut folder);
     files.give_folder(path.as_str(), folder);
+    assert!(rt; fs::remove_dir_all(&rt, path.as_str()).is_ok());
+}
+
+// Whether the path is a folder's.
+fn is_folder(rt: &HostRuntime, path: &str) -> bool {
+    match fs::metadata(rt, path) {
+        Ok(metadata) => metadata.is_dir(),
+        Err(_) => false,
+    }
+}
+
+#[test]
+fn an_inner_folder_is_made_for_a_file(rt: HostRuntime) {
+    let path = fresh_folder(&rt, "inner").expect(&rt, "no folder");
+    let made = inside(&rt, path.as_str(), "ab").expect(&rt, "no memory");
+    let files = RealFiles::new(&rt, rt.alloc());
+    let inner = files.inner(path.as_str()).expect(&rt, "no memory");
+    inner.make_for("plain");
+    assert!(rt; !is_folder(&rt, made.as_str()));
+    inner.make_for("ab/cd");
+    inner.make_for("ab/ce");
+    assert!(rt; is_folder(&rt, made.as_str()));
     assert!(rt; fs::remove_dir_all(&rt, path.as_str()).is_ok());
 }

@@ -1,4 +1,3 @@
-use denote.Param.Send.{sendable}
 use Rattle.std.proofs.Common.{◌≡◌, ◌≤◌, All, arith, map, rules, subst}
 use Rattle.caibx_codec.specs.Listing.{image_length}
 use Rattle.std.proofs.lemmas.List.Elements.{All-cons, All-head, All-rest}
@@ -11,7 +10,8 @@ use Rattle.image_store.proofs.rounds.+round.Goals as goal
 
 pub join_mut-put-requires-after_bounds : goal.join_mut-put-requires-after_bounds
 join_mut-put-requires-after_bounds g t c κs within =
-    let P = λ (r : Reader g.row.W.Denot). image_length c.args.index.now ≡ (g.W.View.held r.view).size in (
+    let P = λ (r : Reader g.row.W.Denot). image_length c.args.index.now ≡ (g.W.View.held r.view).size in
+    let crossing = c.requires-raw.1.1.1.1.1.1 in (
       (
         IfSome_then c.claim-first.result c.claim-first.ensures (λ i is. omega (arith, is.1, c.requires.inside.1)),
         (c.requires.inside.1, All-head P _ _ (subst (All P) c.in-Some.ensures.cases.0 c.requires.size)),
@@ -27,14 +27,17 @@ join_mut-put-requires-after_bounds g t c κs within =
               (
                 (λ a m. m),
                 (
-                  c.requires.inside,
+                  (λ a m. m),
                   (
-                    c.requires.storing,
+                    c.requires.inside,
                     (
-                      c.requires.ready,
+                      c.requires.storing,
                       (
-                        All-rest P _ _ _ c.in-Some.ensures.cases.0 c.requires.size,
-                        (search sendable depth 20, search sendable depth 20),
+                        c.requires.ready,
+                        (
+                          All-rest P _ _ _ c.in-Some.ensures.cases.0 c.requires.size,
+                          (crossing.0, crossing.1.0, crossing.1.1.0),
+                        ),
                       ),
                     ),
                   ),
