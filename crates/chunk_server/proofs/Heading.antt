@@ -2,7 +2,7 @@
 use Rattle.std.proofs.Common.{◌≡◌, ℕ, zero, suc, ◌-◌, ◌<◌, ◌≤◌, List, [], ◌++◌, length, false, refl, ap, ◌∙◌, arith}
 use Rattle.std.proofs.Math.ListN.{get_or-append}
 use Rattle.std.proofs.lemmas.List.{length-append}
-use Rattle.http_wire.specs.HeadEnd.{IsFirstEnd, ends_at}
+use Rattle.http_frames.specs.HeadEnd.{IsFirstEnd, ends_at}
 use Rattle.chunk_server.specs.Requests.{EndsInHead, HasNoEnd, head_limit}
 
 -- what follows the first bytes changes nothing of where a head ends in them

@@ -7,7 +7,7 @@ use Rattle.httparse.specs.Grammar.{RequestHead}
 use Rattle.chunk_server.specs.declared.receiving.Heading.{Heading}
 use Rattle.chunk_server.specs.declared.receiving.Heading.TheVariants as heading
 use Rattle.chunk_server.specs.declared.receiving.Received.{Received}
-use Rattle.http_wire.specs.HeadEnd.{ends_at, IsFirstEnd}
+use Rattle.http_frames.specs.HeadEnd.{ends_at, IsFirstEnd}
 use Rattle.http_wire.specs.Request.{bad_request, is_refusal, request_of, IsRequest}
 use Rattle.http_wire.specs.declared.request.Act.TheVariants as act
 use Rattle.http_wire.specs.declared.request.Request.{Request}

@@ -6,13 +6,13 @@ ghost use Rattle.chunk_server.specs.Requests.{HasNone, Heads, IsHead, IsInside, 
 ghost use Rattle.chunk_server.specs.Requests.{head_limit};
 ghost use Rattle.chunk_server.specs.Streams.{Moves, sent_in, skips, stream_in};
 ghost use Rattle.dsy_base.specs.Counts.{CountsFaults};
-ghost use Rattle.http_wire.specs.HeadEnd.{IsFirstEnd};
+ghost use Rattle.http_frames.specs.HeadEnd.{IsFirstEnd};
 ghost use Rattle.http_wire.specs.Request.{body_limit, is_refusal};
 
 use crate::waiting::{HEAD_LIMIT, read_on, skip};
 use dsy_base::fault::IoFault;
 use dsy_base::link::Link;
-use http_wire::head::head_end;
+use http_frames::head::head_end;
 use http_wire::request::{Act, Request, read_request};
 use std::alloc::Global;
 

@@ -5,15 +5,15 @@ use Rattle.std.proofs.lemmas.List.{drop-append-le, drop-take, length-append, len
 use Rattle.dsy_base.specs.Links.{Traffic, ReadsNext}
 use Rattle.http_read.proofs.Streams.{weaker}
 use Rattle.http_read.specs.Reads.{Fed, IsBody, IsFault, is_over, left_in}
-use Rattle.http_wire.specs.Ahead.{ahead}
-use Rattle.http_wire.specs.Body.{Reading, body_in, is_whole, may_end, reads, start}
-use Rattle.http_wire.specs.Seen.{Kept, seen}
-use Rattle.http_wire.specs.Standing.{Answers, StandsFor}
-use Rattle.http_wire.specs.declared.body.BodyKind.{BodyKind}
+use Rattle.http_frames.specs.Ahead.{ahead}
+use Rattle.http_frames.specs.Body.{Reading, body_in, is_whole, may_end, reads, start}
+use Rattle.http_frames.specs.Seen.{Kept, seen}
+use Rattle.http_frames.specs.Standing.{Answers, StandsFor}
+use Rattle.http_frames.specs.declared.body.BodyKind.{BodyKind}
 use Rattle.http_read.specs.declared.fault.Unread.{Unread}
-use Rattle.http_wire.specs.declared.fault.WireFault.{WireFault}
-use Rattle.http_wire.specs.declared.progress.Next.{Next}
-use Rattle.http_wire.specs.declared.progress.Next.TheVariants as next
+use Rattle.http_frames.specs.declared.fault.WireFault.{WireFault}
+use Rattle.http_frames.specs.declared.progress.Next.{Next}
+use Rattle.http_frames.specs.declared.progress.Next.TheVariants as next
 
 -- what was received after the head, after one read more
 pub after_head : (head : ℕ) (x b : List ℕ) (old new : Option Traffic) → IfSome old (λ t. drop head t.received ≡ x)

@@ -13,8 +13,8 @@ use Rattle.http_read.specs.declared.fault.Unanswered.{Unanswered}
 use Rattle.http_read.specs.declared.fault.Unanswered.TheVariants as unanswered
 use Rattle.http_read.specs.declared.fault.Unread.{Unread}
 use Rattle.http_read.specs.declared.fault.Unread.TheVariants as unread
-use Rattle.http_wire.specs.declared.fault.WireFault.{WireFault}
-use Rattle.http_wire.specs.declared.fault.WireFault.TheVariants as faults
+use Rattle.http_frames.specs.declared.fault.WireFault.{WireFault}
+use Rattle.http_frames.specs.declared.fault.WireFault.TheVariants as faults
 use Rattle.http_wire.specs.declared.reply.Method.{Method}
 use Rattle.http_wire.specs.declared.reply.Method.TheVariants as method
 use Rattle.http_wire.specs.declared.reply.ReplyHead.{ReplyHead}

@@ -13,10 +13,10 @@ use Rattle.http_read.specs.declared.fault.BadReply.TheVariants as bad
 use Rattle.http_read.specs.declared.fault.Unread.{Unread}
 use Rattle.http_read.specs.declared.fault.Unread.TheVariants as unread
 use Rattle.http_read.specs.declared.receiving.Received.{Received}
-use Rattle.http_wire.specs.HeadEnd.{IsFirstEnd, ends_at}
+use Rattle.http_frames.specs.HeadEnd.{IsFirstEnd, ends_at}
+use Rattle.http_frames.specs.declared.fault.WireFault.{WireFault}
+use Rattle.http_frames.specs.declared.fault.WireFault.TheVariants as faults
 use Rattle.http_wire.specs.Reply.{IsHead, reply_of}
-use Rattle.http_wire.specs.declared.fault.WireFault.{WireFault}
-use Rattle.http_wire.specs.declared.fault.WireFault.TheVariants as faults
 use Rattle.http_wire.specs.declared.reply.Method.{Method}
 use Rattle.http_wire.specs.declared.reply.ReplyHead.{ReplyHead}
 use Rattle.httparse.specs.Grammar.{ResponseHead, status_code}

@@ -4,12 +4,12 @@ use Rattle.std.proofs.Common.{subst, arith}
 use Rattle.std.specs.Prelude.{Result}
 use Rattle.std.proofs.lemmas.Bool.Decides.{nat_tests}
 use Rattle.http_read.specs.Replies.{SaysHead}
-use Rattle.http_wire.specs.HeadEnd.{IsFirstEnd, ends_at}
+use Rattle.http_frames.specs.HeadEnd.{IsFirstEnd, ends_at}
+use Rattle.http_frames.specs.declared.body.BodyKind.{BodyKind}
+use Rattle.http_frames.specs.declared.body.BodyKind.TheVariants as kind
+use Rattle.http_frames.specs.declared.fault.WireFault.{WireFault}
+use Rattle.http_frames.specs.declared.fault.WireFault.TheVariants as faults
 use Rattle.http_wire.specs.Reply.{IsHead}
-use Rattle.http_wire.specs.declared.body.BodyKind.{BodyKind}
-use Rattle.http_wire.specs.declared.body.BodyKind.TheVariants as kind
-use Rattle.http_wire.specs.declared.fault.WireFault.{WireFault}
-use Rattle.http_wire.specs.declared.fault.WireFault.TheVariants as faults
 use Rattle.http_wire.specs.declared.reply.Method.{Method}
 use Rattle.http_wire.specs.declared.reply.ReplyHead.{ReplyHead}
 use Rattle.httparse.specs.Grammar.{ResponseHead}

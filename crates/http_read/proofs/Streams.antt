@@ -9,7 +9,7 @@ use Rattle.http_read.specs.Asks.{IsFront}
 use Rattle.http_read.specs.Reads.{IfWire, Receives, SendsFront}
 use Rattle.http_read.specs.declared.fault.Unread.{Unread}
 use Rattle.http_read.specs.declared.fault.Unread.TheVariants as unread
-use Rattle.http_wire.specs.declared.fault.WireFault.{WireFault}
+use Rattle.http_frames.specs.declared.fault.WireFault.{WireFault}
 
 -- the traffic t after b was received, with the rest still to come
 abbrev pub grown : Traffic → List ℕ → List ℕ → Traffic

@@ -11,12 +11,12 @@ use Rattle.http_read.specs.declared.fault.Unanswered.TheVariants as unanswered
 use Rattle.http_read.specs.declared.fault.Unread.{Unread}
 use Rattle.http_read.specs.declared.fault.Unread.TheVariants as unread
 use Rattle.http_read.specs.Replies.{IsWhole}
-use Rattle.http_wire.specs.Ahead.{ahead}
-use Rattle.http_wire.specs.Body.{body_in, is_whole, reads, start}
-use Rattle.http_wire.specs.Seen.{Kept}
-use Rattle.http_wire.specs.Standing.{StandsFor}
-use Rattle.http_wire.specs.declared.body.BodyKind.{BodyKind}
-use Rattle.http_wire.specs.declared.fault.WireFault.{WireFault}
+use Rattle.http_frames.specs.Ahead.{ahead}
+use Rattle.http_frames.specs.Body.{body_in, is_whole, reads, start}
+use Rattle.http_frames.specs.Seen.{Kept}
+use Rattle.http_frames.specs.Standing.{StandsFor}
+use Rattle.http_frames.specs.declared.body.BodyKind.{BodyKind}
+use Rattle.http_frames.specs.declared.fault.WireFault.{WireFault}
 
 -- more was received, and nothing was sent
 abbrev pub Receives : Option Traffic → Option Traffic → Type 0

@@ -5,11 +5,11 @@ use Rattle.http_read.specs.Asks.{Server, asks}
 use Rattle.http_read.specs.Replies.{head_limit, SaysHead, SaysStatus}
 use Rattle.http_read.specs.declared.fault.BadReply.{BadReply}
 use Rattle.http_read.specs.declared.fault.BadReply.TheVariants as bad
-use Rattle.http_wire.specs.Body.{body_in, reads, start}
-use Rattle.http_wire.specs.HeadEnd.{ends_at}
-use Rattle.http_wire.specs.declared.body.BodyKind.{BodyKind}
-use Rattle.http_wire.specs.declared.fault.WireFault.{WireFault}
-use Rattle.http_wire.specs.declared.fault.WireFault.TheVariants as faults
+use Rattle.http_frames.specs.Body.{body_in, reads, start}
+use Rattle.http_frames.specs.HeadEnd.{ends_at}
+use Rattle.http_frames.specs.declared.body.BodyKind.{BodyKind}
+use Rattle.http_frames.specs.declared.fault.WireFault.{WireFault}
+use Rattle.http_frames.specs.declared.fault.WireFault.TheVariants as faults
 use Rattle.http_wire.specs.declared.reply.Method.{Method}
 use Rattle.http_wire.specs.declared.reply.Method.TheVariants as method
 

@@ -3,12 +3,12 @@
 use Rattle.std.specs.Prelude.{◌≡◌, ℕ, ◌<◌, ◌≤◌, ◌⊎◌, List, [], take, drop, map, true, Result, Ok, Err}
 use Rattle.dsy_base.specs.Links.{Traffic}
 use Rattle.http_read.specs.Asks.{Server, asks, asks_get, asks_head, asks_put}
-use Rattle.http_wire.specs.Body.{Reading, body_in, is_whole, reads, start}
-use Rattle.http_wire.specs.HeadEnd.{IsFirstEnd}
+use Rattle.http_frames.specs.Body.{Reading, body_in, is_whole, reads, start}
+use Rattle.http_frames.specs.HeadEnd.{IsFirstEnd}
+use Rattle.http_frames.specs.declared.body.BodyKind.{BodyKind}
+use Rattle.http_frames.specs.declared.fault.WireFault.{WireFault}
+use Rattle.http_frames.specs.declared.fault.WireFault.TheVariants as faults
 use Rattle.http_wire.specs.Reply.{IsHead, reply_of}
-use Rattle.http_wire.specs.declared.body.BodyKind.{BodyKind}
-use Rattle.http_wire.specs.declared.fault.WireFault.{WireFault}
-use Rattle.http_wire.specs.declared.fault.WireFault.TheVariants as faults
 use Rattle.http_wire.specs.declared.reply.Method.{Method}
 use Rattle.http_wire.specs.declared.reply.Method.TheVariants as method
 use Rattle.http_wire.specs.declared.reply.ReplyHead.{ReplyHead}

@@ -4,14 +4,14 @@ ghost use Rattle.std.specs.Prelude.{◌≡◌, ◌≢◌, ◌<◌, ◌≤◌, �
 ghost use Rattle.std.specs.Prelude.{List, drop, false, true};
 ghost use Rattle.dsy_base.specs.Links.{ReadsNext, Traffic};
 ghost use Rattle.http_read.specs.Reads.{CountsRead, Fed, IfWire, IsBody, IsFault, Receives, is_over, left_in};
-ghost use Rattle.http_wire.specs.declared.body.BodyKind.{BodyKind};
+ghost use Rattle.http_frames.specs.declared.body.BodyKind.{BodyKind};
 
 use crate::fault::Unread;
 use crate::receiving::Received;
 use dsy_base::link::Link;
-use http_wire::body::BodyKind;
-use http_wire::laws::bodies_end;
-use http_wire::reader::BodyReader;
+use http_frames::body::BodyKind;
+use http_frames::laws::bodies_end;
+use http_frames::reader::BodyReader;
 
 // Feeds a piece of the body.
 fn feed(reader: &mut BodyReader, piece: &[u8], out: &mut [u8]) -> Result<(), Unread>

@@ -14,7 +14,7 @@ use crate::fault::{BadReply, Unanswered, Unread};
 use crate::receiving::{HEAD_LIMIT, Received, receive};
 use dsy_base::fault::IoFault;
 use dsy_base::link::Link;
-use http_wire::fault::WireFault;
+use http_frames::fault::WireFault;
 use http_wire::reply::{Method, ReplyHead, read_reply};
 
 // What is said of a chunk that was asked for.

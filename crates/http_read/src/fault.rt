@@ -1,6 +1,6 @@
 //! Why a reply wasn't taken.
 
-use http_wire::fault::WireFault;
+use http_frames::fault::WireFault;
 
 /// Why a reply wasn't taken.
 #[derive(Clone, Copy, Debug, PartialEq, Eq)]

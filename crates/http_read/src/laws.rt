@@ -2,7 +2,7 @@
 
 ghost use Rattle.std.specs.Prelude.{◌≡◌, ℕ, List, Result};
 ghost use Rattle.http_read.specs.Replies.{SaysHead};
-ghost use Rattle.http_wire.specs.declared.fault.WireFault.{WireFault};
+ghost use Rattle.http_frames.specs.declared.fault.WireFault.{WireFault};
 ghost use Rattle.http_wire.specs.declared.reply.Method.{Method};
 ghost use Rattle.http_wire.specs.declared.reply.ReplyHead.{ReplyHead};
 

@@ -4,12 +4,12 @@ ghost use Rattle.std.specs.Prelude.{◌≡◌, ◌<◌, ◌≤◌, [], length, t
 ghost use Rattle.http_read.specs.Reads.{CountsRead, IfWire, Receives};
 ghost use Rattle.http_read.specs.Refusals.{HasNoHead};
 ghost use Rattle.http_read.specs.Replies.{head_limit};
-ghost use Rattle.http_wire.specs.HeadEnd.{IsFirstEnd};
+ghost use Rattle.http_frames.specs.HeadEnd.{IsFirstEnd};
 
 use crate::fault::Unread;
 use dsy_base::link::Link;
-use http_wire::fault::WireFault;
-use http_wire::head::head_end;
+use http_frames::fault::WireFault;
+use http_frames::head::head_end;
 
 /// The most bytes of a head.
 pub(crate) const HEAD_LIMIT: usize = 16_384;

@@ -1,11 +1,4 @@
-pub mod Runs
-pub mod SizeLines
-pub mod Stood
 pub mod Lengths
 pub mod Lines
-pub mod Ends
-pub mod Trailers
-pub mod Spelled
-pub mod Ahead
 pub mod Targets
 pub mod Judged

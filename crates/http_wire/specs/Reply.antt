@@ -7,10 +7,10 @@ use Rattle.std.specs.Char.{is_ascii_digit}
 use Rattle.std.specs.Str.{str_eq_ignore_ascii_case}
 use Rattle.std.specs.Str.Parse.{digits_value}
 use Rattle.httparse.specs.Grammar.{ResponseHead, ReadsResponse}
-use Rattle.http_wire.specs.declared.fault.WireFault.{WireFault}
-use Rattle.http_wire.specs.declared.fault.WireFault.TheVariants as faults
-use Rattle.http_wire.specs.declared.body.BodyKind.{BodyKind}
-use Rattle.http_wire.specs.declared.body.BodyKind.TheVariants as kind
+use Rattle.http_frames.specs.declared.fault.WireFault.{WireFault}
+use Rattle.http_frames.specs.declared.fault.WireFault.TheVariants as faults
+use Rattle.http_frames.specs.declared.body.BodyKind.{BodyKind}
+use Rattle.http_frames.specs.declared.body.BodyKind.TheVariants as kind
 use Rattle.http_wire.specs.declared.framing.Coding.{Coding}
 use Rattle.http_wire.specs.declared.framing.Coding.TheVariants as coding
 use Rattle.http_wire.specs.declared.framing.ContentLength.{ContentLength}

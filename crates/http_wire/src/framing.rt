@@ -4,9 +4,9 @@ ghost use Rattle.std.specs.Prelude.{◌≡◌, ℕ, ◌≤◌, length, map, All}
 ghost use Rattle.httparse.specs.Spans.{header_bytes, IsHeaderWithin};
 ghost use Rattle.http_wire.specs.Reply.{agreed, by_coding, coded, length_in, note, notes, unframed};
 
-use crate::body::BodyKind;
-use crate::fault::WireFault;
 use crate::words::is_word;
+use http_frames::body::BodyKind;
+use http_frames::fault::WireFault;
 use httparse::spans::HeaderSpan;
 
 /// How many digits a `Content-Length` may have. More could pass the range of 64 bits.

@@ -5,9 +5,9 @@ ghost use Rattle.httparse.specs.Grammar.{ResponseHead, status_code};
 ghost use Rattle.httparse.specs.Spans.{name_and_value};
 ghost use Rattle.http_wire.specs.Reply.{has_no_body, reply_of, IsHead};
 
-use crate::body::BodyKind;
-use crate::fault::WireFault;
 use crate::framing::Framing;
+use http_frames::body::BodyKind;
+use http_frames::fault::WireFault;
 use httparse::Status;
 use httparse::spans::{EMPTY_HEADER_SPAN, parse_response};
 

@@ -12,9 +12,9 @@ use dsy_base::name::Name;
 use dsy_forms::mem_dial::MemDial;
 use dsy_forms::mem_link::MemLink;
 use dsy_forms::open_link::OpenLink;
+use http_frames::fault::WireFault;
 use http_read::fault::BadReply;
 use http_read::store::HttpStore;
-use http_wire::fault::WireFault;
 use std::alloc::Global;
 use std::process::Abort;
 

@@ -1,5 +1,5 @@
 use Rattle.std.proofs.Common.{◌≡◌, ◌≤◌, ℕ, List, length, false, subst, arith}
-use Rattle.http_wire.specs.HeadEnd.{IsFirstEnd, ends_at}
+use Rattle.http_frames.specs.HeadEnd.{IsFirstEnd, ends_at}
 use Rattle.chunk_server.proofs.Streaming.{head_found, head_endless}
 use Rattle.chunk_server.proofs.receiving.receive_head.Goals as goal
 

@@ -1,5 +1,5 @@
 use Rattle.std.proofs.Common.{ℕ, ◌≤◌, List, ◌++◌, length, ap, subst, ◌∙◌, arith, length-drop}
-use Rattle.http_wire.specs.HeadEnd.{IsFirstEnd}
+use Rattle.http_frames.specs.HeadEnd.{IsFirstEnd}
 use Rattle.chunk_server.specs.Requests.{IsHead, head_limit}
 use Rattle.chunk_server.proofs.Nexts.{endless_next, whole_next}
 use Rattle.chunk_server.proofs.Streaming.{sent_same}

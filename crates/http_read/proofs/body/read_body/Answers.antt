@@ -2,7 +2,7 @@ use Rattle.std.proofs.Common.{ℕ, refl}
 use Rattle.http_read.proofs.Bodies.{behind_head}
 use Rattle.http_read.proofs.Streams.{receives_nothing, ok_weaker, wire_same, wire_weaker}
 use Rattle.http_read.specs.declared.fault.Unread.{Unread}
-use Rattle.http_wire.specs.declared.reader.BodyReader.{BodyReader}
+use Rattle.http_frames.specs.declared.reader.BodyReader.{BodyReader}
 use Rattle.http_read.proofs.body.read_body.Goals as goal
 
 pub read_on-requires-clause-fed : goal.read_on-requires-clause-fed

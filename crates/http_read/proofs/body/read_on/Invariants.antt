@@ -1,7 +1,7 @@
 use Rattle.std.proofs.Common.{◌≡◌, ℕ, ◌≤◌, length}
 use Rattle.std.specs.Prelude.{IfOk}
 use Rattle.http_read.specs.Reads.{Fed, Receives, left_in}
-use Rattle.http_wire.specs.declared.body.BodyKind.{BodyKind}
+use Rattle.http_frames.specs.declared.body.BodyKind.{BodyKind}
 use Rattle.http_read.proofs.body.read_on.Given as goal
 
 -- the reader was fed what was received after the head

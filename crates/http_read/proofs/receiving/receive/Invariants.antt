@@ -1,7 +1,7 @@
 use Rattle.std.proofs.Common.{◌≡◌, ℕ, ◌-◌, ◌≤◌, length, take, false}
 use Rattle.std.specs.Prelude.{IfSome}
 use Rattle.http_read.specs.Reads.{Receives}
-use Rattle.http_wire.specs.HeadEnd.{ends_at}
+use Rattle.http_frames.specs.HeadEnd.{ends_at}
 use Rattle.http_read.proofs.receiving.receive.Given as goal
 
 -- what was received fills the front of the buffer, and has no head end

@@ -1,5 +1,0 @@
-use Rattle.http_wire.proofs.Ahead.{piece_lessens}
-use Rattle.http_wire.proofs.laws.bodies_end.Goals as goal
-
-pub returns : goal.returns
-returns c = record { value = piece_lessens }
