@@ -2,16 +2,16 @@
 
 ghost use Rattle.std.specs.List.{All};
 ghost use Rattle.dsy_base.specs.Links.{IsFreshLink};
-ghost use Rattle.dsy_forms.specs.MemLinks.{link_of};
+ghost use Rattle.link_forms.specs.MemLinks.{link_of};
 
 use crate::compare::{ok, same};
 use dsy_base::dial::Dial;
 use dsy_base::fault::{Failed, IoFault};
 use dsy_base::link::Link;
 use dsy_base::listen::Listen;
-use dsy_forms::mem_dial::MemDial;
-use dsy_forms::mem_link::MemLink;
-use dsy_forms::mem_listen::MemListen;
+use link_forms::mem_dial::MemDial;
+use link_forms::mem_link::MemLink;
+use link_forms::mem_listen::MemListen;
 use std::alloc::Global;
 use std::process::Abort;
 

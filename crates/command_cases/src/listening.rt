@@ -5,8 +5,8 @@ ghost use Rattle.dsy_base.specs.declared.fault.IoFault.{IoFault};
 
 use dsy_base::fault::IoFault;
 use dsy_base::listen::Listen;
-use dsy_forms::mem_listen::MemListen;
-use dsy_forms::open_link::OpenLink;
+use link_forms::mem_listen::MemListen;
+use link_forms::open_link::OpenLink;
 use std::alloc::Global;
 
 /// A listener in memory that notes each place where it was to listen.
@@ -35,7 +35,7 @@ impl Noting {
 
 impl Listen for Noting {
     ghost use Rattle.std.specs.Prelude.{true, refl};
-    ghost use Rattle.dsy_forms.specs.MemLinks.{listen_of};
+    ghost use Rattle.link_forms.specs.MemLinks.{listen_of};
 
     type Link = OpenLink;
 

@@ -2,13 +2,13 @@
 
 ghost use Rattle.std.specs.Prelude.{All, IfOk};
 ghost use Rattle.dsy_base.specs.Links.{IsFreshLink};
-ghost use Rattle.dsy_forms.specs.MemLinks.{link_of};
+ghost use Rattle.link_forms.specs.MemLinks.{link_of};
 
 use crate::listening::Noting;
-use dsy_forms::mem_dial::MemDial;
 use dsy_forms::mem_files::MemFiles;
-use dsy_forms::mem_link::MemLink;
-use dsy_forms::mem_listen::MemListen;
+use link_forms::mem_dial::MemDial;
+use link_forms::mem_link::MemLink;
+use link_forms::mem_listen::MemListen;
 use std::alloc::{AllocError, Global};
 
 /// Files and connections in memory.

@@ -1,4 +1,2 @@
-pub mod FreshLinks
-pub mod Pieces
 pub mod Trees
 pub mod Updates

@@ -27,7 +27,7 @@ impl Calls {
     }
 
     /// The number of the call that is made next.
-    pub(crate) fn so_far(&self) -> u64
+    pub fn so_far(&self) -> u64
         ensures { result ≡ self.now.so_far }
     {
         self.so_far
@@ -45,7 +45,7 @@ impl Calls {
     }
 
     /// The same list, with no call made yet.
-    pub(crate) fn again(&self, alloc: Global) -> Result<Calls, AllocError>
+    pub fn again(&self, alloc: Global) -> Result<Calls, AllocError>
         ensures kept { IfOk result (λ c. c.fails.items ≡ self.now.fails.items) }
         ensures counts { IfOk result (λ c. c.so_far ≡ 0) }
     {

@@ -2,13 +2,9 @@
 #![tactic(auto)]
 
 pub mod calls;
-pub mod mem_dial;
 pub mod mem_files;
 pub mod mem_folder;
-pub mod mem_link;
-pub mod mem_listen;
 pub mod mem_sink;
 pub mod mem_target;
 pub mod mem_view;
-pub mod open_link;
 pub mod ranges;

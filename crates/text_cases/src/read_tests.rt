@@ -9,12 +9,12 @@ use chunk_store::store::{GetFault, Store, StoreWrite};
 use dsy_base::dial::Dial;
 use dsy_base::fault::{IoFault, Memory};
 use dsy_base::name::Name;
-use dsy_forms::mem_dial::MemDial;
-use dsy_forms::mem_link::MemLink;
-use dsy_forms::open_link::OpenLink;
 use http_frames::fault::WireFault;
 use http_read::fault::BadReply;
 use http_read::store::HttpStore;
+use link_forms::mem_dial::MemDial;
+use link_forms::mem_link::MemLink;
+use link_forms::open_link::OpenLink;
 use std::alloc::Global;
 use std::process::Abort;
 
@@ -45,7 +45,7 @@ struct Noting {
 
 impl Dial for Noting {
     ghost use Rattle.std.specs.Prelude.{true, refl};
-    ghost use Rattle.dsy_forms.specs.MemLinks.{dial_of};
+    ghost use Rattle.link_forms.specs.MemLinks.{dial_of};
 
     type Link = OpenLink;
 

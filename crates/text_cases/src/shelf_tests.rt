@@ -12,8 +12,8 @@ use chunk_store::id::{ChunkId, DigestKind};
 use dsy_base::folder::Folder;
 use dsy_base::look::Look;
 use dsy_forms::mem_folder::MemFolder;
-use dsy_forms::mem_link::MemLink;
 use http_wire::request::Act;
+use link_forms::mem_link::MemLink;
 use std::alloc::Global;
 use std::process::Abort;
 

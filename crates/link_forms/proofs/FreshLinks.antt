@@ -5,8 +5,8 @@ use Rattle.std.proofs.lemmas.List.Elements.{All-head, All-tail}
 use Rattle.std.proofs.lemmas.Grind.{flat_map-append}
 use Rattle.std.specs.List.{All}
 use Rattle.dsy_base.specs.Links.{IsFreshLink}
-use Rattle.dsy_forms.specs.MemLinks.{bytes_of, come, to_come, first_of, link_of, traffic_of}
-use Rattle.dsy_forms.specs.declared.mem_link.MemLink.{MemLink}
+use Rattle.link_forms.specs.MemLinks.{bytes_of, come, to_come, first_of, link_of, traffic_of}
+use Rattle.link_forms.specs.declared.mem_link.MemLink.{MemLink}
 
 come_whole : {Z : Type 0} (ps : List (Vec ℕ Z)) (i at : ℕ) → come ps i at ++ to_come ps i at ≡ bytes_of ps
 come_whole ps i at =

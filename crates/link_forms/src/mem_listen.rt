@@ -4,13 +4,13 @@ ghost use Rattle.std.specs.Prelude.{◌≡◌, [], Some, map, slice_get, IfSome}
 ghost use Rattle.std.specs.List.{All};
 ghost use Rattle.std.specs.Option.{option_map};
 ghost use Rattle.dsy_base.specs.Links.{IsFreshLink};
-ghost use Rattle.dsy_forms.specs.MemLinks.{link_of, listen_of, traffic_of};
+ghost use Rattle.link_forms.specs.MemLinks.{link_of, listen_of, traffic_of};
 
-use crate::calls::{Calls, Fails};
 use crate::mem_link::MemLink;
 use crate::open_link::{Ended, OpenLink};
 use dsy_base::fault::{IoFault, raise};
 use dsy_base::listen::Listen;
+use dsy_forms::calls::{Calls, Fails};
 use std::alloc::Global;
 
 /// A listener over connections in memory, which come in their order. A call that fails changes no connection. Binds

@@ -1,7 +1,7 @@
 use Rattle.std.proofs.Common.{arith, ◌≡◌, ◌+◌, ◌<◌, ◌≤◌, length, vec_len, take, drop, ◌++◌, get_or, ap, ◌∙◌, length-take, length-drop}
 use Rattle.std.proofs.lemmas.List.{take_at, take_rest}
-use Rattle.dsy_forms.proofs.Pieces.{piece_left, reads_next}
-use Rattle.dsy_forms.proofs.mem_link.MemLinkLink.read.Goals as goal
+use Rattle.link_forms.proofs.Pieces.{piece_left, reads_next}
+use Rattle.link_forms.proofs.mem_link.MemLinkLink.read.Goals as goal
 
 pub returns-clause-bytes : goal.returns-clause-bytes
 returns-clause-bytes c =

@@ -4,13 +4,13 @@ ghost use Rattle.std.specs.Prelude.{◌≡◌, [], Some, map, slice_get, IfOk, I
 ghost use Rattle.std.specs.List.{All};
 ghost use Rattle.std.specs.Option.{option_map};
 ghost use Rattle.dsy_base.specs.Links.{IsFreshLink};
-ghost use Rattle.dsy_forms.specs.MemLinks.{dial_of, first_of, link_of, traffic_of};
+ghost use Rattle.link_forms.specs.MemLinks.{dial_of, first_of, link_of, traffic_of};
 
-use crate::calls::{Calls, Fails};
 use crate::mem_link::MemLink;
 use crate::open_link::{Ended, OpenLink};
 use dsy_base::dial::Dial;
 use dsy_base::fault::{IoFault, Memory, raise};
+use dsy_forms::calls::{Calls, Fails};
 use std::alloc::{AllocError, Global};
 
 /// A dialer over connections in memory. A dial gives a copy of the link of its own number, and past the last it fails:

@@ -2,10 +2,10 @@
 use Rattle.std.specs.Prelude.{ℕ, List, [], ◌∷◌, ◌++◌, take, drop, map, Some, Vec}
 use Rattle.std.specs.List.{flat_map}
 use Rattle.dsy_base.specs.Links.{Traffic, LinkState, DialState, ListenState}
-use Rattle.dsy_forms.specs.declared.mem_link.MemLink.{MemLink}
-use Rattle.dsy_forms.specs.declared.mem_dial.MemDial.{MemDial}
-use Rattle.dsy_forms.specs.declared.mem_listen.MemListen.{MemListen}
-use Rattle.dsy_forms.specs.declared.open_link.Ended.{Ended, Nothing, Link'}
+use Rattle.link_forms.specs.declared.mem_link.MemLink.{MemLink}
+use Rattle.link_forms.specs.declared.mem_dial.MemDial.{MemDial}
+use Rattle.link_forms.specs.declared.mem_listen.MemListen.{MemListen}
+use Rattle.link_forms.specs.declared.open_link.Ended.{Ended, Nothing, Link'}
 
 -- all bytes of the pieces, one piece after the other
 abbrev pub bytes_of : {Z : Type 0} → List (Vec ℕ Z) → List ℕ

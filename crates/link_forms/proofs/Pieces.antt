@@ -5,9 +5,9 @@ use Rattle.std.specs.List.{AllZip, each_same}
 use Rattle.std.proofs.lemmas.List.{drop_more, length-take-le, drop-append-le, take-append-le, drop-drop}
 use Rattle.std.proofs.lemmas.Option.{none-some, slice_get_read, get_or_from_slice_get}
 use Rattle.std.proofs.Math.Seq.{take-add, drop-append-add, take-append-add}
-use Rattle.dsy_forms.specs.MemLinks.{bytes_of, come, to_come, link_of, traffic_of}
+use Rattle.link_forms.specs.MemLinks.{bytes_of, come, to_come, link_of, traffic_of}
 use Rattle.dsy_base.specs.Links.{LinkState, ReadsNext, received}
-use Rattle.dsy_forms.specs.declared.mem_link.MemLink.{MemLink}
+use Rattle.link_forms.specs.declared.mem_link.MemLink.{MemLink}
 
 come_passed : {Z : Type 0} (ps : List (Vec ℕ Z)) (i m : ℕ) (p : Vec ℕ Z) → slice_get ps i ≡ Some p → come ps (suc i) m ≡ come ps i (length p.items + m)
 come_passed [] i m p h = absurd (none-some p h)

@@ -1,7 +1,7 @@
 use Rattle.std.proofs.Common.{arith, ◌∙◌, ◌≡◌, ◌<◌, ◌≤◌, length, vec_len, refl, Some, None, slice_get}
 use Rattle.std.proofs.lemmas.Option.{slice_get_read, slice_get_past}
-use Rattle.dsy_forms.proofs.Pieces.{link_passed}
-use Rattle.dsy_forms.proofs.mem_link.MemLink.pass_pieces.Goals as goal
+use Rattle.link_forms.proofs.Pieces.{link_passed}
+use Rattle.link_forms.proofs.mem_link.MemLink.pass_pieces.Goals as goal
 
 pub loop-self-preserved : goal.loop-self-preserved
 loop-self-preserved c =

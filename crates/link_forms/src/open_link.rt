@@ -2,7 +2,7 @@
 
 ghost use Rattle.std.specs.Prelude.{◌≡◌, [], ◌∷◌, ◌++◌, slice_get, IfOk};
 ghost use Rattle.std.specs.Option.{option_map};
-ghost use Rattle.dsy_forms.specs.MemLinks.{first_of, traffic_of, traffics_of};
+ghost use Rattle.link_forms.specs.MemLinks.{first_of, traffic_of, traffics_of};
 
 use crate::mem_link::MemLink;
 use dsy_base::fault::{Failed, IoFault};
@@ -78,7 +78,7 @@ impl Ended {
 
 impl Link for OpenLink {
     ghost use Rattle.std.specs.Prelude.{true, refl};
-    ghost use Rattle.dsy_forms.specs.MemLinks.{link_of};
+    ghost use Rattle.link_forms.specs.MemLinks.{link_of};
 
     ghost state = { λ l. link_of l.link };
 

@@ -1,6 +1,6 @@
 use Rattle.std.specs.Prelude.{[]}
-use Rattle.dsy_forms.proofs.Pieces.{copied_bytes}
-use Rattle.dsy_forms.proofs.mem_link.MemLink.again.Goals as goal
+use Rattle.link_forms.proofs.Pieces.{copied_bytes}
+use Rattle.link_forms.proofs.mem_link.MemLink.again.Goals as goal
 
 pub returns-clause-same : goal.returns-clause-same
 returns-clause-same c =

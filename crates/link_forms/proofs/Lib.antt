@@ -1,0 +1,2 @@
+pub mod FreshLinks
+pub mod Pieces
