@@ -18,7 +18,7 @@ sys.path.insert(0, os.path.join(os.path.dirname(os.path.abspath(__file__)), '..'
 import program
 
 TOP = os.path.join(os.path.dirname(os.path.abspath(__file__)), '..')
-BELOW = ('dsy_base', 'chunk_store', 'caibx_codec', 'extract_plan')
+BELOW = ('dsy_base', 'chunk_store', 'caibx_fields', 'caibx_codec', 'extract_plan')
 CRATE = 'plan_steps'
 
 PROGRAM = '''//! Makes an index and two seeds, their plan and the places of its wants, up to a step.

@@ -5,7 +5,7 @@ use Rattle.buzhash_cut.specs.Image.{named_from}
 use Rattle.buzhash_cut.specs.Entries.{IsStep, AreLinked, AreAll}
 use Rattle.chunk_ends.specs.Sizes.{Sizes, AreSizes}
 use Rattle.caibx_codec.specs.Judge.{entry_fault, fault_of}
-use Rattle.caibx_codec.specs.declared.fault.IndexFault.{IndexFault}
+use Rattle.caibx_fields.specs.declared.fault.IndexFault.{IndexFault}
 use Rattle.chunk_store.specs.declared.id.DigestKind.{DigestKind}
 use Rattle.dsy_base.specs.Bytes.{Held}
 

@@ -6,13 +6,15 @@ use Rattle.std.proofs.lemmas.Bool.Decides.{nat_tests}
 use Rattle.std.proofs.lemmas.List.{append-nil, length-append}
 use Rattle.std.proofs.lemmas.Nat.{from_le_bytes-to_le_bytes_8}
 use Rattle.chunk_store.specs.Names.{IsId}
-use Rattle.caibx_codec.specs.declared.fault.IndexFault.TheVariants as faults
-use Rattle.caibx_codec.specs.declared.field.Field.{Field}
-use Rattle.caibx_codec.specs.declared.field.Field.TheVariants as field
-use Rattle.caibx_codec.specs.declared.field.Fields.{Fields}
+use Rattle.caibx_fields.specs.declared.fault.IndexFault.TheVariants as faults
+use Rattle.caibx_fields.specs.declared.field.Field.{Field}
+use Rattle.caibx_fields.specs.declared.field.Field.TheVariants as field
+use Rattle.caibx_fields.specs.declared.field.Fields.{Fields}
+use Rattle.caibx_fields.specs.Words.{word, words}
+use Rattle.caibx_fields.specs.Fields.{need, word_at, end_judged}
 use Rattle.caibx_codec.specs.Listing.{Listing, IsValid, AreChunks}
-use Rattle.caibx_codec.specs.Spelling.{word, words, item, items, spelling, IsIndexFile, front_words, tail_words}
-use Rattle.caibx_codec.specs.Reading.{Read, need, word_at, end_judged, judge, judge_at, push, reads, start, listing_of, is_whole, index_in, ◌>>=◌}
+use Rattle.caibx_codec.specs.Spelling.{item, items, spelling, IsIndexFile, front_words, tail_words}
+use Rattle.caibx_codec.specs.Reading.{Read, judge, judge_at, push, reads, start, listing_of, is_whole, index_in, ◌>>=◌}
 use Rattle.caibx_codec.specs.Standing.{last_end}
 use Rattle.caibx_codec.proofs.Fields.{judge_word, judge_id, no_id, no_end}
 use Rattle.caibx_codec.proofs.Pieces.{reads_one, reads_none}

@@ -1,17 +1,18 @@
 -- From what was read to what is answered.
 use Rattle.std.proofs.Common.{◌≡◌, ◌≢◌, ℕ, ◌+◌, ◌≤◌, Bool, true, false, cond, List, [], ◌++◌, length, Some, None, Result, Ok, Err, refl, sym, ap, subst, ◌∙◌, arith, lit≤}
 use Rattle.std.specs.Prelude.{OnOk}
-use Rattle.caibx_codec.specs.declared.fault.IndexFault.{IndexFault}
-use Rattle.caibx_codec.specs.declared.fault.IndexFault.TheVariants as faults
-use Rattle.caibx_codec.specs.declared.field.Field.{Field}
-use Rattle.caibx_codec.specs.declared.field.Field.TheVariants as field
+use Rattle.caibx_fields.specs.declared.fault.IndexFault.{IndexFault}
+use Rattle.caibx_fields.specs.declared.fault.IndexFault.TheVariants as faults
+use Rattle.caibx_fields.specs.declared.field.Field.{Field}
+use Rattle.caibx_fields.specs.declared.field.Field.TheVariants as field
 use Rattle.caibx_codec.specs.declared.reading.ReadFault.{ReadFault}
 use Rattle.caibx_codec.specs.declared.reading.ReadFault.TheVariants as errors
+use Rattle.caibx_fields.specs.Fields.{place_of}
 use Rattle.caibx_codec.specs.Judge.{Judged}
 use Rattle.caibx_codec.specs.Listing.{Listing}
 use Rattle.caibx_codec.specs.Spelling.{IsIndexFile}
 use Rattle.caibx_codec.specs.Answers.{Goes, Judges, Ends, FindsIndex}
-use Rattle.caibx_codec.specs.Reading.{Read, place_of, reads, start, listing_of, is_whole, first_fault, fault_in_read, index_in, ◌>>=◌}
+use Rattle.caibx_codec.specs.Reading.{Read, reads, start, listing_of, is_whole, first_fault, fault_in_read, index_in, ◌>>=◌}
 use Rattle.caibx_codec.specs.Standing.{bytes_of, Stands, StandsFor}
 use Rattle.caibx_codec.proofs.Again.{file_read}
 use Rattle.caibx_codec.proofs.Pieces.{reads-append}

@@ -3,12 +3,14 @@ use Rattle.std.proofs.Common.{◌≡◌, ◌≢◌, ℕ, zero, suc, ◌+◌, ◌
 use Rattle.std.proofs.lemmas.List.{take-append-drop, length-append, length-replicate, append-nil, nil_from_length}
 use Rattle.std.proofs.lemmas.Grind.{flat_map-append}
 use Rattle.chunk_store.specs.Names.{IsId}
-use Rattle.caibx_codec.specs.declared.fault.IndexFault.{IndexFault}
-use Rattle.caibx_codec.specs.declared.field.Field.{Field}
-use Rattle.caibx_codec.specs.declared.field.Field.TheVariants as field
-use Rattle.caibx_codec.specs.declared.field.Fields.{Fields}
-use Rattle.caibx_codec.specs.Spelling.{word, words, items, front_words, tail_words, spelling, BeginsFile}
-use Rattle.caibx_codec.specs.Reading.{Read, need, place_of, to, reads, start, listing, first_fault, fault_in_read}
+use Rattle.caibx_fields.specs.declared.fault.IndexFault.{IndexFault}
+use Rattle.caibx_fields.specs.declared.field.Field.{Field}
+use Rattle.caibx_fields.specs.declared.field.Field.TheVariants as field
+use Rattle.caibx_fields.specs.declared.field.Fields.{Fields}
+use Rattle.caibx_fields.specs.Words.{word, words}
+use Rattle.caibx_fields.specs.Fields.{need, place_of, to}
+use Rattle.caibx_codec.specs.Spelling.{items, front_words, tail_words, spelling, BeginsFile}
+use Rattle.caibx_codec.specs.Reading.{Read, reads, start, listing, first_fault, fault_in_read}
 use Rattle.caibx_codec.specs.Standing.{head_part, tail_part, front, before, bytes_of, IsSound, IsGood}
 use Rattle.caibx_codec.proofs.Steps.{IsBytes, id_step}
 use Rattle.caibx_codec.proofs.Taken.{stands_on, start_stands, start_bytes, placed}

@@ -1,14 +1,15 @@
 -- Reading on finds no bytes cut short: only the end does.
 use Rattle.std.proofs.Common.{◌≡◌, ℕ, ◌+◌, ◌-◌, Bool, true, false, cond, eqb, nat_lt, nat_le, bit_and, List, [], ◌∷◌, ◌++◌, length, Result, Ok, Err, Some, refl, sym, ap, subst, ◌∙◌}
-use Rattle.caibx_codec.specs.declared.fault.IndexFault.{IndexFault}
-use Rattle.caibx_codec.specs.declared.fault.IndexFault.TheVariants as faults
-use Rattle.caibx_codec.specs.declared.field.Field.{Field}
-use Rattle.caibx_codec.specs.declared.field.Field.TheVariants as field
-use Rattle.caibx_codec.specs.declared.field.Fields.{Fields}
+use Rattle.caibx_fields.specs.declared.fault.IndexFault.{IndexFault}
+use Rattle.caibx_fields.specs.declared.fault.IndexFault.TheVariants as faults
+use Rattle.caibx_fields.specs.declared.field.Field.{Field}
+use Rattle.caibx_fields.specs.declared.field.Field.TheVariants as field
+use Rattle.caibx_fields.specs.declared.field.Fields.{Fields}
 use Rattle.caibx_codec.specs.declared.reading.ReadFault.{ReadFault}
 use Rattle.caibx_codec.specs.declared.reading.ReadFault.TheVariants as errors
+use Rattle.caibx_fields.specs.Fields.{need, word_at, end_judged}
 use Rattle.caibx_codec.specs.Answers.{Judges}
-use Rattle.caibx_codec.specs.Reading.{Read, need, word_at, end_judged, judge_at, push, reads, start, first_fault, ◌>>=◌}
+use Rattle.caibx_codec.specs.Reading.{Read, judge_at, push, reads, start, first_fault, ◌>>=◌}
 use Rattle.caibx_codec.proofs.Pieces.{reads_one, reads_none}
 use Rattle.caibx_codec.proofs.Views.{shown}
 

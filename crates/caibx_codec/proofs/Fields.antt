@@ -1,12 +1,13 @@
 -- The fields and their judgement, case by case.
 use Rattle.std.proofs.Common.{◌≡◌, ◌≢◌, ℕ, ◌<◌, ◌≤◌, List, [], ◌∷◌, ◌++◌, length, Result, Ok, Err, refl, sym, ap, subst, ◌∙◌, lit<, lit≤, arith}
 use Rattle.std.specs.Int.{w64, from_le_bytes}
-use Rattle.caibx_codec.specs.declared.fault.IndexFault.{IndexFault}
-use Rattle.caibx_codec.specs.declared.fault.IndexFault.TheVariants as faults
-use Rattle.caibx_codec.specs.declared.field.Field.{Field}
-use Rattle.caibx_codec.specs.declared.field.Field.TheVariants as field
-use Rattle.caibx_codec.specs.declared.field.Fields.{Fields}
-use Rattle.caibx_codec.specs.Reading.{Read, need, to, word_at, judge, judge_at, ◌>>=◌}
+use Rattle.caibx_fields.specs.declared.fault.IndexFault.{IndexFault}
+use Rattle.caibx_fields.specs.declared.fault.IndexFault.TheVariants as faults
+use Rattle.caibx_fields.specs.declared.field.Field.{Field}
+use Rattle.caibx_fields.specs.declared.field.Field.TheVariants as field
+use Rattle.caibx_fields.specs.declared.field.Fields.{Fields}
+use Rattle.caibx_fields.specs.Fields.{need, to, word_at}
+use Rattle.caibx_codec.specs.Reading.{Read, judge, judge_at, ◌>>=◌}
 
 pub need_least : (f : Field) → 0 < need f
 need_least field.Id = lit< tt

@@ -2,7 +2,7 @@
 use Rattle.std.proofs.Common.{◌≡◌, ℕ, suc, ◌+◌, ◌<◌, ◌≤◌, List, [], ◌∷◌, ◌++◌, length, get_or, drop, Result, Ok, Err, refl, sym, ap, ◌∙◌, add-one}
 use Rattle.std.proofs.Math.Seq.{drop-cons}
 use Rattle.std.proofs.lemmas.List.{drop_all}
-use Rattle.caibx_codec.specs.declared.fault.IndexFault.{IndexFault}
+use Rattle.caibx_fields.specs.declared.fault.IndexFault.{IndexFault}
 use Rattle.caibx_codec.specs.declared.reading.ReadFault.{ReadFault}
 use Rattle.caibx_codec.specs.declared.reading.ReadFault.TheVariants as errors
 use Rattle.caibx_codec.specs.Answers.{Stops}

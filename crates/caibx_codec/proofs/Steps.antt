@@ -8,14 +8,16 @@ use Rattle.std.proofs.lemmas.List.{append-nil, length-append}
 use Rattle.std.proofs.lemmas.Grind.{flat_map-append}
 use Rattle.std.proofs.lemmas.Nat.{le_bytes_8}
 use Rattle.chunk_store.specs.Names.{IsId}
-use Rattle.caibx_codec.specs.declared.fault.IndexFault.{IndexFault}
-use Rattle.caibx_codec.specs.declared.fault.IndexFault.TheVariants as faults
-use Rattle.caibx_codec.specs.declared.field.Field.{Field}
-use Rattle.caibx_codec.specs.declared.field.Field.TheVariants as field
-use Rattle.caibx_codec.specs.declared.field.Fields.{Fields}
+use Rattle.caibx_fields.specs.declared.fault.IndexFault.{IndexFault}
+use Rattle.caibx_fields.specs.declared.fault.IndexFault.TheVariants as faults
+use Rattle.caibx_fields.specs.declared.field.Field.{Field}
+use Rattle.caibx_fields.specs.declared.field.Field.TheVariants as field
+use Rattle.caibx_fields.specs.declared.field.Fields.{Fields}
+use Rattle.caibx_fields.specs.Words.{word, words}
+use Rattle.caibx_fields.specs.Fields.{need, to, word_at, end_judged}
 use Rattle.caibx_codec.specs.Listing.{AreChunks}
-use Rattle.caibx_codec.specs.Spelling.{word, words, item, items}
-use Rattle.caibx_codec.specs.Reading.{Read, need, to, word_at, end_judged, judge, judge_at, ◌>>=◌}
+use Rattle.caibx_codec.specs.Spelling.{item, items}
+use Rattle.caibx_codec.specs.Reading.{Read, judge, judge_at, ◌>>=◌}
 use Rattle.caibx_codec.specs.Standing.{front, before, last_end, EndFits, IsSound}
 
 abbrev pub IsBytes : List ℕ → Type 0

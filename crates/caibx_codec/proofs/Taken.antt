@@ -4,12 +4,14 @@ use Rattle.std.specs.List.{AllByRecursion}
 use Rattle.std.proofs.lemmas.Bool.Decides.{nat_tests}
 use Rattle.std.proofs.lemmas.List.{append-nil, length-append, nil_from_length}
 use Rattle.chunk_store.specs.Names.{IsId}
-use Rattle.caibx_codec.specs.declared.fault.IndexFault.{IndexFault}
-use Rattle.caibx_codec.specs.declared.field.Field.{Field}
-use Rattle.caibx_codec.specs.declared.field.Field.TheVariants as field
-use Rattle.caibx_codec.specs.declared.field.Fields.{Fields}
-use Rattle.caibx_codec.specs.Spelling.{word, words, item, items, tail_words, spelling, IsIndexFile}
-use Rattle.caibx_codec.specs.Reading.{Read, need, place_of, judge, push, reads, start, listing, listing_of, is_whole, ◌>>=◌}
+use Rattle.caibx_fields.specs.declared.fault.IndexFault.{IndexFault}
+use Rattle.caibx_fields.specs.declared.field.Field.{Field}
+use Rattle.caibx_fields.specs.declared.field.Field.TheVariants as field
+use Rattle.caibx_fields.specs.declared.field.Fields.{Fields}
+use Rattle.caibx_fields.specs.Words.{word, words}
+use Rattle.caibx_fields.specs.Fields.{need, place_of}
+use Rattle.caibx_codec.specs.Spelling.{item, items, tail_words, spelling, IsIndexFile}
+use Rattle.caibx_codec.specs.Reading.{Read, judge, push, reads, start, listing, listing_of, is_whole, ◌>>=◌}
 use Rattle.caibx_codec.specs.Standing.{front, before, bytes_of, EndFits, IsSound, IsGood, Stands}
 use Rattle.caibx_codec.proofs.Fields.{need_least}
 use Rattle.caibx_codec.proofs.Pieces.{reads-append, reads_one, reads_none}

@@ -4,7 +4,7 @@ use Rattle.std.specs.Prelude.{IfSome, min}
 use Rattle.std.specs.Option.{option_map}
 use Rattle.std.proofs.lemmas.List.{take-append-drop, length-take}
 use Rattle.std.proofs.Math.Seq.{take-length, take-add}
-use Rattle.caibx_codec.specs.declared.fault.IndexFault.{IndexFault}
+use Rattle.caibx_fields.specs.declared.fault.IndexFault.{IndexFault}
 use Rattle.caibx_codec.specs.declared.reading.ViewFault.{ViewFault}
 use Rattle.caibx_codec.specs.declared.reading.ViewFault.TheVariants as viewed
 use Rattle.caibx_codec.specs.Answers.{ShowsBy, StopsBy, ReadsIndex}

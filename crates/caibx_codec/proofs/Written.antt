@@ -5,15 +5,16 @@ use Rattle.std.proofs.lemmas.List.{take-append-drop, take-append-le, length-appe
 use Rattle.std.specs.Prelude.{OnErr, OnOk}
 use Rattle.std.proofs.Math.Seq.{take-add, take-append-add, take-length}
 use Rattle.std.proofs.lemmas.Grind.{flat_map-append}
-use Rattle.caibx_codec.specs.declared.fault.IndexFault.{IndexFault}
+use Rattle.caibx_fields.specs.declared.fault.IndexFault.{IndexFault}
 use Rattle.caibx_codec.specs.declared.index.Entry.{Entry}
 use Rattle.dsy_base.specs.Disk.{PutsFront}
 use Rattle.dsy_base.specs.Texts.{Puts}
 use Rattle.dsy_base.specs.declared.fault.IoFault.{IoFault}
+use Rattle.caibx_fields.specs.Words.{words}
 use Rattle.caibx_codec.specs.Listing.{Listing, IsValid}
 use Rattle.caibx_codec.specs.Reading.{reads, start, first_fault, fault_in_read, index_in, ◌>>=◌}
 use Rattle.caibx_codec.specs.Seen.{pair, pairs}
-use Rattle.caibx_codec.specs.Spelling.{words, items, item, front_words, tail_words, written_tail, spelling, IsIndexFile, file_of}
+use Rattle.caibx_codec.specs.Spelling.{items, item, front_words, tail_words, written_tail, spelling, IsIndexFile, file_of}
 use Rattle.caibx_codec.proofs.Again.{file_read}
 use Rattle.caibx_codec.proofs.Taken.{around}
 use Rattle.caibx_codec.proofs.Views.{faulty_front, shown}

@@ -1,6 +1,6 @@
 -- What calls that read an index may answer.
 use Rattle.std.specs.Prelude.{◌≡◌, ℕ, List, Result, Ok, Err, Some, None}
-use Rattle.caibx_codec.specs.declared.fault.IndexFault.{IndexFault}
+use Rattle.caibx_fields.specs.declared.fault.IndexFault.{IndexFault}
 use Rattle.caibx_codec.specs.declared.reading.ReadFault.{ReadFault}
 use Rattle.caibx_codec.specs.declared.reading.ReadFault.TheVariants as errors
 use Rattle.caibx_codec.specs.declared.reading.ViewFault.{ViewFault}

@@ -1,9 +1,10 @@
 -- The first fault of an index.
 use Rattle.std.specs.Prelude.{◌≡◌, ℕ, ◌+◌, ◌-◌, List, [], ◌∷◌, length, nat_lt, nat_le, if◌then◌else◌, Option, Some}
 use Rattle.std.specs.Prelude.{None, Result, Ok, Err, bit_and}
-use Rattle.caibx_codec.specs.declared.fault.IndexFault.{IndexFault}
-use Rattle.caibx_codec.specs.declared.fault.IndexFault.TheVariants as faults
-use Rattle.caibx_codec.specs.Listing.{Listing, digest_flag, size_limit, item_limit}
+use Rattle.caibx_fields.specs.declared.fault.IndexFault.{IndexFault}
+use Rattle.caibx_fields.specs.declared.fault.IndexFault.TheVariants as faults
+use Rattle.caibx_fields.specs.Limits.{digest_flag, size_limit, item_limit}
+use Rattle.caibx_codec.specs.Listing.{Listing}
 
 -- of the entries from number k on, after one that ends at `start`
 abbrev pub entry_fault : ℕ → ℕ → ℕ → List (ℕ × List ℕ) → Option IndexFault

@@ -5,17 +5,7 @@ use Rattle.std.specs.List.{AllByRecursion}
 use Rattle.chunk_store.specs.Names.{IsId}
 use Rattle.chunk_store.specs.declared.id.DigestKind.{DigestKind}
 use Rattle.chunk_store.specs.declared.id.DigestKind.TheVariants as kinds
-
--- the flag of indexes whose ids are SHA-512/256
-abbrev pub digest_flag : ℕ
-digest_flag = 0x2000000000000000
-
--- the greatest size that a chunk may have, and the greatest number of chunks
-abbrev pub size_limit : ℕ
-size_limit = 67108864
-
-abbrev pub item_limit : ℕ
-item_limit = 4194304
+use Rattle.caibx_fields.specs.Limits.{digest_flag, size_limit, item_limit}
 
 -- an index: its flags, the three sizes of chunks, and for each chunk where it ends and its digest
 pub record Listing : Type 0 where

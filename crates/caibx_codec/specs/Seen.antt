@@ -3,8 +3,9 @@ use Rattle.std.specs.Prelude.{ℕ, ◌<◌, List, map, take}
 use Rattle.caibx_codec.specs.declared.index.Entry.{Entry}
 use Rattle.caibx_codec.specs.declared.index.Index.TheInside.{Inside}
 use Rattle.caibx_codec.specs.declared.partial.Partial.TheInside as partial
+use Rattle.caibx_fields.specs.Fields.{need}
 use Rattle.caibx_codec.specs.Listing.{Listing}
-use Rattle.caibx_codec.specs.Reading.{Read, need}
+use Rattle.caibx_codec.specs.Reading.{Read}
 
 abbrev pub pair : Entry → ℕ × List ℕ
 pair e = (e.end, e.id.0)

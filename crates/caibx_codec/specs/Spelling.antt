@@ -1,15 +1,9 @@
 -- The bytes of an index file, by casync's format: a head of 48 bytes, the table's head of 16, 40 for each chunk and a
 -- tail of 40. Numbers are words of 64 bits, low byte first.
 use Rattle.std.specs.Prelude.{◌≡◌, ℕ, ◌+◌, ◌*◌, ◌^◌, ◌<◌, List, [], ◌∷◌, ◌++◌, length}
-use Rattle.std.specs.Int.{w64, to_le_bytes}
 use Rattle.std.specs.List.{flat_map}
-use Rattle.caibx_codec.specs.Listing.{Listing, IsValid, item_limit}
-
-abbrev pub word : ℕ → List ℕ
-word n = to_le_bytes w64 n
-
-abbrev pub words : List ℕ → List ℕ
-words ns = flat_map word ns
+use Rattle.caibx_fields.specs.Words.{word, words}
+use Rattle.caibx_codec.specs.Listing.{Listing, IsValid}
 
 -- the eight words of the head and the table's head: the head's size and type, the flags and the three sizes, then a
 -- size that says nothing and the table's type
@@ -32,10 +26,6 @@ tail_words offset size = 0 ∷ 0 ∷ offset ∷ size ∷ 0x4b4f050e5549ecd1 ∷ 
 -- the bytes of an index, with these two numbers in the tail
 unfoldable pub spelling : Listing → ℕ → ℕ → List ℕ
 spelling l offset size = (words (front_words l) ++ items l.entries) ++ words (tail_words offset size)
-
--- the greatest number of bytes of a file: 104, and 40 for each chunk
-abbrev pub file_limit : ℕ
-file_limit = 104 + 40 * item_limit
 
 -- the file as it is written, with the offset of the table, and its size with its head and the tail
 abbrev pub file_of : Listing → List ℕ

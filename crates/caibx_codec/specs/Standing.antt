@@ -1,11 +1,14 @@
 -- What a reader that has met no fault stands for.
 use Rattle.std.specs.Prelude.{◌≡◌, ℕ, ◌+◌, ◌^◌, ◌<◌, ◌≤◌, List, [], ◌∷◌, ◌++◌, length, take, slice_index, Ok}
-use Rattle.caibx_codec.specs.declared.field.Field.{Field}
-use Rattle.caibx_codec.specs.declared.field.Field.TheVariants as field
-use Rattle.caibx_codec.specs.declared.field.Fields.{Fields}
-use Rattle.caibx_codec.specs.Listing.{IsValid, item_limit}
-use Rattle.caibx_codec.specs.Spelling.{file_limit, words, items, front_words, tail_words}
-use Rattle.caibx_codec.specs.Reading.{Read, need, reads, start, listing}
+use Rattle.caibx_fields.specs.declared.field.Field.{Field}
+use Rattle.caibx_fields.specs.declared.field.Field.TheVariants as field
+use Rattle.caibx_fields.specs.declared.field.Fields.{Fields}
+use Rattle.caibx_fields.specs.Limits.{item_limit, file_limit}
+use Rattle.caibx_fields.specs.Words.{words}
+use Rattle.caibx_fields.specs.Fields.{need}
+use Rattle.caibx_codec.specs.Listing.{IsValid}
+use Rattle.caibx_codec.specs.Spelling.{items, front_words, tail_words}
+use Rattle.caibx_codec.specs.Reading.{Read, reads, start, listing}
 
 -- the first n of the words before the items; all of them; the items, with the first n words of the tail
 abbrev pub head_part : Fields → ℕ → List ℕ

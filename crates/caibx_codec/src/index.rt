@@ -9,8 +9,8 @@ ghost use Rattle.caibx_codec.specs.Listing.{IsValid, IsListedSize, Listing, Rule
 ghost use Rattle.caibx_codec.specs.Listing.{id_of, kind_of, image_length};
 ghost use Rattle.caibx_codec.specs.Seen.{pairs};
 
-use crate::fault::IndexFault;
-use crate::format::{DIGEST_FLAG, ITEM_LIMIT, SIZE_LIMIT};
+use caibx_fields::fault::IndexFault;
+use caibx_fields::format::{DIGEST_FLAG, ITEM_LIMIT, SIZE_LIMIT};
 use chunk_store::id::{ChunkId, DigestKind};
 use chunk_store::laws::id_has_32_bytes;
 use std::alloc::{AllocError, Global};

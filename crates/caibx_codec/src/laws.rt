@@ -1,7 +1,7 @@
 //! Laws of index files, for the crates above. Nothing is done: each function's contract is the law.
 
 ghost use Rattle.std.specs.Prelude.{◌≡◌, ◌+◌, ◌*◌, ◌++◌, ℕ, List, Some, None, ◌<◌, length, slice_index};
-ghost use Rattle.caibx_codec.specs.declared.fault.IndexFault.{IndexFault};
+ghost use Rattle.caibx_fields.specs.declared.fault.IndexFault.{IndexFault};
 ghost use Rattle.caibx_codec.specs.Listing.{Listing, count_of};
 ghost use Rattle.caibx_codec.specs.Reading.{first_fault};
 ghost use Rattle.caibx_codec.specs.Spelling.{BeginsFile, IsIndexFile, file_of};

@@ -1,9 +1,6 @@
 //! Index files of casync (`caibx`): what they list, how they are read and how they are written.
 #![tactic(auto)]
 
-pub mod fault;
-mod field;
-mod format;
 pub mod index;
 pub mod laws;
 mod partial;

@@ -2,16 +2,17 @@
 //! and the bytes of the field that comes next.
 
 ghost use Rattle.std.specs.Prelude.{◌≡◌, ◌≢◌, ◌<◌, ◌++◌, ℕ, [], length, OnOk};
+ghost use Rattle.caibx_fields.specs.Fields.{need};
 ghost use Rattle.caibx_codec.specs.Answers.{Ends, FindsIndex, Goes, Judges};
-ghost use Rattle.caibx_codec.specs.Reading.{need, judge, push, reads, start};
+ghost use Rattle.caibx_codec.specs.Reading.{judge, push, reads, start};
 ghost use Rattle.caibx_codec.specs.Standing.{bytes_of, Stands, StandsFor};
-ghost use Rattle.std.specs.Int.{w64, from_le_bytes};
 
-use crate::fault::IndexFault;
-use crate::field::{Field, Fields, judge_word, place, width};
-use crate::format::DIGEST_FLAG;
 use crate::index::{Entry, Index};
 use crate::reading::ReadFault;
+use caibx_fields::fault::IndexFault;
+use caibx_fields::field::{Field, Fields, judge_word, place, width};
+use caibx_fields::format::DIGEST_FLAG;
+use caibx_fields::word::number;
 use chunk_store::id::ChunkId;
 use std::alloc::Global;
 use std::marker::Model;
@@ -35,16 +36,6 @@ impl Model for Partial {
     ghost view = { λ p. read_of p };
 
     ghost invariant = { λ p. HasRoom p };
-}
-
-// The number that the bytes of a word are.
-fn number(bytes: &[u8]) -> u64
-    requires { length bytes.now ≡ 8 }
-    ensures { result ≡ from_le_bytes w64 bytes.now }
-{
-    u64::from_le_bytes([
-        bytes[0], bytes[1], bytes[2], bytes[3], bytes[4], bytes[5], bytes[6], bytes[7],
-    ])
 }
 
 impl Partial {

@@ -3,13 +3,13 @@
 ghost use Rattle.std.specs.Prelude.{◌≡◌, ◌≢◌, ◌≤◌, ℕ, ◌++◌, [], length, Option, Some, None, IfSome, IfNone, OnOk};
 ghost use Rattle.std.specs.Prelude.{OnErr};
 ghost use Rattle.std.specs.Option.{option_map};
+ghost use Rattle.caibx_fields.specs.Limits.{file_limit};
 ghost use Rattle.caibx_codec.specs.Answers.{Ends, FindsIndex, Judges};
-ghost use Rattle.caibx_codec.specs.Spelling.{file_limit};
 
-use crate::fault::IndexFault;
 use crate::index::Index;
 use crate::partial::Partial;
 use crate::reading::ReadFault;
+use caibx_fields::fault::IndexFault;
 use std::alloc::Global;
 use std::marker::Model;
 

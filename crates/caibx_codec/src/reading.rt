@@ -4,13 +4,13 @@ ghost use Rattle.std.specs.Prelude.{◌≡◌, ◌≢◌, ◌+◌, ◌++◌, ◌
 ghost use Rattle.std.specs.Prelude.{IfSome, OnOk, OnErr};
 ghost use Rattle.std.specs.Option.{option_map};
 ghost use Rattle.dsy_base.specs.Counts.{CountsFaults};
+ghost use Rattle.caibx_fields.specs.Limits.{file_limit};
 ghost use Rattle.caibx_codec.specs.Answers.{FirstIn, ReadsIndex, ShowsFault, StopsIn};
-ghost use Rattle.caibx_codec.specs.Spelling.{file_limit};
 
-use crate::fault::IndexFault;
-use crate::format::FILE_LIMIT;
 use crate::index::Index;
 use crate::reader::IndexReader;
+use caibx_fields::fault::IndexFault;
+use caibx_fields::format::FILE_LIMIT;
 use dsy_base::view::View;
 use std::alloc::{AllocFailed, Global};
 

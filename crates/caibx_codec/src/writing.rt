@@ -5,28 +5,19 @@ ghost use Rattle.std.specs.Option.{option_map};
 ghost use Rattle.dsy_base.specs.Counts.{CountsFaults};
 ghost use Rattle.dsy_base.specs.Disk.{PutsFront};
 ghost use Rattle.dsy_base.specs.Texts.{Puts};
+ghost use Rattle.caibx_fields.specs.Words.{words};
 ghost use Rattle.caibx_codec.specs.Seen.{pair, pairs};
-ghost use Rattle.caibx_codec.specs.Spelling.{words, item, items, front_words, written_tail, file_of};
+ghost use Rattle.caibx_codec.specs.Spelling.{item, items, front_words, written_tail, file_of};
 
-use crate::format::{HEAD_SIZE, HEAD_TYPE, MARKER, TABLE_OPEN, TABLE_TYPE};
 use crate::index::{Entry, Index};
+use caibx_fields::format::{HEAD_SIZE, HEAD_TYPE, MARKER, TABLE_OPEN, TABLE_TYPE};
+use caibx_fields::word::words_in;
 use dsy_base::fault::IoFault;
 use dsy_base::sink::Sink;
 use std::alloc::{AllocError, Global};
 
 /// How many items are put at a time.
 const BLOCK: usize = 1_024;
-
-// The bytes of the numbers.
-fn words_in(alloc: Global, numbers: &[u64]) -> Result<Vec<u8>, AllocError>
-    ensures { IfOk result (λ v. v.items ≡ words numbers.now) }
-{
-    let mut bytes = Vec::new(alloc);
-    for number in numbers {
-        bytes.extend_from_slice(&number.to_le_bytes())?;
-    }
-    Ok(bytes)
-}
 
 // Puts the bytes.
 fn put<S: Sink>(out: &mut S, bytes: &[u8]) -> Result<(), IoFault>

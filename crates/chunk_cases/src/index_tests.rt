@@ -2,11 +2,11 @@
 //! are offsets in the file.
 
 use crate::compare::{ok, same};
-use caibx_codec::fault::IndexFault;
 use caibx_codec::index::{Entry, Index};
 use caibx_codec::reader::IndexReader;
 use caibx_codec::reading::{ReadFault, ViewFault, read_index};
 use caibx_codec::writing::write_index;
+use caibx_fields::fault::IndexFault;
 use chunk_store::id::{ChunkId, DigestKind};
 use dsy_forms::mem_sink::MemSink;
 use dsy_forms::mem_view::MemView;

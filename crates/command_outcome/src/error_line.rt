@@ -11,7 +11,7 @@ ghost use Rattle.command_outcome.specs.ErrorLines.{error_line_of, line_of, text_
 ghost use Rattle.command_outcome.specs.ErrorLines.{why_text};
 
 use crate::outcome::Outcome;
-use caibx_codec::fault::IndexFault;
+use caibx_fields::fault::IndexFault;
 use chunk_ends::sizes::SizeFault;
 use chunk_store::id::ChunkId;
 use command_line::usage::UsageWhy;

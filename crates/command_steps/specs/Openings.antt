@@ -3,7 +3,7 @@ use Rattle.std.specs.Prelude.{◌≡◌, ℕ, List, Option, Some, None, IfSome, 
 use Rattle.caibx_codec.specs.Listing.{Listing}
 use Rattle.caibx_codec.specs.Reading.{index_in}
 use Rattle.caibx_codec.specs.Spelling.{IsIndexFile}
-use Rattle.caibx_codec.specs.declared.fault.IndexFault.{IndexFault}
+use Rattle.caibx_fields.specs.declared.fault.IndexFault.{IndexFault}
 use Rattle.command_outcome.specs.declared.outcome.Outcome.{Outcome}
 use Rattle.command_outcome.specs.declared.outcome.Outcome.TheVariants as ends
 use Rattle.command_steps.specs.Worlds.{FileRose, Reads, Step}

@@ -1,6 +1,6 @@
 -- What contracts see of a plan, and what it keeps.
 use Rattle.std.specs.Prelude.{◌≡◌, ◌<◌, ◌≤◌, length}
-use Rattle.caibx_codec.specs.Listing.{item_limit}
+use Rattle.caibx_fields.specs.Limits.{item_limit}
 use Rattle.extract_plan.specs.Deal.{Deal, deal_shards}
 use Rattle.extract_plan.specs.Links.{AreSorted}
 use Rattle.extract_plan.specs.declared.plan.Plan.TheInside.{Inside}

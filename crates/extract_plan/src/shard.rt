@@ -1,7 +1,8 @@
 //! Shards: runs of neighbouring entries, nearly equally many in each. Ends are offsets in bytes.
 
 ghost use Rattle.std.specs.Prelude.{◌≡◌, ◌<◌, ◌≤◌, ◌+◌, IfOk};
-ghost use Rattle.caibx_codec.specs.Listing.{count_of, item_limit};
+ghost use Rattle.caibx_fields.specs.Limits.{item_limit};
+ghost use Rattle.caibx_codec.specs.Listing.{count_of};
 ghost use Rattle.extract_plan.specs.Deal.{AreCuts, shard_start, shards_of};
 
 use caibx_codec::index::Index;

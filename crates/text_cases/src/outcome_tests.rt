@@ -1,7 +1,7 @@
 //! The line of each outcome, and of each fault of an index.
 
 use crate::compare::{ok, same};
-use caibx_codec::fault::IndexFault;
+use caibx_fields::fault::IndexFault;
 use chunk_ends::sizes::SizeFault;
 use chunk_store::id::ChunkId;
 use chunk_store::shows::Shows;

@@ -1,8 +1,8 @@
 //! The fields of an index file in their order, and how each of its words is judged.
 
 ghost use Rattle.std.specs.Prelude.{◌≡◌, ◌≤◌, ◌==◌, nat_le, nat_lt, bit_and, if◌then◌else◌};
-ghost use Rattle.caibx_codec.specs.Listing.{digest_flag, size_limit, item_limit};
-ghost use Rattle.caibx_codec.specs.Reading.{need, place_of, word_at, end_judged};
+ghost use Rattle.caibx_fields.specs.Fields.{need, place_of, word_at, end_judged};
+ghost use Rattle.caibx_fields.specs.Limits.{digest_flag, size_limit, item_limit};
 
 use crate::fault::IndexFault;
 use crate::format::{
@@ -82,7 +82,7 @@ pub fn place(field: Field, count: usize) -> u64
 }
 
 // The word says where the chunk after `count` others ends, or begins the tail.
-#[tactic(auto, unfolding(crate::specs::Reading::end_judged))]
+#[tactic(auto, unfolding(crate::specs::Fields::end_judged))]
 fn judge_end(fields: Fields, count: usize, word: u64) -> Result<Fields, IndexFault>
     ensures { result ≡ end_judged fields count word }
 {
@@ -158,7 +158,7 @@ fn judge_max(fields: Fields, word: u64) -> Result<Fields, IndexFault>
 }
 
 /// What was read with the word of the next field, after `count` items.
-#[tactic(auto, unfolding(crate::specs::Reading::word_at))]
+#[tactic(auto, unfolding(crate::specs::Fields::word_at))]
 pub fn judge_word(fields: Fields, count: usize, word: u64) -> Result<Fields, IndexFault>
     ensures { result ≡ word_at fields.next fields count word }
 {
