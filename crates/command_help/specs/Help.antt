@@ -4,8 +4,8 @@ use Rattle.command_help.specs.declared.help.Topic.{Topic}
 use Rattle.command_help.specs.declared.help.Topic.TheVariants as topics
 use Rattle.command_help.specs.declared.texts.TheConstants.{HELP, VERSION, MAKE, EXTRACT, VERIFY_INDEX, CHOP, CACHE}
 use Rattle.command_help.specs.declared.texts.TheConstants.{LIST_CHUNKS, INFO, VERIFY, PRUNE, CHUNK_SERVER, DEMO}
-use Rattle.command_line.specs.declared.option_table.CommandKind.{CommandKind}
-use Rattle.command_line.specs.declared.option_table.CommandKind.TheVariants as kinds
+use Rattle.command_words.specs.declared.option_table.CommandKind.{CommandKind}
+use Rattle.command_words.specs.declared.option_table.CommandKind.TheVariants as kinds
 
 -- `COMMAND --help`
 abbrev pub command_text : CommandKind → List ℕ

@@ -10,7 +10,7 @@ use crate::texts::{
     CACHE, CHOP, CHUNK_SERVER, DEMO, EXTRACT, HELP, INFO, LIST_CHUNKS, MAKE, PRUNE, VERIFY,
     VERIFY_INDEX, VERSION,
 };
-use command_line::option_table::CommandKind;
+use command_words::option_table::CommandKind;
 use dsy_base::fault::IoFault;
 use dsy_base::sink::Sink;
 

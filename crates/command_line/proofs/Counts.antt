@@ -7,16 +7,16 @@ use Rattle.std.proofs.lemmas.List.Sums.{sum_by_push}
 use Rattle.std.specs.List.{starts_with}
 use Rattle.std.specs.Str.{bytes_eq}
 use Rattle.command_line.specs.declared.judge.Refusal.TheVariants as refusal
-use Rattle.command_line.specs.declared.option_table.CommandKind.{CommandKind}
-use Rattle.command_line.specs.declared.option_table.OptionKind.{OptionKind}
-use Rattle.command_line.specs.declared.option_table.OptionKind.TheVariants as option
-use Rattle.command_line.specs.declared.roles.Role.{Role}
-use Rattle.command_line.specs.declared.roles.Role.TheVariants as role
-use Rattle.command_line.specs.declared.usage.UsageWhy.{UsageWhy}
-use Rattle.command_line.specs.declared.usage.WordsFault.{WordsFault}
 use Rattle.command_line.specs.Judging.{unless, name_refusal, name_operand_refusal, demo_operand_refusal, refusal_of, refusal_at, first_refused, fault_at, fault_by, judged}
-use Rattle.command_line.specs.OptionTable.{option_number, takes_value, times_of, takes_of}
-use Rattle.command_line.specs.Roles.{option_of, option_role, opens, awaited, count_of, role_number, spelled_role, role_of, roles_of}
+use Rattle.command_words.specs.declared.option_table.CommandKind.{CommandKind}
+use Rattle.command_words.specs.declared.option_table.OptionKind.{OptionKind}
+use Rattle.command_words.specs.declared.option_table.OptionKind.TheVariants as option
+use Rattle.command_words.specs.declared.roles.Role.{Role}
+use Rattle.command_words.specs.declared.roles.Role.TheVariants as role
+use Rattle.command_words.specs.declared.usage.UsageWhy.{UsageWhy}
+use Rattle.command_words.specs.declared.usage.WordsFault.{WordsFault}
+use Rattle.command_words.specs.OptionTable.{option_number, takes_value, times_of, takes_of}
+use Rattle.command_words.specs.Roles.{option_of, option_role, opens, awaited, count_of, role_number, spelled_role, role_of, roles_of}
 use Rattle.command_line.proofs.Following.{awaited_after, found, missed, is_none, is_one}
 use Rattle.command_line.proofs.Judged.{Pass, roles_more}
 

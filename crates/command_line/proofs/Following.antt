@@ -7,17 +7,17 @@ use Rattle.std.proofs.lemmas.List.{append-nil, length-append, take-append-le, ge
 use Rattle.std.proofs.lemmas.List.Sums.{fold-append, sum_by-append}
 use Rattle.std.specs.List.{find, range_with_len, slice_get}
 use Rattle.command_line.specs.declared.judge.Refusal.TheVariants as refusal
-use Rattle.command_line.specs.declared.option_table.CommandKind.{CommandKind}
-use Rattle.command_line.specs.declared.option_table.OptionKind.{OptionKind}
-use Rattle.command_line.specs.declared.roles.Role.{Role}
-use Rattle.command_line.specs.declared.roles.Role.TheVariants as role
-use Rattle.command_line.specs.declared.usage.UsageWhy.{UsageWhy}
-use Rattle.command_line.specs.declared.usage.WordsFault.{WordsFault}
-use Rattle.command_line.specs.declared.usage.WordsFault.TheVariants as fault
 use Rattle.command_line.specs.CommandLine.{command_by, command_with}
 use Rattle.command_line.specs.Judging.{refusal_after, refusal_at, first_refused, first_fault, fault_at}
-use Rattle.command_line.specs.OptionTable.{takes_value}
-use Rattle.command_line.specs.Roles.{opens, awaited, count_of, role_number, spelled_role, role_of, roles_of}
+use Rattle.command_words.specs.declared.option_table.CommandKind.{CommandKind}
+use Rattle.command_words.specs.declared.option_table.OptionKind.{OptionKind}
+use Rattle.command_words.specs.declared.roles.Role.{Role}
+use Rattle.command_words.specs.declared.roles.Role.TheVariants as role
+use Rattle.command_words.specs.declared.usage.UsageWhy.{UsageWhy}
+use Rattle.command_words.specs.declared.usage.WordsFault.{WordsFault}
+use Rattle.command_words.specs.declared.usage.WordsFault.TheVariants as fault
+use Rattle.command_words.specs.OptionTable.{takes_value}
+use Rattle.command_words.specs.Roles.{opens, awaited, count_of, role_number, spelled_role, role_of, roles_of}
 use Rattle.command_line.proofs.Judged.{Pass, at_first}
 
 -- ---- the roles of the words that follow

@@ -6,12 +6,12 @@ use Rattle.std.proofs.lemmas.List.Sums.{fold_push}
 use Rattle.std.specs.List.{find, range_with_len}
 use Rattle.command_line.specs.declared.judge.Refusal.{Refusal}
 use Rattle.command_line.specs.declared.judge.Refusal.TheVariants as refusal
-use Rattle.command_line.specs.declared.option_table.CommandKind.{CommandKind}
-use Rattle.command_line.specs.declared.roles.Role.{Role}
-use Rattle.command_line.specs.declared.usage.UsageWhy.TheVariants as why
-use Rattle.command_line.specs.declared.usage.WordsFault.TheVariants as fault
 use Rattle.command_line.specs.Judging.{Refuses, AnswersBy, refusal_of, refusal_at, fault_by, first_fault, fault_at, judged}
-use Rattle.command_line.specs.Roles.{awaited, role_of, roles_of}
+use Rattle.command_words.specs.declared.option_table.CommandKind.{CommandKind}
+use Rattle.command_words.specs.declared.roles.Role.{Role}
+use Rattle.command_words.specs.declared.usage.UsageWhy.TheVariants as why
+use Rattle.command_words.specs.declared.usage.WordsFault.TheVariants as fault
+use Rattle.command_words.specs.Roles.{awaited, role_of, roles_of}
 
 -- ---- the first number that passes a test
 

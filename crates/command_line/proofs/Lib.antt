@@ -4,6 +4,3 @@ pub mod Judged
 pub mod Limits
 pub mod Lists
 pub mod NoRoom
-pub mod Places
-pub mod Schemes
-pub mod Tables

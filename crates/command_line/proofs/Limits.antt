@@ -4,24 +4,24 @@ use Rattle.std.specs.Char.{is_ascii_digit}
 use Rattle.std.proofs.lemmas.Bool.{leb-true, ltb-false}
 use Rattle.std.proofs.lemmas.Option.{none-some}
 use Rattle.std.proofs.lemmas.List.{length-map}
-use Rattle.command_line.specs.declared.command.Command.{Command}
-use Rattle.command_line.specs.declared.command.Command.TheVariants as said
-use Rattle.command_line.specs.declared.option_table.CommandKind.{CommandKind}
-use Rattle.command_line.specs.declared.option_table.CommandKind.TheVariants as command
-use Rattle.command_line.specs.declared.option_table.OptionKind.{OptionKind}
-use Rattle.command_line.specs.declared.option_table.OptionKind.TheVariants as option
-use Rattle.command_line.specs.declared.roles.Role.{Role}
-use Rattle.command_line.specs.declared.roles.Role.TheVariants as role
-use Rattle.command_line.specs.declared.usage.UsageWhy.{UsageWhy}
-use Rattle.command_line.specs.declared.usage.UsageWhy.TheVariants as why
-use Rattle.command_line.specs.declared.usage.WordsFault.{WordsFault}
 use Rattle.command_line.specs.CommandLine.{command_by, command_line, command_of, command_or_help, command_with, complete, is_alone, number, operand, read_location, stores, Reads}
 use Rattle.command_line.specs.Judging.{judged, lacks, missing}
-use Rattle.command_line.specs.Limits.{Fits}
-use Rattle.command_line.specs.Locations.{location_of}
-use Rattle.command_line.specs.OptionTable.{times, names, folder_and_names, command_named, takes_of, takes_value, times_of, command_rows, option_rows}
-use Rattle.command_line.specs.Roles.{by_role, count_of, words_as}
-use Rattle.command_line.specs.Values.{number_of, number_up_to, with_digit, with_digits}
+use Rattle.command_words.specs.declared.command.Command.{Command}
+use Rattle.command_words.specs.declared.command.Command.TheVariants as said
+use Rattle.command_words.specs.declared.option_table.CommandKind.{CommandKind}
+use Rattle.command_words.specs.declared.option_table.CommandKind.TheVariants as command
+use Rattle.command_words.specs.declared.option_table.OptionKind.{OptionKind}
+use Rattle.command_words.specs.declared.option_table.OptionKind.TheVariants as option
+use Rattle.command_words.specs.declared.roles.Role.{Role}
+use Rattle.command_words.specs.declared.roles.Role.TheVariants as role
+use Rattle.command_words.specs.declared.usage.UsageWhy.{UsageWhy}
+use Rattle.command_words.specs.declared.usage.UsageWhy.TheVariants as why
+use Rattle.command_words.specs.declared.usage.WordsFault.{WordsFault}
+use Rattle.command_words.specs.Limits.{Fits}
+use Rattle.command_words.specs.Locations.{location_of}
+use Rattle.command_words.specs.OptionTable.{times, names, folder_and_names, command_named, takes_of, takes_value, times_of, command_rows, option_rows}
+use Rattle.command_words.specs.Roles.{by_role, count_of, words_as}
+use Rattle.command_words.specs.Values.{number_of, number_up_to, with_digit, with_digits}
 use Rattle.command_line.proofs.Counts.{Passes, judged_right, operands_bounded, options_bounded, values_counted}
 use Rattle.command_line.proofs.Following.{roles_length}
 use Rattle.command_line.proofs.Lists.{words_counted}

@@ -2,26 +2,26 @@
 use Rattle.std.specs.Prelude.{ℕ, ◌+◌, ◌==◌, ◌&&◌, Bool, List, [], ◌∷◌, length, map, codes, Option, Some, None}
 use Rattle.std.specs.Prelude.{unwrap_or, Result, Ok, Err, IfOk, ◌≡◌, if◌then◌else◌, nat_lt, slice_index_or}
 use Rattle.std.specs.Str.{bytes_eq}
-use Rattle.command_line.specs.declared.command.Command.{Command}
-use Rattle.command_line.specs.declared.command.Command.TheVariants as said
-use Rattle.command_line.specs.declared.command.Location.{Location}
-use Rattle.command_line.specs.declared.command.Location.TheVariants as location
-use Rattle.command_line.specs.declared.location.NoLocation.{NoLocation}
-use Rattle.command_line.specs.declared.option_table.CommandKind.{CommandKind}
-use Rattle.command_line.specs.declared.option_table.CommandKind.TheVariants as command
-use Rattle.command_line.specs.declared.option_table.OptionKind.{OptionKind}
-use Rattle.command_line.specs.declared.option_table.OptionKind.TheVariants as option
-use Rattle.command_line.specs.declared.roles.Role.{Role}
-use Rattle.command_line.specs.declared.roles.Role.TheVariants as role
-use Rattle.command_line.specs.declared.usage.UsageWhy.{UsageWhy}
-use Rattle.command_line.specs.declared.usage.UsageWhy.TheVariants as why
-use Rattle.command_line.specs.declared.usage.WordsFault.{WordsFault}
-use Rattle.command_line.specs.declared.usage.WordsFault.TheVariants as fault
 use Rattle.command_line.specs.Judging.{judged, missing, AnswersBy}
-use Rattle.command_line.specs.Locations.{location_of}
-use Rattle.command_line.specs.OptionTable.{command_named}
-use Rattle.command_line.specs.Roles.{WordsByRole, by_role, count_of, words_as, word_as}
-use Rattle.command_line.specs.Values.{number_of, workers_of, sizes_of, listen_of}
+use Rattle.command_words.specs.declared.command.Command.{Command}
+use Rattle.command_words.specs.declared.command.Command.TheVariants as said
+use Rattle.command_words.specs.declared.command.Location.{Location}
+use Rattle.command_words.specs.declared.command.Location.TheVariants as location
+use Rattle.command_words.specs.declared.location.NoLocation.{NoLocation}
+use Rattle.command_words.specs.declared.option_table.CommandKind.{CommandKind}
+use Rattle.command_words.specs.declared.option_table.CommandKind.TheVariants as command
+use Rattle.command_words.specs.declared.option_table.OptionKind.{OptionKind}
+use Rattle.command_words.specs.declared.option_table.OptionKind.TheVariants as option
+use Rattle.command_words.specs.declared.roles.Role.{Role}
+use Rattle.command_words.specs.declared.roles.Role.TheVariants as role
+use Rattle.command_words.specs.declared.usage.UsageWhy.{UsageWhy}
+use Rattle.command_words.specs.declared.usage.UsageWhy.TheVariants as why
+use Rattle.command_words.specs.declared.usage.WordsFault.{WordsFault}
+use Rattle.command_words.specs.declared.usage.WordsFault.TheVariants as fault
+use Rattle.command_words.specs.Locations.{location_of}
+use Rattle.command_words.specs.OptionTable.{command_named}
+use Rattle.command_words.specs.Roles.{WordsByRole, by_role, count_of, words_as, word_as}
+use Rattle.command_words.specs.Values.{number_of, workers_of, sizes_of, listen_of}
 
 -- ---- what words that have passed say, by their roles
 

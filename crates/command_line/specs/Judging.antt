@@ -2,25 +2,25 @@
 use Rattle.std.specs.Prelude.{◌≡◌, ℕ, ◌+◌, ◌==◌, ◌||◌, Bool, false, not, List, [], length, find, take, slice_index_or}
 use Rattle.std.specs.Prelude.{Option, Some, None, is_some, option_map, Result, Ok, Err, if◌then◌else◌, nat_lt}
 use Rattle.std.specs.List.{range_with_len}
-use Rattle.command_line.specs.declared.command.Location.{Location}
-use Rattle.command_line.specs.declared.command.Location.TheVariants as location
 use Rattle.command_line.specs.declared.judge.Refusal.{Refusal}
 use Rattle.command_line.specs.declared.judge.Refusal.TheVariants as refusal
-use Rattle.command_line.specs.declared.location.NoLocation.{NoLocation}
-use Rattle.command_line.specs.declared.location.NoLocation.TheVariants as no
-use Rattle.command_line.specs.declared.option_table.CommandKind.{CommandKind}
-use Rattle.command_line.specs.declared.option_table.OptionKind.{OptionKind}
-use Rattle.command_line.specs.declared.option_table.OptionKind.TheVariants as option
-use Rattle.command_line.specs.declared.roles.Role.{Role}
-use Rattle.command_line.specs.declared.roles.Role.TheVariants as role
-use Rattle.command_line.specs.declared.usage.UsageWhy.{UsageWhy}
-use Rattle.command_line.specs.declared.usage.UsageWhy.TheVariants as why
-use Rattle.command_line.specs.declared.usage.WordsFault.{WordsFault}
-use Rattle.command_line.specs.declared.usage.WordsFault.TheVariants as fault
-use Rattle.command_line.specs.Locations.{location_of}
-use Rattle.command_line.specs.OptionTable.{takes_of, times_of}
-use Rattle.command_line.specs.Roles.{awaited, role_of, roles_of, count_of}
-use Rattle.command_line.specs.Values.{number_of, workers_of, sizes_of, listen_of, is_seed}
+use Rattle.command_words.specs.declared.command.Location.{Location}
+use Rattle.command_words.specs.declared.command.Location.TheVariants as location
+use Rattle.command_words.specs.declared.location.NoLocation.{NoLocation}
+use Rattle.command_words.specs.declared.location.NoLocation.TheVariants as no
+use Rattle.command_words.specs.declared.option_table.CommandKind.{CommandKind}
+use Rattle.command_words.specs.declared.option_table.OptionKind.{OptionKind}
+use Rattle.command_words.specs.declared.option_table.OptionKind.TheVariants as option
+use Rattle.command_words.specs.declared.roles.Role.{Role}
+use Rattle.command_words.specs.declared.roles.Role.TheVariants as role
+use Rattle.command_words.specs.declared.usage.UsageWhy.{UsageWhy}
+use Rattle.command_words.specs.declared.usage.UsageWhy.TheVariants as why
+use Rattle.command_words.specs.declared.usage.WordsFault.{WordsFault}
+use Rattle.command_words.specs.declared.usage.WordsFault.TheVariants as fault
+use Rattle.command_words.specs.Locations.{location_of}
+use Rattle.command_words.specs.OptionTable.{takes_of, times_of}
+use Rattle.command_words.specs.Roles.{awaited, role_of, roles_of, count_of}
+use Rattle.command_words.specs.Values.{number_of, workers_of, sizes_of, listen_of, is_seed}
 
 -- ---- one word
 

@@ -1,7 +1,2 @@
-pub mod OptionTable
-pub mod Values
-pub mod Locations
-pub mod Roles
 pub mod Judging
 pub mod CommandLine
-pub mod Limits

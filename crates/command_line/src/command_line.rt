@@ -4,15 +4,15 @@
 ghost use Rattle.std.specs.Prelude.{◌≡◌, ◌<◌, ◌+◌, ◌^◌, ℕ, List, length, map, string_bytes, codes, Err, IfOk};
 ghost use Rattle.command_line.specs.CommandLine.{Reads, FindsNoRoom, command_with, command_or_help, is_alone};
 ghost use Rattle.command_line.specs.Judging.{AnswersBy};
-ghost use Rattle.command_line.specs.Limits.{Fits};
-ghost use Rattle.command_line.specs.OptionTable.{command_named};
+ghost use Rattle.command_words.specs.Limits.{Fits};
+ghost use Rattle.command_words.specs.OptionTable.{command_named};
 
-use crate::command::Command;
 use crate::judge::{judged, missing};
-use crate::option_table::{CommandKind, command_named};
 use crate::passed::Passed;
-use crate::roles::word;
-use crate::usage::{UsageWhy, WordsFault};
+use command_words::command::Command;
+use command_words::option_table::{CommandKind, command_named};
+use command_words::roles::word;
+use command_words::usage::{UsageWhy, WordsFault};
 use std::alloc::Global;
 
 // Whether the words are this one alone.

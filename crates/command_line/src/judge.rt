@@ -6,15 +6,15 @@ ghost use Rattle.std.specs.Prelude.{None, IfOk};
 ghost use Rattle.command_line.specs.Judging.{Refuses, AnswersBy, number_refusal, unless, is_empty, store_refusal};
 ghost use Rattle.command_line.specs.Judging.{name_refusal, value_refusal, name_operand_refusal, demo_operand_refusal};
 ghost use Rattle.command_line.specs.Judging.{operand_refusal, refusal_of, fault_at, judged, lacks, missing};
-ghost use Rattle.command_line.specs.Locations.{location_of};
-ghost use Rattle.command_line.specs.OptionTable.{takes_of, times_of};
+ghost use Rattle.command_words.specs.Locations.{location_of};
+ghost use Rattle.command_words.specs.OptionTable.{takes_of, times_of};
 
-use crate::command::Location;
-use crate::location::{NoLocation, read_location};
-use crate::option_table::{CommandKind, OptionKind};
-use crate::roles::{Role, awaited, count_of, role_of, word};
-use crate::usage::{UsageWhy, WordsFault};
-use crate::values::{is_seed, listen, number, sizes, workers};
+use command_words::command::Location;
+use command_words::location::{NoLocation, read_location};
+use command_words::option_table::{CommandKind, OptionKind};
+use command_words::roles::{Role, awaited, count_of, role_of, word};
+use command_words::usage::{UsageWhy, WordsFault};
+use command_words::values::{is_seed, listen, number, sizes, workers};
 use std::alloc::Global;
 
 /// Why a word is refused.

@@ -4,17 +4,17 @@
 ghost use Rattle.std.specs.Prelude.{◌≡◌, ◌+◌, ◌++◌, ◌∷◌, [], true, ℕ, List, Some, None, Ok, Err, length, map, take};
 ghost use Rattle.command_line.specs.CommandLine.{command_line, command_with};
 ghost use Rattle.command_line.specs.Judging.{refusal_after, first_refused};
-ghost use Rattle.command_line.specs.Limits.{Fits};
-ghost use Rattle.command_line.specs.OptionTable.{takes_value};
-ghost use Rattle.command_line.specs.Roles.{role_of, roles_of};
-ghost use Rattle.command_line.specs.declared.command.Command.{Command};
-ghost use Rattle.command_line.specs.declared.option_table.CommandKind.{CommandKind};
-ghost use Rattle.command_line.specs.declared.option_table.OptionKind.{OptionKind};
-ghost use Rattle.command_line.specs.declared.usage.UsageWhy.{UsageWhy};
+ghost use Rattle.command_words.specs.Limits.{Fits};
+ghost use Rattle.command_words.specs.OptionTable.{takes_value};
+ghost use Rattle.command_words.specs.Roles.{role_of, roles_of};
+ghost use Rattle.command_words.specs.declared.command.Command.{Command};
+ghost use Rattle.command_words.specs.declared.option_table.CommandKind.{CommandKind};
+ghost use Rattle.command_words.specs.declared.option_table.OptionKind.{OptionKind};
+ghost use Rattle.command_words.specs.declared.usage.UsageWhy.{UsageWhy};
 
 use crate::judge::Refusal;
-use crate::roles::Role;
-use crate::usage::WordsFault;
+use command_words::roles::Role;
+use command_words::usage::WordsFault;
 
 /// Words are read from left to right: what follows changes no word's role, and no fault.
 pub fn left_to_right()

@@ -1,10 +1,10 @@
 //! Words that have passed, each with its role. Words are counted from 0, the first word after the command.
 
 ghost use Rattle.std.specs.Prelude.{◌≡◌, length, map, string_bytes, IfOk};
-ghost use Rattle.command_line.specs.Roles.{by_role, count_of, words_as, word_as};
+ghost use Rattle.command_words.specs.Roles.{by_role, count_of, words_as, word_as};
 
-use crate::command::Names;
-use crate::roles::{Role, count_of, word_as};
+use command_words::command::Names;
+use command_words::roles::{Role, count_of, word_as};
 use dsy_base::name::Name;
 use std::alloc::{AllocError, Global};
 use std::marker::Model;
@@ -18,7 +18,7 @@ pub struct Passed<'a> {
 
 impl<'a> Model for Passed<'a> {
     ghost use Rattle.std.specs.Prelude.{◌≡◌, length, map, string_bytes};
-    ghost use Rattle.command_line.specs.Roles.{WordsByRole, by_role};
+    ghost use Rattle.command_words.specs.Roles.{WordsByRole, by_role};
 
     ghost Value = { WordsByRole };
 

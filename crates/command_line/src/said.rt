@@ -3,15 +3,15 @@
 ghost use Rattle.std.specs.Prelude.{◌≡◌, IfOk};
 ghost use Rattle.command_line.specs.CommandLine as line;
 ghost use Rattle.command_line.specs.CommandLine.{Says};
-ghost use Rattle.command_line.specs.Locations.{location_of};
+ghost use Rattle.command_words.specs.Locations.{location_of};
 
-use crate::command::{Command, Location, Locations};
 use crate::judge::GREATEST_DEMO;
-use crate::location::read_location;
-use crate::option_table::{CommandKind, OptionKind};
 use crate::passed::Passed;
-use crate::roles::Role;
-use crate::values;
+use command_words::command::{Command, Location, Locations};
+use command_words::location::read_location;
+use command_words::option_table::{CommandKind, OptionKind};
+use command_words::roles::Role;
+use command_words::values;
 use dsy_base::name::Name;
 use std::alloc::{AllocError, Global};
 

@@ -10,8 +10,8 @@ use Rattle.caibx_fields.specs.declared.fault.IndexFault.{IndexFault}
 use Rattle.caibx_fields.specs.declared.fault.IndexFault.TheVariants as bad
 use Rattle.command_outcome.specs.declared.outcome.Outcome.{Outcome}
 use Rattle.command_outcome.specs.declared.outcome.Outcome.TheVariants as ends
-use Rattle.command_line.specs.declared.usage.UsageWhy.{UsageWhy}
-use Rattle.command_line.specs.declared.usage.UsageWhy.TheVariants as usage
+use Rattle.command_words.specs.declared.usage.UsageWhy.{UsageWhy}
+use Rattle.command_words.specs.declared.usage.UsageWhy.TheVariants as usage
 
 -- flags as 16 hexadecimal digits, the highest first
 abbrev pub flag_digits : ℕ → List ℕ

@@ -14,7 +14,7 @@ use crate::outcome::Outcome;
 use caibx_fields::fault::IndexFault;
 use chunk_ends::sizes::SizeFault;
 use chunk_store::id::ChunkId;
-use command_line::usage::UsageWhy;
+use command_words::usage::UsageWhy;
 use dsy_base::fault::IoFault;
 use dsy_base::name::Name;
 use dsy_base::sink::Sink;

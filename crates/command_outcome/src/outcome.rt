@@ -7,7 +7,7 @@ use caibx_fields::fault::IndexFault;
 use chunk_ends::sizes::SizeFault;
 use chunk_store::id::ChunkId;
 use chunk_store::shows::Shows;
-use command_line::usage::UsageWhy;
+use command_words::usage::UsageWhy;
 use dsy_base::name::Name;
 
 /// How a command ended. Numbers of entries, stores and words are from 0.

@@ -2,8 +2,8 @@
 use Rattle.std.proofs.Common.{◌≡◌, ◌∙◌, ◌≤◌, ◌++◌, ℕ, IsTrue, List, [], ◌∷◌, refl, subst, inl, inr, arith}
 use Rattle.std.proofs.lemmas.Bool.{cases_lt}
 use Rattle.std.specs.Map.{count_at}
-use Rattle.command_line.specs.declared.command.Location.{Location}
-use Rattle.command_line.specs.declared.command.Location.TheVariants as locations
+use Rattle.command_words.specs.declared.command.Location.{Location}
+use Rattle.command_words.specs.declared.command.Location.TheVariants as locations
 use Rattle.command_steps.proofs.Dialed.{any_earlier, any_longer, dials_none, dials_twice}
 use Rattle.command_steps.proofs.Numbers.{rose_later, rose_longer}
 use Rattle.command_steps.specs.Dials.{Dials}

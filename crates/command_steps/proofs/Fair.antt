@@ -4,8 +4,6 @@ use Rattle.std.proofs.Common.{◌∙◌, ◌+◌, ◌≤◌, ℕ, zero, suc, Boo
 use Rattle.std.specs.Map.{count_at}
 use Rattle.caibx_codec.specs.Listing.{Listing, count_of}
 use Rattle.chunk_store.specs.Said.{Said}
-use Rattle.command_line.specs.declared.command.Location.{Location}
-use Rattle.command_line.specs.declared.command.Location.TheVariants as locations
 use Rattle.command_outcome.specs.declared.outcome.Outcome.{Outcome}
 use Rattle.command_outcome.specs.declared.outcome.Outcome.TheVariants as ends
 use Rattle.command_steps.specs.Blames.{Blames, Keeps, Parts, Spares}
@@ -19,6 +17,8 @@ use Rattle.command_steps.specs.Sources.{ConsultsStores, FailsFirst as SourceFail
 use Rattle.command_steps.specs.Stores.{NotReached, StoreTaken, are_folders, is_folder}
 use Rattle.command_steps.specs.Taking.{SourceTaken}
 use Rattle.command_steps.specs.Worlds.{Adds, FileRose, FolderRose, OnDisk, OnOut, Pure, Reads, Step, World, Writes, world}
+use Rattle.command_words.specs.declared.command.Location.{Location}
+use Rattle.command_words.specs.declared.command.Location.TheVariants as locations
 use Rattle.command_steps.proofs.Cached.{cache_reads}
 use Rattle.command_steps.proofs.Consulted.{store_rose_later, store_rose_longer}
 use Rattle.command_steps.proofs.Dialed.{dials_none, dials_twice}

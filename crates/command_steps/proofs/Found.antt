@@ -4,8 +4,8 @@ use Rattle.std.proofs.lemmas.List.{length-map}
 use Rattle.std.specs.Option.{option_map}
 use Rattle.chunk_store.specs.Folders.{chunks}
 use Rattle.dsy_base.specs.Maps.{Map}
-use Rattle.command_line.specs.declared.command.Location.{Location}
 use Rattle.command_steps.specs.Sources.{told_at}
+use Rattle.command_words.specs.declared.command.Location.{Location}
 
 map_map : {A B C : Type 0} (g : B → C) (f : A → B) (xs : List A) → map (λ x. g (f x)) xs ≡ map g (map f xs)
 map_map g f [] = refl

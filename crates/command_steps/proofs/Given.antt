@@ -9,8 +9,8 @@ use Rattle.std.specs.Map.{count_at}
 use Rattle.std.specs.Option.{option_map}
 use Rattle.chunk_store.specs.Folders.{chunks}
 use Rattle.chunk_store.specs.Said.{KeepsOf, Said, said_by}
-use Rattle.command_line.specs.declared.command.Location.{Location}
-use Rattle.command_line.specs.declared.command.Location.TheVariants as locations
+use Rattle.command_words.specs.declared.command.Location.{Location}
+use Rattle.command_words.specs.declared.command.Location.TheVariants as locations
 use Rattle.command_steps.proofs.Dialed.{among_earlier, among_longer, any_among}
 use Rattle.command_steps.proofs.Lent.{quiet_count, rose_count}
 use Rattle.command_steps.proofs.Numbers.{rose_later}

@@ -2,7 +2,7 @@
 use Rattle.std.proofs.Common.{◌≡◌, ℕ, List, Bool, true, false, cond, Option, IsSome, refl, sym, ap, subst, arith}
 use Rattle.std.specs.Map.{count_at}
 use Rattle.std.specs.Str.{bytes_eq}
-use Rattle.command_line.specs.declared.command.Location.{Location}
+use Rattle.command_words.specs.declared.command.Location.{Location}
 use Rattle.command_steps.proofs.Dialed.{dials_none}
 use Rattle.command_steps.proofs.Numbers.{counted_known, counted_le}
 use Rattle.command_steps.specs.Sources.{DialsStores}

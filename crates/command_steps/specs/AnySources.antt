@@ -5,12 +5,12 @@ use Rattle.std.specs.Map.{count_at}
 use Rattle.std.specs.Option.{option_map}
 use Rattle.chunk_store.specs.Folders.{chunks}
 use Rattle.chunk_store.specs.Said.{Said, SaysMap, said_by, says_map}
-use Rattle.command_line.specs.declared.command.Location.{Location}
-use Rattle.command_line.specs.declared.command.Location.TheVariants as locations
 use Rattle.command_steps.specs.Dials.{AreAmong, since}
 use Rattle.command_steps.specs.Sources.{Sources}
 use Rattle.command_steps.specs.declared.any_source.AnySource.{AnySource}
 use Rattle.command_steps.specs.declared.any_source.AnySource.TheVariants as stores
+use Rattle.command_words.specs.declared.command.Location.{Location}
+use Rattle.command_words.specs.declared.command.Location.TheVariants as locations
 use Rattle.dir_store.specs.Stores.{lies_map}
 use Rattle.dsy_base.specs.Counts.{raised}
 use Rattle.dsy_base.specs.Links.{DialState}

@@ -1,10 +1,10 @@
 -- What holds of each command over the world before it and after it: what it spares, and whose fault it tells.
 use Rattle.std.specs.Prelude.{◌≡◌, ◌⊎◌, ℕ, Bool, IsTrue, List, slice_index_or, []}
-use Rattle.command_line.specs.declared.command.Location.{Location}
 use Rattle.command_outcome.specs.declared.outcome.Outcome.{Outcome}
 use Rattle.command_outcome.specs.declared.outcome.Outcome.TheVariants as ends
 use Rattle.command_steps.specs.Sources.{StoreRose, sources_of, store_at}
 use Rattle.command_steps.specs.Worlds.{FileRose, FolderRose, World}
+use Rattle.command_words.specs.declared.command.Location.{Location}
 use Rattle.dsy_base.specs.Counts.{Rose}
 
 -- what no outcome of a command changes

@@ -2,11 +2,11 @@
 -- its faults.
 use Rattle.std.specs.Prelude.{◌≡◌, ℕ, ◌&&◌, Bool, true, false, List, [], ◌∷◌, Option, Some, None, IfSome, Ok, Err}
 use Rattle.std.specs.Option.{option_map}
-use Rattle.command_line.specs.declared.command.Location.{Location}
-use Rattle.command_line.specs.declared.command.Location.TheVariants as locations
 use Rattle.command_outcome.specs.declared.outcome.Outcome.{Outcome}
 use Rattle.command_outcome.specs.declared.outcome.Outcome.TheVariants as ends
 use Rattle.command_steps.specs.Worlds.{Adds, FolderRose, Reads, Step}
+use Rattle.command_words.specs.declared.command.Location.{Location}
+use Rattle.command_words.specs.declared.command.Location.TheVariants as locations
 use Rattle.dsy_base.specs.Disk.{Disk}
 use Rattle.dsy_base.specs.declared.fault.OpenFault.{OpenFault}
 use Rattle.dsy_base.specs.declared.fault.OpenFault.TheVariants as opens

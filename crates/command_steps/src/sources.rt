@@ -9,8 +9,8 @@ ghost use Rattle.dsy_base.specs.Counts.{raised};
 
 use crate::any_source::AnySource;
 use crate::stores::not_reached;
-use command_line::command::Location;
 use command_outcome::outcome::Outcome;
+use command_words::command::Location;
 use dir_store::store::DirStore;
 use dsy_base::dial::Dial;
 use dsy_base::files::Files;

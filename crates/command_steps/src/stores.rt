@@ -3,8 +3,8 @@
 ghost use Rattle.std.specs.Prelude.{◌≡◌};
 ghost use Rattle.command_steps.specs.Stores.{Refuses, name_of};
 
-use command_line::command::Location;
 use command_outcome::outcome::Outcome;
+use command_words::command::Location;
 use dsy_base::fault::OpenFault;
 use dsy_base::name::Name;
 use std::alloc::Global;

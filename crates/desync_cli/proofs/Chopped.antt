@@ -4,11 +4,11 @@ use Rattle.std.specs.Option.{option_map}
 use Rattle.caibx_codec.specs.Listing.{Listing, count_of}
 use Rattle.caibx_codec.specs.Right.{IsRight}
 use Rattle.chunk_store.specs.Folders.{chunks}
-use Rattle.command_line.specs.declared.command.Location.{Location}
-use Rattle.command_line.specs.declared.command.Location.TheVariants as locations
 use Rattle.command_steps.specs.Openings.{IsListed}
 use Rattle.command_steps.specs.Sources.{said_at, sources, sources_of}
 use Rattle.command_steps.specs.Worlds.{World}
+use Rattle.command_words.specs.declared.command.Location.{Location}
+use Rattle.command_words.specs.declared.command.Location.TheVariants as locations
 use Rattle.desync_cli.proofs.Made.{others_stay}
 use Rattle.image_commands.specs.Chop.{ChopEnds, ChoppedTo, IsChopped}
 use Rattle.image_commands.specs.Make.{FolderHas, StoreHas}

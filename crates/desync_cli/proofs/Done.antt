@@ -1,11 +1,11 @@
 -- What the outcome Done says: a line a command that has a headline.
 use Rattle.std.proofs.Common.{◌≡◌, ℕ, List, IfSome, is_some, Result, Ok, subst}
-use Rattle.command_line.specs.declared.command.Command.{Command}
-use Rattle.command_line.specs.declared.command.Command.TheVariants as commands
 use Rattle.command_outcome.specs.declared.outcome.Outcome.{Outcome}
 use Rattle.command_outcome.specs.declared.outcome.Outcome.TheVariants as ends
 use Rattle.command_steps.specs.Steps.{answer_of, outcome_of}
 use Rattle.command_steps.specs.Worlds.{World}
+use Rattle.command_words.specs.declared.command.Command.{Command}
+use Rattle.command_words.specs.declared.command.Command.TheVariants as commands
 use Rattle.desync_cli.specs.Commands.{Achieves, DesyncEnds, Ends, command_of}
 use Rattle.store_commands.specs.Serving.{Heard}
 use Rattle.desync_cli.proofs.Fair.{answered, begun, if_some}

@@ -2,7 +2,7 @@
 use Rattle.std.proofs.Common.{ap, Bool, is_some, map, true, false, ◌≡◌, ◌<◌, ℕ, List, Option, Some, None, IfSome, Ok, subst, sym, ◌∙◌}
 use Rattle.caibx_codec.specs.Listing.{Listing, count_of}
 use Rattle.caibx_codec.specs.Right.{IsRight}
-use Rattle.command_line.specs.declared.command.Location.{Location}
+use Rattle.command_words.specs.declared.command.Location.{Location}
 use Rattle.command_steps.proofs.Cached.{cache_reads}
 use Rattle.command_steps.specs.Openings.{IsListed}
 use Rattle.command_steps.specs.Seeds.{image_name}

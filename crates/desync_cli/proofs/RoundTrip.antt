@@ -6,9 +6,9 @@ use Rattle.buzhash_cut.specs.Sizes.{Sizes}
 use Rattle.caibx_codec.specs.Listing.{Listing}
 use Rattle.caibx_codec.specs.Right.{IsRight}
 use Rattle.caibx_codec.specs.Spelling.{IsIndexFile}
-use Rattle.command_line.specs.declared.command.Command.{Command}
-use Rattle.command_line.specs.declared.command.Command.TheVariants as commands
 use Rattle.command_steps.specs.Worlds.{world}
+use Rattle.command_words.specs.declared.command.Command.{Command}
+use Rattle.command_words.specs.declared.command.Command.TheVariants as commands
 use Rattle.desync_cli.specs.Commands.{Achieves}
 use Rattle.image_commands.specs.Extract.{IsExtracted}
 use Rattle.image_commands.specs.Make.{IsMade}

@@ -5,14 +5,14 @@ use Rattle.caibx_codec.specs.Listing.{Listing}
 use Rattle.command_help.specs.Help.{help_text}
 use Rattle.command_help.specs.declared.help.Topic.TheVariants as topics
 use Rattle.command_line.specs.CommandLine.{command_line}
-use Rattle.command_line.specs.declared.command.Command.{Command}
-use Rattle.command_line.specs.declared.command.Command.TheVariants as commands
-use Rattle.command_line.specs.declared.command.Location.TheVariants as locations
-use Rattle.command_line.specs.declared.usage.UsageWhy.{UsageWhy}
-use Rattle.command_line.specs.declared.usage.WordsFault.{WordsFault}
-use Rattle.command_line.specs.declared.usage.WordsFault.TheVariants as faults
 use Rattle.command_outcome.specs.declared.outcome.Outcome.{Outcome}
 use Rattle.command_outcome.specs.declared.outcome.Outcome.TheVariants as ends
+use Rattle.command_words.specs.declared.command.Command.{Command}
+use Rattle.command_words.specs.declared.command.Command.TheVariants as commands
+use Rattle.command_words.specs.declared.command.Location.TheVariants as locations
+use Rattle.command_words.specs.declared.usage.UsageWhy.{UsageWhy}
+use Rattle.command_words.specs.declared.usage.WordsFault.{WordsFault}
+use Rattle.command_words.specs.declared.usage.WordsFault.TheVariants as faults
 use Rattle.image_commands.specs.Chop.{ChopEnds, IsChopped}
 use Rattle.image_commands.specs.Demo.{DemoEnds}
 use Rattle.image_commands.specs.Extract.{ExtractEnds, IsExtracted, temporary_out}

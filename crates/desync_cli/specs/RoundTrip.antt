@@ -2,11 +2,11 @@
 use Rattle.std.specs.Prelude.{◌≡◌, ◌⊎◌, ℕ, List, Option, Some}
 use Rattle.buzhash_cut.specs.Right.{HasTwins}
 use Rattle.caibx_codec.specs.Listing.{Listing}
-use Rattle.command_line.specs.declared.command.Command.{Command}
-use Rattle.command_line.specs.declared.command.Command.TheVariants as commands
 use Rattle.command_outcome.specs.declared.outcome.Outcome.{Outcome}
 use Rattle.command_steps.specs.Steps.{answer_of}
 use Rattle.command_steps.specs.Worlds.{World}
+use Rattle.command_words.specs.declared.command.Command.{Command}
+use Rattle.command_words.specs.declared.command.Command.TheVariants as commands
 use Rattle.desync_cli.specs.Commands.{DesyncEnds}
 use Rattle.store_commands.specs.Serving.{heard}
 use Rattle.dsy_base.specs.Links.{ListenState}

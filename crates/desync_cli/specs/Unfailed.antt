@@ -1,13 +1,13 @@
 -- An outcome that is no fault, and what is known where all replies were taken.
 use Rattle.std.specs.Prelude.{IsSomeAnd}
 use Rattle.std.specs.List.{Any}
-use Rattle.command_line.specs.declared.command.Location.{Location}
-use Rattle.command_line.specs.declared.command.Location.TheVariants as locations
 use Rattle.command_outcome.specs.declared.outcome.Outcome.{Outcome}
 use Rattle.command_outcome.specs.declared.outcome.Outcome.TheVariants as ends
 use Rattle.command_steps.specs.Dials.{since}
 use Rattle.command_steps.specs.Sources.{server_at}
 use Rattle.command_steps.specs.Worlds.{World}
+use Rattle.command_words.specs.declared.command.Location.{Location}
+use Rattle.command_words.specs.declared.command.Location.TheVariants as locations
 use Rattle.http_read.specs.Refusals.{IsUnacceptable}
 
 -- no call failed

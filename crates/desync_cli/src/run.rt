@@ -1,11 +1,11 @@
 //! The top call: words in, an outcome out.
 
 ghost use Rattle.std.specs.Prelude.{◌≡◌, ◌≢◌, All, None, Some, IfSome, false, map, string_bytes};
-ghost use Rattle.command_line.specs.Limits.{Fits};
-ghost use Rattle.command_line.specs.declared.command.Command.{Command};
 ghost use Rattle.command_outcome.specs.ErrorLines.{error_line_of};
 ghost use Rattle.command_outcome.specs.Statuses.{status_of};
 ghost use Rattle.command_steps.specs.Blames.{Blames, Keeps};
+ghost use Rattle.command_words.specs.Limits.{Fits};
+ghost use Rattle.command_words.specs.declared.command.Command.{Command};
 ghost use Rattle.desync_cli.specs.Unfailed.{NothingFailed, RepliesTaken};
 ghost use Rattle.desync_cli.specs.Commands.{Achieves, DesyncEnds, Ends, TellsRefusal, command_of, listens, parts};
 ghost use Rattle.desync_cli.specs.Commands.{LeavesBehind, refusal_of, spares};
@@ -17,9 +17,9 @@ ghost use Rattle.command_steps.specs.Worlds.{NoFault, world};
 
 use crate::words::read_command;
 use command_help::help::Topic;
-use command_line::command::Command;
 use command_outcome::error_line::put_error_line;
 use command_outcome::outcome::{Ended, Outcome};
+use command_words::command::Command;
 use dsy_base::dial::Dial;
 use dsy_base::fault::IoFault;
 use dsy_base::files::Files;

@@ -1,13 +1,13 @@
 //! The command that the words are.
 
 ghost use Rattle.std.specs.Prelude.{◌≡◌, Some, IfOk, IfErr, map, string_bytes};
-ghost use Rattle.command_line.specs.Limits.{Fits};
+ghost use Rattle.command_words.specs.Limits.{Fits};
 ghost use Rattle.desync_cli.specs.Commands.{NoCommand, command_of};
 
-use command_line::command::Command;
 use command_line::read_words;
-use command_line::usage::WordsFault;
 use command_outcome::outcome::Outcome;
+use command_words::command::Command;
+use command_words::usage::WordsFault;
 use std::alloc::Global;
 
 /// Reads the words.

@@ -6,9 +6,9 @@ use Rattle.buzhash_cut.specs.Sizes.{Sizes}
 use Rattle.caibx_codec.specs.Listing.{Listing, count_of, id_of}
 use Rattle.chunk_store.specs.Folders.{chunks}
 use Rattle.chunk_store.specs.Said.{KeepsOf, Said}
-use Rattle.command_line.specs.declared.command.Location.{Location}
-use Rattle.command_line.specs.declared.command.Location.TheVariants as locations
 use Rattle.command_outcome.specs.declared.outcome.Outcome.{Outcome}
+use Rattle.command_words.specs.declared.command.Location.{Location}
+use Rattle.command_words.specs.declared.command.Location.TheVariants as locations
 use Rattle.command_steps.proofs.Consulted.{reads_twice}
 use Rattle.command_steps.proofs.Dialed.{dials_none}
 use Rattle.command_steps.proofs.Given.{given_earlier, stands_there, store_rises, store_says}

@@ -2,7 +2,6 @@
 use Rattle.std.proofs.Common.{◌≡◌, ◌≢◌, ℕ, ◌+◌, List, length, codes, Bool, map, Option, Result, Ok, Err, refl, sym, ap, subst, inr, arith}
 use Rattle.std.proofs.lemmas.List.{length-append}
 use Rattle.caibx_codec.specs.Listing.{Listing}
-use Rattle.command_line.specs.declared.command.Location.{Location}
 use Rattle.command_outcome.specs.declared.outcome.Outcome.{Outcome}
 use Rattle.command_steps.specs.Cache.{CacheOpened}
 use Rattle.command_steps.specs.Openings.{IndexRead, Listed}
@@ -10,6 +9,7 @@ use Rattle.command_steps.specs.Seeds.{AllListed, IndexesRead, image_name}
 use Rattle.command_steps.specs.Steps.{◌>>=◌, Passed}
 use Rattle.command_steps.specs.Sources.{Sources, SourcesOpened, sources}
 use Rattle.command_steps.specs.Worlds.{Step, World, world}
+use Rattle.command_words.specs.declared.command.Location.{Location}
 use Rattle.image_commands.proofs.Seeded.{zipped_many}
 use Rattle.image_commands.specs.Extract.{ClearedAfter, Clearing, ExtractEnds, OutMade, temporary_out}
 use Rattle.dsy_base.specs.Disk.{Disk, Output}

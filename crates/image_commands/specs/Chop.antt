@@ -3,7 +3,6 @@ use Rattle.std.specs.Prelude.{◌≡◌, ◌≢◌, ℕ, List, length, Option, S
 use Rattle.caibx_codec.specs.Listing.{Listing, image_length}
 use Rattle.caibx_codec.specs.Right.{IsRight}
 use Rattle.chunk_store.specs.Folders.{chunks}
-use Rattle.command_line.specs.declared.command.Location.{Location}
 use Rattle.command_outcome.specs.declared.outcome.Outcome.{Outcome}
 use Rattle.command_outcome.specs.declared.outcome.Outcome.TheVariants as ends
 use Rattle.command_steps.specs.Openings.{ImageOpened, IndexRead, IsListed}
@@ -11,6 +10,7 @@ use Rattle.command_steps.specs.Sources.{OnSources, Sources, StoreRose}
 use Rattle.command_steps.specs.Steps.{◌>>=◌}
 use Rattle.command_steps.specs.Taking.{SourceTaken}
 use Rattle.command_steps.specs.Worlds.{FileRose, OnDisk, Step, World}
+use Rattle.command_words.specs.declared.command.Location.{Location}
 use Rattle.image_commands.specs.Make.{AnySaid, WritesStore, StoreGiven}
 use Rattle.dsy_base.specs.Maps.{Map}
 use Rattle.image_store.specs.Chopping.{IsMismatch, most_seen, seen_to}

@@ -8,8 +8,6 @@ use Rattle.caibx_codec.specs.Listing.{Listing, count_of, id_of}
 use Rattle.caibx_codec.specs.Spelling.{IsIndexFile, file_of}
 use Rattle.chunk_store.specs.Folders.{chunks}
 use Rattle.chunk_store.specs.Said.{Said}
-use Rattle.command_line.specs.declared.command.Location.{Location}
-use Rattle.command_line.specs.declared.command.Location.TheVariants as locations
 use Rattle.command_outcome.specs.declared.outcome.Outcome.{Outcome}
 use Rattle.command_outcome.specs.declared.outcome.Outcome.TheVariants as ends
 use Rattle.command_steps.specs.Openings.{ImageOpened}
@@ -18,6 +16,8 @@ use Rattle.command_steps.specs.Steps.{◌>>=◌}
 use Rattle.command_steps.specs.Stores.{is_folder}
 use Rattle.command_steps.specs.Taking.{SourceTaken}
 use Rattle.command_steps.specs.Worlds.{Adds, FileRose, OnDisk, Pure, Step, World, Writes}
+use Rattle.command_words.specs.declared.command.Location.{Location}
+use Rattle.command_words.specs.declared.command.Location.TheVariants as locations
 use Rattle.dsy_base.specs.Disk.{Disk}
 use Rattle.dsy_base.specs.Maps.{Map, at_name}
 use Rattle.image_store.specs.PutChunks.{HoldsAll, SaysAll}

@@ -9,10 +9,10 @@ ghost use Rattle.command_steps.specs.Worlds.{Adds};
 ghost use Rattle.image_commands.specs.Make.{WritesStore};
 ghost use Rattle.dsy_base.specs.Counts.{raised};
 
-use command_line::command::Location;
 use command_outcome::outcome::Outcome;
 use command_steps::any_source::AnySource;
 use command_steps::taking::{give_source, take_source};
+use command_words::command::Location;
 use dsy_base::dial::Dial;
 use dsy_base::files::Files;
 use dsy_base::folder::Folder;

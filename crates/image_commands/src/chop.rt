@@ -9,10 +9,10 @@ ghost use Rattle.dsy_base.specs.Disk.{Output};
 
 use crate::beside::{give_beside, take_beside};
 use caibx_codec::index::Index;
-use command_line::command::Location;
 use command_outcome::outcome::Outcome;
 use command_steps::any_source::AnySource;
 use command_steps::openings::{open_image, read_index};
+use command_words::command::Location;
 use dsy_base::dial::Dial;
 use dsy_base::files::Files;
 use dsy_base::folder::Folder;

@@ -15,10 +15,10 @@ ghost use Rattle.dsy_base.specs.Disk.{Output};
 
 use crate::views::{end_views, open_views};
 use buzhash_cut::sizes::CutSizes;
-use command_line::command::Location;
 use command_outcome::outcome::Outcome;
 use command_steps::any_source::AnySource;
 use command_steps::taking::{give_source, take_source};
+use command_words::command::Location;
 use dsy_base::dial::Dial;
 use dsy_base::fault::IoFault;
 use dsy_base::files::Files;

@@ -10,7 +10,7 @@ use Rattle.store_chain.specs.declared.refused.HasFault.TheVariants as has
 use Rattle.chunk_store.specs.Folders.{chunks}
 use Rattle.dsy_base.specs.Maps.{Map}
 use Rattle.verify_tool.specs.Counts.{AsksBefore, FailsAtEntry, held_count}
-use Rattle.command_line.specs.declared.command.Location.{Location}
+use Rattle.command_words.specs.declared.command.Location.{Location}
 use Rattle.command_steps.proofs.Found.{held_maps}
 use Rattle.command_steps.specs.Sources.{told_at}
 

@@ -2,9 +2,9 @@
 use Rattle.std.specs.Prelude.{◌≡◌, ◌⊎◌, ℕ, ◌<◌, ◌≤◌, List, length, map, Option, Some, None, IfSome, Result, Ok, Err}
 use Rattle.caibx_codec.specs.Listing.{Listing, count_of, id_of}
 use Rattle.chunk_store.specs.Folders.{chunks}
-use Rattle.command_line.specs.declared.command.Location.{Location}
 use Rattle.command_outcome.specs.declared.outcome.Outcome.{Outcome}
 use Rattle.command_outcome.specs.declared.outcome.Outcome.TheVariants as ends
+use Rattle.command_words.specs.declared.command.Location.{Location}
 use Rattle.dsy_base.specs.Maps.{Map}
 use Rattle.verify_tool.specs.Counts.{held_count}
 use Rattle.verify_tool.specs.Texts.{text_of_info, unique_count}

@@ -14,12 +14,12 @@ ghost use Rattle.store_chain.specs.Chains.{KeepsStores};
 
 use cache_store::cached::Cached;
 use cache_store::shelf::CacheShelf;
-use command_line::command::{Locations, Names};
 use command_outcome::outcome::Outcome;
 use command_steps::any_source::AnySource;
 use command_steps::cache::{give_shelf, take_shelf};
 use command_steps::openings::read_index;
 use command_steps::sources::{close_sources, drop_sources, open_sources};
+use command_words::command::{Locations, Names};
 use dsy_base::dial::Dial;
 use dsy_base::files::Files;
 use dsy_base::folder::Folder;

@@ -8,11 +8,11 @@ ghost use Rattle.command_steps.specs.Worlds.{world};
 ghost use Rattle.verify_tool.specs.Texts.{text_of_info};
 
 use caibx_codec::index::Index;
-use command_line::command::{Location, Locations};
 use command_outcome::outcome::Outcome;
 use command_steps::openings::read_index;
 use command_steps::printing::printed;
 use command_steps::sources::{close_sources, open_sources};
+use command_words::command::{Location, Locations};
 use dsy_base::dial::Dial;
 use dsy_base::files::Files;
 use dsy_base::name::Name;

@@ -8,10 +8,10 @@ ghost use Rattle.dsy_base.specs.Links.{DialState};
 ghost use Rattle.verify_tool.specs.Pruning.{has_id};
 
 use chunk_store::id::ChunkId;
-use command_line::command::Names;
 use command_outcome::outcome::Outcome;
 use command_steps::seeds::read_indexes;
 use command_steps::taking::{give_folder, take_folder};
+use command_words::command::Names;
 use dir_store::store::DirStore;
 use dsy_base::fault::IoFault;
 use dsy_base::files::Files;

@@ -2,7 +2,7 @@
 
 use crate::compare::{ok, same};
 use command_help::help::{Topic, put_help};
-use command_line::option_table::CommandKind;
+use command_words::option_table::CommandKind;
 use dsy_forms::mem_sink::MemSink;
 use std::alloc::Global;
 use std::process::Abort;

@@ -1,9 +1,9 @@
 //! Words that are refused, with their places, and words that are read.
 
 use crate::compare::{ok, same};
-use command_line::command::{Command, Location};
 use command_line::read_words;
-use command_line::usage::WordsFault;
+use command_words::command::{Command, Location};
+use command_words::usage::WordsFault;
 use dsy_base::name::Name;
 use std::alloc::{AllocError, Global};
 use std::process::Abort;

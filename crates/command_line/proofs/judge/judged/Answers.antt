@@ -3,10 +3,10 @@ use Rattle.std.proofs.lemmas.Bool.{cond-true}
 use Rattle.std.proofs.lemmas.List.{length-map, length_push, take_all}
 use Rattle.command_line.proofs.Judged.{Pass, roles_more, judged_here, pass_more, refused_here, lacks_value, has_all}
 use Rattle.command_line.specs.Judging.{Refuses, AnswersBy, judged}
-use Rattle.command_line.specs.Roles.{awaited, role_of, roles_of}
-use Rattle.command_line.specs.declared.roles.Role.{Role}
-use Rattle.command_line.specs.declared.usage.UsageWhy.TheVariants as why
-use Rattle.command_line.specs.declared.usage.WordsFault.TheVariants as fault
+use Rattle.command_words.specs.Roles.{awaited, role_of, roles_of}
+use Rattle.command_words.specs.declared.roles.Role.{Role}
+use Rattle.command_words.specs.declared.usage.UsageWhy.TheVariants as why
+use Rattle.command_words.specs.declared.usage.WordsFault.TheVariants as fault
 use Rattle.command_line.proofs.judge.judged.Goals as goal
 
 pub returns-in-Err-clause-exactly : goal.returns-in-Err-clause-exactly

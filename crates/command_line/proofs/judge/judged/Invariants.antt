@@ -1,6 +1,6 @@
 use Rattle.std.proofs.Common.{◌≡◌, ◌<◌, ℕ, None, take, length, map, string_bytes}
 use Rattle.command_line.specs.Judging.{refusal_at}
-use Rattle.command_line.specs.Roles.{roles_of}
+use Rattle.command_words.specs.Roles.{roles_of}
 use Rattle.command_line.proofs.judge.judged.Given as goal
 
 -- the words so far have these roles, and none of them is refused

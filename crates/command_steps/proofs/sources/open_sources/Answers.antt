@@ -1,6 +1,6 @@
 use Rattle.std.proofs.Common.{All, List, subst}
-use Rattle.command_line.specs.declared.command.Location.{Location}
 use Rattle.command_steps.specs.AnySources.{IsKnown, faults_in, files_in, location_in}
+use Rattle.command_words.specs.declared.command.Location.{Location}
 use Rattle.command_steps.proofs.OpenedSources.{first_longer, found_all, fresh_all, located_all, there_all}
 use Rattle.command_steps.proofs.sources.open_sources.Goals as goal
 

@@ -13,7 +13,7 @@ use Rattle.command_steps.proofs.Cached.{given_adds, given_files, given_folders}
 use Rattle.command_steps.specs.Cache.{folders_with, with_cache}
 use Rattle.cache_store.specs.Shelves.{Shelf, Shelved}
 use Rattle.image_commands.proofs.extract.assemble_into.Given.{Over}
-use Rattle.command_line.specs.declared.command.Location.{Location}
+use Rattle.command_words.specs.declared.command.Location.{Location}
 use Rattle.command_steps.proofs.Dialed.{dials_none}
 use Rattle.command_steps.proofs.Given.{all_later, all_stand, folders_quiet, given_earlier, given_longer, stand_still}
 use Rattle.command_steps.proofs.Lent.{each_quiet, store_rose}

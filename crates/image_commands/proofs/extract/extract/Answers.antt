@@ -1,7 +1,7 @@
 use Rattle.std.proofs.Common.{◌∙◌, All, ℕ, List, Option, Ok, Err, arith, true, false, inl, inr, map, refl, subst, sym}
 use Rattle.std.proofs.lemmas.Result.{err_from_is_err_and}
 use Rattle.caibx_codec.specs.Listing.{Listing}
-use Rattle.command_line.specs.declared.command.Location.{Location}
+use Rattle.command_words.specs.declared.command.Location.{Location}
 use Rattle.command_steps.proofs.Given.{all_later}
 use Rattle.assembler.specs.Caches.{seen}
 use Rattle.cache_store.specs.Shelves.{Shelf, Shelved}

@@ -1,7 +1,7 @@
 use Rattle.std.proofs.Common.{◌∙◌, All, List, Ok, Err, Some, inl, inr, refl, subst, sym}
 use Rattle.std.proofs.lemmas.Result.{err_from_is_err_and}
 use Rattle.cache_store.specs.Shelves.{shelf_of}
-use Rattle.command_line.specs.declared.command.Location.{Location}
+use Rattle.command_words.specs.declared.command.Location.{Location}
 use Rattle.command_steps.proofs.Cached.{cache_longer, cache_reads}
 use Rattle.command_steps.proofs.Given.{all_later}
 use Rattle.command_steps.specs.AnySources.{IsKnown, files_in, location_in}

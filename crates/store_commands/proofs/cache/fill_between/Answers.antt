@@ -1,6 +1,6 @@
 use Rattle.std.proofs.Common.{◌≡◌, ◌∙◌, ℕ, All, IfSome, List, Some, map, ap, subst, sym}
 use Rattle.cache_store.specs.Shelves.{shelf_of}
-use Rattle.command_line.specs.declared.command.Location.{Location}
+use Rattle.command_words.specs.declared.command.Location.{Location}
 use Rattle.command_steps.proofs.Cached.{given_adds}
 use Rattle.command_steps.proofs.Given.{all_later, stand_still}
 use Rattle.command_steps.specs.AnySources.{IsGiven, IsKnown, faults_in, files_in, location_in, said_in}

@@ -8,7 +8,7 @@ use Rattle.command_steps.proofs.Dialed.{dials_none}
 use Rattle.command_steps.proofs.Given.{all_stand, fails_first, given_earlier, stand_still}
 use Rattle.command_steps.specs.AnySources.{IsGiven, IsKnown, chunks_in, faults_in, files_in, location_in, said_in}
 use Rattle.command_steps.specs.Sources.{ConsultsStores, sources}
-use Rattle.command_line.specs.declared.command.Location.{Location}
+use Rattle.command_words.specs.declared.command.Location.{Location}
 use Rattle.store_commands.proofs.Counting.{counted_told, ended_by}
 use Rattle.command_steps.proofs.Found.{held_after}
 use Rattle.store_commands.proofs.info.count.Goals as goal

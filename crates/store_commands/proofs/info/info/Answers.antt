@@ -1,7 +1,7 @@
 use Rattle.std.proofs.Common.{List, Ok, Err, inl, inr, refl, subst}
 use Rattle.std.proofs.lemmas.Result.{err_from_is_err_and}
-use Rattle.command_line.specs.declared.command.Location.{Location}
 use Rattle.command_steps.specs.Sources.{sources}
+use Rattle.command_words.specs.declared.command.Location.{Location}
 use Rattle.store_commands.specs.Info.{IdsCounted}
 use Rattle.store_commands.proofs.info.info.Goals as goal
 

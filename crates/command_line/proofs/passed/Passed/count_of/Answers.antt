@@ -1,6 +1,6 @@
 use Rattle.std.proofs.Common.{◌≡◌, map, string_bytes, length, subst, sym, ◌∙◌}
 use Rattle.std.proofs.lemmas.List.{length-map}
-use Rattle.command_line.specs.Roles.{WordsByRole, words_as}
+use Rattle.command_words.specs.Roles.{WordsByRole, words_as}
 use Rattle.command_line.proofs.Lists.{words_counted}
 use Rattle.command_line.proofs.passed.Passed.count_of.Goals as goal
 

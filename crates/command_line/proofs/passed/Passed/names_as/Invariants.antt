@@ -1,5 +1,5 @@
 use Rattle.std.proofs.Common.{◌≡◌, take}
-use Rattle.command_line.specs.Roles.{words_as}
+use Rattle.command_words.specs.Roles.{words_as}
 use Rattle.command_line.proofs.passed.Passed.names_as.Given as goal
 
 -- the names so far are the first words of the role

@@ -1,9 +1,9 @@
 use Rattle.std.proofs.Common.{◌≡◌, map, take}
 use Rattle.command_line.specs.CommandLine.{read_location}
-use Rattle.command_line.specs.Locations.{location_of}
-use Rattle.command_line.specs.Roles.{words_as}
-use Rattle.command_line.specs.declared.option_table.OptionKind.TheVariants as option
-use Rattle.command_line.specs.declared.roles.Role.TheVariants as role
+use Rattle.command_words.specs.Locations.{location_of}
+use Rattle.command_words.specs.Roles.{words_as}
+use Rattle.command_words.specs.declared.option_table.OptionKind.TheVariants as option
+use Rattle.command_words.specs.declared.roles.Role.TheVariants as role
 use Rattle.command_line.proofs.passed.Passed.stores.Given as goal
 
 -- the locations so far are those of the first words
