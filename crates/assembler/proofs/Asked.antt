@@ -6,12 +6,12 @@ use Rattle.std.specs.Bool.{Decides}
 use Rattle.std.specs.Str.{bytes_eq}
 use Rattle.assembler.proofs.Filled.{grows_none, settled_on}
 use Rattle.assembler.proofs.Stepped.{seeds_none}
-use Rattle.assembler.specs.Asks.{AreSpared, AsksAtMost, IsSpared, asked_at, asks_below, asks_for, calls_below, calls_for}
 use Rattle.assembler.specs.Fills.{Grows}
-use Rattle.assembler.specs.Kits.{KeepsSeeds}
-use Rattle.assembler.specs.Losses.{AskedLast}
-use Rattle.assembler.specs.Sources.{HeldAt}
 use Rattle.caibx_codec.specs.Listing.{Listing}
+use Rattle.chunk_sources.proofs.Lacking.{quiet_never}
+use Rattle.chunk_sources.specs.Asks.{AreSpared, AsksAtMost, IsSpared, asked_at, asks_below, asks_for, calls_below, calls_for}
+use Rattle.chunk_sources.specs.Losses.{AskedLast}
+use Rattle.chunk_sources.specs.Sources.{HeldAt, KeepsSeeds}
 use Rattle.chunk_store.specs.Said.{AskedOnce}
 use Rattle.dsy_base.specs.Bytes.{Held}
 use Rattle.dsy_base.specs.Counts.{Quiet, Rose}
@@ -125,10 +125,6 @@ asks_last asked queried ids spared w old new isnt once =
     }
 
 -- ---- wants that are had without the stores
-
-pub quiet_never : (a b : ℕ) → Quiet a b → Rose a b → ⊥
-quiet_never a b quiet (inl more) = omega (arith, quiet.same)
-quiet_never a b quiet (inr full) = omega (arith, quiet.below)
 
 -- a count that was quiet from a to e was so from b to c between
 pub quiet_part : (a b c e : ℕ) → a ≤ b → c ≤ e → Quiet a e → Quiet b c

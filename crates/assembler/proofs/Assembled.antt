@@ -2,36 +2,37 @@
 -- of the target's faults a at first, b after the survey and c at the end.
 use Rattle.std.proofs.Common.{◌≡◌, ◌⊎◌, ◌++◌, IsTrue, ℕ, ◌<◌, ◌≤◌, List, length, map, slice_index, Bool, Option, Some, None, IfErr, IfSome, Result, OnOk, Ok, Err, true, false, refl, sym, ◌∙◌, subst, inl, inr, arith}
 use Rattle.std.proofs.lemmas.Bool.{cases_Bool}
-use Rattle.assembler.proofs.Asked.{quiet_never, quiet_part}
+use Rattle.assembler.proofs.Asked.{quiet_part}
 use Rattle.assembler.proofs.Based.{Surveyed, assembles_err, ends_map, leaves, left_at, right_all, right_at, some_map, told_map}
 use Rattle.assembler.proofs.EconomyReported.{asks_err, assembled_as, reports_all, settled_right}
 use Rattle.assembler.proofs.EconomyRetried.{unless_map}
 use Rattle.assembler.proofs.EconomySources.{source_same}
 use Rattle.assembler.proofs.Entries.{among, ids_same, listed_of}
 use Rattle.assembler.proofs.Filled.{rose_still}
-use Rattle.assembler.proofs.Lacking.{Tells, seeds_never, stores_never, tells_of}
-use Rattle.assembler.specs.Asks.{IsSpared}
 use Rattle.assembler.specs.Assemblies.{After, Assembles, AssemblyAsks, IsObtainable, IsUnobtained, NothingFails, RightAlike, SparedOver, Verdict}
-use Rattle.assembler.specs.Economy.{AsksExactly, AssembledBy, ReportsExactly, UnlessMemory, source_of, source_over}
+use Rattle.assembler.specs.Economy.{AsksExactly, AssembledBy, ReportsExactly, UnlessMemory}
 use Rattle.assembler.specs.Faults.{fault_of}
 use Rattle.assembler.specs.Fills.{Fills, WhereTold}
-use Rattle.assembler.specs.Losses.{CopiesFailed}
 use Rattle.cache_store.specs.Giving.{SomeGives}
 use Rattle.cache_store.specs.Shelves.{Shelf}
-use Rattle.assembler.proofs.Cached.{gives_part, stocked_told}
 use Rattle.assembler.proofs.Stocking.{gives_on}
-use Rattle.assembler.specs.Caches.{HaveOneSize, Stocked, TakesWants, cache_faults, cached_in}
 use Rattle.assembler.specs.Passes.{EndsBy, HadAt, IsLost, PassesAsk, want_at}
-use Rattle.assembler.specs.Sources.{SeedsGive}
-use Rattle.assembler.specs.Wants.{IsAmong}
 use Rattle.assembler.specs.Reports.{tally}
 use Rattle.assembler.specs.declared.fault.ExtractFault.{ExtractFault}
 use Rattle.assembler.specs.declared.fault.ExtractFault.TheVariants as faults
 use Rattle.assembler.specs.declared.fault.Lost.{Lost}
-use Rattle.assembler.specs.declared.kit.Kit.{Kit}
 use Rattle.assembler.specs.declared.report.Report.{Report}
 use Rattle.caibx_codec.specs.Listing.{Listing, count_of, id_of, image_length, kind_of, size_of, slice_of}
 use Rattle.caibx_codec.specs.Right.{IsRightAt}
+use Rattle.chunk_sources.proofs.Cached.{gives_part, stocked_told}
+use Rattle.chunk_sources.proofs.Lacking.{quiet_never, Tells, seeds_never, stores_never, tells_of}
+use Rattle.chunk_sources.specs.Asks.{IsSpared}
+use Rattle.chunk_sources.specs.Caches.{HaveOneSize, Stocked, TakesWants, cache_faults, cached_in}
+use Rattle.chunk_sources.specs.Economy.{source_of, source_over}
+use Rattle.chunk_sources.specs.Losses.{CopiesFailed}
+use Rattle.chunk_sources.specs.Sources.{SeedsGive}
+use Rattle.chunk_sources.specs.Wants.{IsAmong}
+use Rattle.chunk_sources.specs.declared.kit.Kit.{Kit}
 use Rattle.chunk_store.specs.Said.{Said}
 use Rattle.chunk_store.specs.declared.id.ChunkId.{ChunkId}
 use Rattle.dsy_base.proofs.Counts.{rose_later}

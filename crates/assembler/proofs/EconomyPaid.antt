@@ -3,24 +3,26 @@ use Rattle.std.proofs.Common.{◌≡◌, ◌≢◌, ◌⊎◌, ℕ, ◌+◌, ◌
 use Rattle.std.proofs.lemmas.Bool.{cases_Bool, cases_eq, true≢false}
 use Rattle.assembler.proofs.EconomyQuiet.{nothing_first, nothing_next}
 use Rattle.assembler.proofs.EconomySources.{source_kept, source_same}
-use Rattle.assembler.proofs.EconomySums.{raised_on, same_raised, sum_none, sum_one, sum_same}
+use Rattle.assembler.proofs.EconomySums.{raised_on, sum_none, sum_one, sum_same}
 use Rattle.assembler.proofs.Entries.{among, among_of}
 use Rattle.assembler.proofs.Filled.{open_before, settled_on}
 use Rattle.assembler.proofs.Tallies.{tallied_none, tallied_on}
 use Rattle.assembler.specs.Assemblies.{NothingFails}
-use Rattle.assembler.proofs.Cached.{stocked_falls, stocked_told}
 use Rattle.assembler.proofs.Stocking.{give_same}
-use Rattle.assembler.specs.Caches.{HaveOneSize, Stocked, TakesWants, cached_in}
 use Rattle.cache_store.specs.Shelves.{Shelf}
-use Rattle.assembler.specs.Economy.{HadMemory, PassedBy, SettledBy, SettlesBy, Tallied, pass_asks, source_over, sum_below}
+use Rattle.assembler.specs.Economy.{HadMemory, PassedBy, SettledBy, SettlesBy, Tallied, sum_below}
 use Rattle.assembler.specs.Kits.{Step}
 use Rattle.assembler.specs.Passes.{want_at}
 use Rattle.assembler.specs.Reports.{one_if, tally}
-use Rattle.assembler.specs.Wants.{IsAmong}
 use Rattle.assembler.specs.declared.fault.Unsettled.{Unsettled}
 use Rattle.assembler.specs.declared.fault.Unsettled.TheVariants as unsettled
-use Rattle.assembler.specs.declared.kit.Kit.{Kit}
 use Rattle.caibx_codec.specs.Listing.{Listing, count_of}
+use Rattle.chunk_sources.proofs.Cached.{stocked_falls, stocked_told}
+use Rattle.chunk_sources.proofs.Origins.{same_raised}
+use Rattle.chunk_sources.specs.Caches.{HaveOneSize, Stocked, TakesWants, cached_in}
+use Rattle.chunk_sources.specs.Economy.{pass_asks, source_over}
+use Rattle.chunk_sources.specs.Wants.{IsAmong}
+use Rattle.chunk_sources.specs.declared.kit.Kit.{Kit}
 use Rattle.chunk_store.specs.Said.{Said}
 use Rattle.dsy_base.specs.Bytes.{Held}
 use Rattle.dsy_base.specs.Counts.{raised}

@@ -6,12 +6,13 @@ use Rattle.assembler.proofs.EconomySums.{raised_on, sum_both}
 use Rattle.assembler.proofs.Tallies.{tallied_on}
 use Rattle.assembler.proofs.Entries.{among_of, first_among, listed_of}
 use Rattle.assembler.proofs.HadOn.{had_alike}
-use Rattle.assembler.specs.Economy.{AssembledBy, PassedBy, all_asks, pass_asks, source_over, stores_give, sum_below}
-use Rattle.assembler.specs.Losses.{Had}
+use Rattle.assembler.specs.Economy.{AssembledBy, PassedBy, all_asks, sum_below}
 use Rattle.assembler.specs.Passes.{HadAt, want_at}
 use Rattle.assembler.specs.Reports.{one_if, tally}
-use Rattle.assembler.specs.Wants.{IsAmong}
 use Rattle.caibx_codec.specs.Listing.{Listing, count_of, id_of, kind_of, size_of}
+use Rattle.chunk_sources.specs.Economy.{pass_asks, source_over, stores_give}
+use Rattle.chunk_sources.specs.Losses.{Had}
+use Rattle.chunk_sources.specs.Wants.{IsAmong}
 use Rattle.dsy_base.specs.Bytes.{Held}
 use Rattle.dsy_base.specs.Counts.{raised}
 use Rattle.dsy_base.specs.Maps.{Map}

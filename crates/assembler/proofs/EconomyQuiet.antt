@@ -2,9 +2,9 @@
 use Rattle.std.proofs.Common.{◌≡◌, ℕ, ◌≤◌, List, map, Bool, Option, Some, ◌∙◌, arith}
 use Rattle.assembler.proofs.Asked.{quiet_part}
 use Rattle.assembler.proofs.HadOn.{quiet_first, quiet_next}
-use Rattle.assembler.specs.Caches.{cache_faults, cached_in}
 use Rattle.cache_store.specs.Shelves.{Shelf}
-use Rattle.assembler.specs.Sources.{SourcesQuiet}
+use Rattle.chunk_sources.specs.Caches.{cache_faults, cached_in}
+use Rattle.chunk_sources.specs.Sources.{SourcesQuiet}
 use Rattle.dsy_base.specs.Maps.{Map}
 use Rattle.extract_plan.specs.Seeds.{faults_in}
 use Rattle.extract_plan.specs.declared.seed.Seed.{Seed}

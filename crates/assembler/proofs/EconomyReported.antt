@@ -3,7 +3,6 @@
 use Rattle.std.proofs.Common.{◌≡◌, ℕ, zero, suc, ◌+◌, ◌<◌, ◌≤◌, List, Err, refl, sym, ap, ◌∙◌, inl, inr, arith}
 use Rattle.std.proofs.lemmas.Bool.{cases_Bool}
 use Rattle.std.proofs.lemmas.Slice.Eq.{bytes_eq-Decides}
-use Rattle.assembler.proofs.Asked.{quiet_never}
 use Rattle.assembler.proofs.Based.{Surveyed}
 use Rattle.assembler.proofs.EconomySums.{sum_same}
 use Rattle.assembler.specs.Economy.{AsksExactly, AssembledBy, ReportsExactly, UnlessMemory, all_asks, sum_below}
@@ -12,6 +11,7 @@ use Rattle.assembler.specs.declared.fault.ExtractFault.{ExtractFault}
 use Rattle.assembler.specs.declared.fault.ExtractFault.TheVariants as faults
 use Rattle.assembler.specs.declared.report.Report.{Report}
 use Rattle.caibx_codec.specs.Listing.{Listing, count_of, id_of, kind_of, slice_of}
+use Rattle.chunk_sources.proofs.Lacking.{quiet_never}
 use Rattle.chunk_store.specs.Names.{name_of}
 use Rattle.dsy_base.specs.Counts.{Quiet, raised}
 use Rattle.range_survey.specs.Fates.{FirstFates, is_right_at, settled}

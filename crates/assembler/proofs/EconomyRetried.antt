@@ -6,13 +6,13 @@ use Rattle.assembler.proofs.Entries.{among}
 use Rattle.assembler.proofs.Tried.{is_tried}
 use Rattle.assembler.specs.Economy.{HadMemory, SettledBy, UnlessMemory}
 use Rattle.assembler.specs.Passes.{want_at}
-use Rattle.assembler.specs.Wants.{IsAmong}
 use Rattle.assembler.specs.declared.fault.ExtractFault.{ExtractFault}
 use Rattle.assembler.specs.declared.fault.ExtractFault.TheVariants as faults
 use Rattle.assembler.specs.declared.fault.Lost.{Lost}
 use Rattle.assembler.specs.declared.fault.Unsettled.{Unsettled}
 use Rattle.assembler.specs.declared.fault.Unsettled.TheVariants as unsettled
 use Rattle.caibx_codec.specs.Listing.{Listing, count_of}
+use Rattle.chunk_sources.specs.Wants.{IsAmong}
 use Rattle.extract_plan.specs.Deal.{of_want, AreWants, Deal}
 use Rattle.range_survey.specs.Fates.{settled}
 use Rattle.range_survey.specs.declared.fate.Fate.{Fate}

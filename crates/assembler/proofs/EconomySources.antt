@@ -2,12 +2,12 @@
 use Rattle.std.proofs.Common.{◌≡◌, ◌⊎◌, ◌++◌, ℕ, List, Bool, true, false, if◌then◌else◌, Option, refl, sym, ap, ◌∙◌, inl, inr}
 use Rattle.std.proofs.lemmas.Bool.{true≢false}
 use Rattle.std.specs.List.{list_any}
-use Rattle.assembler.proofs.Cached.{gives_part}
-use Rattle.assembler.proofs.Origins.{kept_source, none_right, right_same, seeds_decide, some_right, stores_decide}
-use Rattle.assembler.specs.Economy.{seeds_give, source_over, stores_give}
-use Rattle.assembler.specs.Losses.{Had}
-use Rattle.assembler.specs.Wants.{IsAmong}
 use Rattle.caibx_codec.specs.Listing.{Listing, kind_of, size_of}
+use Rattle.chunk_sources.proofs.Cached.{gives_part}
+use Rattle.chunk_sources.proofs.Origins.{kept_source, none_right, right_same, seeds_decide, some_right, stores_decide}
+use Rattle.chunk_sources.specs.Economy.{seeds_give, source_over, stores_give}
+use Rattle.chunk_sources.specs.Losses.{Had}
+use Rattle.chunk_sources.specs.Wants.{IsAmong}
 use Rattle.dsy_base.specs.Bytes.{Held}
 use Rattle.dsy_base.specs.Maps.{Map}
 use Rattle.extract_plan.specs.Deal.{first_of, of_want, want_id, Deal}

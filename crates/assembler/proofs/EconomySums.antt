@@ -40,10 +40,6 @@ raised_small c n less = min-eq_left (omega (arith, less))
 raised_large : (c n : ℕ) → 2 ^ 64 - 1 ≤ c + n → raised c n ≡ 2 ^ 64 - 1
 raised_large c n more = min-eq_right more
 
--- no call more
-pub same_raised : (n : ℕ) → n < 2 ^ 64 → n ≡ raised n 0
-same_raised n below = omega (arith, below)
-
 -- n more, and then m more
 pub raised_on : (c n m : ℕ) → raised (raised c n) m ≡ raised c (n + m)
 raised_on c n m = elim (cases_lt (c + n) (2 ^ 64)) [

@@ -1,7 +1,7 @@
 -- The entries of a want.
 use Rattle.std.proofs.Common.{◌≡◌, ℕ, ◌<◌, List, length, slice_index, refl, sym, ap, ◌∙◌, arith}
-use Rattle.assembler.specs.Wants.{AllOf, IsAmong}
 use Rattle.caibx_codec.specs.Listing.{Listing, count_of, size_of}
+use Rattle.chunk_sources.specs.Wants.{AllOf, IsAmong}
 use Rattle.extract_plan.proofs.Entries.{entry_inside, entry_of, entry_stands}
 use Rattle.extract_plan.specs.Deal.{AreAlike, AreWants, Deal, first_of, of_want, want_id}
 

@@ -5,13 +5,14 @@ use Rattle.std.proofs.lemmas.Bool.{cases_Bool, cases_eq, false_from_ne_true, tru
 use Rattle.std.proofs.lemmas.List.{length-set}
 use Rattle.caibx_codec.specs.Listing.{Listing, count_of, kind_of, slice_of}
 use Rattle.caibx_codec.specs.Right.{IsRightAt}
+use Rattle.chunk_sources.specs.Economy.{is_made}
 use Rattle.chunk_store.specs.Names.{name_of}
 use Rattle.dsy_base.specs.Counts.{Rose}
 use Rattle.dsy_base.proofs.Counts.{rose_later}
 use Rattle.range_survey.proofs.Fated.{set_apart, set_here}
 use Rattle.range_survey.specs.Fates.{SettledRight, fate_at, is_settled, settled}
 use Rattle.range_survey.specs.declared.fate.Fate.{Fate}
-use Rattle.assembler.specs.Fills.{Fills, Grows, WhereTold, is_made}
+use Rattle.assembler.specs.Fills.{Fills, Grows, WhereTold}
 
 -- a count that rose before it rose further or stayed
 pub rose_still : (a b c : ℕ) → b ≤ c → Rose a b → Rose a c

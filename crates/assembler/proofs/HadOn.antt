@@ -3,15 +3,15 @@
 use Rattle.std.proofs.Common.{◌≡◌, ◌++◌, IsTrue, Some, Bool, ℕ, ◌<◌, List, length, map, slice_index, Option, true, false, refl, sym, ◌∙◌, subst, inl, inr, arith}
 use Rattle.std.proofs.lemmas.Bool.{cases_Bool}
 use Rattle.assembler.proofs.Asked.{quiet_part}
-use Rattle.assembler.proofs.Cached.{stocked_told}
 use Rattle.assembler.proofs.Stocking.{gave_from}
-use Rattle.assembler.specs.Caches.{Stocked, TakesWants, cached_in}
 use Rattle.cache_store.specs.Shelves.{Shelf}
+use Rattle.chunk_sources.proofs.Cached.{stocked_told}
+use Rattle.chunk_sources.specs.Caches.{Stocked, TakesWants, cached_in}
+use Rattle.chunk_sources.specs.Losses.{Had}
+use Rattle.chunk_sources.specs.Wants.{IsAmong}
 use Rattle.extract_plan.specs.declared.seed.SeedPlace.{SeedPlace}
 use Rattle.assembler.proofs.Entries.{among, among_of, ids_same, listed_of}
-use Rattle.assembler.specs.Losses.{Had}
 use Rattle.assembler.specs.Passes.{HadAt, want_at}
-use Rattle.assembler.specs.Wants.{IsAmong}
 use Rattle.caibx_codec.specs.Listing.{Listing, count_of, id_of, kind_of, size_of}
 use Rattle.chunk_store.specs.Said.{Said}
 use Rattle.dsy_base.specs.Bytes.{Held}

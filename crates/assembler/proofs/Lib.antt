@@ -1,16 +1,10 @@
 pub mod Writes
 pub mod Tallies
 pub mod Filled
-pub mod SeedAnswers
-pub mod Obtained
 pub mod Entries
 pub mod Stepped
 pub mod Asked
-pub mod Lacking
-pub mod Cached
-pub mod Origins
 pub mod Stocking
-pub mod Behind
 pub mod HadOn
 pub mod Passed
 pub mod Settled
@@ -22,6 +16,7 @@ pub mod TwoPasses
 pub mod Reported
 pub mod KeptCount
 pub mod EconomySums
+pub mod EconomySettled
 pub mod EconomyQuiet
 pub mod Based
 pub mod Assembled

@@ -1,19 +1,19 @@
 -- What it takes that no source gave a chunk, over a longer stretch: what went before, and what came after.
 use Rattle.std.proofs.Common.{◌≡◌, ◌≢◌, ℕ, ◌<◌, ◌≤◌, List, map, Option, Bool, slice_index, inl, inr, sym, ◌∙◌, subst, arith}
 use Rattle.std.proofs.lemmas.List.Elements.{All-weaker}
-use Rattle.assembler.proofs.Cached.{stocked_falls, stocked_gave, stocked_was}
-use Rattle.assembler.specs.Caches.{CacheLacks, Stocked, TakesWants, cache_faults}
 use Rattle.cache_store.specs.Shelves.{Shelf}
 use Rattle.assembler.proofs.Entries.{among_of, first_among, ids_same, listed_of}
 use Rattle.assembler.proofs.Filled.{rose_still, settled_on}
 use Rattle.assembler.specs.Fills.{Grows}
-use Rattle.assembler.specs.Kits.{KeepsSeeds}
-use Rattle.assembler.specs.Losses.{AskedLast, CopiesFailed, IsFirstOpen, RefusedBy, lost_want}
+use Rattle.assembler.specs.Losses.{IsFirstOpen, lost_want}
 use Rattle.assembler.specs.Passes.{IsLost, want_at}
-use Rattle.assembler.specs.Sources.{HeldAt, SeedsFailed}
 use Rattle.assembler.specs.declared.fault.Lost.{Lost}
-use Rattle.assembler.specs.declared.kit.Kit.{Kit}
 use Rattle.caibx_codec.specs.Listing.{Listing, count_of, id_of, kind_of, size_of}
+use Rattle.chunk_sources.proofs.Cached.{stocked_falls, stocked_gave, stocked_was}
+use Rattle.chunk_sources.specs.Caches.{CacheLacks, Stocked, TakesWants, cache_faults}
+use Rattle.chunk_sources.specs.Losses.{AskedLast, CopiesFailed, RefusedBy}
+use Rattle.chunk_sources.specs.Sources.{KeepsSeeds, HeldAt, SeedsFailed}
+use Rattle.chunk_sources.specs.declared.kit.Kit.{Kit}
 use Rattle.chunk_store.specs.Said.{Said}
 use Rattle.dsy_base.proofs.Counts.{rose_later}
 use Rattle.dsy_base.specs.Bytes.{Held}

@@ -3,15 +3,15 @@ use Rattle.std.proofs.Common.{◌≡◌, ◌⊎◌, ◌++◌, ℕ, ◌+◌, ◌<
 use Rattle.assembler.proofs.Asked.{AsksUpTo, asks_none, up_to_all, up_to_more}
 use Rattle.assembler.proofs.HadOn.{HadUpTo, had_more, had_none}
 use Rattle.assembler.proofs.Stepped.{step_none, step_on}
-use Rattle.assembler.specs.Asks.{asks_below}
-use Rattle.assembler.specs.Caches.{Stocked, TakesWants, cached_in}
 use Rattle.cache_store.specs.Shelves.{Shelf}
 use Rattle.assembler.specs.Kits.{Step}
-use Rattle.assembler.specs.Losses.{AskedLast, Had}
 use Rattle.assembler.specs.Passes.{PassAsks}
-use Rattle.assembler.specs.Wants.{IsAmong}
-use Rattle.assembler.specs.declared.kit.Kit.{Kit}
 use Rattle.caibx_codec.specs.Listing.{Listing, id_of, kind_of, size_of}
+use Rattle.chunk_sources.specs.Asks.{asks_below}
+use Rattle.chunk_sources.specs.Caches.{Stocked, TakesWants, cached_in}
+use Rattle.chunk_sources.specs.Losses.{AskedLast, Had}
+use Rattle.chunk_sources.specs.Wants.{IsAmong}
+use Rattle.chunk_sources.specs.declared.kit.Kit.{Kit}
 use Rattle.chunk_store.specs.Said.{Said}
 use Rattle.dsy_base.specs.Bytes.{Held}
 use Rattle.dsy_base.specs.Maps.{Map}

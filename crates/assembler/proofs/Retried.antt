@@ -2,8 +2,7 @@
 use Rattle.std.proofs.Common.{◌≡◌, ◌≢◌, ◌++◌, ℕ, ◌<◌, List, length, map, set, Bool, Option, Result, Err, true, false, is_some, ap, sym, ◌∙◌, subst}
 use Rattle.assembler.proofs.EconomyRetried.{tried_as, tried_now}
 use Rattle.assembler.proofs.Entries.{among_of}
-use Rattle.assembler.specs.Caches.{CacheLacks, Stocked, TakesWants}
-use Rattle.assembler.specs.Passes.{want_at}
+use Rattle.assembler.specs.Passes.{want_at, IsLost}
 use Rattle.cache_store.specs.Shelves.{Shelf}
 use Rattle.std.proofs.lemmas.Bool.{true≢false}
 use Rattle.assembler.proofs.HadOn.{HadUpTo, had_more, had_none}
@@ -13,13 +12,14 @@ use Rattle.assembler.proofs.Stepped.{step_none, step_on}
 use Rattle.assembler.proofs.Tried.{is_tried}
 use Rattle.assembler.proofs.TriedAsks.{SoFar, so_far_more, so_far_none}
 use Rattle.assembler.specs.Kits.{Step}
-use Rattle.assembler.specs.Losses.{AskedLast, IsFirstOpen, RefusedBy, Where, lost_want}
-use Rattle.assembler.specs.Passes.{IsLost}
+use Rattle.assembler.specs.Losses.{IsFirstOpen, Where, lost_want}
 use Rattle.assembler.specs.declared.fault.Lost.{Lost}
 use Rattle.assembler.specs.declared.fault.Unsettled.{Unsettled}
 use Rattle.assembler.specs.declared.fault.Unsettled.TheVariants as unsettled
-use Rattle.assembler.specs.declared.kit.Kit.{Kit}
 use Rattle.caibx_codec.specs.Listing.{Listing, id_of, kind_of, size_of}
+use Rattle.chunk_sources.specs.Caches.{CacheLacks, Stocked, TakesWants}
+use Rattle.chunk_sources.specs.Losses.{AskedLast, RefusedBy}
+use Rattle.chunk_sources.specs.declared.kit.Kit.{Kit}
 use Rattle.chunk_store.specs.Said.{Said}
 use Rattle.dsy_base.specs.Bytes.{Held}
 use Rattle.dsy_base.specs.Maps.{Map}

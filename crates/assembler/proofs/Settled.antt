@@ -1,16 +1,18 @@
 -- The entries of a want as its call sees them, and what a call that settles them says of all.
 use Rattle.std.proofs.Common.{◌≡◌, ℕ, ◌<◌, List, length, slice_index, Option, Bool, Result, Ok, Err, true, false, refl, sym, ap, subst, ◌∙◌, inl, inr, arith}
 use Rattle.std.proofs.lemmas.Bool.{cases_lt}
-use Rattle.assembler.specs.Caches.{TakesChunk, TakesWants}
 use Rattle.assembler.proofs.Entries.{first_among, ids_same, listed_of}
-use Rattle.assembler.proofs.Origins.{kept_source}
-use Rattle.assembler.specs.Economy.{SettlesBy, source_among, source_over}
-use Rattle.assembler.specs.Losses.{AskedLast, Had, IsFirstOpen, RefusedBy, Where, chunk_of, lost_want}
-use Rattle.assembler.specs.Wants.{AllOf, IsAmong}
+use Rattle.assembler.specs.Economy.{SettlesBy}
+use Rattle.assembler.specs.Losses.{IsFirstOpen, Where, lost_want}
 use Rattle.assembler.specs.declared.fault.Lost.{Lost}
 use Rattle.assembler.specs.declared.fault.Unsettled.{Unsettled}
 use Rattle.assembler.specs.declared.fault.Unsettled.TheVariants as unsettled
 use Rattle.caibx_codec.specs.Listing.{Listing, count_of, id_of, kind_of, size_of}
+use Rattle.chunk_sources.proofs.Origins.{kept_source}
+use Rattle.chunk_sources.specs.Caches.{TakesChunk, TakesWants}
+use Rattle.chunk_sources.specs.Economy.{source_among, source_over}
+use Rattle.chunk_sources.specs.Losses.{AskedLast, Had, RefusedBy, chunk_of}
+use Rattle.chunk_sources.specs.Wants.{AllOf, IsAmong}
 use Rattle.chunk_store.specs.Said.{Said}
 use Rattle.chunk_store.specs.declared.id.ChunkId.{ChunkId}
 use Rattle.chunk_store.specs.declared.id.DigestKind.{DigestKind}

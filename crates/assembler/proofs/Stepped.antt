@@ -2,10 +2,11 @@
 use Rattle.std.proofs.Common.{◌≡◌, ℕ, List, length, map, Option, is_some, refl, sym, ap, ◌∙◌, subst, arith}
 use Rattle.std.proofs.lemmas.List.{length-map}
 use Rattle.assembler.proofs.Filled.{grows_none, grows_on, right_on, told_none, told_on}
-use Rattle.assembler.proofs.SeedAnswers.{falls_on}
-use Rattle.assembler.specs.Kits.{KeepsSeeds, Ready, Step}
-use Rattle.assembler.specs.declared.kit.Kit.{Kit}
+use Rattle.assembler.specs.Kits.{Ready, Step}
 use Rattle.caibx_codec.specs.Listing.{Listing}
+use Rattle.chunk_sources.proofs.SeedAnswers.{falls_on}
+use Rattle.chunk_sources.specs.Sources.{KeepsSeeds}
+use Rattle.chunk_sources.specs.declared.kit.Kit.{Kit}
 use Rattle.chunk_store.specs.Said.{Said}
 use Rattle.dsy_base.specs.Bytes.{Held}
 use Rattle.dsy_base.specs.Maps.{Map}

@@ -3,14 +3,14 @@ use Rattle.std.proofs.Common.{◌≡◌, ◌⊎◌, ◌++◌, ℕ, ◌<◌, List
 use Rattle.std.proofs.lemmas.Bool.{cases_Bool, true≢false}
 use Rattle.std.proofs.lemmas.Option.{same_Some}
 use Rattle.std.specs.List.{Any}
-use Rattle.assembler.proofs.Cached.{gives_left, gives_part, gives_right, stocked_gave, stocked_gives, stocked_on, stocked_some, stocked_wider}
 use Rattle.assembler.proofs.Entries.{among_of, first_among, listed_of}
-use Rattle.assembler.proofs.Origins.{stores_decide}
-use Rattle.assembler.specs.Caches.{HaveOneSize, IsListedAs, Stocked, TakesListed, TakesWants, cached_in}
-use Rattle.assembler.specs.Economy.{stores_give}
 use Rattle.cache_store.specs.Giving.{SomeGives}
 use Rattle.cache_store.specs.Shelves.{Shelf}
 use Rattle.caibx_codec.specs.Listing.{Listing, kind_of, size_of}
+use Rattle.chunk_sources.proofs.Cached.{gives_left, gives_part, gives_right, stocked_gave, stocked_gives, stocked_on, stocked_some, stocked_wider}
+use Rattle.chunk_sources.proofs.Origins.{stores_decide}
+use Rattle.chunk_sources.specs.Caches.{HaveOneSize, IsListedAs, Stocked, TakesListed, TakesWants, cached_in}
+use Rattle.chunk_sources.specs.Economy.{stores_give}
 use Rattle.chunk_store.specs.Giving.{GivesChunk, IsChunk}
 use Rattle.dsy_base.specs.Maps.{Map}
 use Rattle.extract_plan.specs.Deal.{AreWants, Deal, first_of, want_id}

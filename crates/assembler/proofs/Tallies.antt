@@ -3,7 +3,7 @@ use Rattle.std.proofs.Common.{◌≡◌, ◌⊎◌, ℕ, zero, suc, ◌+◌, ◌
 use Rattle.std.proofs.lemmas.Bool.{cases_lt, true≢false}
 use Rattle.assembler.specs.Economy.{Tallied}
 use Rattle.assembler.specs.Reports.{one_if, tally}
-use Rattle.assembler.specs.Wants.{IsAmong}
+use Rattle.chunk_sources.specs.Wants.{IsAmong}
 use Rattle.range_survey.proofs.Fated.{set_apart, set_here}
 use Rattle.range_survey.specs.Fates.{fate_at, is_settled, settled}
 use Rattle.range_survey.specs.declared.fate.Fate.{Fate}

@@ -10,9 +10,9 @@ use Rattle.assembler.proofs.Filled.{open_before, settled_on}
 use Rattle.assembler.specs.Fills.{Grows}
 use Rattle.assembler.specs.Losses.{IsFirstOpen}
 use Rattle.assembler.specs.Passes.{want_at}
-use Rattle.assembler.specs.Wants.{IsAmong}
 use Rattle.assembler.specs.declared.fault.Lost.{Lost}
 use Rattle.caibx_codec.specs.Listing.{Listing}
+use Rattle.chunk_sources.specs.Wants.{IsAmong}
 use Rattle.extract_plan.specs.Deal.{Deal, of_want}
 use Rattle.range_survey.specs.Fates.{settled}
 use Rattle.range_survey.specs.declared.fate.Fate.{Fate}

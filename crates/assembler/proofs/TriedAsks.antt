@@ -7,13 +7,13 @@ use Rattle.assembler.proofs.Asked.{asks_none, asks_on, asks_up, asks_want, spare
 use Rattle.assembler.proofs.Filled.{grows_none}
 use Rattle.assembler.proofs.Stepped.{seeds_none}
 use Rattle.assembler.proofs.Tried.{is_tried}
-use Rattle.assembler.specs.Asks.{AreSpared, AsksAtMost, asks_below, asks_for, calls_below, calls_for}
 use Rattle.assembler.specs.Fills.{Grows}
-use Rattle.assembler.specs.Kits.{KeepsSeeds}
-use Rattle.assembler.specs.Losses.{AskedLast}
 use Rattle.assembler.specs.Passes.{PassAsks}
-use Rattle.assembler.specs.declared.kit.Kit.{Kit}
 use Rattle.caibx_codec.specs.Listing.{Listing}
+use Rattle.chunk_sources.specs.Asks.{AreSpared, AsksAtMost, asks_below, asks_for, calls_below, calls_for}
+use Rattle.chunk_sources.specs.Losses.{AskedLast}
+use Rattle.chunk_sources.specs.Sources.{KeepsSeeds}
+use Rattle.chunk_sources.specs.declared.kit.Kit.{Kit}
 use Rattle.dsy_base.specs.Bytes.{Held}
 use Rattle.extract_plan.specs.Deal.{Deal, of_want, want_id}
 use Rattle.extract_plan.specs.Places.{Placed, places_at}

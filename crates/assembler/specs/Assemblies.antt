@@ -3,20 +3,20 @@
 use Rattle.std.specs.Prelude.{◌≡◌, ◌⊎◌, ℕ, ◌+◌, ◌<◌, List, length, map, slice_index, true, Bool, Option, IfSome}
 use Rattle.std.specs.Prelude.{IsSomeAnd, Result, Ok, Err}
 use Rattle.std.specs.List.{Any}
-use Rattle.assembler.specs.Asks.{AsksAtMost, asks_below, calls_below}
-use Rattle.assembler.specs.Caches.{CacheLacks}
 use Rattle.assembler.specs.Passes.{RefusedOnce, want_at}
-use Rattle.assembler.specs.Sources.{HeldAt, SeedsFailed, SeedsGive, SourcesQuiet}
-use Rattle.assembler.specs.Wants.{IsAmong}
 use Rattle.assembler.specs.declared.fault.ExtractFault.{ExtractFault}
 use Rattle.assembler.specs.declared.fault.ExtractFault.TheVariants as faults
 use Rattle.assembler.specs.declared.fault.Lost.{Lost}
-use Rattle.assembler.specs.declared.kit.Kit.{Kit}
 use Rattle.assembler.specs.declared.report.Report.{Report}
 use Rattle.cache_store.specs.Giving.{SomeGives}
 use Rattle.cache_store.specs.Shelves.{Shelf}
 use Rattle.caibx_codec.specs.Listing.{Listing, count_of, id_of, image_length, kind_of, size_of, slice_of}
 use Rattle.caibx_codec.specs.Right.{IsRight, IsRightAt}
+use Rattle.chunk_sources.specs.Asks.{AsksAtMost, asks_below, calls_below}
+use Rattle.chunk_sources.specs.Caches.{CacheLacks}
+use Rattle.chunk_sources.specs.Sources.{HeldAt, SeedsFailed, SeedsGive, SourcesQuiet}
+use Rattle.chunk_sources.specs.Wants.{IsAmong}
+use Rattle.chunk_sources.specs.declared.kit.Kit.{Kit}
 use Rattle.chunk_store.specs.Said.{Said}
 use Rattle.dsy_base.specs.Bytes.{Held, resized}
 use Rattle.dsy_base.specs.Counts.{Quiet, Rose}

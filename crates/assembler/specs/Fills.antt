@@ -1,21 +1,12 @@
 -- How entries of a target are settled. The fates are m0 before and m1 afterwards, the bytes t0 and t1, and the count of
 -- the target's faults goes from old to new.
-use Rattle.std.specs.Prelude.{◌≡◌, ◌⊎◌, ℕ, ◌<◌, List, length, Option, IfSome, Bool, true, false}
+use Rattle.std.specs.Prelude.{◌≡◌, ◌⊎◌, ℕ, ◌<◌, List, length, Option, IfSome, true, false}
 use Rattle.caibx_codec.specs.Listing.{Listing, count_of, slice_of}
 use Rattle.caibx_codec.specs.Right.{IsRightAt}
+use Rattle.chunk_sources.specs.Economy.{is_made}
 use Rattle.dsy_base.specs.Counts.{Rose}
 use Rattle.range_survey.specs.Fates.{fate_at, settled}
 use Rattle.range_survey.specs.declared.fate.Fate.{Fate}
-use Rattle.range_survey.specs.declared.fate.Fate.TheVariants as fate
-
--- the fates of entries that were made right
-abbrev pub is_made : Fate → Bool
-is_made fate.Open = false
-is_made fate.Kept = false
-is_made fate.Copied = true
-is_made fate.Seeded = true
-is_made fate.Cached = true
-is_made fate.Fetched = true
 
 -- a settled entry stays as it is, and one that became settled was made right
 pub record Grows (m0 m1 : List Fate) : Type 0 where

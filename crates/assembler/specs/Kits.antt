@@ -1,25 +1,18 @@
 -- What a call leaves of that with which entries are settled: the target, the kit, and one fate an entry.
-use Rattle.std.specs.Prelude.{◌≡◌, ℕ, ◌<◌, ◌≤◌, List, length, map, Option, IfSome}
+use Rattle.std.specs.Prelude.{◌≡◌, ℕ, ◌<◌, ◌≤◌, List, length, Option, IfSome}
 use Rattle.assembler.specs.Fills.{Fills, Grows, WhereTold}
-use Rattle.assembler.specs.declared.kit.Kit.{Kit}
 use Rattle.caibx_codec.specs.Listing.{Listing, count_of, image_length, kind_of, size_of}
+use Rattle.chunk_sources.specs.Sources.{KeepsSeeds}
+use Rattle.chunk_sources.specs.declared.kit.Kit.{Kit}
 use Rattle.chunk_store.specs.Said.{Said}
 use Rattle.chunk_store.specs.declared.id.DigestKind.{DigestKind}
 use Rattle.dsy_base.specs.Bytes.{Held}
 use Rattle.dsy_base.specs.Maps.{Map}
 use Rattle.extract_plan.specs.Deal.{AreWants, Deal}
 use Rattle.extract_plan.specs.Places.{Placed, PlacesKnown}
-use Rattle.extract_plan.specs.Seeds.{faults_in, held_in}
-use Rattle.extract_plan.specs.declared.seed.Seed.{Seed}
 use Rattle.range_survey.specs.Fates.{SettledRight}
 use Rattle.range_survey.specs.declared.fate.Fate.{Fate}
 use Rattle.store_chain.specs.Chains.{KeepsStores}
-use Rattle.store_chain.specs.Faults.{NoneFalls}
-
--- the seeds hold what they held, and no count of their faults has fallen
-pub record KeepsSeeds {V : Type 0} (view : V → Held) (view_faults : V → ℕ) (old new : List (Seed V)) : Type 0 where
-  pub held : map (held_in view) new ≡ map (held_in view) old
-  pub never_fall : NoneFalls (map (faults_in view_faults) old) (map (faults_in view_faults) new)
 
 -- all is as it must be before entries are settled: the plan and the places are of the index, the buffer has room for
 -- each chunk, the target has the image's length, and each settled entry is right in it

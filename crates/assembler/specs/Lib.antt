@@ -1,12 +1,8 @@
 pub mod Faults
-pub mod Wants
-pub mod Caches
 pub mod Fills
-pub mod Sources
 pub mod Kits
 pub mod Losses
 pub mod OneKit
-pub mod Asks
 pub mod Passes
 pub mod Reports
 pub mod Assemblies

@@ -1,16 +1,17 @@
 -- What a pass over the wants of an index leaves.
 use Rattle.std.specs.Prelude.{◌≡◌, ◌≢◌, ◌⊎◌, ℕ, ◌+◌, ◌<◌, List, map, slice_index, Bool, Option, Result, Ok, Err}
-use Rattle.assembler.specs.Asks.{AreSpared, AsksAtMost, asks_below, calls_below}
-use Rattle.assembler.specs.Caches.{CacheLacks}
 use Rattle.assembler.specs.Faults.{fault_of}
-use Rattle.assembler.specs.Losses.{CopiesFailed, Had, RefusedBy, lost_want}
-use Rattle.assembler.specs.Sources.{SeedsFailed}
+use Rattle.assembler.specs.Losses.{lost_want}
 use Rattle.assembler.specs.declared.fault.ExtractFault.{ExtractFault}
 use Rattle.assembler.specs.declared.fault.ExtractFault.TheVariants as faults
 use Rattle.assembler.specs.declared.fault.Lost.{Lost}
-use Rattle.assembler.specs.declared.kit.Kit.{Kit}
 use Rattle.cache_store.specs.Shelves.{Shelf}
 use Rattle.caibx_codec.specs.Listing.{Listing, count_of, id_of, kind_of, size_of}
+use Rattle.chunk_sources.specs.Asks.{AreSpared, AsksAtMost, asks_below, calls_below}
+use Rattle.chunk_sources.specs.Caches.{CacheLacks}
+use Rattle.chunk_sources.specs.Losses.{CopiesFailed, Had, RefusedBy}
+use Rattle.chunk_sources.specs.Sources.{SeedsFailed}
+use Rattle.chunk_sources.specs.declared.kit.Kit.{Kit}
 use Rattle.chunk_store.specs.Said.{Said}
 use Rattle.dsy_base.specs.Bytes.{Held}
 use Rattle.dsy_base.specs.Maps.{Map}

@@ -3,14 +3,9 @@
 #![tactic(auto)]
 
 pub mod assemble;
-mod copy;
 pub mod fault;
 mod fill;
-pub mod kit;
-mod obtain;
 mod put;
 pub mod report;
 mod retry;
-mod seeding;
 mod settle;
-mod upstream;

@@ -3,10 +3,11 @@
 ghost use Rattle.std.specs.Prelude.{◌≡◌, ◌≢◌, ◌⊎◌, ℕ, ◌<◌, ◌≤◌, length, set, slice_index, true, false, Ok, IfSome};
 ghost use Rattle.std.specs.Prelude.{OnOk, OnErr};
 ghost use Rattle.assembler.specs.Economy.{Tallied};
-ghost use Rattle.assembler.specs.Fills.{Fills, Grows, WhereTold, is_made};
+ghost use Rattle.assembler.specs.Fills.{Fills, Grows, WhereTold};
 ghost use Rattle.assembler.specs.Reports.{one_if};
-ghost use Rattle.assembler.specs.Wants.{IsAmong};
 ghost use Rattle.caibx_codec.specs.Listing.{count_of, id_of, kind_of, size_of, image_length};
+ghost use Rattle.chunk_sources.specs.Economy.{is_made};
+ghost use Rattle.chunk_sources.specs.Wants.{IsAmong};
 ghost use Rattle.chunk_store.specs.Names.{name_of};
 ghost use Rattle.dsy_base.specs.Counts.{Rose};
 ghost use Rattle.range_survey.specs.Fates.{fate_at, is_settled, settled};

@@ -3,13 +3,14 @@
 ghost use Rattle.std.specs.Prelude.{◌≡◌, ◌++◌, ◌⊎◌, ℕ, List, IsTrue, ◌<◌, length, map, None, Some, IfSome, OnOk, IfErr};
 ghost use Rattle.std.specs.Prelude.{true, false};
 ghost use Rattle.assembler.specs.Assemblies.{NothingFails};
-ghost use Rattle.assembler.specs.Caches.{HaveOneSize, Stocked, TakesWants, cached_in, seen};
-ghost use Rattle.assembler.specs.Economy.{PassedBy, UnlessMemory, source_over};
+ghost use Rattle.assembler.specs.Economy.{PassedBy, UnlessMemory};
 ghost use Rattle.assembler.specs.Kits.{Ready, Step};
 ghost use Rattle.assembler.specs.Passes.{EndsBy, HadAt, IsLost, PassAsks, want_at};
 ghost use Rattle.assembler.specs.declared.fault.ExtractFault.TheVariants as faults;
 ghost use Rattle.assembler.specs.declared.fault.Lost.{Lost};
 ghost use Rattle.caibx_codec.specs.Listing.{count_of};
+ghost use Rattle.chunk_sources.specs.Caches.{HaveOneSize, Stocked, TakesWants, cached_in, seen};
+ghost use Rattle.chunk_sources.specs.Economy.{source_over};
 ghost use Rattle.dsy_base.specs.Counts.{Rose};
 ghost use Rattle.dsy_base.specs.Maps.{Map};
 ghost use Rattle.extract_plan.specs.Seeds.{held_in};
@@ -17,10 +18,10 @@ ghost use Rattle.range_survey.specs.Fates.{settled};
 ghost use Rattle.store_chain.specs.Faults.{EachQuiet};
 
 use crate::fault::{ExtractFault, Lost, Unsettled};
-use crate::kit::Kit;
 use crate::settle::settle;
 use cache_store::shelf::CacheShelf;
 use caibx_codec::index::Index;
+use chunk_sources::kit::Kit;
 use chunk_store::store::Store;
 use dsy_base::folder::Folder;
 use dsy_base::view::{Part, View};

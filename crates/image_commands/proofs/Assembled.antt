@@ -2,12 +2,12 @@
 use Rattle.std.proofs.Common.{ap, arith, ◌⊎◌, true, is_some, unwrap_or, ◌≡◌, ℕ, ◌<◌, List, ◌++◌, map, Option, Some, None, IfSome, IfErr, refl, subst, ◌∙◌, sym, inl, inr, Result, Ok, Err}
 use Rattle.assembler.specs.Assemblies.{After, Assembles, IsObtainable, KeepsBase, RightAlike, Verdict}
 use Rattle.assembler.specs.Fills.{WhereTold}
-use Rattle.assembler.specs.Losses.{chunk_of}
 use Rattle.assembler.specs.Passes.{want_at}
 use Rattle.assembler.specs.declared.fault.ExtractFault.{ExtractFault}
 use Rattle.assembler.specs.declared.fault.ExtractFault.TheVariants as faults
 use Rattle.assembler.specs.declared.report.Report.{Report}
 use Rattle.caibx_codec.specs.Listing.{Listing, count_of, id_of, image_length, kind_of, size_of}
+use Rattle.chunk_sources.specs.Losses.{chunk_of}
 use Rattle.chunk_store.specs.Folders.{chunks}
 use Rattle.chunk_store.specs.declared.id.ChunkId.{ChunkId}
 use Rattle.dsy_base.specs.Bytes.{Held, resized}

@@ -3,18 +3,19 @@ use Rattle.std.proofs.Common.{ap, All, arith, ◌⊎◌, ◌≤◌, ◌≡◌, �
 use Rattle.std.proofs.lemmas.List.Elements.{All-cons, All-nil}
 use Rattle.std.specs.List.{AllZip}
 use Rattle.assembler.specs.Assemblies.{IsUnobtained, RightAlike}
-use Rattle.assembler.specs.Caches.{CacheLacks}
 use Rattle.assembler.specs.Faults.{fault_of}
-use Rattle.assembler.specs.Losses.{chunk_of, lost_want}
+use Rattle.assembler.specs.Losses.{lost_want}
 use Rattle.assembler.specs.Passes.{EndsBy, want_at}
-use Rattle.assembler.specs.Sources.{SeedsFailed}
 use Rattle.assembler.specs.declared.fault.ExtractFault.{ExtractFault}
 use Rattle.assembler.specs.declared.fault.ExtractFault.TheVariants as faults
 use Rattle.assembler.specs.declared.fault.Lost.{Lost}
-use Rattle.assembler.specs.declared.kit.Kit.{Kit}
 use Rattle.assembler.specs.declared.report.Report.{Report}
 use Rattle.cache_store.specs.Shelves.{Shelf}
 use Rattle.caibx_codec.specs.Listing.{Listing, id_of, image_length, kind_of, size_of}
+use Rattle.chunk_sources.specs.Caches.{CacheLacks}
+use Rattle.chunk_sources.specs.Losses.{chunk_of}
+use Rattle.chunk_sources.specs.Sources.{SeedsFailed}
+use Rattle.chunk_sources.specs.declared.kit.Kit.{Kit}
 use Rattle.chunk_store.specs.Folders.{chunks}
 use Rattle.chunk_store.specs.Giving.{IsChunk}
 use Rattle.chunk_store.specs.Said.{KeepsOf, Said}

@@ -4,8 +4,8 @@ use Rattle.std.proofs.lemmas.List.{get_or_default}
 use Rattle.std.proofs.lemmas.List.Elements.{All-cons, All-nil}
 use Rattle.std.specs.List.{AllZip, slice_get}
 use Rattle.std.specs.Option.{option_map}
-use Rattle.assembler.specs.Sources.{GivesAt, HeldAt, SeedsFailed, SeedsGive}
 use Rattle.caibx_codec.specs.Listing.{Listing, end_of, size_of, slice_of, start_of}
+use Rattle.chunk_sources.specs.Sources.{GivesAt, HeldAt, SeedsFailed, SeedsGive}
 use Rattle.chunk_store.specs.Names.{name_of}
 use Rattle.chunk_store.specs.declared.id.DigestKind.TheVariants.{Sha512T256}
 use Rattle.command_steps.specs.Blames.{name_at}

@@ -3,10 +3,10 @@ use Rattle.std.proofs.Common.{◌≡◌, ◌≤◌, ◌⊎◌, ◌∙◌, ℕ, L
 use Rattle.std.proofs.lemmas.Bool.{true≢false}
 use Rattle.std.specs.Option.{option_map}
 use Rattle.std.specs.Map.{count_at}
-use Rattle.assembler.specs.Caches.{CacheLacks, HaveOneSize, IsListedAs, Stocked, TakesListed, cache_faults, cached_in, seen}
 use Rattle.cache_store.specs.Giving.{GiveOneSize, SomeGives}
 use Rattle.cache_store.specs.Shelves.{Shelf, Shelved}
 use Rattle.caibx_codec.specs.Listing.{Listing, id_of, kind_of, size_of}
+use Rattle.chunk_sources.specs.Caches.{CacheLacks, HaveOneSize, IsListedAs, Stocked, TakesListed, cache_faults, cached_in, seen}
 use Rattle.chunk_store.specs.Folders.{chunks}
 use Rattle.chunk_store.specs.Giving.{GivesChunk}
 use Rattle.chunk_store.specs.declared.id.DigestKind.{DigestKind}

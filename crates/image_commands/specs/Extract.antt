@@ -5,14 +5,14 @@ use Rattle.std.specs.List.{Any, slice_get}
 use Rattle.std.specs.Map.{count_at}
 use Rattle.std.specs.Option.{option_map, unwrap_or}
 use Rattle.assembler.specs.Assemblies.{IsLeast, KeepsBase, RightAlike}
-use Rattle.assembler.specs.Caches.{IsListedAs}
-use Rattle.assembler.specs.Losses.{chunk_of}
 use Rattle.assembler.specs.declared.fault.ExtractFault.{ExtractFault}
 use Rattle.assembler.specs.declared.fault.ExtractFault.TheVariants as faults
 use Rattle.assembler.specs.declared.report.Report.{Report}
 use Rattle.cache_store.specs.Giving.{GiveOneSize, SomeGives}
 use Rattle.caibx_codec.specs.Listing.{Listing, count_of, id_of, kind_of, size_of, slice_of, start_of, image_length}
 use Rattle.caibx_codec.specs.Right.{IsRight, IsRightAt}
+use Rattle.chunk_sources.specs.Caches.{IsListedAs}
+use Rattle.chunk_sources.specs.Losses.{chunk_of}
 use Rattle.chunk_store.specs.Folders.{chunks}
 use Rattle.chunk_store.specs.Giving.{GivesChunk, IsChunk}
 use Rattle.chunk_store.specs.Said.{Said}

@@ -4,8 +4,8 @@
 ghost use Rattle.std.specs.Prelude.{◌≡◌, ◌≢◌, ℕ, List, ◌<◌, ◌≤◌, ◌^◌, map, All, IfOk, IfSome, IsSome, length, is_some};
 ghost use Rattle.std.specs.Prelude.{[], string_bytes, true, false, vec_capacity};
 ghost use Rattle.std.specs.Option.{option_map};
-ghost use Rattle.assembler.specs.Caches.{seen};
 ghost use Rattle.caibx_codec.specs.Listing.{Listing};
+ghost use Rattle.chunk_sources.specs.Caches.{seen};
 ghost use Rattle.chunk_store.specs.declared.id.DigestKind.TheVariants as kinds;
 ghost use Rattle.command_steps.specs.AnySources.{IsKnown, faults_in, files_in, location_in};
 ghost use Rattle.command_steps.specs.Cache.{with_cache};
@@ -21,10 +21,10 @@ ghost use Rattle.extract_plan.specs.Places.{IsSeedIndex, PlacesKnown, items_of, 
 
 use assembler::assemble::assemble;
 use assembler::fault::ExtractFault;
-use assembler::kit::Kit;
 use assembler::report::Report;
 use cache_store::shelf::CacheShelf;
 use caibx_codec::index::Index;
+use chunk_sources::kit::Kit;
 use command_outcome::outcome::Outcome;
 use command_steps::any_source::AnySource;
 use command_steps::cache::{give_cache, take_cache};

@@ -1,14 +1,14 @@
 -- An assembly from sources that never fail.
 use Rattle.std.proofs.Common.{◌≡◌, ℕ, zero, suc, List, [], ◌∷◌, map, slice_index, Option, Some, None, Bool, IsTrue, refl, arith, inl, inr, sym, subst, unwrap_or, Result, Ok, Err, IfOk, IfSome, ◌<◌}
 use Rattle.std.specs.Option.{option_map}
-use Rattle.assembler.specs.Caches.{HaveOneSize, Stocked, cache_faults}
 use Rattle.assembler.specs.Faults.{fault_of}
 use Rattle.assembler.specs.Passes.{EndsBy}
-use Rattle.assembler.specs.Sources.{SourcesQuiet}
 use Rattle.assembler.specs.declared.fault.ExtractFault.{ExtractFault}
 use Rattle.assembler.specs.declared.fault.Lost.{Lost}
 use Rattle.cache_store.specs.Shelves.{Shelf}
 use Rattle.caibx_codec.specs.Listing.{Listing, count_of, id_of}
+use Rattle.chunk_sources.specs.Caches.{HaveOneSize, Stocked, cache_faults}
+use Rattle.chunk_sources.specs.Sources.{SourcesQuiet}
 use Rattle.chunk_store.specs.declared.id.ChunkId.{ChunkId}
 use Rattle.dsy_base.specs.Counts.{Quiet, Rose}
 use Rattle.dsy_base.specs.Maps.{Map}

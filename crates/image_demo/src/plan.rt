@@ -7,8 +7,8 @@ ghost use Rattle.extract_plan.specs.Deal.{IsPlan};
 ghost use Rattle.extract_plan.specs.Places.{IsSeedIndex, PlacesKnown};
 
 use crate::fault::DemoFault;
-use assembler::kit::Kit;
 use caibx_codec::index::Index;
+use chunk_sources::kit::Kit;
 use chunk_store::store::Store;
 use dsy_base::view::View;
 use extract_plan::plan::Plan;

@@ -1,9 +1,9 @@
 use Rattle.std.proofs.Common.{◌≡◌, ◌∙◌, ◌<◌, List, IfSome, length, Ok, Err, sym, ap, subst, arith, Option}
 use Rattle.assembler.proofs.Asked.{quiet_part}
 use Rattle.assembler.proofs.KeptCount.{kept_count}
-use Rattle.assembler.proofs.Cached.{stocked_none}
 use Rattle.assembler.proofs.Stocking.{listed_takes}
-use Rattle.assembler.specs.Caches.{Stocked, TakesListed, TakesWants}
+use Rattle.chunk_sources.proofs.Cached.{stocked_none}
+use Rattle.chunk_sources.specs.Caches.{Stocked, TakesListed, TakesWants, seen}
 use Rattle.chunk_store.specs.declared.id.DigestKind.{DigestKind}
 use Rattle.std.proofs.lemmas.List.{with_items_is}
 use Rattle.std.specs.Global.{Vec}
@@ -25,7 +25,6 @@ use Rattle.store_chain.specs.Chains.{Chained, KeepsStores}
 use Rattle.assembler.proofs.assemble.assemble_lent.Given.{Over}
 use Rattle.assembler.proofs.assemble.assemble_lent.Goals.{After-drop-fates, After-drop-fates-2}
 use Rattle.assembler.proofs.assemble.assemble_lent.Goals as goal
-use Rattle.assembler.specs.Caches.{seen}
 use Rattle.cache_store.specs.Shelves.{Shelf, Shelved}
 
 -- what is seen of a cache

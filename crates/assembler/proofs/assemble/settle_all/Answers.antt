@@ -1,8 +1,9 @@
 use Rattle.std.proofs.Common.{◌≡◌, ◌∙◌, ◌++◌, ℕ, ◌+◌, ◌<◌, List, map, IfSome, sym, inl, inr, subst, arith, Option}
-use Rattle.assembler.proofs.Cached.{stocked_falls, stocked_kind, stocked_told}
 use Rattle.assembler.proofs.Stocking.{give_before, one_size_on, stocking_on}
-use Rattle.assembler.specs.Caches.{TakesWants}
 use Rattle.caibx_codec.specs.Listing.{id_of, size_of}
+use Rattle.chunk_sources.proofs.Cached.{stocked_falls, stocked_kind, stocked_told}
+use Rattle.chunk_sources.specs.Asks.{asks_below, calls_below}
+use Rattle.chunk_sources.specs.Caches.{TakesWants, seen}
 use Rattle.chunk_store.specs.declared.id.DigestKind.{DigestKind}
 use Rattle.extract_plan.specs.Places.{places_at}
 use Rattle.assembler.proofs.Asked.{asks_on, asks_up, spared_part}
@@ -14,14 +15,12 @@ use Rattle.assembler.proofs.HadOn.{had_from, had_through, quiet_first, quiet_nex
 use Rattle.assembler.proofs.Lost.{lost_since}
 use Rattle.assembler.proofs.Stepped.{ready_on, seeds_none, step_on}
 use Rattle.assembler.proofs.TwoPasses.{ends_map, err_map}
-use Rattle.assembler.specs.Asks.{asks_below, calls_below}
 use Rattle.assembler.specs.Passes.{HadAt, want_at}
 use Rattle.dsy_base.proofs.Counts.{rose_later}
 use Rattle.extract_plan.specs.Deal.{of_want, want_id}
 use Rattle.extract_plan.specs.Seeds.{held_in}
 use Rattle.assembler.proofs.assemble.settle_all.Goals as goal
 use Rattle.assembler.proofs.assemble.settle_all.Given.{Over}
-use Rattle.assembler.specs.Caches.{seen}
 use Rattle.cache_store.specs.Shelves.{Shelf, Shelved}
 
 -- what is seen of a cache

@@ -1,9 +1,9 @@
 use Rattle.std.proofs.Common.{◌≡◌, ℕ, ◌+◌, ◌<◌, List, map, Option, IfSome, true, sym, ◌∙◌, subst, inl, arith}
-use Rattle.assembler.proofs.Cached.{stocked_kind, stocked_none}
 use Rattle.assembler.proofs.Stocking.{stocking_on, stocking_wider}
-use Rattle.assembler.specs.Caches.{Stocked, TakesWants}
 use Rattle.cache_store.specs.Shelves.{Shelf}
 use Rattle.caibx_codec.specs.Listing.{Listing}
+use Rattle.chunk_sources.proofs.Cached.{stocked_kind, stocked_none}
+use Rattle.chunk_sources.specs.Caches.{Stocked, TakesWants, seen}
 use Rattle.chunk_store.specs.declared.id.DigestKind.{DigestKind}
 use Rattle.extract_plan.specs.Deal.{Deal}
 use Rattle.assembler.proofs.EconomyFilled.{all_below, as_before, below_of, is_below, now_at, still_below, none_below, not_itself, now_below}
@@ -13,7 +13,6 @@ use Rattle.assembler.proofs.Stepped.{ready_on}
 use Rattle.assembler.specs.Passes.{want_at}
 use Rattle.assembler.proofs.fill.fill.Given.{Over}
 use Rattle.assembler.proofs.fill.fill.Goals as goal
-use Rattle.assembler.specs.Caches.{seen}
 use Rattle.cache_store.specs.Shelves.{Shelf, Shelved}
 
 -- what is seen of a cache

@@ -2,7 +2,7 @@ use Rattle.std.proofs.Common.{◌≡◌, true}
 use Rattle.assembler.proofs.EconomyFilled.{is_below}
 use Rattle.assembler.proofs.EconomyPaid.{Paid}
 use Rattle.assembler.proofs.Passed.{WantsPassed}
-use Rattle.assembler.specs.Caches.{Stocked, TakesWants, seen}
+use Rattle.chunk_sources.specs.Caches.{Stocked, TakesWants, seen}
 use Rattle.assembler.proofs.fill.fill.Given as goal
 
 abbrev pub invariant-loop-want : goal.invariant-loop-want

@@ -1,11 +1,12 @@
 use Rattle.std.proofs.Common.{true≢false, Err, ◌≡◌, ℕ, ◌<◌, List, [], length, set, Bool, Option, IfSome, true, false, inl, inr, sym, ap, ◌∙◌, subst, arith}
 use Rattle.std.proofs.lemmas.List.{length-set}
 use Rattle.std.proofs.lemmas.Option.{MatchOption-at_some}
-use Rattle.assembler.proofs.Cached.{stocked_kind, stocked_none}
 use Rattle.assembler.proofs.Stocking.{stocking_on, stocking_wider}
-use Rattle.assembler.specs.Caches.{Stocked, TakesWants}
-use Rattle.assembler.specs.Passes.{IsLost}
+use Rattle.assembler.specs.Passes.{IsLost, PassAsks}
 use Rattle.cache_store.specs.Shelves.{Shelf}
+use Rattle.chunk_sources.proofs.Cached.{stocked_kind, stocked_none}
+use Rattle.chunk_sources.specs.Caches.{Stocked, TakesWants, seen}
+use Rattle.chunk_sources.specs.declared.kit.Kit.{Kit}
 use Rattle.chunk_store.specs.declared.id.DigestKind.{DigestKind}
 use Rattle.range_survey.specs.Fates.{settled}
 use Rattle.assembler.proofs.EconomyPaid.{paid_all, paid_more, paid_none}
@@ -15,9 +16,7 @@ use Rattle.assembler.proofs.Stepped.{ready_on}
 use Rattle.assembler.proofs.Tried.{IsFirst, SettledBelow, first_later, is_tried, lost_here, lost_of, tried_is, tries_lost, tries_none, tries_passed, tries_settled, untried as untried_at}
 use Rattle.assembler.proofs.TriedAsks.{asks_at_end}
 use Rattle.assembler.specs.Losses.{IsFirstOpen}
-use Rattle.assembler.specs.Passes.{PassAsks}
 use Rattle.assembler.specs.declared.fault.Lost.{Lost}
-use Rattle.assembler.specs.declared.kit.Kit.{Kit}
 use Rattle.caibx_codec.specs.Listing.{Listing}
 use Rattle.dsy_base.specs.Counts.{Rose}
 use Rattle.dsy_base.proofs.Counts.{rose_later}
@@ -27,7 +26,6 @@ use Rattle.range_survey.specs.declared.fate.Fate.{Fate}
 use Rattle.assembler.proofs.retry.retry.Given.{Over}
 use Rattle.assembler.proofs.retry.retry.Goals as goal
 use Rattle.assembler.proofs.retry.retry.Goals.{After-settle, In-Err-TargetFault, in-Some, in-None, in-Ok-settle, in-Err-Lost+else-eq, then-is_settled-via-then-is_settled, then-is_settled-via-else-is_settled+then-index}
-use Rattle.assembler.specs.Caches.{seen}
 use Rattle.cache_store.specs.Shelves.{Shelf, Shelved}
 
 -- what is seen of a cache

@@ -1,8 +1,8 @@
 use Rattle.std.proofs.Common.{◌≡◌, true}
 use Rattle.assembler.proofs.Retried.{LostTried, WantsTried}
-use Rattle.assembler.specs.Caches.{Stocked, TakesWants, seen}
 use Rattle.assembler.proofs.EconomyPaid.{Paid}
 use Rattle.assembler.proofs.Tried.{Tries, is_tried}
+use Rattle.chunk_sources.specs.Caches.{Stocked, TakesWants, seen}
 use Rattle.assembler.proofs.retry.retry.Given as goal
 
 abbrev pub invariant-loop-entry : goal.invariant-loop-entry

@@ -1,14 +1,14 @@
 use Rattle.std.proofs.Common.{◌≡◌, ◌∙◌, ◌++◌, ℕ, List, length, map, false, inl, inr, ⊎_elim, ap, sym, subst, arith, Option}
 use Rattle.std.proofs.lemmas.List.{with_items_is}
 use Rattle.assembler.proofs.Settled.{all_as, all_kept, asked_as, first_open, fit, had_as, inside, listed, refused_as, settles_as, takes_as, where_both, where_map}
-use Rattle.assembler.proofs.Cached.{stocked_none, stocked_wider}
-use Rattle.assembler.proofs.Origins.{settles_kept}
-use Rattle.assembler.specs.Caches.{CacheLacks, TakesChunk, TakesWants}
-use Rattle.assembler.specs.Wants.{IsAmong}
+use Rattle.assembler.proofs.EconomySettled.{settles_kept}
+use Rattle.chunk_sources.proofs.Cached.{stocked_none, stocked_wider}
+use Rattle.chunk_sources.specs.Caches.{CacheLacks, TakesChunk, TakesWants, seen}
+use Rattle.chunk_sources.specs.Economy.{source_over}
+use Rattle.chunk_sources.specs.Sources.{KeepsSeeds}
+use Rattle.chunk_sources.specs.Wants.{IsAmong}
 use Rattle.extract_plan.specs.Deal.{of_want}
 use Rattle.assembler.proofs.Stepped.{step_none}
-use Rattle.assembler.specs.Economy.{source_over}
-use Rattle.assembler.specs.Kits.{KeepsSeeds}
 use Rattle.caibx_codec.specs.Listing.{id_of, kind_of, size_of, count_of}
 use Rattle.chunk_store.specs.declared.id.ChunkId.{ChunkId}
 use Rattle.extract_plan.specs.Places.{PlacesFit}
@@ -18,7 +18,6 @@ use Rattle.extract_plan.specs.declared.seed.Seed.{Seed}
 use Rattle.store_chain.specs.Faults.{EachQuiet}
 use Rattle.assembler.proofs.settle.settle.Goals as goal
 use Rattle.assembler.proofs.settle.settle.Given.{Over}
-use Rattle.assembler.specs.Caches.{seen}
 use Rattle.cache_store.specs.Shelves.{Shelf, Shelved}
 
 -- what is seen of a cache

@@ -1,17 +1,17 @@
 use Rattle.std.proofs.Common.{◌≡◌, ◌∙◌, ◌++◌, ℕ, length, map, Option, Ok, Err, inl, inr, ⊎_elim, ap, subst, arith}
 use Rattle.assembler.proofs.EconomyQuiet.{nothing_first}
 use Rattle.assembler.proofs.Filled.{rose_still, told_since}
-use Rattle.assembler.proofs.Origins.{settles_got, settles_lost}
-use Rattle.assembler.specs.Economy.{ObtainedBy, source_among}
-use Rattle.assembler.specs.Losses.{Had}
+use Rattle.assembler.proofs.EconomySettled.{settles_got, settles_lost}
 use Rattle.caibx_codec.specs.Listing.{kind_of, size_of, count_of}
+use Rattle.chunk_sources.specs.Caches.{seen}
+use Rattle.chunk_sources.specs.Economy.{ObtainedBy, source_among}
+use Rattle.chunk_sources.specs.Losses.{Had}
 use Rattle.extract_plan.specs.Seeds.{held_in}
 use Rattle.dsy_base.specs.Bytes.{Held}
 use Rattle.range_survey.specs.Fates.{settled}
 use Rattle.range_survey.specs.declared.fate.Fate.{Fate}
 use Rattle.assembler.proofs.settle.settle_open.Goals as goal
 use Rattle.assembler.proofs.settle.settle_open.Given.{Over}
-use Rattle.assembler.specs.Caches.{seen}
 use Rattle.cache_store.specs.Shelves.{Shelf, Shelved}
 
 -- what is seen of a cache

@@ -1,7 +1,7 @@
 use Rattle.std.proofs.Common.{ℕ, List, Option, Ok, Err, inl, map, refl, subst, sym, true, ◌∙◌}
 use Rattle.std.proofs.lemmas.Result.{err_from_is_err_and}
-use Rattle.assembler.specs.Caches.{seen}
 use Rattle.cache_store.specs.Shelves.{Shelf, Shelved}
+use Rattle.chunk_sources.specs.Caches.{seen}
 use Rattle.command_steps.specs.Cache.{with_cache}
 use Rattle.image_commands.proofs.extract.assemble_beside.Given.{Over}
 use Rattle.command_steps.specs.AnySources.{location_in}

@@ -5,9 +5,9 @@ use Rattle.std.specs.Map.{count_at}
 use Rattle.std.specs.Option.{option_map}
 use Rattle.assembler.proofs.OnePlan.{all_alone, alone}
 use Rattle.assembler.specs.Assemblies.{IsObtainable}
-use Rattle.assembler.proofs.Cached.{stocked_none}
-use Rattle.assembler.specs.Caches.{HaveOneSize, Stocked, TakesListed, cache_faults, cached_in, seen}
-use Rattle.assembler.specs.Sources.{SourcesQuiet}
+use Rattle.chunk_sources.proofs.Cached.{stocked_none}
+use Rattle.chunk_sources.specs.Caches.{HaveOneSize, Stocked, TakesListed, cache_faults, cached_in, seen}
+use Rattle.chunk_sources.specs.Sources.{SourcesQuiet}
 use Rattle.chunk_store.specs.Folders.{chunks}
 use Rattle.command_steps.proofs.Cached.{given_adds, given_files, given_folders}
 use Rattle.command_steps.specs.Cache.{folders_with, with_cache}

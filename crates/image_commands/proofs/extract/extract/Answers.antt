@@ -1,9 +1,9 @@
 use Rattle.std.proofs.Common.{◌∙◌, All, ℕ, List, Option, Ok, Err, arith, true, false, inl, inr, map, refl, subst, sym}
 use Rattle.std.proofs.lemmas.Result.{err_from_is_err_and}
 use Rattle.caibx_codec.specs.Listing.{Listing}
+use Rattle.chunk_sources.specs.Caches.{seen}
 use Rattle.command_words.specs.declared.command.Location.{Location}
 use Rattle.command_steps.proofs.Given.{all_later}
-use Rattle.assembler.specs.Caches.{seen}
 use Rattle.cache_store.specs.Shelves.{Shelf, Shelved}
 use Rattle.command_steps.proofs.Cached.{cache_longer, cache_reads}
 use Rattle.command_steps.specs.Cache.{with_cache}

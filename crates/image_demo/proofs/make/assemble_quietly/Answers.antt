@@ -1,9 +1,9 @@
 use Rattle.std.proofs.Common.{◌≡◌, ◌∙◌, ℕ, List, sym}
 use Rattle.assembler.proofs.OnePlan.{one_of}
-use Rattle.assembler.specs.Caches.{TakesListed}
 use Rattle.assembler.specs.Reports.{right_below}
 use Rattle.assembler.specs.declared.report.Report.{Report}
 use Rattle.caibx_codec.specs.Listing.{count_of, image_length}
+use Rattle.chunk_sources.specs.Caches.{TakesListed}
 use Rattle.dsy_base.specs.Bytes.{resized}
 use Rattle.image_demo.proofs.Quiet.{named_by, no_sizes, nothing_fails, once_quiet, still}
 use Rattle.image_demo.proofs.make.assemble_quietly.Goals as goal

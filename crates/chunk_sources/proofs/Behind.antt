@@ -1,0 +1,108 @@
+-- What the cache and the stores behind it gave, and what it took.
+use Rattle.std.proofs.Common.{◌≡◌, ◌⊎◌, ◌++◌, ℕ, ◌<◌, ◌^◌, List, [], map, take, Option, Some, None, IfSome, Bool, true, false, Result, Ok, Err, sym, ap, ◌∙◌, subst, inl, inr, slice_index, arith}
+use Rattle.std.proofs.lemmas.Bool.{true≢false}
+use Rattle.std.proofs.lemmas.Option.{same_Some}
+use Rattle.std.specs.Option.{option_map}
+use Rattle.cache_store.specs.Giving.{SomeGives, SomeHolds}
+use Rattle.cache_store.specs.Shelves.{Shelf, held_on, shelf_of}
+use Rattle.cache_store.specs.Through.{Behind, FromShelf, FromStores, Unfound}
+use Rattle.cache_store.specs.declared.cached.Got.{Got}
+use Rattle.chunk_sources.proofs.Cached.{gives_left, gives_one, gives_right, one_gives, told_at}
+use Rattle.chunk_sources.proofs.Lacking.{quiet_never, lacked_memory}
+use Rattle.chunk_sources.proofs.Obtained.{gives_some}
+use Rattle.chunk_sources.proofs.Origins.{by_cache, by_none, by_store, by_want}
+use Rattle.chunk_sources.specs.Caches.{TakesChunk, cached_in}
+use Rattle.chunk_sources.specs.Economy.{ObtainedBy, source_behind}
+use Rattle.chunk_sources.specs.Losses.{chunk_of}
+use Rattle.chunk_store.specs.Folders.{chunks}
+use Rattle.chunk_store.specs.Said.{Said}
+use Rattle.chunk_store.specs.declared.id.ChunkId.{ChunkId}
+use Rattle.chunk_store.specs.declared.id.DigestKind.{DigestKind}
+use Rattle.dsy_base.specs.Counts.{Quiet, Rose}
+use Rattle.dsy_base.specs.Maps.{Map}
+use Rattle.range_survey.specs.declared.fate.Fate.TheVariants as fate
+use Rattle.store_chain.specs.Faults.{EachQuiet}
+use Rattle.store_chain.specs.Giving.{Gives}
+use Rattle.store_chain.specs.Wants.{IsWanted}
+use Rattle.store_chain.specs.declared.refused.Refused.{Refused}
+use Rattle.store_chain.specs.declared.want.Want.{Want}
+
+if_some : {X : Type 0} (o : Option X) (P : X → Type 0) (x : X) → o ≡ Some x → IfSome o P → P x
+if_some o P x is has = subst (λ q. IfSome q P) is has
+
+-- no cache gives nothing
+pub none_given : (kind : DigestKind) (id : List ℕ) (size : ℕ) (cached : List (Map (List ℕ))) → cached_in None ≡ Some cached → SomeGives kind id size cached → ⊥
+none_given kind id size cached told gives =
+    let bad = subst (SomeGives kind id size) (sym (same_Some [] cached told)) gives in
+    let less : bad.0 < 0 = bad.2 in
+    omega (arith, less)
+
+-- a shelf that is told, and quiet, gives nothing that wasn't found on it
+unfound_never : (kind : DigestKind) (id : ChunkId) (size : ℕ) (old new : Shelf) (cached : List (Map (List ℕ))) → cached_in (Some old) ≡ Some cached
+    → Quiet old.faults new.faults → Unfound (chunk_of kind id size) old new → SomeGives kind id.0 size cached → ⊥
+unfound_never kind id size old new cached told quiet unfound gives =
+    let at = told_at old.files cached told in
+    let chunk = gives_one kind id.0 size (chunks at.0) (subst (SomeGives kind id.0 size) at.2 gives) in
+    let has : Gives (chunk_of kind id size) (chunks at.0) =
+    (chunk.0, chunk.1, record { named = chunk.2.named; sized = chunk.2.sized; fits = omega (arith, chunk.2.sized) }) in
+    quiet_never old.faults new.faults quiet
+    (if_some (held_on old) (λ m. Gives (chunk_of kind id size) m → Rose old.faults new.faults) (chunks at.0) (ap (option_map chunks) at.1) unfound has)
+
+module _ {F S : Type 0} (files : F → Option (Map (List ℕ))) (place : F → List ℕ) (count : F → ℕ) (holds : S → Option (Map (List ℕ))) (said : S → Said)
+    (faults : S → ℕ) (lacks : Bool) (asked queried : S → List ℕ → ℕ) (kind : DigestKind) (id : ChunkId) (size : ℕ) (old new : Behind F S) (out : List ℕ) where
+  abbrev w : Want
+  w = chunk_of kind id size
+
+  abbrev before : Shelf
+  before = shelf_of files place count old.shelf
+
+  abbrev after : Shelf
+  after = shelf_of files place count new.shelf
+
+  abbrev Ends : Result Got Refused → Type 0
+  Ends r = FromShelf files place count w old new r out ⊎ FromStores files place count holds said faults lacks asked queried w old new r out
+
+  module _ (cached maps : List (Map (List ℕ))) (told : cached_in (Some before) ≡ Some cached) (held : map holds old.chain.stores ≡ map Some maps)
+      (quiet : EachQuiet (map faults old.chain.stores) (map faults new.chain.stores)) where
+    from_shelf : (got : Got) → IsWanted w (take got.size out) → FromShelf files place count w old new (Ok got) out → SomeGives kind id.0 size cached
+    from_shelf got right from =
+        let at = told_at before.files cached told in
+        let is = if_some (held_on before) (λ m. m id.0 ≡ Some (take got.size out)) (chunks at.0) (ap (option_map chunks) at.1) from.answer.2 in
+        subst (SomeGives kind id.0 size) (sym at.2) (one_gives kind id.0 size (chunks at.0) (take got.size out, is, record { named = right.named; sized = right.sized }))
+
+    from_stores : (got : Got) → IsWanted w (take got.size out) → FromStores files place count holds said faults lacks asked queried w old new (Ok got) out
+        → SomeGives kind id.0 size maps
+    from_stores got right from = gives_some kind lacks id size maps (take got.size out) right (from.exactly maps held quiet)
+
+    pub had_through : (got : Got) → IsWanted w (take got.size out) → Ends (Ok got) → SomeGives kind id.0 size (cached ++ maps)
+    had_through got right (inl from) = gives_left kind id.0 size cached maps (from_shelf got right from)
+    had_through got right (inr from) = gives_right kind id.0 size cached maps (from_stores got right from)
+
+    module _ (still : Quiet before.faults after.faults) where
+      pub fetched_through : (got : Got) → got.upstream ≡ true → IsWanted w (take got.size out) → Ends (Ok got)
+          → ObtainedBy (source_behind kind id.0 size cached maps) old.chain new.chain (Ok fate.Fetched)
+      fetched_through got up right (inl from) = absurd (true≢false (sym up ∙ from.answer.0))
+      fetched_through got up right (inr from) =
+          by_store kind id.0 size cached maps old.chain new.chain (unfound_never kind id size before after cached told still from.unfound) from.asks.calls
+          (from_stores got right from)
+
+      pub cached_through : (got : Got) → got.upstream ≡ false → old.chain.asks < 2 ^ 64 → IsWanted w (take got.size out) → Ends (Ok got)
+          → ObtainedBy (source_behind kind id.0 size cached maps) old.chain new.chain (Ok fate.Cached)
+      cached_through got up below right (inl from) = by_cache kind id.0 size cached maps old.chain new.chain below from.chain (from_shelf got right from)
+      cached_through got up below right (inr from) = absurd (true≢false (sym from.added.0 ∙ up))
+
+      pub refused_through : (r : Refused) → Ends (Err r) → ObtainedBy (source_behind kind id.0 size cached maps) old.chain new.chain (Err r)
+      refused_through r (inl from) =
+          subst (λ (q : Refused). ObtainedBy (source_behind kind id.0 size cached maps) old.chain new.chain (Err q)) (sym from.answer)
+          (by_want kind id.0 size cached maps old.chain new.chain)
+      refused_through r (inr from) =
+          by_none kind id.0 size cached maps old.chain new.chain (unfound_never kind id size before after cached told still from.unfound) from.asks.calls r
+          (lacked_memory kind id size maps r
+          (λ s is. quiet_never (slice_index (map faults old.chain.stores) s) (slice_index (map faults new.chain.stores) s) (quiet s) (from.cause s (ap (λ (q : Refused). Err q) is)))
+          (from.first maps held))
+
+-- what was wanted is the chunk
+pub takes_wanted : {S : Type 0} (holds : S → Option (Map (List ℕ))) (kind : DigestKind) (id : ChunkId) (size : ℕ) (stores : List S) (q b : List ℕ)
+    → (q ≡ id.0) × IsWanted (chunk_of kind id size) b × SomeHolds holds stores q b → TakesChunk holds kind id.0 size stores q b
+takes_wanted holds kind id size stores q b (same, right, held) =
+    (same, record { named = right.named; sized = right.sized }, subst (λ (p : List ℕ). SomeHolds holds stores p b) same held)

@@ -1,0 +1,60 @@
+-- What a chain gives, as what the assembly asks of it.
+use Rattle.std.proofs.Common.{◌≡◌, ℕ, ◌<◌, zero, suc, List, [], ◌∷◌, length, take, Option, Some, None, IfSome, IfErr, OnOk, Result, Ok, Err, Bool, IsTrue, refl, sym, ap, ◌∙◌, subst, arith}
+use Rattle.std.proofs.lemmas.List.{length-take, take_all}
+use Rattle.std.specs.List.{Any}
+use Rattle.chunk_sources.specs.Losses.{chunk_of}
+use Rattle.chunk_store.specs.Giving.{GivesChunk}
+use Rattle.chunk_store.specs.Names.{name_of}
+use Rattle.chunk_store.specs.declared.id.ChunkId.{ChunkId}
+use Rattle.chunk_store.specs.declared.id.DigestKind.{DigestKind}
+use Rattle.dsy_base.specs.Maps.{Map}
+use Rattle.store_chain.specs.Giving.{Gives, GivesFirst}
+use Rattle.store_chain.specs.Lists.{FirstAt}
+use Rattle.store_chain.specs.Wants.{IsGiven, IsWanted, want_of}
+use Rattle.cache_store.specs.Giving.{SomeGives}
+
+any_of_first : {X : Type 0} (B A C P : X → Type 0) → ((x : X) → A x → P x) → (n : ℕ) (xs : List X) → FirstAt B A C n xs → Any P xs
+any_of_first B A C P a n [] h = absurd h
+any_of_first B A C P a zero (x ∷ xs) h = (0, x, omega arith, refl, a x h.0)
+any_of_first B A C P a (suc n) (x ∷ xs) h =
+    let rest = any_of_first B A C P a n xs h.1 in
+    let less : rest.0 < length xs = rest.2 in
+    (suc rest.0, rest.1, omega arith, rest.3, rest.4)
+
+-- the first store that gives is one that gives
+pub gives_some : (kind : DigestKind) (lacks_memory : Bool) (id : ChunkId) (size : ℕ) (maps : List (Map (List ℕ))) (b : List ℕ) → IsWanted (chunk_of kind id size) b
+    → GivesFirst lacks_memory (chunk_of kind id size) maps b → SomeGives kind id.0 size maps
+gives_some kind lacks_memory id size maps b right h =
+    any_of_first (λ m. Gives (chunk_of kind id size) m → IsTrue lacks_memory) (λ m. m id.0 ≡ Some b) (λ m. Unit {0}) (λ m. GivesChunk kind id.0 size (m id.0))
+    (λ m held. (b, held, record { named = right.named; sized = right.sized })) h.0 maps h.1
+
+-- so it is of what the index names
+pub gives_named : (kind named : DigestKind) (lacks_memory : Bool) (id : ChunkId) (n size : ℕ) (maps : List (Map (List ℕ))) (b : List ℕ) → kind ≡ named → n ≡ size
+    → IsWanted (chunk_of kind id n) b → GivesFirst lacks_memory (chunk_of kind id n) maps b → SomeGives named id.0 size maps
+gives_named kind named lacks_memory id n size maps b same sized right h =
+    subst (λ (k : DigestKind). SomeGives k id.0 size maps) same
+    (subst (λ (m : ℕ). SomeGives kind id.0 m maps) sized (gives_some kind lacks_memory id n maps b right h))
+
+-- a chunk that fills its room is all of it
+pub given_whole : (kind named : DigestKind) (id : ChunkId) (n size : ℕ) (out : List ℕ) → kind ≡ named → length out ≡ size → IsGiven (want_of kind id (Some size) size) n out
+    → name_of named out ≡ id.0
+given_whole kind named id n size out same whole given =
+    let sized : length (take n out) ≡ size = given.wanted.sized in
+    let all : take n out ≡ out = take_all n out (omega (arith, sized, whole, length-take n out)) in
+    ap (λ k. name_of k out) (sym same) ∙ ap (name_of kind) (sym all) ∙ given.wanted.named
+
+pub always : {X : Type 0} (x : Option X) (P : Type 0) → P → IfSome x (λ t. P)
+always None P holds = tt
+always (Some t) P holds = holds
+
+-- what is known of the kind and size that were asked for is known of those that are sought
+pub sized_as : (P : DigestKind → ℕ → Type 0) (kind named : DigestKind) (n size : ℕ) → kind ≡ named → n ≡ size → P kind n → P named size
+sized_as P kind named n size same sized has = subst (λ (k : DigestKind). P k size) same (subst (λ (m : ℕ). P kind m) sized has)
+
+pub ok_more : {A E P Q : Type 0} (r : Result A E) → (P → Q) → OnOk r P → OnOk r Q
+ok_more (Ok x) f p = f p
+ok_more (Err e) f p = tt
+
+pub err_more : {A E : Type 0} {P Q : E → Type 0} (r : Result A E) → ((e : E) → P e → Q e) → IfErr r P → IfErr r Q
+err_more (Ok x) f p = tt
+err_more (Err e) f p = f e p

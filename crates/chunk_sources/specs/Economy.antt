@@ -1,0 +1,114 @@
+-- Where a chunk comes from where nothing fails, and what that costs.
+use Rattle.std.specs.Prelude.{◌≡◌, ◌≢◌, ◌⊎◌, ◌&&◌, ◌==◌, ℕ, List, length, nat_le, slice_index_or, Bool}
+use Rattle.std.specs.Prelude.{true, false, if◌then◌else◌, Option, Some, None, Result, Ok, Err}
+use Rattle.std.specs.List.{list_any}
+use Rattle.std.specs.Str.{bytes_eq}
+use Rattle.caibx_codec.specs.Listing.{Listing, kind_of, size_of}
+use Rattle.chunk_store.specs.Names.{name_of}
+use Rattle.chunk_store.specs.declared.id.DigestKind.{DigestKind}
+use Rattle.chunk_store.specs.declared.id.DigestKind.TheVariants.{Sha512T256}
+use Rattle.dsy_base.specs.Bytes.{Held}
+use Rattle.dsy_base.specs.Counts.{raised}
+use Rattle.dsy_base.specs.Maps.{Map}
+use Rattle.extract_plan.specs.Deal.{first_of, of_want, want_id, Deal}
+use Rattle.extract_plan.specs.Places.{Placed, places_at}
+use Rattle.extract_plan.specs.Seeds.{bytes_at, place_end}
+use Rattle.extract_plan.specs.declared.seed.SeedPlace.{SeedPlace}
+use Rattle.range_survey.specs.Fates.{is_right_at}
+use Rattle.range_survey.specs.declared.fate.Fate.{Fate}
+use Rattle.range_survey.specs.declared.fate.Fate.TheVariants as fate
+use Rattle.store_chain.specs.Chains.{Chained}
+use Rattle.store_chain.specs.declared.refused.Refused.{Refused}
+use Rattle.store_chain.specs.declared.refused.Refused.TheVariants as refused
+
+-- ---- which source gives a chunk
+
+-- whether these bytes have the id at the place
+abbrev pub told_at : Option (List ℕ) → SeedPlace → List ℕ → Bool
+told_at None p id = false
+told_at (Some t) p id = bytes_eq (name_of Sha512T256 (bytes_at p t)) id
+
+-- whether a view that holds this gives the id from the place
+abbrev pub given_at : Option Held → SeedPlace → List ℕ → Bool
+given_at None p id = false
+given_at (Some h) p id = nat_le (place_end p) h.size && told_at h.bytes p id
+
+-- whether one of the seeds does, whose views hold this, from one of the places
+abbrev pub seeds_give : List (Option Held) → List SeedPlace → List ℕ → Bool
+seeds_give views places id = list_any (λ p. given_at (slice_index_or views p.seed None) p id) places
+
+-- whether what a store holds is the chunk of this id and size
+abbrev pub is_chunk : DigestKind → List ℕ → ℕ → Option (List ℕ) → Bool
+is_chunk kind id size None = false
+is_chunk kind id size (Some b) = bytes_eq (name_of kind b) id && length b == size
+
+-- whether the cache or one of the stores gives it, which hold these maps
+abbrev pub stores_give : DigestKind → List ℕ → ℕ → List (Map (List ℕ)) → Bool
+stores_give kind id size maps = list_any (λ m. is_chunk kind id size (m id)) maps
+
+-- which of cache and stores does, which hold these maps: Open where none of them gives it
+abbrev pub source_behind : DigestKind → List ℕ → ℕ → List (Map (List ℕ)) → List (Map (List ℕ)) → Fate
+source_behind kind id size cached maps =
+    if stores_give kind id size cached then fate.Cached
+    else if stores_give kind id size maps then fate.Fetched
+    else fate.Open
+
+-- where a chunk comes from: one of its entries that is right already, or else a seed, or else the cache, or else a
+-- store; Open where no source gives it
+abbrev pub source_among : (ℕ → Bool) → List ℕ → List (Option Held) → List SeedPlace → DigestKind → List ℕ → ℕ
+    → List (Map (List ℕ)) → List (Map (List ℕ)) → Fate
+source_among is_right entries views places kind id size cached maps =
+    if list_any is_right entries then fate.Kept
+    else if seeds_give views places id then fate.Seeded
+    else source_behind kind id size cached maps
+
+-- where the chunk of want w does
+abbrev pub source_over : Listing → Deal → Placed → (ℕ → Bool) → List (Option Held) → List (Map (List ℕ))
+    → List (Map (List ℕ)) → ℕ → Fate
+source_over l d x is_right views cached maps w = source_among is_right (of_want d w) views (places_at x w) (kind_of l)
+    (want_id l d w) (size_of l (first_of d w)) cached maps
+
+-- over the base of an extraction
+abbrev pub source_of : Listing → Deal → Placed → List ℕ → List (Option Held) → List (Map (List ℕ)) → List (Map (List ℕ))
+    → ℕ → Fate
+source_of l d x base views cached maps w = source_over l d x (is_right_at l base) views cached maps w
+
+-- ---- what that costs
+
+-- how often one pass asks the stores for a chunk with this source
+abbrev pub pass_asks : Fate → ℕ
+pass_asks fate.Open = 1
+pass_asks fate.Kept = 0
+pass_asks fate.Copied = 0
+pass_asks fate.Seeded = 0
+pass_asks fate.Cached = 0
+pass_asks fate.Fetched = 1
+
+-- the fate of an entry that a chunk with this source makes right: what is right already is copied
+abbrev pub origin_of : Fate → Fate
+origin_of fate.Open = fate.Open
+origin_of fate.Kept = fate.Copied
+origin_of fate.Copied = fate.Copied
+origin_of fate.Seeded = fate.Seeded
+origin_of fate.Cached = fate.Cached
+origin_of fate.Fetched = fate.Fetched
+
+-- the fates of entries that were made right
+abbrev pub is_made : Fate → Bool
+is_made fate.Open = false
+is_made fate.Kept = false
+is_made fate.Copied = true
+is_made fate.Seeded = true
+is_made fate.Cached = true
+is_made fate.Fetched = true
+
+-- what is answered for a chunk with this source, where nothing fails. Want of memory is free
+abbrev pub AnsweredBy : Fate → Result Fate Refused → Type 0
+AnsweredBy source (Ok f) = f ≡ origin_of source
+AnsweredBy source (Err r) = (r ≡ refused.Memory) ⊎ (source ≡ fate.Open)
+
+module _ {S : Type 0} where
+  -- a chunk with this source was got, and the chain was asked as often as that takes
+  abbrev pub ObtainedBy : Fate → Chained S → Chained S → Result Fate Refused → Type 0
+  ObtainedBy source old new r =
+      (r ≢ Err refused.Memory → new.asks ≡ raised old.asks (pass_asks source)) × AnsweredBy source r

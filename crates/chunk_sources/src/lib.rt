@@ -1,0 +1,9 @@
+//! From where the bytes of a chunk are had: entries of the target that are right already, seeds, a cache and a chain of
+//! stores.
+#![tactic(auto)]
+
+mod copy;
+pub mod kit;
+pub mod obtain;
+mod seeding;
+mod upstream;

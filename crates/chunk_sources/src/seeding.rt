@@ -1,0 +1,61 @@
+//! Chunks from seeds. Seeds count from 0.
+
+ghost use Rattle.std.specs.Prelude.{◌≡◌, ◌<◌, IsTrue, length, map, slice_index, true, false};
+ghost use Rattle.chunk_sources.specs.Sources.{HeldAt, SeedsFailed, SeedsGive};
+ghost use Rattle.chunk_store.specs.Names.{name_of};
+ghost use Rattle.chunk_store.specs.declared.id.DigestKind.TheVariants as kinds;
+ghost use Rattle.dsy_base.specs.Counts.{Rose};
+ghost use Rattle.extract_plan.specs.Places.{PlacesFit};
+ghost use Rattle.extract_plan.specs.Seeds.{faults_in, held_in};
+ghost use Rattle.store_chain.specs.Faults.{NoneFalls};
+
+use chunk_store::id::ChunkId;
+use dsy_base::view::View;
+use extract_plan::seed::{Seed, SeedAnswer, SeedPlace, seed_gives};
+
+// Asks the seed of one place for the chunk of this id. Whether it gave it.
+fn from_seed<V: View>(
+    place: &SeedPlace,
+    seeds: &mut [Seed<V>],
+    id: &ChunkId,
+    chunk: &mut [u8],
+) -> bool
+    requires seed { place.now.seed < length seeds.old }
+    requires size { place.now.size ≡ length chunk.old }
+    ensures ok { result ≡ true → name_of kinds.Sha512T256 chunk.new ≡ id.now.0 }
+    ensures found { result ≡ true → IsTrue V.tells → HeldAt (map (held_in V.held) seeds.old) place.now id.now.0 }
+    ensures absent { result ≡ false → HeldAt (map (held_in V.held) seeds.old) place.now id.now.0 → Rose
+        (slice_index (map (faults_in V.faults) seeds.old) place.now.seed)
+        (slice_index (map (faults_in V.faults) seeds.new) place.now.seed) }
+    ensures kept { map (held_in V.held) seeds.new ≡ map (held_in V.held) seeds.old }
+    ensures faults { NoneFalls (map (faults_in V.faults) seeds.old) (map (faults_in V.faults) seeds.new) }
+{
+    match seed_gives(&mut seeds[place.seed as usize], place, id, chunk) {
+        SeedAnswer::Given => true,
+        SeedAnswer::Wrong | SeedAnswer::Failed => false,
+    }
+}
+
+/// Fills `chunk` with the chunk of this id from the first of the places that gives it. Whether one did. What a seed
+/// gives is named before it is used.
+pub(crate) fn from_seeds<V: View>(
+    places: &[SeedPlace],
+    seeds: &mut [Seed<V>],
+    id: &ChunkId,
+    chunk: &mut [u8],
+) -> bool
+    requires { PlacesFit (length seeds.old) (length chunk.old) places.now }
+    ensures ok { result ≡ true → name_of kinds.Sha512T256 chunk.new ≡ id.now.0 }
+    ensures found { result ≡ true → IsTrue V.tells → SeedsGive (map (held_in V.held) seeds.old) places.now id.now.0 }
+    ensures absent { result ≡ false → SeedsFailed (map (held_in V.held) seeds.old) places.now id.now.0
+        (map (faults_in V.faults) seeds.old) (map (faults_in V.faults) seeds.new) }
+    ensures kept { map (held_in V.held) seeds.new ≡ map (held_in V.held) seeds.old }
+    ensures faults { NoneFalls (map (faults_in V.faults) seeds.old) (map (faults_in V.faults) seeds.new) }
+{
+    for place in places {
+        if from_seed(place, seeds, id, chunk) {
+            return true;
+        }
+    }
+    false
+}
