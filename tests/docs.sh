@@ -1,7 +1,8 @@
 #!/bin/bash
-# What must never stand in the repository, and what must: tags and names of planning papers, paths of one
-# machine, files and lines that are too long, crates that crates.txt or a document leaves out, what a document names that
-# isn't there (crates, labels of clauses, definitions and functions), and edits that don't fit the code that they change.
+# What must never stand in the repository, and what must: tags and names of planning papers, paths of one machine,
+# files, lines and crates that are too long, crates that crates.txt or a document leaves out or names in vain, what a
+# document names that isn't there (crates, labels of clauses, definitions and functions), and edits that don't fit the
+# code that they change.
 cd "$(dirname "$0")/.." || exit 1
 passed=0
 failed=0
@@ -49,10 +50,12 @@ check 'names of planning papers' "$(lines '\<(scope|promises|roadmap|formats|set
 check 'paths of one machine' "$(lines '(^|[^A-Za-z0-9_.~-])/(opt|work|root)[/]')"
 check 'files of more than 800 lines' "$(files | xargs -0 -r wc -l 2> /dev/null |
     awk '$2 ~ /^(\.\/)?crates\// && $1 > 800')"
+check 'crates of more than 1,500 lines' "$(python3 tests/names.py long)"
 check 'lines of more than 120 columns' "$(wide)"
 check 'files that are built' "$(files | tr '\0' '\n' | grep -E '(^|/)(out|bin|__pycache__)/')"
 check 'crates that crates.txt leaves out' "$(comm -23 <(crates | sort) <(listed | sort))"
 check 'crates of crates.txt that are not there' "$(comm -13 <(crates | sort) <(listed | sort))"
+check 'crates that crates.txt names in vain' "$(python3 tests/names.py vain)"
 check 'crates that a document leaves out' "$(python3 tests/names.py crates)"
 check 'labels and crates of docs/PROMISES.md that are not there' "$(python3 tests/names.py labels)"
 check 'labels of clauses that CONTRIBUTING.md does not list' "$(python3 tests/names.py list)"

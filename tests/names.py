@@ -1,5 +1,6 @@
 #!/usr/bin/env python3
-"""What the documents name and the repository lacks, a line each, and labels of clauses that no list has.
+"""What the documents name and the repository lacks, a line each, labels of clauses that no list has, and what is too
+much in crates.txt or in a crate.
 
 A crate is one of crates.txt. A label is the name of a clause (`ensures LABEL { .. }`); docs/PROMISES.md names them after
 a function and a colon, in a section whose heading has the crates in brackets. Other words in backquotes are names where
@@ -13,7 +14,8 @@ import sys
 TOP = os.path.dirname(os.path.dirname(os.path.abspath(__file__)))
 PROMISES, CONTRIBUTING = 'docs/PROMISES.md', 'CONTRIBUTING.md'
 CLAUSE = re.compile(r'^\s*(?:ensures|requires)\*? (\w+) \{')
-FUNCTION = re.compile(r'\s*(?:pub )?fn ')
+FUNCTION = re.compile(r'\s*(?:pub(?:\(\w+\))? )?fn ')
+MOST_LINES = 1500
 NAME = re.compile(r'[a-z][a-z0-9]*(?:_[a-z0-9]+)+|[A-Z][a-z0-9]+(?:[A-Z][a-z0-9]*)+')
 
 
@@ -50,7 +52,7 @@ def labels_in(source, private):
         if line.startswith(('pub trait', '}')):
             in_trait = line.startswith('pub trait')
         if FUNCTION.match(line):
-            public = in_trait or line.lstrip().startswith('pub ')
+            public = in_trait or line.lstrip().startswith('pub fn ')
         if public or private:
             yield from CLAUSE.findall(line)
 
@@ -114,8 +116,28 @@ def crates_that_no_table_has():
                 yield f'{path}: no {crate}'
 
 
+def crates_named_in_vain():
+    for line in text_of('crates.txt').split('\n'):
+        crate, _, below = line.partition(':')
+        if crate in crates():
+            paths = [path for part in ('src', 'specs', 'proofs')
+                     for path in files(f'crates/{crate}/{part}', endings=('.rt', '.antt'))]
+            used = set(re.findall(r'\b(\w+)::|Rattle\.(\w+)\.', '\n'.join(text_of(path) for path in paths)))
+            for name in sorted(set(below.split()) - {name for pair in used for name in pair}):
+                yield f'crates.txt: {crate} uses nothing of {name}'
+
+
+def crates_that_are_too_long():
+    """Those of tests aside, which nothing stands on."""
+    for crate in crates():
+        paths = [*files(f'crates/{crate}/src', endings='.rt'), *files(f'crates/{crate}/specs', endings='.antt')]
+        lines = sum(text_of(path).count('\n') for path in paths)
+        if MOST_LINES < lines and not crate.endswith('_cases'):
+            yield f'{crate}: {lines} lines'
+
+
 QUESTIONS = {'labels': labels_that_are_not_there, 'list': labels_that_are_not_listed, 'names': names_that_are_not_there,
-             'crates': crates_that_no_table_has}
+             'crates': crates_that_no_table_has, 'vain': crates_named_in_vain, 'long': crates_that_are_too_long}
 
 if __name__ == '__main__':
     print('\n'.join(QUESTIONS[sys.argv[1]]()))
