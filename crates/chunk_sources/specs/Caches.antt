@@ -1,4 +1,4 @@
--- The cache of an assembly, where there is one.
+-- The cache among the sources, where there is one.
 use Rattle.std.specs.Prelude.{◌≡◌, ℕ, ◌<◌, List, [], ◌∷◌, ◌++◌, Option, Some, None, IsSome}
 use Rattle.std.specs.Option.{option_map}
 use Rattle.cache_store.specs.Giving.{GiveOneSize, SomeGives, SomeHolds}

@@ -1,4 +1,4 @@
-//! What an assembly works with.
+//! What chunks are had with.
 
 ghost use Rattle.std.specs.Prelude.{◌≡◌, []};
 

@@ -1,4 +1,4 @@
--- Reading the body of a reply byte by byte, up to the first fault (RFC 9112, sections 6.3, 7.1 and 8). The limits are
+-- Reading the body of a message byte by byte, up to the first fault (RFC 9112, sections 6.3, 7.1 and 8). The limits are
 -- this project's own.
 use Rattle.std.specs.Prelude.{ℕ, ◌+◌, ◌-◌, List, [], ◌∷◌, ◌++◌, length, Result, Ok, Err, nat_lt, nat_le, ◌==◌}
 use Rattle.std.specs.Prelude.{if◌then◌else◌, Bool, true, false, Option, Some, None}

@@ -1,4 +1,4 @@
-//! Which body follows the head of a reply (RFC 9112, section 6.3).
+//! Which body follows the head of a message (RFC 9112, section 6.3).
 
 /// How long a body is, in bytes.
 #[derive(Clone, Copy, Debug, PartialEq, Eq)]

@@ -1,6 +1,6 @@
-//! Why no reply was read.
+//! Why no message was read.
 
-/// Why a reply, or its body, wasn't read.
+/// Why the head of a reply, or a body, wasn't read.
 #[derive(Clone, Copy, Debug, PartialEq, Eq)]
 pub enum WireFault {
     /// The first 16,384 bytes have no head end. Who receives the bytes answers it, and no call of this crate.

@@ -1,4 +1,4 @@
-//! A reader of the body of a reply (RFC 9112, sections 6.3, 7.1 and 8). Everything is counted in bytes.
+//! A reader of the body of a message (RFC 9112, sections 6.3, 7.1 and 8). Everything is counted in bytes.
 
 ghost use Rattle.std.specs.Prelude.{◌≡◌, ℕ, ◌≤◌, List, [], ◌++◌, length, Err, IsOk, IfOk, IfErr, false};
 ghost use Rattle.http_frames.specs.Body.{is_whole};
