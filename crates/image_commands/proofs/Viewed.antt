@@ -1,5 +1,5 @@
 -- The views of one file.
-use Rattle.std.proofs.Common.{◌≡◌, ◌∙◌, ℕ, zero, suc, ◌<◌, ◌≤◌, IsSome, Bool, true, false, IsTrue, List, [], ◌∷◌, ◌++◌, length, map, slice_index, slice_index_or, All, Option, Some, None, Result, IfSome, is_some, ap, arith, refl, sym, subst, true≢false, inl, inr, length-append}
+use Rattle.std.proofs.Common.{◌≡◌, ◌∙◌, ℕ, zero, suc, ◌+◌, ◌<◌, ◌≤◌, IsSome, Bool, true, false, IsTrue, List, [], ◌∷◌, ◌++◌, length, map, slice_index, slice_index_or, All, Option, Some, None, Result, IfSome, is_some, ap, arith, refl, sym, subst, true≢false, inl, inr, length-append}
 use Rattle.std.proofs.lemmas.List.{append_assoc, get_or-map, get_or_append_left, length-map}
 use Rattle.std.proofs.lemmas.List.Elements.{All-append, All-map}
 use Rattle.buzhash_cut.specs.Image.{AreOfOneImage, HasTooManyCuts}
@@ -75,6 +75,10 @@ all_tell tells other held told up down vs = All-map (λ h. is_some h.bytes ≡ t
 pub some_grow : {X : Type 0} (P : X → Type 0) (old new : List X) → GrowsBy P old new → 0 < length old → 0 < length new
 some_grow P old new (inl same) some = omega (arith, ap length same, some)
 some_grow P old new (inr (x, is, holds)) some = omega (arith, ap length is, length-append old (x ∷ []), some)
+
+pub few_grow : {X : Type 0} (P : X → Type 0) (old new : List X) → GrowsBy P old new → length new ≤ length old + 1
+few_grow P old new (inl same) = omega (arith, ap length same)
+few_grow P old new (inr (x, is, holds)) = omega (arith, ap length is, length-append old (x ∷ []))
 
 -- what was opened leaves of a disk
 pub opened_read : (d e : Disk) (q : List ℕ) → HoldsSame d e → OnFile d e q → Reads d e

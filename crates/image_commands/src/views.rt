@@ -1,6 +1,6 @@
 //! The views of an image that is cut: as many as there are workers.
 
-ghost use Rattle.std.specs.Prelude.{◌≡◌, ℕ, ◌<◌, ◌≤◌, List, map, vec_len, All, Option, IfOk, IfErr, IsSome};
+ghost use Rattle.std.specs.Prelude.{◌≡◌, ℕ, ◌<◌, ◌≤◌, List, map, max, vec_len, All, Option, IfOk, IfErr, IsSome};
 ghost use Rattle.std.specs.Map.{count_at};
 ghost use Rattle.buzhash_cut.specs.Image.{AreOfOneImage};
 ghost use Rattle.command_steps.specs.Openings.{Holds, NotOpened};
@@ -44,6 +44,7 @@ pub fn open_views<F: ImageFiles>(
     count: u32,
 ) -> Result<Vec<F::View>, Outcome>
     ensures some { IfOk result (λ vs. 0 < vec_len vs) }
+    ensures few { IfOk result (λ vs. vec_len vs ≤ max 1 count) }
     ensures bytes { IfOk result (λ vs. (told : Option (List ℕ)) × Holds (F.disk files.old) image told
         × AreOf image told (map F.View.held vs.items)) }
     ensures alike { IfOk result (λ vs. AreOfOneImage (map F.View.held vs.items)) }
@@ -63,7 +64,7 @@ pub fn open_views<F: ImageFiles>(
         files.end_view(refused.value);
         return Err(Outcome::Memory);
     }
-    for _ in 1..count {
+    for _opened in 1..count {
         add_view(files, image.as_str(), size, &mut views);
     }
     Ok(views)

@@ -2,11 +2,11 @@ use Rattle.std.proofs.Common.{◌≡◌, ℕ, List, [], IsSome, slice_index_or, 
 use Rattle.std.proofs.lemmas.List.Elements.{All-map}
 use Rattle.command_steps.proofs.Consulted.{reads_twice}
 use Rattle.image_commands.specs.Views.{IsViewOf}
-use Rattle.image_commands.proofs.Viewed.{all_grow, all_tell, alike, grows_as, long_enough, of_one, opened_read, some_grow, view_earlier}
+use Rattle.image_commands.proofs.Viewed.{all_grow, all_tell, alike, few_grow, grows_as, long_enough, of_one, opened_read, some_grow, view_earlier}
 use Rattle.image_commands.proofs.views.open_views.Goals as goal
 
-pub loop-init : goal.loop-init
-loop-init g c =
+pub loop-opened-init : goal.loop-opened-init
+loop-opened-init g c =
     let d = g.F.Files.disk c.args.files.now in
     let held = g.F.View.View.held in
     let q = c.args.image in
@@ -21,28 +21,32 @@ loop-init g c =
     ) in
     record {
       some = search rules;
+      few = search rules;
+      counted = omega arith;
       opened = all_grow (λ v. (g.F.View.View.faults v ≡ 0) × IsViewOf d q c.size-size.result (held v)) [] c.push.new.self.items (inr (_, search rules, opened)) (λ k e lt. absurd (omega (arith, lt)));
       reads = opened_read d (g.F.Files.disk c.view.new.self) q found.kept (rw c.as_str.ensures at found.counts);
       known = all_grow (λ v. IsSome ((g.F.Files.disk c.view.new.self).file_counts (held v).name)) [] c.push.new.self.items (inr (_, search rules, subst (λ (n : List ℕ). IsSome ((g.F.Files.disk c.view.new.self).file_counts n)) (sym found.fresh.1) found.known)) (λ k e lt. absurd (omega (arith, lt)));
     }
 
-pub loop-preserved : goal.loop-preserved
-loop-preserved g c =
+pub loop-opened-preserved : goal.loop-opened-preserved
+loop-opened-preserved g c =
     let d = g.F.Files.disk c.args.files.now in
-    let b = g.F.Files.disk c.loop.files in
+    let b = g.F.Files.disk c.loop-opened.files in
     let held = g.F.View.View.held in
     let q = c.args.image in
-    let inv = c.loop.invariant in
-    let added = rw c.as_str-in-loop.ensures at c.add_view.ensures.changed in
-    let grows = grows_as _ (λ v. (g.F.View.View.faults v ≡ 0) × IsViewOf d q c.size-size.result (held v)) c.loop.views.items c.add_view.new.views.items
+    let inv = c.loop-opened.invariant in
+    let added = rw c.as_str-in-loop-opened.ensures at c.add_view.ensures.changed in
+    let grows = grows_as _ (λ v. (g.F.View.View.faults v ≡ 0) × IsViewOf d q c.size-size.result (held v)) c.loop-opened.views.items c.add_view.new.views.items
     (λ v is. (is.0, view_earlier d b q c.size-size.result (held v) inv.reads.files is.1)) added in
-    let known = grows_as _ (λ v. IsSome ((g.F.Files.disk c.add_view.new.files).file_counts (held v).name)) c.loop.views.items c.add_view.new.views.items
+    let known = grows_as _ (λ v. IsSome ((g.F.Files.disk c.add_view.new.files).file_counts (held v).name)) c.loop-opened.views.items c.add_view.new.views.items
     (λ v is. subst (λ (n : List ℕ). IsSome ((g.F.Files.disk c.add_view.new.files).file_counts n)) (sym is.1.name) is.2) added in
     record {
-      some = omega (arith, some_grow _ c.loop.views.items c.add_view.new.views.items added (omega (arith, inv.some)));
-      opened = all_grow _ c.loop.views.items c.add_view.new.views.items grows inv.opened;
+      some = omega (arith, some_grow _ c.loop-opened.views.items c.add_view.new.views.items added (omega (arith, inv.some)));
+      few = omega (arith, inv.few, few_grow _ c.loop-opened.views.items c.add_view.new.views.items added);
+      counted = omega (arith, c.loop-opened-test.true);
+      opened = all_grow _ c.loop-opened.views.items c.add_view.new.views.items grows inv.opened;
       reads = reads_twice d b (g.F.Files.disk c.add_view.new.files) inv.reads c.add_view.ensures.kept;
-      known = all_grow _ c.loop.views.items c.add_view.new.views.items known (λ k e lt. c.add_view.ensures.kept.known (held (slice_index_or c.loop.views.items k e)).name (inv.known k e lt));
+      known = all_grow _ c.loop-opened.views.items c.add_view.new.views.items known (λ k e lt. c.add_view.ensures.kept.known (held (slice_index_or c.loop-opened.views.items k e)).name (inv.known k e lt));
     }
 
 pub returns-clause-bytes : goal.returns-clause-bytes
@@ -50,17 +54,20 @@ returns-clause-bytes g c =
     let d = g.F.Files.disk c.args.files.now in
     let held = g.F.View.View.held in
     let tells = g.F.Files.tells in
-    let xs = c.loop.views.items in
-    of_one d c.args.image c.size-size.result tells (g.met.F.Files.told c.args.files.now).0 (map held xs) (long_enough held xs (omega (arith, c.loop.invariant.some)))
+    let xs = c.loop-opened.views.items in
+    of_one d c.args.image c.size-size.result tells (g.met.F.Files.told c.args.files.now).0 (map held xs) (long_enough held xs (omega (arith, c.loop-opened.invariant.some)))
     (all_tell tells g.F.View.View.tells held g.met.F.View.View.told (λ t. (g.met.F.Files.alike.0 t).0) g.met.F.ImageFiles.untold xs)
-    (All-map (IsViewOf d c.args.image c.size-size.result) held xs (λ k e lt. (c.loop.invariant.opened k e lt).1))
+    (All-map (IsViewOf d c.args.image c.size-size.result) held xs (λ k e lt. (c.loop-opened.invariant.opened k e lt).1))
 
 pub returns-clause-alike : goal.returns-clause-alike
 returns-clause-alike g c =
     let d = g.F.Files.disk c.args.files.now in
     let held = g.F.View.View.held in
     let tells = g.F.Files.tells in
-    let xs = c.loop.views.items in
+    let xs = c.loop-opened.views.items in
     alike d c.args.image c.size-size.result tells (g.met.F.Files.told c.args.files.now).0 (map held xs)
     (all_tell tells g.F.View.View.tells held g.met.F.View.View.told (λ t. (g.met.F.Files.alike.0 t).0) g.met.F.ImageFiles.untold xs)
-    (All-map (IsViewOf d c.args.image c.size-size.result) held xs (λ k e lt. (c.loop.invariant.opened k e lt).1))
+    (All-map (IsViewOf d c.args.image c.size-size.result) held xs (λ k e lt. (c.loop-opened.invariant.opened k e lt).1))
+
+pub returns-clause-few : goal.returns-clause-few
+returns-clause-few g c = omega (arith, c.loop-opened.invariant.few, c.loop-opened.invariant.counted)
