@@ -25,4 +25,6 @@ mod ranges;
 #[cfg(test)]
 mod shelf_tests;
 #[cfg(test)]
+mod split_tests;
+#[cfg(test)]
 mod sure_tests;

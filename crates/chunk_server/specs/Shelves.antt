@@ -1,5 +1,5 @@
 -- What contracts see of a shelf, and how its answers change that.
-use Rattle.std.specs.Prelude.{◌≡◌, ℕ, ◌≤◌, ◌⊎◌, List, [], length, false, Option, Some, None, IfSome}
+use Rattle.std.specs.Prelude.{◌≡◌, ◌≢◌, ℕ, ◌≤◌, ◌⊎◌, List, [], length, false, Option, Some, None, IfSome}
 use Rattle.std.specs.Option.{option_map}
 use Rattle.chunk_store.specs.Names.{name_of}
 use Rattle.chunk_store.specs.declared.id.DigestKind.{DigestKind}
@@ -77,3 +77,11 @@ IsAnswer kind (act.Head id) r = GivesLength r ⊎ IsBare r
 IsAnswer kind (act.Put id) r = (r ≡ bare 200) ⊎ IsBare r
 IsAnswer kind act.Lost r = r ≡ bare 404
 IsAnswer kind (act.Refuse status) r = r ≡ bare status
+
+-- bytes of another name than the id aren't put, whatever the folder does
+abbrev pub Refuses : DigestKind → Act → List ℕ → Answer → Type 0
+Refuses kind (act.Put id) body r = name_of kind body ≢ id.0 → r ≡ bare 400
+Refuses kind (act.Get id) body r = Unit {0}
+Refuses kind (act.Head id) body r = Unit {0}
+Refuses kind act.Lost body r = Unit {0}
+Refuses kind (act.Refuse status) body r = Unit {0}

@@ -33,3 +33,7 @@ abbrev pub Moves : Option Stream → Option Stream → List ℕ → List ℕ →
 Moves (Some s) new before after =
     (k : ℕ) × (k ≤ length s.left) × (after ≡ before ++ take k s.left) × (new ≡ Some (skips k s))
 Moves None new before after = Unit {0}
+
+-- all that the peer gives, what was received and what is to come
+abbrev pub given_in : Option Traffic → Option (List ℕ)
+given_in traffic = option_map (λ t. t.received ++ t.coming) traffic

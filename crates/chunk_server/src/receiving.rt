@@ -4,7 +4,7 @@ ghost use Rattle.std.specs.Prelude.{◌≡◌, ℕ, ◌<◌, ◌≤◌, List, []
 ghost use Rattle.std.specs.Prelude.{Ok, OnOk, Some};
 ghost use Rattle.chunk_server.specs.Requests.{HasNone, Heads, IsHead, IsInside, IsNext, asked_in, body_size, endless};
 ghost use Rattle.chunk_server.specs.Requests.{head_limit};
-ghost use Rattle.chunk_server.specs.Streams.{Moves, sent_in, skips, stream_in};
+ghost use Rattle.chunk_server.specs.Streams.{Moves, given_in, sent_in, skips, stream_in};
 ghost use Rattle.dsy_base.specs.Counts.{CountsFaults};
 ghost use Rattle.http_frames.specs.HeadEnd.{IsFirstEnd};
 ghost use Rattle.http_wire.specs.Request.{body_limit, is_refusal};
@@ -45,6 +45,7 @@ fn receive_head<K: Link>(link: &mut K, waiting: &mut Vec<u8>) -> Result<Heading,
     ensures inside { IfOk result (IsInside waiting.new.items) }
     ensures found { IfOk result (λ h. IfSome (stream_in waiting.new.items (K.state link.new).traffic)
         (λ s. Heads s.left h)) }
+    ensures given { given_in (K.state link.new).traffic ≡ given_in (K.state link.old).traffic }
     ensures faults { CountsFaults IoFault.Failed IoFault.Memory
         (K.state link.old).faults (K.state link.new).faults result }
 {
@@ -75,6 +76,7 @@ fn read_where_none<K: Link>(link: &mut K, waiting: &mut Vec<u8>) -> Result<bool,
         (λ s. s.left ≡ []) }
     ensures kept { sent_in (stream_in waiting.new.items (K.state link.new).traffic)
         ≡ sent_in (stream_in waiting.old.items (K.state link.old).traffic) }
+    ensures given { given_in (K.state link.new).traffic ≡ given_in (K.state link.old).traffic }
     ensures faults { CountsFaults IoFault.Failed IoFault.Memory
         (K.state link.old).faults (K.state link.new).faults result }
 {
@@ -103,6 +105,7 @@ fn receive_more<K: Link>(
     ensures room { length body.new.items ≤ size }
     ensures end { result ≡ Ok false → (body.new.items ≡ body.old.items)
         × IfSome (stream_in waiting.new.items (K.state link.new).traffic) (λ s. s.left ≡ []) }
+    ensures given { given_in (K.state link.new).traffic ≡ given_in (K.state link.old).traffic }
     ensures faults { CountsFaults IoFault.Failed IoFault.Memory
         (K.state link.old).faults (K.state link.new).faults result }
 {
@@ -139,6 +142,7 @@ fn receive_body<K: Link>(
         (λ s. length s.left < size) }
     ensures kept { sent_in (stream_in waiting.new.items (K.state link.new).traffic)
         ≡ sent_in (stream_in waiting.old.items (K.state link.old).traffic) }
+    ensures given { given_in (K.state link.new).traffic ≡ given_in (K.state link.old).traffic }
     ensures faults { CountsFaults IoFault.Failed IoFault.Memory
         (K.state link.old).faults (K.state link.new).faults result }
 {
@@ -209,6 +213,7 @@ pub(crate) fn receive_request<K: Link>(
         (λ s. HasNone writable s.left) }
     ensures kept { sent_in (stream_in waiting.new.items (K.state link.new).traffic)
         ≡ sent_in (stream_in waiting.old.items (K.state link.old).traffic) }
+    ensures given { given_in (K.state link.new).traffic ≡ given_in (K.state link.old).traffic }
     ensures faults { CountsFaults IoFault.Failed IoFault.Memory
         (K.state link.old).faults (K.state link.new).faults result }
 {

@@ -2,7 +2,7 @@
 
 ghost use Rattle.std.specs.Prelude.{◌≡◌, ◌++◌, OnErr, OnOk, false, true};
 ghost use Rattle.std.specs.Option.{option_map};
-ghost use Rattle.chunk_server.specs.Streams.{SendsFront};
+ghost use Rattle.chunk_server.specs.Streams.{SendsFront, given_in};
 ghost use Rattle.dsy_base.specs.Counts.{CountsFaults};
 ghost use Rattle.dsy_base.specs.Links.{sends};
 ghost use Rattle.http_wire.specs.ReplyText.{reply_head};
@@ -38,6 +38,7 @@ fn send_apart<K: Link>(link: &mut K, head: &[u8], body: &[u8]) -> Result<(), IoF
         ≡ option_map (sends (head.now ++ body.now)) (K.state link.old).traffic) }
     ensures err { OnErr result (SendsFront (head.now ++ body.now)
         (K.state link.old).traffic (K.state link.new).traffic) }
+    ensures given { given_in (K.state link.new).traffic ≡ given_in (K.state link.old).traffic }
     ensures faults { CountsFaults IoFault.Failed IoFault.Memory
         (K.state link.old).faults (K.state link.new).faults result }
 {
@@ -59,6 +60,7 @@ pub(crate) fn send_reply<K: Link>(
         (K.state link.old).traffic) }
     ensures err { OnErr result (SendsFront (reply_head reply.status reply.length close ++ reply.body.items)
         (K.state link.old).traffic (K.state link.new).traffic) }
+    ensures given { given_in (K.state link.new).traffic ≡ given_in (K.state link.old).traffic }
     ensures faults { CountsFaults IoFault.Failed IoFault.Memory
         (K.state link.old).faults (K.state link.new).faults result }
 {

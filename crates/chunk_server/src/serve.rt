@@ -3,7 +3,7 @@
 ghost use Rattle.std.specs.Prelude.{◌≡◌, ◌≤◌, ℕ, List, length, false, true, IfOk, IfSome, Ok, Err, OnErr, Some};
 ghost use Rattle.chunk_server.specs.Requests.{asked_in, head_limit};
 ghost use Rattle.chunk_server.specs.Shelves.{Lacks, Steps, answer_in};
-ghost use Rattle.chunk_server.specs.Streams.{stream_in};
+ghost use Rattle.chunk_server.specs.Streams.{given_in, stream_in};
 ghost use Rattle.chunk_server.specs.Turns.{Cut, Fails, IsFair, Lacking, Lingers, Served as ServedWhole, Stays, Stops};
 ghost use Rattle.chunk_server.specs.Turns.{turn_of};
 ghost use Rattle.dsy_base.specs.Counts.{CountsFaults, Rose};
@@ -77,6 +77,7 @@ fn take_turn<K: Link, H: Shelf>(
     ensures kept { H.takes shelf.new ≡ H.takes shelf.old }
     ensures place { H.place shelf.new ≡ H.place shelf.old }
     ensures shelf_faults { (H.state shelf.old).faults ≤ (H.state shelf.new).faults }
+    ensures given { given_in (K.state link.new).traffic ≡ given_in (K.state link.old).traffic }
     ensures faults { CountsFaults IoFault.Failed IoFault.Memory
         (K.state link.old).faults (K.state link.new).faults result }
 {
@@ -108,6 +109,7 @@ pub fn serve<K: Link, H: Shelf>(alloc: Global, link: &mut K, shelf: &mut H) -> S
     ensures lacking { result ≡ Served.Memory → IfSome (K.state link.old).traffic (λ t. IfSome (K.state link.new).traffic
         (λ u. Lacking (H.digest shelf.old) H.may (H.takes shelf.old) t (H.state shelf.old) u (H.state shelf.new))) }
     ensures cause { result ≡ Served.LinkFault → Rose (K.state link.old).faults (K.state link.new).faults }
+    ensures given { given_in (K.state link.new).traffic ≡ given_in (K.state link.old).traffic }
     ensures faults { (K.state link.old).faults ≤ (K.state link.new).faults }
     ensures kind { H.digest shelf.new ≡ H.digest shelf.old }
     ensures kept { H.takes shelf.new ≡ H.takes shelf.old }

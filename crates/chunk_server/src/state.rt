@@ -4,7 +4,7 @@ ghost use Rattle.std.specs.Prelude.{◌≡◌, ℕ, ◌<◌, ◌≤◌, [], List
 ghost use Rattle.std.specs.Prelude.{OnOk, Some};
 ghost use Rattle.std.specs.Option.{option_map};
 ghost use Rattle.chunk_server.specs.Answers.{bare, chunk_held, with_chunk};
-ghost use Rattle.chunk_server.specs.Shelves.{AreAlike, IsAnswer, Steps, answer_in, shelved};
+ghost use Rattle.chunk_server.specs.Shelves.{AreAlike, IsAnswer, Refuses, Steps, answer_in, shelved};
 ghost use Rattle.chunk_server.specs.States.{CountsCause, IsFound};
 ghost use Rattle.chunk_store.specs.Folders.{chunks};
 ghost use Rattle.chunk_store.specs.declared.id.DigestKind.TheVariants as kinds;
@@ -197,6 +197,7 @@ fn put<F: Folder>(
     ensures only { IfOk result (λ r. IsAnswer kind (Act.Put id.now) (answer_in r)) }
     ensures ok { IfOk result (λ r. Steps kind (shelved F.files F.faults folder.old) (Act.Put id.now) body.now
         (answer_in r) (shelved F.files F.faults folder.new)) }
+    ensures refused { IfOk result (λ r. Refuses kind (Act.Put id.now) body.now (answer_in r)) }
     ensures err { OnErr result (AreAlike (F.files folder.old) (F.files folder.new)) }
     ensures place { F.place folder.new ≡ F.place folder.old }
     ensures faults { F.faults folder.old ≤ F.faults folder.new }
@@ -272,6 +273,7 @@ impl<F: Folder> ShelfState<F> {
         ensures only { IfOk result (λ r. IsAnswer self.old.kind act.now (answer_in r)) }
         ensures ok { IfOk result (λ r. Steps self.old.kind (shelved F.files F.faults self.old.folder) act.now body.now
             (answer_in r) (shelved F.files F.faults self.new.folder)) }
+        ensures refused { IfOk result (λ r. Refuses self.old.kind act.now body.now (answer_in r)) }
         ensures err { OnErr result (AreAlike (F.files self.old.folder) (F.files self.new.folder)) }
         ensures place { F.place self.new.folder ≡ F.place self.old.folder }
         ensures faults { F.faults self.old.folder ≤ F.faults self.new.folder }

@@ -2,7 +2,7 @@
 
 ghost use Rattle.std.specs.Prelude.{◌≡◌, ◌<◌, ◌≤◌, [], length, drop, true, false, IfSome, Ok, OnOk};
 ghost use Rattle.chunk_server.specs.Requests.{head_limit};
-ghost use Rattle.chunk_server.specs.Streams.{sent_in, stream_in};
+ghost use Rattle.chunk_server.specs.Streams.{given_in, sent_in, stream_in};
 ghost use Rattle.dsy_base.specs.Counts.{CountsFaults};
 
 use dsy_base::fault::IoFault;
@@ -32,6 +32,7 @@ pub(crate) fn read_on<K: Link>(link: &mut K, waiting: &mut Vec<u8>) -> Result<bo
         × IfSome (K.state link.new).traffic (λ t. t.coming ≡ []) }
     ensures kept { sent_in (stream_in waiting.new.items (K.state link.new).traffic)
         ≡ sent_in (stream_in waiting.old.items (K.state link.old).traffic) }
+    ensures given { given_in (K.state link.new).traffic ≡ given_in (K.state link.old).traffic }
     ensures faults { CountsFaults IoFault.Failed IoFault.Memory
         (K.state link.old).faults (K.state link.new).faults result }
 {

@@ -5,5 +5,5 @@
 mod copy;
 pub mod kit;
 pub mod obtain;
-mod seeding;
+pub mod seeding;
 mod upstream;

@@ -38,7 +38,7 @@ fn from_seed<V: View>(
 
 /// Fills `chunk` with the chunk of this id from the first of the places that gives it. Whether one did. What a seed
 /// gives is named before it is used.
-pub(crate) fn from_seeds<V: View>(
+pub fn from_seeds<V: View>(
     places: &[SeedPlace],
     seeds: &mut [Seed<V>],
     id: &ChunkId,

@@ -1,6 +1,6 @@
 -- Paths of ids: 69 ASCII bytes with one `/`, from which the id can be read, and which no temporary file has.
-use Rattle.std.proofs.Common.{◌≡◌, ◌≢◌, ℕ, suc, ◌+◌, ◌*◌, ◌/◌, ◌%◌, ◌<◌, ◌≤◌, ◌==◌, List, [], ◌∷◌, ◌++◌, length, take, drop, slice_index, Bool, true, false, not, nat_le, nat_lt, refl, sym, ap, ◌∙◌, arith, inl, inr, length-append, codes, Some, unwrap_or}
-use Rattle.std.specs.List.{count_by}
+use Rattle.std.proofs.Common.{◌≡◌, ◌≢◌, ℕ, suc, ◌+◌, ◌*◌, ◌/◌, ◌%◌, ◌<◌, ◌≤◌, ◌==◌, ◌&&◌, List, [], ◌∷◌, ◌++◌, length, take, drop, slice_index, Bool, true, false, not, nat_le, nat_lt, refl, sym, ap, ◌∙◌, arith, inl, inr, length-append, codes, Some, unwrap_or}
+use Rattle.std.specs.List.{count_by, list_all}
 use Rattle.std.specs.Str.{IsAscii}
 use Rattle.std.proofs.lemmas.Bool.{cases_lt, ltb-true}
 use Rattle.std.proofs.lemmas.List.{take-append-drop, length-take-le, get_or_past}
@@ -9,7 +9,7 @@ use Rattle.std.proofs.lemmas.Str.{IsAscii-append, IsAscii-take}
 use Rattle.std.proofs.lemmas.Str.Ascii.{IsAscii-cons, IsAscii-from_all}
 use Rattle.chunk_store.specs.Names.{IsId}
 use Rattle.chunk_store.specs.Paths.{path_of}
-use Rattle.dsy_base.specs.Folders.{stem, temporary_of}
+use Rattle.dsy_base.specs.Folders.{is_digit, stem, temporary_of}
 use Rattle.dsy_base.specs.Maps.{is_listed}
 use Rattle.hex.specs.Hex.{IsBytes, encode_lower, encode_with, hex_digit_value, lower_digits}
 use Rattle.hex.proofs.HexLemmas.{length-encode_with, IsAscii-encode_with, IsDigits-lower_digits}
@@ -76,6 +76,23 @@ path_one a b ib h =
       front_is [] e = absurd (omega (arith, e))
       front_is (x ∷ []) e = absurd (omega (arith, e))
       front_is (x ∷ y ∷ q) e = refl
+
+-- ---- all characters but the `/` are digits
+
+digit_is : (k : ℕ) → k < 16 → is_digit (slice_index lower_digits k) ≡ true
+digit_is k lt = AllPass-from_list_all is_digit lower_digits refl k 0 lt
+
+both_true : (x y : Bool) → x ≡ true → y ≡ true → (x && y) ≡ true
+both_true true true p q = refl
+both_true false y p q = p
+both_true true false p q = q
+
+pub all_digits : (bs : List ℕ) → IsBytes bs → list_all is_digit (encode_lower bs) ≡ true
+unfolding encode_with
+all_digits [] bytes = refl
+all_digits (b ∷ rest) bytes =
+    both_true _ _ (digit_is (b / 16) (let is : b < 256 = bytes 0 in omega arith))
+    (both_true _ _ (digit_is (b % 16) (omega arith)) (all_digits rest (λ i. bytes (suc i))))
 
 -- ---- how many `/` and dots there are
 

@@ -1,10 +1,11 @@
 //! Ids of chunks: digests of 32 bytes (FIPS 180-4).
 
-ghost use Rattle.std.specs.Prelude.{◌≡◌, ◌≢◌, ◌↔◌, ℕ, List, length, true, false, IsOk, IfOk, IsOkAnd};
-ghost use Rattle.std.specs.List.{AllPass};
+ghost use Rattle.std.specs.Prelude.{◌≡◌, ◌≢◌, ◌↔◌, ℕ, List, length, true, false, IsTrue, IsOk, IfOk, IsOkAnd};
+ghost use Rattle.std.specs.List.{AllPass, list_all};
 ghost use Rattle.hex.specs.Hex.{decode_of, encode_lower, is_hex_digit};
 ghost use Rattle.chunk_store.specs.Names.{IsId, name_of};
 ghost use Rattle.chunk_store.specs.Paths.{path_of};
+ghost use Rattle.dsy_base.specs.Folders.{IsChunkPath, is_digit};
 
 use crate::path::ChunkPath;
 use hex::FromHex;
@@ -24,6 +25,17 @@ pub struct ChunkId(pub [u8; 32]);
 /// A text that isn't 64 hexadecimal digits.
 #[derive(Clone, Copy, Debug, PartialEq, Eq)]
 pub struct NotHex;
+
+fn digits_of(bytes: &[u8; 32]) -> [u8; 64]
+    ensures value { result ≡ encode_lower bytes.now }
+    ensures digits { IsTrue (list_all is_digit result) }
+{
+    let mut digits = [0; 64];
+    let Ok(()) = hex::encode_to_slice(bytes.as_slice(), &mut digits) else {
+        unreachable!();
+    };
+    digits
+}
 
 impl ChunkId {
     /// The id of the bytes.
@@ -55,12 +67,9 @@ impl ChunkId {
     /// The id as a text: 64 hexadecimal digits in lower case.
     pub fn to_hex(&self) -> [u8; 64]
         ensures value { result ≡ encode_lower self.now.0 }
+        ensures digits { IsTrue (list_all is_digit result) }
     {
-        let mut digits = [0; 64];
-        if hex::encode_to_slice(self.0.as_slice(), &mut digits).is_err() {
-            unreachable!();
-        }
-        digits
+        digits_of(&self.0)
     }
 
     /// The id that a text spells, in digits of either case.
@@ -76,9 +85,10 @@ impl ChunkId {
         }
     }
 
-    /// The name of its file in a folder store.
+    /// The path of its file in a folder store.
     pub fn path(&self) -> ChunkPath
         ensures value { result ≡ path_of self.now.0 }
+        ensures digits { IsChunkPath result }
     {
         ChunkPath::of(&self.to_hex())
     }

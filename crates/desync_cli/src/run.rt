@@ -30,7 +30,7 @@ use image_commands::demo::demo;
 use image_commands::extract::extract;
 use image_commands::make::make;
 use image_commands::verify_index::verify_index;
-use several_views::image_files::ImageFiles;
+use dsy_base::image_files::ImageFiles;
 use std::alloc::Global;
 use std::thread::Threads;
 use store_commands::cache::cache as fill_cache;

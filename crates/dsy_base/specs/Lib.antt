@@ -1,4 +1,5 @@
 pub mod Bytes
+pub mod Splits
 pub mod Counts
 pub mod Maps
 pub mod Disk

@@ -18,10 +18,11 @@ pub record DialState : Type 0 where
   pub ended : Option (List Traffic)
   pub faults : ℕ
 
--- a listener: the connections that are to come, those that have ended, and how often a call of it has failed
+-- a listener: the connections that are to come, those that have ended, each with the count of its faults, and how often
+-- a call of it has failed
 pub record ListenState : Type 0 where
   pub coming : Option (List Traffic)
-  pub ended : Option (List Traffic)
+  pub ended : Option (List LinkState)
   pub faults : ℕ
 
 -- nothing has come or gone yet, and no call has failed

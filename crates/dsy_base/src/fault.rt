@@ -35,6 +35,13 @@ pub enum FileFault {
     Memory,
 }
 
+/// Why a target isn't split: a fault, or no memory.
+#[derive(Clone, Copy, Debug, PartialEq, Eq)]
+pub enum SplitFault {
+    Failed,
+    Memory,
+}
+
 /// A count of faults after `more` of them. It stays at its greatest value.
 pub fn raise(count: u64, more: u64) -> u64
     ensures value { result ≡ raised count more }

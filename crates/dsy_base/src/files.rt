@@ -1,7 +1,7 @@
 //! Files and folders by their names. What is taken under a name isn't there until it is given back.
 
 ghost use Rattle.std.specs.Prelude.{◌≡◌, ◌≢◌, ℕ, Bool, IsTrue, List, [], Option, Some, None, IfSome, IfOk, OnOk, OnErr};
-ghost use Rattle.std.specs.Prelude.{IsSome, is_some, if◌then◌else◌, unwrap_or};
+ghost use Rattle.std.specs.Prelude.{Err, IsSome, is_some, if◌then◌else◌, unwrap_or};
 ghost use Rattle.std.specs.Map.{count_at};
 ghost use Rattle.std.specs.Option.{option_map};
 ghost use Rattle.dsy_base.specs.Counts.{CountsFaults};
@@ -95,8 +95,9 @@ pub trait Files: Drop {
         ensures faults { CountsFaults OpenFault.Failed OpenFault.Memory (count_at (disk self.old).file_counts to.now)
             (count_at (disk self.new).file_counts to.now) result };
 
-    /// Removes the file.
+    /// Removes the file. Where the name has a number already, that takes no memory.
     fn remove(&mut self, name: &str) -> Result<(), OpenFault>
+        ensures room { IsSome ((disk self.old).file_counts name.now) → result ≢ Err OpenFault.Memory }
         ensures found { IfSome (disk self.old).files (λ m. FoundThere (m name.now) result) }
         ensures ok { OnOk result ((disk self.new).files ≡ option_map (λ m. at_name m name.now None)
             (disk self.old).files) }

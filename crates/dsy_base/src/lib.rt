@@ -5,6 +5,8 @@ pub mod dial;
 pub mod fault;
 pub mod files;
 pub mod folder;
+pub mod image_files;
+pub mod inner_folders;
 pub mod link;
 pub mod listen;
 pub mod look;

@@ -1,9 +1,9 @@
 //! Connections from clients.
 
-ghost use Rattle.std.specs.Prelude.{◌≡◌, Bool, IsTrue, is_some, IfSome, IfOk, OnErr};
+ghost use Rattle.std.specs.Prelude.{◌≡◌, ◌∷◌, ◌++◌, [], Bool, IsTrue, is_some, IfSome, IfOk, OnErr};
 ghost use Rattle.std.specs.Option.{option_map};
 ghost use Rattle.dsy_base.specs.Counts.{CountsFaults};
-ghost use Rattle.dsy_base.specs.Links.{Accepts, IsFreshLink, ListenState, with_ended};
+ghost use Rattle.dsy_base.specs.Links.{Accepts, IsFreshLink, ListenState};
 
 use crate::fault::IoFault;
 use crate::link::Link;
@@ -39,7 +39,8 @@ pub trait Listen: Drop {
     /// Ends a connection.
     fn end(&mut self, link: Self::Link)
         ensures coming { (state self.new).coming ≡ (state self.old).coming }
-        ensures ended { (state self.new).ended ≡ with_ended (state self.old).ended (Self.Link.state link).traffic }
+        ensures ended { (state self.new).ended
+            ≡ option_map (λ done. done ++ Self.Link.state link ∷ []) (state self.old).ended }
         ensures faults { (state self.new).faults ≡ (state self.old).faults };
 
     /// Connections are told exactly where the type tells.

@@ -1,6 +1,6 @@
 //! Slots by name. A slot stays, with its number, while what stands in it is taken out, so giving back takes no memory.
 
-ghost use Rattle.std.specs.Prelude.{◌≡◌, ◌≤◌, List, ℕ, None, Some, IsSome, OnOk, OnErr};
+ghost use Rattle.std.specs.Prelude.{◌≡◌, ◌≤◌, List, ℕ, None, Some, IsSome, IsOk, OnOk, OnErr};
 ghost use Rattle.std.specs.Map.{count_at};
 ghost use Rattle.dsy_base.specs.Counts.{Counted, GivenBack, raised};
 ghost use Rattle.dsy_base.specs.Maps.{at_name};
@@ -29,6 +29,7 @@ pub fn claim<V: Drop>(alloc: Global, slots: &mut Slots<V>, name: &str) -> Result
         ≡ count_at (counts_in slots.old) name.now }
     ensures known { OnOk result (IsSome (counts_in slots.new name.now)) }
     ensures err { OnErr result ((q : List ℕ) → counts_in slots.new q ≡ counts_in slots.old q) }
+    ensures room { IsSome (counts_in slots.old name.now) → IsOk result }
 {
     if slots.contains_key(name) {
         return Ok(());

@@ -1,7 +1,7 @@
 //! Files and folders in memory by their names, with stated calls that fail.
 
 ghost use Rattle.std.specs.Prelude.{◌≡◌, ◌≢◌, ℕ, List, [], None, Some, IsSome, IfOk, OnOk, OnErr, if◌then◌else◌};
-ghost use Rattle.std.specs.Prelude.{unwrap_or};
+ghost use Rattle.std.specs.Prelude.{Err, unwrap_or};
 ghost use Rattle.std.specs.BTreeMap.{get_by_text};
 ghost use Rattle.std.specs.Map.{count_at};
 ghost use Rattle.std.specs.Option.{option_map};
@@ -69,6 +69,10 @@ impl MemFiles {
         }
         put_file(&mut self.files, name, MemFile { bytes, fails });
         Ok(())
+    }
+
+    pub(crate) fn alloc(&self) -> Global {
+        self.alloc
     }
 
     /// Puts a folder under the name.
@@ -255,6 +259,7 @@ fn call_on<V: Drop>(
     ensures ok { OnOk result (count_at (counts_in slots.new) name.now ≡ count_at (counts_in slots.old) name.now) }
     ensures faults { CountsFaults IoFault.Failed IoFault.Memory (count_at (counts_in slots.old) name.now)
         (count_at (counts_in slots.new) name.now) result }
+    ensures room { IsSome (counts_in slots.old name.now) → result ≢ Err IoFault.Memory }
 {
     if claim(alloc, slots, name).is_err() {
         return Err(IoFault::Memory);

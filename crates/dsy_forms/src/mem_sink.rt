@@ -3,7 +3,7 @@
 ghost use Rattle.std.specs.Prelude.{◌≡◌, []};
 
 use crate::calls::{Calls, Fails};
-use dsy_base::fault::{IoFault, raise};
+use dsy_base::fault::{IoFault, Memory, raise};
 use dsy_base::sink::Sink;
 use std::alloc::Global;
 
@@ -36,15 +36,24 @@ impl MemSink {
 }
 
 impl Sink for MemSink {
-    ghost use Rattle.std.specs.Prelude.{true, false, refl};
+    ghost use Rattle.std.specs.Prelude.{◌-◌, true, false, refl, vec_capacity, vec_len};
     ghost use Rattle.dsy_forms.specs.MemSinks.{output_of};
     ghost use Rattle.std.proofs.Common.{rules};
 
     ghost output = { output_of };
 
+    ghost room = { λ s. vec_capacity s.taken - vec_len s.taken };
+
     ghost tells = { true };
 
     ghost never_fails = { false };
+
+    fn reserve(&mut self, n: usize) -> Result<(), Memory> {
+        match self.taken.reserve(n) {
+            Ok(()) => Ok(()),
+            Err(_) => Err(Memory),
+        }
+    }
 
     fn put(&mut self, b: &[u8]) -> Result<(), IoFault> {
         if self.calls.next_fails() {

@@ -1,10 +1,15 @@
 //! Bytes in memory that can be written, with stated calls that fail. Offsets are bytes from 0, ends are exclusive.
 
-ghost use Rattle.std.specs.Prelude.{◌≡◌, ◌+◌, ◌≤◌, [], length, OnOk, OnErr};
+ghost use Rattle.std.specs.Prelude.{◌≡◌, ◌+◌, ◌≤◌, [], length, true, OnOk, OnErr};
+ghost use Rattle.std.specs.List.{sum_by};
 ghost use Rattle.dsy_base.specs.Bytes.{written, resized};
+ghost use Rattle.dsy_base.specs.Counts.{raised};
+ghost use Rattle.dsy_base.specs.Splits.{joined, held_joined};
+ghost use Rattle.dsy_forms.specs.MemTargets.{target_held, part_held, target_left};
 
+use crate::mem_part::{MemPart, gather, join_parts, parts_of};
 use crate::ranges::{RangeFails, next_fails};
-use dsy_base::fault::{Failed, IoFault, raise};
+use dsy_base::fault::{Failed, IoFault, SplitFault, raise};
 use dsy_base::name::Name;
 use dsy_base::view::{Part, Target, View};
 use std::alloc::{AllocError, Global};
@@ -121,6 +126,15 @@ impl Part for MemTarget {
 }
 
 impl Target for MemTarget {
+    ghost use Rattle.std.specs.Prelude.{vec_len, refl};
+
+    // The bytes stay, as room for those of the parts.
+    type Rest = MemTarget;
+
+    type Piece = MemPart;
+
+    ghost left = { λ t. record { size = vec_len t.bytes; name = t.name; faults = t.faults } };
+
     fn set_len(&mut self, n: u64) -> Result<(), IoFault> {
         if 0 < self.fails.set_len {
             self.fails.set_len -= 1;
@@ -132,6 +146,35 @@ impl Target for MemTarget {
             Err(_) => Err(IoFault::Memory),
         }
     }
+
+    fn split(self, cuts: &[u64]) -> Result<(MemTarget, Vec<MemPart>), (MemTarget, SplitFault)> {
+        let mut target = self;
+        if 0 < target.fails.split {
+            target.fails.split -= 1;
+            target.faults = raise(target.faults, 1);
+            return Err((target, SplitFault::Failed));
+        }
+        let alloc = *target.bytes.allocator();
+        match parts_of(alloc, target.bytes.as_slice(), cuts, &target.fails) {
+            Ok(parts) => Ok((target, parts)),
+            Err(_) => Err((target, SplitFault::Memory)),
+        }
+    }
+
+    fn rejoin(rest: MemTarget, parts: Vec<MemPart>) -> MemTarget
+        requires { sum_by (λ p. (part_held p).size) parts.items ≡ (target_left rest).size }
+        ensures bytes { target_held result ≡ held_joined (target_left rest) true (joined part_held parts.items) }
+        ensures faults { result.faults ≡ raised (target_left rest).faults (sum_by (λ p. p.faults) parts.items) }
+    {
+        let mut target = rest;
+        join_parts(&mut target.bytes, &parts);
+        target.faults = gather(&mut target.fails, target.faults, &parts);
+        target
+    }
+
+    ghost parts_tell = { refl };
+
+    ghost parts_fail = { refl };
 }
 
 /// Writes `b` over the bytes from offset `at` on.

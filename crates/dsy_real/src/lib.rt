@@ -7,6 +7,7 @@ pub mod real_files;
 pub mod real_folder;
 pub mod real_link;
 pub mod real_listen;
+pub mod real_part;
 pub mod real_sink;
 pub mod real_target;
 pub mod real_view;

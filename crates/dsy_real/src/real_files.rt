@@ -12,7 +12,7 @@ use dsy_base::fault::{IoFault, OpenFault};
 use dsy_base::files::Files;
 use dsy_base::name::Name;
 use dsy_base::slots::{Slots, claim, count};
-use several_views::image_files::ImageFiles;
+use dsy_base::image_files::ImageFiles;
 use std::alloc::{AllocError, Global};
 use std::collections::BTreeMap;
 use std::fs::{File, OpenOptions};
@@ -211,7 +211,7 @@ impl<'a, R: System<File = File> + AllocGlobal + Clone + Drop> Files for RealFile
             Found::Folder | Found::Other => None,
         };
         match opened {
-            Some(size) => Ok(RealTarget::new(self.rt, label, size)),
+            Some(size) => Ok(RealTarget::new(self.rt, self.alloc, label, size)),
             None => {
                 fail(&mut self.files, name);
                 Err(IoFault::Failed)

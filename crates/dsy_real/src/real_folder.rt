@@ -9,7 +9,7 @@ use dsy_base::folder::Folder;
 use dsy_base::look::Look;
 use dsy_base::name::Name;
 use dsy_base::temporary::temporary_name;
-use inner_folders::folders::InnerFolders;
+use dsy_base::inner_folders::InnerFolders;
 use std::alloc::{AllocError, Global};
 use std::fs::{File, OpenOptions};
 use std::io::ErrorKind;
@@ -289,14 +289,18 @@ pub struct RealInner<'a, R: Files<File = File>> {
 
 impl<'a, R: Files<File = File>> RealInner<'a, R> {
     /// Those inside the folder of this name.
-    pub fn new(rt: &'a R, alloc: Global, name: Name) -> RealInner<'a, R> {
+    pub fn new(rt: &'a R, alloc: Global, name: Name) -> RealInner<'a, R>
+        ensures { result.name ≡ name }
+    {
         RealInner { rt, alloc, name }
     }
 }
 
 impl<R: Files<File = File>> InnerFolders for RealInner<'_, R> {
-    fn make_for(&self, name: &str) {
-        let _ = make_folder(self.rt, self.alloc, self.name.as_str(), name);
+    ghost place = { λ inner. inner.name };
+
+    fn make_for(&self, path: &str) {
+        let _ = make_folder(self.rt, self.alloc, self.name.as_str(), path);
     }
 }
 

@@ -1,6 +1,6 @@
 //! Standard output and standard error as sinks.
 
-use dsy_base::fault::{IoFault, raise};
+use dsy_base::fault::{IoFault, Memory, raise};
 use dsy_base::sink::Sink;
 use std::io::Write;
 
@@ -23,14 +23,21 @@ fn write_through<W: Write>(stream: &mut W, b: &[u8]) -> bool {
 }
 
 impl<W: Write + Drop> Sink for RealSink<W> {
-    ghost use Rattle.std.specs.Prelude.{None, false, refl};
+    ghost use Rattle.std.specs.Prelude.{◌^◌, None, false, refl};
     ghost use Rattle.std.proofs.Common.{rules};
 
     ghost output = { λ s. record { taken = None; faults = s.faults } };
 
+    // The system's buffers take none of the program's memory.
+    ghost room = { λ _. 2 ^ 64 };
+
     ghost tells = { false };
 
     ghost never_fails = { false };
+
+    fn reserve(&mut self, _n: usize) -> Result<(), Memory> {
+        Ok(())
+    }
 
     fn put(&mut self, b: &[u8]) -> Result<(), IoFault> {
         if write_through(&mut self.stream, b) {

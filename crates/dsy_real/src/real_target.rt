@@ -1,11 +1,16 @@
 //! Files of the operating system that are written. Offsets are bytes from 0.
 
-ghost use Rattle.std.specs.Prelude.{◌≡◌};
+ghost use Rattle.std.specs.Prelude.{◌≡◌, None, false};
+ghost use Rattle.std.specs.List.{sum_by};
+ghost use Rattle.dsy_base.specs.Counts.{raised};
+ghost use Rattle.dsy_base.specs.Splits.{joined, held_joined};
 
+use crate::real_part::{RealPart, close_parts, open_parts};
 use crate::real_view::read_at;
-use dsy_base::fault::{Failed, IoFault, raise};
+use dsy_base::fault::{Failed, IoFault, SplitFault, raise};
 use dsy_base::name::Name;
 use dsy_base::view::{Part, Target, View};
+use std::alloc::Global;
 use std::fs::{File, OpenOptions};
 use std::io;
 use std::os::unix::fs::FileExt;
@@ -15,6 +20,7 @@ use std::rt::Files;
 #[derive(Drop)]
 pub struct RealTarget<'a, R: Files<File = File>> {
     rt: &'a R,
+    alloc: Global,
     name: Name,
     size: u64,
     faults: u64,
@@ -32,13 +38,14 @@ fn set_len<R: Files<File = File>>(rt: &R, name: &str, n: u64) -> io::Result<()> 
 
 impl<'a, R: Files<File = File>> RealTarget<'a, R> {
     /// The file, which has `size` bytes.
-    pub fn new(rt: &'a R, name: Name, size: u64) -> RealTarget<'a, R>
+    pub fn new(rt: &'a R, alloc: Global, name: Name, size: u64) -> RealTarget<'a, R>
         ensures size { result.size ≡ size }
         ensures named { result.name ≡ name }
         ensures faults { result.faults ≡ 0 }
     {
         RealTarget {
             rt,
+            alloc,
             name,
             size,
             faults: 0,
@@ -98,7 +105,15 @@ impl<R: Files<File = File>> Part for RealTarget<'_, R> {
     }
 }
 
-impl<R: Files<File = File>> Target for RealTarget<'_, R> {
+impl<'a, R: Files<File = File>> Target for RealTarget<'a, R> {
+    ghost use Rattle.std.specs.Prelude.{refl};
+
+    type Piece = RealPart;
+
+    type Rest = RealTarget<'a, R>;
+
+    ghost left = { λ t. record { size = t.size; name = t.name; faults = t.faults } };
+
     fn set_len(&mut self, n: u64) -> Result<(), IoFault> {
         match set_len(self.rt, self.name.as_str(), n) {
             Ok(()) => {
@@ -111,4 +126,41 @@ impl<R: Files<File = File>> Target for RealTarget<'_, R> {
             }
         }
     }
+
+    fn split(
+        self,
+        cuts: &[u64],
+    ) -> Result<(RealTarget<'a, R>, Vec<RealPart>), (RealTarget<'a, R>, SplitFault)> {
+        let mut target = self;
+        match open_parts(
+            target.rt,
+            target.alloc,
+            target.name.as_str(),
+            target.size,
+            cuts,
+        ) {
+            Ok(parts) => Ok((target, parts)),
+            Err(SplitFault::Memory) => Err((target, SplitFault::Memory)),
+            Err(SplitFault::Failed) => {
+                target.faults = raise(target.faults, 1);
+                Err((target, SplitFault::Failed))
+            }
+        }
+    }
+
+    fn rejoin(rest: RealTarget<'a, R>, parts: Vec<RealPart>) -> RealTarget<'a, R>
+        requires { sum_by (λ p. p.size) parts.items ≡ rest.size }
+        ensures bytes { record { bytes = None; size = result.size; name = result.name }
+            ≡ held_joined (record { size = rest.entry.size; name = rest.entry.name; faults = rest.entry.faults }) false
+            (joined (λ p. record { bytes = None; size = p.size; name = p.name }) parts.items) }
+        ensures faults { result.faults ≡ raised rest.entry.faults (sum_by (λ p. p.faults) parts.items) }
+    {
+        let mut target = rest;
+        target.faults = close_parts(target.faults, parts);
+        target
+    }
+
+    ghost parts_tell = { refl };
+
+    ghost parts_fail = { refl };
 }

@@ -1,2 +1,3 @@
 pub mod SureSinks
 pub mod SureFiles
+pub mod SureTargets

@@ -4,6 +4,7 @@
 
 pub mod sure_files;
 pub mod sure_folder;
+pub mod sure_part;
 pub mod sure_sink;
 pub mod sure_target;
 pub mod sure_view;

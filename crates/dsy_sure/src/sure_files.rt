@@ -1,6 +1,6 @@
 //! Files and folders in memory by their names, whose calls never fail.
 
-ghost use Rattle.std.specs.Prelude.{◌≡◌, ◌≢◌, ℕ, List, [], None, Some, IsSome, IfOk, OnOk, OnErr, unwrap_or};
+ghost use Rattle.std.specs.Prelude.{◌≡◌, ◌≢◌, ℕ, List, [], None, Some, IsSome, IsOk, IfOk, OnOk, OnErr, unwrap_or};
 ghost use Rattle.std.specs.Option.{option_map};
 ghost use Rattle.dsy_base.specs.Counts.{Counted};
 ghost use Rattle.dsy_base.specs.Files.{OpenGives, FoundThere};
@@ -14,8 +14,10 @@ use crate::sure_target::SureTarget;
 use crate::sure_view::SureView;
 use dsy_base::fault::{IoFault, Memory, OpenFault};
 use dsy_base::files::Files;
+use dsy_base::image_files::ImageFiles;
 use dsy_base::name::Name;
 use dsy_base::slots::{Slots, claim, put_back, take_out};
+use dsy_forms::no_folders::NoFolders;
 use std::alloc::{AllocError, Global};
 use std::collections::BTreeMap;
 
@@ -206,6 +208,7 @@ fn make_room<V: Drop>(alloc: Global, slots: &mut Slots<V>, name: &str) -> Result
     ensures counts { Counted (zeros_in slots.old) (zeros_in slots.new) name.now }
     ensures known { OnOk result (IsSome (zeros_in slots.new name.now)) }
     ensures only { result ≢ Err IoFault.Failed }
+    ensures room { IsSome (zeros_in slots.old name.now) → IsOk result }
 {
     match claim(alloc, slots, name) {
         Ok(()) => Ok(()),
@@ -220,6 +223,16 @@ fn take_file(alloc: Global, files: &mut Slots<Vec<u8>>, name: &str) -> Vec<u8>
     ensures counts { (q : List ℕ) → zeros_in files.new q ≡ zeros_in files.old q }
 {
     take_out(files, name).unwrap_or(Vec::new(alloc))
+}
+
+impl ImageFiles for SureFiles {
+    type Inner = NoFolders;
+
+    fn inner(&self, folder: &str) -> Option<NoFolders> {
+        NoFolders::of(self.alloc, folder)
+    }
+
+    ghost untold = { λ t. t };
 }
 
 // Puts a file under the name.

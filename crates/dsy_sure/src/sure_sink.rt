@@ -2,7 +2,7 @@
 
 ghost use Rattle.std.specs.Prelude.{◌≡◌, []};
 
-use dsy_base::fault::IoFault;
+use dsy_base::fault::{IoFault, Memory};
 use dsy_base::sink::Sink;
 use std::alloc::Global;
 
@@ -29,14 +29,23 @@ impl SureSink {
 }
 
 impl Sink for SureSink {
-    ghost use Rattle.std.specs.Prelude.{true, refl};
+    ghost use Rattle.std.specs.Prelude.{◌-◌, true, refl, vec_capacity, vec_len};
     ghost use Rattle.dsy_sure.specs.SureSinks.{output_of};
 
     ghost output = { output_of };
 
+    ghost room = { λ s. vec_capacity s.taken - vec_len s.taken };
+
     ghost tells = { true };
 
     ghost never_fails = { true };
+
+    fn reserve(&mut self, n: usize) -> Result<(), Memory> {
+        match self.taken.reserve(n) {
+            Ok(()) => Ok(()),
+            Err(_) => Err(Memory),
+        }
+    }
 
     fn put(&mut self, b: &[u8]) -> Result<(), IoFault> {
         match self.taken.extend_from_slice(b) {

@@ -1,10 +1,16 @@
 //! Bytes in memory that can be written, and always are. Offsets are bytes from 0, ends are exclusive.
 
-ghost use Rattle.std.specs.Prelude.{◌≡◌, []};
+ghost use Rattle.std.specs.Prelude.{◌≡◌, [], true};
+ghost use Rattle.std.specs.List.{sum_by};
+ghost use Rattle.dsy_base.specs.Counts.{raised};
+ghost use Rattle.dsy_base.specs.Splits.{joined, held_joined};
+ghost use Rattle.dsy_sure.specs.SureTargets.{target_held, part_held, target_left};
 
-use dsy_base::fault::{Failed, IoFault};
+use crate::sure_part::SurePart;
+use dsy_base::fault::{Failed, IoFault, SplitFault};
 use dsy_base::name::Name;
 use dsy_base::view::{Part, Target, View};
+use dsy_forms::mem_part::{join_parts, parts_of};
 use dsy_forms::mem_target::{resize, write_over};
 use std::alloc::Global;
 
@@ -81,10 +87,41 @@ impl Part for SureTarget {
 }
 
 impl Target for SureTarget {
+    ghost use Rattle.std.specs.Prelude.{vec_len, refl};
+
+    type Piece = SurePart;
+
+    // The bytes stay, as room for those of the parts.
+    type Rest = SureTarget;
+
+    ghost left = { λ t. record { size = vec_len t.bytes; name = t.name; faults = 0 } };
+
     fn set_len(&mut self, n: u64) -> Result<(), IoFault> {
         match resize(&mut self.bytes, n as usize) {
             Ok(()) => Ok(()),
             Err(_) => Err(IoFault::Memory),
         }
     }
+
+    fn split(self, cuts: &[u64]) -> Result<(SureTarget, Vec<SurePart>), (SureTarget, SplitFault)> {
+        let alloc = *self.bytes.allocator();
+        match parts_of(alloc, self.bytes.as_slice(), cuts, &()) {
+            Ok(parts) => Ok((self, parts)),
+            Err(_) => Err((self, SplitFault::Memory)),
+        }
+    }
+
+    fn rejoin(rest: SureTarget, parts: Vec<SurePart>) -> SureTarget
+        requires { sum_by (λ p. (part_held p).size) parts.items ≡ (target_left rest).size }
+        ensures bytes { target_held result ≡ held_joined (target_left rest) true (joined part_held parts.items) }
+        ensures faults { 0 ≡ raised (target_left rest).faults (sum_by (λ _. 0) parts.items) }
+    {
+        let mut target = rest;
+        join_parts(&mut target.bytes, &parts);
+        target
+    }
+
+    ghost parts_tell = { refl };
+
+    ghost parts_fail = { refl };
 }

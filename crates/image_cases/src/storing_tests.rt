@@ -16,7 +16,7 @@ use dsy_forms::mem_view::MemView;
 use image_store::chop::{ChopFault, chop};
 use image_store::put_chunks::MakeFault;
 use image_store::store_image::store_image;
-use inner_folders::folders::NoFolders;
+use dsy_forms::no_folders::NoFolders;
 use std::alloc::Global;
 use std::process::Abort;
 use std::thread::Threads;

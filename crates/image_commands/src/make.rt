@@ -28,7 +28,7 @@ use dsy_base::name::Name;
 use dsy_base::view::View;
 use image_store::put_chunks::MakeFault;
 use image_store::store_image::store_image;
-use several_views::image_files::ImageFiles;
+use dsy_base::image_files::ImageFiles;
 use std::alloc::Global;
 use std::thread::Threads;
 

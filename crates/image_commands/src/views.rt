@@ -13,7 +13,7 @@ use command_steps::openings::unopened;
 use dsy_base::files::Files;
 use dsy_base::name::Name;
 use dsy_base::view::View;
-use several_views::image_files::ImageFiles;
+use dsy_base::image_files::ImageFiles;
 use std::alloc::Global;
 
 // Opens one view more. One that can't be opened, or that is of another size, is left out.

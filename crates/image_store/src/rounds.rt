@@ -12,7 +12,7 @@ use crate::storing::Storing;
 use caibx_codec::index::Index;
 use chunk_store::store::{Store, StoreWrite};
 use dsy_base::view::View;
-use inner_folders::folders::InnerFolders;
+use dsy_base::inner_folders::InnerFolders;
 use read_ahead::ahead::Ahead;
 use read_ahead::claims::Claims;
 use read_ahead::plan::round_end;
@@ -30,7 +30,7 @@ fn round<R: Threads + Sync, V: View, S: StoreWrite, W: View + Send, I: InnerFold
     readers: &mut [Reader<W>],
     claims: &Claims,
     ready: &[Ahead],
-    inner: &I,
+    inner: &Option<I>,
 ) -> Result<(), MakeFault>
     requires inside { (claims.now.from ≤ count_of index.now) × (claims.now.to ≤ count_of index.now) }
     requires storing { IsStoring V.View S.Store index.now storing.old }
@@ -75,7 +75,7 @@ fn put_by_rounds<R: Threads + Sync, V: View + Send, S: StoreWrite, I: InnerFolde
     storing: &mut Storing<V, S>,
     readers: &mut [Reader<V>],
     ready: &mut [Ahead],
-    inner: &I,
+    inner: &Option<I>,
 ) -> Result<(), MakeFault>
     requires rooms { length ready.old ≡ length readers.old }
     requires storing { IsStoring V.View S.Store index.now storing.old }
@@ -133,7 +133,7 @@ fn store_ahead<R: Threads + Sync, V: View + Send, S: StoreWrite, I: InnerFolders
     views: Vec<V>,
     crew: Crew<V>,
     store: S,
-    inner: &I,
+    inner: &Option<I>,
     chunk: Vec<u8>,
     room: Vec<u8>,
 ) -> (Vec<V>, S, Result<(), MakeFault>)
@@ -177,7 +177,7 @@ pub(crate) fn store_entries<
     index: &Index,
     views: Vec<V>,
     store: S,
-    inner: &I,
+    inner: &Option<I>,
 ) -> (Vec<V>, S, Result<(), MakeFault>)
     requires some { 0 < vec_len views }
     requires alike { AreOfOneImage (map V.held views.items) }

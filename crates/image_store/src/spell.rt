@@ -6,7 +6,7 @@ ghost use Rattle.caibx_codec.specs.Spelling.{IsIndexFile, file_of};
 use caibx_codec::index::Index;
 use caibx_codec::laws::file_is_read;
 use caibx_codec::writing::write_index;
-use dsy_base::fault::IoFault;
+use dsy_base::fault::{IoFault, Memory};
 use dsy_base::sink::Sink;
 use std::alloc::{AllocError, Global};
 
@@ -17,13 +17,22 @@ struct Kept {
 }
 
 impl Sink for Kept {
-    ghost use Rattle.std.specs.Prelude.{Some, true, refl};
+    ghost use Rattle.std.specs.Prelude.{◌-◌, Some, true, refl, vec_capacity, vec_len};
 
     ghost output = { λ s. record { taken = Some s.bytes.items; faults = 0 } };
+
+    ghost room = { λ s. vec_capacity s.bytes - vec_len s.bytes };
 
     ghost tells = { true };
 
     ghost never_fails = { true };
+
+    fn reserve(&mut self, n: usize) -> Result<(), Memory> {
+        match self.bytes.reserve(n) {
+            Ok(()) => Ok(()),
+            Err(_) => Err(Memory),
+        }
+    }
 
     fn put(&mut self, b: &[u8]) -> Result<(), IoFault> {
         match self.bytes.extend_from_slice(b) {

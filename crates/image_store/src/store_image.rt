@@ -17,7 +17,7 @@ use buzhash_cut::sizes::CutSizes;
 use caibx_codec::index::Index;
 use chunk_store::store::{Store, StoreWrite};
 use dsy_base::view::View;
-use inner_folders::folders::InnerFolders;
+use dsy_base::inner_folders::InnerFolders;
 use std::alloc::Global;
 use std::thread::Threads;
 
@@ -55,7 +55,7 @@ fn store_listed<R: Threads + Sync, V: View + Send, S: StoreWrite, I: InnerFolder
     index: &Index,
     views: Vec<V>,
     store: S,
-    inner: &I,
+    inner: &Option<I>,
 ) -> (Vec<V>, S, Result<Vec<u8>, MakeFault>)
     requires some { 0 < vec_len views }
     requires alike { AreOfOneImage (map V.held views.items) }
@@ -100,7 +100,7 @@ pub fn store_image<R: Threads + Sync, V: View + Send, S: StoreWrite, I: InnerFol
     sizes: &CutSizes,
     views: Vec<V>,
     store: S,
-    inner: &I,
+    inner: &Option<I>,
 ) -> (Vec<V>, S, Result<Vec<u8>, MakeFault>)
     requires some { 0 < vec_len views }
     requires alike { AreOfOneImage (map V.held views.items) }

@@ -39,12 +39,16 @@ abbrev pub traffics_of : Ended → List Traffic
 traffics_of Nothing = []
 traffics_of (Link' l p rest) = traffic_of l ∷ traffics_of rest
 
+abbrev pub states_of : Ended → List LinkState
+states_of Nothing = []
+states_of (Link' l p rest) = link_of l ∷ states_of rest
+
 abbrev pub dial_of : MemDial → DialState
 dial_of d = record { ended = Some (traffics_of d.ended); faults = d.faults }
 
 abbrev pub listen_of : MemListen → ListenState
 listen_of l = record {
   coming = Some (map first_of (drop l.next l.links.items));
-  ended = Some (traffics_of l.ended);
+  ended = Some (states_of l.ended);
   faults = l.faults;
 }

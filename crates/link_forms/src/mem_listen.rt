@@ -46,7 +46,7 @@ impl MemListen {
     /// The link that ended after `k` others.
     pub fn ended(&self, k: usize) -> Option<&MemLink>
         ensures { IfSome (listen_of self.now).ended
-            (λ ended. option_map (λ l. traffic_of l.now) result ≡ slice_get ended k) }
+            (λ ended. option_map (λ l. link_of l.now) result ≡ slice_get ended k) }
     {
         self.ended.get(k)
     }

@@ -2,7 +2,7 @@
 
 ghost use Rattle.std.specs.Prelude.{◌≡◌, [], ◌∷◌, ◌++◌, slice_get, IfOk};
 ghost use Rattle.std.specs.Option.{option_map};
-ghost use Rattle.link_forms.specs.MemLinks.{first_of, traffic_of, traffics_of};
+ghost use Rattle.link_forms.specs.MemLinks.{first_of, link_of, states_of, traffic_of, traffics_of};
 
 use crate::mem_link::MemLink;
 use dsy_base::fault::{Failed, IoFault};
@@ -45,7 +45,8 @@ impl OpenLink {
 
 impl Ended {
     pub fn add(&mut self, link: OpenLink)
-        ensures { traffics_of self.new ≡ traffics_of self.old ++ traffic_of link.link ∷ [] }
+        ensures traffics { traffics_of self.new ≡ traffics_of self.old ++ traffic_of link.link ∷ [] }
+        ensures states { states_of self.new ≡ states_of self.old ++ link_of link.link ∷ [] }
     {
         let OpenLink { link, mut room } = link;
         *room = Ended::Nothing;
@@ -53,7 +54,8 @@ impl Ended {
     }
 
     pub fn append(&mut self, more: Ended)
-        ensures { traffics_of self.new ≡ traffics_of self.old ++ traffics_of more }
+        ensures traffics { traffics_of self.new ≡ traffics_of self.old ++ traffics_of more }
+        ensures states { states_of self.new ≡ states_of self.old ++ states_of more }
     {
         match self {
             Ended::Nothing => *self = more,
@@ -62,7 +64,8 @@ impl Ended {
     }
 
     pub fn get(&self, k: usize) -> Option<&MemLink>
-        ensures { option_map (λ l. traffic_of l.now) result ≡ slice_get (traffics_of self.now) k }
+        ensures traffic { option_map (λ l. traffic_of l.now) result ≡ slice_get (traffics_of self.now) k }
+        ensures state { option_map (λ l. link_of l.now) result ≡ slice_get (states_of self.now) k }
     {
         match self {
             Ended::Nothing => None,

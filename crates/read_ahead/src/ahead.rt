@@ -9,11 +9,11 @@ ghost use Rattle.read_ahead.specs.Ahead.{HasBytes, HasRoom, IsAhead, IsSlice};
 use crate::claims::Claims;
 use crate::plan::{PIECES, repeats};
 use caibx_codec::index::{Index, Listed};
-use chunk_store::id::DigestKind;
+use chunk_store::id::{ChunkId, DigestKind};
 use chunk_store::range::name_range;
 use dsy_base::fault::Failed;
+use dsy_base::inner_folders::InnerFolders;
 use dsy_base::view::View;
-use inner_folders::folders::InnerFolders;
 use std::alloc::{AllocError, Global};
 
 /// Where in a room the slice of an entry stands.
@@ -58,6 +58,14 @@ fn read_named<V: View>(
     }
 }
 
+// Creates the subfolder of the chunk's file, where the store's subfolders are known.
+fn make_subfolder<I: InnerFolders>(inner: &Option<I>, id: &ChunkId) {
+    if let Some(inner) = inner {
+        let path = id.path();
+        inner.make_for(path.as_str());
+    }
+}
+
 impl Ahead {
     /// A piece of room of so many bytes, in which nothing stands.
     pub fn new(alloc: Global, size: usize) -> Result<Ahead, AllocError>
@@ -88,7 +96,7 @@ impl Ahead {
         index: &Index,
         i: usize,
         view: &mut V,
-        inner: &I,
+        inner: &Option<I>,
     ) -> bool
         requires listed { i < count_of index.now }
         requires size { image_length index.now ≡ (V.held view.old).size }
@@ -112,8 +120,7 @@ impl Ahead {
             unreachable!();
         };
         self.filled += listed.size;
-        let path = listed.id.path();
-        inner.make_for(path.as_str());
+        make_subfolder(inner, &listed.id);
         true
     }
 
@@ -125,7 +132,7 @@ impl Ahead {
         first: Option<usize>,
         claims: &Claims,
         view: &mut V,
-        inner: &I,
+        inner: &Option<I>,
     )
         requires listed { IfSome first (λ i. i < count_of index.now) }
         requires inside { claims.now.to ≤ count_of index.now }

@@ -10,7 +10,7 @@ use crate::claims::Claims;
 use crate::plan::room_size;
 use caibx_codec::index::Index;
 use dsy_base::view::View;
-use inner_folders::folders::InnerFolders;
+use dsy_base::inner_folders::InnerFolders;
 use std::alloc::{AllocError, Global};
 use std::mem::swap;
 
@@ -29,7 +29,7 @@ impl<V: View> Reader<V> {
         index: &Index,
         first: Option<usize>,
         claims: &Claims,
-        inner: &I,
+        inner: &Option<I>,
     )
         requires listed { IfSome first (λ i. i < count_of index.now) }
         requires inside { claims.now.to ≤ count_of index.now }

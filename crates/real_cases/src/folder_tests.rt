@@ -8,8 +8,8 @@ use dsy_base::files::Files;
 use dsy_base::folder::Folder;
 use dsy_base::look::Look;
 use dsy_real::real_files::RealFiles;
-use inner_folders::folders::InnerFolders;
-use several_views::image_files::ImageFiles;
+use dsy_base::inner_folders::InnerFolders;
+use dsy_base::image_files::ImageFiles;
 use std::fs;
 use std::process::Abort;
 

@@ -10,3 +10,5 @@ mod file_tests;
 mod folder_tests;
 #[cfg(test)]
 mod fresh_folder;
+#[cfg(test)]
+mod split_tests;

@@ -8,5 +8,6 @@ pieces-preserved g c = record {
   room = c.receive_more.ensures.room;
   moves = moves_on _ _ _ _ _ _ c.pieces.invariant.moves c.in-Ok-true.ensures.ok;
   kept = c.receive_more.ensures.kept ∙ c.pieces.invariant.kept;
+  given = c.receive_more.ensures.given ∙ c.pieces.invariant.given;
   faults = c.in-Ok-true.ensures.faults.done ∙ c.pieces.invariant.faults;
 }

@@ -1,6 +1,6 @@
 use Rattle.std.proofs.Common.{◌≡◌, ◌-◌, ◌≤◌, [], length}
 use Rattle.chunk_server.specs.Requests.{head_limit}
-use Rattle.chunk_server.specs.Streams.{Moves, sent_in, stream_in}
+use Rattle.chunk_server.specs.Streams.{Moves, given_in, sent_in, stream_in}
 use Rattle.chunk_server.proofs.receiving.receive_body.Given as goal
 
 -- a part of the body has come
@@ -10,6 +10,7 @@ invariant-pieces g l = record {
   room : length l.body.items ≤ l.size;
   moves : Moves (stream_in l.fn.waiting.items (g.K.Link.state l.fn.link).traffic) (stream_in l.waiting.items (g.K.Link.state l.link).traffic) [] l.body.items;
   kept : sent_in (stream_in l.waiting.items (g.K.Link.state l.link).traffic) ≡ sent_in (stream_in l.fn.waiting.items (g.K.Link.state l.fn.link).traffic);
+  given : given_in (g.K.Link.state l.link).traffic ≡ given_in (g.K.Link.state l.fn.link).traffic;
   faults : (g.K.Link.state l.link).faults ≡ (g.K.Link.state l.fn.link).faults;
 }
 

@@ -1,6 +1,6 @@
 use Rattle.std.proofs.Common.{◌≡◌, ◌-◌, ◌≤◌, length}
 use Rattle.chunk_server.specs.Requests.{head_limit}
-use Rattle.chunk_server.specs.Streams.{stream_in}
+use Rattle.chunk_server.specs.Streams.{given_in, stream_in}
 use Rattle.chunk_server.proofs.receiving.receive_head.Given as goal
 
 -- bytes have come, and no more than a head may have
@@ -8,6 +8,7 @@ abbrev pub invariant-loop-waiting : goal.invariant-loop-waiting
 invariant-loop-waiting g l = record {
   size : length l.waiting.items ≤ head_limit;
   bytes : stream_in l.waiting.items (g.K.Link.state l.link).traffic ≡ stream_in l.fn.waiting.items (g.K.Link.state l.fn.link).traffic;
+  given : given_in (g.K.Link.state l.link).traffic ≡ given_in (g.K.Link.state l.fn.link).traffic;
   faults : (g.K.Link.state l.link).faults ≡ (g.K.Link.state l.fn.link).faults;
 }
 

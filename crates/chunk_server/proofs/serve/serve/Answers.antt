@@ -10,6 +10,7 @@ turns-init g c = record {
   kept = refl;
   place = refl;
   shelf_faults = omega arith;
+  given = refl;
   faults = refl;
 }
 
@@ -22,6 +23,7 @@ turns-preserved g c = record {
   kept = c.take_turn.ensures.kept ∙ c.turns.invariant.kept;
   place = c.take_turn.ensures.place ∙ c.turns.invariant.place;
   shelf_faults = omega (arith, c.take_turn.ensures.shelf_faults, c.turns.invariant.shelf_faults);
+  given = c.take_turn.ensures.given ∙ c.turns.invariant.given;
   faults = c.in-Ok-true.ensures.faults.done ∙ c.turns.invariant.faults;
 }
 

@@ -1,6 +1,6 @@
 use Rattle.std.proofs.Common.{◌≡◌, ◌≤◌, [], length}
 use Rattle.chunk_server.specs.Requests.{head_limit}
-use Rattle.chunk_server.specs.Streams.{stream_in}
+use Rattle.chunk_server.specs.Streams.{given_in, stream_in}
 use Rattle.chunk_server.specs.Turns.{Stays}
 use Rattle.chunk_server.proofs.serve.serve.Given as goal
 
@@ -13,5 +13,6 @@ invariant-turns g l = record {
   kept : g.H.Shelf.takes l.shelf ≡ g.H.Shelf.takes l.fn.shelf;
   place : g.H.Shelf.place l.shelf ≡ g.H.Shelf.place l.fn.shelf;
   shelf_faults : (g.H.Shelf.state l.fn.shelf).faults ≤ (g.H.Shelf.state l.shelf).faults;
+  given : given_in (g.K.Link.state l.link).traffic ≡ given_in (g.K.Link.state l.fn.link).traffic;
   faults : (g.K.Link.state l.link).faults ≡ (g.K.Link.state l.fn.link).faults;
 }

@@ -1,0 +1,9 @@
+use Rattle.std.proofs.Common.{◌≡◌, rules, sym, subst, arith}
+use Rattle.std.specs.Bool.{IsTrue}
+use Rattle.std.specs.List.{list_all}
+use Rattle.dsy_base.specs.Folders.{is_digit}
+use Rattle.chunk_store.proofs.Paths.{all_digits}
+use Rattle.chunk_store.proofs.id.digits_of.Goals as goal
+
+pub returns-clause-digits : goal.returns-clause-digits
+returns-clause-digits c = let all = all_digits c.args.bytes.now (λ i. omega (arith, c.fits-bytes i)) in Prim.search (rules, all)

@@ -1,0 +1,15 @@
+-- What a target in memory and its parts hold, and what is left of a target that was split.
+use Rattle.std.specs.Prelude.{Some, vec_len}
+use Rattle.dsy_base.specs.Bytes.{Held}
+use Rattle.dsy_base.specs.Splits.{Left}
+use Rattle.dsy_forms.specs.declared.mem_part.MemPart.{MemPart}
+use Rattle.dsy_forms.specs.declared.mem_target.MemTarget.{MemTarget}
+
+abbrev pub target_held : MemTarget → Held
+target_held t = record { bytes = Some t.bytes.items; size = vec_len t.bytes; name = t.name }
+
+abbrev pub part_held : MemPart → Held
+part_held p = record { bytes = Some p.bytes.items; size = vec_len p.bytes; name = p.name }
+
+abbrev pub target_left : MemTarget → Left
+target_left t = record { size = vec_len t.bytes; name = t.name; faults = t.faults }

@@ -1,0 +1,11 @@
+-- What a part of a file tells.
+use Rattle.std.specs.Prelude.{ℕ, List, Option, None}
+
+pub record FilePart : Type 0 where
+  pub size : ℕ
+  pub name : List ℕ
+  pub faults : ℕ
+
+-- its extent, with no bytes told
+abbrev pub part_extent : FilePart → Option (List ℕ) × ℕ
+part_extent p = (None, p.size)
