@@ -2,9 +2,10 @@
 """What the documents name and the repository lacks, a line each, labels of clauses that no list has, and what is too
 much in crates.txt or in a crate.
 
-A crate is one of crates.txt. A label is the name of a clause (`ensures LABEL { .. }`); docs/PROMISES.md names them after
-a function and a colon, in a section whose heading has the crates in brackets. Other words in backquotes are names where
-they are in the spelling of code: each has to stand in some source, script or list.
+A crate is one of crates.txt. A label is the name of a clause (`ensures LABEL { .. }`). Each row of docs/PROMISES.md has a
+promise, public functions, and labels, in a section whose heading has the crates in brackets: each label has to be that of
+a clause of one of the functions, and each function that has labels has to have one of these. Other words in backquotes are names
+where they are in the spelling of code: each has to stand in some source, script or list.
 """
 
 import os
@@ -14,7 +15,7 @@ import sys
 TOP = os.path.dirname(os.path.dirname(os.path.abspath(__file__)))
 PROMISES, CONTRIBUTING = 'docs/PROMISES.md', 'CONTRIBUTING.md'
 CLAUSE = re.compile(r'^\s*(?:ensures|requires)\*? (\w+) \{')
-FUNCTION = re.compile(r'\s*(?:pub(?:\(\w+\))? )?fn ')
+FUNCTION = re.compile(r'\s*(?:pub(?:\(\w+\))? )?fn (\w+)')
 MOST_LINES = 1500
 NAME = re.compile(r'[a-z][a-z0-9]*(?:_[a-z0-9]+)+|[A-Z][a-z0-9]+(?:[A-Z][a-z0-9]*)+')
 
@@ -47,14 +48,24 @@ def labels_of(crate, private=False):
 
 
 def labels_in(source, private):
+    return (label for _, label in clauses_in(source, private) if label)
+
+
+def clauses_in(source, private=False):
+    """The public functions of a source, or all, each once with no label and then with the label of each clause."""
     in_trait = public = False
+    function = None
     for line in source.split('\n'):
         if line.startswith(('pub trait', '}')):
             in_trait = line.startswith('pub trait')
-        if FUNCTION.match(line):
+        found = FUNCTION.match(line)
+        if found:
+            function = found.group(1)
             public = in_trait or line.lstrip().startswith('pub fn ')
+            if public or private:
+                yield function, None
         if public or private:
-            yield from CLAUSE.findall(line)
+            yield from ((function, label) for label in CLAUSE.findall(line))
 
 
 def lines_without_blocks(path):
@@ -68,20 +79,32 @@ def lines_without_blocks(path):
 
 
 def labels_that_are_not_there():
-    named = []
+    named, labels = [], {}
     for number, line in lines_without_blocks(PROMISES):
         if line.startswith('#'):
             found = re.search(r'\(([a-z0-9_, ]+)\)$', line)
-            named = [name for name in re.findall(r'\w+', found.group(1))] if found else []
+            named = re.findall(r'\w+', found.group(1)) if found else []
             for crate in set(named) - set(crates()):
                 yield f'{PROMISES}:{number}: no crate {crate}'
-            known = set().union(*(labels_of(crate) for crate in named))
+            labels = {}
+            for path in (path for crate in named for path in files(f'crates/{crate}/src', endings='.rt')):
+                for function, label in clauses_in(text_of(path)):
+                    labels.setdefault(function, set()).add(label)
         elif named and line.startswith('|'):
-            carried = line.rstrip().rstrip('|').rsplit('|', 1)[-1]
-            for listed in re.findall(r':((?: `\w+`,?)+)', carried):
-                for label in re.findall(r'`(\w+)`', listed):
-                    if label not in known:
-                        yield f'{PROMISES}:{number}: no clause {label} in {" or ".join(named)}'
+            cells = [re.findall(r'`([\w:]+)`', cell) for cell in line.strip('|').split('|')]
+            if len(cells) == 3 and cells[1]:
+                yield from (f'{PROMISES}:{number}: {fault}' for fault in faults_of_row(cells[1], set(cells[2]), labels))
+
+
+def faults_of_row(functions, wanted, labels):
+    for function in functions:
+        name = function.rsplit('::', 1)[-1]
+        if name not in labels:
+            yield f'no function {function}'
+        elif wanted and labels[name] != {None} and not wanted & labels[name]:
+            yield f'{function} has none of these clauses'
+    there = {label for function in functions for label in labels.get(function.rsplit('::', 1)[-1], ())}
+    yield from (f'no clause {label}' for label in sorted(wanted - there))
 
 
 def labels_that_are_not_listed():
