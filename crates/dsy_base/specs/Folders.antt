@@ -21,6 +21,6 @@ abbrev pub is_digit : ℕ → Bool
 is_digit c = (nat_le 48 c && nat_le c 57) || (nat_le 97 c && nat_le c 102)
 
 -- the path of a chunk file in a store's folder: four digits, `/`, and 64 digits that begin with these four
-abbrev pub IsChunkPath : List ℕ → Type 0
+unfoldable pub IsChunkPath : List ℕ → Type 0
 IsChunkPath path = (digits : List ℕ) × (length digits ≡ 64) × IsTrue (list_all is_digit digits)
     × (path ≡ take 4 digits ++ 47 ∷ digits)

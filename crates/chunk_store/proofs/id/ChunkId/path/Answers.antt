@@ -3,7 +3,7 @@ use Rattle.std.specs.Str.{IsAscii}
 use Rattle.chunk_store.proofs.Paths.{digits_ascii, path_is}
 use Rattle.std.specs.List.{list_all}
 use Rattle.std.specs.Bool.{IsTrue}
-use Rattle.dsy_base.specs.Folders.{is_digit}
+use Rattle.dsy_base.specs.Folders.{IsChunkPath, is_digit}
 use Rattle.hex.specs.Hex.{encode_lower, lower_digits}
 use Rattle.hex.proofs.HexLemmas.{length-encode_with}
 use Rattle.chunk_store.proofs.id.ChunkId.path.Goals as goal
@@ -12,6 +12,7 @@ pub of-requires : goal.of-requires
 of-requires c = subst IsAscii (sym c.to_hex.ensures.value) (digits_ascii c.args.self.now.0)
 
 pub returns : goal.returns
+unfolding IsChunkPath
 returns c = record {
   value = c.of.ensures.value ∙ ap (λ ds. take 4 ds ++ 47 ∷ ds) c.to_hex.ensures.value ∙ path_is c.args.self.now.0 (omega arith);
   digits = (
