@@ -57,9 +57,10 @@ check 'crates that crates.txt leaves out' "$(comm -23 <(crates | sort) <(listed 
 check 'crates of crates.txt that are not there' "$(comm -13 <(crates | sort) <(listed | sort))"
 check 'crates that crates.txt names in vain' "$(python3 tests/names.py vain)"
 check 'crates that a document leaves out' "$(python3 tests/names.py crates)"
-check 'labels and crates of docs/PROMISES.md that are not there' "$(python3 tests/names.py labels)"
+check 'functions, labels and crates of docs/PROMISES.md that are not there' "$(python3 tests/names.py labels)"
 check 'labels of clauses that CONTRIBUTING.md does not list' "$(python3 tests/names.py list)"
 check 'names in documents that are nowhere else' "$(python3 tests/names.py names)"
+check 'definitions that docs/DEFINITIONS.md does not read aloud' "$(python3 tests/names.py reached)"
 check 'edits that do not fit the code' "$(tests/further_edits.sh --apply)"
 
 echo "docs: $passed passed, $failed failed"

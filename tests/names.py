@@ -13,9 +13,12 @@ import re
 import sys
 
 TOP = os.path.dirname(os.path.dirname(os.path.abspath(__file__)))
-PROMISES, CONTRIBUTING = 'docs/PROMISES.md', 'CONTRIBUTING.md'
+PROMISES, DEFINITIONS, CONTRIBUTING = 'docs/PROMISES.md', 'docs/DEFINITIONS.md', 'CONTRIBUTING.md'
+TOP_CALLS = 'crates/desync_cli/src/run.rt', 'crates/desync_cli/src/in_memory.rt'
 CLAUSE = re.compile(r'^\s*(?:ensures|requires)\*? (\w+) \{')
 FUNCTION = re.compile(r'\s*(?:pub(?:\(\w+\))? )?fn (\w+)')
+DEFINITION = re.compile(r'^( *)(?:(?:abbrev|unfoldable) )?pub (record )?(?!mod |◌)(\w+)')
+IMPORT = re.compile(r'^(?:ghost )?use Rattle\.(\w+)\.specs\.(\w+)\.\{([^}]*)\}', re.MULTILINE)
 MOST_LINES = 1500
 NAME = re.compile(r'[a-z][a-z0-9]*(?:_[a-z0-9]+)+|[A-Z][a-z0-9]+(?:[A-Z][a-z0-9]*)+')
 
@@ -131,12 +134,73 @@ def names_that_are_not_there():
 
 
 def crates_that_no_table_has():
-    defining = {path.split('/')[1] for path in files('crates', endings='.antt') if '/specs/' in path}
-    for path, wanted in ((PROMISES, crates()), ('docs/ARCHITECTURE.md', crates()), ('docs/DEFINITIONS.md', defining)):
+    for path in (PROMISES, 'docs/ARCHITECTURE.md'):
         text = text_of(path)
-        for crate in sorted(wanted):
+        for crate in sorted(crates()):
             if not re.search(rf'\b{crate}\b', text):
                 yield f'{path}: no {crate}'
+
+
+def definitions_in(path):
+    """The definitions of a module of specs/ in order: name, line, text, and whether a comment stands right above."""
+    found, above, record = [], '', None
+    for number, line in enumerate(text_of(path).split('\n'), 1):
+        match = DEFINITION.match(line)
+        if match and (match.group(2) or record is None or len(match.group(1)) <= record or line.lstrip()[:3] != 'pub'):
+            found.append([match.group(3), number, line, re.match(r' *-- (?!----)', above) is not None])
+            record = len(match.group(1)) if match.group(2) else None
+        elif found and not line.lstrip().startswith('--'):
+            found[-1][2] += '\n' + line
+        above = line
+    return found
+
+
+def modules():
+    """The modules of all specs/ by crate and name: the names that each imports, and its definitions."""
+    found = {}
+    for path in (path for crate in crates() for path in files(f'crates/{crate}/specs', endings='.antt')):
+        place = path.split('/')[1], os.path.basename(path)[:-len('.antt')]
+        found[place] = imports_of(text_of(path)), {each[0]: each[2] for each in definitions_in(path)}
+    return found
+
+
+def imports_of(source):
+    return {name: (crate, module) for crate, module, names in IMPORT.findall(source) for name in names.split(', ')}
+
+
+def definitions_that_are_not_read_aloud():
+    """What the clauses of the top calls reach and docs/DEFINITIONS.md lacks, and what it has that no specs/ have."""
+    known = modules()
+    waiting = [(*imports_of(text_of(path)).get(word, ('', '')), word) for path in TOP_CALLS
+               for signature in re.findall(r'^pub fn .*?^\{', text_of(path), re.MULTILINE | re.DOTALL)
+               for word in set(re.findall(r'\w+', signature))]
+    reached = set()
+    while waiting:
+        crate, module, name = waiting.pop()
+        imports, defined = known.get((crate, module), ({}, {}))
+        if name in defined and (crate, module, name) not in reached:
+            reached.add((crate, module, name))
+            for word in set(re.findall(r'\w+', defined[name])) - {name}:
+                waiting.append((*imports.get(word, (crate, module)), word))
+    told = {}
+    for number, line in lines_without_blocks(DEFINITIONS):
+        if line.startswith('## '):
+            named = line[3:].split(', ')
+        elif line.startswith('- '):
+            for name in re.findall(r'`(\w+)[^`]*`(?=[^:]*:)', line.split(': ')[0] + ':'):
+                told.setdefault(name, set()).update(named)
+                if not any(name in defined for (crate, _), (_, defined) in known.items() if crate in named):
+                    yield f'{DEFINITIONS}:{number}: no definition {name}'
+    for crate, module, name in sorted(reached):
+        if crate not in told.get(name, ()):
+            yield f'{DEFINITIONS}: no {name} of {crate}, {module}'
+
+
+def definitions_without_a_comment():
+    for path in (path for crate in crates() for path in files(f'crates/{crate}/specs', endings='.antt')):
+        for name, number, _, commented in definitions_in(path):
+            if not commented:
+                yield f'{path}:{number}: {name}'
 
 
 def crates_named_in_vain():
@@ -160,7 +224,8 @@ def crates_that_are_too_long():
 
 
 QUESTIONS = {'labels': labels_that_are_not_there, 'list': labels_that_are_not_listed, 'names': names_that_are_not_there,
-             'crates': crates_that_no_table_has, 'vain': crates_named_in_vain, 'long': crates_that_are_too_long}
+             'crates': crates_that_no_table_has, 'reached': definitions_that_are_not_read_aloud,
+             'comments': definitions_without_a_comment, 'vain': crates_named_in_vain, 'long': crates_that_are_too_long}
 
 if __name__ == '__main__':
     print('\n'.join(QUESTIONS[sys.argv[1]]()))
