@@ -1,13 +1,13 @@
 #!/bin/bash
 # What must never stand in the repository, and what must: tags and names of planning papers, paths of one machine,
 # files, lines and crates that are too long, crates that crates.txt or a document leaves out or names in vain, what a
-# document names that isn't there (crates, labels of clauses, definitions and functions), and edits that don't fit the
-# code that they change.
+# document names that isn't there (crates, labels of clauses, definitions and functions), a manual page that says other
+# things than the help texts, and edits that don't fit the code that they change.
 cd "$(dirname "$0")/.." || exit 1
 passed=0
 failed=0
 
-# check WHAT FOUND: passes where nothing was found, else prints what was.
+# check WHAT FOUND: passes where nothing was found, else prints what was. What a script says when it breaks is found too.
 check() {
     if [ -z "$2" ]; then
         passed=$((passed + 1))
@@ -50,18 +50,24 @@ check 'names of planning papers' "$(lines '\<(scope|promises|roadmap|formats|set
 check 'paths of one machine' "$(lines '(^|[^A-Za-z0-9_.~-])/(opt|work|root)[/]')"
 check 'files of more than 800 lines' "$(files | xargs -0 -r wc -l 2> /dev/null |
     awk '$2 ~ /^(\.\/)?crates\// && $1 > 800')"
-check 'crates of more than 1,500 lines' "$(python3 tests/names.py long)"
-check 'lines of more than 120 columns' "$(wide)"
+check 'crates of more than 1,500 lines' "$(python3 tests/names.py long 2>&1)"
+check 'lines of more than 120 columns' "$(wide 2>&1)"
 check 'files that are built' "$(files | tr '\0' '\n' | grep -E '(^|/)(out|bin|__pycache__)/')"
 check 'crates that crates.txt leaves out' "$(comm -23 <(crates | sort) <(listed | sort))"
 check 'crates of crates.txt that are not there' "$(comm -13 <(crates | sort) <(listed | sort))"
-check 'crates that crates.txt names in vain' "$(python3 tests/names.py vain)"
-check 'crates that a document leaves out' "$(python3 tests/names.py crates)"
-check 'functions, labels and crates of docs/PROMISES.md that are not there' "$(python3 tests/names.py labels)"
-check 'labels of clauses that CONTRIBUTING.md does not list' "$(python3 tests/names.py list)"
-check 'names in documents that are nowhere else' "$(python3 tests/names.py names)"
-check 'definitions that docs/DEFINITIONS.md does not read aloud' "$(python3 tests/names.py reached)"
-check 'edits that do not fit the code' "$(tests/further_edits.sh --apply)"
+check 'crates that crates.txt names in vain' "$(python3 tests/names.py vain 2>&1)"
+check 'crates that a document leaves out' "$(python3 tests/names.py crates 2>&1)"
+check 'functions, labels and crates of docs/PROMISES.md that are not there' "$(python3 tests/names.py labels 2>&1)"
+check 'labels of clauses that CONTRIBUTING.md does not list' "$(python3 tests/names.py list 2>&1)"
+check 'names in documents that are nowhere else' "$(python3 tests/names.py names 2>&1)"
+check 'definitions that docs/DEFINITIONS.md does not read aloud' "$(python3 tests/names.py reached 2>&1)"
+check 'what docs/desync.1 says otherwise than docs/COMMANDS.md' "$(tests/manual.py 2>&1)"
+if type -P groff > /dev/null; then
+    check 'warnings of groff at docs/desync.1' "$(groff -man -Tutf8 -ww -z docs/desync.1 2>&1)"
+else
+    echo 'SKIPPED warnings of groff at docs/desync.1: groff is not installed'
+fi
+check 'edits that do not fit the code' "$(tests/further_edits.sh --apply 2>&1)"
 
 echo "docs: $passed passed, $failed failed"
 [ "$failed" -eq 0 ]

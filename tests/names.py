@@ -122,7 +122,7 @@ def labels_that_are_not_listed():
 
 def names_that_are_not_there():
     sources = [*files('crates', endings=('.rt', '.antt', '.edit')), *files('tests', 'bench', endings=('.py', '.sh')),
-               'crates.txt', 'build', 'quickstart.sh']
+               'crates.txt', 'build', 'install', 'quickstart.sh']
     there = set(re.findall(r'\w+', ' '.join(text_of(path) for path in sources)))
     there |= {os.path.splitext(os.path.basename(path))[0] for path in sources}
     for path in documents():
