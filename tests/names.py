@@ -203,6 +203,17 @@ def definitions_without_a_comment():
                 yield f'{path}:{number}: {name}'
 
 
+def definitions_with_one_name():
+    """Names that definitions of several modules have. The forms in memory with and without failing calls share theirs."""
+    found = {}
+    for (crate, module), (_, defined) in modules().items():
+        for name in defined:
+            found.setdefault(name, set()).add(f'{crate}.{module}'.replace('dsy_sure.Sure', 'dsy_forms.Mem'))
+    for name, places in sorted(found.items()):
+        if len(places) > 1:
+            yield f'{name}: {", ".join(sorted(places))}'
+
+
 def crates_named_in_vain():
     for line in text_of('crates.txt').split('\n'):
         crate, _, below = line.partition(':')
@@ -225,7 +236,8 @@ def crates_that_are_too_long():
 
 QUESTIONS = {'labels': labels_that_are_not_there, 'list': labels_that_are_not_listed, 'names': names_that_are_not_there,
              'crates': crates_that_no_table_has, 'reached': definitions_that_are_not_read_aloud,
-             'comments': definitions_without_a_comment, 'vain': crates_named_in_vain, 'long': crates_that_are_too_long}
+             'comments': definitions_without_a_comment, 'twice': definitions_with_one_name,
+             'vain': crates_named_in_vain, 'long': crates_that_are_too_long}
 
 if __name__ == '__main__':
     print('\n'.join(QUESTIONS[sys.argv[1]]()))
