@@ -1,11 +1,13 @@
 //! Claims on the entries of a round, and slices that are read into a room.
 
+ghost use Rattle.std.specs.Prelude.{[]};
+
 use crate::compare::{ok, same};
 use crate::indexes::index_of_pieces;
 use caibx_codec::index::Index;
+use dsy_base::inner_folders::InnerFolders;
 use dsy_base::view::View;
 use dsy_forms::mem_view::MemView;
-use dsy_base::inner_folders::InnerFolders;
 use dsy_forms::no_folders::NoFolders;
 use read_ahead::ahead::Ahead;
 use read_ahead::claims::Claims;
@@ -47,7 +49,8 @@ fn reads(
     let claims = Claims::new(0, index.count());
     let ahead = ok(rt, Ahead::new(alloc, size));
     let mut reader = Reader { view, ahead };
-    reader.read(index, claims.claim(), &claims, &NoFolders);
+    let inner = NoFolders::of(alloc, "");
+    reader.read(index, claims.claim(), &claims, &inner);
     same(rt, reader.ahead.slice(index, 0), first);
     same(rt, reader.ahead.slice(index, 1), second);
 }
@@ -85,8 +88,10 @@ struct Named<'a> {
 }
 
 impl InnerFolders for Named<'_> {
-    fn make_for(&self, name: &str) {
-        let count = if name == self.name {
+    ghost place = { λ _. [] };
+
+    fn make_for(&self, path: &str) {
+        let count = if path == self.name {
             &self.asked
         } else {
             &self.others
@@ -105,17 +110,20 @@ fn folders_made(rt: &impl Abort, alloc: Global, index: &Index, image: &[u8], mad
     assert!(rt; view.size() == index.length());
     assert!(rt; 0 < index.count());
     let path = index.id(0).path();
-    let inner = Named {
+    let inner = Some(Named {
         name: path.as_str(),
         asked: AtomicU64::new(0),
         others: AtomicU64::new(0),
-    };
+    });
     let claims = Claims::new(0, index.count());
     let ahead = ok(rt, Ahead::new(alloc, 6));
     let mut reader = Reader { view, ahead };
     reader.read(index, claims.claim(), &claims, &inner);
-    same(rt, inner.asked.load(Ordering::SeqCst), made.0);
-    same(rt, inner.others.load(Ordering::SeqCst), made.1);
+    let Some(named) = &inner else {
+        unreachable!();
+    };
+    same(rt, named.asked.load(Ordering::SeqCst), made.0);
+    same(rt, named.others.load(Ordering::SeqCst), made.1);
 }
 
 #[test]

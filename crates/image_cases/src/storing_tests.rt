@@ -13,10 +13,10 @@ use dsy_base::fault::{Failed, IoFault, raise};
 use dsy_base::name::Name;
 use dsy_base::view::View;
 use dsy_forms::mem_view::MemView;
+use dsy_forms::no_folders::NoFolders;
 use image_store::chop::{ChopFault, chop};
 use image_store::put_chunks::MakeFault;
 use image_store::store_image::store_image;
-use dsy_forms::no_folders::NoFolders;
 use std::alloc::Global;
 use std::process::Abort;
 use std::thread::Threads;
@@ -166,7 +166,8 @@ fn stores<R: Abort + Threads + Sync>(
 ) -> (Counting, Result<usize, MakeFault>) {
     let views = one_view(rt, alloc, view_of(rt, alloc, image));
     let sizes = sizes_of(rt, 48, 48, 48);
-    let (_views, store, made) = store_image(rt, alloc, &sizes, views, store, &NoFolders);
+    let inner = NoFolders::of(alloc, "");
+    let (_views, store, made) = store_image(rt, alloc, &sizes, views, store, &inner);
     match made {
         Ok(bytes) => (store, Ok(bytes.len())),
         Err(fault) => (store, Err(fault)),
@@ -355,7 +356,8 @@ fn stored_twice<R: Abort + Threads + Sync>(
     assert!(rt; 0 < views.len());
     let store = Counting::new(alloc, None);
     let sizes = sizes_of(rt, 48, 48, 48);
-    let (views, store, stored) = store_image(rt, alloc, &sizes, views, store, &NoFolders);
+    let inner = NoFolders::of(alloc, "");
+    let (views, store, stored) = store_image(rt, alloc, &sizes, views, store, &inner);
     let (calls, reads, want) = told;
     same(rt, store.calls, calls);
     assert!(rt; 0 < views.len());
@@ -401,7 +403,8 @@ fn stored_by<R: Abort + Threads + Sync>(
     let sizes = sizes_of(rt, 16_384, 65_536, 262_144);
     let views = views_of(rt, alloc, image, count);
     let store = Counting::new(alloc, None);
-    let (_views, store, stored) = store_image(rt, alloc, &sizes, views, store, &NoFolders);
+    let inner = NoFolders::of(alloc, "");
+    let (_views, store, stored) = store_image(rt, alloc, &sizes, views, store, &inner);
     (ok(rt, stored), store)
 }
 

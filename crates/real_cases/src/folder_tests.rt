@@ -3,13 +3,14 @@
 ghost use Rattle.std.specs.Prelude.{◌≡◌};
 
 use crate::fresh_folder::{fresh_folder, inside};
+use chunk_store::id::ChunkId;
 use dsy_base::fault::IoFault;
 use dsy_base::files::Files;
 use dsy_base::folder::Folder;
+use dsy_base::image_files::ImageFiles;
+use dsy_base::inner_folders::InnerFolders;
 use dsy_base::look::Look;
 use dsy_real::real_files::RealFiles;
-use dsy_base::inner_folders::InnerFolders;
-use dsy_base::image_files::ImageFiles;
 use std::fs;
 use std::process::Abort;
 
@@ -78,15 +79,16 @@ fn is_folder(rt: &HostRuntime, path: &str) -> bool {
 }
 
 #[test]
-fn an_inner_folder_is_made_for_a_file(rt: HostRuntime) {
+fn a_subfolder_is_made_once_for_the_chunks_in_it(rt: HostRuntime) {
     let path = fresh_folder(&rt, "inner").expect(&rt, "no folder");
-    let made = inside(&rt, path.as_str(), "ab").expect(&rt, "no memory");
+    let made = inside(&rt, path.as_str(), "abab").expect(&rt, "no memory");
     let files = RealFiles::new(&rt, rt.alloc());
     let inner = files.inner(path.as_str()).expect(&rt, "no memory");
-    inner.make_for("plain");
+    inner.make_for(ChunkId([0xcd; 32]).path().as_str());
     assert!(rt; !is_folder(&rt, made.as_str()));
-    inner.make_for("ab/cd");
-    inner.make_for("ab/ce");
+    inner.make_for(ChunkId([0xab; 32]).path().as_str());
+    assert!(rt; is_folder(&rt, made.as_str()));
+    inner.make_for(ChunkId([0xab; 32]).path().as_str());
     assert!(rt; is_folder(&rt, made.as_str()));
     assert!(rt; fs::remove_dir_all(&rt, path.as_str()).is_ok());
 }
