@@ -19,7 +19,7 @@ CLAUSE = re.compile(r'^\s*(?:ensures|requires)\*? (\w+) \{')
 FUNCTION = re.compile(r'\s*(?:pub(?:\(\w+\))? )?fn (\w+)')
 DEFINITION = re.compile(r'^( *)(?:(?:abbrev|unfoldable) )?pub (record )?(?!mod |◌)(\w+)')
 IMPORT = re.compile(r'^(?:ghost )?use Rattle\.(\w+)\.specs\.(\w+)\.\{([^}]*)\}', re.MULTILINE)
-MOST_LINES = 1500
+MOST_LINES, MOST_BODY = 1500, 40
 NAME = re.compile(r'[a-z][a-z0-9]*(?:_[a-z0-9]+)+|[A-Z][a-z0-9]+(?:[A-Z][a-z0-9]*)+')
 
 
@@ -111,7 +111,8 @@ def faults_of_row(functions, wanted, labels):
 
 
 def labels_that_are_not_listed():
-    listed = {label for _, line in lines_without_blocks(CONTRIBUTING) if line.startswith('| `')
+    section = re.search(r'^## Labels of clauses$.*?(?=^## )', text_of(CONTRIBUTING), re.MULTILINE | re.DOTALL)[0]
+    listed = {label for line in section.split('\n') if line.startswith('| `')
               for label in re.findall(r'`(\w+)`', line.split('|')[1])}
     used = {label: crate for crate in crates() for label in labels_of(crate)}
     for label in sorted(set(used) - listed):
@@ -234,10 +235,27 @@ def crates_that_are_too_long():
             yield f'{crate}: {lines} lines'
 
 
+def bodies_that_are_too_long():
+    """Bodies that have not fewer than 40 lines between their braces, but for those that are one `match`."""
+    for path in (path for crate in crates() if not crate.endswith('_cases')
+                 for path in files(f'crates/{crate}/src', endings='.rt')):
+        lines = text_of(path).split('\n')
+        for start, line in enumerate(lines):
+            found = re.match(r'( *)(?:pub(?:\(\w+\))? )?fn (\w+)', line)
+            opening = found and next((at for at in range(start, len(lines)) if lines[at] == found.group(1) + '{'
+                                      or lines[at].endswith('{') and (at == start or lines[at].startswith(found.group(1) + ')'))
+                                      or lines[at].startswith(found.group(1) + '}') or lines[at].endswith(';')), None)
+            if found and opening is not None and lines[opening].endswith('{'):
+                end = lines.index(found.group(1) + '}', opening)
+                body = lines[opening + 1:end]
+                if MOST_BODY <= len(body) and not body[0].lstrip().startswith('match '):
+                    yield f'{path}:{start + 1}: {found.group(2)} has a body of {len(body)} lines'
+
+
 QUESTIONS = {'labels': labels_that_are_not_there, 'list': labels_that_are_not_listed, 'names': names_that_are_not_there,
              'crates': crates_that_no_table_has, 'reached': definitions_that_are_not_read_aloud,
              'comments': definitions_without_a_comment, 'twice': definitions_with_one_name,
-             'vain': crates_named_in_vain, 'long': crates_that_are_too_long}
+             'vain': crates_named_in_vain, 'long': crates_that_are_too_long, 'bodies': bodies_that_are_too_long}
 
 if __name__ == '__main__':
     print('\n'.join(QUESTIONS[sys.argv[1]]()))
