@@ -242,14 +242,19 @@ def bodies_that_are_too_long():
         lines = text_of(path).split('\n')
         for start, line in enumerate(lines):
             found = re.match(r'( *)(?:pub(?:\(\w+\))? )?fn (\w+)', line)
-            opening = found and next((at for at in range(start, len(lines)) if lines[at] == found.group(1) + '{'
-                                      or lines[at].endswith('{') and (at == start or lines[at].startswith(found.group(1) + ')'))
-                                      or lines[at].startswith(found.group(1) + '}') or lines[at].endswith(';')), None)
-            if found and opening is not None and lines[opening].endswith('{'):
-                end = lines.index(found.group(1) + '}', opening)
-                body = lines[opening + 1:end]
-                if MOST_BODY <= len(body) and not body[0].lstrip().startswith('match '):
-                    yield f'{path}:{start + 1}: {found.group(2)} has a body of {len(body)} lines'
+            body = found and body_of(lines, start, found.group(1))
+            if body and MOST_BODY <= len(body) and not body[0].lstrip().startswith('match '):
+                yield f'{path}:{start + 1}: {found.group(2)} has a body of {len(body)} lines'
+
+
+def body_of(lines, start, indent):
+    """The lines of the body of the function that starts here, if it has one. What a trait asks for ends with `;`."""
+    for at in range(start, len(lines)):
+        if lines[at] == indent + '{' or lines[at].endswith('{') and (at == start or lines[at].startswith(indent + ')')):
+            return lines[at + 1:lines.index(indent + '}', at)]
+        if lines[at].endswith(('{}', ';')) and lines[at + 1].strip() in ('', '}'):
+            break
+    return None
 
 
 QUESTIONS = {'labels': labels_that_are_not_there, 'list': labels_that_are_not_listed, 'names': names_that_are_not_there,
