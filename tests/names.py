@@ -169,6 +169,18 @@ def imports_of(source):
     return {name: (crate, module) for crate, module, names in IMPORT.findall(source) for name in names.split(', ')}
 
 
+def read_aloud():
+    """The definitions of docs/DEFINITIONS.md by name, each with the crates of the headings that it stands under."""
+    told, named = {}, []
+    for _, line in lines_without_blocks(DEFINITIONS):
+        if line.startswith('## '):
+            named = line[3:].split(', ')
+        elif line.startswith('- '):
+            for name in re.findall(r'`(\w+)[^`]*`(?=[^:]*:)', line.split(': ')[0] + ':'):
+                told.setdefault(name, set()).update(named)
+    return told
+
+
 def definitions_that_are_not_read_aloud():
     """What the clauses of the top calls reach and docs/DEFINITIONS.md lacks, and what it has that no specs/ have."""
     known = modules()
@@ -183,24 +195,21 @@ def definitions_that_are_not_read_aloud():
             reached.add((crate, module, name))
             for word in set(re.findall(r'\w+', defined[name])) - {name}:
                 waiting.append((*imports.get(word, (crate, module)), word))
-    told = {}
-    for number, line in lines_without_blocks(DEFINITIONS):
-        if line.startswith('## '):
-            named = line[3:].split(', ')
-        elif line.startswith('- '):
-            for name in re.findall(r'`(\w+)[^`]*`(?=[^:]*:)', line.split(': ')[0] + ':'):
-                told.setdefault(name, set()).update(named)
-                if not any(name in defined for (crate, _), (_, defined) in known.items() if crate in named):
-                    yield f'{DEFINITIONS}:{number}: no definition {name}'
+    told = read_aloud()
+    for name, places in told.items():
+        if not places & {crate for (crate, _), (_, defined) in known.items() if name in defined}:
+            yield f'{DEFINITIONS}: no definition {name} in {" or ".join(sorted(places))}'
     for crate, module, name in sorted(reached):
         if crate not in told.get(name, ()):
             yield f'{DEFINITIONS}: no {name} of {crate}, {module}'
 
 
 def definitions_without_a_comment():
-    for path in (path for crate in crates() for path in files(f'crates/{crate}/specs', endings='.antt')):
+    """Those that have no sentence: no comment right above them, and no place in docs/DEFINITIONS.md."""
+    told = read_aloud()
+    for crate, path in ((crate, path) for crate in crates() for path in files(f'crates/{crate}/specs', endings='.antt')):
         for name, number, _, commented in definitions_in(path):
-            if not commented:
+            if not commented and crate not in told.get(name, ()):
                 yield f'{path}:{number}: {name}'
 
 
