@@ -53,9 +53,7 @@ def main():
         count = len(index.entries)
         image, output = os.path.join(folder, 'image'), os.path.join(folder, 'output')
 
-        def remove_output():
-            if os.path.exists(output):
-                os.remove(output)
+        remove_output = side_by_side.remover(output)
 
         def cool_down():
             # What was filled is moved aside: right after many files were removed making them takes longer.

@@ -6,26 +6,11 @@ size under the temporary folder.
 """
 
 import os
-import random
 import sys
 
 import side_by_side
-import formats
 import servers
-
-CHUNK = 65536
-
-
-def lay_out(folder, size):
-    """The image's index and its store."""
-    chance = random.Random(3)
-    index = formats.Index([])
-    for start in range(0, size, CHUNK):
-        piece = chance.randbytes(min(CHUNK, size - start))
-        formats.write_chunk(os.path.join(folder, 'store'), index.add(piece), piece)
-    formats.write_index(os.path.join(folder, 'image.caibx'), index)
-    # nginx's worker may be another user.
-    os.chmod(folder, 0o755)
+import sliced
 
 
 def main():
@@ -34,12 +19,10 @@ def main():
         sys.exit('nginx isn\'t installed')
     size = options.size * side_by_side.MIB
     with side_by_side.work_folder() as folder:
-        lay_out(folder, size)
-        out = os.path.join(folder, 'out')
-
-        def clear():
-            if os.path.exists(out):
-                os.remove(out)
+        sliced.lay_out(folder, size, store='store')
+        # nginx's worker may be another user.
+        os.chmod(folder, 0o755)
+        clear = side_by_side.remover(os.path.join(folder, 'out'))
 
         def extract(what, store, at_most=None):
             return side_by_side.Row(what, ['extract', '-k', '-s', store, 'image.caibx', 'out'], clear, at_most=at_most)
@@ -47,7 +30,7 @@ def main():
         with servers.nginx(folder, os.path.join(folder, 'nginx')) as port:
             rows = [extract('the folder', 'store'), extract('nginx', f'http://localhost:{port}/store', 2.0)]
             side_by_side.measure(rows, folder, options.runs)
-        print(f'an image of {size} bytes, {-(-size // CHUNK)} chunks; medians of {options.runs} runs')
+        print(f'an image of {size} bytes, {-(-size // sliced.CHUNK)} chunks; medians of {options.runs} runs')
         side_by_side.print_table(rows, size)
 
 

@@ -21,6 +21,7 @@ import tempfile
 import side_by_side
 import cutter
 import formats
+import over_crates
 
 IMAGE, INDEX, PIECE = 'image', 'image.caibx', 65536
 WORDS = [''.join(random.Random(number).choices('etaoinshrdlu', k=2 + number % 9)) for number in range(4000)]
@@ -244,7 +245,7 @@ def measure_beside(kind, folder, runs):
 def build_cutter(folder):
     try:
         return cutter.build(folder)
-    except cutter.NoCutter as why:
+    except over_crates.NotBuilt as why:
         print(f'cutting alone isn\'t measured: {why}')
         return None
 

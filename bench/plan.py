@@ -8,17 +8,15 @@ takes is what one run takes more than the run without that step.
 
 import argparse
 import os
-import shutil
 import statistics
-import subprocess
 import sys
 import tempfile
 
 sys.path.insert(0, os.path.join(os.path.dirname(os.path.abspath(__file__)), '..', 'tests'))
+import over_crates
 import program
 
-TOP = os.path.join(os.path.dirname(os.path.abspath(__file__)), '..')
-BELOW = ('dsy_base', 'chunk_store', 'caibx_fields', 'caibx_codec', 'extract_plan')
+USES = ['chunk_store', 'caibx_codec', 'extract_plan']
 CRATE = 'plan_steps'
 
 PROGRAM = '''//! Makes an index and two seeds, their plan and the places of its wants, up to a step.
@@ -111,23 +109,10 @@ fn main(rt: HostRuntime) -> ExitCode {
 
 def build(folder):
     """The program that does the steps, as a path; `folder` takes the copy of the crates."""
-    with open(os.path.join(TOP, 'crates.txt'), encoding='utf-8') as file:
-        lines = [line for line in file if line.split(':')[0] in BELOW]
-    with open(os.path.join(folder, 'crates.txt'), 'w', encoding='utf-8') as file:
-        file.writelines([*lines, f'{CRATE}: chunk_store caibx_codec extract_plan\n'])
-    shutil.copy(os.path.join(TOP, 'HANDLES'), folder)
-    for name in BELOW:
-        shutil.copytree(os.path.join(TOP, 'crates', name), os.path.join(folder, 'crates', name),
-                        ignore=shutil.ignore_patterns('must-fail', 'further-edits'))
-    crate = os.path.join(folder, 'crates', CRATE)
-    os.makedirs(os.path.join(crate, 'src'))
-    with open(os.path.join(crate, 'src', 'main.rt'), 'w', encoding='utf-8') as file:
-        file.write(PROGRAM)
-    done = subprocess.run(['rt', 'run', '--', '0', '0'], cwd=crate, stdin=subprocess.DEVNULL, capture_output=True,
-                          text=True)
-    if done.returncode != 0:
-        sys.exit(done.stdout + done.stderr + '\nthe program that does the steps could not be built')
-    return os.path.join(crate, 'out', CRATE)
+    try:
+        return over_crates.build(folder, CRATE, USES, {'src/main.rt': PROGRAM}, ['0', '0'])
+    except over_crates.NotBuilt as why:
+        sys.exit(f'the program that does the steps: {why}')
 
 
 def measure(built, folder, step, count, runs):

@@ -8,24 +8,10 @@ folder.
 """
 
 import os
-import random
 
 import side_by_side
 import formats
-
-CHUNK = 65536
-
-
-def write_image(folder, size):
-    """An image of random bytes, and the index that lists it in chunks of one size."""
-    chance = random.Random(512)
-    index = formats.Index([])
-    with open(os.path.join(folder, 'image'), 'wb') as image:
-        for start in range(0, size, CHUNK):
-            piece = chance.randbytes(min(CHUNK, size - start))
-            image.write(piece)
-            index.add(piece)
-    formats.write_index(os.path.join(folder, 'image.caibx'), index)
+import sliced
 
 
 def show(what, rows, folder, size, runs):
@@ -46,7 +32,7 @@ def main():
         print(f'memory: {reading.peak * 1024 / size:.2f} times the size of the file, at most 2.50\n')
 
         size = options.size * side_by_side.MIB
-        write_image(folder, size)
+        sliced.lay_out(folder, size, image='image')
         verifying = side_by_side.Row('verify-index', ['verify-index', 'image.caibx', 'image'], at_most=2)
         image = os.path.join(folder, 'image')
         show('an image', [side_by_side.openssl(image), verifying], folder, size, options.runs)

@@ -42,10 +42,7 @@ def main():
         common = write_seed(folder, index)
         image, output = os.path.join(folder, 'image'), os.path.join(folder, 'output')
 
-        def remove_output():
-            if os.path.exists(output):
-                os.remove(output)
-
+        remove_output = side_by_side.remover(output)
         words = ['extract', '-k', '-s', 'store', '--seed', 'older.caibx', 'image.caibx', 'output']
         rows = [side_by_side.openssl(image),
                 side_by_side.Row('extract -k --seed, output absent', words, remove_output, at_most=2.0)]

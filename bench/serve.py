@@ -8,7 +8,6 @@ are; ours reads and names each chunk before it is sent. Needs nginx, and the siz
 """
 
 import os
-import random
 import re
 import socket
 import statistics
@@ -18,8 +17,8 @@ import time
 import side_by_side
 import formats
 import servers
+from sliced import CHUNK, pieces
 
-CHUNK = 65536
 # nginx closes a connection after 1,000 requests where nothing else is said.
 STAY_OPEN = 'keepalive_requests 1000000000;'
 LENGTH = re.compile(rb'\r\nContent-Length: (\d+)\r\n', re.IGNORECASE)
@@ -27,10 +26,8 @@ LENGTH = re.compile(rb'\r\nContent-Length: (\d+)\r\n', re.IGNORECASE)
 
 def lay_out(folder, count):
     """The names of the store's chunks."""
-    chance = random.Random(3)
     names = []
-    for _ in range(count):
-        piece = chance.randbytes(CHUNK)
+    for piece in pieces(count * CHUNK, 3):
         names.append(formats.name_of(piece))
         formats.write_chunk(os.path.join(folder, 'st'), names[-1], piece)
     # nginx's worker may be another user.

@@ -5,6 +5,7 @@ change in the machine's pace meets all rows alike.
 """
 
 import argparse
+import contextlib
 import os
 import re
 import shutil
@@ -92,6 +93,14 @@ class Row:
 
 def openssl(image):
     return Row('openssl dgst -sha512-256', ['dgst', '-sha512-256', image], command=shutil.which('openssl'))
+
+
+def remover(path):
+    """What removes a file, where it is there."""
+    def remove():
+        with contextlib.suppress(FileNotFoundError):
+            os.remove(path)
+    return remove
 
 
 def casync_rows(folder, image, output, prepare, seeds):

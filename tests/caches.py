@@ -14,15 +14,11 @@ import sys
 import formats
 import program
 import updating
-from checks import Cases, expect, expect_ended, expect_equal, expect_untouched, file_bytes, needs_program, put_file, snapshot
+from checks import (DAMAGES, Cases, expect, expect_ended, expect_equal, expect_files, expect_untouched, file_bytes, files_of,
+                    needs_program, put_file, snapshot)
+from make import expect_chunks, start_storing
 
 STRANGERS = {'notes.txt': b'notes', os.path.join('0000', 'other.cacnk'): b'compressed'}
-DAMAGES = {
-    'another byte': lambda piece: piece[:-1] + bytes([piece[-1] ^ 1]),
-    'one byte less': lambda piece: piece[:-1],
-    'one byte more': lambda piece: piece + b'\0',
-    'no byte': lambda piece: b'',
-}
 
 
 class Image:
@@ -64,23 +60,10 @@ class Image:
         for name in names:
             formats.write_chunk(self.path('near'), name, change(self.chunks[name]))
 
-    def kept(self, folder='near'):
-        """All files of the cache, by their paths."""
-        files = {}
-        for path, _, names in os.walk(self.path(folder)):
-            for name in names:
-                full = os.path.join(path, name)
-                files[os.path.relpath(full, self.path(folder))] = file_bytes(full)
-        return files
-
     def expect_kept(self, names, folder='near', more=()):
         """The cache holds just these chunks, rightly, and these other files."""
-        wanted = {os.path.relpath(formats.chunk_path(self.path(folder), name), self.path(folder)): self.chunks[name] for name in names}
-        wanted.update(more)
-        got = self.kept(folder)
-        expect_equal(sorted(got), sorted(wanted), 'the list of the cache\'s files')
-        for path, data in wanted.items():
-            expect(got[path] == data, f'{path} in the cache has other bytes')
+        wanted = {formats.path_in_store(name): self.chunks[name] for name in names}
+        expect_files(self.path(folder), {**wanted, **dict(more)}, 'in the cache')
 
 
 def given_and_added(cases):
@@ -105,7 +88,7 @@ def given_and_added(cases):
         image = Image(folder)
         other = b'a chunk of another image'
         more = dict(STRANGERS)
-        more[os.path.relpath(formats.chunk_path(folder, formats.name_of(other)), folder)] = other
+        more[formats.path_in_store(formats.name_of(other))] = other
         for path, data in more.items():
             put_file(os.path.join(image.path('near'), path), data)
         expect_ended(image.run(image.words()))
@@ -205,7 +188,13 @@ def faults(cases):
             lay(formats.chunk_path(image.path('near'), image.index.entries[4][1]))
             expect_ended(image.run(image.words()))
             image.expect_out()
-            expect_equal(len(image.kept()) >= len(image.needed) - 1, True, 'that the other chunks were added')
+            expect_equal(len(files_of(image.path('near'))) >= len(image.needed) - 1, True, 'that the other chunks were added')
+
+
+def kill_while_storing(words, folder):
+    killed = start_storing(words, folder, 'near')
+    killed.kill()
+    program.ended(killed)
 
 
 def side_by_side(cases):
@@ -221,14 +210,8 @@ def side_by_side(cases):
     for turn in range(6):
         with cases.case(f'an extraction that is killed, and run again without a store, turn {turn}') as folder:
             image = Image(folder, pieces=200)
-            killed = program.start(image.words(), folder)
-            while killed.poll() is None and not os.listdir(image.path('near')):
-                pass
-            killed.kill()
-            program.ended(killed)
-            for path, data in image.kept().items():
-                name = os.path.basename(path)
-                expect(name.startswith(formats.TEMPORARY) or formats.name_of(data).hex() == name, f'{path} is left with other bytes')
+            kill_while_storing(image.words(), folder)
+            expect_chunks(image.path('near'))
             expect_ended(image.run(image.words()))
             expect_ended(image.run(image.words(store='none')))
             image.expect_out()
@@ -283,11 +266,7 @@ def filled(cases):
     for turn in range(4):
         with cases.case(f'cache is killed and run again, turn {turn}') as folder:
             image = Image(folder, pieces=200)
-            killed = program.start(image.fill(), folder)
-            while killed.poll() is None and not os.listdir(image.path('near')):
-                pass
-            killed.kill()
-            program.ended(killed)
+            kill_while_storing(image.fill(), folder)
             expect_ended(image.run(image.fill()))
             for name, piece in image.chunks.items():
                 expect(file_bytes(formats.chunk_path(image.path('near'), name)) == piece, f'{name.hex()} isn\'t right in the cache')

@@ -13,6 +13,14 @@ import program
 # Files up to this many bytes are compared byte by byte, longer ones by size, times and number.
 WHOLE = 1 << 20
 
+# What may be wrong with the bytes of a chunk, and those bytes.
+DAMAGES = {
+    'another byte': lambda piece: piece[:-1] + bytes([piece[-1] ^ 1]),
+    'one byte less': lambda piece: piece[:-1],
+    'one byte more': lambda piece: piece + b'\0',
+    'no byte': lambda piece: b'',
+}
+
 
 def expect(holds, text):
     if not holds:
@@ -127,6 +135,24 @@ def file_bytes(path):
 
 
 # What a folder holds
+
+def files_of(folder):
+    """The bytes of each file below a folder, by its path."""
+    files = {}
+    for path, _, names in os.walk(folder):
+        for name in names:
+            full = os.path.join(path, name)
+            files[os.path.relpath(full, folder)] = file_bytes(full)
+    return files
+
+
+def expect_files(folder, wanted, what):
+    """The folder holds just the files of these paths with these bytes."""
+    got = files_of(folder)
+    expect_equal(sorted(got), sorted(wanted), f'the list of files {what}')
+    for path, data in wanted.items():
+        expect(got[path] == data, f'{path} has other bytes {what}')
+
 
 def snapshot(folder):
     """All below a folder: for each path its kind, rights, number, size, times and, up to a length, bytes."""

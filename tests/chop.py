@@ -8,12 +8,12 @@ import os
 import random
 import signal
 import sys
-import time
 
 import formats
 import program
-from checks import Cases, expect_ended, expect_equal, expect_untouched, file_bytes, needs_program, put_file, snapshot
-from make import IMAGE, INDEX, STORE, expect_no_temporary, expect_stored, lay_out, least_chunks, written
+from checks import Cases, expect_ended, expect_untouched, file_bytes, needs_program, put_file, snapshot
+from make import (IMAGE, INDEX, STORE, expect_chunks, expect_no_temporary, expect_stored, lay_out, least_chunks,
+                  start_storing, written)
 
 WORDS = ['chop', '-s', STORE, INDEX, IMAGE]
 
@@ -109,7 +109,7 @@ def interrupted(cases):
     for turn in range(4):
         with cases.case(f'a chop that is stopped while another stores the same chunks, turn {turn}') as folder:
             index = lay_out_both(folder, image)
-            slow = start_storing(folder, turn)
+            slow = start_storing(WORDS, folder, STORE, turn)
             slow.send_signal(signal.SIGSTOP)
             quick = program.run(WORDS, folder)
             slow.send_signal(signal.SIGCONT)
@@ -120,25 +120,12 @@ def interrupted(cases):
     for turn in range(8):
         with cases.case(f'a chop that is killed while it stores, turn {turn}') as folder:
             index = lay_out_both(folder, image)
-            killed = start_storing(folder, turn)
+            killed = start_storing(WORDS, folder, STORE, turn)
             killed.kill()
             program.ended(killed)
-            for path, _, files in os.walk(os.path.join(folder, STORE)):
-                for name in files:
-                    if not name.startswith(formats.TEMPORARY):
-                        held = file_bytes(os.path.join(path, name))
-                        expect_equal(formats.name_of(held).hex(), name, 'the name of a chunk that was left')
+            expect_chunks(os.path.join(folder, STORE))
             expect_ended(program.run(WORDS, folder))
             expect_stored(folder, STORE, index, image)
-
-
-def start_storing(folder, turn):
-    """Starts a chop and waits until its first chunk comes, and a little longer."""
-    process = program.start(WORDS, folder)
-    while process.poll() is None and not os.listdir(os.path.join(folder, STORE)):
-        time.sleep(0.0002)
-    time.sleep(turn * 0.0007)
-    return process
 
 
 def main():

@@ -4,12 +4,10 @@ No command cuts in pieces of other sizes than the library's own, or without nami
 program out in a copy of the crate below it, where `rt` proves and builds it, which takes minutes.
 """
 
-import os
-import shutil
 import subprocess
 
-TOP = os.path.join(os.path.dirname(os.path.abspath(__file__)), '..')
-BELOW = ('chunk_ends',)
+import over_crates
+
 CRATE = 'cut_file'
 
 FILES = {
@@ -143,34 +141,9 @@ decreases-loop-at g l = l.length - l.at
 }
 
 
-class NoCutter(Exception):
-    """The program can't be built: the text says why."""
-
-
 def build(folder):
-    """Builds the program in a folder that takes the copy of the crates, and answers its path."""
-    if shutil.which('rt') is None:
-        raise NoCutter('rt isn\'t there')
-    with open(os.path.join(TOP, 'crates.txt'), encoding='utf-8') as file:
-        lines = [line for line in file if line.split(':')[0] in BELOW]
-    with open(os.path.join(folder, 'crates.txt'), 'w', encoding='utf-8') as file:
-        file.writelines([*lines, f'{CRATE}: chunk_ends\n'])
-    shutil.copy(os.path.join(TOP, 'HANDLES'), folder)
-    for name in BELOW:
-        shutil.copytree(os.path.join(TOP, 'crates', name), os.path.join(folder, 'crates', name),
-                        ignore=shutil.ignore_patterns('out', 'must-fail', 'further-edits'))
-    crate = os.path.join(folder, 'crates', CRATE)
-    for path, text in FILES.items():
-        full = os.path.join(crate, path)
-        os.makedirs(os.path.dirname(full), exist_ok=True)
-        with open(full, 'w', encoding='utf-8') as file:
-            file.write(text)
-    done = subprocess.run(['rt', 'run', '--', 'nothing'], cwd=crate, stdin=subprocess.DEVNULL, capture_output=True,
-                          text=True)
-    built = os.path.join(crate, 'out', CRATE)
-    if not os.access(built, os.X_OK):
-        raise NoCutter(f'it isn\'t built:\n{done.stdout}{done.stderr}')
-    return built
+    """Builds the program in a folder that takes the copy of the crates, and answers its path, or raises NotBuilt."""
+    return over_crates.build(folder, CRATE, ['chunk_ends'], FILES, ['nothing'])
 
 
 def words(path, piece, sizes):

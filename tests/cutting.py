@@ -16,6 +16,7 @@ import tempfile
 
 import cutter
 import formats
+import over_crates
 import program
 from checks import Cases, Skip, expect, expect_ended, expect_equal, file_bytes, needs_program, put_file
 
@@ -143,8 +144,8 @@ def in_pieces(cases):
     with tempfile.TemporaryDirectory(prefix='desync-cutter-') as copy:
         try:
             built = cutter.build(copy)
-        except cutter.NoCutter as why:
-            cases.skip('the library cuts in pieces', why)
+        except over_crates.NotBuilt as why:
+            (cases.fail if shutil.which('rt') else cases.skip)('the library cuts in pieces', why)
             return
         for what, write in REAL_IMAGES:
             with cases.case(f'the library cuts {what} in pieces') as folder:

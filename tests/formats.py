@@ -327,10 +327,14 @@ def index_of_pieces(pieces):
 
 # Folder stores
 
-def chunk_path(store, name):
-    """The path of a chunk's file: a folder of the first four digits, then all 64."""
+def path_in_store(name):
+    """The path of a chunk's file within a store: a folder of the first four digits, then all 64."""
     digits = name.hex()
-    return os.path.join(store, digits[:4], digits)
+    return os.path.join(digits[:4], digits)
+
+
+def chunk_path(store, name):
+    return os.path.join(store, path_in_store(name))
 
 
 def write_chunk(store, name, data):

@@ -15,11 +15,12 @@ import time
 
 import formats
 import program
-from checks import (Cases, Skip, expect, expect_ended, expect_equal, expect_untouched, file_bytes, needs_program,
-                    put_file, remove, snapshot)
+from checks import (Cases, Skip, expect, expect_ended, expect_equal, expect_untouched, file_bytes, files_of,
+                    needs_program, put_file, remove, snapshot)
 from formats import ABC_INDEX
 
 STORE, INDEX, IMAGE, OUT = 'st', 'a.caibx', 'img', 'o'
+WORDS = ['make', '-s', STORE, INDEX, IMAGE]
 OLD_INDEX = b'an index of before, of whatever form'
 SMALL_DISK = '--on-a-small-disk'
 
@@ -56,6 +57,13 @@ def expect_stored(folder, store, index, image):
     for start, end, name in index.slices():
         held = file_bytes(formats.chunk_path(os.path.join(folder, store), name))
         expect_equal(held, image[start:end], f'the chunk {name.hex()}')
+
+
+def expect_chunks(store):
+    """Each file of the store but temporaries has the digest that its name says."""
+    for path, held in files_of(store).items():
+        if not os.path.basename(path).startswith(formats.TEMPORARY):
+            expect_equal(formats.name_of(held).hex(), os.path.basename(path), 'the name of a chunk that was left')
 
 
 def written(before, folder, store, index, image):
@@ -304,7 +312,7 @@ def interrupted(cases):
     for turn in range(8):
         with cases.case(f'a make that is stopped while another stores the same chunks, turn {turn}') as folder:
             lay_out(folder, image)
-            slow = start_storing(folder, turn)
+            slow = start_storing(WORDS, folder, STORE, turn)
             slow.send_signal(signal.SIGSTOP)
             quick = program.run(['make', '-s', STORE, 'b.caibx', IMAGE], folder)
             slow.send_signal(signal.SIGCONT)
@@ -317,25 +325,21 @@ def interrupted(cases):
     for turn in range(8):
         with cases.case(f'a make that is killed while it stores, turn {turn}') as folder:
             lay_out(folder, image, OLD_INDEX)
-            killed = start_storing(folder, turn)
+            killed = start_storing(WORDS, folder, STORE, turn)
             killed.kill()
             program.ended(killed)
             expect(file_bytes(os.path.join(folder, INDEX)) in (OLD_INDEX, formats.spell_index(index)),
                    'INDEX is neither as before nor the image\'s')
-            for path, _, files in os.walk(os.path.join(folder, STORE)):
-                for name in files:
-                    if not name.startswith(formats.TEMPORARY):
-                        held = file_bytes(os.path.join(path, name))
-                        expect_equal(formats.name_of(held).hex(), name, 'the name of a chunk that was left')
+            expect_chunks(os.path.join(folder, STORE))
             run_make(folder)
             expect_equal(file_bytes(os.path.join(folder, INDEX)), formats.spell_index(index), 'the index')
             expect_stored(folder, STORE, index, image)
 
 
-def start_storing(folder, turn):
-    """Starts a make and waits until its first chunk comes, and a little longer."""
-    process = program.start(['make', '-s', STORE, INDEX, IMAGE], folder)
-    while process.poll() is None and not os.listdir(os.path.join(folder, STORE)):
+def start_storing(words, folder, store, turn=0):
+    """Starts the program and waits until something stands in the store, and by the turn a little longer."""
+    process = program.start(words, folder)
+    while process.poll() is None and not os.listdir(os.path.join(folder, store)):
         time.sleep(0.0002)
     time.sleep(turn * 0.0007)
     return process

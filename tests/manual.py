@@ -9,7 +9,6 @@ options that these take. The version is that of `desync --version`.
 import os
 import re
 import shlex
-import sys
 
 TOP = os.path.dirname(os.path.dirname(os.path.abspath(__file__)))
 PAGE, COMMANDS = 'docs/desync.1', 'docs/COMMANDS.md'

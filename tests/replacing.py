@@ -177,7 +177,7 @@ def killed(cases):
         begun = time.monotonic()
         expect_ended(image.run(), what='extract')
         whole = time.monotonic() - begun
-        olds = news = 0
+        olds = 0
         for number in range(KILLS):
             put_file(image.path('out'), image.old)
             process = program.start(image.words(), folder)
@@ -187,7 +187,6 @@ def killed(cases):
             got = file_bytes(image.path('out'))
             expect(got in (image.old, image.bytes), f'kill {number}: OUT has {len(got)} bytes of neither')
             olds += got == image.old
-            news += got == image.bytes
         expect(0 < olds, 'OUT was never the old one, so nothing was tried')
         expect_ended(image.run(), what='the run after')
         image.expect_out(image.bytes)

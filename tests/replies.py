@@ -14,9 +14,8 @@ import time
 
 import formats
 import servers
-from checks import expect, expect_equal, file_bytes, put_file
+from checks import DAMAGES, expect, expect_equal, expect_files, file_bytes, files_of, put_file
 from servers import ChunkServer
-from tools import DAMAGES, expect_files, files_of
 
 LIMIT = 16_384
 MIB = 1 << 20

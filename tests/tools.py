@@ -12,42 +12,16 @@ import sys
 import formats
 import program
 import updating
-from checks import Cases, expect, expect_ended, expect_equal, expect_untouched, file_bytes, needs_program, put_file, snapshot
+from checks import (DAMAGES, Cases, expect, expect_ended, expect_equal, expect_files, expect_untouched, file_bytes, files_of,
+                    needs_program, put_file, snapshot)
 
 STRANGERS = {'notes.txt': b'notes', os.path.join('5304', 'other.cacnk'): b'compressed',
              os.path.join('far', 'away', formats.TEMPORARY): b'too deep to be listed'}
 TEMPORARIES = {formats.TEMPORARY: b'', os.path.join('5304', formats.TEMPORARY + 'x'): b'ab'}
-DAMAGES = {
-    'another byte': lambda piece: piece[:-1] + bytes([piece[-1] ^ 1]),
-    'one byte less': lambda piece: piece[:-1],
-    'one byte more': lambda piece: piece + b'\0',
-    'no byte': lambda piece: b'',
-}
-
-
-def files_of(folder):
-    """The bytes of each file below a folder, by its path."""
-    files = {}
-    for path, _, names in os.walk(folder):
-        for name in names:
-            full = os.path.join(path, name)
-            files[os.path.relpath(full, folder)] = file_bytes(full)
-    return files
 
 
 def count_of(folder):
     return sum(len(names) for _, _, names in os.walk(folder))
-
-
-def expect_files(folder, wanted, what):
-    got = files_of(folder)
-    expect_equal(sorted(got), sorted(wanted), f'the list of files {what}')
-    for path, data in wanted.items():
-        expect(got[path] == data, f'{path} has other bytes {what}')
-
-
-def path_of(name):
-    return os.path.relpath(formats.chunk_path('.', name), '.')
 
 
 class Store:
@@ -79,7 +53,7 @@ class Store:
 
     def files(self, chunks, rest=None):
         """The files of a store with these chunks."""
-        return {**{path_of(name): data for name, data in chunks.items()}, **(self.rest if rest is None else rest)}
+        return {**{formats.path_in_store(name): data for name, data in chunks.items()}, **(self.rest if rest is None else rest)}
 
     def damage(self, names, change):
         for name in names:
@@ -228,7 +202,7 @@ def mended_and_pruned(cases):
         expect_files(store, whole, 'after the mending')
         expect_ended(program.run(['verify', '-s', 'st'], folder), what='the check of what was mended')
         expect_ended(program.run(['prune', '-s', 'st', '-y', 'third.caibx'], folder), what='the pruning')
-        listed = {path_of(name) for _, _, name in formats.read_index(file_bytes(os.path.join(folder, 'third.caibx'))).slices()}
+        listed = {formats.path_in_store(name) for _, _, name in formats.read_index(file_bytes(os.path.join(folder, 'third.caibx'))).slices()}
         expect_files(store, {path: whole[path] for path in listed}, 'after the pruning')
         expect_ended(program.run(['extract', '-s', 'st', 'third.caibx', 'out'], folder), what='the extraction')
         expect(file_bytes(os.path.join(folder, 'out')) == file_bytes(os.path.join(folder, 'third')), 'out isn\'t the image')
