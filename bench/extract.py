@@ -3,10 +3,10 @@
 
 Into an absent output every byte is read from the store, named and written; over an output that is right already every
 byte is read and named once; and over an older version, of which 94 % are right, every byte is named once, and the
-others are read from the store and written. Without -k the first is done by way of a temporary file. With -c the chunks
-come from a cache, beside an empty store, or from the store, and are then added to the cache. casync's extraction from a
-store of its own is measured beside it, where it is installed. Needs the image's size under the temporary folder for each
-run, and six times more.
+others are read from the store and written. Without -k the first run goes through a temporary file. With -c the chunks
+come from a full cache beside an empty store, or from the store and are then added to an empty cache. casync's
+extraction from a store of its own is measured beside it, where it is installed. Needs the image's size under the
+temporary folder for each run, and six times more.
 """
 
 import filecmp
@@ -56,7 +56,7 @@ def main():
         remove_output = side_by_side.remover(output)
 
         def cool_down():
-            # What was filled is moved aside: right after many files were removed making them takes longer.
+            # The filled cache is moved aside, not removed: creating files takes longer right after many were removed.
             remove_output()
             if os.path.exists(cold):
                 os.rename(cold, f'{cold}-{len(os.listdir(folder))}')

@@ -4,11 +4,11 @@
 
 On one processor the cutting is timed alone too, by a program over the library's `Cutter` that `rt` builds first
 (minutes; without `rt` that row is left out). The file system image is ext4 by `mke2fs`, of at most 1 GiB, with copies
-of the files under a folder. All runs are timed into an empty store and into one that has all chunks. casync runs
-where it is installed. A store that is to be empty is a new folder each time, and nothing is removed before all is
-done: a file system may take far longer to find room for new files right after it has removed others. Memory that is
-free is filled first, so that what a run writes needs none that was never used. Needs the image's size under the
-temporary folder for each run into an empty store, and four times more for each image.
+of the files under a folder. All runs are timed into an empty store and into one that has all chunks. casync runs where
+it is installed. A store that is to be empty is a new folder each time, and nothing is removed before all is done: a
+file system may take far longer to create files right after it has removed others. Free memory is filled first, so that
+no run has to get pages that were never used. Needs the image's size under the temporary folder for each run into an
+empty store, and four times more for each image.
 """
 
 import os
@@ -61,11 +61,11 @@ def file_system_tool():
 
 
 def file_system_of(source):
-    """What writes an image of at most a size that holds files under the folder, as many as find room."""
+    """Returns a function that writes an image of at most a size, with as many files of the folder as fit."""
     def write(path, size):
         size = min(size, GREATEST_FILE_SYSTEM * side_by_side.MIB)
         tree = f'{path}-files'
-        # A MiB and three of 16 parts are for the journal, the tables of inodes and what else isn't a file.
+        # One MiB and 3/16 of the rest are left for the journal, the inode tables and all that isn't a file.
         count, taken = copy_files(source, tree, max(0, size - side_by_side.MIB) * 13 // 16)
         if count == 0:
             sys.exit(f'{source} has no file that finds room')
@@ -76,7 +76,7 @@ def file_system_of(source):
 
 
 def copy_files(source, tree, limit):
-    """Copies the folder's files, in the order of their names, but for those that no longer find room. Answers how many
+    """Copies the files of the folder, in the order of their names, except those that no longer fit. Answers how many
     files and folders were made, and how many bytes they take in whole blocks."""
     count, taken = 0, 0
     for folder, folders, names in os.walk(source):
@@ -109,7 +109,7 @@ def check(folder, store, size):
 
 
 def same_index(folder):
-    """What compares the index that a run has left with the first run's."""
+    """Returns a function that compares the index which a run has left with that of the first run."""
     first = []
 
     def compare():
@@ -122,7 +122,7 @@ def same_index(folder):
 
 
 def anew(folder, store):
-    """What puts a store aside and makes it anew, empty."""
+    """Returns a function that moves a store aside and makes an empty one in its place."""
     def prepare():
         if os.path.isdir(store):
             os.rename(store, tempfile.mkdtemp(dir=folder))
@@ -131,7 +131,7 @@ def anew(folder, store):
 
 
 def ours(workers):
-    """The words of a make with so many workers, by its store."""
+    """Returns a function from a store to the words of a make with so many workers."""
     return lambda store: ['make', '-n', str(workers), '-s', store, INDEX, IMAGE]
 
 

@@ -2,8 +2,8 @@
 """The plan of an index of 2^22 entries, and where two seeds of as many entries list its chunks.
 
 No command makes a plan of an index alone. So this builds, in a copy of the crates below it, a program that makes
-indexes in memory and does one step after another with them; `rt` proves it first, which takes minutes. What a step
-takes is what one run takes more than the run without that step.
+indexes in memory and does one step after another with them; `rt` proves it first, which takes minutes. The time of a
+step is the difference between a run with it and one without.
 """
 
 import argparse
@@ -108,7 +108,7 @@ fn main(rt: HostRuntime) -> ExitCode {
 
 
 def build(folder):
-    """The program that does the steps, as a path; `folder` takes the copy of the crates."""
+    """The path of the program that does the steps; `folder` takes the copy of the crates."""
     try:
         return over_crates.build(folder, CRATE, USES, {'src/main.rt': PROGRAM}, ['0', '0'])
     except over_crates.NotBuilt as why:

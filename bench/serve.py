@@ -1,10 +1,11 @@
 #!/usr/bin/env python3
 """`desync chunk-server` on the loopback interface, beside nginx over the same folder.
 
-One client asks for chunks of 64 KiB of random bytes on one connection, one after the other, each once a run. It is measured
-twice: as a client that checks each chunk against its digest before it asks for the next one, as `extract` does, and as one
-that takes them alone, whose bytes are checked behind the part that is timed. nginx has one worker, and sends files as they
-are; ours reads and names each chunk before it is sent. Needs nginx, and the size under the temporary folder and in memory.
+One client asks for chunks of 64 KiB of random bytes on one connection, one after the other, each once a run. It is
+measured twice: as a client that checks each chunk against its digest before it asks for the next one, as `extract`
+does, and as one that only receives them; its bytes are checked after the timed part. nginx has one worker, and sends
+files as they are; ours reads and names each chunk before it is sent. Needs nginx, and the size under the temporary
+folder and in memory.
 """
 
 import os
@@ -55,8 +56,8 @@ def received(some):
 
 
 def seconds_for(port, names, room, checks):
-    """How many seconds it takes to ask for all chunks on one connection, whose bytes then stand in the room. Each is checked
-    before the next one is asked for, or none is."""
+    """The seconds that it takes to ask for all chunks on one connection, whose bytes are received into `room`. With
+    `checks` each chunk is checked before the next one is asked for."""
     asks = [f'GET {formats.chunk_path("/", name)} HTTP/1.1\r\nHost: localhost\r\n\r\n'.encode() for name in names]
     with socket.create_connection(('127.0.0.1', port)) as peer:
         peer.setsockopt(socket.IPPROTO_TCP, socket.TCP_NODELAY, 1)

@@ -28,7 +28,7 @@ def arguments(about, size):
 
 
 def options(about, size):
-    """A reader of these options, which may be given more."""
+    """A parser of these options, to which more may be added."""
     parser = argparse.ArgumentParser(description=about)
     parser.add_argument('--size', type=int, default=size, help=f'MiB of the image (default {size})')
     parser.add_argument('--runs', type=int, default=3, help='rounds, of which medians are taken (default 3)')
@@ -49,9 +49,9 @@ def free_bytes():
 
 
 def fill_memory(folder):
-    """Reads a sparse file as long as the memory that is free, so that the system keeps its bytes and later uses their
-    memory for what the runs write, as on a machine that has been up for a while. A virtual machine may have to get
-    memory that it hasn't used yet from its host, a page at a time, which can take longer than what is measured."""
+    """Reads a sparse file as long as the free memory, so that the system caches its bytes and later uses their pages
+    for what the runs write, as on a machine that has been up for a while. A virtual machine may have to get a page that
+    it hasn't used yet from its host, which can take longer than what is measured."""
     path = os.path.join(folder, 'sparse')
     with open(path, 'wb') as file:
         file.truncate(free_bytes())
@@ -96,7 +96,7 @@ def openssl(image):
 
 
 def remover(path):
-    """What removes a file, where it is there."""
+    """Returns a function that removes a file, if it is there."""
     def remove():
         with contextlib.suppress(FileNotFoundError):
             os.remove(path)

@@ -18,7 +18,7 @@ SMALL = 256
 
 
 def lay_out(folder, count, size, seed):
-    """A store of so many chunks of a size; answers their bytes."""
+    """Writes a store of so many chunks of a size; answers how many bytes they have."""
     chance = random.Random(seed)
     os.makedirs(folder)
     for _ in range(count):

@@ -97,7 +97,7 @@ class Repository:
         return process.returncode, out, err
 
     def told(self, *kinds):
-        """The events of these kinds, in their order: the kind, the crate, the process, and the words."""
+        """The events of these kinds, in order: the kind, the crate, the process, and the words."""
         with open(self.events, encoding='utf-8') as file:
             return [line.split() for line in file if line.split()[0] in kinds]
 
@@ -109,7 +109,7 @@ class Repository:
 
 
 def heed_interrupts():
-    """A script that was started beside others would ignore them, and so would what it starts."""
+    """A script that was started in the background of another would ignore them, and so would all that it starts."""
     signal.signal(signal.SIGINT, signal.SIG_DFL)
 
 

@@ -13,7 +13,7 @@ import program
 # Files up to this many bytes are compared byte by byte, longer ones by size, times and number.
 WHOLE = 1 << 20
 
-# What may be wrong with the bytes of a chunk, and those bytes.
+# How a chunk may be damaged: what its bytes become.
 DAMAGES = {
     'another byte': lambda piece: piece[:-1] + bytes([piece[-1] ^ 1]),
     'one byte less': lambda piece: piece[:-1],
@@ -109,7 +109,7 @@ def needs_program(name):
 
 
 def remove(folder):
-    """Removes a folder, whatever rights a case has taken away in it."""
+    """Removes a folder, after giving back the rights that a case has taken away in it."""
     os.chmod(folder, 0o755)
     for path, folders, _ in os.walk(folder):
         for name in folders:

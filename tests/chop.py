@@ -104,7 +104,7 @@ def bad_input(cases):
 
 
 def interrupted(cases):
-    """A chop that stands still while it stores, and another passes it; and one that is killed there."""
+    """A chop that is stopped while it stores and is overtaken by another one, and a chop that is killed there."""
     image = least_chunks(100)
     for turn in range(4):
         with cases.case(f'a chop that is stopped while another stores the same chunks, turn {turn}') as folder:

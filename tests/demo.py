@@ -1,5 +1,5 @@
 #!/usr/bin/env python3
-"""`desync demo`, compared with figures that are reckoned here from the cutting of tests/formats.py."""
+"""`desync demo`, compared with figures that are computed here from the cutting of tests/formats.py."""
 
 import sys
 
@@ -12,7 +12,7 @@ NAMES = ['bytes', 'chunks', 'distinct', 'kept', 'copied', 'seeded', 'fetched']
 
 
 def image_of(number, size):
-    """The bytes that a number makes: the top 8 bits of each state of a linear congruence modulo 2^64."""
+    """The bytes that a number makes: the top 8 bits of each state of a linear congruential generator modulo 2^64."""
     state, made = number, bytearray()
     for _ in range(size):
         state = (6364136223846793005 * state + 1442695040888963407) % (1 << 64)
@@ -21,7 +21,7 @@ def image_of(number, size):
 
 
 def seed_of(image):
-    """The image with all bits of up to 2^20 bytes from its middle on turned round."""
+    """The image with every bit flipped in up to 2^20 bytes from its middle on."""
     start = len(image) // 2
     end = min(start + MIB, len(image))
     return image[:start] + bytes(byte ^ 255 for byte in image[start:end]) + image[end:]

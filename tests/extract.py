@@ -440,7 +440,8 @@ def odd_chunks(cases, pieces):
 
 
 def no_rights(cases):
-    """Files and folders that the program may not read or write. Root is bound by no rights: nobody runs it."""
+    """Files and folders that the program may not read or write. Root is bound by no permissions, so the program then
+    runs as the user `nobody`."""
     def closed(folder, mode, *path):
         os.chmod(folder, 0o777)
         for at, names, files in os.walk(folder):
@@ -557,7 +558,7 @@ def random_old(chance, image):
 
 
 def other_orders(cases):
-    """Words of another order or spelling that say the same."""
+    """The same words in other orders and spellings."""
     for words in (['extract', '-s', STORE, '-k', INDEX, OUT], ['extract', '-k', '--store', STORE, INDEX, OUT],
                   ['extract', INDEX, '-n', '32', '--in-place', '-s', STORE, '--', OUT]):
         with cases.case(f'the words {words}') as folder:

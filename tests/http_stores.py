@@ -154,7 +154,7 @@ def read(cases):
 
 
 def read_all(image, url):
-    """Extracts and counts over a server that has all chunks, and says so where it lacks one."""
+    """Runs `extract` and `info` over a server that has all chunks, and then over one that lacks a chunk."""
     expect_ended(image.extract(url))
     image.expect_out()
     expect_ended(image.run('info', '-s', url, 'new.caibx'), out=image.figures(20))
@@ -409,7 +409,8 @@ def wrong(cases):
 
 
 def ends(image, url, why):
-    """How a server that has the same for each chunk ends a run, what it leaves, and how a folder makes up for it."""
+    """How a run ends, and what it leaves, over a server that answers alike for each chunk; and how a folder makes up
+    for it."""
     text = image.refusal(why)
     before = files(image.folder)
     expect_ended(image.extract(url), text)
@@ -518,7 +519,8 @@ def floods(cases):
 # Servers that say nothing
 
 class Waiting:
-    """Runs beside the other cases that wait for a server. `begin` starts one in a folder of its own, `judge` compares."""
+    """Runs that wait for a server, beside the other cases. `begin` starts one in a folder of its own, `judge` compares
+    them all."""
 
     def __init__(self, cases, held):
         self.cases = cases
@@ -527,8 +529,9 @@ class Waiting:
         self.runs = []
 
     def begin(self, what, words, sends=lambda method, piece: b'', port=None, seconds=(55, 110), text=FAILED, out=None):
-        """The server sends what `sends` makes of the method and the one chunk, and nothing after that, or else is at the
-        port. The run is to end within these seconds, with this text, and this as the file `out`."""
+        """Starts a run, which is to end within these seconds, with this text, and with the image in the file `out`. The
+        server sends what `sends` makes of the method and the one chunk, and then nothing more; with `port` it is the
+        one at that port."""
         folder = os.path.join(self.cases.top, what)
         os.mkdir(folder)
         image = Image(folder, 1)

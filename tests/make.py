@@ -41,7 +41,7 @@ def run_make(folder, words=(STORE, INDEX, IMAGE), text='', run=program.run):
 
 
 def makes(folder, words=(STORE, INDEX, IMAGE)):
-    """Makes, and compares index, store and all else with the independent cutting. Answers the index."""
+    """Runs make, and compares index, store and all else with the independent cutting. Answers the index."""
     store, index_path, image_path = words
     image = file_bytes(os.path.join(folder, image_path))
     index = formats.index_of(image)
@@ -86,7 +86,7 @@ def expect_no_temporary(folder):
 
 
 def refused(folder, text, words=(STORE, INDEX, IMAGE), run=program.run):
-    """Makes, which must end with this text, and touch nothing but chunks of the image in the store."""
+    """Runs make, which must end with this text and touch nothing but chunks of the image in the store."""
     before = snapshot(folder)
     run_make(folder, words, text, run)
     image = image_of(folder)
@@ -306,7 +306,7 @@ def two_at_once(cases):
 
 
 def interrupted(cases):
-    """A make that stands still while it stores, and another passes it; and one that is killed there."""
+    """A make that is stopped while it stores and is overtaken by another one, and a make that is killed there."""
     image = least_chunks(100)
     index = formats.index_of(image)
     for turn in range(8):
@@ -412,7 +412,7 @@ def bad_input(cases):
 
 
 def no_rights(cases, image):
-    """Root is bound by no rights: nobody runs it."""
+    """Root is bound by no permissions, so the program then runs as the user `nobody`."""
     def closed(folder, mode, path, text):
         for name in ('.', STORE, IMAGE):
             os.chmod(os.path.join(folder, name), 0o777)
@@ -485,7 +485,7 @@ def full_disk(cases):
 
 
 def fill(disk, but=0):
-    """Fills the disk up but for so many bytes."""
+    """Fills the disk, leaving so many bytes."""
     spare = os.path.join(disk, 'spare')
     if but:
         put_file(spare, b'x' * but)

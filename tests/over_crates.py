@@ -25,8 +25,8 @@ def crates_below(uses):
 
 
 def build(folder, crate, uses, files, words):
-    """Lays the program out, of these files by their paths, in a folder that takes the copy of the crates, runs it once with
-    the words, and answers its path. The first time that takes minutes."""
+    """Writes these files of the program into a folder, beside a copy of the crates, runs it once with the words, and
+    answers its path. The first time this takes minutes."""
     if shutil.which('rt') is None:
         raise NotBuilt('rt isn\'t there')
     below = crates_below(uses)

@@ -62,7 +62,7 @@ class NoUser(Exception):
 def run_without_rights(words, folder):
     """Runs the program as a user whom permissions bind: the caller, or nobody where the caller is root.
 
-    Nobody gets a copy of the program, since the checkout may lie where nobody comes.
+    The user nobody runs a copy of the program, since the checkout may lie where only its owner may read.
     """
     if os.geteuid() != 0:
         return run(words, folder)

@@ -44,7 +44,7 @@ class Image:
         return program.run(self.words(*more, **names), self.folder)
 
     def lose(self, number):
-        """Takes the chunk of an entry out of the store, and answers what is then told."""
+        """Removes the chunk of an entry from the store, and answers the line that is then printed."""
         name = self.index.entries[number][1]
         os.remove(formats.chunk_path(self.path('all'), name))
         return f'chunk {name.hex()} of entry {number} is missing'

@@ -1,5 +1,5 @@
 #!/usr/bin/env python3
-"""`desync chunk-server`: what curl, casync, nginx and our own commands have from it, and what no peer can do to it.
+"""`desync chunk-server`: what curl, casync, nginx and our own commands get from it, and what no peer can do to it.
 
     tests/serving.py           all but the last case
     tests/serving.py --slow    also a peer that takes nothing of a reply, which takes some minutes

@@ -1,5 +1,5 @@
 #!/usr/bin/env python3
-"""Updates the image of a real file system from older versions, and looks which chunks that takes.
+"""Updates the image of a real file system from older versions, and checks which chunks that fetches.
 
 An image is made by mke2fs, and debugfs changes, adds and removes files in copies of it. The older versions serve as the
 output itself, as seeds, and as both. What an update needs is read off the images and the indexes by this script: the

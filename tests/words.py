@@ -1,10 +1,10 @@
 #!/usr/bin/env python3
 """The words of the command line, compared with a second reading of docs/FORMATS.md.
 
-The tables of options and commands stand here once more, by the document and not by the program. Words are laid out from
-them: each option once too often, each spelling, and random words. The program runs in an empty folder, so words that
-are taken end with a name that isn't there, with sizes that no image is cut by, or done (`demo`). Each error line is
-compared, and nothing is ever written.
+The tables of options and commands stand here once more, taken from the document and not from the program. Command lines
+are built from them: each option once too often, each spelling, and random words. The program runs in an empty folder,
+so words that are taken end with a name that isn't there, with sizes that no image is cut by, or done (`demo`). Each
+error line is compared, and nothing is ever written.
 """
 
 import os
@@ -177,7 +177,8 @@ def text_of(said):
 
 
 def refusal_of(words):
-    """The text of words that aren't taken, as `word PLACE: REASON`; else the one in an empty folder; and which it is."""
+    """The text of the words, and why they aren't taken: `word PLACE: REASON`, or if they are taken, the text of a run
+    in an empty folder and `taken`."""
     try:
         if not words:
             raise Faulty(0, 'NoCommand')
