@@ -16,6 +16,7 @@ use Rattle.assembler.specs.Fills.{Fills, WhereTold}
 use Rattle.cache_store.specs.Giving.{SomeGives}
 use Rattle.cache_store.specs.Shelves.{Shelf}
 use Rattle.assembler.proofs.Stocking.{gives_on}
+use Rattle.assembler.specs.Obtainable.{OnlyObtainable}
 use Rattle.assembler.specs.Passes.{EndsBy, HadAt, IsLost, PassesAsk, want_at}
 use Rattle.assembler.specs.Reports.{tally}
 use Rattle.assembler.specs.declared.fault.ExtractFault.{ExtractFault}
@@ -46,7 +47,6 @@ use Rattle.extract_plan.specs.declared.seed.Seed.{Seed}
 use Rattle.range_survey.specs.Fates.{FirstFates, is_right_at, settled}
 use Rattle.range_survey.specs.declared.fate.Fate.{Fate}
 use Rattle.range_survey.specs.declared.fate.Fate.TheVariants as fate
-use Rattle.store_chain.specs.Faults.{EachQuiet}
 use Rattle.store_chain.specs.declared.refused.Refused.{Refused}
 use Rattle.store_chain.specs.declared.refused.Refused.TheVariants as refused
 
@@ -147,7 +147,6 @@ module _ {S V : Type 0} (holds folder : S → Option (Map (List ℕ))) (place : 
     pub left : IfErr r (λ y. (y ≡ faults.Memory) ⊎ (Rose b c ⊎ ((i : ℕ) → i < count_of l → settled n i ≡ false → (lost : Lost)
         × (want_at d lost.entry ≡ want_at d i) × LostOver m b c k j e f lost)))
     pub had : IsTrue tells → (cached maps : List (Map (List ℕ))) → cached_in e ≡ Some cached → map holds k.chain.stores ≡ map Some maps
-        → EachQuiet (map store_faults k.chain.stores) (map store_faults j.chain.stores)
         → (i : ℕ) → i < count_of l → settled n i ≡ true → HadAt l d x m (map (held_in view) k.seeds.items) (cached ++ maps) i
     pub asks : PassesAsk asked view view_faults l d x m b c k j
     pub firsts : FirstFates m (count_of l)
@@ -209,6 +208,31 @@ module _ {S V : Type 0} (holds folder : S → Option (Map (List ℕ))) (place : 
         let asks = ran.asks spared (λ w below is. spared_over l d x ran.wants view view_faults m a b c ran.ab ran.bc o k.seeds.items j.seeds.items w ran.over (are w below is)) in
         record { no_fewer = asks.no_fewer; calls = asks.calls; no_less = asks.no_less; most = asks.most }
 
+    -- ---- whatever fails
+
+    module _ (cached maps : List (Map (List ℕ))) (telling : IsTrue tells) (told_cache : cached_in e ≡ Some cached) (told : map holds k.chain.stores ≡ map Some maps) where
+      abbrev Can : List ℕ → ℕ → Type 0
+      Can y i = IsObtainable l d x (resized y (image_length l)) (map (held_in view) k.seeds.items) (cached ++ maps) i
+
+      -- what is settled can be had
+      can : (r : Result Unit ExtractFault) → Ran o t a b c m n e f j r (with_buffer k h) → (y : List ℕ) → Surveyed l m a b (resized y (image_length l))
+          → (i : ℕ) → i < count_of l → settled n i ≡ true → Can y i
+      can r ran y over i inside is = obtainable l d x ran.wants m a b c ran.ab ran.bc (resized y (image_length l)) over (map (held_in view) k.seeds.items) (cached ++ maps) i inside
+          (ran.had telling cached maps told_cache told i inside is)
+
+      pub only_ok : (u : Unit {0}) (r : Report) → Ran o t a b c m n e f j (Ok u) (with_buffer k h) → WhereTold o t (λ y z. OnlyObtainable l (Can y) (Rose a c) (Ok r) y z)
+      only_ok u r ran = told_map o t (λ y. Surveyed l m a b (resized y (image_length l))) (λ y. Fills l m n b c (resized y (image_length l)))
+          (λ y z. OnlyObtainable l (Can y) (Rose a c) (Ok r) y z) (λ y z over fills i inside. can (Ok u) ran y over i inside (ran.ok i inside)) ran.over ran.fills
+
+      pub only_err : (why : ExtractFault) → Ran o t a b c m n e f j (Err why) (with_buffer k h) → WhereTold o t (λ y z. OnlyObtainable l (Can y) (Rose a c) (Err why) y z)
+      only_err why ran = told_map o t (λ y. Surveyed l m a b (resized y (image_length l))) (λ y. Fills l m n b c (resized y (image_length l)))
+          (λ y z. OnlyObtainable l (Can y) (Rose a c) (Err why) y z)
+          (λ y z over fills. inr (λ i inside. elim (cases_Bool (settled n i)) [
+            | inl is ↦ inl (can (Err why) ran y over i inside is)
+            | inr isnt ↦ inr (left_at l m n a b c ran.ab ran.bc (resized y (image_length l)) z over fills i inside isnt)
+          ]))
+          ran.over ran.fills
+
     -- ---- where nothing fails
 
     module _ (cached maps : List (Map (List ℕ))) (nothing : NothingFails holds folder place said store_faults lacks_memory view view_faults l d x tells a c k j e f cached maps)
@@ -250,8 +274,7 @@ module _ {S V : Type 0} (holds folder : S → Option (Map (List ℕ))) (place : 
       -- what is settled can be had
       had : (r : Result Unit ExtractFault) → Ran o t a b c m n e f j r (with_buffer k h) → (y : List ℕ) → Surveyed l m a b (resized y (image_length l))
           → (i : ℕ) → i < count_of l → settled n i ≡ true → Has y i
-      had r ran y over i inside is = obtainable l d x ran.wants m a b c ran.ab ran.bc (resized y (image_length l)) over (map (held_in view) k.seeds.items) (cached ++ maps) i inside
-          (ran.had nothing.telling cached maps nothing.told_cache nothing.told nothing.stores i inside is)
+      had = can cached maps nothing.telling nothing.told_cache nothing.told
 
       verdict_err : (why : ExtractFault) (y : List ℕ) → Ran o t a b c m n e f j (Err why) (with_buffer k h) → Surveyed l m a b (resized y (image_length l))
           → EndsBy {A = Unit {0}} (λ lost. LostOver m b c (with_buffer k h) j e f lost × ((i : ℕ) → i < lost.entry → settled n i ≡ true)) (Rose b c) (Err why)

@@ -7,6 +7,7 @@ use Rattle.assembler.proofs.Filled.{right_on, rose_still}
 use Rattle.assembler.specs.Assemblies.{Assembles, KeepsBase}
 use Rattle.assembler.specs.Faults.{fault_of}
 use Rattle.assembler.specs.Fills.{Fills, WhereTold}
+use Rattle.assembler.specs.Obtainable.{OnlyObtainable}
 use Rattle.assembler.specs.Passes.{EndsBy}
 use Rattle.assembler.specs.declared.fault.ExtractFault.{ExtractFault}
 use Rattle.assembler.specs.declared.fault.Lost.{Lost}
@@ -97,6 +98,13 @@ pub ends_map : (P Q : Lost → Type 0) (F G : Type 0) (e : ExtractFault) → ((x
 ends_map P Q F G e lost torn (inl (x, is, p)) = inl (x, is, lost x p)
 ends_map P Q F G e lost torn (inr (inl (is, f))) = inr (inl (is, torn f))
 ends_map P Q F G e lost torn (inr (inr is)) = inr (inr is)
+
+-- no entry was written
+pub only_first : (l : Listing) (P : List ℕ → ℕ → Type 0) (failed : Type 0) (e : ExtractFault) (o t : Option (List ℕ))
+    → (t ≡ o) ⊎ (t ≡ option_map (λ y. resized y (image_length l)) o) → WhereTold o t (λ y z. OnlyObtainable l (P y) failed (Err e) y z)
+only_first l P failed e None t same = tt
+only_first l P failed e (Some y) t (inl same) = subst (λ u. IfSome u (λ z. OnlyObtainable l (P y) failed (Err e) y z)) (sym same) (inl refl)
+only_first l P failed e (Some y) t (inr long) = subst (λ u. IfSome u (λ z. OnlyObtainable l (P y) failed (Err e) y z)) (sym long) (inr (λ i inside. inr (inl refl)))
 
 -- ---- as the calls say it
 

@@ -1,14 +1,20 @@
 -- Where nothing fails over two steps, nothing fails over each.
-use Rattle.std.proofs.Common.{◌≡◌, ℕ, ◌≤◌, List, map, Bool, Option, Some, ◌∙◌, arith}
+use Rattle.std.proofs.Common.{◌≡◌, ℕ, ◌≤◌, List, map, slice_index, Bool, Option, Some, ◌∙◌, arith}
 use Rattle.assembler.proofs.Asked.{quiet_part}
-use Rattle.assembler.proofs.HadOn.{quiet_first, quiet_next}
 use Rattle.cache_store.specs.Shelves.{Shelf}
 use Rattle.chunk_sources.specs.Caches.{cache_faults, cached_in}
 use Rattle.chunk_sources.specs.Sources.{SourcesQuiet}
 use Rattle.dsy_base.specs.Maps.{Map}
 use Rattle.extract_plan.specs.Seeds.{faults_in}
 use Rattle.extract_plan.specs.declared.seed.Seed.{Seed}
-use Rattle.store_chain.specs.Faults.{NoneFalls}
+use Rattle.store_chain.specs.Faults.{EachQuiet, NoneFalls}
+
+-- counts that were quiet over two parts were quiet over each
+quiet_first : (a b c : List ℕ) → NoneFalls b c → EachQuiet a c → EachQuiet a b
+quiet_first a b c falls quiet k = quiet_part (slice_index a k) (slice_index a k) (slice_index b k) (slice_index c k) (omega arith) (falls k) (quiet k)
+
+quiet_next : (a b c : List ℕ) → NoneFalls a b → EachQuiet a c → EachQuiet b c
+quiet_next a b c fell quiet k = quiet_part (slice_index a k) (slice_index b k) (slice_index c k) (slice_index c k) (fell k) (omega arith) (quiet k)
 
 -- the target, the seeds and the stores before, between and after the two steps
 module _ {S V : Type 0} (holds : S → Option (Map (List ℕ))) (store_faults : S → ℕ) (view_faults : V → ℕ) (tells : Bool) (a b c : ℕ)

@@ -1,8 +1,7 @@
 -- Where the chunks of settled entries came from, from one want to the next. The fates are m before the pass, now before
 -- the want and new after it.
-use Rattle.std.proofs.Common.{◌≡◌, ◌++◌, IsTrue, Some, Bool, ℕ, ◌<◌, List, length, map, slice_index, Option, true, false, refl, sym, ◌∙◌, subst, inl, inr, arith}
+use Rattle.std.proofs.Common.{◌≡◌, ◌++◌, IsTrue, Some, Bool, ℕ, ◌<◌, List, length, map, Option, true, false, refl, sym, ◌∙◌, subst, inl, inr, arith}
 use Rattle.std.proofs.lemmas.Bool.{cases_Bool}
-use Rattle.assembler.proofs.Asked.{quiet_part}
 use Rattle.assembler.proofs.Stocking.{gave_from}
 use Rattle.cache_store.specs.Shelves.{Shelf}
 use Rattle.chunk_sources.proofs.Cached.{stocked_told}
@@ -21,20 +20,12 @@ use Rattle.extract_plan.specs.Places.{Placed, places_at}
 use Rattle.range_survey.specs.Fates.{settled}
 use Rattle.range_survey.specs.declared.fate.Fate.{Fate}
 use Rattle.store_chain.specs.Chains.{KeepsStores}
-use Rattle.store_chain.specs.Faults.{EachQuiet, NoneFalls}
 
--- counts that were quiet over two parts were quiet over each
-pub quiet_first : (a b c : List ℕ) → NoneFalls b c → EachQuiet a c → EachQuiet a b
-quiet_first a b c falls quiet k = quiet_part (slice_index a k) (slice_index a k) (slice_index b k) (slice_index c k) (omega arith) (falls k) (quiet k)
-
-pub quiet_next : (a b c : List ℕ) → NoneFalls a b → EachQuiet a c → EachQuiet b c
-quiet_next a b c fell quiet k = quiet_part (slice_index a k) (slice_index b k) (slice_index c k) (slice_index c k) (fell k) (omega arith) (quiet k)
-
--- this is known of each settled entry, where the cache e and the stores hold maps and the stores were quiet from s0 to s1
-abbrev pub HadUpTo : {S : Type 0} → Listing → Deal → Placed → Bool → (S → Option (Map (List ℕ))) → (S → ℕ) → List Fate → List (Option Held)
-    → Option Shelf → List S → List S → List Fate → Type 0
-HadUpTo l d x tells holds faults m views e s0 s1 now = IsTrue tells → (cached maps : List (Map (List ℕ))) → cached_in e ≡ Some cached → map holds s0 ≡ map Some maps
-    → EachQuiet (map faults s0) (map faults s1) → (i : ℕ) → i < count_of l → settled now i ≡ true → HadAt l d x m views (cached ++ maps) i
+-- this is known of each settled entry, where the cache e and the stores hold maps
+abbrev pub HadUpTo : {S : Type 0} → Listing → Deal → Placed → Bool → (S → Option (Map (List ℕ))) → List Fate → List (Option Held)
+    → Option Shelf → List S → List Fate → Type 0
+HadUpTo l d x tells holds m views e s0 now = IsTrue tells → (cached maps : List (Map (List ℕ))) → cached_in e ≡ Some cached → map holds s0 ≡ map Some maps
+    → (i : ℕ) → i < count_of l → settled now i ≡ true → HadAt l d x m views (cached ++ maps) i
 
 module _ (l : Listing) (d : Deal) (x : Placed) (wants : AreWants l d.wants d.want_of) where
   -- an entry that was settled before is its own source
@@ -80,22 +71,19 @@ module _ (l : Listing) (d : Deal) (x : Placed) (wants : AreWants l d.wants d.wan
 
   -- after one more want
   pub had_more : {S : Type 0} (tells : Bool) (holds folder : S → Option (Map (List ℕ))) (place : S → List ℕ) (said : S → Said) (faults : S → ℕ)
-      (m now new : List Fate) (views after : List (Option Held)) (e f : Option Shelf) (s0 s1 s2 : List S) (w : ℕ) (A : ℕ → Type 0) → Stocked (TakesWants holds l d A s0) e f
-      → KeepsStores holds folder place said faults s0 s1 → KeepsStores holds folder place said faults s1 s2 → after ≡ views
-      → HadUpTo l d x tells holds faults m views e s0 s1 now
+      (m now new : List Fate) (views after : List (Option Held)) (e f : Option Shelf) (s0 s1 : List S) (w : ℕ) (A : ℕ → Type 0) → Stocked (TakesWants holds l d A s0) e f
+      → KeepsStores holds folder place said faults s0 s1 → after ≡ views
+      → HadUpTo l d x tells holds m views e s0 now
       → ((i : ℕ) → settled now i ≡ false → settled new i ≡ true → IsAmong (of_want d w) i)
-      → (IsTrue tells → (cached maps : List (Map (List ℕ))) → cached_in f ≡ Some cached → map holds s1 ≡ map Some maps → EachQuiet (map faults s1) (map faults s2)
+      → (IsTrue tells → (cached maps : List (Map (List ℕ))) → cached_in f ≡ Some cached → map holds s1 ≡ map Some maps
       → (i : ℕ) → settled now i ≡ false → settled new i ≡ true → Had now (of_want d w) after (places_at x w) (kind_of l) (id_of l i) (size_of l i) (cached ++ maps))
-      → HadUpTo l d x tells holds faults m views e s0 s2 new
-  had_more tells holds folder place said faults m now new views after e f s0 s1 s2 w A stocked first next same before only had = λ told cached maps has are quiet.
-      let c0 : List ℕ = map faults s0 in
-      let c1 : List ℕ = map faults s1 in
-      let c2 : List ℕ = map faults s2 in
+      → HadUpTo l d x tells holds m views e s0 new
+  had_more tells holds folder place said faults m now new views after e f s0 s1 w A stocked first same before only had = λ told cached maps has are.
       let later = stocked_told (TakesWants holds l d A s0) e f cached stocked has in
-      had_on m now new views (cached ++ maps) w (before told cached maps has are (quiet_first c0 c1 c2 next.never_fall quiet)) only
+      had_on m now new views (cached ++ maps) w (before told cached maps has are) only
       (λ i isnt is. subst (λ v. Had now (of_want d w) v (places_at x w) (kind_of l) (id_of l i) (size_of l i) (cached ++ maps)) same
       (had_from holds A s0 e f cached later.0 maps stocked has later.1 are now (of_want d w) after (places_at x w) (id_of l i) (size_of l i)
-      (had told later.0 maps later.1 (first.held ∙ are) (quiet_next c0 c1 c2 first.never_fall quiet) i isnt is)))
+      (had told later.0 maps later.1 (first.held ∙ are) i isnt is)))
 
   -- over a second pass: what it took from entries that were settled by then, these had from before
   pub had_through : (m0 m1 : List Fate) (views : List (Option Held)) (maps : List (Map (List ℕ))) (i : ℕ) → i < count_of l

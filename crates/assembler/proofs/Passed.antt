@@ -20,7 +20,6 @@ use Rattle.extract_plan.specs.Places.{Placed, places_at}
 use Rattle.extract_plan.specs.Seeds.{held_in}
 use Rattle.range_survey.specs.Fates.{settled}
 use Rattle.range_survey.specs.declared.fate.Fate.{Fate}
-use Rattle.store_chain.specs.Faults.{EachQuiet}
 
 module _ {T S V : Type 0} (held : T → Held) (faults : T → ℕ) (holds folder : S → Option (Map (List ℕ))) (place : S → List ℕ) (said : S → Said)
     (store_faults : S → ℕ) (asked queried : S → List ℕ → ℕ) (view : V → Held) (view_faults : V → ℕ) (tells : Bool) (l : Listing) (d : Deal) (x : Placed) where
@@ -28,7 +27,7 @@ module _ {T S V : Type 0} (held : T → Held) (faults : T → ℕ) (holds folder
   pub record Settles (w : ℕ) (a : T) (k : Kit S V) (m : List Fate) (b : T) (j : Kit S V) (n : List Fate) (e f : Option Shelf) : Type 0 where
     pub only : (i : ℕ) → settled m i ≡ false → settled n i ≡ true → IsAmong (of_want d w) i
     pub had : IsTrue tells → (cached maps : List (Map (List ℕ))) → cached_in e ≡ Some cached → map holds k.chain.stores ≡ map Some maps
-        → EachQuiet (map store_faults k.chain.stores) (map store_faults j.chain.stores) → (i : ℕ) → settled m i ≡ false → settled n i ≡ true
+        → (i : ℕ) → settled m i ≡ false → settled n i ≡ true
         → Had m (of_want d w) (map (held_in view) k.seeds.items) (places_at x w) (kind_of l) (id_of l i) (size_of l i) (cached ++ maps)
     pub asks : (j.chain ≡ k.chain) ⊎ AskedLast asked queried view view_faults (want_id l d w) m (of_want d w) (places_at x w) (faults a) (faults b)
         k.seeds.items j.seeds.items k.chain j.chain
@@ -37,13 +36,13 @@ module _ {T S V : Type 0} (held : T → Held) (faults : T → ℕ) (holds folder
 
   -- what the calls for the wants below w leave
   pub record WantsPassed (w : ℕ) (a : T) (k : Kit S V) (m : List Fate) (b : T) (j : Kit S V) (n : List Fate) (e : Option Shelf) : Type 0 where
-    pub had : HadUpTo l d x tells holds store_faults m (map (held_in view) k.seeds.items) e k.chain.stores j.chain.stores n
+    pub had : HadUpTo l d x tells holds m (map (held_in view) k.seeds.items) e k.chain.stores n
     pub asks : AsksUpTo view view_faults l d x asked m (faults a) (faults b) k.seeds.items j.seeds.items k.chain j.chain w
     pub step : Step held faults holds folder place said store_faults view view_faults l a k m b j n
 
   pub passed_none : (a : T) (k : Kit S V) (m : List Fate) (e : Option Shelf) → AreWants l d.wants d.want_of → WantsPassed 0 a k m a k m e
   passed_none a k m e wants = record {
-    had = λ told cached maps has are quiet i inside is. had_none l d x wants m (map (held_in view) k.seeds.items) (cached ++ maps) i inside is;
+    had = λ told cached maps has are i inside is. had_none l d x wants m (map (held_in view) k.seeds.items) (cached ++ maps) i inside is;
     asks = λ spared are. asks_none asked 0 (asks_below (want_id l d) spared 0) k.chain;
     step = step_none held faults holds folder place said store_faults view view_faults l a k m;
   }
@@ -53,7 +52,7 @@ module _ {T S V : Type 0} (held : T → Held) (faults : T → ℕ) (holds folder
       → WantsPassed w a k m b j n e → Settles w b j n c i o f h → WantsPassed (w + 1) a k m c i o e
   passed_more w a k m b j n c i o e f h A stocked wants below ab bc first next = record {
     had = had_more l d x wants tells holds folder place said store_faults m n o (map (held_in view) k.seeds.items) (map (held_in view) j.seeds.items)
-        e f k.chain.stores j.chain.stores i.chain.stores w A stocked first.step.stores next.step.stores first.step.seeds.held first.had next.only next.had;
+        e f k.chain.stores j.chain.stores w A stocked first.step.stores first.step.seeds.held first.had next.only next.had;
     asks = up_to_more view view_faults l d x asked queried m n (faults a) (faults b) (faults c) k.seeds.items j.seeds.items i.seeds.items
         k.chain j.chain i.chain w below first.step.grows first.step.never_falls next.step.never_falls first.step.seeds next.step.seeds first.asks next.asks;
     step = step_on held faults holds folder place said store_faults view view_faults l a k m b j n c i o ab bc first.step next.step;

@@ -40,7 +40,7 @@ module _ {T S V : Type 0} (held : T → Held) (faults : T → ℕ) (holds folder
     (store_faults : S → ℕ) (asked queried : S → List ℕ → ℕ) (lacks_memory : Bool) (view : V → Held) (view_faults : V → ℕ) (tells : Bool)
     (l : Listing) (d : Deal) (x : Placed) where
   pub record WantsTried (tried : List Bool) (a : T) (k : Kit S V) (m : List Fate) (b : T) (j : Kit S V) (n : List Fate) (e : Option Shelf) : Type 0 where
-    pub had : HadUpTo l d x tells holds store_faults m (map (held_in view) k.seeds.items) e k.chain.stores j.chain.stores n
+    pub had : HadUpTo l d x tells holds m (map (held_in view) k.seeds.items) e k.chain.stores n
     pub asks : SoFar asked view view_faults l d x tried m (faults a) (faults b) k j
     pub step : Step held faults holds folder place said store_faults view view_faults l a k m b j n
 
@@ -54,7 +54,7 @@ module _ {T S V : Type 0} (held : T → Held) (faults : T → ℕ) (holds folder
 
   pub tried_none : (tried : List Bool) (a : T) (k : Kit S V) (m : List Fate) (e : Option Shelf) → AreWants l d.wants d.want_of → WantsTried tried a k m a k m e
   tried_none tried a k m e wants = record {
-    had = λ told cached maps has are quiet i inside is. had_none l d x wants m (map (held_in view) k.seeds.items) (cached ++ maps) i inside is;
+    had = λ told cached maps has are i inside is. had_none l d x wants m (map (held_in view) k.seeds.items) (cached ++ maps) i inside is;
     asks = so_far_none asked view view_faults l d x tried m (faults a) (faults a) k;
     step = step_none held faults holds folder place said store_faults view view_faults l a k m;
   }
@@ -66,7 +66,7 @@ module _ {T S V : Type 0} (held : T → Held) (faults : T → ℕ) (holds folder
         → WantsTried (set tried w true) a k m c i o e
     tried_more tried w A stocked wants below size untried ab bc first next = record {
       had = had_more l d x wants tells holds folder place said store_faults m n o (map (held_in view) k.seeds.items) (map (held_in view) j.seeds.items)
-          e f k.chain.stores j.chain.stores i.chain.stores w A stocked first.step.stores next.step.stores first.step.seeds.held first.had next.only next.had;
+          e f k.chain.stores j.chain.stores w A stocked first.step.stores first.step.seeds.held first.had next.only next.had;
       asks = so_far_more asked view view_faults l d x queried tried m n (faults a) (faults b) (faults c) k j i w size below untried
           first.step.grows first.step.never_falls next.step.never_falls first.step.seeds next.step.seeds next.asks first.asks;
       step = step_on held faults holds folder place said store_faults view view_faults l a k m b j n c i o ab bc first.step next.step;

@@ -6,4 +6,5 @@ pub mod OneKit
 pub mod Passes
 pub mod Reports
 pub mod Assemblies
+pub mod Obtainable
 pub mod Economy

@@ -8,6 +8,7 @@ ghost use Rattle.assembler.specs.Assemblies.{Verdict};
 ghost use Rattle.assembler.specs.Economy.{AsksExactly, AssembledBy, ReportsExactly, UnlessMemory};
 ghost use Rattle.assembler.specs.Fills.{WhereTold};
 ghost use Rattle.assembler.specs.Kits.{Ready, Step};
+ghost use Rattle.assembler.specs.Obtainable.{OnlyObtainable};
 ghost use Rattle.assembler.specs.OneKit.{ByPlan, OfKit};
 ghost use Rattle.assembler.specs.Passes.{EndsBy, HadAt, IsLost, PassesAsk, want_at};
 ghost use Rattle.assembler.specs.Reports.{right_below};
@@ -24,7 +25,6 @@ ghost use Rattle.extract_plan.specs.Places.{PlacesKnown};
 ghost use Rattle.extract_plan.specs.Seeds.{held_in};
 ghost use Rattle.range_survey.specs.Fates.{FirstFates, OpenWrong, SettledRight, settled};
 ghost use Rattle.store_chain.specs.Chains.{KeepsStores};
-ghost use Rattle.store_chain.specs.Faults.{EachQuiet};
 
 use crate::fault::{ExtractFault, Lost};
 use crate::fill::fill;
@@ -72,8 +72,8 @@ fn settle_all<T: Part, S: Store, V: View, F: Folder>(
         (seen F.files F.place F.faults cache.old) (seen F.files F.place F.faults cache.new) lost))) }
     ensures had { IsTrue V.tells → (cached maps : List (Map (List ℕ))) →
         cached_in (seen F.files F.place F.faults cache.old) ≡ Some cached →
-        map S.holds kit.old.chain.stores ≡ map Some maps → EachQuiet (map S.faults kit.old.chain.stores)
-        (map S.faults kit.new.chain.stores) → (i : ℕ) → i < count_of index.now → settled fates.new i ≡ true →
+        map S.holds kit.old.chain.stores ≡ map Some maps → (i : ℕ) → i < count_of index.now →
+        settled fates.new i ≡ true →
         HadAt index.now plan.now places.now fates.old (map (held_in V.held) kit.old.seeds.items) (cached ++ maps) i }
     ensures asks { PassesAsk S.asked V.held V.faults index.now plan.now places.now fates.old
         (T.faults target.old) (T.faults target.new) kit.old kit.new }
@@ -160,6 +160,12 @@ fn assemble_lent<T: Target, S: Store, V: View, F: Folder>(
         V.faults index.now plan.now places.now (T.held target.old).bytes (T.faults target.old) (T.faults target.new)
         kit.old kit.new (seen F.files F.place F.faults cache.old) (seen F.files F.place F.faults cache.new) lost)
         (Rose (T.faults target.old) (T.faults target.new)) result }
+    ensures had { IsTrue V.tells → (cached maps : List (Map (List ℕ))) →
+        cached_in (seen F.files F.place F.faults cache.old) ≡ Some cached →
+        map S.holds kit.old.chain.stores ≡ map Some maps → WhereTold (T.held target.old).bytes (T.held target.new).bytes
+        (λ o t. OnlyObtainable index.now (IsObtainable index.now plan.now places.now (resized o (image_length index.now))
+        (map (held_in V.held) kit.old.seeds.items) (cached ++ maps)) (Rose (T.faults target.old) (T.faults target.new))
+        result o t) }
 
     // Where nothing fails.
     ensures exactly { (cached maps : List (Map (List ℕ))) → NothingFails S.holds S.folder S.place S.said S.faults
@@ -248,6 +254,12 @@ pub fn assemble<T: Target, S: Store, V: View, F: Folder>(
         (T.held target).bytes (T.faults target) (T.faults result.target) k j (seen F.files F.place F.faults cache)
         (seen F.files F.place F.faults result.cache) lost) (Rose (T.faults target) (T.faults result.target))
         result.answer) }
+    ensures had { ByPlan index.now kits.items result.kits.items (λ d k j. IsTrue V.tells →
+        (cached maps : List (Map (List ℕ))) → cached_in (seen F.files F.place F.faults cache) ≡ Some cached →
+        map S.holds k.chain.stores ≡ map Some maps → WhereTold (T.held target).bytes (T.held result.target).bytes
+        (λ o t. OnlyObtainable index.now (IsObtainable index.now d places.now (resized o (image_length index.now))
+        (map (held_in V.held) k.seeds.items) (cached ++ maps)) (Rose (T.faults target) (T.faults result.target))
+        result.answer o t)) }
 
     // Where nothing fails.
     ensures exactly { ByPlan index.now kits.items result.kits.items (λ d k j. (cached maps : List (Map (List ℕ))) →

@@ -13,7 +13,6 @@ ghost use Rattle.chunk_sources.specs.Economy.{source_over};
 ghost use Rattle.dsy_base.specs.Maps.{Map};
 ghost use Rattle.extract_plan.specs.Seeds.{held_in};
 ghost use Rattle.range_survey.specs.Fates.{settled};
-ghost use Rattle.store_chain.specs.Faults.{EachQuiet};
 
 use crate::fault::Unsettled;
 use crate::settle::settle;
@@ -56,8 +55,8 @@ pub(crate) fn fill<T: Part, S: Store, V: View, F: Folder>(
     requires cache { IfSome (seen F.files F.place F.faults cache.old) (λ s. s.kind ≡ kit.old.chain.kind) }
     ensures had { IsTrue V.tells → (cached maps : List (Map (List ℕ))) →
         cached_in (seen F.files F.place F.faults cache.old) ≡ Some cached →
-        map S.holds kit.old.chain.stores ≡ map Some maps → EachQuiet (map S.faults kit.old.chain.stores)
-        (map S.faults kit.new.chain.stores) → (i : ℕ) → i < count_of index.now → settled fates.new i ≡ true →
+        map S.holds kit.old.chain.stores ≡ map Some maps → (i : ℕ) → i < count_of index.now →
+        settled fates.new i ≡ true →
         HadAt index.now plan.now places.now fates.old (map (held_in V.held) kit.old.seeds.items) (cached ++ maps) i }
     ensures asks { PassAsks S.asked V.held V.faults index.now plan.now places.now fates.old
         (T.faults target.old) (T.faults target.new) kit.old kit.new }

@@ -15,7 +15,6 @@ ghost use Rattle.dsy_base.specs.Counts.{Rose};
 ghost use Rattle.dsy_base.specs.Maps.{Map};
 ghost use Rattle.extract_plan.specs.Seeds.{held_in};
 ghost use Rattle.range_survey.specs.Fates.{settled};
-ghost use Rattle.store_chain.specs.Faults.{EachQuiet};
 
 use crate::fault::{ExtractFault, Lost, Unsettled};
 use crate::settle::settle;
@@ -63,8 +62,8 @@ pub(crate) fn retry<T: Part, S: Store, V: View, F: Folder>(
         (seen F.files F.place F.faults cache.new) lost))) }
     ensures had { IsTrue V.tells → (cached maps : List (Map (List ℕ))) →
         cached_in (seen F.files F.place F.faults cache.old) ≡ Some cached →
-        map S.holds kit.old.chain.stores ≡ map Some maps → EachQuiet (map S.faults kit.old.chain.stores)
-        (map S.faults kit.new.chain.stores) → (i : ℕ) → i < count_of index.now → settled fates.new i ≡ true →
+        map S.holds kit.old.chain.stores ≡ map Some maps → (i : ℕ) → i < count_of index.now →
+        settled fates.new i ≡ true →
         HadAt index.now plan.now places.now fates.old (map (held_in V.held) kit.old.seeds.items) (cached ++ maps) i }
     ensures asks { PassAsks S.asked V.held V.faults index.now plan.now places.now fates.old
         (T.faults target.old) (T.faults target.new) kit.old kit.new }

@@ -20,7 +20,6 @@ ghost use Rattle.extract_plan.specs.Places.{PlacesFit, places_at};
 ghost use Rattle.extract_plan.specs.Seeds.{held_in};
 ghost use Rattle.range_survey.specs.Fates.{SettledRight, settled};
 ghost use Rattle.store_chain.specs.Chains.{KeepsStores};
-ghost use Rattle.store_chain.specs.Faults.{EachQuiet};
 
 use crate::fault::{Lost, Unsettled};
 use crate::put::put;
@@ -86,8 +85,8 @@ fn settle_open<T: Part, S: Store, V: View, F: Folder>(
         IsAmong sought.now.entries.now i }
     ensures had { IsTrue V.tells → (cached maps : List (Map (List ℕ))) →
         cached_in (seen F.files F.place F.faults cache.old) ≡ Some cached →
-        map S.holds chain.old.stores ≡ map Some maps → EachQuiet (map S.faults chain.old.stores)
-        (map S.faults chain.new.stores) → (i : ℕ) → settled fates.old i ≡ false → settled fates.new i ≡ true →
+        map S.holds chain.old.stores ≡ map Some maps → (i : ℕ) → settled fates.old i ≡ false →
+        settled fates.new i ≡ true →
         Had fates.old sought.now.entries.now (map (held_in V.held) seeds.old) sought.now.places.now (kind_of index.now)
         sought.now.id.0 (size_of index.now entry) (cached ++ maps) }
     ensures lost { Where (λ x. (x.entry ≡ entry) × (x.id ≡ sought.now.id))
@@ -157,8 +156,8 @@ pub(crate) fn settle<T: Part, S: Store, V: View, F: Folder>(
         IsAmong (of_want plan.now want) i }
     ensures had { IsTrue V.tells → (cached maps : List (Map (List ℕ))) →
         cached_in (seen F.files F.place F.faults cache.old) ≡ Some cached →
-        map S.holds kit.old.chain.stores ≡ map Some maps → EachQuiet (map S.faults kit.old.chain.stores)
-        (map S.faults kit.new.chain.stores) → (i : ℕ) → settled fates.old i ≡ false → settled fates.new i ≡ true →
+        map S.holds kit.old.chain.stores ≡ map Some maps → (i : ℕ) → settled fates.old i ≡ false →
+        settled fates.new i ≡ true →
         Had fates.old (of_want plan.now want) (map (held_in V.held) kit.old.seeds.items) (places_at places.now want)
         (kind_of index.now) (id_of index.now i) (size_of index.now i) (cached ++ maps) }
     ensures lost { Where (IsFirstOpen index.now fates.old (of_want plan.now want))

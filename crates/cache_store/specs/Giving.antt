@@ -1,5 +1,5 @@
 -- Which chunks several stores give together. A store is the map from ids to bytes that it holds.
-use Rattle.std.specs.Prelude.{◌≡◌, ℕ, List, map, Option, Some}
+use Rattle.std.specs.Prelude.{◌≡◌, ℕ, List}
 use Rattle.std.specs.List.{Any}
 use Rattle.chunk_store.specs.Giving.{GivesChunk}
 use Rattle.chunk_store.specs.declared.id.DigestKind.{DigestKind}
@@ -8,11 +8,6 @@ use Rattle.dsy_base.specs.Maps.{Map}
 -- some store that holds one of these maps gives the chunk
 abbrev pub SomeGives : DigestKind → List ℕ → ℕ → List (Map (List ℕ)) → Type 0
 SomeGives kind id size maps = Any (λ m. GivesChunk kind id size (m id)) maps
-
--- some of these stores holds the bytes under the id, where all of them tell what they hold
-abbrev pub SomeHolds : {S : Type 0} → (S → Option (Map (List ℕ))) → List S → List ℕ → List ℕ → Type 0
-SomeHolds holds stores id b = (maps : List (Map (List ℕ))) → map holds stores ≡ map Some maps
-    → Any (λ m. m id ≡ Some b) maps
 
 -- of each id that is listed with several sizes, these stores together give chunks of one size. Two chunks of unequal
 -- sizes with one name would be needed for anything else

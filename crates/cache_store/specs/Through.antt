@@ -11,7 +11,7 @@ use Rattle.dsy_base.specs.Counts.{Rose}
 use Rattle.dsy_base.specs.Maps.{Map}
 use Rattle.store_chain.specs.Chains.{AsksOnce, Chained}
 use Rattle.store_chain.specs.Faults.{EachQuiet}
-use Rattle.store_chain.specs.Giving.{Gives, LacksAll, Obtains}
+use Rattle.store_chain.specs.Giving.{Gives, LacksAll, Obtains, SomeHolds}
 use Rattle.store_chain.specs.Refusals.{GivenBy, Refuses}
 use Rattle.store_chain.specs.declared.refused.Refused.{Refused}
 use Rattle.store_chain.specs.declared.refused.Refused.TheVariants as refused
@@ -64,6 +64,7 @@ module _ {F S : Type 0} (files : F → Option (Map (List ℕ))) (place : F → L
       pub asks : AsksOnce asked queried w.id.0 old.chain new.chain
       pub found : IfOk r
           (λ got. GivenBy said faults lacks_memory w (take got.size out) old.chain.stores new.chain.stores)
+      pub had : IfOk r (λ got. SomeHolds holds old.chain.stores w.id.0 (take got.size out))
       pub absent : IfErr r (Refuses said faults lacks_memory w old.chain.stores new.chain.stores)
       pub first : (maps : List (Map (List ℕ))) → map holds old.chain.stores ≡ map Some maps → IfErr r (LacksAll w maps)
       pub exactly : (maps : List (Map (List ℕ))) → map holds old.chain.stores ≡ map Some maps

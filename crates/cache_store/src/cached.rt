@@ -1,7 +1,7 @@
 //! A shelf before a chain of stores. Sizes are in bytes.
 
 ghost use Rattle.std.specs.Prelude.{◌≡◌, ◌⊎◌, ℕ, List, ◌≤◌, length, None, take, Some, IfSome, IfOk, IfErr};
-ghost use Rattle.cache_store.specs.Giving.{SomeHolds};
+ghost use Rattle.store_chain.specs.Giving.{SomeHolds};
 ghost use Rattle.cache_store.specs.Shelves.{KeepsShelf, held_on, Stocks, shelf_of};
 ghost use Rattle.cache_store.specs.Through.{AddedTo, Unfound, FromShelf, FromStores};
 ghost use Rattle.chunk_store.specs.Names.{name_of};

@@ -3,13 +3,13 @@ use Rattle.std.proofs.Common.{◌≡◌, ◌⊎◌, ◌++◌, ℕ, ◌<◌, ◌^
 use Rattle.std.proofs.lemmas.Bool.{true≢false}
 use Rattle.std.proofs.lemmas.Option.{same_Some}
 use Rattle.std.specs.Option.{option_map}
-use Rattle.cache_store.specs.Giving.{SomeGives, SomeHolds}
+use Rattle.cache_store.specs.Giving.{SomeGives}
 use Rattle.cache_store.specs.Shelves.{Shelf, held_on, shelf_of}
 use Rattle.cache_store.specs.Through.{Behind, FromShelf, FromStores, Unfound}
 use Rattle.cache_store.specs.declared.cached.Got.{Got}
 use Rattle.chunk_sources.proofs.Cached.{gives_left, gives_one, gives_right, one_gives, told_at}
 use Rattle.chunk_sources.proofs.Lacking.{quiet_never, lacked_memory}
-use Rattle.chunk_sources.proofs.Obtained.{gives_some}
+use Rattle.chunk_sources.proofs.Obtained.{holds_gives}
 use Rattle.chunk_sources.proofs.Origins.{by_cache, by_none, by_store, by_want}
 use Rattle.chunk_sources.specs.Caches.{TakesChunk, cached_in}
 use Rattle.chunk_sources.specs.Economy.{ObtainedBy, source_behind}
@@ -22,7 +22,7 @@ use Rattle.dsy_base.specs.Counts.{Quiet, Rose}
 use Rattle.dsy_base.specs.Maps.{Map}
 use Rattle.range_survey.specs.declared.fate.Fate.TheVariants as fate
 use Rattle.store_chain.specs.Faults.{EachQuiet}
-use Rattle.store_chain.specs.Giving.{Gives}
+use Rattle.store_chain.specs.Giving.{Gives, SomeHolds}
 use Rattle.store_chain.specs.Wants.{IsWanted}
 use Rattle.store_chain.specs.declared.refused.Refused.{Refused}
 use Rattle.store_chain.specs.declared.want.Want.{Want}
@@ -62,8 +62,7 @@ module _ {F S : Type 0} (files : F → Option (Map (List ℕ))) (place : F → L
   abbrev Ends : Result Got Refused → Type 0
   Ends r = FromShelf files place count w old new r out ⊎ FromStores files place count holds said faults lacks asked queried w old new r out
 
-  module _ (cached maps : List (Map (List ℕ))) (told : cached_in (Some before) ≡ Some cached) (held : map holds old.chain.stores ≡ map Some maps)
-      (quiet : EachQuiet (map faults old.chain.stores) (map faults new.chain.stores)) where
+  module _ (cached maps : List (Map (List ℕ))) (told : cached_in (Some before) ≡ Some cached) (held : map holds old.chain.stores ≡ map Some maps) where
     from_shelf : (got : Got) → IsWanted w (take got.size out) → FromShelf files place count w old new (Ok got) out → SomeGives kind id.0 size cached
     from_shelf got right from =
         let at = told_at before.files cached told in
@@ -72,7 +71,7 @@ module _ {F S : Type 0} (files : F → Option (Map (List ℕ))) (place : F → L
 
     from_stores : (got : Got) → IsWanted w (take got.size out) → FromStores files place count holds said faults lacks asked queried w old new (Ok got) out
         → SomeGives kind id.0 size maps
-    from_stores got right from = gives_some kind lacks id size maps (take got.size out) right (from.exactly maps held quiet)
+    from_stores got right from = holds_gives kind id size maps (take got.size out) right (from.had maps held)
 
     pub had_through : (got : Got) → IsWanted w (take got.size out) → Ends (Ok got) → SomeGives kind id.0 size (cached ++ maps)
     had_through got right (inl from) = gives_left kind id.0 size cached maps (from_shelf got right from)
@@ -91,11 +90,11 @@ module _ {F S : Type 0} (files : F → Option (Map (List ℕ))) (place : F → L
       cached_through got up below right (inl from) = by_cache kind id.0 size cached maps old.chain new.chain below from.chain (from_shelf got right from)
       cached_through got up below right (inr from) = absurd (true≢false (sym from.added.0 ∙ up))
 
-      pub refused_through : (r : Refused) → Ends (Err r) → ObtainedBy (source_behind kind id.0 size cached maps) old.chain new.chain (Err r)
-      refused_through r (inl from) =
+      pub refused_through : EachQuiet (map faults old.chain.stores) (map faults new.chain.stores) → (r : Refused) → Ends (Err r) → ObtainedBy (source_behind kind id.0 size cached maps) old.chain new.chain (Err r)
+      refused_through quiet r (inl from) =
           subst (λ (q : Refused). ObtainedBy (source_behind kind id.0 size cached maps) old.chain new.chain (Err q)) (sym from.answer)
           (by_want kind id.0 size cached maps old.chain new.chain)
-      refused_through r (inr from) =
+      refused_through quiet r (inr from) =
           by_none kind id.0 size cached maps old.chain new.chain (unfound_never kind id size before after cached told still from.unfound) from.asks.calls r
           (lacked_memory kind id size maps r
           (λ s is. quiet_never (slice_index (map faults old.chain.stores) s) (slice_index (map faults new.chain.stores) s) (quiet s) (from.cause s (ap (λ (q : Refused). Err q) is)))

@@ -1,39 +1,19 @@
 -- What a chain gives, as what the assembly asks of it.
-use Rattle.std.proofs.Common.{◌≡◌, ℕ, ◌<◌, zero, suc, List, [], ◌∷◌, length, take, Option, Some, None, IfSome, IfErr, OnOk, Result, Ok, Err, Bool, IsTrue, refl, sym, ap, ◌∙◌, subst, arith}
+use Rattle.std.proofs.Common.{◌≡◌, ℕ, List, length, take, Option, Some, None, IfSome, IfErr, OnOk, Result, Ok, Err, sym, ap, ◌∙◌, subst, arith}
 use Rattle.std.proofs.lemmas.List.{length-take, take_all}
 use Rattle.std.specs.List.{Any}
 use Rattle.chunk_sources.specs.Losses.{chunk_of}
-use Rattle.chunk_store.specs.Giving.{GivesChunk}
 use Rattle.chunk_store.specs.Names.{name_of}
 use Rattle.chunk_store.specs.declared.id.ChunkId.{ChunkId}
 use Rattle.chunk_store.specs.declared.id.DigestKind.{DigestKind}
 use Rattle.dsy_base.specs.Maps.{Map}
-use Rattle.store_chain.specs.Giving.{Gives, GivesFirst}
-use Rattle.store_chain.specs.Lists.{FirstAt}
 use Rattle.store_chain.specs.Wants.{IsGiven, IsWanted, want_of}
 use Rattle.cache_store.specs.Giving.{SomeGives}
 
-any_of_first : {X : Type 0} (B A C P : X → Type 0) → ((x : X) → A x → P x) → (n : ℕ) (xs : List X) → FirstAt B A C n xs → Any P xs
-any_of_first B A C P a n [] h = absurd h
-any_of_first B A C P a zero (x ∷ xs) h = (0, x, omega arith, refl, a x h.0)
-any_of_first B A C P a (suc n) (x ∷ xs) h =
-    let rest = any_of_first B A C P a n xs h.1 in
-    let less : rest.0 < length xs = rest.2 in
-    (suc rest.0, rest.1, omega arith, rest.3, rest.4)
-
--- the first store that gives is one that gives
-pub gives_some : (kind : DigestKind) (lacks_memory : Bool) (id : ChunkId) (size : ℕ) (maps : List (Map (List ℕ))) (b : List ℕ) → IsWanted (chunk_of kind id size) b
-    → GivesFirst lacks_memory (chunk_of kind id size) maps b → SomeGives kind id.0 size maps
-gives_some kind lacks_memory id size maps b right h =
-    any_of_first (λ m. Gives (chunk_of kind id size) m → IsTrue lacks_memory) (λ m. m id.0 ≡ Some b) (λ m. Unit {0}) (λ m. GivesChunk kind id.0 size (m id.0))
-    (λ m held. (b, held, record { named = right.named; sized = right.sized })) h.0 maps h.1
-
--- so it is of what the index names
-pub gives_named : (kind named : DigestKind) (lacks_memory : Bool) (id : ChunkId) (n size : ℕ) (maps : List (Map (List ℕ))) (b : List ℕ) → kind ≡ named → n ≡ size
-    → IsWanted (chunk_of kind id n) b → GivesFirst lacks_memory (chunk_of kind id n) maps b → SomeGives named id.0 size maps
-gives_named kind named lacks_memory id n size maps b same sized right h =
-    subst (λ (k : DigestKind). SomeGives k id.0 size maps) same
-    (subst (λ (m : ℕ). SomeGives kind id.0 m maps) sized (gives_some kind lacks_memory id n maps b right h))
+-- a store that holds what was wanted gives it
+pub holds_gives : (kind : DigestKind) (id : ChunkId) (size : ℕ) (maps : List (Map (List ℕ))) (b : List ℕ) → IsWanted (chunk_of kind id size) b → Any (λ m. m id.0 ≡ Some b) maps
+    → SomeGives kind id.0 size maps
+holds_gives kind id size maps b right (k, m, inside, at, held) = (k, m, inside, at, (b, held, record { named = right.named; sized = right.sized }))
 
 -- a chunk that fills its room is all of it
 pub given_whole : (kind named : DigestKind) (id : ChunkId) (n size : ℕ) (out : List ℕ) → kind ≡ named → length out ≡ size → IsGiven (want_of kind id (Some size) size) n out

@@ -1,7 +1,7 @@
 -- The cache among the sources, where there is one.
 use Rattle.std.specs.Prelude.{◌≡◌, ℕ, ◌<◌, List, [], ◌∷◌, ◌++◌, Option, Some, None, IsSome}
 use Rattle.std.specs.Option.{option_map}
-use Rattle.cache_store.specs.Giving.{GiveOneSize, SomeGives, SomeHolds}
+use Rattle.cache_store.specs.Giving.{GiveOneSize, SomeGives}
 use Rattle.cache_store.specs.Shelves.{Shelf, Shelved, Stocks, shelf_of}
 use Rattle.caibx_codec.specs.Listing.{Listing, count_of, id_of, kind_of, size_of}
 use Rattle.chunk_store.specs.Folders.{chunks}
@@ -10,6 +10,7 @@ use Rattle.chunk_store.specs.declared.id.DigestKind.{DigestKind}
 use Rattle.dsy_base.specs.Counts.{Rose}
 use Rattle.dsy_base.specs.Maps.{Map}
 use Rattle.extract_plan.specs.Deal.{Deal, first_of, want_id}
+use Rattle.store_chain.specs.Giving.{SomeHolds}
 
 -- what is seen of it
 abbrev pub seen : {F : Type 0} → (F → Option (Map (List ℕ))) → (F → List ℕ) → (F → ℕ) → Option (Shelved F) →

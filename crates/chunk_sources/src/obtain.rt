@@ -14,7 +14,6 @@ ghost use Rattle.extract_plan.specs.Places.{PlacesFit};
 ghost use Rattle.extract_plan.specs.Seeds.{held_in};
 ghost use Rattle.range_survey.specs.Fates.{SettledRight, is_settled, settled};
 ghost use Rattle.store_chain.specs.Chains.{KeepsStores};
-ghost use Rattle.store_chain.specs.Faults.{EachQuiet};
 
 use crate::copy::copy;
 use crate::seeding::from_seeds;
@@ -65,8 +64,7 @@ pub fn obtain<T: View, S: Store, V: View, F: Folder>(
     ensures made { IfOk result (λ f. is_made f ≡ true) }
     ensures had { IsTrue V.tells → (cached maps : List (Map (List ℕ))) →
         cached_in (seen F.files F.place F.faults cache.old) ≡ Some cached →
-        map S.holds chain.old.stores ≡ map Some maps → EachQuiet (map S.faults chain.old.stores)
-        (map S.faults chain.new.stores) → OnOk result (Had fates.now sought.now.entries.now
+        map S.holds chain.old.stores ≡ map Some maps → OnOk result (Had fates.now sought.now.entries.now
         (map (held_in V.held) seeds.old) sought.now.places.now (kind_of index.now) sought.now.id.0 (length chunk.old)
         (cached ++ maps)) }
     ensures refused { IfErr result (λ r. r ≢ Refused.Memory → RefusedBy S.holds S.said S.faults S.may_lack_memory

@@ -37,9 +37,8 @@ pub(crate) fn from_upstream<S: Store, F: Folder>(
     ensures origin { IfOk result (λ f. is_settled f ≡ true) }
     ensures made { IfOk result (λ f. is_made f ≡ true) }
     ensures had { (cached maps : List (Map (List ℕ))) → cached_in (seen F.files F.place F.faults cache.old) ≡ Some
-        cached → map S.holds chain.old.stores ≡ map Some maps → EachQuiet (map S.faults chain.old.stores)
-        (map S.faults chain.new.stores) → OnOk result (SomeGives chain.old.kind id.now.0 (length chunk.old)
-        (cached ++ maps)) }
+        cached → map S.holds chain.old.stores ≡ map Some maps →
+        OnOk result (SomeGives chain.old.kind id.now.0 (length chunk.old) (cached ++ maps)) }
     ensures refused { IfErr result (λ r. r ≢ Refused.Memory → RefusedBy S.holds S.said S.faults S.may_lack_memory
         (chunk_of chain.old.kind id.now (length chunk.old)) chain.old.stores chain.new.stores r) }
     ensures missed { IfErr result (λ r. r ≢ Refused.Memory → CacheLacks chain.old.kind id.now.0 (length chunk.old)

@@ -1,6 +1,6 @@
 -- What a call on a chain says, from what its stores said when they were asked in turn. A primed name is the same value as the
 -- chain's contract spells it.
-use Rattle.std.proofs.Common.{◌≡◌, ℕ, ◌≤◌, List, ◌++◌, length, map, take, drop, Option, Some, Bool, Ok, Err, Result, IfSome, IfOk, IfErr, slice_index, sym, subst, ap, ◌∙◌}
+use Rattle.std.proofs.Common.{◌≡◌, ℕ, ◌≤◌, List, ◌++◌, length, map, take, drop, Option, Some, Bool, Ok, Err, Result, IfSome, IfOk, IfErr, slice_index, refl, sym, subst, ap, ◌∙◌}
 use Rattle.std.proofs.lemmas.List.{take-append-le}
 use Rattle.std.proofs.Math.Seq.{take-append_seam}
 use Rattle.chunk_store.specs.Said.{Said, SaysMap}
@@ -8,12 +8,13 @@ use Rattle.dsy_base.specs.Counts.{Rose}
 use Rattle.dsy_base.specs.Maps.{Map}
 use Rattle.store_chain.specs.Chains.{KeepsStores, EachOnce}
 use Rattle.store_chain.specs.Faults.{EachQuiet}
-use Rattle.store_chain.specs.Giving.{LacksAll, GivesFirst, Obtains}
+use Rattle.store_chain.specs.Giving.{LacksAll, GivesFirst, Obtains, SomeHolds}
 use Rattle.store_chain.specs.Refusals.{Lacked, LackedOrFailed, GivenBy, Refuses, RefusesFrom}
 use Rattle.store_chain.specs.Wants.{IsGiven}
 use Rattle.store_chain.specs.declared.refused.Refused.{Refused}
 use Rattle.store_chain.specs.declared.refused.Refused.TheVariants as refused
 use Rattle.store_chain.specs.declared.want.Want.{Want}
+use Rattle.store_chain.proofs.Shown.{some_holds}
 use Rattle.store_chain.proofs.Told.{lacks_all, obtains, refuses}
 use Rattle.store_chain.proofs.Pairs.{rose_at}
 
@@ -33,6 +34,14 @@ module _ {S : Type 0} (said : S → Said) (faults : S → ℕ) (lacks_memory : B
       let R : List S → Type 0 = λ l. GivenBy said faults lacks_memory w (take n lent) l new' in
       let T : List S → Type 0 = λ l. GivenBy said faults lacks_memory w (take n lent) old l in
       subst P b (subst Q same (subst R same_old (subst T same_new found)))
+
+  -- one of the stores holds it, where they tell what they hold
+  pub had_in : (holds : S → Option (Map (List ℕ))) → ((s : S) → IfSome (holds s) (SaysMap (said s))) → map holds new ≡ map holds old → (r : Result ℕ Refused) (lent rest : List ℕ)
+      → IfOk r (λ n. IsGiven w n lent) → IfOk r (λ n. GivenBy said faults lacks_memory w (take n lent) old new) → IfOk r (λ n. SomeHolds holds old' w'.id.0 (take n (lent ++ rest)))
+  had_in holds says kept (Err e) lent rest given found = tt
+  had_in holds says kept (Ok n) lent rest given found =
+      let still : map holds new' ≡ map holds old' = ap (λ (l : List S). map holds l) (sym same_new) ∙ (kept ∙ ap (λ (l : List S). map holds l) same_old) in
+      some_holds holds said says w'.id.0 (take n (lent ++ rest)) faults lacks_memory w' old' new' refl still (found_in (Ok n) lent rest given found)
 
   pub absent_in : (r : Result ℕ Refused) → IfErr r (RefusesFrom said faults lacks_memory w 0 old new) → IfErr r (Refuses said faults lacks_memory w' old' new')
   absent_in (Ok n) told = tt

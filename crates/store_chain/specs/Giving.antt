@@ -1,6 +1,6 @@
 -- When stores give a chunk, and what they lack where they don't. A store is the map from ids to bytes that it holds.
-use Rattle.std.specs.Prelude.{◌≡◌, ℕ, List, take, Some, None, Result, Ok, Err, Bool, IsTrue}
-use Rattle.std.specs.List.{All}
+use Rattle.std.specs.Prelude.{◌≡◌, ℕ, List, map, take, Option, Some, None, Result, Ok, Err, Bool, IsTrue}
+use Rattle.std.specs.List.{All, Any}
 use Rattle.chunk_store.specs.declared.shows.Shows.{Shows}
 use Rattle.dsy_base.specs.Maps.{Map}
 use Rattle.store_chain.specs.Lists.{FirstAt}
@@ -18,6 +18,11 @@ Gives w m = (b : List ℕ) × (m w.id.0 ≡ Some b) × IsWanted w b
 
 abbrev pub HoldsElse : Want → Shows → Map (List ℕ) → Type 0
 HoldsElse w x m = (b : List ℕ) × (m w.id.0 ≡ Some b) × ShowsElse w b x
+
+-- some of these stores holds the bytes under the id, where all of them tell what they hold
+abbrev pub SomeHolds : {S : Type 0} → (S → Option (Map (List ℕ))) → List S → List ℕ → List ℕ → Type 0
+SomeHolds holds stores id b = (maps : List (Map (List ℕ))) → map holds stores ≡ map Some maps
+    → Any (λ m. m id ≡ Some b) maps
 
 -- the maps lack the chunk: all hold nothing under the id, or this is the first that holds something, and none gives.
 -- Faults and want of memory are free

@@ -8,7 +8,7 @@ ghost use Rattle.dsy_base.specs.Counts.{Rose};
 ghost use Rattle.dsy_base.specs.Maps.{Map};
 ghost use Rattle.store_chain.specs.Chains.{KeepsStores, AsksOnce, AsksNone, EachOnce};
 ghost use Rattle.store_chain.specs.Faults.{EachQuiet};
-ghost use Rattle.store_chain.specs.Giving.{LacksAll, Obtains};
+ghost use Rattle.store_chain.specs.Giving.{LacksAll, Obtains, SomeHolds};
 ghost use Rattle.store_chain.specs.Refusals.{GivenBy, Refuses, HasFails};
 ghost use Rattle.store_chain.specs.Wants.{IsGiven, want_of};
 
@@ -92,7 +92,8 @@ impl<S: Store> Chain<S> {
         ensures absent { IfErr result (Refuses S.said S.faults S.may_lack_memory
             (want_of self.old.kind id.now size (length out.old)) self.old.stores self.new.stores) }
 
-        // What stores hold that tell it.
+        // What stores hold that tell it, whatever fails.
+        ensures had { IfOk result (λ n. SomeHolds S.holds self.old.stores id.now.0 (take n out.new)) }
         ensures first { (maps : List (Map (List ℕ))) → map S.holds self.old.stores ≡ map Some maps →
             IfErr result (LacksAll (want_of self.old.kind id.now size (length out.old)) maps) }
         ensures exactly { (maps : List (Map (List ℕ))) → map S.holds self.old.stores ≡ map Some maps →

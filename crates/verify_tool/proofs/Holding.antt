@@ -4,7 +4,7 @@ use Rattle.std.proofs.lemmas.List.Elements.{All-weaker}
 use Rattle.std.proofs.lemmas.Option.{none-some, same_Some}
 use Rattle.std.specs.List.{All, Any}
 use Rattle.std.specs.Option.{option_map}
-use Rattle.cache_store.specs.Giving.{GiveOneSize, SomeGives, SomeHolds}
+use Rattle.cache_store.specs.Giving.{GiveOneSize, SomeGives}
 use Rattle.cache_store.specs.Shelves.{Shelf, Stocks, held_on}
 use Rattle.caibx_codec.specs.Listing.{Listing, count_of, id_of, kind_of, size_of}
 use Rattle.chunk_store.specs.Folders.{chunks}
@@ -15,7 +15,7 @@ use Rattle.chunk_store.specs.declared.shows.Shows.TheVariants as shows
 use Rattle.dsy_base.specs.Counts.{Quiet, Rose}
 use Rattle.dsy_base.specs.Maps.{Map}
 use Rattle.store_chain.specs.Faults.{EachQuiet, NoneFalls}
-use Rattle.store_chain.specs.Giving.{Gives, HoldsElse, HoldsNone, LacksAll}
+use Rattle.store_chain.specs.Giving.{Gives, HoldsElse, HoldsNone, LacksAll, SomeHolds}
 use Rattle.store_chain.specs.Lists.{FirstAt}
 use Rattle.store_chain.specs.Wants.{IsWanted, ShowsElse}
 use Rattle.store_chain.specs.declared.refused.Refused.TheVariants as refused

@@ -3,7 +3,7 @@
 use Rattle.std.specs.Prelude.{◌≡◌, ◌⊎◌, ℕ, ◌+◌, ◌<◌, ◌≤◌, List, ◌∷◌, length, map}
 use Rattle.std.specs.Prelude.{Bool, Option, Some, IfSome, Result, Ok, Err}
 use Rattle.std.specs.List.{AllZip}
-use Rattle.cache_store.specs.Giving.{GiveOneSize, SomeGives, SomeHolds}
+use Rattle.cache_store.specs.Giving.{GiveOneSize, SomeGives}
 use Rattle.cache_store.specs.Shelves.{Shelf, Stocks, held_on}
 use Rattle.caibx_codec.specs.Listing.{Listing, count_of, id_of, kind_of, size_of}
 use Rattle.chunk_store.specs.Giving.{GivesChunk, IsChunk}
@@ -15,7 +15,7 @@ use Rattle.dsy_base.specs.Maps.{Map}
 use Rattle.image_store.specs.Chopping.{AsksListed}
 use Rattle.store_chain.specs.Chains.{Chained, KeepsStores}
 use Rattle.store_chain.specs.Faults.{EachQuiet}
-use Rattle.store_chain.specs.Giving.{LacksAll}
+use Rattle.store_chain.specs.Giving.{LacksAll, SomeHolds}
 use Rattle.store_chain.specs.Refusals.{Refuses}
 use Rattle.store_chain.specs.Wants.{want_of}
 use Rattle.store_chain.specs.declared.refused.Refused.{Refused}

@@ -25,6 +25,9 @@ assemble_lent-answer-requires-clause-places g c =
 pub returns-clause-lost : goal.returns-clause-lost
 returns-clause-lost g c = by_only c.args.index.now c.args.kits.items c.in-Ok.plan c.index_mut.result.now c.assemble_lent-answer.new.kit (by_one c.args.index.now c.len.result c.in-Ok.plan (c.len.ensures ∙ c.requires.size) c.in-Ok.ensures) (sym c.args.kits.ok.0 ∙ c.requires.size) c.index_mut.ensures.value c.assemble_lent-answer.ensures.lost
 
+pub returns-clause-had : goal.returns-clause-had
+returns-clause-had g c = by_only c.args.index.now c.args.kits.items c.in-Ok.plan c.index_mut.result.now c.assemble_lent-answer.new.kit (by_one c.args.index.now c.len.result c.in-Ok.plan (c.len.ensures ∙ c.requires.size) c.in-Ok.ensures) (sym c.args.kits.ok.0 ∙ c.requires.size) c.index_mut.ensures.value c.assemble_lent-answer.ensures.had
+
 pub returns-clause-exactly : goal.returns-clause-exactly
 returns-clause-exactly g c = by_only c.args.index.now c.args.kits.items c.in-Ok.plan c.index_mut.result.now c.assemble_lent-answer.new.kit (by_one c.args.index.now c.len.result c.in-Ok.plan (c.len.ensures ∙ c.requires.size) c.in-Ok.ensures) (sym c.args.kits.ok.0 ∙ c.requires.size) c.index_mut.ensures.value c.assemble_lent-answer.ensures.exactly
 

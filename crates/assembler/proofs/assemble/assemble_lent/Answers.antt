@@ -17,7 +17,7 @@ use Rattle.range_survey.specs.Fates.{FirstFates, SettledRight}
 use Rattle.range_survey.specs.declared.fate.Fate.{Fate}
 use Rattle.range_survey.specs.declared.fate.Fate.TheVariants as fate
 use Rattle.std.proofs.lemmas.Result.{err_from_is_err_and}
-use Rattle.assembler.proofs.Assembled.{Ran, after_fault, after_ok, asks_over, bytes_err, bytes_ok, economy_err, economy_ok, exactly_err, exactly_ok, kit_as, lost_err, reported_ok, with_buffer}
+use Rattle.assembler.proofs.Assembled.{Ran, after_fault, after_ok, asks_over, bytes_err, bytes_ok, economy_err, economy_ok, exactly_err, exactly_ok, kit_as, lost_err, only_err, only_ok, reported_ok, with_buffer}
 use Rattle.assembler.proofs.Based.{Surveyed, over_of, some_map, told_of}
 use Rattle.assembler.specs.Fills.{Fills}
 use Rattle.store_chain.proofs.Kept.{kept_still}
@@ -130,6 +130,14 @@ returns-in_err-settle_all-clause-lost g c =
     rw (p.1, p.2) (lost_err s.holds s.folder s.place s.said s.faults s.asked s.may_lack_memory v.held v.faults v.tells c.args.index.now c.args.plan.now c.args.places.now
     _ _ _ _ _ _ _ _ _ _ c.args.kit.now c.survey_first.new.kit _ (ran_err g c))
 
+pub returns-in_err-settle_all-clause-had : goal.returns-in_err-settle_all-clause-had
+returns-in_err-settle_all-clause-had g c =
+    let p = err_from_is_err_and c.from_residual-in_err-settle_all.result c.from_residual-in_err-settle_all.ensures.1 in
+    let s = g.S.Store in
+    let v = g.V.View in
+    λ telling cached maps has told. rw p.1 (only_err s.holds s.folder s.place s.said s.faults s.asked s.may_lack_memory v.held v.faults v.tells c.args.index.now c.args.plan.now c.args.places.now
+    _ _ _ _ _ _ _ _ _ _ c.args.kit.now c.survey_first.new.kit cached maps telling has told _ (ran_err g c))
+
 pub returns-in_err-settle_all-clause-exactly : goal.returns-in_err-settle_all-clause-exactly
 returns-in_err-settle_all-clause-exactly g c =
     let p = err_from_is_err_and c.from_residual-in_err-settle_all.result c.from_residual-in_err-settle_all.ensures.1 in
@@ -168,6 +176,13 @@ returns-clause-bytes g c =
     let v = g.V.View in
     bytes_ok s.holds s.folder s.place s.said s.faults s.asked s.may_lack_memory v.held v.faults v.tells c.args.index.now c.args.plan.now c.args.places.now
     _ _ _ _ _ _ _ _ _ _ c.args.kit.now _ _ c.of.result (ran_ok g c)
+
+pub returns-clause-had : goal.returns-clause-had
+returns-clause-had g c =
+    let s = g.S.Store in
+    let v = g.V.View in
+    λ telling cached maps has told. only_ok s.holds s.folder s.place s.said s.faults s.asked s.may_lack_memory v.held v.faults v.tells c.args.index.now c.args.plan.now c.args.places.now
+    _ _ _ _ _ _ _ _ _ _ c.args.kit.now c.survey_first.new.kit cached maps telling has told _ c.of.result (ran_ok g c)
 
 pub returns-clause-exactly : goal.returns-clause-exactly
 returns-clause-exactly g c =

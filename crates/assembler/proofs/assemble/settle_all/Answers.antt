@@ -11,7 +11,7 @@ use Rattle.assembler.proofs.EconomyPasses.{passes_by}
 use Rattle.assembler.proofs.EconomyQuiet.{nothing_first, nothing_next}
 use Rattle.assembler.proofs.EconomyRetried.{unless_map}
 use Rattle.assembler.proofs.Filled.{grows_none}
-use Rattle.assembler.proofs.HadOn.{had_from, had_through, quiet_first, quiet_next}
+use Rattle.assembler.proofs.HadOn.{had_from, had_through}
 use Rattle.assembler.proofs.Lost.{lost_since}
 use Rattle.assembler.proofs.Stepped.{ready_on, seeds_none, step_on}
 use Rattle.assembler.proofs.TwoPasses.{ends_map, err_map}
@@ -66,22 +66,18 @@ returns-in-Ok-clause-left g c =
     ]) c.retry.ensures.left
 
 pub returns-in-Ok-clause-had : goal.returns-in-Ok-clause-had
-returns-in-Ok-clause-had g c = λ tells cached maps has told quiet i inside is.
+returns-in-Ok-clause-had g c = λ tells cached maps has told i inside is.
     let step = c.in-Ok.ensures.step in
-    let next = c.retry.ensures.step in
-    let f = map g.S.Store.faults in
     let views = map (held_in g.V.View.held) in
-    let first = quiet_first (f c.args.kit.now.chain.stores) (f c.fill.new.kit.chain.stores) (f c.retry.new.kit.chain.stores) next.stores.never_fall quiet in
-    let then = quiet_next (f c.args.kit.now.chain.stores) (f c.fill.new.kit.chain.stores) (f c.retry.new.kit.chain.stores) step.stores.never_fall quiet in
     let l = c.args.index.now in
     let d = c.args.plan.now in
     let x = c.args.places.now in
     let w = want_at d i in
     let A : ℕ → Type 0 = λ w. w < d.wants in
     let later = stocked_told (TakesWants g.S.Store.holds l d A c.args.kit.now.chain.stores) (see g c.args.cache.now) (see g c.fill.new.cache) cached c.in-Ok.ensures.stocked has in
-    let had = c.retry.ensures.had tells later.0 maps later.1 (step.stores.held ∙ told) then i inside is in
+    let had = c.retry.ensures.had tells later.0 maps later.1 (step.stores.held ∙ told) i inside is in
     had_through l d x c.requires.ready.wants c.args.fates.now c.fill.new.fates (views c.args.kit.now.seeds.items) (cached ++ maps) i inside
-    (c.in-Ok.ensures.had tells cached maps has told first)
+    (c.in-Ok.ensures.had tells cached maps has told)
     (had_from l d x c.requires.ready.wants g.S.Store.holds A c.args.kit.now.chain.stores (see g c.args.cache.now) (see g c.fill.new.cache) cached later.0 maps c.in-Ok.ensures.stocked has later.1 told
     c.fill.new.fates (of_want d w) (views c.args.kit.now.seeds.items) (places_at x w) (id_of l i) (size_of l i)
     (subst (λ (v : List _). HadAt l d x c.fill.new.fates v (later.0 ++ maps) i) step.seeds.held had))
@@ -146,7 +142,7 @@ returns-in-Ok-clause-exactly g c = λ cached maps nothing one.
     let still = one_size_on s.holds l d A k.chain.stores e0 e1 cached later.0 maps stocked nothing.told_cache later.1 nothing.told one in
     unless_map _ _ c.retry.result
     (λ again. passes_by l d x c.requires.ready.wants c.args.fates.now c.fill.new.fates c.retry.new.fates views (map (held_in v.held) j.seeds.items) cached later.0 maps
-    k.chain j.chain i.chain step.seeds.held (c.in-Ok.ensures.had first.telling cached maps first.told_cache first.told first.stores) (c.in-Ok.ensures.left cached maps first one)
+    k.chain j.chain i.chain step.seeds.held (c.in-Ok.ensures.had first.telling cached maps first.told_cache first.told) (c.in-Ok.ensures.left cached maps first one)
     (give_before s.holds l d A k.chain.stores e0 e1 cached later.0 maps stocked nothing.told_cache later.1 nothing.told c.requires.ready.wants (λ w below. below) one)
     (c.in-Ok.ensures.exactly cached maps first one) again)
     (c.retry.ensures.exactly later.0 maps then still)

@@ -61,10 +61,10 @@ returns-clause-only g c = rw c.entries-entries.ensures at c.settle_open.ensures.
 
 pub returns-clause-had : goal.returns-clause-had
 returns-clause-had g c =
-    λ tells cached maps has told quiet i was now.
+    λ tells cached maps has told i was now.
     let f = c.in-Some.ensures in
     let views = map (held_in g.V.View.held) in
-    let had = rw c.deref_mut.ensures.value at c.settle_open.ensures.had tells cached maps has told quiet i was now in
+    let had = rw c.deref_mut.ensures.value at c.settle_open.ensures.had tells cached maps has told i was now in
     had_as c.args.index.now c.args.plan.now c.args.want c.requires.ready.wants c.requires.want c.entries-entries.result.now c.entries-entries.ensures c.args.fates.now (views c.args.kit.now.seeds.items) c.args.places.now c.places-places.result.now (kind_of c.args.index.now) (cached ++ maps) c.in-Some.entry i c.id-id.result.0
     (f.0, f.1, f.2) (c.settle_open.ensures.only i was now) c.id-id.ensures c.places-places.ensures had
 

@@ -19,18 +19,18 @@ abbrev see : (g : Over) → Option (Shelved g.row.F.Denot) → Option Shelf
 see g = seen g.F.Look.files g.F.Look.place g.F.Look.faults
 
 pub returns-in-Ok-put-clause-had : goal.returns-in-Ok-put-clause-had
-returns-in-Ok-put-clause-had g c = λ tells cached maps has told quiet i was now.
+returns-in-Ok-put-clause-had g c = λ tells cached maps has told i was now.
     let sought = c.args.sought.now in
     let Q : ℕ → Type 0 = λ n. Had c.args.fates.now sought.entries.now (map (held_in g.V.View.held) c.args.seeds.now) sought.places.now (kind_of c.args.index.now) sought.id.0 n (cached ++ maps) in
     let whole : length c.split_at_mut-chunk.result.0.now ≡ size_of c.args.index.now c.args.entry = c.split_at_mut-chunk.ensures.front_len ∙ c.entry.ensures.size in
-    subst Q whole (c.in-Ok.ensures.had tells cached maps has told quiet)
+    subst Q whole (c.in-Ok.ensures.had tells cached maps has told)
 
 pub returns-in-Err-put-clause-had : goal.returns-in-Err-put-clause-had
-returns-in-Err-put-clause-had g c = λ tells cached maps has told quiet i was now.
+returns-in-Err-put-clause-had g c = λ tells cached maps has told i was now.
     let sought = c.args.sought.now in
     let Q : ℕ → Type 0 = λ n. Had c.args.fates.now sought.entries.now (map (held_in g.V.View.held) c.args.seeds.now) sought.places.now (kind_of c.args.index.now) sought.id.0 n (cached ++ maps) in
     let whole : length c.split_at_mut-chunk.result.0.now ≡ size_of c.args.index.now c.args.entry = c.split_at_mut-chunk.ensures.front_len ∙ c.entry.ensures.size in
-    subst Q whole (c.in-Ok.ensures.had tells cached maps has told quiet)
+    subst Q whole (c.in-Ok.ensures.had tells cached maps has told)
 
 pub returns-in-Ok-put-clause-exactly : goal.returns-in-Ok-put-clause-exactly
 returns-in-Ok-put-clause-exactly g c = λ cached maps quiet.

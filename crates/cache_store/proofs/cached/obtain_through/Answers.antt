@@ -1,5 +1,5 @@
 use Rattle.std.proofs.Common.{◌≡◌, ℕ, List, length, take, Ok, inr, refl, subst, ap}
-use Rattle.cache_store.proofs.Fetched.{added_from, added_wanted, ok_err, some_holds, unfound_on}
+use Rattle.cache_store.proofs.Fetched.{added_from, added_wanted, ok_err, unfound_on}
 use Rattle.cache_store.proofs.Stocked.{stocks_looked, stocks_on, stocks_weaker}
 use Rattle.cache_store.specs.Shelves.{Shelf, shelf_of}
 use Rattle.cache_store.specs.Through.{AddedTo, Unfound}
@@ -32,6 +32,7 @@ returns-clause-ends g c =
       added = (refl, subst Q c.split_at.ensures.front (added_from c.args.id.now.0 c.split_at.result.0.now c.keep-kept.result old mid new c.find_first.ensures.kept.files c.find_first.ensures.kept.never_falls c.keep-kept.ensures.added));
       asks = c.obtain.ensures.asks;
       found = subst G c.find_first.auto.out c.in_ok-n-2.ensures.found;
+      had = c.in_ok-n-2.ensures.had;
       absent = tt;
       first = λ maps told. tt;
       exactly = λ maps told quiet. subst (λ n. O n maps) c.find_first.auto.out (c.in_ok-n-2.ensures.exactly maps told quiet);
@@ -47,8 +48,5 @@ returns-clause-stocks g c =
     let b : List ℕ = take c.in_ok-n-2.n c.obtain.new.out in
     let W : ℕ → Type 0 = λ n. IsWanted (want_of c.args.chain.now.kind c.args.id.now c.args.size n) b in
     let given = c.in_ok-n-2.ensures.ok in
-    let held =
-    some_holds g.S.Store.holds g.S.Store.said g.met.S.Store.says c.args.id.now.0 b g.S.Store.faults g.S.Store.may_lack_memory
-    (want_of c.args.chain.now.kind c.args.id.now c.args.size (length c.find_first.new.out)) c.args.chain.now.stores c.obtain.new.self.stores refl c.obtain.ensures.kept.held c.in_ok-n-2.ensures.found in
     stocks_on _ old mid new (stocks_looked _ old mid c.find_first.ensures.kept) (stocks_weaker (λ q x. (q ≡ c.args.id.now.0) × (x ≡ c.split_at.result.0.now)) _
-    (added_wanted g.S.Store.holds _ c.args.id.now.0 c.split_at.result.0.now b c.args.chain.now.stores c.split_at.ensures.front (subst W c.find_first.auto.out given.wanted) held) mid new c.keep-kept.ensures.stocks)
+    (added_wanted g.S.Store.holds _ c.args.id.now.0 c.split_at.result.0.now b c.args.chain.now.stores c.split_at.ensures.front (subst W c.find_first.auto.out given.wanted) c.in_ok-n-2.ensures.had) mid new c.keep-kept.ensures.stocks)

@@ -56,12 +56,12 @@ returns-clause-ok g c =
     c.from_upstream.ensures.ok
 
 pub returns-clause-had : goal.returns-clause-had
-returns-clause-had g c = λ tells cached maps has told quiet.
+returns-clause-had g c = λ tells cached maps has told.
     let size : length c.from_seeds.new.chunk ≡ length c.args.chunk.now = omega (arith, c.from_seeds.auto.chunk, c.copy.auto.chunk) in
     ok_more c.from_upstream.result (λ gives. inr (inr
     (sized_as (λ k n. SomeGives k c.args.sought.now.id.0 n (cached ++ maps)) c.args.chain.now.kind (kind_of c.args.index.now) (length c.from_seeds.new.chunk) (length c.args.chunk.now)
     c.requires.kind size gives)))
-    (c.from_upstream.ensures.had cached maps has told quiet)
+    (c.from_upstream.ensures.had cached maps has told)
 
 pub returns-clause-refused : goal.returns-clause-refused
 returns-clause-refused g c =

@@ -1,11 +1,11 @@
 use Rattle.std.proofs.Common.{◌≡◌, ℕ, length, map, take, Option, Some, Err, sym, ap, ◌∙◌, subst, slice_index}
 use Rattle.std.proofs.lemmas.Result.{err_from_is_err_and}
-use Rattle.cache_store.specs.Giving.{SomeHolds}
+use Rattle.store_chain.specs.Giving.{SomeHolds}
 use Rattle.cache_store.specs.Shelves.{Shelf, Shelved, shelf_of}
 use Rattle.chunk_sources.proofs.Behind.{fetched_through, had_through, none_given, refused_through, takes_wanted}
 use Rattle.chunk_sources.proofs.Cached.{gives_right, stocked_wider}
 use Rattle.chunk_sources.proofs.Lacking.{quiet_never, lacked_memory}
-use Rattle.chunk_sources.proofs.Obtained.{gives_some}
+use Rattle.chunk_sources.proofs.Obtained.{holds_gives}
 use Rattle.chunk_sources.proofs.Origins.{by_none, by_store}
 use Rattle.chunk_sources.specs.Caches.{Stocked, TakesChunk, cache_faults, cached_in, seen}
 use Rattle.chunk_sources.specs.Losses.{chunk_of}
@@ -36,13 +36,13 @@ returns-in_err-obtain-clause-exactly g c = λ cached maps told quiet held still.
     (e.first maps held)))
 
 pub returns-in_default-clause-had : goal.returns-in_default-clause-had
-returns-in_default-clause-had g c = λ cached maps told held quiet.
+returns-in_default-clause-had g c = λ cached maps told held.
     let kind = c.args.chain.now.kind in
     let id = c.args.id.now in
     let size : ℕ = length c.args.chunk.now in
     let e = c.in_ok-obtain.ensures in
     gives_right kind id.0 size cached maps
-    (gives_some kind g.S.Store.may_lack_memory id size maps (take c.in_ok-obtain.field-0 c.obtain.new.out) e.ok.wanted (e.exactly maps held quiet))
+    (holds_gives kind id size maps (take c.in_ok-obtain.field-0 c.obtain.new.out) e.ok.wanted (e.had maps held))
 
 pub returns-in_default-clause-exactly : goal.returns-in_default-clause-exactly
 returns-in_default-clause-exactly g c = λ cached maps told quiet held still.
@@ -52,7 +52,7 @@ returns-in_default-clause-exactly g c = λ cached maps told quiet held still.
     let e = c.in_ok-obtain.ensures in
     by_store kind id.0 size cached maps c.args.chain.now c.obtain.new.self
     (none_given kind id.0 size cached (ap (λ q. cached_in (see g q)) (sym c.in_default.is) ∙ told)) e.asks.calls
-    (gives_some kind g.S.Store.may_lack_memory id size maps (take c.in_ok-obtain.field-0 c.obtain.new.out) e.ok.wanted (e.exactly maps held still))
+    (holds_gives kind id size maps (take c.in_ok-obtain.field-0 c.obtain.new.out) e.ok.wanted (e.had maps held))
 
 -- ---- a cache
 
@@ -63,17 +63,17 @@ returns-in_err-got-clause-exactly g c = λ cached maps told quiet held still.
     let p = err_from_is_err_and c.from_residual-in_err-got.result c.from_residual-in_err-got.ensures.1 in
     rw (p.1, p.2) (refused_through f.files f.place f.faults s.holds s.said s.faults s.may_lack_memory s.asked s.queried c.args.chain.now.kind c.args.id.now (length c.args.chunk.now)
     (record { shelf = c.in-Some.shelf; chain = c.args.chain.now }) (record { shelf = c.obtain_through.new.shelf; chain = c.obtain_through.new.chain }) c.obtain_through.new.out
-    cached maps (ap (λ q. cached_in (see g q)) (sym c.in-Some.is) ∙ told) held still
+    cached maps (ap (λ q. cached_in (see g q)) (sym c.in-Some.is) ∙ told) held
     (subst (λ (q : Option (Shelved g.row.F.Denot)). Quiet (cache_faults (see g q)) (f.faults c.obtain_through.new.shelf.folder)) c.in-Some.is quiet)
-    c.in_err-got.field-0.0 c.in_err-got.ensures.ends)
+    still c.in_err-got.field-0.0 c.in_err-got.ensures.ends)
 
 pub returns-then-got-clause-had : goal.returns-then-got-clause-had
-returns-then-got-clause-had g c = λ cached maps told held quiet.
+returns-then-got-clause-had g c = λ cached maps told held.
     let s = g.S.Store in
     let f = g.F.Look in
     had_through f.files f.place f.faults s.holds s.said s.faults s.may_lack_memory s.asked s.queried c.args.chain.now.kind c.args.id.now (length c.args.chunk.now)
     (record { shelf = c.in-Some.shelf; chain = c.args.chain.now }) (record { shelf = c.obtain_through.new.shelf; chain = c.obtain_through.new.chain }) c.obtain_through.new.out
-    cached maps (ap (λ q. cached_in (see g q)) (sym c.in-Some.is) ∙ told) held quiet
+    cached maps (ap (λ q. cached_in (see g q)) (sym c.in-Some.is) ∙ told) held
     c.in_ok-got.got c.in_ok-got.ensures.ok.wanted c.in_ok-got.ensures.ends
 
 pub returns-then-got-clause-exactly : goal.returns-then-got-clause-exactly
@@ -82,7 +82,7 @@ returns-then-got-clause-exactly g c = λ cached maps told quiet held still.
     let f = g.F.Look in
     fetched_through f.files f.place f.faults s.holds s.said s.faults s.may_lack_memory s.asked s.queried c.args.chain.now.kind c.args.id.now (length c.args.chunk.now)
     (record { shelf = c.in-Some.shelf; chain = c.args.chain.now }) (record { shelf = c.obtain_through.new.shelf; chain = c.obtain_through.new.chain }) c.obtain_through.new.out
-    cached maps (ap (λ q. cached_in (see g q)) (sym c.in-Some.is) ∙ told) held still
+    cached maps (ap (λ q. cached_in (see g q)) (sym c.in-Some.is) ∙ told) held
     (subst (λ (q : Option (Shelved g.row.F.Denot)). Quiet (cache_faults (see g q)) (f.faults c.obtain_through.new.shelf.folder)) c.in-Some.is quiet)
     c.in_ok-got.got c.if-got.true c.in_ok-got.ensures.ok.wanted c.in_ok-got.ensures.ends
 
@@ -99,10 +99,10 @@ returns-then-got-clause-stocked g c =
     (Some (shelf_of f.files f.place f.faults c.in-Some.shelf)) (Some (shelf_of f.files f.place f.faults c.obtain_through.new.shelf)) c.in_ok-got.ensures.stocks)
 
 pub returns-else-got-clause-had : goal.returns-else-got-clause-had
-returns-else-got-clause-had g c = λ cached maps told held quiet.
+returns-else-got-clause-had g c = λ cached maps told held.
     let s = g.S.Store in
     let f = g.F.Look in
     had_through f.files f.place f.faults s.holds s.said s.faults s.may_lack_memory s.asked s.queried c.args.chain.now.kind c.args.id.now (length c.args.chunk.now)
     (record { shelf = c.in-Some.shelf; chain = c.args.chain.now }) (record { shelf = c.obtain_through.new.shelf; chain = c.obtain_through.new.chain }) c.obtain_through.new.out
-    cached maps (ap (λ q. cached_in (see g q)) (sym c.in-Some.is) ∙ told) held quiet
+    cached maps (ap (λ q. cached_in (see g q)) (sym c.in-Some.is) ∙ told) held
     c.in_ok-got.got c.in_ok-got.ensures.ok.wanted c.in_ok-got.ensures.ends

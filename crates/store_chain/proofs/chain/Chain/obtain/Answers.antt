@@ -3,7 +3,7 @@ use Rattle.dsy_base.specs.Counts.{raised}
 use Rattle.store_chain.specs.Wants.{want_of}
 use Rattle.store_chain.specs.Chains.{Chained, EachOnce}
 use Rattle.store_chain.specs.declared.want.Want.{Want}
-use Rattle.store_chain.proofs.Chained.{found_in, absent_in, cause_in, first_in, exactly_in, kept_in, once_in, same_in, written_back}
+use Rattle.store_chain.proofs.Chained.{found_in, had_in, absent_in, cause_in, first_in, exactly_in, kept_in, once_in, same_in, written_back}
 use Rattle.store_chain.proofs.chain.Chain.obtain.Goals as goal
 
 pub returns-clause-found : goal.returns-clause-found
@@ -15,6 +15,16 @@ returns-clause-found g c =
     c.of-want.ensures ∙ ap (λ (v : Chained g.row.S.Denot). want_of v.kind c.args.id.now c.args.size (length c.args.out.now)) c.self.view_is in
     found_in g.S.Store.said g.S.Store.faults g.S.Store.may_lack_memory c.of-want.result _ want c.as_mut_slice.result.now c.args.self.now.stores c.ask_each.new.stores _ old (sym new)
     c.ask_each.result c.ask_each.new.out c.split_at_mut-lent.result.1.now c.ask_each.ensures.ok c.ask_each.ensures.found
+
+pub returns-clause-had : goal.returns-clause-had
+returns-clause-had g c =
+    let size : length c.ask_each.new.stores ≡ c.self.inside.stores.len = omega (arith, c.ask_each.auto.stores, c.as_mut_slice.ensures.len) in
+    let new = written_back c.ask_each.new.stores c.self.inside.stores.items c.self.inside.stores.len size in
+    let old : c.as_mut_slice.result.now ≡ c.args.self.now.stores = c.as_mut_slice.ensures.value ∙ ap (λ (v : Chained g.row.S.Denot). v.stores) c.self.view_is in
+    let want : c.of-want.result ≡ want_of c.args.self.now.kind c.args.id.now c.args.size (length c.args.out.now) =
+    c.of-want.ensures ∙ ap (λ (v : Chained g.row.S.Denot). want_of v.kind c.args.id.now c.args.size (length c.args.out.now)) c.self.view_is in
+    had_in g.S.Store.said g.S.Store.faults g.S.Store.may_lack_memory c.of-want.result _ want c.as_mut_slice.result.now c.args.self.now.stores c.ask_each.new.stores _ old (sym new)
+    g.S.Store.holds g.met.S.Store.says c.ask_each.ensures.kept.held c.ask_each.result c.ask_each.new.out c.split_at_mut-lent.result.1.now c.ask_each.ensures.ok c.ask_each.ensures.found
 
 pub returns-clause-absent : goal.returns-clause-absent
 returns-clause-absent g c =
