@@ -89,8 +89,8 @@ def main():
         print(f'an image of {size} bytes, {count} chunks, an index of '
               f'{os.path.getsize(os.path.join(folder, "image.caibx"))} bytes; medians of {options.runs} runs')
         side_by_side.print_table(rows, size)
-        print(f'extract by way of a temporary file takes {rows[2].median() / rows[1].median():.2f} times as long as in place; '
-              'wanted at most 1.05')
+        print(f'extract by way of a temporary file takes {rows[2].median() / rows[1].median():.2f} times as long as in '
+              'place; wanted at most 1.05')
         print(f'from a cache chunks come at {rows[1].median() / rows[5].median():.2f} of the pace of a folder store; '
               'wanted at least 0.9')
         print('Peak memory is wanted at most 16384 KiB beside the index.')

@@ -1,10 +1,10 @@
 #!/usr/bin/env python3
-"""`desync extract -k` of an image of random bytes in chunks of 16 to 256 KiB into an absent output, with an older version
-of it as seed, beside openssl's digest of it.
+"""`desync extract -k` of an image of random bytes in chunks of 16 to 256 KiB into an absent output, with an older
+version of it as seed, beside openssl's digest of it.
 
 The seed has 94 % of the chunks: these are read from it, named and written, and the others come from the store. casync's
-extraction with the same seed, from a store of its own, is measured beside it, where it is installed. Needs five times the
-image's size under the temporary folder.
+extraction with the same seed, from a store of its own, is measured beside it, where it is installed. Needs five times
+the image's size under the temporary folder.
 """
 
 import filecmp

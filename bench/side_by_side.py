@@ -104,7 +104,8 @@ def remover(path):
 
 
 def casync_rows(folder, image, output, prepare, seeds):
-    """A row for `casync extract` of the image with each of the seeds (None: no seed), from a store that is made first."""
+    """A row for `casync extract` of the image with each of the seeds (None: no seed), from a store that is made
+    first."""
     casync = shutil.which('casync')
     if casync is None:
         print('casync isn\'t there, so it isn\'t measured')

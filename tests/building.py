@@ -161,7 +161,8 @@ def proving(cases):
         expect_equal([kind for kind, *_ in made.told('begin', 'end')], ['begin', 'end'] * 8, 'what came when')
 
     with cases.case('a crate gets the lanes that no other can take, and two jobs where all wait for it') as folder:
-        crates = {'alone': [], 'short': ['alone'], 'long': ['alone'], 'next': ['long'], 'desync_main': ['short', 'next']}
+        crates = {'alone': [], 'short': ['alone'], 'long': ['alone'], 'next': ['long'],
+                  'desync_main': ['short', 'next']}
         for lanes, wanted in ((8, {'alone': '8', 'long': '4', 'short': '4', 'next': '4'}),
                               (2, {'alone': '2', 'long': '2', 'short': '1'}), (1, {'alone': '1', 'long': '1'})):
             made = Repository(os.path.join(folder, str(lanes)), crates, seconds=0.1)

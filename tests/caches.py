@@ -8,14 +8,13 @@ image are those of tests/updating.py.
 import os
 import random
 import shutil
-import subprocess
 import sys
 
 import formats
 import program
 import updating
-from checks import (DAMAGES, Cases, expect, expect_ended, expect_equal, expect_files, expect_untouched, file_bytes, files_of,
-                    needs_program, put_file, snapshot)
+from checks import (DAMAGES, Cases, expect, expect_ended, expect_equal, expect_files, expect_untouched, file_bytes,
+                    files_of, needs_program, put_file, snapshot)
 from make import expect_chunks, start_storing
 
 STRANGERS = {'notes.txt': b'notes', os.path.join('0000', 'other.cacnk'): b'compressed'}
@@ -107,22 +106,13 @@ def given_and_added(cases):
         image.expect_kept([])
 
 
-def opened(folder, words, within):
-    """The names of the chunks that a run opens below a folder, with no error, as strace shows them."""
-    tool = updating.tool('strace')
-    subprocess.run([tool, '-f', '-e', 'trace=open,openat', '-o', 'strace', program.DESYNC, *words], cwd=folder, check=True,
-                   stdin=subprocess.DEVNULL)
-    with open(os.path.join(folder, 'strace'), encoding='utf-8') as file:
-        paths = [line.split('"')[1] for line in file if f'"{within}/' in line and '= -1' not in line]
-    return sorted(bytes.fromhex(path.split('/')[-1]) for path in paths if path.count('/') == 2 and '.tmp' not in path)
-
-
 def asked_in_order(cases):
     with cases.case('a store is asked for what the cache lacks alone') as folder:
         image = Image(folder)
         half = set(sorted(image.needed)[::2])
         image.keep(half)
-        expect_equal(opened(folder, image.words(), 'all'), sorted(image.needed - half), 'what was read from the store')
+        read = updating.opened(folder, image.words(), 'all')
+        expect_equal(read, sorted(image.needed - half), 'what was read from the store')
         image.expect_out()
         image.expect_kept(image.needed)
     with cases.case('the cache is asked for what no seed gives alone') as folder:
@@ -135,7 +125,8 @@ def asked_in_order(cases):
         formats.write_index(image.path('old.caibx'), seed)
         image.keep(image.needed)
         words = image.words('--seed', 'old.caibx', store='none')
-        expect_equal(opened(folder, words, 'near'), sorted(image.needed - seed.names()), 'what was read from the cache')
+        read = updating.opened(folder, words, 'near')
+        expect_equal(read, sorted(image.needed - seed.names()), 'what was read from the cache')
         image.expect_out()
 
 
@@ -188,7 +179,7 @@ def faults(cases):
             lay(formats.chunk_path(image.path('near'), image.index.entries[4][1]))
             expect_ended(image.run(image.words()))
             image.expect_out()
-            expect_equal(len(files_of(image.path('near'))) >= len(image.needed) - 1, True, 'that the other chunks were added')
+            expect(len(files_of(image.path('near'))) >= len(image.needed) - 1, 'the other chunks weren\'t added')
 
 
 def kill_while_storing(words, folder):
@@ -237,7 +228,8 @@ def filled(cases):
         image = Image(folder)
         half = set(sorted(image.chunks)[::2])
         image.keep(half)
-        expect_equal(opened(folder, image.fill(), 'all'), sorted(set(image.chunks) - half), 'what was read from the store')
+        read = updating.opened(folder, image.fill(), 'all')
+        expect_equal(read, sorted(set(image.chunks) - half), 'what was read from the store')
         image.expect_kept(image.chunks)
     with cases.case('cache with two indexes, the second of which lists a chunk that isn\'t there') as folder:
         image = Image(folder)
@@ -269,7 +261,8 @@ def filled(cases):
             kill_while_storing(image.fill(), folder)
             expect_ended(image.run(image.fill()))
             for name, piece in image.chunks.items():
-                expect(file_bytes(formats.chunk_path(image.path('near'), name)) == piece, f'{name.hex()} isn\'t right in the cache')
+                held = file_bytes(formats.chunk_path(image.path('near'), name))
+                expect(held == piece, f'{name.hex()} isn\'t right in the cache')
 
 
 def published_and_updated(cases):
@@ -286,12 +279,14 @@ def published_and_updated(cases):
         expect_ended(extract('first.caibx', 'disk-1'), what='the first version')
         shutil.copyfile(os.path.join(folder, 'first.caibx'), os.path.join(folder, 'disk-1.caibx'))
         expect_ended(extract('--seed', 'disk-1.caibx', 'second.caibx', 'disk-2'), what='the update')
-        expect_ended(program.run(['cache', '-s', 'store', '-c', 'near', 'third.caibx'], folder), what='filling the cache')
+        filling = program.run(['cache', '-s', 'store', '-c', 'near', 'third.caibx'], folder)
+        expect_ended(filling, what='filling the cache')
         os.rename(os.path.join(folder, 'store'), os.path.join(folder, 'gone'))
         os.mkdir(os.path.join(folder, 'store'))
         shutil.copyfile(os.path.join(folder, 'second.caibx'), os.path.join(folder, 'disk-2.caibx'))
         shutil.copyfile(os.path.join(folder, 'disk-2'), os.path.join(folder, 'disk'))
-        expect_ended(extract('-k', '--seed', 'disk-1.caibx', 'third.caibx', 'disk'), what='the update without the store')
+        without_store = extract('-k', '--seed', 'disk-1.caibx', 'third.caibx', 'disk')
+        expect_ended(without_store, what='the update without the store')
         expect_ended(extract('third.caibx', 'disk-3'), what='the third version from the cache alone')
         for got, wanted in (('disk-1', 'first'), ('disk-2', 'second'), ('disk', 'third'), ('disk-3', 'third')):
             same = file_bytes(os.path.join(folder, got)) == file_bytes(os.path.join(folder, wanted))

@@ -153,5 +153,6 @@ def words(path, piece, sizes):
 
 def ends_of(built, path, piece, sizes):
     """Where the program cuts the file."""
-    done = subprocess.run([built, *words(path, piece, sizes)], stdin=subprocess.DEVNULL, capture_output=True, check=True)
+    done = subprocess.run([built, *words(path, piece, sizes)], stdin=subprocess.DEVNULL, capture_output=True,
+                          check=True)
     return [int(line) for line in done.stdout.split()]

@@ -7,7 +7,7 @@ cd "$(dirname "$0")/.." || exit 1
 passed=0
 failed=0
 
-# check WHAT FOUND: passes where nothing was found, else prints what was. What a script says when it breaks is found too.
+# check WHAT FOUND: passes where nothing was found, else prints what was. What a script says as it breaks is found too.
 check() {
     if [ -z "$2" ]; then
         passed=$((passed + 1))
@@ -29,11 +29,13 @@ files() {
 # Lines of text files that match an extended regular expression.
 lines() { files | xargs -0 -r grep -nHIE -- "$1" 2> /dev/null; }
 
-# Lines of the files in src and specs that have more than 120 characters, whatever the locale.
+# Lines of the files in src and specs and of scripts that have more than 120 characters, whatever the locale.
 wide() {
     python3 - << 'END'
 from glob import glob
-for path in sorted(glob('crates/*/src/**/*.rt', recursive=True) + glob('crates/*/specs/**/*.antt', recursive=True)):
+sources = glob('crates/*/src/**/*.rt', recursive=True) + glob('crates/*/specs/**/*.antt', recursive=True)
+scripts = glob('tests/*.*') + glob('bench/*.py') + ['build', 'install', 'quickstart.sh', '.ci/run']
+for path in sorted(sources + scripts):
     with open(path, encoding='utf-8') as file:
         for number, line in enumerate(file, 1):
             if len(line.rstrip('\n')) > 120:
@@ -70,6 +72,6 @@ fi
 check 'edits that do not fit the code' "$(tests/further_edits.sh --apply 2>&1)"
 
 # Not yet a failure: a name of specs/ is wanted to mean one thing in the whole repository.
-echo "names of specs/ that several modules define, by python3 tests/names.py twice: $(python3 tests/names.py twice | wc -l)"
+echo "names of specs/ that several modules define: $(python3 tests/names.py twice | wc -l) (python3 tests/names.py twice)"
 echo "docs: $passed passed, $failed failed"
 [ "$failed" -eq 0 ]

@@ -1,7 +1,7 @@
 #!/bin/bash
 # Tries the edits that the gate doesn't: crates/NAME/further-edits/*.edit, of the crates that are named, or of all. Each
-# must be refused, as those of must-fail/ must, which the gate tries. It takes a proof of each crate, and 10 to 60 seconds
-# more for each edit. `--apply` tries none, and looks alone whether each edit still fits the code that it changes.
+# must be refused, like those of must-fail/, which the gate tries. It takes a proof of each crate, and 10 to 60 seconds
+# more for each edit. `--apply` tries none, and only checks whether each edit still fits the code that it changes.
 cd "$(dirname "$0")/.." || exit 1
 
 # Tells of each edit whose old line doesn't stand once in its file, or that lacks a line.

@@ -1,8 +1,9 @@
 #!/usr/bin/env python3
 """The guide: the commands of docs/GUIDE.md, as they are typed, in one folder, and what they print.
 
-Its servers are started as it says, but at free ports, and nginx over the same folder. Blocks whose tools aren't installed
-are skipped. What the guide says of chunks is held against tests/formats.py, which cuts the same images by itself.
+Its servers are started as it says, but at free ports, and nginx over the same folder. Blocks whose tools aren't
+installed are skipped. What the guide says of chunks is held against tests/formats.py, which cuts the same images by
+itself.
 """
 
 import contextlib
@@ -83,14 +84,16 @@ class Reader:
             return
         port = servers.free_port()
         expect('listen 80;' in block and (SERVED in block or BEHIND in block), f'the block of nginx is {block}')
-        for word, other in (('listen 80;', f'listen 127.0.0.1:{port};'), (SERVED, self.folder), (BEHIND, self.hosts[BEHIND])):
+        for word, other in (('listen 80;', f'listen 127.0.0.1:{port};'), (SERVED, self.folder),
+                            (BEHIND, self.hosts[BEHIND])):
             block = block.replace(word, other)
         self.nginx.close()
         self.nginx.enter_context(servers.nginx_of(block, port, os.path.join(self.folder, 'nginx')))
         self.hosts[NGINX] = f'localhost:{port}'
 
     def type(self, block):
-        for tool, word, there in (('casync', 'casync ', shutil.which('casync')), ('nginx', NGINX, servers.nginx_program()),
+        for tool, word, there in (('casync', 'casync ', shutil.which('casync')),
+                                  ('nginx', NGINX, servers.nginx_program()),
                                   ('openssl', 'openssl ', shutil.which('openssl'))):
             if word in block and not there:
                 self.cases.skip(f'the block that begins {steps(block)[0][0]!r}', f'{tool} isn\'t installed')
@@ -100,8 +103,9 @@ class Reader:
             words = command
             for host, other in self.hosts.items():
                 words = words.replace(host, other)
-            ended = subprocess.run(['bash', '-c', words], cwd=self.folder, env={**os.environ, 'PATH': path, 'LC_ALL': 'C'},
-                                   stdin=subprocess.DEVNULL, stdout=subprocess.PIPE, stderr=subprocess.STDOUT, check=False)
+            ended = subprocess.run(['bash', '-c', words], cwd=self.folder, check=False,
+                                   env={**os.environ, 'PATH': path, 'LC_ALL': 'C'}, stdin=subprocess.DEVNULL,
+                                   stdout=subprocess.PIPE, stderr=subprocess.STDOUT)
             expect_equal(ended.stdout.decode(), printed, f'what `{command}` prints')
             refused = printed.startswith('desync: ') or '\ndesync: ' in printed
             expect_equal(ended.returncode, 1 if refused else 0, f'the status of `{command}`')

@@ -86,7 +86,8 @@ def files(folder, but=None):
 # Servers as they should be
 
 def read(cases):
-    for spelled, prefix in (('', ''), ('/', ''), ('/a/store', '/a/store'), ('/a/store/', '/a/store'), ('/a%20b', '/a%20b')):
+    for spelled, prefix in (('', ''), ('/', ''), ('/a/store', '/a/store'), ('/a/store/', '/a/store'),
+                            ('/a%20b', '/a%20b')):
         with cases.case(f'extract from the URL with {spelled!r} behind the port') as folder:
             image = Image(folder)
             with servers.store(image.path('all'), prefix) as server:
@@ -451,7 +452,8 @@ def now_and_then(cases):
                             right.add(entry)
                 whole = len(right) == 20
                 expect_ended(image.extract(server.url(), more=['-k']), '' if whole else FAILED)
-                wanted = b''.join(piece if entry in right else bytes(len(piece)) for entry, piece in enumerate(image.pieces))
+                wanted = b''.join(piece if entry in right else bytes(len(piece))
+                                  for entry, piece in enumerate(image.pieces))
                 expect(file_bytes(image.path('out')) == wanted, f'out isn\'t what was had: {sorted(right)}')
                 expect_equal(server.asked, asked, 'what was asked')
                 if whole:
@@ -556,7 +558,8 @@ class Waiting:
 
 
 def silent(waiting, deaf):
-    """A read is given up after a minute without a byte, and an address that doesn't take a connection after ten seconds."""
+    """A read is given up after a minute without a byte, and an address that doesn't take a connection after ten
+    seconds."""
     info = ['info', '-s', 'URL', 'new.caibx']
     waiting.begin('the server never answers', info)
     waiting.begin('the server stops in a head', info, lambda *_: b'HTTP/1.1 200 OK\r\nContent-')

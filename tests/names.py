@@ -2,10 +2,10 @@
 """What the documents name and the repository lacks, a line each, labels of clauses that no list has, and what is too
 much in crates.txt or in a crate.
 
-A crate is one of crates.txt. A label is the name of a clause (`ensures LABEL { .. }`). Each row of docs/PROMISES.md has a
-promise, public functions, and labels, in a section whose heading has the crates in brackets: each label has to be that of
-a clause of one of the functions, and each function that has labels has to have one of these. Other words in backquotes are names
-where they are in the spelling of code: each has to stand in some source, script or list.
+A crate is one of crates.txt. A label is the name of a clause (`ensures LABEL { .. }`). Each row of docs/PROMISES.md has
+a promise, public functions, and labels, in a section whose heading has the crates in brackets: each label has to be
+that of a clause of one of the functions, and each function that has labels has to have one of these. Other words in
+backquotes are names where they are in the spelling of code: each has to stand in some source, script or list.
 """
 
 import os
@@ -47,7 +47,8 @@ def documents():
 
 def labels_of(crate, private=False):
     """The labels of the clauses of a crate's public functions and traits, or of all functions."""
-    return {label for path in files(f'crates/{crate}/src', endings='.rt') for label in labels_in(text_of(path), private)}
+    return {label for path in files(f'crates/{crate}/src', endings='.rt')
+            for label in labels_in(text_of(path), private)}
 
 
 def labels_in(source, private):
@@ -207,14 +208,16 @@ def definitions_that_are_not_read_aloud():
 def definitions_without_a_comment():
     """Those that have no sentence: no comment right above them, and no place in docs/DEFINITIONS.md."""
     told = read_aloud()
-    for crate, path in ((crate, path) for crate in crates() for path in files(f'crates/{crate}/specs', endings='.antt')):
-        for name, number, _, commented in definitions_in(path):
-            if not commented and crate not in told.get(name, ()):
-                yield f'{path}:{number}: {name}'
+    for crate in crates():
+        for path in files(f'crates/{crate}/specs', endings='.antt'):
+            for name, number, _, commented in definitions_in(path):
+                if not commented and crate not in told.get(name, ()):
+                    yield f'{path}:{number}: {name}'
 
 
 def definitions_with_one_name():
-    """Names that definitions of several modules have. The forms in memory with and without failing calls share theirs."""
+    """Names that definitions of several modules have. The forms in memory with and without failing calls share
+    theirs."""
     found = {}
     for (crate, module), (_, defined) in modules().items():
         for name in defined:

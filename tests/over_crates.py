@@ -1,4 +1,5 @@
-"""A program over crates of the repository that is no part of it: `rt` proves and builds it in a copy of these crates."""
+"""A program over crates of the repository that is no part of it: `rt` proves and builds it in a copy of these
+crates."""
 
 import os
 import shutil
@@ -42,7 +43,8 @@ def build(folder, crate, uses, files, words):
         os.makedirs(os.path.dirname(full), exist_ok=True)
         with open(full, 'w', encoding='utf-8') as file:
             file.write(text)
-    done = subprocess.run(['rt', 'run', '--', *words], cwd=laid, stdin=subprocess.DEVNULL, capture_output=True, text=True)
+    done = subprocess.run(['rt', 'run', '--', *words], cwd=laid, stdin=subprocess.DEVNULL, capture_output=True,
+                          text=True)
     built = os.path.join(laid, 'out', crate)
     if not os.access(built, os.X_OK):
         raise NotBuilt(f'it isn\'t built:\n{done.stdout}{done.stderr}')

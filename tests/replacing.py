@@ -51,7 +51,7 @@ class Image:
 
     def expect_out(self, data, out='out'):
         got = file_bytes(self.path(out))
-        expect(got == data, f'OUT has {None if got is None else len(got)} bytes, and they aren\'t those that are wanted')
+        expect(got == data, f'OUT has {None if got is None else len(got)} bytes, and they aren\'t the wanted ones')
         expect(not os.path.lexists(self.path(f'{out}.tmp-desync')), 'the temporary file is there')
 
 

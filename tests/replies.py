@@ -75,7 +75,8 @@ def said_to(server, sent):
 
 def expect_reply(server, sent, wanted):
     """The reply to a request is this one; and the GET behind it is answered too, unless the connection closes."""
-    expect_equal(said_to(server, sent + GET_ABC), wanted.bytes + (b'' if wanted.closes else GIVES_ABC.bytes), 'the reply')
+    replies = wanted.bytes + (b'' if wanted.closes else GIVES_ABC.bytes)
+    expect_equal(said_to(server, sent + GET_ABC), replies, 'the reply')
 
 
 def expect_serves(server):
@@ -178,12 +179,13 @@ HEADS = {
 
 # Targets that are no path of a chunk, or of one that isn't there.
 TARGETS = [
-    '/', '*', '//', '/5304', '/5304/', '/5304//', f'/{PATH}', f'//5304/{DIGITS}', f'/5304//{DIGITS}', f'{PATH}/', f'/.{PATH}',
-    f'/a/..{PATH}', f'/../st{PATH}', f'/5304/../5304/{DIGITS}', f'/5304/./{DIGITS}', '/..', '/../secret', '/5304/../../secret',
-    '/%2e%2e/secret', '/..%2fsecret', '/secret', '/notes.txt', '/5304/.tmp-cacnkx', f'/%35304/{DIGITS}', f'/5304/%35{DIGITS[1:]}',
-    f'{PATH}?', f'{PATH}?a=b', f'{PATH}#a', f'{PATH};a', f'{PATH}%00', f'{PATH}.cacnk', f'{PATH}0', PATH[:-1], f'/5304{DIGITS}',
-    f'/5305/{DIGITS}', f'/530/{DIGITS}', f'/53048/{DIGITS}', f'/5304\\{DIGITS}', f'http://localhost{PATH}', PATH[1:],
-    PATH.replace('a', 'g'), path_of(b'abd'), '/' + 'a' * 4_000, '/5304/' + '../' * 500 + 'secret', '/etc/passwd', '/dev/zero',
+    '/', '*', '//', '/5304', '/5304/', '/5304//', f'/{PATH}', f'//5304/{DIGITS}', f'/5304//{DIGITS}', f'{PATH}/',
+    f'/.{PATH}', f'/a/..{PATH}', f'/../st{PATH}', f'/5304/../5304/{DIGITS}', f'/5304/./{DIGITS}', '/..', '/../secret',
+    '/5304/../../secret', '/%2e%2e/secret', '/..%2fsecret', '/secret', '/notes.txt', '/5304/.tmp-cacnkx',
+    f'/%35304/{DIGITS}', f'/5304/%35{DIGITS[1:]}', f'{PATH}?', f'{PATH}?a=b', f'{PATH}#a', f'{PATH};a', f'{PATH}%00',
+    f'{PATH}.cacnk', f'{PATH}0', PATH[:-1], f'/5304{DIGITS}', f'/5305/{DIGITS}', f'/530/{DIGITS}', f'/53048/{DIGITS}',
+    f'/5304\\{DIGITS}', f'http://localhost{PATH}', PATH[1:], PATH.replace('a', 'g'), path_of(b'abd'), '/' + 'a' * 4_000,
+    '/5304/' + '../' * 500 + 'secret', '/etc/passwd', '/dev/zero',
 ]
 
 
@@ -229,8 +231,9 @@ def chunks(cases, folder):
     store = lay_out(folder, b'', *whole)
     with ChunkServer(folder) as server:
         def gives(piece, wanted):
-            expect_reply(server, request('GET', path_of(piece)), Wanted(200, piece) if wanted == 200 else Wanted(wanted))
-            expect_reply(server, request('HEAD', path_of(piece)), Wanted(wanted, length=len(piece) if wanted == 200 else 0))
+            given = piece if wanted == 200 else b''
+            expect_reply(server, request('GET', path_of(piece)), Wanted(wanted, given))
+            expect_reply(server, request('HEAD', path_of(piece)), Wanted(wanted, length=len(given)))
 
         for piece in (b'', *whole):
             with cases.case(f'a chunk of {len(piece)} bytes'):
@@ -298,7 +301,8 @@ def puts(cases, folder):
         taken = Wanted(200)
         answers('of a chunk', put(path_of(b'one'), b'one'), taken, b'one')
         answers('of what is there', put(path_of(b'one'), b'one'), taken)
-        for what, body in (('other bytes', b'onE'), ('a byte less', b'on'), ('a byte more', b'ones'), ('no bytes', b'')):
+        for what, body in (('other bytes', b'onE'), ('a byte less', b'on'), ('a byte more', b'ones'),
+                           ('no bytes', b'')):
             answers(f'of {what}', put(path_of(b'one'), body), Wanted(400))
         answers('of an empty chunk', put(path_of(b''), b''), taken, b'')
         answers('of 8 MiB', put(path_of(large), large), taken, large)
@@ -437,7 +441,8 @@ def reset(peer):
 # Random requests, by a second reading of docs/FORMATS.md
 
 class RandomRequest:
-    """A random request, and the reply of a store that holds the chunks `held`, by path, and takes some where `takes`."""
+    """A random request, and the reply of a store that holds the chunks `held`, by path, and takes some where
+    `takes`."""
 
     def __init__(self, chance, held, takes):
         method = chance.choice(['GET'] * 4 + ['HEAD'] * 2 + ['PUT'] * 4 + ['POST', 'get', 'DELETE'])

@@ -106,7 +106,8 @@ def seeds_that_harm_nothing(cases):
     def wrong(data):
         return bytes(byte ^ 1 for byte in data)
 
-    for what, data in (('wrong bytes', wrong), ('no byte', lambda data: b''), ('half of them', lambda data: data[:len(data) // 2]),
+    for what, data in (('wrong bytes', wrong), ('no byte', lambda data: b''),
+                       ('half of them', lambda data: data[:len(data) // 2]),
                        ('one byte before them', lambda data: b'x' + data)):
         with cases.case(f'a seed with {what}, before one that is right') as folder:
             image = Image(folder)
@@ -153,9 +154,11 @@ def indexes_that_are_refused(cases):
     with cases.case('the index of a seed that isn\'t there, or is damaged') as folder:
         image = Image(folder)
         image.write_index('good.caibx', image.pieces)
-        expect_ended(image.extract('--seed', 'good.caibx', '--seed', 'absent.caibx', store='all'), 'absent.caibx: no such file')
+        ended = image.extract('--seed', 'good.caibx', '--seed', 'absent.caibx', store='all')
+        expect_ended(ended, 'absent.caibx: no such file')
         image.write('bad.caibx', b'no index')
-        expect_ended(image.extract('--seed', 'bad.caibx', '--seed', 'absent.caibx', store='all'), 'bad.caibx: bad index: no index head')
+        ended = image.extract('--seed', 'bad.caibx', '--seed', 'absent.caibx', store='all')
+        expect_ended(ended, 'bad.caibx: bad index: no index head')
         expect_ended(image.extract('--seed', 'bad.caibx', store='absent'), 'bad.caibx: bad index: no index head')
         expect(file_bytes(image.path('out')) is None, 'the output was made')
 

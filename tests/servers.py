@@ -141,8 +141,8 @@ def file_at(folder, prefix, path):
 
 
 def store(folder, prefix='', spell=lambda body: reply(200, body), taken=201, host='127.0.0.1'):
-    """A server of a folder's chunks, which takes them too, with the status `taken`. `spell` gives the reply to a GET of a
-    chunk that is there."""
+    """A server of a folder's chunks, which takes them too, with the status `taken`. `spell` gives the reply to a GET of
+    a chunk that is there."""
     def answer(peer, method, path, body):
         held = file_at(folder, prefix, path)
         if method == 'PUT' and path.startswith(prefix + '/'):
@@ -233,8 +233,8 @@ def nginx_of(server, port, top):
 
 
 class ChunkServer:
-    """`desync chunk-server` over a store in a folder, with more words. It listens at a port of the host `host`, where it is
-    reached at `address`, and ends with its `with`: up to then it is to run, and it is to say nothing."""
+    """`desync chunk-server` over a store in a folder, with more words. It listens at a port of the host `host`, where
+    it is reached at `address`, and ends with its `with`: up to then it is to run, and it is to say nothing."""
 
     def __init__(self, folder, *words, store='st', host='127.0.0.1', address='127.0.0.1', port=None):
         self.folder = folder

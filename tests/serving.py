@@ -4,8 +4,8 @@
     tests/serving.py           all but the last case
     tests/serving.py --slow    also a peer that takes nothing of a reply, which takes some minutes
 
-The replies to single requests are those of tests/replies.py. The servers listen on the loopback interface at free ports,
-but for the cases of all addresses. Peers that hold up a server, for a minute, do so beside the other cases.
+The replies to single requests are those of tests/replies.py. The servers listen on the loopback interface at free
+ports, but for the cases of all addresses. Peers that hold up a server, for a minute, do so beside the other cases.
 """
 
 import concurrent.futures
@@ -23,12 +23,11 @@ import formats
 import program
 import replies
 import servers
-from checks import Cases, Skip, expect, expect_ended, expect_equal, file_bytes, needs_program, put_file
+from checks import Cases, Skip, expect, expect_ended, expect_equal, file_bytes, files_of, needs_program, put_file
 from http_stores import Image
-from replies import (ABC, GET_ABC, GIVES_ABC, MIB, NOTHING, PATH, Wanted, expect_serves, expect_store, lay_out, path_of, put,
-                     refused, request, said_to, to_the_end)
+from replies import (ABC, GET_ABC, GIVES_ABC, MIB, NOTHING, PATH, Wanted, expect_serves, expect_store, lay_out, path_of,
+                     put, refused, request, said_to, to_the_end)
 from servers import ChunkServer
-from tools import files_of
 
 
 # Memory
@@ -170,8 +169,9 @@ def by_curl(cases, folder):
     put_file(os.path.join(folder, 'lacking'), lacking)
     held = files_of(store)
     with ChunkServer(folder) as server:
-        for what, words in (('', []), (' of a range', ['-r', '0-9']), (' by HTTP/1.0', ['-0']), (' that upgrades', ['--http2']),
-                            (' of compressed content', ['--compressed']), (' that closes', ['-H', 'Connection: close'])):
+        for what, words in (('', []), (' of a range', ['-r', '0-9']), (' by HTTP/1.0', ['-0']),
+                            (' that upgrades', ['--http2']), (' of compressed content', ['--compressed']),
+                            (' that closes', ['-H', 'Connection: close'])):
             with cases.case(f'curl: a GET{what}'):
                 got, reports, _ = curl(folder, *words, server.url(path))
                 expect_equal(reports, ['200 200000 1'], 'the report')
@@ -274,7 +274,8 @@ def by_us(cases):
             expect_ended(image.run('chop', '-s', server.url(), 'new.caibx', 'image'))
             image.expect_store('st')
             expect_ended(image.run('make', '-s', server.url(), 'made.caibx', 'image'))
-        expect_equal(file_bytes(image.path('made.caibx')), formats.spell_index(formats.index_of(image.bytes)), 'the index')
+        wanted = formats.spell_index(formats.index_of(image.bytes))
+        expect_equal(file_bytes(image.path('made.caibx')), wanted, 'the index')
         expect_ended(image.run('extract', '-s', 'st', 'made.caibx', 'out'))
         image.expect_out()
         expect_ended(image.run('verify', '-s', 'st'))
@@ -361,7 +362,8 @@ def answered_after(folder, hold):
 
 
 class HoldingUp:
-    """Peers that hold up a server of their own, beside the other cases. `judge` compares when the next peer was answered."""
+    """Peers that hold up a server of their own, beside the other cases. `judge` compares when the next peer was
+    answered."""
 
     def __init__(self, cases, threads):
         self.cases = cases

@@ -12,8 +12,8 @@ import sys
 import formats
 import program
 import updating
-from checks import (DAMAGES, Cases, expect, expect_ended, expect_equal, expect_files, expect_untouched, file_bytes, files_of,
-                    needs_program, put_file, snapshot)
+from checks import (DAMAGES, Cases, expect, expect_ended, expect_equal, expect_files, expect_untouched, file_bytes,
+                    files_of, needs_program, put_file, snapshot)
 
 STRANGERS = {'notes.txt': b'notes', os.path.join('5304', 'other.cacnk'): b'compressed',
              os.path.join('far', 'away', formats.TEMPORARY): b'too deep to be listed'}
@@ -53,7 +53,8 @@ class Store:
 
     def files(self, chunks, rest=None):
         """The files of a store with these chunks."""
-        return {**{formats.path_in_store(name): data for name, data in chunks.items()}, **(self.rest if rest is None else rest)}
+        rest = self.rest if rest is None else rest
+        return {**{formats.path_in_store(name): data for name, data in chunks.items()}, **rest}
 
     def damage(self, names, change):
         for name in names:
@@ -96,7 +97,8 @@ def verified(cases):
         longer = piece + b'\0'
         name = formats.name_of(longer)
         formats.write_chunk(os.path.join(folder, 'st'), name, longer)
-        expect_ended(program.run(['verify', '-s', 'st'], folder), 'damaged chunks left: 1', out=text_of('damaged', [name]))
+        ended = program.run(['verify', '-s', 'st'], folder)
+        expect_ended(ended, 'damaged chunks left: 1', out=text_of('damaged', [name]))
 
 
 def pruned(cases):
@@ -184,7 +186,8 @@ def mended_and_pruned(cases):
         os.mkdir(store)
         versions = ('first', 'second', 'third')
         for name in versions:
-            expect_ended(program.run(['make', '-m', '2:8:32', '-s', 'st', f'{name}.caibx', name], folder), what=f'publishing {name}')
+            making = program.run(['make', '-m', '2:8:32', '-s', 'st', f'{name}.caibx', name], folder)
+            expect_ended(making, what=f'publishing {name}')
         whole = files_of(store)
         expect(len(whole) > 2_000, f'the store has {len(whole)} chunks alone')
         chance = random.Random(3)
@@ -202,10 +205,12 @@ def mended_and_pruned(cases):
         expect_files(store, whole, 'after the mending')
         expect_ended(program.run(['verify', '-s', 'st'], folder), what='the check of what was mended')
         expect_ended(program.run(['prune', '-s', 'st', '-y', 'third.caibx'], folder), what='the pruning')
-        listed = {formats.path_in_store(name) for _, _, name in formats.read_index(file_bytes(os.path.join(folder, 'third.caibx'))).slices()}
+        third = formats.read_index(file_bytes(os.path.join(folder, 'third.caibx')))
+        listed = {formats.path_in_store(name) for name in third.names()}
         expect_files(store, {path: whole[path] for path in listed}, 'after the pruning')
         expect_ended(program.run(['extract', '-s', 'st', 'third.caibx', 'out'], folder), what='the extraction')
-        expect(file_bytes(os.path.join(folder, 'out')) == file_bytes(os.path.join(folder, 'third')), 'out isn\'t the image')
+        same = file_bytes(os.path.join(folder, 'out')) == file_bytes(os.path.join(folder, 'third'))
+        expect(same, 'out isn\'t the image')
 
 
 def main():

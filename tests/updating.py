@@ -58,6 +58,14 @@ def write_images(folder):
     shutil.rmtree(files)
 
 
+def opened(folder, words, store):
+    """The names of the chunks that a run opens in a store without an error, in order, as strace shows them."""
+    run_tool([tool('strace'), '-f', '-e', 'trace=open,openat', '-o', 'strace', program.DESYNC, *words], folder)
+    with open(os.path.join(folder, 'strace'), encoding='utf-8') as file:
+        paths = [line.split('"')[1] for line in file if f'"{store}/' in line and '= -1' not in line]
+    return sorted(bytes.fromhex(path.split('/')[-1]) for path in paths if path.count('/') == 2 and '.tmp' not in path)
+
+
 class Versions:
     """The three images and their indexes, and the store that has all chunks of the third."""
 
@@ -81,7 +89,8 @@ class Versions:
 
     def needed(self, output, seeds):
         """The names of the chunks of which no entry is right in the output, and which no seed lists."""
-        base = (b'' if output is None else self.bytes_of(output))[:self.index.length()].ljust(self.index.length(), b'\0')
+        length = self.index.length()
+        base = (b'' if output is None else self.bytes_of(output))[:length].ljust(length, b'\0')
         right = {name for start, end, name in self.index.slices() if formats.name_of(base[start:end]) == name}
         for seed in seeds:
             right |= self.index_of(seed).names()
@@ -104,13 +113,6 @@ class Versions:
             shutil.copyfile(self.path(output), self.path('disk'))
         named = [word for seed in seeds for word in ('--seed', f'{seed}.caibx')]
         return ['extract', '-k', '-s', 'needed', *named, 'third.caibx', 'disk']
-
-    def opened(self, words):
-        """The names of the chunks that an update opens, with no error, as strace shows them."""
-        run_tool([tool('strace'), '-f', '-e', 'trace=open,openat', '-o', 'strace', program.DESYNC, *words], self.folder)
-        with open(self.path('strace'), encoding='utf-8') as file:
-            lines = [line for line in file if '"needed/' in line and '= -1' not in line]
-        return [bytes.fromhex(line.split('"')[1].split('/')[-1]) for line in lines if line.split('"')[1].count('/') == 2]
 
     def expect_updated(self):
         expect(self.bytes_of('disk') == self.third, 'the updated image is another one')
@@ -158,8 +160,8 @@ def each_needed_chunk_is_read_once(cases, versions):
     for what, output, seeds in WAYS:
         with cases.case(f'which chunks are read, {what}'):
             needed = versions.needed(output, seeds)
-            opened = versions.opened(versions.words(output, seeds))
-            expect_equal(sorted(opened), sorted(needed), 'the list of chunks that were read')
+            read = opened(versions.folder, versions.words(output, seeds), 'needed')
+            expect_equal(read, sorted(needed), 'the list of chunks that were read')
             versions.expect_updated()
 
 

@@ -253,7 +253,8 @@ def random_value(chance, option):
         return chance.choice([*LOCATIONS, ''])
     if kind == 'sizes':
         part = ['0', '1', '16', '64', '256', '9999999', '10000000', '01', '', '-1', ' 1', 'x']
-        return ':'.join(chance.choice(part[:6] if chance.random() < .7 else part) for _ in range(chance.choice([3] * 8 + [1, 2, 4])))
+        count = chance.choice([3] * 8 + [1, 2, 4])
+        return ':'.join(chance.choice(part[:6] if chance.random() < .7 else part) for _ in range(count))
     if kind == 'workers':
         return chance.choice(['1', '32', '10', '0', '33', '01', '', '+1', '4294967297', 'x', '1 ', '--', '٣'])
     if kind == 'seed':
