@@ -72,6 +72,6 @@ fi
 check 'edits that do not fit the code' "$(tests/further_edits.sh --apply 2>&1)"
 
 # Not yet a failure: a name of specs/ is wanted to mean one thing in the whole repository.
-echo "names of specs/ that several modules define: $(python3 tests/names.py twice | wc -l) (python3 tests/names.py twice)"
+echo "names of specs/ that several modules define, by tests/names.py twice: $(python3 tests/names.py twice | wc -l)"
 echo "docs: $passed passed, $failed failed"
 [ "$failed" -eq 0 ]
