@@ -60,10 +60,11 @@ name_operand_refusal k n w = name_refusal (is_empty w) (nat_lt n (takes_of k).op
 abbrev pub number_refusal : ℕ → List ℕ → Option Refusal
 number_refusal most w = name_refusal (is_empty w) (is_some (number_of 0 most w)) why.BadNumber
 
+-- and a third one is one too many, empty or not
 abbrev pub demo_operand_refusal : ℕ → List ℕ → Option Refusal
 demo_operand_refusal n w =
     if n == 0 then number_refusal 18446744073709551615 w
-    else (if n == 1 then number_refusal 536870912 w else name_refusal (is_empty w) false why.Operands)
+    else (if n == 1 then number_refusal 536870912 w else Some (refusal.Why why.Operands))
 
 abbrev pub operand_refusal : CommandKind → ℕ → List ℕ → Option Refusal
 operand_refusal k n w = if (takes_of k).takes_numbers then demo_operand_refusal n w else name_operand_refusal k n w

@@ -109,7 +109,7 @@ fn judge_demo_operand(before: usize, word: &str) -> Result<(), Refusal>
     if before == 1 {
         return judge_number(GREATEST_DEMO, word);
     }
-    judge_name(word.is_empty(), false, UsageWhy::Operands)
+    Err(Refusal::Why(UsageWhy::Operands))
 }
 
 // Judges an operand that is a name and has so many before it.

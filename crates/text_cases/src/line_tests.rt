@@ -74,7 +74,7 @@ chunk-server -s st -l h -> 4 BadListen
 demo 1 536870913 -> 2 BadNumber
 demo 18446744073709551616 1 -> 1 BadNumber
 demo '' 1 -> 1 Empty
-demo 1 1 '' -> 3 Empty
+demo 1 1 '' -> 3 Operands
 demo 1 1 1 -> 3 Operands
 info -- -s x -> 3 Operands
 info -> 1 Operands
