@@ -4,20 +4,21 @@ use Rattle.std.proofs.lemmas.List.{append-nil}
 use Rattle.std.specs.Option.{option_map}
 use Rattle.chunk_server.specs.Shelves.{Shelved, shelved}
 use Rattle.chunk_server.specs.States.{Standing}
+use Rattle.chunk_server.specs.Streams.{given_in}
 use Rattle.chunk_server.specs.Turns.{Cut, Lacking, Served}
 use Rattle.chunk_store.specs.declared.id.DigestKind.{DigestKind}
 use Rattle.chunk_store.specs.declared.id.DigestKind.TheVariants as kinds
 use Rattle.command_outcome.specs.declared.outcome.Outcome.TheVariants as ends
 use Rattle.command_steps.proofs.Taken.{gives_adds}
-use Rattle.store_commands.specs.Serving.{AreServed, FolderServed, Heard, Hears, IsIdle, IsServed, LacksMemory, Listens, RunsOut, ServedBack, Serves, TakesFront, TakesOne, answer_of_serving, any_answer, fresh, heard}
+use Rattle.store_commands.specs.Serving.{AreServed, FolderServed, HasEnded, Heard, Hears, IsIdle, IsServed, LacksMemory, Listens, RunsOut, ServedBack, Serves, TakesFront, TakesOne, answer_of_serving, any_answer, fresh, heard}
 use Rattle.dsy_base.specs.Counts.{Rose}
 use Rattle.dsy_base.specs.Disk.{Disk, GivesFolder}
-use Rattle.dsy_base.specs.Links.{Accepts, ListenState, Traffic, with_ended}
+use Rattle.dsy_base.specs.Links.{Accepts, IsFreshLink, LinkState, ListenState, Traffic}
 use Rattle.dsy_base.specs.Maps.{Map, at_name}
 use Rattle.dsy_base.specs.declared.fault.IoFault.{IoFault}
 use Rattle.dsy_base.specs.declared.fault.IoFault.TheVariants as io
 
-served_more : (writable : Bool) (came gone : List Traffic) (old mid new : Shelved) (t u : Traffic) → AreServed writable came old gone mid → IsServed writable t mid u new
+served_more : (writable : Bool) (came : List Traffic) (gone : List LinkState) (old mid new : Shelved) (t : Traffic) (u : LinkState) → AreServed writable came old gone mid → IsServed writable t mid u new
     → AreServed writable (came ++ t ∷ []) old (gone ++ u ∷ []) new
 unfolding AreServed
 served_more writable [] [] old mid new t u all one = (new, subst (λ (s : Shelved). IsServed writable t s u new) all one, refl)
@@ -30,7 +31,7 @@ module _ (writable : Bool) (l : ListenState) where
   pub listens_none : (m : ListenState) (old new : Shelved) → IsIdle l m → new ≡ old → Listens writable l m old new
   unfolding AreServed
   listens_none m old new idle same = go l.coming l.ended idle.coming idle.ended where
-    go : (c e : Option (List Traffic)) → m.coming ≡ c → m.ended ≡ e → IfSome c (λ coming. IfSome e (λ ended. TakesFront writable coming ended m old new))
+    go : (c : Option (List Traffic)) (e : Option (List LinkState)) → m.coming ≡ c → m.ended ≡ e → IfSome c (λ coming. IfSome e (λ ended. TakesFront writable coming ended m old new))
     go None e is_coming is_ended = tt
     go (Some coming) None is_coming is_ended = tt
     go (Some coming) (Some ended) is_coming is_ended = record {
@@ -46,7 +47,7 @@ module _ (writable : Bool) (l : ListenState) where
   -- one more came and was served
   pub listens_more : (k m : ListenState) (old mid new : Shelved) → Listens writable l k old mid → Hears (IsServed writable) k m mid new → Listens writable l m old new
   listens_more k m old mid new all one = go l.coming l.ended all where
-    over : (coming ended : List Traffic) (front : TakesFront writable coming ended k old mid) → TakesOne (IsServed writable) front.rest (ended ++ front.gone) m mid new → TakesFront writable coming ended m old new
+    over : (coming : List Traffic) (ended : List LinkState) (front : TakesFront writable coming ended k old mid) → TakesOne (IsServed writable) front.rest (ended ++ front.gone) m mid new → TakesFront writable coming ended m old new
     over coming ended front next = record {
       came = front.came ++ next.came ∷ [];
       gone = front.gone ++ next.gone ∷ [];
@@ -57,12 +58,12 @@ module _ (writable : Bool) (l : ListenState) where
       served = served_more writable front.came front.gone old mid new next.came next.gone front.served next.served;
     }
 
-    heard : (coming ended : List Traffic) → k.coming ≡ Some coming → k.ended ≡ Some ended → TakesOne (IsServed writable) coming ended m mid new
+    heard : (coming : List Traffic) (ended : List LinkState) → k.coming ≡ Some coming → k.ended ≡ Some ended → TakesOne (IsServed writable) coming ended m mid new
     heard coming ended is_coming is_ended =
         let first = subst (λ (c : Option (List Traffic)). IfSome c (λ coming. IfSome k.ended (λ ended. TakesOne (IsServed writable) coming ended m mid new))) is_coming one in
-        subst (λ (e : Option (List Traffic)). IfSome e (λ ended. TakesOne (IsServed writable) coming ended m mid new)) is_ended first
+        subst (λ (e : Option (List LinkState)). IfSome e (λ ended. TakesOne (IsServed writable) coming ended m mid new)) is_ended first
 
-    go : (c e : Option (List Traffic)) → IfSome c (λ coming. IfSome e (λ ended. TakesFront writable coming ended k old mid)) → IfSome c (λ coming. IfSome e (λ ended. TakesFront writable coming ended m old new))
+    go : (c : Option (List Traffic)) (e : Option (List LinkState)) → IfSome c (λ coming. IfSome e (λ ended. TakesFront writable coming ended k old mid)) → IfSome c (λ coming. IfSome e (λ ended. TakesFront writable coming ended m old new))
     go None e h = tt
     go (Some coming) None h = tt
     go (Some coming) (Some ended) h = over coming ended h (heard h.rest (ended ++ h.gone) h.coming h.ended)
@@ -70,7 +71,7 @@ module _ (writable : Bool) (l : ListenState) where
   -- nothing came behind
   pub listens_still : (k m : ListenState) (old mid new : Shelved) → Listens writable l k old mid → IsIdle k m → new ≡ mid → Listens writable l m old new
   listens_still k m old mid new all idle same = go l.coming l.ended all where
-    go : (c e : Option (List Traffic)) → IfSome c (λ coming. IfSome e (λ ended. TakesFront writable coming ended k old mid)) → IfSome c (λ coming. IfSome e (λ ended. TakesFront writable coming ended m old new))
+    go : (c : Option (List Traffic)) (e : Option (List LinkState)) → IfSome c (λ coming. IfSome e (λ ended. TakesFront writable coming ended k old mid)) → IfSome c (λ coming. IfSome e (λ ended. TakesFront writable coming ended m old new))
     go None e h = tt
     go (Some coming) None h = tt
     go (Some coming) (Some ended) h = record {
@@ -87,7 +88,7 @@ module _ (writable : Bool) (l : ListenState) where
   pub listens_later : (k m : ListenState) (old new : Shelved) → IsIdle l k → Listens writable k m old new → Listens writable l m old new
   listens_later k m old new idle all =
       let first = subst (λ (c : Option (List Traffic)). IfSome c (λ coming. IfSome k.ended (λ ended. TakesFront writable coming ended m old new))) idle.coming all in
-      subst (λ (e : Option (List Traffic)). IfSome l.coming (λ coming. IfSome e (λ ended. TakesFront writable coming ended m old new))) idle.ended first
+      subst (λ (e : Option (List LinkState)). IfSome l.coming (λ coming. IfSome e (λ ended. TakesFront writable coming ended m old new))) idle.ended first
 
   pub runs_later : (k m : ListenState) (old new : Shelved) → IsIdle l k → RunsOut writable k m old new → RunsOut writable l m old new
   runs_later k m old new idle (inl all) = inl (listens_later k m old new idle all)
@@ -99,32 +100,44 @@ module _ (writable : Bool) (l : ListenState) where
   runs_out k m old mid new all (inr lacking) = inr (k, mid, all, lacking)
 
 -- one was taken, served so, and ended
-pub hears_one : (serves : Serves) (l k m : ListenState) (t u : Option Traffic) (old new : Shelved) → Accepts (Some t) l.coming k.coming → k.ended ≡ l.ended → m.coming ≡ k.coming → m.ended ≡ with_ended k.ended u
-    → (is_some l.coming ≡ true → is_some u ≡ true) → IfSome t (λ t. IfSome u (λ u. serves t old u new)) → Hears serves l m old new
+pub hears_one : (serves : Serves) (l k m : ListenState) (t : Option Traffic) (u : LinkState) (old new : Shelved) → Accepts (Some t) l.coming k.coming → k.ended ≡ l.ended → m.coming ≡ k.coming → m.ended ≡ option_map (λ done. done ++ u ∷ []) k.ended
+    → (is_some l.coming ≡ true → is_some u.traffic ≡ true) → IfSome t (λ t. IfSome u.traffic (λ x. u.traffic ≡ Some x → serves t old u new)) → Hears serves l m old new
 hears_one serves l k m t u old new accepted kept coming ended told served = go l.coming l.ended accepted kept told where
-  over : (coming' ended' rest : List Traffic) (v x : Traffic) → t ≡ Some v → coming' ≡ v ∷ rest → k.coming ≡ Some rest → k.ended ≡ Some ended' → u ≡ Some x → TakesOne serves coming' ended' m old new
+  over : (coming' : List Traffic) (ended' : List LinkState) (rest : List Traffic) (v x : Traffic) → t ≡ Some v → coming' ≡ v ∷ rest → k.coming ≡ Some rest → k.ended ≡ Some ended' → u.traffic ≡ Some x → TakesOne serves coming' ended' m old new
   over coming' ended' rest v x is_came were left ends is_gone =
-      let first = subst (λ (o : Option Traffic). IfSome o (λ t. IfSome u (λ u. serves t old u new))) is_came served in
+      let first = subst (λ (o : Option Traffic). IfSome o (λ t. IfSome u.traffic (λ x. u.traffic ≡ Some x → serves t old u new))) is_came served in
       record {
         came = v;
-        gone = x;
+        gone = u;
         rest = rest;
         were = were;
         coming = coming ∙ left;
-        ended = ended ∙ ap (λ e. with_ended e u) ends ∙ ap (with_ended (Some ended')) is_gone;
-        served = subst (λ (o : Option Traffic). IfSome o (λ u. serves v old u new)) is_gone first;
+        ended = ended ∙ ap (λ e. option_map (λ done. done ++ u ∷ []) e) ends;
+        served = subst (λ (o : Option Traffic). IfSome o (λ x. u.traffic ≡ Some x → serves v old u new)) is_gone first is_gone;
       }
 
   gone : (o : Option Traffic) → is_some o ≡ true → (x : Traffic) × (o ≡ Some x)
   gone None h = absurd (cc)
   gone (Some x) h = (x, refl)
 
-  go : (c e : Option (List Traffic)) → Accepts (Some t) c k.coming → k.ended ≡ e → (is_some c ≡ true → is_some u ≡ true) → IfSome c (λ coming. IfSome e (λ ended. TakesOne serves coming ended m old new))
+  go : (c : Option (List Traffic)) (e : Option (List LinkState)) → Accepts (Some t) c k.coming → k.ended ≡ e → (is_some c ≡ true → is_some u.traffic ≡ true) → IfSome c (λ coming. IfSome e (λ ended. TakesOne serves coming ended m old new))
   go None e accepts is_ended tells = tt
   go (Some coming) None accepts is_ended tells = tt
   go (Some coming) (Some ended) (v, rest, is_came, were, left) is_ended tells =
-      let g = gone u (tells refl) in
+      let g = gone u.traffic (tells refl) in
       over coming ended rest v g.0 is_came were left is_ended g.1
+
+given_some : (x y : Traffic) → given_in (Some y) ≡ given_in (Some x) → y.received ++ y.coming ≡ x.received ++ x.coming
+given_some x y h = cc
+
+-- a connection that came new has ended so, where it is told
+ended_so : (t : Option Traffic) (u : LinkState) (so : Traffic → Traffic → ℕ → Type 0) (P : Traffic → Type 0) → ((x : Traffic) → HasEnded (so x) x u → P x) → IfSome t (λ x. x.received ≡ []) → IfSome t (λ x. x.sent ≡ []) → given_in u.traffic ≡ given_in t → IfSome t (λ x. IfSome u.traffic (λ y. so x y u.faults))
+    → IfSome t (λ x. IfSome u.traffic (λ y. u.traffic ≡ Some y → P x))
+ended_so None u so P f unread unsent given h = tt
+ended_so (Some x) u so P f unread unsent given h = go u.traffic given h where
+  go : (o : Option Traffic) → given_in o ≡ given_in (Some x) → IfSome o (λ y. so x y u.faults) → IfSome o (λ y. u.traffic ≡ Some y → P x)
+  go None same h = tt
+  go (Some y) same h = λ is. f x (record { unread = unread; unsent = unsent; ended = y; told = is; given = given_some x y same; how = h })
 
 if_both : (t u : Option Traffic) (P Q : Traffic → Traffic → Type 0) → ((x y : Traffic) → P x y → Q x y) → IfSome t (λ x. IfSome u (λ y. P x y)) → IfSome t (λ x. IfSome u (λ y. Q x y))
 if_both None u P Q f h = tt
@@ -132,21 +145,27 @@ if_both (Some x) None P Q f h = tt
 if_both (Some x) (Some y) P Q f h = f x y h
 
 -- so it is with each end of serving
-module _ (writable : Bool) (kind : DigestKind) (named : kind ≡ kinds.Sha512T256) (l k m : ListenState) (t u : Option Traffic) (old new : Shelved) (accepted : Accepts (Some t) l.coming k.coming) (kept : k.ended ≡ l.ended) (coming : m.coming ≡ k.coming)
-    (ended : m.ended ≡ with_ended k.ended u) (told : is_some l.coming ≡ true → is_some u ≡ true) where
-  ends_as : (serves : DigestKind → Serves) (P : Serves) → ((x y : Traffic) → serves kinds.Sha512T256 x old y new → P x old y new) → IfSome t (λ x. IfSome u (λ y. serves kind x old y new)) → Hears P l m old new
-  ends_as serves P f h =
-      let right = subst (λ (d : DigestKind). IfSome t (λ x. IfSome u (λ y. serves d x old y new))) named h in
-      hears_one P l k m t u old new accepted kept coming ended told (if_both t u (λ x y. serves kinds.Sha512T256 x old y new) (λ x y. P x old y new) f right)
+module _ (writable : Bool) (kind : DigestKind) (named : kind ≡ kinds.Sha512T256) (l k m : ListenState) (t u : LinkState) (old new : Shelved) (accepted : Accepts (Some t.traffic) l.coming k.coming) (kept : k.ended ≡ l.ended) (coming : m.coming ≡ k.coming)
+    (ended : m.ended ≡ option_map (λ done. done ++ u ∷ []) k.ended) (told : is_some l.coming ≡ true → is_some u.traffic ≡ true) (is_fresh : IsFreshLink t) (given : given_in u.traffic ≡ given_in t.traffic) where
+  ends_as : (serves : DigestKind → Traffic → Shelved → Traffic → Shelved → Type 0) (so : Traffic → Traffic → ℕ → Type 0) (P : Serves) → ((x : Traffic) → HasEnded (so x) x u → P x old u new) → ((x y : Traffic) → serves kinds.Sha512T256 x old y new → so x y u.faults)
+      → IfSome t.traffic (λ x. IfSome u.traffic (λ y. serves kind x old y new)) → Hears P l m old new
+  ends_as serves so P pack f h =
+      let right = subst (λ (d : DigestKind). IfSome t.traffic (λ x. IfSome u.traffic (λ y. serves d x old y new))) named h in
+      hears_one P l k m t.traffic u old new accepted kept coming ended told
+      (ended_so t.traffic u so (λ x. P x old u new) pack is_fresh.received is_fresh.sent given (if_both t.traffic u.traffic (λ x y. serves kinds.Sha512T256 x old y new) (λ x y. so x y u.faults) f right))
 
-  pub hears_served : IfSome t (λ x. IfSome u (λ y. Served kind any_answer writable x old y new)) → Hears (IsServed writable) l m old new
-  hears_served h = ends_as (λ d. Served d any_answer writable) (IsServed writable) (λ x y s. inl s) h
+  -- how it ended, where it was served
+  abbrev served_so : Traffic → Traffic → ℕ → Type 0
+  served_so x y failed = Served kinds.Sha512T256 any_answer writable x old y new ⊎ (Rose 0 failed × Cut kinds.Sha512T256 any_answer writable x old y new)
 
-  pub hears_cut : IfSome t (λ x. IfSome u (λ y. Cut kind any_answer writable x old y new)) → Hears (IsServed writable) l m old new
-  hears_cut h = ends_as (λ d. Cut d any_answer writable) (IsServed writable) (λ x y s. inr s) h
+  pub hears_served : IfSome t.traffic (λ x. IfSome u.traffic (λ y. Served kind any_answer writable x old y new)) → Hears (IsServed writable) l m old new
+  hears_served h = ends_as (λ d. Served d any_answer writable) served_so (IsServed writable) (λ x r. r) (λ x y s. inl s) h
 
-  pub hears_lacking : IfSome t (λ x. IfSome u (λ y. Lacking kind any_answer writable x old y new)) → Hears (LacksMemory writable) l m old new
-  hears_lacking h = ends_as (λ d. Lacking d any_answer writable) (LacksMemory writable) (λ x y s. s) h
+  pub hears_cut : Rose t.faults u.faults → IfSome t.traffic (λ x. IfSome u.traffic (λ y. Cut kind any_answer writable x old y new)) → Hears (IsServed writable) l m old new
+  hears_cut rose h = ends_as (λ d. Cut d any_answer writable) served_so (IsServed writable) (λ x r. r) (λ x y s. inr (subst (λ (n : ℕ). Rose n u.faults) is_fresh.unfailed rose, s)) h
+
+  pub hears_lacking : IfSome t.traffic (λ x. IfSome u.traffic (λ y. Lacking kind any_answer writable x old y new)) → Hears (LacksMemory writable) l m old new
+  hears_lacking h = ends_as (λ d. Lacking d any_answer writable) (λ x y failed. Lacking kinds.Sha512T256 any_answer writable x old y new) (LacksMemory writable) (λ x r. r) (λ x y s. s) h
 
 -- ---- in the turns of a loop
 

@@ -14,7 +14,7 @@ use Rattle.command_steps.specs.Stores.{StoreTaken}
 use Rattle.command_steps.specs.Worlds.{Adds, OnDisk, Step, World}
 use Rattle.dsy_base.specs.Counts.{Rose, raised}
 use Rattle.dsy_base.specs.Disk.{Disk}
-use Rattle.dsy_base.specs.Links.{ListenState, Traffic}
+use Rattle.dsy_base.specs.Links.{LinkState, ListenState, Traffic}
 use Rattle.dsy_base.specs.Maps.{Map, at_name}
 use Rattle.dsy_base.specs.declared.fault.IoFault.{IoFault}
 use Rattle.dsy_base.specs.declared.fault.IoFault.TheVariants as faults
@@ -32,23 +32,33 @@ heard old new = record { old = old; new = new }
 
 -- how a connection came and how it ended, and the store before it and after it
 abbrev pub Serves : Type 1
-Serves = Traffic → Shelved → Traffic → Shelved → Type 0
+Serves = Traffic → Shelved → LinkState → Shelved → Type 0
 
 -- a folder of chunks gives each answer that is right
 abbrev pub any_answer : Act → List ℕ → Answer → Type 0
 any_answer a body r = Unit {0}
 
--- it was served to its end, or broken off
+-- a connection that came new, and on which the peer gave no other bytes than it had to give, has ended so
+pub record HasEnded (so : Traffic → ℕ → Type 0) (t : Traffic) (u : LinkState) : Type 0 where
+  pub unread : t.received ≡ []
+  pub unsent : t.sent ≡ []
+  pub ended : Traffic
+  pub told : u.traffic ≡ Some ended
+  pub given : ended.received ++ ended.coming ≡ t.received ++ t.coming
+  pub how : so ended u.faults
+
+-- it was served to its end, or its count of faults rose and it was broken off
 abbrev pub IsServed : Bool → Serves
-IsServed writable t old u new =
-    Served kinds.Sha512T256 any_answer writable t old u new ⊎ Cut kinds.Sha512T256 any_answer writable t old u new
+IsServed writable t old u new = HasEnded (λ x failed. Served kinds.Sha512T256 any_answer writable t old x new
+    ⊎ (Rose 0 failed × Cut kinds.Sha512T256 any_answer writable t old x new)) t u
 
 -- there was no memory for it
 abbrev pub LacksMemory : Bool → Serves
-LacksMemory writable t old u new = Lacking kinds.Sha512T256 any_answer writable t old u new
+LacksMemory writable t old u new =
+    HasEnded (λ x failed. Lacking kinds.Sha512T256 any_answer writable t old x new) t u
 
 -- these connections came and ended so, each served over the files that the one before it left
-unfoldable pub AreServed : Bool → List Traffic → Shelved → List Traffic → Shelved → Type 0
+unfoldable pub AreServed : Bool → List Traffic → Shelved → List LinkState → Shelved → Type 0
 AreServed writable [] old [] new = new ≡ old
 AreServed writable [] old (u ∷ gone) new = ⊥
 AreServed writable (t ∷ came) old [] new = ⊥
@@ -63,28 +73,32 @@ pub record IsIdle (old new : ListenState) : Type 0 where
   pub ended : new.ended ≡ old.ended
 
 -- of the connections that were to come, `queue`, the first was taken, and it has ended behind those that had, `done`
-pub record TakesOne (serves : Serves) (queue done : List Traffic) (m : ListenState) (old new : Shelved) : Type 0 where
-  pub came : Traffic
-  pub gone : Traffic
-  pub rest : List Traffic
-  pub were : queue ≡ came ∷ rest
-  pub coming : m.coming ≡ Some rest
-  pub ended : m.ended ≡ Some (done ++ gone ∷ [])
-  pub served : serves came old gone new
+pub record TakesOne
+    (serves : Serves) (queue : List Traffic) (done : List LinkState) (m : ListenState) (old new : Shelved) : Type 0
+  where
+    pub came : Traffic
+    pub gone : LinkState
+    pub rest : List Traffic
+    pub were : queue ≡ came ∷ rest
+    pub coming : m.coming ≡ Some rest
+    pub ended : m.ended ≡ Some (done ++ gone ∷ [])
+    pub served : serves came old gone new
 
 abbrev pub Hears : Serves → ListenState → ListenState → Shelved → Shelved → Type 0
 Hears serves l m old new =
     IfSome l.coming (λ queue. IfSome l.ended (λ done. TakesOne serves queue done m old new))
 
 -- the first ones were taken and served, and no others
-pub record TakesFront (writable : Bool) (queue done : List Traffic) (m : ListenState) (old new : Shelved) : Type 0 where
-  pub came : List Traffic
-  pub gone : List Traffic
-  pub rest : List Traffic
-  pub were : queue ≡ came ++ rest
-  pub coming : m.coming ≡ Some rest
-  pub ended : m.ended ≡ Some (done ++ gone)
-  pub served : AreServed writable came old gone new
+pub record TakesFront
+    (writable : Bool) (queue : List Traffic) (done : List LinkState) (m : ListenState) (old new : Shelved) : Type 0
+  where
+    pub came : List Traffic
+    pub gone : List LinkState
+    pub rest : List Traffic
+    pub were : queue ≡ came ++ rest
+    pub coming : m.coming ≡ Some rest
+    pub ended : m.ended ≡ Some (done ++ gone)
+    pub served : AreServed writable came old gone new
 
 abbrev pub Listens : Bool → ListenState → ListenState → Shelved → Shelved → Type 0
 Listens writable l m old new =
