@@ -1,21 +1,27 @@
 -- How often stores were asked, from one want to the next.
-use Rattle.std.proofs.Common.{◌≡◌, ◌⊎◌, ℕ, zero, suc, ◌+◌, ◌-◌, ◌<◌, ◌≤◌, List, [], ◌∷◌, map, slice_index, Bool, true, false, if◌then◌else◌, inl, inr, refl, sym, subst, arith, add-one}
+use Rattle.std.proofs.Common.{◌≡◌, ◌⊎◌, ℕ, zero, suc, ◌+◌, ◌-◌, ◌<◌, ◌≤◌, List, [], ◌∷◌, map, slice_index, Option, Bool, true, false, if◌then◌else◌, inl, inr, refl, sym, subst, arith, add-one}
 use Rattle.std.proofs.lemmas.Bool.{cases_Bool}
 use Rattle.std.proofs.lemmas.Slice.Eq.{bytes_eq-Decides}
 use Rattle.std.specs.Bool.{Decides}
 use Rattle.std.specs.Str.{bytes_eq}
+use Rattle.assembler.proofs.CacheSpared.{cache_never, cache_part}
+use Rattle.assembler.proofs.Counted.{quiet_part}
 use Rattle.assembler.proofs.Filled.{grows_none, settled_on}
 use Rattle.assembler.proofs.Stepped.{seeds_none}
 use Rattle.assembler.specs.Fills.{Grows}
-use Rattle.caibx_codec.specs.Listing.{Listing}
+use Rattle.cache_store.specs.Shelves.{Shelf}
+use Rattle.caibx_codec.specs.Listing.{Listing, kind_of, size_of}
+use Rattle.chunk_sources.proofs.Cached.{stocked_none}
 use Rattle.chunk_sources.proofs.Lacking.{quiet_never}
 use Rattle.chunk_sources.specs.Asks.{AreSpared, AsksAtMost, IsSpared, asked_at, asks_below, asks_for, calls_below, calls_for}
+use Rattle.chunk_sources.specs.Caches.{Stocked, TakesWants, cache_faults}
 use Rattle.chunk_sources.specs.Losses.{AskedLast}
 use Rattle.chunk_sources.specs.Sources.{HeldAt, KeepsSeeds}
 use Rattle.chunk_store.specs.Said.{AskedOnce}
 use Rattle.dsy_base.specs.Bytes.{Held}
-use Rattle.dsy_base.specs.Counts.{Quiet, Rose}
-use Rattle.extract_plan.specs.Deal.{Deal, of_want, want_id}
+use Rattle.dsy_base.specs.Counts.{Rose}
+use Rattle.dsy_base.specs.Maps.{Map}
+use Rattle.extract_plan.specs.Deal.{AreWants, Deal, first_of, of_want, want_id}
 use Rattle.extract_plan.specs.Places.{Placed, places_at}
 use Rattle.extract_plan.specs.Seeds.{faults_in, held_in}
 use Rattle.extract_plan.specs.declared.seed.Seed.{Seed}
@@ -126,20 +132,18 @@ asks_last asked queried ids spared w old new isnt once =
 
 -- ---- wants that are had without the stores
 
--- a count that was quiet from a to e was so from b to c between
-pub quiet_part : (a b c e : ℕ) → a ≤ b → c ≤ e → Quiet a e → Quiet b c
-quiet_part a b c e ab ce quiet = record { same = omega (arith, quiet.same); below = omega (arith, quiet.below) }
-
-module _ {V : Type 0} (view : V → Held) (view_faults : V → ℕ) (l : Listing) (d : Deal) (x : Placed) where
+module _ {S V : Type 0} (holds : S → Option (Map (List ℕ))) (view : V → Held) (view_faults : V → ℕ) (l : Listing) (d : Deal) (x : Placed) where
   -- a want that was spared over a stretch was spared over each part of it
-  pub spared_part : (m n : List Fate) (a b c e : ℕ) (s0 s1 s2 s3 : List (Seed V)) (w : ℕ) → Grows m n → a ≤ b → c ≤ e
-      → KeepsSeeds view view_faults s0 s1 → KeepsSeeds view view_faults s2 s3
-      → IsSpared view view_faults l d x m a e s0 s3 w → IsSpared view view_faults l d x n b c s1 s2 w
-  spared_part m n a b c e s0 s1 s2 s3 w grows ab ce before after (inl ((j, among, is), quiet)) =
+  pub spared_part : (m n : List Fate) (a b c e : ℕ) (s0 s1 s2 s3 : List (Seed V)) (e0 e1 e2 e3 : Option Shelf) (c0 c1 : List S) (A : ℕ → Type 0) (w : ℕ)
+      → AreWants l d.wants d.want_of → ((v : ℕ) → A v → v < d.wants) → Grows m n → a ≤ b → c ≤ e
+      → KeepsSeeds view view_faults s0 s1 → KeepsSeeds view view_faults s2 s3 → Stocked (TakesWants holds l d A c0) e0 e1 → cache_faults e2 ≤ cache_faults e3
+      → map holds c1 ≡ map holds c0
+      → IsSpared holds view view_faults l d x m a e s0 s3 e0 e3 c0 w → IsSpared holds view view_faults l d x n b c s1 s2 e1 e2 c1 w
+  spared_part m n a b c e s0 s1 s2 s3 e0 e1 e2 e3 c0 c1 A w wants within grows ab ce before after stocked fell same (inl ((j, among, is), quiet)) =
       inl ((j, among, settled_on m n grows j is), quiet_part a b c e ab ce quiet)
-  spared_part m n a b c e s0 s1 s2 s3 w grows ab ce before after (inr (k, p, inside, at, (has, quiet))) =
+  spared_part m n a b c e s0 s1 s2 s3 e0 e1 e2 e3 c0 c1 A w wants within grows ab ce before after stocked fell same (inr (inl (k, p, inside, at, (has, quiet)))) =
       let counts : List (Seed V) → ℕ = λ s. slice_index (map (faults_in view_faults) s) p.seed in
-      inr (
+      inr (inl (
         k,
         p,
         inside,
@@ -148,47 +152,67 @@ module _ {V : Type 0} (view : V → Held) (view_faults : V → ℕ) (l : Listing
           subst (λ views. HeldAt views p (want_id l d w)) (sym before.held) has,
           quiet_part (counts s0) (counts s1) (counts s2) (counts s3) (before.never_fall p.seed) (after.never_fall p.seed) quiet,
         ),
-      )
+      ))
+  spared_part m n a b c e s0 s1 s2 s3 e0 e1 e2 e3 c0 c1 A w wants within grows ab ce before after stocked fell same (inr (inr gives)) =
+      inr (inr (cache_part holds l d A c0 c1 e0 e1 e2 e3 (want_id l d w) (size_of l (first_of d w)) wants within stocked fell same gives))
+
+  -- over the first part of it
+  pub spared_first : (m : List Fate) (a b c : ℕ) (s0 s1 s2 : List (Seed V)) (e0 e1 e2 : Option Shelf) (c0 : List S) (w : ℕ) → AreWants l d.wants d.want_of
+      → b ≤ c → KeepsSeeds view view_faults s1 s2 → cache_faults e1 ≤ cache_faults e2
+      → IsSpared holds view view_faults l d x m a c s0 s2 e0 e2 c0 w → IsSpared holds view view_faults l d x m a b s0 s1 e0 e1 c0 w
+  spared_first m a b c s0 s1 s2 e0 e1 e2 c0 w wants bc after fell =
+      spared_part m m a a b c s0 s0 s1 s2 e0 e0 e1 e2 c0 c0 (λ v. ⊥) w wants (λ v none. absurd none) (grows_none m) (omega arith) bc (seeds_none view view_faults s0) after
+      (stocked_none (TakesWants holds l d (λ v. ⊥) c0) e0) fell refl
+
+  -- over the rest of it
+  pub spared_rest : (m n : List Fate) (a b c : ℕ) (s0 s1 s2 : List (Seed V)) (e0 e1 e2 : Option Shelf) (c0 c1 : List S) (A : ℕ → Type 0) (w : ℕ) → AreWants l d.wants d.want_of
+      → ((v : ℕ) → A v → v < d.wants) → Grows m n → a ≤ b → KeepsSeeds view view_faults s0 s1 → Stocked (TakesWants holds l d A c0) e0 e1 → map holds c1 ≡ map holds c0
+      → IsSpared holds view view_faults l d x m a c s0 s2 e0 e2 c0 w → IsSpared holds view view_faults l d x n b c s1 s2 e1 e2 c1 w
+  spared_rest m n a b c s0 s1 s2 e0 e1 e2 c0 c1 A w wants within grows ab before stocked same =
+      spared_part m n a b c c s0 s1 s2 s2 e0 e1 e2 e2 c0 c1 A w wants within grows ab (omega arith) before (seeds_none view view_faults s2) stocked (omega arith) same
+
+  -- the chain was asked for want w as a last resort
+  abbrev pub Last : (S → List ℕ → ℕ) → (S → List ℕ → ℕ) → List Fate → ℕ → ℕ → List (Seed V) → List (Seed V) → Option Shelf → Option Shelf → Chained S → Chained S → ℕ → Type 0
+  Last asked queried m a b s0 s1 e0 e1 c0 c1 w =
+      AskedLast asked queried view view_faults (kind_of l) (want_id l d w) (size_of l (first_of d w)) m (of_want d w) (places_at x w) a b s0 s1 e0 e1 c0 c1
 
   -- the stores weren't asked for it
-  pub spared_never : {S : Type 0} (asked queried : S → List ℕ → ℕ) (m : List Fate) (a b : ℕ) (s0 s1 : List (Seed V)) (c0 c1 : Chained S) (w : ℕ)
-      → IsSpared view view_faults l d x m a b s0 s1 w
-      → AskedLast asked queried view view_faults (want_id l d w) m (of_want d w) (places_at x w) a b s0 s1 c0 c1 → ⊥
-  spared_never asked queried m a b s0 s1 c0 c1 w (inl ((j, among, is), quiet)) last = quiet_never a b quiet (last.copies j among is)
-  spared_never asked queried m a b s0 s1 c0 c1 w (inr (k, p, inside, at, (has, quiet))) last =
+  pub spared_never : (asked queried : S → List ℕ → ℕ) (m : List Fate) (a b : ℕ) (s0 s1 : List (Seed V)) (e0 e1 : Option Shelf) (c0 c1 : Chained S) (w : ℕ)
+      → IsSpared holds view view_faults l d x m a b s0 s1 e0 e1 c0.stores w → Last asked queried m a b s0 s1 e0 e1 c0 c1 w → ⊥
+  spared_never asked queried m a b s0 s1 e0 e1 c0 c1 w (inl ((j, among, is), quiet)) last = quiet_never a b quiet (last.copies j among is)
+  spared_never asked queried m a b s0 s1 e0 e1 c0 c1 w (inr (inl (k, p, inside, at, (has, quiet)))) last =
       let counts : List (Seed V) → SeedPlace → ℕ = λ s y. slice_index (map (faults_in view_faults) s) y.seed in
       let failed : HeldAt (map (held_in view) s0) p (want_id l d w) → Rose (counts s0 p) (counts s1 p) =
       subst (λ y. HeldAt (map (held_in view) s0) y (want_id l d w) → Rose (counts s0 y) (counts s1 y)) at (last.seeds k p inside) in
       quiet_never (counts s0 p) (counts s1 p) quiet (failed has)
+  spared_never asked queried m a b s0 s1 e0 e1 c0 c1 w (inr (inr gives)) last = cache_never holds l c0.stores (want_id l d w) (size_of l (first_of d w)) e0 e1 gives last.cache
 
   -- what one want asks
-  pub asks_want : {S : Type 0} (asked queried : S → List ℕ → ℕ) (m : List Fate) (a b : ℕ) (s0 s1 : List (Seed V)) (c0 c1 : Chained S) (spared : ℕ → Bool) (w : ℕ)
-      → (spared w ≡ true → IsSpared view view_faults l d x m a b s0 s1 w)
-      → (c1 ≡ c0) ⊎ AskedLast asked queried view view_faults (want_id l d w) m (of_want d w) (places_at x w) a b s0 s1 c0 c1
+  pub asks_want : (asked queried : S → List ℕ → ℕ) (m : List Fate) (a b : ℕ) (s0 s1 : List (Seed V)) (e0 e1 : Option Shelf) (c0 c1 : Chained S) (spared : ℕ → Bool) (w : ℕ)
+      → (spared w ≡ true → IsSpared holds view view_faults l d x m a b s0 s1 e0 e1 c0.stores w) → (c1 ≡ c0) ⊎ Last asked queried m a b s0 s1 e0 e1 c0 c1 w
       → AsksAtMost asked (calls_for spared w) (asks_for (want_id l d) spared w) c0 c1
-  asks_want asked queried m a b s0 s1 c0 c1 spared w are (inl same) = asks_same asked (calls_for spared w) (asks_for (want_id l d) spared w) c0 c1 same
-  asks_want asked queried m a b s0 s1 c0 c1 spared w are (inr last) = elim (cases_Bool (spared w)) [
-    | inl is ↦ absurd (spared_never asked queried m a b s0 s1 c0 c1 w (are is) last)
+  asks_want asked queried m a b s0 s1 e0 e1 c0 c1 spared w are (inl same) = asks_same asked (calls_for spared w) (asks_for (want_id l d) spared w) c0 c1 same
+  asks_want asked queried m a b s0 s1 e0 e1 c0 c1 spared w are (inr last) = elim (cases_Bool (spared w)) [
+    | inl is ↦ absurd (spared_never asked queried m a b s0 s1 e0 e1 c0 c1 w (are is) last)
     | inr isnt ↦ asks_last asked queried (want_id l d) spared w c0 c1 isnt last.once
   ]
 
-  -- the wants below k were asked for at most once, between these fates, counts, seeds and chains
-  abbrev pub AsksUpTo : {S : Type 0} → (S → List ℕ → ℕ) → List Fate → ℕ → ℕ → List (Seed V) → List (Seed V) → Chained S → Chained S → ℕ → Type 0
-  AsksUpTo asked m a b s0 s1 c0 c1 k = (spared : ℕ → Bool) → AreSpared view view_faults l d x m a b s0 s1 spared
+  -- the wants below k were asked for at most once, between these fates, counts, seeds, caches and chains
+  abbrev pub AsksUpTo : (S → List ℕ → ℕ) → List Fate → ℕ → ℕ → List (Seed V) → List (Seed V) → Option Shelf → Option Shelf → Chained S → Chained S → ℕ → Type 0
+  AsksUpTo asked m a b s0 s1 e0 e1 c0 c1 k = (spared : ℕ → Bool) → AreSpared holds view view_faults l d x m a b s0 s1 e0 e1 c0.stores spared
       → AsksAtMost asked (calls_below spared k) (asks_below (want_id l d) spared k) c0 c1
 
   -- so are those below w + 1, where want w was asked for at most once since
-  pub up_to_more : {S : Type 0} (asked queried : S → List ℕ → ℕ) (m n : List Fate) (a b c : ℕ) (s0 s1 s2 : List (Seed V)) (c0 c1 c2 : Chained S) (w : ℕ)
-      → w < d.wants → Grows m n → a ≤ b → b ≤ c → KeepsSeeds view view_faults s0 s1 → KeepsSeeds view view_faults s1 s2
-      → AsksUpTo asked m a b s0 s1 c0 c1 w
-      → (c2 ≡ c1) ⊎ AskedLast asked queried view view_faults (want_id l d w) n (of_want d w) (places_at x w) b c s1 s2 c1 c2
-      → AsksUpTo asked m a c s0 s2 c0 c2 (w + 1)
-  up_to_more asked queried m n a b c s0 s1 s2 c0 c1 c2 w below grows ab bc before after first next = λ spared are.
+  pub up_to_more : (asked queried : S → List ℕ → ℕ) (m n : List Fate) (a b c : ℕ) (s0 s1 s2 : List (Seed V)) (e0 e1 e2 : Option Shelf) (c0 c1 c2 : Chained S) (A : ℕ → Type 0) (w : ℕ)
+      → AreWants l d.wants d.want_of → ((v : ℕ) → A v → v < d.wants) → w < d.wants → Grows m n → a ≤ b → b ≤ c → KeepsSeeds view view_faults s0 s1 → KeepsSeeds view view_faults s1 s2
+      → Stocked (TakesWants holds l d A c0.stores) e0 e1 → cache_faults e1 ≤ cache_faults e2 → map holds c1.stores ≡ map holds c0.stores
+      → AsksUpTo asked m a b s0 s1 e0 e1 c0 c1 w → (c2 ≡ c1) ⊎ Last asked queried n b c s1 s2 e1 e2 c1 c2 w → AsksUpTo asked m a c s0 s2 e0 e2 c0 c2 (w + 1)
+  up_to_more asked queried m n a b c s0 s1 s2 e0 e1 e2 c0 c1 c2 A w wants within below grows ab bc before after stocked fell same first next = λ spared are.
       asks_more asked (want_id l d) spared w c0 c1 c2
-      (first spared (λ v inside is. spared_part m m a a b c s0 s0 s1 s2 v (grows_none m) (omega arith) bc (seeds_none view view_faults s0) after (are v inside is)))
-      (asks_want asked queried n b c s1 s2 c1 c2 spared w
-      (λ is. spared_part m n a b c c s0 s1 s2 s2 w grows ab (omega arith) before (seeds_none view view_faults s2) (are w below is)) next)
+      (first spared (λ v inside is. spared_first m a b c s0 s1 s2 e0 e1 e2 c0.stores v wants bc after fell (are v inside is)))
+      (asks_want asked queried n b c s1 s2 e1 e2 c1 c2 spared w
+      (λ is. spared_rest m n a b c s0 s1 s2 e0 e1 e2 c0.stores c1.stores A w wants within grows ab before stocked same (are w below is)) next)
 
-  pub up_to_all : {S : Type 0} (asked : S → List ℕ → ℕ) (m : List Fate) (a b : ℕ) (s0 s1 : List (Seed V)) (c0 c1 : Chained S) (w k : ℕ) → w ≤ k
-      → AsksUpTo asked m a b s0 s1 c0 c1 w → AsksUpTo asked m a b s0 s1 c0 c1 k
-  up_to_all asked m a b s0 s1 c0 c1 w k le asks = λ spared are. asks_all asked (want_id l d) spared w k c0 c1 le (asks spared are)
+  pub up_to_all : (asked : S → List ℕ → ℕ) (m : List Fate) (a b : ℕ) (s0 s1 : List (Seed V)) (e0 e1 : Option Shelf) (c0 c1 : Chained S) (w k : ℕ) → w ≤ k
+      → AsksUpTo asked m a b s0 s1 e0 e1 c0 c1 w → AsksUpTo asked m a b s0 s1 e0 e1 c0 c1 k
+  up_to_all asked m a b s0 s1 e0 e1 c0 c1 w k le asks = λ spared are. asks_all asked (want_id l d) spared w k c0 c1 le (asks spared are)

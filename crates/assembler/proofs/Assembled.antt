@@ -2,7 +2,7 @@
 -- of the target's faults a at first, b after the survey and c at the end.
 use Rattle.std.proofs.Common.{◌≡◌, ◌⊎◌, ◌++◌, IsTrue, ℕ, ◌<◌, ◌≤◌, List, length, map, slice_index, Bool, Option, Some, None, IfErr, IfSome, Result, OnOk, Ok, Err, true, false, refl, sym, ◌∙◌, subst, inl, inr, arith}
 use Rattle.std.proofs.lemmas.Bool.{cases_Bool}
-use Rattle.assembler.proofs.Asked.{quiet_part}
+use Rattle.assembler.proofs.Counted.{quiet_part}
 use Rattle.assembler.proofs.Based.{Surveyed, assembles_err, ends_map, leaves, left_at, right_all, right_at, some_map, told_map}
 use Rattle.assembler.proofs.EconomyReported.{asks_err, assembled_as, reports_all, settled_right}
 use Rattle.assembler.proofs.EconomyRetried.{unless_map}
@@ -86,15 +86,15 @@ module _ (l : Listing) (d : Deal) (x : Placed) (wants : AreWants l d.wants d.wan
       (subst (λ q. SeedsGive views (places_at x (want_at d i)) q ⊎ SomeGives (kind_of l) q (size_of l i) maps) like.0 source)))
 
   -- a want that was spared over the whole is spared after the survey
-  pub spared_over : {V : Type 0} (view : V → Held) (view_faults : V → ℕ) (m : List Fate) (a b c : ℕ) → a ≤ b → b ≤ c → (o : Option (List ℕ)) (s0 s1 : List (Seed V)) (w : ℕ)
-      → IfSome o (λ y. Surveyed l m a b (resized y (image_length l)))
-      → SparedOver view view_faults l d x o a c s0 s1 w → IsSpared view view_faults l d x m b c s0 s1 w
-  spared_over view view_faults m a b c ab bc None s0 s1 w over (inl (has, quiet)) = absurd has
-  spared_over view view_faults m a b c ab bc (Some y) s0 s1 w over (inl ((j, other, right), quiet)) = elim (cases_Bool (settled m j)) [
+  pub spared_over : {S V : Type 0} (holds : S → Option (Map (List ℕ))) (view : V → Held) (view_faults : V → ℕ) (m : List Fate) (a b c : ℕ) → a ≤ b → b ≤ c → (o : Option (List ℕ))
+      (s0 s1 : List (Seed V)) (e f : Option Shelf) (stores : List S) (w : ℕ) → IfSome o (λ y. Surveyed l m a b (resized y (image_length l)))
+      → SparedOver holds view view_faults l d x o a c s0 s1 e f stores w → IsSpared holds view view_faults l d x m b c s0 s1 e f stores w
+  spared_over holds view view_faults m a b c ab bc None s0 s1 e f stores w over (inl (has, quiet)) = absurd has
+  spared_over holds view view_faults m a b c ab bc (Some y) s0 s1 e f stores w over (inl ((j, other, right), quiet)) = elim (cases_Bool (settled m j)) [
     | inl is ↦ inl ((j, other, is), quiet_part a b c c ab (omega arith) quiet)
     | inr isnt ↦ absurd (quiet_never a c quiet (rose_still a b c bc (over.no j (listed_of l d w j wants other) isnt right)))
   ]
-  spared_over view view_faults m a b c ab bc o s0 s1 w over (inr seed) = inr seed
+  spared_over holds view view_faults m a b c ab bc o s0 s1 e f stores w over (inr rest) = inr rest
 
 -- ---- the answer
 
@@ -148,7 +148,7 @@ module _ {S V : Type 0} (holds folder : S → Option (Map (List ℕ))) (place : 
         × (want_at d lost.entry ≡ want_at d i) × LostOver m b c k j e f lost)))
     pub had : IsTrue tells → (cached maps : List (Map (List ℕ))) → cached_in e ≡ Some cached → map holds k.chain.stores ≡ map Some maps
         → (i : ℕ) → i < count_of l → settled n i ≡ true → HadAt l d x m (map (held_in view) k.seeds.items) (cached ++ maps) i
-    pub asks : PassesAsk asked view view_faults l d x m b c k j
+    pub asks : PassesAsk holds asked view view_faults l d x m b c k j e f
     pub firsts : FirstFates m (count_of l)
     pub stocked : Stocked (TakesWants holds l d (λ w. w < d.wants) k.chain.stores) e f
     pub exactly : (cached maps : List (Map (List ℕ)))
@@ -203,9 +203,9 @@ module _ {S V : Type 0} (holds folder : S → Option (Map (List ℕ))) (place : 
 
     -- ---- how often stores were asked
 
-    pub asks_over : (r : Result Unit ExtractFault) → Ran o t a b c m n e f j r (with_buffer k h) → AssemblyAsks asked view view_faults l d x o a c k j
+    pub asks_over : (r : Result Unit ExtractFault) → Ran o t a b c m n e f j r (with_buffer k h) → AssemblyAsks holds asked view view_faults l d x o a c k j e f
     asks_over r ran = λ spared are.
-        let asks = ran.asks spared (λ w below is. spared_over l d x ran.wants view view_faults m a b c ran.ab ran.bc o k.seeds.items j.seeds.items w ran.over (are w below is)) in
+        let asks = ran.asks spared (λ w below is. spared_over l d x ran.wants holds view view_faults m a b c ran.ab ran.bc o k.seeds.items j.seeds.items e f k.chain.stores w ran.over (are w below is)) in
         record { no_fewer = asks.no_fewer; calls = asks.calls; no_less = asks.no_less; most = asks.most }
 
     -- ---- whatever fails

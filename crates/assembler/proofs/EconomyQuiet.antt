@@ -1,6 +1,6 @@
 -- Where nothing fails over two steps, nothing fails over each.
 use Rattle.std.proofs.Common.{◌≡◌, ℕ, ◌≤◌, List, map, slice_index, Bool, Option, Some, ◌∙◌, arith}
-use Rattle.assembler.proofs.Asked.{quiet_part}
+use Rattle.assembler.proofs.Counted.{quiet_part}
 use Rattle.cache_store.specs.Shelves.{Shelf}
 use Rattle.chunk_sources.specs.Caches.{cache_faults, cached_in}
 use Rattle.chunk_sources.specs.Sources.{SourcesQuiet}

@@ -3,6 +3,8 @@ pub mod Tallies
 pub mod Filled
 pub mod Entries
 pub mod Stepped
+pub mod Counted
+pub mod CacheSpared
 pub mod Asked
 pub mod Stocking
 pub mod HadOn

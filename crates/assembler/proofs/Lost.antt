@@ -130,7 +130,7 @@ module _ {S V : Type 0} (holds folder : S → Option (Map (List ℕ))) (place : 
         → Stocked (TakesWants holds l d A k.chain.stores) e f → AreWants l d.wants d.want_of → w < d.wants → Grows m0 m1 → a ≤ b
         → Keeps k.chain.stores j.chain.stores → KeepsSeeds view view_faults k.seeds.items j.seeds.items → IsFirstOpen l m1 (of_want d w) lost
         → RefusedBy holds said store_faults lacks_memory (lost_want l lost) j.chain.stores i.chain.stores lost.refused
-        → AskedLast asked queried view view_faults (want_id l d w) m1 (of_want d w) (places_at x w) b c j.seeds.items i.seeds.items j.chain i.chain
+        → AskedLast asked queried view view_faults (kind_of l) (want_id l d w) (size_of l (first_of d w)) m1 (of_want d w) (places_at x w) b c j.seeds.items i.seeds.items f h j.chain i.chain
         → CacheLacks (kind_of l) (id_of l lost.entry) (size_of l lost.entry) f h → lost.refused ≢ refused.Memory → AreLost m0 a c k i e h lost
     lost_now m0 m1 a b c k j i e f h A w lost stocked wants below grows le stores seeds first refusing last lacks had_memory =
         let is_of : want_at d lost.entry ≡ w = (among_of d w lost.entry first.among).1 in

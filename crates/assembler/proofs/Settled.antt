@@ -1,7 +1,8 @@
 -- The entries of a want as its call sees them, and what a call that settles them says of all.
-use Rattle.std.proofs.Common.{◌≡◌, ℕ, ◌<◌, List, length, slice_index, Option, Bool, Result, Ok, Err, true, false, refl, sym, ap, subst, ◌∙◌, inl, inr, arith}
+use Rattle.std.proofs.Common.{◌≡◌, ◌⊎◌, ℕ, ◌<◌, ◌≤◌, List, length, slice_index, Option, Bool, Result, Ok, Err, true, false, refl, sym, ap, subst, ◌∙◌, inl, inr, arith}
 use Rattle.std.proofs.lemmas.Bool.{cases_lt}
 use Rattle.assembler.proofs.Entries.{first_among, ids_same, listed_of}
+use Rattle.assembler.proofs.Filled.{rose_still}
 use Rattle.assembler.specs.Economy.{SettlesBy}
 use Rattle.assembler.specs.Losses.{IsFirstOpen, Where, lost_want}
 use Rattle.assembler.specs.declared.fault.Lost.{Lost}
@@ -9,7 +10,8 @@ use Rattle.assembler.specs.declared.fault.Unsettled.{Unsettled}
 use Rattle.assembler.specs.declared.fault.Unsettled.TheVariants as unsettled
 use Rattle.caibx_codec.specs.Listing.{Listing, count_of, id_of, kind_of, size_of}
 use Rattle.chunk_sources.proofs.Origins.{kept_source}
-use Rattle.chunk_sources.specs.Caches.{TakesChunk, TakesWants}
+use Rattle.cache_store.specs.Shelves.{Shelf}
+use Rattle.chunk_sources.specs.Caches.{CacheFailed, TakesChunk, TakesWants}
 use Rattle.chunk_sources.specs.Economy.{source_among, source_over}
 use Rattle.chunk_sources.specs.Losses.{AskedLast, Had, RefusedBy, chunk_of}
 use Rattle.chunk_sources.specs.Wants.{AllOf, IsAmong}
@@ -104,15 +106,18 @@ module _ (l : Listing) (d : Deal) (w : ℕ) (wants : AreWants l d.wants d.want_o
 
   -- asking for the chunk of one is asking for that of the want
   pub asked_as : {S V : Type 0} (asked queried : S → List ℕ → ℕ) (view : V → Held) (view_faults : V → ℕ) (m : List Fate) (old new : ℕ) (x : Placed) (ps : List SeedPlace)
-      (one : ℕ) (id : List ℕ) (s0 t0 s1 t1 : List (Seed V)) (c0 c1 : Chained S) → IsAmong es one → id ≡ id_of l one → ps ≡ places_at x w → s0 ≡ t0 → s1 ≡ t1
-      → AskedLast asked queried view view_faults id m es ps old new s0 s1 c0 c1
-      → AskedLast asked queried view view_faults (want_id l d w) m (of_want d w) (places_at x w) old new t0 t1 c0 c1
-  asked_as {S} {V} asked queried view view_faults m old new x ps one id s0 t0 s1 t1 c0 c1 among named at first last h =
-      let a = subst (λ (xs : List ℕ). AskedLast asked queried view view_faults id m xs ps old new s0 s1 c0 c1) is h in
-      let b = subst (λ (qs : List SeedPlace). AskedLast asked queried view view_faults id m (of_want d w) qs old new s0 s1 c0 c1) at a in
-      let c = subst (λ (q : List ℕ). AskedLast asked queried view view_faults q m (of_want d w) (places_at x w) old new s0 s1 c0 c1) (named ∙ named_first one among) b in
-      let e = subst (λ (q : List (Seed V)). AskedLast asked queried view view_faults (want_id l d w) m (of_want d w) (places_at x w) old new q s1 c0 c1) first c in
-      subst (λ (q : List (Seed V)). AskedLast asked queried view view_faults (want_id l d w) m (of_want d w) (places_at x w) old new t0 q c0 c1) last e
+      (one : ℕ) (id : List ℕ) (s0 t0 s1 t1 : List (Seed V)) (e0 e1 : Option Shelf) (c0 c1 : Chained S) → IsAmong es one → id ≡ id_of l one → ps ≡ places_at x w → s0 ≡ t0 → s1 ≡ t1
+      → AskedLast asked queried view view_faults (kind_of l) id (size_of l one) m es ps old new s0 s1 e0 e1 c0 c1
+      → AskedLast asked queried view view_faults (kind_of l) (want_id l d w) (size_of l (first_of d w)) m (of_want d w) (places_at x w) old new t0 t1 e0 e1 c0 c1
+  asked_as {S} {V} asked queried view view_faults m old new x ps one id s0 t0 s1 t1 e0 e1 c0 c1 among named at first last h =
+      let Last : List ℕ → ℕ → List ℕ → List SeedPlace → List (Seed V) → List (Seed V) → Type 0 =
+      λ q n xs qs s t. AskedLast asked queried view view_faults (kind_of l) q n m xs qs old new s t e0 e1 c0 c1 in
+      let a = subst (λ (xs : List ℕ). Last id (size_of l one) xs ps s0 s1) is h in
+      let b = subst (λ (qs : List SeedPlace). Last id (size_of l one) (of_want d w) qs s0 s1) at a in
+      let c = subst (λ (q : List ℕ). Last q (size_of l one) (of_want d w) (places_at x w) s0 s1) (named ∙ named_first one among) b in
+      let f = subst (λ (n : ℕ). Last (want_id l d w) n (of_want d w) (places_at x w) s0 s1) (sym (as_first one among)) c in
+      let e = subst (λ (q : List (Seed V)). Last (want_id l d w) (size_of l (first_of d w)) (of_want d w) (places_at x w) q s1) first f in
+      subst (λ (q : List (Seed V)). Last (want_id l d w) (size_of l (first_of d w)) (of_want d w) (places_at x w) t0 q) last e
 
   -- the chunk of one has the source of the want
   source_as : (is_right : ℕ → Bool) (views after : List (Option Held)) (x : Placed) (ps : List SeedPlace) (cached maps : List (Map (List ℕ))) (one : ℕ) (id : List ℕ)
@@ -160,3 +165,20 @@ pub refused_as : {S : Type 0} (holds : S → Option (Map (List ℕ))) (said : S 
 refused_as holds said faults lacks_memory l one id x old new at named h =
     let a = subst (λ (n : ℕ). RefusedBy holds said faults lacks_memory (chunk_of (kind_of l) id (size_of l n)) old new x.refused) (sym at) h in
     subst (λ (q : ChunkId). RefusedBy holds said faults lacks_memory (chunk_of (kind_of l) q (size_of l x.entry)) old new x.refused) (sym named) a
+
+-- the chain that was asked was asked so of the whole chunk, though a write failed since
+module _ {S V : Type 0} (asked queried : S → List ℕ → ℕ) (view : V → Held) (view_faults : V → ℕ) (kind : DigestKind) (id : List ℕ) (m : List Fate) (es : List ℕ) (ps : List SeedPlace)
+    (s0 s1 : List (Seed V)) (e0 e1 : Option Shelf) (c0 c1 : Chained S) where
+  pub last_still : (n size old mid new : ℕ) → n ≡ size → mid ≤ new → AskedLast asked queried view view_faults kind id n m es ps old mid s0 s1 e0 e1 c0 c1
+      → AskedLast asked queried view view_faults kind id size m es ps old new s0 s1 e0 e1 c0 c1
+  last_still n size old mid new whole le last = record {
+    once = last.once;
+    copies = λ i among is. rose_still old mid new le (last.copies i among is);
+    seeds = last.seeds;
+    cache = subst (λ (k : ℕ). CacheFailed kind id k e0 e1) whole last.cache;
+  }
+
+  pub asks_still : (n size old mid new : ℕ) → n ≡ size → mid ≤ new → (c1 ≡ c0) ⊎ AskedLast asked queried view view_faults kind id n m es ps old mid s0 s1 e0 e1 c0 c1
+      → (c1 ≡ c0) ⊎ AskedLast asked queried view view_faults kind id size m es ps old new s0 s1 e0 e1 c0 c1
+  asks_still n size old mid new whole le (inl same) = inl same
+  asks_still n size old mid new whole le (inr last) = inr (last_still n size old mid new whole le last)

@@ -1,22 +1,22 @@
 -- How often the second pass asks: for wants that it has tried.
-use Rattle.std.proofs.Common.{◌≡◌, ◌≢◌, ◌⊎◌, ℕ, zero, suc, ◌+◌, ◌<◌, ◌≤◌, List, length, set, Bool, true, false, if◌then◌else◌, refl, sym, ap, ◌∙◌, inl, inr, arith}
+use Rattle.std.proofs.Common.{◌≡◌, ◌≢◌, ◌⊎◌, ℕ, zero, suc, ◌+◌, ◌<◌, ◌≤◌, List, length, map, set, Option, Bool, true, false, if◌then◌else◌, refl, sym, ap, ◌∙◌, inl, inr, arith}
 use Rattle.std.proofs.lemmas.Bool.{cases_Bool, cases_eq, true≢false}
 use Rattle.std.specs.Str.{bytes_eq}
 use Rattle.std.proofs.lemmas.List.{get_or-set_same, get_or-set_other}
-use Rattle.assembler.proofs.Asked.{asks_none, asks_on, asks_up, asks_want, spared_part}
-use Rattle.assembler.proofs.Filled.{grows_none}
-use Rattle.assembler.proofs.Stepped.{seeds_none}
+use Rattle.assembler.proofs.Asked.{Last, asks_none, asks_on, asks_up, asks_want, spared_first, spared_rest}
 use Rattle.assembler.proofs.Tried.{is_tried}
 use Rattle.assembler.specs.Fills.{Grows}
 use Rattle.assembler.specs.Passes.{PassAsks}
+use Rattle.cache_store.specs.Shelves.{Shelf}
 use Rattle.caibx_codec.specs.Listing.{Listing}
 use Rattle.chunk_sources.specs.Asks.{AreSpared, AsksAtMost, asks_below, asks_for, calls_below, calls_for}
-use Rattle.chunk_sources.specs.Losses.{AskedLast}
+use Rattle.chunk_sources.specs.Caches.{Stocked, TakesWants, cache_faults}
 use Rattle.chunk_sources.specs.Sources.{KeepsSeeds}
 use Rattle.chunk_sources.specs.declared.kit.Kit.{Kit}
 use Rattle.dsy_base.specs.Bytes.{Held}
-use Rattle.extract_plan.specs.Deal.{Deal, of_want, want_id}
-use Rattle.extract_plan.specs.Places.{Placed, places_at}
+use Rattle.dsy_base.specs.Maps.{Map}
+use Rattle.extract_plan.specs.Deal.{AreWants, Deal, want_id}
+use Rattle.extract_plan.specs.Places.{Placed}
 use Rattle.range_survey.specs.declared.fate.Fate.{Fate}
 
 -- a want that wasn't tried takes no call
@@ -69,21 +69,23 @@ tried_by tried spared w is = ap (λ b. if b then spared w else true) is
 untried_by : (tried : List Bool) (spared : ℕ → Bool) (w : ℕ) → is_tried tried w ≡ false → unless_tried tried spared w ≡ true
 untried_by tried spared w isnt = ap (λ b. if b then spared w else true) isnt
 
-module _ {S V : Type 0} (asked : S → List ℕ → ℕ) (view : V → Held) (view_faults : V → ℕ) (l : Listing) (d : Deal) (x : Placed) where
+module _ {S V : Type 0} (holds : S → Option (Map (List ℕ))) (asked : S → List ℕ → ℕ) (view : V → Held) (view_faults : V → ℕ) (l : Listing) (d : Deal) (x : Placed) where
   -- how often it has asked so far
-  abbrev pub SoFar : List Bool → List Fate → ℕ → ℕ → Kit S V → Kit S V → Type 0
-  SoFar tried m a b k j = (spared : ℕ → Bool) → AreSpared view view_faults l d x m a b k.seeds.items j.seeds.items spared
+  abbrev pub SoFar : List Bool → List Fate → ℕ → ℕ → Kit S V → Kit S V → Option Shelf → Option Shelf → Type 0
+  SoFar tried m a b k j e0 e1 = (spared : ℕ → Bool) → AreSpared holds view view_faults l d x m a b k.seeds.items j.seeds.items e0 e1 k.chain.stores spared
       → AsksAtMost asked (calls_below (unless_tried tried spared) d.wants) (asks_below (want_id l d) (unless_tried tried spared) d.wants) k.chain j.chain
 
-  pub so_far_none : (tried : List Bool) (m : List Fate) (a b : ℕ) (k : Kit S V) → SoFar tried m a b k k
-  so_far_none tried m a b k = λ spared are. asks_none asked (calls_below (unless_tried tried spared) d.wants) (asks_below (want_id l d) (unless_tried tried spared) d.wants) k.chain
+  pub so_far_none : (tried : List Bool) (m : List Fate) (a b : ℕ) (k : Kit S V) (e0 e1 : Option Shelf) → SoFar tried m a b k k e0 e1
+  so_far_none tried m a b k e0 e1 = λ spared are. asks_none asked (calls_below (unless_tried tried spared) d.wants) (asks_below (want_id l d) (unless_tried tried spared) d.wants) k.chain
 
   -- one want more
-  pub so_far_more : (queried : S → List ℕ → ℕ) (tried : List Bool) (m0 m1 : List Fate) (a b c : ℕ) (k j i : Kit S V) (w : ℕ) → length tried ≡ d.wants → w < d.wants → is_tried tried w ≡ false
+  pub so_far_more : (queried : S → List ℕ → ℕ) (tried : List Bool) (m0 m1 : List Fate) (a b c : ℕ) (k j i : Kit S V) (e0 e1 e2 : Option Shelf) (A : ℕ → Type 0) (w : ℕ)
+      → AreWants l d.wants d.want_of → ((v : ℕ) → A v → v < d.wants) → length tried ≡ d.wants → w < d.wants → is_tried tried w ≡ false
       → Grows m0 m1 → a ≤ b → b ≤ c → KeepsSeeds view view_faults k.seeds.items j.seeds.items → KeepsSeeds view view_faults j.seeds.items i.seeds.items
-      → (i.chain ≡ j.chain) ⊎ AskedLast asked queried view view_faults (want_id l d w) m1 (of_want d w) (places_at x w) b c j.seeds.items i.seeds.items j.chain i.chain
-      → SoFar tried m0 a b k j → SoFar (set tried w true) m0 a c k i
-  so_far_more queried tried m0 m1 a b c k j i w size below untried grows ab bc kept keeps asks before = λ spared are.
+      → Stocked (TakesWants holds l d A k.chain.stores) e0 e1 → cache_faults e1 ≤ cache_faults e2 → map holds j.chain.stores ≡ map holds k.chain.stores
+      → (i.chain ≡ j.chain) ⊎ Last holds view view_faults l d x asked queried m1 b c j.seeds.items i.seeds.items e1 e2 j.chain i.chain w
+      → SoFar tried m0 a b k j e0 e1 → SoFar (set tried w true) m0 a c k i e0 e2
+  so_far_more queried tried m0 m1 a b c k j i e0 e1 e2 A w wants within size below untried grows ab bc kept keeps stocked fell same asks before = λ spared are.
       let s0 = k.seeds.items in
       let s1 = j.seeds.items in
       let s2 = i.seeds.items in
@@ -93,9 +95,9 @@ module _ {S V : Type 0} (asked : S → List ℕ → ℕ) (view : V → Held) (vi
       let others : (v : ℕ) → v ≢ w → g v ≡ f v = λ v apart. ap (λ b. if b then spared v else true) (get_or-set_other tried w v true false apart) in
       let was : f w ≡ true = untried_by tried spared w untried in
       let here : g w ≡ spared w = tried_by (set tried w true) spared w (get_or-set_same tried w true false (omega (arith, below, size))) in
-      let first = before spared (λ v less is. spared_part view view_faults l d x m0 m0 a a b c s0 s0 s1 s2 v (grows_none m0) (omega arith) bc (seeds_none view view_faults s0) keeps (are v less is)) in
-      let next = asks_want view view_faults l d x asked queried m1 b c s1 s2 j.chain i.chain g w
-      (λ is. spared_part view view_faults l d x m0 m1 a b c c s0 s1 s2 s2 w grows ab (omega arith) kept (seeds_none view view_faults s2) (are w below (sym here ∙ is))) asks in
+      let first = before spared (λ v less is. spared_first holds view view_faults l d x m0 a b c s0 s1 s2 e0 e1 e2 k.chain.stores v wants bc keeps fell (are v less is)) in
+      let next = asks_want holds view view_faults l d x asked queried m1 b c s1 s2 e1 e2 j.chain i.chain g w
+      (λ is. spared_rest holds view view_faults l d x m0 m1 a b c s0 s1 s2 e0 e1 e2 k.chain.stores j.chain.stores A w wants within grows ab kept stocked same (are w below (sym here ∙ is))) asks in
       let calls : calls_below f d.wants + calls_for g w ≤ calls_below g d.wants =
       let one = sums_one (calls_for f) (calls_for g) w (λ v apart. ap (λ b. if b then 0 else 1) (others v apart)) (ap (λ b. if b then 0 else 1) was) d.wants below in
       omega (arith, calls_are f d.wants, calls_are g d.wants, one) in
@@ -106,8 +108,9 @@ module _ {S V : Type 0} (asked : S → List ℕ → ℕ) (view : V → Held) (vi
       k.chain i.chain calls each
       (asks_on asked (calls_below f d.wants) (calls_for g w) (asks_below ids f d.wants) (asks_for ids g w) k.chain j.chain i.chain first next)
 
-  pub asks_at_end : (tried : List Bool) (m : List Fate) (a b : ℕ) (k j : Kit S V) → SoFar tried m a b k j → PassAsks asked view view_faults l d x m a b k j
-  asks_at_end tried m a b k j so_far = λ spared are.
+  pub asks_at_end : (tried : List Bool) (m : List Fate) (a b : ℕ) (k j : Kit S V) (e0 e1 : Option Shelf) → SoFar tried m a b k j e0 e1
+      → PassAsks holds asked view view_faults l d x m a b k j e0 e1
+  asks_at_end tried m a b k j e0 e1 so_far = λ spared are.
       let ids = want_id l d in
       let f = unless_tried tried spared in
       let more : (v : ℕ) → spared v ≡ true → f v ≡ true = λ v is. elim (cases_Bool (is_tried tried v)) [

@@ -13,7 +13,7 @@ use Rattle.cache_store.specs.Shelves.{Shelf}
 use Rattle.caibx_codec.specs.Listing.{Listing, count_of, id_of, image_length, kind_of, size_of, slice_of}
 use Rattle.caibx_codec.specs.Right.{IsRight, IsRightAt}
 use Rattle.chunk_sources.specs.Asks.{AsksAtMost, asks_below, calls_below}
-use Rattle.chunk_sources.specs.Caches.{CacheLacks}
+use Rattle.chunk_sources.specs.Caches.{CacheGives, CacheLacks}
 use Rattle.chunk_sources.specs.Sources.{HeldAt, SeedsFailed, SeedsGive, SourcesQuiet}
 use Rattle.chunk_sources.specs.Wants.{IsAmong}
 use Rattle.chunk_sources.specs.declared.kit.Kit.{Kit}
@@ -21,7 +21,7 @@ use Rattle.chunk_store.specs.Said.{Said}
 use Rattle.dsy_base.specs.Bytes.{Held, resized}
 use Rattle.dsy_base.specs.Counts.{Quiet, Rose}
 use Rattle.dsy_base.specs.Maps.{Map}
-use Rattle.extract_plan.specs.Deal.{of_want, want_id, AreAlike, Deal}
+use Rattle.extract_plan.specs.Deal.{first_of, of_want, want_id, AreAlike, Deal}
 use Rattle.extract_plan.specs.Places.{Placed, places_at}
 use Rattle.extract_plan.specs.Seeds.{faults_in, held_in}
 use Rattle.extract_plan.specs.declared.seed.Seed.{Seed}
@@ -99,20 +99,20 @@ module _ {S V : Type 0} (holds folder : S → Option (Map (List ℕ))) (place : 
       k.seeds.items j.seeds.items e0 e1 k.chain.stores j.chain.stores cached maps
 
 -- want w is had without the stores: an entry of it is right in the base, and the target didn't fail; or a seed gives it
--- that didn't fail
-abbrev pub SparedOver : {V : Type 0} → (V → Held) → (V → ℕ) → Listing → Deal → Placed → Option (List ℕ) → ℕ → ℕ
-    → List (Seed V) → List (Seed V) → ℕ → Type 0
-SparedOver view view_faults l d x o old new s0 s1 w =
+-- that didn't fail; or the opening cache does, which didn't fail
+abbrev pub SparedOver : {S V : Type 0} → (S → Option (Map (List ℕ))) → (V → Held) → (V → ℕ) → Listing → Deal → Placed
+    → Option (List ℕ) → ℕ → ℕ → List (Seed V) → List (Seed V) → Option Shelf → Option Shelf → List S → ℕ → Type 0
+SparedOver holds view view_faults l d x o old new s0 s1 e0 e1 stores w =
     (IsSomeAnd o (λ b. (j : ℕ) × IsAmong (of_want d w) j × IsRightAt (resized b (image_length l)) l j) × Quiet old new)
-    ⊎ Any (λ p. HeldAt (map (held_in view) s0) p (want_id l d w)
+    ⊎ (Any (λ p. HeldAt (map (held_in view) s0) p (want_id l d w)
     × Quiet (slice_index (map (faults_in view_faults) s0) p.seed) (slice_index (map (faults_in view_faults) s1) p.seed))
-    (places_at x w)
+    (places_at x w) ⊎ CacheGives holds l stores (want_id l d w) (size_of l (first_of d w)) e0 e1)
 
 -- how often an assembly asks: for each want at most twice, and not for a spared one
-abbrev pub AssemblyAsks : {S V : Type 0} → (S → List ℕ → ℕ) → (V → Held) → (V → ℕ) → Listing → Deal → Placed
-    → Option (List ℕ) → ℕ → ℕ → Kit S V → Kit S V → Type 0
-AssemblyAsks asked view view_faults l d x o old new k j = (spared : ℕ → Bool)
-    → ((w : ℕ) → w < d.wants → spared w ≡ true → SparedOver view view_faults l d x o old new k.seeds.items j.seeds.items
-    w)
+abbrev pub AssemblyAsks : {S V : Type 0} → (S → Option (Map (List ℕ))) → (S → List ℕ → ℕ) → (V → Held) → (V → ℕ)
+    → Listing → Deal → Placed → Option (List ℕ) → ℕ → ℕ → Kit S V → Kit S V → Option Shelf → Option Shelf → Type 0
+AssemblyAsks holds asked view view_faults l d x o old new k j e0 e1 = (spared : ℕ → Bool)
+    → ((w : ℕ) → w < d.wants → spared w ≡ true → SparedOver holds view view_faults l d x o old new k.seeds.items
+    j.seeds.items e0 e1 k.chain.stores w)
     → AsksAtMost asked (calls_below spared d.wants + calls_below spared d.wants)
     (λ q. asks_below (want_id l d) spared d.wants q + asks_below (want_id l d) spared d.wants q) k.chain j.chain

@@ -62,16 +62,16 @@ EndsBy P F (Err e) = ((lost : Lost) × (e ≡ fault_of lost.entry lost.id lost.r
     ⊎ (((e ≡ faults.TargetFault) × F) ⊎ (e ≡ faults.Memory))
 
 -- how often a pass asks: for each want at most once, and not for a spared one
-abbrev pub PassAsks : {S V : Type 0} → (S → List ℕ → ℕ) → (V → Held) → (V → ℕ) → Listing → Deal → Placed → List Fate
-    → ℕ → ℕ → Kit S V → Kit S V → Type 0
-PassAsks asked view view_faults l d x m old new k j = (spared : ℕ → Bool)
-    → AreSpared view view_faults l d x m old new k.seeds.items j.seeds.items spared
+abbrev pub PassAsks : {S V : Type 0} → (S → Option (Map (List ℕ))) → (S → List ℕ → ℕ) → (V → Held) → (V → ℕ) → Listing
+    → Deal → Placed → List Fate → ℕ → ℕ → Kit S V → Kit S V → Option Shelf → Option Shelf → Type 0
+PassAsks holds asked view view_faults l d x m old new k j e0 e1 = (spared : ℕ → Bool)
+    → AreSpared holds view view_faults l d x m old new k.seeds.items j.seeds.items e0 e1 k.chain.stores spared
     → AsksAtMost asked (calls_below spared d.wants) (asks_below (want_id l d) spared d.wants) k.chain j.chain
 
 -- how often two passes ask
-abbrev pub PassesAsk : {S V : Type 0} → (S → List ℕ → ℕ) → (V → Held) → (V → ℕ) → Listing → Deal → Placed → List Fate
-    → ℕ → ℕ → Kit S V → Kit S V → Type 0
-PassesAsk asked view view_faults l d x m old new k j = (spared : ℕ → Bool)
-    → AreSpared view view_faults l d x m old new k.seeds.items j.seeds.items spared
+abbrev pub PassesAsk : {S V : Type 0} → (S → Option (Map (List ℕ))) → (S → List ℕ → ℕ) → (V → Held) → (V → ℕ) → Listing
+    → Deal → Placed → List Fate → ℕ → ℕ → Kit S V → Kit S V → Option Shelf → Option Shelf → Type 0
+PassesAsk holds asked view view_faults l d x m old new k j e0 e1 = (spared : ℕ → Bool)
+    → AreSpared holds view view_faults l d x m old new k.seeds.items j.seeds.items e0 e1 k.chain.stores spared
     → AsksAtMost asked (calls_below spared d.wants + calls_below spared d.wants)
     (λ q. asks_below (want_id l d) spared d.wants q + asks_below (want_id l d) spared d.wants q) k.chain j.chain

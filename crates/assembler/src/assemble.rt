@@ -75,8 +75,9 @@ fn settle_all<T: Part, S: Store, V: View, F: Folder>(
         map S.holds kit.old.chain.stores ≡ map Some maps → (i : ℕ) → i < count_of index.now →
         settled fates.new i ≡ true →
         HadAt index.now plan.now places.now fates.old (map (held_in V.held) kit.old.seeds.items) (cached ++ maps) i }
-    ensures asks { PassesAsk S.asked V.held V.faults index.now plan.now places.now fates.old
-        (T.faults target.old) (T.faults target.new) kit.old kit.new }
+    ensures asks { PassesAsk S.holds S.asked V.held V.faults index.now plan.now places.now fates.old
+        (T.faults target.old) (T.faults target.new) kit.old kit.new (seen F.files F.place F.faults cache.old)
+        (seen F.files F.place F.faults cache.new) }
     ensures stocked { Stocked (TakesWants S.holds index.now plan.now (λ w. w < plan.now.wants) kit.old.chain.stores)
         (seen F.files F.place F.faults cache.old) (seen F.files F.place F.faults cache.new) }
     ensures step { Step T.held T.faults S.holds S.folder S.place S.said S.faults V.held V.faults index.now
@@ -202,8 +203,9 @@ fn assemble_lent<T: Target, S: Store, V: View, F: Folder>(
     ensures kept { IfOk result (λ r. Quiet (T.faults target.old) (T.faults target.new) →
         IfSome (T.held target.old).bytes (λ o. r.kept ≡ right_below index.now (resized o (image_length index.now))
         (count_of index.now))) }
-    ensures asks { AssemblyAsks S.asked V.held V.faults index.now plan.now places.now (T.held target.old).bytes
-        (T.faults target.old) (T.faults target.new) kit.old kit.new }
+    ensures asks { AssemblyAsks S.holds S.asked V.held V.faults index.now plan.now places.now
+        (T.held target.old).bytes (T.faults target.old) (T.faults target.new) kit.old kit.new
+        (seen F.files F.place F.faults cache.old) (seen F.files F.place F.faults cache.new) }
 
     ensures name { (T.held target.new).name ≡ (T.held target.old).name }
     ensures faults { T.faults target.old ≤ T.faults target.new }
@@ -298,8 +300,9 @@ pub fn assemble<T: Target, S: Store, V: View, F: Folder>(
     ensures kept { IfOk result.answer (λ r. Quiet (T.faults target) (T.faults result.target) →
         IfSome (T.held target).bytes (λ o. r.kept ≡ right_below index.now (resized o (image_length index.now))
         (count_of index.now))) }
-    ensures asks { ByPlan index.now kits.items result.kits.items (λ d k j. AssemblyAsks S.asked V.held V.faults
-        index.now d places.now (T.held target).bytes (T.faults target) (T.faults result.target) k j) }
+    ensures asks { ByPlan index.now kits.items result.kits.items (λ d k j. AssemblyAsks S.holds S.asked V.held V.faults
+        index.now d places.now (T.held target).bytes (T.faults target) (T.faults result.target) k j
+        (seen F.files F.place F.faults cache) (seen F.files F.place F.faults result.cache)) }
 
     ensures size { vec_len result.kits ≡ 1 }
     ensures name { (T.held result.target).name ≡ (T.held target).name }

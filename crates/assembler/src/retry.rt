@@ -65,8 +65,9 @@ pub(crate) fn retry<T: Part, S: Store, V: View, F: Folder>(
         map S.holds kit.old.chain.stores ≡ map Some maps → (i : ℕ) → i < count_of index.now →
         settled fates.new i ≡ true →
         HadAt index.now plan.now places.now fates.old (map (held_in V.held) kit.old.seeds.items) (cached ++ maps) i }
-    ensures asks { PassAsks S.asked V.held V.faults index.now plan.now places.now fates.old
-        (T.faults target.old) (T.faults target.new) kit.old kit.new }
+    ensures asks { PassAsks S.holds S.asked V.held V.faults index.now plan.now places.now fates.old
+        (T.faults target.old) (T.faults target.new) kit.old kit.new (seen F.files F.place F.faults cache.old)
+        (seen F.files F.place F.faults cache.new) }
     ensures stocked { Stocked (TakesWants S.holds index.now plan.now (λ w. w < plan.now.wants) kit.old.chain.stores)
         (seen F.files F.place F.faults cache.old) (seen F.files F.place F.faults cache.new) }
     ensures step { Step T.held T.faults S.holds S.folder S.place S.said S.faults V.held V.faults index.now

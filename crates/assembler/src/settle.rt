@@ -15,7 +15,7 @@ ghost use Rattle.chunk_sources.specs.Sources.{KeepsSeeds, SourcesQuiet};
 ghost use Rattle.chunk_sources.specs.Wants.{AllOf, IsAmong};
 ghost use Rattle.dsy_base.specs.Counts.{Rose};
 ghost use Rattle.dsy_base.specs.Maps.{Map};
-ghost use Rattle.extract_plan.specs.Deal.{of_want, want_id};
+ghost use Rattle.extract_plan.specs.Deal.{first_of, of_want, want_id};
 ghost use Rattle.extract_plan.specs.Places.{PlacesFit, places_at};
 ghost use Rattle.extract_plan.specs.Seeds.{held_in};
 ghost use Rattle.range_survey.specs.Fates.{SettledRight, settled};
@@ -97,12 +97,15 @@ fn settle_open<T: Part, S: Store, V: View, F: Folder>(
     ensures missed { Where (λ x. x.refused ≢ Refused.Memory → CacheLacks (kind_of index.now) sought.now.id.0
         (size_of index.now entry) (seen F.files F.place F.faults cache.old) (seen F.files F.place F.faults cache.new))
         (Unit {0}) result }
-    ensures asked { Where (λ x. x.refused ≢ Refused.Memory → AskedLast S.asked S.queried V.held V.faults sought.now.id.0
-        fates.old sought.now.entries.now sought.now.places.now (T.faults target.old) (T.faults target.new) seeds.old
-        seeds.new chain.old chain.new) (Unit {0}) result }
-    ensures asks { (chain.new ≡ chain.old) ⊎ AskedLast S.asked S.queried V.held V.faults sought.now.id.0 fates.old
-        sought.now.entries.now sought.now.places.now (T.faults target.old) (T.faults target.new) seeds.old seeds.new
-        chain.old chain.new }
+    ensures asked { Where (λ x. x.refused ≢ Refused.Memory → AskedLast S.asked S.queried V.held V.faults
+        (kind_of index.now) sought.now.id.0 (size_of index.now entry) fates.old sought.now.entries.now
+        sought.now.places.now (T.faults target.old) (T.faults target.new) seeds.old seeds.new
+        (seen F.files F.place F.faults cache.old) (seen F.files F.place F.faults cache.new) chain.old chain.new)
+        (Unit {0}) result }
+    ensures asks { (chain.new ≡ chain.old) ⊎ AskedLast S.asked S.queried V.held V.faults (kind_of index.now)
+        sought.now.id.0 (size_of index.now entry) fates.old sought.now.entries.now sought.now.places.now
+        (T.faults target.old) (T.faults target.new) seeds.old seeds.new (seen F.files F.place F.faults cache.old)
+        (seen F.files F.place F.faults cache.new) chain.old chain.new }
 
     // Where nothing fails.
     ensures exactly { (cached maps : List (Map (List ℕ))) → SourcesQuiet S.holds S.faults V.faults V.tells
@@ -168,13 +171,15 @@ pub(crate) fn settle<T: Part, S: Store, V: View, F: Folder>(
         (size_of index.now x.entry) (seen F.files F.place F.faults cache.old) (seen F.files F.place F.faults cache.new))
         (Unit {0}) result }
     ensures asked { Where (λ x. x.refused ≢ Refused.Memory → AskedLast S.asked S.queried V.held V.faults
-        (want_id index.now plan.now want) fates.old (of_want plan.now want) (places_at places.now want)
-        (T.faults target.old) (T.faults target.new) kit.old.seeds.items kit.new.seeds.items kit.old.chain kit.new.chain)
-        (Unit {0}) result }
+        (kind_of index.now) (want_id index.now plan.now want) (size_of index.now (first_of plan.now want)) fates.old
+        (of_want plan.now want) (places_at places.now want) (T.faults target.old) (T.faults target.new)
+        kit.old.seeds.items kit.new.seeds.items (seen F.files F.place F.faults cache.old)
+        (seen F.files F.place F.faults cache.new) kit.old.chain kit.new.chain) (Unit {0}) result }
     ensures asks { (kit.new.chain ≡ kit.old.chain) ⊎ AskedLast S.asked S.queried V.held V.faults
-        (want_id index.now plan.now want) fates.old (of_want plan.now want) (places_at places.now want)
-        (T.faults target.old) (T.faults target.new) kit.old.seeds.items kit.new.seeds.items kit.old.chain
-        kit.new.chain }
+        (kind_of index.now) (want_id index.now plan.now want) (size_of index.now (first_of plan.now want)) fates.old
+        (of_want plan.now want) (places_at places.now want) (T.faults target.old) (T.faults target.new)
+        kit.old.seeds.items kit.new.seeds.items (seen F.files F.place F.faults cache.old)
+        (seen F.files F.place F.faults cache.new) kit.old.chain kit.new.chain }
 
     // Where nothing fails.
     ensures exactly { (cached maps : List (Map (List ℕ))) → NothingFails S.holds S.folder S.place S.said S.faults

@@ -1,5 +1,5 @@
 -- What the cache and the stores behind it gave, and what it took.
-use Rattle.std.proofs.Common.{◌≡◌, ◌⊎◌, ◌++◌, ℕ, ◌<◌, ◌^◌, List, [], map, take, Option, Some, None, IfSome, Bool, true, false, Result, Ok, Err, sym, ap, ◌∙◌, subst, inl, inr, slice_index, arith}
+use Rattle.std.proofs.Common.{◌≡◌, ◌⊎◌, ◌++◌, ℕ, ◌<◌, ◌^◌, List, [], ◌∷◌, map, take, Option, Some, None, IfSome, Bool, true, false, Result, Ok, Err, sym, ap, ◌∙◌, subst, inl, inr, slice_index, refl, arith, ◌≢◌}
 use Rattle.std.proofs.lemmas.Bool.{true≢false}
 use Rattle.std.proofs.lemmas.Option.{same_Some}
 use Rattle.std.specs.Option.{option_map}
@@ -11,7 +11,7 @@ use Rattle.chunk_sources.proofs.Cached.{gives_left, gives_one, gives_right, one_
 use Rattle.chunk_sources.proofs.Lacking.{quiet_never, lacked_memory}
 use Rattle.chunk_sources.proofs.Obtained.{holds_gives}
 use Rattle.chunk_sources.proofs.Origins.{by_cache, by_none, by_store, by_want}
-use Rattle.chunk_sources.specs.Caches.{TakesChunk, cached_in}
+use Rattle.chunk_sources.specs.Caches.{CacheFailed, TakesChunk, cached_in}
 use Rattle.chunk_sources.specs.Economy.{ObtainedBy, source_behind}
 use Rattle.chunk_sources.specs.Losses.{chunk_of}
 use Rattle.chunk_store.specs.Folders.{chunks}
@@ -21,10 +21,12 @@ use Rattle.chunk_store.specs.declared.id.DigestKind.{DigestKind}
 use Rattle.dsy_base.specs.Counts.{Quiet, Rose}
 use Rattle.dsy_base.specs.Maps.{Map}
 use Rattle.range_survey.specs.declared.fate.Fate.TheVariants as fate
+use Rattle.store_chain.specs.Chains.{AsksOnce}
 use Rattle.store_chain.specs.Faults.{EachQuiet}
 use Rattle.store_chain.specs.Giving.{Gives, SomeHolds}
 use Rattle.store_chain.specs.Wants.{IsWanted}
 use Rattle.store_chain.specs.declared.refused.Refused.{Refused}
+use Rattle.store_chain.specs.declared.refused.Refused.TheVariants as refused
 use Rattle.store_chain.specs.declared.want.Want.{Want}
 
 if_some : {X : Type 0} (o : Option X) (P : X → Type 0) (x : X) → o ≡ Some x → IfSome o P → P x
@@ -36,6 +38,20 @@ none_given kind id size cached told gives =
     let bad = subst (SomeGives kind id size) (sym (same_Some [] cached told)) gives in
     let less : bad.0 < 0 = bad.2 in
     omega (arith, less)
+
+-- a cache that had the chunk, and didn't give it, failed
+unfound_failed : (kind : DigestKind) (id : ChunkId) (size : ℕ) (old new : Shelf) → Unfound (chunk_of kind id size) old new → CacheFailed kind id.0 size (Some old) (Some new)
+unfound_failed kind id size old new unfound = go old.files unfound where
+  go : (o : Option (Map (List ℕ))) → IfSome (option_map chunks o) (λ m. Gives (chunk_of kind id size) m → Rose old.faults new.faults)
+      → IfSome (option_map (λ m. chunks m ∷ []) o) (λ cached. SomeGives kind id.0 size cached → Rose old.faults new.faults)
+  go None h = tt
+  go (Some m) h = λ gives.
+      let chunk = gives_one kind id.0 size (chunks m) gives in
+      h (chunk.0, chunk.1, record { named = chunk.2.named; sized = chunk.2.sized; fits = omega (arith, chunk.2.sized) })
+
+-- where there is no cache none failed
+pub none_failed : (kind : DigestKind) (id : List ℕ) (size : ℕ) (new : Option Shelf) → CacheFailed kind id size None new
+none_failed kind id size new = λ gives. absurd (none_given kind id size [] refl gives)
 
 -- a shelf that is told, and quiet, gives nothing that wasn't found on it
 unfound_never : (kind : DigestKind) (id : ChunkId) (size : ℕ) (old new : Shelf) (cached : List (Map (List ℕ))) → cached_in (Some old) ≡ Some cached
@@ -61,6 +77,17 @@ module _ {F S : Type 0} (files : F → Option (Map (List ℕ))) (place : F → L
 
   abbrev Ends : Result Got Refused → Type 0
   Ends r = FromShelf files place count w old new r out ⊎ FromStores files place count holds said faults lacks asked queried w old new r out
+
+  -- the stores were asked only where the shelf failed or lacks the chunk
+  pub asks_through : (r : Result Got Refused) → Ends r
+      → (new.chain ≡ old.chain) ⊎ (AsksOnce asked queried id.0 old.chain new.chain × CacheFailed kind id.0 size (Some before) (Some after))
+  asks_through r (inl from) = inl from.chain
+  asks_through r (inr from) = inr (from.asks, unfound_failed kind id size before after from.unfound)
+
+  pub asked_through : (r : Refused) → Ends (Err r) → r ≢ refused.Memory
+      → AsksOnce asked queried id.0 old.chain new.chain × CacheFailed kind id.0 size (Some before) (Some after)
+  asked_through r (inl from) isnt = absurd (isnt from.answer)
+  asked_through r (inr from) isnt = (from.asks, unfound_failed kind id size before after from.unfound)
 
   module _ (cached maps : List (Map (List ℕ))) (told : cached_in (Some before) ≡ Some cached) (held : map holds old.chain.stores ≡ map Some maps) where
     from_shelf : (got : Got) → IsWanted w (take got.size out) → FromShelf files place count w old new (Ok got) out → SomeGives kind id.0 size cached

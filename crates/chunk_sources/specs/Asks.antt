@@ -1,13 +1,16 @@
 -- How often stores are asked.
-use Rattle.std.specs.Prelude.{◌≡◌, ◌⊎◌, ℕ, zero, suc, ◌+◌, ◌<◌, ◌≤◌, List, map, slice_index, Bool, true, if◌then◌else◌}
+use Rattle.std.specs.Prelude.{◌≡◌, ◌⊎◌, ℕ, zero, suc, ◌+◌, ◌<◌, ◌≤◌, List, map, slice_index, Bool, true, if◌then◌else◌, Option}
 use Rattle.std.specs.List.{Any}
 use Rattle.std.specs.Str.{bytes_eq}
-use Rattle.caibx_codec.specs.Listing.{Listing}
+use Rattle.cache_store.specs.Shelves.{Shelf}
+use Rattle.caibx_codec.specs.Listing.{Listing, size_of}
+use Rattle.chunk_sources.specs.Caches.{CacheGives}
 use Rattle.chunk_sources.specs.Sources.{HeldAt}
 use Rattle.chunk_sources.specs.Wants.{IsAmong}
 use Rattle.dsy_base.specs.Bytes.{Held}
 use Rattle.dsy_base.specs.Counts.{Quiet}
-use Rattle.extract_plan.specs.Deal.{Deal, of_want, want_id}
+use Rattle.dsy_base.specs.Maps.{Map}
+use Rattle.extract_plan.specs.Deal.{Deal, first_of, of_want, want_id}
 use Rattle.extract_plan.specs.Places.{Placed, places_at}
 use Rattle.extract_plan.specs.Seeds.{faults_in, held_in}
 use Rattle.extract_plan.specs.declared.seed.Seed.{Seed}
@@ -45,17 +48,17 @@ asks_below ids spared zero q = 0
 asks_below ids spared (suc k) q = asks_below ids spared k q + asks_for ids spared k q
 
 -- want w is had without the stores: an entry of it was settled before, and the target didn't fail; or a seed gives it
--- that didn't fail
-abbrev pub IsSpared : {V : Type 0} → (V → Held) → (V → ℕ) → Listing → Deal → Placed → List Fate → ℕ → ℕ
-    → List (Seed V) → List (Seed V) → ℕ → Type 0
-IsSpared view view_faults l d x m old new s0 s1 w =
+-- that didn't fail; or the cache does, which didn't fail
+abbrev pub IsSpared : {S V : Type 0} → (S → Option (Map (List ℕ))) → (V → Held) → (V → ℕ) → Listing → Deal → Placed
+    → List Fate → ℕ → ℕ → List (Seed V) → List (Seed V) → Option Shelf → Option Shelf → List S → ℕ → Type 0
+IsSpared holds view view_faults l d x m old new s0 s1 e0 e1 stores w =
     (((j : ℕ) × IsAmong (of_want d w) j × (settled m j ≡ true)) × Quiet old new)
-    ⊎ Any (λ p. HeldAt (map (held_in view) s0) p (want_id l d w)
+    ⊎ (Any (λ p. HeldAt (map (held_in view) s0) p (want_id l d w)
     × Quiet (slice_index (map (faults_in view_faults) s0) p.seed) (slice_index (map (faults_in view_faults) s1) p.seed))
-    (places_at x w)
+    (places_at x w) ⊎ CacheGives holds l stores (want_id l d w) (size_of l (first_of d w)) e0 e1)
 
 -- the spared wants are such
-abbrev pub AreSpared : {V : Type 0} → (V → Held) → (V → ℕ) → Listing → Deal → Placed → List Fate → ℕ → ℕ
-    → List (Seed V) → List (Seed V) → (ℕ → Bool) → Type 0
-AreSpared view view_faults l d x m old new s0 s1 spared =
-    (w : ℕ) → w < d.wants → spared w ≡ true → IsSpared view view_faults l d x m old new s0 s1 w
+abbrev pub AreSpared : {S V : Type 0} → (S → Option (Map (List ℕ))) → (V → Held) → (V → ℕ) → Listing → Deal → Placed
+    → List Fate → ℕ → ℕ → List (Seed V) → List (Seed V) → Option Shelf → Option Shelf → List S → (ℕ → Bool) → Type 0
+AreSpared holds view view_faults l d x m old new s0 s1 e0 e1 stores spared = (w : ℕ) → w < d.wants → spared w ≡ true
+    → IsSpared holds view view_faults l d x m old new s0 s1 e0 e1 stores w

@@ -1,5 +1,5 @@
 -- The cache among the sources, where there is one.
-use Rattle.std.specs.Prelude.{◌≡◌, ℕ, ◌<◌, List, [], ◌∷◌, ◌++◌, Option, Some, None, IsSome}
+use Rattle.std.specs.Prelude.{◌≡◌, ℕ, ◌<◌, List, [], ◌∷◌, ◌++◌, Option, Some, None, IsSome, IfSome, IsSomeAnd}
 use Rattle.std.specs.Option.{option_map}
 use Rattle.cache_store.specs.Giving.{GiveOneSize, SomeGives}
 use Rattle.cache_store.specs.Shelves.{Shelf, Shelved, Stocks, shelf_of}
@@ -7,7 +7,7 @@ use Rattle.caibx_codec.specs.Listing.{Listing, count_of, id_of, kind_of, size_of
 use Rattle.chunk_store.specs.Folders.{chunks}
 use Rattle.chunk_store.specs.Giving.{IsChunk}
 use Rattle.chunk_store.specs.declared.id.DigestKind.{DigestKind}
-use Rattle.dsy_base.specs.Counts.{Rose}
+use Rattle.dsy_base.specs.Counts.{Quiet, Rose}
 use Rattle.dsy_base.specs.Maps.{Map}
 use Rattle.extract_plan.specs.Deal.{Deal, first_of, want_id}
 use Rattle.store_chain.specs.Giving.{SomeHolds}
@@ -31,6 +31,11 @@ cache_faults (Some s) = s.faults
 abbrev pub CacheLacks : DigestKind → List ℕ → ℕ → Option Shelf → Option Shelf → Type 0
 CacheLacks kind id size old new = (now : List (Map (List ℕ))) → cached_in new ≡ Some now → SomeGives kind id size now
     → Rose (cache_faults old) (cache_faults new)
+
+-- where it gave the chunk it has failed
+abbrev pub CacheFailed : DigestKind → List ℕ → ℕ → Option Shelf → Option Shelf → Type 0
+CacheFailed kind id size old new = IfSome (cached_in old) (λ cached. SomeGives kind id size cached
+    → Rose (cache_faults old) (cache_faults new))
 
 -- chunks were added to it
 abbrev pub Stocked : (List ℕ → List ℕ → Type 0) → Option Shelf → Option Shelf → Type 0
@@ -63,3 +68,12 @@ IsListedAs l id size = (i : ℕ) × (i < count_of l) × (id_of l i ≡ id) × (s
 -- have chunks of one size alone
 abbrev pub HaveOneSize : Listing → Option Shelf → List (Map (List ℕ)) → List (Map (List ℕ)) → Type 0
 HaveOneSize l cache cached maps = IsSome cache → GiveOneSize (IsListedAs l) (kind_of l) (cached ++ maps)
+
+-- the cache gives the chunk, and doesn't fail; and of the sizes that the index lists with the id, the stores hold chunks
+-- of this one alone, so that no other chunk is added under the id. So it is where the index lists the id with one size
+pub record CacheGives {S : Type 0} (holds : S → Option (Map (List ℕ))) (l : Listing) (stores : List S) (id : List ℕ)
+    (size : ℕ) (old new : Option Shelf) : Type 0 where
+  pub gives : IsSomeAnd (cached_in old) (SomeGives (kind_of l) id size)
+  pub sound : Quiet (cache_faults old) (cache_faults new)
+  pub one_size : (n : ℕ) (b : List ℕ) → IsListedAs l id n → IsChunk (kind_of l) id n b → SomeHolds holds stores id b
+      → n ≡ size

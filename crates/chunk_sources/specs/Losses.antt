@@ -1,6 +1,8 @@
 -- When the chain of stores is asked for a chunk, and what it means that no source gave it.
 use Rattle.std.specs.Prelude.{◌≡◌, ◌⊎◌, ℕ, List, map, Some, true, Bool, Option, slice_index}
 use Rattle.cache_store.specs.Giving.{SomeGives}
+use Rattle.cache_store.specs.Shelves.{Shelf}
+use Rattle.chunk_sources.specs.Caches.{CacheFailed}
 use Rattle.chunk_sources.specs.Sources.{SeedsFailed, SeedsGive}
 use Rattle.chunk_sources.specs.Wants.{IsAmong}
 use Rattle.chunk_store.specs.Said.{Said}
@@ -31,13 +33,16 @@ abbrev pub CopiesFailed : List Fate → List ℕ → ℕ → ℕ → Type 0
 CopiesFailed fates entries old new = (i : ℕ) → IsAmong entries i → settled fates i ≡ true → Rose old new
 
 module _ {S V : Type 0} (asked queried : S → List ℕ → ℕ) (view : V → Held) (view_faults : V → ℕ) where
-  -- the chain was asked once for the id, since no settled entry and no seed gave its chunk
-  pub record AskedLast (id : List ℕ) (fates : List Fate) (entries : List ℕ) (places : List SeedPlace) (old new : ℕ)
-      (s0 s1 : List (Seed V)) (c0 c1 : Chained S) : Type 0 where
-    pub once : AsksOnce asked queried id c0 c1
-    pub copies : CopiesFailed fates entries old new
-    pub seeds : SeedsFailed (map (held_in view) s0) places id (map (faults_in view_faults) s0)
-        (map (faults_in view_faults) s1)
+  -- the chain was asked once for the id, since no settled entry, no seed and no cache gave the chunk of this size
+  pub record AskedLast (kind : DigestKind) (id : List ℕ) (size : ℕ) (fates : List Fate) (entries : List ℕ)
+      (places : List SeedPlace) (old new : ℕ) (s0 s1 : List (Seed V)) (e0 e1 : Option Shelf) (c0 c1 : Chained S) :
+      Type 0
+    where
+      pub once : AsksOnce asked queried id c0 c1
+      pub copies : CopiesFailed fates entries old new
+      pub seeds : SeedsFailed (map (held_in view) s0) places id (map (faults_in view_faults) s0)
+          (map (faults_in view_faults) s1)
+      pub cache : CacheFailed kind id size e0 e1
 
 -- where the chunk of an entry came from, if the entry was settled: an alike entry that was settled before, a seed, or
 -- one that holds these maps: the cache or a store

@@ -72,12 +72,14 @@ pub fn obtain<T: View, S: Store, V: View, F: Folder>(
     ensures missed { IfErr result (λ r. r ≢ Refused.Memory → CacheLacks (kind_of index.now) sought.now.id.0
         (length chunk.old) (seen F.files F.place F.faults cache.old) (seen F.files F.place F.faults cache.new)) }
     // The chain is asked where no other source gave the chunk, and always before a refusal.
-    ensures asks { (chain.new ≡ chain.old) ⊎ AskedLast S.asked S.queried V.held V.faults sought.now.id.0 fates.now
-        sought.now.entries.now sought.now.places.now (T.faults target.old) (T.faults target.new) seeds.old seeds.new
-        chain.old chain.new }
-    ensures asked { IfErr result (λ r. r ≢ Refused.Memory → AskedLast S.asked S.queried V.held V.faults sought.now.id.0
-        fates.now sought.now.entries.now sought.now.places.now (T.faults target.old) (T.faults target.new) seeds.old
-        seeds.new chain.old chain.new) }
+    ensures asks { (chain.new ≡ chain.old) ⊎ AskedLast S.asked S.queried V.held V.faults (kind_of index.now)
+        sought.now.id.0 (length chunk.old) fates.now sought.now.entries.now sought.now.places.now (T.faults target.old)
+        (T.faults target.new) seeds.old seeds.new (seen F.files F.place F.faults cache.old)
+        (seen F.files F.place F.faults cache.new) chain.old chain.new }
+    ensures asked { IfErr result (λ r. r ≢ Refused.Memory → AskedLast S.asked S.queried V.held V.faults
+        (kind_of index.now) sought.now.id.0 (length chunk.old) fates.now sought.now.entries.now sought.now.places.now
+        (T.faults target.old) (T.faults target.new) seeds.old seeds.new (seen F.files F.place F.faults cache.old)
+        (seen F.files F.place F.faults cache.new) chain.old chain.new) }
 
     // Where nothing fails.
     ensures exactly { (cached maps : List (Map (List ℕ))) → SourcesQuiet S.holds S.faults V.faults V.tells

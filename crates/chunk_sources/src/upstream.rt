@@ -3,7 +3,7 @@
 ghost use Rattle.std.specs.Prelude.{◌≡◌, ◌≢◌, ◌⊎◌, ◌++◌, ℕ, List, ◌<◌, ◌^◌, length, map, true, None, Some, IfSome};
 ghost use Rattle.std.specs.Prelude.{IfOk, IfErr, OnOk};
 ghost use Rattle.cache_store.specs.Giving.{SomeGives};
-ghost use Rattle.chunk_sources.specs.Caches.{CacheLacks, Stocked, TakesChunk, cache_faults, cached_in, seen};
+ghost use Rattle.chunk_sources.specs.Caches.{CacheFailed, CacheLacks, Stocked, TakesChunk, cache_faults, cached_in, seen};
 ghost use Rattle.chunk_sources.specs.Economy.{ObtainedBy, is_made, source_behind};
 ghost use Rattle.chunk_sources.specs.Losses.{RefusedBy, chunk_of};
 ghost use Rattle.chunk_store.specs.Names.{name_of};
@@ -43,8 +43,12 @@ pub(crate) fn from_upstream<S: Store, F: Folder>(
         (chunk_of chain.old.kind id.now (length chunk.old)) chain.old.stores chain.new.stores r) }
     ensures missed { IfErr result (λ r. r ≢ Refused.Memory → CacheLacks chain.old.kind id.now.0 (length chunk.old)
         (seen F.files F.place F.faults cache.old) (seen F.files F.place F.faults cache.new)) }
-    ensures asks { (chain.new ≡ chain.old) ⊎ AsksOnce S.asked S.queried id.now.0 chain.old chain.new }
-    ensures asked { IfErr result (λ r. r ≢ Refused.Memory → AsksOnce S.asked S.queried id.now.0 chain.old chain.new) }
+    ensures asks { (chain.new ≡ chain.old) ⊎ (AsksOnce S.asked S.queried id.now.0 chain.old chain.new
+        × CacheFailed chain.old.kind id.now.0 (length chunk.old) (seen F.files F.place F.faults cache.old)
+        (seen F.files F.place F.faults cache.new)) }
+    ensures asked { IfErr result (λ r. r ≢ Refused.Memory → AsksOnce S.asked S.queried id.now.0 chain.old chain.new
+        × CacheFailed chain.old.kind id.now.0 (length chunk.old) (seen F.files F.place F.faults cache.old)
+        (seen F.files F.place F.faults cache.new)) }
 
     // Where nothing fails.
     ensures exactly { (cached maps : List (Map (List ℕ))) → cached_in (seen F.files F.place F.faults cache.old) ≡ Some

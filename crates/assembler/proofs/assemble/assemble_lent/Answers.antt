@@ -1,5 +1,5 @@
 use Rattle.std.proofs.Common.{◌≡◌, ◌∙◌, ◌<◌, List, IfSome, length, Ok, Err, sym, ap, subst, arith, Option}
-use Rattle.assembler.proofs.Asked.{quiet_part}
+use Rattle.assembler.proofs.Counted.{quiet_part}
 use Rattle.assembler.proofs.KeptCount.{kept_count}
 use Rattle.assembler.proofs.Stocking.{listed_takes}
 use Rattle.chunk_sources.proofs.Cached.{stocked_none}

@@ -6,14 +6,13 @@ use Rattle.chunk_sources.specs.Asks.{asks_below, calls_below}
 use Rattle.chunk_sources.specs.Caches.{TakesWants, seen}
 use Rattle.chunk_store.specs.declared.id.DigestKind.{DigestKind}
 use Rattle.extract_plan.specs.Places.{places_at}
-use Rattle.assembler.proofs.Asked.{asks_on, asks_up, spared_part}
+use Rattle.assembler.proofs.Asked.{asks_on, asks_up, spared_first, spared_rest}
 use Rattle.assembler.proofs.EconomyPasses.{passes_by}
 use Rattle.assembler.proofs.EconomyQuiet.{nothing_first, nothing_next}
 use Rattle.assembler.proofs.EconomyRetried.{unless_map}
-use Rattle.assembler.proofs.Filled.{grows_none}
 use Rattle.assembler.proofs.HadOn.{had_from, had_through}
 use Rattle.assembler.proofs.Lost.{lost_since}
-use Rattle.assembler.proofs.Stepped.{ready_on, seeds_none, step_on}
+use Rattle.assembler.proofs.Stepped.{ready_on, step_on}
 use Rattle.assembler.proofs.TwoPasses.{ends_map, err_map}
 use Rattle.assembler.specs.Passes.{HadAt, want_at}
 use Rattle.dsy_base.proofs.Counts.{rose_later}
@@ -97,8 +96,18 @@ returns-in-Ok-clause-asks g c = λ spared are.
     let s0 = c.args.kit.now.seeds.items in
     let s1 = c.fill.new.kit.seeds.items in
     let s2 = c.retry.new.kit.seeds.items in
-    let first = c.in-Ok.ensures.asks spared (λ w below is. spared_part g.V.View.held g.V.View.faults l d x c.args.fates.now c.args.fates.now f0 f0 f1 f2 s0 s0 s1 s2 w (grows_none c.args.fates.now) (omega arith) next.never_falls (seeds_none g.V.View.held g.V.View.faults s0) next.seeds (are w below is)) in
-    let then = c.retry.ensures.asks spared (λ w below is. spared_part g.V.View.held g.V.View.faults l d x c.args.fates.now c.fill.new.fates f0 f1 f2 f2 s0 s1 s2 s2 w step.grows step.never_falls (omega arith) step.seeds (seeds_none g.V.View.held g.V.View.faults s2) (are w below is)) in
+    let e0 = see g c.args.cache.now in
+    let e1 = see g c.fill.new.cache in
+    let e2 = see g c.retry.new.cache in
+    let c0 = c.args.kit.now.chain.stores in
+    let c1 = c.fill.new.kit.chain.stores in
+    let holds = g.S.Store.holds in
+    let A : ℕ → Type 0 = λ w. w < d.wants in
+    let fell = stocked_falls (TakesWants holds l d A c1) e1 e2 c.retry.ensures.stocked in
+    let first = c.in-Ok.ensures.asks spared (λ w below is. spared_first holds g.V.View.held g.V.View.faults l d x c.args.fates.now f0 f1 f2 s0 s1 s2 e0 e1 e2 c0 w
+    c.requires.ready.wants next.never_falls next.seeds fell (are w below is)) in
+    let then = c.retry.ensures.asks spared (λ w below is. spared_rest holds g.V.View.held g.V.View.faults l d x c.args.fates.now c.fill.new.fates f0 f1 f2 s0 s1 s2 e0 e1 e2 c0 c1 A w
+    c.requires.ready.wants (λ v within. within) step.grows step.never_falls step.seeds c.in-Ok.ensures.stocked step.stores.held (are w below is)) in
     asks_on g.S.Store.asked n n q q c.args.kit.now.chain c.fill.new.kit.chain c.retry.new.kit.chain first then
 
 pub returns-in-Ok-clause-step : goal.returns-in-Ok-clause-step

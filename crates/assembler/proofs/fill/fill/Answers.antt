@@ -68,7 +68,7 @@ returns-clause-stocked g c =
 memory : (g : Over) (c : goal.Then-lacked_memory g) → WantsPassed g.T.View.held g.T.View.faults g.S.Store.holds g.S.Store.folder g.S.Store.place
     g.S.Store.said g.S.Store.faults g.S.Store.asked g.S.Store.queried g.V.View.held g.V.View.faults g.V.View.tells c.args.index.now c.args.plan.now
     c.args.places.now (c.loop-want.want + 1) c.args.target.now c.args.kit.now c.args.fates.now c.settle-ended.new.target c.settle-ended.new.kit
-    c.settle-ended.new.fates (see g c.args.cache.now)
+    c.settle-ended.new.fates (see g c.args.cache.now) (see g c.settle-ended.new.cache)
 memory g c =
     let told = g.met.T.View.told in
     let ens = c.settle-ended.ensures in
@@ -76,7 +76,8 @@ memory g c =
     g.S.Store.queried g.V.View.held g.V.View.faults g.V.View.tells c.args.index.now c.args.plan.now c.args.places.now c.loop-want.want
     c.args.target.now c.args.kit.now c.args.fates.now c.loop-want.target c.loop-want.kit c.loop-want.fates
     c.settle-ended.new.target c.settle-ended.new.kit c.settle-ended.new.fates (see g c.args.cache.now) (see g c.loop-want.cache) (see g c.settle-ended.new.cache)
-    (λ w. is_below c.loop-want.want w ≡ true) c.loop-want.invariant.stocked c.requires.ready.wants (omega (arith, c.loop-want-test.true, c.wants-want-end.ensures))
+    (λ w. is_below c.loop-want.want w ≡ true) c.loop-want.invariant.stocked c.requires.ready.wants
+    (λ v so. omega (arith, below_of c.loop-want.want v so, c.loop-want-test.true, c.wants-want-end.ensures)) (omega (arith, c.loop-want-test.true, c.wants-want-end.ensures))
     (told c.args.target.now ∙ sym (told c.loop-want.target)) (told c.loop-want.target ∙ sym (told c.settle-ended.new.target))
     c.loop-want.invariant.passed (record { only = ens.only; had = ens.had; asks = ens.asks; step = ens.step; stocked = ens.stocked })
 
@@ -87,7 +88,7 @@ pub returns-then-lacked_memory-clause-asks : goal.returns-then-lacked_memory-cla
 returns-then-lacked_memory-clause-asks g c =
     passed_asks g.T.View.held g.T.View.faults g.S.Store.holds g.S.Store.folder g.S.Store.place g.S.Store.said g.S.Store.faults g.S.Store.asked
     g.S.Store.queried g.V.View.held g.V.View.faults g.V.View.tells c.args.index.now c.args.plan.now c.args.places.now (c.loop-want.want + 1)
-    c.args.target.now c.args.kit.now c.args.fates.now c.settle-ended.new.target c.settle-ended.new.kit c.settle-ended.new.fates (see g c.args.cache.now)
+    c.args.target.now c.args.kit.now c.args.fates.now c.settle-ended.new.target c.settle-ended.new.kit c.settle-ended.new.fates (see g c.args.cache.now) (see g c.settle-ended.new.cache)
     (omega (arith, c.loop-want-test.true, c.wants-want-end.ensures)) (memory g c)
 
 pub returns-then-lacked_memory-clause-step : goal.returns-then-lacked_memory-clause-step
@@ -102,7 +103,8 @@ loop-want-preserved g c =
           g.S.Store.queried g.V.View.held g.V.View.faults g.V.View.tells c.args.index.now c.args.plan.now c.args.places.now c.loop-want.want
           c.args.target.now c.args.kit.now c.args.fates.now c.loop-want.target c.loop-want.kit c.loop-want.fates
           c.settle-ended.new.target c.settle-ended.new.kit c.settle-ended.new.fates (see g c.args.cache.now) (see g c.loop-want.cache) (see g c.settle-ended.new.cache)
-          (λ w. is_below c.loop-want.want w ≡ true) c.loop-want.invariant.stocked c.requires.ready.wants (omega (arith, c.loop-want-test.true, c.wants-want-end.ensures))
+          (λ w. is_below c.loop-want.want w ≡ true) c.loop-want.invariant.stocked c.requires.ready.wants
+          (λ v so. omega (arith, below_of c.loop-want.want v so, c.loop-want-test.true, c.wants-want-end.ensures)) (omega (arith, c.loop-want-test.true, c.wants-want-end.ensures))
           (told c.args.target.now ∙ sym (told c.loop-want.target)) (told c.loop-want.target ∙ sym (told c.settle-ended.new.target))
           c.loop-want.invariant.passed (record { only = ens.only; had = ens.had; asks = ens.asks; step = ens.step; stocked = ens.stocked });
       paid = paid_more g.T.View.held g.T.View.faults g.S.Store.holds g.S.Store.folder g.S.Store.place g.S.Store.said g.S.Store.faults g.S.Store.may_lack_memory
@@ -125,7 +127,7 @@ pub returns-clause-asks : goal.returns-clause-asks
 returns-clause-asks g c =
     passed_asks g.T.View.held g.T.View.faults g.S.Store.holds g.S.Store.folder g.S.Store.place g.S.Store.said g.S.Store.faults g.S.Store.asked
     g.S.Store.queried g.V.View.held g.V.View.faults g.V.View.tells c.args.index.now c.args.plan.now c.args.places.now c.loop-want.want
-    c.args.target.now c.args.kit.now c.args.fates.now c.loop-want.target c.loop-want.kit c.loop-want.fates (see g c.args.cache.now)
+    c.args.target.now c.args.kit.now c.args.fates.now c.loop-want.target c.loop-want.kit c.loop-want.fates (see g c.args.cache.now) (see g c.loop-want.cache)
     (omega (arith, c.loop-want.auto.want-end, c.wants-want-end.ensures)) c.loop-want.invariant.passed
 
 pub returns-clause-step : goal.returns-clause-step

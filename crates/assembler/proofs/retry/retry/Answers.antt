@@ -120,7 +120,7 @@ untried g c =
 more : (g : Over) (c : After-settle g) → WantsTried g.T.View.held g.T.View.faults g.S.Store.holds g.S.Store.folder g.S.Store.place g.S.Store.said g.S.Store.faults g.S.Store.asked
     g.S.Store.queried g.S.Store.may_lack_memory g.V.View.held g.V.View.faults g.V.View.tells
     c.args.index.now c.args.plan.now c.args.places.now (set c.loop-entry.tried.items c.want_of-want.result true)
-    c.args.target.now c.args.kit.now c.args.fates.now c.settle.new.target c.settle.new.kit c.settle.new.fates (see g c.args.cache.now)
+    c.args.target.now c.args.kit.now c.args.fates.now c.settle.new.target c.settle.new.kit c.settle.new.fates (see g c.args.cache.now) (see g c.settle.new.cache)
 more g c =
     let told = g.met.T.View.told in
     let ens = c.settle.ensures in
@@ -130,15 +130,16 @@ more g c =
     tried_more t.held t.faults s.holds s.folder s.place s.said s.faults s.asked s.queried s.may_lack_memory v.held v.faults v.tells
     c.args.index.now c.args.plan.now c.args.places.now c.args.target.now c.args.kit.now c.args.fates.now
     c.loop-entry.target c.loop-entry.kit c.loop-entry.fates c.settle.new.target c.settle.new.kit c.settle.new.fates (see g c.args.cache.now) (see g c.loop-entry.cache) (see g c.settle.new.cache)
-    c.loop-entry.tried.items c.want_of-want.result (λ w. is_tried c.loop-entry.tried.items w ≡ true) c.loop-entry.invariant.stocked c.requires.ready.wants (below g c) c.loop-entry.invariant.tries.size (untried g c)
+    c.loop-entry.tried.items c.want_of-want.result (λ w. is_tried c.loop-entry.tried.items w ≡ true) c.loop-entry.invariant.stocked c.requires.ready.wants
+    (λ v is. tried_within c.loop-entry.tried.items v c.args.plan.now.wants c.loop-entry.invariant.tries.size is) (below g c) c.loop-entry.invariant.tries.size (untried g c)
     (told c.args.target.now ∙ sym (told c.loop-entry.target)) (told c.loop-entry.target ∙ sym (told c.settle.new.target))
     c.loop-entry.invariant.passed (record { only = ens.only; had = ens.had; asks = ens.asks; step = ens.step; stocked = ens.stocked })
 
-asks : (g : Over) (c : After-settle g) → PassAsks g.S.Store.asked g.V.View.held g.V.View.faults c.args.index.now c.args.plan.now c.args.places.now
-    c.args.fates.now (g.T.View.faults c.args.target.now) (g.T.View.faults c.settle.new.target) c.args.kit.now c.settle.new.kit
+asks : (g : Over) (c : After-settle g) → PassAsks g.S.Store.holds g.S.Store.asked g.V.View.held g.V.View.faults c.args.index.now c.args.plan.now c.args.places.now
+    c.args.fates.now (g.T.View.faults c.args.target.now) (g.T.View.faults c.settle.new.target) c.args.kit.now c.settle.new.kit (see g c.args.cache.now) (see g c.settle.new.cache)
 asks g c =
-    asks_at_end g.S.Store.asked g.V.View.held g.V.View.faults c.args.index.now c.args.plan.now c.args.places.now (set c.loop-entry.tried.items c.want_of-want.result true)
-    c.args.fates.now (g.T.View.faults c.args.target.now) (g.T.View.faults c.settle.new.target) c.args.kit.now c.settle.new.kit (more g c).asks
+    asks_at_end g.S.Store.holds g.S.Store.asked g.V.View.held g.V.View.faults c.args.index.now c.args.plan.now c.args.places.now (set c.loop-entry.tried.items c.want_of-want.result true)
+    c.args.fates.now (g.T.View.faults c.args.target.now) (g.T.View.faults c.settle.new.target) c.args.kit.now c.settle.new.kit (see g c.args.cache.now) (see g c.settle.new.cache) (more g c).asks
 
 -- what was lost before the call, and what is lost after it
 abbrev Before : (g : Over) → After-settle g → Lost → Type 0
@@ -333,13 +334,13 @@ returns-in-Some-first-clause-first g c =
 
 pub returns-in-Some-first-clause-asks : goal.returns-in-Some-first-clause-asks
 returns-in-Some-first-clause-asks g c =
-    asks_at_end g.S.Store.asked g.V.View.held g.V.View.faults c.args.index.now c.args.plan.now c.args.places.now c.loop-entry.tried.items c.args.fates.now
-    (g.T.View.faults c.args.target.now) (g.T.View.faults c.loop-entry.target) c.args.kit.now c.loop-entry.kit c.loop-entry.invariant.passed.asks
+    asks_at_end g.S.Store.holds g.S.Store.asked g.V.View.held g.V.View.faults c.args.index.now c.args.plan.now c.args.places.now c.loop-entry.tried.items c.args.fates.now
+    (g.T.View.faults c.args.target.now) (g.T.View.faults c.loop-entry.target) c.args.kit.now c.loop-entry.kit (see g c.args.cache.now) (see g c.loop-entry.cache) c.loop-entry.invariant.passed.asks
 
 pub returns-clause-asks : goal.returns-clause-asks
 returns-clause-asks g c =
-    asks_at_end g.S.Store.asked g.V.View.held g.V.View.faults c.args.index.now c.args.plan.now c.args.places.now c.loop-entry.tried.items c.args.fates.now
-    (g.T.View.faults c.args.target.now) (g.T.View.faults c.loop-entry.target) c.args.kit.now c.loop-entry.kit c.loop-entry.invariant.passed.asks
+    asks_at_end g.S.Store.holds g.S.Store.asked g.V.View.held g.V.View.faults c.args.index.now c.args.plan.now c.args.places.now c.loop-entry.tried.items c.args.fates.now
+    (g.T.View.faults c.args.target.now) (g.T.View.faults c.loop-entry.target) c.args.kit.now c.loop-entry.kit (see g c.args.cache.now) (see g c.loop-entry.cache) c.loop-entry.invariant.passed.asks
 
 pub returns-in-Some-first-clause-exactly : goal.returns-in-Some-first-clause-exactly
 returns-in-Some-first-clause-exactly g c =

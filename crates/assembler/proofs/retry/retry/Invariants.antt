@@ -12,7 +12,7 @@ invariant-loop-entry g l =
     let v = g.V.View in
     record {
       passed : WantsTried t.held t.faults s.holds s.folder s.place s.said s.faults s.asked s.queried s.may_lack_memory v.held v.faults v.tells
-          l.index l.plan l.places l.tried.items l.fn.target l.fn.kit l.fn.fates l.target l.kit l.fates (seen g.F.Look.files g.F.Look.place g.F.Look.faults l.fn.cache);
+          l.index l.plan l.places l.tried.items l.fn.target l.fn.kit l.fn.fates l.target l.kit l.fates (seen g.F.Look.files g.F.Look.place g.F.Look.faults l.fn.cache) (seen g.F.Look.files g.F.Look.place g.F.Look.faults l.cache);
       tries : Tries l.plan (LostTried t.held t.faults s.holds s.folder s.place s.said s.faults s.asked s.queried s.may_lack_memory v.held v.faults v.tells
           l.index l.plan l.places l.tried.items l.fn.target l.fn.kit l.fn.fates l.target l.kit (seen g.F.Look.files g.F.Look.place g.F.Look.faults l.fn.cache) (seen g.F.Look.files g.F.Look.place g.F.Look.faults l.cache)) l.fates l.tried.items l.first l.entry;
       paid : Paid t.held t.faults s.holds s.folder s.place s.said s.faults s.may_lack_memory v.held v.faults v.tells

@@ -88,7 +88,7 @@ returns-clause-asked g c =
     let kept = with_items_is c.args.kit.now.seeds c.settle_open.new.seeds (omega (arith, c.settle_open.auto.seeds, c.deref_mut.ensures.len)) in
     where_map _ _ _ c.settle_open.result
     (λ x h memory. asked_as c.args.index.now c.args.plan.now c.args.want c.requires.ready.wants c.requires.want c.entries-entries.result.now c.entries-entries.ensures g.S.Store.asked g.S.Store.queried g.V.View.held g.V.View.faults c.args.fates.now _ _ c.args.places.now c.places-places.result.now c.in-Some.entry c.id-id.result.0
-    _ _ _ _ _ _ (f.0, f.1, f.2) c.id-id.ensures c.places-places.ensures c.deref_mut.ensures.value (sym kept) (h memory))
+    _ _ _ _ _ _ _ _ (f.0, f.1, f.2) c.id-id.ensures c.places-places.ensures c.deref_mut.ensures.value (sym kept) (h memory))
     c.settle_open.ensures.asked
 
 pub returns-clause-asks : goal.returns-clause-asks
@@ -97,7 +97,7 @@ returns-clause-asks g c =
     let kept = with_items_is c.args.kit.now.seeds c.settle_open.new.seeds (omega (arith, c.settle_open.auto.seeds, c.deref_mut.ensures.len)) in
     ⊎_elim (λ same. inl same)
     (λ h. inr (asked_as c.args.index.now c.args.plan.now c.args.want c.requires.ready.wants c.requires.want c.entries-entries.result.now c.entries-entries.ensures g.S.Store.asked g.S.Store.queried g.V.View.held g.V.View.faults c.args.fates.now _ _ c.args.places.now c.places-places.result.now c.in-Some.entry c.id-id.result.0
-    _ _ _ _ _ _ (f.0, f.1, f.2) c.id-id.ensures c.places-places.ensures c.deref_mut.ensures.value (sym kept) h))
+    _ _ _ _ _ _ _ _ (f.0, f.1, f.2) c.id-id.ensures c.places-places.ensures c.deref_mut.ensures.value (sym kept) h))
     c.settle_open.ensures.asks
 
 pub returns-in_default-clause-exactly : goal.returns-in_default-clause-exactly

@@ -1,6 +1,7 @@
-use Rattle.std.proofs.Common.{◌≡◌, ◌∙◌, ◌++◌, ℕ, length, map, Option, Ok, Err, inl, inr, ⊎_elim, ap, subst, arith}
+use Rattle.std.proofs.Common.{◌≡◌, ◌∙◌, ◌++◌, ℕ, length, map, Option, Ok, Err, ap, subst, arith}
 use Rattle.assembler.proofs.EconomyQuiet.{nothing_first}
-use Rattle.assembler.proofs.Filled.{rose_still, told_since}
+use Rattle.assembler.proofs.Filled.{told_since}
+use Rattle.assembler.proofs.Settled.{asks_still, last_still}
 use Rattle.assembler.proofs.EconomySettled.{settles_got, settles_lost}
 use Rattle.caibx_codec.specs.Listing.{kind_of, size_of, count_of}
 use Rattle.chunk_sources.specs.Caches.{seen}
@@ -58,14 +59,47 @@ returns-in-Ok-put-clause-bytes g c =
 
 pub returns-in-Ok-put-clause-asks : goal.returns-in-Ok-put-clause-asks
 returns-in-Ok-put-clause-asks g c =
-    let faults = g.T.View.faults in
-    ⊎_elim (λ same. inl same)
-    (λ last. inr (record {
-      once = last.once;
-      copies = λ i among is. rose_still (faults c.args.target.now) (faults c.obtain.new.target) (faults c.put.new.target) c.in-Ok-put.ensures.faults (last.copies i among is);
-      seeds = last.seeds;
-    }))
-    c.in-Ok.ensures.asks
+    let s = g.S.Store in
+    let v = g.V.View in
+    let q = c.args.sought.now in
+    let t = g.T.View.faults in
+    let whole : length c.split_at_mut-chunk.result.0.now ≡ size_of c.args.index.now c.args.entry = c.split_at_mut-chunk.ensures.front_len ∙ c.entry.ensures.size in
+    asks_still s.asked s.queried v.held v.faults (kind_of c.args.index.now) q.id.0 c.args.fates.now q.entries.now q.places.now c.args.seeds.now c.obtain.new.seeds
+    (see g c.args.cache.now) (see g c.obtain.new.cache) c.args.chain.now c.obtain.new.chain (length c.split_at_mut-chunk.result.0.now) (size_of c.args.index.now c.args.entry)
+    (t c.args.target.now) (t c.obtain.new.target) (t c.put.new.target) whole c.in-Ok-put.ensures.faults c.in-Ok.ensures.asks
+
+pub returns-in-Err-put-clause-asks : goal.returns-in-Err-put-clause-asks
+returns-in-Err-put-clause-asks g c =
+    let s = g.S.Store in
+    let v = g.V.View in
+    let q = c.args.sought.now in
+    let t = g.T.View.faults in
+    let whole : length c.split_at_mut-chunk.result.0.now ≡ size_of c.args.index.now c.args.entry = c.split_at_mut-chunk.ensures.front_len ∙ c.entry.ensures.size in
+    asks_still s.asked s.queried v.held v.faults (kind_of c.args.index.now) q.id.0 c.args.fates.now q.entries.now q.places.now c.args.seeds.now c.obtain.new.seeds
+    (see g c.args.cache.now) (see g c.obtain.new.cache) c.args.chain.now c.obtain.new.chain (length c.split_at_mut-chunk.result.0.now) (size_of c.args.index.now c.args.entry)
+    (t c.args.target.now) (t c.obtain.new.target) (t c.put.new.target) whole c.in-Err-put.ensures.faults c.in-Ok.ensures.asks
+
+pub returns-in-Err-clause-asks : goal.returns-in-Err-clause-asks
+returns-in-Err-clause-asks g c =
+    let s = g.S.Store in
+    let v = g.V.View in
+    let q = c.args.sought.now in
+    let t = g.T.View.faults in
+    let whole : length c.split_at_mut-chunk.result.0.now ≡ size_of c.args.index.now c.args.entry = c.split_at_mut-chunk.ensures.front_len ∙ c.entry.ensures.size in
+    asks_still s.asked s.queried v.held v.faults (kind_of c.args.index.now) q.id.0 c.args.fates.now q.entries.now q.places.now c.args.seeds.now c.obtain.new.seeds
+    (see g c.args.cache.now) (see g c.obtain.new.cache) c.args.chain.now c.obtain.new.chain (length c.split_at_mut-chunk.result.0.now) (size_of c.args.index.now c.args.entry)
+    (t c.args.target.now) (t c.obtain.new.target) (t c.obtain.new.target) whole (omega arith) c.in-Err.ensures.asks
+
+pub returns-in-Err-clause-asked : goal.returns-in-Err-clause-asked
+returns-in-Err-clause-asked g c =
+    let s = g.S.Store in
+    let v = g.V.View in
+    let q = c.args.sought.now in
+    let t = g.T.View.faults in
+    let whole : length c.split_at_mut-chunk.result.0.now ≡ size_of c.args.index.now c.args.entry = c.split_at_mut-chunk.ensures.front_len ∙ c.entry.ensures.size in
+    λ memory. last_still s.asked s.queried v.held v.faults (kind_of c.args.index.now) q.id.0 c.args.fates.now q.entries.now q.places.now c.args.seeds.now c.obtain.new.seeds
+    (see g c.args.cache.now) (see g c.obtain.new.cache) c.args.chain.now c.obtain.new.chain (length c.split_at_mut-chunk.result.0.now) (size_of c.args.index.now c.args.entry)
+    (t c.args.target.now) (t c.obtain.new.target) (t c.obtain.new.target) whole (omega arith) (c.in-Err.ensures.asked memory)
 
 pub returns-in-Err-clause-exactly : goal.returns-in-Err-clause-exactly
 returns-in-Err-clause-exactly g c = λ cached maps quiet.

@@ -6,7 +6,7 @@ use Rattle.chunk_sources.proofs.Cached.{stocked_none}
 use Rattle.chunk_sources.proofs.Lacking.{quiet_never, seeds_never}
 use Rattle.chunk_sources.proofs.Obtained.{always, err_more, ok_more, sized_as}
 use Rattle.chunk_sources.proofs.Origins.{by_copy, by_rest, by_seed}
-use Rattle.chunk_sources.specs.Caches.{CacheLacks, Stocked, TakesChunk, seen}
+use Rattle.chunk_sources.specs.Caches.{CacheFailed, CacheLacks, Stocked, TakesChunk, seen}
 use Rattle.chunk_sources.specs.Economy.{ObtainedBy, source_behind}
 use Rattle.chunk_sources.specs.Losses.{RefusedBy, chunk_of}
 use Rattle.chunk_store.specs.Names.{name_of}
@@ -81,14 +81,20 @@ returns-clause-missed g c =
 
 pub returns-clause-asks : goal.returns-clause-asks
 returns-clause-asks g c =
+    let size : length c.from_seeds.new.chunk ≡ length c.args.chunk.now = omega (arith, c.from_seeds.auto.chunk, c.copy.auto.chunk) in
+    let failed = sized_as (λ k n. CacheFailed k c.args.sought.now.id.0 n (see g c.args.cache.now) (see g c.from_upstream.new.cache))
+    c.args.chain.now.kind (kind_of c.args.index.now) (length c.from_seeds.new.chunk) (length c.args.chunk.now) c.requires.kind size in
     ⊎_elim (λ same. inl same)
-    (λ once. inr (record { once = once; copies = c.copy.ensures.absent c.if-copy.false; seeds = c.from_seeds.ensures.absent c.if-from_seeds.false }))
+    (λ once. inr (record { once = once.0; copies = c.copy.ensures.absent c.if-copy.false; seeds = c.from_seeds.ensures.absent c.if-from_seeds.false; cache = failed once.1 }))
     c.from_upstream.ensures.asks
 
 pub returns-clause-asked : goal.returns-clause-asked
 returns-clause-asked g c =
+    let size : length c.from_seeds.new.chunk ≡ length c.args.chunk.now = omega (arith, c.from_seeds.auto.chunk, c.copy.auto.chunk) in
+    let failed = sized_as (λ k n. CacheFailed k c.args.sought.now.id.0 n (see g c.args.cache.now) (see g c.from_upstream.new.cache))
+    c.args.chain.now.kind (kind_of c.args.index.now) (length c.from_seeds.new.chunk) (length c.args.chunk.now) c.requires.kind size in
     err_more c.from_upstream.result (λ r once memory.
-    record { once = once memory; copies = c.copy.ensures.absent c.if-copy.false; seeds = c.from_seeds.ensures.absent c.if-from_seeds.false })
+    record { once = (once memory).0; copies = c.copy.ensures.absent c.if-copy.false; seeds = c.from_seeds.ensures.absent c.if-from_seeds.false; cache = failed (once memory).1 })
     c.from_upstream.ensures.asked
 
 pub returns-clause-exactly : goal.returns-clause-exactly

@@ -1,15 +1,17 @@
-use Rattle.std.proofs.Common.{◌≡◌, ℕ, length, map, take, Option, Some, Err, sym, ap, ◌∙◌, subst, slice_index}
+use Rattle.std.proofs.Common.{◌≡◌, ◌⊎◌, ℕ, List, length, map, take, Option, Some, None, Ok, Err, inr, sym, ap, ◌∙◌, subst, slice_index}
 use Rattle.std.proofs.lemmas.Result.{err_from_is_err_and}
 use Rattle.store_chain.specs.Giving.{SomeHolds}
 use Rattle.cache_store.specs.Shelves.{Shelf, Shelved, shelf_of}
-use Rattle.chunk_sources.proofs.Behind.{fetched_through, had_through, none_given, refused_through, takes_wanted}
+use Rattle.chunk_sources.proofs.Behind.{asked_through, asks_through, fetched_through, had_through, none_failed, none_given, refused_through, takes_wanted}
 use Rattle.chunk_sources.proofs.Cached.{gives_right, stocked_wider}
 use Rattle.chunk_sources.proofs.Lacking.{quiet_never, lacked_memory}
 use Rattle.chunk_sources.proofs.Obtained.{holds_gives}
 use Rattle.chunk_sources.proofs.Origins.{by_none, by_store}
-use Rattle.chunk_sources.specs.Caches.{Stocked, TakesChunk, cache_faults, cached_in, seen}
+use Rattle.chunk_sources.specs.Caches.{CacheFailed, Stocked, TakesChunk, cache_faults, cached_in, seen}
 use Rattle.chunk_sources.specs.Losses.{chunk_of}
+use Rattle.chunk_store.specs.declared.id.DigestKind.{DigestKind}
 use Rattle.dsy_base.specs.Counts.{Quiet}
+use Rattle.store_chain.specs.Chains.{AsksOnce}
 use Rattle.store_chain.specs.Wants.{IsWanted}
 use Rattle.chunk_sources.proofs.upstream.from_upstream.Given.{Over}
 use Rattle.chunk_sources.proofs.upstream.from_upstream.Goals as goal
@@ -53,6 +55,21 @@ returns-in_default-clause-exactly g c = λ cached maps told quiet held still.
     by_store kind id.0 size cached maps c.args.chain.now c.obtain.new.self
     (none_given kind id.0 size cached (ap (λ q. cached_in (see g q)) (sym c.in_default.is) ∙ told)) e.asks.calls
     (holds_gives kind id size maps (take c.in_ok-obtain.field-0 c.obtain.new.out) e.ok.wanted (e.had maps held))
+
+-- without a cache none failed
+none : (g : Over) (cache after : Option (Shelved g.row.F.Denot)) (kind : DigestKind) (id : List ℕ) (size : ℕ) → cache ≡ None → CacheFailed kind id size (see g cache) (see g after)
+none g cache after kind id size is = subst (λ (q : Option (Shelved g.row.F.Denot)). CacheFailed kind id size (see g q) (see g after)) (sym is) (none_failed kind id size (see g after))
+
+pub returns-in_err-obtain-clause-asks : goal.returns-in_err-obtain-clause-asks
+returns-in_err-obtain-clause-asks g c = inr (c.in_err-obtain.ensures.asks, none g c.args.cache.now c.args.cache.now c.args.chain.now.kind c.args.id.now.0 (length c.args.chunk.now) c.in_default.is)
+
+pub returns-in_err-obtain-clause-asked : goal.returns-in_err-obtain-clause-asked
+returns-in_err-obtain-clause-asked g c =
+    let p = err_from_is_err_and c.from_residual.result c.from_residual.ensures.1 in
+    rw p.1 (λ isnt. (c.in_err-obtain.ensures.asks, none g c.args.cache.now c.args.cache.now c.args.chain.now.kind c.args.id.now.0 (length c.args.chunk.now) c.in_default.is))
+
+pub returns-in_default-clause-asks : goal.returns-in_default-clause-asks
+returns-in_default-clause-asks g c = inr (c.in_ok-obtain.ensures.asks, none g c.args.cache.now c.args.cache.now c.args.chain.now.kind c.args.id.now.0 (length c.args.chunk.now) c.in_default.is)
 
 -- ---- a cache
 
@@ -106,3 +123,56 @@ returns-else-got-clause-had g c = λ cached maps told held.
     (record { shelf = c.in-Some.shelf; chain = c.args.chain.now }) (record { shelf = c.obtain_through.new.shelf; chain = c.obtain_through.new.chain }) c.obtain_through.new.out
     cached maps (ap (λ q. cached_in (see g q)) (sym c.in-Some.is) ∙ told) held
     c.in_ok-got.got c.in_ok-got.ensures.ok.wanted c.in_ok-got.ensures.ends
+
+pub returns-then-got-clause-asks : goal.returns-then-got-clause-asks
+returns-then-got-clause-asks g c =
+    let s = g.S.Store in
+    let f = g.F.Look in
+    let kind = c.args.chain.now.kind in
+    let id = c.args.id.now in
+    let size : ℕ = length c.args.chunk.now in
+    let new = c.obtain_through.new in
+    subst (λ (q : Option (Shelved g.row.F.Denot)). (new.chain ≡ c.args.chain.now) ⊎ (AsksOnce s.asked s.queried id.0 c.args.chain.now new.chain
+    × CacheFailed kind id.0 size (see g q) (Some (shelf_of f.files f.place f.faults new.shelf)))) (sym c.in-Some.is)
+    (asks_through f.files f.place f.faults s.holds s.said s.faults s.may_lack_memory s.asked s.queried kind id size
+    (record { shelf = c.in-Some.shelf; chain = c.args.chain.now }) (record { shelf = new.shelf; chain = new.chain }) new.out (Ok c.in_ok-got.got) c.in_ok-got.ensures.ends)
+
+pub returns-else-got-clause-asks : goal.returns-else-got-clause-asks
+returns-else-got-clause-asks g c =
+    let s = g.S.Store in
+    let f = g.F.Look in
+    let kind = c.args.chain.now.kind in
+    let id = c.args.id.now in
+    let size : ℕ = length c.args.chunk.now in
+    let new = c.obtain_through.new in
+    subst (λ (q : Option (Shelved g.row.F.Denot)). (new.chain ≡ c.args.chain.now) ⊎ (AsksOnce s.asked s.queried id.0 c.args.chain.now new.chain
+    × CacheFailed kind id.0 size (see g q) (Some (shelf_of f.files f.place f.faults new.shelf)))) (sym c.in-Some.is)
+    (asks_through f.files f.place f.faults s.holds s.said s.faults s.may_lack_memory s.asked s.queried kind id size
+    (record { shelf = c.in-Some.shelf; chain = c.args.chain.now }) (record { shelf = new.shelf; chain = new.chain }) new.out (Ok c.in_ok-got.got) c.in_ok-got.ensures.ends)
+
+pub returns-in_err-got-clause-asks : goal.returns-in_err-got-clause-asks
+returns-in_err-got-clause-asks g c =
+    let s = g.S.Store in
+    let f = g.F.Look in
+    let kind = c.args.chain.now.kind in
+    let id = c.args.id.now in
+    let size : ℕ = length c.args.chunk.now in
+    let new = c.obtain_through.new in
+    subst (λ (q : Option (Shelved g.row.F.Denot)). (new.chain ≡ c.args.chain.now) ⊎ (AsksOnce s.asked s.queried id.0 c.args.chain.now new.chain
+    × CacheFailed kind id.0 size (see g q) (Some (shelf_of f.files f.place f.faults new.shelf)))) (sym c.in-Some.is)
+    (asks_through f.files f.place f.faults s.holds s.said s.faults s.may_lack_memory s.asked s.queried kind id size
+    (record { shelf = c.in-Some.shelf; chain = c.args.chain.now }) (record { shelf = new.shelf; chain = new.chain }) new.out (Err c.in_err-got.field-0.0) c.in_err-got.ensures.ends)
+
+pub returns-in_err-got-clause-asked : goal.returns-in_err-got-clause-asked
+returns-in_err-got-clause-asked g c =
+    let s = g.S.Store in
+    let f = g.F.Look in
+    let kind = c.args.chain.now.kind in
+    let id = c.args.id.now in
+    let size : ℕ = length c.args.chunk.now in
+    let new = c.obtain_through.new in
+    let p = err_from_is_err_and c.from_residual-in_err-got.result c.from_residual-in_err-got.ensures.1 in
+    rw (p.1, p.2) (λ isnt. subst (λ (q : Option (Shelved g.row.F.Denot)). AsksOnce s.asked s.queried id.0 c.args.chain.now new.chain
+    × CacheFailed kind id.0 size (see g q) (Some (shelf_of f.files f.place f.faults new.shelf))) (sym c.in-Some.is)
+    (asked_through f.files f.place f.faults s.holds s.said s.faults s.may_lack_memory s.asked s.queried kind id size
+    (record { shelf = c.in-Some.shelf; chain = c.args.chain.now }) (record { shelf = new.shelf; chain = new.chain }) new.out c.in_err-got.field-0.0 c.in_err-got.ensures.ends isnt))
