@@ -20,3 +20,7 @@ pub unmade : (s : Sizes) (told : Option (List ℕ)) (r : Result (List ℕ) MakeF
 unmade s told r None new same of = tt
 unmade s told r (Some f) None same of = tt
 unmade s told r (Some f) (Some g) same of = (ap (λ o. unwrap_or o g) same, of)
+
+pub if_some : {X : Type 0} (o : Option X) (P Q : X → Type 0) → ((x : X) → P x → Q x) → IfSome o P → IfSome o Q
+if_some None P Q f h = tt
+if_some (Some x) P Q f h = f x h

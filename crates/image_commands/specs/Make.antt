@@ -72,11 +72,11 @@ HasFewCuts s told = IfSome told (λ t. HasTooManyCuts s t → ⊥)
 
 module _ (s : Sizes) (image : List ℕ) (told : Option (List ℕ)) (store : Location) (held : Option (Map (List ℕ))) where
   abbrev pub NotStored : Sources → Sources → Outcome → Type 0
-  NotStored w v ends.TooManyItems =
-      StoreGiven store held (λ f g. (g ≡ f) × MadeOf s told (Err faults.TooManyItems) f g) AnySaid w v
+  NotStored w v ends.TooManyItems = IfSome told (λ t. HasTooManyCuts s t)
+      × StoreGiven store held (λ f g. (g ≡ f) × MadeOf s told (Err faults.TooManyItems) f g) AnySaid w v
   NotStored w v ends.ImageFault = FileRose w.disk v.disk image
       × StoreGiven store held (MadeOf s told (Err faults.ImageFault)) AnySaid w v
-  NotStored w v (ends.Changed k was got) = (was.0 ≢ got.0) × HasFewCuts s told
+  NotStored w v (ends.Changed k was got) = (told ≡ None) × (was.0 ≢ got.0)
       × StoreGiven store held (MadeOf s told (Err (faults.Changed k was got))) AnySaid w v
   NotStored w v (ends.StoreFault k) = (k ≡ 0) × StoreRose w v store × HasFewCuts s told
       × StoreGiven store held (MadeOf s told (Err faults.StoreFault)) AnySaid w v

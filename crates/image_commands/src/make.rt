@@ -1,7 +1,7 @@
 //! `make -s STORE INDEX IMAGE`: INDEX becomes the index of IMAGE, and STORE holds each of its chunks.
 
 ghost use Rattle.std.specs.Prelude.{◌≡◌, ℕ, ◌<◌, ◌≤◌, List, Option, map, vec_len, All};
-ghost use Rattle.std.specs.Prelude.{Ok, Err, IfErr, IfOk, IsSome, OnOk};
+ghost use Rattle.std.specs.Prelude.{Ok, Err, IfErr, IfOk, IfSome, IsSome, OnOk};
 ghost use Rattle.std.specs.Map.{count_at};
 ghost use Rattle.buzhash_cut.specs.Image.{AreOfOneImage};
 ghost use Rattle.command_steps.specs.AnySources.{IsGiven, IsKnown, faults_in, files_in, location_in};
@@ -23,12 +23,13 @@ use dsy_base::dial::Dial;
 use dsy_base::fault::IoFault;
 use dsy_base::files::Files;
 use dsy_base::folder::Folder;
+use dsy_base::image_files::ImageFiles;
+use dsy_base::inner_folders::InnerFolders;
 use dsy_base::look::Look;
 use dsy_base::name::Name;
 use dsy_base::view::View;
 use image_store::put_chunks::MakeFault;
 use image_store::store_image::store_image;
-use dsy_base::image_files::ImageFiles;
 use std::alloc::Global;
 use std::thread::Threads;
 
@@ -94,12 +95,32 @@ fn give_store<F: Files, D: Dial>(
     give_source(files, dial, store, taken)
 }
 
-// The folders inside the store's folder, where it is one.
-fn inner_of<F: ImageFiles>(files: &F, store: &Location) -> Option<F::Inner> {
-    match store {
-        Location::Folder(name) => files.inner(name.as_str()),
-        Location::Http { .. } => None,
+// The subfolders of a store's folder, which contracts see under the place of the store.
+#[derive(Drop)]
+struct Subfolders<I> {
+    inner: I,
+}
+
+impl<I: InnerFolders> InnerFolders for Subfolders<I> {
+    ghost use Rattle.command_steps.specs.AnySources.{code_of};
+    ghost use Rattle.command_words.specs.declared.command.Location.TheVariants as locations;
+
+    ghost place = { λ s. code_of (locations.Folder (I.place s.inner)) };
+
+    fn make_for(&self, path: &str) {
+        self.inner.make_for(path);
     }
+}
+
+// The subfolders of the store's folder, where it is one.
+fn inner_of<F: ImageFiles>(files: &F, store: &Location) -> Option<Subfolders<F::Inner>>
+    ensures place { IfSome result (λ s. store.now ≡ Location.Folder (F.Inner.place s.inner)) }
+{
+    let Location::Folder(name) = store else {
+        return None;
+    };
+    let inner = files.inner(name.as_str())?;
+    Some(Subfolders { inner })
 }
 
 // Stores the image in the store that was taken, and gives the bytes of its index file. Views and store are given back,

@@ -11,9 +11,9 @@ ghost use Rattle.dsy_base.specs.Counts.{raised};
 use command_outcome::outcome::Outcome;
 use command_steps::openings::unopened;
 use dsy_base::files::Files;
+use dsy_base::image_files::ImageFiles;
 use dsy_base::name::Name;
 use dsy_base::view::View;
-use dsy_base::image_files::ImageFiles;
 use std::alloc::Global;
 
 // Opens one view more. One that can't be opened, or that is of another size, is left out.

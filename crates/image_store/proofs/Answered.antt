@@ -1,5 +1,5 @@
 -- What storing an image answers, from what cutting it and seeing to its chunks have answered.
-use Rattle.std.proofs.Common.{◌≡◌, ◌≢◌, ◌≤◌, ℕ, List, Option, Some, None, IfSome, Result, Ok, Err, refl, sym, ap, subst, ◌∙◌, inr}
+use Rattle.std.proofs.Common.{◌≡◌, ◌≢◌, ◌≤◌, ℕ, List, Option, Some, None, IfSome, Result, Ok, Err, IfErr, refl, sym, ap, subst, ◌∙◌, inr}
 use Rattle.buzhash_cut.specs.Image.{HasTooManyCuts, IsIndexOfImage}
 use Rattle.buzhash_cut.specs.Sizes.{Sizes}
 use Rattle.caibx_codec.specs.Listing.{Listing, count_of}
@@ -7,7 +7,7 @@ use Rattle.caibx_codec.specs.Right.{IsRight}
 use Rattle.caibx_codec.specs.Spelling.{IsIndexFile, file_of}
 use Rattle.dsy_base.specs.Maps.{Map}
 use Rattle.image_store.specs.PutChunks.{CountsCause, HoldsAll, Stands, PutsEnd}
-use Rattle.image_store.specs.StoreImage.{Indexes, IsOfStoring, IsStoredAs, EndsEarly}
+use Rattle.image_store.specs.StoreImage.{Indexes, IsOfCutting, IsOfImage, IsOfStoring, IsStoredAs, EndsEarly}
 use Rattle.image_store.specs.declared.put_chunks.MakeFault.{MakeFault}
 use Rattle.image_store.specs.declared.put_chunks.MakeFault.TheVariants as faults
 
@@ -45,6 +45,27 @@ storing_end l told faults.ImageFault end = tt
 storing_end l told faults.StoreFault end = tt
 storing_end l told faults.Memory end = tt
 storing_end l told (faults.Changed k was got) end = end.0
+
+-- a fault of seeing to the chunks is one of their image
+pub image_end : (s : Sizes) (l : Listing) (told : Option (List ℕ)) (fault : MakeFault) → ((t : List ℕ) → IsIndexOfImage s t l → IsRight t l) → IfSome told (λ t. IsIndexOfImage s t l) → PutsEnd l told fault → IsOfImage s told fault
+image_end s l told faults.TooManyItems law index end = absurd end
+image_end s l told faults.ImageFault law index end = tt
+image_end s l told faults.StoreFault law index end = tt
+image_end s l told faults.Memory law index end = tt
+image_end s l None (faults.Changed k was got) law index end = (refl, end.0)
+image_end s l (Some t) (faults.Changed k was got) law index end = absurd (end.0 (end.2 ∙ sym ((law t index).entries k end.1) ∙ sym end.3))
+
+-- and so is one of making their index
+pub cutting_end : (s : Sizes) (told : Option (List ℕ)) (fault : MakeFault) → IsOfCutting fault → IfSome told (λ t. Indexes s t (Err fault)) → IsOfImage s told fault
+cutting_end s told faults.TooManyItems of index = index
+cutting_end s told faults.ImageFault of index = tt
+cutting_end s told faults.StoreFault of index = tt
+cutting_end s told faults.Memory of index = tt
+cutting_end s told (faults.Changed k was got) of index = absurd of
+
+pub if_err : {A E : Type 0} (r : Result A E) (P Q : E → Type 0) → ((e : E) → P e → Q e) → IfErr r P → IfErr r Q
+if_err (Ok x) P Q f h = tt
+if_err (Err e) P Q f h = f e h
 
 same_err : {B : Type 0} (x y : Result B MakeFault) (a b : MakeFault) → x ≡ Err a → y ≡ Err b → x ≡ y → a ≡ b
 same_err x y a b p q e = cc

@@ -1,6 +1,6 @@
 -- What storing an image may answer, and what it does to the store; t are the image's bytes, and `told` are they where
 -- they are told.
-use Rattle.std.specs.Prelude.{◌≡◌, ◌≢◌, ◌⊎◌, ℕ, List, Option, IfSome, Result, Ok, Err}
+use Rattle.std.specs.Prelude.{◌≡◌, ◌≢◌, ◌⊎◌, ℕ, List, Option, None, IfSome, Result, Ok, Err}
 use Rattle.buzhash_cut.specs.Image.{IsIndexOfImage, HasTooManyCuts}
 use Rattle.buzhash_cut.specs.Sizes.{Sizes}
 use Rattle.caibx_codec.specs.Listing.{Listing, count_of}
@@ -30,6 +30,15 @@ IsOfCutting other = Unit {0}
 abbrev pub IsOfStoring : MakeFault → Type 0
 IsOfStoring (faults.Changed k was got) = was.0 ≢ got.0
 IsOfStoring other = Unit {0}
+
+-- a fault that an image of these bytes can end with, whatever the store is: too many cuts are told of an image that has
+-- too many, and a change only where the bytes aren't told
+abbrev pub IsOfImage : Sizes → Option (List ℕ) → MakeFault → Type 0
+IsOfImage s told faults.TooManyItems = IfSome told (λ t. HasTooManyCuts s t)
+IsOfImage s told (faults.Changed k was got) = (told ≡ None) × (was.0 ≢ got.0)
+IsOfImage s told faults.ImageFault = Unit {0}
+IsOfImage s told faults.StoreFault = Unit {0}
+IsOfImage s told faults.Memory = Unit {0}
 
 -- some of the image's chunks may have been put into the store
 abbrev pub PutsSome : Sizes → List ℕ → Map (List ℕ) → Map (List ℕ) → Type 0

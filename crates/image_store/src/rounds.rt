@@ -165,7 +165,7 @@ fn store_ahead<R: Threads + Sync, V: View + Send, S: StoreWrite, I: InnerFolders
 
 /// Sees to it that the store holds each chunk that the index lists, in order, each id once. The first view is read;
 /// each other one reads and names slices ahead in a thread of its own, which makes the inner folders of their chunks'
-/// files, where there is memory for its rooms.
+/// files, where there is memory for its rooms. `inner` are the subfolders of the store's folder.
 pub(crate) fn store_entries<
     R: Threads + Sync,
     V: View + Send,
@@ -182,6 +182,7 @@ pub(crate) fn store_entries<
     requires some { 0 < vec_len views }
     requires alike { AreOfOneImage (map V.held views.items) }
     requires size { All (λ v. image_length index.now ≡ (V.held v).size) views.items }
+    requires place { IfSome inner.now (λ i. I.place i ≡ S.place store) }
     ensures { IsStoredBy V.View S.Store index.now views.items result.0.items store result.1 result.2 }
 {
     let Ok(chunk) = index.room(alloc) else {

@@ -6,7 +6,7 @@ ghost use Rattle.buzhash_cut.specs.Image.{AreOfOneImage, CountsViews, HasTooMany
 ghost use Rattle.caibx_codec.specs.Listing.{count_of, image_length};
 ghost use Rattle.image_store.specs.PutChunks.{CountsCause};
 ghost use Rattle.image_store.specs.StoreImage.{Indexes, IsOfCutting, IsOfStoring, StoresImage, PutsFilesOf, AsksOf};
-ghost use Rattle.image_store.specs.StoreImage.{SaysOf};
+ghost use Rattle.image_store.specs.StoreImage.{IsOfImage, SaysOf};
 
 use crate::put_chunks::MakeFault;
 use crate::rounds::store_entries;
@@ -62,6 +62,7 @@ fn store_listed<R: Threads + Sync, V: View + Send, S: StoreWrite, I: InnerFolder
     requires index { All (λ v. IfSome (V.held v).bytes (λ t. IsIndexOfImage sizes.now t index.now)) views.items }
     requires size { All (λ v. image_length index.now ≡ (V.held v).size) views.items }
     requires few { count_of index.now ≤ 4194304 }
+    requires place { IfSome inner.now (λ i. I.place i ≡ S.place store) }
     ensures exactly { All (λ v. IfSome (V.held v).bytes (λ t. IfSome (S.holds store) (λ old.
         IfSome (S.holds result.1) (λ new. StoresImage sizes.now (λ b. b.items) t old new result.2)))) views.items }
     ensures files { All (λ v. PutsFilesOf sizes.now (V.held v).bytes (S.holds store)
@@ -70,6 +71,7 @@ fn store_listed<R: Threads + Sync, V: View + Send, S: StoreWrite, I: InnerFolder
         All (λ v. SaysOf sizes.now (V.held v).bytes b.items (S.said result.1)) views.items) }
     ensures few { result.2 ≢ Err MakeFault.TooManyItems }
     ensures only { IfErr result.2 IsOfStoring }
+    ensures cause { IfErr result.2 (λ e. All (λ v. IsOfImage sizes.now (V.held v).bytes e) views.items) }
     ensures tells { is_some (S.holds result.1) ≡ is_some (S.holds store) }
     ensures kept { map V.held result.0.items ≡ map V.held views.items }
     ensures place { S.place result.1 ≡ S.place store }
@@ -92,8 +94,8 @@ fn store_listed<R: Threads + Sync, V: View + Send, S: StoreWrite, I: InnerFolder
 
 /// Stores the image behind the views, cut by these sizes, in the store, and gives the bytes of its index file. Each
 /// view is cut in a thread of its own. The first is read again, and each other one reads slices ahead of it, into twice
-/// 512 KiB and the size of the largest chunk, and makes the inner folders of their chunks' files. Views and store come
-/// back, whatever the answer is.
+/// 512 KiB and the size of the largest chunk, and makes the subfolders of their chunks' files in the store's folder,
+/// whose subfolders `inner` are. Views and store come back, whatever the answer is.
 pub fn store_image<R: Threads + Sync, V: View + Send, S: StoreWrite, I: InnerFolders + Sync>(
     rt: &R,
     alloc: Global,
@@ -104,6 +106,7 @@ pub fn store_image<R: Threads + Sync, V: View + Send, S: StoreWrite, I: InnerFol
 ) -> (Vec<V>, S, Result<Vec<u8>, MakeFault>)
     requires some { 0 < vec_len views }
     requires alike { AreOfOneImage (map V.held views.items) }
+    requires place { IfSome inner.now (λ i. I.place i ≡ S.place store) }
 
     // What the store then holds under each id, what lies in its folder, and what it has said.
     ensures exactly { All (λ v. IfSome (V.held v).bytes (λ t. IfSome (S.holds store) (λ old.
@@ -117,6 +120,9 @@ pub fn store_image<R: Threads + Sync, V: View + Send, S: StoreWrite, I: InnerFol
     ensures many { All (λ v. IfSome (V.held v).bytes (λ t. HasTooManyCuts sizes.now t →
         IsErrAnd result.2 IsOfCutting × (result.1 ≡ store))) views.items }
     ensures untouched { result.2 ≡ Err MakeFault.TooManyItems → result.1 ≡ store }
+
+    // Too many items are told exactly of such an image, and a change never of one that is told.
+    ensures cause { IfErr result.2 (λ e. All (λ v. IsOfImage sizes.now (V.held v).bytes e) views.items) }
     ensures only { IfErr result.2 IsOfStoring }
 
     ensures tells { is_some (S.holds result.1) ≡ is_some (S.holds store) }

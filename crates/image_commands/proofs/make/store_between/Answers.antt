@@ -1,17 +1,21 @@
-use Rattle.std.proofs.Common.{◌≡◌, ◌<◌, ◌∙◌, ℕ, List, Option, IsSome, length, map, arith, ap, rules, refl, Ok, Err}
+use Rattle.std.proofs.Common.{◌≡◌, ◌<◌, ◌∙◌, ℕ, List, Option, IsSome, length, map, arith, ap, rules, refl, sym, Ok, Err}
 use Rattle.std.specs.Option.{option_map}
 use Rattle.chunk_store.specs.Folders.{chunks}
 use Rattle.command_steps.proofs.Given.{stands_there}
-use Rattle.command_steps.specs.AnySources.{files_in, said_in}
+use Rattle.command_steps.specs.AnySources.{code_of, files_in, said_in}
 use Rattle.command_steps.specs.Sources.{sources}
 use Rattle.image_commands.proofs.GivenStores.{back, rose, stored_more}
-use Rattle.image_commands.proofs.Made.{made_of, unmade}
-use Rattle.image_commands.proofs.Viewed.{all_kept, exactly_of, few_of, files_of, first_rose, said_of}
+use Rattle.image_commands.proofs.Made.{if_some, made_of, unmade}
+use Rattle.image_commands.proofs.Viewed.{all_kept, exactly_of, few_of, files_of, first_rose, of_first, said_of}
 use Rattle.image_commands.specs.Make.{AnySaid, MadeOf}
 use Rattle.image_commands.specs.Views.{AreOf}
 use Rattle.image_commands.proofs.make.store_between.Goals as goal
-use Rattle.image_store.specs.StoreImage.{SaysOf}
+use Rattle.image_store.specs.StoreImage.{IsOfImage, SaysOf}
 use Rattle.image_store.specs.declared.put_chunks.MakeFault.TheVariants as faults
+
+-- the subfolders are those of the store's folder
+pub store_image-views-requires-clause-place : goal.store_image-views-requires-clause-place
+store_image-views-requires-clause-place g c = λ lifetimes bounds. if_some c.inner_of.result _ _ (λ s is. ap code_of (sym is ∙ sym c.requires.located)) c.inner_of.ensures.place
 
 pub give_store-requires : goal.give_store-requires
 give_store-requires g c =
@@ -94,7 +98,8 @@ returns-in-TooManyItems g c =
     let stored = λ (q : List ℕ) (told : Option (List ℕ)) (are : AreOf q told (map held xs)).
     let holds = made_of s told r (files_in files old) (files_in files new) (rw (c.in-Err.is, c.in-TooManyItems.is) at (exactly_of held xs q told some are s (λ b. b.items) before after c.store_image-views.result.2 done.exactly)) (files_of held xs q told some are s before (files_in files old) (files_in files new) done.files) in
     back files place counts state w v c.args.store.now old new done.place c.requires.located gave.folders gave.given (λ f g. (g ≡ f) × MadeOf s told r f g) (AnySaid) (λ a b keeps says. tt) done.tells (unmade s told r (files_in files old) (files_in files new) (ap (files_in files) (done.untouched (search rules))) holds) (tt) in
-    record { ok = tt; err = λ q told are. (stored q told are, gave.kept) }
+    let many = λ (q : List ℕ) (told : Option (List ℕ)) (are : AreOf q told (map held xs)). of_first held xs q told some are (λ o. IsOfImage s o faults.TooManyItems) (rw (c.in-Err.is, c.in-TooManyItems.is) at done.cause) in
+    record { ok = tt; err = λ q told are. ((many q told are, stored q told are), gave.kept) }
 
 pub returns-in-Changed : goal.returns-in-Changed
 returns-in-Changed g c =
@@ -119,8 +124,8 @@ returns-in-Changed g c =
     let stored = λ (q : List ℕ) (told : Option (List ℕ)) (are : AreOf q told (map held xs)).
     let holds = made_of s told r (files_in files old) (files_in files new) (rw (c.in-Err.is, c.in-Changed.is) at (exactly_of held xs q told some are s (λ b. b.items) before after c.store_image-views.result.2 done.exactly)) (files_of held xs q told some are s before (files_in files old) (files_in files new) done.files) in
     back files place counts state w v c.args.store.now old new done.place c.requires.located gave.folders gave.given (MadeOf s told r) (AnySaid) (λ a b keeps says. tt) done.tells (holds) (tt) in
-    let few = λ (q : List ℕ) (told : Option (List ℕ)) (are : AreOf q told (map held xs)). few_of held xs q told some are s _ _ (λ (x : ⊥). x) (rw (c.in-Err.is, c.in-Changed.is) at done.many) in
-    record { ok = tt; err = λ q told are. ((rw (c.in-Err.is, c.in-Changed.is) at done.only, few q told are, stored q told are), gave.kept) }
+    let untold = λ (q : List ℕ) (told : Option (List ℕ)) (are : AreOf q told (map held xs)). of_first held xs q told some are (λ o. IsOfImage s o (faults.Changed c.in-Changed.entry c.in-Changed.was c.in-Changed.got)) (rw (c.in-Err.is, c.in-Changed.is) at done.cause) in
+    record { ok = tt; err = λ q told are. (((untold q told are).0, (untold q told are).1, stored q told are), gave.kept) }
 
 pub returns-in-StoreFault : goal.returns-in-StoreFault
 returns-in-StoreFault g c =

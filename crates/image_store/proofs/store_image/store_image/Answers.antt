@@ -2,9 +2,9 @@ use Rattle.std.proofs.Common.{◌≡◌, IfSome, length, ap, arith, sym}
 use Rattle.std.proofs.lemmas.List.{length-map}
 use Rattle.buzhash_cut.specs.Image.{IsIndexOfImage}
 use Rattle.caibx_codec.specs.Listing.{image_length}
-use Rattle.image_store.proofs.Answered.{few_cuts}
+use Rattle.image_store.proofs.Answered.{few_cuts, if_err}
 use Rattle.image_store.proofs.Views.{all_kept, if_ok}
-use Rattle.image_store.specs.StoreImage.{StoresImage, PutsFilesOf, SaysOf, AsksOf}
+use Rattle.image_store.specs.StoreImage.{IsOfImage, StoresImage, PutsFilesOf, SaysOf, AsksOf}
 use Rattle.image_store.proofs.store_image.store_image.Goals as goal
 
 pub store_listed-requires-clause-some : goal.store_listed-requires-clause-some
@@ -38,6 +38,11 @@ pub returns-clause-many : goal.returns-clause-many
 returns-clause-many g c = λ k d lt. few_cuts c.args.sizes.now _ c.in-Ok.index _ (λ t many index.
     let more = c.many_cuts.ensures.value c.args.sizes.now t c.in-Ok.index many index in
     omega (arith, more, rw c.in-Ok.is at c.index_of-views.ensures.few)) ((rw c.in-Ok.is at c.index_of-views.ensures.exactly) k d lt)
+
+pub returns-clause-cause : goal.returns-clause-cause
+returns-clause-cause g c = if_err c.store_listed.result.2 _ _ (λ e. all_kept (λ v. g.V.View.held v)
+    (λ h. IsOfImage c.args.sizes.now h.bytes e)
+    c.index_of-views.result.0.items c.args.views.items (sym c.index_of-views.ensures.kept)) c.store_listed.ensures.cause
 
 pub returns-clause-asks : goal.returns-clause-asks
 returns-clause-asks g c = all_kept (λ v. g.V.View.held v)
