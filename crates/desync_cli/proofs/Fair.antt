@@ -3,7 +3,8 @@ use Rattle.std.proofs.Common.{◌≡◌, ℕ, zero, suc, List, [], ◌∷◌, ma
 use Rattle.std.specs.List.{Any}
 use Rattle.std.specs.Map.{count_at}
 use Rattle.buzhash_cut.specs.Sizes.{Sizes}
-use Rattle.caibx_codec.specs.Listing.{Listing, id_of}
+use Rattle.caibx_codec.specs.Listing.{Listing, id_of, kind_of, size_of}
+use Rattle.chunk_sources.specs.Losses.{chunk_of}
 use Rattle.command_help.specs.Help.{help_text}
 use Rattle.command_help.specs.declared.help.Topic.TheVariants as topics
 use Rattle.command_line.specs.CommandLine.{command_line}
@@ -25,7 +26,8 @@ use Rattle.store_commands.specs.Caching.{FillTells, IndexesFilled, NotFilled, of
 use Rattle.image_commands.specs.Chop.{ImageChopped}
 use Rattle.desync_cli.specs.Commands.{DesyncEnds, Ends, NoCommand, TellsRefusal, WordsRead, command_of, parts, refusal_in, refusal_of, said_in, spares}
 use Rattle.image_commands.specs.Demo.{Rehearsed}
-use Rattle.image_commands.specs.Extract.{CacheFilled, Clearing, FillsCache, ImageMade, Into, LacksEntry, OutMade, Renamed, Seeds, beside, in_place, temporary_out}
+use Rattle.image_commands.proofs.Wrote.{wrote_on}
+use Rattle.image_commands.specs.Extract.{CacheFilled, Clearing, FillsCache, ImageMade, Into, OutMade, Renamed, Seeds, beside, in_place, temporary_out}
 use Rattle.store_commands.specs.Info.{IdsCounted, NotAsked}
 use Rattle.image_commands.specs.Make.{ImageStored, IndexWritten, SizesJudged, WritesStore}
 use Rattle.store_commands.specs.Serving.{FolderServed, Heard, TakenUnheard}
@@ -100,7 +102,7 @@ assembled_step o x p cache l z i is = record { fair = fair; leaves = λ w v r h.
   fair : (w v : Sources) (o : Outcome) → ImageMade x.stores cache i l z w (Err o) v → IsFair x o (behind p w) (behind p v)
   fair w v (ends.Missing k id) h = (tt, tt)
   fair w v (ends.Damaged k id store shows) h = (tt, tt)
-  fair w v (ends.StoreFault k) h = (tt, source_failed (LacksEntry l h.0.0.0) (behind p w) (behind p v) k x.stores h.0.0.1)
+  fair w v (ends.StoreFault k) h = (tt, source_failed (Lacks (chunk_of (kind_of l) h.0.0.1 (size_of l h.0.0.0))) (behind p w) (behind p v) k x.stores h.0.0.4)
   fair w v ends.TargetFault h = (tt, subst (λ q. FileRose w.disk v.disk q) is h.0.0)
   fair w v ends.Memory h = (tt, tt)
   fair w v other h = absurd h.0
@@ -140,13 +142,11 @@ cleared_step f n o x p q step is = record { fair = fair; leaves = leaves } where
   rest c v r = writes {f = f} {n = n} {o = o} (record { dial = v.dial; out = p }) r
 
   fair : (w v : Sources) (r : Outcome) → Clearing q step w (Err r) v → IsFair x r (behind p w) (behind p v)
-  fair w v r (c, u, did, inl same, cleared) = subst (λ r. IsFair x r (behind p w) (behind p v)) (sym same)
-      (fair_longer (behind p w) (behind p (sources c v.dial)) (behind p v) x u (is.leaves w (sources c v.dial) (Err u) did) (rest c v cleared.1) (is.fair w (sources c v.dial) u did))
-  fair w v r (c, u, did, inr memory, cleared) = subst (λ r. IsFair x r (behind p w) (behind p v)) (sym memory) (tt, tt)
+  fair w v r (c, did, cleared) = fair_longer (behind p w) (behind p (sources c v.dial)) (behind p v) x r (is.leaves w (sources c v.dial) (Err r) did) (rest c v (wrote_on c v.disk q cleared.1)) (is.fair w (sources c v.dial) r did)
 
   leaves : (w v : Sources) (r : Result Unit Outcome) → Clearing q step w r v → IsLeft (record { files = false; folders = f; dial = n; out = o }) (behind p w) (behind p v)
   leaves w v (Ok t) h = is.leaves w v (Ok t) h
-  leaves w v (Err r) (c, u, did, same, cleared) = left_twice (is.leaves w (sources c v.dial) (Err u) did) (rest c v cleared.1)
+  leaves w v (Err r) (c, did, cleared) = left_twice (is.leaves w (sources c v.dial) (Err r) did) (rest c v (wrote_on c v.disk q cleared.1))
 
 -- a step over files and folders alone
 unasked_step : {A : Type 0} {s : Spares} {x : Parts} (p : Output) (step : Step Disk A) → ((q : Unread) → IsStep (round q) s x step) → IsStep (behind p) s x (NotAsking step)
@@ -164,8 +164,8 @@ renamed_step f n o x p from to = record { fair = fair; leaves = leaves } where
   fair d e other h = absurd h.0
 
   leaves : (d e : Disk) (r : Result Unit Outcome) → Renamed from to d r e → IsLeft (record { files = false; folders = f; dial = n; out = o }) (round p d) (round p e)
-  leaves d e (Ok t) h = writes p h.1
-  leaves d e (Err r) h = writes p h.2
+  leaves d e (Ok t) h = writes p (wrote_on d e to h.1)
+  leaves d e (Err r) h = writes p (wrote_on d e to h.2)
 
 out_step : (o : Bool) (x : Parts) (cache : Option (List ℕ)) (l : Listing) (z : Seeds) (place : Bool) (out : List ℕ) → x.target ≡ cond place out (temporary_out out)
     → IsStep whole (record { files = false; folders = not (is_some cache); dial = are_folders x.stores; out = o }) x (OutMade place x.stores cache out l z)

@@ -51,8 +51,8 @@ module _ (tmp : List ℕ) where
     go (Some b) = λ q apart. at_other b tmp w q apart
 
   -- what was cleared
-  only_cleared : (d e : Disk) (o : Outcome) → Cleared tmp d o e → Only d.files e.files
-  only_cleared d e o h = elim h.0 [
+  only_cleared : (d e : Disk) → Cleared tmp d e → Only d.files e.files
+  only_cleared d e h = elim h.0 [
     | inl gone ↦ only_at d.files e.files None gone
     | inr same ↦ only_same d.files e.files same.0
   ]
@@ -82,8 +82,8 @@ module _ (stores : List Location) (cache : Option (List ℕ)) (i : Into) (l : Li
   kept_at : (b a : Map (List ℕ)) → (t : List ℕ) × KeepsIn d e b a i l t → (w : Option (List ℕ)) × ((a ≡ b) ⊎ (a ≡ at_name b i.name w))
   kept_at b a h = (Some h.0, inr h.1.0)
 
-  stopped_at : (b a : Map (List ℕ)) → StopsSomewhere d e b a i l → (w : Option (List ℕ)) × ((a ≡ b) ⊎ (a ≡ at_name b i.name w))
-  stopped_at b a (inl same) = (None, inl same)
+  stopped_at : (b a : Map (List ℕ)) → StopsSomewhere w v b a i l → (w : Option (List ℕ)) × ((a ≡ b) ⊎ (a ≡ at_name b i.name w))
+  stopped_at b a (inl same) = (None, inl same.0)
   stopped_at b a (inr (inl old)) = (Some (old_of b i), inr old)
   stopped_at b a (inr (inr kept)) = kept_at b a kept
 
@@ -91,7 +91,7 @@ module _ (stores : List Location) (cache : Option (List ℕ)) (i : Into) (l : Li
   only_assembled : (o : Outcome) → Assembled w v stores cache i l x (Err o) → Only i.name d.files e.files
   only_assembled (ends.Missing k id) h = over_told i.name d.files d.folders e.files cache _ told tells (λ b a n cs p. (Some p.0.0, inr p.0.1.0)) h
   only_assembled (ends.Damaged k id store shows) h = over_told i.name d.files d.folders e.files cache _ told tells (λ b a n cs p. (Some p.0.0, inr p.0.1.0)) h
-  only_assembled (ends.StoreFault s) h = over_told i.name d.files d.folders e.files cache _ told tells (λ b a n cs p. kept_at b a p) h.1
+  only_assembled (ends.StoreFault s) h = over_told i.name d.files d.folders e.files cache _ told tells (λ b a n cs p. kept_at b a p.0) h.1
   only_assembled ends.TargetFault h = over_told i.name d.files d.folders e.files cache _ told tells (λ b a n cs p. stopped_at b a p) h.1
   only_assembled ends.Memory h = over_told i.name d.files d.folders e.files cache _ told tells (λ b a n cs p. stopped_at b a p) h
   only_assembled other h = absurd h
@@ -156,13 +156,13 @@ left_out stores cache seeds false index out w v o told (inr h) = go h.then where
         from u only = subst (λ f. Only tmp f u) files only
 
         made : OutMade false stores cache out h.gave x (world m.disk m.dial m.out) (Err o) v → LeavesOut false out w v
-        made (inl ((c, p, did, same, cleared), rest_same)) =
-            left_over out w v (from v.disk.files (only_then tmp m.disk.files c.files v.disk.files (only_assembled stores cache (beside out) h.gave x (sources m.disk m.dial) (sources c v.dial) tells did.2 p did.0) (only_cleared tmp c v.disk o cleared)))
+        made (inl ((c, did, cleared), rest_same)) =
+            left_over out w v (from v.disk.files (only_then tmp m.disk.files c.files v.disk.files (only_assembled stores cache (beside out) h.gave x (sources m.disk m.dial) (sources c v.dial) tells did.2 o did.0) (only_cleared tmp c v.disk cleared)))
         made (inr n) =
             let did = n.did.0 in
             let first_only = only_made stores cache (beside out) h.gave x (sources m.disk m.dial) (sources n.disk n.dial) tells did.2 did.0 in
             let c = n.then.0 in
-            let second : Only tmp n.disk.files v.disk.files = only_then tmp n.disk.files c.0.files v.disk.files (only_same tmp n.disk.files c.0.files c.2.0.1) (only_cleared tmp c.0 v.disk o c.4) in
+            let second : Only tmp n.disk.files v.disk.files = only_then tmp n.disk.files c.0.files v.disk.files (only_same tmp n.disk.files c.0.files c.1.0.1) (only_cleared tmp c.0 v.disk c.2) in
             left_over out w v (from v.disk.files (only_then tmp m.disk.files n.disk.files v.disk.files first_only second))
 
 -- ---- what the top call says

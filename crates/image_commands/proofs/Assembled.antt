@@ -26,7 +26,7 @@ use Rattle.image_commands.proofs.Seeded.{given_had, had_given}
 use Rattle.command_words.specs.declared.command.Location.{Location}
 use Rattle.command_steps.proofs.Taken.{at_name_twice}
 use Rattle.command_steps.specs.Sources.{HaveLacked, Sources, told_at}
-use Rattle.image_commands.specs.Extract.{Assembled, CacheLacksEntry, CanBeHad, Into, IsLacking, Leaves, SeedHas, Seeds, StopsFailed, StopsSomewhere, Told, Undisturbed, WhereFolders, answer_of_assembly, answer_of_taking, base_of, folder_of, old_of}
+use Rattle.image_commands.specs.Extract.{Assembled, CacheLacksEntry, CanBeHad, Into, IsLacking, Leaves, NoneAsked, SeedHas, Seeds, StopsFailed, StopsSomewhere, Told, Undisturbed, WhereFolders, answer_of_assembly, answer_of_taking, base_of, folder_of, old_of}
 use Rattle.command_steps.specs.Seeds.{IsViewed}
 use Rattle.command_steps.specs.Worlds.{DiskQuiet, FileRose}
 
@@ -56,6 +56,7 @@ module _ (d b e : Disk) (l : Listing) (p : Deal) (q : Placed) (x : Seeds) (views
 abbrev pub LostAs : (ℕ → ChunkId → Refused → Type 0) → ExtractFault → Type 0
 LostAs P (faults.Missing k id) = P k id refused.Missing
 LostAs P (faults.Damaged k id s x) = P k id (refused.Damaged s x)
+LostAs P (faults.StoreFault s) = (k : ℕ) × (id : ChunkId) × P k id (refused.StoreFault s)
 LostAs P other = Unit {0}
 
 or_as : {A P Q : Type 0} → (P → Q) → A ⊎ P → A ⊎ Q
@@ -89,14 +90,14 @@ after_as l P Q base t to from (Err (faults.StoreFault s)) h = λ i lt. (λ q. (h
 after_as l P Q base t to from (Err faults.TargetFault) h = λ i lt. (λ q. (h i lt).0 (from i lt q), λ no. (h i lt).1 (λ p. no (to i lt p)))
 after_as l P Q base t to from (Err faults.Memory) h = tt
 
--- of two facts on it
-lost_both : (P Q R : ℕ → ChunkId → Refused → Type 0) → ((k : ℕ) (id : ChunkId) (y : Refused) → P k id y → Q k id y → R k id y) → (r : Result Report ExtractFault) → IfErr r (LostAs P) → IfErr r (LostAs Q) → IfErr r (LostAs R)
-lost_both P Q R f (Ok r) p q = tt
-lost_both P Q R f (Err (faults.Missing k id)) p q = f k id refused.Missing p q
-lost_both P Q R f (Err (faults.Damaged k id s x)) p q = f k id (refused.Damaged s x) p q
-lost_both P Q R f (Err (faults.StoreFault s)) p q = tt
-lost_both P Q R f (Err faults.TargetFault) p q = tt
-lost_both P Q R f (Err faults.Memory) p q = tt
+-- where another fact holds of it
+lost_on : (P R : ℕ → ChunkId → Refused → Type 0) → ((k : ℕ) (id : ChunkId) (y : Refused) → P k id y → R k id y) → (r : Result Report ExtractFault) → IfErr r (LostAs P) → IfErr r (LostAs R)
+lost_on P R f (Ok r) p = tt
+lost_on P R f (Err (faults.Missing k id)) p = f k id refused.Missing p
+lost_on P R f (Err (faults.Damaged k id s x)) p = f k id (refused.Damaged s x) p
+lost_on P R f (Err (faults.StoreFault s)) p = (p.0, p.1, f p.0 p.1 (refused.StoreFault s) p.2)
+lost_on P R f (Err faults.TargetFault) p = tt
+lost_on P R f (Err faults.Memory) p = tt
 
 -- ---- what is known of an assembly that ended so
 
@@ -134,7 +135,7 @@ module _ (w v : Sources) (stores : List Location) (cache : Option (List ℕ)) (o
   told : (r : Result Report ExtractFault) (P : Map (List ℕ) → Map (List ℕ) → Map (Map (List ℕ)) → List (Map (List ℕ)) → Type 0) → AllFacts r → ((b : Map (List ℕ)) (n : Map (Map (List ℕ))) (a : Map (List ℕ)) (f : Facts r b n a) → P b a n f.cs) → Told d e cache P
   told r P facts p = over_told d.files d.folders e.files _ (λ b n a x y z. let f = facts b n a x y z in (f.cs, f.cached, p b n a f))
 
-  somewhere : (b a : Map (List ℕ)) (t : List ℕ) → Leaves b a out t → (t ≡ old_of b out) ⊎ KeepsBase l (FileRose d e out.name) (base_of b out l) t → StopsSomewhere d e b a out l
+  somewhere : (b a : Map (List ℕ)) (t : List ℕ) → Leaves b a out t → (t ≡ old_of b out) ⊎ KeepsBase l (FileRose d e out.name) (base_of b out l) t → StopsSomewhere w v b a out l
   somewhere b a t leaves (inl same) = inr (inl (subst (λ (s : List ℕ). Leaves b a out s) same leaves))
   somewhere b a t leaves (inr keeps) = inr (inr (t, (leaves, keeps)))
 
@@ -143,19 +144,19 @@ module _ (w v : Sources) (stores : List Location) (cache : Option (List ℕ)) (o
   assembled (Ok r) facts target store = told _ _ facts (λ b n a f. ((f.t, (f.leaves, f.assembles.1), f.assembles.0), f.verdict))
   assembled (Err (faults.Missing k id)) facts target store = told _ _ facts (λ b n a f. ((f.t, (f.leaves, f.assembles.0), f.assembles.1, f.settled), f.lacks, f.verdict))
   assembled (Err (faults.Damaged k id s y)) facts target store = told _ _ facts (λ b n a f. ((f.t, (f.leaves, f.assembles.0), f.assembles.1, f.settled), f.lacks, f.verdict))
-  assembled (Err (faults.StoreFault s)) facts target store = (store, told _ _ facts (λ b n a f. (f.t, (f.leaves, f.assembles))))
+  assembled (Err (faults.StoreFault s)) facts target store = (store, told _ _ facts (λ b n a f. ((f.t, (f.leaves, f.assembles)), f.lacks.0, f.lacks.1, f.lacks.2)))
   assembled (Err faults.TargetFault) facts target store = (target, told _ _ facts (λ b n a f. somewhere b a f.t f.leaves f.assembles))
   assembled (Err faults.Memory) facts target store = told _ _ facts (λ b n a f. somewhere b a f.t f.leaves f.assembles)
 
   -- where OUT wasn't taken all is as it was
-  pub stopped_before : (C : List (Map (List ℕ)) → Type 0) → IfSome d.folders (λ n. (cs : List (Map (List ℕ))) × (map n (folder_of cache) ≡ map Some cs) × C cs) → e.files ≡ d.files → Told d e cache (λ b a n cs. StopsSomewhere d e b a out l)
-  stopped_before C cached same = over_told d.files d.folders e.files _ (λ b n a is y z.
+  pub stopped_before : (C : List (Map (List ℕ)) → Type 0) → IfSome d.folders (λ n. (cs : List (Map (List ℕ))) × (map n (folder_of cache) ≡ map Some cs) × C cs) → e.files ≡ d.files → NoneAsked w v → Told d e cache (λ b a n cs. StopsSomewhere w v b a out l)
+  stopped_before C cached same unasked = over_told d.files d.folders e.files _ (λ b n a is y z.
       let g : (cs : List (Map (List ℕ))) × (map n (folder_of cache) ≡ map Some cs) × C cs = subst (λ o. IfSome o (λ n. (cs : List (Map (List ℕ))) × (map n (folder_of cache) ≡ map Some cs) × C cs)) y cached in
       let kept : Some a ≡ Some b = sym z ∙ same ∙ is in
       let as_before : a ≡ b = cc in
-      (g.0, g.1, inl as_before))
+      (g.0, g.1, inl (as_before, unasked)))
 
-  pub not_taken_as : (fault : IoFault) → Told d e cache (λ b a n cs. StopsSomewhere d e b a out l) → (fault ≡ io.Failed → FileRose d e out.name) → Assembled w v stores cache out l x (answer_of_taking fault)
+  pub not_taken_as : (fault : IoFault) → Told d e cache (λ b a n cs. StopsSomewhere w v b a out l) → (fault ≡ io.Failed → FileRose d e out.name) → Assembled w v stores cache out l x (answer_of_taking fault)
   not_taken_as io.Failed before rose = (rose refl, before)
   not_taken_as io.Memory before rose = before
 
@@ -169,8 +170,12 @@ module _ (w v : Sources) (stores : List Location) (cache : Option (List ℕ)) (o
   abbrev pub OthersLack : Map (List ℕ) → ℕ → ChunkId → Refused → Type 0
   OthersLack b k id r = ((s : ℕ) (h : SeedHas b x (id_of l k) (size_of l k) s) → FileRose d e h.image) × CacheLacksEntry d e cache l k
 
-  lacking : (b : Map (List ℕ)) (n : Map (Map (List ℕ))) (k : ℕ) (id : ChunkId) (r : Refused) → LackingOver n (old_of b out) k id r → OthersLack b k id r → IsLacking w v b n cache out l x stores k id r
-  lacking b n k id r h others = record { listed = h.0; id_is = h.1; said = h.2; lacks = h.3; copies = h.4; seeds = others.0; uncached = others.1 }
+  -- both
+  abbrev pub AllLack : Map (List ℕ) → Map (Map (List ℕ)) → List ℕ → ℕ → ChunkId → Refused → Type 0
+  AllLack b n o k id r = LackingOver n o k id r × OthersLack b k id r
+
+  lacking : (b : Map (List ℕ)) (n : Map (Map (List ℕ))) (k : ℕ) (id : ChunkId) (r : Refused) → AllLack b n (old_of b out) k id r → IsLacking w v b n cache out l x stores k id r
+  lacking b n k id r h = record { listed = h.0.0; id_is = h.0.1; said = h.0.2; lacks = h.0.3; copies = h.0.4; seeds = h.1.0; uncached = h.1.1 }
 
   module _ (P : List (Map (List ℕ)) → List ℕ → ℕ → Type 0) (had : (b : Map (List ℕ)) → d.files ≡ Some b → (maps : List (Map (List ℕ))) (base : List ℕ) (i : ℕ) → i < count_of l → P maps base i → CanBeHad l base b x maps i)
       (back : (b : Map (List ℕ)) → d.files ≡ Some b → DiskQuiet d e → (maps : List (Map (List ℕ))) (base : List ℕ) (i : ℕ) → i < count_of l → CanBeHad l base b x maps i → P maps base i) where
@@ -181,21 +186,20 @@ module _ (w v : Sources) (stores : List Location) (cache : Option (List ℕ)) (o
         → e.files ≡ option_map (λ m. at_name m out.name t1) (option_map (λ m. at_name m out.name None) d.files)
         → (F → FileRose d e out.name)
         → WhereTold t0 t1 (Assembles l F r)
-        → ((n : Map (Map (List ℕ))) → d.folders ≡ Some n → IfSome t0 (λ o. IfErr r (LostAs (LackingOver n o))))
-        → ((b : Map (List ℕ)) → d.files ≡ Some b → IfErr r (LostAs (OthersLack b)))
+        → ((b : Map (List ℕ)) → d.files ≡ Some b → (n : Map (Map (List ℕ))) → d.folders ≡ Some n → IfSome t0 (λ o. IfErr r (LostAs (AllLack b n o))))
         → ((cached maps : List (Map (List ℕ))) → N cached maps → IfSome t0 (λ o. Verdict l (P (cached ++ maps) (resized o (image_length l))) r))
         → ((cached maps : List (Map (List ℕ))) → N cached maps → WhereTold t0 t1 (λ o t. After l (P (cached ++ maps) (resized o (image_length l))) (resized o (image_length l)) t r))
         → ((b : Map (List ℕ)) → d.files ≡ Some b → (n : Map (Map (List ℕ))) (fs : List (Map (List ℕ))) → map (told_at n) stores ≡ map Some fs → looks ≡ map Some fs → (cs : List (Map (List ℕ))) → C cs → Undisturbed d e cache l cs fs → N (map chunks cs) (map chunks fs)) → AllFacts r
-    facts_of r looks C t0 t1 F N found cached took told left rose bytes lacks lack exactly after quiet b n a is y z =
+    facts_of r looks C t0 t1 F N found cached took told left rose bytes lacks exactly after quiet b n a is y z =
         let f : looks ≡ map (told_at n) stores = subst (λ o. IfSome o (λ m. looks ≡ map (told_at m) stores)) y found in
         let g : (cs : List (Map (List ℕ))) × (map n (folder_of cache) ≡ map Some cs) × C cs = subst (λ o. IfSome o (λ n. (cs : List (Map (List ℕ))) × (map n (folder_of cache) ≡ map Some cs) × C cs)) y cached in
         let o : t0 ≡ Some (old_of b out) = subst (λ o. IfSome o (λ m. t0 ≡ Some (old_of m out))) is took in
         let lf : e.files ≡ option_map (λ m. at_name m out.name t1) (option_map (λ m. at_name m out.name None) (Some b)) =
         subst (λ s. e.files ≡ option_map (λ m. at_name m out.name t1) (option_map (λ m. at_name m out.name None) s)) is left in
-        go (old_of b out) t0 t1 o (subst (λ s. is_some s ≡ is_some t1) o told) (sym z ∙ lf) g.0 g.1 bytes (lacks n y) (λ fs there k. exactly (map chunks g.0) (map chunks fs) (quiet b is n fs there (f ∙ there) g.0 g.2 k))
+        go (old_of b out) t0 t1 o (subst (λ s. is_some s ≡ is_some t1) o told) (sym z ∙ lf) g.0 g.1 bytes (lacks b is n y) (λ fs there k. exactly (map chunks g.0) (map chunks fs) (quiet b is n fs there (f ∙ there) g.0 g.2 k))
         (λ fs there k. after (map chunks g.0) (map chunks fs) (quiet b is n fs there (f ∙ there) g.0 g.2 k)) refl where
           go : (old : List ℕ) (s0 s1 : Option (List ℕ)) → s0 ≡ Some old → true ≡ is_some s1 → Some a ≡ Some (at_name (at_name b out.name None) out.name s1)
-              → (cs : List (Map (List ℕ))) → map n (folder_of cache) ≡ map Some cs → WhereTold s0 s1 (Assembles l F r) → IfSome s0 (λ o. IfErr r (LostAs (LackingOver n o)))
+              → (cs : List (Map (List ℕ))) → map n (folder_of cache) ≡ map Some cs → WhereTold s0 s1 (Assembles l F r) → IfSome s0 (λ o. IfErr r (LostAs (AllLack b n o)))
               → WhereFolders n stores (λ fs. Undisturbed d e cache l cs fs → IfSome s0 (λ o. Verdict l (P (map chunks cs ++ map chunks fs) (resized o (image_length l))) r))
               → WhereFolders n stores (λ fs. Undisturbed d e cache l cs fs → WhereTold s0 s1 (λ o t. After l (P (map chunks cs ++ map chunks fs) (resized o (image_length l))) (resized o (image_length l)) t r))
               → old ≡ old_of b out → Facts r b n a
@@ -204,7 +208,7 @@ module _ (w v : Sources) (stores : List Location) (cache : Option (List ℕ)) (o
           go old (Some o) (Some t) same is_told are cs shelf bs ls verdict settled at =
               let was : o ≡ old_of b out = cc in
               over o was bs ls verdict settled where
-                over : (p : List ℕ) → p ≡ old_of b out → Assembles l F r p t → IfErr r (LostAs (LackingOver n p))
+                over : (p : List ℕ) → p ≡ old_of b out → Assembles l F r p t → IfErr r (LostAs (AllLack b n p))
                     → WhereFolders n stores (λ fs. Undisturbed d e cache l cs fs → Verdict l (P (map chunks cs ++ map chunks fs) (resized p (image_length l))) r)
                     → WhereFolders n stores (λ fs. Undisturbed d e cache l cs fs → After l (P (map chunks cs ++ map chunks fs) (resized p (image_length l))) (resized p (image_length l)) t r) → Facts r b n a
                 over p was bs ls verdict settled =
@@ -214,12 +218,12 @@ module _ (w v : Sources) (stores : List Location) (cache : Option (List ℕ)) (o
                       t = t;
                       leaves = ap (λ o. unwrap_or o a) are ∙ at_name_twice b out.name None (Some t);
                       assembles = subst (λ (q : List ℕ). Assembles l (FileRose d e out.name) r q t) was (assembles_as l F (FileRose d e out.name) r p t rose bs);
-                      lacks = lost_both (LackingOver n (old_of b out)) (OthersLack b) (IsLacking w v b n cache out l x stores) (lacking b n) r (subst (λ (q : List ℕ). IfErr r (LostAs (LackingOver n q))) was ls) (lack b is);
+                      lacks = lost_on (AllLack b n (old_of b out)) (IsLacking w v b n cache out l x stores) (lacking b n) r (subst (λ (q : List ℕ). IfErr r (LostAs (AllLack b n q))) was ls);
                       verdict = λ fs there k.
                           let maps = map chunks cs ++ map chunks fs in
                           subst (λ (q : List ℕ). Verdict l (CanBeHad l (resized q (image_length l)) b x maps) r) was
                           (verdict_as l (P maps (resized p (image_length l))) (CanBeHad l (resized p (image_length l)) b x maps) (had b is maps (resized p (image_length l)))
-                          (back b is k.0 maps (resized p (image_length l))) r (lost_both (LackingOver n p) (OthersLack b) (λ i id y. i < count_of l) (λ i id y h c. h.0) r ls (lack b is)) (verdict fs there k));
+                          (back b is k.0 maps (resized p (image_length l))) r (lost_on (AllLack b n p) (λ i id y. i < count_of l) (λ i id y h. h.0.0) r ls) (verdict fs there k));
                       settled = λ fs there k.
                           let maps = map chunks cs ++ map chunks fs in
                           subst (λ (q : List ℕ). After l (CanBeHad l (resized q (image_length l)) b x maps) (resized q (image_length l)) t r) was

@@ -1,5 +1,5 @@
 -- The entry, the store or the target that an assembly over lent folders names.
-use Rattle.std.proofs.Common.{ap, All, arith, ◌⊎◌, ◌≤◌, ◌≡◌, ℕ, suc, List, [], ◌∷◌, length, map, slice_index, Bool, Option, Some, None, IfSome, IfErr, subst, ◌∙◌, sym, inl, inr, Result, Ok, Err}
+use Rattle.std.proofs.Common.{ap, All, arith, ◌≤◌, ◌≡◌, ℕ, suc, List, [], ◌∷◌, length, map, slice_index, Bool, Option, Some, None, IfSome, IfErr, subst, ◌∙◌, sym, inl, inr, Result, Ok, Err}
 use Rattle.std.proofs.lemmas.List.Elements.{All-cons, All-nil}
 use Rattle.std.specs.List.{AllZip}
 use Rattle.assembler.specs.Assemblies.{IsUnobtained, RightAlike}
@@ -13,27 +13,23 @@ use Rattle.assembler.specs.declared.report.Report.{Report}
 use Rattle.cache_store.specs.Shelves.{Shelf}
 use Rattle.caibx_codec.specs.Listing.{Listing, id_of, image_length, kind_of, size_of}
 use Rattle.chunk_sources.specs.Caches.{CacheLacks}
-use Rattle.chunk_sources.specs.Losses.{chunk_of}
 use Rattle.chunk_sources.specs.Sources.{SeedsFailed}
 use Rattle.chunk_sources.specs.declared.kit.Kit.{Kit}
 use Rattle.chunk_store.specs.Folders.{chunks}
-use Rattle.chunk_store.specs.Giving.{IsChunk}
 use Rattle.chunk_store.specs.Said.{KeepsOf, Said}
 use Rattle.chunk_store.specs.declared.id.ChunkId.{ChunkId}
-use Rattle.chunk_store.specs.declared.id.DigestKind.{DigestKind}
 use Rattle.chunk_store.specs.declared.shows.Shows.{Shows}
-use Rattle.chunk_store.specs.declared.shows.Shows.TheVariants as shows
 use Rattle.command_words.specs.declared.command.Location.{Location}
-use Rattle.command_steps.proofs.Given.{Stands, first_as}
-use Rattle.command_steps.proofs.Numbers.{rose_later, rose_longer}
+use Rattle.command_steps.proofs.Given.{Stands}
+use Rattle.command_steps.proofs.Numbers.{rose_longer}
 use Rattle.command_steps.specs.Blames.{name_at}
 use Rattle.command_steps.specs.Seeds.{IsViewed}
-use Rattle.command_steps.specs.Sources.{Sources, StoreRose, said_at, told_at}
+use Rattle.command_steps.specs.Sources.{HaveLacked, Sources, StoreRose, said_at, told_at}
 use Rattle.command_steps.specs.Worlds.{FileRose}
-use Rattle.image_commands.proofs.Assembled.{LackingOver, LostAs, OthersLack, StoreAs, TargetAs}
-use Rattle.command_steps.proofs.Lacked.{have_lacked, lacks_still, same_length}
+use Rattle.image_commands.proofs.Assembled.{AllLack, LackingOver, LostAs, OthersLack, StoreAs, TargetAs}
+use Rattle.command_steps.proofs.Lacked.{have_lacked, same_length}
 use Rattle.image_commands.proofs.Seeded.{had_failed, label_of}
-use Rattle.image_commands.specs.Extract.{CacheLacksEntry, Into, LacksEntry, Seeds, StopsFailed}
+use Rattle.image_commands.specs.Extract.{CacheLacksEntry, Into, Seeds, StopsFailed}
 use Rattle.dsy_base.specs.Bytes.{Held, resized}
 use Rattle.dsy_base.specs.Counts.{Rose}
 use Rattle.dsy_base.specs.Disk.{Disk}
@@ -43,11 +39,8 @@ use Rattle.extract_plan.specs.Places.{IsSeedIndex, Placed, places_at}
 use Rattle.extract_plan.specs.Seeds.{faults_in, held_in}
 use Rattle.store_chain.specs.Chains.{KeepsStores}
 use Rattle.store_chain.specs.Faults.{NoneFalls}
-use Rattle.store_chain.specs.Refusals.{Lacks, Refuses}
-use Rattle.store_chain.specs.Wants.{ShowsElse}
 use Rattle.store_chain.specs.declared.refused.Refused.{Refused}
 use Rattle.store_chain.specs.declared.refused.Refused.TheVariants as refused
-use Rattle.store_chain.specs.declared.want.Want.{Want}
 
 -- ---- which entry, store or target is named
 
@@ -97,7 +90,9 @@ module _ (P : Lost → Type 0) (F : Type 0) where
   lost_as Q f (Err (faults.Damaged k id s x)) (inl h) = f (lost k id (refused.Damaged s x)) (of_damaged k h.0.entry id h.0.id s x h.0.refused h.1 h.2)
   lost_as Q f (Err (faults.Damaged k id s x)) (inr (inl h)) = let no : faults.Damaged k id s x ≡ faults.TargetFault = h.0 in absurd (cc)
   lost_as Q f (Err (faults.Damaged k id s x)) (inr (inr h)) = absurd (cc)
-  lost_as Q f (Err (faults.StoreFault s)) h = tt
+  lost_as Q f (Err (faults.StoreFault s)) (inl h) = (h.0.entry, h.0.id, subst (λ (r : Refused). Q h.0.entry h.0.id r) (of_store s h.0.entry h.0.id h.0.refused h.1) (f h.0 h.2))
+  lost_as Q f (Err (faults.StoreFault s)) (inr (inl h)) = let no : faults.StoreFault s ≡ faults.TargetFault = h.0 in absurd (cc)
+  lost_as Q f (Err (faults.StoreFault s)) (inr (inr h)) = absurd (cc)
   lost_as Q f (Err faults.TargetFault) h = tt
   lost_as Q f (Err faults.Memory) h = tt
 
@@ -124,24 +119,6 @@ module _ (P : Lost → Type 0) (F : Type 0) where
   target_as Q f (Err faults.Memory) h = tt
 
 -- ---- the stores that lack the chunk of an entry
-
--- bytes that show something else aren't the chunk
-shown_else : (kind : DigestKind) (id : ChunkId) (size : ℕ) (b : List ℕ) (x : Shows) → ShowsElse (chunk_of kind id size) b x → IsChunk kind id.0 size b → ⊥
-shown_else kind id size b shows.Longer h c = absurd (omega (arith, h, c.sized))
-shown_else kind id size b (shows.Digest x) h c = h.2 (h.1 ∙ c.named)
-shown_else kind id size b (shows.Length n) h c = h.3 (h.2 ∙ c.sized)
-
--- what a store has said that lacks it is of the entry
-entry_lacks : (l : Listing) (n : ℕ) (id : ChunkId) (s : Said) → id.0 ≡ id_of l n → Lacks (chunk_of (kind_of l) id (size_of l n)) s → LacksEntry l n s
-entry_lacks l n id s named h = subst Lacked named (go h) where
-  Lacked : List ℕ → Type 0
-  Lacked q = s.denied q ⊎ (s.longer q (size_of l n) ⊎ ((b : List ℕ) × s.shown q b × (IsChunk (kind_of l) q (size_of l n) b → ⊥)))
-
-  go : Lacks (chunk_of (kind_of l) id (size_of l n)) s → Lacked id.0
-  go (inl none) = inl none
-  go (inr (shows.Longer, h)) = inr (inl h)
-  go (inr (shows.Digest x, h)) = inr (inr (h.0, h.1, shown_else (kind_of l) id (size_of l n) h.0 (shows.Digest x) h.2))
-  go (inr (shows.Length m, h)) = inr (inr (h.0, h.1, shown_else (kind_of l) id (size_of l n) h.0 (shows.Length m) h.2))
 
 keeps_twice : (a b c : Said) (id : List ℕ) → KeepsOf a b id → KeepsOf b c id → KeepsOf a c id
 keeps_twice a b c id u w = record { denied = λ h. w.denied (u.denied h); shown = λ x h. w.shown x (u.shown x h); longer = λ n h. w.longer n (u.longer n h); taken = λ x h. w.taken x (u.taken x h) }
@@ -180,16 +157,13 @@ module _ {S V : Type 0} (holds folder : S → Option (Map (List ℕ))) (place : 
   module _ (mid : Disk) (b : Map (List ℕ)) (told : d.files ≡ Some b) (zip : AllZip (IsViewed d mid) seeds.images (map (held_in view) k.seeds.items)) (is : IsSeedIndex l p seeds.listings x) (later : (q : List ℕ) → FileRose d mid q → FileRose d e q)
       (rises : (n : ℕ) → Rose (slice_index (map (faults_in view_faults) k.seeds.items) n) (slice_index (map (faults_in view_faults) j.seeds.items) n) → FileRose d e (name_at (map label_of (map (held_in view) k.seeds.items)) n))
       (gone : (n : ℕ) → CacheLacks (kind_of l) (id_of l n) (size_of l n) e0 e1 → CacheLacksEntry d e cache l n) where
-    others_at : (u : Lost) → IsLostHere u → OthersLack w v stores cache out l seeds b u.entry u.id u.refused
+    pub others_at : (u : Lost) → IsLostHere u → OthersLack w v stores cache out l seeds b u.entry u.id u.refused
     others_at u h = (
       had_failed d mid b told seeds (map (held_in view) k.seeds.items) zip (id_of l u.entry) (size_of l u.entry) (places_at x (want_at p u.entry)) (is.places u.entry h.listed) e later
           (map (faults_in view_faults) k.seeds.items) (map (faults_in view_faults) j.seeds.items) rises
           (subst (λ (id : List ℕ). SeedsFailed (map (held_in view) k.seeds.items) (places_at x (want_at p u.entry)) id (map (faults_in view_faults) k.seeds.items) (map (faults_in view_faults) j.seeds.items)) h.id_is h.seeds),
       gone u.entry h.cache,
     )
-
-    pub others_lack : (F : Type 0) (r : Result Report ExtractFault) → EndsBy IsLostHere F r → IfErr r (LostAs (OthersLack w v stores cache out l seeds b))
-    others_lack F r h = lost_as IsLostHere F (OthersLack w v stores cache out l seeds b) others_at r h
 
   -- over stores that were given back: these stand so
   module _ (kept : KeepsStores holds folder place said counted k.chain.stores j.chain.stores) (located : (ys : List S) → map place ys ≡ map place k.chain.stores → map location ys ≡ stores) (stand : All (Stands location said counted w v) j.chain.stores) where
@@ -211,9 +185,8 @@ module _ {S V : Type 0} (holds folder : S → Option (Map (List ℕ))) (place : 
         }
 
     module _ (n : Map (Map (List ℕ))) (held : (fs : List (Map (List ℕ))) → map (told_at n) stores ≡ map Some fs → map holds k.chain.stores ≡ map Some (map chunks fs)) (rose : Rose old new → FileRose d e out.name) where
-      lacks_over : (o : Option (List ℕ)) (u : Lost) (h : IsLostHere u) → IfSome o (λ b. RightAlike l (resized b (image_length l)) u.entry → Rose old new) → IfSome o (λ b. LackingOver w v stores cache out l seeds n b u.entry u.id u.refused)
-      lacks_over None u h copies = tt
-      lacks_over (Some b) u h copies =
+      lacks_over : (o : List ℕ) (u : Lost) (h : IsLostHere u) → (RightAlike l (resized o (image_length l)) u.entry → Rose old new) → LackingOver w v stores cache out l seeds n o u.entry u.id u.refused
+      lacks_over o u h copies =
           let s = stood_at u h in (
             h.listed,
             h.id_is,
@@ -222,37 +195,18 @@ module _ {S V : Type 0} (holds folder : S → Option (Map (List ℕ))) (place : 
             λ a. rose (copies a),
           )
 
-      lacks_at : (u : Lost) → IsLostHere u → IfSome t0 (λ o. LackingOver w v stores cache out l seeds n o u.entry u.id u.refused)
-      lacks_at u h = lacks_over t0 u h h.copies
-
-      none_lost : (o : Option (List ℕ)) → IfSome o (λ b. Unit {0})
-      none_lost None = tt
-      none_lost (Some b) = tt
-
-      pub lacks_told : (F : Type 0) (r : Result Report ExtractFault) → EndsBy IsLostHere F r → IfSome t0 (λ o. IfErr r (LostAs (LackingOver w v stores cache out l seeds n o)))
-      lacks_told F (Ok r) h = none_lost t0
-      lacks_told F (Err (faults.Missing m id)) h = lost_as IsLostHere F (λ m id r. IfSome t0 (λ o. LackingOver w v stores cache out l seeds n o m id r)) lacks_at (Err (faults.Missing m id)) h
-      lacks_told F (Err (faults.Damaged m id s y)) h = lost_as IsLostHere F (λ m id r. IfSome t0 (λ o. LackingOver w v stores cache out l seeds n o m id r)) lacks_at (Err (faults.Damaged m id s y)) h
-      lacks_told F (Err (faults.StoreFault s)) h = none_lost t0
-      lacks_told F (Err faults.TargetFault) h = none_lost t0
-      lacks_told F (Err faults.Memory) h = none_lost t0
+      module _ (b : Map (List ℕ)) (others : (u : Lost) → IsLostHere u → OthersLack w v stores cache out l seeds b u.entry u.id u.refused) where
+        pub lacks_told : (F : Type 0) (r : Result Report ExtractFault) → EndsBy IsLostHere F r → IfSome t0 (λ o. IfErr r (LostAs (AllLack w v stores cache out l seeds b n o)))
+        lacks_told F r h = go t0 (λ u z. z.copies) where
+          go : (t : Option (List ℕ)) → ((u : Lost) → IsLostHere u → IfSome t (λ o. RightAlike l (resized o (image_length l)) u.entry → Rose old new)) → IfSome t (λ o. IfErr r (LostAs (AllLack w v stores cache out l seeds b n o)))
+          go None copies = tt
+          go (Some o) copies = lost_as IsLostHere F (AllLack w v stores cache out l seeds b n o) (λ u z. (lacks_over o u z (copies u z), others u z)) r h
 
     stopped_at : (u : Lost) (s : ℕ) → u.refused ≡ refused.StoreFault s → IsLostHere u → StopsFailed w v stores l s
     stopped_at u s is h =
-        let c : Want = lost_want l u in
         let a = stood_at u h in
-        let told = subst (λ (r : Refused). Refuses said counted lacks_memory c h.stores.before h.stores.after r) is h.stores.refused.told in
-        let lacked : (q : S × S) → Stands location said counted w v q.1 → Lacks c (said q.1) → LacksEntry l u.entry (said_at w v (location q.1)) =
-        λ q s y. entry_lacks l u.entry u.id (said_at w v (location q.1)) h.id_is (lacks_still c (said q.1) (said_at w v (location q.1)) (s.says u.id.0) y) in
-        let failed : (q : S × S) → Stands location said counted w v q.1 → Rose (counted q.0) (counted q.1) → StoreRose w v (location q.1) =
-        λ q s y. s.rises (rose_later 0 (counted q.0) (counted q.1) (omega arith) y) in
-        let either : (q : S × S) → Stands location said counted w v q.1 → Lacks c (said q.1) ⊎ Rose (counted q.0) (counted q.1) → LacksEntry l u.entry (said_at w v (location q.1)) ⊎ StoreRose w v (location q.1) =
-        λ q s y. elim y [ inl z ↦ inl (lacked q s z) | inr z ↦ inr (failed q s z) ] in (
-          u.entry,
-          first_as location said counted w v (λ q. Lacks c (said q.1)) (λ q. Rose (counted q.0) (counted q.1)) (λ q. Lacks c (said q.1) ⊎ Rose (counted q.0) (counted q.1))
-              (λ s. LacksEntry l u.entry (said_at w v s)) (StoreRose w v) (λ s. LacksEntry l u.entry (said_at w v s) ⊎ StoreRose w v s) lacked failed either s h.stores.before h.stores.after stores a.many a.at a.all told,
-          h.listed,
-        )
+        let said = have_lacked location said counted lacks_memory w v stores (lost_want l u) u.refused h.stores.before h.stores.after a.many a.at a.all h.stores.refused.told in
+        (u.entry, u.id, h.listed, h.id_is, subst (λ (r : Refused). HaveLacked (lost_want l u) w v stores r) is said)
 
     pub store_told : (F : Type 0) (r : Result Report ExtractFault) → EndsBy IsLostHere F r → IfErr r (StoreAs (StopsFailed w v stores l))
     store_told F r h = store_as IsLostHere F (StopsFailed w v stores l) stopped_at r h

@@ -31,7 +31,7 @@ pub clears : (tmp : List ℕ) (step : Step Sources Unit) (w : Sources) (c e : Di
 clears tmp step w c e k (Ok u) (Ok v) did same = subst (λ x. step w (Ok v) (sources x k)) (sym same) did
 clears tmp step w c e k (Ok u) (Err o) did h = absurd h
 clears tmp step w c e k (Err p) (Ok v) did h = absurd h
-clears tmp step w c e k (Err p) (Err o) did h = (c, p, did, h.0, h.1)
+clears tmp step w c e k (Err p) (Err o) did h = (c, subst (λ (q : Outcome). step w (Err q) (sources c k)) (sym h.0) did, h.1)
 
 -- what follows on a step that passed
 pub passed_any : {A B : Type 0} (step : Step World A) (next : A → Step World B) (w : World) (r : Result B Outcome) (v : World) → Passed step next w r v → (step >>= next) w r v

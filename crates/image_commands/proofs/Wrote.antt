@@ -1,10 +1,14 @@
 -- What calls on files leave of a disk, one after the other.
-use Rattle.std.proofs.Common.{◌≡◌, ◌∙◌, ℕ, ◌≤◌, List, ap, arith}
+use Rattle.std.proofs.Common.{◌≡◌, ◌∙◌, ℕ, ◌≤◌, List, Option, Some, None, IsSome, unwrap_or, ap, arith, inl, inr, refl}
 use Rattle.std.specs.Map.{count_at}
 use Rattle.command_steps.proofs.Numbers.{counted_le}
 use Rattle.command_steps.specs.Worlds.{Reads, Writes}
 use Rattle.dsy_base.specs.Disk.{Disk, GivesFile, OnFile}
+use Rattle.dsy_base.specs.Counts.{Rose}
 use Rattle.dsy_base.specs.Maps.{Map}
+use Rattle.dsy_base.specs.declared.fault.IoFault.{IoFault}
+use Rattle.dsy_base.specs.declared.fault.IoFault.TheVariants as io
+use Rattle.image_commands.specs.Extract.{IsNumbered, answer_of_taking}
 
 pub wrote_then : (d b e : Disk) → Writes d b → Writes b e → Writes d e
 wrote_then d b e u v = record {
@@ -24,3 +28,15 @@ wrote_on d e name o = record { folders = o.folders; counts = counted_le d.file_c
 
 pub wrote_back : (d e : Disk) (name : List ℕ) (n : ℕ) → GivesFile d e name n → Writes d e
 wrote_back d e name n o = record { folders = o.folders; counts = counted_le d.file_counts e.file_counts name o.counts.counted; folder_counts = same_count d.folder_counts e.folder_counts o.folder_counts }
+
+-- ---- what has a number
+
+-- a number that rose is there
+rose_known : (o : Option ℕ) (old : ℕ) → Rose old (unwrap_or o 0) → IsSome o
+rose_known None old (inl more) = absurd (omega (arith, more))
+rose_known None old (inr full) = absurd (omega (arith, full))
+rose_known (Some n) old rose = refl
+
+pub untaken_numbered : (q : List ℕ) (d e : Disk) (old : ℕ) (fault : IoFault) → (fault ≡ io.Failed → Rose old (count_at e.file_counts q)) → e.files ≡ d.files → IsNumbered q d (answer_of_taking fault) e
+untaken_numbered q d e old io.Failed rose same = inl (rose_known (e.file_counts q) old (rose refl))
+untaken_numbered q d e old io.Memory rose same = inr (refl, same)

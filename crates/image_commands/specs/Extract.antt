@@ -15,7 +15,6 @@ use Rattle.chunk_sources.specs.Caches.{IsListedAs}
 use Rattle.chunk_sources.specs.Losses.{chunk_of}
 use Rattle.chunk_store.specs.Folders.{chunks}
 use Rattle.chunk_store.specs.Giving.{GivesChunk, IsChunk}
-use Rattle.chunk_store.specs.Said.{Said}
 use Rattle.chunk_store.specs.declared.id.ChunkId.{ChunkId}
 use Rattle.command_outcome.specs.declared.outcome.Outcome.{Outcome}
 use Rattle.command_outcome.specs.declared.outcome.Outcome.TheVariants as ends
@@ -29,10 +28,10 @@ use Rattle.command_steps.specs.Cache.{CacheOpened}
 use Rattle.command_steps.specs.Openings.{IndexRead, IsListed}
 use Rattle.command_steps.specs.Seeds.{IndexesRead, image_name}
 use Rattle.command_steps.specs.Steps.{◌>>=◌}
-use Rattle.command_steps.specs.Sources.{DialsStores, FailsFirst, HaveLacked, NotAsking, OnSources, Sources}
+use Rattle.command_steps.specs.Sources.{DialsStores, HaveLacked, NotAsking, OnSources, Sources}
 use Rattle.command_steps.specs.Sources.{SourcesOpened, sources, told_at}
-use Rattle.command_steps.specs.Worlds.{DiskQuiet, FileRose, FolderRose, OnDisk, Step, World, Writes}
-use Rattle.dsy_base.specs.Disk.{Disk}
+use Rattle.command_steps.specs.Worlds.{DiskQuiet, FileRose, FolderRose, OnDisk, Step, World}
+use Rattle.dsy_base.specs.Disk.{Disk, OnFile}
 use Rattle.store_chain.specs.Giving.{LacksAll}
 use Rattle.store_chain.specs.declared.refused.Refused.{Refused}
 use Rattle.store_chain.specs.declared.refused.Refused.TheVariants as refused
@@ -99,10 +98,15 @@ abbrev pub KeepsIn : Disk → Disk → Map (List ℕ) → Map (List ℕ) → Int
 KeepsIn d e before after out l t =
     Leaves before after out t × KeepsBase l (FileRose d e out.name) (base_of before out l) t
 
--- what stands there where no entry is named: it wasn't taken, or has what it began with, or keeps the base
-abbrev pub StopsSomewhere : Disk → Disk → Map (List ℕ) → Map (List ℕ) → Into → Listing → Type 0
-StopsSomewhere d e before after out l =
-    (after ≡ before) ⊎ (Leaves before after out (old_of before out) ⊎ ((t : List ℕ) × KeepsIn d e before after out l t))
+-- no server was asked, and no folder has changed
+abbrev pub NoneAsked : Sources → Sources → Type 0
+NoneAsked w v = (v.dial ≡ w.dial) × (v.disk.folders ≡ w.disk.folders)
+
+-- what stands there where no entry is named: it wasn't taken, before which no source is asked; or it has what it began
+-- with, or keeps the base
+abbrev pub StopsSomewhere : Sources → Sources → Map (List ℕ) → Map (List ℕ) → Into → Listing → Type 0
+StopsSomewhere w v before after out l = ((after ≡ before) × NoneAsked w v) ⊎ (Leaves before after out (old_of before out)
+    ⊎ ((t : List ℕ) × KeepsIn w.disk v.disk before after out l t))
 
 -- afterwards the folder of the cache doesn't give the chunk of entry k, unless calls on it have failed
 abbrev pub CacheLacksEntry : Disk → Disk → Option (List ℕ) → Listing → ℕ → Type 0
@@ -125,11 +129,6 @@ pub record IsLacking (w v : Sources) (before : Map (List ℕ)) (n : Map (Map (Li
   pub copies : RightAlike l (base_of before out l) k → FileRose w.disk v.disk out.name
   pub seeds : (s : ℕ) (h : SeedHas before x (id_of l k) (size_of l k) s) → FileRose w.disk v.disk h.image
   pub uncached : CacheLacksEntry w.disk v.disk cache l k
-
--- a store that has said this lacks the chunk of entry k: it has denied its id, or shown bytes under it that aren't it
-abbrev pub LacksEntry : Listing → ℕ → Said → Type 0
-LacksEntry l k s = s.denied (id_of l k) ⊎ (s.longer (id_of l k) (size_of l k)
-    ⊎ ((b : List ℕ) × s.shown (id_of l k) b × (IsChunk (kind_of l) (id_of l k) (size_of l k) b → ⊥)))
 
 -- the name of the cache's folder, where there is a cache
 abbrev pub folder_of : Option (List ℕ) → List (List ℕ)
@@ -161,11 +160,12 @@ StopsLacking w v stores cache out l x k id r = Told w.disk v.disk cache (λ b a 
 
 -- the first store that failed is named, where no store gave the chunk of some entry
 abbrev pub StopsFailed : Sources → Sources → List Location → Listing → ℕ → Type 0
-StopsFailed w v stores l s = (k : ℕ) × FailsFirst (LacksEntry l k) w v s stores × (k < count_of l)
+StopsFailed w v stores l s = (k : ℕ) × (id : ChunkId) × (k < count_of l) × (id.0 ≡ id_of l k)
+    × HaveLacked (chunk_of (kind_of l) id (size_of l k)) w v stores (refused.StoreFault s)
 
 -- the file became the image of the index, with chunks from the seeds, the cache and the stores, or why not. Where
 -- stores are folders, undisturbed, it does so exactly where each entry can be had; else the first that can't
--- be had is named
+-- be had is named. A store that failed is named only where some entry can't be had from the seeds or the cache either
 abbrev pub Assembled : Sources → Sources → List Location → Option (List ℕ) → Into → Listing → Seeds
     → Result Unit Outcome → Type 0
 Assembled w v stores cache out l x (Ok u) = Told w.disk v.disk cache (λ b a n cs.
@@ -177,11 +177,12 @@ Assembled w v stores cache out l x (Err (ends.Missing k id)) = StopsLacking w v 
 Assembled w v stores cache out l x (Err (ends.Damaged k id store shows)) = StopsLacking w v stores cache out l x k id
     (refused.Damaged store shows)
 Assembled w v stores cache out l x (Err (ends.StoreFault s)) = StopsFailed w v stores l s
-    × Told w.disk v.disk cache (λ b a n cs. (t : List ℕ) × KeepsIn w.disk v.disk b a out l t)
+    × Told w.disk v.disk cache (λ b a n cs. ((t : List ℕ) × KeepsIn w.disk v.disk b a out l t)
+    × (k : ℕ) × (id : ChunkId) × IsLacking w v b n cache out l x stores k id (refused.StoreFault s))
 Assembled w v stores cache out l x (Err ends.TargetFault) = FileRose w.disk v.disk out.name
-    × Told w.disk v.disk cache (λ b a n cs. StopsSomewhere w.disk v.disk b a out l)
+    × Told w.disk v.disk cache (λ b a n cs. StopsSomewhere w v b a out l)
 Assembled w v stores cache out l x (Err ends.Memory) =
-    Told w.disk v.disk cache (λ b a n cs. StopsSomewhere w.disk v.disk b a out l)
+    Told w.disk v.disk cache (λ b a n cs. StopsSomewhere w v b a out l)
 Assembled w v stores cache out l x (Err other) = ⊥
 
 -- OUT holds afterwards the image that INDEX listed before
@@ -234,12 +235,15 @@ pub record FillsCache (stores : List Location) (cache : Option (List ℕ)) (l : 
   pub counts : (q : List ℕ) → count_at d.file_counts q ≤ count_at e.file_counts q
   pub folder_counts : (q : List ℕ) → count_at d.folder_counts q ≤ count_at e.folder_counts q
 
+-- the file's name has a number, unless there was no memory to take it
+abbrev pub IsNumbered : List ℕ → Disk → Result Unit Outcome → Disk → Type 0
+IsNumbered name d r e = IsSome (e.file_counts name) ⊎ ((r ≡ Err ends.Memory) × (e.files ≡ d.files))
+
 -- files tell afterwards where they told before
 abbrev pub ImageMade : List Location → Option (List ℕ) → Into → Listing → Seeds → Step Sources Unit
 ImageMade stores cache out l x w r v = Assembled w v stores cache out l x r × FillsCache stores cache l w.disk v.disk
     × (is_some v.disk.files ≡ is_some w.disk.files) × DialsStores stores w.dial v.dial
-
--- ---- by way of a temporary file
+    × IsNumbered out.name w.disk r v.disk
 
 -- the temporary file beside OUT
 abbrev pub temporary_out : List ℕ → List ℕ
@@ -248,25 +252,25 @@ temporary_out out = out ++ codes ".tmp-desync"
 abbrev pub beside : List ℕ → Into
 beside out = record { name = temporary_out out; fresh = true }
 
--- the file isn't there any more; where it still is, removing it failed, or there was no memory. Nothing else has
--- changed
-abbrev pub Cleared : List ℕ → Disk → Outcome → Disk → Type 0
-Cleared name d o e = ((e.files ≡ option_map (λ m. at_name m name None) d.files)
-    ⊎ ((e.files ≡ d.files) × (IfSome d.files (λ m. m name ≡ None) ⊎ (FileRose d e name ⊎ (o ≡ ends.Memory)))))
-    × Writes d e
+-- the file isn't there any more; where it still is, removing it failed, or its name had no number, since it was never
+-- taken. Nothing else has changed
+abbrev pub Cleared : List ℕ → Disk → Disk → Type 0
+Cleared name d e = ((e.files ≡ option_map (λ m. at_name m name None) d.files)
+    ⊎ ((e.files ≡ d.files)
+    × (IfSome d.files (λ m. m name ≡ None) ⊎ (FileRose d e name ⊎ (d.file_counts name ≡ None)))))
+    × OnFile d e name
 
--- the step, after whose refusal the file of this name is cleared. Want of memory is told in the place of its refusal
+-- the step, after whose refusal the file of this name is cleared
 abbrev pub Clearing : List ℕ → Step Sources Unit → Step Sources Unit
 Clearing name step w (Ok u) v = step w (Ok u) v
-Clearing name step w (Err o) v = (c : Disk) × (p : Outcome) × step w (Err p) (sources c v.dial)
-    × ((o ≡ p) ⊎ (o ≡ ends.Memory)) × Cleared name c o v.disk
+Clearing name step w (Err o) v = (c : Disk) × step w (Err o) (sources c v.dial) × Cleared name c v.disk
 
 -- so it is with the refusal of a step that answered so
 abbrev pub ClearedAfter : List ℕ → Disk → Result Unit Outcome → Result Unit Outcome → Disk → Type 0
 ClearedAfter name d (Ok u) (Ok v) e = e ≡ d
 ClearedAfter name d (Ok u) (Err o) e = ⊥
 ClearedAfter name d (Err p) (Ok v) e = ⊥
-ClearedAfter name d (Err p) (Err o) e = ((o ≡ p) ⊎ (o ≡ ends.Memory)) × Cleared name d o e
+ClearedAfter name d (Err p) (Err o) e = (o ≡ p) × Cleared name d e
 
 -- it isn't there. Want of memory is free, since the outcome keeps the name
 abbrev pub IsNoFile : List ℕ → Outcome → Type 0
@@ -283,10 +287,8 @@ NotRenamed from to d other e = ⊥
 
 abbrev pub Renamed : List ℕ → List ℕ → Step Disk Unit
 Renamed from to d (Ok u) e =
-    (e.files ≡ option_map (λ m. at_name (at_name m to (m from)) from None) d.files) × Writes d e
-Renamed from to d (Err o) e = NotRenamed from to d o e × (e.files ≡ d.files) × Writes d e
-
--- ---- the command
+    (e.files ≡ option_map (λ m. at_name (at_name m to (m from)) from None) d.files) × OnFile d e to
+Renamed from to d (Err o) e = NotRenamed from to d o e × (e.files ≡ d.files) × OnFile d e to
 
 -- OUT becomes the image: it is made it in its place; or the temporary file is, and takes OUT's name
 abbrev pub OutMade : Bool → List Location → Option (List ℕ) → List ℕ → Listing → Seeds → Step World Unit

@@ -12,8 +12,8 @@ ghost use Rattle.command_steps.specs.Cache.{with_cache};
 ghost use Rattle.command_steps.specs.Seeds.{image_name};
 ghost use Rattle.command_steps.specs.Sources.{DialsStores, sources, told_at};
 ghost use Rattle.command_steps.specs.Worlds.{world};
-ghost use Rattle.image_commands.specs.Extract.{Assembled, ClearedAfter, ExtractEnds, FillsCache, IsNoFile, OutMade};
-ghost use Rattle.image_commands.specs.Extract.{Renamed, answer_of_assembly, answer_of_taking};
+ghost use Rattle.image_commands.specs.Extract.{Assembled, ClearedAfter, ExtractEnds, FillsCache, IsNoFile};
+ghost use Rattle.image_commands.specs.Extract.{IsNumbered, OutMade, Renamed, answer_of_assembly, answer_of_taking};
 ghost use Rattle.image_commands.specs.Extract.{temporary_out};
 ghost use Rattle.dsy_base.specs.Disk.{Output};
 ghost use Rattle.extract_plan.specs.Deal.{Deal, IsPlan};
@@ -142,6 +142,7 @@ fn assemble_into<F: Files, D: Dial>(
         (F.disk files.new) }
     ensures tells { is_some (F.disk files.new).files ≡ is_some (F.disk files.old).files }
     ensures dialed { DialsStores (map (location_in F.Look.place) stores.items) (D.state dial.old) (D.state dial.new) }
+    ensures numbered { IsNumbered target.now (F.disk files.old) result (F.disk files.new) }
 {
     let Ok(seeds) = open_seeds(alloc, files, seeds) else {
         give_cache(files, cache, shelf);
@@ -179,7 +180,7 @@ fn temporary_out(alloc: Global, target: &str) -> Result<String, AllocError>
     Ok(name)
 }
 
-// Removes the file after a refusal. A fault of that is passed over.
+// Removes the file after a refusal. A fault of that is passed over. Memory lacks only where the file was never taken.
 fn clear<F: Files>(files: &mut F, name: &str, answer: Result<(), Outcome>) -> Result<(), Outcome>
     ensures { ClearedAfter name.now (F.disk files.old) answer result (F.disk files.new) }
 {
@@ -187,8 +188,7 @@ fn clear<F: Files>(files: &mut F, name: &str, answer: Result<(), Outcome>) -> Re
         return Ok(());
     };
     match files.remove(name) {
-        Ok(()) | Err(OpenFault::Absent) | Err(OpenFault::Failed) => Err(outcome),
-        Err(OpenFault::Memory) => Err(Outcome::Memory),
+        Ok(()) | Err(_) => Err(outcome),
     }
 }
 

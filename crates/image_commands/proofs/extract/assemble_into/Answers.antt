@@ -1,4 +1,4 @@
-use Rattle.std.proofs.Common.{◌≡◌, ◌≤◌, ◌∙◌, ℕ, All, List, Err, length, Option, Some, IfSome, IsTrue, is_some, map, slice_index_or, None, refl, sym, ap, subst, arith, IsSome}
+use Rattle.std.proofs.Common.{◌≡◌, ◌≤◌, ◌∙◌, ℕ, All, List, Err, length, Option, Some, IfSome, IsTrue, is_some, map, slice_index_or, None, refl, sym, ap, subst, arith, inl, inr, IsSome}
 use Rattle.std.proofs.lemmas.List.{length-map}
 use Rattle.std.specs.List.{AllZip}
 use Rattle.std.specs.Map.{count_at}
@@ -27,10 +27,10 @@ use Rattle.command_steps.specs.Worlds.{FileRose}
 use Rattle.image_commands.proofs.Assembled.{assembled, facts_of, had_of, not_taken_as, obtainable_of, stopped_before}
 use Rattle.command_steps.proofs.Found.{held_after, held_maps, held_where}
 use Rattle.image_commands.proofs.Kits.{pushed}
-use Rattle.image_commands.proofs.Lost.{lacks_told, others_lack, store_told, target_as}
+use Rattle.image_commands.proofs.Lost.{lacks_told, others_at, store_told, target_as}
 use Rattle.image_commands.proofs.Seeded.{all_known_later, label_of, labels_are, same_known, same_labels, zeros, zipped_many}
 use Rattle.image_commands.proofs.Shelved.{IsTold, cache_filled, cache_lacking, cache_quiet, cache_rose, cached_there, fresh_faults, known_still, name_after, name_in, one_size, same_kind, same_names, told_files}
-use Rattle.image_commands.proofs.Wrote.{wrote_back, wrote_on}
+use Rattle.image_commands.proofs.Wrote.{untaken_numbered, wrote_back, wrote_on}
 use Rattle.image_commands.proofs.extract.assemble_into.Goals as goal
 use Rattle.image_commands.specs.Extract.{Assembled, Into, Seeds, answer_of_assembly, old_of}
 use Rattle.dsy_base.specs.Counts.{Rose, raised}
@@ -70,6 +70,13 @@ returns-in_default-clause-assembled g c = λ p ls plan is.
     (record { images = map image_name c.args.seeds.now; listings = ls })
     (λ cs. cached_in o ≡ Some (map chunks cs)) (cached_there o c.args.cache.now name d'.folders (cache_told g c.args.files.now c.args.shelf))
     (c.drop_sources.ensures.kept.files ∙ gave.files ∙ c.in_default.ensures.kept.files)
+    (refl, c.drop_sources.ensures.kept.folders ∙ given_folders o (at c.open_seeds.new.files) (at c.give_cache.new.files) c.give_cache.ensures.given ∙ ap (folders_with o) c.in_default.ensures.kept.folders)
+
+pub returns-in_default-clause-numbered : goal.returns-in_default-clause-numbered
+returns-in_default-clause-numbered g c =
+    let at = g.F.Files.disk in
+    let gave = given_adds (see g c.args.shelf) (at c.open_seeds.new.files) (at c.give_cache.new.files) c.give_cache.ensures.given in
+    inr (refl, c.drop_sources.ensures.kept.files ∙ gave.files ∙ c.in_default.ensures.kept.files)
 
 pub returns-in_default-clause-kept : goal.returns-in_default-clause-kept
 returns-in_default-clause-kept g c =
@@ -128,10 +135,25 @@ returns-in-Err-clause-assembled g c = λ p ls plan is.
     let k = g.D.Dial.state c.args.dial.now in
     let before = stopped_before (sources d k) (sources e k) names c.args.cache.now o l x (λ cs. cached_in s ≡ Some (map chunks cs))
     (cached_there s c.args.cache.now name d'.folders (cache_told g c.args.files.now c.args.shelf))
-    (c.close_seeds.ensures.kept.files ∙ c.drop_sources-in-Err.ensures.kept.files ∙ gave.files ∙ c.in-Err.ensures.err ∙ c.in-Ok.ensures.kept.files) in
+    (c.close_seeds.ensures.kept.files ∙ c.drop_sources-in-Err.ensures.kept.files ∙ gave.files ∙ c.in-Err.ensures.err ∙ c.in-Ok.ensures.kept.files)
+    (refl, c.close_seeds.ensures.kept.folders ∙ c.drop_sources-in-Err.ensures.kept.folders ∙ given_folders s b2 b3 c.give_cache-in-Err.ensures.given ∙ ap (folders_with s) ((wrote_on b b2 _ c.in-Err.ensures.counts).folders ∙ c.in-Ok.ensures.kept.folders)) in
     rw c.not_taken.ensures (not_taken_as (sources d k) (sources e k) names c.args.cache.now o l x c.in-Err.fault before
     (λ failed. rose_longer (count_at d.file_counts q) (count_at b2.file_counts q) (count_at e.file_counts q) le
     (rose_later (count_at d.file_counts q) (count_at b.file_counts q) (count_at b2.file_counts q) (c.in-Ok.ensures.kept.counts q) (took.cause (ap Err failed)))))
+
+pub returns-in-Err-clause-numbered : goal.returns-in-Err-clause-numbered
+returns-in-Err-clause-numbered g c =
+    let at = g.F.Files.disk in
+    let q = c.args.target.now in
+    let b = at c.open_seeds.new.files in
+    let b2 = at c.take.new.self in
+    let b3 = at c.give_cache-in-Err.new.files in
+    let e = at c.close_seeds.new.files in
+    let gave = given_adds (see g c.args.shelf) b2 b3 c.give_cache-in-Err.ensures.given in
+    let le : count_at b2.file_counts q ≤ count_at e.file_counts q = omega (arith, gave.counts q, c.drop_sources-in-Err.ensures.kept.counts q, c.close_seeds.ensures.kept.counts q) in
+    rw c.not_taken.ensures (untaken_numbered q (at c.args.files.now) e (count_at b.file_counts q) c.in-Err.fault
+    (λ failed. rose_longer (count_at b.file_counts q) (count_at b2.file_counts q) (count_at e.file_counts q) le (c.in-Err.ensures.faults.cause (ap Err failed)))
+    (c.close_seeds.ensures.kept.files ∙ c.drop_sources-in-Err.ensures.kept.files ∙ gave.files ∙ c.in-Err.ensures.err ∙ c.in-Ok.ensures.kept.files))
 
 pub returns-in-Err-clause-kept : goal.returns-in-Err-clause-kept
 returns-in-Err-clause-kept g c =
@@ -298,6 +320,12 @@ give-requires-clause-known g c =
     let gave = given_adds (see g c.assemble-ended.result.cache) (at c.take.new.self) (at c.give_cache-2.new.files) c.give_cache-2.ensures.given in
     c.close_seeds-2.ensures.kept.known _ (c.close_sources.ensures.kept.0.disk.known _ (gave.known _ c.in-Ok-take.ensures.known))
 
+pub returns-clause-numbered : goal.returns-clause-numbered
+returns-clause-numbered g c =
+    let at = g.F.Files.disk in
+    let gave = given_adds (see g c.assemble-ended.result.cache) (at c.take.new.self) (at c.give_cache-2.new.files) c.give_cache-2.ensures.given in
+    inl (c.give.ensures.counts.counts.counted.known (c.close_seeds-2.ensures.kept.known _ (c.close_sources.ensures.kept.0.disk.known _ (gave.known _ c.in-Ok-take.ensures.known))))
+
 pub returns-clause-assembled : goal.returns-clause-assembled
 returns-clause-assembled g c = λ p ls plan is.
     let at = g.F.Files.disk in
@@ -427,9 +455,9 @@ returns-clause-assembled g c = λ p ls plan is.
     found (cached_there e0 cache name d'.folders (cache_told g c.args.files.now c.args.shelf)) took
     (g.met.F.Target.View.told c.in-Ok-take.taken ∙ sym (g.met.F.Target.View.told c.assemble-ended.result.target))
     left rose over.bytes
-    (λ n y. lacks_told holds files place location said faults _ view view_faults l p x w v names cache o z t0 f0 f1 k j e0 e1 stores located stand n
-    (λ fs told. held_maps files before fs (subst (λ o. IfSome o (λ m. map files before ≡ map (told_at m) names)) y found ∙ told)) rose (Rose f0 f1) r lost)
-    (λ m told. others_lack holds files place location said faults _ view view_faults l p x w v names cache o z t0 f0 f1 k j e0 e1 b m told zip is later rises (cache_lacking d e e0 e1 cache l d'.folders name_now shelf_now shelf_rose) (Rose f0 f1) r lost)
+    (λ m told n y. lacks_told holds files place location said faults _ view view_faults l p x w v names cache o z t0 f0 f1 k j e0 e1 stores located stand n
+    (λ fs told. held_maps files before fs (subst (λ o. IfSome o (λ m. map files before ≡ map (told_at m) names)) y found ∙ told)) rose m
+    (others_at holds files place location said faults _ view view_faults l p x w v names cache o z t0 f0 f1 k j e0 e1 b m told zip is later rises (cache_lacking d e e0 e1 cache l d'.folders name_now shelf_now shelf_rose)) (Rose f0 f1) r lost)
     (λ cached maps n. exactly cached maps n.0 n.1) (λ cached maps n. after_all cached maps n.0 n.1)
     (λ m y n fs told looks cs shelved quiet. (
       record {
