@@ -1,3 +1,4 @@
+pub mod AtHand
 pub mod Cached
 pub mod Chopped
 pub mod Done

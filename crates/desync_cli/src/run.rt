@@ -6,6 +6,7 @@ ghost use Rattle.command_outcome.specs.Statuses.{status_of};
 ghost use Rattle.command_steps.specs.Blames.{Blames, Keeps};
 ghost use Rattle.command_words.specs.Limits.{Fits};
 ghost use Rattle.command_words.specs.declared.command.Command.{Command};
+ghost use Rattle.desync_cli.specs.AtHand.{EndsAtHand};
 ghost use Rattle.desync_cli.specs.Unfailed.{NothingFailed, RepliesTaken};
 ghost use Rattle.desync_cli.specs.Commands.{Achieves, DesyncEnds, Ends, TellsRefusal, command_of, listens, parts};
 ghost use Rattle.desync_cli.specs.Commands.{LeavesBehind, refusal_of, spares};
@@ -13,7 +14,7 @@ ghost use Rattle.desync_cli.specs.Lines.{TakesLine};
 ghost use Rattle.store_commands.specs.Serving.{heard};
 ghost use Rattle.dsy_base.specs.Counts.{Quiet};
 ghost use Rattle.command_steps.specs.Steps.{answer_of, outcome_of};
-ghost use Rattle.command_steps.specs.Worlds.{NoFault, world};
+ghost use Rattle.command_steps.specs.Worlds.{DiskQuiet, NoFault, world};
 
 use crate::words::read_command;
 use command_help::help::Topic;
@@ -23,6 +24,7 @@ use command_words::command::Command;
 use dsy_base::dial::Dial;
 use dsy_base::fault::IoFault;
 use dsy_base::files::Files;
+use dsy_base::image_files::ImageFiles;
 use dsy_base::listen::Listen;
 use dsy_base::sink::Sink;
 use image_commands::chop::chop;
@@ -30,7 +32,6 @@ use image_commands::demo::demo;
 use image_commands::extract::extract;
 use image_commands::make::make;
 use image_commands::verify_index::verify_index;
-use dsy_base::image_files::ImageFiles;
 use std::alloc::Global;
 use std::thread::Threads;
 use store_commands::cache::cache as fill_cache;
@@ -200,6 +201,11 @@ where
     ensures left { result.outcome ≢ Outcome.Done → IfSome (command_of (map string_bytes words.now)) (λ c. LeavesBehind c
         (world (F.disk files.old) (D.state dial.old) (O.output out.old))
         (world (F.disk files.new) (D.state dial.new) (O.output out.new))) }
+
+    // An extraction whose chunks are all at hand needs no server: where no call on files and folders fails it is done,
+    // or there was no memory, whatever servers send.
+    ensures at_hand { DiskQuiet (F.disk files.old) (F.disk files.new) → IfSome (command_of (map string_bytes words.now))
+        (λ c. EndsAtHand c (F.disk files.old) result.outcome) }
 
     // A fault is named only where its count rose.
     ensures cause { IfSome (command_of (map string_bytes words.now)) (λ c. Blames

@@ -2,6 +2,7 @@ use Rattle.std.proofs.Common.{map, string_bytes, sym, ◌∙◌}
 use Rattle.command_steps.specs.Worlds.{world}
 use Rattle.desync_cli.proofs.Replaced.{left_behind}
 use Rattle.store_commands.specs.Serving.{heard}
+use Rattle.desync_cli.proofs.AtHand.{ends_at_hand}
 use Rattle.desync_cli.proofs.Done.{achieved}
 use Rattle.desync_cli.proofs.Fair.{answered, blamed, kept, nothing_failed, tells_refusal}
 use Rattle.desync_cli.proofs.run.desync.Goals as goal
@@ -37,3 +38,8 @@ returns-clause-left g c =
     let told = g.met.F.Files.told c.args.files.now in
     rw c.outcome_of-outcome.ensures (λ refused.
     left_behind (heard (g.L.Listen.state c.args.listen.now) (g.L.Listen.state c.run.new.listen)) (map string_bytes c.args.words.now) (world (g.F.Files.disk c.args.files.now) (g.D.Dial.state c.args.dial.now) (g.O.Sink.output c.args.out.now)) (world (g.F.Files.disk c.run.new.files) (g.D.Dial.state c.run.new.dial) (g.O.Sink.output c.run.new.out)) c.run.result (told.0 ∙ sym told.1) c.run.ensures.ends refused)
+
+pub returns-clause-at_hand : goal.returns-clause-at_hand
+returns-clause-at_hand g c =
+    rw c.outcome_of-outcome.ensures (λ quiet.
+    ends_at_hand (heard (g.L.Listen.state c.args.listen.now) (g.L.Listen.state c.run.new.listen)) (map string_bytes c.args.words.now) (world (g.F.Files.disk c.args.files.now) (g.D.Dial.state c.args.dial.now) (g.O.Sink.output c.args.out.now)) (world (g.F.Files.disk c.run.new.files) (g.D.Dial.state c.run.new.dial) (g.O.Sink.output c.run.new.out)) c.run.result c.run.ensures.ends quiet)

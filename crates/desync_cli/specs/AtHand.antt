@@ -1,0 +1,66 @@
+-- An `extract` that needs no server: the chunk of each entry of its index is at hand.
+use Rattle.std.specs.Prelude.{◌≡◌, ◌⊎◌, ◌++◌, ℕ, ◌<◌, ◌≤◌, Bool, true, false, List, map, Option, IfSome, IsSome, IsSomeAnd}
+use Rattle.std.specs.List.{All, AllZip, Any}
+use Rattle.assembler.specs.Assemblies.{RightAlike}
+use Rattle.caibx_codec.specs.Listing.{Listing, count_of, id_of, kind_of, size_of}
+use Rattle.chunk_store.specs.Folders.{chunks}
+use Rattle.chunk_store.specs.Giving.{GivesChunk}
+use Rattle.command_outcome.specs.declared.outcome.Outcome.{Outcome}
+use Rattle.command_outcome.specs.declared.outcome.Outcome.TheVariants as ends
+use Rattle.command_steps.specs.Openings.{IsListed}
+use Rattle.command_steps.specs.Seeds.{image_name}
+use Rattle.command_steps.specs.Sources.{IsThere, told_at}
+use Rattle.command_words.specs.declared.command.Command.{Command}
+use Rattle.command_words.specs.declared.command.Command.TheVariants as commands
+use Rattle.command_words.specs.declared.command.Location.{Location}
+use Rattle.command_words.specs.declared.command.Location.TheVariants as locations
+use Rattle.dsy_base.specs.Disk.{Disk}
+use Rattle.dsy_base.specs.Maps.{Map}
+use Rattle.extract_plan.specs.Places.{items_of, seed_item_limit}
+use Rattle.image_commands.specs.Extract.{Into, SeedHas, Seeds, base_of, beside, folder_of, in_place}
+
+-- a folder gives the chunk of entry i; what a server has isn't at hand
+abbrev pub GivesEntry : Map (Map (List ℕ)) → Listing → ℕ → Location → Type 0
+GivesEntry n l i s =
+    IsSomeAnd (told_at n s) (λ f. GivesChunk (kind_of l) (id_of l i) (size_of l i) (chunks f (id_of l i)))
+
+-- the folders of the cache and of the stores
+abbrev pub near : Option (List ℕ) → List Location → List Location
+near cache stores = map locations.Folder (folder_of cache) ++ stores
+
+-- entry i is at hand: an alike one is right in the base, or a seed has its chunk, or a folder gives it
+abbrev pub IsAtHand : Map (List ℕ) → Map (Map (List ℕ)) → Into → Listing → Seeds → List Location → ℕ → Type 0
+IsAtHand b n out l x folders i = RightAlike l (base_of b out l) i
+    ⊎ (((s : ℕ) × SeedHas b x (id_of l i) (size_of l i) s) ⊎ Any (GivesEntry n l i) folders)
+
+-- the index lists each id with one size
+abbrev pub ListsOneSize : Listing → Type 0
+ListsOneSize l =
+    (i j : ℕ) → i < count_of l → j < count_of l → id_of l i ≡ id_of l j → size_of l i ≡ size_of l j
+
+-- INDEX and the indexes of the seeds are index files, the folders are there, and each entry of INDEX is at hand. Where
+-- there is a cache, INDEX lists each id with one size
+pub record NeedsNoServer (b : Map (List ℕ)) (n : Map (Map (List ℕ))) (stores : List Location) (cache : Option (List ℕ))
+    (seeds : List (List ℕ)) (out : Into) (index : List ℕ) : Type 0 where
+  pub listing : Listing
+  pub listed : IsListed b index listing
+  pub listings : List Listing
+  pub seeds_listed : AllZip (λ q l. IsListed b q l) seeds listings
+  pub few : items_of listings ≤ seed_item_limit
+  pub there : All (IsThere n) stores
+  pub cache_there : IfSome cache (λ c. IsSome (n c))
+  pub one_size : IsSome cache → ListsOneSize listing
+  pub at_hand : (i : ℕ) → i < count_of listing → IsAtHand b n out listing
+      (record { images = map image_name seeds; listings = listings }) (near cache stores) i
+
+-- the file that becomes the image
+abbrev pub into : Bool → List ℕ → Into
+into true out = in_place out
+into false out = beside out
+
+-- an `extract` that needs no server is done, unless there was no memory
+abbrev pub EndsAtHand : Command → Disk → Outcome → Type 0
+EndsAtHand (commands.Extract stores seeds cache in_place workers index target) d o =
+    IfSome d.files (λ b. IfSome d.folders (λ n. NeedsNoServer b n stores cache seeds (into in_place target) index
+    → (o ≡ ends.Done) ⊎ (o ≡ ends.Memory)))
+EndsAtHand other d o = Unit {0}
