@@ -90,6 +90,8 @@ def why_not_value(command, option, word):
 
 
 def why_not_operand(command, before, most, word):
+    if command == 'demo' and before == most:
+        return 'Operands'
     if word == '':
         return 'Empty'
     if before == most:
@@ -243,6 +245,8 @@ def tables(cases):
                     agrees(front + operands, folder)
             expect_equal(agrees(whole[0] + most * ['7'], folder), 'taken', 'the most operands')
             expect_equal(agrees(whole[0] + (most + 1) * ['7'], folder), 'Operands', 'an operand too many')
+            wanted = 'Operands' if command == 'demo' else 'Empty'
+            expect_equal(agrees(whole[0] + most * ['7'] + [''], folder), wanted, 'an empty operand too many')
             if least:
                 expect_equal(agrees(whole[0] + (least - 1) * ['7'], folder), 'Operands', 'an operand too few')
 
