@@ -1,5 +1,5 @@
 -- `chop -s STORE INDEX IMAGE`. A name is its bytes; t are the image's bytes.
-use Rattle.std.specs.Prelude.{◌≡◌, ◌≢◌, ℕ, List, length, Option, Some, IfSome, Result, Ok, Err}
+use Rattle.std.specs.Prelude.{◌≡◌, ◌≢◌, ℕ, List, length, Option, Some, IfSome, Result, Ok, Err, OnErr}
 use Rattle.caibx_codec.specs.Listing.{Listing, image_length}
 use Rattle.caibx_codec.specs.Right.{IsRight}
 use Rattle.chunk_store.specs.Folders.{chunks}
@@ -13,19 +13,21 @@ use Rattle.command_steps.specs.Worlds.{FileRose, OnDisk, Step, World}
 use Rattle.command_words.specs.declared.command.Location.{Location}
 use Rattle.image_commands.specs.Make.{AnySaid, WritesStore, StoreGiven}
 use Rattle.dsy_base.specs.Maps.{Map}
-use Rattle.image_store.specs.Chopping.{IsMismatch, most_seen, seen_to}
+use Rattle.image_store.specs.Chopping.{IsMismatch, StopsInOrder, most_seen, seen_to}
 use Rattle.image_store.specs.PutChunks.{HoldsAll, PutsFiles, SaysAll, Stands}
 use Rattle.image_store.specs.declared.chop.ChopFault.{ChopFault}
 use Rattle.image_store.specs.declared.chop.ChopFault.TheVariants as faults
 
 -- ---- chopping the image into a store that was taken
 
--- what chopping made of the folder's files f: g. `told` are the image's bytes, where they are told
+-- what chopping made of the folder's files f: g. `told` are the image's bytes, where they are told. Where it ended
+-- early, it has seen to the entries before one of them, and touched none after that
 pub record ChoppedTo (l : Listing) (told : Option (List ℕ)) (r : Result Unit ChopFault) (f g : Map (List ℕ)) : Type 0
   where
     pub holds : HoldsAll l (seen_to l r) (chunks g)
     pub changed : IfSome told (λ t. Stands l t (most_seen l r) (chunks f) (chunks g))
     pub files : PutsFiles l told (Some (chunks f)) (most_seen l r) (Some f) (Some g)
+    pub order : OnErr r (StopsInOrder l told (Some (chunks f)) (Some (chunks g)) (Some f) (Some g))
 
 -- the image has the listed length
 abbrev pub HasLength : Listing → Option (List ℕ) → Type 0

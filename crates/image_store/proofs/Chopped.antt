@@ -7,8 +7,10 @@ use Rattle.caibx_codec.specs.Listing.{Listing, count_of, id_of, image_length}
 use Rattle.caibx_codec.specs.Right.{IsRightAt}
 use Rattle.chunk_store.specs.Said.{AskedOnce}
 use Rattle.chunk_store.specs.declared.id.ChunkId.{ChunkId}
+use Rattle.chunk_store.specs.declared.store.Store.{Ghosts as StoreWords}
 use Rattle.image_store.proofs.Names.{equal_or_not}
-use Rattle.image_store.specs.Chopping.{AreRightTo, AsksListed, IsMismatch, StopsAt, TellsLength, most_seen, seen_to, times_listed}
+use Rattle.image_store.proofs.Stored.{files_same, holds_none, stands_same}
+use Rattle.image_store.specs.Chopping.{AreRightTo, AsksListed, ChopStops, IsMismatch, StopsAt, TellsLength, most_seen, seen_to, times_listed}
 use Rattle.image_store.specs.declared.chop.ChopFault.{ChopFault}
 use Rattle.image_store.specs.declared.chop.ChopFault.TheVariants as faults
 
@@ -108,3 +110,17 @@ module _ (l : Listing) where
       ]
     ];
   }
+
+-- nothing was seen to
+pub stops_none : {S : Type 0} (store : StoreWords S) (l : Listing) (told : Option (List ℕ)) (first : S) → ChopStops store l told first first
+stops_none store l told first = record {
+  stops = record {
+    entry = 0;
+    right = right_none l told;
+    holds = holds_none l (store.holds first);
+    changed = stands_same l told 1 (store.holds first);
+    files = files_same l told (store.holds first) 1 (store.folder first);
+  };
+  says = λ i less other. absurd (omega arith);
+  asks = asks_none l 1 (store.asked first);
+}

@@ -11,6 +11,7 @@ use Rattle.chunk_store.specs.declared.id.DigestKind.{DigestKind}
 use Rattle.dsy_base.specs.Folders.{temporary_of}
 use Rattle.dsy_base.specs.Maps.{Map, at_name}
 use Rattle.image_store.proofs.Names.{equal_or_not, other_name, same_name}
+use Rattle.image_store.specs.Chopping.{SaysBefore}
 use Rattle.image_store.specs.PutChunks.{PutsRight, PutsLacked, HoldsNamed, SaysNamed, IsListed, IsStored, Stands, HoldsAll, SaysAll, IsPut, PutsFiles, AsksEach}
 use Rattle.image_store.specs.Putting.{HoldsStill}
 
@@ -105,6 +106,17 @@ module _ (l : Listing) where
           | inr other ↦ inr (other_name m (id_of l i) q (Some b) other)
         ]) h k
 
+  -- what is put under one of the ids has that name
+  pub holds_still : (told : Option (List ℕ)) (i : ℕ) (now new : Option (Map (List ℕ))) → PutsRight (kind_of l) (id_of l i) told now new → IfSome now (λ m. HoldsAll l i m) → IfSome new (λ m. HoldsAll l i m)
+  holds_still told i now new (inl same) held = subst (λ (o : Option (Map (List ℕ))). IfSome o (λ m. HoldsAll l i m)) (sym same) held
+  holds_still told i now new (inr (b, named, is, put)) held = subst (λ (o : Option (Map (List ℕ))). IfSome o (λ m. HoldsAll l i m)) (sym put) (go now held) where
+    go : (o : Option (Map (List ℕ))) → IfSome o (λ m. HoldsAll l i m) → IfSome (option_map (λ m. at_name m (id_of l i) (Some b)) o) (λ m. HoldsAll l i m)
+    go None k = tt
+    go (Some m) k = λ j less. elim (equal_or_not (id_of l i) (id_of l j)) [
+      | inl same ↦ (b, same_name m (id_of l i) (id_of l j) (Some b) same, named ∙ same)
+      | inr other ↦ subst (HoldsNamed (kind_of l) (id_of l j)) (sym (other_name m (id_of l i) (id_of l j) (Some b) other)) (k j less)
+    ]
+
   -- an id of an entry before holds still
   pub holds_again : (i : ℕ) (now : Option (Map (List ℕ))) → IsListed l i (id_of l i) → IfSome now (λ m. HoldsAll l i m) → IfSome now (λ m. HoldsAll l (i + 1) m)
   holds_again i None before held = tt
@@ -130,6 +142,9 @@ module _ (l : Listing) where
       | inr taken ↦ inr (keeps.taken said.0 taken)
     ],
   )
+
+  pub said_before : (i : ℕ) (old new : Said) → ((q : List ℕ) → q ≢ id_of l i → KeepsOf old new q) → SaysAll l i old → SaysBefore l i new
+  said_before i old new keeps said = λ j less other. said_on (id_of l j) old new (keeps (id_of l j) other) (said j less)
 
   pub said_more : (i : ℕ) (old new : Said) → ((q : List ℕ) → q ≢ id_of l i → KeepsOf old new q) → SaysNamed (kind_of l) (id_of l i) new → SaysAll l i old → SaysAll l (i + 1) new
   said_more i old new keeps here said = λ j less. elim (cases_lt j i) [

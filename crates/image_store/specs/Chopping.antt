@@ -6,6 +6,9 @@ use Rattle.std.specs.Str.{bytes_eq}
 use Rattle.caibx_codec.specs.Listing.{Listing, count_of, id_of, image_length, kind_of, slice_of}
 use Rattle.caibx_codec.specs.Right.{IsRightAt}
 use Rattle.chunk_store.specs.Names.{name_of}
+use Rattle.chunk_store.specs.Said.{Said}
+use Rattle.chunk_store.specs.declared.store.Store.{Ghosts as StoreWords}
+use Rattle.image_store.specs.PutChunks.{HoldsAll, PutsFiles, SaysNamed, Stands, ToldMap}
 use Rattle.image_store.specs.declared.chop.ChopFault.{ChopFault}
 use Rattle.image_store.specs.declared.chop.ChopFault.TheVariants as faults
 
@@ -65,3 +68,23 @@ StopsAt l k told (faults.Length n) = ⊥
 StopsAt l k told faults.ImageFault = Unit {0}
 StopsAt l k told faults.StoreFault = Unit {0}
 StopsAt l k told faults.Memory = Unit {0}
+
+-- seeing to the entries in order ended at one of them: the chunks of those before it are held, and at most the entry
+-- itself was touched besides. `held` and `now` are what the store held and holds, `old` and `new` the files of its folder
+pub record StopsInOrder (l : Listing) (told : Option (List ℕ)) (held now old new : ToldMap) : Type 0 where
+  pub entry : ℕ
+  pub right : AreRightTo l entry told
+  pub holds : IfSome now (λ m. HoldsAll l entry m)
+  pub changed : IfSome told (λ t. IfSome held (λ a. IfSome now (λ b. Stands l t (entry + 1) a b)))
+  pub files : PutsFiles l told held (entry + 1) old new
+
+-- of each entry before k, but of one with the id of entry k, the store has shown or taken bytes of that name
+abbrev pub SaysBefore : Listing → ℕ → Said → Type 0
+SaysBefore l k said = (i : ℕ) → i < k → id_of l i ≢ id_of l k → SaysNamed (kind_of l) (id_of l i) said
+
+-- so it ended with a store, which was asked for no id but those of the entries up to there
+pub record ChopStops {S : Type 0} (store : StoreWords S) (l : Listing) (told : Option (List ℕ)) (old new : S) : Type 0
+  where
+    pub stops : StopsInOrder l told (store.holds old) (store.holds new) (store.folder old) (store.folder new)
+    pub says : SaysBefore l stops.entry (store.said new)
+    pub asks : AsksListed l (stops.entry + 1) (store.asked old) (store.asked new)

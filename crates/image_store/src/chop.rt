@@ -1,12 +1,12 @@
 //! Chopping an image: each chunk that an index lists is named in the image and put into a store. Offsets are bytes from
 //! 0, entries are numbered from 0.
 
-ghost use Rattle.std.specs.Prelude.{◌≡◌, ℕ, List, ◌<◌, ◌≤◌, ◌≢◌, Err, IfErr, IfSome, OnOk, is_some, length};
+ghost use Rattle.std.specs.Prelude.{◌≡◌, ℕ, List, ◌<◌, ◌≤◌, ◌≢◌, Err, IfErr, IfSome, OnErr, OnOk, is_some, length};
 ghost use Rattle.caibx_codec.specs.Listing.{count_of, id_of, image_length, kind_of, size_of};
 ghost use Rattle.caibx_codec.specs.Right.{IsRight, IsRightAt};
 ghost use Rattle.chunk_store.specs.Said.{AskedOnce, KeepsOf};
 ghost use Rattle.dsy_base.specs.Counts.{CountsFaults};
-ghost use Rattle.image_store.specs.Chopping.{AsksListed, IsMismatch, StopsAt, TellsLength, most_seen, seen_to};
+ghost use Rattle.image_store.specs.Chopping.{AsksListed, ChopStops, IsMismatch, StopsAt, TellsLength, most_seen, seen_to};
 ghost use Rattle.image_store.specs.PutChunks.{CountsCause, HoldsAll, HoldsNamed, PutsFiles, PutsLacked, PutsRight};
 ghost use Rattle.image_store.specs.PutChunks.{SaysAll, SaysNamed, Stands, told_slice};
 
@@ -94,6 +94,7 @@ fn chop_entries<V: View, S: StoreWrite>(
         IfSome (S.holds store.new) (λ new. Stands index.now t (most_seen index.now result) old new))) }
     ensures files { PutsFiles index.now (V.held image.old).bytes (S.holds store.old) (most_seen index.now result)
         (S.folder store.old) (S.folder store.new) }
+    ensures order { OnErr result (ChopStops S.Store index.now (V.held image.old).bytes store.old store.new) }
     ensures tells { is_some (S.holds store.new) ≡ is_some (S.holds store.old) }
     ensures kept { V.held image.new ≡ V.held image.old }
     ensures place { S.place store.new ≡ S.place store.old }
@@ -128,6 +129,7 @@ pub fn chop<V: View, S: StoreWrite>(
         IfSome (S.holds store.new) (λ new. Stands index.now t (most_seen index.now result) old new))) }
     ensures files { PutsFiles index.now (V.held image.old).bytes (S.holds store.old) (most_seen index.now result)
         (S.folder store.old) (S.folder store.new) }
+    ensures order { OnErr result (ChopStops S.Store index.now (V.held image.old).bytes store.old store.new) }
     ensures untouched { (n : ℕ) → result ≡ Err (ChopFault.Length n) →
         (image.new ≡ image.old) × (store.new ≡ store.old) }
 

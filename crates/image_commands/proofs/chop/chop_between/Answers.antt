@@ -31,7 +31,7 @@ returns-in-Ok g c =
     let done = c.chop-chopped.ensures in
     let over = c.in-Ok.ensures in
     let r = Ok tt in
-    let stands = chopped_to l view.bytes r (files_in files old) (files_in files new) (over.holds) (over.changed) (over.files) in
+    let stands = chopped_to l view.bytes r (files_in files old) (files_in files new) (over.holds) (over.changed) (over.files) tt in
     let back = back files g.F.Folder.Look.place g.F.Folder.Look.faults state w v c.args.store.now old new done.place c.requires.located gave.folders gave.given (ChoppedTo l view.bytes r) (SaysAll l (seen_to l r)) (says_more l (seen_to l r)) done.tells stands (over.told) in
     (over.right, back, gave.kept)
 
@@ -71,7 +71,7 @@ returns-in-Mismatch g c =
     let over = c.in-Err.ensures in
     let sized = has_length l view.bytes _ (g.met.F.View.View.sized c.args.view) (rw c.in-Mismatch.is at over.size) in
     let r = Err (faults.Mismatch c.in-Mismatch.entry c.in-Mismatch.got) in
-    let stands = chopped_to l view.bytes r (files_in files old) (files_in files new) (rw c.in-Mismatch.is at over.holds) (rw c.in-Mismatch.is at over.changed) (rw c.in-Mismatch.is at over.files) in
+    let stands = chopped_to l view.bytes r (files_in files old) (files_in files new) (rw c.in-Mismatch.is at over.holds) (rw c.in-Mismatch.is at over.changed) (rw c.in-Mismatch.is at over.files) over.order.stops in
     let back = back files g.F.Folder.Look.place g.F.Folder.Look.faults state w v c.args.store.now old new done.place c.requires.located gave.folders gave.given (ChoppedTo l view.bytes r) (SaysAll l (seen_to l r)) (says_more l (seen_to l r)) done.tells stands (rw c.in-Mismatch.is at over.told) in
     ((sized, rw c.in-Mismatch.is at over.first, back), gave.kept)
 
@@ -91,7 +91,7 @@ returns-in-ImageFault g c =
     let over = c.in-Err.ensures in
     let sized = has_length l view.bytes _ (g.met.F.View.View.sized c.args.view) (rw c.in-ImageFault.is at over.size) in
     let r = Err faults.ImageFault in
-    let stands = chopped_to l view.bytes r (files_in files old) (files_in files new) (rw c.in-ImageFault.is at over.holds) (rw c.in-ImageFault.is at over.changed) (rw c.in-ImageFault.is at over.files) in
+    let stands = chopped_to l view.bytes r (files_in files old) (files_in files new) (rw c.in-ImageFault.is at over.holds) (rw c.in-ImageFault.is at over.changed) (rw c.in-ImageFault.is at over.files) over.order.stops in
     let back = back files g.F.Folder.Look.place g.F.Folder.Look.faults state w v c.args.store.now old new done.place c.requires.located gave.folders gave.given (ChoppedTo l view.bytes r) (SaysAll l (seen_to l r)) (says_more l (seen_to l r)) done.tells stands (rw c.in-ImageFault.is at over.told) in
     let failed = done.image_faults.cause (search rules) in
     let risen = view_rose w.disk v.disk view.name (g.F.View.View.faults c.args.view) (g.F.View.View.faults c.chop-chopped.new.image) (search rules) c.requires.fresh.0 failed in
@@ -113,7 +113,7 @@ returns-in-StoreFault g c =
     let over = c.in-Err.ensures in
     let sized = has_length l view.bytes _ (g.met.F.View.View.sized c.args.view) (rw c.in-StoreFault.is at over.size) in
     let r = Err faults.StoreFault in
-    let stands = chopped_to l view.bytes r (files_in files old) (files_in files new) (rw c.in-StoreFault.is at over.holds) (rw c.in-StoreFault.is at over.changed) (rw c.in-StoreFault.is at over.files) in
+    let stands = chopped_to l view.bytes r (files_in files old) (files_in files new) (rw c.in-StoreFault.is at over.holds) (rw c.in-StoreFault.is at over.changed) (rw c.in-StoreFault.is at over.files) over.order.stops in
     let back = back files g.F.Folder.Look.place g.F.Folder.Look.faults state w v c.args.store.now old new done.place c.requires.located gave.folders gave.given (ChoppedTo l view.bytes r) (SaysAll l (seen_to l r)) (says_more l (seen_to l r)) done.tells stands (rw c.in-StoreFault.is at over.told) in
     let failed = done.store_faults.cause (search rules) in
     let risen = rose files g.F.Folder.Look.place g.F.Folder.Look.faults state w v c.args.store.now old new done.place c.requires.located gave.folders gave.given c.requires.fresh.1 failed in
@@ -135,6 +135,6 @@ returns-in-Memory g c =
     let over = c.in-Err.ensures in
     let sized = has_length l view.bytes _ (g.met.F.View.View.sized c.args.view) (rw c.in-Memory.is at over.size) in
     let r = Err faults.Memory in
-    let stands = chopped_to l view.bytes r (files_in files old) (files_in files new) (rw c.in-Memory.is at over.holds) (rw c.in-Memory.is at over.changed) (rw c.in-Memory.is at over.files) in
+    let stands = chopped_to l view.bytes r (files_in files old) (files_in files new) (rw c.in-Memory.is at over.holds) (rw c.in-Memory.is at over.changed) (rw c.in-Memory.is at over.files) over.order.stops in
     let back = back files g.F.Folder.Look.place g.F.Folder.Look.faults state w v c.args.store.now old new done.place c.requires.located gave.folders gave.given (ChoppedTo l view.bytes r) (SaysAll l (seen_to l r)) (says_more l (seen_to l r)) done.tells stands (rw c.in-Memory.is at over.told) in
     ((sized, back), gave.kept)

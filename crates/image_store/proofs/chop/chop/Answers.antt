@@ -1,3 +1,4 @@
+use Rattle.image_store.proofs.Chopped.{stops_none}
 use Rattle.image_store.proofs.Stored.{holds_none, stands_same, files_same}
 use Rattle.image_store.proofs.chop.chop.Goals as goal
 
@@ -10,3 +11,12 @@ returns-in_default-room-clause-changed g c = stands_same c.args.index.now _ _ _
 
 pub returns-in_default-room-clause-files : goal.returns-in_default-room-clause-files
 returns-in_default-room-clause-files g c = files_same c.args.index.now _ _ _ _
+
+pub returns-then-size-length-clause-order : goal.returns-then-size-length-clause-order
+returns-then-size-length-clause-order g c = stops_none g.S.Store c.args.index.now _ c.args.store.now
+
+pub returns-in_default-clause-order : goal.returns-in_default-clause-order
+returns-in_default-clause-order g c = stops_none g.S.Store c.args.index.now _ c.args.store.now
+
+pub returns-in_default-room-clause-order : goal.returns-in_default-room-clause-order
+returns-in_default-room-clause-order g c = stops_none g.S.Store c.args.index.now _ c.args.store.now

@@ -1,12 +1,12 @@
-use Rattle.std.proofs.Common.{rules, ◌≡◌, ℕ, ◌+◌, ◌<◌, ◌≤◌, List, Option, IfSome, Result, Err, sym, ap, subst, ◌∙◌, arith}
+use Rattle.std.proofs.Common.{rules, ◌≡◌, ℕ, ◌+◌, ◌<◌, ◌≤◌, List, Option, IfSome, OnErr, Result, Err, sym, ap, subst, ◌∙◌, arith}
 use Rattle.std.specs.Option.{option_map}
 use Rattle.caibx_codec.specs.Listing.{count_of, id_of, kind_of, slice_of}
 use Rattle.dsy_base.specs.Maps.{Map}
-use Rattle.image_store.specs.Chopping.{AsksListed, most_seen, seen_to}
+use Rattle.image_store.specs.Chopping.{AsksListed, ChopStops, most_seen, seen_to}
 use Rattle.image_store.specs.PutChunks.{SaysAll, Stands, PutsFiles}
 use Rattle.image_store.specs.declared.chop.ChopFault.{ChopFault}
 use Rattle.image_store.proofs.Chopped.{right_more, asks_entry, asks_whole, seen_early, most_early}
-use Rattle.image_store.proofs.Stored.{stands_later, stands_more, holds_more, said_more, said_none, files_later, files_more, lacked_again, tells_on}
+use Rattle.image_store.proofs.Stored.{stands_later, stands_more, holds_more, holds_still, said_before, said_more, said_none, files_later, files_more, lacked_again, tells_on}
 use Rattle.image_store.proofs.chop.chop_entries.Goals as goal
 
 -- seeing to entry i ended early
@@ -73,6 +73,33 @@ returns-in_err-chop_entry-clause-asks g c =
     (most_early l i (g.V.View.held c.loop-i.image).bytes (λ k. AsksListed l k first new) fault c.in_err-chop_entry.ensures.err
     (λ k got e. subst (λ s. AsksListed l i first (g.S.Store.asked s)) (sym (c.chop_entry.ensures.untouched k got (c.in_err-chop_entry.was ∙ ap Err e))) c.loop-i.invariant.asks)
     (asks_whole l (i + 1) first new (omega (arith, less)) (asks_entry l i first now new less c.chop_entry.ensures.asks c.loop-i.invariant.asks)))
+
+pub returns-in_err-chop_entry-clause-order : goal.returns-in_err-chop_entry-clause-order
+returns-in_err-chop_entry-clause-order g c =
+    let l = c.args.index.now in
+    let i = c.loop-i.i in
+    let inv = c.loop-i.invariant in
+    let told = (g.V.View.held c.args.image.now).bytes in
+    let first = g.S.Store.holds c.args.store.now in
+    let now = g.S.Store.holds c.loop-i.store in
+    let new = g.S.Store.holds c.chop_entry.new.store in
+    let files_first = g.S.Store.folder c.args.store.now in
+    let less : i < count_of l = omega (arith, c.loop-i-test.true, c.count-i-end.ensures) in
+    let done = c.chop_entry.ensures in
+    let changed = rw inv.image at done.changed in
+    let files = rw inv.image at done.files in
+    let answer : c.from_residual.result ≡ Err c.in_err-chop_entry.field-0.0 = search rules in
+    subst (λ (r : Result Unit ChopFault). OnErr r (ChopStops g.S.Store l told c.args.store.now c.chop_entry.new.store)) (sym answer) (record {
+      stops = record {
+        entry = i;
+        right = inv.right;
+        holds = holds_still l (option_map (λ t. slice_of l t i) told) i now new changed inv.holds;
+        changed = stands_more l told i first now new changed inv.stands;
+        files = files_more l told i first now files_first (g.S.Store.folder c.loop-i.store) (g.S.Store.folder c.chop_entry.new.store) files (lacked_again l told i first now inv.tells inv.stands) inv.files;
+      };
+      says = said_before l i (g.S.Store.said c.loop-i.store) (g.S.Store.said c.chop_entry.new.store) done.said inv.says;
+      asks = asks_entry l i (g.S.Store.asked c.args.store.now) (g.S.Store.asked c.loop-i.store) (g.S.Store.asked c.chop_entry.new.store) less done.asks inv.asks;
+    })
 
 pub loop-i-preserved : goal.loop-i-preserved
 loop-i-preserved g c =
