@@ -11,6 +11,7 @@ use Rattle.dsy_base.specs.Counts.{Quiet, Rose}
 use Rattle.dsy_base.specs.Maps.{Map}
 use Rattle.image_store.proofs.Chopped.{asks_entry, asks_none, asks_whole}
 use Rattle.image_store.specs.Chopping.{AsksListed}
+use Rattle.image_store.specs.PutChunks.{IsListed}
 use Rattle.store_chain.proofs.Kept.{kept_on, kept_still, none_more}
 use Rattle.store_chain.proofs.Pairs.{all_zip_same}
 use Rattle.store_chain.specs.Chains.{AsksOnce, Chained, EachOnce, KeepsStores}
@@ -22,7 +23,7 @@ use Rattle.store_chain.specs.declared.refused.Refused.TheVariants as refused
 use Rattle.store_chain.specs.declared.want.Want.{Want}
 use Rattle.verify_tool.proofs.Asked.{each_then, each_weaker}
 use Rattle.verify_tool.proofs.Holding.{damaged_never, each_within, gave_entry, holds_more, holds_none, holds_still, missing_never, not_at_first, quiet_within, rose_never, takes_earlier, told_still}
-use Rattle.verify_tool.specs.Filling.{AsksEntries, EntryUnfound, FillEnds, FillsBy, GivesEntry, HoldsTo, IsGivenBy, EndsAtEntry, FillUnfailed, RefusesEntry, SparesStores, MayFill, entry_want, filled_to}
+use Rattle.verify_tool.specs.Filling.{AsksEntries, EntryUnfound, FillEnds, FillsBy, GivesEntry, HoldsTo, IsGivenBy, EndsAtEntry, FillStops, FillUnfailed, RefusesEntry, SparesStores, MayFill, entry_want, filled_to}
 use Rattle.verify_tool.specs.declared.fill.FillFault.{FillFault}
 use Rattle.verify_tool.specs.declared.fill.FillFault.TheVariants as faults
 
@@ -41,14 +42,17 @@ first_rose said faults lacks_memory w (suc k) (a ∷ old) (b ∷ new) h = first_
 -- ---- how often the stores are asked
 
 module _ {S : Type 0} (asked queried : S → List ℕ → ℕ) (l : Listing) where
-  pub none_asked : (c : Chained S) → AsksEntries asked queried l 0 c c
-  none_asked c = record {
-    stores = all_zip_same (λ a b. AsksListed l 0 (asked a) (asked b)) (λ s. asks_none l 0 (asked s)) c.stores;
+  pub none_asked_to : (k : ℕ) (c : Chained S) → AsksEntries asked queried l k c c
+  none_asked_to k c = record {
+    stores = all_zip_same (λ a b. AsksListed l k (asked a) (asked b)) (λ s. asks_none l k (asked s)) c.stores;
     queries = refl;
     no_fewer = omega arith;
     calls = omega arith;
     kind = refl;
   }
+
+  pub none_asked : (c : Chained S) → AsksEntries asked queried l 0 c c
+  none_asked = none_asked_to 0
 
   each_more : (i : ℕ) → i < count_of l → (c0 c d : List S) → AllZip (λ a b. AsksListed l i (asked a) (asked b)) c0 c → EachOnce asked (id_of l i) c d
       → AllZip (λ a b. AsksListed l (i + 1) (asked a) (asked b)) c0 d
@@ -97,12 +101,14 @@ module _ {S : Type 0} (holds folder : S → Option (Map (List ℕ))) (place : S 
     pub asks : AsksEntries asked queried l i c0 c
     pub spared : Spared s0 s c0 c
     pub stocks : Stocks (MayFill holds l c0.stores) s0 s
+    pub order : Stocks (λ q b. IsListed l i q) s0 s
     pub stores : KeepsStores holds folder place said store_faults c0.stores c.stores
 
   -- the call for entry i, which ended so
   pub record Turns (i : ℕ) (s t : Shelf) (c d : Chained S) : Type 0 where
     pub asks : ((d ≡ c) × (t.files ≡ s.files)) ⊎ (EntryUnfound l i s t × AsksOnce asked queried (id_of l i) c d)
     pub stocks : Stocks (MayFill holds l c.stores) s t
+    pub changed : Stocks (λ q b. q ≡ id_of l i) s t
     pub stores : KeepsStores holds folder place said store_faults c.stores d.stores
 
   spared_none : (s : Shelf) (c : Chained S) → Spared s s c c
@@ -118,6 +124,7 @@ module _ {S : Type 0} (holds folder : S → Option (Map (List ℕ))) (place : S 
     asks = none_asked asked queried l c;
     spared = spared_none s c;
     stocks = stocks_same (MayFill holds l c.stores) s;
+    order = stocks_same (λ q b. IsListed l 0 q) s;
     stores = kept_still holds folder place said store_faults c.stores;
   }
 
@@ -127,6 +134,11 @@ module _ {S : Type 0} (holds folder : S → Option (Map (List ℕ))) (place : S 
 
     pub turn_stocks : Stocks (MayFill holds l c0.stores) s0 t
     turn_stocks = stocks_on (MayFill holds l c0.stores) s0 s t before.stocks stocks_now
+
+    turn_order : Stocks (λ q b. IsListed l (i + 1) q) s0 t
+    turn_order = stocks_on (λ q b. IsListed l (i + 1) q) s0 s t
+        (stocks_weaker (λ q b. IsListed l i q) (λ q b. IsListed l (i + 1) q) (λ q b h. record { entry = h.entry; below = omega (arith, h.below); id = h.id }) s0 s before.order)
+        (stocks_weaker (λ q b. q ≡ id_of l i) (λ q b. IsListed l (i + 1) q) (λ q b is. record { entry = i; below = omega arith; id = is }) s t turn.changed)
 
     pub turn_stores : KeepsStores holds folder place said store_faults c0.stores d.stores
     turn_stores = kept_on holds folder place said store_faults c0.stores c.stores d.stores before.stores turn.stores
@@ -204,6 +216,7 @@ module _ {S : Type 0} (holds folder : S → Option (Map (List ℕ))) (place : S 
       asks = turn_asks;
       spared = turn_spared;
       stocks = turn_stocks;
+      order = turn_order;
       stores = turn_stores;
     }
 
@@ -239,6 +252,15 @@ module _ {S : Type 0} (holds folder : S → Option (Map (List ℕ))) (place : S 
     turn_holds faults.CacheFault at = holds_none l t
     turn_holds faults.Memory at = holds_none l t
 
+    pub turn_stops : (fault : FillFault) → EndsAtEntry i (Err fault) → FillStops asked queried l fault s0 t c0 d
+    turn_stops fault at = record {
+      entry = i;
+      names = at;
+      holds = holds_still holds l c0.stores i s t stocks_now before.holds_all;
+      stocks = turn_order;
+      asks = turn_asks;
+    }
+
     -- the cache at first didn't give a chunk that was refused, and no store does
     lost_here : (m : Map (List ℕ)) (maps : List (Map (List ℕ))) → FillUnfailed holds store_faults l m maps s0 t c0.stores d.stores → (k : ℕ) (id : ChunkId) (r : Refused) → k ≡ i
         → RefusesEntry holds folder place said store_faults lacks_memory l k id r s0 t c0.stores d.stores
@@ -262,3 +284,13 @@ module _ {S : Type 0} (holds folder : S → Option (Map (List ℕ))) (place : S 
         (first.until.never_fall k) (omega arith) (first_rose said store_faults lacks_memory (entry_want l h.0 h.1) k first.before d.stores first.refused))
     turn_exactly faults.CacheFault at h m maps nothing = rose_never s0.faults t.faults nothing.shelf h
     turn_exactly faults.Memory at h m maps nothing = tt
+
+-- nothing was seen to for want of memory
+pub stops_none : {S : Type 0} (asked queried : S → List ℕ → ℕ) (l : Listing) (s : Shelf) (c : Chained S) → FillStops asked queried l faults.Memory s s c c
+stops_none asked queried l s c = record {
+  entry = 0;
+  names = tt;
+  holds = holds_none l s;
+  stocks = stocks_same (λ q b. IsListed l 1 q) s;
+  asks = none_asked_to asked queried l 1 c;
+}

@@ -13,6 +13,7 @@ use Rattle.chunk_store.specs.declared.id.ChunkId.{ChunkId}
 use Rattle.dsy_base.specs.Counts.{Quiet, Rose}
 use Rattle.dsy_base.specs.Maps.{Map}
 use Rattle.image_store.specs.Chopping.{AsksListed}
+use Rattle.image_store.specs.PutChunks.{IsListed}
 use Rattle.store_chain.specs.Chains.{Chained, KeepsStores}
 use Rattle.store_chain.specs.Faults.{EachQuiet}
 use Rattle.store_chain.specs.Giving.{LacksAll, SomeHolds}
@@ -155,3 +156,16 @@ pub record AsksEntries {S : Type 0} (asked queried : S → List ℕ → ℕ) (l 
 abbrev pub SparesStores : {S : Type 0} → Listing → Shelf → Shelf → Chained S → Chained S → Type 0
 SparesStores l s0 s1 c0 c1 = IfSome (held_on s0) (λ m. ((i : ℕ) → i < count_of l → GivesEntry l i m)
     → Quiet s0.faults s1.faults → c1 ≡ c0)
+
+-- ---- in which order
+
+-- filling ended early at one of the entries: each before it is in the cache, under each id that none of those and not
+-- this one lists stands what stood there, and the stores were asked for these alone. A refusal that names an entry names
+-- this one
+pub record FillStops {S : Type 0} (asked queried : S → List ℕ → ℕ) (l : Listing) (fault : FillFault) (s0 s1 : Shelf)
+    (c0 c1 : Chained S) : Type 0 where
+  pub entry : ℕ
+  pub names : EndsAtEntry entry (Err fault)
+  pub holds : HoldsTo l entry s1
+  pub stocks : Stocks (λ q b. IsListed l (entry + 1) q) s0 s1
+  pub asks : AsksEntries asked queried l (entry + 1) c0 c1

@@ -8,7 +8,7 @@ ghost use Rattle.dsy_base.specs.Maps.{Map};
 ghost use Rattle.store_chain.specs.Chains.{AsksOnce, KeepsStores};
 ghost use Rattle.store_chain.specs.Faults.{EachQuiet};
 ghost use Rattle.verify_tool.specs.Filling.{AsksEntries, EntryUnfound, FillEnds, FillsBy, GivesEntry, HoldsTo};
-ghost use Rattle.verify_tool.specs.Filling.{IsGivenBy, EndsAtEntry, FillUnfailed, SparesStores, MayFill};
+ghost use Rattle.verify_tool.specs.Filling.{IsGivenBy, EndsAtEntry, FillStops, FillUnfailed, SparesStores, MayFill};
 ghost use Rattle.verify_tool.specs.Filling.{fill_fault_of, filled_to};
 
 use cache_store::cached::{Cached, Kept};
@@ -94,6 +94,8 @@ fn fill_entry<F: Folder, S: Store>(
         × AsksOnce S.asked S.queried (id_of index.now i) cached.old.chain cached.new.chain) }
     ensures stocks { Stocks (MayFill S.holds index.now cached.old.chain.stores)
         (shelf_of F.files F.place F.faults cached.old.shelf) (shelf_of F.files F.place F.faults cached.new.shelf) }
+    ensures changed { Stocks (λ q b. q ≡ id_of index.now i)
+        (shelf_of F.files F.place F.faults cached.old.shelf) (shelf_of F.files F.place F.faults cached.new.shelf) }
     ensures stores { KeepsStores S.holds S.folder S.place S.said S.faults
         cached.old.chain.stores cached.new.chain.stores }
     ensures same { cached.new.chain.kind ≡ cached.old.chain.kind }
@@ -128,6 +130,9 @@ fn fill_entries<F: Folder, S: Store>(
     ensures exactly { (m : Map (List ℕ)) → (maps : List (Map (List ℕ))) → FillUnfailed S.holds S.faults index.now m maps
         (shelf_of F.files F.place F.faults cached.old.shelf) (shelf_of F.files F.place F.faults cached.new.shelf)
         cached.old.chain.stores cached.new.chain.stores → FillsBy index.now m maps result }
+    ensures order { IfErr result (λ e. FillStops S.asked S.queried index.now e
+        (shelf_of F.files F.place F.faults cached.old.shelf) (shelf_of F.files F.place F.faults cached.new.shelf)
+        cached.old.chain cached.new.chain) }
 
     ensures asks { AsksEntries S.asked S.queried index.now (count_of index.now) cached.old.chain cached.new.chain }
     ensures spared { SparesStores index.now (shelf_of F.files F.place F.faults cached.old.shelf)
@@ -161,6 +166,9 @@ pub fn fill<F: Folder, S: Store>(
     ensures exactly { (m : Map (List ℕ)) → (maps : List (Map (List ℕ))) → FillUnfailed S.holds S.faults index.now m maps
         (shelf_of F.files F.place F.faults cached.old.shelf) (shelf_of F.files F.place F.faults cached.new.shelf)
         cached.old.chain.stores cached.new.chain.stores → FillsBy index.now m maps result }
+    ensures order { IfErr result (λ e. FillStops S.asked S.queried index.now e
+        (shelf_of F.files F.place F.faults cached.old.shelf) (shelf_of F.files F.place F.faults cached.new.shelf)
+        cached.old.chain cached.new.chain) }
 
     // How often the stores are asked, what the cache holds then, and what the stores keep.
     ensures asks { AsksEntries S.asked S.queried index.now (count_of index.now) cached.old.chain cached.new.chain }
