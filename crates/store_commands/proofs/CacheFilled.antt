@@ -1,6 +1,6 @@
 -- Filling a cache by indexes in order: what one of them comes to, from one to the next, and what stands when all is given
 -- back.
-use Rattle.std.proofs.Common.{◌≡◌, ◌⊎◌, ℕ, ◌≤◌, List, [], ◌∷◌, All, map, Option, Some, None, IfSome, IsSomeAnd, Result, Ok, Err, refl, sym, subst, ap, ◌∙◌, inl, inr, arith, slice_index_or, true}
+use Rattle.std.proofs.Common.{◌≡◌, ◌⊎◌, ℕ, ◌+◌, ◌≤◌, List, [], ◌∷◌, All, map, Option, Some, None, IfSome, IsSomeAnd, Result, Ok, Err, IfErr, refl, sym, subst, ap, ◌∙◌, inl, inr, arith, slice_index_or, true}
 use Rattle.std.specs.Map.{count_at}
 use Rattle.std.specs.Option.{option_map}
 use Rattle.cache_store.proofs.Stocked.{stocks_weaker}
@@ -26,19 +26,20 @@ use Rattle.command_steps.specs.declared.any_source.AnySource.{AnySource}
 use Rattle.command_steps.proofs.Taken.{at_name_twice}
 use Rattle.command_steps.proofs.Found.{held_after, held_maps}
 use Rattle.command_steps.proofs.Lacked.{have_lacked, same_length}
-use Rattle.store_commands.specs.Caching.{AddsListed, AllFilled, CacheEnds, Evidence, FillExactly, FillTells, FilledBetween, FillsEach, IndexFilled, IsHeldListed, IsNotHad, NotFilled, answer_of_fill, of_calls, of_command, outcome_of_fill}
+use Rattle.store_commands.specs.Caching.{AddsListed, AllFilled, CacheEnds, Evidence, FillExactly, FillTells, FilledBetween, FillsEach, IndexFilled, IsHeldListed, IsNotHad, NotFilled, StopsFilling, answer_of_fill, of_calls, of_command, outcome_of_fill}
 use Rattle.dsy_base.proofs.Counts.{at_same}
 use Rattle.dsy_base.specs.Counts.{Quiet, Rose}
 use Rattle.dsy_base.specs.Disk.{Disk, Output}
 use Rattle.dsy_base.specs.Links.{DialState}
 use Rattle.dsy_base.specs.Maps.{Map, at_name}
-use Rattle.store_chain.specs.Chains.{KeepsStores}
+use Rattle.image_store.specs.PutChunks.{IsListed as IsAmong}
+use Rattle.store_chain.specs.Chains.{Chained, KeepsStores}
 use Rattle.store_chain.specs.Faults.{EachQuiet, NoneFalls}
 use Rattle.store_chain.specs.declared.refused.Refused.{Refused}
 use Rattle.store_chain.specs.declared.refused.Refused.TheVariants as refused
 use Rattle.store_chain.specs.declared.want.Want.{Want}
 use Rattle.verify_tool.proofs.Holding.{each_within, quiet_within}
-use Rattle.verify_tool.specs.Filling.{FillEnds, FillsBy, GivesEntry, HoldsTo, FillUnfailed, RefusesEntry, MayFill, filled_to}
+use Rattle.verify_tool.specs.Filling.{FillEnds, FillStops, FillsBy, GivesEntry, HoldsTo, FillUnfailed, RefusesEntry, MayFill, filled_to}
 use Rattle.verify_tool.specs.declared.fill.FillFault.{FillFault}
 use Rattle.verify_tool.specs.declared.fill.FillFault.TheVariants as faults
 
@@ -89,9 +90,23 @@ module _ {S : Type 0} (files folder : S → Option (Map (List ℕ))) (place : S 
   exact r h = λ fs told unfailed. if_told (option_map chunks s0.files) _ (λ m held_is sizes.
       h m (map chunks fs) (record { held = held_is; told = held_maps files c0 fs told; shelf = unfailed.0; stores = unfailed.1; sizes = sizes }))
 
-  pub index_filled : (r : Result Unit FillFault) → Stocks (MayFill holds l c0) s0 s1 → HoldsTo l (filled_to l r) s1 → FillEnds holds folder place said counted true l s0 s1 c0 c1 r
+  -- where it ended early
+  stopped_files : (k : ℕ) (x y : Option (Map (List ℕ))) → IfSome x (λ m. IfSome y (λ n. (q : List ℕ) → (chunks n q ≡ chunks m q) ⊎ ((b : List ℕ) × (chunks n q ≡ Some b) × IsAmong l k q)))
+      → IfSome x (λ f. IfSome y (λ g. (q : List ℕ) → (chunks g q ≡ chunks f q) ⊎ IsAmong l k q))
+  stopped_files k None y h = tt
+  stopped_files k (Some f) None h = tt
+  stopped_files k (Some f) (Some g) h = λ q. elim (h q) [
+    | inl same ↦ inl same
+    | inr new ↦ inr new.2
+  ]
+
+  pub stops : {A : Type 0} (asked queried : A → List ℕ → ℕ) (d0 d1 : Chained A) (r : Result Unit FillFault) → IfErr r (λ e. FillStops asked queried l e s0 s1 d0 d1) → IfErr r (λ fault. StopsFilling l fault s0.files s1.files)
+  stops asked queried d0 d1 (Ok u) h = tt
+  stops asked queried d0 d1 (Err fault) h = record { entry = h.entry; names = h.names; holds = h.holds; others = stopped_files (h.entry + 1) s0.files s1.files h.stocks.chunks }
+
+  pub index_filled : (r : Result Unit FillFault) → IfErr r (λ fault. StopsFilling l fault s0.files s1.files) → Stocks (MayFill holds l c0) s0 s1 → HoldsTo l (filled_to l r) s1 → FillEnds holds folder place said counted true l s0 s1 c0 c1 r
       → ((m : Map (List ℕ)) (maps : List (Map (List ℕ))) → FillUnfailed holds counted l m maps s0 s1 c0 c1 → FillsBy l m maps r) → IndexFilled Calls l s0.files s1.files r
-  index_filled r stocks all fill_ends exactly = record { added = added stocks; holds = all; tells = tells r fill_ends; exactly = exact r exactly }
+  index_filled r order stocks all fill_ends exactly = record { added = added stocks; holds = all; tells = tells r fill_ends; exactly = exact r exactly; order = order }
 
 -- ---- seen over more calls
 
@@ -112,7 +127,7 @@ module _ (a b : Evidence) (held : (fs : List (Map (List ℕ))) → b.holds fs �
   exactly_wider l x r h = λ fs told still. h fs (held fs told) (quiet fs told still)
 
   pub done_wider : (l : Listing) (x y : Option (Map (List ℕ))) → IndexFilled a l x y (Ok tt) → IndexFilled b l x y (Ok tt)
-  done_wider l x y h = record { added = added_wider l x y h.added; holds = h.holds; tells = tt; exactly = exactly_wider l x (Ok tt) h.exactly }
+  done_wider l x y h = record { added = added_wider l x y h.added; holds = h.holds; tells = tt; exactly = exactly_wider l x (Ok tt) h.exactly; order = tt }
 
   module _ (refuse : (c : Want) (r : Refused) → a.refused c r → b.refused c r) (cache : a.cache_failed → b.cache_failed) where
     lost_wider : (l : Listing) (y : Option (Map (List ℕ))) (k : ℕ) (id : ChunkId) (r : Refused) → IsNotHad a l y k id r → IsNotHad b l y k id r
@@ -133,7 +148,7 @@ module _ (a b : Evidence) (held : (fs : List (Map (List ℕ))) → b.holds fs �
     tells_wider l y (Err faults.Memory) h = tt
 
     index_wider : (l : Listing) (x y : Option (Map (List ℕ))) (r : Result Unit FillFault) → IndexFilled a l x y r → IndexFilled b l x y r
-    index_wider l x y r h = record { added = added_wider l x y h.added; holds = h.holds; tells = tells_wider l y r h.tells; exactly = exactly_wider l x r h.exactly }
+    index_wider l x y r h = record { added = added_wider l x y h.added; holds = h.holds; tells = tells_wider l y r h.tells; exactly = exactly_wider l x r h.exactly; order = h.order }
 
     -- between disks that lie within others
     module _ (d0 e0 d e : Disk) (same : d0.files ≡ d.files) (file : (q : List ℕ) → FileRose d0 e0 q → FileRose d e q) where

@@ -1,6 +1,6 @@
 -- `cache -s STORE.. -c CACHE INDEX..`. A name is its bytes; files are a folder's, where they are told.
-use Rattle.std.specs.Prelude.{◌≡◌, ◌⊎◌, ℕ, ◌<◌, List, [], ◌∷◌, length, map}
-use Rattle.std.specs.Prelude.{Option, Some, IfSome, IsSomeAnd, IsTrue, true, is_some, Result, Ok, Err}
+use Rattle.std.specs.Prelude.{◌≡◌, ◌⊎◌, ℕ, ◌+◌, ◌<◌, List, [], ◌∷◌, length, map}
+use Rattle.std.specs.Prelude.{Option, Some, IfSome, IfErr, IsSomeAnd, IsTrue, true, is_some, Result, Ok, Err}
 use Rattle.std.specs.List.{All, AllZip, Any}
 use Rattle.std.specs.Option.{option_map}
 use Rattle.cache_store.specs.Giving.{GiveOneSize}
@@ -22,14 +22,14 @@ use Rattle.dir_store.specs.Names.{is_stranger}
 use Rattle.dsy_base.specs.Counts.{Quiet, Rose}
 use Rattle.dsy_base.specs.Disk.{Disk}
 use Rattle.dsy_base.specs.Maps.{Map, at_name}
-use Rattle.image_store.specs.PutChunks.{HoldsAll}
+use Rattle.image_store.specs.PutChunks.{HoldsAll, IsListed as IsAmong}
 use Rattle.store_chain.specs.Faults.{EachQuiet}
 use Rattle.store_chain.specs.Giving.{LacksAll}
 use Rattle.store_chain.specs.Refusals.{Refuses}
 use Rattle.store_chain.specs.declared.refused.Refused.{Refused}
 use Rattle.store_chain.specs.declared.refused.Refused.TheVariants as refused
 use Rattle.store_chain.specs.declared.want.Want.{Want}
-use Rattle.verify_tool.specs.Filling.{FillsBy, GivesEntry, HoldsEntry, ListsSize, entry_want, filled_to}
+use Rattle.verify_tool.specs.Filling.{EndsAtEntry, FillsBy, GivesEntry, HoldsEntry, ListsSize, entry_want, filled_to}
 use Rattle.verify_tool.specs.declared.fill.FillFault.{FillFault}
 use Rattle.verify_tool.specs.declared.fill.FillFault.TheVariants as faults
 
@@ -79,6 +79,14 @@ abbrev pub answer_of_fill : Result Unit FillFault → Result Unit Outcome
 answer_of_fill (Ok u) = Ok u
 answer_of_fill (Err fault) = Err (outcome_of_fill fault)
 
+-- filling ended early at one of the entries: each before it is among the files then, and each id that neither those nor
+-- this one list holds what it held. A refusal that names an entry names this one
+pub record StopsFilling (l : Listing) (fault : FillFault) (x y : Option (Map (List ℕ))) : Type 0 where
+  pub entry : ℕ
+  pub names : EndsAtEntry entry (Err fault)
+  pub holds : HoldsFirst l entry y
+  pub others : IfSome x (λ f. IfSome y (λ g. (q : List ℕ) → (chunks g q ≡ chunks f q) ⊎ IsAmong l (entry + 1) q))
+
 module _ (over : Evidence) where
   -- ---- filling the cache by one index, from files x to files y
 
@@ -123,6 +131,7 @@ module _ (over : Evidence) where
     pub holds : HoldsFirst l (filled_to l r) y
     pub tells : FillTells l y r
     pub exactly : FillExactly l x r
+    pub order : IfErr r (λ fault. StopsFilling l fault x y)
 
   -- ---- and by each in order, between these disks
 

@@ -4,7 +4,7 @@ use Rattle.cache_store.specs.Shelves.{shelf_of}
 use Rattle.caibx_codec.specs.Listing.{Listing}
 use Rattle.command_steps.specs.AnySources.{chunks_in, faults_in, files_in, place_in, said_in}
 use Rattle.command_steps.specs.Openings.{Listed}
-use Rattle.store_commands.proofs.CacheFilled.{fill_passed, fill_stopped, fills_on, index_filled}
+use Rattle.store_commands.proofs.CacheFilled.{fill_passed, fill_stopped, fills_on, index_filled, stops}
 use Rattle.store_commands.proofs.cache.+fill_each.Goals as goal
 use Rattle.store_commands.specs.Caching.{of_calls}
 use Rattle.store_chain.proofs.Kept.{kept_on, kept_still}
@@ -36,8 +36,10 @@ returns-in_err-answer_of-clause-filled g t c =
     let new = c.fill-filled.new.cached in
     let over = c.fill-filled.ensures in
     let listed = subst (λ (q : List ℕ). Listed (g.F.Files.disk c.args.files.now) q l) (c.in-Ok.ensures ∙ c.as_str.ensures) c.in_ok-index.ensures.ok in
+    let order = stops (files_in files) (files_in files) (place_in g.F.Look.Look.place) said counted l (shelf_of D.files D.place D.faults old.shelf) (shelf_of D.files D.place D.faults new.shelf) old.chain.stores new.chain.stores
+    over.stores (λ s q. 0) (λ s q. 0) old.chain new.chain c.fill-filled.result over.order in
     let filled = index_filled (files_in files) (files_in files) (place_in g.F.Look.Look.place) said counted l (shelf_of D.files D.place D.faults old.shelf) (shelf_of D.files D.place D.faults new.shelf) old.chain.stores new.chain.stores
-    over.stores c.fill-filled.result over.stocks over.holds over.err over.exactly in
+    over.stores c.fill-filled.result order over.stocks over.holds over.err over.exactly in
     let stopped = fill_stopped (of_calls (files_in files) said counted old.chain.stores new.chain.stores (D.faults old.shelf.folder) (D.faults new.shelf.folder)) l (D.files old.shelf.folder) (D.files new.shelf.folder)
     c.fill-filled.result c.in_err-answer_of.field-0.0 (sym c.answer_of.ensures ∙ c.in_err-answer_of.was) filled in
     rw (p.1, p.2) (rw c.in-Some.ensures.cases.0 (inr (l, listed, inl stopped)))
@@ -55,8 +57,10 @@ returns-clause-filled g t c =
     let new = c.fill_each.new.cached in
     let over = c.fill-filled.ensures in
     let listed = subst (λ (q : List ℕ). Listed (at c.args.files.now) q l) (c.in-Ok.ensures ∙ c.as_str.ensures) c.in_ok-index.ensures.ok in
+    let order = stops (files_in files) (files_in files) (place_in g.F.Look.Look.place) said counted l (shelf_of D.files D.place D.faults old.shelf) (shelf_of D.files D.place D.faults mid.shelf) old.chain.stores mid.chain.stores
+    over.stores (λ s q. 0) (λ s q. 0) old.chain mid.chain c.fill-filled.result over.order in
     let filled = index_filled (files_in files) (files_in files) (place_in g.F.Look.Look.place) said counted l (shelf_of D.files D.place D.faults old.shelf) (shelf_of D.files D.place D.faults mid.shelf) old.chain.stores mid.chain.stores
-    over.stores c.fill-filled.result over.stocks over.holds over.err over.exactly in
+    over.stores c.fill-filled.result order over.stocks over.holds over.err over.exactly in
     let passed = fill_passed (of_calls (files_in files) said counted old.chain.stores mid.chain.stores (D.faults old.shelf.folder) (D.faults mid.shelf.folder)) l (D.files old.shelf.folder) (D.files mid.shelf.folder)
     c.fill-filled.result _ (sym c.answer_of.ensures ∙ c.in_ok-answer_of.was) filled in
     rw c.in-Some.ensures.cases.0 (fills_on (files_in files) said counted (D.faults old.shelf.folder) (D.faults mid.shelf.folder) (D.faults new.shelf.folder) old.chain.stores mid.chain.stores new.chain.stores
