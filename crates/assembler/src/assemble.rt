@@ -164,9 +164,9 @@ fn assemble_lent<T: Target, S: Store, V: View, F: Folder>(
     ensures had { IsTrue V.tells → (cached maps : List (Map (List ℕ))) →
         cached_in (seen F.files F.place F.faults cache.old) ≡ Some cached →
         map S.holds kit.old.chain.stores ≡ map Some maps → WhereTold (T.held target.old).bytes (T.held target.new).bytes
-        (λ o t. OnlyObtainable index.now (IsObtainable index.now plan.now places.now (resized o (image_length index.now))
-        (map (held_in V.held) kit.old.seeds.items) (cached ++ maps)) (Rose (T.faults target.old) (T.faults target.new))
-        result o t) }
+        (λ o t. OnlyObtainable index.now (IsObtainable index.now plan.now places.now
+        (resized o (image_length index.now)) (map (held_in V.held) kit.old.seeds.items) (cached ++ maps))
+        (Rose (T.faults target.old) (T.faults target.new)) result o t) }
 
     // Where nothing fails.
     ensures exactly { (cached maps : List (Map (List ℕ))) → NothingFails S.holds S.folder S.place S.said S.faults

@@ -69,8 +69,9 @@ IsListedAs l id size = (i : ℕ) × (i < count_of l) × (id_of l i ≡ id) × (s
 abbrev pub HaveOneSize : Listing → Option Shelf → List (Map (List ℕ)) → List (Map (List ℕ)) → Type 0
 HaveOneSize l cache cached maps = IsSome cache → GiveOneSize (IsListedAs l) (kind_of l) (cached ++ maps)
 
--- the cache gives the chunk, and doesn't fail; and of the sizes that the index lists with the id, the stores hold chunks
--- of this one alone, so that no other chunk is added under the id. So it is where the index lists the id with one size
+-- the cache gives the chunk, and doesn't fail; and of the sizes that the index lists with the id, the stores hold
+-- chunks of this one alone, so that no other chunk is added under the id. So it is where the index lists the id with
+-- one size
 pub record CacheGives {S : Type 0} (holds : S → Option (Map (List ℕ))) (l : Listing) (stores : List S) (id : List ℕ)
     (size : ℕ) (old new : Option Shelf) : Type 0 where
   pub gives : IsSomeAnd (cached_in old) (SomeGives (kind_of l) id size)

@@ -3,7 +3,8 @@
 ghost use Rattle.std.specs.Prelude.{◌≡◌, ◌≢◌, ◌⊎◌, ◌++◌, ℕ, List, ◌<◌, ◌^◌, length, map, true, None, Some, IfSome};
 ghost use Rattle.std.specs.Prelude.{IfOk, IfErr, OnOk};
 ghost use Rattle.cache_store.specs.Giving.{SomeGives};
-ghost use Rattle.chunk_sources.specs.Caches.{CacheFailed, CacheLacks, Stocked, TakesChunk, cache_faults, cached_in, seen};
+ghost use Rattle.chunk_sources.specs.Caches.{CacheFailed, CacheLacks, Stocked, TakesChunk, cache_faults, cached_in};
+ghost use Rattle.chunk_sources.specs.Caches.{seen};
 ghost use Rattle.chunk_sources.specs.Economy.{ObtainedBy, is_made, source_behind};
 ghost use Rattle.chunk_sources.specs.Losses.{RefusedBy, chunk_of};
 ghost use Rattle.chunk_store.specs.Names.{name_of};

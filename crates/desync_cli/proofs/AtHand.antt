@@ -44,7 +44,7 @@ use Rattle.dsy_base.specs.Links.{DialState}
 use Rattle.dsy_base.specs.Maps.{Map, at_name}
 use Rattle.extract_plan.specs.Places.{seed_item_limit}
 use Rattle.image_commands.proofs.Wrote.{wrote_on}
-use Rattle.image_commands.specs.Extract.{Assembled, CacheFilled, CacheGrows, CacheLacksEntry, ExtractEnds, FillsCache, HadFrom, ImageMade, Into, IsLacking, KeepsIn, NotRenamed, OutMade, Renamed, Seeds, Told, Undisturbed, WhereFolders, beside, folder_of, in_place, temporary_out}
+use Rattle.image_commands.specs.Extract.{Assembled, CacheFilled, CacheGrows, CacheLacksEntry, ExtractEnds, FillsCache, HadFrom, ImageMade, Into, IsLacking, KeepsIn, NotRenamed, OutMade, Renamed, Seeds, Told, WhereFolders, beside, folder_of, in_place, temporary_out}
 use Rattle.store_chain.specs.Refusals.{HasShown, Lacks}
 use Rattle.store_chain.specs.Wants.{ShowsElse}
 use Rattle.store_chain.specs.declared.refused.Refused.{Refused}
@@ -297,7 +297,7 @@ module _ (stores : List Location) (cache : Option (List ℕ)) (out : List ℕ) (
   renamed_at_hand : (m c : Disk) (k : DialState) → Climbs m v.disk → Climbs c v.disk → ImageMade stores cache (beside out) l x (sources u.disk u.dial) (Ok tt) (sources m k) → (o : Outcome) → Renamed (temporary_out out) out m (Err o) c → o ≡ ends.Memory
   renamed_at_hand m c k mid later made o h = go o h.0 where
     made_so : (a : Map (List ℕ)) × (m.files ≡ Some a) × (cs : List (Map (List ℕ))) × (((t : List ℕ) × KeepsIn u.disk m b a (beside out) l t × IsRight t l)
-        × WhereFolders n stores (λ fs. Undisturbed u.disk m cache l cs fs → (i : ℕ) → i < count_of l → HadFrom b (beside out) l x cs fs i))
+        × WhereFolders n stores (λ fs. (i : ℕ) → i < count_of l → HadFrom b (beside out) l x cs fs i))
     made_so = from_told u.disk m cache _ b n files folders made.2 made.0
 
     there : made_so.0 (temporary_out out) ≡ Some made_so.3.0.0

@@ -7,7 +7,7 @@ use Rattle.command_steps.proofs.Cached.{cache_reads}
 use Rattle.command_steps.specs.Openings.{IsListed}
 use Rattle.command_steps.specs.Seeds.{image_name}
 use Rattle.command_steps.specs.Worlds.{World}
-use Rattle.image_commands.specs.Extract.{ExtractEnds, HadFrom, Into, IsExtracted, KeepsIn, Seeds, Undisturbed, WhereFolders, beside, folder_of, in_place, temporary_out}
+use Rattle.image_commands.specs.Extract.{ExtractEnds, HadFrom, Into, IsExtracted, KeepsIn, Seeds, WhereFolders, beside, folder_of, in_place, temporary_out}
 use Rattle.image_commands.proofs.Replaced.{beside_apart}
 use Rattle.dsy_base.proofs.Counts.{at_other, at_same}
 use Rattle.dsy_base.specs.Disk.{Disk}
@@ -17,7 +17,7 @@ use Rattle.std.specs.Option.{option_map}
 -- what the assembly from d to e says of the file, over what files and folders hold
 abbrev MadeOver : List Location → Option (List ℕ) → Into → Listing → Seeds → Disk → Disk → Option (Map (List ℕ)) → Option (Map (Map (List ℕ))) → Option (Map (List ℕ)) → Type 0
 MadeOver stores cache o l x d e f y z = IfSome f (λ b. IfSome y (λ n. IfSome z (λ a. (cs : List (Map (List ℕ))) × (map n (folder_of cache) ≡ map Some cs)
-    × (((t : List ℕ) × KeepsIn d e b a o l t × IsRight t l) × WhereFolders n stores (λ fs. Undisturbed d e cache l cs fs → (i : ℕ) → i < count_of l → HadFrom b o l x cs fs i)))))
+    × (((t : List ℕ) × KeepsIn d e b a o l t × IsRight t l) × WhereFolders n stores (λ fs. (i : ℕ) → i < count_of l → HadFrom b o l x cs fs i)))))
 
 module _ (names : List Location) (cache : Option (List ℕ)) (index out : List ℕ) (l : Listing) (x : Seeds) (d e : Disk) where
   -- over files that tell, of which the folders tell too

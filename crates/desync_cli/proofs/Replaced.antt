@@ -79,21 +79,21 @@ module _ (stores : List Location) (cache : Option (List ℕ)) (i : Into) (l : Li
   abbrev e : Disk
   e = v.disk
 
-  kept_at : (b a : Map (List ℕ)) → (t : List ℕ) × KeepsIn d e b a i l t → (w : Option (List ℕ)) × ((a ≡ b) ⊎ (a ≡ at_name b i.name w))
-  kept_at b a h = (Some h.0, inr h.1.0)
+  kept_at : (b a : Map (List ℕ)) (P : List ℕ → Type 0) → (t : List ℕ) × KeepsIn d e b a i l t × P t → (w : Option (List ℕ)) × ((a ≡ b) ⊎ (a ≡ at_name b i.name w))
+  kept_at b a P h = (Some h.0, inr h.1.0)
 
-  stopped_at : (b a : Map (List ℕ)) → StopsSomewhere w v b a i l → (w : Option (List ℕ)) × ((a ≡ b) ⊎ (a ≡ at_name b i.name w))
-  stopped_at b a (inl same) = (None, inl same.0)
-  stopped_at b a (inr (inl old)) = (Some (old_of b i), inr old)
-  stopped_at b a (inr (inr kept)) = kept_at b a kept
+  stopped_at : (b a : Map (List ℕ)) (P : List ℕ → Type 0) → StopsSomewhere w v b a i l P → (w : Option (List ℕ)) × ((a ≡ b) ⊎ (a ≡ at_name b i.name w))
+  stopped_at b a P (inl same) = (None, inl same.0)
+  stopped_at b a P (inr (inl old)) = (Some (old_of b i), inr old)
+  stopped_at b a P (inr (inr kept)) = kept_at b a P kept
 
   -- an assembly that was refused has changed no other file
   only_assembled : (o : Outcome) → Assembled w v stores cache i l x (Err o) → Only i.name d.files e.files
   only_assembled (ends.Missing k id) h = over_told i.name d.files d.folders e.files cache _ told tells (λ b a n cs p. (Some p.0.0, inr p.0.1.0)) h
   only_assembled (ends.Damaged k id store shows) h = over_told i.name d.files d.folders e.files cache _ told tells (λ b a n cs p. (Some p.0.0, inr p.0.1.0)) h
-  only_assembled (ends.StoreFault s) h = over_told i.name d.files d.folders e.files cache _ told tells (λ b a n cs p. kept_at b a p.0) h.1
-  only_assembled ends.TargetFault h = over_told i.name d.files d.folders e.files cache _ told tells (λ b a n cs p. stopped_at b a p) h.1
-  only_assembled ends.Memory h = over_told i.name d.files d.folders e.files cache _ told tells (λ b a n cs p. stopped_at b a p) h
+  only_assembled (ends.StoreFault s) h = over_told i.name d.files d.folders e.files cache _ told tells (λ b a n cs p. kept_at b a _ p.0) h.1
+  only_assembled ends.TargetFault h = over_told i.name d.files d.folders e.files cache _ told tells (λ b a n cs p. stopped_at b a _ p) h.1
+  only_assembled ends.Memory h = over_told i.name d.files d.folders e.files cache _ told tells (λ b a n cs p. stopped_at b a _ p) h
   only_assembled other h = absurd h
 
   -- nor has one that was done

@@ -1,12 +1,13 @@
 -- What an assembly over taken files and folders makes of the answer.
-use Rattle.std.proofs.Common.{ap, arith, ◌⊎◌, true, is_some, unwrap_or, ◌≡◌, ℕ, ◌<◌, List, ◌++◌, map, Option, Some, None, IfSome, IfErr, refl, subst, ◌∙◌, sym, inl, inr, Result, Ok, Err}
+use Rattle.std.proofs.Common.{ap, arith, ◌⊎◌, true, is_some, unwrap_or, ◌≡◌, ℕ, ◌<◌, ◌-◌, List, ◌++◌, append-nil, length, map, replicate, take, Option, Some, None, IfSome, IfErr, refl, subst, ◌∙◌, sym, inl, inr, Result, Ok, Err}
 use Rattle.assembler.specs.Assemblies.{After, Assembles, IsObtainable, KeepsBase, RightAlike, Verdict}
 use Rattle.assembler.specs.Fills.{WhereTold}
+use Rattle.assembler.specs.Obtainable.{OnlyObtainable}
 use Rattle.assembler.specs.Passes.{want_at}
 use Rattle.assembler.specs.declared.fault.ExtractFault.{ExtractFault}
 use Rattle.assembler.specs.declared.fault.ExtractFault.TheVariants as faults
 use Rattle.assembler.specs.declared.report.Report.{Report}
-use Rattle.caibx_codec.specs.Listing.{Listing, count_of, id_of, image_length, kind_of, size_of}
+use Rattle.caibx_codec.specs.Listing.{Listing, count_of, id_of, image_length, kind_of, size_of, slice_of}
 use Rattle.chunk_sources.specs.Losses.{chunk_of}
 use Rattle.chunk_store.specs.Folders.{chunks}
 use Rattle.chunk_store.specs.declared.id.ChunkId.{ChunkId}
@@ -17,6 +18,7 @@ use Rattle.dsy_base.specs.declared.fault.IoFault.{IoFault}
 use Rattle.dsy_base.specs.declared.fault.IoFault.TheVariants as io
 use Rattle.extract_plan.specs.Deal.{Deal}
 use Rattle.extract_plan.specs.Places.{IsSeedIndex, Placed, places_at}
+use Rattle.std.proofs.lemmas.List.{take_all}
 use Rattle.std.specs.List.{AllZip}
 use Rattle.std.specs.Option.{option_map}
 use Rattle.store_chain.specs.Giving.{LacksAll}
@@ -26,7 +28,7 @@ use Rattle.image_commands.proofs.Seeded.{given_had, had_given}
 use Rattle.command_words.specs.declared.command.Location.{Location}
 use Rattle.command_steps.proofs.Taken.{at_name_twice}
 use Rattle.command_steps.specs.Sources.{HaveLacked, Sources, told_at}
-use Rattle.image_commands.specs.Extract.{Assembled, CacheLacksEntry, CanBeHad, Into, IsLacking, Leaves, NoneAsked, SeedHas, Seeds, StopsFailed, StopsSomewhere, Told, Undisturbed, WhereFolders, answer_of_assembly, answer_of_taking, base_of, folder_of, old_of}
+use Rattle.image_commands.specs.Extract.{Assembled, CacheLacksEntry, CanBeHad, Into, IsLacking, Leaves, NoneAsked, OnlyHad, SeedHas, Seeds, StopsFailed, StopsSomewhere, Told, Undisturbed, WhereFolders, answer_of_assembly, answer_of_taking, base_of, folder_of, old_of}
 use Rattle.command_steps.specs.Seeds.{IsViewed}
 use Rattle.command_steps.specs.Worlds.{DiskQuiet, FileRose}
 
@@ -90,6 +92,30 @@ after_as l P Q base t to from (Err (faults.StoreFault s)) h = λ i lt. (λ q. (h
 after_as l P Q base t to from (Err faults.TargetFault) h = λ i lt. (λ q. (h i lt).0 (from i lt q), λ no. (h i lt).1 (λ p. no (to i lt p)))
 after_as l P Q base t to from (Err faults.Memory) h = tt
 
+-- what is made right can be had
+only_as : (l : Listing) (P Q : ℕ → Type 0) (F G : Type 0) → ((i : ℕ) → i < count_of l → P i → Q i) → (F → G) → (r : Result Report ExtractFault) (o t : List ℕ)
+    → OnlyObtainable l P F r o t → OnlyObtainable l Q G r o t
+only_as l P Q F G to rose (Ok r) o t h = λ i lt. to i lt (h i lt)
+only_as l P Q F G to rose (Err e) o t (inl same) = inl same
+only_as l P Q F G to rose (Err e) o t (inr each) = inr (λ i lt. elim (each i lt) [
+  | inl has ↦ inl (to i lt has)
+  | inr kept ↦ inr (or_as rose kept)
+])
+
+-- bytes of that length are their own base
+resized_same : (o : List ℕ) (n : ℕ) → length o ≡ n → resized o n ≡ o
+resized_same o n size =
+    let none : n - length o ≡ 0 = omega (arith, size) in
+    let all : take n o ≡ o = take_all n o (omega (arith, size)) in
+    ap (λ k. take n o ++ replicate k 0) none ∙ append-nil (take n o) ∙ all
+
+only_each : (l : Listing) (P : ℕ → Type 0) (F : Type 0) (e : ExtractFault) (o t : List ℕ) → length t ≡ image_length l → OnlyObtainable l P F (Err e) o t
+    → (i : ℕ) → i < count_of l → P i ⊎ ((slice_of l t i ≡ slice_of l (resized o (image_length l)) i) ⊎ F)
+only_each l P F e o t size (inl same) = λ i lt.
+    let long : length o ≡ image_length l = ap (λ (y : List ℕ). length y) (sym same) ∙ size in
+    inr (inl (ap (λ (y : List ℕ). slice_of l y i) (same ∙ sym (resized_same o (image_length l) long))))
+only_each l P F e o t size (inr each) = each
+
 -- where another fact holds of it
 lost_on : (P R : ℕ → ChunkId → Refused → Type 0) → ((k : ℕ) (id : ChunkId) (y : Refused) → P k id y → R k id y) → (r : Result Report ExtractFault) → IfErr r (LostAs P) → IfErr r (LostAs R)
 lost_on P R f (Ok r) p = tt
@@ -126,6 +152,7 @@ module _ (w v : Sources) (stores : List Location) (cache : Option (List ℕ)) (o
     pub leaves : Leaves b a out t
     pub assembles : Assembles l (FileRose d e out.name) r (old_of b out) t
     pub lacks : IfErr r (LostAs (IsLacking w v b n cache out l x stores))
+    pub only : WhereFolders n stores (λ fs. OnlyObtainable l (CanBeHad l (base_of b out l) b x (map chunks cs ++ map chunks fs)) (FileRose d e out.name) r (old_of b out) t)
     pub verdict : WhereFolders n stores (λ fs. Undisturbed d e cache l cs fs → Verdict l (CanBeHad l (base_of b out l) b x (map chunks cs ++ map chunks fs)) r)
     pub settled : WhereFolders n stores (λ fs. Undisturbed d e cache l cs fs → After l (CanBeHad l (base_of b out l) b x (map chunks cs ++ map chunks fs)) (base_of b out l) t r)
 
@@ -135,28 +162,33 @@ module _ (w v : Sources) (stores : List Location) (cache : Option (List ℕ)) (o
   told : (r : Result Report ExtractFault) (P : Map (List ℕ) → Map (List ℕ) → Map (Map (List ℕ)) → List (Map (List ℕ)) → Type 0) → AllFacts r → ((b : Map (List ℕ)) (n : Map (Map (List ℕ))) (a : Map (List ℕ)) (f : Facts r b n a) → P b a n f.cs) → Told d e cache P
   told r P facts p = over_told d.files d.folders e.files _ (λ b n a x y z. let f = facts b n a x y z in (f.cs, f.cached, p b n a f))
 
-  somewhere : (b a : Map (List ℕ)) (t : List ℕ) → Leaves b a out t → (t ≡ old_of b out) ⊎ KeepsBase l (FileRose d e out.name) (base_of b out l) t → StopsSomewhere w v b a out l
-  somewhere b a t leaves (inl same) = inr (inl (subst (λ (s : List ℕ). Leaves b a out s) same leaves))
-  somewhere b a t leaves (inr keeps) = inr (inr (t, (leaves, keeps)))
+  somewhere : (b a : Map (List ℕ)) (P : List ℕ → Type 0) (t : List ℕ) → Leaves b a out t → (length t ≡ image_length l → P t)
+      → (t ≡ old_of b out) ⊎ KeepsBase l (FileRose d e out.name) (base_of b out l) t → StopsSomewhere w v b a out l P
+  somewhere b a P t leaves only (inl same) = inr (inl (subst (λ (s : List ℕ). Leaves b a out s) same leaves))
+  somewhere b a P t leaves only (inr keeps) = inr (inr (t, (leaves, keeps), only keeps.size))
+
+  -- what a refusal tells of each entry
+  only_had : (why : ExtractFault) (b : Map (List ℕ)) (n : Map (Map (List ℕ))) (a : Map (List ℕ)) (f : Facts (Err why) b n a) → length f.t ≡ image_length l → OnlyHad d e b n f.cs stores out l x f.t
+  only_had why b n a f size = λ fs there. only_each l (CanBeHad l (base_of b out l) b x (map chunks f.cs ++ map chunks fs)) (FileRose d e out.name) why (old_of b out) f.t size (f.only fs there)
 
   pub assembled : (r : Result Report ExtractFault) → AllFacts r → IfErr r (TargetAs (FileRose d e out.name)) → IfErr r (StoreAs (StopsFailed w v stores l))
       → Assembled w v stores cache out l x (answer_of_assembly r)
-  assembled (Ok r) facts target store = told _ _ facts (λ b n a f. ((f.t, (f.leaves, f.assembles.1), f.assembles.0), f.verdict))
-  assembled (Err (faults.Missing k id)) facts target store = told _ _ facts (λ b n a f. ((f.t, (f.leaves, f.assembles.0), f.assembles.1, f.settled), f.lacks, f.verdict))
-  assembled (Err (faults.Damaged k id s y)) facts target store = told _ _ facts (λ b n a f. ((f.t, (f.leaves, f.assembles.0), f.assembles.1, f.settled), f.lacks, f.verdict))
-  assembled (Err (faults.StoreFault s)) facts target store = (store, told _ _ facts (λ b n a f. ((f.t, (f.leaves, f.assembles)), f.lacks.0, f.lacks.1, f.lacks.2)))
-  assembled (Err faults.TargetFault) facts target store = (target, told _ _ facts (λ b n a f. somewhere b a f.t f.leaves f.assembles))
-  assembled (Err faults.Memory) facts target store = told _ _ facts (λ b n a f. somewhere b a f.t f.leaves f.assembles)
+  assembled (Ok r) facts target store = told _ _ facts (λ b n a f. ((f.t, (f.leaves, f.assembles.1), f.assembles.0), f.only))
+  assembled (Err (faults.Missing k id)) facts target store = told _ _ facts (λ b n a f. ((f.t, (f.leaves, f.assembles.0), f.assembles.1, only_had (faults.Missing k id) b n a f f.assembles.0.size, f.settled), f.lacks, f.verdict))
+  assembled (Err (faults.Damaged k id s y)) facts target store = told _ _ facts (λ b n a f. ((f.t, (f.leaves, f.assembles.0), f.assembles.1, only_had (faults.Damaged k id s y) b n a f f.assembles.0.size, f.settled), f.lacks, f.verdict))
+  assembled (Err (faults.StoreFault s)) facts target store = (store, told _ _ facts (λ b n a f. ((f.t, (f.leaves, f.assembles), only_had (faults.StoreFault s) b n a f f.assembles.size), f.lacks.0, f.lacks.1, f.lacks.2)))
+  assembled (Err faults.TargetFault) facts target store = (target, told _ _ facts (λ b n a f. somewhere b a (OnlyHad d e b n f.cs stores out l x) f.t f.leaves (only_had faults.TargetFault b n a f) f.assembles))
+  assembled (Err faults.Memory) facts target store = told _ _ facts (λ b n a f. somewhere b a (OnlyHad d e b n f.cs stores out l x) f.t f.leaves (only_had faults.Memory b n a f) f.assembles)
 
   -- where OUT wasn't taken all is as it was
-  pub stopped_before : (C : List (Map (List ℕ)) → Type 0) → IfSome d.folders (λ n. (cs : List (Map (List ℕ))) × (map n (folder_of cache) ≡ map Some cs) × C cs) → e.files ≡ d.files → NoneAsked w v → Told d e cache (λ b a n cs. StopsSomewhere w v b a out l)
+  pub stopped_before : (C : List (Map (List ℕ)) → Type 0) → IfSome d.folders (λ n. (cs : List (Map (List ℕ))) × (map n (folder_of cache) ≡ map Some cs) × C cs) → e.files ≡ d.files → NoneAsked w v → Told d e cache (λ b a n cs. StopsSomewhere w v b a out l (OnlyHad d e b n cs stores out l x))
   stopped_before C cached same unasked = over_told d.files d.folders e.files _ (λ b n a is y z.
       let g : (cs : List (Map (List ℕ))) × (map n (folder_of cache) ≡ map Some cs) × C cs = subst (λ o. IfSome o (λ n. (cs : List (Map (List ℕ))) × (map n (folder_of cache) ≡ map Some cs) × C cs)) y cached in
       let kept : Some a ≡ Some b = sym z ∙ same ∙ is in
       let as_before : a ≡ b = cc in
       (g.0, g.1, inl (as_before, unasked)))
 
-  pub not_taken_as : (fault : IoFault) → Told d e cache (λ b a n cs. StopsSomewhere w v b a out l) → (fault ≡ io.Failed → FileRose d e out.name) → Assembled w v stores cache out l x (answer_of_taking fault)
+  pub not_taken_as : (fault : IoFault) → Told d e cache (λ b a n cs. StopsSomewhere w v b a out l (OnlyHad d e b n cs stores out l x)) → (fault ≡ io.Failed → FileRose d e out.name) → Assembled w v stores cache out l x (answer_of_taking fault)
   not_taken_as io.Failed before rose = (rose refl, before)
   not_taken_as io.Memory before rose = before
 
@@ -179,7 +211,7 @@ module _ (w v : Sources) (stores : List Location) (cache : Option (List ℕ)) (o
 
   module _ (P : List (Map (List ℕ)) → List ℕ → ℕ → Type 0) (had : (b : Map (List ℕ)) → d.files ≡ Some b → (maps : List (Map (List ℕ))) (base : List ℕ) (i : ℕ) → i < count_of l → P maps base i → CanBeHad l base b x maps i)
       (back : (b : Map (List ℕ)) → d.files ≡ Some b → DiskQuiet d e → (maps : List (Map (List ℕ))) (base : List ℕ) (i : ℕ) → i < count_of l → CanBeHad l base b x maps i → P maps base i) where
-    pub facts_of : (r : Result Report ExtractFault) (looks : List (Option (Map (List ℕ)))) (C : List (Map (List ℕ)) → Type 0) (t0 t1 : Option (List ℕ)) (F : Type 0) (N : List (Map (List ℕ)) → List (Map (List ℕ)) → Type 0)
+    pub facts_of : (r : Result Report ExtractFault) (looks : List (Option (Map (List ℕ)))) (C : List (Map (List ℕ)) → Type 0) (t0 t1 : Option (List ℕ)) (F : Type 0) (M N : List (Map (List ℕ)) → List (Map (List ℕ)) → Type 0)
         → IfSome d.folders (λ m. looks ≡ map (told_at m) stores)
         → IfSome d.folders (λ n. (cs : List (Map (List ℕ))) × (map n (folder_of cache) ≡ map Some cs) × C cs)
         → IfSome d.files (λ m. t0 ≡ Some (old_of m out)) → is_some t0 ≡ is_some t1
@@ -187,31 +219,35 @@ module _ (w v : Sources) (stores : List Location) (cache : Option (List ℕ)) (o
         → (F → FileRose d e out.name)
         → WhereTold t0 t1 (Assembles l F r)
         → ((b : Map (List ℕ)) → d.files ≡ Some b → (n : Map (Map (List ℕ))) → d.folders ≡ Some n → IfSome t0 (λ o. IfErr r (LostAs (AllLack b n o))))
+        → ((cached maps : List (Map (List ℕ))) → M cached maps → WhereTold t0 t1 (λ o t. OnlyObtainable l (P (cached ++ maps) (resized o (image_length l))) F r o t))
         → ((cached maps : List (Map (List ℕ))) → N cached maps → IfSome t0 (λ o. Verdict l (P (cached ++ maps) (resized o (image_length l))) r))
         → ((cached maps : List (Map (List ℕ))) → N cached maps → WhereTold t0 t1 (λ o t. After l (P (cached ++ maps) (resized o (image_length l))) (resized o (image_length l)) t r))
+        → ((b : Map (List ℕ)) → d.files ≡ Some b → (fs : List (Map (List ℕ))) → looks ≡ map Some fs → (cs : List (Map (List ℕ))) → C cs → M (map chunks cs) (map chunks fs))
         → ((b : Map (List ℕ)) → d.files ≡ Some b → (n : Map (Map (List ℕ))) (fs : List (Map (List ℕ))) → map (told_at n) stores ≡ map Some fs → looks ≡ map Some fs → (cs : List (Map (List ℕ))) → C cs → Undisturbed d e cache l cs fs → N (map chunks cs) (map chunks fs)) → AllFacts r
-    facts_of r looks C t0 t1 F N found cached took told left rose bytes lacks exactly after quiet b n a is y z =
+    facts_of r looks C t0 t1 F M N found cached took told left rose bytes lacks only exactly after shown quiet b n a is y z =
         let f : looks ≡ map (told_at n) stores = subst (λ o. IfSome o (λ m. looks ≡ map (told_at m) stores)) y found in
         let g : (cs : List (Map (List ℕ))) × (map n (folder_of cache) ≡ map Some cs) × C cs = subst (λ o. IfSome o (λ n. (cs : List (Map (List ℕ))) × (map n (folder_of cache) ≡ map Some cs) × C cs)) y cached in
         let o : t0 ≡ Some (old_of b out) = subst (λ o. IfSome o (λ m. t0 ≡ Some (old_of m out))) is took in
         let lf : e.files ≡ option_map (λ m. at_name m out.name t1) (option_map (λ m. at_name m out.name None) (Some b)) =
         subst (λ s. e.files ≡ option_map (λ m. at_name m out.name t1) (option_map (λ m. at_name m out.name None) s)) is left in
-        go (old_of b out) t0 t1 o (subst (λ s. is_some s ≡ is_some t1) o told) (sym z ∙ lf) g.0 g.1 bytes (lacks b is n y) (λ fs there k. exactly (map chunks g.0) (map chunks fs) (quiet b is n fs there (f ∙ there) g.0 g.2 k))
+        go (old_of b out) t0 t1 o (subst (λ s. is_some s ≡ is_some t1) o told) (sym z ∙ lf) g.0 g.1 bytes (lacks b is n y) (λ fs there. only (map chunks g.0) (map chunks fs) (shown b is fs (f ∙ there) g.0 g.2)) (λ fs there k. exactly (map chunks g.0) (map chunks fs) (quiet b is n fs there (f ∙ there) g.0 g.2 k))
         (λ fs there k. after (map chunks g.0) (map chunks fs) (quiet b is n fs there (f ∙ there) g.0 g.2 k)) refl where
           go : (old : List ℕ) (s0 s1 : Option (List ℕ)) → s0 ≡ Some old → true ≡ is_some s1 → Some a ≡ Some (at_name (at_name b out.name None) out.name s1)
               → (cs : List (Map (List ℕ))) → map n (folder_of cache) ≡ map Some cs → WhereTold s0 s1 (Assembles l F r) → IfSome s0 (λ o. IfErr r (LostAs (AllLack b n o)))
+              → WhereFolders n stores (λ fs. WhereTold s0 s1 (λ o t. OnlyObtainable l (P (map chunks cs ++ map chunks fs) (resized o (image_length l))) F r o t))
               → WhereFolders n stores (λ fs. Undisturbed d e cache l cs fs → IfSome s0 (λ o. Verdict l (P (map chunks cs ++ map chunks fs) (resized o (image_length l))) r))
               → WhereFolders n stores (λ fs. Undisturbed d e cache l cs fs → WhereTold s0 s1 (λ o t. After l (P (map chunks cs ++ map chunks fs) (resized o (image_length l))) (resized o (image_length l)) t r))
               → old ≡ old_of b out → Facts r b n a
-          go old None s1 same is_told are cs shelf bs ls verdict settled at = absurd (cc)
-          go old (Some o) None same is_told are cs shelf bs ls verdict settled at = absurd (cc)
-          go old (Some o) (Some t) same is_told are cs shelf bs ls verdict settled at =
+          go old None s1 same is_told are cs shelf bs ls only verdict settled at = absurd (cc)
+          go old (Some o) None same is_told are cs shelf bs ls only verdict settled at = absurd (cc)
+          go old (Some o) (Some t) same is_told are cs shelf bs ls only verdict settled at =
               let was : o ≡ old_of b out = cc in
-              over o was bs ls verdict settled where
+              over o was bs ls only verdict settled where
                 over : (p : List ℕ) → p ≡ old_of b out → Assembles l F r p t → IfErr r (LostAs (AllLack b n p))
+                    → WhereFolders n stores (λ fs. OnlyObtainable l (P (map chunks cs ++ map chunks fs) (resized p (image_length l))) F r p t)
                     → WhereFolders n stores (λ fs. Undisturbed d e cache l cs fs → Verdict l (P (map chunks cs ++ map chunks fs) (resized p (image_length l))) r)
                     → WhereFolders n stores (λ fs. Undisturbed d e cache l cs fs → After l (P (map chunks cs ++ map chunks fs) (resized p (image_length l))) (resized p (image_length l)) t r) → Facts r b n a
-                over p was bs ls verdict settled =
+                over p was bs ls only verdict settled =
                     record {
                       cs = cs;
                       cached = shelf;
@@ -219,6 +255,11 @@ module _ (w v : Sources) (stores : List Location) (cache : Option (List ℕ)) (o
                       leaves = ap (λ o. unwrap_or o a) are ∙ at_name_twice b out.name None (Some t);
                       assembles = subst (λ (q : List ℕ). Assembles l (FileRose d e out.name) r q t) was (assembles_as l F (FileRose d e out.name) r p t rose bs);
                       lacks = lost_on (AllLack b n (old_of b out)) (IsLacking w v b n cache out l x stores) (lacking b n) r (subst (λ (q : List ℕ). IfErr r (LostAs (AllLack b n q))) was ls);
+                      only = λ fs there.
+                          let maps = map chunks cs ++ map chunks fs in
+                          subst (λ (q : List ℕ). OnlyObtainable l (CanBeHad l (resized q (image_length l)) b x maps) (FileRose d e out.name) r q t) was
+                          (only_as l (P maps (resized p (image_length l))) (CanBeHad l (resized p (image_length l)) b x maps) F (FileRose d e out.name) (had b is maps (resized p (image_length l))) rose r p t
+                          (only fs there));
                       verdict = λ fs there k.
                           let maps = map chunks cs ++ map chunks fs in
                           subst (λ (q : List ℕ). Verdict l (CanBeHad l (resized q (image_length l)) b x maps) r) was

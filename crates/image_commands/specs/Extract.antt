@@ -103,10 +103,11 @@ abbrev pub NoneAsked : Sources → Sources → Type 0
 NoneAsked w v = (v.dial ≡ w.dial) × (v.disk.folders ≡ w.disk.folders)
 
 -- what stands there where no entry is named: it wasn't taken, before which no source is asked; or it has what it began
--- with, or keeps the base
-abbrev pub StopsSomewhere : Sources → Sources → Map (List ℕ) → Map (List ℕ) → Into → Listing → Type 0
-StopsSomewhere w v before after out l = ((after ≡ before) × NoneAsked w v) ⊎ (Leaves before after out (old_of before out)
-    ⊎ ((t : List ℕ) × KeepsIn w.disk v.disk before after out l t))
+-- with, or keeps the base and is so
+abbrev pub StopsSomewhere : Sources → Sources → Map (List ℕ) → Map (List ℕ) → Into → Listing → (List ℕ → Type 0)
+    → Type 0
+StopsSomewhere w v before after out l P = ((after ≡ before) × NoneAsked w v)
+    ⊎ (Leaves before after out (old_of before out) ⊎ ((t : List ℕ) × KeepsIn w.disk v.disk before after out l t × P t))
 
 -- afterwards the folder of the cache doesn't give the chunk of entry k, unless calls on it have failed
 abbrev pub CacheLacksEntry : Disk → Disk → Option (List ℕ) → Listing → ℕ → Type 0
@@ -117,6 +118,14 @@ CacheLacksEntry d e (Some c) l k = IfSome e.folders (λ n. IfSome (n c) (λ g.
 -- so it is where all stores are folders of these, whose files are told
 abbrev pub WhereFolders : Map (Map (List ℕ)) → List Location → (List (Map (List ℕ)) → Type 0) → Type 0
 WhereFolders n stores P = (fs : List (Map (List ℕ))) → map (told_at n) stores ≡ map Some fs → P fs
+
+-- where stores are folders, each entry can be had, or has the base's bytes in t, unless the file failed; whatever else
+-- fails
+abbrev pub OnlyHad : Disk → Disk → Map (List ℕ) → Map (Map (List ℕ)) → List (Map (List ℕ)) → List Location → Into
+    → Listing → Seeds → List ℕ → Type 0
+OnlyHad d e before n cs stores out l x t = WhereFolders n stores (λ fs. (i : ℕ) → i < count_of l
+    → HadFrom before out l x cs fs i
+    ⊎ ((slice_of l t i ≡ slice_of l (base_of before out l) i) ⊎ FileRose d e out.name))
 
 -- the chunk of entry k can't be had from the stores, for this reason; an alike entry that is right in the base
 -- couldn't be read, and no seed that has the chunk; and the cache doesn't give it. n are the folders
@@ -147,12 +156,13 @@ abbrev pub Undisturbed : Disk → Disk → Option (List ℕ) → Listing → Lis
 Undisturbed d e cache l cs fs = DiskQuiet d e
     × (IsSome cache → GiveOneSize (IsListedAs l) (kind_of l) (map chunks cs ++ map chunks fs))
 
--- entry k is named, for this reason, and each before it is right. Where stores are folders, undisturbed, k is the least
--- that can't be had, and each that can be had was made right
+-- entry k is named, for this reason, each before it is right, and what isn't the base's can be had. Where stores are
+-- folders, undisturbed, k is the least that can't be had, and each that can be had was made right
 abbrev pub StopsLacking : Sources → Sources → List Location → Option (List ℕ) → Into → Listing → Seeds → ℕ → ChunkId
     → Refused → Type 0
 StopsLacking w v stores cache out l x k id r = Told w.disk v.disk cache (λ b a n cs.
     ((t : List ℕ) × KeepsIn w.disk v.disk b a out l t × ((i : ℕ) → i < k → IsRightAt t l i)
+    × OnlyHad w.disk v.disk b n cs stores out l x t
     × WhereFolders n stores (λ fs. Undisturbed w.disk v.disk cache l cs fs
     → AreFilled l (HadFrom b out l x cs fs) (base_of b out l) t))
     × IsLacking w v b n cache out l x stores k id r
@@ -164,25 +174,27 @@ StopsFailed w v stores l s = (k : ℕ) × (id : ChunkId) × (k < count_of l) × 
     × HaveLacked (chunk_of (kind_of l) id (size_of l k)) w v stores (refused.StoreFault s)
 
 -- the file became the image of the index, with chunks from the seeds, the cache and the stores, or why not. Where
--- stores are folders, undisturbed, it does so exactly where each entry can be had; else the first that can't
--- be had is named. A store that failed is named only where some entry can't be had from the seeds or the cache either
+-- stores are folders, it does so only where each entry can be had, and undisturbed exactly there; else the first that
+-- can't be had is named. A store that failed is named only where some entry can't be had from the seeds or the cache
+-- either
 abbrev pub Assembled : Sources → Sources → List Location → Option (List ℕ) → Into → Listing → Seeds
     → Result Unit Outcome → Type 0
 Assembled w v stores cache out l x (Ok u) = Told w.disk v.disk cache (λ b a n cs.
     ((t : List ℕ) × KeepsIn w.disk v.disk b a out l t × IsRight t l)
-    × WhereFolders n stores (λ fs. Undisturbed w.disk v.disk cache l cs fs
-    → (i : ℕ) → i < count_of l → HadFrom b out l x cs fs i))
+    × WhereFolders n stores (λ fs. (i : ℕ) → i < count_of l → HadFrom b out l x cs fs i))
 Assembled w v stores cache out l x (Err (ends.Missing k id)) = StopsLacking w v stores cache out l x k id
     refused.Missing
 Assembled w v stores cache out l x (Err (ends.Damaged k id store shows)) = StopsLacking w v stores cache out l x k id
     (refused.Damaged store shows)
 Assembled w v stores cache out l x (Err (ends.StoreFault s)) = StopsFailed w v stores l s
-    × Told w.disk v.disk cache (λ b a n cs. ((t : List ℕ) × KeepsIn w.disk v.disk b a out l t)
+    × Told w.disk v.disk cache (λ b a n cs. ((t : List ℕ) × KeepsIn w.disk v.disk b a out l t
+    × OnlyHad w.disk v.disk b n cs stores out l x t)
     × (k : ℕ) × (id : ChunkId) × IsLacking w v b n cache out l x stores k id (refused.StoreFault s))
 Assembled w v stores cache out l x (Err ends.TargetFault) = FileRose w.disk v.disk out.name
-    × Told w.disk v.disk cache (λ b a n cs. StopsSomewhere w v b a out l)
+    × Told w.disk v.disk cache (λ b a n cs. StopsSomewhere w v b a out l
+    (OnlyHad w.disk v.disk b n cs stores out l x))
 Assembled w v stores cache out l x (Err ends.Memory) =
-    Told w.disk v.disk cache (λ b a n cs. StopsSomewhere w v b a out l)
+    Told w.disk v.disk cache (λ b a n cs. StopsSomewhere w v b a out l (OnlyHad w.disk v.disk b n cs stores out l x))
 Assembled w v stores cache out l x (Err other) = ⊥
 
 -- OUT holds afterwards the image that INDEX listed before
