@@ -2,12 +2,11 @@
 
 ghost use Rattle.std.specs.Prelude.{◌≡◌, IfSome};
 
+use crate::mem_files::MemFiles;
 use dsy_base::image_files::ImageFiles;
 use dsy_base::inner_folders::InnerFolders;
 use dsy_base::name::Name;
 use std::alloc::Global;
-
-use crate::mem_files::MemFiles;
 
 /// The subfolders of a folder in memory: its files lie in none.
 #[derive(Debug, Drop)]

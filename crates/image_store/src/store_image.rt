@@ -16,8 +16,8 @@ use buzhash_cut::laws::{image_is_right, many_cuts};
 use buzhash_cut::sizes::CutSizes;
 use caibx_codec::index::Index;
 use chunk_store::store::{Store, StoreWrite};
-use dsy_base::view::View;
 use dsy_base::inner_folders::InnerFolders;
+use dsy_base::view::View;
 use std::alloc::Global;
 use std::thread::Threads;
 

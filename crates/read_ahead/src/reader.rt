@@ -9,8 +9,8 @@ use crate::ahead::Ahead;
 use crate::claims::Claims;
 use crate::plan::room_size;
 use caibx_codec::index::Index;
-use dsy_base::view::View;
 use dsy_base::inner_folders::InnerFolders;
+use dsy_base::view::View;
 use std::alloc::{AllocError, Global};
 use std::mem::swap;
 

@@ -19,6 +19,6 @@ returns c = record {
     encode_lower c.args.self.now.0,
     omega (arith, length-encode_with lower_digits c.args.self.now.0),
     subst (λ ds. IsTrue (list_all is_digit ds)) c.to_hex.ensures.value c.to_hex.ensures.digits,
-    c.of.ensures.value ∙ ap (λ ds. take 4 ds ++ 47 ∷ ds) c.to_hex.ensures.value
+    c.of.ensures.value ∙ ap (λ ds. take 4 ds ++ 47 ∷ ds) c.to_hex.ensures.value,
   );
 }
