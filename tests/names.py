@@ -167,7 +167,9 @@ def modules():
 
 
 def imports_of(source):
-    return {name: (crate, module) for crate, module, names in IMPORT.findall(source) for name in names.split(', ')}
+    """Where each name of a source comes from, and what it is called there."""
+    return {name.split(' as ')[-1]: (crate, module, name.split(' as ')[0])
+            for crate, module, names in IMPORT.findall(source) for name in names.split(', ')}
 
 
 def read_aloud():
@@ -185,7 +187,7 @@ def read_aloud():
 def definitions_that_are_not_read_aloud():
     """What the clauses of the top calls reach and docs/DEFINITIONS.md lacks, and what it has that no specs/ have."""
     known = modules()
-    waiting = [(*imports_of(text_of(path)).get(word, ('', '')), word) for path in TOP_CALLS
+    waiting = [imports_of(text_of(path)).get(word, ('', '', word)) for path in TOP_CALLS
                for signature in re.findall(r'^pub fn .*?^\{', text_of(path), re.MULTILINE | re.DOTALL)
                for word in set(re.findall(r'\w+', signature))]
     reached = set()
@@ -195,7 +197,7 @@ def definitions_that_are_not_read_aloud():
         if name in defined and (crate, module, name) not in reached:
             reached.add((crate, module, name))
             for word in set(re.findall(r'\w+', defined[name])) - {name}:
-                waiting.append((*imports.get(word, (crate, module)), word))
+                waiting.append(imports.get(word, (crate, module, word)))
     told = read_aloud()
     for name, places in told.items():
         if not places & {crate for (crate, _), (_, defined) in known.items() if name in defined}:
