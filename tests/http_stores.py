@@ -573,8 +573,8 @@ def silent(waiting, deaf):
 
 
 def main():
-    needs_program('http')
-    cases = Cases('http')
+    needs_program('http_stores')
+    cases = Cases('http_stores')
     with contextlib.ExitStack() as held:
         waiting = Waiting(cases, held)
         silent(waiting, held.enter_context(servers.deaf()))
