@@ -10,8 +10,8 @@ use extract_plan::seeds::SeedIndex;
 use std::alloc::Global;
 use std::process::Abort;
 
-// The index of chunks with these bytes.
-fn index(rt: &impl Abort, alloc: Global, chunks: &[&[u8]]) -> Index {
+/// The index of chunks with these bytes.
+pub(crate) fn index(rt: &impl Abort, alloc: Global, chunks: &[&[u8]]) -> Index {
     let mut entries = Vec::new(alloc);
     let mut end = 0u64;
     for chunk in chunks {

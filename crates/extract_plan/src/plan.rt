@@ -5,7 +5,7 @@ ghost use Rattle.extract_plan.specs.Deal.{IsPlan, deal_shards, entries_of, shard
 
 use crate::group::{Wants, group};
 use crate::link::{Sorted, sort};
-use crate::shard::{cuts, shard_of, shards};
+use crate::shard::{cuts, shard_of, shards, start};
 use caibx_codec::index::Index;
 use dsy_base::fault::Memory;
 use std::alloc::{AllocError, Global};
@@ -111,6 +111,15 @@ impl Plan {
         ensures { result.now ≡ self.now.cuts }
     {
         &self.cuts
+    }
+
+    /// The entry with which a shard begins; for the number of shards, the number of entries.
+    pub fn first_of(&self, shard: usize) -> usize
+        requires some { 0 < deal_shards self.now }
+        requires inside { shard ≤ deal_shards self.now }
+        ensures value { result ≡ shard_start (length self.now.want_of) (deal_shards self.now) shard }
+    {
+        start(self.want_of.len(), self.cuts.len(), shard)
     }
 
     /// The shard that has an entry.

@@ -18,8 +18,8 @@ pub(crate) fn shards(workers: usize, n: usize) -> usize
     if most < n { most } else { n }
 }
 
-// The entry with which shard k of so many begins.
-fn start(n: usize, shards: usize, k: usize) -> usize
+/// The entry with which shard k of `shards` begins, of n entries.
+pub(crate) fn start(n: usize, shards: usize, k: usize) -> usize
     requires entries { n ≤ item_limit }
     requires few { shards ≤ 128 }
     requires some { 0 < shards }

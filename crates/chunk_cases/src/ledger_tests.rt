@@ -1,0 +1,114 @@
+//! Tests of shards, which know which of their entries are right. Entries are chunks of one byte.
+
+ghost use Rattle.std.specs.Prelude.{◌≡◌, ℕ, false, true};
+ghost use Rattle.range_ledger.specs.Runs.{IsDealt};
+
+use crate::compare::{ok, same};
+use crate::plan_tests::index;
+use caibx_codec::index::Index;
+use dsy_base::view::Part;
+use dsy_forms::mem_target::MemTarget;
+use dsy_forms::ranges::RangeFails;
+use extract_plan::plan::Plan;
+use range_ledger::run::RunName;
+use range_ledger::shard::Shard;
+use range_ledger::unread::{Surveyed, Unread, shard_size};
+use std::alloc::Global;
+use std::marker::Brand;
+use std::process::Abort;
+
+// Whether the entry's chunk is put.
+fn puts<P: Part, R: RunName>(
+    rt: &impl Abort,
+    index: &Index,
+    plan: &Plan,
+    shard: &mut Shard<P, R>,
+    entry: usize,
+    chunk: &[u8],
+) -> bool
+    requires dealt { IsDealt R.run index.now plan.now }
+    requires may { (e : ℕ) → R.run.may e ≡ true }
+    requires untold { R.run.tells ≡ false }
+{
+    assert!(rt; entry < index.count() && plan.shard_of(entry) == shard.number());
+    assert!(rt; index.entry(entry).size == chunk.len());
+    shard.put(entry, chunk).is_ok()
+}
+
+// The entry is settled, and reads as these bytes.
+fn reads<P: Part, R: RunName>(
+    rt: &impl Abort,
+    index: &Index,
+    plan: &Plan,
+    shard: &mut Shard<P, R>,
+    entry: usize,
+    chunk: &[u8],
+)
+    requires dealt { IsDealt R.run index.now plan.now }
+{
+    let mut out = [0u8; 1];
+    assert!(rt; entry < index.count() && plan.shard_of(entry) == shard.number());
+    assert!(rt; shard.settled(entry) && index.entry(entry).size == 1);
+    same(rt, shard.read_settled(entry, &mut out).is_ok(), true);
+    same(rt, out.as_slice(), chunk);
+}
+
+// The first shard of the plan over this part, after its survey.
+fn surveyed<'a, R: RunName>(
+    rt: &impl Abort,
+    alloc: Global,
+    index: &'a Index,
+    plan: &Plan,
+    part: MemTarget,
+    found: Surveyed,
+) -> Shard<'a, MemTarget, R>
+    requires dealt { IsDealt R.run index.now plan.now }
+    requires untold { R.run.tells ≡ false }
+{
+    assert!(rt; 0 < plan.shards() && part.size() == shard_size::<R>(index, plan, 0));
+    let mut unread = Unread::<MemTarget, R>::new(alloc, index, plan, 0, part)
+        .ok()
+        .expect(rt, "no memory");
+    let mut buf = ok(rt, index.room(alloc));
+    same(rt, unread.survey(&mut buf), found);
+    unread.begin()
+}
+
+// Entries 0 and 2 are right at first. The first put into entry 1 fails.
+fn settles_reads_skips_and_tears<R: RunName>(
+    rt: &impl Abort,
+    alloc: Global,
+    index: &Index,
+    plan: &Plan,
+    part: MemTarget,
+)
+    requires dealt { IsDealt R.run index.now plan.now }
+    requires may { (e : ℕ) → R.run.may e ≡ true }
+    requires untold { R.run.tells ≡ false }
+{
+    let found = Surveyed {
+        settled: 2,
+        failed: false,
+    };
+    let mut shard = surveyed::<R>(rt, alloc, index, plan, part, found);
+    reads(rt, index, plan, &mut shard, 2, b"c");
+    same(rt, puts(rt, index, plan, &mut shard, 0, b"-"), true);
+    same(rt, puts(rt, index, plan, &mut shard, 1, b"b"), false);
+    same(rt, puts(rt, index, plan, &mut shard, 1, b"b"), true);
+    reads(rt, index, plan, &mut shard, 1, b"b");
+    same(rt, shard.into_part().bytes(), b"abcx".as_slice());
+}
+
+#[test]
+fn a_shard_settles_reads_skips_and_tears(rt: HostRuntime) {
+    let alloc = rt.alloc();
+    let chunks: [&[u8]; 16] = [
+        b"a", b"b", b"c", b"d", b"e", b"f", b"g", b"h", b"i", b"j", b"k", b"l", b"m", b"n", b"o", b"p",
+    ];
+    let index = index(&rt, alloc, &chunks);
+    let plan = ok(&rt, Plan::of(alloc, &index, 1));
+    let mut fails = RangeFails::none(alloc);
+    fails.writes = ok(&rt, vec![in alloc; (1u64, 1u32)]);
+    let part = MemTarget::new(alloc, ok(&rt, b"axcx".to_vec(alloc)), fails);
+    settles_reads_skips_and_tears::<Brand>(&rt, alloc, &index, &plan, part);
+}

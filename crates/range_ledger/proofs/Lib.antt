@@ -1,0 +1,9 @@
+pub mod Slices
+pub mod Laid
+pub mod Runs
+pub mod Keeps
+pub mod Dealt
+pub mod Steps
+pub mod Surveys
+pub mod Counting
+pub mod Settling

@@ -1,0 +1,94 @@
+-- What a survey finds, entry by entry.
+use Rattle.std.proofs.Common.{◌≡◌, ◌≢◌, ℕ, zero, suc, ◌+◌, ◌-◌, ◌<◌, ◌≤◌, true, false, List, [], ◌∷◌, length, take, drop, slice_range, slice_set, get_or, Option, Some, None, IfSome, IsTrue, refl, sym, ap, subst, ◌∙◌, inl, inr, arith}
+use Rattle.std.proofs.lemmas.Bool.{cases_eq}
+use Rattle.std.proofs.lemmas.List.{get_or-set_same, get_or-set_other, length-set, drop-take, drop-drop}
+use Rattle.caibx_codec.specs.Listing.{end_of, id_of, kind_of, slice_of, start_of}
+use Rattle.chunk_store.specs.Names.{name_of}
+use Rattle.dsy_base.specs.Bytes.{Held}
+use Rattle.range_ledger.proofs.Laid.{first_below, last_above}
+use Rattle.range_ledger.specs.Extents.{IsIn, IsRightIn}
+use Rattle.range_ledger.specs.Runs.{Run, Seen, Has, IsDealtShard, IsUnread, SettlesOne, base_in, extent_of, first_in, is_settled, slice_at}
+
+-- a range of a range
+slice_slice : (t : List ℕ) (a b c z : ℕ) → a ≤ b → b ≤ c → c ≤ z → slice_range (slice_range t a z) (b - a) (c - a) ≡ slice_range t b c
+slice_slice t a b c z ab bc cz =
+    let parts : z - a ≡ (b - a) + (z - b) = omega arith in
+    let there : b ≡ a + (b - a) = omega arith in
+    let long : c - a - (b - a) ≡ c - b = omega arith in
+    ap (λ n. take n (drop (b - a) (take (z - a) (drop a t)))) long
+    ∙ (ap (λ n. take (c - b) (drop (b - a) (take n (drop a t)))) parts
+    ∙ (ap (take (c - b)) (drop-take (b - a) (z - b) (drop a t))
+    ∙ (ap (λ xs. take (c - b) (take (z - b) xs)) (drop-drop (b - a) a t)
+    ∙ (ap (λ n. take (c - b) (take (z - b) (drop n t))) (sym there)
+    ∙ take_le (c - b) (z - b) (drop b t) (omega arith))))) where
+      take_le : (n m : ℕ) (xs : List ℕ) → n ≤ m → take n (take m xs) ≡ take n xs
+      take_le zero m xs le = refl
+      take_le (suc n) zero xs le = absurd (omega (arith, le))
+      take_le (suc n) (suc m) [] le = refl
+      take_le (suc n) (suc m) (x ∷ xs) le = ap (λ ys. x ∷ ys) (take_le n m xs (omega (arith, le)))
+
+module _ (r : Run) (s : Seen) (dealt : IsDealtShard r s) where
+  -- the base's bytes of an entry, in those of its shard
+  pub slice_base : (e : ℕ) → Has r s e → slice_at r s (base_in r s.number) e ≡ slice_of r.listing r.base e
+  slice_base e has =
+      let x = extent_of r s.number in
+      slice_slice r.base (start_of r.listing x.from) (start_of r.listing e) (end_of r.listing e) (start_of r.listing x.to)
+      (first_below x dealt.valid e has.from has.to)
+      (omega (arith, dealt.valid.valid.rises e (omega (arith, has.to, dealt.valid.within))))
+      (last_above x dealt.valid e has.to)
+
+  module _ (e : ℕ) (has : Has r s e) (new : Seen) (number : new.number ≡ s.number)
+      (settled : new.settled ≡ slice_set s.settled (e - first_in r s.number) true) where
+    inside : e - first_in r s.number < length s.settled
+    inside = omega (arith, has.from, has.to, dealt.count)
+
+    this : is_settled r new e ≡ true
+    this = ap (λ n. get_or new.settled (e - first_in r n) false) number
+        ∙ (ap (λ xs. get_or xs (e - first_in r s.number) false) settled ∙ get_or-set_same s.settled (e - first_in r s.number) true false inside)
+
+    others : (j : ℕ) → Has r s j → j ≢ e → is_settled r new j ≡ is_settled r s j
+    others j at differ = ap (λ n. get_or new.settled (j - first_in r n) false) number
+        ∙ (ap (λ xs. get_or xs (j - first_in r s.number) false) settled
+        ∙ get_or-set_other s.settled (e - first_in r s.number) (j - first_in r s.number) true false (λ same. differ (omega (arith, has.from, at.from, same))))
+
+    pub settles_one : SettlesOne r s new e
+    settles_one = record {
+      size = ap length settled ∙ length-set s.settled (e - first_in r s.number) true;
+      this = this;
+      others = others;
+    }
+
+-- an entry more is settled, which is right
+pub settle_unread : (r : Run) (old new : Seen) (e : ℕ) → IsUnread r old → Has r old e → new.number ≡ old.number → new.held ≡ old.held → SettlesOne r old new e
+    → (IsTrue r.tells → IfSome old.held.bytes (λ t. IsRightIn (extent_of r old.number) t e)) → IsUnread r new
+settle_unread r old new e is has number held one named = record {
+  bytes = λ tells. subst (λ n. IfSome new.held.bytes (λ t. t ≡ base_in r n)) (sym number) (subst (λ h. IfSome h.bytes (λ t. t ≡ base_in r old.number)) (sym held) (is.bytes tells));
+  right = λ j at set tells.
+      let at' : Has r old j = subst (λ n. IsIn (extent_of r n) j) number at in
+      let there : IfSome old.held.bytes (λ t. IsRightIn (extent_of r old.number) t j) = elim (cases_eq j e) [
+        | inl same ↦ subst (λ i. IfSome old.held.bytes (λ t. IsRightIn (extent_of r old.number) t i)) (sym same) (named tells)
+        | inr differ ↦ is.right j at' (sym (one.others j at' differ) ∙ set) tells
+      ] in
+      subst (λ n. IfSome new.held.bytes (λ t. IsRightIn (extent_of r n) t j)) (sym number)
+      (subst (λ (h : Held). IfSome h.bytes (λ t. IsRightIn (extent_of r old.number) t j)) (sym held) there);
+}
+
+-- what was read is the range, and has its digest
+pub named_in : (r : Run) (s : Seen) (e : ℕ) (out : List ℕ) → IfSome s.held.bytes (λ t. out ≡ slice_at r s t e)
+    → name_of (kind_of r.listing) out ≡ id_of r.listing e → IfSome s.held.bytes (λ t. IsRightIn (extent_of r s.number) t e)
+named_in r s e out read named = go s.held.bytes read where
+  go : (o : Option (List ℕ)) → IfSome o (λ t. out ≡ slice_at r s t e) → IfSome o (λ t. IsRightIn (extent_of r s.number) t e)
+  go None h = tt
+  go (Some t) h = ap (name_of (kind_of r.listing)) (sym h) ∙ named
+
+-- a call that writes nothing
+pub kept_unread : (r : Run) (old new : Seen) → IsUnread r old → new.number ≡ old.number → new.settled ≡ old.settled → new.held ≡ old.held → IsUnread r new
+kept_unread r old new is number settled held = record {
+  bytes = λ tells. subst (λ n. IfSome new.held.bytes (λ t. t ≡ base_in r n)) (sym number) (subst (λ (h : Held). IfSome h.bytes (λ t. t ≡ base_in r old.number)) (sym held) (is.bytes tells));
+  right = λ j at set tells.
+      let same : is_settled r new j ≡ is_settled r old j =
+      ap (λ n. get_or new.settled (j - first_in r n) false) number ∙ ap (λ xs. get_or xs (j - first_in r old.number) false) settled in
+      subst (λ n. IfSome new.held.bytes (λ t. IsRightIn (extent_of r n) t j)) (sym number)
+      (subst (λ (h : Held). IfSome h.bytes (λ t. IsRightIn (extent_of r old.number) t j)) (sym held)
+      (is.right j (subst (λ n. IsIn (extent_of r n) j) number at) (sym same ∙ set) tells));
+}

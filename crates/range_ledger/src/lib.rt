@@ -1,0 +1,8 @@
+//! Shards of a target that know which of their entries are right, and the core machine of which their calls are steps.
+#![tactic(auto)]
+
+mod entries;
+pub mod laws;
+pub mod run;
+pub mod shard;
+pub mod unread;
