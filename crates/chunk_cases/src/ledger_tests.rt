@@ -6,7 +6,7 @@ ghost use Rattle.range_ledger.specs.Runs.{IsDealt};
 use crate::compare::{ok, same};
 use crate::plan_tests::index;
 use caibx_codec::index::Index;
-use dsy_base::view::Part;
+use dsy_base::view::{Part, View};
 use dsy_forms::mem_target::MemTarget;
 use dsy_forms::ranges::RangeFails;
 use extract_plan::plan::Plan;
@@ -66,12 +66,16 @@ fn surveyed<'a, R: RunName>(
     requires untold { R.run.tells ≡ false }
 {
     assert!(rt; 0 < plan.shards() && part.size() == shard_size::<R>(index, plan, 0));
-    let mut unread = Unread::<MemTarget, R>::new(alloc, index, plan, 0, part)
-        .ok()
-        .expect(rt, "no memory");
-    let mut buf = ok(rt, index.room(alloc));
-    same(rt, unread.survey(&mut buf), found);
-    unread.begin()
+    let Ok(mut buf) = index.room(alloc) else {
+        panic!(rt; "no memory");
+    };
+    match Unread::<MemTarget, R>::new(alloc, index, plan, 0, part) {
+        Ok(mut unread) => {
+            same(rt, unread.survey(&mut buf), found);
+            unread.begin()
+        }
+        Err(_) => panic!(rt; "no memory"),
+    }
 }
 
 // Entries 0 and 2 are right at first. The first put into entry 1 fails.

@@ -3,7 +3,7 @@
 
 ghost use Rattle.std.specs.Prelude.{◌≡◌, ◌+◌, ◌-◌, ◌<◌, ◌≤◌, ℕ, List, IfErr, IfOk, IfSome, OnErr, OnOk, Ok, false};
 ghost use Rattle.std.specs.Prelude.{length, replicate, slice_set, true};
-ghost use Rattle.caibx_codec.specs.Listing.{id_of, size_of};
+ghost use Rattle.caibx_codec.specs.Listing.{count_of, id_of, size_of};
 ghost use Rattle.caibx_fields.specs.Limits.{item_limit};
 ghost use Rattle.dsy_base.specs.Bytes.{held_written};
 ghost use Rattle.dsy_base.specs.Counts.{CountsRefusals};
@@ -74,6 +74,7 @@ impl<'a, P: Part, R: RunName> Entries<'a, P, R> {
         requires size { (P.held part).size ≡ length_in (extent_of R.run number) }
         ensures number { IfOk result (λ s. s.number ≡ number) }
         ensures none { IfOk result (λ s. (e : ℕ) → is_settled R.run s e ≡ false) }
+        ensures inside { IfOk result (λ s. (e : ℕ) → Has R.run s e → e < count_of R.run.listing) }
         ensures held { IfOk result (λ s. s.held ≡ P.held part) }
         ensures faults { IfOk result (λ s. s.faults ≡ P.faults part) }
         ensures err { IfErr result (λ e. e.0 ≡ part) }

@@ -2,7 +2,7 @@
 
 ghost use Rattle.std.specs.Prelude.{◌≡◌, ◌+◌, ◌^◌, ◌<◌, ◌≤◌, ℕ, IfErr, IfOk, IfSome, IsTrue, Ok, OnErr, false};
 ghost use Rattle.std.specs.Prelude.{length, true};
-ghost use Rattle.caibx_codec.specs.Listing.{size_of};
+ghost use Rattle.caibx_codec.specs.Listing.{count_of, size_of};
 ghost use Rattle.dsy_base.specs.Counts.{CountsRefusals, Rose};
 ghost use Rattle.extract_plan.specs.Deal.{deal_shards};
 ghost use Rattle.range_ledger.specs.Extents.{IsRightIn, length_in};
@@ -88,6 +88,7 @@ impl<'a, P: Part, R: RunName> Unread<'a, P, R> {
         requires bytes { IsTrue R.run.tells → IfSome (P.held part).bytes (λ t. t ≡ base_in R.run number) }
         ensures number { IfOk result (λ u. u.number ≡ number) }
         ensures none { IfOk result (λ u. (e : ℕ) → is_settled R.run u e ≡ false) }
+        ensures inside { IfOk result (λ u. (e : ℕ) → Has R.run u e → e < count_of R.run.listing) }
         ensures held { IfOk result (λ u. u.held ≡ P.held part) }
         ensures faults { IfOk result (λ u. u.faults ≡ P.faults part) }
         ensures err { IfErr result (λ e. e.0 ≡ part) }

@@ -4,6 +4,6 @@ use Rattle.chunk_cases.proofs.ledger_tests.a_shard_settles_reads_skips_and_tears
 
 -- the run of the index and its plan, in which each entry may be filled, of a target that tells nothing
 abbrev pub ghosts-settles_reads_skips_and_tears : goal.ghosts-settles_reads_skips_and_tears
-ghosts-settles_reads_skips_and_tears a = record {
+ghosts-settles_reads_skips_and_tears g a = record {
   run = record { listing = a.index.now; base = []; shards = deal_shards a.plan.now; may = λ _. true; tells = false };
 }

@@ -28,3 +28,10 @@ returns-in-Ok-clause-none g c e =
     subst (λ (xs : List Bool). is_settled g.R.RunName.run (record { number = c.args.number; settled = xs; faults = g.P.View.faults c.args.part; held = g.P.View.held c.args.part }) e ≡ false)
     (sym c.in-Ok.ensures.value)
     (none_settled g.R.RunName.run c.args.number (c.first_of-past.result - c.first_of-first.result) (g.P.View.faults c.args.part) (g.P.View.held c.args.part) e)
+
+pub returns-in-Ok-clause-inside : goal.returns-in-Ok-clause-inside
+returns-in-Ok-clause-inside g c e has =
+    let r = g.R.RunName.run in
+    let rules : Rules r.listing = subst Rules c.requires.dealt.listing c.rules.ensures in
+    let lt : c.args.number < r.shards = omega (arith, c.requires.inside, c.requires.dealt.shards) in
+    omega (arith, has.to, (valid_shard r c.args.number rules lt).within)
