@@ -1,23 +1,22 @@
 -- What an assembly says of its sources, over the base. The fates are m after the survey and n at the end, and the counts
 -- of the target's faults a at first, b after the survey and c at the end.
-use Rattle.std.proofs.Common.{◌≡◌, ◌⊎◌, ◌++◌, IsTrue, ℕ, ◌<◌, ◌≤◌, List, length, map, slice_index, Bool, Option, Some, None, IfErr, IfSome, Result, OnOk, Ok, Err, true, false, refl, sym, ◌∙◌, subst, inl, inr, arith}
+use Rattle.std.proofs.Common.{◌≡◌, ◌⊎◌, ◌++◌, IsTrue, ℕ, ◌<◌, ◌≤◌, List, length, map, slice_index, Bool, Option, Some, None, IfErr, IfSome, Result, OnOk, Ok, Err, true, false, refl, sym, ap, ◌∙◌, subst, inl, inr, arith}
 use Rattle.std.proofs.lemmas.Bool.{cases_Bool}
 use Rattle.assembler.proofs.Counted.{quiet_part}
-use Rattle.assembler.proofs.Based.{Surveyed, assembles_err, ends_map, leaves, left_at, right_all, right_at, some_map, told_map}
+use Rattle.assembler.proofs.Based.{Surveyed, assembles_err, ends_map, leaves, leaves_torn, left_at, missed_at, right_all, right_at, some_map, told_map}
 use Rattle.assembler.proofs.EconomyReported.{asks_err, assembled_as, reports_all, settled_right}
 use Rattle.assembler.proofs.EconomyRetried.{unless_map}
 use Rattle.assembler.proofs.EconomySources.{source_same}
 use Rattle.assembler.proofs.Entries.{among, ids_same, listed_of}
-use Rattle.assembler.proofs.Filled.{rose_still}
 use Rattle.assembler.specs.Assemblies.{After, Assembles, AssemblyAsks, IsObtainable, IsUnobtained, NothingFails, RightAlike, SparedOver, Verdict}
 use Rattle.assembler.specs.Economy.{AsksExactly, AssembledBy, ReportsExactly, UnlessMemory}
 use Rattle.assembler.specs.Faults.{fault_of}
-use Rattle.assembler.specs.Fills.{Fills, WhereTold}
+use Rattle.assembler.specs.Fills.{Fills, FillsTorn, WhereTold}
 use Rattle.cache_store.specs.Giving.{SomeGives}
 use Rattle.cache_store.specs.Shelves.{Shelf}
 use Rattle.assembler.proofs.Stocking.{gives_on}
 use Rattle.assembler.specs.Obtainable.{OnlyObtainable}
-use Rattle.assembler.specs.Passes.{EndsBy, HadAt, IsLost, PassesAsk, want_at}
+use Rattle.assembler.specs.Passes.{EndsBy, EndsTorn, HadAt, IsLost, PassesAsk, want_at}
 use Rattle.assembler.specs.Reports.{tally}
 use Rattle.assembler.specs.declared.fault.ExtractFault.{ExtractFault}
 use Rattle.assembler.specs.declared.fault.ExtractFault.TheVariants as faults
@@ -70,7 +69,7 @@ module _ (l : Listing) (d : Deal) (x : Placed) (wants : AreWants l d.wants d.wan
       | inl is ↦
           let size : length d.want_of ≡ count_of l = wants.size in
           rose_later a b c ab (failed j (among d (want_at d i) j (omega (arith, listed)) ((wants.alike j i listed inside).1 alike)) is)
-      | inr isnt ↦ rose_still a b c bc (over.no j listed isnt right)
+      | inr isnt ↦ missed_at l m a b c bc base over j listed isnt right
     ]
 
   -- alike entries can be had alike
@@ -92,7 +91,7 @@ module _ (l : Listing) (d : Deal) (x : Placed) (wants : AreWants l d.wants d.wan
   spared_over holds view view_faults m a b c ab bc None s0 s1 e f stores w over (inl (has, quiet)) = absurd has
   spared_over holds view view_faults m a b c ab bc (Some y) s0 s1 e f stores w over (inl ((j, other, right), quiet)) = elim (cases_Bool (settled m j)) [
     | inl is ↦ inl ((j, other, is), quiet_part a b c c ab (omega arith) quiet)
-    | inr isnt ↦ absurd (quiet_never a c quiet (rose_still a b c bc (over.no j (listed_of l d w j wants other) isnt right)))
+    | inr isnt ↦ absurd (quiet_never a c quiet (missed_at l m a b c bc (resized y (image_length l)) over j (listed_of l d w j wants other) isnt right))
   ]
   spared_over holds view view_faults m a b c ab bc o s0 s1 e f stores w over (inr rest) = inr rest
 
@@ -146,6 +145,7 @@ module _ {S V : Type 0} (holds folder : S → Option (Map (List ℕ))) (place : 
     pub first : EndsBy (λ lost. LostOver m b c k j e f lost × ((i : ℕ) → i < lost.entry → settled n i ≡ true)) (Rose b c) r
     pub left : IfErr r (λ y. (y ≡ faults.Memory) ⊎ (Rose b c ⊎ ((i : ℕ) → i < count_of l → settled n i ≡ false → (lost : Lost)
         × (want_at d lost.entry ≡ want_at d i) × LostOver m b c k j e f lost)))
+    pub torn : r ≡ Err faults.TargetFault → EndsTorn l d m n (λ i. WhereTold o t (λ y. FillsTorn l m n b c i (resized y (image_length l))))
     pub had : IsTrue tells → (cached maps : List (Map (List ℕ))) → cached_in e ≡ Some cached → map holds k.chain.stores ≡ map Some maps
         → (i : ℕ) → i < count_of l → settled n i ≡ true → HadAt l d x m (map (held_in view) k.seeds.items) (cached ++ maps) i
     pub asks : PassesAsk holds asked view view_faults l d x m b c k j e f
@@ -158,18 +158,35 @@ module _ {S V : Type 0} (holds folder : S → Option (Map (List ℕ))) (place : 
   module _ (o t : Option (List ℕ)) (a b c : ℕ) (m n : List Fate) (e f : Option Shelf) (j k h : Kit S V) where
     -- ---- bytes
 
-    pub bytes_err : (why : ExtractFault) → Ran o t a b c m n e f j (Err why) h → WhereTold o t (Assembles l (Rose a c) (Err why))
-    bytes_err why ran = told_map o t (λ y. Surveyed l m a b (resized y (image_length l))) (λ y. Fills l m n b c (resized y (image_length l))) (Assembles l (Rose a c) (Err why))
+    bytes_by : (why : ExtractFault) → Ran o t a b c m n e f j (Err why) h
+        → EndsBy {A = Unit {0}} (λ lost. LostOver m b c h j e f lost × ((i : ℕ) → i < lost.entry → settled n i ≡ true)) (Rose b c) (Err why)
+        → WhereTold o t (Assembles l a c (Err why))
+    bytes_by why ran (inl lost) = told_map o t (λ y. Surveyed l m a b (resized y (image_length l))) (λ y. Fills l m n b c (resized y (image_length l))) (Assembles l a c (Err why))
         (λ y z over fills.
         let base = resized y (image_length l) in
         assembles_err l a c y z (leaves l m n a b c ran.ab ran.bc base z over fills)
-        (λ lost. LostOver m b c h j e f lost × ((i : ℕ) → i < lost.entry → settled n i ≡ true)) (Rose b c) why
+        (λ lost. LostOver m b c h j e f lost × ((i : ℕ) → i < lost.entry → settled n i ≡ true)) why
         (λ lost is i less. right_at l m n a b c ran.ab ran.bc base z over fills i (omega (arith, less, is.0.listed)) (is.1 i less))
-        ran.first)
+        lost)
         ran.over ran.fills
+    bytes_by why ran (inr (inl (is, rose))) =
+        let h = ran.torn (ap (λ (y : ExtractFault). Err y) is) in
+        let w = want_at d h.entry in
+        subst (λ y. WhereTold o t (Assembles l a c (Err y))) (sym is)
+        (told_map o t (λ y. Surveyed l m a b (resized y (image_length l))) (λ y. FillsTorn l m n b c h.torn (resized y (image_length l))) (Assembles l a c (Err faults.TargetFault))
+        (λ y z over fills. inr (leaves_torn l m n a b c ran.ab ran.bc (resized y (image_length l)) z over fills.0 h.entry h.torn h.listed h.was_open h.before
+        (listed_of l d w h.torn ran.wants h.among) (ids_same l d w h.torn h.entry ran.wants h.among (here l d x ran.wants h.entry h.listed)) fills.1))
+        ran.over h.is_torn)
+    bytes_by why ran (inr (inr is)) = subst (λ y. WhereTold o t (Assembles l a c (Err y))) (sym is)
+        (told_map o t (λ y. Surveyed l m a b (resized y (image_length l))) (λ y. Fills l m n b c (resized y (image_length l))) (Assembles l a c (Err faults.Memory))
+        (λ y z over fills. inr (leaves l m n a b c ran.ab ran.bc (resized y (image_length l)) z over fills))
+        ran.over ran.fills)
 
-    pub bytes_ok : (u : Unit {0}) (r : Report) → Ran o t a b c m n e f j (Ok u) h → WhereTold o t (Assembles l (Rose a c) (Ok r))
-    bytes_ok u r ran = told_map o t (λ y. Surveyed l m a b (resized y (image_length l))) (λ y. Fills l m n b c (resized y (image_length l))) (Assembles l (Rose a c) (Ok r))
+    pub bytes_err : (why : ExtractFault) → Ran o t a b c m n e f j (Err why) h → WhereTold o t (Assembles l a c (Err why))
+    bytes_err why ran = bytes_by why ran ran.first
+
+    pub bytes_ok : (u : Unit {0}) (r : Report) → Ran o t a b c m n e f j (Ok u) h → WhereTold o t (Assembles l a c (Ok r))
+    bytes_ok u r ran = told_map o t (λ y. Surveyed l m a b (resized y (image_length l))) (λ y. Fills l m n b c (resized y (image_length l))) (Assembles l a c (Ok r))
         (λ y z over fills.
         let base = resized y (image_length l) in
         (right_all l m n a b c ran.ab ran.bc base z over fills ran.ok, leaves l m n a b c ran.ab ran.bc base z over fills))

@@ -1,10 +1,12 @@
 -- What an assembly leaves of the base, which are the target's bytes with the image's length. The fates are m after the
 -- survey and n at the end, and the counts of the target's faults a at first, b after the survey and c at the end.
-use Rattle.std.proofs.Common.{◌≡◌, ◌⊎◌, ℕ, ◌<◌, ◌≤◌, List, length, Option, Some, None, IfSome, Err, true, false, refl, sym, ap, ◌∙◌, subst, inl, inr}
+use Rattle.std.proofs.Common.{◌≡◌, ◌⊎◌, ℕ, ◌<◌, ◌≤◌, List, ◌++◌, length, Option, Some, None, IfSome, Err, true, false, refl, sym, ap, ◌∙◌, subst, inl, inr, arith}
+use Rattle.std.proofs.Math.Logic.{⊎_map}
 use Rattle.std.proofs.lemmas.Bool.{cases_Bool}
+use Rattle.std.proofs.lemmas.List.Elements.{Contains-append_left, Contains-append_right}
 use Rattle.std.specs.Option.{option_map}
 use Rattle.assembler.proofs.Filled.{right_on, rose_still}
-use Rattle.assembler.specs.Assemblies.{Assembles, KeepsBase}
+use Rattle.assembler.specs.Assemblies.{Assembles, KeepsBase, KeepsTorn}
 use Rattle.assembler.specs.Faults.{fault_of}
 use Rattle.assembler.specs.Fills.{Fills, WhereTold}
 use Rattle.assembler.specs.Obtainable.{OnlyObtainable}
@@ -17,6 +19,9 @@ use Rattle.chunk_store.specs.declared.id.ChunkId.{ChunkId}
 use Rattle.dsy_base.proofs.Counts.{rose_later}
 use Rattle.dsy_base.specs.Bytes.{Held, held_resized, resized}
 use Rattle.dsy_base.specs.Counts.{Rose}
+use Rattle.extract_plan.specs.Deal.{AreAlike}
+use Rattle.std.specs.List.{Contains}
+use Rattle.range_survey.proofs.Excused.{excused_rose, excuses_on}
 use Rattle.range_survey.specs.Fates.{OpenWrong, SettledRight, settled}
 use Rattle.range_survey.specs.declared.fate.Fate.{Fate}
 use Rattle.store_chain.specs.declared.refused.Refused.{Refused}
@@ -52,6 +57,12 @@ pub surveyed : (l : Listing) (m : List Fate) (a b : ℕ) (mid : Option (List ℕ
 surveyed l m a b None size right wrong = tt
 surveyed l m a b (Some t) size right wrong = record { size = size; yes = right; no = wrong }
 
+-- an entry that is right in the base and was left open has failed
+pub missed_at : (l : Listing) (m : List Fate) (a b c : ℕ) → b ≤ c → (base : List ℕ) → Surveyed l m a b base → (i : ℕ) → i < count_of l → settled m i ≡ false
+    → IsRightAt base l i → Rose a c
+missed_at l m a b c bc base over i inside isnt right =
+    rose_still a b c bc (excused_rose over.no.failed i a b (over.no.missed i inside isnt right) over.no.excused)
+
 module _ (l : Listing) (m n : List Fate) (a b c : ℕ) (ab : a ≤ b) (bc : b ≤ c) (base t : List ℕ) (over : Surveyed l m a b base) (fills : Fills l m n b c base t) where
   pub right_at : (i : ℕ) → i < count_of l → settled n i ≡ true → IsRightAt t l i
   right_at = right_on l m n b c (Some base) (Some t) refl fills over.yes
@@ -59,20 +70,39 @@ module _ (l : Listing) (m n : List Fate) (a b c : ℕ) (ab : a ≤ b) (bc : b �
   pub left_at : (i : ℕ) → i < count_of l → settled n i ≡ false → (slice_of l t i ≡ slice_of l base i) ⊎ Rose a c
   left_at i inside isnt = elim (fills.left i inside isnt) [
     | inl same ↦ inl same
-    | inr rose ↦ inr (rose_later a b c ab rose)
+    | inr torn ↦ inr (rose_later a b c ab (excused_rose fills.failed i b c torn fills.excused))
   ]
 
-  pub leaves : KeepsBase l (Rose a c) base t
+  -- the entries that the survey couldn't read, and those that couldn't be written
+  pub leaves : KeepsBase l a c base t
   leaves = record {
+    failed = over.no.failed ++ fills.failed;
+    excused = excuses_on over.no.failed fills.failed a b c bc over.no.excused fills.excused;
     size = fills.size ∙ over.size;
     each = λ i inside. elim (cases_Bool (settled n i)) [
       | inl is ↦ inl (right_at i inside is)
-      | inr isnt ↦ inr (left_at i inside isnt)
+      | inr isnt ↦ inr (⊎_map (λ same. same) (Contains-append_right over.no.failed fills.failed i) (fills.left i inside isnt))
     ];
     kept = λ i inside right. elim (cases_Bool (settled m i)) [
       | inl is ↦ inl (fills.kept i inside is)
-      | inr isnt ↦ inr (rose_still a b c bc (over.no i inside isnt right))
+      | inr isnt ↦ inr (Contains-append_left over.no.failed fills.failed i (over.no.missed i inside isnt right))
     ];
+  }
+
+  -- and a write that failed
+  pub leaves_torn : (k i : ℕ) → k < count_of l → settled m k ≡ false → ((j : ℕ) → j < k → settled n j ≡ true) → i < count_of l → AreAlike l i k
+      → Contains fills.failed i → KeepsTorn l a c base t
+  unfolding leaves
+  leaves_torn k i listed was_open before inside alike torn = record {
+    keeps = leaves;
+    entry = k;
+    listed = listed;
+    wrong = λ right. Contains-append_left over.no.failed fills.failed k (over.no.missed k listed was_open right);
+    before = λ j less. right_at j (omega (arith, less, listed)) (before j less);
+    torn = i;
+    inside = inside;
+    alike = alike;
+    is_torn = Contains-append_right over.no.failed fills.failed i torn;
   }
 
   pub right_all : ((i : ℕ) → i < count_of l → settled n i ≡ true) → IsRight t l
@@ -80,19 +110,17 @@ module _ (l : Listing) (m n : List Fate) (a b c : ℕ) (ab : a ≤ b) (bc : b �
 
 -- ---- how it ended
 
-module _ (l : Listing) (a c : ℕ) (o t : List ℕ) (leaves : KeepsBase l (Rose a c) (resized o (image_length l)) t) where
-  assembles_named : (k : ℕ) (id : ChunkId) (r : Refused) → ((i : ℕ) → i < k → IsRightAt t l i) → Assembles l (Rose a c) (Err (fault_of k id r)) o t
+module _ (l : Listing) (a c : ℕ) (o t : List ℕ) (leaves : KeepsBase l a c (resized o (image_length l)) t) where
+  assembles_named : (k : ℕ) (id : ChunkId) (r : Refused) → ((i : ℕ) → i < k → IsRightAt t l i) → Assembles l a c (Err (fault_of k id r)) o t
   assembles_named k id refused.Missing right = (leaves, right)
   assembles_named k id (refused.Damaged s x) right = (leaves, right)
   assembles_named k id (refused.StoreFault s) right = leaves
   assembles_named k id refused.Memory right = inr leaves
 
-  pub assembles_err : (P : Lost → Type 0) (F : Type 0) (e : ExtractFault) → ((x : Lost) → P x → (i : ℕ) → i < x.entry → IsRightAt t l i)
-      → EndsBy {A = Unit {0}} P F (Err e) → Assembles l (Rose a c) (Err e) o t
-  assembles_err P F e before (inl (x, is, lost)) =
-      subst (λ y. Assembles l (Rose a c) (Err y) o t) (sym is) (assembles_named x.entry x.id x.refused (before x lost))
-  assembles_err P F e before (inr (inl (is, rose))) = subst (λ y. Assembles l (Rose a c) (Err y) o t) (sym is) (inr leaves)
-  assembles_err P F e before (inr (inr is)) = subst (λ y. Assembles l (Rose a c) (Err y) o t) (sym is) (inr leaves)
+  pub assembles_err : (P : Lost → Type 0) (e : ExtractFault) → ((x : Lost) → P x → (i : ℕ) → i < x.entry → IsRightAt t l i)
+      → (lost : Lost) × (e ≡ fault_of lost.entry lost.id lost.refused) × P lost → Assembles l a c (Err e) o t
+  assembles_err P e before (x, is, lost) =
+      subst (λ y. Assembles l a c (Err y) o t) (sym is) (assembles_named x.entry x.id x.refused (before x lost))
 
 pub ends_map : (P Q : Lost → Type 0) (F G : Type 0) (e : ExtractFault) → ((x : Lost) → P x → Q x) → (F → G) → EndsBy {A = Unit {0}} P F (Err e) → EndsBy {A = Unit {0}} Q G (Err e)
 ends_map P Q F G e lost torn (inl (x, is, p)) = inl (x, is, lost x p)

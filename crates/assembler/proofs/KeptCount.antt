@@ -9,6 +9,7 @@ use Rattle.chunk_sources.proofs.Lacking.{quiet_never}
 use Rattle.chunk_sources.specs.Economy.{is_made}
 use Rattle.chunk_store.specs.Names.{name_of}
 use Rattle.dsy_base.specs.Counts.{Quiet}
+use Rattle.range_survey.proofs.Excused.{excused_rose}
 use Rattle.range_survey.specs.Fates.{FirstFates, OpenWrong, SettledRight, fate_at, is_right_at, is_settled, settled}
 use Rattle.range_survey.specs.declared.fate.Fate.{Fate}
 use Rattle.range_survey.specs.declared.fate.Fate.TheVariants as fate
@@ -52,7 +53,8 @@ module _ (l : Listing) (t : List ℕ) (m0 m1 : List Fate) (a b : ℕ) (quiet : Q
 
   was_open : (i : ℕ) → i < count_of l → settled m0 i ≡ false → one_if fate.Kept (fate_at m1 i) ≡ counted (is_right_at l t i)
   was_open i inside isnt = elim (cases_Bool (is_right_at l t i)) [
-    | inl right ↦ absurd (quiet_never a b quiet (none_there i inside isnt ((bytes_eq-Decides (name_of (kind_of l) (slice_of l t i)) (id_of l i)).0 right)))
+    | inl right ↦ absurd (quiet_never a b quiet (excused_rose none_there.failed i a b
+        (none_there.missed i inside isnt ((bytes_eq-Decides (name_of (kind_of l) (slice_of l t i)) (id_of l i)).0 right)) none_there.excused))
     | inr wrong ↦ not_kept i isnt ∙ ap counted (sym wrong)
   ]
 

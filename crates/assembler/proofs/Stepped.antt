@@ -44,7 +44,7 @@ module _ {T S V : Type 0} (held : T → Held) (faults : T → ℕ) (holds folder
   pub step_none : (a : T) (k : Kit S V) (m : List Fate) → Steps a k m a k m
   step_none a k m = record {
     grows = grows_none m;
-    bytes = told_none l m (faults a) (faults a) (held a).bytes;
+    bytes = told_none l m (faults a) (faults a) (omega arith) (held a).bytes;
     name = refl;
     size = refl;
     never_falls = omega arith;
@@ -59,7 +59,7 @@ module _ {T S V : Type 0} (held : T → Held) (faults : T → ℕ) (holds folder
       → Steps a k m b j n → Steps b j n c i o → Steps a k m c i o
   step_on a k m b j n c i o ab bc first next = record {
     grows = grows_on m n o first.grows next.grows;
-    bytes = told_on l m n o (faults a) (faults b) (faults c) (held a).bytes (held b).bytes (held c).bytes ab bc first.never_falls next.never_falls
+    bytes = told_on l m n o (faults a) (faults b) (faults c) (held a).bytes (held b).bytes (held c).bytes ab bc next.never_falls
         first.grows next.grows first.bytes next.bytes;
     name = next.name ∙ first.name;
     size = next.size ∙ first.size;

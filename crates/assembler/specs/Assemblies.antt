@@ -1,8 +1,8 @@
 -- How an assembly may end. `o` are the target's bytes before it, the base is `o` with the image's length, t are the
--- bytes after it. `failed` says that the target failed.
+-- bytes after it. The count of the target's faults goes from old to new.
 use Rattle.std.specs.Prelude.{◌≡◌, ◌⊎◌, ℕ, ◌+◌, ◌<◌, List, length, map, slice_index, true, Bool, Option, IfSome}
 use Rattle.std.specs.Prelude.{IsSomeAnd, Result, Ok, Err}
-use Rattle.std.specs.List.{Any}
+use Rattle.std.specs.List.{Any, Contains}
 use Rattle.assembler.specs.Passes.{RefusedOnce, want_at}
 use Rattle.assembler.specs.declared.fault.ExtractFault.{ExtractFault}
 use Rattle.assembler.specs.declared.fault.ExtractFault.TheVariants as faults
@@ -25,6 +25,7 @@ use Rattle.extract_plan.specs.Deal.{first_of, of_want, want_id, AreAlike, Deal}
 use Rattle.extract_plan.specs.Places.{Placed, places_at}
 use Rattle.extract_plan.specs.Seeds.{faults_in, held_in}
 use Rattle.extract_plan.specs.declared.seed.Seed.{Seed}
+use Rattle.range_survey.specs.Excuses.{Excuses}
 
 -- an entry that is alike to entry i is right in the base
 abbrev pub RightAlike : Listing → List ℕ → ℕ → Type 0
@@ -37,22 +38,37 @@ IsObtainable l d x base views maps i = RightAlike l base i
     ⊎ (SeedsGive views (places_at x (want_at d i)) (id_of l i) ⊎ SomeGives (kind_of l) (id_of l i) (size_of l i) maps)
 
 -- each range is right or the base's, unless a write to it failed; and a range that is right in the base was never
--- written, unless it couldn't be read
-pub record KeepsBase (l : Listing) (failed : Type 0) (base t : List ℕ) : Type 0 where
+-- written, unless a read of it failed
+pub record KeepsBase (l : Listing) (old new : ℕ) (base t : List ℕ) : Type 0 where
+  pub failed : List ℕ
+  pub excused : Excuses failed old new
   pub size : length t ≡ image_length l
-  pub each : (i : ℕ) → i < count_of l → IsRightAt t l i ⊎ ((slice_of l t i ≡ slice_of l base i) ⊎ failed)
-  pub kept : (i : ℕ) → i < count_of l → IsRightAt base l i → (slice_of l t i ≡ slice_of l base i) ⊎ failed
+  pub each : (i : ℕ) → i < count_of l → IsRightAt t l i ⊎ ((slice_of l t i ≡ slice_of l base i) ⊎ Contains failed i)
+  pub kept : (i : ℕ) → i < count_of l → IsRightAt base l i → (slice_of l t i ≡ slice_of l base i) ⊎ Contains failed i
+
+-- the same, after a write that failed: into this entry, or into a torn one that is alike to it. It wasn't right in the
+-- base, unless a read of it failed, and all entries before it are right: none of them was lost
+pub record KeepsTorn (l : Listing) (old new : ℕ) (base t : List ℕ) : Type 0 where
+  pub keeps : KeepsBase l old new base t
+  pub entry : ℕ
+  pub listed : entry < count_of l
+  pub wrong : IsRightAt base l entry → Contains keeps.failed entry
+  pub before : (i : ℕ) → i < entry → IsRightAt t l i
+  pub torn : ℕ
+  pub inside : torn < count_of l
+  pub alike : AreAlike l torn entry
+  pub is_torn : Contains keeps.failed torn
 
 -- the bytes after it: where no entry is named the length may not have been set
-abbrev pub Assembles : Listing → Type 0 → Result Report ExtractFault → List ℕ → List ℕ → Type 0
-Assembles l failed (Ok r) o t = IsRight t l × KeepsBase l failed (resized o (image_length l)) t
-Assembles l failed (Err (faults.Missing k id)) o t =
-    KeepsBase l failed (resized o (image_length l)) t × ((i : ℕ) → i < k → IsRightAt t l i)
-Assembles l failed (Err (faults.Damaged k id s shows)) o t =
-    KeepsBase l failed (resized o (image_length l)) t × ((i : ℕ) → i < k → IsRightAt t l i)
-Assembles l failed (Err (faults.StoreFault s)) o t = KeepsBase l failed (resized o (image_length l)) t
-Assembles l failed (Err faults.TargetFault) o t = (t ≡ o) ⊎ KeepsBase l failed (resized o (image_length l)) t
-Assembles l failed (Err faults.Memory) o t = (t ≡ o) ⊎ KeepsBase l failed (resized o (image_length l)) t
+abbrev pub Assembles : Listing → ℕ → ℕ → Result Report ExtractFault → List ℕ → List ℕ → Type 0
+Assembles l old new (Ok r) o t = IsRight t l × KeepsBase l old new (resized o (image_length l)) t
+Assembles l old new (Err (faults.Missing k id)) o t =
+    KeepsBase l old new (resized o (image_length l)) t × ((i : ℕ) → i < k → IsRightAt t l i)
+Assembles l old new (Err (faults.Damaged k id s shows)) o t =
+    KeepsBase l old new (resized o (image_length l)) t × ((i : ℕ) → i < k → IsRightAt t l i)
+Assembles l old new (Err (faults.StoreFault s)) o t = KeepsBase l old new (resized o (image_length l)) t
+Assembles l old new (Err faults.TargetFault) o t = (t ≡ o) ⊎ KeepsTorn l old new (resized o (image_length l)) t
+Assembles l old new (Err faults.Memory) o t = (t ≡ o) ⊎ KeepsBase l old new (resized o (image_length l)) t
 
 -- all entries below k can be had, and k can't
 abbrev pub IsLeast : (ℕ → Type 0) → ℕ → Type 0

@@ -1,5 +1,5 @@
 -- What a pass over the wants of an index leaves.
-use Rattle.std.specs.Prelude.{◌≡◌, ◌≢◌, ◌⊎◌, ℕ, ◌+◌, ◌<◌, List, map, slice_index, Bool, Option, Result, Ok, Err}
+use Rattle.std.specs.Prelude.{◌≡◌, ◌≢◌, ◌⊎◌, ℕ, ◌+◌, ◌<◌, List, map, slice_index, Bool, true, false, Option, Result, Ok, Err}
 use Rattle.assembler.specs.Faults.{fault_of}
 use Rattle.assembler.specs.Losses.{lost_want}
 use Rattle.assembler.specs.declared.fault.ExtractFault.{ExtractFault}
@@ -18,6 +18,8 @@ use Rattle.dsy_base.specs.Maps.{Map}
 use Rattle.extract_plan.specs.Deal.{Deal, of_want, want_id}
 use Rattle.extract_plan.specs.Places.{Placed, places_at}
 use Rattle.extract_plan.specs.Seeds.{faults_in, held_in}
+use Rattle.chunk_sources.specs.Wants.{IsAmong}
+use Rattle.range_survey.specs.Fates.{settled}
 use Rattle.range_survey.specs.declared.fate.Fate.{Fate}
 use Rattle.store_chain.specs.Chains.{KeepsStores}
 use Rattle.store_chain.specs.declared.refused.Refused.TheVariants as refused
@@ -60,6 +62,17 @@ abbrev pub EndsBy : {A : Type 0} → (Lost → Type 0) → Type 0 → Result A E
 EndsBy P F (Ok r) = Unit {0}
 EndsBy P F (Err e) = ((lost : Lost) × (e ≡ fault_of lost.entry lost.id lost.refused) × P lost)
     ⊎ (((e ≡ faults.TargetFault) × F) ⊎ (e ≡ faults.Memory))
+
+-- a write failed that would have made this entry right, or one of its want that is torn. It was open by m, and all
+-- entries before it are settled by n
+pub record EndsTorn (l : Listing) (d : Deal) (m n : List Fate) (IsTorn : ℕ → Type 0) : Type 0 where
+  pub entry : ℕ
+  pub listed : entry < count_of l
+  pub was_open : settled m entry ≡ false
+  pub before : (i : ℕ) → i < entry → settled n i ≡ true
+  pub torn : ℕ
+  pub among : IsAmong (of_want d (want_at d entry)) torn
+  pub is_torn : IsTorn torn
 
 -- how often a pass asks: for each want at most once, and not for a spared one
 abbrev pub PassAsks : {S V : Type 0} → (S → Option (Map (List ℕ))) → (S → List ℕ → ℕ) → (V → Held) → (V → ℕ) → Listing

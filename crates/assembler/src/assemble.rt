@@ -1,16 +1,16 @@
 //! The assembly of an image: the length, the survey, and two passes over what isn't right.
 
 ghost use Rattle.std.specs.Prelude.{◌≡◌, ◌⊎◌, ◌++◌, ℕ, List, IsTrue, ◌+◌, ◌<◌, ◌≤◌, length, map, None, Some, IfSome};
-ghost use Rattle.std.specs.Prelude.{IfOk, IfErr, OnOk, true, false, vec_len};
+ghost use Rattle.std.specs.Prelude.{IfOk, IfErr, OnOk, true, false, vec_len, Err};
 ghost use Rattle.std.specs.List.{All};
 ghost use Rattle.assembler.specs.Assemblies.{After, Assembles, AssemblyAsks, IsObtainable, IsUnobtained, NothingFails};
 ghost use Rattle.assembler.specs.Assemblies.{Verdict};
 ghost use Rattle.assembler.specs.Economy.{AsksExactly, AssembledBy, ReportsExactly, UnlessMemory};
-ghost use Rattle.assembler.specs.Fills.{WhereTold};
+ghost use Rattle.assembler.specs.Fills.{FillsTorn, WhereTold};
 ghost use Rattle.assembler.specs.Kits.{Ready, Step};
 ghost use Rattle.assembler.specs.Obtainable.{OnlyObtainable};
 ghost use Rattle.assembler.specs.OneKit.{ByPlan, OfKit};
-ghost use Rattle.assembler.specs.Passes.{EndsBy, HadAt, IsLost, PassesAsk, want_at};
+ghost use Rattle.assembler.specs.Passes.{EndsBy, EndsTorn, HadAt, IsLost, PassesAsk, want_at};
 ghost use Rattle.assembler.specs.Reports.{right_below};
 ghost use Rattle.assembler.specs.declared.fault.Lost.{Lost};
 ghost use Rattle.caibx_codec.specs.Listing.{count_of, image_length, kind_of, size_of};
@@ -64,6 +64,9 @@ fn settle_all<T: Part, S: Store, V: View, F: Folder>(
         (seen F.files F.place F.faults cache.old) (seen F.files F.place F.faults cache.new) lost
         × ((i : ℕ) → i < lost.entry → settled fates.new i ≡ true))
         (Rose (T.faults target.old) (T.faults target.new)) result }
+    ensures failed { result ≡ Err ExtractFault.TargetFault → EndsTorn index.now plan.now fates.old fates.new
+        (λ i. WhereTold (T.held target.old).bytes (T.held target.new).bytes (FillsTorn index.now fates.old fates.new
+        (T.faults target.old) (T.faults target.new) i)) }
     ensures left { IfErr result (λ e. (e ≡ ExtractFault.Memory) ⊎ (Rose (T.faults target.old) (T.faults target.new)
         ⊎ ((i : ℕ) → i < count_of index.now → settled fates.new i ≡ false → (lost : Lost)
         × (want_at plan.now lost.entry ≡ want_at plan.now i)
@@ -156,7 +159,7 @@ fn assemble_lent<T: Target, S: Store, V: View, F: Folder>(
     requires cache { IfSome (seen F.files F.place F.faults cache.old) (λ s. s.kind ≡ kind_of index.now) }
     requires unnamed { (F.pairs ≡ None) × (F.stores ≡ None) }
     ensures bytes { WhereTold (T.held target.old).bytes (T.held target.new).bytes
-        (Assembles index.now (Rose (T.faults target.old) (T.faults target.new)) result) }
+        (Assembles index.now (T.faults target.old) (T.faults target.new) result) }
     ensures lost { EndsBy (λ lost. IsUnobtained S.holds S.folder S.place S.said S.faults S.may_lack_memory V.held
         V.faults index.now plan.now places.now (T.held target.old).bytes (T.faults target.old) (T.faults target.new)
         kit.old kit.new (seen F.files F.place F.faults cache.old) (seen F.files F.place F.faults cache.new) lost)
@@ -250,7 +253,7 @@ pub fn assemble<T: Target, S: Store, V: View, F: Folder>(
     requires cache { IfSome (seen F.files F.place F.faults cache) (λ s. s.kind ≡ kind_of index.now) }
     requires unnamed { (F.pairs ≡ None) × (F.stores ≡ None) }
     ensures bytes { WhereTold (T.held target).bytes (T.held result.target).bytes
-        (Assembles index.now (Rose (T.faults target) (T.faults result.target)) result.answer) }
+        (Assembles index.now (T.faults target) (T.faults result.target) result.answer) }
     ensures lost { ByPlan index.now kits.items result.kits.items (λ d k j. EndsBy (λ lost.
         IsUnobtained S.holds S.folder S.place S.said S.faults S.may_lack_memory V.held V.faults index.now d places.now
         (T.held target).bytes (T.faults target) (T.faults result.target) k j (seen F.files F.place F.faults cache)

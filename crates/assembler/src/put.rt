@@ -3,7 +3,7 @@
 ghost use Rattle.std.specs.Prelude.{◌≡◌, ◌≢◌, ◌⊎◌, ℕ, ◌<◌, ◌≤◌, length, set, slice_index, true, false, Ok, IfSome};
 ghost use Rattle.std.specs.Prelude.{OnOk, OnErr};
 ghost use Rattle.assembler.specs.Economy.{Tallied};
-ghost use Rattle.assembler.specs.Fills.{Fills, Grows, WhereTold};
+ghost use Rattle.assembler.specs.Fills.{Fills, FillsTorn, Grows, WhereTold};
 ghost use Rattle.assembler.specs.Reports.{one_if};
 ghost use Rattle.caibx_codec.specs.Listing.{count_of, id_of, kind_of, size_of, image_length};
 ghost use Rattle.chunk_sources.specs.Economy.{is_made};
@@ -45,6 +45,8 @@ fn put_one<T: Part>(
     ensures size { (T.held target.new).size ≡ (T.held target.old).size }
     ensures faults { T.faults target.old ≤ T.faults target.new }
     ensures cause { OnErr result (Rose (T.faults target.old) (T.faults target.new)) }
+    ensures failed { OnErr result (WhereTold (T.held target.old).bytes (T.held target.new).bytes
+        (FillsTorn index.now fates.old fates.new (T.faults target.old) (T.faults target.new) i)) }
 {
     if fates[i].is_settled() {
         return Ok(false);
@@ -88,6 +90,9 @@ pub(crate) fn put<T: Part>(
     ensures size { (T.held target.new).size ≡ (T.held target.old).size }
     ensures faults { T.faults target.old ≤ T.faults target.new }
     ensures cause { OnErr result (Rose (T.faults target.old) (T.faults target.new)) }
+    ensures failed { OnErr result ((i : ℕ) × IsAmong entries.now i × WhereTold (T.held target.old).bytes
+        (T.held target.new).bytes (FillsTorn index.now fates.old fates.new (T.faults target.old)
+        (T.faults target.new) i)) }
 {
     let mut fate = origin;
     let mut ended = Ok(());

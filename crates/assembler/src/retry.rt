@@ -1,11 +1,12 @@
 //! The second pass of an assembly: the entries that are still open, in rising order, each want once.
 
 ghost use Rattle.std.specs.Prelude.{◌≡◌, ◌++◌, ◌⊎◌, ℕ, List, IsTrue, ◌<◌, length, map, None, Some, IfSome, OnOk, IfErr};
-ghost use Rattle.std.specs.Prelude.{true, false};
+ghost use Rattle.std.specs.Prelude.{true, false, Err};
 ghost use Rattle.assembler.specs.Assemblies.{NothingFails};
 ghost use Rattle.assembler.specs.Economy.{PassedBy, UnlessMemory};
+ghost use Rattle.assembler.specs.Fills.{FillsTorn, WhereTold};
 ghost use Rattle.assembler.specs.Kits.{Ready, Step};
-ghost use Rattle.assembler.specs.Passes.{EndsBy, HadAt, IsLost, PassAsks, want_at};
+ghost use Rattle.assembler.specs.Passes.{EndsBy, EndsTorn, HadAt, IsLost, PassAsks, want_at};
 ghost use Rattle.assembler.specs.declared.fault.ExtractFault.TheVariants as faults;
 ghost use Rattle.assembler.specs.declared.fault.Lost.{Lost};
 ghost use Rattle.caibx_codec.specs.Listing.{count_of};
@@ -53,6 +54,10 @@ pub(crate) fn retry<T: Part, S: Store, V: View, F: Folder>(
         (seen F.files F.place F.faults cache.old) (seen F.files F.place F.faults cache.new) lost
         × ((i : ℕ) → i < lost.entry → settled fates.new i ≡ true)) (Rose (T.faults target.old) (T.faults target.new))
         result }
+    // No entry before the one whose write ended it was lost.
+    ensures failed { result ≡ Err ExtractFault.TargetFault → EndsTorn index.now plan.now fates.old fates.new
+        (λ i. WhereTold (T.held target.old).bytes (T.held target.new).bytes (FillsTorn index.now fates.old fates.new
+        (T.faults target.old) (T.faults target.new) i)) }
     // Each entry that is left open is lost, unless the pass was ended by a write that failed or for want of memory.
     ensures left { IfErr result (λ e. (e ≡ ExtractFault.Memory) ⊎ (Rose (T.faults target.old) (T.faults target.new)
         ⊎ ((i : ℕ) → i < count_of index.now → settled fates.new i ≡ false → (lost : Lost)

@@ -1,10 +1,10 @@
 //! Settling the entries of one want.
 
 ghost use Rattle.std.specs.Prelude.{◌≡◌, ◌≢◌, ◌⊎◌, ◌++◌, ℕ, List, IsTrue, ◌<◌, ◌≤◌, ◌^◌, length, map, slice_index};
-ghost use Rattle.std.specs.Prelude.{true, false, None, Some, IfSome, OnOk, MatchOption};
+ghost use Rattle.std.specs.Prelude.{true, false, None, Some, IfSome, OnOk, MatchOption, Err};
 ghost use Rattle.assembler.specs.Assemblies.{NothingFails};
 ghost use Rattle.assembler.specs.Economy.{SettlesBy};
-ghost use Rattle.assembler.specs.Fills.{Fills, Grows, WhereTold};
+ghost use Rattle.assembler.specs.Fills.{Fills, FillsTorn, Grows, WhereTold};
 ghost use Rattle.assembler.specs.Kits.{Ready, Step};
 ghost use Rattle.assembler.specs.Losses.{IsFirstOpen, Where, lost_want};
 ghost use Rattle.caibx_codec.specs.Listing.{count_of, id_of, kind_of, size_of, image_length};
@@ -91,6 +91,9 @@ fn settle_open<T: Part, S: Store, V: View, F: Folder>(
         sought.now.id.0 (size_of index.now entry) (cached ++ maps) }
     ensures lost { Where (λ x. (x.entry ≡ entry) × (x.id ≡ sought.now.id))
         (Rose (T.faults target.old) (T.faults target.new)) result }
+    ensures failed { result ≡ Err Unsettled.TargetFault → (i : ℕ) × IsAmong sought.now.entries.now i
+        × WhereTold (T.held target.old).bytes (T.held target.new).bytes (FillsTorn index.now fates.old fates.new
+        (T.faults target.old) (T.faults target.new) i) }
     ensures refused { Where (λ x. x.refused ≢ Refused.Memory → RefusedBy S.holds S.said S.faults S.may_lack_memory
         (chunk_of (kind_of index.now) sought.now.id (size_of index.now entry)) chain.old.stores chain.new.stores
         x.refused) (Unit {0}) result }
@@ -165,6 +168,9 @@ pub(crate) fn settle<T: Part, S: Store, V: View, F: Folder>(
         (kind_of index.now) (id_of index.now i) (size_of index.now i) (cached ++ maps) }
     ensures lost { Where (IsFirstOpen index.now fates.old (of_want plan.now want))
         (Rose (T.faults target.old) (T.faults target.new)) result }
+    ensures failed { result ≡ Err Unsettled.TargetFault → (i : ℕ) × IsAmong (of_want plan.now want) i
+        × WhereTold (T.held target.old).bytes (T.held target.new).bytes (FillsTorn index.now fates.old fates.new
+        (T.faults target.old) (T.faults target.new) i) }
     ensures refused { Where (λ x. x.refused ≢ Refused.Memory → RefusedBy S.holds S.said S.faults S.may_lack_memory
         (lost_want index.now x) kit.old.chain.stores kit.new.chain.stores x.refused) (Unit {0}) result }
     ensures missed { Where (λ x. x.refused ≢ Refused.Memory → CacheLacks (kind_of index.now) (id_of index.now x.entry)

@@ -1,6 +1,6 @@
 -- What an assembly over taken files and folders makes of the answer.
-use Rattle.std.proofs.Common.{ap, arith, ◌⊎◌, true, is_some, unwrap_or, ◌≡◌, ℕ, ◌<◌, ◌-◌, List, ◌++◌, append-nil, length, map, replicate, take, Option, Some, None, IfSome, IfErr, refl, subst, ◌∙◌, sym, inl, inr, Result, Ok, Err}
-use Rattle.assembler.specs.Assemblies.{After, Assembles, IsObtainable, KeepsBase, RightAlike, Verdict}
+use Rattle.std.proofs.Common.{ap, arith, ◌⊎◌, true, is_some, unwrap_or, ◌≡◌, ℕ, ◌+◌, ◌<◌, ◌≤◌, ◌-◌, List, ◌++◌, append-nil, length, map, replicate, take, Option, Some, None, IfSome, IfErr, refl, subst, ◌∙◌, sym, inl, inr, Result, Ok, Err}
+use Rattle.assembler.specs.Assemblies.{After, Assembles, IsObtainable, KeepsBase, KeepsTorn, RightAlike, Verdict}
 use Rattle.assembler.specs.Fills.{WhereTold}
 use Rattle.assembler.specs.Obtainable.{OnlyObtainable}
 use Rattle.assembler.specs.Passes.{want_at}
@@ -12,6 +12,7 @@ use Rattle.chunk_sources.specs.Losses.{chunk_of}
 use Rattle.chunk_store.specs.Folders.{chunks}
 use Rattle.chunk_store.specs.declared.id.ChunkId.{ChunkId}
 use Rattle.dsy_base.specs.Bytes.{Held, resized}
+use Rattle.dsy_base.specs.Counts.{Rose, raised}
 use Rattle.dsy_base.specs.Disk.{Disk}
 use Rattle.dsy_base.specs.Maps.{Map, at_name}
 use Rattle.dsy_base.specs.declared.fault.IoFault.{IoFault}
@@ -19,7 +20,10 @@ use Rattle.dsy_base.specs.declared.fault.IoFault.TheVariants as io
 use Rattle.extract_plan.specs.Deal.{Deal}
 use Rattle.extract_plan.specs.Places.{IsSeedIndex, Placed, places_at}
 use Rattle.std.proofs.lemmas.List.{take_all}
+use Rattle.std.proofs.lemmas.Bool.{cases_lt}
 use Rattle.std.specs.List.{AllZip}
+use Rattle.range_survey.specs.Excuses.{Excuses}
+use Rattle.std.specs.Map.{count_at}
 use Rattle.std.specs.Option.{option_map}
 use Rattle.store_chain.specs.Giving.{LacksAll}
 use Rattle.store_chain.specs.declared.refused.Refused.{Refused}
@@ -28,7 +32,7 @@ use Rattle.image_commands.proofs.Seeded.{given_had, had_given}
 use Rattle.command_words.specs.declared.command.Location.{Location}
 use Rattle.command_steps.proofs.Taken.{at_name_twice}
 use Rattle.command_steps.specs.Sources.{HaveLacked, Sources, told_at}
-use Rattle.image_commands.specs.Extract.{Assembled, CacheLacksEntry, CanBeHad, Into, IsLacking, Leaves, NoneAsked, OnlyHad, SeedHas, Seeds, StopsFailed, StopsSomewhere, Told, Undisturbed, WhereFolders, answer_of_assembly, answer_of_taking, base_of, folder_of, old_of}
+use Rattle.image_commands.specs.Extract.{Assembled, CacheLacksEntry, CanBeHad, Into, IsLacking, Leaves, NoneAsked, OnlyHad, SeedHas, Seeds, IsTorn, StopsFailed, StopsSomewhere, Told, Undisturbed, WhereFolders, answer_of_assembly, answer_of_taking, base_of, folder_of, old_of}
 use Rattle.command_steps.specs.Seeds.{IsViewed}
 use Rattle.command_steps.specs.Worlds.{DiskQuiet, FileRose}
 
@@ -65,16 +69,42 @@ or_as : {A P Q : Type 0} → (P → Q) → A ⊎ P → A ⊎ Q
 or_as f (inl a) = inl a
 or_as f (inr p) = inr (f p)
 
-keeps_as : (l : Listing) (P Q : Type 0) (base t : List ℕ) → (P → Q) → KeepsBase l P base t → KeepsBase l Q base t
-keeps_as l P Q base t f h = record { size = h.size; each = λ i lt. or_as (or_as f) (h.each i lt); kept = λ i lt right. or_as f (h.kept i lt right) }
+-- what is excused over one count is excused over the other
+abbrev pub ExcusesAs : ℕ → ℕ → ℕ → ℕ → Type 0
+ExcusesAs a b c d = (xs : List ℕ) → Excuses xs a b → Excuses xs c d
 
-assembles_as : (l : Listing) (P Q : Type 0) (r : Result Report ExtractFault) (o t : List ℕ) → (P → Q) → Assembles l P r o t → Assembles l Q r o t
-assembles_as l P Q (Ok r) o t f h = (h.0, keeps_as l P Q (resized o (image_length l)) t f h.1)
-assembles_as l P Q (Err (faults.Missing k id)) o t f h = (keeps_as l P Q (resized o (image_length l)) t f h.0, h.1)
-assembles_as l P Q (Err (faults.Damaged k id s x)) o t f h = (keeps_as l P Q (resized o (image_length l)) t f h.0, h.1)
-assembles_as l P Q (Err (faults.StoreFault s)) o t f h = keeps_as l P Q (resized o (image_length l)) t f h
-assembles_as l P Q (Err faults.TargetFault) o t f h = or_as (keeps_as l P Q (resized o (image_length l)) t f) h
-assembles_as l P Q (Err faults.Memory) o t f h = or_as (keeps_as l P Q (resized o (image_length l)) t f) h
+-- what is excused over the faults of what was given back is excused over the number of its name
+pub given_excuses : (xs : List ℕ) (a b c n : ℕ) → a ≤ b → c ≡ raised b n → Excuses xs 0 n → Excuses xs a c
+given_excuses xs a b c n le is (inl few) = elim (cases_lt (length xs + a) (c + 1)) [
+  | inl below ↦ inl (omega arith)
+  | inr at_least ↦ inr (omega arith)
+]
+given_excuses xs a b c n le is (inr full) = inr (omega arith)
+
+keeps_as : (l : Listing) (a b c d : ℕ) (base t : List ℕ) → ExcusesAs a b c d → KeepsBase l a b base t → KeepsBase l c d base t
+keeps_as l a b c d base t f h = record { failed = h.failed; excused = f h.failed h.excused; size = h.size; each = h.each; kept = h.kept }
+
+torn_as : (l : Listing) (a b c d : ℕ) (base t : List ℕ) → ExcusesAs a b c d → KeepsTorn l a b base t → KeepsTorn l c d base t
+unfolding keeps_as
+torn_as l a b c d base t f h = record {
+  keeps = keeps_as l a b c d base t f h.keeps;
+  entry = h.entry;
+  listed = h.listed;
+  wrong = h.wrong;
+  before = h.before;
+  torn = h.torn;
+  inside = h.inside;
+  alike = h.alike;
+  is_torn = h.is_torn;
+}
+
+assembles_as : (l : Listing) (a b c d : ℕ) (r : Result Report ExtractFault) (o t : List ℕ) → ExcusesAs a b c d → Assembles l a b r o t → Assembles l c d r o t
+assembles_as l a b c d (Ok r) o t f h = (h.0, keeps_as l a b c d (resized o (image_length l)) t f h.1)
+assembles_as l a b c d (Err (faults.Missing k id)) o t f h = (keeps_as l a b c d (resized o (image_length l)) t f h.0, h.1)
+assembles_as l a b c d (Err (faults.Damaged k id s x)) o t f h = (keeps_as l a b c d (resized o (image_length l)) t f h.0, h.1)
+assembles_as l a b c d (Err (faults.StoreFault s)) o t f h = keeps_as l a b c d (resized o (image_length l)) t f h
+assembles_as l a b c d (Err faults.TargetFault) o t f h = or_as (torn_as l a b c d (resized o (image_length l)) t f) h
+assembles_as l a b c d (Err faults.Memory) o t f h = or_as (keeps_as l a b c d (resized o (image_length l)) t f) h
 
 verdict_as : (l : Listing) (P Q : ℕ → Type 0) → ((i : ℕ) → i < count_of l → P i → Q i) → ((i : ℕ) → i < count_of l → Q i → P i) → (r : Result Report ExtractFault) → IfErr r (LostAs (λ k id y. k < count_of l)) → Verdict l P r → Verdict l Q r
 verdict_as l P Q to from (Ok r) lt h = λ i less. to i less (h i less)
@@ -144,13 +174,20 @@ module _ (w v : Sources) (stores : List Location) (cache : Option (List ℕ)) (o
   abbrev e : Disk
   e = v.disk
 
+  -- the numbers of the file's name
+  abbrev before_it : ℕ
+  before_it = count_at d.file_counts out.name
+
+  abbrev after_it : ℕ
+  after_it = count_at e.file_counts out.name
+
   -- where all is told
   pub record Facts (r : Result Report ExtractFault) (b : Map (List ℕ)) (n : Map (Map (List ℕ))) (a : Map (List ℕ)) : Type 0 where
     pub cs : List (Map (List ℕ))
     pub cached : map n (folder_of cache) ≡ map Some cs
     pub t : List ℕ
     pub leaves : Leaves b a out t
-    pub assembles : Assembles l (FileRose d e out.name) r (old_of b out) t
+    pub assembles : Assembles l before_it after_it r (old_of b out) t
     pub lacks : IfErr r (LostAs (IsLacking w v b n cache out l x stores))
     pub only : WhereFolders n stores (λ fs. OnlyObtainable l (CanBeHad l (base_of b out l) b x (map chunks cs ++ map chunks fs)) (FileRose d e out.name) r (old_of b out) t)
     pub verdict : WhereFolders n stores (λ fs. Undisturbed d e cache l cs fs → Verdict l (CanBeHad l (base_of b out l) b x (map chunks cs ++ map chunks fs)) r)
@@ -163,9 +200,14 @@ module _ (w v : Sources) (stores : List Location) (cache : Option (List ℕ)) (o
   told r P facts p = over_told d.files d.folders e.files _ (λ b n a x y z. let f = facts b n a x y z in (f.cs, f.cached, p b n a f))
 
   somewhere : (b a : Map (List ℕ)) (P : List ℕ → Type 0) (t : List ℕ) → Leaves b a out t → (length t ≡ image_length l → P t)
-      → (t ≡ old_of b out) ⊎ KeepsBase l (FileRose d e out.name) (base_of b out l) t → StopsSomewhere w v b a out l P
+      → (t ≡ old_of b out) ⊎ KeepsBase l before_it after_it (base_of b out l) t → StopsSomewhere w v b a out l P
   somewhere b a P t leaves only (inl same) = inr (inl (subst (λ (s : List ℕ). Leaves b a out s) same leaves))
   somewhere b a P t leaves only (inr keeps) = inr (inr (t, (leaves, keeps), only keeps.size))
+
+  torn_there : (b a : Map (List ℕ)) (P : List ℕ → Type 0) (t : List ℕ) → Leaves b a out t → (length t ≡ image_length l → P t)
+      → (t ≡ old_of b out) ⊎ KeepsTorn l before_it after_it (base_of b out l) t → StopsSomewhere w v b a out l (λ t. P t × IsTorn d e b out l t)
+  torn_there b a P t leaves only (inl same) = inr (inl (subst (λ (s : List ℕ). Leaves b a out s) same leaves))
+  torn_there b a P t leaves only (inr torn) = inr (inr (t, (leaves, torn.keeps), (only torn.keeps.size, torn)))
 
   -- what a refusal tells of each entry
   only_had : (why : ExtractFault) (b : Map (List ℕ)) (n : Map (Map (List ℕ))) (a : Map (List ℕ)) (f : Facts (Err why) b n a) → length f.t ≡ image_length l → OnlyHad d e b n f.cs stores out l x f.t
@@ -177,20 +219,34 @@ module _ (w v : Sources) (stores : List Location) (cache : Option (List ℕ)) (o
   assembled (Err (faults.Missing k id)) facts target store = told _ _ facts (λ b n a f. ((f.t, (f.leaves, f.assembles.0), f.assembles.1, only_had (faults.Missing k id) b n a f f.assembles.0.size, f.settled), f.lacks, f.verdict))
   assembled (Err (faults.Damaged k id s y)) facts target store = told _ _ facts (λ b n a f. ((f.t, (f.leaves, f.assembles.0), f.assembles.1, only_had (faults.Damaged k id s y) b n a f f.assembles.0.size, f.settled), f.lacks, f.verdict))
   assembled (Err (faults.StoreFault s)) facts target store = (store, told _ _ facts (λ b n a f. ((f.t, (f.leaves, f.assembles), only_had (faults.StoreFault s) b n a f f.assembles.size), f.lacks.0, f.lacks.1, f.lacks.2)))
-  assembled (Err faults.TargetFault) facts target store = (target, told _ _ facts (λ b n a f. somewhere b a (OnlyHad d e b n f.cs stores out l x) f.t f.leaves (only_had faults.TargetFault b n a f) f.assembles))
+  assembled (Err faults.TargetFault) facts target store = (target, told _ _ facts (λ b n a f. torn_there b a (OnlyHad d e b n f.cs stores out l x) f.t f.leaves (only_had faults.TargetFault b n a f) f.assembles))
   assembled (Err faults.Memory) facts target store = told _ _ facts (λ b n a f. somewhere b a (OnlyHad d e b n f.cs stores out l x) f.t f.leaves (only_had faults.Memory b n a f) f.assembles)
 
   -- where OUT wasn't taken all is as it was
-  pub stopped_before : (C : List (Map (List ℕ)) → Type 0) → IfSome d.folders (λ n. (cs : List (Map (List ℕ))) × (map n (folder_of cache) ≡ map Some cs) × C cs) → e.files ≡ d.files → NoneAsked w v → Told d e cache (λ b a n cs. StopsSomewhere w v b a out l (OnlyHad d e b n cs stores out l x))
-  stopped_before C cached same unasked = over_told d.files d.folders e.files _ (λ b n a is y z.
+  pub same_before : (C : List (Map (List ℕ)) → Type 0) → IfSome d.folders (λ n. (cs : List (Map (List ℕ))) × (map n (folder_of cache) ≡ map Some cs) × C cs) → e.files ≡ d.files → NoneAsked w v → Told d e cache (λ b a n cs. (a ≡ b) × NoneAsked w v)
+  same_before C cached same unasked = over_told d.files d.folders e.files _ (λ b n a is y z.
       let g : (cs : List (Map (List ℕ))) × (map n (folder_of cache) ≡ map Some cs) × C cs = subst (λ o. IfSome o (λ n. (cs : List (Map (List ℕ))) × (map n (folder_of cache) ≡ map Some cs) × C cs)) y cached in
       let kept : Some a ≡ Some b = sym z ∙ same ∙ is in
       let as_before : a ≡ b = cc in
-      (g.0, g.1, inl (as_before, unasked)))
+      (g.0, g.1, (as_before, unasked)))
 
-  pub not_taken_as : (fault : IoFault) → Told d e cache (λ b a n cs. StopsSomewhere w v b a out l (OnlyHad d e b n cs stores out l x)) → (fault ≡ io.Failed → FileRose d e out.name) → Assembled w v stores cache out l x (answer_of_taking fault)
-  not_taken_as io.Failed before rose = (rose refl, before)
-  not_taken_as io.Memory before rose = before
+  told_as : (P : Map (List ℕ) → Map (List ℕ) → Map (Map (List ℕ)) → List (Map (List ℕ)) → List ℕ → Type 0)
+      → Told d e cache (λ b a n cs. (a ≡ b) × NoneAsked w v) → Told d e cache (λ b a n cs. StopsSomewhere w v b a out l (P b a n cs))
+  told_as P h = over d.files d.folders e.files h where
+    over : (x : Option (Map (List ℕ))) (y : Option (Map (Map (List ℕ)))) (z : Option (Map (List ℕ)))
+        → IfSome x (λ b. IfSome y (λ n. IfSome z (λ a. (cs : List (Map (List ℕ))) × (map n (folder_of cache) ≡ map Some cs) × ((a ≡ b) × NoneAsked w v))))
+        → IfSome x (λ b. IfSome y (λ n. IfSome z (λ a. (cs : List (Map (List ℕ))) × (map n (folder_of cache) ≡ map Some cs) × StopsSomewhere w v b a out l (P b a n cs))))
+    over None y z h = tt
+    over (Some b) None z h = tt
+    over (Some b) (Some n) None h = tt
+    over (Some b) (Some n) (Some a) h = (h.0, h.1, inl h.2)
+
+  pub stopped_before : (C : List (Map (List ℕ)) → Type 0) → IfSome d.folders (λ n. (cs : List (Map (List ℕ))) × (map n (folder_of cache) ≡ map Some cs) × C cs) → e.files ≡ d.files → NoneAsked w v → Told d e cache (λ b a n cs. StopsSomewhere w v b a out l (OnlyHad d e b n cs stores out l x))
+  stopped_before C cached same unasked = told_as (λ b a n cs. OnlyHad d e b n cs stores out l x) (same_before C cached same unasked)
+
+  pub not_taken_as : (fault : IoFault) → Told d e cache (λ b a n cs. (a ≡ b) × NoneAsked w v) → (fault ≡ io.Failed → FileRose d e out.name) → Assembled w v stores cache out l x (answer_of_taking fault)
+  not_taken_as io.Failed before rose = (rose refl, told_as (λ b a n cs t. OnlyHad d e b n cs stores out l x t × IsTorn d e b out l t) before)
+  not_taken_as io.Memory before rose = told_as (λ b a n cs. OnlyHad d e b n cs stores out l x) before
 
   -- the same as `IsLacking`, over the bytes that OUT had
   abbrev pub LackingOver : Map (Map (List ℕ)) → List ℕ → ℕ → ChunkId → Refused → Type 0
@@ -211,20 +267,20 @@ module _ (w v : Sources) (stores : List Location) (cache : Option (List ℕ)) (o
 
   module _ (P : List (Map (List ℕ)) → List ℕ → ℕ → Type 0) (had : (b : Map (List ℕ)) → d.files ≡ Some b → (maps : List (Map (List ℕ))) (base : List ℕ) (i : ℕ) → i < count_of l → P maps base i → CanBeHad l base b x maps i)
       (back : (b : Map (List ℕ)) → d.files ≡ Some b → DiskQuiet d e → (maps : List (Map (List ℕ))) (base : List ℕ) (i : ℕ) → i < count_of l → CanBeHad l base b x maps i → P maps base i) where
-    pub facts_of : (r : Result Report ExtractFault) (looks : List (Option (Map (List ℕ)))) (C : List (Map (List ℕ)) → Type 0) (t0 t1 : Option (List ℕ)) (F : Type 0) (M N : List (Map (List ℕ)) → List (Map (List ℕ)) → Type 0)
+    pub facts_of : (r : Result Report ExtractFault) (looks : List (Option (Map (List ℕ)))) (C : List (Map (List ℕ)) → Type 0) (t0 t1 : Option (List ℕ)) (f0 f1 : ℕ) (M N : List (Map (List ℕ)) → List (Map (List ℕ)) → Type 0)
         → IfSome d.folders (λ m. looks ≡ map (told_at m) stores)
         → IfSome d.folders (λ n. (cs : List (Map (List ℕ))) × (map n (folder_of cache) ≡ map Some cs) × C cs)
         → IfSome d.files (λ m. t0 ≡ Some (old_of m out)) → is_some t0 ≡ is_some t1
         → e.files ≡ option_map (λ m. at_name m out.name t1) (option_map (λ m. at_name m out.name None) d.files)
-        → (F → FileRose d e out.name)
-        → WhereTold t0 t1 (Assembles l F r)
+        → (Rose f0 f1 → FileRose d e out.name) → ExcusesAs f0 f1 before_it after_it
+        → WhereTold t0 t1 (Assembles l f0 f1 r)
         → ((b : Map (List ℕ)) → d.files ≡ Some b → (n : Map (Map (List ℕ))) → d.folders ≡ Some n → IfSome t0 (λ o. IfErr r (LostAs (AllLack b n o))))
-        → ((cached maps : List (Map (List ℕ))) → M cached maps → WhereTold t0 t1 (λ o t. OnlyObtainable l (P (cached ++ maps) (resized o (image_length l))) F r o t))
+        → ((cached maps : List (Map (List ℕ))) → M cached maps → WhereTold t0 t1 (λ o t. OnlyObtainable l (P (cached ++ maps) (resized o (image_length l))) (Rose f0 f1) r o t))
         → ((cached maps : List (Map (List ℕ))) → N cached maps → IfSome t0 (λ o. Verdict l (P (cached ++ maps) (resized o (image_length l))) r))
         → ((cached maps : List (Map (List ℕ))) → N cached maps → WhereTold t0 t1 (λ o t. After l (P (cached ++ maps) (resized o (image_length l))) (resized o (image_length l)) t r))
         → ((b : Map (List ℕ)) → d.files ≡ Some b → (fs : List (Map (List ℕ))) → looks ≡ map Some fs → (cs : List (Map (List ℕ))) → C cs → M (map chunks cs) (map chunks fs))
         → ((b : Map (List ℕ)) → d.files ≡ Some b → (n : Map (Map (List ℕ))) (fs : List (Map (List ℕ))) → map (told_at n) stores ≡ map Some fs → looks ≡ map Some fs → (cs : List (Map (List ℕ))) → C cs → Undisturbed d e cache l cs fs → N (map chunks cs) (map chunks fs)) → AllFacts r
-    facts_of r looks C t0 t1 F M N found cached took told left rose bytes lacks only exactly after shown quiet b n a is y z =
+    facts_of r looks C t0 t1 f0 f1 M N found cached took told left rose excused bytes lacks only exactly after shown quiet b n a is y z =
         let f : looks ≡ map (told_at n) stores = subst (λ o. IfSome o (λ m. looks ≡ map (told_at m) stores)) y found in
         let g : (cs : List (Map (List ℕ))) × (map n (folder_of cache) ≡ map Some cs) × C cs = subst (λ o. IfSome o (λ n. (cs : List (Map (List ℕ))) × (map n (folder_of cache) ≡ map Some cs) × C cs)) y cached in
         let o : t0 ≡ Some (old_of b out) = subst (λ o. IfSome o (λ m. t0 ≡ Some (old_of m out))) is took in
@@ -233,8 +289,8 @@ module _ (w v : Sources) (stores : List Location) (cache : Option (List ℕ)) (o
         go (old_of b out) t0 t1 o (subst (λ s. is_some s ≡ is_some t1) o told) (sym z ∙ lf) g.0 g.1 bytes (lacks b is n y) (λ fs there. only (map chunks g.0) (map chunks fs) (shown b is fs (f ∙ there) g.0 g.2)) (λ fs there k. exactly (map chunks g.0) (map chunks fs) (quiet b is n fs there (f ∙ there) g.0 g.2 k))
         (λ fs there k. after (map chunks g.0) (map chunks fs) (quiet b is n fs there (f ∙ there) g.0 g.2 k)) refl where
           go : (old : List ℕ) (s0 s1 : Option (List ℕ)) → s0 ≡ Some old → true ≡ is_some s1 → Some a ≡ Some (at_name (at_name b out.name None) out.name s1)
-              → (cs : List (Map (List ℕ))) → map n (folder_of cache) ≡ map Some cs → WhereTold s0 s1 (Assembles l F r) → IfSome s0 (λ o. IfErr r (LostAs (AllLack b n o)))
-              → WhereFolders n stores (λ fs. WhereTold s0 s1 (λ o t. OnlyObtainable l (P (map chunks cs ++ map chunks fs) (resized o (image_length l))) F r o t))
+              → (cs : List (Map (List ℕ))) → map n (folder_of cache) ≡ map Some cs → WhereTold s0 s1 (Assembles l f0 f1 r) → IfSome s0 (λ o. IfErr r (LostAs (AllLack b n o)))
+              → WhereFolders n stores (λ fs. WhereTold s0 s1 (λ o t. OnlyObtainable l (P (map chunks cs ++ map chunks fs) (resized o (image_length l))) (Rose f0 f1) r o t))
               → WhereFolders n stores (λ fs. Undisturbed d e cache l cs fs → IfSome s0 (λ o. Verdict l (P (map chunks cs ++ map chunks fs) (resized o (image_length l))) r))
               → WhereFolders n stores (λ fs. Undisturbed d e cache l cs fs → WhereTold s0 s1 (λ o t. After l (P (map chunks cs ++ map chunks fs) (resized o (image_length l))) (resized o (image_length l)) t r))
               → old ≡ old_of b out → Facts r b n a
@@ -243,8 +299,8 @@ module _ (w v : Sources) (stores : List Location) (cache : Option (List ℕ)) (o
           go old (Some o) (Some t) same is_told are cs shelf bs ls only verdict settled at =
               let was : o ≡ old_of b out = cc in
               over o was bs ls only verdict settled where
-                over : (p : List ℕ) → p ≡ old_of b out → Assembles l F r p t → IfErr r (LostAs (AllLack b n p))
-                    → WhereFolders n stores (λ fs. OnlyObtainable l (P (map chunks cs ++ map chunks fs) (resized p (image_length l))) F r p t)
+                over : (p : List ℕ) → p ≡ old_of b out → Assembles l f0 f1 r p t → IfErr r (LostAs (AllLack b n p))
+                    → WhereFolders n stores (λ fs. OnlyObtainable l (P (map chunks cs ++ map chunks fs) (resized p (image_length l))) (Rose f0 f1) r p t)
                     → WhereFolders n stores (λ fs. Undisturbed d e cache l cs fs → Verdict l (P (map chunks cs ++ map chunks fs) (resized p (image_length l))) r)
                     → WhereFolders n stores (λ fs. Undisturbed d e cache l cs fs → After l (P (map chunks cs ++ map chunks fs) (resized p (image_length l))) (resized p (image_length l)) t r) → Facts r b n a
                 over p was bs ls only verdict settled =
@@ -253,12 +309,12 @@ module _ (w v : Sources) (stores : List Location) (cache : Option (List ℕ)) (o
                       cached = shelf;
                       t = t;
                       leaves = ap (λ o. unwrap_or o a) are ∙ at_name_twice b out.name None (Some t);
-                      assembles = subst (λ (q : List ℕ). Assembles l (FileRose d e out.name) r q t) was (assembles_as l F (FileRose d e out.name) r p t rose bs);
+                      assembles = subst (λ (q : List ℕ). Assembles l before_it after_it r q t) was (assembles_as l f0 f1 before_it after_it r p t excused bs);
                       lacks = lost_on (AllLack b n (old_of b out)) (IsLacking w v b n cache out l x stores) (lacking b n) r (subst (λ (q : List ℕ). IfErr r (LostAs (AllLack b n q))) was ls);
                       only = λ fs there.
                           let maps = map chunks cs ++ map chunks fs in
                           subst (λ (q : List ℕ). OnlyObtainable l (CanBeHad l (resized q (image_length l)) b x maps) (FileRose d e out.name) r q t) was
-                          (only_as l (P maps (resized p (image_length l))) (CanBeHad l (resized p (image_length l)) b x maps) F (FileRose d e out.name) (had b is maps (resized p (image_length l))) rose r p t
+                          (only_as l (P maps (resized p (image_length l))) (CanBeHad l (resized p (image_length l)) b x maps) (Rose f0 f1) (FileRose d e out.name) (had b is maps (resized p (image_length l))) rose r p t
                           (only fs there));
                       verdict = λ fs there k.
                           let maps = map chunks cs ++ map chunks fs in

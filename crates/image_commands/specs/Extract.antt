@@ -4,7 +4,7 @@ use Rattle.std.specs.Prelude.{length, List, [], ◌∷◌, map, Option, Some, No
 use Rattle.std.specs.List.{Any, slice_get}
 use Rattle.std.specs.Map.{count_at}
 use Rattle.std.specs.Option.{option_map, unwrap_or}
-use Rattle.assembler.specs.Assemblies.{IsLeast, KeepsBase, RightAlike}
+use Rattle.assembler.specs.Assemblies.{IsLeast, KeepsBase, KeepsTorn, RightAlike}
 use Rattle.assembler.specs.declared.fault.ExtractFault.{ExtractFault}
 use Rattle.assembler.specs.declared.fault.ExtractFault.TheVariants as faults
 use Rattle.assembler.specs.declared.report.Report.{Report}
@@ -93,10 +93,17 @@ abbrev pub AreFilled : Listing → (ℕ → Type 0) → List ℕ → List ℕ �
 AreFilled l P base t =
     (i : ℕ) → i < count_of l → (P i → IsRightAt t l i) × ((P i → ⊥) → slice_of l t i ≡ slice_of l base i)
 
--- the file alone has changed. It holds t, in which each range is right or the base's unless the file failed
+-- the file alone has changed. It holds t, in which each range is right or the base's unless a call on it failed: the
+-- file's number has risen by at least so many
 abbrev pub KeepsIn : Disk → Disk → Map (List ℕ) → Map (List ℕ) → Into → Listing → List ℕ → Type 0
 KeepsIn d e before after out l t =
-    Leaves before after out t × KeepsBase l (FileRose d e out.name) (base_of before out l) t
+    Leaves before after out t
+    × KeepsBase l (count_at d.file_counts out.name) (count_at e.file_counts out.name) (base_of before out l) t
+
+-- it holds t, in which a write to a range failed before which all are right
+abbrev pub IsTorn : Disk → Disk → Map (List ℕ) → Into → Listing → List ℕ → Type 0
+IsTorn d e before out l t =
+    KeepsTorn l (count_at d.file_counts out.name) (count_at e.file_counts out.name) (base_of before out l) t
 
 -- no server was asked, and no folder has changed
 abbrev pub NoneAsked : Sources → Sources → Type 0
@@ -192,7 +199,7 @@ Assembled w v stores cache out l x (Err (ends.StoreFault s)) = StopsFailed w v s
     × (k : ℕ) × (id : ChunkId) × IsLacking w v b n cache out l x stores k id (refused.StoreFault s))
 Assembled w v stores cache out l x (Err ends.TargetFault) = FileRose w.disk v.disk out.name
     × Told w.disk v.disk cache (λ b a n cs. StopsSomewhere w v b a out l
-    (OnlyHad w.disk v.disk b n cs stores out l x))
+    (λ t. OnlyHad w.disk v.disk b n cs stores out l x t × IsTorn w.disk v.disk b out l t))
 Assembled w v stores cache out l x (Err ends.Memory) =
     Told w.disk v.disk cache (λ b a n cs. StopsSomewhere w v b a out l (OnlyHad w.disk v.disk b n cs stores out l x))
 Assembled w v stores cache out l x (Err other) = ⊥

@@ -1,3 +1,4 @@
+pub mod Excused
 pub mod Fated
 pub mod Surveyed
 pub mod Resized

@@ -1,11 +1,13 @@
 -- A survey that has come one entry further. The target tells `now`.
-use Rattle.std.proofs.Common.{◌≡◌, ◌⊎◌, ℕ, ◌+◌, ◌<◌, ◌≤◌, List, length, set, Option, Some, None, IfSome, Bool, true, false, sym, ap, subst, ◌∙◌, inl, inr, arith}
+use Rattle.std.proofs.Common.{◌≡◌, ◌⊎◌, ℕ, ◌+◌, ◌<◌, ◌≤◌, List, [], ◌∷◌, ◌++◌, length, set, Option, Some, None, IfSome, Bool, true, false, sym, ap, subst, ◌∙◌, inl, inr, arith}
 use Rattle.std.proofs.lemmas.Bool.{cases_lt}
+use Rattle.std.proofs.lemmas.List.Elements.{Contains-append_left, Contains-push}
+use Rattle.std.specs.List.{Contains}
 use Rattle.caibx_codec.specs.Listing.{Listing}
 use Rattle.caibx_codec.specs.Right.{IsRightAt}
 use Rattle.dsy_base.specs.Counts.{Rose}
-use Rattle.dsy_base.proofs.Counts.{rose_later}
-use Rattle.range_survey.specs.Fates.{FirstFates, SettledRight, OpenWrong, is_settled, fate_at}
+use Rattle.range_survey.proofs.Excused.{excuses_later, excuses_on, excuses_one, excuses_since, rose_or_not}
+use Rattle.range_survey.specs.Fates.{FirstFates, SettledRight, OpenWrong, is_settled, fate_at, settled}
 use Rattle.range_survey.specs.declared.fate.Fate.{Fate}
 use Rattle.range_survey.specs.declared.fate.Fate.TheVariants as fate
 use Rattle.range_survey.proofs.Fated.{set_here, set_apart}
@@ -13,11 +15,6 @@ use Rattle.range_survey.proofs.Fated.{set_here, set_apart}
 -- below the entry that was set all stand as before
 below_apart : (fates : List Fate) (i j : ℕ) (x : Fate) → j < i → fate_at (set fates i x) j ≡ fate_at fates j
 below_apart fates i j x below = set_apart fates i j x (λ same. absurd (omega (arith, same)))
-
--- a count that has risen stays so
-rose_still : (a b c : ℕ) → b ≤ c → Rose a b → Rose a c
-rose_still a b c le (inl more) = inl (omega arith)
-rose_still a b c le (inr full) = inr (omega arith)
 
 pub first_on : (fates : List Fate) (i : ℕ) (x : Fate) → i < length fates
     → FirstFates fates i → (x ≡ fate.Open) ⊎ (x ≡ fate.Kept) → FirstFates (set fates i x) (i + 1)
@@ -44,19 +41,36 @@ module _ (l : Listing) (fates : List Fate) (i : ℕ) (x : Fate) (right : Bool) (
   settled_on None before here = tt
   settled_on (Some t) before here = right_on t before here
 
-  wrong_on : (t : List ℕ) (a b c : ℕ) → a ≤ b → b ≤ c → OpenWrong l t fates a b i → (right ≡ false → IsRightAt t l i → Rose b c)
-      → OpenWrong l t (set fates i x) a c (i + 1)
-  wrong_on t a b c ab bc before here = λ j less no. elim (cases_lt j i) [
-    | inl below ↦ λ is_right. rose_still a b c bc (before j below (ap is_settled (sym (below_apart fates i j x below)) ∙ no) is_right)
+  -- what was missed below i still is, and i itself where it is open and right
+  missed_on : (t : List ℕ) (xs : List ℕ) → ((j : ℕ) → j < i → settled fates j ≡ false → IsRightAt t l j → Contains xs j) → (right ≡ false → IsRightAt t l i → Contains xs i)
+      → (j : ℕ) → j < i + 1 → settled (set fates i x) j ≡ false → IsRightAt t l j → Contains xs j
+  missed_on t xs before here = λ j less no. elim (cases_lt j i) [
+    | inl below ↦ before j below (ap is_settled (sym (below_apart fates i j x below)) ∙ no)
     | inr at_least ↦ let same : i ≡ j = omega arith in
-        subst (λ (k : ℕ). is_settled (fate_at (set fates i x) k) ≡ false → IsRightAt t l k → Rose a c) same
-        (λ no is_right. rose_later a b c ab (here (sym settled_here ∙ no) is_right)) no
+        subst (λ (k : ℕ). is_settled (fate_at (set fates i x) k) ≡ false → IsRightAt t l k → Contains xs k) same
+        (λ no is_right. here (sym settled_here ∙ no) is_right) no
   ]
 
-  pub open_on : (now : Option (List ℕ)) (a b c : ℕ) → a ≤ b → b ≤ c → IfSome now (λ t. OpenWrong l t fates a b i)
+  wrong_on : (t : List ℕ) (a b c : ℕ) → b ≤ c → OpenWrong l t fates a b i → (right ≡ false → IsRightAt t l i → Rose b c)
+      → OpenWrong l t (set fates i x) a c (i + 1)
+  wrong_on t a b c bc before here = elim (rose_or_not b c) [
+    | inl rose ↦ record {
+      failed = before.failed ++ i ∷ [];
+      excused = excuses_on before.failed (i ∷ []) a b c bc before.excused (excuses_one i b c rose);
+      missed = missed_on t (before.failed ++ i ∷ []) (λ j below no is_right. Contains-append_left before.failed (i ∷ []) j (before.missed j below no is_right))
+          (λ _ _. Contains-push before.failed i);
+    }
+    | inr stood ↦ record {
+      failed = before.failed;
+      excused = excuses_later before.failed a b c bc before.excused;
+      missed = missed_on t before.failed before.missed (λ no is_right. absurd (stood (here no is_right)));
+    }
+  ]
+
+  pub open_on : (now : Option (List ℕ)) (a b c : ℕ) → b ≤ c → IfSome now (λ t. OpenWrong l t fates a b i)
       → (right ≡ false → IfSome now (λ t. IsRightAt t l i → Rose b c)) → IfSome now (λ t. OpenWrong l t (set fates i x) a c (i + 1))
-  open_on None a b c ab bc before here = tt
-  open_on (Some t) a b c ab bc before here = wrong_on t a b c ab bc before here
+  open_on None a b c bc before here = tt
+  open_on (Some t) a b c bc before here = wrong_on t a b c bc before here
 
 -- what was surveyed up to i was up to a lower k
 pub settled_until : (l : Listing) (fates : List Fate) (i k : ℕ) (now : Option (List ℕ)) → k ≤ i → IfSome now (λ t. SettledRight l t fates i) → IfSome now (λ t. SettledRight l t fates k)
@@ -65,9 +79,17 @@ settled_until l fates i k (Some t) le right = λ j below. right j (omega arith)
 
 pub open_until : (l : Listing) (fates : List Fate) (i k a b : ℕ) (now : Option (List ℕ)) → k ≤ i → IfSome now (λ t. OpenWrong l t fates a b i) → IfSome now (λ t. OpenWrong l t fates a b k)
 open_until l fates i k a b None le wrong = tt
-open_until l fates i k a b (Some t) le wrong = λ j below. wrong j (omega arith)
+open_until l fates i k a b (Some t) le wrong = record {
+  failed = wrong.failed;
+  excused = wrong.excused;
+  missed = λ j below. wrong.missed j (omega arith);
+}
 
 -- what rose since `b` rose since an earlier `a`
 pub open_since : (l : Listing) (fates : List Fate) (k a b c : ℕ) (now : Option (List ℕ)) → a ≤ b → IfSome now (λ t. OpenWrong l t fates b c k) → IfSome now (λ t. OpenWrong l t fates a c k)
 open_since l fates k a b c None le wrong = tt
-open_since l fates k a b c (Some t) le wrong = λ j below no is_right. rose_later a b c le (wrong j below no is_right)
+open_since l fates k a b c (Some t) le wrong = record {
+  failed = wrong.failed;
+  excused = excuses_since wrong.failed a b c le wrong.excused;
+  missed = wrong.missed;
+}

@@ -1,10 +1,11 @@
 -- What became of the entries of an index: one fate an entry, in their order. t are the bytes of a target.
 use Rattle.std.specs.Prelude.{◌≡◌, ◌⊎◌, ℕ, ◌<◌, List, get_or, Bool, true, false}
+use Rattle.std.specs.List.{Contains}
 use Rattle.std.specs.Str.{bytes_eq}
 use Rattle.caibx_codec.specs.Listing.{Listing, id_of, kind_of, slice_of}
 use Rattle.caibx_codec.specs.Right.{IsRightAt}
 use Rattle.chunk_store.specs.Names.{name_of}
-use Rattle.dsy_base.specs.Counts.{Rose}
+use Rattle.range_survey.specs.Excuses.{Excuses}
 use Rattle.range_survey.specs.declared.fate.Fate.{Fate}
 use Rattle.range_survey.specs.declared.fate.Fate.TheVariants as fate
 
@@ -31,9 +32,12 @@ is_right_at l t i = bytes_eq (name_of (kind_of l) (slice_of l t i)) (id_of l i)
 abbrev pub SettledRight : Listing → List ℕ → List Fate → ℕ → Type 0
 SettledRight l t fates k = (i : ℕ) → i < k → settled fates i ≡ true → IsRightAt t l i
 
--- an open entry below k that is right in t all the same was missed by a fault: between the counts old and new it rose
-abbrev pub OpenWrong : Listing → List ℕ → List Fate → (old new : ℕ) → ℕ → Type 0
-OpenWrong l t fates old new k = (i : ℕ) → i < k → settled fates i ≡ false → IsRightAt t l i → Rose old new
+-- an open entry below k that is right in t all the same was missed: a read of it failed, as the count of faults went
+-- from old to new
+pub record OpenWrong (l : Listing) (t : List ℕ) (fates : List Fate) (old new k : ℕ) : Type 0 where
+  pub failed : List ℕ
+  pub excused : Excuses failed old new
+  pub missed : (i : ℕ) → i < k → settled fates i ≡ false → IsRightAt t l i → Contains failed i
 
 -- each entry below k is open, or was right at first
 abbrev pub FirstFates : List Fate → ℕ → Type 0

@@ -1,2 +1,3 @@
+pub mod Excuses
 pub mod Fates
 pub mod Zeros

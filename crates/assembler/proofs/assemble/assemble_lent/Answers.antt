@@ -19,7 +19,8 @@ use Rattle.range_survey.specs.declared.fate.Fate.TheVariants as fate
 use Rattle.std.proofs.lemmas.Result.{err_from_is_err_and}
 use Rattle.assembler.proofs.Assembled.{Ran, after_fault, after_ok, asks_over, bytes_err, bytes_ok, economy_err, economy_ok, exactly_err, exactly_ok, kit_as, lost_err, only_err, only_ok, reported_ok, with_buffer}
 use Rattle.assembler.proofs.Based.{Surveyed, over_of, some_map, told_of}
-use Rattle.assembler.specs.Fills.{Fills}
+use Rattle.assembler.proofs.TwoPasses.{ok_apart, torn_map}
+use Rattle.assembler.specs.Fills.{Fills, FillsTorn, WhereTold}
 use Rattle.store_chain.proofs.Kept.{kept_still}
 use Rattle.store_chain.specs.Chains.{Chained, KeepsStores}
 use Rattle.assembler.proofs.assemble.assemble_lent.Given.{Over}
@@ -61,6 +62,14 @@ ran_err g c =
       ok = tt;
       first = did.first;
       left = did.left;
+      torn = λ is. torn_map l c.args.plan.now c.deref_mut.result.now c.settle_all.new.fates
+          (λ i. WhereTold mid.bytes (g.T.View.held c.settle_all.new.target).bytes
+          (FillsTorn l c.deref_mut.result.now c.settle_all.new.fates (g.T.View.faults c.survey_first.new.target) (g.T.View.faults c.settle_all.new.target) i))
+          (λ i. WhereTold old.bytes (g.T.View.held c.settle_all.new.target).bytes
+          (λ y. FillsTorn l c.deref_mut.result.now c.settle_all.new.fates (g.T.View.faults c.survey_first.new.target) (g.T.View.faults c.settle_all.new.target) i (resized y (image_length l))))
+          (λ i. told_of l old mid (g.T.View.held c.settle_all.new.target).bytes
+          (FillsTorn l c.deref_mut.result.now c.settle_all.new.fates (g.T.View.faults c.survey_first.new.target) (g.T.View.faults c.settle_all.new.target) i) first.ok)
+          (did.failed is);
       had = did.had;
       asks = did.asks;
       firsts = subst (λ (xs : List Fate). FirstFates xs (count_of l)) (sym c.deref_mut.ensures.value) first.first;
@@ -98,6 +107,7 @@ ran_ok g c =
       ok = did.ok;
       first = tt;
       left = tt;
+      torn = λ is. absurd (ok_apart c.in_ok-settle_all.field-0 is);
       had = did.had;
       asks = did.asks;
       firsts = subst (λ (xs : List Fate). FirstFates xs (count_of l)) (sym c.deref_mut.ensures.value) first.first;

@@ -10,6 +10,7 @@ use Rattle.assembler.proofs.Asked.{asks_on, asks_up, spared_first, spared_rest}
 use Rattle.assembler.proofs.EconomyPasses.{passes_by}
 use Rattle.assembler.proofs.EconomyQuiet.{nothing_first, nothing_next}
 use Rattle.assembler.proofs.EconomyRetried.{unless_map}
+use Rattle.assembler.proofs.Filled.{open_before, torn_on}
 use Rattle.assembler.proofs.HadOn.{had_from, had_through}
 use Rattle.assembler.proofs.Lost.{lost_since}
 use Rattle.assembler.proofs.Stepped.{ready_on, step_on}
@@ -46,6 +47,29 @@ returns-in-Ok-clause-first g c =
       h.1,
     ))
     (λ rose. rose_later _ _ _ step.never_falls rose) c.retry.ensures.first
+
+pub returns-in-Ok-clause-failed : goal.returns-in-Ok-clause-failed
+returns-in-Ok-clause-failed g c = λ is.
+    let held = g.T.View.held in
+    let faults = g.T.View.faults in
+    let told = g.met.T.View.told in
+    let m0 = c.args.fates.now in
+    let m1 = c.fill.new.fates in
+    let m2 = c.retry.new.fates in
+    let first = c.in-Ok.ensures.step in
+    let next = c.retry.ensures.step in
+    let h = c.retry.ensures.failed is in
+    record {
+      entry = h.entry;
+      listed = h.listed;
+      was_open = open_before m0 m1 first.grows h.entry h.was_open;
+      before = h.before;
+      torn = h.torn;
+      among = h.among;
+      is_torn = torn_on c.args.index.now m0 m1 m2 (faults c.args.target.now) (faults c.fill.new.target) (faults c.retry.new.target) h.torn next.never_falls first.grows next.grows
+          (held c.args.target.now).bytes (held c.fill.new.target).bytes (held c.retry.new.target).bytes
+          (told c.args.target.now ∙ sym (told c.fill.new.target)) (told c.fill.new.target ∙ sym (told c.retry.new.target)) first.bytes h.is_torn;
+    }
 
 pub returns-in-Ok-clause-left : goal.returns-in-Ok-clause-left
 returns-in-Ok-clause-left g c =

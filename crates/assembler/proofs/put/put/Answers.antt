@@ -1,4 +1,4 @@
-use Rattle.std.proofs.Common.{◌≡◌, ◌≢◌, ◌⊎◌, ℕ, ◌+◌, ◌<◌, List, length, Result, Ok, Err, OnOk, OnErr, slice_index, true, false, sym, ap, subst, ◌∙◌, inl, inr, arith}
+use Rattle.std.proofs.Common.{◌≡◌, ◌≢◌, ◌⊎◌, ℕ, ◌+◌, ◌<◌, List, length, Result, Ok, Err, OnOk, OnErr, slice_index, true, false, refl, sym, ap, subst, ◌∙◌, inl, inr, arith}
 use Rattle.std.proofs.lemmas.Bool.{cases_Bool, cases_eq, cases_lt, true≢false}
 use Rattle.dsy_base.proofs.Counts.{rose_later}
 use Rattle.dsy_base.specs.declared.fault.Failed.{Failed}
@@ -6,7 +6,7 @@ use Rattle.range_survey.specs.Fates.{fate_at, is_settled, settled}
 use Rattle.range_survey.specs.declared.fate.Fate.{Fate}
 use Rattle.range_survey.specs.declared.fate.Fate.TheVariants as fate
 use Rattle.assembler.specs.Fills.{Grows}
-use Rattle.assembler.proofs.Filled.{grows_on, rose_still, settled_on, told_on}
+use Rattle.assembler.proofs.Filled.{grows_on, rose_still, settled_on, told_on, torn_on, torn_still}
 use Rattle.assembler.proofs.Tallies.{put_passed, put_some, put_written}
 use Rattle.caibx_codec.specs.Listing.{count_of}
 use Rattle.assembler.proofs.put.put.Goals as goal
@@ -96,10 +96,22 @@ loop-entry-preserved g c =
         | in-Err w ↦ rw w.ended-is tt
       ];
       grows = grows_on m0 m1 m2 inv.grows ens.grows;
-      bytes = told_on l m0 m1 m2 a b d (held t0).bytes (held t1).bytes (held t2).bytes (told t0 ∙ sym (told t1)) (told t1 ∙ sym (told t2)) inv.never_falls ens.faults inv.grows ens.grows inv.bytes ens.bytes;
+      bytes = told_on l m0 m1 m2 a b d (held t0).bytes (held t1).bytes (held t2).bytes (told t0 ∙ sym (told t1)) (told t1 ∙ sym (told t2)) ens.faults inv.grows ens.grows inv.bytes ens.bytes;
       name = ens.name ∙ inv.name;
       size = ens.size ∙ inv.size;
       never_falls = omega (arith, inv.never_falls, ens.faults);
+      failed =
+          let xy = told t0 ∙ sym (told t1) in
+          let yz = told t1 ∙ sym (told t2) in
+          elim c.match-put_one.branch [
+            | in-Ok-true w ↦ rw w.ended-is (on_err c.loop-entry.ended (λ f. (f.0, f.1, torn_still l m0 m1 m2 a b d f.0 ens.faults inv.grows ens.grows (held t0).bytes (held t1).bytes (held t2).bytes xy yz f.2 ens.bytes)) inv.failed)
+            | in-Ok-false w ↦ rw w.ended-is (on_err c.loop-entry.ended (λ f. (f.0, f.1, torn_still l m0 m1 m2 a b d f.0 ens.faults inv.grows ens.grows (held t0).bytes (held t1).bytes (held t2).bytes xy yz f.2 ens.bytes)) inv.failed)
+            | in-Err w ↦ rw w.ended-is (
+              slice_index es n,
+              (n, c.loop-entry-test.true, refl),
+              torn_on l m0 m1 m2 a b d (slice_index es n) ens.faults inv.grows ens.grows (held t0).bytes (held t1).bytes (held t2).bytes xy yz inv.bytes w.in-Err.ensures.failed,
+            )
+          ];
       cause = elim c.match-put_one.branch [
         | in-Ok-true w ↦ rw w.ended-is (on_err c.loop-entry.ended (rose_still a b d ens.faults) inv.cause)
         | in-Ok-false w ↦ rw w.ended-is (on_err c.loop-entry.ended (rose_still a b d ens.faults) inv.cause)

@@ -2,7 +2,8 @@ use Rattle.std.proofs.Common.{◌≡◌, ◌⊎◌, ℕ, ◌<◌, ◌≤◌, sli
 use Rattle.dsy_base.specs.Counts.{Rose}
 use Rattle.range_survey.specs.Fates.{fate_at, settled}
 use Rattle.range_survey.specs.declared.fate.Fate.TheVariants as fate
-use Rattle.assembler.specs.Fills.{Fills, Grows, WhereTold}
+use Rattle.assembler.specs.Fills.{Fills, FillsTorn, Grows, WhereTold}
+use Rattle.chunk_sources.specs.Wants.{IsAmong}
 use Rattle.assembler.proofs.Tallies.{PutUpTo}
 use Rattle.caibx_codec.specs.Listing.{count_of}
 use Rattle.assembler.proofs.put.put.Given as goal
@@ -22,5 +23,7 @@ invariant-loop-entry g l =
       name : (held l.target).name ≡ (held l.fn.target).name;
       size : (held l.target).size ≡ (held l.fn.target).size;
       never_falls : faults l.fn.target ≤ faults l.target;
+      failed : OnErr l.ended ((i : ℕ) × IsAmong l.entries i × WhereTold (held l.fn.target).bytes (held l.target).bytes
+          (FillsTorn l.index l.fn.fates l.fates (faults l.fn.target) (faults l.target) i));
       cause : OnErr l.ended (Rose (faults l.fn.target) (faults l.target));
     }

@@ -1,8 +1,8 @@
 use Rattle.std.proofs.Common.{true≢false, Err, ◌≡◌, ℕ, ◌<◌, List, [], length, set, Bool, Option, IfSome, true, false, inl, inr, sym, ap, ◌∙◌, subst, arith}
 use Rattle.std.proofs.lemmas.List.{length-set}
-use Rattle.std.proofs.lemmas.Option.{MatchOption-at_some}
+use Rattle.std.proofs.lemmas.Option.{MatchOption-at_none, MatchOption-at_some}
 use Rattle.assembler.proofs.Stocking.{stocking_on, stocking_wider}
-use Rattle.assembler.specs.Passes.{IsLost, PassAsks}
+use Rattle.assembler.specs.Passes.{EndsTorn, IsLost, PassAsks}
 use Rattle.cache_store.specs.Shelves.{Shelf}
 use Rattle.chunk_sources.proofs.Cached.{stocked_kind, stocked_none}
 use Rattle.chunk_sources.specs.Caches.{Stocked, TakesWants, seen}
@@ -12,7 +12,11 @@ use Rattle.range_survey.specs.Fates.{settled}
 use Rattle.assembler.proofs.EconomyPaid.{paid_all, paid_more, paid_none}
 use Rattle.assembler.proofs.EconomyRetried.{memory_lost, memory_ok, tried_all, tried_as, tried_now, tried_within, unless_any}
 use Rattle.assembler.proofs.Retried.{LostTried, WantsTried, newly_lost, still_lost, tried_more, tried_none, where_lost, where_torn}
+use Rattle.assembler.proofs.Filled.{open_before, settled_on, torn_on}
 use Rattle.assembler.proofs.Stepped.{ready_on}
+use Rattle.assembler.proofs.TwoPasses.{err_same, fault_apart}
+use Rattle.assembler.specs.Fills.{FillsTorn, WhereTold}
+use Rattle.chunk_sources.specs.Wants.{IsAmong}
 use Rattle.assembler.proofs.Tried.{IsFirst, SettledBelow, first_later, is_tried, lost_here, lost_of, tried_is, tries_lost, tries_none, tries_passed, tries_settled, untried as untried_at}
 use Rattle.assembler.proofs.TriedAsks.{asks_at_end}
 use Rattle.assembler.specs.Losses.{IsFirstOpen}
@@ -235,6 +239,49 @@ torn g c =
     (where_torn (IsFirstOpen c.args.index.now c.loop-entry.fates (of_want c.args.plan.now c.want_of-want.result))
     (Rose (faults c.loop-entry.target) (faults c.settle.new.target)) c.settle.result c.in-Err-TargetFault.field-0 c.in-Err-TargetFault.is
     c.in-Err-TargetFault.field-0-is c.settle.ensures.lost)
+
+-- and no entry before was lost where no answer was kept
+failed : (g : Over) (c : In-Err-TargetFault g) → SettledBelow c.loop-entry.fates c.loop-entry.entry → EndsTorn c.args.index.now c.args.plan.now c.args.fates.now c.settle.new.fates
+    (λ i. WhereTold (g.T.View.held c.args.target.now).bytes (g.T.View.held c.settle.new.target).bytes (FillsTorn c.args.index.now c.args.fates.now c.settle.new.fates
+    (g.T.View.faults c.args.target.now) (g.T.View.faults c.settle.new.target) i))
+failed g c below =
+    let held = g.T.View.held in
+    let faults = g.T.View.faults in
+    let told = g.met.T.View.told in
+    let d = c.args.plan.now in
+    let m0 = c.args.fates.now in
+    let m1 = c.loop-entry.fates in
+    let m2 = c.settle.new.fates in
+    let first = c.loop-entry.invariant.passed.step in
+    let next = c.settle.ensures.step in
+    let f = c.settle.ensures.failed (c.in-Err-TargetFault.is ∙ ap Err c.in-Err-TargetFault.field-0-is) in
+    record {
+      entry = c.loop-entry.entry;
+      listed = omega (arith, c.loop-entry-test.true, c.count-entry-end.ensures);
+      was_open = open_before m0 m1 first.grows c.loop-entry.entry (sym c.is_settled.ensures ∙ c.if-is_settled.false);
+      before = λ i less. settled_on m1 m2 next.grows i (below i less);
+      torn = f.0;
+      among = subst (λ w. IsAmong (of_want d w) f.0) c.want_of-want.ensures f.1;
+      is_torn = torn_on c.args.index.now m0 m1 m2 (faults c.args.target.now) (faults c.loop-entry.target) (faults c.settle.new.target) f.0 next.never_falls first.grows next.grows
+          (held c.args.target.now).bytes (held c.loop-entry.target).bytes (held c.settle.new.target).bytes
+          (told c.args.target.now ∙ sym (told c.loop-entry.target)) (told c.loop-entry.target ∙ sym (told c.settle.new.target)) first.bytes f.2;
+    }
+
+pub returns-in-Err-TargetFault-clause-failed : goal.returns-in-Err-TargetFault-clause-failed
+returns-in-Err-TargetFault-clause-failed g c = λ is.
+    let at = goal.at.returns-in-Err-TargetFault-clause-failed g c in
+    elim c.match-first.branch [
+      | in-Some w ↦
+          let lost = w.in-Some.lost in
+          absurd (fault_apart lost.entry lost.id lost.refused (sym (w.result-is ∙ w.fault.ensures) ∙ err_same _ _ is))
+      | in-None w ↦ failed g at.In-Err-TargetFault (MatchOption-at_none (SettledBelow c.loop-entry.fates c.loop-entry.entry)
+          (IsFirst (Before g at.After-settle) c.loop-entry.fates) w.in-None.is c.loop-entry.invariant.tries.first)
+    ]
+
+pub returns-in-Some-first-clause-failed : goal.returns-in-Some-first-clause-failed
+returns-in-Some-first-clause-failed g c = λ is.
+    let lost = c.in-Some-first.lost in
+    absurd (fault_apart lost.entry lost.id lost.refused (sym c.fault-in-Some-first.ensures ∙ err_same _ _ is))
 
 pub returns-in-Err-TargetFault-clause-first : goal.returns-in-Err-TargetFault-clause-first
 returns-in-Err-TargetFault-clause-first g c =

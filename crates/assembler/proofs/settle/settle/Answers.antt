@@ -76,6 +76,11 @@ returns-clause-lost g c =
     (subst (λ (n : ℕ). settled c.args.fates.now n ≡ false) (sym is.0) f.3) f.4 (ap (λ (q : ChunkId). q.0) is.1 ∙ c.id-id.ensures ∙ ap (id_of c.args.index.now) (sym is.0)))
     c.settle_open.ensures.lost
 
+pub returns-clause-failed : goal.returns-clause-failed
+returns-clause-failed g c = λ is.
+    let f = c.settle_open.ensures.failed is in
+    (f.0, subst (λ (xs : List ℕ). IsAmong xs f.0) c.entries-entries.ensures f.1, f.2)
+
 pub returns-clause-refused : goal.returns-clause-refused
 returns-clause-refused g c =
     where_both _ _ _ _ (Unit {0}) c.settle_open.result

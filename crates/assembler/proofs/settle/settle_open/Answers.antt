@@ -1,7 +1,8 @@
-use Rattle.std.proofs.Common.{◌≡◌, ◌∙◌, ◌++◌, ℕ, length, map, Option, Ok, Err, ap, subst, arith}
+use Rattle.std.proofs.Common.{◌≡◌, ◌∙◌, ◌++◌, ℕ, length, map, Option, Ok, Err, ap, sym, subst, arith}
 use Rattle.assembler.proofs.EconomyQuiet.{nothing_first}
-use Rattle.assembler.proofs.Filled.{told_since}
+use Rattle.assembler.proofs.Filled.{told_none, told_since, torn_since}
 use Rattle.assembler.proofs.Settled.{asks_still, last_still}
+use Rattle.assembler.specs.Fills.{Fills, WhereTold}
 use Rattle.assembler.proofs.EconomySettled.{settles_got, settles_lost}
 use Rattle.caibx_codec.specs.Listing.{kind_of, size_of, count_of}
 use Rattle.chunk_sources.specs.Caches.{seen}
@@ -55,7 +56,39 @@ returns-in-Ok-put-clause-bytes g c =
     let faults = g.T.View.faults in
     told_since c.args.index.now c.args.fates.now c.put.new.fates (faults c.args.target.now) (faults c.obtain.new.target) (faults c.put.new.target)
     (held c.args.target.now).bytes (held c.obtain.new.target).bytes (held c.put.new.target).bytes (ap (λ (h : Held). h.bytes) c.in-Ok.ensures.kept)
-    c.in-Ok.ensures.faults c.in-Ok-put.ensures.faults c.in-Ok-put.ensures.bytes
+    c.in-Ok.ensures.faults c.in-Ok-put.ensures.bytes
+
+pub returns-in-Err-put-clause-bytes : goal.returns-in-Err-put-clause-bytes
+returns-in-Err-put-clause-bytes g c =
+    let held = g.T.View.held in
+    let faults = g.T.View.faults in
+    told_since c.args.index.now c.args.fates.now c.put.new.fates (faults c.args.target.now) (faults c.obtain.new.target) (faults c.put.new.target)
+    (held c.args.target.now).bytes (held c.obtain.new.target).bytes (held c.put.new.target).bytes (ap (λ (h : Held). h.bytes) c.in-Ok.ensures.kept)
+    c.in-Ok.ensures.faults c.in-Err-put.ensures.bytes
+
+pub returns-in-Err-put-clause-failed : goal.returns-in-Err-put-clause-failed
+returns-in-Err-put-clause-failed g c = λ _.
+    let held = g.T.View.held in
+    let faults = g.T.View.faults in
+    let f = c.in-Err-put.ensures.failed in (
+      f.0,
+      f.1,
+      torn_since c.args.index.now c.args.fates.now c.put.new.fates (faults c.args.target.now) (faults c.obtain.new.target) (faults c.put.new.target) f.0
+          (held c.args.target.now).bytes (held c.obtain.new.target).bytes (held c.put.new.target).bytes (ap (λ (h : Held). h.bytes) c.in-Ok.ensures.kept)
+          c.in-Ok.ensures.faults f.2,
+    )
+
+-- where no source gave the chunk nothing was written
+pub returns-in-Err-clause-bytes : goal.returns-in-Err-clause-bytes
+returns-in-Err-clause-bytes g c =
+    let held = g.T.View.held in
+    let faults = g.T.View.faults in
+    let l = c.args.index.now in
+    let m = c.args.fates.now in
+    let a = faults c.args.target.now in
+    let b = faults c.obtain.new.target in
+    subst (λ (h : Held). WhereTold (held c.args.target.now).bytes h.bytes (Fills l m m a b)) (sym c.in-Err.ensures.kept)
+    (told_none l m a b c.in-Err.ensures.faults (held c.args.target.now).bytes)
 
 pub returns-in-Ok-put-clause-asks : goal.returns-in-Ok-put-clause-asks
 returns-in-Ok-put-clause-asks g c =

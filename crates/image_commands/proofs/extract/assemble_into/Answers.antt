@@ -24,7 +24,7 @@ use Rattle.command_steps.specs.Stores.{are_folders}
 use Rattle.command_steps.specs.declared.any_source.AnySource.{AnySource}
 use Rattle.command_steps.specs.Seeds.{IsViewed, image_name, label_in}
 use Rattle.command_steps.specs.Worlds.{FileRose}
-use Rattle.image_commands.proofs.Assembled.{assembled, facts_of, had_of, not_taken_as, obtainable_of, stopped_before}
+use Rattle.image_commands.proofs.Assembled.{ExcusesAs, assembled, facts_of, given_excuses, had_of, not_taken_as, obtainable_of, same_before, stopped_before}
 use Rattle.command_steps.proofs.Found.{held_after, held_maps, held_where}
 use Rattle.image_commands.proofs.Kits.{pushed}
 use Rattle.image_commands.proofs.Lost.{lacks_told, others_at, store_told, target_as}
@@ -133,7 +133,7 @@ returns-in-Err-clause-assembled g c = λ p ls plan is.
     let name = named g c.args.cache.now c.args.shelf c.requires.cache_named in
     let le : count_at b2.file_counts q ≤ count_at e.file_counts q = omega (arith, gave.counts q, c.drop_sources-in-Err.ensures.kept.counts q, c.close_seeds.ensures.kept.counts q) in
     let k = g.D.Dial.state c.args.dial.now in
-    let before = stopped_before (sources d k) (sources e k) names c.args.cache.now o l x (λ cs. cached_in s ≡ Some (map chunks cs))
+    let before = same_before (sources d k) (sources e k) names c.args.cache.now o l x (λ cs. cached_in s ≡ Some (map chunks cs))
     (cached_there s c.args.cache.now name d'.folders (cache_told g c.args.files.now c.args.shelf))
     (c.close_seeds.ensures.kept.files ∙ c.drop_sources-in-Err.ensures.kept.files ∙ gave.files ∙ c.in-Err.ensures.err ∙ c.in-Ok.ensures.kept.files)
     (refl, c.close_seeds.ensures.kept.folders ∙ c.drop_sources-in-Err.ensures.kept.folders ∙ given_folders s b2 b3 c.give_cache-in-Err.ensures.given ∙ ap (folders_with s) ((wrote_on b b2 _ c.in-Err.ensures.counts).folders ∙ c.in-Ok.ensures.kept.folders)) in
@@ -411,6 +411,7 @@ returns-clause-assembled g c = λ p ls plan is.
     omega (arith, first, last) in
     let opened : (y : List ℕ) → count_at d.folder_counts y ≤ count_at bc.folder_counts y = λ y. omega (arith, reached y, lent.folder_counts y) in
     let rose : Rose f0 f1 → FileRose d e q = λ y. given_rose _ _ _ _ le added (rw c.in-Ok-take.ensures.fresh.0 at y) in
+    let excused : ExcusesAs f0 f1 (count_at d.file_counts q) (count_at e.file_counts q) = λ xs y. given_excuses xs _ _ _ _ le added (rw c.in-Ok-take.ensures.fresh.0 at y) in
     let closed = rw c.into_stores.ensures.value at c.close_sources.ensures.given in
     let dialed = c.close_sources.ensures.kept.0.dial in
     let stays : e.folder_counts ≡ b3.folder_counts = c.give.ensures.counts.folder_counts ∙ c.close_seeds-2.ensures.counts in
@@ -451,12 +452,12 @@ returns-clause-assembled g c = λ p ls plan is.
     (facts_of w v names cache o l z (λ maps base. IsObtainable l p x base views maps)
     (λ m told maps base i lt. had_of d b e l p x z views zip is m told base maps i lt)
     (λ m told quiet maps base i lt. obtainable_of d b e l p x z views zip is m told base maps i lt (λ y rise. rose_not_quiet (count_at d.file_counts y) (count_at d.file_counts y) (count_at e.file_counts y) (omega arith) (later y rise) (quiet.files y)))
-    r (map files before) (λ cs. cached_in e0 ≡ Some (map chunks cs)) t0 t1 (Rose f0 f1)
+    r (map files before) (λ cs. cached_in e0 ≡ Some (map chunks cs)) t0 t1 f0 f1
     (λ cached maps. IsTrue g.F.View.View.tells × (cached_in e0 ≡ Some cached) × (map holds k.chain.stores ≡ map Some maps))
     (λ cached maps. SourcesQuiet holds faults view_faults g.F.View.View.tells f0 f1 k.seeds.items j.seeds.items e0 e1 k.chain.stores j.chain.stores cached maps × HaveOneSize l e0 cached maps)
     found (cached_there e0 cache name d'.folders (cache_told g c.args.files.now c.args.shelf)) took
     (g.met.F.Target.View.told c.in-Ok-take.taken ∙ sym (g.met.F.Target.View.told c.assemble-ended.result.target))
-    left rose over.bytes
+    left rose excused over.bytes
     (λ m told n y. lacks_told holds files place location said faults _ view view_faults l p x w v names cache o z t0 f0 f1 k j e0 e1 stores located stand n
     (λ fs told. held_maps files before fs (subst (λ o. IfSome o (λ m. map files before ≡ map (told_at m) names)) y found ∙ told)) rose m
     (others_at holds files place location said faults _ view view_faults l p x w v names cache o z t0 f0 f1 k j e0 e1 b m told zip is later rises (cache_lacking d e e0 e1 cache l d'.folders name_now shelf_now shelf_rose)) (Rose f0 f1) r lost)

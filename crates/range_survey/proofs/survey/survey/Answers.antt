@@ -23,7 +23,7 @@ loop-i-preserved g c =
           (λ is. subst (λ (h : Held). IfSome h.bytes (λ t. IsRightAt t l i)) c.loop-i.invariant.kept (c.is_right.ensures.yes is));
       no = open_on l fates i x right inside c.first_fate.ensures.value now
           (faults c.args.target.now) (faults c.loop-i.target) (faults c.is_right.new.target)
-          c.loop-i.invariant.faults c.is_right.ensures.faults c.loop-i.invariant.no
+          c.is_right.ensures.faults c.loop-i.invariant.no
           (λ is. subst (λ (h : Held). IfSome h.bytes (λ t. IsRightAt t l i → Rose (faults c.loop-i.target) (faults c.is_right.new.target))) c.loop-i.invariant.kept (c.is_right.ensures.no is));
       unread = λ all. c.is_right.ensures.unread (all i lt) ∙ c.loop-i.invariant.unread all;
       kept = c.is_right.ensures.kept ∙ c.loop-i.invariant.kept;
