@@ -70,7 +70,8 @@ StopsAt l k told faults.StoreFault = Unit {0}
 StopsAt l k told faults.Memory = Unit {0}
 
 -- seeing to the entries in order ended at one of them: the chunks of those before it are held, and at most the entry
--- itself was touched besides. `held` and `now` are what the store held and holds, `old` and `new` the files of its folder
+-- itself was touched besides. `held` and `now` are what the store held and holds, `old` and `new` the files of its
+-- folder
 pub record StopsInOrder (l : Listing) (told : Option (List ℕ)) (held now old new : ToldMap) : Type 0 where
   pub entry : ℕ
   pub right : AreRightTo l entry told

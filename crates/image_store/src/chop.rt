@@ -6,7 +6,8 @@ ghost use Rattle.caibx_codec.specs.Listing.{count_of, id_of, image_length, kind_
 ghost use Rattle.caibx_codec.specs.Right.{IsRight, IsRightAt};
 ghost use Rattle.chunk_store.specs.Said.{AskedOnce, KeepsOf};
 ghost use Rattle.dsy_base.specs.Counts.{CountsFaults};
-ghost use Rattle.image_store.specs.Chopping.{AsksListed, ChopStops, IsMismatch, StopsAt, TellsLength, most_seen, seen_to};
+ghost use Rattle.image_store.specs.Chopping.{AsksListed, ChopStops, IsMismatch, StopsAt, TellsLength};
+ghost use Rattle.image_store.specs.Chopping.{most_seen, seen_to};
 ghost use Rattle.image_store.specs.PutChunks.{CountsCause, HoldsAll, HoldsNamed, PutsFiles, PutsLacked, PutsRight};
 ghost use Rattle.image_store.specs.PutChunks.{SaysAll, SaysNamed, Stands, told_slice};
 

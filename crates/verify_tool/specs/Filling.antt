@@ -160,8 +160,8 @@ SparesStores l s0 s1 c0 c1 = IfSome (held_on s0) (λ m. ((i : ℕ) → i < count
 -- ---- in which order
 
 -- filling ended early at one of the entries: each before it is in the cache, under each id that none of those and not
--- this one lists stands what stood there, and the stores were asked for these alone. A refusal that names an entry names
--- this one
+-- this one lists stands what stood there, and the stores were asked for these alone. A refusal that names an entry
+-- names this one
 pub record FillStops {S : Type 0} (asked queried : S → List ℕ → ℕ) (l : Listing) (fault : FillFault) (s0 s1 : Shelf)
     (c0 c1 : Chained S) : Type 0 where
   pub entry : ℕ
