@@ -13,3 +13,4 @@ pub mod SeedsOpened
 pub mod SeedsRead
 pub mod Found
 pub mod Lacked
+pub mod Asking

@@ -1,6 +1,6 @@
 -- What contracts see of a store of a command. L is the type of its folder, D that of its dialer, and K that of
 -- its connections.
-use Rattle.std.specs.Prelude.{◌≡◌, ◌++◌, ◌≤◌, ℕ, List, ◌∷◌, length, Option, Some, None, IfSome, IsSome}
+use Rattle.std.specs.Prelude.{◌≡◌, ◌++◌, ◌≤◌, ℕ, List, [], ◌∷◌, length, Option, Some, None, IfSome, IsSome}
 use Rattle.std.specs.Map.{count_at}
 use Rattle.std.specs.Option.{option_map}
 use Rattle.chunk_store.specs.Folders.{chunks}
@@ -11,12 +11,13 @@ use Rattle.command_steps.specs.declared.any_source.AnySource.{AnySource}
 use Rattle.command_steps.specs.declared.any_source.AnySource.TheVariants as stores
 use Rattle.command_words.specs.declared.command.Location.{Location}
 use Rattle.command_words.specs.declared.command.Location.TheVariants as locations
-use Rattle.dir_store.specs.Stores.{lies_map}
+use Rattle.dir_store.specs.Stores.{lies_map, unasked_map}
 use Rattle.dsy_base.specs.Counts.{raised}
-use Rattle.dsy_base.specs.Links.{DialState}
+use Rattle.dsy_base.specs.Links.{DialState, Traffic, with_all}
 use Rattle.dsy_base.specs.Maps.{Map}
-use Rattle.http_read.specs.Asks.{Server}
+use Rattle.http_read.specs.Asks.{Server, times_asked}
 use Rattle.http_read.specs.Remotes.{HasCause, said_on}
+use Rattle.http_wire.specs.declared.reply.Method.{Method}
 
 -- the words that name it
 abbrev pub location_in : {L D K : Type 0} → (L → List ℕ) → AnySource L D K → Location
@@ -49,7 +50,23 @@ abbrev pub faults_in : {L D K : Type 0} → (L → ℕ) → (D → DialState) �
 faults_in faults state (stores.Folder l) = faults l
 faults_in faults state (stores.Http r) = raised (state r.dial).faults r.refused
 
+-- how often it was asked by this method for each id, on the connections that have ended. A folder shows no reads
+abbrev pub asked_in : {L D K : Type 0} → Method → (D → DialState) → AnySource L D K → List ℕ → ℕ
+asked_in m state (stores.Folder l) = λ id. 0
+asked_in m state (stores.Http r) = times_asked r.server m (state r.dial).ended
+
+-- no connection has ended on it
+abbrev pub IsUnused : {L D K : Type 0} → (D → DialState) → AnySource L D K → Type 0
+IsUnused state (stores.Folder l) = Unit {0}
+IsUnused state (stores.Http r) = IfSome (state r.dial).ended (λ ended. ended ≡ [])
+
 -- ---- giving it back
+
+-- connections that had ended, and then those on it
+abbrev pub with_those : {L D K : Type 0} → (D → DialState) → Option (List Traffic) → AnySource L D K
+    → Option (List Traffic)
+with_those state ended (stores.Folder l) = ended
+with_those state ended (stores.Http r) = with_all ended (state r.dial).ended
 
 -- its place has a number, where it is a folder
 abbrev pub IsKnown : Map ℕ → Location → Type 0
@@ -81,3 +98,9 @@ pub lies_any : {L D K : Type 0} (files : L → Option (Map (List ℕ))) (s : Any
     → IfSome (files_in files s) (λ m. chunks_in files s ≡ Some (chunks m))
 lies_any files (stores.Folder l) = lies_map (files l)
 lies_any files (stores.Http r) = tt
+
+pub unasked_any : {L D K : Type 0} (files : L → Option (Map (List ℕ))) (m n : Method) (state : D → DialState)
+    (s : AnySource L D K)
+    → IfSome (chunks_in files s) (λ _. (q : List ℕ) → (asked_in m state s q ≡ 0) × (asked_in n state s q ≡ 0))
+unasked_any files m n state (stores.Folder l) = unasked_map (option_map chunks (files l))
+unasked_any files m n state (stores.Http r) = tt

@@ -10,3 +10,4 @@ pub mod Taking
 pub mod Blames
 pub mod Cache
 pub mod Seeds
+pub mod Asking

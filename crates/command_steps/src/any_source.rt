@@ -22,8 +22,8 @@ impl<L: Look, D: Dial> Store for AnySource<L, D> {
     ghost use Rattle.std.specs.Prelude.{false, true};
     ghost use Rattle.std.proofs.Common.{rules};
     ghost use Rattle.command_steps.specs.AnySources.{chunks_in, files_in, place_in, faults_in, said_in};
-    ghost use Rattle.command_steps.specs.AnySources.{lies_any, says_any};
-    ghost use Rattle.dir_store.specs.Stores.{unasked_map};
+    ghost use Rattle.command_steps.specs.AnySources.{asked_in, lies_any, says_any, unasked_any};
+    ghost use Rattle.http_wire.specs.declared.reply.Method.TheVariants as methods;
 
     ghost holds = { chunks_in L.files };
 
@@ -31,9 +31,9 @@ impl<L: Look, D: Dial> Store for AnySource<L, D> {
 
     ghost said = { said_in L.files D.state };
 
-    ghost asked = { λ _ _. 0 };
+    ghost asked = { asked_in methods.Get D.state };
 
-    ghost queried = { λ _ _. 0 };
+    ghost queried = { asked_in methods.Head D.state };
 
     ghost faults = { faults_in L.faults D.state };
 
@@ -63,7 +63,7 @@ impl<L: Look, D: Dial> Store for AnySource<L, D> {
 
     ghost lies = { lies_any L.files };
 
-    ghost unasked = { λ s. unasked_map (chunks_in L.files s) };
+    ghost unasked = { unasked_any L.files methods.Get methods.Head D.state };
 
     ghost told = { Prim.search rules };
 

@@ -1,7 +1,9 @@
 //! Stores that are opened in order, and given back.
 
 ghost use Rattle.std.specs.Prelude.{◌≡◌, ◌∷◌, [], ◌++◌, map, All, IfSome, IfOk, IfErr, OnOk, OnErr};
-ghost use Rattle.command_steps.specs.AnySources.{IsGiven, IsKnown, faults_in, files_in, location_in};
+ghost use Rattle.std.specs.List.{fold};
+ghost use Rattle.command_steps.specs.AnySources.{IsGiven, IsKnown, IsUnused, faults_in, files_in, location_in};
+ghost use Rattle.command_steps.specs.AnySources.{with_those};
 ghost use Rattle.command_steps.specs.Sources.{AllThere, ConsultsStores, FirstUnreached, IsSourceAt, OpensSources};
 ghost use Rattle.command_steps.specs.Sources.{Unreached, server_at, sources, told_at};
 ghost use Rattle.command_steps.specs.Worlds.{Reads};
@@ -29,6 +31,7 @@ pub(crate) fn server<D: Dial>(
 ) -> Result<HttpStore<D>, Outcome>
     ensures ok { IfOk result (λ r. (r.server ≡ server_at host.now port prefix.now)
         × (raised (D.state r.dial).faults r.refused ≡ 0)) }
+    ensures unused { IfOk result (λ r. IfSome (D.state r.dial).ended (λ ended. ended ≡ [])) }
     ensures err { IfErr result (λ o. o ≡ Outcome.Memory) }
 {
     let (Ok(host), Ok(prefix)) = (Name::of(alloc, host), Name::of(alloc, prefix)) else {
@@ -49,6 +52,7 @@ fn open<F: Files, D: Dial>(
 ) -> Result<AnySource<F::Look, D>, Outcome>
     ensures ok { IfOk result (IsSourceAt (files_in F.Look.files) (location_in F.Look.place)
         (faults_in F.Look.faults D.state) (F.disk files.old).folders store.now) }
+    ensures unused { IfOk result (IsUnused D.state) }
     ensures known { IfOk result (λ s. IsKnown (F.disk files.new).folder_counts (location_in F.Look.place s)) }
     ensures err { IfErr result (Unreached (F.disk files.old) (F.disk files.new) store.now) }
     ensures kept { Reads (F.disk files.old) (F.disk files.new) }
@@ -70,6 +74,7 @@ fn close<F: Files, D: Dial>(files: &mut F, dial: &mut D, store: AnySource<F::Loo
     requires known { IsKnown (F.disk files.old).folder_counts (location_in F.Look.place store) }
     ensures kept { ConsultsStores (location_in F.Look.place store ∷ [])
         (sources (F.disk files.old) (D.state dial.old)) (sources (F.disk files.new) (D.state dial.new)) }
+    ensures ended { (D.state dial.new).ended ≡ with_those D.state (D.state dial.old).ended store }
     ensures counts { (F.disk files.new).file_counts ≡ (F.disk files.old).file_counts }
     ensures given { IsGiven F.Look.place F.Look.faults D.state
         (sources (F.disk files.old) (D.state dial.old)) (sources (F.disk files.new) (D.state dial.new)) store }
@@ -136,11 +141,13 @@ fn open_each<F: Files, D: Dial>(
 ) -> Result<(), Outcome>
     requires known { All (IsKnown (F.disk files.old).folder_counts)
         (map (location_in F.Look.place) stores.old.items) }
+    requires unused { All (IsUnused D.state) stores.old.items }
     ensures ok { OnOk result (OpensSources (files_in F.Look.files) (location_in F.Look.place)
         (faults_in F.Look.faults D.state) (F.disk files.old).folders names.now stores.old.items stores.new.items) }
     ensures err { IfErr result (FirstUnreached (F.disk files.old) (F.disk files.new) names.now) }
     ensures known { All (IsKnown (F.disk files.new).folder_counts)
         (map (location_in F.Look.place) stores.new.items) }
+    ensures unused { All (IsUnused D.state) stores.new.items }
     ensures kept { Reads (F.disk files.old) (F.disk files.new) }
 {
     let Some((first, rest)) = names.split_first() else {
@@ -165,6 +172,7 @@ pub fn open_sources<F: Files, D: Dial>(
         map (files_in F.Look.files) v.items ≡ map (told_at m) names.now)) }
     ensures located { IfOk result (λ v. map (location_in F.Look.place) v.items ≡ names.now) }
     ensures fresh { IfOk result (λ v. map (faults_in F.Look.faults D.state) v.items ≡ map (λ q. 0) names.now) }
+    ensures unused { IfOk result (λ v. All (IsUnused D.state) v.items) }
     ensures known { OnOk result (All (IsKnown (F.disk files.new).folder_counts) names.now) }
     ensures err { IfErr result (FirstUnreached (F.disk files.old) (F.disk files.new) names.now) }
     ensures kept { Reads (F.disk files.old) (F.disk files.new) }
@@ -188,6 +196,8 @@ pub fn close_sources<F: Files, D: Dial>(
     requires known { All (IsKnown (F.disk files.old).folder_counts) (map (location_in F.Look.place) stores.items) }
     ensures kept { ConsultsStores (map (location_in F.Look.place) stores.items)
         (sources (F.disk files.old) (D.state dial.old)) (sources (F.disk files.new) (D.state dial.new)) }
+    ensures ended { (D.state dial.new).ended
+        ≡ fold (with_those D.state) (D.state dial.old).ended stores.items }
     ensures counts { (F.disk files.new).file_counts ≡ (F.disk files.old).file_counts }
     ensures given { All (IsGiven F.Look.place F.Look.faults D.state
         (sources (F.disk files.old) (D.state dial.old)) (sources (F.disk files.new) (D.state dial.new))) stores.items }

@@ -2,7 +2,8 @@
 
 ghost use Rattle.std.specs.Prelude.{◌≡◌, ◌∷◌, [], Ok, Err, IfOk, IfErr, OnOk, OnErr, IsSome};
 ghost use Rattle.std.specs.Option.{option_map};
-ghost use Rattle.command_steps.specs.AnySources.{IsGiven, IsKnown, faults_in, files_in, location_in};
+ghost use Rattle.command_steps.specs.AnySources.{IsGiven, IsKnown, IsUnused, faults_in, files_in, location_in};
+ghost use Rattle.command_steps.specs.AnySources.{with_those};
 ghost use Rattle.command_steps.specs.Sources.{DialsStores, sources};
 ghost use Rattle.command_steps.specs.Stores.{IsStoreAt, IsTaken, NotReached};
 ghost use Rattle.command_steps.specs.Taking.{SourceTaken, given_to};
@@ -64,6 +65,7 @@ pub fn take_source<F: Files, D: Dial>(
     ensures changed { OnOk result (Adds (F.disk files.old) (F.disk files.new)) }
     ensures located { IfOk result (λ s. location_in F.Folder.place s ≡ store.now) }
     ensures fresh { IfOk result (λ s. faults_in F.Folder.faults D.state s ≡ 0) }
+    ensures unused { IfOk result (IsUnused D.state) }
     ensures known { OnOk result (IsKnown (F.disk files.new).folder_counts store.now) }
     ensures err { IfErr result (λ o. SourceTaken store.now (F.disk files.old) (Err o) (F.disk files.new)) }
 {
@@ -93,6 +95,7 @@ pub fn give_source<F: Files, D: Dial>(
     ensures changed { Adds (F.disk files.old) (F.disk files.new) }
     ensures counts { (F.disk files.new).file_counts ≡ (F.disk files.old).file_counts }
     ensures dialed { DialsStores (store.now ∷ []) (D.state dial.old) (D.state dial.new) }
+    ensures ended { (D.state dial.new).ended ≡ with_those D.state (D.state dial.old).ended taken }
     ensures given { IsGiven F.Folder.place F.Folder.faults D.state
         (sources (F.disk files.old) (D.state dial.old)) (sources (F.disk files.new) (D.state dial.new)) taken }
 {

@@ -5,3 +5,4 @@ pub mod Given
 pub mod Ended
 pub mod Called
 pub mod OneThing
+pub mod Asked

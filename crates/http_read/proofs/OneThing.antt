@@ -1,10 +1,10 @@
 -- A head says one thing.
-use Rattle.std.proofs.Common.{◌≡◌, ℕ, zero, suc, ◌==◌, ◌<◌, Bool, true, false, nat_lt, List, take, Ok, Err, refl, sym, ◌∙◌, ap}
+use Rattle.std.proofs.Common.{◌≡◌, ℕ, zero, suc, ◌==◌, ◌<◌, Bool, true, false, List, take, Ok, Err, refl, sym, ◌∙◌, ap}
 use Rattle.std.proofs.Common.{subst, arith}
 use Rattle.std.specs.Prelude.{Result}
 use Rattle.std.proofs.lemmas.Bool.Decides.{nat_tests}
 use Rattle.http_read.specs.Replies.{SaysHead}
-use Rattle.http_frames.specs.HeadEnd.{IsFirstEnd, ends_at}
+use Rattle.http_frames.specs.HeadEnd.{IsFirstEnd}
 use Rattle.http_frames.specs.declared.body.BodyKind.{BodyKind}
 use Rattle.http_frames.specs.declared.body.BodyKind.TheVariants as kind
 use Rattle.http_frames.specs.declared.fault.WireFault.{WireFault}

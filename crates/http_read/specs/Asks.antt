@@ -1,8 +1,11 @@
 -- What a store sends to its server: the head of an ask, and after that of a PUT the chunk. Which paths there are is
 -- this project's own.
-use Rattle.std.specs.Prelude.{◌≡◌, ℕ, ◌≤◌, List, [], ◌∷◌, ◌++◌, length, take, Some, None, codes}
+use Rattle.std.specs.Prelude.{◌≡◌, ℕ, ◌≤◌, List, [], ◌∷◌, ◌++◌, length, take, Option, Some, None, Bool, codes}
+use Rattle.std.specs.List.{count_by}
+use Rattle.std.specs.Str.{bytes_eq}
 use Rattle.chunk_store.specs.Paths.{path_of}
-use Rattle.http_wire.specs.Ask.{ask}
+use Rattle.dsy_base.specs.Links.{Traffic}
+use Rattle.http_wire.specs.Ask.{ask, method_name}
 use Rattle.http_wire.specs.declared.reply.Method.{Method}
 use Rattle.http_wire.specs.declared.reply.Method.TheVariants as method
 
@@ -38,3 +41,18 @@ IsFront b sent = (n : ℕ) × (n ≤ length b) × (sent ≡ take n b)
 -- the server as one list of numbers, which is what is seen of the place of its store
 abbrev pub place_of : Server → List ℕ
 place_of s = s.port ∷ length s.host ∷ s.host ++ s.prefix
+
+-- ---- how often a server was asked
+
+-- an ask's bytes up to the space behind its path (RFC 9112, section 3): they name the method and the id
+abbrev pub front_of : Server → Method → List ℕ → List ℕ
+front_of s m id = method_name m ++ (codes " " ++ (target s id ++ codes " "))
+
+-- whether a connection was asked by this method for the chunk of this id
+abbrev pub is_asked : Server → Method → List ℕ → Traffic → Bool
+is_asked s m id t = bytes_eq (take (length (front_of s m id)) t.sent) (front_of s m id)
+
+-- on how many of the connections that have ended. Where they aren't told none is known
+abbrev pub times_asked : Server → Method → Option (List Traffic) → List ℕ → ℕ
+times_asked s m None id = 0
+times_asked s m (Some ended) id = count_by (is_asked s m id) ended

@@ -17,6 +17,7 @@ ghost use Rattle.http_wire.specs.Ask.{ask};
 use crate::exchange::{Got, get_on, has_on, put_on};
 use crate::fault::{BadReply, Unanswered};
 use chunk_store::id::ChunkId;
+use chunk_store::laws::id_has_32_bytes;
 use chunk_store::store::{GetFault, Store, StoreWrite};
 use dsy_base::dial::Dial;
 use dsy_base::fault::{IoFault, raise};
@@ -245,18 +246,19 @@ impl<D: Dial> HttpStore<D> {
 }
 
 impl<D: Dial> Store for HttpStore<D> {
-    ghost use Rattle.http_read.specs.Asks.{place_of};
+    ghost use Rattle.http_read.specs.Asks.{place_of, times_asked};
     ghost use Rattle.std.specs.Prelude.{None, false, true};
     ghost use Rattle.std.proofs.Common.{rules};
     ghost use Rattle.http_read.specs.Remotes.{faults_of, log_of, said_on};
+    ghost use Rattle.http_wire.specs.declared.reply.Method.TheVariants as methods;
 
     ghost holds = { λ _. None };
 
     ghost said = { λ s. said_on s.server (D.state s.dial).ended };
 
-    ghost asked = { λ _ _. 0 };
+    ghost asked = { λ s. times_asked s.server methods.Get (D.state s.dial).ended };
 
-    ghost queried = { λ _ _. 0 };
+    ghost queried = { λ s. times_asked s.server methods.Head (D.state s.dial).ended };
 
     ghost faults = { λ s. faults_of (log_of D.state s) };
 
@@ -269,10 +271,12 @@ impl<D: Dial> Store for HttpStore<D> {
     ghost may_lack_memory = { true };
 
     fn get(&mut self, id: &ChunkId, out: &mut [u8]) -> Result<usize, GetFault> {
+        id_has_32_bytes(id);
         self.fetch(id, out)
     }
 
     fn has(&mut self, id: &ChunkId) -> Result<bool, IoFault> {
+        id_has_32_bytes(id);
         self.find(id)
     }
 
@@ -289,6 +293,7 @@ impl<D: Dial> Store for HttpStore<D> {
 
 impl<D: Dial> StoreWrite for HttpStore<D> {
     fn put(&mut self, id: &ChunkId, b: &[u8]) -> Result<(), IoFault> {
+        id_has_32_bytes(id);
         self.send(id, b)
     }
 }

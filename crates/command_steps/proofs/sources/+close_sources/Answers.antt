@@ -4,6 +4,10 @@ use Rattle.command_steps.proofs.Given.{given_more, known_later, last_at, last_kn
 use Rattle.command_steps.specs.AnySources.{location_in}
 use Rattle.command_steps.specs.Sources.{sources}
 use Rattle.command_steps.proofs.sources.+close_sources.Goals as goal
+use Rattle.std.proofs.Common.{◌∙◌, ap, sym}
+use Rattle.std.proofs.lemmas.List.Sums.{fold_push}
+use Rattle.std.specs.List.{fold}
+use Rattle.command_steps.specs.AnySources.{with_those}
 
 pub close_sources-requires : goal.close_sources-requires
 close_sources-requires g t c =
@@ -33,3 +37,11 @@ returns-in-Some-clause-given g t c =
     let state = g.D.Dial.state in
     given_more g.F.Look.Look.place g.F.Look.Look.faults state (sources (at c.args.files.now) (state c.args.dial.now)) (sources (at c.close_sources.new.files) (state c.close_sources.new.dial)) (sources (at c.close.new.files) (state c.close.new.dial)) c.args.stores.items c.pop.new.self.items c.in-Some.store c.in-Some.ensures.items
     c.close_sources.ensures.kept.0 c.close.ensures.kept.0 c.close_sources.ensures.given c.close.ensures.given
+
+pub returns-in-Some-clause-ended : goal.returns-in-Some-clause-ended
+returns-in-Some-clause-ended g t c =
+    let state = g.D.Dial.state in
+    let old = (state c.args.dial.now).ended in
+    let rest = c.pop.new.self.items in
+    c.close.ensures.ended ∙ ap (λ o. with_those state o c.in-Some.store) c.close_sources.ensures.ended
+    ∙ sym (ap (fold (with_those state) old) c.in-Some.ensures.items ∙ fold_push (with_those state) old rest c.in-Some.store)

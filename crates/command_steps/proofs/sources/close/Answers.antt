@@ -7,6 +7,8 @@ use Rattle.command_steps.specs.Stores.{is_folder}
 use Rattle.command_steps.proofs.sources.close.Goals as goal
 use Rattle.dsy_base.specs.Counts.{raised}
 use Rattle.dsy_base.specs.Links.{with_all}
+use Rattle.std.proofs.Common.{◌≡◌}
+use Rattle.command_steps.specs.AnySources.{with_those}
 
 pub returns-in-Http-clause-kept : goal.returns-in-Http-clause-kept
 returns-in-Http-clause-kept g c =
@@ -29,3 +31,10 @@ returns-in-Http-clause-given g c =
     let ended = c.join.ensures.ended ∙ ap (λ x. with_all k.ended (state x).ended) c.into_dial.ensures.value in
     let faults = c.join.ensures.faults ∙ ap (λ x. raised k.faults (state x).faults) c.into_dial.ensures.value in
     subst (λ s. IsGiven g.F.Look.Look.place g.F.Look.Look.faults state (sources d k) (sources d j) s) (sym c.in-Http.is) (joined k j (state r.dial) r.server r.refused ended faults c.into_dial.ensures.cause)
+
+pub returns-in-Http-clause-ended : goal.returns-in-Http-clause-ended
+returns-in-Http-clause-ended g c =
+    let state = g.D.Dial.state in
+    let k = state c.args.dial.now in
+    let j = state c.join.new.self in
+    subst (λ s. j.ended ≡ with_those state k.ended s) (sym c.in-Http.is) (c.join.ensures.ended ∙ ap (λ x. with_all k.ended (state x).ended) c.into_dial.ensures.value)

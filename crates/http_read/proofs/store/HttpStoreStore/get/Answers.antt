@@ -8,6 +8,11 @@ use Rattle.http_read.proofs.Streams.{ok_weaker}
 use Rattle.http_read.specs.Remotes.{said_on}
 use Rattle.http_read.specs.Replies.{IsDenial, IsLonger, IsShowing}
 use Rattle.http_read.proofs.store.HttpStoreStore.get.Goals as goal
+use Rattle.std.specs.Prelude.{◌≡◌, []}
+use Rattle.chunk_store.specs.Said.{AskedOnce}
+use Rattle.http_read.proofs.Asked.{asked_once, asked_none}
+use Rattle.http_read.specs.Asks.{times_asked}
+use Rattle.http_wire.specs.declared.reply.Method.TheVariants as method
 
 pub returns-clause-ok : goal.returns-clause-ok
 returns-clause-ok g c =
@@ -35,3 +40,15 @@ returns-clause-said g c = λ q.
     let old = said_on c.args.self.now.server (g.D.Dial.state c.args.self.now.dial).ended in
     subst (λ s. KeepsOf old (said_on s (g.D.Dial.state c.fetch.new.self.dial).ended) q) (sym c.fetch.ensures.server)
     (said_kept _ c.args.self.now.server _ _ q c.fetch.ensures.calls.ended)
+
+pub returns-clause-asks : goal.returns-clause-asks
+returns-clause-asks g c =
+    let old = times_asked c.args.self.now.server method.Get (g.D.Dial.state c.args.self.now.dial).ended in
+    subst (λ s. AskedOnce old (times_asked s method.Get (g.D.Dial.state c.fetch.new.self.dial).ended) c.args.id.now.0) (sym c.fetch.ensures.server)
+    (asked_once c.args.self.now.server method.Get c.args.id.now.0 [] c.id_has_32_bytes.ensures.size _ _ c.fetch.ensures.calls.ended)
+
+pub returns-clause-queries : goal.returns-clause-queries
+returns-clause-queries g c =
+    let old = times_asked c.args.self.now.server method.Head (g.D.Dial.state c.args.self.now.dial).ended in
+    subst (λ s. times_asked s method.Head (g.D.Dial.state c.fetch.new.self.dial).ended ≡ old) (sym c.fetch.ensures.server)
+    (asked_none c.args.self.now.server method.Get c.args.id.now.0 [] c.id_has_32_bytes.ensures.size method.Head (λ same. absurd (cc)) _ _ c.fetch.ensures.calls.ended)

@@ -3,9 +3,25 @@ use Rattle.chunk_store.specs.Said.{KeepsOf}
 use Rattle.http_read.proofs.Ended.{said_kept}
 use Rattle.http_read.specs.Remotes.{said_on}
 use Rattle.http_read.proofs.store.HttpStoreStoreWrite.put.Goals as goal
+use Rattle.std.specs.Prelude.{◌≡◌}
+use Rattle.http_read.proofs.Asked.{asked_none}
+use Rattle.http_read.specs.Asks.{times_asked}
+use Rattle.http_wire.specs.declared.reply.Method.TheVariants as method
 
 pub returns-clause-said : goal.returns-clause-said
 returns-clause-said g c = λ q other.
     let old = said_on c.args.self.now.server (g.D.Dial.state c.args.self.now.dial).ended in
     subst (λ s. KeepsOf old (said_on s (g.D.Dial.state c.send.new.self.dial).ended) q) (sym c.send.ensures.server)
     (said_kept _ c.args.self.now.server _ _ q c.send.ensures.calls.ended)
+
+pub returns-clause-asks : goal.returns-clause-asks
+returns-clause-asks g c =
+    let old = times_asked c.args.self.now.server method.Get (g.D.Dial.state c.args.self.now.dial).ended in
+    subst (λ s. times_asked s method.Get (g.D.Dial.state c.send.new.self.dial).ended ≡ old) (sym c.send.ensures.server)
+    (asked_none c.args.self.now.server method.Put c.args.id.now.0 c.args.b.now c.id_has_32_bytes.ensures.size method.Get (λ same. absurd (cc)) _ _ c.send.ensures.calls.ended)
+
+pub returns-clause-queries : goal.returns-clause-queries
+returns-clause-queries g c =
+    let old = times_asked c.args.self.now.server method.Head (g.D.Dial.state c.args.self.now.dial).ended in
+    subst (λ s. times_asked s method.Head (g.D.Dial.state c.send.new.self.dial).ended ≡ old) (sym c.send.ensures.server)
+    (asked_none c.args.self.now.server method.Put c.args.id.now.0 c.args.b.now c.id_has_32_bytes.ensures.size method.Head (λ same. absurd (cc)) _ _ c.send.ensures.calls.ended)

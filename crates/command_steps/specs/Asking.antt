@@ -1,0 +1,26 @@
+-- How servers are asked over a command: by which methods, for which ids, and how often.
+use Rattle.std.specs.Prelude.{◌≡◌, ℕ, ◌≤◌, List, [], ◌∷◌, Option, Some, IfSome}
+use Rattle.command_steps.specs.Sources.{server_at}
+use Rattle.command_words.specs.declared.command.Location.{Location}
+use Rattle.command_words.specs.declared.command.Location.TheVariants as locations
+use Rattle.dsy_base.specs.Links.{Traffic, with_all}
+use Rattle.http_read.specs.Asks.{Server, times_asked}
+use Rattle.http_wire.specs.declared.reply.Method.{Method}
+use Rattle.http_wire.specs.declared.reply.Method.TheVariants as method
+
+-- a server was asked by this method at most so often for each id, on these connections
+abbrev pub AsksFew : Method → (List ℕ → ℕ) → Server → List Traffic → Type 0
+AsksFew m n s ended = (id : List ℕ) → times_asked s m (Some ended) id ≤ n id
+
+-- for chunks it was asked at most so often, and so often whether it has them
+abbrev pub Asks : (List ℕ → ℕ) → (List ℕ → ℕ) → Server → List Traffic → Type 0
+Asks gets heads s ended = AsksFew method.Get gets s ended × AsksFew method.Head heads s ended
+
+-- those that have ended since are, in the order of the stores, some on the server of each: P is so of these. A folder
+-- has none
+abbrev pub EachDialed : (Server → List Traffic → Type 0) → List Location → Option (List Traffic)
+    → Option (List Traffic) → Type 0
+EachDialed P [] old new = new ≡ old
+EachDialed P (locations.Folder q ∷ stores) old new = EachDialed P stores old new
+EachDialed P (locations.Http host port prefix ∷ stores) old new = (ended : Option (List Traffic))
+    × IfSome ended (P (server_at host port prefix)) × EachDialed P stores (with_all old ended) new
