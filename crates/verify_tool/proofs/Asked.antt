@@ -1,5 +1,5 @@
 -- Stores that are asked for one id after another.
-use Rattle.std.proofs.Common.{◌≡◌, ◌≢◌, ℕ, ◌+◌, ◌<◌, ◌≤◌, List, [], ◌∷◌, ◌++◌, ◌-◌, length, map, take, drop, get_or, Bool, true, false, not, ◌||◌, Option, refl, sym, subst, ap, ◌∙◌, arith}
+use Rattle.std.proofs.Common.{◌≡◌, ◌≢◌, ℕ, zero, suc, cond, length-append, ◌+◌, ◌<◌, ◌≤◌, List, [], ◌∷◌, ◌++◌, ◌-◌, length, map, take, drop, get_or, Bool, true, false, not, ◌||◌, Option, refl, sym, subst, ap, ◌∙◌, arith}
 use Rattle.std.specs.List.{All, AllZip}
 use Rattle.std.specs.Set.{is_member}
 use Rattle.std.specs.Str.{bytes_eq}
@@ -15,7 +15,7 @@ use Rattle.store_chain.specs.Chains.{EachOnce}
 use Rattle.store_chain.specs.Faults.{NoneFalls}
 use Rattle.verify_tool.proofs.Counted.{turn_is}
 use Rattle.verify_tool.proofs.Distinct.{member_append, member_push}
-use Rattle.verify_tool.specs.Counts.{is_listed_before, AsksBefore, EachAsksBefore, Answers, Reaches}
+use Rattle.verify_tool.specs.Counts.{is_listed_before, AsksBefore, DeniesOthers, EachAsksBefore, Answers, Reaches}
 use Rattle.verify_tool.specs.Texts.{ids_of}
 
 or_true : (a b : Bool) → (a || b) ≡ true → a ≡ false → b ≡ true
@@ -103,6 +103,14 @@ is_first l i id held is_new member fresh h = sym member ∙ not_held held (sym f
     not_held true h = absurd (cc)
     not_held false h = refl
 
+-- and one that isn't new is that of one
+pub is_known : (l : Listing) (i : ℕ) (id : List ℕ) (held is_new : Bool) → held ≡ is_listed_before l i id → is_new ≡ not held → is_new ≡ false → is_listed_before l i id ≡ true
+is_known l i id held is_new member fresh h = sym member ∙ is_held held (sym fresh ∙ h)
+  where
+    is_held : (b : Bool) → not b ≡ false → b ≡ true
+    is_held true h = refl
+    is_held false h = absurd (cc)
+
 -- what was denied is denied still
 denied_still : {S : Type 0} (said : S → Said) (q : List ℕ) (xs ys : List S) → AllZip (λ a b. (q : List ℕ) → KeepsOf (said a) (said b) q) xs ys → All (λ s. (said s).denied q) xs → All (λ s. (said s).denied q) ys
 denied_still said q xs ys keeps all i d lt =
@@ -128,13 +136,6 @@ module _ {S : Type 0} (holds : S → Option (Map (List ℕ))) (said : S → Said
   module _ (old mid new : List S) (i : ℕ) (id : List ℕ) (inside : i < length (ids_of l)) (named : id ≡ get_or (ids_of l) i []) (before : Reaches holds said queried faults l i old mid)
       (held is_new : Bool) (member : held ≡ is_listed_before l i id) (fresh : is_new ≡ not held) (same : map holds mid ≡ map holds old)
       (keeps : AllZip (λ a b. (q : List ℕ) → KeepsOf (said a) (said b) q) mid new) where
-    is_known : is_new ≡ false → is_listed_before l i id ≡ true
-    is_known h = sym member ∙ is_held held (sym fresh ∙ h)
-      where
-        is_held : (b : Bool) → not b ≡ false → b ≡ true
-        is_held true h = refl
-        is_held false h = absurd (cc)
-
     answered_by : (answer : is_new ≡ true → Answers holds said id mid new) (q : List ℕ) (b e : Bool) → is_listed_before l i q ≡ b → bytes_eq q id ≡ e → is_listed_before l (i + 1) q ≡ true → Answers holds said q old new
     answered_by answer q true e h is more = still q old mid new keeps (before.answered q h)
     answered_by answer q false false h is more = let no : true ≡ false = sym more ∙ listed_more l i id inside named q ∙ ap (λ b. b || bytes_eq q id) h ∙ is in absurd (cc)
@@ -142,7 +143,7 @@ module _ {S : Type 0} (holds : S → Option (Map (List ℕ))) (said : S → Said
         let one : q ≡ id = (bytes_eq-Decides q id).0 is in
         let new_id : (b : Bool) → is_new ≡ b → is_new ≡ true = λ b. elim b as (λ b. is_new ≡ b → is_new ≡ true) [
           | true ↦ λ e. e
-          | false ↦ λ e. (let no : true ≡ false = sym (is_known e) ∙ sym (ap (is_listed_before l i) one) ∙ h in absurd (cc))
+          | false ↦ λ e. (let no : true ≡ false = sym (is_known l i id held is_new member fresh e) ∙ sym (ap (is_listed_before l i) one) ∙ h in absurd (cc))
         ] in
         let P : List ℕ → Type 0 = λ x. Answers holds said x old new in
         subst P (sym one) (from_before id old mid new same (answer (new_id is_new refl)))
@@ -159,3 +160,67 @@ module _ {S : Type 0} (holds : S → Option (Map (List ℕ))) (said : S → Said
       asked = asked_by is_new refl none one;
       none_fell = λ k. omega (arith, before.none_fell k, falls k);
     }
+
+-- ---- the ids that were denied
+
+-- n ids, and each store has denied every other one that is listed before entry i: the same after one turn more
+module _ {S : Type 0} (said : S → Said) (l : Listing) where
+  pub denies_first : (old : List S) → DeniesOthers said l 0 0 old
+  denies_first old = record { held = []; many = refl; denied = λ q h other. absurd (cc) }
+
+  module _ (mid new : List S) (keeps : AllZip (λ a b. (q : List ℕ) → KeepsOf (said a) (said b) q) mid new) (i : ℕ) (id : List ℕ) (inside : i < length (ids_of l)) (named : id ≡ get_or (ids_of l) i []) where
+    abbrev pub IsDenied : List ℕ → Type 0
+    IsDenied q = All (λ s. (said s).denied q) new
+
+    -- an id before is as it was, and this one is denied or was known
+    module _ (n : ℕ) (before : DeniesOthers said l i n mid) where
+      denied_by : (is_listed_before l i id ≡ true → is_member bytes_eq before.held id ≡ false → IsDenied id) → (is_listed_before l i id ≡ false → IsDenied id) → (q : List ℕ) (b e : Bool) → is_listed_before l i q ≡ b → bytes_eq q id ≡ e → is_listed_before l (i + 1) q ≡ true
+          → is_member bytes_eq before.held q ≡ false → IsDenied q
+      denied_by known fresh q true e h is more other = denied_still said q mid new keeps (before.denied q h other)
+      denied_by known fresh q false false h is more other = let no : true ≡ false = sym more ∙ listed_more l i id inside named q ∙ ap (λ b. b || bytes_eq q id) h ∙ is in absurd (cc)
+      denied_by known fresh q false true h is more other =
+          let one : q ≡ id = (bytes_eq-Decides q id).0 is in
+          subst IsDenied (sym one) (fresh (sym (ap (is_listed_before l i) one) ∙ h))
+
+      same : is_listed_before l i id ≡ true → DeniesOthers said l (i + 1) n new
+      same is = record {
+        held = before.held;
+        many = before.many;
+        denied = λ q more other. denied_by (λ k o. denied_still said id mid new keeps (before.denied id k o)) (λ k. (let no : true ≡ false = sym is ∙ k in absurd (cc))) q (is_listed_before l i q) (bytes_eq q id) refl refl more other;
+      }
+
+      none : IsDenied id → DeniesOthers said l (i + 1) n new
+      none all = record {
+        held = before.held;
+        many = before.many;
+        denied = λ q more other. denied_by (λ k o. all) (λ k. all) q (is_listed_before l i q) (bytes_eq q id) refl refl more other;
+      }
+
+      one_held : DeniesOthers said l (i + 1) (n + 1) new
+      one_held = record {
+        held = before.held ++ id ∷ [];
+        many = omega (arith, length-append before.held (id ∷ []), before.many);
+        denied = λ q more other.
+            let both = sym (member_push before.held id q) ∙ other in
+            let apart_from : bytes_eq q id ≡ false = or_false_right (is_member bytes_eq before.held q) (bytes_eq q id) both in
+            let left : is_listed_before l i q ≡ true = or_true (bytes_eq q id) (is_listed_before l i q) (swapped (is_listed_before l i q) (bytes_eq q id) (sym (listed_more l i id inside named q) ∙ more)) apart_from in
+            denied_still said q mid new keeps (before.denied q left (or_false_left (is_member bytes_eq before.held q) (bytes_eq q id) both));
+      } where
+        swapped : (a b : Bool) → (a || b) ≡ true → (b || a) ≡ true
+        swapped true true h = refl
+        swapped true false h = refl
+        swapped false b h = absurd_or b h where
+          absurd_or : (b : Bool) → b ≡ true → (b || false) ≡ true
+          absurd_or true h = refl
+          absurd_or false h = absurd (cc)
+
+      pub denies_next : (is_new : Bool) (more : ℕ) → (is_new ≡ false → is_listed_before l i id ≡ true) → more ≤ cond is_new 1 0 → (more ≡ 0 → is_new ≡ true → IsDenied id) → DeniesOthers said l (i + 1) (n + more) new
+      denies_next false more known few denied =
+          let none : n + more ≡ n = omega (arith, few) in
+          subst (λ k. DeniesOthers said l (i + 1) k new) (sym none) (same (known refl))
+      denies_next true zero known few denied =
+          let as_before : n + 0 ≡ n = omega arith in
+          subst (λ k. DeniesOthers said l (i + 1) k new) (sym as_before) (none (denied refl refl))
+      denies_next true (suc m) known few denied =
+          let once : n + suc m ≡ n + 1 = omega (arith, few) in
+          subst (λ k. DeniesOthers said l (i + 1) k new) (sym once) one_held

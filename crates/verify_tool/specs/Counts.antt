@@ -1,5 +1,5 @@
 -- How many of the listed ids stores hold, and how they are asked. A store is the map from ids to bytes that it holds.
-use Rattle.std.specs.Prelude.{◌≡◌, ℕ, ◌+◌, ◌<◌, ◌≤◌, ◌⊎◌, List, map, take, Bool, true, false, is_some, Some, Option}
+use Rattle.std.specs.Prelude.{◌≡◌, ℕ, ◌+◌, ◌<◌, ◌≤◌, ◌⊎◌, List, length, map, take, Bool, true, false, is_some, Some, Option}
 use Rattle.std.specs.List.{All, AllZip, filter, list_any}
 use Rattle.std.specs.Set.{distinct_count, is_member}
 use Rattle.std.specs.Str.{bytes_eq}
@@ -42,6 +42,13 @@ pub record Answers {S : Type 0} (holds : S → Option (Map (List ℕ))) (said : 
   pub held : Bool
   pub told : (maps : List (Map (List ℕ))) → map holds old ≡ map Some maps → held ≡ is_held maps id
   pub denied : held ≡ false → All (λ s. (said s).denied id) now
+
+-- there are n ids, and each store has denied every other id that is listed before entry k
+pub record DeniesOthers {S : Type 0} (said : S → Said) (l : Listing) (k n : ℕ) (now : List S) : Type 0 where
+  pub held : List (List ℕ)
+  pub many : length held ≡ n
+  pub denied : (id : List ℕ) → is_listed_before l k id ≡ true → is_member bytes_eq held id ≡ false
+      → All (λ s. (said s).denied id) now
 
 module _ {S : Type 0} (holds : S → Option (Map (List ℕ))) (said : S → Said) (queried : S → List ℕ → ℕ) (faults : S → ℕ)
     (l : Listing) where

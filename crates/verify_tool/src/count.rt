@@ -1,13 +1,13 @@
 //! How many of the ids that an index lists a chain of stores has. Entries are numbered from 0.
 
-ghost use Rattle.std.specs.Prelude.{◌≡◌, ℕ, ◌≤◌, List, map, Some, IfOk, IfErr, OnOk, OnErr, cond, true, false, ◌&&◌};
+ghost use Rattle.std.specs.Prelude.{◌≡◌, ℕ, ◌≤◌, All, List, map, Some, IfOk, IfErr, OnOk, OnErr, cond, true, false, ◌&&◌};
 ghost use Rattle.std.specs.Prelude.{slice_index};
 ghost use Rattle.dsy_base.specs.Counts.{Rose};
 ghost use Rattle.dsy_base.specs.Maps.{Map};
 ghost use Rattle.caibx_codec.specs.Listing.{count_of};
 ghost use Rattle.store_chain.specs.Chains.{AsksNone, EachOnce, KeepsStores};
 ghost use Rattle.store_chain.specs.Refusals.{HasFails};
-ghost use Rattle.verify_tool.specs.Counts.{is_held, held_count, Answers, EachAsksBefore, FailsAtEntry};
+ghost use Rattle.verify_tool.specs.Counts.{is_held, held_count, Answers, DeniesOthers, EachAsksBefore, FailsAtEntry};
 ghost use Rattle.verify_tool.specs.Texts.{unique_count};
 
 use caibx_codec::index::Index;
@@ -25,6 +25,8 @@ fn count_one<S: Store>(chain: &mut Chain<S>, id: &ChunkId, is_new: bool) -> Resu
     ensures size { IfOk result (λ n. n ≤ cond is_new 1 0) }
     ensures ok { OnOk result (is_new ≡ true → Answers S.holds S.said id.now.0 chain.old.stores chain.new.stores) }
 
+    ensures absent { IfOk result (λ n. n ≡ 0 → is_new ≡ true → All (λ s. (S.said s).denied id.now.0) chain.new.stores) }
+
     ensures only { OnErr result (is_new ≡ true) }
     ensures first { IfErr result (HasFails S.said S.faults id.now.0 chain.old.stores chain.new.stores) }
     ensures cause { (s : ℕ) → result ≡ Err (HasFault.StoreFault s) →
@@ -33,7 +35,7 @@ fn count_one<S: Store>(chain: &mut Chain<S>, id: &ChunkId, is_new: bool) -> Resu
     ensures kept { KeepsStores S.holds S.folder S.place S.said S.faults chain.old.stores chain.new.stores }
     ensures asks { AsksNone S.asked chain.old chain.new }
     ensures queries { EachOnce S.queried id.now.0 chain.old.stores chain.new.stores }
-    ensures absent { is_new ≡ false → chain.new ≡ chain.old }
+    ensures unasked { is_new ≡ false → chain.new ≡ chain.old }
 {
     if !is_new {
         return Ok(0);
@@ -56,6 +58,8 @@ pub fn count_in_store<S: Store>(
     ensures value { (maps : List (Map (List ℕ))) → map S.holds chain.old.stores ≡ map Some maps →
         IfOk result (λ n. n ≡ held_count index.now maps) }
     ensures size { IfOk result (λ n. n ≤ unique_count index.now) }
+    // An id that isn't counted all stores have denied.
+    ensures absent { IfOk result (λ n. DeniesOthers S.said index.now (count_of index.now) n chain.new.stores) }
 
     ensures first { IfErr result (FailsAtEntry S.holds S.said S.queried S.faults index.now chain.old.stores
         chain.new.stores) }

@@ -5,7 +5,7 @@ use Rattle.std.specs.Cmp.Lexicographic.{slice_cmp}
 use Rattle.std.specs.Ordering.{nat_cmp}
 use Rattle.caibx_codec.specs.Listing.{Listing, id_of, count_of}
 use Rattle.store_chain.proofs.Kept.{kept_still, kept_on}
-use Rattle.verify_tool.proofs.Asked.{asks_later, each_one_more, is_first, reaches_first, reaches_next}
+use Rattle.verify_tool.proofs.Asked.{asks_later, denies_first, denies_next, each_one_more, is_first, is_known, reaches_first, reaches_next}
 use Rattle.verify_tool.proofs.Counted.{turn_at_most, turn_holds, turn_passes, few_counted}
 use Rattle.store_chain.specs.Refusals.{HasFails}
 use Rattle.verify_tool.specs.Counts.{is_listed_before}
@@ -31,6 +31,7 @@ loop-i-init g c =
       value = λ maps told. refl;
       size = omega arith;
       reaches = reaches_first S.holds S.said S.queried S.faults c.args.index.now stores;
+      denies = denies_first S.said c.args.index.now stores;
       kept = kept_still S.holds S.folder S.place S.said S.faults stores;
       asks = record { stores = refl; calls = refl; kind = refl };
     }
@@ -106,7 +107,8 @@ loop-i-preserved g c =
       value = λ maps told. turn_passes ids i id inside is _ c.in-Ok.is_new (before.asked id) c.in-Ok.ensures.added _ c.loop-i.n c.in-Ok-count_one.more (before.value maps told) (one.value maps (before.kept.held ∙ told));
       size = turn_at_most ids i id inside is _ c.in-Ok.is_new (before.asked id) c.in-Ok.ensures.added c.loop-i.n c.in-Ok-count_one.more before.size one.size;
       reaches = reaches_next S.holds S.said S.queried S.faults l old mid new i id inside is before.reaches _ c.in-Ok.is_new (before.asked id) c.in-Ok.ensures.added before.kept.held one.kept.says
-          one.ok (λ h. ap (λ x. x.stores) (one.absent h)) one.queries one.kept.never_fall;
+          one.ok (λ h. ap (λ x. x.stores) (one.unasked h)) one.queries one.kept.never_fall;
+      denies = denies_next S.said l mid new one.kept.says i id inside is c.loop-i.n before.denies c.in-Ok.is_new c.in-Ok-count_one.more (is_known l i id _ c.in-Ok.is_new (before.asked id) c.in-Ok.ensures.added) one.size one.absent;
       kept = kept_on S.holds S.folder S.place S.said S.faults old mid new before.kept one.kept;
       asks = record { stores = one.asks.stores ∙ before.asks.stores; calls = one.asks.calls ∙ before.asks.calls; kind = one.asks.kind ∙ before.asks.kind };
     }

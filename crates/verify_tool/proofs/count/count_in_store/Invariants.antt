@@ -7,7 +7,7 @@ use Rattle.std.specs.Set.{distinct_count, is_member}
 use Rattle.std.specs.Str.{bytes_eq}
 use Rattle.dsy_base.specs.Maps.{Map}
 use Rattle.store_chain.specs.Chains.{AsksNone, KeepsStores}
-use Rattle.verify_tool.specs.Counts.{is_held, Reaches}
+use Rattle.verify_tool.specs.Counts.{is_held, DeniesOthers, Reaches}
 use Rattle.verify_tool.specs.Texts.{ids_of}
 use Rattle.verify_tool.proofs.count.count_in_store.Given as goal
 
@@ -22,6 +22,7 @@ invariant-loop-i g l =
       value : (maps : List (Map (List ℕ))) → map S.holds old ≡ map Some maps → l.n ≡ distinct_count bytes_eq (filter (is_held maps) front);
       size : l.n ≤ distinct_count bytes_eq front;
       reaches : Reaches S.holds S.said S.queried S.faults l.index l.i old l.chain.stores;
+      denies : DeniesOthers S.said l.index l.i l.n l.chain.stores;
       kept : KeepsStores S.holds S.folder S.place S.said S.faults old l.chain.stores;
       asks : AsksNone S.asked l.fn.chain l.chain;
     }
