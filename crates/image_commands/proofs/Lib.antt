@@ -10,3 +10,4 @@ pub mod Shelved
 pub mod VerifyIndex
 pub mod Viewed
 pub mod Wrote
+pub mod Spared

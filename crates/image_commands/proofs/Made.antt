@@ -1,11 +1,27 @@
 -- What storing an image makes of a folder that was taken.
-use Rattle.std.proofs.Common.{ap, ◌≡◌, ℕ, List, Option, Some, None, IfSome, Result, unwrap_or}
+use Rattle.std.proofs.Common.{ap, arith, cond, inl, inr, sym, get_or, take, ◌≡◌, ◌⊎◌, ◌+◌, ◌≤◌, ℕ, [], ◌∷◌, List, Option, Some, None, IfSome, Result, unwrap_or}
+use Rattle.std.proofs.lemmas.List.{take_all}
+use Rattle.std.proofs.lemmas.List.Elements.{All-cons, All-nil}
+use Rattle.std.proofs.lemmas.List.Sums.{get_or-le-sum_by}
+use Rattle.std.proofs.lemmas.Slice.Eq.{bytes_eq-Decides}
+use Rattle.std.specs.List.{sum_by}
+use Rattle.std.specs.Str.{bytes_eq}
 use Rattle.std.specs.Option.{option_map}
+use Rattle.caibx_codec.specs.Listing.{Listing, count_of, id_of}
+use Rattle.command_steps.proofs.Asking.{each_asked}
+use Rattle.command_steps.specs.AnySources.{IsUnused, asked_in, location_in, with_those}
+use Rattle.command_steps.specs.Asking.{Asks, EachDialed}
+use Rattle.command_steps.specs.declared.any_source.AnySource.{AnySource}
+use Rattle.command_words.specs.declared.command.Location.{Location}
+use Rattle.dsy_base.specs.Links.{DialState, Traffic}
+use Rattle.http_wire.specs.declared.reply.Method.TheVariants as method
+use Rattle.image_store.specs.Chopping.{times_listed}
+use Rattle.image_store.specs.PutChunks.{AsksEach, IsListed}
 use Rattle.buzhash_cut.specs.Sizes.{Sizes}
 use Rattle.chunk_store.specs.Folders.{chunks}
-use Rattle.image_commands.specs.Make.{MadeOf}
+use Rattle.image_commands.specs.Make.{MadeOf, once_listed}
 use Rattle.dsy_base.specs.Maps.{Map}
-use Rattle.image_store.specs.StoreImage.{PutsFilesOf, StoresImage}
+use Rattle.image_store.specs.StoreImage.{AsksOf, Lists, PutsFilesOf, StoresImage}
 use Rattle.image_store.specs.declared.put_chunks.MakeFault.{MakeFault}
 
 -- what storing made of the files of a folder
@@ -24,3 +40,33 @@ unmade s told r (Some f) (Some g) same of = (ap (λ o. unwrap_or o g) same, of)
 pub if_some : {X : Type 0} (o : Option X) (P Q : X → Type 0) → ((x : X) → P x → Q x) → IfSome o P → IfSome o Q
 if_some None P Q f h = tt
 if_some (Some x) P Q f h = f x h
+
+-- ---- how often a server was asked
+
+listed_once : (l : Listing) (q : List ℕ) → IsListed l (count_of l) q → 1 ≤ times_listed l (count_of l) q
+listed_once l q is =
+    let p : ℕ × List ℕ → ℕ = λ e. cond (bytes_eq e.1 q) 1 0 in
+    let all : take (count_of l) l.entries ≡ l.entries = take_all (count_of l) l.entries (omega arith) in
+    let same : times_listed l (count_of l) q ≡ sum_by p l.entries = ap (sum_by p) all in
+    let here : p (get_or l.entries is.entry (0, [])) ≤ sum_by p l.entries = get_or-le-sum_by p l.entries is.entry (0, []) (omega (arith, is.below)) in
+    let one : p (get_or l.entries is.entry (0, [])) ≡ 1 = ap (λ b. cond b 1 0) ((bytes_eq-Decides (id_of l is.entry) q).1 (sym is.id)) in
+    omega (arith, same, here, one)
+
+pub gets_image : {L D K : Type 0} (place : L → List ℕ) (state : D → DialState) (s : Sizes) (told : Option (List ℕ)) (old new : AnySource L D K) (store : Location) (w v : Option (List Traffic)) → IsUnused state old → location_in place new ≡ store
+    → AsksOf s told (asked_in method.Get state old) (asked_in method.Get state new) → asked_in method.Head state new ≡ asked_in method.Head state old → v ≡ with_those state w new
+    → EachDialed (Asks (λ id. 0) (λ id. 0)) (store ∷ []) w v ⊎ ((l : Listing) × Lists s told l × EachDialed (Asks (once_listed l) (λ id. 0)) (store ∷ []) w v)
+gets_image {L} {D} {K} place state s told old new store w v unused located asked queried ended = go asked where
+  heads : (q : List ℕ) → asked_in method.Head state new q ≤ asked_in method.Head state old q + 0
+  heads q = let same : asked_in method.Head state new q ≡ asked_in method.Head state old q = ap (λ f. f q) queried in omega (arith, same)
+
+  by : (gets : List ℕ → ℕ) → ((q : List ℕ) → asked_in method.Get state new q ≤ asked_in method.Get state old q + gets q) → EachDialed (Asks gets (λ id. 0)) (store ∷ []) w v
+  by gets few = each_asked place state gets (λ id. 0) (old ∷ []) (new ∷ []) (store ∷ []) w v (All-cons (IsUnused state) old [] unused (All-nil (IsUnused state))) (few, tt) (heads, tt) (ap (λ s. s ∷ []) located) ended
+
+  once : (l : Listing) → AsksEach l (count_of l) (asked_in method.Get state old) (asked_in method.Get state new) → (q : List ℕ) → (asked_in method.Get state new q ≡ asked_in method.Get state old q) ⊎ IsListed l (count_of l) q
+      → asked_in method.Get state new q ≤ asked_in method.Get state old q + once_listed l q
+  once l each q (inl same) = omega (arith, same)
+  once l each q (inr is) = let most = each.once q in let some = listed_once l q is in omega (arith, most, some)
+
+  go : AsksOf s told (asked_in method.Get state old) (asked_in method.Get state new) → EachDialed (Asks (λ id. 0) (λ id. 0)) (store ∷ []) w v ⊎ ((l : Listing) × Lists s told l × EachDialed (Asks (once_listed l) (λ id. 0)) (store ∷ []) w v)
+  go (inl same) = inl (by (λ id. 0) (λ q. let here : asked_in method.Get state new q ≡ asked_in method.Get state old q = ap (λ f. f q) same in omega (arith, here)))
+  go (inr h) = inr (h.0, h.1, by (once_listed h.0) (λ q. once h.0 h.2 q (h.2.listed q)))

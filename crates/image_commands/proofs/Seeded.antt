@@ -46,7 +46,7 @@ labels_are held (s ∷ xs) = cc (label_is held s.view, labels_are held xs)
 pub same_labels : {V : Type 0} (held : V → Held) (xs ys : List (Seed V)) → map (held_in held) ys ≡ map (held_in held) xs → map (label_in held) ys ≡ map (label_in held) xs
 same_labels held xs ys same = labels_are held ys ∙ ap (map label_of) same ∙ sym (labels_are held xs)
 
-label_at : (views : List (Option Held)) (k : ℕ) (h : Held) → slice_index_or views k None ≡ Some h → name_at (map label_of views) k ≡ h.name
+pub label_at : (views : List (Option Held)) (k : ℕ) (h : Held) → slice_index_or views k None ≡ Some h → name_at (map label_of views) k ≡ h.name
 label_at [] k h is = absurd (cc)
 label_at (o ∷ views) zero h is = ap label_of is
 label_at (o ∷ views) (suc k) h is = label_at views k h is

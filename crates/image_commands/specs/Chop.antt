@@ -1,10 +1,11 @@
 -- `chop -s STORE INDEX IMAGE`. A name is its bytes; t are the image's bytes.
-use Rattle.std.specs.Prelude.{◌≡◌, ◌≢◌, ℕ, List, length, Option, Some, IfSome, Result, Ok, Err, OnErr}
-use Rattle.caibx_codec.specs.Listing.{Listing, image_length}
+use Rattle.std.specs.Prelude.{◌≡◌, ◌≢◌, ℕ, List, [], ◌∷◌, length, Option, Some, IfSome, Result, Ok, Err, OnErr}
+use Rattle.caibx_codec.specs.Listing.{Listing, count_of, image_length}
 use Rattle.caibx_codec.specs.Right.{IsRight}
 use Rattle.chunk_store.specs.Folders.{chunks}
 use Rattle.command_outcome.specs.declared.outcome.Outcome.{Outcome}
 use Rattle.command_outcome.specs.declared.outcome.Outcome.TheVariants as ends
+use Rattle.command_steps.specs.Asking.{Asks, EachDialed}
 use Rattle.command_steps.specs.Openings.{ImageOpened, IndexRead, IsListed}
 use Rattle.command_steps.specs.Sources.{OnSources, Sources, StoreRose}
 use Rattle.command_steps.specs.Steps.{◌>>=◌}
@@ -13,7 +14,7 @@ use Rattle.command_steps.specs.Worlds.{FileRose, OnDisk, Step, World}
 use Rattle.command_words.specs.declared.command.Location.{Location}
 use Rattle.image_commands.specs.Make.{AnySaid, WritesStore, StoreGiven}
 use Rattle.dsy_base.specs.Maps.{Map}
-use Rattle.image_store.specs.Chopping.{IsMismatch, StopsInOrder, most_seen, seen_to}
+use Rattle.image_store.specs.Chopping.{IsMismatch, StopsInOrder, most_seen, seen_to, times_listed}
 use Rattle.image_store.specs.PutChunks.{HoldsAll, PutsFiles, SaysAll, Stands}
 use Rattle.image_store.specs.declared.chop.ChopFault.{ChopFault}
 use Rattle.image_store.specs.declared.chop.ChopFault.TheVariants as faults
@@ -51,9 +52,15 @@ module _ (l : Listing) (image : List ℕ) (told : Option (List ℕ)) (store : Lo
   NotChopped w v ends.Memory = HasLength l told × ChopGiven (Err faults.Memory) w v
   NotChopped w v other = ⊥
 
+  -- a server is asked for the chunk of an id at most once for each entry that lists it, and never whether it has one
+  abbrev pub GetsEntries : Sources → Sources → Type 0
+  GetsEntries w v =
+      EachDialed (Asks (times_listed l (count_of l)) (λ id. 0)) (store ∷ []) w.dial.ended v.dial.ended
+
   abbrev pub ImageChopped : Step Sources Unit
   ImageChopped w (Ok u) v = IfSome told (λ t. IsRight t l) × ChopGiven (Ok u) w v × WritesStore store w v
-  ImageChopped w (Err o) v = NotChopped w v o × WritesStore store w v
+      × GetsEntries w v
+  ImageChopped w (Err o) v = NotChopped w v o × WritesStore store w v × GetsEntries w v
 
 -- ---- the command
 

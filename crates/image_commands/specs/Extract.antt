@@ -1,6 +1,7 @@
 -- `extract [-k] -s STORE.. -c FOLDER --seed INDEX.. INDEX OUT`. A name is its bytes.
 use Rattle.std.specs.Prelude.{◌≡◌, ◌⊎◌, ◌++◌, codes, Bool, true, false, if◌then◌else◌, is_some, ℕ, ◌+◌, ◌<◌, ◌≤◌}
-use Rattle.std.specs.Prelude.{length, List, [], ◌∷◌, map, Option, Some, None, IfSome, IsSome, IsTrue, Result, Ok, Err}
+use Rattle.std.specs.Prelude.{length, List, [], ◌∷◌, map, Option, Some, None, IfSome, IsSome, IsSomeAnd, IsTrue}
+use Rattle.std.specs.Prelude.{Result, Ok, Err}
 use Rattle.std.specs.List.{Any, slice_get}
 use Rattle.std.specs.Map.{count_at}
 use Rattle.std.specs.Option.{option_map, unwrap_or}
@@ -11,8 +12,10 @@ use Rattle.assembler.specs.declared.report.Report.{Report}
 use Rattle.cache_store.specs.Giving.{GiveOneSize, SomeGives}
 use Rattle.caibx_codec.specs.Listing.{Listing, count_of, id_of, kind_of, size_of, slice_of, start_of, image_length}
 use Rattle.caibx_codec.specs.Right.{IsRight, IsRightAt}
+use Rattle.chunk_sources.specs.Asks.{asks_below}
 use Rattle.chunk_sources.specs.Caches.{IsListedAs}
 use Rattle.chunk_sources.specs.Losses.{chunk_of}
+use Rattle.chunk_sources.specs.Wants.{IsAmong}
 use Rattle.chunk_store.specs.Folders.{chunks}
 use Rattle.chunk_store.specs.Giving.{GivesChunk, IsChunk}
 use Rattle.chunk_store.specs.declared.id.ChunkId.{ChunkId}
@@ -21,9 +24,11 @@ use Rattle.command_outcome.specs.declared.outcome.Outcome.TheVariants as ends
 use Rattle.command_words.specs.declared.command.Location.{Location}
 use Rattle.dir_store.specs.Names.{is_stranger}
 use Rattle.dsy_base.specs.Bytes.{resized}
+use Rattle.dsy_base.specs.Counts.{Quiet}
 use Rattle.dsy_base.specs.Maps.{Map, at_name}
 use Rattle.dsy_base.specs.declared.fault.IoFault.{IoFault}
 use Rattle.dsy_base.specs.declared.fault.IoFault.TheVariants as io
+use Rattle.command_steps.specs.Asking.{AsksFew, EachDialed}
 use Rattle.command_steps.specs.Cache.{CacheOpened}
 use Rattle.command_steps.specs.Openings.{IndexRead, IsListed}
 use Rattle.command_steps.specs.Seeds.{IndexesRead, image_name}
@@ -32,6 +37,8 @@ use Rattle.command_steps.specs.Sources.{DialsStores, HaveLacked, NotAsking, OnSo
 use Rattle.command_steps.specs.Sources.{SourcesOpened, sources, told_at}
 use Rattle.command_steps.specs.Worlds.{DiskQuiet, FileRose, FolderRose, OnDisk, Step, World}
 use Rattle.dsy_base.specs.Disk.{Disk, OnFile}
+use Rattle.extract_plan.specs.Deal.{Deal, IsPlan, first_of, of_want, want_id}
+use Rattle.http_wire.specs.declared.reply.Method.TheVariants as method
 use Rattle.store_chain.specs.Giving.{LacksAll}
 use Rattle.store_chain.specs.declared.refused.Refused.{Refused}
 use Rattle.store_chain.specs.declared.refused.Refused.TheVariants as refused
@@ -254,6 +261,42 @@ pub record FillsCache (stores : List Location) (cache : Option (List ℕ)) (l : 
   pub counts : (q : List ℕ) → count_at d.file_counts q ≤ count_at e.file_counts q
   pub folder_counts : (q : List ℕ) → count_at d.folder_counts q ≤ count_at e.folder_counts q
 
+-- ---- how often servers are asked for chunks
+
+-- no call on the file has failed
+abbrev pub FileQuiet : Disk → Disk → List ℕ → Type 0
+FileQuiet d e q = Quiet (count_at d.file_counts q) (count_at e.file_counts q)
+
+-- the cache's folder gives the chunk, no call on it failed, and the index lists the id with no other size
+pub record CacheSpares (d e : Disk) (cache : List ℕ) (l : Listing) (id : List ℕ) (size : ℕ) : Type 0 where
+  pub gives : IsSomeAnd d.folders (λ m. IsSomeAnd (m cache) (λ f. GivesChunk (kind_of l) id size (chunks f id)))
+  pub quiet : Quiet (count_at d.folder_counts cache) (count_at e.folder_counts cache)
+  pub one_size : (n : ℕ) → IsListedAs l id n → n ≡ size
+
+-- want w of the plan is had without the stores: an entry of it is right in the base, and no call on OUT failed; or a
+-- seed has its chunk, and no call on the seed's image failed; or the cache gives it, as it was before
+abbrev pub IsSpared : Disk → Disk → Map (List ℕ) → Option (List ℕ) → Into → Listing → Seeds → Deal → ℕ → Type 0
+IsSpared d e before cache out l x p w =
+    (((j : ℕ) × IsAmong (of_want p w) j × IsRightAt (base_of before out l) l j) × FileQuiet d e out.name)
+    ⊎ (((s : ℕ) × (h : SeedHas before x (want_id l p w) (size_of l (first_of p w)) s) × FileQuiet d e h.image)
+    ⊎ IsSomeAnd cache (λ c. CacheSpares d e c l (want_id l p w) (size_of l (first_of p w))))
+
+-- so many of the wants have this id that aren't among the spared ones, each counted twice
+abbrev pub twice_wanted : Listing → Deal → (ℕ → Bool) → List ℕ → ℕ
+twice_wanted l p spared id =
+    asks_below (want_id l p) spared p.wants id + asks_below (want_id l p) spared p.wants id
+
+-- each server is asked for the chunk of an id at most twice for each want of that id that isn't spared
+pub record GetsWants (w v : Sources) (stores : List Location) (cache : Option (List ℕ)) (out : Into) (l : Listing)
+    (x : Seeds) : Type 0 where
+  pub plan : Deal
+  pub planned : IsPlan l 1 plan
+  pub gets : (spared : ℕ → Bool) → ((i : ℕ) → i < plan.wants → spared i ≡ true →
+      IsSomeAnd w.disk.files (λ b. IsSpared w.disk v.disk b cache out l x plan i)) →
+      EachDialed (AsksFew method.Get (twice_wanted l plan spared)) stores w.dial.ended v.dial.ended
+
+-- ---- making the image
+
 -- the file's name has a number, unless there was no memory to take it
 abbrev pub IsNumbered : List ℕ → Disk → Result Unit Outcome → Disk → Type 0
 IsNumbered name d r e = IsSome (e.file_counts name) ⊎ ((r ≡ Err ends.Memory) × (e.files ≡ d.files))
@@ -263,6 +306,9 @@ abbrev pub ImageMade : List Location → Option (List ℕ) → Into → Listing 
 ImageMade stores cache out l x w r v = Assembled w v stores cache out l x r × FillsCache stores cache l w.disk v.disk
     × (is_some v.disk.files ≡ is_some w.disk.files) × DialsStores stores w.dial v.dial
     × IsNumbered out.name w.disk r v.disk
+    × GetsWants w v stores cache out l x
+
+-- ---- by way of a temporary file
 
 -- the temporary file beside OUT
 abbrev pub temporary_out : List ℕ → List ℕ

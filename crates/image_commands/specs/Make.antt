@@ -1,5 +1,5 @@
 -- `make -s STORE INDEX IMAGE`. A name is its bytes; t are the image's bytes.
-use Rattle.std.specs.Prelude.{◌≡◌, ◌≢◌, ℕ, ◌<◌, List, [], ◌∷◌, slice_index, Option, Some, None, IfSome, IsTrue, not}
+use Rattle.std.specs.Prelude.{◌≡◌, ◌≢◌, ◌⊎◌, min, ℕ, ◌<◌, List, [], ◌∷◌, slice_index, Option, Some, None, IfSome, IsTrue, not}
 use Rattle.std.specs.Prelude.{Result, Ok, Err}
 use Rattle.std.specs.Option.{option_map}
 use Rattle.buzhash_cut.specs.Image.{HasTooManyCuts, IsIndexOfImage}
@@ -10,6 +10,7 @@ use Rattle.chunk_store.specs.Folders.{chunks}
 use Rattle.chunk_store.specs.Said.{Said}
 use Rattle.command_outcome.specs.declared.outcome.Outcome.{Outcome}
 use Rattle.command_outcome.specs.declared.outcome.Outcome.TheVariants as ends
+use Rattle.command_steps.specs.Asking.{Asks, EachDialed}
 use Rattle.command_steps.specs.Openings.{ImageOpened}
 use Rattle.command_steps.specs.Sources.{DialsStores, OnSources, Sources, StoreRose, said_at}
 use Rattle.command_steps.specs.Steps.{◌>>=◌}
@@ -21,7 +22,8 @@ use Rattle.command_words.specs.declared.command.Location.TheVariants as location
 use Rattle.dsy_base.specs.Disk.{Disk}
 use Rattle.dsy_base.specs.Maps.{Map, at_name}
 use Rattle.image_store.specs.PutChunks.{HoldsAll, SaysAll}
-use Rattle.image_store.specs.StoreImage.{PutsFilesOf, SaysOf, StoresImage}
+use Rattle.image_store.specs.Chopping.{times_listed}
+use Rattle.image_store.specs.StoreImage.{Lists, PutsFilesOf, SaysOf, StoresImage}
 use Rattle.image_store.specs.declared.put_chunks.MakeFault.{MakeFault}
 use Rattle.image_store.specs.declared.put_chunks.MakeFault.TheVariants as faults
 
@@ -70,6 +72,17 @@ pub record MadeOf (s : Sizes) (told : Option (List ℕ)) (r : Result (List ℕ) 
 abbrev pub HasFewCuts : Sizes → Option (List ℕ) → Type 0
 HasFewCuts s told = IfSome told (λ t. HasTooManyCuts s t → ⊥)
 
+-- once, where the index lists the id
+abbrev pub once_listed : Listing → List ℕ → ℕ
+once_listed l id = min 1 (times_listed l (count_of l) id)
+
+-- a server is asked for the chunk of an id at most once, and only if the image's index lists it; and never whether it
+-- has one
+abbrev pub GetsImage : Sizes → Option (List ℕ) → Location → Sources → Sources → Type 0
+GetsImage s told store w v = EachDialed (Asks (λ id. 0) (λ id. 0)) (store ∷ []) w.dial.ended v.dial.ended
+    ⊎ ((l : Listing) × Lists s told l
+    × EachDialed (Asks (once_listed l) (λ id. 0)) (store ∷ []) w.dial.ended v.dial.ended)
+
 module _ (s : Sizes) (image : List ℕ) (told : Option (List ℕ)) (store : Location) (held : Option (Map (List ℕ))) where
   abbrev pub NotStored : Sources → Sources → Outcome → Type 0
   NotStored w v ends.TooManyItems = IfSome told (λ t. HasTooManyCuts s t)
@@ -86,7 +99,8 @@ module _ (s : Sizes) (image : List ℕ) (told : Option (List ℕ)) (store : Loca
   abbrev pub ImageStored : Step Sources (List ℕ)
   ImageStored w (Ok bytes) v = HasFewCuts s told
       × StoreGiven store held (MadeOf s told (Ok bytes)) (SaysOf s told bytes) w v × WritesStore store w v
-  ImageStored w (Err o) v = NotStored w v o × WritesStore store w v
+      × GetsImage s told store w v
+  ImageStored w (Err o) v = NotStored w v o × WritesStore store w v × GetsImage s told store w v
 
 -- ---- writing the index
 

@@ -1,7 +1,7 @@
 //! `chop -s STORE INDEX IMAGE`: STORE holds each chunk that INDEX lists, which are IMAGE's.
 
 ghost use Rattle.std.specs.Prelude.{◌≡◌, IsSome};
-ghost use Rattle.command_steps.specs.AnySources.{IsKnown, faults_in, files_in, location_in};
+ghost use Rattle.command_steps.specs.AnySources.{IsKnown, IsUnused, faults_in, files_in, location_in};
 ghost use Rattle.command_steps.specs.Sources.{sources};
 ghost use Rattle.command_steps.specs.Worlds.{world};
 ghost use Rattle.image_commands.specs.Chop.{ChopEnds, ImageChopped};
@@ -35,6 +35,7 @@ fn chop_between<F: Files, D: Dial>(
     requires image { IsSome ((F.disk files.old).file_counts (F.View.held view).name) }
     requires known { IsKnown (F.disk files.old).folder_counts store.now }
     requires located { location_in F.Folder.place taken ≡ store.now }
+    requires unused { IsUnused D.state taken }
     requires fresh { (F.View.faults view ≡ 0) × (faults_in F.Folder.faults D.state taken ≡ 0) }
     ensures { ImageChopped index.now (F.View.held view).name (F.View.held view).bytes store.now
         (files_in F.Folder.files taken) (sources (F.disk files.old) (D.state dial.old)) result

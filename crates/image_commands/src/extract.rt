@@ -7,14 +7,14 @@ ghost use Rattle.std.specs.Option.{option_map};
 ghost use Rattle.caibx_codec.specs.Listing.{Listing};
 ghost use Rattle.chunk_sources.specs.Caches.{seen};
 ghost use Rattle.chunk_store.specs.declared.id.DigestKind.TheVariants as kinds;
-ghost use Rattle.command_steps.specs.AnySources.{IsKnown, faults_in, files_in, location_in};
+ghost use Rattle.command_steps.specs.AnySources.{IsKnown, IsUnused, faults_in, files_in, location_in};
 ghost use Rattle.command_steps.specs.Cache.{with_cache};
 ghost use Rattle.command_steps.specs.Seeds.{image_name};
 ghost use Rattle.command_steps.specs.Sources.{DialsStores, sources, told_at};
 ghost use Rattle.command_steps.specs.Worlds.{world};
 ghost use Rattle.image_commands.specs.Extract.{Assembled, ClearedAfter, ExtractEnds, FillsCache, IsNoFile};
 ghost use Rattle.image_commands.specs.Extract.{IsNumbered, OutMade, Renamed, answer_of_assembly, answer_of_taking};
-ghost use Rattle.image_commands.specs.Extract.{temporary_out};
+ghost use Rattle.image_commands.specs.Extract.{GetsWants, temporary_out};
 ghost use Rattle.dsy_base.specs.Disk.{Output};
 ghost use Rattle.extract_plan.specs.Deal.{Deal, IsPlan};
 ghost use Rattle.extract_plan.specs.Places.{IsSeedIndex, PlacesKnown, items_of, seed_item_limit};
@@ -121,6 +121,7 @@ fn assemble_into<F: Files, D: Dial>(
         × PlacesKnown planned.now.index d planned.now.places (length seeds.now) }
     requires size { (1 ≤ length stores.items) × (length stores.items ≤ 16) }
     requires known { All (IsKnown (F.disk files.old).folder_counts) (map (location_in F.Look.place) stores.items) }
+    requires unused { All (IsUnused D.state) stores.items }
     requires room { (kits.items ≡ []) × (1 ≤ vec_capacity kits) }
     requires fresh { map (faults_in F.Look.faults D.state) stores.items ≡ map (λ q. 0)
         (map (location_in F.Look.place) stores.items) }
@@ -143,6 +144,12 @@ fn assemble_into<F: Files, D: Dial>(
     ensures tells { is_some (F.disk files.new).files ≡ is_some (F.disk files.old).files }
     ensures dialed { DialsStores (map (location_in F.Look.place) stores.items) (D.state dial.old) (D.state dial.new) }
     ensures numbered { IsNumbered target.now (F.disk files.old) result (F.disk files.new) }
+    ensures asks { (d : Deal) (ls : List Listing) → IsPlan planned.now.index 1 d →
+        IsSeedIndex planned.now.index d ls planned.now.places →
+        GetsWants (sources (with_cache (seen F.Folder.files F.Folder.place F.Folder.faults shelf) (F.disk files.old))
+        (D.state dial.old)) (sources (F.disk files.new) (D.state dial.new))
+        (map (location_in F.Look.place) stores.items) cache.now (record { name = target.now; fresh = fresh })
+        planned.now.index (record { images = map image_name seeds.now; listings = ls }) }
 {
     let Ok(seeds) = open_seeds(alloc, files, seeds) else {
         give_cache(files, cache, shelf);
@@ -233,6 +240,7 @@ fn assemble_beside<F: Files, D: Dial>(
         × PlacesKnown planned.now.index d planned.now.places (length seeds.now) }
     requires size { (1 ≤ length stores.items) × (length stores.items ≤ 16) }
     requires known { All (IsKnown (F.disk files.old).folder_counts) (map (location_in F.Look.place) stores.items) }
+    requires unused { All (IsUnused D.state) stores.items }
     requires room { (kits.items ≡ []) × (1 ≤ vec_capacity kits) }
     requires fresh { map (faults_in F.Look.faults D.state) stores.items ≡ map (λ q. 0)
         (map (location_in F.Look.place) stores.items) }

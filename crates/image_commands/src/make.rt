@@ -4,7 +4,8 @@ ghost use Rattle.std.specs.Prelude.{◌≡◌, ℕ, ◌<◌, ◌≤◌, List, Op
 ghost use Rattle.std.specs.Prelude.{Ok, Err, IfErr, IfOk, IfSome, IsSome, OnOk};
 ghost use Rattle.std.specs.Map.{count_at};
 ghost use Rattle.buzhash_cut.specs.Image.{AreOfOneImage};
-ghost use Rattle.command_steps.specs.AnySources.{IsGiven, IsKnown, faults_in, files_in, location_in};
+ghost use Rattle.command_steps.specs.AnySources.{IsGiven, IsKnown, IsUnused, faults_in, files_in, location_in};
+ghost use Rattle.command_steps.specs.AnySources.{with_those};
 ghost use Rattle.command_steps.specs.Sources.{sources};
 ghost use Rattle.command_steps.specs.Taking.{SourceTaken, given_to};
 ghost use Rattle.image_commands.specs.Views.{AreOf, IfFirst};
@@ -58,6 +59,7 @@ fn take_store<F: Files, D: Dial>(
     ensures changed { OnOk result (Adds (F.disk files.old) (F.disk files.new)) }
     ensures located { IfOk result (λ r. location_in F.Folder.place r.1 ≡ store.now) }
     ensures fresh { IfOk result (λ r. faults_in F.Folder.faults D.state r.1 ≡ 0) }
+    ensures unused { IfOk result (λ r. IsUnused D.state r.1) }
     ensures known { OnOk result (IsKnown (F.disk files.new).folder_counts store.now) }
     ensures err { IfErr result (λ o. SourceTaken store.now (F.disk files.old) (Err o) (F.disk files.new)) }
 {
@@ -85,6 +87,7 @@ fn give_store<F: Files, D: Dial>(
         ≡ given_to store.now (files_in F.Folder.files taken) (F.disk files.old).folders }
     ensures kept { WritesStore store.now (sources (F.disk files.old) (D.state dial.old))
         (sources (F.disk files.new) (D.state dial.new)) }
+    ensures ended { (D.state dial.new).ended ≡ with_those D.state (D.state dial.old).ended taken }
     ensures given { IsGiven F.Folder.place F.Folder.faults D.state
         (sources (F.disk files.old) (D.state dial.old)) (sources (F.disk files.new) (D.state dial.new)) taken }
     ensures added { IfFirst (λ v.
@@ -143,6 +146,7 @@ where
     requires image { All (λ v. IsSome ((F.disk files.old).file_counts (F.View.held v).name)) views.items }
     requires known { IsKnown (F.disk files.old).folder_counts store.now }
     requires located { location_in F.Folder.place taken ≡ store.now }
+    requires unused { IsUnused D.state taken }
     requires fresh { All (λ v. F.View.faults v ≡ 0) views.items
         × (faults_in F.Folder.faults D.state taken ≡ 0) }
     ensures ok { IfOk result (λ b. (q : List ℕ) (told : Option (List ℕ)) →

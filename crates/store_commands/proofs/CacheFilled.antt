@@ -1,11 +1,12 @@
 -- Filling a cache by indexes in order: what one of them comes to, from one to the next, and what stands when all is given
 -- back.
 use Rattle.std.proofs.Common.{◌≡◌, ◌⊎◌, ℕ, ◌+◌, ◌≤◌, List, [], ◌∷◌, All, map, Option, Some, None, IfSome, IsSomeAnd, Result, Ok, Err, IfErr, refl, sym, subst, ap, ◌∙◌, inl, inr, arith, slice_index_or, true}
+use Rattle.std.specs.List.{AllZip}
 use Rattle.std.specs.Map.{count_at}
 use Rattle.std.specs.Option.{option_map}
 use Rattle.cache_store.proofs.Stocked.{stocks_weaker}
 use Rattle.cache_store.specs.Shelves.{Shelf, Stocks, held_on}
-use Rattle.caibx_codec.specs.Listing.{Listing}
+use Rattle.caibx_codec.specs.Listing.{Listing, count_of}
 use Rattle.chunk_store.specs.Folders.{chunks}
 use Rattle.chunk_store.specs.Said.{Said}
 use Rattle.chunk_store.specs.declared.id.ChunkId.{ChunkId}
@@ -26,7 +27,7 @@ use Rattle.command_steps.specs.declared.any_source.AnySource.{AnySource}
 use Rattle.command_steps.proofs.Taken.{at_name_twice}
 use Rattle.command_steps.proofs.Found.{held_after, held_maps}
 use Rattle.command_steps.proofs.Lacked.{have_lacked, same_length}
-use Rattle.store_commands.specs.Caching.{AddsListed, AllFilled, CacheEnds, Evidence, FillExactly, FillTells, FilledBetween, FillsEach, IndexFilled, IsHeldListed, IsNotHad, NotFilled, StopsFilling, answer_of_fill, of_calls, of_command, outcome_of_fill}
+use Rattle.store_commands.specs.Caching.{AddsListed, AllFilled, CacheEnds, Evidence, FillExactly, FillTells, FilledBetween, FillsEach, IndexFilled, IsHeldListed, IsNotHad, NotFilled, StopsFilling, answer_of_fill, of_calls, of_command, outcome_of_fill, FrontListed, GetsListed, listed_times}
 use Rattle.dsy_base.proofs.Counts.{at_same}
 use Rattle.dsy_base.specs.Counts.{Quiet, Rose}
 use Rattle.dsy_base.specs.Disk.{Disk, Output}
@@ -34,10 +35,12 @@ use Rattle.dsy_base.specs.Links.{DialState}
 use Rattle.dsy_base.specs.Maps.{Map, at_name}
 use Rattle.image_store.specs.PutChunks.{IsListed as IsAmong}
 use Rattle.store_chain.specs.Chains.{Chained, KeepsStores}
+use Rattle.image_store.specs.Chopping.{AsksListed}
 use Rattle.store_chain.specs.Faults.{EachQuiet, NoneFalls}
 use Rattle.store_chain.specs.declared.refused.Refused.{Refused}
 use Rattle.store_chain.specs.declared.refused.Refused.TheVariants as refused
 use Rattle.store_chain.specs.declared.want.Want.{Want}
+use Rattle.verify_tool.proofs.Asked.{each_then, each_weaker}
 use Rattle.verify_tool.proofs.Holding.{each_within, quiet_within}
 use Rattle.verify_tool.specs.Filling.{FillEnds, FillStops, FillsBy, GivesEntry, HoldsTo, FillUnfailed, RefusesEntry, MayFill, filled_to}
 use Rattle.verify_tool.specs.declared.fill.FillFault.{FillFault}
@@ -308,8 +311,8 @@ module _ {L D K : Type 0} (files : L → Option (Map (List ℕ))) (place : L →
       ∙ ap (λ (q : List ℕ). option_map (λ (m : Map (Map (List ℕ))). at_name m q t.files) d0.folders) (t_is ∙ sym s_is) ∙ put_twice d0.folders s.place s.files t.files
       ∙ ap (λ (q : List ℕ). option_map (λ (m : Map (Map (List ℕ))). at_name m q t.files) d.folders) s_is
 
-  pub filled_between : (indexes : List (List ℕ)) (r : Result Unit Outcome) → FillsEach (of_calls (files_in files) (said_in files state) (faults_in faults state) before after 0 t.faults) d0 b indexes s.files t.files r → FilledBetween names cache indexes w v r
-  filled_between indexes r h = record {
+  pub filled_between : (indexes : List (List ℕ)) (r : Result Unit Outcome) → FillsEach (of_calls (files_in files) (said_in files state) (faults_in faults state) before after 0 t.faults) d0 b indexes s.files t.files r → GetsListed w.disk indexes names w.dial v.dial → FilledBetween names cache indexes w v r
+  filled_between indexes r h gets = record {
     held = s.files;
     was = subst (λ (q : List ℕ). IfSome d.folders (λ m. m q ≡ s.files)) s_is (was_put d0.folders s.place s.files);
     now = t.files;
@@ -320,4 +323,28 @@ module _ {L D K : Type 0} (files : L → Option (Map (List ℕ))) (place : L →
     back = back;
     adds = all_adds;
     dials = (closes.0.dial, closes.1);
+    asks = gets;
   }
+
+-- ---- how often the stores are asked
+
+front_later : (d e : Disk) → e.files ≡ d.files → (indexes : List (List ℕ)) (ls : List Listing) → FrontListed e indexes ls → FrontListed d indexes ls
+front_later d e same indexes [] h = tt
+front_later d e same [] (l ∷ ls) h = absurd h
+front_later d e same (q ∷ indexes) (l ∷ ls) h = (subst (λ f. IfSome f (λ m. IsListed m q l)) same h.0, front_later d e same indexes ls h.1)
+
+module _ {S : Type 0} (asked : S → List ℕ → ℕ) where
+  -- at most so often more, each of them
+  abbrev pub Few : List Listing → List S → List S → Type 0
+  Few ls xs ys = AllZip (λ a b. (id : List ℕ) → asked b id ≤ asked a id + listed_times ls id) xs ys
+
+  pub few_first : (l : Listing) (xs ys : List S) → AllZip (λ a b. AsksListed l (count_of l) (asked a) (asked b)) xs ys → Few (l ∷ []) xs ys
+  few_first l xs ys h = each_weaker (λ a b. AsksListed l (count_of l) (asked a) (asked b)) (λ a b. (id : List ℕ) → asked b id ≤ asked a id + listed_times (l ∷ []) id) (λ a b h id. let most = h.most id in omega (arith, most)) xs ys h
+
+  pub few_then : (l : Listing) (ls : List Listing) (xs ys zs : List S) → AllZip (λ a b. AsksListed l (count_of l) (asked a) (asked b)) xs ys → Few ls ys zs → Few (l ∷ ls) xs zs
+  few_then l ls xs ys zs h k =
+      each_then (λ a b. AsksListed l (count_of l) (asked a) (asked b)) (λ a b. (id : List ℕ) → asked b id ≤ asked a id + listed_times ls id) (λ a b. (id : List ℕ) → asked b id ≤ asked a id + listed_times (l ∷ ls) id)
+      (λ a b c h k id. let first = h.most id in let next = k id in omega (arith, first, next)) xs ys zs h k
+
+pub front_more : (d e : Disk) (q : List ℕ) (indexes : List (List ℕ)) (l : Listing) (ls : List Listing) → Reads d e → Listed d q l → FrontListed e indexes ls → FrontListed d (q ∷ indexes) (l ∷ ls)
+front_more d e q indexes l ls read listed front = (listed, front_later d e read.files indexes ls front)

@@ -11,6 +11,7 @@ use Rattle.chunk_store.specs.Said.{Said}
 use Rattle.chunk_store.specs.declared.id.ChunkId.{ChunkId}
 use Rattle.command_outcome.specs.declared.outcome.Outcome.{Outcome}
 use Rattle.command_outcome.specs.declared.outcome.Outcome.TheVariants as ends
+use Rattle.command_steps.specs.Asking.{Asks, EachDialed}
 use Rattle.command_steps.specs.Cache.{CacheOpened}
 use Rattle.command_steps.specs.Openings.{IsListed, Listed, NotRead}
 use Rattle.command_steps.specs.Sources.{DialsStores, OnSources, Sources, SourcesOpened, told_at}
@@ -21,8 +22,10 @@ use Rattle.command_words.specs.declared.command.Location.{Location}
 use Rattle.dir_store.specs.Names.{is_stranger}
 use Rattle.dsy_base.specs.Counts.{Quiet, Rose}
 use Rattle.dsy_base.specs.Disk.{Disk}
+use Rattle.dsy_base.specs.Links.{DialState}
 use Rattle.dsy_base.specs.Maps.{Map, at_name}
 use Rattle.image_store.specs.PutChunks.{HoldsAll, IsListed as IsAmong}
+use Rattle.image_store.specs.Chopping.{times_listed}
 use Rattle.store_chain.specs.Faults.{EachQuiet}
 use Rattle.store_chain.specs.Giving.{LacksAll}
 use Rattle.store_chain.specs.Refusals.{Refuses}
@@ -152,6 +155,25 @@ module _ (over : Evidence) where
     FillsEach indexes x y (Ok u) = AllFilled indexes x y
     FillsEach indexes x y (Err o) = NotFilled indexes x y o
 
+-- ---- how often servers are asked
+
+-- what the first of these names list, as far as they were read
+abbrev pub FrontListed : Disk → List (List ℕ) → List Listing → Type 0
+FrontListed d indexes [] = Unit {0}
+FrontListed d [] (l ∷ ls) = ⊥
+FrontListed d (q ∷ indexes) (l ∷ ls) = Listed d q l × FrontListed d indexes ls
+
+-- so many entries list the id
+abbrev pub listed_times : List Listing → List ℕ → ℕ
+listed_times [] id = 0
+listed_times (l ∷ ls) id = times_listed l (count_of l) id + listed_times ls id
+
+-- each server was asked for the chunk of an id at most once for each entry that lists it, and never whether it has one
+pub record GetsListed (d : Disk) (indexes : List (List ℕ)) (stores : List Location) (k j : DialState) : Type 0 where
+  pub listings : List Listing
+  pub read : FrontListed d indexes listings
+  pub gets : EachDialed (Asks (listed_times listings) (λ id. 0)) stores k.ended j.ended
+
 -- ---- the command
 
 -- the cache's folder was filled by each index, and given back with other files; no other folder has changed
@@ -164,6 +186,7 @@ pub record FilledBetween (stores : List Location) (cache : List ℕ) (indexes : 
   pub back : v.disk.folders ≡ option_map (λ m. at_name m cache now) w.disk.folders
   pub adds : Adds w.disk v.disk
   pub dials : DialsStores stores w.dial v.dial
+  pub asks : GetsListed w.disk indexes stores w.dial v.dial
 
 abbrev pub IndexesFilled : List Location → List ℕ → List (List ℕ) → Step Sources Unit
 IndexesFilled stores cache indexes w r v = FilledBetween stores cache indexes w v r

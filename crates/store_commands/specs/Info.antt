@@ -1,20 +1,20 @@
 -- `info -s STORE.. INDEX`.
-use Rattle.std.specs.Prelude.{◌≡◌, ◌⊎◌, ℕ, ◌<◌, ◌≤◌, List, length, map, Option, Some, None, IfSome, Result, Ok, Err}
+use Rattle.std.specs.Prelude.{◌≡◌, ◌⊎◌, ℕ, ◌<◌, ◌≤◌, if◌then◌else◌, List, length, map, Option, Some, None, IfSome, Result, Ok, Err}
 use Rattle.caibx_codec.specs.Listing.{Listing, count_of, id_of}
 use Rattle.chunk_store.specs.Folders.{chunks}
 use Rattle.command_outcome.specs.declared.outcome.Outcome.{Outcome}
 use Rattle.command_outcome.specs.declared.outcome.Outcome.TheVariants as ends
 use Rattle.command_words.specs.declared.command.Location.{Location}
 use Rattle.dsy_base.specs.Maps.{Map}
-use Rattle.verify_tool.specs.Counts.{held_count}
+use Rattle.verify_tool.specs.Counts.{DeniesOthers, held_count, is_listed_before}
 use Rattle.verify_tool.specs.Texts.{text_of_info, unique_count}
+use Rattle.command_steps.specs.Asking.{Asks, EachDialed}
 use Rattle.command_steps.specs.Openings.{IndexRead}
 use Rattle.command_steps.specs.Printing.{Printed}
 use Rattle.command_steps.specs.Steps.{◌>>=◌}
 use Rattle.command_steps.specs.Sources.{AllThere, ConsultsStores, FailsFirst, FirstUnreached}
-use Rattle.command_steps.specs.Sources.{OnSources, Sources, told_at}
+use Rattle.command_steps.specs.Sources.{OnSources, Sources, said_at, told_at}
 use Rattle.command_steps.specs.Worlds.{OnDisk, OnOut, Step, World}
-use Rattle.dsy_base.specs.Disk.{Disk}
 
 -- a store failed when all were asked whether they have a listed chunk: the first of those that don't deny it
 abbrev pub NotAsked : Sources → Sources → List Location → Listing → Outcome → Type 0
@@ -27,21 +27,28 @@ abbrev pub NotCounted : Sources → Sources → List Location → Listing → Ou
 NotCounted w v stores l o = FirstUnreached w.disk v.disk stores o ⊎ NotAsked w v stores l o
 
 -- n is no more than the number of different listed ids. Where all stores are folders that tell, it is the number of
--- those that some folder holds
-pub record IsCount (d : Disk) (stores : List Location) (l : Listing) (n : ℕ) : Type 0 where
-  pub there : AllThere d stores
+-- those that some folder holds. There are n ids, and all stores have denied every other one that is listed
+pub record IsCount (w v : Sources) (stores : List Location) (l : Listing) (n : ℕ) : Type 0 where
+  pub there : AllThere w.disk stores
   pub size : n ≤ unique_count l
-  pub counts : IfSome d.folders (λ m. (fs : List (Map (List ℕ))) → map (told_at m) stores ≡ map Some fs
+  pub denied : DeniesOthers (said_at w v) l (count_of l) n stores
+  pub counts : IfSome w.disk.folders (λ m. (fs : List (Map (List ℕ))) → map (told_at m) stores ≡ map Some fs
       → n ≡ held_count l (map chunks fs))
+
+-- once for a listed id, and never for another
+abbrev pub asks_once : Listing → List ℕ → ℕ
+asks_once l id = if is_listed_before l (count_of l) id then 1 else 0
 
 -- how many ids the stores hold, where some are given
 abbrev pub Counted : Sources → Sources → List Location → Listing → Result (Option ℕ) Outcome → Type 0
 Counted w v stores l (Ok None) = length stores ≡ 0
-Counted w v stores l (Ok (Some n)) = (0 < length stores) × IsCount w.disk stores l n
+Counted w v stores l (Ok (Some n)) = (0 < length stores) × IsCount w v stores l n
 Counted w v stores l (Err o) = NotCounted w v stores l o
 
+-- servers are asked for no chunk, and whether they have one at most once for each listed id
 abbrev pub IdsCounted : List Location → Listing → Step Sources (Option ℕ)
 IdsCounted stores l w r v = Counted w v stores l r × ConsultsStores stores w v
+    × EachDialed (Asks (λ id. 0) (asks_once l)) stores w.dial.ended v.dial.ended
 
 abbrev pub InfoEnds : List Location → List ℕ → Step World Unit
 InfoEnds stores index = do

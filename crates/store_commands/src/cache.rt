@@ -1,14 +1,18 @@
 //! `cache -s STORE.. -c CACHE INDEX..`: CACHE holds each chunk that the indexes list, with chunks from 1 to 16 stores.
 
-ghost use Rattle.std.specs.Prelude.{◌≡◌, ℕ, List, ◌≤◌, All, map, length, IfSome, IsSome, Some};
+ghost use Rattle.std.specs.Prelude.{◌≡◌, ℕ, List, ◌+◌, ◌≤◌, All, map, length, IfSome, IsSome, Some};
+ghost use Rattle.std.specs.List.{AllZip};
 ghost use Rattle.cache_store.specs.Shelves.{shelf_of};
+ghost use Rattle.caibx_codec.specs.Listing.{Listing};
 ghost use Rattle.chunk_store.specs.declared.id.DigestKind.TheVariants as kinds;
-ghost use Rattle.command_steps.specs.AnySources.{IsKnown, chunks_in, faults_in, files_in};
+ghost use Rattle.command_steps.specs.AnySources.{IsKnown, IsUnused, asked_in, chunks_in, faults_in, files_in};
 ghost use Rattle.command_steps.specs.AnySources.{location_in, place_in, said_in};
 ghost use Rattle.command_steps.specs.Cache.{with_cache};
 ghost use Rattle.command_steps.specs.Sources.{sources, told_at};
 ghost use Rattle.command_steps.specs.Worlds.{Reads, world};
-ghost use Rattle.store_commands.specs.Caching.{CacheEnds, FillsEach, IndexesFilled, answer_of_fill, of_calls};
+ghost use Rattle.store_commands.specs.Caching.{CacheEnds, FillsEach, FrontListed, IndexesFilled};
+ghost use Rattle.store_commands.specs.Caching.{answer_of_fill, listed_times, of_calls};
+ghost use Rattle.http_wire.specs.declared.reply.Method.TheVariants as methods;
 ghost use Rattle.dsy_base.specs.Disk.{Output};
 ghost use Rattle.store_chain.specs.Chains.{KeepsStores};
 
@@ -72,6 +76,11 @@ fn fill_each<F: Files, D: Dial>(
     ensures stores { KeepsStores (chunks_in F.Look.files) (files_in F.Look.files) (place_in F.Look.place)
         (said_in F.Look.files D.state) (faults_in F.Look.faults D.state)
         cached.old.chain.stores cached.new.chain.stores }
+    ensures asks { (ls : List Listing) × FrontListed (F.disk files.old) indexes.now ls
+        × AllZip (λ a b. (id : List ℕ) → asked_in methods.Get D.state b id ≤ asked_in methods.Get D.state a id
+        + listed_times ls id) cached.old.chain.stores cached.new.chain.stores }
+    ensures queries { map (asked_in methods.Head D.state) cached.new.chain.stores
+        ≡ map (asked_in methods.Head D.state) cached.old.chain.stores }
     ensures place { F.Folder.place cached.new.shelf.folder ≡ F.Folder.place cached.old.shelf.folder }
     ensures never_falls { F.Folder.faults cached.old.shelf.folder ≤ F.Folder.faults cached.new.shelf.folder }
 {
@@ -98,6 +107,7 @@ fn fill_between<F: Files, D: Dial>(
     indexes: &[Name],
 ) -> Result<(), Outcome>
     requires size { (1 ≤ length stores.items) × (length stores.items ≤ 16) }
+    requires unused { All (IsUnused D.state) stores.items }
     requires known { All (IsKnown (F.disk files.old).folder_counts) (map (location_in F.Look.place) stores.items) }
     requires fresh { map (faults_in F.Look.faults D.state) stores.items ≡ map (λ q. 0)
         (map (location_in F.Look.place) stores.items) }

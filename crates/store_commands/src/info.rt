@@ -1,7 +1,8 @@
 //! `info -s STORE.. INDEX`: the figures of an index, and how many of its ids the stores hold where some are given.
 
 ghost use Rattle.std.specs.Prelude.{◌≡◌, ◌≤◌, length, Some};
-ghost use Rattle.store_commands.specs.Info.{Counted, InfoEnds};
+ghost use Rattle.store_commands.specs.Info.{Counted, InfoEnds, asks_once};
+ghost use Rattle.command_steps.specs.Asking.{Asks, EachDialed};
 ghost use Rattle.command_steps.specs.Printing.{Printed};
 ghost use Rattle.command_steps.specs.Sources.{ConsultsStores, sources};
 ghost use Rattle.command_steps.specs.Worlds.{world};
@@ -36,6 +37,8 @@ fn count<F: Files, D: Dial>(
         (sources (F.disk files.new) (D.state dial.new)) stores.now index.now result }
     ensures kept { ConsultsStores stores.now (sources (F.disk files.old) (D.state dial.old))
         (sources (F.disk files.new) (D.state dial.new)) }
+    ensures asks { EachDialed (Asks (λ id. 0) (asks_once index.now)) stores.now (D.state dial.old).ended
+        (D.state dial.new).ended }
 {
     if stores.is_empty() {
         return Ok(None);

@@ -2,7 +2,7 @@ use Rattle.std.proofs.Common.{◌≡◌, ◌∙◌, ap, rules, refl, Ok, Err}
 use Rattle.command_steps.proofs.Given.{stands_there}
 use Rattle.command_steps.specs.AnySources.{files_in}
 use Rattle.command_steps.specs.Sources.{sources}
-use Rattle.image_commands.proofs.Chopped.{another_length, chopped_to, has_length, unchanged}
+use Rattle.image_commands.proofs.Chopped.{another_length, chopped_to, gets_entries, has_length, unchanged}
 use Rattle.image_commands.proofs.GivenStores.{back, rose, says_more, view_rose}
 use Rattle.image_commands.specs.Chop.{ChoppedTo}
 use Rattle.image_commands.specs.Make.{AnySaid}
@@ -33,7 +33,7 @@ returns-in-Ok g c =
     let r = Ok tt in
     let stands = chopped_to l view.bytes r (files_in files old) (files_in files new) (over.holds) (over.changed) (over.files) tt in
     let back = back files g.F.Folder.Look.place g.F.Folder.Look.faults state w v c.args.store.now old new done.place c.requires.located gave.folders gave.given (ChoppedTo l view.bytes r) (SaysAll l (seen_to l r)) (says_more l (seen_to l r)) done.tells stands (over.told) in
-    (over.right, back, gave.kept)
+    (over.right, back, gave.kept, (gets_entries g.F.Folder.Look.place state l _ old new c.args.store.now (state c.args.dial.now).ended (state c.give_beside.new.dial).ended c.requires.unused (stands_there g.F.Folder.Look.place old new done.place ∙ c.requires.located) done.asks done.queries gave.ended))
 
 pub returns-in-Length : goal.returns-in-Length
 returns-in-Length g c =
@@ -53,7 +53,7 @@ returns-in-Length g c =
     let kept = unchanged (files_in files old) (files_in files new) (ap (files_in files) same.1) in
     let back = back files g.F.Folder.Look.place g.F.Folder.Look.faults state w v c.args.store.now old new done.place c.requires.located gave.folders gave.given (λ f g. g ≡ f) AnySaid (λ a b keeps says. tt) done.tells kept tt in
     let size = another_length l view.bytes c.in-Length.size view.size (g.met.F.View.View.sized c.args.view) (rw c.in-Length.is at over.size) in
-    ((size.0, size.1, back), gave.kept)
+    ((size.0, size.1, back), gave.kept, (gets_entries g.F.Folder.Look.place state l _ old new c.args.store.now (state c.args.dial.now).ended (state c.give_beside.new.dial).ended c.requires.unused (stands_there g.F.Folder.Look.place old new done.place ∙ c.requires.located) done.asks done.queries gave.ended))
 
 pub returns-in-Mismatch : goal.returns-in-Mismatch
 returns-in-Mismatch g c =
@@ -73,7 +73,7 @@ returns-in-Mismatch g c =
     let r = Err (faults.Mismatch c.in-Mismatch.entry c.in-Mismatch.got) in
     let stands = chopped_to l view.bytes r (files_in files old) (files_in files new) (rw c.in-Mismatch.is at over.holds) (rw c.in-Mismatch.is at over.changed) (rw c.in-Mismatch.is at over.files) over.order.stops in
     let back = back files g.F.Folder.Look.place g.F.Folder.Look.faults state w v c.args.store.now old new done.place c.requires.located gave.folders gave.given (ChoppedTo l view.bytes r) (SaysAll l (seen_to l r)) (says_more l (seen_to l r)) done.tells stands (rw c.in-Mismatch.is at over.told) in
-    ((sized, rw c.in-Mismatch.is at over.first, back), gave.kept)
+    ((sized, rw c.in-Mismatch.is at over.first, back), gave.kept, (gets_entries g.F.Folder.Look.place state l _ old new c.args.store.now (state c.args.dial.now).ended (state c.give_beside.new.dial).ended c.requires.unused (stands_there g.F.Folder.Look.place old new done.place ∙ c.requires.located) done.asks done.queries gave.ended))
 
 pub returns-in-ImageFault : goal.returns-in-ImageFault
 returns-in-ImageFault g c =
@@ -95,7 +95,7 @@ returns-in-ImageFault g c =
     let back = back files g.F.Folder.Look.place g.F.Folder.Look.faults state w v c.args.store.now old new done.place c.requires.located gave.folders gave.given (ChoppedTo l view.bytes r) (SaysAll l (seen_to l r)) (says_more l (seen_to l r)) done.tells stands (rw c.in-ImageFault.is at over.told) in
     let failed = done.image_faults.cause (search rules) in
     let risen = view_rose w.disk v.disk view.name (g.F.View.View.faults c.args.view) (g.F.View.View.faults c.chop-chopped.new.image) (search rules) c.requires.fresh.0 failed in
-    ((sized, risen, back), gave.kept)
+    ((sized, risen, back), gave.kept, (gets_entries g.F.Folder.Look.place state l _ old new c.args.store.now (state c.args.dial.now).ended (state c.give_beside.new.dial).ended c.requires.unused (stands_there g.F.Folder.Look.place old new done.place ∙ c.requires.located) done.asks done.queries gave.ended))
 
 pub returns-in-StoreFault : goal.returns-in-StoreFault
 returns-in-StoreFault g c =
@@ -117,7 +117,7 @@ returns-in-StoreFault g c =
     let back = back files g.F.Folder.Look.place g.F.Folder.Look.faults state w v c.args.store.now old new done.place c.requires.located gave.folders gave.given (ChoppedTo l view.bytes r) (SaysAll l (seen_to l r)) (says_more l (seen_to l r)) done.tells stands (rw c.in-StoreFault.is at over.told) in
     let failed = done.store_faults.cause (search rules) in
     let risen = rose files g.F.Folder.Look.place g.F.Folder.Look.faults state w v c.args.store.now old new done.place c.requires.located gave.folders gave.given c.requires.fresh.1 failed in
-    ((refl, sized, risen, back), gave.kept)
+    ((refl, sized, risen, back), gave.kept, (gets_entries g.F.Folder.Look.place state l _ old new c.args.store.now (state c.args.dial.now).ended (state c.give_beside.new.dial).ended c.requires.unused (stands_there g.F.Folder.Look.place old new done.place ∙ c.requires.located) done.asks done.queries gave.ended))
 
 pub returns-in-Memory : goal.returns-in-Memory
 returns-in-Memory g c =
@@ -137,4 +137,4 @@ returns-in-Memory g c =
     let r = Err faults.Memory in
     let stands = chopped_to l view.bytes r (files_in files old) (files_in files new) (rw c.in-Memory.is at over.holds) (rw c.in-Memory.is at over.changed) (rw c.in-Memory.is at over.files) over.order.stops in
     let back = back files g.F.Folder.Look.place g.F.Folder.Look.faults state w v c.args.store.now old new done.place c.requires.located gave.folders gave.given (ChoppedTo l view.bytes r) (SaysAll l (seen_to l r)) (says_more l (seen_to l r)) done.tells stands (rw c.in-Memory.is at over.told) in
-    ((sized, back), gave.kept)
+    ((sized, back), gave.kept, (gets_entries g.F.Folder.Look.place state l _ old new c.args.store.now (state c.args.dial.now).ended (state c.give_beside.new.dial).ended c.requires.unused (stands_there g.F.Folder.Look.place old new done.place ∙ c.requires.located) done.asks done.queries gave.ended))

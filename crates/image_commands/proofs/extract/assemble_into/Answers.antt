@@ -37,6 +37,16 @@ use Rattle.dsy_base.specs.Counts.{Rose, raised}
 use Rattle.dsy_base.specs.Maps.{Map, at_name}
 use Rattle.extract_plan.specs.Places.{PlacesKnown}
 use Rattle.extract_plan.specs.Seeds as seeds
+use Rattle.assembler.specs.Assemblies.{SparedOver}
+use Rattle.command_steps.proofs.Asking.{each_got, few_each, none_dialed}
+use Rattle.command_steps.proofs.Lacked.{same_length}
+use Rattle.command_steps.specs.AnySources.{IsUnused, asked_in}
+use Rattle.command_steps.specs.Asking.{AsksFew, EachDialed}
+use Rattle.caibx_codec.specs.Listing.{size_of}
+use Rattle.extract_plan.specs.Deal.{first_of, want_id}
+use Rattle.http_wire.specs.declared.reply.Method.TheVariants as method
+use Rattle.image_commands.proofs.Spared.{cache_gives, of_told, spared_over}
+use Rattle.image_commands.specs.Extract.{IsSpared, twice_wanted}
 
 -- what is seen of the cache
 abbrev see : (g : Over) → Option (Shelved g.row.F-Folder.Denot) → Option Shelf
@@ -500,3 +510,126 @@ returns-clause-dialed g c =
 
 pub returns-clause-tells : goal.returns-clause-tells
 returns-clause-tells g c = (g.met.F.Files.told c.give.new.self).0 ∙ sym ((g.met.F.Files.told c.args.files.now).0)
+
+pub returns-in_default-clause-asks : goal.returns-in_default-clause-asks
+returns-in_default-clause-asks g c = λ p ls plan is. record {
+  plan = p;
+  planned = plan;
+  gets = λ spared are. none_dialed (AsksFew method.Get (twice_wanted c.args.planned.now.index p spared)) (λ s id. omega arith) (map (location_in g.F.Look.Look.place) c.args.stores.items) (g.D.Dial.state c.args.dial.now).ended;
+}
+
+pub returns-in-Err-clause-asks : goal.returns-in-Err-clause-asks
+returns-in-Err-clause-asks g c = λ p ls plan is. record {
+  plan = p;
+  planned = plan;
+  gets = λ spared are. none_dialed (AsksFew method.Get (twice_wanted c.args.planned.now.index p spared)) (λ s id. omega arith) (map (location_in g.F.Look.Look.place) c.args.stores.items) (g.D.Dial.state c.args.dial.now).ended;
+}
+
+pub returns-clause-asks : goal.returns-clause-asks
+returns-clause-asks g c = λ p ls plan is.
+    let at = g.F.Files.disk in
+    let e0 = see g c.args.shelf in
+    let e1 = see g c.assemble-ended.result.cache in
+    let d' = at c.args.files.now in
+    let d = with_cache e0 d' in
+    let b = at c.open_seeds.new.files in
+    let b2 = at c.take.new.self in
+    let bc = at c.give_cache-2.new.files in
+    let b3 = at c.close_sources.new.files in
+    let b4 = at c.close_seeds-2.new.files in
+    let e = at c.give.new.self in
+    let held = g.F.Target.View.held in
+    let view = g.F.View.View.held in
+    let view_faults = g.F.View.View.faults in
+    let at_place = g.F.Look.Look.place in
+    let place = place_in at_place in
+    let location = location_in at_place in
+    let state = g.D.Dial.state in
+    let k0 = state c.args.dial.now in
+    let k1 = state c.close_sources.new.dial in
+    let q = c.args.target.now in
+    let o : Into = record { name = q; fresh = c.args.fresh } in
+    let k = c.new-kit.result in
+    let back = c.assemble-ended.result.kits in
+    let j = c.swap_remove-kit.result in
+    let one = pushed c.args.kits.items c.push.new.self.items k c.push.result c.unwrap.result c.requires.room.0 c.unwrap.ensures c.push.ensures.items in
+    let other = alone back.items j (sym back.ok.0 ∙ c.assemble-ended.ensures.size) c.swap_remove-kit.ensures.value in
+    let before = k.chain.stores in
+    let after = j.chain.stores in
+    let names = map location before in
+    let w = sources d k0 in
+    let v = sources e k1 in
+    let l = c.args.planned.now.index in
+    let x = c.args.planned.now.places in
+    let z : Seeds = record { images = map image_name c.args.seeds.now; listings = ls } in
+    let items = k.seeds.items in
+    let views = map (seeds.held_in view) items in
+    let labels = map label_of views in
+    let over = c.assemble-ended.ensures in
+    let stores = over.stores.so k j one other in
+    let kept = over.seeds.so k j one other in
+    let t0 = (held c.in-Ok-take.taken).bytes in
+    let t1 = (held c.assemble-ended.result.target).bytes in
+    let f0 = g.F.Target.View.faults c.in-Ok-take.taken in
+    let f1 = g.F.Target.View.faults c.assemble-ended.result.target in
+    let opens = c.in-Ok.ensures in
+    let same : before ≡ c.args.stores.items = ap (λ k. k.stores) (c.new-kit.ensures.chain ∙ c.new.ensures.value) in
+    let zip : AllZip (IsViewed d b) z.images views = subst (λ v. AllZip (IsViewed d b) z.images (map (seeds.held_in view) v.items)) (sym c.new-kit.ensures.seeds) opens.found in
+    let unfailed : map (seeds.faults_in view_faults) items ≡ map {B = ℕ} (λ s. 0) items = subst (λ v. map (seeds.faults_in view_faults) v.items ≡ map {B = ℕ} (λ s. 0) v.items) (sym c.new-kit.ensures.seeds) opens.fresh in
+    let fresh_seeds : map (seeds.faults_in view_faults) items ≡ map {B = ℕ} (λ q. 0) labels = unfailed ∙ sym (zeros view items) in
+    let lent = given_adds e1 b2 bc c.give_cache-2.ensures.given in
+    let uncounted : b3.file_counts ≡ b2.file_counts = c.close_sources.ensures.counts ∙ given_files e1 b2 bc c.give_cache-2.ensures.given in
+    let took = subst (λ f. IfSome f (λ m. t0 ≡ Some (old_of m o))) opens.kept.files (c.in-Ok-take.ensures.bytes) in
+    let added = c.give.ensures.counts.counts.added in
+    let given : (y : List ℕ) → count_at b4.file_counts y ≤ count_at e.file_counts y = λ y. counted_le b4.file_counts e.file_counts _ c.give.ensures.counts.counts.counted y in
+    let le_mid : (y : List ℕ) → count_at d.file_counts y ≤ count_at b3.file_counts y = λ y.
+    let first = opens.kept.counts y in
+    let next = counted_le b.file_counts b2.file_counts _ c.in-Ok-take.ensures.counts.counts y in
+    let last : count_at b3.file_counts y ≡ count_at b2.file_counts y = ap (λ (m : Map ℕ). count_at m y) uncounted in
+    omega (arith, first, next, last) in
+    let le : count_at d.file_counts q ≤ count_at b4.file_counts q = omega (arith, le_mid q, c.close_seeds-2.ensures.kept.counts q) in
+    let rose : Rose f0 f1 → FileRose d e q = λ y. given_rose _ _ _ _ le added (rw c.in-Ok-take.ensures.fresh.0 at y) in
+    let located : (ys : List (AnySource g.row.F-Look.Denot g.row.D.Denot g.row.D-Link.Denot)) → map place ys ≡ map place before → map location ys ≡ names = λ ys placed. stand_still at_place before ys placed in
+    let after_at = located after stores.places in
+    let seeds_added : All (λ s. raised (count_at b3.file_counts (label_in view s)) (seeds.faults_in view_faults s) ≤ count_at e.file_counts (label_in view s)) j.seeds.items = λ n s lt.
+    let here = c.close_seeds-2.ensures.added n s lt in
+    let on = given (label_in view (slice_index_or j.seeds.items n s)) in
+    omega (arith, here, on) in
+    let labelled : map (label_in view) j.seeds.items ≡ labels = same_labels view items j.seeds.items kept.held ∙ labels_are view items in
+    let rises = store_rose (seeds.faults_in view_faults) (label_in view) d.file_counts b3.file_counts e.file_counts le_mid items j.seeds.items labels fresh_seeds labelled seeds_added in
+    let later : (y : List ℕ) → FileRose d b y → FileRose d e y = λ y.
+    let next = counted_le b.file_counts b2.file_counts _ c.in-Ok-take.ensures.counts.counts y in
+    let last : count_at b3.file_counts y ≡ count_at b2.file_counts y = ap (λ (m : Map ℕ). count_at m y) uncounted in
+    let more = c.close_seeds-2.ensures.kept.counts y in
+    let end = given y in
+    let on : count_at b.file_counts y ≤ count_at e.file_counts y = omega (arith, next, last, more, end) in
+    rose_longer (count_at d.file_counts y) (count_at b.file_counts y) (count_at e.file_counts y) on in
+    let holds = chunks_in g.F.Look.Look.files in
+    let cache = c.args.cache.now in
+    let stocked = over.stocked.so k j one other in
+    let reached : (y : List ℕ) → count_at d.folder_counts y ≤ count_at b2.folder_counts y = λ y.
+    let first = opens.kept.folder_counts y in
+    let last : count_at b2.folder_counts y ≡ count_at b.folder_counts y = ap (λ (m : Map ℕ). count_at m y) c.in-Ok-take.ensures.counts.folder_counts in
+    omega (arith, first, last) in
+    let stays : e.folder_counts ≡ b3.folder_counts = c.give.ensures.counts.folder_counts ∙ c.close_seeds-2.ensures.counts in
+    let ended : (y : List ℕ) → count_at bc.folder_counts y ≤ count_at e.folder_counts y = λ y.
+    let first = c.close_sources.ensures.kept.0.disk.folder_counts y in
+    let last : count_at e.folder_counts y ≡ count_at b3.folder_counts y = ap (λ (m : Map ℕ). count_at m y) stays in
+    omega (arith, first, last) in
+    let name = named g cache c.args.shelf c.requires.cache_named in
+    let name_now = name_after _ e0 e1 cache stocked name in
+    let none = fresh_faults g.F.Folder.Look.files g.F.Folder.Look.place g.F.Folder.Look.faults _ c.args.shelf c.requires.cache_fresh in
+    let shelf_rose = cache_rose d e b2 bc reached ended (cache_faults e0) e1 none c.give_cache-2.ensures.given in
+    let unused = subst (λ xs. All (IsUnused state) xs) (sym same) c.requires.unused in
+    let last_ended = rw c.into_stores.ensures.value at c.close_sources.ensures.ended in
+    record {
+      plan = p;
+      planned = plan;
+      gets = λ spared are.
+          let asked = over.asks.so p k j plan one other spared (λ i below yes. of_told d.files (λ m. IsSpared d e m cache o l z p i) (SparedOver holds view view_faults l p x t0 f0 f1 items j.seeds.items e0 e1 before i)
+          (λ m told so. spared_over holds before e0 e1 view view_faults d b e m told l p plan x o z items j.seeds.items zip is later rises t0 (subst (λ f. IfSome f (λ m. t0 ≡ Some (old_of m o))) told took) f0 f1 rose cache i below
+          (cache_gives holds before d e l (want_id l p i) (size_of l (first_of p i)) e0 e1 cache name_now (cached_there e0 cache name d'.folders (cache_told g c.args.files.now c.args.shelf)) shelf_rose) so) (are i below yes)) in
+          let few = few_each (asked_in method.Get state) (twice_wanted l p spared) before after (same_length place before after (sym stores.places)) (λ q n. asked.most q n) in
+          subst (λ xs. EachDialed (AsksFew method.Get (twice_wanted l p spared)) (map location xs) k0.ended k1.ended) same
+          (each_got at_place state (twice_wanted l p spared) before after names k0.ended k1.ended unused few after_at last_ended);
+    }

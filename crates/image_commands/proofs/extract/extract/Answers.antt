@@ -172,7 +172,7 @@ returns-then-in_place g c =
       ends = λ p.
           let ended : List Location → List (List ℕ) → List ℕ → Listing → Type 0 = λ n images q l. OutMade true n cache q l (record { images = map image_name images; listings = ls }) (world m k p) c.assemble_into.result (world e j p) in
           let made = c.assemble_into.ensures in
-          let over : ended (map (location_in g.F.Look.Look.place) items) c.as_slice-seeds.result.now c.as_str-then-in_place.result.now c.in-Ok.planned.index = ((made.assembled c.in-Ok.ensures.plan.0 ls (rw c.in-Ok.ensures.index c.in-Ok.ensures.plan.1) (rw c.in-Ok.ensures.index c.in-Ok.ensures.plan.2), made.kept, made.tells, made.dialed, made.numbered), refl) in
+          let over : ended (map (location_in g.F.Look.Look.place) items) c.as_slice-seeds.result.now c.as_str-then-in_place.result.now c.in-Ok.planned.index = ((made.assembled c.in-Ok.ensures.plan.0 ls (rw c.in-Ok.ensures.index c.in-Ok.ensures.plan.1) (rw c.in-Ok.ensures.index c.in-Ok.ensures.plan.2), made.kept, made.tells, made.dialed, made.numbered, made.asks c.in-Ok.ensures.plan.0 ls (rw c.in-Ok.ensures.index c.in-Ok.ensures.plan.1) (rw c.in-Ok.ensures.index c.in-Ok.ensures.plan.2)), refl) in
           let named = subst (λ q. ended (map (location_in g.F.Look.Look.place) items) c.as_slice-seeds.result.now q c.in-Ok.planned.index) c.as_str-then-in_place.ensures over in
           let into : ended names c.args.seeds c.args.target l =
           subst (λ n. ended n c.args.seeds c.args.target l) located (subst (λ q. ended (map (location_in g.F.Look.Look.place) items) q c.args.target l) c.as_slice-seeds.ensures

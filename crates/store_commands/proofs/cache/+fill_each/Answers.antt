@@ -1,10 +1,12 @@
-use Rattle.std.proofs.Common.{◌∙◌, ℕ, List, inl, inr, subst, sym}
+use Rattle.std.proofs.Common.{◌∙◌, ℕ, List, [], ◌∷◌, inl, inr, refl, subst, sym}
+use Rattle.command_steps.proofs.Asking.{none_more}
+use Rattle.http_wire.specs.declared.reply.Method.TheVariants as method
 use Rattle.std.proofs.lemmas.Result.{err_from_is_err_and}
 use Rattle.cache_store.specs.Shelves.{shelf_of}
 use Rattle.caibx_codec.specs.Listing.{Listing}
-use Rattle.command_steps.specs.AnySources.{chunks_in, faults_in, files_in, place_in, said_in}
+use Rattle.command_steps.specs.AnySources.{asked_in, chunks_in, faults_in, files_in, place_in, said_in}
 use Rattle.command_steps.specs.Openings.{Listed}
-use Rattle.store_commands.proofs.CacheFilled.{fill_passed, fill_stopped, fills_on, index_filled, stops}
+use Rattle.store_commands.proofs.CacheFilled.{fill_passed, fill_stopped, fills_on, index_filled, stops, few_first, few_then, front_more}
 use Rattle.store_commands.proofs.cache.+fill_each.Goals as goal
 use Rattle.store_commands.specs.Caching.{of_calls}
 use Rattle.store_chain.proofs.Kept.{kept_on, kept_still}
@@ -37,7 +39,7 @@ returns-in_err-answer_of-clause-filled g t c =
     let over = c.fill-filled.ensures in
     let listed = subst (λ (q : List ℕ). Listed (g.F.Files.disk c.args.files.now) q l) (c.in-Ok.ensures ∙ c.as_str.ensures) c.in_ok-index.ensures.ok in
     let order = stops (files_in files) (files_in files) (place_in g.F.Look.Look.place) said counted l (shelf_of D.files D.place D.faults old.shelf) (shelf_of D.files D.place D.faults new.shelf) old.chain.stores new.chain.stores
-    over.stores (λ s q. 0) (λ s q. 0) old.chain new.chain c.fill-filled.result over.order in
+    over.stores (asked_in method.Get g.D.Dial.state) (asked_in method.Head g.D.Dial.state) old.chain new.chain c.fill-filled.result over.order in
     let filled = index_filled (files_in files) (files_in files) (place_in g.F.Look.Look.place) said counted l (shelf_of D.files D.place D.faults old.shelf) (shelf_of D.files D.place D.faults new.shelf) old.chain.stores new.chain.stores
     over.stores c.fill-filled.result order over.stocks over.holds over.err over.exactly in
     let stopped = fill_stopped (of_calls (files_in files) said counted old.chain.stores new.chain.stores (D.faults old.shelf.folder) (D.faults new.shelf.folder)) l (D.files old.shelf.folder) (D.files new.shelf.folder)
@@ -58,7 +60,7 @@ returns-clause-filled g t c =
     let over = c.fill-filled.ensures in
     let listed = subst (λ (q : List ℕ). Listed (at c.args.files.now) q l) (c.in-Ok.ensures ∙ c.as_str.ensures) c.in_ok-index.ensures.ok in
     let order = stops (files_in files) (files_in files) (place_in g.F.Look.Look.place) said counted l (shelf_of D.files D.place D.faults old.shelf) (shelf_of D.files D.place D.faults mid.shelf) old.chain.stores mid.chain.stores
-    over.stores (λ s q. 0) (λ s q. 0) old.chain mid.chain c.fill-filled.result over.order in
+    over.stores (asked_in method.Get g.D.Dial.state) (asked_in method.Head g.D.Dial.state) old.chain mid.chain c.fill-filled.result over.order in
     let filled = index_filled (files_in files) (files_in files) (place_in g.F.Look.Look.place) said counted l (shelf_of D.files D.place D.faults old.shelf) (shelf_of D.files D.place D.faults mid.shelf) old.chain.stores mid.chain.stores
     over.stores c.fill-filled.result order over.stocks over.holds over.err over.exactly in
     let passed = fill_passed (of_calls (files_in files) said counted old.chain.stores mid.chain.stores (D.faults old.shelf.folder) (D.faults mid.shelf.folder)) l (D.files old.shelf.folder) (D.files mid.shelf.folder)
@@ -72,3 +74,33 @@ returns-clause-stores g t c =
     let files = g.F.Look.Look.files in
     kept_on (chunks_in files) (files_in files) (place_in g.F.Look.Look.place) (said_in files g.D.Dial.state) (faults_in g.F.Look.Look.faults g.D.Dial.state) c.args.cached.now.chain.stores c.fill-filled.new.cached.chain.stores c.fill_each.new.cached.chain.stores
     c.fill-filled.ensures.stores c.fill_each.ensures.stores
+
+pub returns-in_default-clause-asks : goal.returns-in_default-clause-asks
+returns-in_default-clause-asks g t c = ([], tt, none_more (asked_in method.Get g.D.Dial.state) c.args.cached.now.chain.stores c.args.cached.now.chain.stores refl)
+
+pub returns-in_default-of-clause-asks : goal.returns-in_default-of-clause-asks
+returns-in_default-of-clause-asks g t c = ([], tt, none_more (asked_in method.Get g.D.Dial.state) c.args.cached.now.chain.stores c.args.cached.now.chain.stores refl)
+
+pub returns-in_err-index-clause-asks : goal.returns-in_err-index-clause-asks
+returns-in_err-index-clause-asks g t c = ([], tt, none_more (asked_in method.Get g.D.Dial.state) c.args.cached.now.chain.stores c.args.cached.now.chain.stores refl)
+
+pub returns-in_err-answer_of-clause-asks : goal.returns-in_err-answer_of-clause-asks
+returns-in_err-answer_of-clause-asks g t c =
+    let get = asked_in method.Get g.D.Dial.state in
+    let l : Listing = c.in_ok-index.index in
+    let listed = subst (λ (q : List ℕ). Listed (g.F.Files.disk c.args.files.now) q l) (c.in-Ok.ensures ∙ c.as_str.ensures) c.in_ok-index.ensures.ok in
+    let few = few_first get l c.args.cached.now.chain.stores c.fill-filled.new.cached.chain.stores c.fill-filled.ensures.asks.stores in
+    (l ∷ [], rw c.in-Some.ensures.cases.0 (listed, tt), few)
+
+pub returns-clause-asks : goal.returns-clause-asks
+returns-clause-asks g t c =
+    let get = asked_in method.Get g.D.Dial.state in
+    let at = g.F.Files.disk in
+    let l : Listing = c.in_ok-index.index in
+    let listed = subst (λ (q : List ℕ). Listed (at c.args.files.now) q l) (c.in-Ok.ensures ∙ c.as_str.ensures) c.in_ok-index.ensures.ok in
+    let rest = c.fill_each.ensures.asks in
+    let few = few_then get l rest.0 c.args.cached.now.chain.stores c.fill-filled.new.cached.chain.stores c.fill_each.new.cached.chain.stores c.fill-filled.ensures.asks.stores rest.2 in
+    (l ∷ rest.0, rw c.in-Some.ensures.cases.0 (front_more (at c.args.files.now) (at c.read_index.new.files) c.in-Some.first.now c.in-Some.rest.now l rest.0 c.in_ok-index.ensures.kept listed rest.1), few)
+
+pub returns-clause-queries : goal.returns-clause-queries
+returns-clause-queries g t c = c.fill_each.ensures.queries ∙ c.fill-filled.ensures.asks.queries

@@ -3,12 +3,15 @@ use Rattle.cache_store.specs.Shelves.{shelf_of}
 use Rattle.command_words.specs.declared.command.Location.{Location}
 use Rattle.command_steps.proofs.Cached.{given_adds}
 use Rattle.command_steps.proofs.Given.{all_later, stand_still}
-use Rattle.command_steps.specs.AnySources.{IsGiven, IsKnown, faults_in, files_in, location_in, said_in}
+use Rattle.command_steps.specs.AnySources.{IsGiven, IsKnown, IsUnused, asked_in, faults_in, files_in, location_in, said_in, with_those}
+use Rattle.std.specs.List.{fold}
+use Rattle.command_steps.proofs.Asking.{each_asked, none_more}
+use Rattle.http_wire.specs.declared.reply.Method.TheVariants as method
 use Rattle.command_steps.specs.Cache.{CacheGiven, with_cache}
 use Rattle.command_steps.specs.Sources.{ConsultsStores, sources, told_at}
 use Rattle.store_commands.proofs.CacheFilled.{filled_between}
 use Rattle.store_commands.proofs.cache.fill_between.Goals as goal
-use Rattle.store_commands.specs.Caching.{FillsEach, of_calls}
+use Rattle.store_commands.specs.Caching.{FillsEach, listed_times, of_calls}
 
 pub give_shelf-requires : goal.give_shelf-requires
 give_shelf-requires g c =
@@ -78,6 +81,10 @@ returns g c =
     let gained = subst (λ ys. All (IsGiven place faults state (sources m k) (sources e j)) ys) last c.close_sources.ensures.given in
     let from = subst (λ f. FillsEach (of_calls told said counted before after (D.faults f.folder) t.faults) d0 b indexes (D.files f.folder) t.files c.fill_each-filled.result) began over.filled in
     let at_zero = subst (λ (n : ℕ). FillsEach (of_calls told said counted before after n t.faults) d0 b indexes s.files t.files c.fill_each-filled.result) c.requires.cache_fresh.0 from in
+    let asked = over.asks in
+    let ended = subst (λ ys. j.ended ≡ fold (with_those state) k.ended ys) last c.close_sources.ensures.ended in
+    let gets = each_asked place state (listed_times asked.0) (λ id. 0) before after names k.ended j.ended (subst (λ ys. All (IsUnused state) ys) (sym first) c.requires.unused) asked.2 (none_more (asked_in method.Head state) before after over.queries) located ended in
     record {
-      filled = filled_between files place faults state cache s t d0 b m e k j names before after c.requires.cache_named (over.place ∙ ap (λ f. D.place f.folder) began ∙ c.requires.cache_named) over.kept gives closed fresh located over.stores.files found gained indexes c.fill_each-filled.result at_zero;
+      filled = filled_between files place faults state cache s t d0 b m e k j names before after c.requires.cache_named (over.place ∙ ap (λ f. D.place f.folder) began ∙ c.requires.cache_named) over.kept gives closed fresh located over.stores.files found gained indexes c.fill_each-filled.result at_zero
+          (record { listings = asked.0; read = asked.1; gets = gets });
     }
