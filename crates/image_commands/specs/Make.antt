@@ -1,5 +1,6 @@
 -- `make -s STORE INDEX IMAGE`. A name is its bytes; t are the image's bytes.
-use Rattle.std.specs.Prelude.{◌≡◌, ◌≢◌, ◌⊎◌, min, ℕ, ◌<◌, List, [], ◌∷◌, slice_index, Option, Some, None, IfSome, IsTrue, not}
+use Rattle.std.specs.Prelude.{◌≡◌, ◌≢◌, ◌⊎◌, min, ℕ, ◌<◌, List, []}
+use Rattle.std.specs.Prelude.{◌∷◌, slice_index, Option, Some, None, IfSome, IsTrue, not}
 use Rattle.std.specs.Prelude.{Result, Ok, Err}
 use Rattle.std.specs.Option.{option_map}
 use Rattle.buzhash_cut.specs.Image.{HasTooManyCuts, IsIndexOfImage}

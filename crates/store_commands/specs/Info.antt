@@ -1,5 +1,6 @@
 -- `info -s STORE.. INDEX`.
-use Rattle.std.specs.Prelude.{◌≡◌, ◌⊎◌, ℕ, ◌<◌, ◌≤◌, if◌then◌else◌, List, length, map, Option, Some, None, IfSome, Result, Ok, Err}
+use Rattle.std.specs.Prelude.{◌≡◌, ◌⊎◌, ℕ, ◌<◌, ◌≤◌, if◌then◌else◌, List, length}
+use Rattle.std.specs.Prelude.{map, Option, Some, None, IfSome, Result, Ok, Err}
 use Rattle.caibx_codec.specs.Listing.{Listing, count_of, id_of}
 use Rattle.chunk_store.specs.Folders.{chunks}
 use Rattle.command_outcome.specs.declared.outcome.Outcome.{Outcome}

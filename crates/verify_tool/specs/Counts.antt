@@ -1,5 +1,6 @@
 -- How many of the listed ids stores hold, and how they are asked. A store is the map from ids to bytes that it holds.
-use Rattle.std.specs.Prelude.{◌≡◌, ℕ, ◌+◌, ◌<◌, ◌≤◌, ◌⊎◌, List, length, map, take, Bool, true, false, is_some, Some, Option}
+use Rattle.std.specs.Prelude.{◌≡◌, ℕ, ◌+◌, ◌<◌, ◌≤◌, ◌⊎◌, List, length}
+use Rattle.std.specs.Prelude.{map, take, Bool, true, false, is_some, Some, Option}
 use Rattle.std.specs.List.{All, AllZip, filter, list_any}
 use Rattle.std.specs.Set.{distinct_count, is_member}
 use Rattle.std.specs.Str.{bytes_eq}

@@ -1,6 +1,7 @@
 //! How many of the ids that an index lists a chain of stores has. Entries are numbered from 0.
 
-ghost use Rattle.std.specs.Prelude.{◌≡◌, ℕ, ◌≤◌, All, List, map, Some, IfOk, IfErr, OnOk, OnErr, cond, true, false, ◌&&◌};
+ghost use Rattle.std.specs.Prelude.{◌≡◌, ℕ, ◌≤◌, All, List, map, Some};
+ghost use Rattle.std.specs.Prelude.{IfOk, IfErr, OnOk, OnErr, cond, true, false, ◌&&◌};
 ghost use Rattle.std.specs.Prelude.{slice_index};
 ghost use Rattle.dsy_base.specs.Counts.{Rose};
 ghost use Rattle.dsy_base.specs.Maps.{Map};
