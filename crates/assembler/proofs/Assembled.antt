@@ -1,6 +1,6 @@
 -- What an assembly says of its sources, over the base. The fates are m after the survey and n at the end, and the counts
 -- of the target's faults a at first, b after the survey and c at the end.
-use Rattle.std.proofs.Common.{◌≡◌, ◌⊎◌, ◌++◌, IsTrue, ℕ, ◌<◌, ◌≤◌, List, length, map, slice_index, Bool, Option, Some, None, IfErr, IfSome, Result, OnOk, Ok, Err, true, false, refl, sym, ap, ◌∙◌, subst, inl, inr, arith}
+use Rattle.std.proofs.Common.{◌≡◌, ◌⊎◌, ◌++◌, ℕ, ◌<◌, ◌≤◌, List, length, map, slice_index, Bool, Option, Some, None, IfErr, IfSome, Result, OnOk, Ok, Err, true, false, refl, sym, ap, ◌∙◌, subst, inl, inr, arith}
 use Rattle.std.proofs.lemmas.Bool.{cases_Bool}
 use Rattle.assembler.proofs.Counted.{quiet_part}
 use Rattle.assembler.proofs.Based.{Surveyed, assembles_err, ends_map, leaves, leaves_torn, left_at, missed_at, right_all, right_at, some_map, told_map}
@@ -30,7 +30,7 @@ use Rattle.chunk_sources.specs.Asks.{IsSpared}
 use Rattle.chunk_sources.specs.Caches.{HaveOneSize, Stocked, TakesWants, cache_faults, cached_in}
 use Rattle.chunk_sources.specs.Economy.{source_of, source_over}
 use Rattle.chunk_sources.specs.Losses.{CopiesFailed}
-use Rattle.chunk_sources.specs.Sources.{SeedsGive}
+use Rattle.chunk_sources.specs.Sources.{SeedsGive, Telling}
 use Rattle.chunk_sources.specs.Wants.{IsAmong}
 use Rattle.chunk_sources.specs.declared.kit.Kit.{Kit}
 use Rattle.chunk_store.specs.Said.{Said}
@@ -146,7 +146,7 @@ module _ {S V : Type 0} (holds folder : S → Option (Map (List ℕ))) (place : 
     pub left : IfErr r (λ y. (y ≡ faults.Memory) ⊎ (Rose b c ⊎ ((i : ℕ) → i < count_of l → settled n i ≡ false → (lost : Lost)
         × (want_at d lost.entry ≡ want_at d i) × LostOver m b c k j e f lost)))
     pub torn : r ≡ Err faults.TargetFault → EndsTorn l d m n (λ i. WhereTold o t (λ y. FillsTorn l m n b c i (resized y (image_length l))))
-    pub had : IsTrue tells → (cached maps : List (Map (List ℕ))) → cached_in e ≡ Some cached → map holds k.chain.stores ≡ map Some maps
+    pub had : Telling tells (map (held_in view) k.seeds.items) → (cached maps : List (Map (List ℕ))) → cached_in e ≡ Some cached → map holds k.chain.stores ≡ map Some maps
         → (i : ℕ) → i < count_of l → settled n i ≡ true → HadAt l d x m (map (held_in view) k.seeds.items) (cached ++ maps) i
     pub asks : PassesAsk holds asked view view_faults l d x m b c k j e f
     pub firsts : FirstFates m (count_of l)
@@ -227,7 +227,7 @@ module _ {S V : Type 0} (holds folder : S → Option (Map (List ℕ))) (place : 
 
     -- ---- whatever fails
 
-    module _ (cached maps : List (Map (List ℕ))) (telling : IsTrue tells) (told_cache : cached_in e ≡ Some cached) (told : map holds k.chain.stores ≡ map Some maps) where
+    module _ (cached maps : List (Map (List ℕ))) (telling : Telling tells (map (held_in view) k.seeds.items)) (told_cache : cached_in e ≡ Some cached) (told : map holds k.chain.stores ≡ map Some maps) where
       abbrev Can : List ℕ → ℕ → Type 0
       Can y i = IsObtainable l d x (resized y (image_length l)) (map (held_in view) k.seeds.items) (cached ++ maps) i
 

@@ -185,7 +185,7 @@ module _ {T S V : Type 0} (held : T → Held) (faults : T → ℕ) (holds folder
       module _ (r : Result Unit Unsettled) (memory : HadMemory r) (all : OnOk r ((y : ℕ) → IsAmong (of_want d w) y → settled o y ≡ true))
           (exactly : (cached maps : List (Map (List ℕ))) → Nothing b j c i f h cached maps → SettlesBy (SourceFrom j n cached maps w) (count_of l) n o j.chain i.chain r) where
         earlier : (cached maps : List (Map (List ℕ))) → Nothing a k c i e h cached maps → Nothing a k b j e f cached maps
-        earlier cached maps nothing = nothing_first holds store_faults view_faults tells (faults a) (faults b) (faults c) k.seeds.items j.seeds.items i.seeds.items
+        earlier cached maps nothing = nothing_first holds store_faults view view_faults tells (faults a) (faults b) (faults c) k.seeds.items j.seeds.items i.seeds.items
             e f h k.chain.stores j.chain.stores i.chain.stores cached maps next.never_falls next.seeds.never_fall next.stores.never_fall
             (stocked_falls (TakesWants holds l d (λ v. v ≡ w) j.chain.stores) f h since) nothing
 
@@ -194,9 +194,9 @@ module _ {T S V : Type 0} (held : T → Held) (faults : T → ℕ) (holds folder
         now_by cached maps nothing one =
             let T = TakesWants holds l d (λ v. done v ≡ true) k.chain.stores in
             let later = stocked_told T e f cached stocked nothing.told_cache in
-            let by = exactly later.0 maps (nothing_next holds store_faults view_faults tells (faults a) (faults b) (faults c) k.seeds.items j.seeds.items i.seeds.items
+            let by = exactly later.0 maps (nothing_next holds store_faults view view_faults tells (faults a) (faults b) (faults c) k.seeds.items j.seeds.items i.seeds.items
             e f h k.chain.stores j.chain.stores i.chain.stores cached maps first.never_falls first.seeds.never_fall first.stores.never_fall
-            (stocked_falls T e f stocked) first.stores.held later.0 later.1 nothing) in
+            (stocked_falls T e f stocked) first.stores.held first.seeds.held later.0 later.1 nothing) in
             subst (λ (s : Fate). (i.chain.asks ≡ raised j.chain.asks (pass_asks s)) × SettledBy s (count_of l) n o r)
             (source_still cached later.0 maps nothing.told_cache later.1 nothing.told one) (by.0 memory, by.1)
 

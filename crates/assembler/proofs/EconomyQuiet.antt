@@ -3,9 +3,11 @@ use Rattle.std.proofs.Common.{◌≡◌, ℕ, ◌≤◌, List, map, slice_index,
 use Rattle.assembler.proofs.Counted.{quiet_part}
 use Rattle.cache_store.specs.Shelves.{Shelf}
 use Rattle.chunk_sources.specs.Caches.{cache_faults, cached_in}
+use Rattle.chunk_sources.proofs.SeedAnswers.{telling_on}
 use Rattle.chunk_sources.specs.Sources.{SourcesQuiet}
 use Rattle.dsy_base.specs.Maps.{Map}
-use Rattle.extract_plan.specs.Seeds.{faults_in}
+use Rattle.dsy_base.specs.Bytes.{Held}
+use Rattle.extract_plan.specs.Seeds.{faults_in, held_in}
 use Rattle.extract_plan.specs.declared.seed.Seed.{Seed}
 use Rattle.store_chain.specs.Faults.{EachQuiet, NoneFalls}
 
@@ -17,10 +19,10 @@ quiet_next : (a b c : List ℕ) → NoneFalls a b → EachQuiet a c → EachQuie
 quiet_next a b c fell quiet k = quiet_part (slice_index a k) (slice_index b k) (slice_index c k) (slice_index c k) (fell k) (omega arith) (quiet k)
 
 -- the target, the seeds and the stores before, between and after the two steps
-module _ {S V : Type 0} (holds : S → Option (Map (List ℕ))) (store_faults : S → ℕ) (view_faults : V → ℕ) (tells : Bool) (a b c : ℕ)
+module _ {S V : Type 0} (holds : S → Option (Map (List ℕ))) (store_faults : S → ℕ) (view : V → Held) (view_faults : V → ℕ) (tells : Bool) (a b c : ℕ)
     (s0 s1 s2 : List (Seed V)) (e0 e1 e2 : Option Shelf) (c0 c1 c2 : List S) (cached maps : List (Map (List ℕ))) where
   abbrev Nothing : ℕ → ℕ → List (Seed V) → List (Seed V) → Option Shelf → Option Shelf → List S → List S → List (Map (List ℕ)) → Type 0
-  Nothing old new s t e f c d has = SourcesQuiet holds store_faults view_faults tells old new s t e f c d has maps
+  Nothing old new s t e f c d has = SourcesQuiet holds store_faults view view_faults tells old new s t e f c d has maps
 
   abbrev seeds_counts : List (Seed V) → List ℕ
   seeds_counts s = map (faults_in view_faults) s
@@ -38,13 +40,13 @@ module _ {S V : Type 0} (holds : S → Option (Map (List ℕ))) (store_faults : 
   }
 
   pub nothing_next : a ≤ b → NoneFalls (seeds_counts s0) (seeds_counts s1) → NoneFalls (map store_faults c0) (map store_faults c1)
-      → cache_faults e0 ≤ cache_faults e1 → map holds c1 ≡ map holds c0 → (now : List (Map (List ℕ))) → cached_in e1 ≡ Some now
+      → cache_faults e0 ≤ cache_faults e1 → map holds c1 ≡ map holds c0 → map (held_in view) s1 ≡ map (held_in view) s0 → (now : List (Map (List ℕ))) → cached_in e1 ≡ Some now
       → Nothing a c s0 s2 e0 e2 c0 c2 cached → Nothing b c s1 s2 e1 e2 c1 c2 now
-  nothing_next ab seeds stores caches held now tells nothing = record {
+  nothing_next ab seeds stores caches held views now there nothing = record {
     target = quiet_part a b c c ab (omega arith) nothing.target;
-    telling = nothing.telling;
+    telling = telling_on tells (map (held_in view) s0) (map (held_in view) s1) views nothing.telling;
     seeds = quiet_next (seeds_counts s0) (seeds_counts s1) (seeds_counts s2) seeds nothing.seeds;
-    told_cache = tells;
+    told_cache = there;
     cache = quiet_part (cache_faults e0) (cache_faults e1) (cache_faults e2) (cache_faults e2) caches (omega arith) nothing.cache;
     told = held ∙ nothing.told;
     stores = quiet_next (map store_faults c0) (map store_faults c1) (map store_faults c2) stores nothing.stores;

@@ -1,9 +1,11 @@
 -- Where the chunks of settled entries came from, from one want to the next. The fates are m before the pass, now before
 -- the want and new after it.
-use Rattle.std.proofs.Common.{◌≡◌, ◌++◌, IsTrue, Some, Bool, ℕ, ◌<◌, List, length, map, Option, true, false, refl, sym, ◌∙◌, subst, inl, inr, arith}
+use Rattle.std.proofs.Common.{◌≡◌, ◌++◌, Some, Bool, ℕ, ◌<◌, List, length, map, Option, true, false, refl, sym, ◌∙◌, subst, inl, inr, arith}
 use Rattle.std.proofs.lemmas.Bool.{cases_Bool}
 use Rattle.assembler.proofs.Stocking.{gave_from}
 use Rattle.cache_store.specs.Shelves.{Shelf}
+use Rattle.chunk_sources.proofs.SeedAnswers.{telling_on}
+use Rattle.chunk_sources.specs.Sources.{Telling}
 use Rattle.chunk_sources.proofs.Cached.{stocked_told}
 use Rattle.chunk_sources.specs.Caches.{Stocked, TakesWants, cached_in}
 use Rattle.chunk_sources.specs.Losses.{Had}
@@ -24,7 +26,7 @@ use Rattle.store_chain.specs.Chains.{KeepsStores}
 -- this is known of each settled entry, where the cache e and the stores hold maps
 abbrev pub HadUpTo : {S : Type 0} → Listing → Deal → Placed → Bool → (S → Option (Map (List ℕ))) → List Fate → List (Option Held)
     → Option Shelf → List S → List Fate → Type 0
-HadUpTo l d x tells holds m views e s0 now = IsTrue tells → (cached maps : List (Map (List ℕ))) → cached_in e ≡ Some cached → map holds s0 ≡ map Some maps
+HadUpTo l d x tells holds m views e s0 now = Telling tells views → (cached maps : List (Map (List ℕ))) → cached_in e ≡ Some cached → map holds s0 ≡ map Some maps
     → (i : ℕ) → i < count_of l → settled now i ≡ true → HadAt l d x m views (cached ++ maps) i
 
 module _ (l : Listing) (d : Deal) (x : Placed) (wants : AreWants l d.wants d.want_of) where
@@ -75,7 +77,7 @@ module _ (l : Listing) (d : Deal) (x : Placed) (wants : AreWants l d.wants d.wan
       → KeepsStores holds folder place said faults s0 s1 → after ≡ views
       → HadUpTo l d x tells holds m views e s0 now
       → ((i : ℕ) → settled now i ≡ false → settled new i ≡ true → IsAmong (of_want d w) i)
-      → (IsTrue tells → (cached maps : List (Map (List ℕ))) → cached_in f ≡ Some cached → map holds s1 ≡ map Some maps
+      → (Telling tells after → (cached maps : List (Map (List ℕ))) → cached_in f ≡ Some cached → map holds s1 ≡ map Some maps
       → (i : ℕ) → settled now i ≡ false → settled new i ≡ true → Had now (of_want d w) after (places_at x w) (kind_of l) (id_of l i) (size_of l i) (cached ++ maps))
       → HadUpTo l d x tells holds m views e s0 new
   had_more tells holds folder place said faults m now new views after e f s0 s1 w A stocked first same before only had = λ told cached maps has are.
@@ -83,7 +85,7 @@ module _ (l : Listing) (d : Deal) (x : Placed) (wants : AreWants l d.wants d.wan
       had_on m now new views (cached ++ maps) w (before told cached maps has are) only
       (λ i isnt is. subst (λ v. Had now (of_want d w) v (places_at x w) (kind_of l) (id_of l i) (size_of l i) (cached ++ maps)) same
       (had_from holds A s0 e f cached later.0 maps stocked has later.1 are now (of_want d w) after (places_at x w) (id_of l i) (size_of l i)
-      (had told later.0 maps later.1 (first.held ∙ are) i isnt is)))
+      (had (telling_on tells views after same told) later.0 maps later.1 (first.held ∙ are) i isnt is)))
 
   -- over a second pass: what it took from entries that were settled by then, these had from before
   pub had_through : (m0 m1 : List Fate) (views : List (Option Held)) (maps : List (Map (List ℕ))) (i : ℕ) → i < count_of l

@@ -1,5 +1,5 @@
 -- A pass over the wants, from one want to the next.
-use Rattle.std.proofs.Common.{◌≡◌, ◌⊎◌, ◌++◌, ℕ, ◌+◌, ◌<◌, ◌≤◌, List, map, Bool, Option, IsTrue, Some, true, false, is_some}
+use Rattle.std.proofs.Common.{◌≡◌, ◌⊎◌, ◌++◌, ℕ, ◌+◌, ◌<◌, ◌≤◌, List, map, Bool, Option, Some, true, false, is_some}
 use Rattle.assembler.proofs.Asked.{AsksUpTo, Last, asks_none, up_to_all, up_to_more}
 use Rattle.assembler.proofs.HadOn.{HadUpTo, had_more, had_none}
 use Rattle.assembler.proofs.Stepped.{step_none, step_on}
@@ -7,6 +7,7 @@ use Rattle.cache_store.specs.Shelves.{Shelf}
 use Rattle.assembler.specs.Kits.{Step}
 use Rattle.assembler.specs.Passes.{PassAsks}
 use Rattle.caibx_codec.specs.Listing.{Listing, id_of, kind_of, size_of}
+use Rattle.chunk_sources.specs.Sources.{Telling}
 use Rattle.chunk_sources.specs.Asks.{asks_below}
 use Rattle.chunk_sources.specs.Caches.{Stocked, TakesWants, cached_in}
 use Rattle.chunk_sources.proofs.Cached.{stocked_falls}
@@ -27,7 +28,7 @@ module _ {T S V : Type 0} (held : T → Held) (faults : T → ℕ) (holds folder
   -- what the call for want w leaves
   pub record Settles (w : ℕ) (a : T) (k : Kit S V) (m : List Fate) (b : T) (j : Kit S V) (n : List Fate) (e f : Option Shelf) : Type 0 where
     pub only : (i : ℕ) → settled m i ≡ false → settled n i ≡ true → IsAmong (of_want d w) i
-    pub had : IsTrue tells → (cached maps : List (Map (List ℕ))) → cached_in e ≡ Some cached → map holds k.chain.stores ≡ map Some maps
+    pub had : Telling tells (map (held_in view) k.seeds.items) → (cached maps : List (Map (List ℕ))) → cached_in e ≡ Some cached → map holds k.chain.stores ≡ map Some maps
         → (i : ℕ) → settled m i ≡ false → settled n i ≡ true
         → Had m (of_want d w) (map (held_in view) k.seeds.items) (places_at x w) (kind_of l) (id_of l i) (size_of l i) (cached ++ maps)
     pub asks : (j.chain ≡ k.chain) ⊎ Last holds view view_faults l d x asked queried m (faults a) (faults b) k.seeds.items j.seeds.items e f k.chain j.chain w

@@ -107,11 +107,11 @@ module _ {S V : Type 0} (holds folder : S → Option (Map (List ℕ))) (place : 
       pub stores : RefusedOnce holds folder place said store_faults lacks_memory view view_faults l d x lost
           k.chain.stores j.chain.stores
 
-  -- nothing fails: the target, the seeds, the cache and the stores, which hold these maps, are quiet, and the seeds
-  -- tell
+  -- nothing fails: the target, the seeds, the cache and the stores, which hold these maps, are quiet, and the seeds'
+  -- views tell, where there are any
   abbrev pub NothingFails : Bool → ℕ → ℕ → Kit S V → Kit S V → Option Shelf → Option Shelf → List (Map (List ℕ))
       → List (Map (List ℕ)) → Type 0
-  NothingFails tells old new k j e0 e1 cached maps = SourcesQuiet holds store_faults view_faults tells old new
+  NothingFails tells old new k j e0 e1 cached maps = SourcesQuiet holds store_faults view view_faults tells old new
       k.seeds.items j.seeds.items e0 e1 k.chain.stores j.chain.stores cached maps
 
 -- want w is had without the stores: an entry of it is right in the base, and the target didn't fail; or a seed gives it

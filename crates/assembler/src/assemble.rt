@@ -1,6 +1,6 @@
 //! The assembly of an image: the length, the survey, and two passes over what isn't right.
 
-ghost use Rattle.std.specs.Prelude.{◌≡◌, ◌⊎◌, ◌++◌, ℕ, List, IsTrue, ◌+◌, ◌<◌, ◌≤◌, length, map, None, Some, IfSome};
+ghost use Rattle.std.specs.Prelude.{◌≡◌, ◌⊎◌, ◌++◌, ℕ, List, ◌+◌, ◌<◌, ◌≤◌, length, map, None, Some, IfSome};
 ghost use Rattle.std.specs.Prelude.{IfOk, IfErr, OnOk, true, false, vec_len, Err};
 ghost use Rattle.std.specs.List.{All};
 ghost use Rattle.assembler.specs.Assemblies.{After, Assembles, AssemblyAsks, IsObtainable, IsUnobtained, NothingFails};
@@ -16,7 +16,7 @@ ghost use Rattle.assembler.specs.declared.fault.Lost.{Lost};
 ghost use Rattle.caibx_codec.specs.Listing.{count_of, image_length, kind_of, size_of};
 ghost use Rattle.chunk_sources.specs.Caches.{HaveOneSize, Stocked, TakesListed, TakesWants, cached_in, seen};
 ghost use Rattle.chunk_sources.specs.Economy.{source_of, source_over};
-ghost use Rattle.chunk_sources.specs.Sources.{KeepsSeeds};
+ghost use Rattle.chunk_sources.specs.Sources.{KeepsSeeds, Telling};
 ghost use Rattle.dsy_base.specs.Bytes.{held_resized, resized};
 ghost use Rattle.dsy_base.specs.Counts.{Quiet, Rose};
 ghost use Rattle.dsy_base.specs.Maps.{Map};
@@ -73,7 +73,7 @@ fn settle_all<T: Part, S: Store, V: View, F: Folder>(
         × IsLost S.holds S.folder S.place S.said S.faults S.may_lack_memory V.held V.faults index.now plan.now
         places.now fates.old (T.faults target.old) (T.faults target.new) kit.old kit.new
         (seen F.files F.place F.faults cache.old) (seen F.files F.place F.faults cache.new) lost))) }
-    ensures had { IsTrue V.tells → (cached maps : List (Map (List ℕ))) →
+    ensures had { Telling V.tells (map (held_in V.held) kit.old.seeds.items) → (cached maps : List (Map (List ℕ))) →
         cached_in (seen F.files F.place F.faults cache.old) ≡ Some cached →
         map S.holds kit.old.chain.stores ≡ map Some maps → (i : ℕ) → i < count_of index.now →
         settled fates.new i ≡ true →
@@ -164,7 +164,7 @@ fn assemble_lent<T: Target, S: Store, V: View, F: Folder>(
         V.faults index.now plan.now places.now (T.held target.old).bytes (T.faults target.old) (T.faults target.new)
         kit.old kit.new (seen F.files F.place F.faults cache.old) (seen F.files F.place F.faults cache.new) lost)
         (Rose (T.faults target.old) (T.faults target.new)) result }
-    ensures had { IsTrue V.tells → (cached maps : List (Map (List ℕ))) →
+    ensures had { Telling V.tells (map (held_in V.held) kit.old.seeds.items) → (cached maps : List (Map (List ℕ))) →
         cached_in (seen F.files F.place F.faults cache.old) ≡ Some cached →
         map S.holds kit.old.chain.stores ≡ map Some maps → WhereTold (T.held target.old).bytes (T.held target.new).bytes
         (λ o t. OnlyObtainable index.now (IsObtainable index.now plan.now places.now
@@ -259,7 +259,8 @@ pub fn assemble<T: Target, S: Store, V: View, F: Folder>(
         (T.held target).bytes (T.faults target) (T.faults result.target) k j (seen F.files F.place F.faults cache)
         (seen F.files F.place F.faults result.cache) lost) (Rose (T.faults target) (T.faults result.target))
         result.answer) }
-    ensures had { ByPlan index.now kits.items result.kits.items (λ d k j. IsTrue V.tells →
+    ensures had { ByPlan index.now kits.items result.kits.items (λ d k j.
+        Telling V.tells (map (held_in V.held) k.seeds.items) →
         (cached maps : List (Map (List ℕ))) → cached_in (seen F.files F.place F.faults cache) ≡ Some cached →
         map S.holds k.chain.stores ≡ map Some maps → WhereTold (T.held target).bytes (T.held result.target).bytes
         (λ o t. OnlyObtainable index.now (IsObtainable index.now d places.now (resized o (image_length index.now))

@@ -1,6 +1,6 @@
 //! The first pass of an assembly: each want once, in rising order.
 
-ghost use Rattle.std.specs.Prelude.{◌≡◌, ◌++◌, ◌≢◌, ℕ, List, IsTrue, ◌<◌, length, map, None, Some, IfSome, OnOk, Err};
+ghost use Rattle.std.specs.Prelude.{◌≡◌, ◌++◌, ◌≢◌, ℕ, List, ◌<◌, length, map, None, Some, IfSome, OnOk, Err};
 ghost use Rattle.std.specs.Prelude.{true, false};
 ghost use Rattle.assembler.specs.Assemblies.{NothingFails};
 ghost use Rattle.assembler.specs.Economy.{PassedBy};
@@ -10,6 +10,7 @@ ghost use Rattle.assembler.specs.declared.fault.Lost.{Lost};
 ghost use Rattle.caibx_codec.specs.Listing.{count_of};
 ghost use Rattle.chunk_sources.specs.Caches.{HaveOneSize, Stocked, TakesWants, cached_in, seen};
 ghost use Rattle.chunk_sources.specs.Economy.{source_over};
+ghost use Rattle.chunk_sources.specs.Sources.{Telling};
 ghost use Rattle.dsy_base.specs.Maps.{Map};
 ghost use Rattle.extract_plan.specs.Seeds.{held_in};
 ghost use Rattle.range_survey.specs.Fates.{settled};
@@ -53,7 +54,7 @@ pub(crate) fn fill<T: Part, S: Store, V: View, F: Folder>(
         (length kit.old.seeds.items) (length kit.old.buffer.items) fates.old }
     requires unnamed { (F.pairs ≡ None) × (F.stores ≡ None) }
     requires cache { IfSome (seen F.files F.place F.faults cache.old) (λ s. s.kind ≡ kit.old.chain.kind) }
-    ensures had { IsTrue V.tells → (cached maps : List (Map (List ℕ))) →
+    ensures had { Telling V.tells (map (held_in V.held) kit.old.seeds.items) → (cached maps : List (Map (List ℕ))) →
         cached_in (seen F.files F.place F.faults cache.old) ≡ Some cached →
         map S.holds kit.old.chain.stores ≡ map Some maps → (i : ℕ) → i < count_of index.now →
         settled fates.new i ≡ true →

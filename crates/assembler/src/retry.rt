@@ -1,6 +1,6 @@
 //! The second pass of an assembly: the entries that are still open, in rising order, each want once.
 
-ghost use Rattle.std.specs.Prelude.{◌≡◌, ◌++◌, ◌⊎◌, ℕ, List, IsTrue, ◌<◌, length, map, None, Some, IfSome, OnOk, IfErr};
+ghost use Rattle.std.specs.Prelude.{◌≡◌, ◌++◌, ◌⊎◌, ℕ, List, ◌<◌, length, map, None, Some, IfSome, OnOk, IfErr};
 ghost use Rattle.std.specs.Prelude.{true, false, Err};
 ghost use Rattle.assembler.specs.Assemblies.{NothingFails};
 ghost use Rattle.assembler.specs.Economy.{PassedBy, UnlessMemory};
@@ -12,6 +12,7 @@ ghost use Rattle.assembler.specs.declared.fault.Lost.{Lost};
 ghost use Rattle.caibx_codec.specs.Listing.{count_of};
 ghost use Rattle.chunk_sources.specs.Caches.{HaveOneSize, Stocked, TakesWants, cached_in, seen};
 ghost use Rattle.chunk_sources.specs.Economy.{source_over};
+ghost use Rattle.chunk_sources.specs.Sources.{Telling};
 ghost use Rattle.dsy_base.specs.Counts.{Rose};
 ghost use Rattle.dsy_base.specs.Maps.{Map};
 ghost use Rattle.extract_plan.specs.Seeds.{held_in};
@@ -65,7 +66,7 @@ pub(crate) fn retry<T: Part, S: Store, V: View, F: Folder>(
         S.may_lack_memory V.held V.faults index.now plan.now places.now fates.old (T.faults target.old)
         (T.faults target.new) kit.old kit.new (seen F.files F.place F.faults cache.old)
         (seen F.files F.place F.faults cache.new) lost))) }
-    ensures had { IsTrue V.tells → (cached maps : List (Map (List ℕ))) →
+    ensures had { Telling V.tells (map (held_in V.held) kit.old.seeds.items) → (cached maps : List (Map (List ℕ))) →
         cached_in (seen F.files F.place F.faults cache.old) ≡ Some cached →
         map S.holds kit.old.chain.stores ≡ map Some maps → (i : ℕ) → i < count_of index.now →
         settled fates.new i ≡ true →

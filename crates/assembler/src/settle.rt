@@ -1,6 +1,6 @@
 //! Settling the entries of one want.
 
-ghost use Rattle.std.specs.Prelude.{◌≡◌, ◌≢◌, ◌⊎◌, ◌++◌, ℕ, List, IsTrue, ◌<◌, ◌≤◌, ◌^◌, length, map, slice_index};
+ghost use Rattle.std.specs.Prelude.{◌≡◌, ◌≢◌, ◌⊎◌, ◌++◌, ℕ, List, ◌<◌, ◌≤◌, ◌^◌, length, map, slice_index};
 ghost use Rattle.std.specs.Prelude.{true, false, None, Some, IfSome, OnOk, MatchOption, Err};
 ghost use Rattle.assembler.specs.Assemblies.{NothingFails};
 ghost use Rattle.assembler.specs.Economy.{SettlesBy};
@@ -11,7 +11,7 @@ ghost use Rattle.caibx_codec.specs.Listing.{count_of, id_of, kind_of, size_of, i
 ghost use Rattle.chunk_sources.specs.Caches.{CacheLacks, Stocked, TakesChunk, TakesWants, cached_in, seen};
 ghost use Rattle.chunk_sources.specs.Economy.{source_among, source_over};
 ghost use Rattle.chunk_sources.specs.Losses.{AskedLast, Had, RefusedBy, chunk_of};
-ghost use Rattle.chunk_sources.specs.Sources.{KeepsSeeds, SourcesQuiet};
+ghost use Rattle.chunk_sources.specs.Sources.{KeepsSeeds, SourcesQuiet, Telling};
 ghost use Rattle.chunk_sources.specs.Wants.{AllOf, IsAmong};
 ghost use Rattle.dsy_base.specs.Counts.{Rose};
 ghost use Rattle.dsy_base.specs.Maps.{Map};
@@ -83,7 +83,7 @@ fn settle_open<T: Part, S: Store, V: View, F: Folder>(
     ensures ok { OnOk result ((i : ℕ) → IsAmong sought.now.entries.now i → settled fates.new i ≡ true) }
     ensures only { (i : ℕ) → settled fates.old i ≡ false → settled fates.new i ≡ true →
         IsAmong sought.now.entries.now i }
-    ensures had { IsTrue V.tells → (cached maps : List (Map (List ℕ))) →
+    ensures had { Telling V.tells (map (held_in V.held) seeds.old) → (cached maps : List (Map (List ℕ))) →
         cached_in (seen F.files F.place F.faults cache.old) ≡ Some cached →
         map S.holds chain.old.stores ≡ map Some maps → (i : ℕ) → settled fates.old i ≡ false →
         settled fates.new i ≡ true →
@@ -111,7 +111,7 @@ fn settle_open<T: Part, S: Store, V: View, F: Folder>(
         (seen F.files F.place F.faults cache.new) chain.old chain.new }
 
     // Where nothing fails.
-    ensures exactly { (cached maps : List (Map (List ℕ))) → SourcesQuiet S.holds S.faults V.faults V.tells
+    ensures exactly { (cached maps : List (Map (List ℕ))) → SourcesQuiet S.holds S.faults V.held V.faults V.tells
         (T.faults target.old) (T.faults target.new) seeds.old seeds.new (seen F.files F.place F.faults cache.old)
         (seen F.files F.place F.faults cache.new) chain.old.stores chain.new.stores cached maps →
         SettlesBy (source_among (settled fates.old) sought.now.entries.now (map (held_in V.held) seeds.old)
@@ -160,7 +160,7 @@ pub(crate) fn settle<T: Part, S: Store, V: View, F: Folder>(
     ensures ok { OnOk result ((i : ℕ) → IsAmong (of_want plan.now want) i → settled fates.new i ≡ true) }
     ensures only { (i : ℕ) → settled fates.old i ≡ false → settled fates.new i ≡ true →
         IsAmong (of_want plan.now want) i }
-    ensures had { IsTrue V.tells → (cached maps : List (Map (List ℕ))) →
+    ensures had { Telling V.tells (map (held_in V.held) kit.old.seeds.items) → (cached maps : List (Map (List ℕ))) →
         cached_in (seen F.files F.place F.faults cache.old) ≡ Some cached →
         map S.holds kit.old.chain.stores ≡ map Some maps → (i : ℕ) → settled fates.old i ≡ false →
         settled fates.new i ≡ true →

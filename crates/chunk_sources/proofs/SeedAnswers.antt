@@ -1,10 +1,10 @@
 -- What the answer of one seed says of the list of seeds, in which it is replaced by what it is after the call.
-use Rattle.std.proofs.Common.{◌≡◌, ℕ, zero, suc, ◌<◌, ◌≤◌, List, [], ◌∷◌, length, map, get_or, Option, Some, None, IfSome, IsSomeAnd, unwrap_or, inl, inr, sym, refl, ap, ◌∙◌, ◌+◌, subst, below_more, arith}
+use Rattle.std.proofs.Common.{◌≡◌, ℕ, zero, suc, ◌<◌, ◌≤◌, List, [], ◌∷◌, length, map, get_or, slice_index_or, Bool, IsTrue, IsSome, is_some, true, false, Option, Some, None, IfSome, IsSomeAnd, unwrap_or, inl, inr, sym, refl, ap, ◌∙◌, ◌+◌, subst, below_more, arith}
 use Rattle.std.proofs.Math.ListN.{set}
 use Rattle.std.proofs.lemmas.List.{get_or-map, get_or_default}
 use Rattle.std.specs.List.{Any}
 use Rattle.std.specs.Option.{option_map}
-use Rattle.chunk_sources.specs.Sources.{GivesAt, HeldAt}
+use Rattle.chunk_sources.specs.Sources.{GivesAt, HeldAt, Telling}
 use Rattle.chunk_store.specs.Names.{name_of}
 use Rattle.chunk_store.specs.declared.id.DigestKind.TheVariants.{Sha512T256}
 use Rattle.dsy_base.proofs.Counts.{rose_later}
@@ -89,3 +89,19 @@ any_at P xs i d inside holds = (i, get_or xs i d, inside, get_or_default xs i (g
 
 pub falls_on : (old now new : List ℕ) → NoneFalls old now → NoneFalls now new → NoneFalls old new
 falls_on old now new fell falls k = omega (arith, fell k, falls k)
+
+-- what a seed gave it has, where the type of views tells so
+pub given_at : {V : Type 0} (tells : Bool) (held : V → Held) → ((v : V) → is_some (held v).bytes ≡ tells) → (old : Option V) (views : List (Option Held)) (p : SeedPlace) (id out : List ℕ)
+    → p.seed < length views → slice_index_or views p.seed None ≡ option_map held old → Answers (option_map held old) p id out answers.Given → Telling tells views
+    → HeldAt views p id
+given_at tells held told None views p id out inside at value telling = let no : answers.Given ≡ answers.Wrong = value in absurd (cc)
+given_at tells held told (Some v) views p id out inside at value telling =
+    let some : Any (λ (w : Option Held). IsSome w) views = any_at (λ (w : Option Held). IsSome w) views p.seed None inside (subst (λ (w : Option Held). IsSome w) (sym at) refl) in
+    subst (λ w. GivesAt w p id) (sym at) (value.inside, gives (held v).bytes (subst (λ (b : Bool). IsTrue b) (sym (told v)) (telling some)) value.named value.bytes) where
+      gives : (bytes : Option (List ℕ)) → IsTrue (is_some bytes) → name_of Sha512T256 out ≡ id → IfSome bytes (λ t. out ≡ bytes_at p t) → IsSomeAnd bytes (λ t. name_of Sha512T256 (bytes_at p t) ≡ id)
+      gives None some named is = let no : false ≡ true = some in absurd (cc)
+      gives (Some t) some named is = ap (name_of Sha512T256) (sym is) ∙ named
+
+-- where seeds hold what they held, the type tells so still
+pub telling_on : (tells : Bool) (views after : List (Option Held)) → after ≡ views → Telling tells views → Telling tells after
+telling_on tells views after same telling = subst (Telling tells) (sym same) telling

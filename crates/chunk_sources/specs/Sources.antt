@@ -1,6 +1,6 @@
 -- Where chunks come from.
 use Rattle.std.specs.Prelude.{◌≡◌, ℕ, ◌≤◌, List, slice_index_or, slice_index, Option, Some, None, IsSomeAnd, map, Bool}
-use Rattle.std.specs.Prelude.{IsTrue}
+use Rattle.std.specs.Prelude.{IsSome, IsTrue}
 use Rattle.std.specs.List.{All, Any}
 use Rattle.cache_store.specs.Shelves.{Shelf}
 use Rattle.chunk_sources.specs.Caches.{cache_faults, cached_in}
@@ -36,13 +36,17 @@ pub record KeepsSeeds {V : Type 0} (view : V → Held) (view_faults : V → ℕ)
   pub held : map (held_in view) new ≡ map (held_in view) old
   pub never_fall : NoneFalls (map (faults_in view_faults) old) (map (faults_in view_faults) new)
 
+-- where there is a seed with a view, whose type tells so
+abbrev pub Telling : Bool → List (Option Held) → Type 0
+Telling tells views = Any (λ v. IsSome v) views → IsTrue tells
+
 -- nothing fails that chunks come from: the target, the seeds, the cache and the stores, which hold these maps, are
--- quiet, and the seeds tell
-pub record SourcesQuiet {S V : Type 0} (holds : S → Option (Map (List ℕ))) (store_faults : S → ℕ) (view_faults : V → ℕ)
-    (tells : Bool) (old new : ℕ) (s0 s1 : List (Seed V)) (e0 e1 : Option Shelf) (c0 c1 : List S)
+-- quiet, and the seeds' views tell, where there are any
+pub record SourcesQuiet {S V : Type 0} (holds : S → Option (Map (List ℕ))) (store_faults : S → ℕ) (view : V → Held)
+    (view_faults : V → ℕ) (tells : Bool) (old new : ℕ) (s0 s1 : List (Seed V)) (e0 e1 : Option Shelf) (c0 c1 : List S)
     (cached maps : List (Map (List ℕ))) : Type 0 where
   pub target : Quiet old new
-  pub telling : IsTrue tells
+  pub telling : Telling tells (map (held_in view) s0)
   pub seeds : EachQuiet (map (faults_in view_faults) s0) (map (faults_in view_faults) s1)
   pub told_cache : cached_in e0 ≡ Some cached
   pub cache : Quiet (cache_faults e0) (cache_faults e1)

@@ -1,12 +1,12 @@
 //! Getting the chunk of a want: from an entry of the target that has it, from a seed, from the cache, or from a store.
 
-ghost use Rattle.std.specs.Prelude.{◌≡◌, ◌≢◌, ◌⊎◌, ◌++◌, ℕ, List, IsTrue, ◌<◌, ◌≤◌, ◌^◌, length, map, true, None, Some};
+ghost use Rattle.std.specs.Prelude.{◌≡◌, ◌≢◌, ◌⊎◌, ◌++◌, ℕ, List, ◌<◌, ◌≤◌, ◌^◌, length, map, true, None, Some};
 ghost use Rattle.std.specs.Prelude.{IfSome, IfOk, IfErr, OnOk};
 ghost use Rattle.caibx_codec.specs.Listing.{count_of, kind_of, image_length};
 ghost use Rattle.chunk_sources.specs.Caches.{CacheLacks, Stocked, TakesChunk, cached_in, seen};
 ghost use Rattle.chunk_sources.specs.Economy.{ObtainedBy, is_made, source_among};
 ghost use Rattle.chunk_sources.specs.Losses.{AskedLast, Had, RefusedBy, chunk_of};
-ghost use Rattle.chunk_sources.specs.Sources.{KeepsSeeds, SourcesQuiet};
+ghost use Rattle.chunk_sources.specs.Sources.{KeepsSeeds, SourcesQuiet, Telling};
 ghost use Rattle.chunk_sources.specs.Wants.{AllOf};
 ghost use Rattle.chunk_store.specs.Names.{name_of};
 ghost use Rattle.dsy_base.specs.Maps.{Map};
@@ -62,7 +62,7 @@ pub fn obtain<T: View, S: Store, V: View, F: Folder>(
         (λ t. name_of (kind_of index.now) chunk.new ≡ sought.now.id.0)) }
     ensures origin { IfOk result (λ f. is_settled f ≡ true) }
     ensures made { IfOk result (λ f. is_made f ≡ true) }
-    ensures had { IsTrue V.tells → (cached maps : List (Map (List ℕ))) →
+    ensures had { Telling V.tells (map (held_in V.held) seeds.old) → (cached maps : List (Map (List ℕ))) →
         cached_in (seen F.files F.place F.faults cache.old) ≡ Some cached →
         map S.holds chain.old.stores ≡ map Some maps → OnOk result (Had fates.now sought.now.entries.now
         (map (held_in V.held) seeds.old) sought.now.places.now (kind_of index.now) sought.now.id.0 (length chunk.old)
@@ -82,7 +82,7 @@ pub fn obtain<T: View, S: Store, V: View, F: Folder>(
         (seen F.files F.place F.faults cache.new) chain.old chain.new) }
 
     // Where nothing fails.
-    ensures exactly { (cached maps : List (Map (List ℕ))) → SourcesQuiet S.holds S.faults V.faults V.tells
+    ensures exactly { (cached maps : List (Map (List ℕ))) → SourcesQuiet S.holds S.faults V.held V.faults V.tells
         (T.faults target.old) (T.faults target.new) seeds.old seeds.new (seen F.files F.place F.faults cache.old)
         (seen F.files F.place F.faults cache.new) chain.old.stores chain.new.stores cached maps →
         ObtainedBy (source_among (settled fates.now) sought.now.entries.now (map (held_in V.held) seeds.old)

@@ -1,7 +1,7 @@
 //! Chunks from seeds. Seeds count from 0.
 
-ghost use Rattle.std.specs.Prelude.{◌≡◌, ◌<◌, IsTrue, length, map, slice_index, true, false};
-ghost use Rattle.chunk_sources.specs.Sources.{HeldAt, SeedsFailed, SeedsGive};
+ghost use Rattle.std.specs.Prelude.{◌≡◌, ◌<◌, length, map, slice_index, true, false};
+ghost use Rattle.chunk_sources.specs.Sources.{HeldAt, SeedsFailed, SeedsGive, Telling};
 ghost use Rattle.chunk_store.specs.Names.{name_of};
 ghost use Rattle.chunk_store.specs.declared.id.DigestKind.TheVariants as kinds;
 ghost use Rattle.dsy_base.specs.Counts.{Rose};
@@ -23,7 +23,8 @@ fn from_seed<V: View>(
     requires seed { place.now.seed < length seeds.old }
     requires size { place.now.size ≡ length chunk.old }
     ensures ok { result ≡ true → name_of kinds.Sha512T256 chunk.new ≡ id.now.0 }
-    ensures found { result ≡ true → IsTrue V.tells → HeldAt (map (held_in V.held) seeds.old) place.now id.now.0 }
+    ensures found { result ≡ true → Telling V.tells (map (held_in V.held) seeds.old) →
+        HeldAt (map (held_in V.held) seeds.old) place.now id.now.0 }
     ensures absent { result ≡ false → HeldAt (map (held_in V.held) seeds.old) place.now id.now.0 → Rose
         (slice_index (map (faults_in V.faults) seeds.old) place.now.seed)
         (slice_index (map (faults_in V.faults) seeds.new) place.now.seed) }
@@ -46,7 +47,8 @@ pub fn from_seeds<V: View>(
 ) -> bool
     requires { PlacesFit (length seeds.old) (length chunk.old) places.now }
     ensures ok { result ≡ true → name_of kinds.Sha512T256 chunk.new ≡ id.now.0 }
-    ensures found { result ≡ true → IsTrue V.tells → SeedsGive (map (held_in V.held) seeds.old) places.now id.now.0 }
+    ensures found { result ≡ true → Telling V.tells (map (held_in V.held) seeds.old) →
+        SeedsGive (map (held_in V.held) seeds.old) places.now id.now.0 }
     ensures absent { result ≡ false → SeedsFailed (map (held_in V.held) seeds.old) places.now id.now.0
         (map (faults_in V.faults) seeds.old) (map (faults_in V.faults) seeds.new) }
     ensures kept { map (held_in V.held) seeds.new ≡ map (held_in V.held) seeds.old }

@@ -10,6 +10,7 @@ use Rattle.caibx_codec.specs.Listing.{Listing, count_of, id_of}
 use Rattle.chunk_sources.specs.Caches.{HaveOneSize, Stocked, cache_faults}
 use Rattle.chunk_sources.specs.Sources.{SourcesQuiet}
 use Rattle.chunk_store.specs.declared.id.ChunkId.{ChunkId}
+use Rattle.dsy_base.specs.Bytes.{Held}
 use Rattle.dsy_base.specs.Counts.{Quiet, Rose}
 use Rattle.dsy_base.specs.Maps.{Map}
 use Rattle.extract_plan.specs.Seeds.{faults_in}
@@ -40,13 +41,13 @@ no_cache : (Takes : List ℕ → List ℕ → Type 0) (e : Option Shelf) → Sto
 no_cache Takes None h = refl
 no_cache Takes (Some s) h = absurd h
 
-module _ {S V : Type 0} (holds : S → Option (Map (List ℕ))) (store_faults : S → ℕ) (view_faults : V → ℕ) where
+module _ {S V : Type 0} (holds : S → Option (Map (List ℕ))) (store_faults : S → ℕ) (view : V → Held) (view_faults : V → ℕ) where
   pub nothing_fails : (tells : Bool) (old new : ℕ) (s0 s1 : List (Seed V)) (e1 : Option Shelf) (c0 c1 : List S) (maps : List (Map (List ℕ))) (Takes : List ℕ → List ℕ → Type 0)
       → IsTrue tells → old ≡ 0 → new ≡ 0 → ((s : S) → store_faults s ≡ 0) → ((v : V) → view_faults v ≡ 0) → Stocked Takes None e1 → map holds c0 ≡ map Some maps
-      → SourcesQuiet holds store_faults view_faults tells old new s0 s1 None e1 c0 c1 [] maps
+      → SourcesQuiet holds store_faults view view_faults tells old new s0 s1 None e1 c0 c1 [] maps
   nothing_fails tells old new s0 s1 e1 c0 c1 maps Takes t o n stores views none told = record {
     target = still old new o n;
-    telling = t;
+    telling = λ _. t;
     seeds = all_still (faults_in view_faults) (seed_still view_faults views) s0 s1;
     told_cache = refl;
     cache = still 0 (cache_faults e1) refl (no_cache Takes e1 none);

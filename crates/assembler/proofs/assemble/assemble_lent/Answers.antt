@@ -1,4 +1,4 @@
-use Rattle.std.proofs.Common.{◌≡◌, ◌∙◌, ◌<◌, List, IfSome, length, Ok, Err, sym, ap, subst, arith, Option}
+use Rattle.std.proofs.Common.{◌≡◌, ◌∙◌, ◌<◌, List, ℕ, IfSome, length, Ok, Err, inl, inr, sym, ap, subst, arith, Option}
 use Rattle.assembler.proofs.Counted.{quiet_part}
 use Rattle.assembler.proofs.KeptCount.{kept_count}
 use Rattle.assembler.proofs.Stocking.{listed_takes}
@@ -18,7 +18,7 @@ use Rattle.range_survey.specs.declared.fate.Fate.{Fate}
 use Rattle.range_survey.specs.declared.fate.Fate.TheVariants as fate
 use Rattle.std.proofs.lemmas.Result.{err_from_is_err_and}
 use Rattle.assembler.proofs.Assembled.{Ran, after_fault, after_ok, asks_over, bytes_err, bytes_ok, economy_err, economy_ok, exactly_err, exactly_ok, kit_as, lost_err, only_err, only_ok, reported_ok, with_buffer}
-use Rattle.assembler.proofs.Based.{Surveyed, over_of, some_map, told_of}
+use Rattle.assembler.proofs.Based.{Surveyed, only_first, over_of, some_map, told_of}
 use Rattle.assembler.proofs.TwoPasses.{ok_apart, torn_map}
 use Rattle.assembler.specs.Fills.{Fills, FillsTorn, WhereTold}
 use Rattle.store_chain.proofs.Kept.{kept_still}
@@ -139,6 +139,19 @@ returns-in_err-settle_all-clause-lost g c =
     let v = g.V.View in
     rw (p.1, p.2) (lost_err s.holds s.folder s.place s.said s.faults s.asked s.may_lack_memory v.held v.faults v.tells c.args.index.now c.args.plan.now c.args.places.now
     _ _ _ _ _ _ _ _ _ _ c.args.kit.now c.survey_first.new.kit _ (ran_err g c))
+
+pub returns-in_err-fates-clause-had : goal.returns-in_err-fates-clause-had
+returns-in_err-fates-clause-had g c = λ telling cached maps has told.
+    let p = err_from_is_err_and c.from_residual.result c.from_residual.ensures.1 in
+    let bytes : Held → Option (List ℕ) = λ h. h.bytes in
+    rw p.1 (only_first c.args.index.now _ _ c.in_err-fates.field-0.0 (g.T.View.held c.args.target.now).bytes (g.T.View.held c.survey_first.new.target).bytes
+    (elim c.in_err-fates.ensures.err [
+      | inl failed ↦ inl (ap bytes failed.1)
+      | inr memory ↦ elim memory.1 [
+        | inl same ↦ inl (ap bytes same)
+        | inr long ↦ inr (ap bytes long)
+      ]
+    ]))
 
 pub returns-in_err-settle_all-clause-had : goal.returns-in_err-settle_all-clause-had
 returns-in_err-settle_all-clause-had g c =

@@ -2,6 +2,7 @@ use Rattle.std.proofs.Common.{◌≡◌, ◌∙◌, ◌++◌, ℕ, ◌+◌, ◌<
 use Rattle.assembler.proofs.Stocking.{give_before, one_size_on, stocking_on}
 use Rattle.caibx_codec.specs.Listing.{id_of, size_of}
 use Rattle.chunk_sources.proofs.Cached.{stocked_falls, stocked_kind, stocked_told}
+use Rattle.chunk_sources.proofs.SeedAnswers.{telling_on}
 use Rattle.chunk_sources.specs.Asks.{asks_below, calls_below}
 use Rattle.chunk_sources.specs.Caches.{TakesWants, seen}
 use Rattle.chunk_store.specs.declared.id.DigestKind.{DigestKind}
@@ -98,7 +99,7 @@ returns-in-Ok-clause-had g c = λ tells cached maps has told i inside is.
     let w = want_at d i in
     let A : ℕ → Type 0 = λ w. w < d.wants in
     let later = stocked_told (TakesWants g.S.Store.holds l d A c.args.kit.now.chain.stores) (see g c.args.cache.now) (see g c.fill.new.cache) cached c.in-Ok.ensures.stocked has in
-    let had = c.retry.ensures.had tells later.0 maps later.1 (step.stores.held ∙ told) i inside is in
+    let had = c.retry.ensures.had (telling_on g.V.View.tells (views c.args.kit.now.seeds.items) (views c.fill.new.kit.seeds.items) step.seeds.held tells) later.0 maps later.1 (step.stores.held ∙ told) i inside is in
     had_through l d x c.requires.ready.wants c.args.fates.now c.fill.new.fates (views c.args.kit.now.seeds.items) (cached ++ maps) i inside
     (c.in-Ok.ensures.had tells cached maps has told)
     (had_from l d x c.requires.ready.wants g.S.Store.holds A c.args.kit.now.chain.stores (see g c.args.cache.now) (see g c.fill.new.cache) cached later.0 maps c.in-Ok.ensures.stocked has later.1 told
@@ -168,10 +169,10 @@ returns-in-Ok-clause-exactly g c = λ cached maps nothing one.
     let T = TakesWants s.holds l d A k.chain.stores in
     let stocked = c.in-Ok.ensures.stocked in
     let later = stocked_told T e0 e1 cached stocked nothing.told_cache in
-    let first = nothing_first s.holds s.faults v.faults v.tells f0 f1 f2 k.seeds.items j.seeds.items i.seeds.items e0 e1 e2 k.chain.stores j.chain.stores i.chain.stores cached maps
+    let first = nothing_first s.holds s.faults v.held v.faults v.tells f0 f1 f2 k.seeds.items j.seeds.items i.seeds.items e0 e1 e2 k.chain.stores j.chain.stores i.chain.stores cached maps
     next.never_falls next.seeds.never_fall next.stores.never_fall (stocked_falls (TakesWants s.holds l d A j.chain.stores) e1 e2 c.retry.ensures.stocked) nothing in
-    let then = nothing_next s.holds s.faults v.faults v.tells f0 f1 f2 k.seeds.items j.seeds.items i.seeds.items e0 e1 e2 k.chain.stores j.chain.stores i.chain.stores cached maps
-    step.never_falls step.seeds.never_fall step.stores.never_fall (stocked_falls T e0 e1 stocked) step.stores.held later.0 later.1 nothing in
+    let then = nothing_next s.holds s.faults v.held v.faults v.tells f0 f1 f2 k.seeds.items j.seeds.items i.seeds.items e0 e1 e2 k.chain.stores j.chain.stores i.chain.stores cached maps
+    step.never_falls step.seeds.never_fall step.stores.never_fall (stocked_falls T e0 e1 stocked) step.stores.held step.seeds.held later.0 later.1 nothing in
     let still = one_size_on s.holds l d A k.chain.stores e0 e1 cached later.0 maps stocked nothing.told_cache later.1 nothing.told one in
     unless_map _ _ c.retry.result
     (λ again. passes_by l d x c.requires.ready.wants c.args.fates.now c.fill.new.fates c.retry.new.fates views (map (held_in v.held) j.seeds.items) cached later.0 maps

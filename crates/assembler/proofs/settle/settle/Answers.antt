@@ -2,6 +2,7 @@ use Rattle.std.proofs.Common.{◌≡◌, ◌∙◌, ◌++◌, ℕ, List, length,
 use Rattle.std.proofs.lemmas.List.{with_items_is}
 use Rattle.assembler.proofs.Settled.{all_as, all_kept, asked_as, first_open, fit, had_as, inside, listed, refused_as, settles_as, takes_as, where_both, where_map}
 use Rattle.assembler.proofs.EconomySettled.{settles_kept}
+use Rattle.chunk_sources.proofs.SeedAnswers.{telling_on}
 use Rattle.chunk_sources.proofs.Cached.{stocked_none, stocked_wider}
 use Rattle.chunk_sources.specs.Caches.{CacheLacks, TakesChunk, TakesWants, seen}
 use Rattle.chunk_sources.specs.Economy.{source_over}
@@ -129,7 +130,7 @@ returns-clause-exactly g c = λ cached maps nothing.
     c.args.fates.now c.settle_open.new.fates (count_of c.args.index.now) c.args.kit.now.chain c.settle_open.new.chain c.settle_open.result
     (views c.deref_mut.result.now) (views c.args.kit.now.seeds.items) c.args.places.now c.places-places.result.now cached maps c.in-Some.entry c.id-id.result.0
     (f.0, f.1, f.2) c.id-id.ensures c.places-places.ensures (ap views first)
-    (c.settle_open.ensures.exactly cached maps (record { target = nothing.target; telling = nothing.telling; seeds = here; told_cache = nothing.told_cache; cache = nothing.cache; told = nothing.told; stores = nothing.stores }))
+    (c.settle_open.ensures.exactly cached maps (record { target = nothing.target; telling = telling_on g.V.View.tells (views c.args.kit.now.seeds.items) (views c.deref_mut.result.now) (ap views first) nothing.telling; seeds = here; told_cache = nothing.told_cache; cache = nothing.cache; told = nothing.told; stores = nothing.stores }))
 
 pub returns-clause-step : goal.returns-clause-step
 returns-clause-step g c =

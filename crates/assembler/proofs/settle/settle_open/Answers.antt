@@ -42,7 +42,7 @@ returns-in-Ok-put-clause-exactly g c = λ cached maps quiet.
     let from : ℕ → Fate = λ n. source_among (settled m) q.entries.now (map (held_in g.V.View.held) c.args.seeds.now) q.places.now (kind_of c.args.index.now) q.id.0 n cached maps in
     let size : ℕ = size_of c.args.index.now c.args.entry in
     let whole : length c.split_at_mut-chunk.result.0.now ≡ size = c.split_at_mut-chunk.ensures.front_len ∙ c.entry.ensures.size in
-    let sooner = nothing_first g.S.Store.holds g.S.Store.faults g.V.View.faults g.V.View.tells (faults c.args.target.now) (faults c.obtain.new.target) (faults c.put.new.target)
+    let sooner = nothing_first g.S.Store.holds g.S.Store.faults g.V.View.held g.V.View.faults g.V.View.tells (faults c.args.target.now) (faults c.obtain.new.target) (faults c.put.new.target)
     c.args.seeds.now c.obtain.new.seeds c.obtain.new.seeds (see g c.args.cache.now) (see g c.obtain.new.cache) (see g c.obtain.new.cache)
     c.args.chain.now.stores c.obtain.new.chain.stores c.obtain.new.chain.stores cached maps c.in-Ok-put.ensures.faults
     (λ k. omega arith) (λ k. omega arith) (omega arith) quiet in

@@ -1,5 +1,5 @@
 use Rattle.std.proofs.Common.{map, refl, ◌∙◌}
-use Rattle.chunk_sources.proofs.SeedAnswers.{any_at, falls_on, passed_more}
+use Rattle.chunk_sources.proofs.SeedAnswers.{any_at, falls_on, passed_more, telling_on}
 use Rattle.chunk_sources.specs.Sources.{HeldAt}
 use Rattle.extract_plan.specs.Seeds.{faults_in, held_in}
 use Rattle.extract_plan.specs.declared.seed.SeedPlace.{SeedPlace}
@@ -9,7 +9,8 @@ pub returns-then-from_seed-clause-found : goal.returns-then-from_seed-clause-fou
 returns-then-from_seed-clause-found g c = λ given tells.
     let none : SeedPlace = record { seed = 0; start = 0; size = 0 } in
     any_at (λ p. HeldAt (map (held_in g.V.View.held) c.args.seeds.now) p c.args.id.now.0) c.args.places.now c.loop-place.place-index none c.loop-place-test.true
-    (rw c.loop-place.invariant.kept at (c.if-from_seed.ensures.found refl tells))
+    (rw c.loop-place.invariant.kept at (c.if-from_seed.ensures.found refl
+    (telling_on g.V.View.tells (map (held_in g.V.View.held) c.args.seeds.now) (map (held_in g.V.View.held) c.loop-place.seeds) c.loop-place.invariant.kept tells)))
 
 pub loop-place-preserved : goal.loop-place-preserved
 loop-place-preserved g c =

@@ -464,19 +464,19 @@ returns-clause-assembled g c = λ p ls plan is.
     (λ m told quiet maps base i lt. obtainable_of d b e l p x z views zip is m told base maps i lt (λ y rise. rose_not_quiet (count_at d.file_counts y) (count_at d.file_counts y) (count_at e.file_counts y) (omega arith) (later y rise) (quiet.files y)))
     r (map files before) (λ cs. cached_in e0 ≡ Some (map chunks cs)) t0 t1 f0 f1
     (λ cached maps. IsTrue g.F.View.View.tells × (cached_in e0 ≡ Some cached) × (map holds k.chain.stores ≡ map Some maps))
-    (λ cached maps. SourcesQuiet holds faults view_faults g.F.View.View.tells f0 f1 k.seeds.items j.seeds.items e0 e1 k.chain.stores j.chain.stores cached maps × HaveOneSize l e0 cached maps)
+    (λ cached maps. SourcesQuiet holds faults view view_faults g.F.View.View.tells f0 f1 k.seeds.items j.seeds.items e0 e1 k.chain.stores j.chain.stores cached maps × HaveOneSize l e0 cached maps)
     found (cached_there e0 cache name d'.folders (cache_told g c.args.files.now c.args.shelf)) took
     (g.met.F.Target.View.told c.in-Ok-take.taken ∙ sym (g.met.F.Target.View.told c.assemble-ended.result.target))
     left rose excused over.bytes
     (λ m told n y. lacks_told holds files place location said faults _ view view_faults l p x w v names cache o z t0 f0 f1 k j e0 e1 stores located stand n
     (λ fs told. held_maps files before fs (subst (λ o. IfSome o (λ m. map files before ≡ map (told_at m) names)) y found ∙ told)) rose m
     (others_at holds files place location said faults _ view view_faults l p x w v names cache o z t0 f0 f1 k j e0 e1 b m told zip is later rises (cache_lacking d e e0 e1 cache l d'.folders name_now shelf_now shelf_rose)) (Rose f0 f1) r lost)
-    (λ cached maps n. had n.0 cached maps n.1 n.2) (λ cached maps n. exactly cached maps n.0 n.1) (λ cached maps n. after_all cached maps n.0 n.1)
+    (λ cached maps n. had (λ _. n.0) cached maps n.1 n.2) (λ cached maps n. exactly cached maps n.0 n.1) (λ cached maps n. after_all cached maps n.0 n.1)
     (λ m y fs looks cs shelved. (tells m y, shelved, held_maps files before fs looks))
     (λ m y n fs told looks cs shelved quiet. (
       record {
         target = rw c.in-Ok-take.ensures.fresh.0 (given_quiet _ _ _ _ le added (quiet.0.files q));
-        telling = tells m y;
+        telling = λ _. tells m y;
         seeds = each_quiet (seeds.faults_in view_faults) (label_in view) d.file_counts b3.file_counts e.file_counts le_mid items j.seeds.items labels fresh_seeds seeds_added quiet.0.files;
         told_cache = shelved;
         cache = cache_quiet d e b2 bc reached ended (cache_faults e0) e1 none c.give_cache-2.ensures.given quiet.0;

@@ -14,7 +14,7 @@ returns-clause-verdict g c = λ maps told.
     let kits = c.assemble-ended.result.kits in
     let j = one_of kits.items (sym kits.ok.0 ∙ ended.size) in
     ended.exactly.so c.args.planned.now.plan c.args.kit j.0 c.requires.plan c.in-Ok.ensures.items j.1 _ maps
-    (nothing_fails g.S.Store.holds g.S.Store.faults g.V.View.faults _ _ _ _ _ _ _ _ maps (TakesListed g.S.Store.holds c.args.index.now c.args.kit.chain.stores) c.requires.tells (g.met.T.View.sure _ c.requires.sure.0) (g.met.T.View.sure _ c.requires.sure.0) (λ s. g.met.S.Store.sure s c.requires.sure.1) (λ v. g.met.V.View.sure v c.requires.sure.2) (ended.stocked.so c.args.kit j.0 c.in-Ok.ensures.items j.1) told)
+    (nothing_fails g.S.Store.holds g.S.Store.faults g.V.View.held g.V.View.faults _ _ _ _ _ _ _ _ maps (TakesListed g.S.Store.holds c.args.index.now c.args.kit.chain.stores) c.requires.tells (g.met.T.View.sure _ c.requires.sure.0) (g.met.T.View.sure _ c.requires.sure.0) (λ s. g.met.S.Store.sure s c.requires.sure.1) (λ v. g.met.V.View.sure v c.requires.sure.2) (ended.stocked.so c.args.kit j.0 c.in-Ok.ensures.items j.1) told)
     (no_sizes c.args.index.now maps)
 
 pub returns-clause-reported : goal.returns-clause-reported
@@ -23,7 +23,7 @@ returns-clause-reported g c = λ maps told.
     let kits = c.assemble-ended.result.kits in
     let j = one_of kits.items (sym kits.ok.0 ∙ ended.size) in
     ended.reported.so c.args.planned.now.plan c.args.kit j.0 c.requires.plan c.in-Ok.ensures.items j.1 _ maps
-    (nothing_fails g.S.Store.holds g.S.Store.faults g.V.View.faults _ _ _ _ _ _ _ _ maps (TakesListed g.S.Store.holds c.args.index.now c.args.kit.chain.stores) c.requires.tells (g.met.T.View.sure _ c.requires.sure.0) (g.met.T.View.sure _ c.requires.sure.0) (λ s. g.met.S.Store.sure s c.requires.sure.1) (λ v. g.met.V.View.sure v c.requires.sure.2) (ended.stocked.so c.args.kit j.0 c.in-Ok.ensures.items j.1) told)
+    (nothing_fails g.S.Store.holds g.S.Store.faults g.V.View.held g.V.View.faults _ _ _ _ _ _ _ _ maps (TakesListed g.S.Store.holds c.args.index.now c.args.kit.chain.stores) c.requires.tells (g.met.T.View.sure _ c.requires.sure.0) (g.met.T.View.sure _ c.requires.sure.0) (λ s. g.met.S.Store.sure s c.requires.sure.1) (λ v. g.met.V.View.sure v c.requires.sure.2) (ended.stocked.so c.args.kit j.0 c.in-Ok.ensures.items j.1) told)
     (no_sizes c.args.index.now maps)
 
 pub returns-clause-kept : goal.returns-clause-kept
