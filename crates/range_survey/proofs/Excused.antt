@@ -1,6 +1,6 @@
 -- Entries that failed calls excuse, over one call after another: for this crate and those above. The counts of faults
 -- are a, b and c.
-use Rattle.std.proofs.Common.{◌⊎◌, ℕ, ◌+◌, ◌^◌, ◌<◌, ◌≤◌, List, [], ◌∷◌, ◌++◌, length, refl, inl, inr, arith}
+use Rattle.std.proofs.Common.{◌⊎◌, ℕ, ◌+◌, ◌^◌, ◌≤◌, List, [], ◌∷◌, ◌++◌, inl, inr, arith}
 use Rattle.std.proofs.lemmas.Bool.{cases_lt}
 use Rattle.std.proofs.lemmas.List.{length-append}
 use Rattle.std.specs.List.{Contains}
