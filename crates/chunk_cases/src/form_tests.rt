@@ -9,13 +9,13 @@ use dsy_base::look::Look;
 use dsy_base::sink::Sink;
 use dsy_base::temporary::temporary_name;
 use dsy_base::view::{Target, View};
-use dsy_forms::calls::Fails;
+use byte_forms::calls::Fails;
 use dsy_forms::mem_files::MemFiles;
 use dsy_forms::mem_folder::MemFolder;
 use dsy_forms::mem_sink::MemSink;
-use dsy_forms::mem_target::MemTarget;
-use dsy_forms::mem_view::MemView;
-use dsy_forms::ranges::RangeFails;
+use byte_forms::mem_target::MemTarget;
+use byte_forms::mem_view::MemView;
+use byte_forms::ranges::RangeFails;
 use std::alloc::Global;
 use std::process::Abort;
 

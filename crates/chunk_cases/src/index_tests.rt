@@ -9,7 +9,7 @@ use caibx_codec::writing::write_index;
 use caibx_fields::fault::IndexFault;
 use chunk_store::id::{ChunkId, DigestKind};
 use dsy_forms::mem_sink::MemSink;
-use dsy_forms::mem_view::MemView;
+use byte_forms::mem_view::MemView;
 use std::alloc::Global;
 use std::process::Abort;
 

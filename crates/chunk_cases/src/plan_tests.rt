@@ -3,7 +3,7 @@
 use crate::compare::{ok, same};
 use caibx_codec::index::{Entry, Index};
 use chunk_store::id::{ChunkId, DigestKind};
-use dsy_forms::mem_view::MemView;
+use byte_forms::mem_view::MemView;
 use extract_plan::plan::Plan;
 use extract_plan::seed::{Seed, SeedAnswer, SeedPlace, seed_gives};
 use extract_plan::seeds::SeedIndex;

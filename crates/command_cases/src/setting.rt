@@ -6,7 +6,7 @@ use crate::world::World;
 use dsy_base::folder::Folder;
 use dsy_forms::mem_files::MemFiles;
 use dsy_forms::mem_folder::MemFolder;
-use dsy_forms::ranges::RangeFails;
+use byte_forms::ranges::RangeFails;
 use std::alloc::Global;
 use std::test::Fail;
 

@@ -2,9 +2,9 @@
 #![tactic(auto)]
 
 use desync_cli::run::desync;
-use dsy_real::real_dial::RealDial;
+use real_links::real_dial::RealDial;
 use dsy_real::real_files::RealFiles;
-use dsy_real::real_listen::RealListen;
+use real_links::real_listen::RealListen;
 use dsy_real::real_sink::RealSink;
 use std::env::Env;
 use std::io::ErrorKind;

@@ -4,7 +4,7 @@ use Rattle.std.specs.BTreeMap.{BTreeMap}
 use Rattle.std.specs.Option.{option_map}
 use Rattle.dsy_forms.specs.declared.mem_files.MemFiles.{MemFiles}
 use Rattle.dsy_forms.specs.declared.mem_folder.MemFolder.{MemFolder}
-use Rattle.dsy_forms.specs.declared.mem_target.MemFile.{MemFile}
+use Rattle.byte_forms.specs.declared.mem_target.MemFile.{MemFile}
 use Rattle.dsy_base.specs.declared.slots.Slot.{Slot}
 use Rattle.dsy_base.specs.Disk.{Disk}
 use Rattle.dsy_base.specs.Maps.{Map}

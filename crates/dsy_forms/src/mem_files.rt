@@ -13,11 +13,11 @@ ghost use Rattle.dsy_forms.specs.MemFiles.{folder_counts_of};
 ghost use Rattle.dsy_base.specs.Slots.{counts_in, held_in};
 ghost use Rattle.dsy_forms.specs.Trees.{map_of};
 
-use crate::calls::{Calls, Fails};
+use byte_forms::calls::{Calls, Fails};
 use crate::mem_folder::{MemFolder, MemLook};
-use crate::mem_target::{MemFile, MemTarget};
-use crate::mem_view::MemView;
-use crate::ranges::RangeFails;
+use byte_forms::mem_target::{MemFile, MemTarget};
+use byte_forms::mem_view::MemView;
+use byte_forms::ranges::RangeFails;
 use dsy_base::fault::{IoFault, Memory, OpenFault};
 use dsy_base::files::Files;
 use dsy_base::name::Name;

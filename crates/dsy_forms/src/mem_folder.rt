@@ -9,7 +9,7 @@ ghost use Rattle.dsy_base.specs.Counts.{Rose};
 ghost use Rattle.dsy_base.specs.Maps.{IsNamesOf, ReadGives, at_name, is_listed};
 ghost use Rattle.dsy_forms.specs.Trees.{map_of};
 
-use crate::calls::{Calls, Fails};
+use byte_forms::calls::{Calls, Fails};
 use dsy_base::fault::{FileFault, IoFault, raise};
 use dsy_base::folder::Folder;
 use dsy_base::look::Look;

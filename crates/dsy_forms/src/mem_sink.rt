@@ -2,7 +2,7 @@
 
 ghost use Rattle.std.specs.Prelude.{◌≡◌, []};
 
-use crate::calls::{Calls, Fails};
+use byte_forms::calls::{Calls, Fails};
 use dsy_base::fault::{IoFault, Memory, raise};
 use dsy_base::sink::Sink;
 use std::alloc::Global;

@@ -10,8 +10,8 @@ use crate::sure_part::SurePart;
 use dsy_base::fault::{Failed, IoFault, SplitFault};
 use dsy_base::name::Name;
 use dsy_base::view::{Part, Target, View};
-use dsy_forms::mem_part::{join_parts, parts_of};
-use dsy_forms::mem_target::{resize, write_over};
+use byte_forms::mem_part::{join_parts, parts_of};
+use byte_forms::mem_target::{resize, write_over};
 use std::alloc::Global;
 
 /// Bytes in memory that can be written. Reads and writes never fail.

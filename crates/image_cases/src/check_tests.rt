@@ -10,7 +10,7 @@ use chunk_store::store::{GetFault, Store};
 use dsy_base::fault::{Failed, IoFault, raise};
 use dsy_base::view::View;
 use dsy_forms::mem_sink::MemSink;
-use dsy_forms::mem_view::MemView;
+use byte_forms::mem_view::MemView;
 use std::alloc::Global;
 use std::process::Abort;
 use store_chain::chain::Chain;

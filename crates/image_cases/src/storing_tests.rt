@@ -12,7 +12,7 @@ use chunk_store::store::{GetFault, Store, StoreWrite};
 use dsy_base::fault::{Failed, IoFault, raise};
 use dsy_base::name::Name;
 use dsy_base::view::View;
-use dsy_forms::mem_view::MemView;
+use byte_forms::mem_view::MemView;
 use dsy_forms::no_folders::NoFolders;
 use image_store::chop::{ChopFault, chop};
 use image_store::put_chunks::MakeFault;

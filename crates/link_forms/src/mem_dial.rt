@@ -10,7 +10,7 @@ use crate::mem_link::MemLink;
 use crate::open_link::{Ended, OpenLink};
 use dsy_base::dial::Dial;
 use dsy_base::fault::{IoFault, Memory, raise};
-use dsy_forms::calls::{Calls, Fails};
+use byte_forms::calls::{Calls, Fails};
 use std::alloc::{AllocError, Global};
 
 /// A dialer over connections in memory. A dial gives a copy of the link of its own number, and past the last it fails:

@@ -6,7 +6,7 @@ ghost use Rattle.link_forms.specs.MemLinks.{bytes_of, first_of, link_of, traffic
 
 use dsy_base::fault::{Failed, IoFault, raise};
 use dsy_base::link::Link;
-use dsy_forms::calls::{Calls, Fails};
+use byte_forms::calls::{Calls, Fails};
 use std::alloc::{AllocError, Global};
 
 /// A connection in memory. A read gives at most one of the pieces that the peer sends, and passes over empty ones; a

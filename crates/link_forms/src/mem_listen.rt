@@ -10,7 +10,7 @@ use crate::mem_link::MemLink;
 use crate::open_link::{Ended, OpenLink};
 use dsy_base::fault::{IoFault, raise};
 use dsy_base::listen::Listen;
-use dsy_forms::calls::{Calls, Fails};
+use byte_forms::calls::{Calls, Fails};
 use std::alloc::Global;
 
 /// A listener over connections in memory, which come in their order. A call that fails changes no connection. Binds

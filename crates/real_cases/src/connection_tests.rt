@@ -4,9 +4,9 @@ use dsy_base::dial::Dial;
 use dsy_base::fault::IoFault;
 use dsy_base::link::Link;
 use dsy_base::listen::Listen;
-use dsy_real::real_dial::RealDial;
-use dsy_real::real_link::RealLink;
-use dsy_real::real_listen::RealListen;
+use real_links::real_dial::RealDial;
+use real_links::real_link::RealLink;
+use real_links::real_listen::RealListen;
 use std::io::{Read, Write};
 use std::net::{TcpListener, TcpStream};
 

@@ -35,8 +35,8 @@ impl MemView {
         }
     }
 
-    /// A view under a name. A read fails as the pairs of an offset and a number of times say.
-    pub(crate) fn of(alloc: Global, name: Name, bytes: Vec<u8>, reads: Vec<(u64, u32)>) -> MemView
+    /// A view of the file of this name. A read fails as the pairs of an offset and a number of times say.
+    pub fn of(alloc: Global, name: Name, bytes: Vec<u8>, reads: Vec<(u64, u32)>) -> MemView
         ensures bytes { result.bytes ≡ bytes }
         ensures faults { result.faults ≡ 0 }
         ensures named { result.name ≡ name }
@@ -51,7 +51,7 @@ impl MemView {
     }
 
     /// The name, and how often a read has failed.
-    pub(crate) fn into_count(self) -> (Name, u64)
+    pub fn into_count(self) -> (Name, u64)
         ensures named { result.0 ≡ self.name }
         ensures faults { result.1 ≡ self.faults }
     {

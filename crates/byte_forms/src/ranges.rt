@@ -2,7 +2,7 @@
 
 ghost use Rattle.std.specs.Prelude.{◌≡◌, []};
 ghost use Rattle.std.specs.List.{position};
-ghost use Rattle.dsy_forms.specs.Ranges.{covers, fails_at, after_call};
+ghost use Rattle.byte_forms.specs.Ranges.{covers, fails_at, after_call};
 
 use std::alloc::{AllocError, Global};
 

@@ -1,6 +1,6 @@
 use Rattle.std.proofs.Common.{length}
 use Rattle.dsy_base.proofs.Splits.{cuts_step, cuts_below}
-use Rattle.dsy_forms.proofs.mem_part.parts_of.Goals as goal
+use Rattle.byte_forms.proofs.mem_part.parts_of.Goals as goal
 
 pub slice_bounds-from_slice-end : goal.slice_bounds-from_slice-end
 slice_bounds-from_slice-end g c =

@@ -5,7 +5,7 @@ ghost use Rattle.std.specs.List.{sum_by};
 ghost use Rattle.dsy_base.specs.Bytes.{written, resized};
 ghost use Rattle.dsy_base.specs.Counts.{raised};
 ghost use Rattle.dsy_base.specs.Splits.{joined, held_joined};
-ghost use Rattle.dsy_forms.specs.MemTargets.{target_held, part_held, target_left};
+ghost use Rattle.byte_forms.specs.MemTargets.{target_held, part_held, target_left};
 
 use crate::mem_part::{MemPart, gather, join_parts, parts_of};
 use crate::ranges::{RangeFails, next_fails};
@@ -16,7 +16,7 @@ use std::alloc::{AllocError, Global};
 
 /// A file in memory at rest, and the calls on it that are to fail.
 #[derive(Debug, Drop)]
-pub(crate) struct MemFile {
+pub struct MemFile {
     pub bytes: Vec<u8>,
     pub fails: RangeFails,
 }
@@ -51,7 +51,8 @@ impl MemTarget {
         self.bytes.as_slice()
     }
 
-    pub(crate) fn of(name: Name, file: MemFile) -> MemTarget
+    /// The file that was taken under this name.
+    pub fn of(name: Name, file: MemFile) -> MemTarget
         ensures bytes { result.bytes ≡ file.bytes }
         ensures faults { result.faults ≡ 0 }
         ensures named { result.name ≡ name }
@@ -65,7 +66,7 @@ impl MemTarget {
     }
 
     /// The file, and how often a call on it has failed.
-    pub(crate) fn into_file(self) -> (MemFile, u64)
+    pub fn into_file(self) -> (MemFile, u64)
         ensures bytes { result.0.bytes ≡ self.bytes }
         ensures faults { result.1 ≡ self.faults }
     {

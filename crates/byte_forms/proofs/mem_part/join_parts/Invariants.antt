@@ -1,7 +1,7 @@
 use Rattle.std.proofs.Common.{◌≡◌, length, take}
 use Rattle.std.specs.List.{sum_by}
 use Rattle.dsy_base.specs.Splits.{joined}
-use Rattle.dsy_forms.proofs.mem_part.join_parts.Given as goal
+use Rattle.byte_forms.proofs.mem_part.join_parts.Given as goal
 
 -- the bytes of the parts so far stand in front
 abbrev pub invariant-loop-part : goal.invariant-loop-part

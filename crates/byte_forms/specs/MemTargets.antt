@@ -2,8 +2,8 @@
 use Rattle.std.specs.Prelude.{Some, vec_len}
 use Rattle.dsy_base.specs.Bytes.{Held}
 use Rattle.dsy_base.specs.Splits.{Left}
-use Rattle.dsy_forms.specs.declared.mem_part.MemPart.{MemPart}
-use Rattle.dsy_forms.specs.declared.mem_target.MemTarget.{MemTarget}
+use Rattle.byte_forms.specs.declared.mem_part.MemPart.{MemPart}
+use Rattle.byte_forms.specs.declared.mem_target.MemTarget.{MemTarget}
 
 abbrev pub target_held : MemTarget → Held
 target_held t = record { bytes = Some t.bytes.items; size = vec_len t.bytes; name = t.name }

@@ -1,7 +1,7 @@
 use Rattle.std.proofs.Common.{◌≡◌, ◌++◌, Some, length, map, drop}
 use Rattle.std.specs.List.{All}
 use Rattle.dsy_base.specs.Splits.{IsCuts, extent, extents}
-use Rattle.dsy_forms.proofs.mem_part.parts_of.Given as goal
+use Rattle.byte_forms.proofs.mem_part.parts_of.Given as goal
 
 -- the parts so far, and those between the cuts that are left
 abbrev pub invariant-loop-cut : goal.invariant-loop-cut

@@ -1,0 +1,6 @@
+//! Connections of the operating system.
+#![tactic(auto)]
+
+pub mod real_dial;
+pub mod real_link;
+pub mod real_listen;
