@@ -17,11 +17,11 @@ use Rattle.cache_store.specs.Shelves.{Shelf}
 use Rattle.assembler.proofs.Stocking.{gives_on}
 use Rattle.assembler.specs.Obtainable.{OnlyObtainable}
 use Rattle.assembler.specs.Passes.{EndsBy, EndsTorn, HadAt, IsLost, PassesAsk, want_at}
-use Rattle.assembler.specs.Reports.{tally}
+use Rattle.range_survey.specs.Reports.{tally}
 use Rattle.assembler.specs.declared.fault.ExtractFault.{ExtractFault}
 use Rattle.assembler.specs.declared.fault.ExtractFault.TheVariants as faults
 use Rattle.assembler.specs.declared.fault.Lost.{Lost}
-use Rattle.assembler.specs.declared.report.Report.{Report}
+use Rattle.range_survey.specs.declared.report.Report.{Report}
 use Rattle.caibx_codec.specs.Listing.{Listing, count_of, id_of, image_length, kind_of, size_of, slice_of}
 use Rattle.caibx_codec.specs.Right.{IsRightAt}
 use Rattle.chunk_sources.proofs.Cached.{gives_part, stocked_told}

@@ -13,7 +13,7 @@ use Rattle.cache_store.specs.Shelves.{Shelf}
 use Rattle.assembler.specs.Economy.{HadMemory, PassedBy, SettledBy, SettlesBy, Tallied, sum_below}
 use Rattle.assembler.specs.Kits.{Step}
 use Rattle.assembler.specs.Passes.{want_at}
-use Rattle.assembler.specs.Reports.{one_if, tally}
+use Rattle.range_survey.specs.Reports.{one_if, tally}
 use Rattle.assembler.specs.declared.fault.Unsettled.{Unsettled}
 use Rattle.assembler.specs.declared.fault.Unsettled.TheVariants as unsettled
 use Rattle.caibx_codec.specs.Listing.{Listing, count_of}

@@ -8,7 +8,7 @@ use Rattle.assembler.proofs.Entries.{among_of, first_among, listed_of}
 use Rattle.assembler.proofs.HadOn.{had_alike}
 use Rattle.assembler.specs.Economy.{AssembledBy, PassedBy, all_asks, sum_below}
 use Rattle.assembler.specs.Passes.{HadAt, want_at}
-use Rattle.assembler.specs.Reports.{one_if, tally}
+use Rattle.range_survey.specs.Reports.{one_if, tally}
 use Rattle.caibx_codec.specs.Listing.{Listing, count_of, id_of, kind_of, size_of}
 use Rattle.chunk_sources.specs.Economy.{pass_asks, source_over, stores_give}
 use Rattle.chunk_sources.specs.Losses.{Had}

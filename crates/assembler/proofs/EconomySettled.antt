@@ -2,7 +2,7 @@
 use Rattle.std.proofs.Common.{◌≡◌, ℕ, ◌<◌, ◌^◌, List, Result, Ok, Err, refl, subst, arith}
 use Rattle.assembler.proofs.Tallies.{TalliedAs, tallied_none}
 use Rattle.assembler.specs.Economy.{SettlesBy}
-use Rattle.assembler.specs.Reports.{one_if}
+use Rattle.range_survey.specs.Reports.{one_if}
 use Rattle.assembler.specs.declared.fault.Lost.{Lost}
 use Rattle.assembler.specs.declared.fault.Unsettled.TheVariants as unsettled
 use Rattle.chunk_sources.proofs.Origins.{same_raised}

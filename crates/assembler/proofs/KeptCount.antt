@@ -3,7 +3,7 @@ use Rattle.std.proofs.Common.{◌≡◌, ◌⊎◌, ℕ, zero, suc, ◌<◌, ◌
 use Rattle.std.proofs.lemmas.Bool.{cases_Bool, true≢false}
 use Rattle.std.proofs.lemmas.Slice.Eq.{bytes_eq-Decides}
 use Rattle.assembler.specs.Fills.{Grows}
-use Rattle.assembler.specs.Reports.{one_if, right_below, tally}
+use Rattle.range_survey.specs.Reports.{one_if, right_below, tally}
 use Rattle.caibx_codec.specs.Listing.{Listing, count_of, id_of, kind_of, slice_of}
 use Rattle.chunk_sources.proofs.Lacking.{quiet_never}
 use Rattle.chunk_sources.specs.Economy.{is_made}

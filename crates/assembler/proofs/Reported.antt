@@ -1,6 +1,6 @@
 -- Counts of fates.
 use Rattle.std.proofs.Common.{◌≡◌, ℕ, zero, suc, ◌+◌, ◌<◌, List, true, false, refl, arith}
-use Rattle.assembler.specs.Reports.{one_if, tally}
+use Rattle.range_survey.specs.Reports.{one_if, tally}
 use Rattle.range_survey.specs.Fates.{fate_at, is_settled, settled}
 use Rattle.range_survey.specs.declared.fate.Fate.{Fate}
 use Rattle.range_survey.specs.declared.fate.Fate.TheVariants as fate

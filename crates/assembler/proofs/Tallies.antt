@@ -2,7 +2,7 @@
 use Rattle.std.proofs.Common.{◌≡◌, ◌⊎◌, ℕ, zero, suc, ◌+◌, ◌<◌, ◌≤◌, List, length, set, slice_index, true, false, refl, sym, ap, ◌∙◌, subst, inl, inr, arith}
 use Rattle.std.proofs.lemmas.Bool.{cases_lt, true≢false}
 use Rattle.assembler.specs.Economy.{Tallied}
-use Rattle.assembler.specs.Reports.{one_if, tally}
+use Rattle.range_survey.specs.Reports.{one_if, tally}
 use Rattle.chunk_sources.specs.Wants.{IsAmong}
 use Rattle.range_survey.proofs.Fated.{set_apart, set_here}
 use Rattle.range_survey.specs.Fates.{fate_at, is_settled, settled}

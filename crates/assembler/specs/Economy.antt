@@ -1,12 +1,12 @@
 -- What the chunks of all wants cost where nothing fails, by where each comes from.
 use Rattle.std.specs.Prelude.{◌≡◌, ◌≢◌, ◌⊎◌, ℕ, zero, suc, ◌+◌, List, Result, Ok, Err}
-use Rattle.assembler.specs.Reports.{one_if, tally}
+use Rattle.range_survey.specs.Reports.{one_if, tally}
 use Rattle.assembler.specs.declared.fault.ExtractFault.{ExtractFault}
 use Rattle.assembler.specs.declared.fault.ExtractFault.TheVariants as faults
 use Rattle.assembler.specs.declared.fault.Lost.{Lost}
 use Rattle.assembler.specs.declared.fault.Unsettled.{Unsettled}
 use Rattle.assembler.specs.declared.fault.Unsettled.TheVariants as unsettled
-use Rattle.assembler.specs.declared.report.Report.{Report}
+use Rattle.range_survey.specs.declared.report.Report.{Report}
 use Rattle.chunk_sources.specs.Economy.{pass_asks}
 use Rattle.dsy_base.specs.Counts.{raised}
 use Rattle.range_survey.specs.declared.fate.Fate.{Fate}

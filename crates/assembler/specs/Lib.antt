@@ -4,7 +4,6 @@ pub mod Kits
 pub mod Losses
 pub mod OneKit
 pub mod Passes
-pub mod Reports
 pub mod Assemblies
 pub mod Obtainable
 pub mod Economy

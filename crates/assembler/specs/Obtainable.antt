@@ -1,7 +1,7 @@
 -- That what an assembly makes right can be had, whatever fails. `o` are the target's bytes before it, t those after it.
 use Rattle.std.specs.Prelude.{◌≡◌, ◌⊎◌, ℕ, ◌<◌, List, Result, Ok, Err}
 use Rattle.assembler.specs.declared.fault.ExtractFault.{ExtractFault}
-use Rattle.assembler.specs.declared.report.Report.{Report}
+use Rattle.range_survey.specs.declared.report.Report.{Report}
 use Rattle.caibx_codec.specs.Listing.{Listing, count_of, image_length, slice_of}
 use Rattle.dsy_base.specs.Bytes.{resized}
 

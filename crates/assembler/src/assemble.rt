@@ -11,7 +11,7 @@ ghost use Rattle.assembler.specs.Kits.{Ready, Step};
 ghost use Rattle.assembler.specs.Obtainable.{OnlyObtainable};
 ghost use Rattle.assembler.specs.OneKit.{ByPlan, OfKit};
 ghost use Rattle.assembler.specs.Passes.{EndsBy, EndsTorn, HadAt, IsLost, PassesAsk, want_at};
-ghost use Rattle.assembler.specs.Reports.{right_below};
+ghost use Rattle.range_survey.specs.Reports.{right_below};
 ghost use Rattle.assembler.specs.declared.fault.Lost.{Lost};
 ghost use Rattle.caibx_codec.specs.Listing.{count_of, image_length, kind_of, size_of};
 ghost use Rattle.chunk_sources.specs.Caches.{HaveOneSize, Stocked, TakesListed, TakesWants, cached_in, seen};
@@ -28,7 +28,7 @@ ghost use Rattle.store_chain.specs.Chains.{KeepsStores};
 
 use crate::fault::{ExtractFault, Lost};
 use crate::fill::fill;
-use crate::report::Report;
+use range_survey::report::Report;
 use crate::retry::retry;
 use cache_store::shelf::CacheShelf;
 use caibx_codec::index::Index;

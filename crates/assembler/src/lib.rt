@@ -6,6 +6,5 @@ pub mod assemble;
 pub mod fault;
 mod fill;
 mod put;
-pub mod report;
 mod retry;
 mod settle;

@@ -4,7 +4,7 @@ ghost use Rattle.std.specs.Prelude.{◌≡◌, ◌≢◌, ◌⊎◌, ℕ, ◌<�
 ghost use Rattle.std.specs.Prelude.{OnOk, OnErr};
 ghost use Rattle.assembler.specs.Economy.{Tallied};
 ghost use Rattle.assembler.specs.Fills.{Fills, FillsTorn, Grows, WhereTold};
-ghost use Rattle.assembler.specs.Reports.{one_if};
+ghost use Rattle.range_survey.specs.Reports.{one_if};
 ghost use Rattle.caibx_codec.specs.Listing.{count_of, id_of, kind_of, size_of, image_length};
 ghost use Rattle.chunk_sources.specs.Economy.{is_made};
 ghost use Rattle.chunk_sources.specs.Wants.{IsAmong};

@@ -14,7 +14,7 @@ use Rattle.command_words.specs.declared.usage.UsageWhy.{UsageWhy}
 use Rattle.command_words.specs.declared.usage.WordsFault.{WordsFault}
 use Rattle.command_words.specs.declared.usage.WordsFault.TheVariants as faults
 use Rattle.image_commands.specs.Chop.{ChopEnds, IsChopped}
-use Rattle.image_commands.specs.Demo.{DemoEnds}
+use Rattle.store_commands.specs.Demo.{DemoEnds}
 use Rattle.image_commands.specs.Extract.{ExtractEnds, IsExtracted, temporary_out}
 use Rattle.image_commands.specs.Make.{IsMade, MakeEnds, StoreHas}
 use Rattle.image_commands.specs.VerifyIndex.{IsVerified, VerifyIndexEnds}

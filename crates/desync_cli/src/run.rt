@@ -28,7 +28,7 @@ use dsy_base::image_files::ImageFiles;
 use dsy_base::listen::Listen;
 use dsy_base::sink::Sink;
 use image_commands::chop::chop;
-use image_commands::demo::demo;
+use store_commands::demo::demo;
 use image_commands::extract::extract;
 use image_commands::make::make;
 use image_commands::verify_index::verify_index;

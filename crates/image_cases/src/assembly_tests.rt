@@ -7,7 +7,7 @@ use crate::compare::{ok, same};
 use crate::indexes::{id_of_piece, index_of_pieces};
 use assembler::assemble::{Assembled, assemble};
 use assembler::fault::ExtractFault;
-use assembler::report::Report;
+use range_survey::report::Report;
 use cache_store::shelf::CacheShelf;
 use chunk_sources::kit::Kit;
 use chunk_store::shows::Shows;

@@ -6,7 +6,7 @@ use Rattle.assembler.specs.Obtainable.{OnlyObtainable}
 use Rattle.assembler.specs.Passes.{want_at}
 use Rattle.assembler.specs.declared.fault.ExtractFault.{ExtractFault}
 use Rattle.assembler.specs.declared.fault.ExtractFault.TheVariants as faults
-use Rattle.assembler.specs.declared.report.Report.{Report}
+use Rattle.range_survey.specs.declared.report.Report.{Report}
 use Rattle.caibx_codec.specs.Listing.{Listing, count_of, id_of, image_length, kind_of, size_of, slice_of}
 use Rattle.chunk_sources.specs.Losses.{chunk_of}
 use Rattle.chunk_store.specs.Folders.{chunks}

@@ -8,7 +8,7 @@ use Rattle.std.specs.Option.{option_map, unwrap_or}
 use Rattle.assembler.specs.Assemblies.{IsLeast, KeepsBase, KeepsTorn, RightAlike}
 use Rattle.assembler.specs.declared.fault.ExtractFault.{ExtractFault}
 use Rattle.assembler.specs.declared.fault.ExtractFault.TheVariants as faults
-use Rattle.assembler.specs.declared.report.Report.{Report}
+use Rattle.range_survey.specs.declared.report.Report.{Report}
 use Rattle.cache_store.specs.Giving.{GiveOneSize, SomeGives}
 use Rattle.caibx_codec.specs.Listing.{Listing, count_of, id_of, kind_of, size_of, slice_of, start_of, image_length}
 use Rattle.caibx_codec.specs.Right.{IsRight, IsRightAt}

@@ -1,5 +1,4 @@
 pub mod Chop
-pub mod Demo
 pub mod Extract
 pub mod Make
 pub mod VerifyIndex

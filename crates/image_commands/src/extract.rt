@@ -21,7 +21,7 @@ ghost use Rattle.extract_plan.specs.Places.{IsSeedIndex, PlacesKnown, items_of, 
 
 use assembler::assemble::assemble;
 use assembler::fault::ExtractFault;
-use assembler::report::Report;
+use range_survey::report::Report;
 use cache_store::shelf::CacheShelf;
 use caibx_codec::index::Index;
 use chunk_sources::kit::Kit;

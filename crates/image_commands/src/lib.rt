@@ -3,7 +3,6 @@
 
 mod beside;
 pub mod chop;
-pub mod demo;
 pub mod extract;
 pub mod make;
 pub mod verify_index;

@@ -3,10 +3,10 @@ use Rattle.std.proofs.Common.{◌≡◌, ◌≢◌, ◌⊎◌, ℕ, zero, suc, �
 use Rattle.std.proofs.lemmas.List.{length-take-le, length-drop}
 use Rattle.assembler.specs.Assemblies.{IsObtainable, Verdict}
 use Rattle.assembler.specs.Economy.{ReportsExactly, sum_below}
-use Rattle.assembler.specs.Reports.{right_below}
+use Rattle.range_survey.specs.Reports.{right_below}
 use Rattle.assembler.specs.declared.fault.ExtractFault.{ExtractFault}
 use Rattle.assembler.specs.declared.fault.ExtractFault.TheVariants as faults
-use Rattle.assembler.specs.declared.report.Report.{Report}
+use Rattle.range_survey.specs.declared.report.Report.{Report}
 use Rattle.buzhash_cut.specs.Image.{IsIndexOfImage}
 use Rattle.buzhash_cut.specs.Sizes.{Sizes}
 use Rattle.caibx_codec.specs.Listing.{Listing, Rules, count_of, end_of, id_of, image_length, size_of, slice_of, start_of}

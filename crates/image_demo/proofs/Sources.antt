@@ -8,7 +8,7 @@ use Rattle.std.specs.List.{list_any, slice_get}
 use Rattle.std.specs.Str.{bytes_eq}
 use Rattle.assembler.proofs.Entries.{among, first_among, ids_same}
 use Rattle.assembler.specs.Assemblies.{IsObtainable, RightAlike}
-use Rattle.assembler.specs.Reports.{one_if}
+use Rattle.range_survey.specs.Reports.{one_if}
 use Rattle.cache_store.specs.Giving.{SomeGives}
 use Rattle.caibx_codec.specs.Listing.{Listing, Rules, count_of, end_of, id_of, image_length, kind_of, size_of, start_of}
 use Rattle.caibx_codec.specs.Right.{IsRight, IsRightAt}

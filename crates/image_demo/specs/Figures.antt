@@ -4,7 +4,7 @@ use Rattle.std.specs.Prelude.{◌≡◌, ◌≢◌, ◌&&◌, ◌==◌, ℕ, zer
 use Rattle.std.specs.Prelude.{replicate, codes, decimal, Result, Ok, Err}
 use Rattle.std.specs.List.{filter, list_any, range_with_len}
 use Rattle.std.specs.Str.{bytes_eq}
-use Rattle.assembler.specs.Reports.{right_below}
+use Rattle.range_survey.specs.Reports.{right_below}
 use Rattle.buzhash_cut.specs.Image.{IsIndexOfImage}
 use Rattle.caibx_codec.specs.Listing.{Listing, count_of, id_of, image_length, size_of}
 use Rattle.chunk_store.specs.Names.{name_of}

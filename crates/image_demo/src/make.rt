@@ -4,7 +4,7 @@ ghost use Rattle.std.specs.Prelude.{◌≡◌, ◌≤◌, ◌+◌, ℕ, List, []
 ghost use Rattle.std.specs.Prelude.{IsTrue};
 ghost use Rattle.assembler.specs.Assemblies.{IsObtainable, Verdict};
 ghost use Rattle.assembler.specs.Economy.{ReportsExactly};
-ghost use Rattle.assembler.specs.Reports.{right_below};
+ghost use Rattle.range_survey.specs.Reports.{right_below};
 ghost use Rattle.caibx_codec.specs.Listing.{count_of, image_length, kind_of};
 ghost use Rattle.caibx_codec.specs.Right.{IsRight};
 ghost use Rattle.chunk_sources.specs.Economy.{source_of};
@@ -22,7 +22,7 @@ use crate::figures::Figures;
 use crate::plan::{Planned, kit_of};
 use assembler::assemble::assemble;
 use assembler::fault::ExtractFault;
-use assembler::report::Report;
+use range_survey::report::Report;
 use cache_store::shelf::CacheShelf;
 use caibx_codec::index::Index;
 use chunk_sources::kit::Kit;

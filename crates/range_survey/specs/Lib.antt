@@ -1,3 +1,4 @@
 pub mod Excuses
 pub mod Fates
+pub mod Reports
 pub mod Zeros

@@ -3,5 +3,6 @@
 
 pub mod fate;
 mod fed_zeros;
+pub mod report;
 pub mod survey;
 pub mod zeros;

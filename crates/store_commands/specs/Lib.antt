@@ -4,3 +4,4 @@ pub mod ListChunks
 pub mod Prune
 pub mod Serving
 pub mod Verify
+pub mod Demo

@@ -2,6 +2,7 @@
 #![tactic(auto)]
 
 pub mod cache;
+pub mod demo;
 pub mod help;
 pub mod info;
 pub mod list_chunks;

@@ -7,7 +7,7 @@ use Rattle.chunk_sources.specs.Caches.{Stocked, TakesListed, TakesWants, seen}
 use Rattle.chunk_store.specs.declared.id.DigestKind.{DigestKind}
 use Rattle.std.proofs.lemmas.List.{with_items_is}
 use Rattle.std.specs.Global.{Vec}
-use Rattle.assembler.specs.Reports.{right_below, tally}
+use Rattle.range_survey.specs.Reports.{right_below, tally}
 use Rattle.extract_plan.specs.Places.{PlacesKnown}
 use Rattle.extract_plan.specs.declared.seed.Seed.{Seed}
 use Rattle.caibx_codec.specs.Listing.{count_of, image_length}

@@ -1,7 +1,7 @@
 use Rattle.std.proofs.Common.{◌≡◌, ◌∙◌, ℕ, List, sym}
 use Rattle.assembler.proofs.OnePlan.{one_of}
-use Rattle.assembler.specs.Reports.{right_below}
-use Rattle.assembler.specs.declared.report.Report.{Report}
+use Rattle.range_survey.specs.Reports.{right_below}
+use Rattle.range_survey.specs.declared.report.Report.{Report}
 use Rattle.caibx_codec.specs.Listing.{count_of, image_length}
 use Rattle.chunk_sources.specs.Caches.{TakesListed}
 use Rattle.dsy_base.specs.Bytes.{resized}

@@ -1,7 +1,7 @@
 use Rattle.std.proofs.Common.{subst, sym, IfOk, IfSome, Some, [], ◌∷◌, ◌≡◌, ◌∙◌, ◌+◌, Result}
-use Rattle.assembler.specs.Reports.{right_below}
+use Rattle.range_survey.specs.Reports.{right_below}
 use Rattle.assembler.specs.declared.fault.ExtractFault.{ExtractFault}
-use Rattle.assembler.specs.declared.report.Report.{Report}
+use Rattle.range_survey.specs.declared.report.Report.{Report}
 use Rattle.caibx_codec.specs.Listing.{count_of, image_length}
 use Rattle.caibx_codec.specs.Right.{IsRight}
 use Rattle.dsy_base.specs.Bytes.{resized}

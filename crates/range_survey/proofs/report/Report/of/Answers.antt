@@ -1,6 +1,6 @@
 use Rattle.std.proofs.Common.{◌≡◌, length, arith}
 use Rattle.assembler.proofs.Reported.{none_open, sum_of}
-use Rattle.assembler.proofs.report.Report.of.Goals as goal
+use Rattle.range_survey.proofs.report.Report.of.Goals as goal
 
 pub overflow_add-report : goal.overflow_add-report
 overflow_add-report c = omega (arith, c.loop-i.invariant.kept, sum_of c.args.fates.now c.loop-i.i, c.loop-i-test.true)

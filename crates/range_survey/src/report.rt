@@ -1,7 +1,7 @@
 //! What an assembly did, in numbers of entries.
 
 ghost use Rattle.std.specs.Prelude.{◌≡◌, ℕ, ◌+◌, ◌<◌, length, true};
-ghost use Rattle.assembler.specs.Reports.{tally};
+ghost use Rattle.range_survey.specs.Reports.{tally};
 ghost use Rattle.range_survey.specs.Fates.{settled};
 ghost use Rattle.range_survey.specs.declared.fate.Fate.TheVariants as fate;
 
@@ -36,7 +36,7 @@ impl Report {
     }
 
     /// The numbers of entries with each fate.
-    pub(crate) fn of(fates: &[Fate]) -> Report
+    pub fn of(fates: &[Fate]) -> Report
         ensures kept { result.kept ≡ tally fate.Kept fates.now (length fates.now) }
         ensures copied { result.copied ≡ tally fate.Copied fates.now (length fates.now) }
         ensures seeded { result.seeded ≡ tally fate.Seeded fates.now (length fates.now) }

@@ -1,7 +1,7 @@
 use Rattle.std.proofs.Common.{◌≡◌}
-use Rattle.assembler.specs.Reports.{tally}
+use Rattle.range_survey.specs.Reports.{tally}
 use Rattle.range_survey.specs.declared.fate.Fate.TheVariants as fate
-use Rattle.assembler.proofs.report.Report.of.Given as goal
+use Rattle.range_survey.proofs.report.Report.of.Given as goal
 
 abbrev pub invariant-loop-i : goal.invariant-loop-i
 invariant-loop-i l = record {
