@@ -15,7 +15,6 @@ pub mod Tried
 pub mod TriedAsks
 pub mod Retried
 pub mod TwoPasses
-pub mod Reported
 pub mod KeptCount
 pub mod EconomySums
 pub mod EconomySettled

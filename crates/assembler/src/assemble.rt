@@ -28,7 +28,6 @@ ghost use Rattle.store_chain.specs.Chains.{KeepsStores};
 
 use crate::fault::{ExtractFault, Lost};
 use crate::fill::fill;
-use range_survey::report::Report;
 use crate::retry::retry;
 use cache_store::shelf::CacheShelf;
 use caibx_codec::index::Index;
@@ -40,6 +39,7 @@ use dsy_base::view::{Part, Target, View};
 use extract_plan::plan::Plan;
 use extract_plan::seeds::SeedIndex;
 use range_survey::fate::Fate;
+use range_survey::report::Report;
 use range_survey::survey::survey_resized;
 use std::alloc::{AllocError, Global};
 

@@ -8,7 +8,7 @@ use Rattle.command_steps.proofs.Numbers.{rose_longer}
 use Rattle.command_steps.proofs.Taken.{adds_none, gives_adds}
 use Rattle.command_steps.specs.Cache.{CacheGiven, CacheOpened, folders_with}
 use Rattle.command_steps.specs.Stores.{NotReached}
-use Rattle.command_steps.specs.Worlds.{Adds, Reads}
+use Rattle.command_worlds.specs.Worlds.{Adds, Reads}
 use Rattle.dsy_base.specs.Disk.{Disk}
 
 still : (d e : Disk) → e ≡ d → Reads d e

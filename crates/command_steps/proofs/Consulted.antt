@@ -9,7 +9,7 @@ use Rattle.command_steps.proofs.Numbers.{rose_later, rose_longer}
 use Rattle.command_steps.specs.Dials.{Dials}
 use Rattle.command_steps.specs.Sources.{Consults, ConsultsStores, Sources, StoreRose, server_at, sources}
 use Rattle.command_steps.specs.Stores.{are_folders}
-use Rattle.command_steps.specs.Worlds.{Reads}
+use Rattle.command_worlds.specs.Worlds.{Reads}
 use Rattle.dsy_base.specs.Counts.{Rose, raised}
 use Rattle.dsy_base.specs.Disk.{Disk}
 use Rattle.dsy_base.specs.Links.{DialState}

@@ -9,7 +9,7 @@ use Rattle.command_words.specs.declared.command.Location.{Location}
 use Rattle.command_words.specs.declared.command.Location.TheVariants as locations
 use Rattle.command_steps.proofs.Opened.{given_back, later}
 use Rattle.command_steps.specs.Sources.{FirstUnreached, IsSourceAt, IsThere, OpensSources, Unreached, told_at}
-use Rattle.command_steps.specs.Worlds.{Reads}
+use Rattle.command_worlds.specs.Worlds.{Reads}
 use Rattle.dsy_base.specs.Disk.{Disk}
 use Rattle.dsy_base.specs.Maps.{Map}
 

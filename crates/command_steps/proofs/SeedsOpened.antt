@@ -6,7 +6,7 @@ use Rattle.std.specs.Map.{count_at}
 use Rattle.std.specs.Option.{option_map}
 use Rattle.command_steps.proofs.Numbers.{rose_later, rose_longer}
 use Rattle.command_steps.specs.Seeds.{IsSeedAt, IsViewed, OpensSeeds}
-use Rattle.command_steps.specs.Worlds.{Reads}
+use Rattle.command_worlds.specs.Worlds.{Reads}
 use Rattle.dsy_base.specs.Bytes.{Held}
 use Rattle.dsy_base.specs.Disk.{Disk}
 use Rattle.extract_plan.specs.Seeds.{faults_in, held_in}

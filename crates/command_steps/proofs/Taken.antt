@@ -6,7 +6,7 @@ use Rattle.command_words.specs.declared.command.Location.{Location}
 use Rattle.command_steps.proofs.Dialed.{dials_none}
 use Rattle.command_steps.proofs.Numbers.{counted_known, counted_le}
 use Rattle.command_steps.specs.Sources.{DialsStores}
-use Rattle.command_steps.specs.Worlds.{Adds}
+use Rattle.command_worlds.specs.Worlds.{Adds}
 use Rattle.dsy_base.specs.Disk.{Disk, GivesFolder}
 use Rattle.dsy_base.specs.Links.{DialState}
 use Rattle.dsy_base.specs.Maps.{Map, at_name}

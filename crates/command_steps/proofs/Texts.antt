@@ -6,7 +6,7 @@ use Rattle.dsy_base.specs.Counts.{Rose}
 use Rattle.dsy_base.specs.declared.fault.IoFault.{IoFault}
 use Rattle.dsy_base.specs.declared.fault.IoFault.TheVariants as io
 use Rattle.dsy_base.specs.Texts.{Puts}
-use Rattle.command_steps.specs.Printing.{Prints, answer_of_put}
+use Rattle.command_worlds.specs.Printing.{Prints, answer_of_put}
 use Rattle.dsy_base.specs.Disk.{Output}
 
 pub text_put : (p q : Output) (text : List ℕ) (r : Result Unit IoFault) → Puts text p.taken q.taken r → (r ≡ Err io.Failed → Rose p.faults q.faults) → Prints p q text (answer_of_put r)

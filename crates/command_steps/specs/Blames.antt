@@ -3,7 +3,7 @@ use Rattle.std.specs.Prelude.{◌≡◌, ◌⊎◌, ℕ, Bool, IsTrue, List, sli
 use Rattle.command_outcome.specs.declared.outcome.Outcome.{Outcome}
 use Rattle.command_outcome.specs.declared.outcome.Outcome.TheVariants as ends
 use Rattle.command_steps.specs.Sources.{StoreRose, sources_of, store_at}
-use Rattle.command_steps.specs.Worlds.{FileRose, FolderRose, World}
+use Rattle.command_worlds.specs.Worlds.{FileRose, FolderRose, World}
 use Rattle.command_words.specs.declared.command.Location.{Location}
 use Rattle.dsy_base.specs.Counts.{Rose}
 

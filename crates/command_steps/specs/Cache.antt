@@ -3,7 +3,7 @@ use Rattle.std.specs.Prelude.{◌≡◌, ℕ, List, Option, Some, None, IfSome, 
 use Rattle.std.specs.Option.{option_map}
 use Rattle.cache_store.specs.Shelves.{Shelf}
 use Rattle.command_steps.specs.Stores.{NotReached}
-use Rattle.command_steps.specs.Worlds.{Reads, Step}
+use Rattle.command_worlds.specs.Worlds.{Reads, Step}
 use Rattle.dsy_base.specs.Disk.{Disk, GivesFolder}
 use Rattle.dsy_base.specs.Maps.{Map, at_name}
 

@@ -1,7 +1,4 @@
-pub mod Worlds
-pub mod Steps
 pub mod Openings
-pub mod Printing
 pub mod Stores
 pub mod Dials
 pub mod Sources

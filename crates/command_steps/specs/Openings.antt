@@ -6,7 +6,7 @@ use Rattle.caibx_codec.specs.Spelling.{IsIndexFile}
 use Rattle.caibx_fields.specs.declared.fault.IndexFault.{IndexFault}
 use Rattle.command_outcome.specs.declared.outcome.Outcome.{Outcome}
 use Rattle.command_outcome.specs.declared.outcome.Outcome.TheVariants as ends
-use Rattle.command_steps.specs.Worlds.{FileRose, Reads, Step}
+use Rattle.command_worlds.specs.Worlds.{FileRose, Reads, Step}
 use Rattle.dsy_base.specs.Disk.{Disk}
 use Rattle.dsy_base.specs.Maps.{Map}
 

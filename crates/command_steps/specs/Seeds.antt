@@ -8,7 +8,7 @@ use Rattle.caibx_codec.specs.Listing.{Listing, count_of}
 use Rattle.command_outcome.specs.declared.outcome.Outcome.{Outcome}
 use Rattle.command_outcome.specs.declared.outcome.Outcome.TheVariants as ends
 use Rattle.command_steps.specs.Openings.{Holds, Listed, NotRead}
-use Rattle.command_steps.specs.Worlds.{FileRose, Reads, Step}
+use Rattle.command_worlds.specs.Worlds.{FileRose, Reads, Step}
 use Rattle.dsy_base.specs.Bytes.{Held}
 use Rattle.dsy_base.specs.Disk.{Disk}
 use Rattle.dsy_base.specs.Maps.{Map}

@@ -10,7 +10,7 @@ use Rattle.command_outcome.specs.declared.outcome.Outcome.{Outcome}
 use Rattle.command_outcome.specs.declared.outcome.Outcome.TheVariants as ends
 use Rattle.command_steps.specs.Dials.{Dials, since}
 use Rattle.command_steps.specs.Stores.{NotReached, are_folders}
-use Rattle.command_steps.specs.Worlds.{FolderRose, Reads, Step, World}
+use Rattle.command_worlds.specs.Worlds.{FolderRose, Reads, Step, World}
 use Rattle.command_words.specs.declared.command.Location.{Location}
 use Rattle.command_words.specs.declared.command.Location.TheVariants as locations
 use Rattle.dsy_base.specs.Counts.{Rose}

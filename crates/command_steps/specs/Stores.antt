@@ -4,7 +4,7 @@ use Rattle.std.specs.Prelude.{◌≡◌, ℕ, ◌&&◌, Bool, true, false, List,
 use Rattle.std.specs.Option.{option_map}
 use Rattle.command_outcome.specs.declared.outcome.Outcome.{Outcome}
 use Rattle.command_outcome.specs.declared.outcome.Outcome.TheVariants as ends
-use Rattle.command_steps.specs.Worlds.{Adds, FolderRose, Reads, Step}
+use Rattle.command_worlds.specs.Worlds.{Adds, FolderRose, Reads, Step}
 use Rattle.command_words.specs.declared.command.Location.{Location}
 use Rattle.command_words.specs.declared.command.Location.TheVariants as locations
 use Rattle.dsy_base.specs.Disk.{Disk}

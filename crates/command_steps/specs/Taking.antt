@@ -3,7 +3,7 @@ use Rattle.std.specs.Prelude.{◌≡◌, List, ℕ, Option, None, Ok, Err}
 use Rattle.std.specs.Option.{option_map}
 use Rattle.command_outcome.specs.declared.outcome.Outcome.TheVariants as ends
 use Rattle.command_steps.specs.Stores.{StoreTaken}
-use Rattle.command_steps.specs.Worlds.{Reads, Step}
+use Rattle.command_worlds.specs.Worlds.{Reads, Step}
 use Rattle.command_words.specs.declared.command.Location.{Location}
 use Rattle.command_words.specs.declared.command.Location.TheVariants as locations
 use Rattle.dsy_base.specs.Disk.{Disk}

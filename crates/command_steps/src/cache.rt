@@ -5,7 +5,7 @@ ghost use Rattle.std.specs.Option.{option_map};
 ghost use Rattle.cache_store.specs.Shelves.{shelf_of};
 ghost use Rattle.chunk_store.specs.declared.id.DigestKind.TheVariants as kinds;
 ghost use Rattle.command_steps.specs.Cache.{CacheGiven, CacheOpened, with_cache};
-ghost use Rattle.command_steps.specs.Worlds.{Reads};
+ghost use Rattle.command_worlds.specs.Worlds.{Reads};
 
 use crate::stores::not_reached;
 use cache_store::shelf::CacheShelf;

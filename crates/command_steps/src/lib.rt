@@ -4,7 +4,6 @@
 pub mod any_source;
 pub mod cache;
 pub mod openings;
-pub mod printing;
 pub mod seeds;
 pub mod sources;
 mod stores;

@@ -2,7 +2,7 @@
 
 ghost use Rattle.std.specs.Prelude.{◌≡◌, IfOk, IfErr, IsSome, OnOk};
 ghost use Rattle.command_steps.specs.Openings.{Holds, Listed, NotOpened, NotRead};
-ghost use Rattle.command_steps.specs.Worlds.{Reads};
+ghost use Rattle.command_worlds.specs.Worlds.{Reads};
 
 use caibx_codec::index::Index;
 use caibx_codec::reading::{ViewFault, read_index as read_view};

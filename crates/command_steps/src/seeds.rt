@@ -8,7 +8,7 @@ ghost use Rattle.caibx_codec.specs.Listing.{Listing, count_of};
 ghost use Rattle.command_steps.specs.Openings.{Listed};
 ghost use Rattle.command_steps.specs.Seeds.{AllListed, IsSeedAt, IsViewed, NoneListed, OpensSeeds, SeedsKnown};
 ghost use Rattle.command_steps.specs.Seeds.{image_name, items_with, label_in};
-ghost use Rattle.command_steps.specs.Worlds.{Reads};
+ghost use Rattle.command_worlds.specs.Worlds.{Reads};
 ghost use Rattle.dsy_base.specs.Counts.{raised};
 ghost use Rattle.extract_plan.specs.Places.{items_of, seed_item_limit};
 ghost use Rattle.extract_plan.specs.Seeds.{faults_in, held_in};

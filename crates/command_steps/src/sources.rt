@@ -6,7 +6,7 @@ ghost use Rattle.command_steps.specs.AnySources.{IsGiven, IsKnown, IsUnused, fau
 ghost use Rattle.command_steps.specs.AnySources.{with_those};
 ghost use Rattle.command_steps.specs.Sources.{AllThere, ConsultsStores, FirstUnreached, IsSourceAt, OpensSources};
 ghost use Rattle.command_steps.specs.Sources.{Unreached, server_at, sources, told_at};
-ghost use Rattle.command_steps.specs.Worlds.{Reads};
+ghost use Rattle.command_worlds.specs.Worlds.{Reads};
 ghost use Rattle.dsy_base.specs.Counts.{raised};
 
 use crate::any_source::AnySource;

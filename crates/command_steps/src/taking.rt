@@ -7,7 +7,7 @@ ghost use Rattle.command_steps.specs.AnySources.{with_those};
 ghost use Rattle.command_steps.specs.Sources.{DialsStores, sources};
 ghost use Rattle.command_steps.specs.Stores.{IsStoreAt, IsTaken, NotReached};
 ghost use Rattle.command_steps.specs.Taking.{SourceTaken, given_to};
-ghost use Rattle.command_steps.specs.Worlds.{Adds, Reads};
+ghost use Rattle.command_worlds.specs.Worlds.{Adds, Reads};
 ghost use Rattle.dsy_base.specs.Disk.{GivesFolder};
 ghost use Rattle.dsy_base.specs.Maps.{at_name};
 

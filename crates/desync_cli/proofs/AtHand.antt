@@ -26,9 +26,9 @@ use Rattle.command_steps.specs.Cache.{CacheOpened}
 use Rattle.command_steps.specs.Openings.{IsBad, IsListed, Listed, NotRead}
 use Rattle.command_steps.specs.Seeds.{IndexesRead, NoneListed, image_name, items_with}
 use Rattle.command_steps.specs.Sources.{FirstUnreached, HaveLacked, IsThere, Sources, SourcesOpened, StoreRose, Unreached, files_at, said_at, sources}
-use Rattle.command_steps.specs.Steps.{◌>>=◌, outcome_of}
+use Rattle.command_worlds.specs.Steps.{◌>>=◌, outcome_of}
 use Rattle.command_steps.specs.Stores.{NotReached}
-use Rattle.command_steps.specs.Worlds.{DiskQuiet, FileRose, FolderRose, OnDisk, Reads, World, Writes, world}
+use Rattle.command_worlds.specs.Worlds.{DiskQuiet, FileRose, FolderRose, OnDisk, Reads, World, Writes, world}
 use Rattle.command_words.specs.declared.command.Command.{Command}
 use Rattle.command_words.specs.declared.command.Command.TheVariants as commands
 use Rattle.command_words.specs.declared.command.Location.{Location}

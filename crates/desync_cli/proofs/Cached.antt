@@ -7,7 +7,7 @@ use Rattle.caibx_codec.specs.Listing.{Listing, count_of, id_of, kind_of}
 use Rattle.chunk_store.specs.Folders.{chunks}
 use Rattle.command_steps.specs.Openings.{IsListed}
 use Rattle.command_steps.specs.Sources.{sources, sources_of}
-use Rattle.command_steps.specs.Worlds.{World}
+use Rattle.command_worlds.specs.Worlds.{World}
 use Rattle.command_words.specs.declared.command.Location.{Location}
 use Rattle.store_commands.specs.Caching.{AddsListed, AllFilled, CacheEnds, Evidence, IsCached, IsHeldListed, of_command}
 use Rattle.dsy_base.specs.Disk.{Disk}

@@ -6,7 +6,7 @@ use Rattle.caibx_codec.specs.Right.{IsRight}
 use Rattle.chunk_store.specs.Folders.{chunks}
 use Rattle.command_steps.specs.Openings.{IsListed}
 use Rattle.command_steps.specs.Sources.{said_at, sources, sources_of}
-use Rattle.command_steps.specs.Worlds.{World}
+use Rattle.command_worlds.specs.Worlds.{World}
 use Rattle.command_words.specs.declared.command.Location.{Location}
 use Rattle.command_words.specs.declared.command.Location.TheVariants as locations
 use Rattle.desync_cli.proofs.Made.{others_stay}

@@ -2,8 +2,8 @@
 use Rattle.std.proofs.Common.{◌≡◌, ℕ, List, IfSome, is_some, Result, Ok, subst}
 use Rattle.command_outcome.specs.declared.outcome.Outcome.{Outcome}
 use Rattle.command_outcome.specs.declared.outcome.Outcome.TheVariants as ends
-use Rattle.command_steps.specs.Steps.{answer_of, outcome_of}
-use Rattle.command_steps.specs.Worlds.{World}
+use Rattle.command_worlds.specs.Steps.{answer_of, outcome_of}
+use Rattle.command_worlds.specs.Worlds.{World}
 use Rattle.command_words.specs.declared.command.Command.{Command}
 use Rattle.command_words.specs.declared.command.Command.TheVariants as commands
 use Rattle.desync_cli.specs.Commands.{Achieves, DesyncEnds, Ends, command_of}

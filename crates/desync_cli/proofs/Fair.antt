@@ -17,8 +17,8 @@ use Rattle.command_words.specs.declared.command.Location.{Location}
 use Rattle.command_words.specs.declared.command.Location.TheVariants as locations
 use Rattle.command_words.specs.declared.usage.WordsFault.{WordsFault}
 use Rattle.desync_cli.specs.Unfailed.{NothingFailed, RepliesTaken}
-use Rattle.command_steps.specs.Steps.{Passed, answer_of, outcome_of}
-use Rattle.command_steps.specs.Worlds.{FileRose, FolderRose, NoFault, Step, World, Writes, world}
+use Rattle.command_worlds.specs.Steps.{Passed, answer_of, outcome_of}
+use Rattle.command_worlds.specs.Worlds.{FileRose, FolderRose, NoFault, Step, World, Writes, world}
 use Rattle.command_steps.proofs.Dialed.{dials_same}
 use Rattle.command_steps.proofs.Fair.{IsFair, IsLeft, IsRefusal, IsStep, Unread, adds, behind, between, bound, consults, cache_step, fair_longer, image_step, index_step, indexes_step, left_twice, on_disk, on_out, on_sources, printed_step, pure_step, reads, round, source_failed, source_taken_step, sources_fair, sources_step, taken_step, whole, writes, unread_fair}
 use Rattle.command_steps.proofs.Numbers.{rose_not_quiet}
@@ -31,7 +31,7 @@ use Rattle.image_commands.specs.Extract.{CacheFilled, Clearing, FillsCache, Imag
 use Rattle.store_commands.specs.Info.{IdsCounted, NotAsked}
 use Rattle.image_commands.specs.Make.{ImageStored, IndexWritten, SizesJudged, WritesStore}
 use Rattle.store_commands.specs.Serving.{FolderServed, Heard, TakenUnheard}
-use Rattle.image_commands.specs.VerifyIndex.{ImageChecked}
+use Rattle.store_commands.specs.VerifyIndex.{ImageChecked}
 use Rattle.verify_tool.specs.Pruning.{is_listed_in}
 use Rattle.store_commands.specs.Prune.{StorePruned}
 use Rattle.store_commands.specs.Verify.{KeepsCounts, StoreVerified}

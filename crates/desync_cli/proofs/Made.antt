@@ -7,7 +7,7 @@ use Rattle.caibx_codec.specs.Listing.{Listing, count_of, id_of}
 use Rattle.chunk_store.specs.Folders.{chunks}
 use Rattle.chunk_store.specs.Said.{Said}
 use Rattle.command_steps.specs.Sources.{said_at, sources, sources_of}
-use Rattle.command_steps.specs.Worlds.{World}
+use Rattle.command_worlds.specs.Worlds.{World}
 use Rattle.command_words.specs.declared.command.Location.{Location}
 use Rattle.command_words.specs.declared.command.Location.TheVariants as locations
 use Rattle.image_commands.specs.Make.{FolderHas, IsMade, MadeOf, MakeEnds, StoreHas, sizes_of}

@@ -10,9 +10,9 @@ use Rattle.command_words.specs.declared.command.Location.{Location}
 use Rattle.command_steps.proofs.Cached.{cache_reads}
 use Rattle.command_steps.specs.Cache.{CacheOpened}
 use Rattle.command_steps.specs.Seeds.{IndexesRead, image_name}
-use Rattle.command_steps.specs.Steps.{◌>>=◌, outcome_of}
+use Rattle.command_worlds.specs.Steps.{◌>>=◌, outcome_of}
 use Rattle.command_steps.specs.Sources.{Sources, SourcesOpened, sources}
-use Rattle.command_steps.specs.Worlds.{OnDisk, Reads, World, world}
+use Rattle.command_worlds.specs.Worlds.{OnDisk, Reads, World, world}
 use Rattle.desync_cli.proofs.Fair.{begun, if_any, if_some}
 use Rattle.desync_cli.specs.Commands.{DesyncEnds, Ends, LeavesBehind, command_of}
 use Rattle.store_commands.specs.Serving.{Heard}

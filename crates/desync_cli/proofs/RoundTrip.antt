@@ -6,7 +6,7 @@ use Rattle.buzhash_cut.specs.Sizes.{Sizes}
 use Rattle.caibx_codec.specs.Listing.{Listing}
 use Rattle.caibx_codec.specs.Right.{IsRight}
 use Rattle.caibx_codec.specs.Spelling.{IsIndexFile}
-use Rattle.command_steps.specs.Worlds.{world}
+use Rattle.command_worlds.specs.Worlds.{world}
 use Rattle.command_words.specs.declared.command.Command.{Command}
 use Rattle.command_words.specs.declared.command.Command.TheVariants as commands
 use Rattle.desync_cli.specs.Commands.{Achieves}

@@ -3,8 +3,8 @@ use Rattle.std.proofs.Common.{◌≡◌, ℕ, List, Option, Some, None, IfSome, 
 use Rattle.caibx_codec.specs.Listing.{Listing}
 use Rattle.caibx_codec.specs.Right.{IsRight}
 use Rattle.command_steps.specs.Openings.{IsListed}
-use Rattle.command_steps.specs.Worlds.{World}
-use Rattle.image_commands.specs.VerifyIndex.{IsVerified, VerifyIndexEnds}
+use Rattle.command_worlds.specs.Worlds.{World}
+use Rattle.store_commands.specs.VerifyIndex.{IsVerified, VerifyIndexEnds}
 use Rattle.dsy_base.specs.Maps.{Map}
 
 over_files : (files : Option (Map (List ℕ))) (index image : List ℕ) (l : Listing) (told : Option (List ℕ)) → IfSome files (λ m. IsListed m index l) → IfSome files (λ m. (t : List ℕ) × (m image ≡ Some t) × (told ≡ Some t)) → IfSome told (λ t. IsRight t l)

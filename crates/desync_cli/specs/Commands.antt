@@ -17,7 +17,7 @@ use Rattle.image_commands.specs.Chop.{ChopEnds, IsChopped}
 use Rattle.store_commands.specs.Demo.{DemoEnds}
 use Rattle.image_commands.specs.Extract.{ExtractEnds, IsExtracted, temporary_out}
 use Rattle.image_commands.specs.Make.{IsMade, MakeEnds, StoreHas}
-use Rattle.image_commands.specs.VerifyIndex.{IsVerified, VerifyIndexEnds}
+use Rattle.store_commands.specs.VerifyIndex.{IsVerified, VerifyIndexEnds}
 use Rattle.store_commands.specs.Caching.{CacheEnds, IsCached}
 use Rattle.store_commands.specs.Info.{InfoEnds}
 use Rattle.store_commands.specs.ListChunks.{ListChunksEnds}
@@ -25,11 +25,11 @@ use Rattle.store_commands.specs.Prune.{IsPruned, PruneEnds}
 use Rattle.store_commands.specs.Serving.{ChunkServerEnds, Heard}
 use Rattle.store_commands.specs.Verify.{IsVerifiedStore, VerifyEnds}
 use Rattle.command_steps.specs.Blames.{Parts, Spares, unheard}
-use Rattle.command_steps.specs.Printing.{Printed}
+use Rattle.command_worlds.specs.Printing.{Printed}
 use Rattle.command_steps.specs.Sources.{sources_of}
-use Rattle.command_steps.specs.Steps.{◌>>=◌}
+use Rattle.command_worlds.specs.Steps.{◌>>=◌}
 use Rattle.command_steps.specs.Stores.{are_folders, is_folder}
-use Rattle.command_steps.specs.Worlds.{OnOut, Step, World}
+use Rattle.command_worlds.specs.Worlds.{OnOut, Step, World}
 
 -- ---- a row a command
 

@@ -3,8 +3,8 @@ use Rattle.std.specs.Prelude.{◌≡◌, ◌⊎◌, ℕ, List, Option, Some}
 use Rattle.buzhash_cut.specs.Right.{HasTwins}
 use Rattle.caibx_codec.specs.Listing.{Listing}
 use Rattle.command_outcome.specs.declared.outcome.Outcome.{Outcome}
-use Rattle.command_steps.specs.Steps.{answer_of}
-use Rattle.command_steps.specs.Worlds.{World}
+use Rattle.command_worlds.specs.Steps.{answer_of}
+use Rattle.command_worlds.specs.Worlds.{World}
 use Rattle.command_words.specs.declared.command.Command.{Command}
 use Rattle.command_words.specs.declared.command.Command.TheVariants as commands
 use Rattle.desync_cli.specs.Commands.{DesyncEnds}

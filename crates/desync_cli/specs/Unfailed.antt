@@ -5,7 +5,7 @@ use Rattle.command_outcome.specs.declared.outcome.Outcome.{Outcome}
 use Rattle.command_outcome.specs.declared.outcome.Outcome.TheVariants as ends
 use Rattle.command_steps.specs.Dials.{since}
 use Rattle.command_steps.specs.Sources.{server_at}
-use Rattle.command_steps.specs.Worlds.{World}
+use Rattle.command_worlds.specs.Worlds.{World}
 use Rattle.command_words.specs.declared.command.Location.{Location}
 use Rattle.command_words.specs.declared.command.Location.TheVariants as locations
 use Rattle.http_read.specs.Refusals.{IsUnacceptable}

@@ -1,8 +1,8 @@
 //! The top call over files, folders and sinks in memory, which tell all that they hold.
 
 ghost use Rattle.std.specs.Prelude.{◌≡◌, IfSome, Some, map, string_bytes};
-ghost use Rattle.command_steps.specs.Steps.{answer_of};
-ghost use Rattle.command_steps.specs.Worlds.{world};
+ghost use Rattle.command_worlds.specs.Steps.{answer_of};
+ghost use Rattle.command_worlds.specs.Worlds.{world};
 ghost use Rattle.desync_cli.specs.Commands.{Achieves, DesyncEnds, command_of};
 ghost use Rattle.desync_cli.specs.RoundTrip.{InTurn, RoundTrip};
 ghost use Rattle.store_commands.specs.Serving.{heard};

@@ -13,8 +13,8 @@ ghost use Rattle.desync_cli.specs.Commands.{LeavesBehind, refusal_of, spares};
 ghost use Rattle.desync_cli.specs.Lines.{TakesLine};
 ghost use Rattle.store_commands.specs.Serving.{heard};
 ghost use Rattle.dsy_base.specs.Counts.{Quiet};
-ghost use Rattle.command_steps.specs.Steps.{answer_of, outcome_of};
-ghost use Rattle.command_steps.specs.Worlds.{DiskQuiet, NoFault, world};
+ghost use Rattle.command_worlds.specs.Steps.{answer_of, outcome_of};
+ghost use Rattle.command_worlds.specs.Worlds.{DiskQuiet, NoFault, world};
 
 use crate::words::read_command;
 use command_help::help::Topic;
@@ -28,19 +28,19 @@ use dsy_base::image_files::ImageFiles;
 use dsy_base::listen::Listen;
 use dsy_base::sink::Sink;
 use image_commands::chop::chop;
-use store_commands::demo::demo;
 use image_commands::extract::extract;
 use image_commands::make::make;
-use image_commands::verify_index::verify_index;
 use std::alloc::Global;
 use std::thread::Threads;
 use store_commands::cache::cache as fill_cache;
+use store_commands::demo::demo;
 use store_commands::help::help;
 use store_commands::info::info;
 use store_commands::list_chunks::list_chunks;
 use store_commands::prune::prune;
 use store_commands::server::chunk_server;
 use store_commands::verify::verify;
+use store_commands::verify_index::verify_index;
 
 // Does the command.
 fn perform<R: Threads + Sync, F: ImageFiles, D: Dial, L: Listen, O: Sink>(

@@ -34,7 +34,7 @@ use Rattle.command_steps.proofs.Taken.{at_name_twice}
 use Rattle.command_steps.specs.Sources.{HaveLacked, Sources, told_at}
 use Rattle.image_commands.specs.Extract.{Assembled, CacheLacksEntry, CanBeHad, Into, IsLacking, Leaves, NoneAsked, OnlyHad, SeedHas, Seeds, IsTorn, StopsFailed, StopsSomewhere, Told, Undisturbed, WhereFolders, answer_of_assembly, answer_of_taking, base_of, folder_of, old_of}
 use Rattle.command_steps.specs.Seeds.{IsViewed}
-use Rattle.command_steps.specs.Worlds.{DiskQuiet, FileRose}
+use Rattle.command_worlds.specs.Worlds.{DiskQuiet, FileRose}
 
 over_told : {X Y Z : Type 0} (x : Option X) (y : Option Y) (z : Option Z) (P : X → Y → Z → Type 0) → ((a : X) (b : Y) (c : Z) → x ≡ Some a → y ≡ Some b → z ≡ Some c → P a b c) → IfSome x (λ a. IfSome y (λ b. IfSome z (λ c. P a b c)))
 over_told None y z P f = tt

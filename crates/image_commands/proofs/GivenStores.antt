@@ -18,7 +18,7 @@ use Rattle.command_steps.specs.AnySources.{IsGiven, faults_in, files_in, locatio
 use Rattle.command_steps.specs.Sources.{DialsStores, Sources, StoreRose, said_at, sources}
 use Rattle.command_steps.specs.Stores.{is_folder}
 use Rattle.command_steps.specs.Taking.{SourceTaken, given_to}
-use Rattle.command_steps.specs.Worlds.{Adds, FileRose, Reads}
+use Rattle.command_worlds.specs.Worlds.{Adds, FileRose, Reads}
 use Rattle.command_steps.specs.declared.any_source.AnySource.{AnySource}
 use Rattle.command_steps.specs.declared.any_source.AnySource.TheVariants as stores
 use Rattle.image_commands.specs.Make.{StoreGiven, WritesStore}

@@ -7,7 +7,6 @@ pub mod Made
 pub mod Replaced
 pub mod Seeded
 pub mod Shelved
-pub mod VerifyIndex
 pub mod Viewed
 pub mod Wrote
 pub mod Spared

@@ -25,7 +25,7 @@ use Rattle.command_steps.proofs.Numbers.{rose_longer}
 use Rattle.command_steps.specs.Blames.{name_at}
 use Rattle.command_steps.specs.Seeds.{IsViewed}
 use Rattle.command_steps.specs.Sources.{HaveLacked, Sources, StoreRose, said_at, told_at}
-use Rattle.command_steps.specs.Worlds.{FileRose}
+use Rattle.command_worlds.specs.Worlds.{FileRose}
 use Rattle.image_commands.proofs.Assembled.{AllLack, LackingOver, LostAs, OthersLack, StoreAs, TargetAs}
 use Rattle.command_steps.proofs.Lacked.{have_lacked, same_length}
 use Rattle.image_commands.proofs.Seeded.{had_failed, label_of}

@@ -6,9 +6,9 @@ use Rattle.command_outcome.specs.declared.outcome.Outcome.{Outcome}
 use Rattle.command_steps.specs.Cache.{CacheOpened}
 use Rattle.command_steps.specs.Openings.{IndexRead, Listed}
 use Rattle.command_steps.specs.Seeds.{AllListed, IndexesRead, image_name}
-use Rattle.command_steps.specs.Steps.{◌>>=◌, Passed}
+use Rattle.command_worlds.specs.Steps.{◌>>=◌, Passed}
 use Rattle.command_steps.specs.Sources.{Sources, SourcesOpened, sources}
-use Rattle.command_steps.specs.Worlds.{Step, World, world}
+use Rattle.command_worlds.specs.Worlds.{Step, World, world}
 use Rattle.command_words.specs.declared.command.Location.{Location}
 use Rattle.image_commands.proofs.Seeded.{zipped_many}
 use Rattle.image_commands.specs.Extract.{ClearedAfter, Clearing, ExtractEnds, OutMade, temporary_out}

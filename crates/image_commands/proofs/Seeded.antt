@@ -11,7 +11,7 @@ use Rattle.chunk_store.specs.declared.id.DigestKind.TheVariants.{Sha512T256}
 use Rattle.command_steps.specs.Blames.{name_at}
 use Rattle.command_steps.specs.Openings.{Holds}
 use Rattle.command_steps.specs.Seeds.{IsViewed, SeedsKnown, label_in}
-use Rattle.command_steps.specs.Worlds.{FileRose}
+use Rattle.command_worlds.specs.Worlds.{FileRose}
 use Rattle.image_commands.specs.Extract.{SeedHas, Seeds}
 use Rattle.dsy_base.specs.Bytes.{Held}
 use Rattle.dsy_base.specs.Counts.{Rose}

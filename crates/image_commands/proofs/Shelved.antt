@@ -13,7 +13,7 @@ use Rattle.chunk_store.specs.declared.id.DigestKind.{DigestKind}
 use Rattle.command_steps.proofs.Numbers.{given_quiet, given_rose, rose_longer}
 use Rattle.command_steps.specs.Cache.{CacheGiven, folders_with}
 use Rattle.command_steps.specs.Sources.{told_at}
-use Rattle.command_steps.specs.Worlds.{DiskQuiet, FolderRose}
+use Rattle.command_worlds.specs.Worlds.{DiskQuiet, FolderRose}
 use Rattle.command_words.specs.declared.command.Location.{Location}
 use Rattle.command_steps.proofs.Taken.{at_name_twice}
 use Rattle.image_commands.specs.Extract.{CacheFilled, CacheGrows, CacheLacksEntry, IsForCache, folder_of}

@@ -18,7 +18,7 @@ use Rattle.chunk_store.specs.Giving.{GivesChunk}
 use Rattle.command_steps.proofs.Numbers.{rose_not_quiet}
 use Rattle.command_steps.specs.Blames.{name_at}
 use Rattle.command_steps.specs.Seeds.{IsViewed}
-use Rattle.command_steps.specs.Worlds.{FileRose, FolderRose}
+use Rattle.command_worlds.specs.Worlds.{FileRose, FolderRose}
 use Rattle.dsy_base.specs.Bytes.{Held, resized}
 use Rattle.dsy_base.specs.Counts.{Quiet, Rose}
 use Rattle.dsy_base.specs.Disk.{Disk}

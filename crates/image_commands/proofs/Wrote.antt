@@ -2,7 +2,7 @@
 use Rattle.std.proofs.Common.{◌≡◌, ◌∙◌, ℕ, ◌≤◌, List, Option, Some, None, IsSome, unwrap_or, ap, arith, inl, inr, refl}
 use Rattle.std.specs.Map.{count_at}
 use Rattle.command_steps.proofs.Numbers.{counted_le}
-use Rattle.command_steps.specs.Worlds.{Reads, Writes}
+use Rattle.command_worlds.specs.Worlds.{Reads, Writes}
 use Rattle.dsy_base.specs.Disk.{Disk, GivesFile, OnFile}
 use Rattle.dsy_base.specs.Counts.{Rose}
 use Rattle.dsy_base.specs.Maps.{Map}

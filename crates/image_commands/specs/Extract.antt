@@ -32,10 +32,10 @@ use Rattle.command_steps.specs.Asking.{AsksFew, EachDialed}
 use Rattle.command_steps.specs.Cache.{CacheOpened}
 use Rattle.command_steps.specs.Openings.{IndexRead, IsListed}
 use Rattle.command_steps.specs.Seeds.{IndexesRead, image_name}
-use Rattle.command_steps.specs.Steps.{◌>>=◌}
+use Rattle.command_worlds.specs.Steps.{◌>>=◌}
 use Rattle.command_steps.specs.Sources.{DialsStores, HaveLacked, NotAsking, OnSources, Sources}
 use Rattle.command_steps.specs.Sources.{SourcesOpened, sources, told_at}
-use Rattle.command_steps.specs.Worlds.{DiskQuiet, FileRose, FolderRose, OnDisk, Step, World}
+use Rattle.command_worlds.specs.Worlds.{DiskQuiet, FileRose, FolderRose, OnDisk, Step, World}
 use Rattle.dsy_base.specs.Disk.{Disk, OnFile}
 use Rattle.extract_plan.specs.Deal.{Deal, IsPlan, first_of, of_want, want_id}
 use Rattle.http_wire.specs.declared.reply.Method.TheVariants as method

@@ -1,5 +1,4 @@
 pub mod Chop
 pub mod Extract
 pub mod Make
-pub mod VerifyIndex
 pub mod Views

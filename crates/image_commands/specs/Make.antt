@@ -14,10 +14,10 @@ use Rattle.command_outcome.specs.declared.outcome.Outcome.TheVariants as ends
 use Rattle.command_steps.specs.Asking.{Asks, EachDialed}
 use Rattle.command_steps.specs.Openings.{ImageOpened}
 use Rattle.command_steps.specs.Sources.{DialsStores, OnSources, Sources, StoreRose, said_at}
-use Rattle.command_steps.specs.Steps.{◌>>=◌}
+use Rattle.command_worlds.specs.Steps.{◌>>=◌}
 use Rattle.command_steps.specs.Stores.{is_folder}
 use Rattle.command_steps.specs.Taking.{SourceTaken}
-use Rattle.command_steps.specs.Worlds.{Adds, FileRose, OnDisk, Pure, Step, World, Writes}
+use Rattle.command_worlds.specs.Worlds.{Adds, FileRose, OnDisk, Pure, Step, World, Writes}
 use Rattle.command_words.specs.declared.command.Location.{Location}
 use Rattle.command_words.specs.declared.command.Location.TheVariants as locations
 use Rattle.dsy_base.specs.Disk.{Disk}

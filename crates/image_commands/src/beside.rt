@@ -6,7 +6,7 @@ ghost use Rattle.command_steps.specs.AnySources.{IsGiven, IsKnown, IsUnused, fau
 ghost use Rattle.command_steps.specs.AnySources.{with_those};
 ghost use Rattle.command_steps.specs.Sources.{sources};
 ghost use Rattle.command_steps.specs.Taking.{SourceTaken, given_to};
-ghost use Rattle.command_steps.specs.Worlds.{Adds};
+ghost use Rattle.command_worlds.specs.Worlds.{Adds};
 ghost use Rattle.image_commands.specs.Make.{WritesStore};
 ghost use Rattle.dsy_base.specs.Counts.{raised};
 

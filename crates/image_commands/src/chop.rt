@@ -3,7 +3,7 @@
 ghost use Rattle.std.specs.Prelude.{◌≡◌, IsSome};
 ghost use Rattle.command_steps.specs.AnySources.{IsKnown, IsUnused, faults_in, files_in, location_in};
 ghost use Rattle.command_steps.specs.Sources.{sources};
-ghost use Rattle.command_steps.specs.Worlds.{world};
+ghost use Rattle.command_worlds.specs.Worlds.{world};
 ghost use Rattle.image_commands.specs.Chop.{ChopEnds, ImageChopped};
 ghost use Rattle.dsy_base.specs.Disk.{Output};
 

@@ -11,7 +11,7 @@ ghost use Rattle.command_steps.specs.AnySources.{IsKnown, IsUnused, faults_in, f
 ghost use Rattle.command_steps.specs.Cache.{with_cache};
 ghost use Rattle.command_steps.specs.Seeds.{image_name};
 ghost use Rattle.command_steps.specs.Sources.{DialsStores, sources, told_at};
-ghost use Rattle.command_steps.specs.Worlds.{world};
+ghost use Rattle.command_worlds.specs.Worlds.{world};
 ghost use Rattle.image_commands.specs.Extract.{Assembled, ClearedAfter, ExtractEnds, FillsCache, IsNoFile};
 ghost use Rattle.image_commands.specs.Extract.{IsNumbered, OutMade, Renamed, answer_of_assembly, answer_of_taking};
 ghost use Rattle.image_commands.specs.Extract.{GetsWants, temporary_out};
@@ -21,7 +21,6 @@ ghost use Rattle.extract_plan.specs.Places.{IsSeedIndex, PlacesKnown, items_of, 
 
 use assembler::assemble::assemble;
 use assembler::fault::ExtractFault;
-use range_survey::report::Report;
 use cache_store::shelf::CacheShelf;
 use caibx_codec::index::Index;
 use chunk_sources::kit::Kit;
@@ -40,6 +39,7 @@ use dsy_base::look::Look;
 use dsy_base::name::Name;
 use extract_plan::plan::Plan;
 use extract_plan::seeds::SeedIndex;
+use range_survey::report::Report;
 use std::alloc::{AllocError, Global};
 use store_chain::chain::Chain;
 

@@ -5,5 +5,4 @@ mod beside;
 pub mod chop;
 pub mod extract;
 pub mod make;
-pub mod verify_index;
 mod views;

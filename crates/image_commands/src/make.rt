@@ -9,7 +9,7 @@ ghost use Rattle.command_steps.specs.AnySources.{with_those};
 ghost use Rattle.command_steps.specs.Sources.{sources};
 ghost use Rattle.command_steps.specs.Taking.{SourceTaken, given_to};
 ghost use Rattle.image_commands.specs.Views.{AreOf, IfFirst};
-ghost use Rattle.command_steps.specs.Worlds.{Adds, world};
+ghost use Rattle.command_worlds.specs.Worlds.{Adds, world};
 ghost use Rattle.image_commands.specs.Make.{ImageStored, IndexWritten, MakeEnds, SizesJudged, WritesStore};
 ghost use Rattle.dsy_base.specs.Counts.{raised};
 ghost use Rattle.dsy_base.specs.Disk.{Output};

@@ -4,7 +4,7 @@ ghost use Rattle.std.specs.Prelude.{◌≡◌, ℕ, ◌<◌, ◌≤◌, List, ma
 ghost use Rattle.std.specs.Map.{count_at};
 ghost use Rattle.buzhash_cut.specs.Image.{AreOfOneImage};
 ghost use Rattle.command_steps.specs.Openings.{Holds, NotOpened};
-ghost use Rattle.command_steps.specs.Worlds.{Reads};
+ghost use Rattle.command_worlds.specs.Worlds.{Reads};
 ghost use Rattle.image_commands.specs.Views.{AreOf, GrowsBy, IfFirst, IsViewOf};
 ghost use Rattle.dsy_base.specs.Counts.{raised};
 

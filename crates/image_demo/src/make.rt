@@ -22,13 +22,13 @@ use crate::figures::Figures;
 use crate::plan::{Planned, kit_of};
 use assembler::assemble::assemble;
 use assembler::fault::ExtractFault;
-use range_survey::report::Report;
 use cache_store::shelf::CacheShelf;
 use caibx_codec::index::Index;
 use chunk_sources::kit::Kit;
 use chunk_store::store::Store;
 use dsy_base::view::{Target, View};
 use dsy_sure::sure_folder::SureFolder;
+use range_survey::report::Report;
 use std::alloc::Global;
 
 // A target, and how its assembly ended.

@@ -2,3 +2,4 @@ pub mod Excused
 pub mod Fated
 pub mod Surveyed
 pub mod Resized
+pub mod Reported

@@ -21,8 +21,8 @@ use Rattle.command_steps.specs.AnySources.{IsGiven, faults_in, files_in, locatio
 use Rattle.command_steps.specs.Cache.{CacheGiven, CacheOpened, with_cache}
 use Rattle.command_steps.specs.Openings.{IsBad, IsListed, Listed, NotRead}
 use Rattle.command_steps.specs.Sources.{ConsultsStores, Sources, SourcesOpened, sources, told_at}
-use Rattle.command_steps.specs.Steps.{outcome_of}
-use Rattle.command_steps.specs.Worlds.{Adds, DiskQuiet, FileRose, FolderRose, Reads, world}
+use Rattle.command_worlds.specs.Steps.{outcome_of}
+use Rattle.command_worlds.specs.Worlds.{Adds, DiskQuiet, FileRose, FolderRose, Reads, world}
 use Rattle.command_steps.specs.declared.any_source.AnySource.{AnySource}
 use Rattle.command_steps.proofs.Taken.{at_name_twice}
 use Rattle.command_steps.proofs.Found.{held_after, held_maps}

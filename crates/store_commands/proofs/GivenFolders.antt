@@ -3,7 +3,7 @@ use Rattle.std.proofs.Common.{◌≡◌, ◌≢◌, ◌==◌, ℕ, List, Bool, t
 use Rattle.std.specs.Map.{count_at}
 use Rattle.command_outcome.specs.declared.outcome.Outcome.TheVariants as ends
 use Rattle.command_steps.proofs.Numbers.{given_rose}
-use Rattle.command_steps.specs.Worlds.{FolderRose, Reads, World}
+use Rattle.command_worlds.specs.Worlds.{FolderRose, Reads, World}
 use Rattle.store_commands.specs.Verify.{KeepsCounts, StoreVerified, VerifiedBack, answer_of_left}
 use Rattle.dsy_base.specs.Counts.{Rose}
 use Rattle.dsy_base.specs.Disk.{Disk, GivesFolder}

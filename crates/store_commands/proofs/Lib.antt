@@ -2,3 +2,4 @@ pub mod CacheFilled
 pub mod Counting
 pub mod GivenFolders
 pub mod Listened
+pub mod VerifyIndex

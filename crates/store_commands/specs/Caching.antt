@@ -15,8 +15,8 @@ use Rattle.command_steps.specs.Asking.{Asks, EachDialed}
 use Rattle.command_steps.specs.Cache.{CacheOpened}
 use Rattle.command_steps.specs.Openings.{IsListed, Listed, NotRead}
 use Rattle.command_steps.specs.Sources.{DialsStores, OnSources, Sources, SourcesOpened, told_at}
-use Rattle.command_steps.specs.Steps.{◌>>=◌}
-use Rattle.command_steps.specs.Worlds.{Adds, DiskQuiet, FolderRose, OnDisk, Step, World}
+use Rattle.command_worlds.specs.Steps.{◌>>=◌}
+use Rattle.command_worlds.specs.Worlds.{Adds, DiskQuiet, FolderRose, OnDisk, Step, World}
 use Rattle.command_steps.specs.Sources.{HaveLacked}
 use Rattle.command_words.specs.declared.command.Location.{Location}
 use Rattle.dir_store.specs.Names.{is_stranger}

@@ -2,9 +2,9 @@
 use Rattle.std.specs.Prelude.{ℕ, Result, Ok, Err}
 use Rattle.command_outcome.specs.declared.outcome.Outcome.{Outcome}
 use Rattle.command_outcome.specs.declared.outcome.Outcome.TheVariants as ends
-use Rattle.command_steps.specs.Printing.{Printed}
-use Rattle.command_steps.specs.Steps.{◌>>=◌}
-use Rattle.command_steps.specs.Worlds.{OnOut, Pure, Step, World}
+use Rattle.command_worlds.specs.Printing.{Printed}
+use Rattle.command_worlds.specs.Steps.{◌>>=◌}
+use Rattle.command_worlds.specs.Worlds.{OnOut, Pure, Step, World}
 use Rattle.image_demo.specs.Figures.{AreFigures, HasTwoPieces, text_of_figures}
 use Rattle.image_demo.specs.declared.figures.Figures.{Figures}
 

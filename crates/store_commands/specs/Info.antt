@@ -11,11 +11,11 @@ use Rattle.verify_tool.specs.Counts.{DeniesOthers, held_count, is_listed_before}
 use Rattle.verify_tool.specs.Texts.{text_of_info, unique_count}
 use Rattle.command_steps.specs.Asking.{Asks, EachDialed}
 use Rattle.command_steps.specs.Openings.{IndexRead}
-use Rattle.command_steps.specs.Printing.{Printed}
-use Rattle.command_steps.specs.Steps.{◌>>=◌}
+use Rattle.command_worlds.specs.Printing.{Printed}
+use Rattle.command_worlds.specs.Steps.{◌>>=◌}
 use Rattle.command_steps.specs.Sources.{AllThere, ConsultsStores, FailsFirst, FirstUnreached}
 use Rattle.command_steps.specs.Sources.{OnSources, Sources, said_at, told_at}
-use Rattle.command_steps.specs.Worlds.{OnDisk, OnOut, Step, World}
+use Rattle.command_worlds.specs.Worlds.{OnDisk, OnOut, Step, World}
 
 -- a store failed when all were asked whether they have a listed chunk: the first of those that don't deny it
 abbrev pub NotAsked : Sources → Sources → List Location → Listing → Outcome → Type 0

@@ -5,3 +5,4 @@ pub mod Prune
 pub mod Serving
 pub mod Verify
 pub mod Demo
+pub mod VerifyIndex

@@ -2,9 +2,9 @@
 use Rattle.std.specs.Prelude.{ℕ, List}
 use Rattle.verify_tool.specs.Texts.{text_of_chunks}
 use Rattle.command_steps.specs.Openings.{IndexRead}
-use Rattle.command_steps.specs.Printing.{Printed}
-use Rattle.command_steps.specs.Steps.{◌>>=◌}
-use Rattle.command_steps.specs.Worlds.{OnDisk, OnOut, Step, World}
+use Rattle.command_worlds.specs.Printing.{Printed}
+use Rattle.command_worlds.specs.Steps.{◌>>=◌}
+use Rattle.command_worlds.specs.Worlds.{OnDisk, OnOut, Step, World}
 
 abbrev pub ListChunksEnds : List ℕ → Step World Unit
 ListChunksEnds index = do

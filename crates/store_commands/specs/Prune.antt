@@ -7,9 +7,9 @@ use Rattle.command_outcome.specs.declared.outcome.Outcome.{Outcome}
 use Rattle.command_outcome.specs.declared.outcome.Outcome.TheVariants as ends
 use Rattle.command_steps.specs.Openings.{IsListed}
 use Rattle.command_steps.specs.Seeds.{IndexesRead}
-use Rattle.command_steps.specs.Steps.{◌>>=◌}
+use Rattle.command_worlds.specs.Steps.{◌>>=◌}
 use Rattle.command_steps.specs.Stores.{StoreTaken}
-use Rattle.command_steps.specs.Worlds.{Adds, FolderRose, OnDisk, Step, World}
+use Rattle.command_worlds.specs.Worlds.{Adds, FolderRose, OnDisk, Step, World}
 use Rattle.dsy_base.specs.Disk.{Disk}
 use Rattle.dsy_base.specs.Maps.{Map, at_name}
 use Rattle.verify_tool.specs.Pruning.{StopsPruning, is_listed_in, pruned}

@@ -9,9 +9,9 @@ use Rattle.chunk_server.specs.Turns.{Cut, Lacking, Served}
 use Rattle.chunk_store.specs.declared.id.DigestKind.TheVariants as kinds
 use Rattle.command_outcome.specs.declared.outcome.Outcome.{Outcome}
 use Rattle.command_outcome.specs.declared.outcome.Outcome.TheVariants as ends
-use Rattle.command_steps.specs.Steps.{◌>>=◌}
+use Rattle.command_worlds.specs.Steps.{◌>>=◌}
 use Rattle.command_steps.specs.Stores.{StoreTaken}
-use Rattle.command_steps.specs.Worlds.{Adds, OnDisk, Step, World}
+use Rattle.command_worlds.specs.Worlds.{Adds, OnDisk, Step, World}
 use Rattle.dsy_base.specs.Counts.{Rose, raised}
 use Rattle.dsy_base.specs.Disk.{Disk}
 use Rattle.dsy_base.specs.Links.{LinkState, ListenState, Traffic}

@@ -3,9 +3,9 @@ use Rattle.std.specs.Prelude.{◌≡◌, ◌≢◌, ℕ, ◌≤◌, ◌==◌, if
 use Rattle.std.specs.Option.{option_map}
 use Rattle.command_outcome.specs.declared.outcome.Outcome.{Outcome}
 use Rattle.command_outcome.specs.declared.outcome.Outcome.TheVariants as ends
-use Rattle.command_steps.specs.Steps.{◌>>=◌}
+use Rattle.command_worlds.specs.Steps.{◌>>=◌}
 use Rattle.command_steps.specs.Stores.{StoreTaken}
-use Rattle.command_steps.specs.Worlds.{Adds, FolderRose, OnDisk, Step, World}
+use Rattle.command_worlds.specs.Worlds.{Adds, FolderRose, OnDisk, Step, World}
 use Rattle.dsy_base.specs.Counts.{Rose}
 use Rattle.dsy_base.specs.Maps.{Map, at_name}
 use Rattle.verify_tool.specs.Verifying.{AreDamaged, Change, IsStoreChecked, StopsVerifying, damaged_left, left_of}

@@ -9,7 +9,7 @@ ghost use Rattle.command_steps.specs.AnySources.{IsKnown, IsUnused, asked_in, ch
 ghost use Rattle.command_steps.specs.AnySources.{location_in, place_in, said_in};
 ghost use Rattle.command_steps.specs.Cache.{with_cache};
 ghost use Rattle.command_steps.specs.Sources.{sources, told_at};
-ghost use Rattle.command_steps.specs.Worlds.{Reads, world};
+ghost use Rattle.command_worlds.specs.Worlds.{Reads, world};
 ghost use Rattle.store_commands.specs.Caching.{CacheEnds, FillsEach, FrontListed, IndexesFilled};
 ghost use Rattle.store_commands.specs.Caching.{answer_of_fill, listed_times, of_calls};
 ghost use Rattle.http_wire.specs.declared.reply.Method.TheVariants as methods;

@@ -1,15 +1,15 @@
 //! `demo NUMBER SIZE`: an image that NUMBER makes is cut, stored and extracted, all in memory.
 
 ghost use Rattle.std.specs.Prelude.{◌≤◌, ◌^◌};
-ghost use Rattle.command_steps.specs.Printing.{Printed};
-ghost use Rattle.command_steps.specs.Worlds.{world};
+ghost use Rattle.command_worlds.specs.Printing.{Printed};
+ghost use Rattle.command_worlds.specs.Worlds.{world};
 ghost use Rattle.store_commands.specs.Demo.{DemoEnds, Rehearsed};
 ghost use Rattle.dsy_base.specs.Disk.{Disk};
 ghost use Rattle.dsy_base.specs.Links.{DialState};
 ghost use Rattle.image_demo.specs.Figures.{text_of_figures};
 
 use command_outcome::outcome::Outcome;
-use command_steps::printing::printed;
+use command_worlds::printing::printed;
 use dsy_base::sink::Sink;
 use image_demo::demo::demo as figures_of;
 use image_demo::fault::DemoFault;

@@ -1,11 +1,11 @@
 //! How the program is called.
 
 ghost use Rattle.command_help.specs.Help.{help_text};
-ghost use Rattle.command_steps.specs.Printing.{Printed};
+ghost use Rattle.command_worlds.specs.Printing.{Printed};
 
 use command_help::help::{Topic, put_help};
 use command_outcome::outcome::Outcome;
-use command_steps::printing::printed;
+use command_worlds::printing::printed;
 use dsy_base::sink::Sink;
 
 /// Prints the text on a topic.

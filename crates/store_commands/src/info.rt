@@ -3,17 +3,17 @@
 ghost use Rattle.std.specs.Prelude.{◌≡◌, ◌≤◌, length, Some};
 ghost use Rattle.store_commands.specs.Info.{Counted, InfoEnds, asks_once};
 ghost use Rattle.command_steps.specs.Asking.{Asks, EachDialed};
-ghost use Rattle.command_steps.specs.Printing.{Printed};
+ghost use Rattle.command_worlds.specs.Printing.{Printed};
 ghost use Rattle.command_steps.specs.Sources.{ConsultsStores, sources};
-ghost use Rattle.command_steps.specs.Worlds.{world};
+ghost use Rattle.command_worlds.specs.Worlds.{world};
 ghost use Rattle.verify_tool.specs.Texts.{text_of_info};
 
 use caibx_codec::index::Index;
 use command_outcome::outcome::Outcome;
 use command_steps::openings::read_index;
-use command_steps::printing::printed;
 use command_steps::sources::{close_sources, open_sources};
 use command_words::command::{Location, Locations};
+use command_worlds::printing::printed;
 use dsy_base::dial::Dial;
 use dsy_base::files::Files;
 use dsy_base::name::Name;

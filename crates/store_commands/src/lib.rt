@@ -1,4 +1,4 @@
-//! The commands on stores, a file each: they are filled, checked, pruned and served; and those that only print.
+//! The commands that fill, check, prune and serve stores, that check an image, and that only print, a file each.
 #![tactic(auto)]
 
 pub mod cache;
@@ -9,3 +9,4 @@ pub mod list_chunks;
 pub mod prune;
 pub mod server;
 pub mod verify;
+pub mod verify_index;

@@ -1,12 +1,12 @@
 //! `list-chunks INDEX`: the id of each chunk that INDEX lists.
 
-ghost use Rattle.command_steps.specs.Worlds.{world};
+ghost use Rattle.command_worlds.specs.Worlds.{world};
 ghost use Rattle.store_commands.specs.ListChunks.{ListChunksEnds};
 ghost use Rattle.dsy_base.specs.Links.{DialState};
 
 use command_outcome::outcome::Outcome;
 use command_steps::openings::read_index;
-use command_steps::printing::printed;
+use command_worlds::printing::printed;
 use dsy_base::files::Files;
 use dsy_base::name::Name;
 use dsy_base::sink::Sink;

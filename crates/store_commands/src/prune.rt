@@ -1,7 +1,7 @@
 //! `prune -s STORE -y INDEX..`: STORE keeps no chunk but those that the indexes list.
 
 ghost use Rattle.std.specs.Prelude.{◌≡◌, IsSome};
-ghost use Rattle.command_steps.specs.Worlds.{world};
+ghost use Rattle.command_worlds.specs.Worlds.{world};
 ghost use Rattle.store_commands.specs.Prune.{PruneEnds, StorePruned};
 ghost use Rattle.dsy_base.specs.Disk.{Output};
 ghost use Rattle.dsy_base.specs.Links.{DialState};

@@ -4,7 +4,7 @@
 ghost use Rattle.std.specs.Prelude.{◌≡◌, ◌≤◌, ◌⊎◌, [], false, true, Ok, Err, IsSome, OnOk, Some};
 ghost use Rattle.chunk_server.specs.Shelves.{shelved};
 ghost use Rattle.chunk_store.specs.declared.id.DigestKind.TheVariants as kinds;
-ghost use Rattle.command_steps.specs.Worlds.{world};
+ghost use Rattle.command_worlds.specs.Worlds.{world};
 ghost use Rattle.store_commands.specs.Serving.{ChunkServerEnds, FolderServed, Hears, IsIdle, IsServed, LacksMemory};
 ghost use Rattle.store_commands.specs.Serving.{Listens, RunsOut, answer_of_serving, heard};
 ghost use Rattle.dsy_base.specs.Counts.{Rose};

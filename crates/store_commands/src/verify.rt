@@ -1,7 +1,7 @@
 //! `verify -s STORE -r`: which chunk files of STORE are damaged. With `-r` they are removed.
 
 ghost use Rattle.std.specs.Prelude.{◌≡◌, IsSome};
-ghost use Rattle.command_steps.specs.Worlds.{world};
+ghost use Rattle.command_worlds.specs.Worlds.{world};
 ghost use Rattle.store_commands.specs.Verify.{StoreVerified, VerifyEnds, answer_of_left};
 ghost use Rattle.dsy_base.specs.Links.{DialState};
 

@@ -1,5 +1,5 @@
 use Rattle.std.proofs.Common.{map, string_bytes, sym, ◌∙◌}
-use Rattle.command_steps.specs.Worlds.{world}
+use Rattle.command_worlds.specs.Worlds.{world}
 use Rattle.desync_cli.proofs.Replaced.{left_behind}
 use Rattle.store_commands.specs.Serving.{heard}
 use Rattle.desync_cli.proofs.AtHand.{ends_at_hand}

@@ -7,7 +7,7 @@ use Rattle.image_commands.proofs.extract.assemble_beside.Given.{Over}
 use Rattle.command_steps.specs.AnySources.{location_in}
 use Rattle.command_steps.specs.Seeds.{image_name}
 use Rattle.command_steps.specs.Sources.{NotAsking, sources}
-use Rattle.command_steps.specs.Worlds.{world}
+use Rattle.command_worlds.specs.Worlds.{world}
 use Rattle.image_commands.proofs.Replaced.{beside_apart, clears, passed_any}
 use Rattle.image_commands.proofs.extract.assemble_beside.Goals as goal
 use Rattle.image_commands.specs.Extract.{ClearedAfter, ImageMade, Renamed, Seeds, beside}

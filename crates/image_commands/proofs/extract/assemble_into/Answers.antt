@@ -23,7 +23,7 @@ use Rattle.command_steps.specs.Sources.{sources, told_at}
 use Rattle.command_steps.specs.Stores.{are_folders}
 use Rattle.command_steps.specs.declared.any_source.AnySource.{AnySource}
 use Rattle.command_steps.specs.Seeds.{IsViewed, image_name, label_in}
-use Rattle.command_steps.specs.Worlds.{FileRose}
+use Rattle.command_worlds.specs.Worlds.{FileRose}
 use Rattle.image_commands.proofs.Assembled.{ExcusesAs, assembled, facts_of, given_excuses, had_of, not_taken_as, obtainable_of, same_before, stopped_before}
 use Rattle.command_steps.proofs.Found.{held_after, held_maps, held_where}
 use Rattle.image_commands.proofs.Kits.{pushed}

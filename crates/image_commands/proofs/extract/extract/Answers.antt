@@ -11,7 +11,7 @@ use Rattle.image_commands.proofs.extract.extract.Given.{Over}
 use Rattle.command_steps.specs.AnySources.{IsKnown, files_in, location_in}
 use Rattle.command_steps.specs.Openings.{Listed}
 use Rattle.command_steps.specs.Seeds.{image_name}
-use Rattle.command_steps.specs.Worlds.{world}
+use Rattle.command_worlds.specs.Worlds.{world}
 use Rattle.command_steps.proofs.Found.{found_still}
 use Rattle.image_commands.proofs.Replaced.{ends_with, known_places_of}
 use Rattle.command_steps.proofs.Found.{opened_many}

@@ -1,6 +1,6 @@
 use Rattle.std.proofs.Common.{◌≡◌, ◌≤◌, ◌++◌, List, [], All, IsSome}
 use Rattle.std.specs.Map.{count_at}
-use Rattle.command_steps.specs.Worlds.{Reads}
+use Rattle.command_worlds.specs.Worlds.{Reads}
 use Rattle.image_commands.specs.Views.{IfFirst}
 use Rattle.dsy_base.specs.Counts.{raised}
 use Rattle.image_commands.proofs.views.end_views.Given as goal

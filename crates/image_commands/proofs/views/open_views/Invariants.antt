@@ -1,5 +1,5 @@
 use Rattle.std.proofs.Common.{◌≡◌, ◌<◌, ◌≤◌, max, vec_len, All, IsSome}
-use Rattle.command_steps.specs.Worlds.{Reads}
+use Rattle.command_worlds.specs.Worlds.{Reads}
 use Rattle.image_commands.specs.Views.{IsViewOf}
 use Rattle.image_commands.proofs.views.open_views.Given as goal
 

@@ -1,7 +1,7 @@
 use Rattle.std.proofs.Common.{List, ℕ, Ok, Err, inl, inr, refl, subst}
 use Rattle.std.proofs.lemmas.Result.{err_from_is_err_and}
 use Rattle.command_steps.specs.Stores.{NotReached, StoreTaken}
-use Rattle.command_steps.specs.Worlds.{world}
+use Rattle.command_worlds.specs.Worlds.{world}
 use Rattle.store_commands.specs.Verify.{StoreVerified}
 use Rattle.store_commands.proofs.verify.verify.Goals as goal
 

@@ -1,5 +1,5 @@
 use Rattle.std.proofs.Common.{◌≡◌, Err, refl, subst, sym, rules}
-use Rattle.command_steps.specs.Worlds.{world}
+use Rattle.command_worlds.specs.Worlds.{world}
 use Rattle.command_steps.proofs.Taken.{gives_adds}
 use Rattle.store_commands.proofs.GivenFolders.{gives_rose, left_ends}
 use Rattle.store_commands.specs.Verify.{KeepsCounts, StoreVerified, VerifiedBack}

@@ -1,5 +1,5 @@
 use Rattle.std.proofs.Common.{◌≡◌, length, arith}
-use Rattle.assembler.proofs.Reported.{none_open, sum_of}
+use Rattle.range_survey.proofs.Reported.{none_open, sum_of}
 use Rattle.range_survey.proofs.report.Report.of.Goals as goal
 
 pub overflow_add-report : goal.overflow_add-report

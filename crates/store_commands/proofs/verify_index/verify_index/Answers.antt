@@ -1,7 +1,7 @@
 use Rattle.std.proofs.Common.{ℕ, List, Ok, Err, inr, refl, subst}
 use Rattle.std.proofs.lemmas.Result.{err_from_is_err_and}
-use Rattle.image_commands.specs.VerifyIndex.{ImageChecked}
-use Rattle.image_commands.proofs.verify_index.verify_index.Goals as goal
+use Rattle.store_commands.specs.VerifyIndex.{ImageChecked}
+use Rattle.store_commands.proofs.verify_index.verify_index.Goals as goal
 
 pub returns-in_err-check_image : goal.returns-in_err-check_image
 returns-in_err-check_image g c =

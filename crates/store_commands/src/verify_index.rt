@@ -1,8 +1,8 @@
 //! `verify-index INDEX IMAGE`: whether IMAGE is the image that INDEX lists.
 
 ghost use Rattle.std.specs.Prelude.{◌≡◌, IsSome};
-ghost use Rattle.image_commands.specs.VerifyIndex.{Checked, VerifyIndexEnds, answer_of_check};
-ghost use Rattle.command_steps.specs.Worlds.{Reads, world};
+ghost use Rattle.store_commands.specs.VerifyIndex.{Checked, VerifyIndexEnds, answer_of_check};
+ghost use Rattle.command_worlds.specs.Worlds.{Reads, world};
 ghost use Rattle.dsy_base.specs.Disk.{Output};
 ghost use Rattle.dsy_base.specs.Links.{DialState};
 

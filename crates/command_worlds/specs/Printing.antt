@@ -4,7 +4,7 @@ use Rattle.std.specs.Option.{option_map}
 use Rattle.dsy_base.specs.Disk.{PutsFront}
 use Rattle.command_outcome.specs.declared.outcome.Outcome.{Outcome}
 use Rattle.command_outcome.specs.declared.outcome.Outcome.TheVariants as ends
-use Rattle.command_steps.specs.Worlds.{Step}
+use Rattle.command_worlds.specs.Worlds.{Step}
 use Rattle.dsy_base.specs.Counts.{Rose}
 use Rattle.dsy_base.specs.Disk.{Output}
 use Rattle.dsy_base.specs.declared.fault.IoFault.{IoFault}

@@ -1,7 +1,7 @@
 //! Printing a text.
 
 ghost use Rattle.std.specs.Prelude.{◌≡◌};
-ghost use Rattle.command_steps.specs.Printing.{answer_of_put};
+ghost use Rattle.command_worlds.specs.Printing.{answer_of_put};
 
 use command_outcome::outcome::Outcome;
 use dsy_base::fault::IoFault;

@@ -4,8 +4,8 @@ use Rattle.caibx_codec.specs.Listing.{Listing}
 use Rattle.verify_tool.specs.Checks.{NamesEntry, TellsChunks, TellsSize}
 use Rattle.verify_tool.specs.declared.check.CheckFault.{CheckFault}
 use Rattle.verify_tool.specs.declared.check.CheckFault.TheVariants as checks
-use Rattle.image_commands.specs.VerifyIndex.{Checked, answer_of_check}
-use Rattle.command_steps.specs.Worlds.{FileRose}
+use Rattle.store_commands.specs.VerifyIndex.{Checked, answer_of_check}
+use Rattle.command_worlds.specs.Worlds.{FileRose}
 use Rattle.dsy_base.specs.Disk.{Disk}
 
 over : {X : Type 0} (o : Option X) (P Q : X → Type 0) → ((x : X) → P x → Q x) → IfSome o P → IfSome o Q
