@@ -5,7 +5,7 @@ ghost use Rattle.range_survey.specs.Reports.{tally};
 ghost use Rattle.range_survey.specs.Fates.{settled};
 ghost use Rattle.range_survey.specs.declared.fate.Fate.TheVariants as fate;
 
-use range_survey::fate::Fate;
+use crate::fate::Fate;
 
 /// How many entries of an index were made right in which way.
 #[derive(Clone, Copy, Debug, PartialEq, Eq)]
