@@ -1,4 +1,5 @@
-//! Bytes in memory that are read and written by place: views, targets and their parts, whose calls fail as a test states.
+//! Bytes in memory that are read and written by place: views, targets and their parts, whose calls fail as a test
+//! states.
 #![tactic(auto)]
 
 pub mod calls;

@@ -1,5 +1,6 @@
 -- An `extract` that needs no server: the chunk of each entry of its index is at hand.
-use Rattle.std.specs.Prelude.{◌≡◌, ◌⊎◌, ◌++◌, ℕ, ◌<◌, ◌≤◌, Bool, true, false, List, map, Option, IfSome, IsSome, IsSomeAnd}
+use Rattle.std.specs.Prelude.{◌≡◌, ◌⊎◌, ◌++◌, ℕ, ◌<◌, ◌≤◌, Bool, true, false, List, map, Option, IfSome, IsSome}
+use Rattle.std.specs.Prelude.{IsSomeAnd}
 use Rattle.std.specs.List.{All, AllZip, Any}
 use Rattle.assembler.specs.Assemblies.{RightAlike}
 use Rattle.caibx_codec.specs.Listing.{Listing, count_of, id_of, kind_of, size_of}

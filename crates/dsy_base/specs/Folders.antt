@@ -1,5 +1,6 @@
 -- How a folder changes when a file is put into it.
-use Rattle.std.specs.Prelude.{◌≡◌, ℕ, suc, ◌==◌, ◌&&◌, ◌||◌, Bool, IsTrue, length, nat_le, if◌then◌else◌, List, [], ◌∷◌, ◌++◌, take, drop, codes, Some, None}
+use Rattle.std.specs.Prelude.{◌≡◌, ℕ, suc, ◌==◌, ◌&&◌, ◌||◌, Bool, IsTrue, length, nat_le, if◌then◌else◌, List, []}
+use Rattle.std.specs.Prelude.{◌∷◌, ◌++◌, take, drop, codes, Some, None}
 use Rattle.std.specs.List.{list_all}
 use Rattle.dsy_base.specs.Maps.{Map, at_name}
 
