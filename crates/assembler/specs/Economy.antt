@@ -14,6 +14,7 @@ use Rattle.range_survey.specs.declared.fate.Fate.TheVariants as fate
 use Rattle.store_chain.specs.Chains.{Chained}
 use Rattle.store_chain.specs.declared.refused.Refused.TheVariants as refused
 
+-- the sum of f over the numbers below k
 abbrev pub sum_below : (ℕ → ℕ) → ℕ → ℕ
 sum_below f zero = 0
 sum_below f (suc k) = sum_below f k + f k

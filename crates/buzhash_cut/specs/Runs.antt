@@ -20,6 +20,7 @@ AreRuns s h rs = All (λ r. IsRun s h r.start (pairs r.entries.items)) rs
 
 -- what a worker leaves that has cut, where its view tells by these what it holds and how often it has failed
 module _ {V : Type 0} (held : V → Held) (failed : V → ℕ) (s : Sizes) (old new : Worker V) where
+  -- what a worker leaves that has cut: its runs, and its view, which holds what it held
   pub record HasCut : Type 0 where
     pub runs : AreRuns s (held old.view) new.runs.items
     pub kept : held new.view ≡ held old.view

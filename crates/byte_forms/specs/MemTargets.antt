@@ -5,11 +5,14 @@ use Rattle.dsy_base.specs.Splits.{Left}
 use Rattle.byte_forms.specs.declared.mem_part.MemPart.{MemPart}
 use Rattle.byte_forms.specs.declared.mem_target.MemTarget.{MemTarget}
 
+-- what a target in memory holds
 abbrev pub target_held : MemTarget → Held
 target_held t = record { bytes = Some t.bytes.items; size = vec_len t.bytes; name = t.name }
 
+-- what a part in memory holds
 abbrev pub part_held : MemPart → Held
 part_held p = record { bytes = Some p.bytes.items; size = vec_len p.bytes; name = p.name }
 
+-- what is left of a target in memory beside its parts
 abbrev pub target_left : MemTarget → Left
 target_left t = record { size = vec_len t.bytes; name = t.name; faults = t.faults }

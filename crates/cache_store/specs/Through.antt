@@ -43,6 +43,7 @@ AddedTo id b kept.Yes old new = Puts id b old.files new.files
 AddedTo id b kept.Failed old new = LeavesTemporary id old.files new.files × Rose old.faults new.faults
 AddedTo id b kept.Memory old new = LeavesTemporary id old.files new.files
 
+-- what the stores gave was added to the shelf; where they gave nothing, its files are as before
 abbrev pub ShelfAdds : Want → Shelf → Shelf → Result Got Refused → List ℕ → Type 0
 ShelfAdds w old new (Ok got) out = (got.upstream ≡ true) × AddedTo w.id.0 (take got.size out) got.kept old new
 ShelfAdds w old new (Err r) out = new.files ≡ old.files

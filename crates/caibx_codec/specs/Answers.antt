@@ -68,6 +68,7 @@ abbrev pub FirstIn : List ℕ → Result Listing ViewFault → Type 0
 FirstIn bytes (Ok i) = index_in bytes ≡ Ok i
 FirstIn bytes (Err e) = StopsBy bytes e
 
+-- an index whose file the bytes are; or `Bad` only if they are the file of none; or `Failed`, or `Memory`
 abbrev pub ReadsIndex : List ℕ → Result Listing ViewFault → Type 0
 ReadsIndex bytes (Ok i) = IsIndexFile bytes i
 ReadsIndex bytes (Err (viewed.Bad f)) = (l : Listing) → IsIndexFile bytes l → ⊥

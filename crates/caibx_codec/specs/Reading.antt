@@ -75,6 +75,7 @@ abbrev pub is_whole : Field → Bool
 is_whole field.Nothing = true
 is_whole _ = false
 
+-- the fault of a reading, if there is one
 abbrev pub fault_in_read : Result Read IndexFault → Option IndexFault
 fault_in_read (Ok r) = None
 fault_in_read (Err f) = Some f

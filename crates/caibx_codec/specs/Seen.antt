@@ -7,15 +7,19 @@ use Rattle.caibx_fields.specs.Fields.{need}
 use Rattle.caibx_codec.specs.Listing.{Listing}
 use Rattle.caibx_codec.specs.Reading.{Read}
 
+-- the end and the id of an entry
 abbrev pub pair : Entry → ℕ × List ℕ
 pair e = (e.end, e.id.0)
 
+-- those of several entries
 abbrev pub pairs : List Entry → List (ℕ × List ℕ)
 pairs es = map pair es
 
+-- what contracts see of an index
 abbrev pub seen : Inside → Listing
 seen i = record { flags = i.flags; least = i.min; average = i.avg; greatest = i.max; entries = pairs i.entries.items }
 
+-- what contracts see of a reader without a fault
 abbrev pub read_of : partial.Inside → Read
 read_of p = record { fields = p.fields; entries = pairs p.entries.items; part = take p.filled p.part }
 

@@ -31,6 +31,7 @@ spelling l offset size = (words (front_words l) ++ items l.entries) ++ words (ta
 abbrev pub file_of : Listing → List ℕ
 file_of l = spelling l 48 (56 + 40 * length l.entries)
 
+-- the tail as it is written, with 48 and 56 + 40 n
 abbrev pub written_tail : Listing → List ℕ
 written_tail l = tail_words 48 (56 + 40 * length l.entries)
 

@@ -14,9 +14,11 @@ use Rattle.caibx_codec.specs.Reading.{Read, reads, start, listing}
 abbrev pub head_part : Fields → ℕ → List ℕ
 head_part s n = words (take n (front_words (listing s [])))
 
+-- all of the words before the items
 abbrev pub front : Fields → List ℕ
 front s = words (front_words (listing s []))
 
+-- the front and the items, with the first n words of the tail
 abbrev pub tail_part : Fields → List (ℕ × List ℕ) → ℕ → List ℕ
 tail_part s es n = (front s ++ items es) ++ words (take n (tail_words s.offset s.size))
 

@@ -17,6 +17,7 @@ pub record Turn : Type 0 where
   pub asked : Asked
   pub answer : Answer
 
+-- a turn of this request and this answer
 abbrev pub turn_of : Asked → Answer → Turn
 turn_of a r = record { asked = a; answer = r }
 
@@ -97,6 +98,7 @@ IsNear kind writable (Some b) old new =
 
 -- ---- what is left of a connection and what was sent on it, where they are told, and a shelf
 
+-- a relation between a connection and a shelf before and after
 abbrev pub Between : Type 1
 Between = Option Stream → Shelved → Option Stream → Shelved → Type 0
 

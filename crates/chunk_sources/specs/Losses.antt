@@ -53,6 +53,7 @@ Had fates entries views places kind id size maps = ((j : ℕ) × IsAmong entries
 
 -- the stores refused a chunk, and answered so
 module _ {S : Type 0} (holds : S → Option (Map (List ℕ))) (said : S → Said) (faults : S → ℕ) (lacks_memory : Bool) where
+  -- the stores refused what is wanted, and lack it so if they tell what they hold
   pub record RefusedBy (w : Want) (old new : List S) (r : Refused) : Type 0 where
     pub told : Refuses said faults lacks_memory w old new r
     pub lacks : (maps : List (Map (List ℕ))) → map holds old ≡ map Some maps → LacksAll w maps r

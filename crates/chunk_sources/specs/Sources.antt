@@ -23,6 +23,7 @@ GivesAt (Some h) p id = (place_end p ≤ h.size) × IsSomeAnd h.bytes (λ t. nam
 abbrev pub HeldAt : List (Option Held) → SeedPlace → List ℕ → Type 0
 HeldAt views p id = GivesAt (slice_index_or views p.seed None) p id
 
+-- a seed gives the id from one of these places
 abbrev pub SeedsGive : List (Option Held) → List SeedPlace → List ℕ → Type 0
 SeedsGive views places id = Any (λ p. HeldAt views p id) places
 

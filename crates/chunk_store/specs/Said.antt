@@ -41,6 +41,7 @@ said_by holds = record {
   taken = λ id b. IfSome holds (λ m. m id ≡ Some b);
 }
 
+-- `said_by` says of a map exactly what it holds
 pub says_map : (holds : Option (Map (List ℕ))) → IfSome holds (SaysMap (said_by holds))
 says_map None = tt
 says_map (Some m) = record {

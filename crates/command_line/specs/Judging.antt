@@ -124,11 +124,13 @@ missing k roles =
 
 -- ---- what the functions may answer: want of memory is free
 
+-- the answer is exactly the refusal that is expected, or want of memory
 abbrev pub Refuses : Option Refusal → Result Unit Refusal → Type 0
 Refuses expected (Ok u) = expected ≡ None
 Refuses expected (Err (refusal.Why y)) = expected ≡ Some (refusal.Why y)
 Refuses expected (Err refusal.Memory) = Unit {0}
 
+-- the answer is exactly what is expected, or want of memory
 abbrev pub AnswersBy : {T U : Type 0} → (T → U) → Result U WordsFault → Result T WordsFault → Type 0
 AnswersBy view expected (Ok x) = expected ≡ Ok (view x)
 AnswersBy view expected (Err (fault.Usage place y)) = expected ≡ Err (fault.Usage place y)

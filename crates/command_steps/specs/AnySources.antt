@@ -29,6 +29,7 @@ abbrev pub code_of : Location → List ℕ
 code_of (locations.Folder q) = 0 ∷ q
 code_of (locations.Http host port prefix) = 1 ∷ port ∷ length host ∷ host ++ prefix
 
+-- the location of a store as one list of numbers
 abbrev pub place_in : {L D K : Type 0} → (L → List ℕ) → AnySource L D K → List ℕ
 place_in place s = code_of (location_in place s)
 
@@ -37,6 +38,7 @@ abbrev pub files_in : {L D K : Type 0} → (L → Option (Map (List ℕ))) → A
 files_in files (stores.Folder l) = files l
 files_in files (stores.Http r) = None
 
+-- the chunks that a store holds, if its files are told
 abbrev pub chunks_in : {L D K : Type 0} → (L → Option (Map (List ℕ))) → AnySource L D K → Option (Map (List ℕ))
 chunks_in files s = option_map chunks (files_in files s)
 
@@ -89,16 +91,19 @@ IsGiven place faults state w v (stores.Http r) = IsJoined w.dial v.dial r.server
 
 -- ---- what each store of a command keeps to
 
+-- what a store says is exactly what it holds, if that is told
 pub says_any : {L D K : Type 0} (files : L → Option (Map (List ℕ))) (state : D → DialState) (s : AnySource L D K)
     → IfSome (chunks_in files s) (SaysMap (said_in files state s))
 says_any files state (stores.Folder l) = says_map (option_map chunks (files l))
 says_any files state (stores.Http r) = tt
 
+-- what a store holds are the chunk files of its folder, if they are told
 pub lies_any : {L D K : Type 0} (files : L → Option (Map (List ℕ))) (s : AnySource L D K)
     → IfSome (files_in files s) (λ m. chunks_in files s ≡ Some (chunks m))
 lies_any files (stores.Folder l) = lies_map (files l)
 lies_any files (stores.Http r) = tt
 
+-- a store whose files are told counts no question
 pub unasked_any : {L D K : Type 0} (files : L → Option (Map (List ℕ))) (m n : Method) (state : D → DialState)
     (s : AnySource L D K)
     → IfSome (chunks_in files s) (λ _. (q : List ℕ) → (asked_in m state s q ≡ 0) × (asked_in n state s q ≡ 0))

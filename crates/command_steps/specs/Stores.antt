@@ -22,6 +22,7 @@ abbrev pub are_folders : List Location → Bool
 are_folders [] = true
 are_folders (s ∷ stores) = is_folder s && are_folders stores
 
+-- the name of the folder; a server has the empty one
 abbrev pub name_of : Location → List ℕ
 name_of (locations.Folder name) = name
 name_of (locations.Http host port prefix) = []

@@ -40,6 +40,7 @@ abbrev pub answer_of : Outcome → Result Unit Outcome
 answer_of ends.Done = Ok tt
 answer_of other = Err other
 
+-- the outcome of a command that answers so
 abbrev pub outcome_of : Result Unit Outcome → Outcome
 outcome_of (Ok u) = ends.Done
 outcome_of (Err o) = o

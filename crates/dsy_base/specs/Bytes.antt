@@ -21,5 +21,6 @@ resized t n = take n t ++ replicate (n - length t) 0
 abbrev pub held_written : Held → ℕ → List ℕ → Held
 held_written h at b = record { bytes = option_map (λ t. written t at b) h.bytes; size = h.size; name = h.name }
 
+-- the same object after a change of its length to n
 abbrev pub held_resized : Held → ℕ → Held
 held_resized h n = record { bytes = option_map (λ t. resized t n) h.bytes; size = n; name = h.name }

@@ -14,6 +14,7 @@ use Rattle.dsy_sure.specs.declared.sure_folder.SureFolder.{SureFolder}
 abbrev pub files_in : {Y Z : Type 0} → BTreeMap (String Y) (Slot (Vec ℕ Z)) → Map (List ℕ)
 files_in slots q = option_map (λ f. f.items) (held_in slots q)
 
+-- the files of each folder among these slots
 abbrev pub folders_in : {Y : Type 0} → BTreeMap (String Y) (Slot SureFolder) → Map (Map (List ℕ))
 folders_in slots q = option_map (λ f. map_of f.files) (held_in slots q)
 

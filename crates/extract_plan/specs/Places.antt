@@ -19,6 +19,7 @@ pub record Placed : Type 0 where
   pub starts : List ℕ
   pub items : List SeedPlace
 
+-- what contracts see of the places that a `SeedIndex` keeps
 abbrev pub placed_of : Inside → Placed
 placed_of x = record { starts = x.starts.items; items = x.items.items }
 
@@ -26,6 +27,7 @@ placed_of x = record { starts = x.starts.items; items = x.items.items }
 abbrev pub places_at : Placed → ℕ → List SeedPlace
 places_at x w = slice_range x.items (slice_index x.starts w) (slice_index x.starts (w + 1))
 
+-- a place by its seed, its start and its size
 abbrev pub place : ℕ → ℕ → ℕ → SeedPlace
 place seed start size = record { seed = seed; start = start; size = size }
 

@@ -14,9 +14,11 @@ use Rattle.extract_plan.specs.declared.seed.SeedAnswer.TheVariants as answers
 abbrev pub held_in : {V : Type 0} → (V → Held) → Seed V → Option Held
 held_in held s = option_map held s.view
 
+-- how often a call on the view of a seed has failed; 0 without a view
 abbrev pub faults_in : {V : Type 0} → (V → ℕ) → Seed V → ℕ
 faults_in faults s = unwrap_or (option_map faults s.view) 0
 
+-- where a place ends
 abbrev pub place_end : SeedPlace → ℕ
 place_end p = p.start + p.size
 

@@ -18,5 +18,6 @@ ahead_at next.Trailer room h = 16384 - h.trailer
 ahead_at next.TrailerCr room h = 16384 - h.trailer
 ahead_at next.TrailerLine room h = 16384 - h.trailer
 
+-- how many bytes may come before the body is whole or has a fault
 abbrev pub ahead : ℕ → Kept → ℕ
 ahead room h = ahead_at h.next room h

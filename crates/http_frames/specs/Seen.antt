@@ -14,6 +14,7 @@ pub record Kept : Type 0 where
   pub trailer : ℕ
   pub filled : ℕ
 
+-- what contracts see of a reader without a fault
 abbrev pub kept_of : Inside → Kept
 kept_of p = record { next = p.next; left = p.left; line = take p.used p.line; trailer = p.trailer; filled = p.filled }
 

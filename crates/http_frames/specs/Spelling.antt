@@ -9,9 +9,11 @@ pub record WireChunk : Type 0 where
   pub line : ChunkLine
   pub bytes : List ℕ
 
+-- how a chunk is spelled: its size line, its bytes and CR LF
 abbrev pub print_chunk : WireChunk → List ℕ
 print_chunk c = print_chunk_line c.line ++ (c.bytes ++ 13 ∷ 10 ∷ [])
 
+-- the bytes of a chunk
 abbrev pub bytes_of : WireChunk → List ℕ
 bytes_of c = c.bytes
 
@@ -26,6 +28,7 @@ pub record IsWireChunk (c : WireChunk) : Type 0 where
   pub some : 0 < length c.bytes
   pub size : chunk_size c.line ≡ length c.bytes
 
+-- each of them is a chunk
 abbrev pub AreWireChunks : List WireChunk → Type 0
 AreWireChunks [] = Unit {0}
 AreWireChunks (c ∷ cs) = IsWireChunk c × AreWireChunks cs
@@ -40,10 +43,12 @@ abbrev pub IsTrailerLine : List ℕ → Type 0
 IsTrailerLine [] = ⊥
 IsTrailerLine (b ∷ bs) = (b ≢ 13) × HasNoFeed (b ∷ bs)
 
+-- each of them is a line of a trailer
 abbrev pub AreTrailerLines : List (List ℕ) → Type 0
 AreTrailerLines [] = Unit {0}
 AreTrailerLines (l ∷ ls) = IsTrailerLine l × AreTrailerLines ls
 
+-- a line with CR LF behind it
 abbrev pub print_line : List ℕ → List ℕ
 print_line l = l ++ 13 ∷ 10 ∷ []
 
@@ -51,6 +56,7 @@ print_line l = l ++ 13 ∷ 10 ∷ []
 abbrev pub trailer : List (List ℕ) → List ℕ
 trailer ls = flat_map print_line ls ++ 13 ∷ 10 ∷ []
 
+-- lines of a trailer, which have at most 16,384 bytes together with the empty line
 pub record IsTrailer (ls : List (List ℕ)) : Type 0 where
   pub lines : AreTrailerLines ls
   pub short : length (trailer ls) ≤ trailer_limit

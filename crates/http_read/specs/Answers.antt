@@ -18,6 +18,7 @@ abbrev pub got_fault : WireFault → Result Got Unanswered
 got_fault faults.BodyTooLong = Ok got.Longer
 got_fault f = Err (unanswered.Bad (bad.Wire f))
 
+-- what a body that was read, or not, is of the chunk
 abbrev pub got_of : Result ℕ Unread → Result Got Unanswered
 got_of (Ok n) = Ok (got.Chunk n)
 got_of (Err (unread.Wire f)) = got_fault f

@@ -28,6 +28,7 @@ asks s method.Put id b = ask method.Put s.host s.port (target s id) (Some (lengt
 abbrev pub asks_get : Server → List ℕ → List ℕ
 asks_get s id = asks s method.Get id []
 
+-- the whole request for a chunk by HEAD
 abbrev pub asks_head : Server → List ℕ → List ℕ
 asks_head s id = asks s method.Head id []
 

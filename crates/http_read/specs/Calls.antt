@@ -29,6 +29,7 @@ abbrev pub Closes : {A : Type 0} → Result A Unanswered → Result A IoFault �
 Closes (Ok x) result = result ≡ Ok x
 Closes (Err refused) result = result ≡ Err (call_fault refused)
 
+-- what the log has after an answer
 abbrev pub Notes : {A : Type 0} → Result A Unanswered → Log → Log → Type 0
 Notes (Ok x) old new = KeepsCount old new
 Notes (Err refused) old new = NotesRefusal refused old new

@@ -58,6 +58,7 @@ OnBad (unanswered.Bad reason) P = P reason
 OnBad unanswered.Failed P = Unit {0}
 OnBad unanswered.Memory P = Unit {0}
 
+-- P holds of the reply that was rejected, if one was
 abbrev pub IfBad : {A : Type 0} → Result A Unanswered → (BadReply → Type 0) → Type 0
 IfBad (Ok x) P = Unit {0}
 IfBad (Err refused) P = OnBad refused P

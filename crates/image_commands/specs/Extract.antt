@@ -228,6 +228,7 @@ answer_of_assembly (Err (faults.StoreFault store)) = Err (ends.StoreFault store)
 answer_of_assembly (Err faults.TargetFault) = Err ends.TargetFault
 answer_of_assembly (Err faults.Memory) = Err ends.Memory
 
+-- the answer if OUT can't be taken
 abbrev pub answer_of_taking : IoFault → Result Unit Outcome
 answer_of_taking io.Failed = Err ends.TargetFault
 answer_of_taking io.Memory = Err ends.Memory

@@ -30,6 +30,7 @@ ToldMap = Option (Map (List ℕ))
 abbrev pub told_range : Option (List ℕ) → ℕ → ℕ → Option (List ℕ)
 told_range told at end = option_map (λ t. slice_range t at end) told
 
+-- the slice of entry i, if the image's bytes are told
 abbrev pub told_slice : Listing → ℕ → Option (List ℕ) → Option (List ℕ)
 told_slice l i told = option_map (λ t. slice_of l t i) told
 

@@ -13,6 +13,7 @@ use Rattle.image_store.specs.PutChunks.{AsksEach, CountsCause, HoldsAll, IsListe
 use Rattle.image_store.specs.declared.put_chunks.MakeFault.{MakeFault}
 use Rattle.image_store.specs.declared.put_chunks.MakeFault.TheVariants as faults
 
+-- whether the id is in the set
 abbrev pub is_seen : BTreeSet (List ℕ) → List ℕ → Bool
 is_seen seen q = contains (slice_cmp nat_cmp) seen q
 

@@ -15,9 +15,11 @@ bytes_of pieces = flat_map (λ p. p.items) pieces
 abbrev pub come : {Z : Type 0} → List (Vec ℕ Z) → ℕ → ℕ → List ℕ
 come pieces piece at = bytes_of (take piece pieces) ++ take at (bytes_of (drop piece pieces))
 
+-- the bytes of the pieces from offset `at` of this piece on
 abbrev pub to_come : {Z : Type 0} → List (Vec ℕ Z) → ℕ → ℕ → List ℕ
 to_come pieces piece at = drop at (bytes_of (drop piece pieces))
 
+-- the bytes of a connection in memory: what came, what is to come, and what was sent
 abbrev pub traffic_of : MemLink → Traffic
 traffic_of l = record {
   received = come l.pieces.items l.piece l.at;
@@ -29,6 +31,7 @@ traffic_of l = record {
 abbrev pub first_of : MemLink → Traffic
 first_of l = record { received = []; coming = bytes_of l.pieces.items; sent = [] }
 
+-- a connection in memory: its bytes and its count of faults
 abbrev pub link_of : MemLink → LinkState
 link_of l = record { traffic = Some (traffic_of l); faults = l.faults }
 
@@ -39,13 +42,16 @@ abbrev pub traffics_of : Ended → List Traffic
 traffics_of Nothing = []
 traffics_of (Link' l p rest) = traffic_of l ∷ traffics_of rest
 
+-- the connections that have ended, each with its count
 abbrev pub states_of : Ended → List LinkState
 states_of Nothing = []
 states_of (Link' l p rest) = link_of l ∷ states_of rest
 
+-- a dialer in memory: the connections that have ended, and its count of faults
 abbrev pub dial_of : MemDial → DialState
 dial_of d = record { ended = Some (traffics_of d.ended); faults = d.faults }
 
+-- a listener in memory: the connections to come, those that have ended, and its count of faults
 abbrev pub listen_of : MemListen → ListenState
 listen_of l = record {
   coming = Some (map first_of (drop l.next l.links.items));

@@ -29,6 +29,7 @@ pub record IsValidExtent (x : Extent) : Type 0 where
 abbrev pub begin_in : Extent → ℕ → ℕ
 begin_in x i = start_of x.listing i - start_of x.listing x.from
 
+-- where entry i ends in the part
 abbrev pub end_in : Extent → ℕ → ℕ
 end_in x i = end_of x.listing i - start_of x.listing x.from
 

@@ -10,6 +10,7 @@ pub record State : Type 0 where
   pub settled : ℕ → Bool
   pub torn : ℕ → Bool
 
+-- what may happen to an entry
 pub data Event : Type 0 where
   -- a range was found to be right
   Settle : (i : ℕ) → Event

@@ -47,6 +47,7 @@ pub record Seen : Type 0 where
 abbrev pub Has : Run → Seen → ℕ → Type 0
 Has r s e = IsIn (extent_of r s.number) e
 
+-- whether entry e is settled in what is seen of a shard
 abbrev pub is_settled : Run → Seen → ℕ → Bool
 is_settled r s e = get_or s.settled (e - first_in r s.number) false
 

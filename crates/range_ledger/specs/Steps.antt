@@ -19,6 +19,7 @@ abbrev pub settle_if : Bool → ℕ → List Event
 settle_if true e = Settle e ∷ []
 settle_if false e = []
 
+-- one Settle for each of the first k entries that is settled
 abbrev pub settles_below : Run → Seen → ℕ → List Event
 settles_below r s zero = []
 settles_below r s (suc k) =

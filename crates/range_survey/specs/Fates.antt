@@ -9,6 +9,7 @@ use Rattle.range_survey.specs.Excuses.{Excuses}
 use Rattle.range_survey.specs.declared.fate.Fate.{Fate}
 use Rattle.range_survey.specs.declared.fate.Fate.TheVariants as fate
 
+-- whether a fate is another than `Open`
 abbrev pub is_settled : Fate → Bool
 is_settled fate.Open = false
 is_settled fate.Kept = true
@@ -21,6 +22,7 @@ is_settled fate.Fetched = true
 abbrev pub fate_at : List Fate → ℕ → Fate
 fate_at fates i = get_or fates i fate.Open
 
+-- whether entry i is settled
 abbrev pub settled : List Fate → ℕ → Bool
 settled fates i = is_settled (fate_at fates i)
 

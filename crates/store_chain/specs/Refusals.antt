@@ -21,6 +21,7 @@ rank (refused.Damaged s x) = 1
 rank (refused.StoreFault s) = 2
 rank refused.Memory = 3
 
+-- the graver of two refusals, and of equally grave ones the first
 abbrev pub graver : Refused → Refused → Refused
 graver a b = if nat_lt (rank a) (rank b) then b else a
 
@@ -45,6 +46,7 @@ Lacks w s = s.denied w.id.0 ⊎ ((x : Shows) × HasShown w x s)
 abbrev pub Failed : {S : Type 0} → (S → ℕ) → S × S → Type 0
 Failed faults p = Rose (faults p.0) (faults p.1)
 
+-- the store's count of faults is as it was
 abbrev pub Unfailed : {S : Type 0} → (S → ℕ) → S × S → Type 0
 Unfailed faults p = faults p.1 ≡ faults p.0
 
@@ -53,9 +55,11 @@ module _ {S : Type 0} (said : S → Said) (faults : S → ℕ) (lacks_memory : B
   abbrev pub Denied : S × S → Type 0
   Denied p = (said p.1).denied w.id.0
 
+  -- the store has shown what x says
   abbrev pub Showed : Shows → S × S → Type 0
   Showed x p = HasShown w x (said p.1)
 
+  -- the store lacks the chunk
   abbrev pub Lacked : S × S → Type 0
   Lacked p = Lacks w (said p.1)
 
@@ -106,6 +110,7 @@ module _ {S : Type 0} (said : S → Said) (faults : S → ℕ) (id : List ℕ) w
   abbrev pub HasDenied : S × S → Type 0
   HasDenied p = (said p.1).denied id
 
+  -- the store has denied the id, or failed
   abbrev pub DeniedOrFailed : S × S → Type 0
   DeniedOrFailed p = HasDenied p ⊎ Failed faults p
 
@@ -121,6 +126,7 @@ module _ {S : Type 0} (said : S → Said) (faults : S → ℕ) (id : List ℕ) w
   HasTells lacks_memory number old new (has.StoreFault s) = (s ≡ number) × Failed faults (old, new)
   HasTells lacks_memory number old new has.Memory = IsTrue lacks_memory × Unfailed faults (old, new)
 
+  -- `HasFails` for stores that are numbered from `from` on
   abbrev pub HasFailsFrom : Bool → ℕ → List S → List S → HasFault → Type 0
   HasFailsFrom lacks_memory from old new (has.StoreFault s) =
       (k : ℕ) × (s ≡ from + k) × FirstAt HasDenied (Failed faults) DeniedOrFailed k (zip old new)

@@ -78,6 +78,7 @@ outcome_of_fill (faults.StoreFault s) = ends.StoreFault s
 outcome_of_fill faults.CacheFault = ends.CacheFault
 outcome_of_fill faults.Memory = ends.Memory
 
+-- the answer if filling by one index ended so
 abbrev pub answer_of_fill : Result Unit FillFault → Result Unit Outcome
 answer_of_fill (Ok u) = Ok u
 answer_of_fill (Err fault) = Err (outcome_of_fill fault)
