@@ -84,6 +84,14 @@ text_of (ends.DamagedLeft count) = codes "damaged chunks left: " ++ decimal coun
 text_of ends.TooManyItems = codes "too many chunks"
 text_of ends.Memory = codes "no memory"
 
+-- the name that an outcome tells
+abbrev pub name_in : Outcome → List ℕ
+name_in (ends.NoFile name) = name
+name_in (ends.NoFolder name) = name
+name_in (ends.BadIndex name fault) = name
+name_in (ends.FileFault name) = name
+name_in other = []
+
 -- the line with this text
 unfoldable pub line_of : List ℕ → List ℕ
 line_of text = codes "desync: " ++ (text ++ 10 ∷ [])

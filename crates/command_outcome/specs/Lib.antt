@@ -1,2 +1,3 @@
 pub mod ErrorLines
+pub mod Lines
 pub mod Statuses

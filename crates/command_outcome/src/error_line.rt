@@ -1,28 +1,29 @@
 //! The line that tells a person how a command ended. Entries, stores and words count from 0, offsets and sizes are
 //! in bytes.
 
-ghost use Rattle.std.specs.Prelude.{◌≡◌, ◌++◌, ◌≤◌, codes, IfOk, OnOk, string_bytes};
+ghost use Rattle.std.specs.Prelude.{◌≡◌, ◌≢◌, ◌+◌, ◌++◌, ◌≤◌, [], codes, length, Err, OnOk};
 ghost use Rattle.std.specs.Fmt.{decimal};
 ghost use Rattle.std.specs.Option.{option_map};
 ghost use Rattle.hex.specs.Hex.{encode_lower};
 ghost use Rattle.dsy_base.specs.Disk.{PutsFront};
 ghost use Rattle.dsy_base.specs.Counts.{CountsFaults};
-ghost use Rattle.command_outcome.specs.ErrorLines.{error_line_of, line_of, text_of, fault_text, flag_digits, size_text};
-ghost use Rattle.command_outcome.specs.ErrorLines.{why_text};
+ghost use Rattle.command_outcome.specs.ErrorLines.{error_line_of, line_of, name_in, text_of, fault_text, flag_digits};
+ghost use Rattle.command_outcome.specs.ErrorLines.{size_text, why_text};
+ghost use Rattle.command_outcome.specs.Lines.{Adds, FitsIn};
 
+use crate::line::Line;
 use crate::outcome::Outcome;
 use caibx_fields::fault::IndexFault;
 use chunk_ends::sizes::SizeFault;
 use chunk_store::id::ChunkId;
 use command_words::usage::UsageWhy;
-use dsy_base::fault::IoFault;
-use dsy_base::name::Name;
+use dsy_base::fault::{IoFault, Memory};
 use dsy_base::sink::Sink;
-use std::alloc::{AllocError, Global};
 
 // Why words are no command.
 fn why_text(why: UsageWhy) -> &'static str
-    ensures { result.now ≡ why_text why }
+    ensures text { result.now ≡ why_text why }
+    ensures size { length result.now ≤ 14 }
 {
     match why {
         UsageWhy::NoCommand => "NoCommand",
@@ -45,7 +46,8 @@ fn why_text(why: UsageWhy) -> &'static str
 
 // Why images can't be cut by the sizes.
 fn size_text(why: SizeFault) -> &'static str
-    ensures { result.now ≡ size_text why }
+    ensures text { result.now ≡ size_text why }
+    ensures size { length result.now ≤ 11 }
 {
     match why {
         SizeFault::MinTooSmall => "MinTooSmall",
@@ -55,197 +57,208 @@ fn size_text(why: SizeFault) -> &'static str
     }
 }
 
-// Flags as 16 digits.
-fn flag_digits(alloc: Global, flags: u64) -> Result<String, AllocError>
-    ensures { IfOk result (λ t. string_bytes t ≡ flag_digits flags) }
+/// How many bytes a line has at most, beside the name in it.
+pub const LINE_ROOM: usize = 256;
+
+// A text, a number and a text.
+fn add_counted(line: &mut Line, front: &str, n: u64, rest: &str) -> Result<(), Memory>
+    ensures { Adds (front.now ++ (decimal n ++ rest.now)) (length front.now + (40 + length rest.now)) line.old line.new
+        result }
 {
-    let bytes = flags.to_be_bytes();
-    hex::encode(alloc, bytes.as_slice())
+    line.add(front)?;
+    line.add_number(n)?;
+    line.add(rest)
 }
 
-// An id as 64 digits.
-fn id_digits(alloc: Global, id: &ChunkId) -> Result<String, AllocError>
-    ensures { IfOk result (λ t. string_bytes t ≡ encode_lower id.now.0) }
+// A text behind another.
+fn add_both(line: &mut Line, front: &str, rest: &str) -> Result<(), Memory>
+    ensures { Adds (front.now ++ rest.now) (length front.now + length rest.now) line.old line.new result }
 {
-    hex::encode(alloc, id.0.as_slice())
+    line.add(front)?;
+    line.add(rest)
 }
 
 // Flags that lack the digest's.
-fn digest_text(alloc: Global, flags: u64) -> Result<String, AllocError>
-    ensures { IfOk result (λ t. string_bytes t ≡ codes "digest flag missing in flags " ++ flag_digits flags) }
+fn add_flags(line: &mut Line, flags: u64) -> Result<(), Memory>
+    ensures { Adds (codes "digest flag missing in flags " ++ flag_digits flags) 45 line.old line.new result }
 {
-    let digits = flag_digits(alloc, flags)?;
-    let digits = digits.as_str();
-    format!(in alloc; "digest flag missing in flags {digits}")
+    line.add("digest flag missing in flags ")?;
+    line.add_flags(flags)
+}
+
+// An entry and its size.
+fn add_large(line: &mut Line, entry: u64, size: u64) -> Result<(), Memory>
+    ensures { Adds (codes "entry " ++ (decimal entry ++ (codes " has " ++ (decimal size ++ codes " bytes")))) 97
+        line.old line.new result }
+{
+    add_counted(line, "entry ", entry, " has ")?;
+    add_counted(line, "", size, " bytes")
 }
 
 // Why bytes are no index file.
-fn fault_text(alloc: Global, fault: IndexFault) -> Result<String, AllocError>
-    ensures { IfOk result (λ t. string_bytes t ≡ fault_text fault) }
+fn add_fault(line: &mut Line, fault: IndexFault) -> Result<(), Memory>
+    ensures { Adds (fault_text fault) 97 line.old line.new result }
 {
     match fault {
-        IndexFault::Truncated { at } => format!(in alloc; "truncated at byte {at}"),
-        IndexFault::Head => String::from_str(alloc, "no index head"),
-        IndexFault::Table => String::from_str(alloc, "no table head"),
-        IndexFault::Tail => String::from_str(alloc, "bad table tail"),
-        IndexFault::Trailing => String::from_str(alloc, "bytes after the tail"),
-        IndexFault::Digest { flags } => digest_text(alloc, flags),
-        IndexFault::MaxSize { max } => format!(in alloc; "greatest size {max} is over the limit"),
-        IndexFault::Items => String::from_str(alloc, "too many entries"),
-        IndexFault::Order { entry } => format!(in alloc; "entry {entry} ends out of order"),
-        IndexFault::TooLarge { entry, size } => {
-            format!(in alloc; "entry {entry} has {size} bytes")
-        }
+        IndexFault::Truncated { at } => add_counted(line, "truncated at byte ", at, ""),
+        IndexFault::Head => line.add("no index head"),
+        IndexFault::Table => line.add("no table head"),
+        IndexFault::Tail => line.add("bad table tail"),
+        IndexFault::Trailing => line.add("bytes after the tail"),
+        IndexFault::Digest { flags } => add_flags(line, flags),
+        IndexFault::MaxSize { max } => add_counted(
+            line,
+            "greatest size ",
+            max,
+            " is over the limit",
+        ),
+        IndexFault::Items => line.add("too many entries"),
+        IndexFault::Order { entry } => add_counted(line, "entry ", entry, " ends out of order"),
+        IndexFault::TooLarge { entry, size } => add_large(line, entry, size),
     }
 }
 
+// A name, what is told of it, and why its bytes are no index file.
+fn add_bad_index(line: &mut Line, name: &str, told: &str, fault: IndexFault) -> Result<(), Memory>
+    ensures { Adds (name.now ++ (told.now ++ fault_text fault)) (length name.now + (length told.now + 97))
+        line.old line.new result }
+{
+    add_both(line, name, told)?;
+    add_fault(line, fault)
+}
+
 // The words are no command.
-fn usage_text(alloc: Global, place: u64, why: UsageWhy) -> Result<String, AllocError>
-    ensures { IfOk result (λ t. string_bytes t ≡ codes "word " ++ (decimal place ++ (codes ": " ++ why_text why))) }
+fn add_usage(line: &mut Line, place: u64, why: UsageWhy) -> Result<(), Memory>
+    ensures { Adds (codes "word " ++ (decimal place ++ (codes ": " ++ why_text why))) 61 line.old line.new result }
 {
-    let why = why_text(why);
-    format!(in alloc; "word {place}: {why}")
+    add_counted(line, "word ", place, ": ")?;
+    line.add(why_text(why))
 }
 
-// A name, and what is told of it.
-fn name_text(alloc: Global, name: &Name, told: &str) -> Result<String, AllocError>
-    ensures { IfOk result (λ t. string_bytes t ≡ name.now ++ told.now) }
+// A chunk, by its id and its entry.
+fn add_chunk(line: &mut Line, entry: u64, id: &ChunkId, told: &str) -> Result<(), Memory>
+    ensures { Adds (codes "chunk " ++ (encode_lower id.now.0 ++ (codes " of entry " ++ (decimal entry ++ told.now))))
+        (120 + length told.now) line.old line.new result }
 {
-    let name = name.as_str();
-    format!(in alloc; "{name}{told}")
-}
-
-// The file is no index, and why.
-fn bad_index_text(alloc: Global, name: &Name, why: &str) -> Result<String, AllocError>
-    ensures { IfOk result (λ t. string_bytes t ≡ name.now ++ (codes ": bad index: " ++ why.now)) }
-{
-    let name = name.as_str();
-    format!(in alloc; "{name}: bad index: {why}")
-}
-
-// The store holds nothing under the id.
-fn missing_text(alloc: Global, entry: u64, id: &ChunkId) -> Result<String, AllocError>
-    ensures { IfOk result (λ t. string_bytes t
-        ≡ codes "chunk " ++ (encode_lower id.now.0 ++ (codes " of entry " ++ (decimal entry ++ codes " is missing")))) }
-{
-    let id = id_digits(alloc, id)?;
-    let id = id.as_str();
-    format!(in alloc; "chunk {id} of entry {entry} is missing")
+    line.add("chunk ")?;
+    line.add_digest(&id.0)?;
+    add_counted(line, " of entry ", entry, told)
 }
 
 // The store holds other bytes under the id.
-fn damaged_text(alloc: Global, entry: u64, id: &ChunkId, store: u32) -> Result<String, AllocError>
-    ensures { IfOk result (λ t. string_bytes t ≡ codes "chunk " ++ (encode_lower id.now.0
-        ++ (codes " of entry " ++ (decimal entry ++ (codes " is damaged in store " ++ decimal store))))) }
+fn add_damaged(line: &mut Line, entry: u64, id: &ChunkId, store: u32) -> Result<(), Memory>
+    ensures { Adds (codes "chunk " ++ (encode_lower id.now.0
+        ++ (codes " of entry " ++ (decimal entry ++ (codes " is damaged in store " ++ decimal store))))) 181
+        line.old line.new result }
 {
-    let id = id_digits(alloc, id)?;
-    let id = id.as_str();
-    format!(in alloc; "chunk {id} of entry {entry} is damaged in store {store}")
-}
-
-// The chunk of the entry has this name.
-fn named_text(alloc: Global, entry: u64, name: &str) -> Result<String, AllocError>
-    ensures { IfOk result (λ t. string_bytes t
-        ≡ codes "entry " ++ (decimal entry ++ (codes " has the name " ++ name.now))) }
-{
-    format!(in alloc; "entry {entry} has the name {name}")
+    add_chunk(line, entry, id, " is damaged in store ")?;
+    line.add_number(store as u64)
 }
 
 // The chunk of the entry has another name than the listed id.
-fn mismatch_text(alloc: Global, entry: u64, got: &ChunkId) -> Result<String, AllocError>
-    ensures { IfOk result (λ t. string_bytes t
-        ≡ codes "entry " ++ (decimal entry ++ (codes " has the name " ++ encode_lower got.now.0))) }
+fn add_mismatch(line: &mut Line, entry: u64, got: &ChunkId) -> Result<(), Memory>
+    ensures { Adds (codes "entry " ++ (decimal entry ++ (codes " has the name " ++ encode_lower got.now.0))) 124
+        line.old line.new result }
 {
-    let got = id_digits(alloc, got)?;
-    named_text(alloc, entry, got.as_str())
+    add_counted(line, "entry ", entry, " has the name ")?;
+    line.add_digest(&got.0)
 }
 
 // Images can't be cut by the sizes.
-fn sizes_text(alloc: Global, why: SizeFault) -> Result<String, AllocError>
-    ensures { IfOk result (λ t. string_bytes t ≡ codes "bad chunk sizes: " ++ size_text why) }
+fn add_sizes(line: &mut Line, why: SizeFault) -> Result<(), Memory>
+    ensures { Adds (codes "bad chunk sizes: " ++ size_text why) 28 line.old line.new result }
 {
-    let why = size_text(why);
-    format!(in alloc; "bad chunk sizes: {why}")
+    add_both(line, "bad chunk sizes: ", size_text(why))
 }
 
 // How a command ended that isn't done.
-fn text_of(alloc: Global, outcome: &Outcome) -> Result<String, AllocError>
-    ensures { IfOk result (λ t. string_bytes t ≡ text_of outcome.now) }
+fn add_text(line: &mut Line, outcome: &Outcome) -> Result<(), Memory>
+    ensures { Adds (text_of outcome.now) (length (name_in outcome.now) + 200) line.old line.new result }
 {
     match outcome {
-        Outcome::Done => Ok(String::new(alloc)),
-        Outcome::Usage { place, why } => usage_text(alloc, *place, *why),
-        Outcome::NoFile { name } => name_text(alloc, name, ": no such file"),
-        Outcome::NoFolder { name } => name_text(alloc, name, ": no such folder"),
-        Outcome::BadIndex { name, fault } => {
-            let why = fault_text(alloc, *fault)?;
-            bad_index_text(alloc, name, why.as_str())
-        }
-        Outcome::Sizes(why) => sizes_text(alloc, *why),
-        Outcome::Missing { entry, id } => missing_text(alloc, *entry, id),
+        Outcome::Done => Ok(()),
+        Outcome::Usage { place, why } => add_usage(line, *place, *why),
+        Outcome::NoFile { name } => add_both(line, name.as_str(), ": no such file"),
+        Outcome::NoFolder { name } => add_both(line, name.as_str(), ": no such folder"),
+        Outcome::BadIndex { name, fault } => add_bad_index(
+            line,
+            name.as_str(),
+            ": bad index: ",
+            *fault,
+        ),
+        Outcome::Sizes(why) => add_sizes(line, *why),
+        Outcome::Missing { entry, id } => add_chunk(line, *entry, id, " is missing"),
         Outcome::Damaged {
             entry,
             id,
             store,
             ..
-        } => damaged_text(alloc, *entry, id, *store),
-        Outcome::Mismatch { entry, got } => mismatch_text(alloc, *entry, got),
-        Outcome::Length { size } => format!(in alloc; "the file has {size} bytes"),
-        Outcome::Changed { entry, .. } => format!(in alloc; "the image changed at entry {entry}"),
-        Outcome::StoreFault { store } => format!(in alloc; "store {store} failed"),
-        Outcome::CacheFault => String::from_str(alloc, "the cache failed"),
-        Outcome::TargetFault => String::from_str(alloc, "the target failed"),
-        Outcome::FileFault { name } => name_text(alloc, name, ": failed"),
-        Outcome::OutFault => String::from_str(alloc, "the output failed"),
-        Outcome::ImageFault => String::from_str(alloc, "the image failed"),
-        Outcome::ListenFault => String::from_str(alloc, "the listener failed"),
-        Outcome::DamagedLeft { count } => format!(in alloc; "damaged chunks left: {count}"),
-        Outcome::TooManyItems => String::from_str(alloc, "too many chunks"),
-        Outcome::Memory => String::from_str(alloc, "no memory"),
+        } => add_damaged(line, *entry, id, *store),
+        Outcome::Mismatch { entry, got } => add_mismatch(line, *entry, got),
+        Outcome::Length { size } => add_counted(line, "the file has ", *size, " bytes"),
+        Outcome::Changed { entry, .. } => add_counted(
+            line,
+            "the image changed at entry ",
+            *entry,
+            "",
+        ),
+        Outcome::StoreFault { store } => add_counted(line, "store ", *store as u64, " failed"),
+        Outcome::CacheFault => line.add("the cache failed"),
+        Outcome::TargetFault => line.add("the target failed"),
+        Outcome::FileFault { name } => add_both(line, name.as_str(), ": failed"),
+        Outcome::OutFault => line.add("the output failed"),
+        Outcome::ImageFault => line.add("the image failed"),
+        Outcome::ListenFault => line.add("the listener failed"),
+        Outcome::DamagedLeft { count } => add_counted(line, "damaged chunks left: ", *count, ""),
+        Outcome::TooManyItems => line.add("too many chunks"),
+        Outcome::Memory => line.add("no memory"),
     }
 }
 
-// The line with this text.
-#[tactic(auto, unfolding(crate::specs::ErrorLines::line_of))]
-fn line_of(alloc: Global, text: &str) -> Result<String, AllocError>
-    ensures { IfOk result (λ t. string_bytes t ≡ line_of text.now) }
-{
-    format!(in alloc; "desync: {text}\n")
-}
-
 // The line of an outcome that isn't done.
-fn told_line(alloc: Global, outcome: &Outcome) -> Result<String, AllocError>
-    ensures { IfOk result (λ t. string_bytes t ≡ line_of (text_of outcome.now)) }
+#[tactic(auto, unfolding(crate::specs::ErrorLines::line_of))]
+fn add_line(line: &mut Line, outcome: &Outcome) -> Result<(), Memory>
+    ensures { Adds (line_of (text_of outcome.now)) (length (name_in outcome.now) + 209) line.old line.new result }
 {
-    let text = text_of(alloc, outcome)?;
-    line_of(alloc, text.as_str())
+    line.add("desync: ")?;
+    add_text(line, outcome)?;
+    line.add("\n")
 }
 
 // Puts the line of an outcome that isn't done.
-fn put_told<E: Sink>(alloc: Global, outcome: &Outcome, err: &mut E) -> Result<(), IoFault>
+fn put_told<E: Sink>(line: &mut Line, outcome: &Outcome, err: &mut E) -> Result<(), IoFault>
+    requires empty { line.old.text ≡ [] }
     ensures ok { OnOk result ((E.output err.new).taken
         ≡ option_map (λ t. t ++ line_of (text_of outcome.now)) (E.output err.old).taken) }
     ensures err { result ≡ Err IoFault.Failed →
         PutsFront (line_of (text_of outcome.now)) (E.output err.old).taken (E.output err.new).taken }
     ensures kept { result ≡ Err IoFault.Memory → (E.output err.new).taken ≡ (E.output err.old).taken }
+    ensures fits { FitsIn outcome.now line.old.room (E.room err.old) → result ≢ Err IoFault.Memory }
     ensures faults { CountsFaults IoFault.Failed IoFault.Memory
         (E.output err.old).faults (E.output err.new).faults result }
 {
-    match told_line(alloc, outcome) {
-        Ok(line) => err.put(line.as_bytes()),
+    match add_line(line, outcome) {
+        Ok(()) => err.put(line.as_bytes()),
         Err(_) => Err(IoFault::Memory),
     }
 }
 
-/// Puts the line of the outcome. The answer tells whether it was put, and may be left aside: how the command ended
-/// stands already.
-pub fn put_error_line<E: Sink>(alloc: Global, outcome: &Outcome, err: &mut E) -> Result<(), IoFault>
+/// Puts the line of the outcome, which is put together in an empty one. The answer tells whether it was put, and may be
+/// left aside: how the command ended stands already.
+pub fn put_error_line<E: Sink>(
+    line: &mut Line,
+    outcome: &Outcome,
+    err: &mut E,
+) -> Result<(), IoFault>
+    requires empty { line.old.text ≡ [] }
     ensures ok { OnOk result ((E.output err.new).taken
         ≡ option_map (λ t. t ++ error_line_of outcome.now) (E.output err.old).taken) }
     // A front of the line was put.
     ensures err { result ≡ Err IoFault.Failed →
         PutsFront (error_line_of outcome.now) (E.output err.old).taken (E.output err.new).taken }
     ensures kept { result ≡ Err IoFault.Memory → (E.output err.new).taken ≡ (E.output err.old).taken }
+    // Where the room was taken before, no memory is needed.
+    ensures fits { FitsIn outcome.now line.old.room (E.room err.old) → result ≢ Err IoFault.Memory }
     // What is done has no line.
     ensures absent { outcome.now ≡ Outcome.Done → err.new ≡ err.old }
     ensures faults { CountsFaults IoFault.Failed IoFault.Memory
@@ -253,6 +266,20 @@ pub fn put_error_line<E: Sink>(alloc: Global, outcome: &Outcome, err: &mut E) ->
 {
     match outcome {
         Outcome::Done => Ok(()),
-        _ => put_told(alloc, outcome, err),
+        _ => put_told(line, outcome, err),
     }
+}
+
+/// Puts the line of `Memory`, which is put together in no room of its own.
+#[tactic(auto, unfolding(crate::specs::ErrorLines::line_of))]
+pub fn put_no_memory<E: Sink>(err: &mut E) -> Result<(), IoFault>
+    ensures ok { OnOk result ((E.output err.new).taken
+        ≡ option_map (λ t. t ++ error_line_of Outcome.Memory) (E.output err.old).taken) }
+    ensures err { result ≡ Err IoFault.Failed →
+        PutsFront (error_line_of Outcome.Memory) (E.output err.old).taken (E.output err.new).taken }
+    ensures kept { result ≡ Err IoFault.Memory → (E.output err.new).taken ≡ (E.output err.old).taken }
+    ensures faults { CountsFaults IoFault.Failed IoFault.Memory
+        (E.output err.old).faults (E.output err.new).faults result }
+{
+    err.put(b"desync: no memory\n")
 }

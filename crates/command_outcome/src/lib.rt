@@ -2,4 +2,5 @@
 #![tactic(auto)]
 
 pub mod error_line;
+pub mod line;
 pub mod outcome;

@@ -5,7 +5,9 @@ pub mod Done
 pub mod Extracted
 pub mod Fair
 pub mod Made
+pub mod Named
 pub mod Pruned
 pub mod Replaced
 pub mod RoundTrip
+pub mod ShortNames
 pub mod Verified

@@ -3,4 +3,5 @@
 
 pub mod in_memory;
 pub mod run;
+mod telling;
 mod words;

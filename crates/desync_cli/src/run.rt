@@ -1,6 +1,6 @@
 //! The top call: words in, an outcome out.
 
-ghost use Rattle.std.specs.Prelude.{◌≡◌, ◌≢◌, All, None, Some, IfSome, false, map, string_bytes};
+ghost use Rattle.std.specs.Prelude.{◌≡◌, ◌≢◌, ◌⊎◌, All, None, Some, IfSome, false, map, string_bytes};
 ghost use Rattle.command_outcome.specs.ErrorLines.{error_line_of};
 ghost use Rattle.command_outcome.specs.Statuses.{status_of};
 ghost use Rattle.command_steps.specs.Blames.{Blames, Keeps};
@@ -16,13 +16,12 @@ ghost use Rattle.dsy_base.specs.Counts.{Quiet};
 ghost use Rattle.command_worlds.specs.Steps.{answer_of, outcome_of};
 ghost use Rattle.command_worlds.specs.Worlds.{DiskQuiet, NoFault, world};
 
+use crate::telling::{longest, take_line, tell, tell_no_room};
 use crate::words::read_command;
 use command_help::help::Topic;
-use command_outcome::error_line::put_error_line;
 use command_outcome::outcome::{Ended, Outcome};
 use command_words::command::Command;
 use dsy_base::dial::Dial;
-use dsy_base::fault::IoFault;
 use dsy_base::files::Files;
 use dsy_base::image_files::ImageFiles;
 use dsy_base::listen::Listen;
@@ -144,17 +143,6 @@ fn outcome_of(answer: Result<(), Outcome>) -> Outcome
     }
 }
 
-// Tells the error sink how the command ended. What it makes of that changes nothing.
-fn tell<E: Sink>(alloc: Global, outcome: &Outcome, err: &mut E)
-    ensures line { TakesLine (error_line_of outcome.now) (E.output err.old) (E.output err.new) }
-{
-    match put_error_line(alloc, outcome, err) {
-        Ok(()) => {}
-        Err(IoFault::Failed) => {}
-        Err(IoFault::Memory) => {}
-    }
-}
-
 /// Does what the words say, with servers that `dial` connects to and clients that connect to `listen`, prints to `out`,
 /// and tells `err` how it ended.
 pub fn desync<R: Threads + Sync, F: ImageFiles, D: Dial, L: Listen, O: Sink, E: Sink>(
@@ -171,7 +159,12 @@ where
     F::View: Send,
     F::Inner: Sync,
     ensures status { result.status ≡ status_of result.outcome }
-    ensures line { TakesLine (error_line_of result.outcome) (E.output err.old) (E.output err.new) }
+
+    // The whole line is told, or a front of it by a sink that failed. Where no room for a line was had at the start the
+    // outcome is Memory, and nothing was done.
+    ensures line { TakesLine (error_line_of result.outcome) (E.output err.old) (E.output err.new)
+        ⊎ ((result.outcome ≡ Outcome.Memory) × ((E.output err.new).taken ≡ (E.output err.old).taken)
+        × (files.new ≡ files.old) × (dial.new ≡ dial.old) × (listen.new ≡ listen.old) × (out.new ≡ out.old)) }
 
     // Words that are no command change nothing, and only they are refused as such.
     ensures usage { TellsRefusal (refusal_of (map string_bytes words.now)) result.outcome }
@@ -224,8 +217,16 @@ where
         (parts (heard (L.state listen.old) (L.state listen.new)) c).stores)
         → NothingFailed result.outcome }
 {
-    let outcome = outcome_of(run(rt, alloc, words, files, dial, listen, out));
+    let Ok(mut line) = take_line(alloc, longest(words), err) else {
+        tell_no_room(err);
+        return Ended {
+            status: 1,
+            outcome: Outcome::Memory,
+        };
+    };
+    let answer = run(rt, alloc, words, files, dial, listen, out);
+    tell(&mut line, &answer, err);
+    let outcome = outcome_of(answer);
     let status = outcome.status();
-    tell(alloc, &outcome, err);
     Ended { status, outcome }
 }

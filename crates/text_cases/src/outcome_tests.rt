@@ -6,6 +6,7 @@ use chunk_ends::sizes::SizeFault;
 use chunk_store::id::ChunkId;
 use chunk_store::shows::Shows;
 use command_outcome::error_line::put_error_line;
+use command_outcome::line::Line;
 use command_outcome::outcome::Outcome;
 use command_words::usage::UsageWhy;
 use dsy_base::fault::IoFault;
@@ -20,7 +21,8 @@ const ABC: &str = "53048e2681941ef99b2e29b76b4c7dabe4c2d0c634fc6d46e0e2f13107e7a
 // Puts the line of the outcome, and compares it.
 fn line_is(rt: &impl Abort, alloc: Global, outcome: Outcome, line: &str) {
     let mut sink = MemSink::new(alloc, Vec::new(alloc));
-    ok(rt, put_error_line(alloc, &outcome, &mut sink));
+    let mut room = ok(rt, Line::with_room(alloc, 512));
+    ok(rt, put_error_line(&mut room, &outcome, &mut sink));
     same(rt, sink.taken(), line.as_bytes());
 }
 
@@ -121,7 +123,8 @@ fn faulty_words_are_told_by_place_and_reason(rt: HostRuntime) {
 fn a_failing_sink_takes_no_line(rt: HostRuntime) {
     let alloc = rt.alloc();
     let mut sink = MemSink::new(alloc, ok(&rt, vec![in alloc; 0]));
-    let put = put_error_line(alloc, &Outcome::Memory, &mut sink);
+    let mut room = ok(&rt, Line::with_room(alloc, 512));
+    let put = put_error_line(&mut room, &Outcome::Memory, &mut sink);
     same(&rt, put, Err(IoFault::Failed));
     same(&rt, sink.taken(), b"".as_slice());
 }

@@ -1,0 +1,299 @@
+-- How long the name is that an outcome tells: no longer than the words, but for what stands behind OUT in the name of the
+-- temporary file.
+use Rattle.std.proofs.Common.{◌≡◌, ℕ, ◌+◌, ◌≤◌, ◌++◌, List, [], ◌∷◌, length, map, codes, Bool, true, false, Option, Some, None, Result, Ok, Err, refl, ap, subst, ◌∙◌, inl, inr, arith}
+use Rattle.caibx_codec.specs.Listing.{Listing}
+use Rattle.buzhash_cut.specs.Sizes.{Sizes}
+use Rattle.command_outcome.specs.ErrorLines.{name_in}
+use Rattle.command_outcome.specs.declared.outcome.Outcome.{Outcome}
+use Rattle.command_outcome.specs.declared.outcome.Outcome.TheVariants as ends
+use Rattle.command_steps.specs.Cache.{CacheOpened}
+use Rattle.command_steps.specs.Openings.{ImageOpened, IndexRead, NotOpened, NotRead}
+use Rattle.command_worlds.specs.Printing.{Printed}
+use Rattle.command_steps.specs.Seeds.{IndexesRead, NoneListed}
+use Rattle.command_steps.specs.Sources.{FirstUnreached, NotAsking, OnSources, Sources, SourcesOpened, Unreached, sources, sources_of}
+use Rattle.command_worlds.specs.Steps.{◌>>=◌, Passed}
+use Rattle.command_steps.specs.Stores.{NotReached, StoreTaken, name_of}
+use Rattle.command_steps.specs.Taking.{SourceTaken}
+use Rattle.command_worlds.specs.Worlds.{OnDisk, OnOut, Pure, Step, World}
+use Rattle.command_words.specs.declared.command.Location.{Location}
+use Rattle.command_words.specs.declared.command.Location.TheVariants as locations
+use Rattle.dsy_base.specs.Disk.{Disk, Output}
+use Rattle.dsy_base.specs.Maps.{Map}
+use Rattle.image_commands.specs.Chop.{ImageChopped}
+use Rattle.store_commands.specs.Demo.{Rehearsed}
+use Rattle.image_commands.specs.Extract.{Clearing, ImageMade, Into, NotRenamed, OutMade, Renamed, Seeds, beside, in_place, temporary_out}
+use Rattle.image_commands.specs.Make.{ImageStored, IndexWritten, NotWritten, SizesJudged}
+use Rattle.store_commands.specs.VerifyIndex.{ImageChecked}
+use Rattle.store_commands.specs.Caching.{IndexesFilled, NotFilled, Evidence, outcome_of_fill}
+use Rattle.store_commands.specs.Info.{IdsCounted, NotAsked}
+use Rattle.store_commands.specs.Prune.{StorePruned}
+use Rattle.store_commands.specs.Serving.{FolderServed, Heard, TakenUnheard}
+use Rattle.store_commands.specs.Verify.{StoreVerified}
+use Rattle.verify_tool.specs.declared.fill.FillFault.{FillFault}
+use Rattle.verify_tool.specs.declared.fill.FillFault.TheVariants as fills
+
+-- each of the names is no longer than this
+abbrev pub AllShort : ℕ → List (List ℕ) → Type 0
+AllShort n [] = Unit {0}
+AllShort n (q ∷ names) = (length q ≤ n) × AllShort n names
+
+-- so is that of each refusal of a step
+abbrev pub Tells : {W A : Type 0} → ℕ → (W → Result A Outcome → W → Type 0) → Type 0
+Tells {W} {A} n step = (w v : W) (o : Outcome) → step w (Err o) v → length (name_in o) ≤ n
+
+pub record Shorts {W A : Type 0} (n : ℕ) (step : W → Result A Outcome → W → Type 0) : Type 0 where
+  pub short : (w v : W) (o : Outcome) → step w (Err o) v → length (name_in o) ≤ n
+
+short_as : (n : ℕ) (p q : List ℕ) → p ≡ q → length q ≤ n → length p ≤ n
+short_as n p q same le = omega (arith, ap length same, le)
+
+-- ---- steps in order
+
+pub bound : {A B : Type 0} {n : ℕ} {step : Step World A} {next : A → Step World B} → Shorts n step → ((a : A) → Shorts n (next a)) → Shorts n (step >>= next)
+bound {A} {B} {n} {step} {next} first rest = record { short = go } where
+  go : (w v : World) (o : Outcome) → (step >>= next) w (Err o) v → length (name_in o) ≤ n
+  go w v o (inl h) = first.short w v o h
+  go w v o (inr h) = (rest h.gave).short _ v o h.then
+
+pub on_disk : {A : Type 0} {n : ℕ} {step : Step Disk A} → Shorts n step → Shorts n (OnDisk step)
+on_disk k = record { short = λ w v o h. k.short w.disk v.disk o h.0 }
+
+pub on_out : {A : Type 0} {n : ℕ} {step : Step Output A} → Shorts n step → Shorts n (OnOut step)
+on_out k = record { short = λ w v o h. k.short w.out v.out o h.0 }
+
+pub on_sources : {A : Type 0} {n : ℕ} {step : Step Sources A} → Shorts n step → Shorts n (OnSources step)
+on_sources k = record { short = λ w v o h. k.short (sources_of w) (sources_of v) o h.0 }
+
+-- ---- each step
+
+module _ (n : ℕ) where
+  not_reached : (q : List ℕ) → length q ≤ n → (d e : Disk) (o : Outcome) → NotReached d e q o → length (name_in o) ≤ n
+  not_reached q le d e (ends.NoFolder name) h = short_as n name q h.0 le
+  not_reached q le d e (ends.FileFault name) h = short_as n name q h.0 le
+  not_reached q le d e ends.Memory h = omega arith
+  not_reached q le d e other h = absurd h
+
+  not_read : (q : List ℕ) → length q ≤ n → (d e : Disk) (o : Outcome) → NotRead d e q o → length (name_in o) ≤ n
+  not_read q le d e (ends.NoFile name) h = short_as n name q h.0 le
+  not_read q le d e (ends.BadIndex name fault) h = short_as n name q h.0 le
+  not_read q le d e (ends.FileFault name) h = short_as n name q h.0 le
+  not_read q le d e ends.Memory h = omega arith
+  not_read q le d e other h = absurd h
+
+  not_opened : (q : List ℕ) → length q ≤ n → (d e : Disk) (o : Outcome) → NotOpened d e q o → length (name_in o) ≤ n
+  not_opened q le d e (ends.NoFile name) h = short_as n name q h.0 le
+  not_opened q le d e ends.ImageFault h = omega arith
+  not_opened q le d e ends.Memory h = omega arith
+  not_opened q le d e other h = absurd h
+
+  not_written : (q : List ℕ) → length q ≤ n → (d e : Disk) (o : Outcome) → NotWritten d e q o → length (name_in o) ≤ n
+  not_written q le d e (ends.FileFault name) h = short_as n name q h.0 le
+  not_written q le d e ends.Memory h = omega arith
+  not_written q le d e other h = absurd h
+
+  not_renamed : (p q : List ℕ) → length p ≤ n → length q ≤ n → (d e : Disk) (o : Outcome) → NotRenamed p q d o e → length (name_in o) ≤ n
+  not_renamed p q from to d e (ends.NoFile name) h = short_as n name p h.0 from
+  not_renamed p q from to d e (ends.FileFault name) h = short_as n name q h.0 to
+  not_renamed p q from to d e ends.Memory h = omega arith
+  not_renamed p q from to d e other h = absurd h
+
+  unreached : (s : Location) → length (name_of s) ≤ n → (d e : Disk) (o : Outcome) → Unreached d e s o → length (name_in o) ≤ n
+  unreached (locations.Folder q) le d e ends.Memory h = omega arith
+  unreached (locations.Folder q) le d e other h = not_reached q le d e other h
+  unreached (locations.Http host port prefix) le d e ends.Memory h = omega arith
+  unreached (locations.Http host port prefix) le d e other h = absurd h
+
+  first_unreached : (stores : List Location) → AllShort n (map name_of stores) → (d e : Disk) (o : Outcome) → FirstUnreached d e stores o → length (name_in o) ≤ n
+  first_unreached [] all d e o h = absurd h
+  first_unreached (s ∷ stores) all d e o (inl h) = unreached s all.0 d e o h
+  first_unreached (s ∷ stores) all d e o (inr h) = first_unreached stores all.1 d e o h.1
+
+  none_listed : (names : List (List ℕ)) → AllShort n names → (m : ℕ) (d e : Disk) (o : Outcome) → NoneListed d e m names o → length (name_in o) ≤ n
+  none_listed [] all m d e o h = absurd h
+  none_listed (q ∷ names) all m d e o (inl h) = not_read q all.0 d e o h
+  none_listed (q ∷ names) all m d e o (inr (l, listed, inl h)) = omega (arith, ap (λ r. length (name_in r)) h.0)
+  none_listed (q ∷ names) all m d e o (inr (l, listed, inr h)) = none_listed names all.1 _ d e o h.1
+
+  opened_tells : (stores : List Location) → AllShort n (map name_of stores) → Tells n (SourcesOpened stores)
+  opened_tells stores all d e o (inl h, reads) = first_unreached stores all d e o h
+  opened_tells stores all d e o (inr h, reads) = omega (arith, ap (λ r. length (name_in r)) h)
+
+  pub opened : (stores : List Location) → AllShort n (map name_of stores) → Shorts n (SourcesOpened stores)
+  opened stores all = record { short = opened_tells stores all }
+
+  taken_tells : (q : List ℕ) → length q ≤ n → Tells n (StoreTaken q)
+  taken_tells q le d e o h = not_reached q le d e o h.0
+
+  pub taken : (q : List ℕ) → length q ≤ n → Shorts n (StoreTaken q)
+  taken q le = record { short = taken_tells q le }
+
+  source_taken_tells : (s : Location) → length (name_of s) ≤ n → Tells n (SourceTaken s)
+  source_taken_tells (locations.Folder q) le d e o h = not_reached q le d e o h.0
+  source_taken_tells (locations.Http host port prefix) le d e o h = omega (arith, ap (λ r. length (name_in r)) h.0)
+
+  pub source_taken : (s : Location) → length (name_of s) ≤ n → Shorts n (SourceTaken s)
+  source_taken x0 le = record { short = source_taken_tells x0 le }
+
+  cache_opened_tells : (cache : Option (List ℕ)) → AllShort n (elim cache [ None ↦ [] | Some q ↦ q ∷ [] ]) → Tells n (CacheOpened cache)
+  cache_opened_tells None all d e o h = absurd h
+  cache_opened_tells (Some q) all d e o h = not_reached q all.0 d e o h.0
+
+  pub cache_opened : (cache : Option (List ℕ)) → AllShort n (elim cache [ None ↦ [] | Some q ↦ q ∷ [] ]) → Shorts n (CacheOpened cache)
+  cache_opened cache all = record { short = cache_opened_tells cache all }
+
+  judged_tells : (sizes : List ℕ) (w v : World) (o : Outcome) → Pure (SizesJudged sizes) w (Err o) v → length (name_in o) ≤ n
+  judged_tells sizes w v (ends.Sizes fault) h = omega arith
+  judged_tells sizes w v other h = absurd h.0
+
+  pub judged : (sizes : List ℕ) → Shorts n (Pure (SizesJudged sizes))
+  judged sizes = record { short = judged_tells sizes }
+
+  rehearsed_tells : (number size : ℕ) (w v : World) (o : Outcome) → Pure (Rehearsed number size) w (Err o) v → length (name_in o) ≤ n
+  rehearsed_tells number size w v (ends.Mismatch k got) h = omega arith
+  rehearsed_tells number size w v ends.Memory h = omega arith
+  rehearsed_tells number size w v other h = absurd h.0
+
+  pub rehearsed : (number size : ℕ) → Shorts n (Pure (Rehearsed number size))
+  rehearsed number size = record { short = rehearsed_tells number size }
+
+  printed_tells : (text : List ℕ) → Tells n (Printed text)
+  printed_tells text p q ends.OutFault h = omega arith
+  printed_tells text p q ends.Memory h = omega arith
+  printed_tells text p q other h = absurd h.0
+
+  pub printed : (text : List ℕ) → Shorts n (Printed text)
+  printed text = record { short = printed_tells text }
+
+  stored_tells : (s : Sizes) (image : List ℕ) (told : Option (List ℕ)) (store : Location) (held : Option (Map (List ℕ))) → Tells n (ImageStored s image told store held)
+  stored_tells s image told store held w v ends.TooManyItems h = omega arith
+  stored_tells s image told store held w v ends.ImageFault h = omega arith
+  stored_tells s image told store held w v (ends.Changed k was got) h = omega arith
+  stored_tells s image told store held w v (ends.StoreFault k) h = omega arith
+  stored_tells s image told store held w v ends.Memory h = omega arith
+  stored_tells s image told store held w v other h = absurd h.0
+
+  pub stored : (s : Sizes) (image : List ℕ) (told : Option (List ℕ)) (store : Location) (held : Option (Map (List ℕ))) → Shorts n (ImageStored s image told store held)
+  stored s image told store held = record { short = stored_tells s image told store held }
+
+  chopped_tells : (l : Listing) (image : List ℕ) (told : Option (List ℕ)) (store : Location) (held : Option (Map (List ℕ))) → Tells n (ImageChopped l image told store held)
+  chopped_tells l image told store held w v (ends.Length k) h = omega arith
+  chopped_tells l image told store held w v (ends.Mismatch k got) h = omega arith
+  chopped_tells l image told store held w v ends.ImageFault h = omega arith
+  chopped_tells l image told store held w v (ends.StoreFault k) h = omega arith
+  chopped_tells l image told store held w v ends.Memory h = omega arith
+  chopped_tells l image told store held w v other h = absurd h.0
+
+  pub chopped : (l : Listing) (image : List ℕ) (told : Option (List ℕ)) (store : Location) (held : Option (Map (List ℕ))) → Shorts n (ImageChopped l image told store held)
+  chopped l image told store held = record { short = chopped_tells l image told store held }
+
+  checked_tells : (image : List ℕ) (l : Listing) (told : Option (List ℕ)) → Tells n (ImageChecked image l told)
+  checked_tells image l told d e (ends.Length k) h = omega arith
+  checked_tells image l told d e (ends.Mismatch k got) h = omega arith
+  checked_tells image l told d e ends.ImageFault h = omega arith
+  checked_tells image l told d e ends.Memory h = omega arith
+  checked_tells image l told d e other h = absurd h.0
+
+  pub checked : (image : List ℕ) (l : Listing) (told : Option (List ℕ)) → Shorts n (ImageChecked image l told)
+  checked image l told = record { short = checked_tells image l told }
+
+  not_asked : (stores : List Location) (l : Listing) (w v : Sources) (o : Outcome) → NotAsked w v stores l o → length (name_in o) ≤ n
+  not_asked stores l w v (ends.StoreFault k) h = omega arith
+  not_asked stores l w v ends.Memory h = omega arith
+  not_asked stores l w v other h = absurd h
+
+  counted_tells : (stores : List Location) → AllShort n (map name_of stores) → (l : Listing) → Tells n (IdsCounted stores l)
+  counted_tells stores all l w v o (inl h, consults, asks) = first_unreached stores all w.disk v.disk o h
+  counted_tells stores all l w v o (inr h, consults, asks) = not_asked stores l w v o h
+
+  pub counted : (stores : List Location) → AllShort n (map name_of stores) → (l : Listing) → Shorts n (IdsCounted stores l)
+  counted stores all l = record { short = counted_tells stores all l }
+
+  pruned_tells : (keeps : List ℕ → Bool) (q : List ℕ) (held : Option (Map (List ℕ))) → Tells n (StorePruned keeps q held)
+  pruned_tells keeps q held d e (ends.StoreFault k) h = omega arith
+  pruned_tells keeps q held d e ends.Memory h = omega arith
+  pruned_tells keeps q held d e other h = absurd h.0
+
+  pub pruned : (keeps : List ℕ → Bool) (q : List ℕ) (held : Option (Map (List ℕ))) → Shorts n (StorePruned keeps q held)
+  pruned keeps q held = record { short = pruned_tells keeps q held }
+
+  verified_tells : (q : List ℕ) (repair : Bool) (held : Option (Map (List ℕ))) → Tells n (StoreVerified q repair held)
+  verified_tells q repair held w v (ends.DamagedLeft k) h = omega arith
+  verified_tells q repair held w v (ends.StoreFault k) h = omega arith
+  verified_tells q repair held w v ends.OutFault h = omega arith
+  verified_tells q repair held w v ends.Memory h = omega arith
+  verified_tells q repair held w v other h = absurd h.0
+
+  pub verified : (q : List ℕ) (repair : Bool) (held : Option (Map (List ℕ))) → Shorts n (StoreVerified q repair held)
+  verified q repair held = record { short = verified_tells q repair held }
+
+  served_tells : (h : Heard) (writable : Bool) (q : List ℕ) (held : Option (Map (List ℕ))) → Tells n (FolderServed h writable q held)
+  served_tells h writable q held d e ends.ListenFault t = omega arith
+  served_tells h writable q held d e ends.Memory t = omega arith
+  served_tells h writable q held d e other t = absurd t.0
+
+  pub served : (h : Heard) (writable : Bool) (q : List ℕ) (held : Option (Map (List ℕ))) → Shorts n (FolderServed h writable q held)
+  served h writable q held = record { short = served_tells h writable q held }
+
+  written_tells : (q bytes : List ℕ) → length q ≤ n → Tells n (IndexWritten q bytes)
+  written_tells q bytes le d e o h = not_written q le d e o h.0
+
+  pub written : (q bytes : List ℕ) → length q ≤ n → Shorts n (IndexWritten q bytes)
+  written q bytes le = record { short = written_tells q bytes le }
+
+  filled_by : (f : FillFault) → length (name_in (outcome_of_fill f)) ≤ n
+  filled_by (fills.Missing k id) = omega arith
+  filled_by (fills.Damaged k id s x) = omega arith
+  filled_by (fills.StoreFault k) = omega arith
+  filled_by fills.CacheFault = omega arith
+  filled_by fills.Memory = omega arith
+
+  not_filled : (over : Evidence) (d e : Disk) (indexes : List (List ℕ)) → AllShort n indexes → (x y : Option (Map (List ℕ))) (o : Outcome) → NotFilled over d e indexes x y o → length (name_in o) ≤ n
+  not_filled over d e [] all x y o h = absurd h
+  not_filled over d e (q ∷ indexes) all x y o (inl h) = not_read q all.0 d e o h.0
+  not_filled over d e (q ∷ indexes) all x y o (inr (l, listed, inl (fault, is, filled))) = omega (arith, ap (λ r. length (name_in r)) is, filled_by fault)
+  not_filled over d e (q ∷ indexes) all x y o (inr (l, listed, inr (z, filled, rest))) = not_filled over d e indexes all.1 z y o rest
+
+  filled_tells : (stores : List Location) (cache : List ℕ) (indexes : List (List ℕ)) → AllShort n indexes → Tells n (IndexesFilled stores cache indexes)
+  filled_tells stores cache indexes all w v o h = not_filled _ w.disk v.disk indexes all h.held h.now o h.filled
+
+  pub filled : (stores : List Location) (cache : List ℕ) (indexes : List (List ℕ)) → AllShort n indexes → Shorts n (IndexesFilled stores cache indexes)
+  filled stores cache indexes all = record { short = filled_tells stores cache indexes all }
+
+  made_tells : (stores : List Location) (cache : Option (List ℕ)) (i : Into) (l : Listing) (x : Seeds) → Tells n (ImageMade stores cache i l x)
+  made_tells stores cache i l x w v (ends.Missing k id) h = omega arith
+  made_tells stores cache i l x w v (ends.Damaged k id store shows) h = omega arith
+  made_tells stores cache i l x w v (ends.StoreFault k) h = omega arith
+  made_tells stores cache i l x w v ends.TargetFault h = omega arith
+  made_tells stores cache i l x w v ends.Memory h = omega arith
+  made_tells stores cache i l x w v other h = absurd h.0
+
+  pub made : (stores : List Location) (cache : Option (List ℕ)) (i : Into) (l : Listing) (x : Seeds) → Shorts n (ImageMade stores cache i l x)
+  made stores cache i l x = record { short = made_tells stores cache i l x }
+
+  clearing_tells : (q : List ℕ) (step : Step Sources Unit) → Shorts n step → Tells n (Clearing q step)
+  clearing_tells q step k w v o (c, did, cleared) = k.short w (sources c v.dial) o did
+
+  pub clearing : (q : List ℕ) (step : Step Sources Unit) → Shorts n step → Shorts n (Clearing q step)
+  clearing q step k = record { short = clearing_tells q step k }
+
+  renamed_tells : (p q : List ℕ) → length p ≤ n → length q ≤ n → Tells n (NotAsking (Renamed p q))
+  renamed_tells p q from to w v o h = not_renamed p q from to w.disk v.disk o h.0.0
+
+  pub renamed : (p q : List ℕ) → length p ≤ n → length q ≤ n → Shorts n (NotAsking (Renamed p q))
+  renamed p q from to = record { short = renamed_tells p q from to }
+
+  pub out_made : (place : Bool) (stores : List Location) (cache : Option (List ℕ)) (out : List ℕ) (l : Listing) (x : Seeds) → length (temporary_out out) ≤ n → length out ≤ n → Shorts n (OutMade place stores cache out l x)
+  out_made true stores cache out l x temporary le = on_sources (made stores cache (in_place out) l x)
+  out_made false stores cache out l x temporary le = bound (on_sources (clearing (temporary_out out) _ (made stores cache (beside out) l x))) (λ u. on_sources (clearing (temporary_out out) _ (renamed (temporary_out out) out temporary le)))
+
+  pub index_read : (q : List ℕ) → length q ≤ n → Shorts n (IndexRead q)
+  index_read q le = record { short = λ d e o h. not_read q le d e o h.0 }
+
+  pub indexes_read : (names : List (List ℕ)) → AllShort n names → Shorts n (IndexesRead names)
+  indexes_read names all = record { short = λ d e o h. none_listed names all 0 d e o h.0 }
+
+  pub image_opened : (q : List ℕ) → length q ≤ n → Shorts n (ImageOpened q)
+  image_opened q le = record { short = λ d e o h. not_opened q le d e o h.0 }
+
+  pub unheard : (h : Heard) (q : List ℕ) → length q ≤ n → Shorts n (TakenUnheard h q)
+  unheard h q le = record { short = λ d e o t. taken_tells q le d e o t.0 }
