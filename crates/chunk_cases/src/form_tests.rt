@@ -2,6 +2,10 @@
 
 use crate::compare::{ok, same};
 use crate::ranges::{holds, reads, writes};
+use byte_forms::calls::Fails;
+use byte_forms::mem_target::MemTarget;
+use byte_forms::mem_view::MemView;
+use byte_forms::ranges::RangeFails;
 use dsy_base::fault::{FileFault, IoFault, OpenFault};
 use dsy_base::files::Files;
 use dsy_base::folder::Folder;
@@ -9,13 +13,9 @@ use dsy_base::look::Look;
 use dsy_base::sink::Sink;
 use dsy_base::temporary::temporary_name;
 use dsy_base::view::{Target, View};
-use byte_forms::calls::Fails;
 use dsy_forms::mem_files::MemFiles;
 use dsy_forms::mem_folder::MemFolder;
 use dsy_forms::mem_sink::MemSink;
-use byte_forms::mem_target::MemTarget;
-use byte_forms::mem_view::MemView;
-use byte_forms::ranges::RangeFails;
 use std::alloc::Global;
 use std::process::Abort;
 

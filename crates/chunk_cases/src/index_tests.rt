@@ -2,6 +2,7 @@
 //! are offsets in the file.
 
 use crate::compare::{ok, same};
+use byte_forms::mem_view::MemView;
 use caibx_codec::index::{Entry, Index};
 use caibx_codec::reader::IndexReader;
 use caibx_codec::reading::{ReadFault, ViewFault, read_index};
@@ -9,7 +10,6 @@ use caibx_codec::writing::write_index;
 use caibx_fields::fault::IndexFault;
 use chunk_store::id::{ChunkId, DigestKind};
 use dsy_forms::mem_sink::MemSink;
-use byte_forms::mem_view::MemView;
 use std::alloc::Global;
 use std::process::Abort;
 

@@ -5,10 +5,10 @@ ghost use Rattle.range_ledger.specs.Runs.{IsDealt};
 
 use crate::compare::{ok, same};
 use crate::plan_tests::index;
-use caibx_codec::index::Index;
-use dsy_base::view::{Part, View};
 use byte_forms::mem_target::MemTarget;
 use byte_forms::ranges::RangeFails;
+use caibx_codec::index::Index;
+use dsy_base::view::{Part, View};
 use extract_plan::plan::Plan;
 use range_ledger::run::RunName;
 use range_ledger::shard::Shard;
@@ -107,7 +107,8 @@ fn settles_reads_skips_and_tears<R: RunName>(
 fn a_shard_settles_reads_skips_and_tears(rt: HostRuntime) {
     let alloc = rt.alloc();
     let chunks: [&[u8]; 16] = [
-        b"a", b"b", b"c", b"d", b"e", b"f", b"g", b"h", b"i", b"j", b"k", b"l", b"m", b"n", b"o", b"p",
+        b"a", b"b", b"c", b"d", b"e", b"f", b"g", b"h", b"i", b"j", b"k", b"l", b"m", b"n", b"o",
+        b"p",
     ];
     let index = index(&rt, alloc, &chunks);
     let plan = ok(&rt, Plan::of(alloc, &index, 1));

@@ -1,9 +1,9 @@
 //! Plans of small indexes, and where seeds list their chunks. Entries are named by one letter each.
 
 use crate::compare::{ok, same};
+use byte_forms::mem_view::MemView;
 use caibx_codec::index::{Entry, Index};
 use chunk_store::id::{ChunkId, DigestKind};
-use byte_forms::mem_view::MemView;
 use extract_plan::plan::Plan;
 use extract_plan::seed::{Seed, SeedAnswer, SeedPlace, seed_gives};
 use extract_plan::seeds::SeedIndex;

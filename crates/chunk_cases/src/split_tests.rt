@@ -5,10 +5,10 @@ ghost use Rattle.std.specs.List.{sum_by};
 
 use crate::compare::{ok, same};
 use crate::ranges::{holds, writes};
-use dsy_base::fault::SplitFault;
-use dsy_base::view::{Target, View};
 use byte_forms::mem_target::MemTarget;
 use byte_forms::ranges::RangeFails;
+use dsy_base::fault::SplitFault;
+use dsy_base::view::{Target, View};
 use dsy_sure::sure_target::SureTarget;
 use std::alloc::Global;
 use std::process::Abort;

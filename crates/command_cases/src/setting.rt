@@ -3,10 +3,10 @@
 use crate::index_files::index_of;
 use crate::notation::{bytes_of, calls_of, number_of, parted, path_of, words_of};
 use crate::world::World;
+use byte_forms::ranges::RangeFails;
 use dsy_base::folder::Folder;
 use dsy_forms::mem_files::MemFiles;
 use dsy_forms::mem_folder::MemFolder;
-use byte_forms::ranges::RangeFails;
 use std::alloc::Global;
 use std::test::Fail;
 

@@ -2,10 +2,10 @@
 #![tactic(auto)]
 
 use desync_cli::run::desync;
-use real_links::real_dial::RealDial;
 use dsy_real::real_files::RealFiles;
-use real_links::real_listen::RealListen;
 use dsy_real::real_sink::RealSink;
+use real_links::real_dial::RealDial;
+use real_links::real_listen::RealListen;
 use std::env::Env;
 use std::io::ErrorKind;
 use std::process::ExitCode;

@@ -13,8 +13,8 @@ ghost use Rattle.dsy_forms.specs.MemFiles.{folder_counts_of};
 ghost use Rattle.dsy_base.specs.Slots.{counts_in, held_in};
 ghost use Rattle.dsy_forms.specs.Trees.{map_of};
 
-use byte_forms::calls::{Calls, Fails};
 use crate::mem_folder::{MemFolder, MemLook};
+use byte_forms::calls::{Calls, Fails};
 use byte_forms::mem_target::{MemFile, MemTarget};
 use byte_forms::mem_view::MemView;
 use byte_forms::ranges::RangeFails;

@@ -3,11 +3,11 @@
 
 ghost use Rattle.std.specs.Prelude.{◌≡◌};
 
+use byte_forms::mem_part::MemoryPart;
+use byte_forms::mem_target::write_over;
 use dsy_base::fault::Failed;
 use dsy_base::name::Name;
 use dsy_base::view::{Part, View};
-use byte_forms::mem_part::MemoryPart;
-use byte_forms::mem_target::write_over;
 use std::alloc::{AllocError, Global};
 
 /// A part in memory. Reads and writes never fail.

@@ -7,11 +7,11 @@ ghost use Rattle.dsy_base.specs.Splits.{joined, held_joined};
 ghost use Rattle.dsy_sure.specs.SureTargets.{target_held, part_held, target_left};
 
 use crate::sure_part::SurePart;
+use byte_forms::mem_part::{join_parts, parts_of};
+use byte_forms::mem_target::{resize, write_over};
 use dsy_base::fault::{Failed, IoFault, SplitFault};
 use dsy_base::name::Name;
 use dsy_base::view::{Part, Target, View};
-use byte_forms::mem_part::{join_parts, parts_of};
-use byte_forms::mem_target::{resize, write_over};
 use std::alloc::Global;
 
 /// Bytes in memory that can be written. Reads and writes never fail.

@@ -4,10 +4,10 @@ ghost use Rattle.std.specs.Prelude.{[]};
 
 use crate::compare::{ok, same};
 use crate::indexes::index_of_pieces;
+use byte_forms::mem_view::MemView;
 use caibx_codec::index::Index;
 use dsy_base::inner_folders::InnerFolders;
 use dsy_base::view::View;
-use byte_forms::mem_view::MemView;
 use dsy_forms::no_folders::NoFolders;
 use read_ahead::ahead::Ahead;
 use read_ahead::claims::Claims;

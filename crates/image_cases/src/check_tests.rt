@@ -4,13 +4,13 @@
 use crate::calls::fails;
 use crate::compare::{ok, same};
 use crate::indexes::{ABC, ABX, DEF, DEX, id_of, index_of};
+use byte_forms::mem_view::MemView;
 use caibx_codec::index::Index;
 use chunk_store::id::ChunkId;
 use chunk_store::store::{GetFault, Store};
 use dsy_base::fault::{Failed, IoFault, raise};
 use dsy_base::view::View;
 use dsy_forms::mem_sink::MemSink;
-use byte_forms::mem_view::MemView;
 use std::alloc::Global;
 use std::process::Abort;
 use store_chain::chain::Chain;

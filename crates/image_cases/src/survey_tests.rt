@@ -2,10 +2,10 @@
 
 use crate::compare::{ok, same};
 use crate::indexes::{id_of, index_of_pieces};
-use caibx_codec::index::Index;
-use dsy_base::fault::IoFault;
 use byte_forms::mem_target::MemTarget;
 use byte_forms::ranges::RangeFails;
+use caibx_codec::index::Index;
+use dsy_base::fault::IoFault;
 use range_survey::fate::Fate;
 use range_survey::survey::survey_resized;
 use range_survey::zeros::ZeroNames;

@@ -8,9 +8,9 @@ ghost use Rattle.link_forms.specs.MemLinks.{dial_of, first_of, link_of, traffic_
 
 use crate::mem_link::MemLink;
 use crate::open_link::{Ended, OpenLink};
+use byte_forms::calls::{Calls, Fails};
 use dsy_base::dial::Dial;
 use dsy_base::fault::{IoFault, Memory, raise};
-use byte_forms::calls::{Calls, Fails};
 use std::alloc::{AllocError, Global};
 
 /// A dialer over connections in memory. A dial gives a copy of the link of its own number, and past the last it fails:

@@ -4,9 +4,9 @@ ghost use Rattle.std.specs.Prelude.{◌≡◌, ◌<◌, length, vec_len, slice_g
 ghost use Rattle.dsy_base.specs.Links.{IsFreshLink};
 ghost use Rattle.link_forms.specs.MemLinks.{bytes_of, first_of, link_of, traffic_of};
 
+use byte_forms::calls::{Calls, Fails};
 use dsy_base::fault::{Failed, IoFault, raise};
 use dsy_base::link::Link;
-use byte_forms::calls::{Calls, Fails};
 use std::alloc::{AllocError, Global};
 
 /// A connection in memory. A read gives at most one of the pieces that the peer sends, and passes over empty ones; a

@@ -8,9 +8,9 @@ ghost use Rattle.link_forms.specs.MemLinks.{link_of, listen_of, traffic_of};
 
 use crate::mem_link::MemLink;
 use crate::open_link::{Ended, OpenLink};
+use byte_forms::calls::{Calls, Fails};
 use dsy_base::fault::{IoFault, raise};
 use dsy_base::listen::Listen;
-use byte_forms::calls::{Calls, Fails};
 use std::alloc::Global;
 
 /// A listener over connections in memory, which come in their order. A call that fails changes no connection. Binds
