@@ -36,6 +36,11 @@ pub trait Link: Drop {
         ensures faults { CountsFaults IoFault.Failed IoFault.Memory (state self.old).faults (state self.new).faults
             result };
 
+    /// Says that nothing more is sent, and for a short time takes what the peer still sends, so that the last reply
+    /// reaches it. That isn't counted as received.
+    fn finish(&mut self)
+        ensures kept { state self.new ≡ state self.old };
+
     /// What comes and goes is told exactly where the type tells.
     ghost told: { (l : Self) → is_some (state l).traffic ≡ tells };
 }

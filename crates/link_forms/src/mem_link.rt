@@ -115,5 +115,7 @@ impl Link for MemLink {
         }
     }
 
+    fn finish(&mut self) {}
+
     ghost told = { λ _. refl };
 }

@@ -95,5 +95,7 @@ impl Link for OpenLink {
         self.link.write(b)
     }
 
+    fn finish(&mut self) {}
+
     ghost told = { λ _. refl };
 }

@@ -23,6 +23,7 @@ const READS_TO_LINGER: u64 = 1_024;
 pub struct RealLink<S: Read + Write + Drop> {
     stream: S,
     faults: u64,
+    finished: bool,
 }
 
 // Reads once, where no signal comes between.
@@ -36,6 +37,18 @@ fn read_once<S: Read>(stream: &mut S, out: &mut [u8]) -> io::Result<usize>
         }
     }
     Err(io::Error::from(ErrorKind::Interrupted))
+}
+
+// Takes what the peer still sends.
+fn drain<S: Read>(stream: &mut S) {
+    let mut buffer = [0u8; 16_384];
+    for _ in 0..READS_TO_LINGER {
+        match read_once(stream, &mut buffer) {
+            Ok(0) => return,
+            Ok(_) => {}
+            Err(_) => return,
+        }
+    }
 }
 
 // Says how long the stream waits, and that it sends at once what it is given.
@@ -52,7 +65,11 @@ impl<S: Read + Write + OpenStream + Drop> RealLink<S> {
         ensures faults { IfOk result (λ l. l.faults ≡ 0) }
     {
         set_up(&stream)?;
-        Ok(RealLink { stream, faults: 0 })
+        Ok(RealLink {
+            stream,
+            faults: 0,
+            finished: false,
+        })
     }
 
     /// How often a call has failed.
@@ -67,10 +84,12 @@ impl<S: Read + Write + OpenStream + Drop> RealLink<S> {
         let _ = self.stream.shutdown(Shutdown::Write);
     }
 
-    /// Says that nothing more is sent, and takes what the peer still sends, for a short time: the end of a connection
-    /// that is closed before that was taken may reach the peer before the last reply does (RFC 9112, section 9.6).
-    /// Where a call on it has failed nothing is waited for.
-    pub fn linger(&mut self) {
+    // Says that nothing more is sent, and takes what the peer still sends, for a short time: the end of a connection
+    // that is closed before that was taken may reach the peer before the last reply does (RFC 9112, section 9.6). Where
+    // a call on it has failed nothing is waited for.
+    fn linger(&mut self)
+        ensures faults { self.new.faults ≡ self.old.faults }
+    {
         if self.faults > 0 || self.stream.shutdown(Shutdown::Write).is_err() {
             return;
         }
@@ -78,18 +97,11 @@ impl<S: Read + Write + OpenStream + Drop> RealLink<S> {
         if self.stream.set_read_timeout(wait).is_err() {
             return;
         }
-        let mut buffer = [0u8; 16_384];
-        for _ in 0..READS_TO_LINGER {
-            match read_once(&mut self.stream, &mut buffer) {
-                Ok(0) => return,
-                Ok(_) => {}
-                Err(_) => return,
-            }
-        }
+        drain(&mut self.stream);
     }
 }
 
-impl<S: Read + Write + Drop> Link for RealLink<S> {
+impl<S: Read + Write + OpenStream + Drop> Link for RealLink<S> {
     ghost use Rattle.std.specs.Prelude.{None, false, refl};
 
     ghost state = { λ l. record { traffic = None; faults = l.faults } };
@@ -113,6 +125,13 @@ impl<S: Read + Write + Drop> Link for RealLink<S> {
                 self.faults = raise(self.faults, 1);
                 Err(IoFault::Failed)
             }
+        }
+    }
+
+    fn finish(&mut self) {
+        if !self.finished {
+            self.finished = true;
+            self.linger();
         }
     }
 

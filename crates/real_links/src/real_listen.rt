@@ -5,6 +5,7 @@ ghost use Rattle.std.specs.Prelude.{◌≡◌, IfOk, IsNone};
 use crate::real_dial::unbracketed;
 use crate::real_link::RealLink;
 use dsy_base::fault::{IoFault, raise};
+use dsy_base::link::Link;
 use dsy_base::listen::Listen;
 use std::io;
 use std::io::ErrorKind;
@@ -133,7 +134,7 @@ impl<R: Net> Listen for RealListen<'_, R> {
     }
 
     fn end(&mut self, mut link: RealLink<R::Stream>) {
-        link.linger();
+        link.finish();
     }
 
     ghost told = { λ _. (refl, refl) };
