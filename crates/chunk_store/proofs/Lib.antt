@@ -1,4 +1,5 @@
 pub mod Digits
 pub mod Paths
 pub mod Said
+pub mod Sends
 pub mod Chunks

@@ -3,6 +3,7 @@
 ghost use Rattle.std.specs.Prelude.{◌≡◌, ◌≢◌, ℕ, Bool, true, false, IsTrue, List, ◌≤◌, Option, Some, None, IsSome};
 ghost use Rattle.std.specs.Prelude.{IfSome, IfOk, OnOk, OnErr, is_some, length, take};
 ghost use Rattle.std.specs.Option.{option_map};
+ghost use Rattle.chunk_store.specs.Asks.{Ask, Get, Has, Put, Sends, Sent, sends_nothing};
 ghost use Rattle.chunk_store.specs.Folders.{KeepsOthers, chunks};
 ghost use Rattle.chunk_store.specs.Gets.{GetGives};
 ghost use Rattle.chunk_store.specs.Said.{Said, KeepsOf, SaysMap, AskedOnce};
@@ -33,6 +34,9 @@ pub trait Store: Drop {
 
     /// What it has denied, shown and taken.
     ghost said: { Self → Said };
+
+    /// How it spells what it is asked, and what it has sent, where it asks a server.
+    ghost sent: { Self → Sent } = { λ _. sends_nothing };
 
     /// How often it was asked for the chunk of each id, as far as it knows.
     ghost asked: { Self → List ℕ → ℕ };
@@ -69,6 +73,7 @@ pub trait Store: Drop {
         ensures files { folder self.new ≡ folder self.old }
         ensures place { place self.new ≡ place self.old }
         ensures said { (q : List ℕ) → KeepsOf (said self.old) (said self.new) q }
+        ensures sends { Sends (λ a. a ≡ Get id.now.0) (sent self.old) (sent self.new) }
         ensures asks { AskedOnce (asked self.old) (asked self.new) id.now.0 }
         ensures queries { queried self.new ≡ queried self.old }
         ensures faults { CountsFaults GetFault.Failed GetFault.Memory (faults self.old) (faults self.new) result };
@@ -83,6 +88,7 @@ pub trait Store: Drop {
         ensures files { folder self.new ≡ folder self.old }
         ensures place { place self.new ≡ place self.old }
         ensures said { (q : List ℕ) → KeepsOf (said self.old) (said self.new) q }
+        ensures sends { Sends (λ a. a ≡ Has id.now.0) (sent self.old) (sent self.new) }
         ensures asks { asked self.new ≡ asked self.old }
         ensures queries { AskedOnce (queried self.old) (queried self.new) id.now.0 }
         ensures faults { CountsFaults IoFault.Failed IoFault.Memory (faults self.old) (faults self.new) result };
@@ -115,6 +121,7 @@ pub trait StoreWrite: Store {
         ensures files { KeepsOthers id.now.0 (Self.folder self.old) (Self.folder self.new) }
         ensures place { Self.place self.new ≡ Self.place self.old }
         ensures said { (q : List ℕ) → q ≢ id.now.0 → KeepsOf (Self.said self.old) (Self.said self.new) q }
+        ensures sends { Sends (λ a. a ≡ Put id.now.0 b.now) (Self.sent self.old) (Self.sent self.new) }
         ensures asks { Self.asked self.new ≡ Self.asked self.old }
         ensures queries { Self.queried self.new ≡ Self.queried self.old }
         ensures faults { CountsFaults IoFault.Failed IoFault.Memory
