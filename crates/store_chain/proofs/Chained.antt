@@ -3,7 +3,9 @@
 use Rattle.std.proofs.Common.{◌≡◌, ℕ, ◌≤◌, List, ◌++◌, length, map, take, drop, Option, Some, Bool, Ok, Err, Result, IfSome, IfOk, IfErr, slice_index, refl, sym, subst, ap, ◌∙◌}
 use Rattle.std.proofs.lemmas.List.{take-append-le}
 use Rattle.std.proofs.Math.Seq.{take-append_seam}
+use Rattle.chunk_store.specs.Asks.{Ask}
 use Rattle.chunk_store.specs.Said.{Said, SaysMap}
+use Rattle.chunk_store.specs.declared.store.Store.{Ghosts as StoreWords}
 use Rattle.dsy_base.specs.Counts.{Rose}
 use Rattle.dsy_base.specs.Maps.{Map}
 use Rattle.store_chain.specs.Chains.{KeepsStores, EachOnce}
@@ -14,6 +16,7 @@ use Rattle.store_chain.specs.Wants.{IsGiven}
 use Rattle.store_chain.specs.declared.refused.Refused.{Refused}
 use Rattle.store_chain.specs.declared.refused.Refused.TheVariants as refused
 use Rattle.store_chain.specs.declared.want.Want.{Want}
+use Rattle.store_chain.proofs.Kept.{kept_weaker}
 use Rattle.store_chain.proofs.Shown.{some_holds}
 use Rattle.store_chain.proofs.Told.{lacks_all, obtains, refuses}
 use Rattle.store_chain.proofs.Pairs.{rose_at}
@@ -97,12 +100,11 @@ module _ {S : Type 0} (said : S → Said) (faults : S → ℕ) (lacks_memory : B
 
 -- the chain after the call
 module _ {S : Type 0} (old old' new new' : List S) (same_old : old ≡ old') (same_new : new ≡ new') where
-  pub kept_in : (holds folder : S → Option (Map (List ℕ))) (place : S → List ℕ) (said : S → Said) (faults : S → ℕ) → KeepsStores holds folder place said faults old new
-      → KeepsStores holds folder place said faults old' new'
-  kept_in holds folder place said faults kept =
-      let P : List S → Type 0 = λ l. KeepsStores holds folder place said faults l new' in
-      let Q : List S → Type 0 = λ l. KeepsStores holds folder place said faults old l in
-      subst P same_old (subst Q same_new kept)
+  pub kept_in : (store : StoreWords S) (P P' : Ask → Type 0) → ((a : Ask) → P a → P' a) → KeepsStores store P old new → KeepsStores store P' old' new'
+  kept_in store P P' more kept =
+      let K : List S → Type 0 = λ l. KeepsStores store P' l new' in
+      let L : List S → Type 0 = λ l. KeepsStores store P' old l in
+      subst K same_old (subst L same_new (kept_weaker store P P' more old new kept))
 
   pub once_in : (count : S → List ℕ → ℕ) (id : List ℕ) → EachOnce count id old new → EachOnce count id old' new'
   once_in count id each =

@@ -1,9 +1,11 @@
 -- What stores keep that are only asked, and how often they were asked.
-use Rattle.std.proofs.Common.{◌≡◌, ℕ, zero, suc, ◌≤◌, List, [], ◌∷◌, map, Option, refl, sym, subst, ap, ◌∙◌, arith}
+use Rattle.std.proofs.Common.{◌≡◌, ℕ, zero, suc, ◌≤◌, List, [], ◌∷◌, map, refl, sym, subst, ap, ◌∙◌, arith}
 use Rattle.std.specs.List.{AllZip}
+use Rattle.chunk_store.proofs.Sends.{sends_on, sends_still, sends_weaker}
 use Rattle.chunk_store.proofs.Said.{keeps_itself, keeps_on, asked_no_more}
+use Rattle.chunk_store.specs.Asks.{Ask, Sends, Sent}
 use Rattle.chunk_store.specs.Said.{Said, KeepsOf, AskedOnce}
-use Rattle.dsy_base.specs.Maps.{Map}
+use Rattle.chunk_store.specs.declared.store.Store.{Ghosts as StoreWords}
 use Rattle.store_chain.specs.Chains.{KeepsStores, EachOnce}
 use Rattle.store_chain.specs.Faults.{NoneFalls}
 use Rattle.store_chain.proofs.Pairs.{all_zip_same}
@@ -35,41 +37,71 @@ said_all said (x ∷ xs) [] zs first then = absurd first
 said_all said (x ∷ xs) (y ∷ ys) [] first then = absurd then
 said_all said (x ∷ xs) (y ∷ ys) (z ∷ zs) first then = (λ q. keeps_on (said x) (said y) (said z) q (first.0 q) (then.0 q), said_all said xs ys zs first.1 then.1)
 
-module _ {S : Type 0} (holds folder : S → Option (Map (List ℕ))) (place : S → List ℕ) (said : S → Said) (faults : S → ℕ) where
+sent_all : {S : Type 0} (P : Ask → Type 0) (sent : S → Sent) (xs ys zs : List S) → AllZip (λ a b. Sends P (sent a) (sent b)) xs ys
+    → AllZip (λ a b. Sends P (sent a) (sent b)) ys zs → AllZip (λ a b. Sends P (sent a) (sent b)) xs zs
+sent_all P sent [] [] [] first then = tt
+sent_all P sent [] [] (z ∷ zs) first then = absurd then
+sent_all P sent [] (y ∷ ys) zs first then = absurd first
+sent_all P sent (x ∷ xs) [] zs first then = absurd first
+sent_all P sent (x ∷ xs) (y ∷ ys) [] first then = absurd then
+sent_all P sent (x ∷ xs) (y ∷ ys) (z ∷ zs) first then = (sends_on P (sent x) (sent y) (sent z) first.0 then.0, sent_all P sent xs ys zs first.1 then.1)
+
+sent_weaker : {S : Type 0} (P Q : Ask → Type 0) → ((a : Ask) → P a → Q a) → (sent : S → Sent) (xs ys : List S)
+    → AllZip (λ a b. Sends P (sent a) (sent b)) xs ys → AllZip (λ a b. Sends Q (sent a) (sent b)) xs ys
+sent_weaker P Q more sent [] [] h = tt
+sent_weaker P Q more sent [] (y ∷ ys) h = absurd h
+sent_weaker P Q more sent (x ∷ xs) [] h = absurd h
+sent_weaker P Q more sent (x ∷ xs) (y ∷ ys) h = (sends_weaker P Q more (sent x) (sent y) h.0, sent_weaker P Q more sent xs ys h.1)
+
+module _ {S : Type 0} (store : StoreWords S) (P : Ask → Type 0) where
   -- stores that weren't asked
-  pub kept_still : (xs : List S) → KeepsStores holds folder place said faults xs xs
+  pub kept_still : (xs : List S) → KeepsStores store P xs xs
   kept_still xs = record {
     held = refl;
     files = refl;
     places = refl;
-    says = all_zip_same (λ a b. (q : List ℕ) → KeepsOf (said a) (said b) q) (λ s. keeps_itself (said s)) xs;
+    says = all_zip_same (λ a b. (q : List ℕ) → KeepsOf (store.said a) (store.said b) q) (λ s. keeps_itself (store.said s)) xs;
+    sends = all_zip_same (λ a b. Sends P (store.sent a) (store.sent b)) (λ s. sends_still P (store.sent s)) xs;
     never_fall = λ k. omega arith;
   }
 
   -- stores that were asked again
-  pub kept_on : (xs ys zs : List S) → KeepsStores holds folder place said faults xs ys → KeepsStores holds folder place said faults ys zs → KeepsStores holds folder place said faults xs zs
+  pub kept_on : (xs ys zs : List S) → KeepsStores store P xs ys → KeepsStores store P ys zs → KeepsStores store P xs zs
   kept_on xs ys zs first then = record {
     held = then.held ∙ first.held;
     files = then.files ∙ first.files;
     places = then.places ∙ first.places;
-    says = said_all said xs ys zs first.says then.says;
+    says = said_all store.said xs ys zs first.says then.says;
+    sends = sent_all P store.sent xs ys zs first.sends then.sends;
     never_fall = λ k. omega (arith, first.never_fall k, then.never_fall k);
   }
 
+  -- stores that may have been asked more
+  pub kept_weaker : (Q : Ask → Type 0) → ((a : Ask) → P a → Q a) → (xs ys : List S) → KeepsStores store P xs ys → KeepsStores store Q xs ys
+  kept_weaker Q more xs ys h = record {
+    held = h.held;
+    files = h.files;
+    places = h.places;
+    says = h.says;
+    sends = sent_weaker P Q more store.sent xs ys h.sends;
+    never_fall = h.never_fall;
+  }
+
   -- from the first of them and the rest
-  module _ (x y : S) (xs ys zs : List S) (is : zs ≡ x ∷ xs) (same : holds y ≡ holds x) (lies : folder y ≡ folder x) (there : place y ≡ place x)
-      (says : (q : List ℕ) → KeepsOf (said x) (said y) q) (never_falls : faults x ≤ faults y) where
-    none_falls : NoneFalls (map faults xs) (map faults ys) → NoneFalls (map faults (x ∷ xs)) (map faults (y ∷ ys))
+  module _ (x y : S) (xs ys zs : List S) (is : zs ≡ x ∷ xs) (same : store.holds y ≡ store.holds x) (lies : store.folder y ≡ store.folder x) (there : store.place y ≡ store.place x)
+      (says : (q : List ℕ) → KeepsOf (store.said x) (store.said y) q) (sends : Sends P (store.sent x) (store.sent y)) (never_falls : store.faults x ≤ store.faults y) where
+    none_falls : NoneFalls (map store.faults xs) (map store.faults ys) → NoneFalls (map store.faults (x ∷ xs)) (map store.faults (y ∷ ys))
     none_falls rest zero = never_falls
     none_falls rest (suc k) = rest k
 
-    pub kept_next : KeepsStores holds folder place said faults xs ys → KeepsStores holds folder place said faults zs (y ∷ ys)
+    pub kept_next : KeepsStores store P xs ys → KeepsStores store P zs (y ∷ ys)
     kept_next rest =
-        let P : List S → Type 0 = λ l. KeepsStores holds folder place said faults l (y ∷ ys) in
-        subst P (sym is) (record {
+        let K : List S → Type 0 = λ l. KeepsStores store P l (y ∷ ys) in
+        subst K (sym is) (record {
           held = λ i. same i ∷ rest.held i;
           files = λ i. lies i ∷ rest.files i;
           places = λ i. there i ∷ rest.places i;
           says = (says, rest.says);
+          sends = (sends, rest.sends);
           never_fall = none_falls rest.never_fall;
         })

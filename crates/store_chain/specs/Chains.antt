@@ -1,10 +1,11 @@
 -- What contracts see of a chain, and what a call on it leaves.
-use Rattle.std.specs.Prelude.{◌≡◌, ℕ, ◌<◌, ◌^◌, List, map, Option}
+use Rattle.std.specs.Prelude.{◌≡◌, ℕ, ◌<◌, ◌^◌, List, map}
 use Rattle.std.specs.List.{AllZip}
-use Rattle.chunk_store.specs.Said.{Said, KeepsOf, AskedOnce}
+use Rattle.chunk_store.specs.Asks.{Ask, Sends}
+use Rattle.chunk_store.specs.Said.{KeepsOf, AskedOnce}
 use Rattle.chunk_store.specs.declared.id.DigestKind.{DigestKind}
+use Rattle.chunk_store.specs.declared.store.Store.{Ghosts as StoreWords}
 use Rattle.dsy_base.specs.Counts.{raised}
-use Rattle.dsy_base.specs.Maps.{Map}
 use Rattle.store_chain.specs.Faults.{NoneFalls}
 
 -- the stores in their order, the number of calls of `obtain`, and the digest that names the chunks
@@ -13,15 +14,15 @@ pub record Chained (S : Type 0) : Type 0 where
   pub asks : ℕ
   pub kind : DigestKind
 
--- stores that are only asked: each holds what it held, and lies where it lay, it says still what it has said, and its
--- count of faults hasn't fallen
-pub record KeepsStores {S : Type 0} (holds folder : S → Option (Map (List ℕ))) (place : S → List ℕ) (said : S → Said)
-    (faults : S → ℕ) (old new : List S) : Type 0 where
-  pub held : map holds new ≡ map holds old
-  pub files : map folder new ≡ map folder old
-  pub places : map place new ≡ map place old
-  pub says : AllZip (λ a b. (q : List ℕ) → KeepsOf (said a) (said b) q) old new
-  pub never_fall : NoneFalls (map faults old) (map faults new)
+-- stores that are only asked: each holds what it held, and lies where it lay, it says still what it has said, its count
+-- of faults hasn't fallen, and it has sent nothing since but fronts of requests for asks of which P holds
+pub record KeepsStores {S : Type 0} (store : StoreWords S) (P : Ask → Type 0) (old new : List S) : Type 0 where
+  pub held : map store.holds new ≡ map store.holds old
+  pub files : map store.folder new ≡ map store.folder old
+  pub places : map store.place new ≡ map store.place old
+  pub says : AllZip (λ a b. (q : List ℕ) → KeepsOf (store.said a) (store.said b) q) old new
+  pub sends : AllZip (λ a b. Sends P (store.sent a) (store.sent b)) old new
+  pub never_fall : NoneFalls (map store.faults old) (map store.faults new)
 
 -- each store counts at most one question more, and for this id alone
 abbrev pub EachOnce : {S : Type 0} → (S → List ℕ → ℕ) → List ℕ → List S → List S → Type 0

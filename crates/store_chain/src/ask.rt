@@ -1,6 +1,7 @@
 //! Asking stores for a chunk, in turn. What a store gives is named before it is used.
 
 ghost use Rattle.std.specs.Prelude.{◌≡◌, ℕ, List, ◌+◌, ◌^◌, ◌<◌, ◌≤◌, length, take, map, IfOk, IfErr};
+ghost use Rattle.chunk_store.specs.Asks.{Get, Sends};
 ghost use Rattle.chunk_store.specs.Said.{KeepsOf, AskedOnce};
 ghost use Rattle.store_chain.specs.Chains.{EachOnce, KeepsStores};
 ghost use Rattle.store_chain.specs.Wants.{IsGiven};
@@ -21,6 +22,7 @@ fn ask<S: Store>(store: &mut S, number: u32, want: &Want, out: &mut [u8]) -> Res
     ensures files { S.folder store.new ≡ S.folder store.old }
     ensures place { S.place store.new ≡ S.place store.old }
     ensures said { (q : List ℕ) → KeepsOf (S.said store.old) (S.said store.new) q }
+    ensures sends { Sends (λ a. a ≡ Get want.now.id.0) (S.sent store.old) (S.sent store.new) }
     ensures asks { AskedOnce (S.asked store.old) (S.asked store.new) want.now.id.0 }
     ensures queries { S.queried store.new ≡ S.queried store.old }
     ensures faults { S.faults store.old ≤ S.faults store.new }
@@ -59,7 +61,7 @@ pub fn ask_each<S: Store>(
     ensures found { IfOk result (λ n. GivenBy S.said S.faults S.may_lack_memory want.now (take n out.new)
         stores.old stores.new) }
     ensures err { IfErr result (RefusesFrom S.said S.faults S.may_lack_memory want.now number stores.old stores.new) }
-    ensures kept { KeepsStores S.holds S.folder S.place S.said S.faults stores.old stores.new }
+    ensures kept { KeepsStores S.Store (λ a. a ≡ Get want.now.id.0) stores.old stores.new }
     ensures asks { EachOnce S.asked want.now.id.0 stores.old stores.new }
     ensures queries { map S.queried stores.new ≡ map S.queried stores.old }
 {

@@ -3,6 +3,7 @@
 ghost use Rattle.std.specs.Prelude.{◌≡◌, ℕ, List, ◌<◌, ◌≤◌, ◌^◌, length, take, map, Option, Some, IfSome, IfOk, IfErr};
 ghost use Rattle.std.specs.Prelude.{IsTrue, vec_len, slice_index, is_some, false};
 ghost use Rattle.std.specs.List.{All, list_any};
+ghost use Rattle.chunk_store.specs.Asks.{Get, Has};
 ghost use Rattle.chunk_store.specs.declared.id.DigestKind.TheVariants as kinds;
 ghost use Rattle.dsy_base.specs.Counts.{Rose};
 ghost use Rattle.dsy_base.specs.Maps.{Map};
@@ -104,7 +105,7 @@ impl<S: Store> Chain<S> {
         ensures cause { (s : ℕ) → result ≡ Err (Refused.StoreFault s) →
             Rose (slice_index (map S.faults self.old.stores) s) (slice_index (map S.faults self.new.stores) s) }
 
-        ensures kept { KeepsStores S.holds S.folder S.place S.said S.faults self.old.stores self.new.stores }
+        ensures kept { KeepsStores S.Store (λ a. a ≡ Get id.now.0) self.old.stores self.new.stores }
         ensures asks { AsksOnce S.asked S.queried id.now.0 self.old self.new }
     {
         let want = Want::of(self.kind, id, size, out.len());
@@ -124,7 +125,7 @@ impl<S: Store> Chain<S> {
         ensures cause { (s : ℕ) → result ≡ Err (HasFault.StoreFault s) →
             Rose (slice_index (map S.faults self.old.stores) s) (slice_index (map S.faults self.new.stores) s) }
 
-        ensures kept { KeepsStores S.holds S.folder S.place S.said S.faults self.old.stores self.new.stores }
+        ensures kept { KeepsStores S.Store (λ a. a ≡ Has id.now.0) self.old.stores self.new.stores }
         ensures asks { AsksNone S.asked self.old self.new }
         ensures queries { EachOnce S.queried id.now.0 self.old.stores self.new.stores }
     {

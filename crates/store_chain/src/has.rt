@@ -3,6 +3,7 @@
 ghost use Rattle.std.specs.Prelude.{◌≡◌, ℕ, List, ◌+◌, ◌^◌, ◌<◌, ◌≤◌, length, map, Some, IfSome, IfOk, IfErr, is_some};
 ghost use Rattle.std.specs.Prelude.{false};
 ghost use Rattle.std.specs.List.{All, list_any};
+ghost use Rattle.chunk_store.specs.Asks.{Has, Sends};
 ghost use Rattle.chunk_store.specs.Said.{KeepsOf, AskedOnce};
 ghost use Rattle.dsy_base.specs.Maps.{Map};
 ghost use Rattle.store_chain.specs.Chains.{EachOnce, KeepsStores};
@@ -22,6 +23,7 @@ fn has_one<S: Store>(store: &mut S, number: u32, id: &ChunkId) -> Result<bool, H
     ensures files { S.folder store.new ≡ S.folder store.old }
     ensures place { S.place store.new ≡ S.place store.old }
     ensures said { (q : List ℕ) → KeepsOf (S.said store.old) (S.said store.new) q }
+    ensures sends { Sends (λ a. a ≡ Has id.now.0) (S.sent store.old) (S.sent store.new) }
     ensures asks { S.asked store.new ≡ S.asked store.old }
     ensures queries { AskedOnce (S.queried store.old) (S.queried store.new) id.now.0 }
     ensures faults { S.faults store.old ≤ S.faults store.new }
@@ -40,7 +42,7 @@ pub fn has_each<S: Store>(stores: &mut [S], number: u32, id: &ChunkId) -> Result
         IfOk result (λ b. b ≡ list_any (λ m. is_some (m id.now.0)) maps) }
     ensures absent { result ≡ Ok false → All (λ s. (S.said s).denied id.now.0) stores.new }
     ensures err { IfErr result (HasFailsFrom S.said S.faults id.now.0 S.may_lack_memory number stores.old stores.new) }
-    ensures kept { KeepsStores S.holds S.folder S.place S.said S.faults stores.old stores.new }
+    ensures kept { KeepsStores S.Store (λ a. a ≡ Has id.now.0) stores.old stores.new }
     ensures asks { map S.asked stores.new ≡ map S.asked stores.old }
     ensures queries { EachOnce S.queried id.now.0 stores.old stores.new }
 {

@@ -1,4 +1,5 @@
 use Rattle.std.proofs.Common.{◌≡◌, length, ap, ◌∙◌, sym, arith}
+use Rattle.chunk_store.specs.Asks.{Has}
 use Rattle.store_chain.specs.Chains.{Chained}
 use Rattle.store_chain.proofs.Chained.{kept_in, once_in, written_back}
 use Rattle.store_chain.proofs.Had.{has_cause_in, has_fails_in}
@@ -23,7 +24,7 @@ returns-clause-kept g c =
     let size : length c.has_each.new.stores ≡ c.self.inside.stores.len = omega (arith, c.has_each.auto.stores, c.as_mut_slice.ensures.len) in
     let new = written_back c.has_each.new.stores c.self.inside.stores.items c.self.inside.stores.len size in
     let old : c.as_mut_slice.result.now ≡ c.args.self.now.stores = c.as_mut_slice.ensures.value ∙ ap (λ (v : Chained g.row.S.Denot). v.stores) c.self.view_is in
-    kept_in c.as_mut_slice.result.now c.args.self.now.stores c.has_each.new.stores _ old (sym new) g.S.Store.holds g.S.Store.folder g.S.Store.place g.S.Store.said g.S.Store.faults c.has_each.ensures.kept
+    kept_in c.as_mut_slice.result.now c.args.self.now.stores c.has_each.new.stores _ old (sym new) g.S.Store (λ a. a ≡ Has c.args.id.now.0) (λ a. a ≡ Has c.args.id.now.0) (λ a same. same) c.has_each.ensures.kept
 
 pub returns-clause-queries : goal.returns-clause-queries
 returns-clause-queries g c =

@@ -1,4 +1,5 @@
 use Rattle.std.proofs.Common.{◌≡◌, ℕ, List, length, ap, subst, ◌∙◌, sym, refl, arith}
+use Rattle.chunk_store.specs.Asks.{Get}
 use Rattle.dsy_base.specs.Counts.{raised}
 use Rattle.store_chain.specs.Wants.{want_of}
 use Rattle.store_chain.specs.Chains.{Chained, EachOnce}
@@ -66,7 +67,8 @@ returns-clause-kept g c =
     let size : length c.ask_each.new.stores ≡ c.self.inside.stores.len = omega (arith, c.ask_each.auto.stores, c.as_mut_slice.ensures.len) in
     let new = written_back c.ask_each.new.stores c.self.inside.stores.items c.self.inside.stores.len size in
     let old : c.as_mut_slice.result.now ≡ c.args.self.now.stores = c.as_mut_slice.ensures.value ∙ ap (λ (v : Chained g.row.S.Denot). v.stores) c.self.view_is in
-    kept_in c.as_mut_slice.result.now c.args.self.now.stores c.ask_each.new.stores _ old (sym new) g.S.Store.holds g.S.Store.folder g.S.Store.place g.S.Store.said g.S.Store.faults c.ask_each.ensures.kept
+    let asked : c.of-want.result.id.0 ≡ c.args.id.now.0 = ap (λ (w : Want). w.id.0) c.of-want.ensures in
+    kept_in c.as_mut_slice.result.now c.args.self.now.stores c.ask_each.new.stores _ old (sym new) g.S.Store (λ a. a ≡ Get c.of-want.result.id.0) (λ a. a ≡ Get c.args.id.now.0) (λ a same. same ∙ ap Get asked) c.ask_each.ensures.kept
 
 pub returns-clause-asks : goal.returns-clause-asks
 returns-clause-asks g c =
