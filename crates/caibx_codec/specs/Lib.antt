@@ -1,4 +1,5 @@
 pub mod Listing
+pub mod Asks
 pub mod Spelling
 pub mod Judge
 pub mod Reading
