@@ -17,8 +17,6 @@ mod form_tests;
 #[cfg(test)]
 mod index_tests;
 #[cfg(test)]
-mod ledger_tests;
-#[cfg(test)]
 mod link_tests;
 #[cfg(test)]
 mod plan_tests;

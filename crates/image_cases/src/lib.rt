@@ -24,6 +24,8 @@ mod images;
 #[cfg(test)]
 mod indexes;
 #[cfg(test)]
+mod ledger_tests;
+#[cfg(test)]
 mod store_tests;
 #[cfg(test)]
 mod storing_tests;

@@ -1,4 +1,5 @@
 pub mod Extents
+pub mod Fills
 pub mod Machine
 pub mod Runs
 pub mod Steps

@@ -3,6 +3,7 @@
 
 mod entries;
 pub mod laws;
+pub mod ledger;
 pub mod run;
 pub mod shard;
 pub mod unread;

@@ -18,6 +18,15 @@ is_settled fate.Seeded = true
 is_settled fate.Cached = true
 is_settled fate.Fetched = true
 
+-- the fates of entries that were made right
+abbrev pub is_made : Fate → Bool
+is_made fate.Open = false
+is_made fate.Kept = false
+is_made fate.Copied = true
+is_made fate.Seeded = true
+is_made fate.Cached = true
+is_made fate.Fetched = true
+
 -- the fate of entry i, which is open where there is none
 abbrev pub fate_at : List Fate → ℕ → Fate
 fate_at fates i = get_or fates i fate.Open

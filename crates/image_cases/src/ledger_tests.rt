@@ -4,7 +4,7 @@ ghost use Rattle.std.specs.Prelude.{◌≡◌, ℕ, false, true};
 ghost use Rattle.range_ledger.specs.Runs.{IsDealt};
 
 use crate::compare::{ok, same};
-use crate::plan_tests::index;
+use crate::indexes::index_of_pieces;
 use byte_forms::mem_target::MemTarget;
 use byte_forms::ranges::RangeFails;
 use caibx_codec::index::Index;
@@ -110,7 +110,7 @@ fn a_shard_settles_reads_skips_and_tears(rt: HostRuntime) {
         b"a", b"b", b"c", b"d", b"e", b"f", b"g", b"h", b"i", b"j", b"k", b"l", b"m", b"n", b"o",
         b"p",
     ];
-    let index = index(&rt, alloc, &chunks);
+    let index = index_of_pieces(&rt, alloc, &chunks);
     let plan = ok(&rt, Plan::of(alloc, &index, 1));
     let mut fails = RangeFails::none(alloc);
     fails.writes = ok(&rt, vec![in alloc; (1u64, 1u32)]);

@@ -1,6 +1,6 @@
 use Rattle.std.proofs.Common.{[], true, false}
 use Rattle.extract_plan.specs.Deal.{deal_shards}
-use Rattle.chunk_cases.proofs.ledger_tests.a_shard_settles_reads_skips_and_tears.Given as goal
+use Rattle.image_cases.proofs.ledger_tests.a_shard_settles_reads_skips_and_tears.Given as goal
 
 -- the run of the index and its plan, in which each entry may be filled, of a target that tells nothing
 abbrev pub ghosts-settles_reads_skips_and_tears : goal.ghosts-settles_reads_skips_and_tears
