@@ -4,6 +4,7 @@ ghost use Rattle.std.specs.Prelude.{◌≡◌, ◌⊎◌, ℕ, List, ◌≤◌, 
 ghost use Rattle.store_chain.specs.Giving.{SomeHolds};
 ghost use Rattle.cache_store.specs.Shelves.{KeepsShelf, held_on, Stocks, shelf_of};
 ghost use Rattle.cache_store.specs.Through.{AddedTo, Unfound, FromShelf, FromStores};
+ghost use Rattle.chunk_store.specs.Asks.{Get};
 ghost use Rattle.chunk_store.specs.Names.{name_of};
 ghost use Rattle.store_chain.specs.Chains.{KeepsStores};
 ghost use Rattle.store_chain.specs.Wants.{IsGiven, IsWanted, want_of};
@@ -108,7 +109,7 @@ pub fn obtain_through<F: Folder, S: Store>(
     ensures stocks { Stocks (λ q b. (q ≡ id.now.0) × IsWanted (want_of chain.old.kind id.now size (length out.old)) b
         × SomeHolds S.holds chain.old.stores q b) (shelf_of F.files F.place F.faults shelf.old)
         (shelf_of F.files F.place F.faults shelf.new) }
-    ensures stores { KeepsStores S.holds S.folder S.place S.said S.faults chain.old.stores chain.new.stores }
+    ensures stores { KeepsStores S.Store (λ a. a ≡ Get id.now.0) chain.old.stores chain.new.stores }
     ensures kind { chain.new.kind ≡ chain.old.kind }
 {
     if let Some(n) = find_first(shelf, id, size, out)? {
@@ -180,8 +181,7 @@ impl<F: Folder, S: Store> Cached<F, S> {
             × IsWanted (want_of self.old.chain.kind id.now size (length out.old)) b
             × SomeHolds S.holds self.old.chain.stores q b) (shelf_of F.files F.place F.faults self.old.shelf)
             (shelf_of F.files F.place F.faults self.new.shelf) }
-        ensures stores { KeepsStores S.holds S.folder S.place S.said S.faults self.old.chain.stores
-            self.new.chain.stores }
+        ensures stores { KeepsStores S.Store (λ a. a ≡ Get id.now.0) self.old.chain.stores self.new.chain.stores }
         ensures kind { self.new.chain.kind ≡ self.old.chain.kind }
     {
         obtain_through(&mut self.shelf, &mut self.chain, id, size, out)

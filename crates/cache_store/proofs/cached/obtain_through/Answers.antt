@@ -3,6 +3,7 @@ use Rattle.cache_store.proofs.Fetched.{added_from, added_wanted, ok_err, unfound
 use Rattle.cache_store.proofs.Stocked.{stocks_looked, stocks_on, stocks_weaker}
 use Rattle.cache_store.specs.Shelves.{Shelf, shelf_of}
 use Rattle.cache_store.specs.Through.{AddedTo, Unfound}
+use Rattle.chunk_store.specs.Asks.{Get}
 use Rattle.chunk_store.specs.declared.id.DigestKind.{DigestKind}
 use Rattle.dsy_base.specs.Maps.{Map}
 use Rattle.store_chain.proofs.Kept.{kept_still}
@@ -12,10 +13,10 @@ use Rattle.store_chain.specs.Wants.{IsWanted, want_of}
 use Rattle.cache_store.proofs.cached.obtain_through.Goals as goal
 
 pub returns-in_err-n-clause-stores : goal.returns-in_err-n-clause-stores
-returns-in_err-n-clause-stores g c = kept_still g.S.Store.holds g.S.Store.folder g.S.Store.place g.S.Store.said g.S.Store.faults c.args.chain.now.stores
+returns-in_err-n-clause-stores g c = kept_still g.S.Store (λ a. a ≡ Get c.args.id.now.0) c.args.chain.now.stores
 
 pub returns-in-Some-clause-stores : goal.returns-in-Some-clause-stores
-returns-in-Some-clause-stores g c = kept_still g.S.Store.holds g.S.Store.folder g.S.Store.place g.S.Store.said g.S.Store.faults c.args.chain.now.stores
+returns-in-Some-clause-stores g c = kept_still g.S.Store (λ a. a ≡ Get c.args.id.now.0) c.args.chain.now.stores
 
 pub returns-clause-ends : goal.returns-clause-ends
 returns-clause-ends g c =
