@@ -3,6 +3,7 @@ pub mod Heads
 pub mod Bodies
 pub mod Given
 pub mod Ended
+pub mod Sending
 pub mod Called
 pub mod OneThing
 pub mod Asked

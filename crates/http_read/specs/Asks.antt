@@ -1,8 +1,10 @@
 -- What a store sends to its server: the head of an ask, and after that of a PUT the chunk. Which paths there are is
 -- this project's own.
-use Rattle.std.specs.Prelude.{◌≡◌, ℕ, ◌≤◌, List, [], ◌∷◌, ◌++◌, length, take, Option, Some, None, Bool, codes}
+use Rattle.std.specs.Prelude.{◌≡◌, ℕ, ◌≤◌, List, [], ◌∷◌, ◌++◌, length, map, take, Option, Some, None, Bool, codes}
 use Rattle.std.specs.List.{count_by}
+use Rattle.std.specs.Option.{option_map}
 use Rattle.std.specs.Str.{bytes_eq}
+use Rattle.chunk_store.specs.Asks.{Ask, Get, Has, Put, Sent}
 use Rattle.chunk_store.specs.Paths.{path_of}
 use Rattle.dsy_base.specs.Links.{Traffic}
 use Rattle.http_wire.specs.Ask.{ask, method_name}
@@ -34,6 +36,16 @@ asks_head s id = asks s method.Head id []
 
 abbrev pub asks_put : Server → List ℕ → List ℕ → List ℕ
 asks_put s id b = asks s method.Put id b
+
+-- the whole request for what a store is asked
+abbrev pub request_of : Server → Ask → List ℕ
+request_of s (Get id) = asks_get s id
+request_of s (Has id) = asks_head s id
+request_of s (Put id b) = asks_put s id b
+
+-- what was sent to the server on the connections that have ended, where they are told
+abbrev pub sent_on : Server → Option (List Traffic) → Sent
+sent_on s ended = record { spells = request_of s; ended = option_map (map (λ t. t.sent)) ended }
 
 -- a front of these bytes was sent
 abbrev pub IsFront : List ℕ → List ℕ → Type 0

@@ -246,7 +246,7 @@ impl<D: Dial> HttpStore<D> {
 }
 
 impl<D: Dial> Store for HttpStore<D> {
-    ghost use Rattle.http_read.specs.Asks.{place_of, times_asked};
+    ghost use Rattle.http_read.specs.Asks.{place_of, sent_on, times_asked};
     ghost use Rattle.std.specs.Prelude.{None, false, true};
     ghost use Rattle.std.proofs.Common.{rules};
     ghost use Rattle.http_read.specs.Remotes.{faults_of, log_of, said_on};
@@ -255,6 +255,8 @@ impl<D: Dial> Store for HttpStore<D> {
     ghost holds = { λ _. None };
 
     ghost said = { λ s. said_on s.server (D.state s.dial).ended };
+
+    ghost sent = { λ s. sent_on s.server (D.state s.dial).ended };
 
     ghost asked = { λ s. times_asked s.server methods.Get (D.state s.dial).ended };
 

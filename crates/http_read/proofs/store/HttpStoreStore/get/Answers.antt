@@ -1,6 +1,7 @@
 use Rattle.std.proofs.Common.{ℕ, length, take, sym, subst}
 use Rattle.std.specs.List.{Any}
 use Rattle.std.specs.Prelude.{IfSome}
+use Rattle.chunk_store.specs.Asks.{Get, Sends}
 use Rattle.chunk_store.specs.Said.{KeepsOf}
 use Rattle.chunk_store.specs.declared.store.GetFault.{GetFault}
 use Rattle.http_read.proofs.Ended.{said_kept, said_of_added}
@@ -11,7 +12,8 @@ use Rattle.http_read.proofs.store.HttpStoreStore.get.Goals as goal
 use Rattle.std.specs.Prelude.{◌≡◌, []}
 use Rattle.chunk_store.specs.Said.{AskedOnce}
 use Rattle.http_read.proofs.Asked.{asked_once, asked_none}
-use Rattle.http_read.specs.Asks.{times_asked}
+use Rattle.http_read.proofs.Sending.{sends_one}
+use Rattle.http_read.specs.Asks.{sent_on, times_asked}
 use Rattle.http_wire.specs.declared.reply.Method.TheVariants as method
 
 pub returns-clause-ok : goal.returns-clause-ok
@@ -52,3 +54,10 @@ returns-clause-queries g c =
     let old = times_asked c.args.self.now.server method.Head (g.D.Dial.state c.args.self.now.dial).ended in
     subst (λ s. times_asked s method.Head (g.D.Dial.state c.fetch.new.self.dial).ended ≡ old) (sym c.fetch.ensures.server)
     (asked_none c.args.self.now.server method.Get c.args.id.now.0 [] c.id_has_32_bytes.ensures.size method.Head (λ same. absurd (cc)) _ _ c.fetch.ensures.calls.ended)
+
+pub returns-clause-sends : goal.returns-clause-sends
+returns-clause-sends g c =
+    let ask = Get c.args.id.now.0 in
+    let old = sent_on c.args.self.now.server (g.D.Dial.state c.args.self.now.dial).ended in
+    subst (λ s. Sends (λ a. a ≡ ask) old (sent_on s (g.D.Dial.state c.fetch.new.self.dial).ended)) (sym c.fetch.ensures.server)
+    (sends_one c.args.self.now.server ask _ _ c.fetch.ensures.calls.ended)

@@ -1,11 +1,13 @@
 use Rattle.std.proofs.Common.{sym, subst}
+use Rattle.chunk_store.specs.Asks.{Put, Sends}
 use Rattle.chunk_store.specs.Said.{KeepsOf}
 use Rattle.http_read.proofs.Ended.{said_kept}
 use Rattle.http_read.specs.Remotes.{said_on}
 use Rattle.http_read.proofs.store.HttpStoreStoreWrite.put.Goals as goal
 use Rattle.std.specs.Prelude.{◌≡◌}
 use Rattle.http_read.proofs.Asked.{asked_none}
-use Rattle.http_read.specs.Asks.{times_asked}
+use Rattle.http_read.proofs.Sending.{sends_one}
+use Rattle.http_read.specs.Asks.{sent_on, times_asked}
 use Rattle.http_wire.specs.declared.reply.Method.TheVariants as method
 
 pub returns-clause-said : goal.returns-clause-said
@@ -25,3 +27,10 @@ returns-clause-queries g c =
     let old = times_asked c.args.self.now.server method.Head (g.D.Dial.state c.args.self.now.dial).ended in
     subst (λ s. times_asked s method.Head (g.D.Dial.state c.send.new.self.dial).ended ≡ old) (sym c.send.ensures.server)
     (asked_none c.args.self.now.server method.Put c.args.id.now.0 c.args.b.now c.id_has_32_bytes.ensures.size method.Head (λ same. absurd (cc)) _ _ c.send.ensures.calls.ended)
+
+pub returns-clause-sends : goal.returns-clause-sends
+returns-clause-sends g c =
+    let ask = Put c.args.id.now.0 c.args.b.now in
+    let old = sent_on c.args.self.now.server (g.D.Dial.state c.args.self.now.dial).ended in
+    subst (λ s. Sends (λ a. a ≡ ask) old (sent_on s (g.D.Dial.state c.send.new.self.dial).ended)) (sym c.send.ensures.server)
+    (sends_one c.args.self.now.server ask _ _ c.send.ensures.calls.ended)
