@@ -64,6 +64,7 @@ check 'labels of clauses that CONTRIBUTING.md does not list' "$(python3 tests/na
 check 'names in documents that are nowhere else' "$(python3 tests/names.py names 2>&1)"
 check 'definitions that docs/DEFINITIONS.md does not read aloud' "$(python3 tests/names.py reached 2>&1)"
 check 'definitions that have no sentence' "$(python3 tests/names.py comments 2>&1)"
+check 'calls that are imported by another name' "$(python3 tests/names.py aliases 2>&1)"
 check 'what docs/desync.1 says otherwise than docs/COMMANDS.md' "$(tests/manual.py 2>&1)"
 if type -P groff > /dev/null; then
     check 'warnings of groff at docs/desync.1' "$(groff -man -Tutf8 -ww -z docs/desync.1 2>&1)"

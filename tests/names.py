@@ -20,6 +20,8 @@ FUNCTION = re.compile(r'\s*(?:pub(?:\(\w+\))? )?fn (\w+)')
 DEFINITION = re.compile(r'^( *)(?:(?:abbrev|unfoldable) )?pub ((?:record|data) )?(?!mod |◌)(\w+)')
 IMPORT = re.compile(r'^(?:ghost )?use Rattle\.(\w+)\.specs\.(\w+)\.\{([^}]*)\}', re.MULTILINE)
 MOST_LINES, MOST_BODY = 1500, 40
+# Names of specs/ that several modules define, which modules these are, and why they may share it.
+SHARED = {}
 NAME = re.compile(r'[a-z][a-z0-9]*(?:_[a-z0-9]+)+|[A-Z][a-z0-9]+(?:[A-Z][a-z0-9]*)+')
 
 
@@ -217,16 +219,24 @@ def definitions_without_a_comment():
                     yield f'{path}:{number}: {name}'
 
 
-def definitions_with_one_name():
-    """Names that definitions of several modules have. The forms in memory with and without failing calls share
-    theirs."""
+def names_with_two_meanings():
+    """Names that definitions of several modules have, but for SHARED. The modules of dsy_sure say of forms in memory
+    that never fail what those of byte_forms and dsy_forms say of forms that may fail, with the same names."""
     found = {}
     for (crate, module), (_, defined) in modules().items():
         for name in defined:
-            found.setdefault(name, set()).add(f'{crate}.{module}'.replace('dsy_sure.Sure', 'dsy_forms.Mem'))
+            place = re.sub(r'^dsy_sure.Sure|^(?:byte|dsy)_forms.Mem', 'forms.', f'{crate}.{module}')
+            found.setdefault(name, set()).add(place)
     for name, places in sorted(found.items()):
-        if len(places) > 1:
+        if len(places) > 1 and places != SHARED.get(name, ((), ''))[0]:
             yield f'{name}: {", ".join(sorted(places))}'
+    yield from (f'tests/names.py: {name} is not shared' for name in SHARED if found.get(name) != SHARED[name][0])
+
+
+def calls_with_an_alias():
+    for path in (path for crate in crates() for path in files(f'crates/{crate}/src', endings='.rt')):
+        for imported in re.findall(r'^ *(?:pub )?use ([^;]*);', text_of(path), re.MULTILINE):
+            yield from (f'{path}: {name}' for name in re.findall(r'\b\w+ as [a-z]\w*', imported))
 
 
 def crates_named_in_vain():
@@ -273,8 +283,8 @@ def body_of(lines, start, indent):
 
 QUESTIONS = {'labels': labels_that_are_not_there, 'list': labels_that_are_not_listed, 'names': names_that_are_not_there,
              'crates': crates_that_no_table_has, 'reached': definitions_that_are_not_read_aloud,
-             'comments': definitions_without_a_comment, 'twice': definitions_with_one_name,
-             'vain': crates_named_in_vain, 'long': crates_that_are_too_long, 'bodies': bodies_that_are_too_long}
+             'comments': definitions_without_a_comment, 'twice': names_with_two_meanings,
+             'aliases': calls_with_an_alias, 'vain': crates_named_in_vain, 'long': crates_that_are_too_long, 'bodies': bodies_that_are_too_long}
 
 if __name__ == '__main__':
     print('\n'.join(QUESTIONS[sys.argv[1]]()))

@@ -23,7 +23,7 @@ use Rattle.dsy_base.specs.Counts.{Rose}
 use Rattle.dsy_base.specs.Maps.{Map}
 use Rattle.extract_plan.specs.Deal.{AreWants, Deal, first_of, of_want, want_id}
 use Rattle.extract_plan.specs.Places.{Placed, places_at}
-use Rattle.extract_plan.specs.Seeds.{faults_in, held_in}
+use Rattle.extract_plan.specs.Seeds.{faults_in, seed_held}
 use Rattle.extract_plan.specs.declared.seed.Seed.{Seed}
 use Rattle.extract_plan.specs.declared.seed.SeedPlace.{SeedPlace}
 use Rattle.range_survey.specs.declared.fate.Fate.{Fate}
@@ -182,8 +182,8 @@ module _ {S V : Type 0} (holds : S → Option (Map (List ℕ))) (view : V → He
   spared_never asked queried m a b s0 s1 e0 e1 c0 c1 w (inl ((j, among, is), quiet)) last = quiet_never a b quiet (last.copies j among is)
   spared_never asked queried m a b s0 s1 e0 e1 c0 c1 w (inr (inl (k, p, inside, at, (has, quiet)))) last =
       let counts : List (Seed V) → SeedPlace → ℕ = λ s y. slice_index (map (faults_in view_faults) s) y.seed in
-      let failed : HeldAt (map (held_in view) s0) p (want_id l d w) → Rose (counts s0 p) (counts s1 p) =
-      subst (λ y. HeldAt (map (held_in view) s0) y (want_id l d w) → Rose (counts s0 y) (counts s1 y)) at (last.seeds k p inside) in
+      let failed : HeldAt (map (seed_held view) s0) p (want_id l d w) → Rose (counts s0 p) (counts s1 p) =
+      subst (λ y. HeldAt (map (seed_held view) s0) y (want_id l d w) → Rose (counts s0 y) (counts s1 y)) at (last.seeds k p inside) in
       quiet_never (counts s0 p) (counts s1 p) quiet (failed has)
   spared_never asked queried m a b s0 s1 e0 e1 c0 c1 w (inr (inr gives)) last = cache_never holds l c0.stores (want_id l d w) (size_of l (first_of d w)) e0 e1 gives last.cache
 

@@ -41,7 +41,7 @@ use Rattle.dsy_base.specs.Counts.{Rose}
 use Rattle.dsy_base.specs.Maps.{Map}
 use Rattle.extract_plan.specs.Deal.{of_want, AreWants, Deal}
 use Rattle.extract_plan.specs.Places.{Placed, places_at}
-use Rattle.extract_plan.specs.Seeds.{faults_in, held_in}
+use Rattle.extract_plan.specs.Seeds.{faults_in, seed_held}
 use Rattle.extract_plan.specs.declared.seed.Seed.{Seed}
 use Rattle.range_survey.specs.Fates.{FirstFates, is_right_at, settled}
 use Rattle.range_survey.specs.declared.fate.Fate.{Fate}
@@ -146,14 +146,14 @@ module _ {S V : Type 0} (holds folder : S → Option (Map (List ℕ))) (place : 
     pub left : IfErr r (λ y. (y ≡ faults.Memory) ⊎ (Rose b c ⊎ ((i : ℕ) → i < count_of l → settled n i ≡ false → (lost : Lost)
         × (want_at d lost.entry ≡ want_at d i) × LostOver m b c k j e f lost)))
     pub torn : r ≡ Err faults.TargetFault → EndsTorn l d m n (λ i. WhereTold o t (λ y. FillsTorn l m n b c i (resized y (image_length l))))
-    pub had : Telling tells (map (held_in view) k.seeds.items) → (cached maps : List (Map (List ℕ))) → cached_in e ≡ Some cached → map holds k.chain.stores ≡ map Some maps
-        → (i : ℕ) → i < count_of l → settled n i ≡ true → HadAt l d x m (map (held_in view) k.seeds.items) (cached ++ maps) i
+    pub had : Telling tells (map (seed_held view) k.seeds.items) → (cached maps : List (Map (List ℕ))) → cached_in e ≡ Some cached → map holds k.chain.stores ≡ map Some maps
+        → (i : ℕ) → i < count_of l → settled n i ≡ true → HadAt l d x m (map (seed_held view) k.seeds.items) (cached ++ maps) i
     pub asks : PassesAsk holds asked view view_faults l d x m b c k j e f
     pub firsts : FirstFates m (count_of l)
     pub stocked : Stocked (TakesWants holds l d (λ w. w < d.wants) k.chain.stores) e f
     pub exactly : (cached maps : List (Map (List ℕ)))
         → NothingFails holds folder place said store_faults lacks_memory view view_faults l d x tells b c k j e f cached maps → HaveOneSize l e cached maps
-        → UnlessMemory (AssembledBy (source_over l d x (settled m) (map (held_in view) k.seeds.items) cached maps) d.wants (count_of l) m n k.chain j.chain) r
+        → UnlessMemory (AssembledBy (source_over l d x (settled m) (map (seed_held view) k.seeds.items) cached maps) d.wants (count_of l) m n k.chain j.chain) r
 
   module _ (o t : Option (List ℕ)) (a b c : ℕ) (m n : List Fate) (e f : Option Shelf) (j k h : Kit S V) where
     -- ---- bytes
@@ -227,14 +227,14 @@ module _ {S V : Type 0} (holds folder : S → Option (Map (List ℕ))) (place : 
 
     -- ---- whatever fails
 
-    module _ (cached maps : List (Map (List ℕ))) (telling : Telling tells (map (held_in view) k.seeds.items)) (told_cache : cached_in e ≡ Some cached) (told : map holds k.chain.stores ≡ map Some maps) where
+    module _ (cached maps : List (Map (List ℕ))) (telling : Telling tells (map (seed_held view) k.seeds.items)) (told_cache : cached_in e ≡ Some cached) (told : map holds k.chain.stores ≡ map Some maps) where
       abbrev Can : List ℕ → ℕ → Type 0
-      Can y i = IsObtainable l d x (resized y (image_length l)) (map (held_in view) k.seeds.items) (cached ++ maps) i
+      Can y i = IsObtainable l d x (resized y (image_length l)) (map (seed_held view) k.seeds.items) (cached ++ maps) i
 
       -- what is settled can be had
       can : (r : Result Unit ExtractFault) → Ran o t a b c m n e f j r (with_buffer k h) → (y : List ℕ) → Surveyed l m a b (resized y (image_length l))
           → (i : ℕ) → i < count_of l → settled n i ≡ true → Can y i
-      can r ran y over i inside is = obtainable l d x ran.wants m a b c ran.ab ran.bc (resized y (image_length l)) over (map (held_in view) k.seeds.items) (cached ++ maps) i inside
+      can r ran y over i inside is = obtainable l d x ran.wants m a b c ran.ab ran.bc (resized y (image_length l)) over (map (seed_held view) k.seeds.items) (cached ++ maps) i inside
           (ran.had telling cached maps told_cache told i inside is)
 
       pub only_ok : (u : Unit {0}) (r : Report) → Ran o t a b c m n e f j (Ok u) (with_buffer k h) → WhereTold o t (λ y z. OnlyObtainable l (Can y) (Rose a c) (Ok r) y z)
@@ -255,7 +255,7 @@ module _ {S V : Type 0} (holds folder : S → Option (Map (List ℕ))) (place : 
     module _ (cached maps : List (Map (List ℕ))) (nothing : NothingFails holds folder place said store_faults lacks_memory view view_faults l d x tells a c k j e f cached maps)
         (one : HaveOneSize l e cached maps) where
       abbrev Has : List ℕ → ℕ → Type 0
-      Has y i = IsObtainable l d x (resized y (image_length l)) (map (held_in view) k.seeds.items) (cached ++ maps) i
+      Has y i = IsObtainable l d x (resized y (image_length l)) (map (seed_held view) k.seeds.items) (cached ++ maps) i
 
       -- the stores didn't fail in the call that refused
       sound : (r : Result Unit ExtractFault) → Ran o t a b c m n e f j r (with_buffer k h) → (lost : Lost) → LostOver m b c (with_buffer k h) j e f lost
@@ -272,9 +272,9 @@ module _ {S V : Type 0} (holds folder : S → Option (Map (List ℕ))) (place : 
       never r ran y over lost is (inl alike) told =
           quiet_never a c nothing.target (copies l d x ran.wants m a b c ran.ab ran.bc (resized y (image_length l)) over lost.entry is.listed is.copies alike)
       never r ran y over lost is (inr (inl seeds)) told =
-          seeds_never (map (held_in view) k.seeds.items) (places_at x (want_at d lost.entry)) lost.id.0 (map (faults_in view_faults) k.seeds.items)
+          seeds_never (map (seed_held view) k.seeds.items) (places_at x (want_at d lost.entry)) lost.id.0 (map (faults_in view_faults) k.seeds.items)
           (map (faults_in view_faults) j.seeds.items) nothing.seeds is.seeds
-          (subst (λ q. SeedsGive (map (held_in view) k.seeds.items) (places_at x (want_at d lost.entry)) q) (sym is.id_is) seeds)
+          (subst (λ q. SeedsGive (map (seed_held view) k.seeds.items) (places_at x (want_at d lost.entry)) q) (sym is.id_is) seeds)
       never r ran y over lost is (inr (inr given)) told = elim (gives_part (kind_of l) (id_of l lost.entry) (size_of l lost.entry) cached maps given) [
         | inl cache ↦
             let T = TakesWants holds l d (λ w. w < d.wants) k.chain.stores in
@@ -346,7 +346,7 @@ module _ {S V : Type 0} (holds folder : S → Option (Map (List ℕ))) (place : 
           | inr isnt ↦
               let lost = left i inside isnt in
               absurd (never (Err why) ran y over lost.0 lost.2
-              (obtainable_as l d x ran.wants (resized y (image_length l)) (map (held_in view) k.seeds.items) (cached ++ maps) i lost.0.entry inside lost.2.listed lost.1 has)
+              (obtainable_as l d x ran.wants (resized y (image_length l)) (map (seed_held view) k.seeds.items) (cached ++ maps) i lost.0.entry inside lost.2.listed lost.1 has)
               (tells_of lost.0.refused lost.2.had_memory))
         ],
         untouched (Err why) ran y z over fills i inside,
@@ -362,22 +362,22 @@ module _ {S V : Type 0} (holds folder : S → Option (Map (List ℕ))) (place : 
 
       -- what was so of its source at first was so over the base
       sourced : (r : Result Unit ExtractFault) → Ran o t a b c m n e f j r (with_buffer k h) → (y : List ℕ) → Surveyed l m a b (resized y (image_length l)) → (w : ℕ)
-          → source_over l d x (settled m) (map (held_in view) k.seeds.items) cached maps w
-          ≡ source_of l d x (resized y (image_length l)) (map (held_in view) k.seeds.items) cached maps w
+          → source_over l d x (settled m) (map (seed_held view) k.seeds.items) cached maps w
+          ≡ source_of l d x (resized y (image_length l)) (map (seed_held view) k.seeds.items) cached maps w
       sourced r ran y over w =
-          source_same l d x (map (held_in view) k.seeds.items) maps w cached cached (settled m) (is_right_at l (resized y (image_length l)))
+          source_same l d x (map (seed_held view) k.seeds.items) maps w cached cached (settled m) (is_right_at l (resized y (image_length l)))
           (λ i other. settled_right l m a b (quiet_part a a b c (omega arith) ran.bc nothing.target) (resized y (image_length l)) over i
           (listed_of l d w i ran.wants other))
           refl
 
       assembled : (r : Result Unit ExtractFault) → Ran o t a b c m n e f j r (with_buffer k h) → (y : List ℕ)
           → Surveyed l m a b (resized y (image_length l))
-          → UnlessMemory (AssembledBy (source_of l d x (resized y (image_length l)) (map (held_in view) k.seeds.items) cached maps) d.wants (count_of l) m n k.chain j.chain) r
+          → UnlessMemory (AssembledBy (source_of l d x (resized y (image_length l)) (map (seed_held view) k.seeds.items) cached maps) d.wants (count_of l) m n k.chain j.chain) r
       assembled r ran y over = unless_map
-          (AssembledBy (source_over l d x (settled m) (map (held_in view) k.seeds.items) cached maps) d.wants (count_of l) m n k.chain j.chain)
-          (AssembledBy (source_of l d x (resized y (image_length l)) (map (held_in view) k.seeds.items) cached maps) d.wants (count_of l) m n k.chain j.chain) r
-          (assembled_as (source_over l d x (settled m) (map (held_in view) k.seeds.items) cached maps)
-          (source_of l d x (resized y (image_length l)) (map (held_in view) k.seeds.items) cached maps) d.wants (count_of l) m n k.chain j.chain (sourced r ran y over))
+          (AssembledBy (source_over l d x (settled m) (map (seed_held view) k.seeds.items) cached maps) d.wants (count_of l) m n k.chain j.chain)
+          (AssembledBy (source_of l d x (resized y (image_length l)) (map (seed_held view) k.seeds.items) cached maps) d.wants (count_of l) m n k.chain j.chain) r
+          (assembled_as (source_over l d x (settled m) (map (seed_held view) k.seeds.items) cached maps)
+          (source_of l d x (resized y (image_length l)) (map (seed_held view) k.seeds.items) cached maps) d.wants (count_of l) m n k.chain j.chain (sourced r ran y over))
           (ran.exactly cached maps (record {
             target = quiet_part a b c c ran.ab (omega arith) nothing.target;
             telling = nothing.telling;
@@ -389,22 +389,22 @@ module _ {S V : Type 0} (holds folder : S → Option (Map (List ℕ))) (place : 
           }) one)
 
       pub economy_err : (why : ExtractFault) → Ran o t a b c m n e f j (Err why) (with_buffer k h)
-          → IfSome o (λ y. AsksExactly (source_of l d x (resized y (image_length l)) (map (held_in view) k.seeds.items) cached maps) d.wants k.chain j.chain (Err why))
+          → IfSome o (λ y. AsksExactly (source_of l d x (resized y (image_length l)) (map (seed_held view) k.seeds.items) cached maps) d.wants k.chain j.chain (Err why))
       economy_err why ran = some_map o (λ y. Surveyed l m a b (resized y (image_length l)))
-          (λ y. AsksExactly (source_of l d x (resized y (image_length l)) (map (held_in view) k.seeds.items) cached maps) d.wants k.chain j.chain (Err why))
-          (λ y over. asks_err (source_of l d x (resized y (image_length l)) (map (held_in view) k.seeds.items) cached maps) d.wants (count_of l) m n k.chain j.chain why
+          (λ y. AsksExactly (source_of l d x (resized y (image_length l)) (map (seed_held view) k.seeds.items) cached maps) d.wants k.chain j.chain (Err why))
+          (λ y over. asks_err (source_of l d x (resized y (image_length l)) (map (seed_held view) k.seeds.items) cached maps) d.wants (count_of l) m n k.chain j.chain why
           (assembled (Err why) ran y over)) ran.over
 
       pub economy_ok : (u : Unit {0}) (r : Report) → Ran o t a b c m n e f j (Ok u) (with_buffer k h)
-          → IfSome o (λ y. AsksExactly (source_of l d x (resized y (image_length l)) (map (held_in view) k.seeds.items) cached maps) d.wants k.chain j.chain (Ok r))
+          → IfSome o (λ y. AsksExactly (source_of l d x (resized y (image_length l)) (map (seed_held view) k.seeds.items) cached maps) d.wants k.chain j.chain (Ok r))
       economy_ok u r ran = some_map o (λ y. Surveyed l m a b (resized y (image_length l)))
-          (λ y. AsksExactly (source_of l d x (resized y (image_length l)) (map (held_in view) k.seeds.items) cached maps) d.wants k.chain j.chain (Ok r))
+          (λ y. AsksExactly (source_of l d x (resized y (image_length l)) (map (seed_held view) k.seeds.items) cached maps) d.wants k.chain j.chain (Ok r))
           (λ y over. (assembled (Ok u) ran y over).calls) ran.over
 
       pub reported_ok : (u : Unit {0}) (r : Report) → Ran o t a b c m n e f j (Ok u) (with_buffer k h)
           → r.seeded ≡ tally fate.Seeded n (count_of l) → r.cached ≡ tally fate.Cached n (count_of l) → r.fetched ≡ tally fate.Fetched n (count_of l)
-          → IfSome o (λ y. ReportsExactly (source_of l d x (resized y (image_length l)) (map (held_in view) k.seeds.items) cached maps) d.wants r)
+          → IfSome o (λ y. ReportsExactly (source_of l d x (resized y (image_length l)) (map (seed_held view) k.seeds.items) cached maps) d.wants r)
       reported_ok u r ran seeded cached_is fetched = some_map o (λ y. Surveyed l m a b (resized y (image_length l)))
-          (λ y. ReportsExactly (source_of l d x (resized y (image_length l)) (map (held_in view) k.seeds.items) cached maps) d.wants r)
-          (λ y over. reports_all (source_of l d x (resized y (image_length l)) (map (held_in view) k.seeds.items) cached maps) d.wants (count_of l) m n k.chain j.chain r
+          (λ y. ReportsExactly (source_of l d x (resized y (image_length l)) (map (seed_held view) k.seeds.items) cached maps) d.wants r)
+          (λ y over. reports_all (source_of l d x (resized y (image_length l)) (map (seed_held view) k.seeds.items) cached maps) d.wants (count_of l) m n k.chain j.chain r
           ran.firsts (assembled (Ok u) ran y over) seeded cached_is fetched) ran.over

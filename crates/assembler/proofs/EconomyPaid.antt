@@ -33,7 +33,7 @@ use Rattle.range_survey.specs.Fates.{settled}
 use Rattle.range_survey.specs.declared.fate.Fate.{Fate}
 use Rattle.range_survey.specs.declared.fate.Fate.TheVariants as fate
 use Rattle.store_chain.specs.Chains.{Chained}
-use Rattle.extract_plan.specs.Seeds.{held_in}
+use Rattle.extract_plan.specs.Seeds.{seed_held}
 
 -- the source of a want that is done, and else one that costs nothing
 abbrev pub so_far : (ℕ → Bool) → (ℕ → Fate) → ℕ → Fate
@@ -130,7 +130,7 @@ module _ {T S V : Type 0} (held : T → Held) (faults : T → ℕ) (holds folder
   Nothing a k b j e f cached maps = NothingFails holds folder place said store_faults lacks_memory view view_faults l d x tells (faults a) (faults b) k j e f cached maps
 
   abbrev pub SourceFrom : Kit S V → List Fate → List (Map (List ℕ)) → List (Map (List ℕ)) → ℕ → Fate
-  SourceFrom k m cached maps = source_over l d x (settled m) (map (held_in view) k.seeds.items) cached maps
+  SourceFrom k m cached maps = source_over l d x (settled m) (map (seed_held view) k.seeds.items) cached maps
 
   -- from the target a, the kit k, the fates m and the cache e on
   pub record Paid (done : ℕ → Bool) (a : T) (k : Kit S V) (m : List Fate) (b : T) (j : Kit S V) (n : List Fate) (e f : Option Shelf) : Type 0 where
@@ -172,7 +172,7 @@ module _ {T S V : Type 0} (held : T → Held) (faults : T → ℕ) (holds folder
           → SourceFrom j n now maps w ≡ SourceFrom k m was maps w
       source_still was now maps told tells held one =
           ap (λ (views : List (Option Held)). source_over l d x (settled n) views now maps w) first.seeds.held
-          ∙ source_same l d x (map (held_in view) k.seeds.items) maps w now was (settled n) (settled m)
+          ∙ source_same l d x (map (seed_held view) k.seeds.items) maps w now was (settled n) (settled m)
           (λ y among. before.untouched y (ap done (among_of d w y among).1 ∙ wasnt))
           (give_same holds l d (λ v. done v ≡ true) k.chain.stores e f was now maps stocked told tells held wants within one w below
           (λ so. true≢false (sym so ∙ wasnt)))
@@ -231,6 +231,6 @@ module _ {T S V : Type 0} (held : T → Held) (faults : T → ℕ) (holds folder
       passed_all done (SourceFrom k m cached maps) d.wants (count_of l) m n k.chain j.chain
       (λ w less. elim (all w less) [
         | inl is ↦ inl is
-        | inr other ↦ inr (source_kept l d x (map (held_in view) k.seeds.items) maps w cached (settled m) other.0 other.1 other.2)
+        | inr other ↦ inr (source_kept l d x (map (seed_held view) k.seeds.items) maps w cached (settled m) other.0 other.1 other.2)
       ])
       (paid.passed cached maps nothing one)

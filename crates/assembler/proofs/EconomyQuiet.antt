@@ -7,7 +7,7 @@ use Rattle.chunk_sources.proofs.SeedAnswers.{telling_on}
 use Rattle.chunk_sources.specs.Sources.{SourcesQuiet}
 use Rattle.dsy_base.specs.Maps.{Map}
 use Rattle.dsy_base.specs.Bytes.{Held}
-use Rattle.extract_plan.specs.Seeds.{faults_in, held_in}
+use Rattle.extract_plan.specs.Seeds.{faults_in, seed_held}
 use Rattle.extract_plan.specs.declared.seed.Seed.{Seed}
 use Rattle.store_chain.specs.Faults.{EachQuiet, NoneFalls}
 
@@ -40,11 +40,11 @@ module _ {S V : Type 0} (holds : S → Option (Map (List ℕ))) (store_faults : 
   }
 
   pub nothing_next : a ≤ b → NoneFalls (seeds_counts s0) (seeds_counts s1) → NoneFalls (map store_faults c0) (map store_faults c1)
-      → cache_faults e0 ≤ cache_faults e1 → map holds c1 ≡ map holds c0 → map (held_in view) s1 ≡ map (held_in view) s0 → (now : List (Map (List ℕ))) → cached_in e1 ≡ Some now
+      → cache_faults e0 ≤ cache_faults e1 → map holds c1 ≡ map holds c0 → map (seed_held view) s1 ≡ map (seed_held view) s0 → (now : List (Map (List ℕ))) → cached_in e1 ≡ Some now
       → Nothing a c s0 s2 e0 e2 c0 c2 cached → Nothing b c s1 s2 e1 e2 c1 c2 now
   nothing_next ab seeds stores caches held views now there nothing = record {
     target = quiet_part a b c c ab (omega arith) nothing.target;
-    telling = telling_on tells (map (held_in view) s0) (map (held_in view) s1) views nothing.telling;
+    telling = telling_on tells (map (seed_held view) s0) (map (seed_held view) s1) views nothing.telling;
     seeds = quiet_next (seeds_counts s0) (seeds_counts s1) (seeds_counts s2) seeds nothing.seeds;
     told_cache = there;
     cache = quiet_part (cache_faults e0) (cache_faults e1) (cache_faults e2) (cache_faults e2) caches (omega arith) nothing.cache;

@@ -21,7 +21,7 @@ use Rattle.dsy_base.specs.Counts.{Rose}
 use Rattle.dsy_base.specs.Maps.{Map}
 use Rattle.extract_plan.specs.Deal.{AreWants, Deal, first_of, of_want, want_id}
 use Rattle.extract_plan.specs.Places.{Placed, places_at}
-use Rattle.extract_plan.specs.Seeds.{faults_in, held_in}
+use Rattle.extract_plan.specs.Seeds.{faults_in, seed_held}
 use Rattle.extract_plan.specs.declared.seed.SeedPlace.{SeedPlace}
 use Rattle.range_survey.specs.declared.fate.Fate.{Fate}
 use Rattle.store_chain.proofs.Kept.{kept_on, kept_still}
@@ -85,7 +85,7 @@ module _ {S V : Type 0} (holds folder : S → Option (Map (List ℕ))) (place : 
     listed = was.listed;
     id_is = was.id_is;
     copies = λ n among is. rose_still a b c le (was.copies n among is);
-    seeds = failed_wider (map (held_in view) k.seeds.items) (places_at x (want_at d lost.entry)) lost.id.0 (map (faults_in view_faults) k.seeds.items)
+    seeds = failed_wider (map (seed_held view) k.seeds.items) (places_at x (want_at d lost.entry)) lost.id.0 (map (faults_in view_faults) k.seeds.items)
         (map (faults_in view_faults) k.seeds.items) (map (faults_in view_faults) j.seeds.items) (map (faults_in view_faults) i.seeds.items)
         (λ s. omega arith) seeds.never_fall was.seeds;
     stores = record {
@@ -113,7 +113,7 @@ module _ {S V : Type 0} (holds folder : S → Option (Map (List ℕ))) (place : 
         copies = copies_wider m0 m1 (of_want d (want_at d lost.entry)) a b c c grows le (omega arith) was.copies;
         cache = lacks_since A k.chain.stores (id_of l lost.entry) (size_of l lost.entry) e f h stocked was.cache;
         seeds = subst (λ v. SeedsFailed v places lost.id.0 f0 f2) seeds.held
-            (failed_wider (map (held_in view) j.seeds.items) places lost.id.0 f0 f1 f2 f2 seeds.never_fall (λ s. omega arith) was.seeds);
+            (failed_wider (map (seed_held view) j.seeds.items) places lost.id.0 f0 f1 f2 f2 seeds.never_fall (λ s. omega arith) was.seeds);
         stores = record {
           before = was.stores.before;
           after = was.stores.after;
@@ -139,16 +139,16 @@ module _ {S V : Type 0} (holds folder : S → Option (Map (List ℕ))) (place : 
         let f2 = map (faults_in view_faults) i.seeds.items in
         let id : want_id l d w ≡ lost.id.0 = (ids_same l d w (first_of d w) lost.entry wants (first_among l d w wants below) first.among).0 ∙ sym first.id_is in
         let copies : CopiesFailed m0 (of_want d w) a c = copies_wider m0 m1 (of_want d w) a b c c grows le (omega arith) last.copies in
-        let failed : SeedsFailed (map (held_in view) k.seeds.items) (places_at x w) (want_id l d w) f0 f2 =
+        let failed : SeedsFailed (map (seed_held view) k.seeds.items) (places_at x w) (want_id l d w) f0 f2 =
         subst (λ v. SeedsFailed v (places_at x w) (want_id l d w) f0 f2) seeds.held
-        (failed_wider (map (held_in view) j.seeds.items) (places_at x w) (want_id l d w) f0 f1 f2 f2 seeds.never_fall (λ s. omega arith) last.seeds) in
+        (failed_wider (map (seed_held view) j.seeds.items) (places_at x w) (want_id l d w) f0 f1 f2 f2 seeds.never_fall (λ s. omega arith) last.seeds) in
         record {
           listed = listed_of l d w lost.entry wants first.among;
           id_is = first.id_is;
           copies = subst (λ v. CopiesFailed m0 (of_want d v) a c) (sym is_of) copies;
           cache = lacks_since A k.chain.stores (id_of l lost.entry) (size_of l lost.entry) e f h stocked lacks;
-          seeds = subst (λ q. SeedsFailed (map (held_in view) k.seeds.items) (places_at x (want_at d lost.entry)) q f0 f2) id
-              (subst (λ v. SeedsFailed (map (held_in view) k.seeds.items) (places_at x v) (want_id l d w) f0 f2) (sym is_of) failed);
+          seeds = subst (λ q. SeedsFailed (map (seed_held view) k.seeds.items) (places_at x (want_at d lost.entry)) q f0 f2) id
+              (subst (λ v. SeedsFailed (map (seed_held view) k.seeds.items) (places_at x v) (want_id l d w) f0 f2) (sym is_of) failed);
           stores = record {
             before = j.chain.stores;
             after = i.chain.stores;

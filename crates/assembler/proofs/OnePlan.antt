@@ -3,7 +3,7 @@ use Rattle.std.proofs.Common.{◌≡◌, ◌∙◌, ℕ, zero, suc, ◌<◌, Lis
 use Rattle.std.proofs.lemmas.List.{ext_get_or}
 use Rattle.assembler.specs.OneKit.{ByPlan, OfKit}
 use Rattle.caibx_codec.specs.Listing.{Listing, count_of}
-use Rattle.extract_plan.specs.Deal.{AreCuts, AreWants, Deal, IsPlan, deal_shards, shards_of}
+use Rattle.extract_plan.specs.Deal.{AreShardEnds, AreWants, Deal, IsPlan, deal_shards, shards_of}
 
 -- ---- the plan
 
@@ -40,7 +40,7 @@ module _ (l : Listing) where
       let there : slice_index ys at.0 ≡ n = at.2 in
       omega (arith, in_a, same, there)
 
-  same_cuts : (s : ℕ) (xs ys : List ℕ) → AreCuts l s xs → AreCuts l s ys → xs ≡ ys
+  same_cuts : (s : ℕ) (xs ys : List ℕ) → AreShardEnds l s xs → AreShardEnds l s ys → xs ≡ ys
   same_cuts s xs ys a b = ext_get_or 0 xs ys (a.size ∙ sym b.size)
       (λ k lt. let inside : k < s = subst (λ (c : ℕ). k < c) a.size lt in a.ends k inside ∙ sym (b.ends k inside))
 
@@ -52,7 +52,7 @@ module _ (l : Listing) where
       let more = no_more e.wants d.wants e.want_of d.want_of q.wants p.wants in
       let wants : d.wants ≡ e.wants = omega (arith, less, more) in
       let shards : deal_shards d ≡ deal_shards e = ap (λ (n : ℕ). shards_of n (length d.want_of)) workers ∙ ap (λ (xs : List ℕ). shards_of e.workers (length xs)) want_of in
-      let cuts : d.cuts ≡ e.cuts = same_cuts (deal_shards e) d.cuts e.cuts (subst (λ (n : ℕ). AreCuts l n d.cuts) shards p.cuts) q.cuts in
+      let cuts : d.cuts ≡ e.cuts = same_cuts (deal_shards e) d.cuts e.cuts (subst (λ (n : ℕ). AreShardEnds l n d.cuts) shards p.cuts) q.cuts in
       ap (λ (n : ℕ). record { workers = n; wants = d.wants; want_of = d.want_of; cuts = d.cuts }) workers
       ∙ ap (λ (n : ℕ). record { workers = e.workers; wants = n; want_of = d.want_of; cuts = d.cuts }) wants
       ∙ ap (λ (xs : List ℕ). record { workers = e.workers; wants = e.wants; want_of = xs; cuts = d.cuts }) want_of

@@ -19,7 +19,7 @@ use Rattle.dsy_base.specs.Bytes.{Held}
 use Rattle.dsy_base.specs.Maps.{Map}
 use Rattle.extract_plan.specs.Deal.{AreWants, Deal, of_want, want_id}
 use Rattle.extract_plan.specs.Places.{Placed, places_at}
-use Rattle.extract_plan.specs.Seeds.{held_in}
+use Rattle.extract_plan.specs.Seeds.{seed_held}
 use Rattle.range_survey.specs.Fates.{settled}
 use Rattle.range_survey.specs.declared.fate.Fate.{Fate}
 
@@ -28,22 +28,22 @@ module _ {T S V : Type 0} (held : T → Held) (faults : T → ℕ) (holds folder
   -- what the call for want w leaves
   pub record Settles (w : ℕ) (a : T) (k : Kit S V) (m : List Fate) (b : T) (j : Kit S V) (n : List Fate) (e f : Option Shelf) : Type 0 where
     pub only : (i : ℕ) → settled m i ≡ false → settled n i ≡ true → IsAmong (of_want d w) i
-    pub had : Telling tells (map (held_in view) k.seeds.items) → (cached maps : List (Map (List ℕ))) → cached_in e ≡ Some cached → map holds k.chain.stores ≡ map Some maps
+    pub had : Telling tells (map (seed_held view) k.seeds.items) → (cached maps : List (Map (List ℕ))) → cached_in e ≡ Some cached → map holds k.chain.stores ≡ map Some maps
         → (i : ℕ) → settled m i ≡ false → settled n i ≡ true
-        → Had m (of_want d w) (map (held_in view) k.seeds.items) (places_at x w) (kind_of l) (id_of l i) (size_of l i) (cached ++ maps)
+        → Had m (of_want d w) (map (seed_held view) k.seeds.items) (places_at x w) (kind_of l) (id_of l i) (size_of l i) (cached ++ maps)
     pub asks : (j.chain ≡ k.chain) ⊎ Last holds view view_faults l d x asked queried m (faults a) (faults b) k.seeds.items j.seeds.items e f k.chain j.chain w
     pub step : Step held faults holds folder place said store_faults view view_faults l a k m b j n
     pub stocked : Stocked (TakesWants holds l d (λ v. v ≡ w) k.chain.stores) e f
 
   -- what the calls for the wants below w leave
   pub record WantsPassed (w : ℕ) (a : T) (k : Kit S V) (m : List Fate) (b : T) (j : Kit S V) (n : List Fate) (e f : Option Shelf) : Type 0 where
-    pub had : HadUpTo l d x tells holds m (map (held_in view) k.seeds.items) e k.chain.stores n
+    pub had : HadUpTo l d x tells holds m (map (seed_held view) k.seeds.items) e k.chain.stores n
     pub asks : AsksUpTo holds view view_faults l d x asked m (faults a) (faults b) k.seeds.items j.seeds.items e f k.chain j.chain w
     pub step : Step held faults holds folder place said store_faults view view_faults l a k m b j n
 
   pub passed_none : (a : T) (k : Kit S V) (m : List Fate) (e : Option Shelf) → AreWants l d.wants d.want_of → WantsPassed 0 a k m a k m e e
   passed_none a k m e wants = record {
-    had = λ told cached maps has are i inside is. had_none l d x wants m (map (held_in view) k.seeds.items) (cached ++ maps) i inside is;
+    had = λ told cached maps has are i inside is. had_none l d x wants m (map (seed_held view) k.seeds.items) (cached ++ maps) i inside is;
     asks = λ spared are. asks_none asked 0 (asks_below (want_id l d) spared 0) k.chain;
     step = step_none held faults holds folder place said store_faults view view_faults l a k m;
   }
@@ -52,7 +52,7 @@ module _ {T S V : Type 0} (held : T → Held) (faults : T → ℕ) (holds folder
       → Stocked (TakesWants holds l d A k.chain.stores) e f → AreWants l d.wants d.want_of → ((v : ℕ) → A v → v < d.wants) → w < d.wants → is_some (held a).bytes ≡ is_some (held b).bytes → is_some (held b).bytes ≡ is_some (held c).bytes
       → WantsPassed w a k m b j n e f → Settles w b j n c i o f h → WantsPassed (w + 1) a k m c i o e h
   passed_more w a k m b j n c i o e f h A stocked wants within below ab bc first next = record {
-    had = had_more l d x wants tells holds folder place said store_faults m n o (map (held_in view) k.seeds.items) (map (held_in view) j.seeds.items)
+    had = had_more l d x wants tells holds folder place said store_faults m n o (map (seed_held view) k.seeds.items) (map (seed_held view) j.seeds.items)
         e f k.chain.stores j.chain.stores w A stocked first.step.stores first.step.seeds.held first.had next.only next.had;
     asks = up_to_more holds view view_faults l d x asked queried m n (faults a) (faults b) (faults c) k.seeds.items j.seeds.items i.seeds.items e f h
         k.chain j.chain i.chain A w wants within below first.step.grows first.step.never_falls next.step.never_falls first.step.seeds next.step.seeds stocked

@@ -27,7 +27,7 @@ use Rattle.dsy_base.specs.Bytes.{Held}
 use Rattle.dsy_base.specs.Maps.{Map}
 use Rattle.extract_plan.specs.Deal.{AreWants, Deal, of_want}
 use Rattle.extract_plan.specs.Places.{Placed}
-use Rattle.extract_plan.specs.Seeds.{held_in}
+use Rattle.extract_plan.specs.Seeds.{seed_held}
 use Rattle.range_survey.specs.declared.fate.Fate.{Fate}
 use Rattle.store_chain.specs.declared.refused.Refused.TheVariants as refused
 
@@ -42,7 +42,7 @@ module _ {T S V : Type 0} (held : T → Held) (faults : T → ℕ) (holds folder
     (store_faults : S → ℕ) (asked queried : S → List ℕ → ℕ) (lacks_memory : Bool) (view : V → Held) (view_faults : V → ℕ) (tells : Bool)
     (l : Listing) (d : Deal) (x : Placed) where
   pub record WantsTried (tried : List Bool) (a : T) (k : Kit S V) (m : List Fate) (b : T) (j : Kit S V) (n : List Fate) (e f : Option Shelf) : Type 0 where
-    pub had : HadUpTo l d x tells holds m (map (held_in view) k.seeds.items) e k.chain.stores n
+    pub had : HadUpTo l d x tells holds m (map (seed_held view) k.seeds.items) e k.chain.stores n
     pub asks : SoFar holds asked view view_faults l d x tried m (faults a) (faults b) k j e f
     pub step : Step held faults holds folder place said store_faults view view_faults l a k m b j n
 
@@ -56,7 +56,7 @@ module _ {T S V : Type 0} (held : T → Held) (faults : T → ℕ) (holds folder
 
   pub tried_none : (tried : List Bool) (a : T) (k : Kit S V) (m : List Fate) (e : Option Shelf) → AreWants l d.wants d.want_of → WantsTried tried a k m a k m e e
   tried_none tried a k m e wants = record {
-    had = λ told cached maps has are i inside is. had_none l d x wants m (map (held_in view) k.seeds.items) (cached ++ maps) i inside is;
+    had = λ told cached maps has are i inside is. had_none l d x wants m (map (seed_held view) k.seeds.items) (cached ++ maps) i inside is;
     asks = so_far_none holds asked view view_faults l d x tried m (faults a) (faults a) k e e;
     step = step_none held faults holds folder place said store_faults view view_faults l a k m;
   }
@@ -67,7 +67,7 @@ module _ {T S V : Type 0} (held : T → Held) (faults : T → ℕ) (holds folder
         → WantsTried tried a k m b j n e f → Settles held faults holds folder place said store_faults asked queried view view_faults tells l d x w b j n c i o f h
         → WantsTried (set tried w true) a k m c i o e h
     tried_more tried w A stocked wants within below size untried ab bc first next = record {
-      had = had_more l d x wants tells holds folder place said store_faults m n o (map (held_in view) k.seeds.items) (map (held_in view) j.seeds.items)
+      had = had_more l d x wants tells holds folder place said store_faults m n o (map (seed_held view) k.seeds.items) (map (seed_held view) j.seeds.items)
           e f k.chain.stores j.chain.stores w A stocked first.step.stores first.step.seeds.held first.had next.only next.had;
       asks = so_far_more holds asked view view_faults l d x queried tried m n (faults a) (faults b) (faults c) k j i e f h A w wants within size below untried
           first.step.grows first.step.never_falls next.step.never_falls first.step.seeds next.step.seeds stocked

@@ -12,7 +12,7 @@ use Rattle.dsy_base.specs.Bytes.{Held}
 use Rattle.dsy_base.specs.Maps.{Map}
 use Rattle.extract_plan.specs.Deal.{Deal}
 use Rattle.extract_plan.specs.Places.{Placed, PlacesKnown}
-use Rattle.extract_plan.specs.Seeds.{faults_in, held_in}
+use Rattle.extract_plan.specs.Seeds.{faults_in, seed_held}
 use Rattle.extract_plan.specs.declared.seed.Seed.{Seed}
 use Rattle.range_survey.specs.declared.fate.Fate.{Fate}
 use Rattle.store_chain.proofs.Kept.{kept_still, kept_on}
@@ -31,7 +31,7 @@ module _ {V : Type 0} (view : V → Held) (view_faults : V → ℕ) where
 
   -- they are as many
   pub seeds_count : (s0 s1 : List (Seed V)) → KeepsSeeds view view_faults s0 s1 → length s1 ≡ length s0
-  seeds_count s0 s1 kept = sym (length-map s1 (held_in view)) ∙ ap (λ xs. length xs) kept.held ∙ length-map s0 (held_in view)
+  seeds_count s0 s1 kept = sym (length-map s1 (seed_held view)) ∙ ap (λ xs. length xs) kept.held ∙ length-map s0 (seed_held view)
 
 -- ---- steps
 

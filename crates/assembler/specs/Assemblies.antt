@@ -23,7 +23,7 @@ use Rattle.dsy_base.specs.Counts.{Quiet, Rose}
 use Rattle.dsy_base.specs.Maps.{Map}
 use Rattle.extract_plan.specs.Deal.{first_of, of_want, want_id, AreAlike, Deal}
 use Rattle.extract_plan.specs.Places.{Placed, places_at}
-use Rattle.extract_plan.specs.Seeds.{faults_in, held_in}
+use Rattle.extract_plan.specs.Seeds.{faults_in, seed_held}
 use Rattle.extract_plan.specs.declared.seed.Seed.{Seed}
 use Rattle.range_survey.specs.Excuses.{Excuses}
 
@@ -101,7 +101,7 @@ module _ {S V : Type 0} (holds folder : S → Option (Map (List ℕ))) (place : 
       pub listed : lost.entry < count_of l
       pub id_is : lost.id.0 ≡ id_of l lost.entry
       pub copies : IfSome o (λ b. RightAlike l (resized b (image_length l)) lost.entry → Rose old new)
-      pub seeds : SeedsFailed (map (held_in view) k.seeds.items) (places_at x (want_at d lost.entry)) lost.id.0
+      pub seeds : SeedsFailed (map (seed_held view) k.seeds.items) (places_at x (want_at d lost.entry)) lost.id.0
           (map (faults_in view_faults) k.seeds.items) (map (faults_in view_faults) j.seeds.items)
       pub cache : CacheLacks (kind_of l) (id_of l lost.entry) (size_of l lost.entry) e0 e1
       pub stores : RefusedOnce holds folder place said store_faults lacks_memory view view_faults l d x lost
@@ -120,7 +120,7 @@ abbrev pub SparedOver : {S V : Type 0} → (S → Option (Map (List ℕ))) → (
     → Option (List ℕ) → ℕ → ℕ → List (Seed V) → List (Seed V) → Option Shelf → Option Shelf → List S → ℕ → Type 0
 SparedOver holds view view_faults l d x o old new s0 s1 e0 e1 stores w =
     (IsSomeAnd o (λ b. (j : ℕ) × IsAmong (of_want d w) j × IsRightAt (resized b (image_length l)) l j) × Quiet old new)
-    ⊎ (Any (λ p. HeldAt (map (held_in view) s0) p (want_id l d w)
+    ⊎ (Any (λ p. HeldAt (map (seed_held view) s0) p (want_id l d w)
     × Quiet (slice_index (map (faults_in view_faults) s0) p.seed) (slice_index (map (faults_in view_faults) s1) p.seed))
     (places_at x w) ⊎ CacheGives holds l stores (want_id l d w) (size_of l (first_of d w)) e0 e1)
 

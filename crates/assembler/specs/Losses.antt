@@ -8,7 +8,7 @@ use Rattle.chunk_sources.specs.Losses.{chunk_of}
 use Rattle.chunk_sources.specs.Wants.{IsAmong}
 use Rattle.range_survey.specs.Fates.{settled}
 use Rattle.range_survey.specs.declared.fate.Fate.{Fate}
-use Rattle.store_chain.specs.declared.want.Want.{Want}
+use Rattle.store_chain.specs.declared.query.Query.{Query}
 
 -- the first open one of these entries
 pub record IsFirstOpen (l : Listing) (fates : List Fate) (entries : List ℕ) (x : Lost) : Type 0 where
@@ -24,5 +24,5 @@ Where P F (Err (unsettled.Lost x)) = P x
 Where P F (Err unsettled.TargetFault) = F
 
 -- what the lost entry's chunk is asked for as
-abbrev pub lost_want : Listing → Lost → Want
+abbrev pub lost_want : Listing → Lost → Query
 lost_want l x = chunk_of (kind_of l) x.id (size_of l x.entry)

@@ -18,7 +18,7 @@ use Rattle.dsy_base.specs.Bytes.{Held}
 use Rattle.dsy_base.specs.Maps.{Map}
 use Rattle.extract_plan.specs.Deal.{Deal, of_want, want_id}
 use Rattle.extract_plan.specs.Places.{Placed, places_at}
-use Rattle.extract_plan.specs.Seeds.{faults_in, held_in}
+use Rattle.extract_plan.specs.Seeds.{faults_in, seed_held}
 use Rattle.chunk_sources.specs.Wants.{IsAmong}
 use Rattle.range_survey.specs.Fates.{settled}
 use Rattle.range_survey.specs.declared.fate.Fate.{Fate}
@@ -52,7 +52,7 @@ module _ {S V : Type 0} (holds folder : S → Option (Map (List ℕ))) (place : 
     pub listed : lost.entry < count_of l
     pub id_is : lost.id.0 ≡ id_of l lost.entry
     pub copies : CopiesFailed m (of_want d (want_at d lost.entry)) old new
-    pub seeds : SeedsFailed (map (held_in view) k.seeds.items) (places_at x (want_at d lost.entry)) lost.id.0
+    pub seeds : SeedsFailed (map (seed_held view) k.seeds.items) (places_at x (want_at d lost.entry)) lost.id.0
         (map (faults_in view_faults) k.seeds.items) (map (faults_in view_faults) j.seeds.items)
     pub cache : CacheLacks (kind_of l) (id_of l lost.entry) (size_of l lost.entry) e0 e1
     pub stores : RefusedOnce lost k.chain.stores j.chain.stores

@@ -22,7 +22,7 @@ ghost use Rattle.dsy_base.specs.Counts.{Quiet, Rose};
 ghost use Rattle.dsy_base.specs.Maps.{Map};
 ghost use Rattle.extract_plan.specs.Deal.{AreWants, Deal, IsPlan};
 ghost use Rattle.extract_plan.specs.Places.{PlacesKnown};
-ghost use Rattle.extract_plan.specs.Seeds.{held_in};
+ghost use Rattle.extract_plan.specs.Seeds.{seed_held};
 ghost use Rattle.range_survey.specs.Fates.{FirstFates, OpenWrong, SettledRight, settled};
 ghost use Rattle.store_chain.specs.Chains.{KeepsStores};
 
@@ -73,11 +73,11 @@ fn settle_all<T: Part, S: Store, V: View, F: Folder>(
         × IsLost S.holds S.folder S.place S.said S.faults S.may_lack_memory V.held V.faults index.now plan.now
         places.now fates.old (T.faults target.old) (T.faults target.new) kit.old kit.new
         (seen F.files F.place F.faults cache.old) (seen F.files F.place F.faults cache.new) lost))) }
-    ensures had { Telling V.tells (map (held_in V.held) kit.old.seeds.items) → (cached maps : List (Map (List ℕ))) →
+    ensures had { Telling V.tells (map (seed_held V.held) kit.old.seeds.items) → (cached maps : List (Map (List ℕ))) →
         cached_in (seen F.files F.place F.faults cache.old) ≡ Some cached →
         map S.holds kit.old.chain.stores ≡ map Some maps → (i : ℕ) → i < count_of index.now →
         settled fates.new i ≡ true →
-        HadAt index.now plan.now places.now fates.old (map (held_in V.held) kit.old.seeds.items) (cached ++ maps) i }
+        HadAt index.now plan.now places.now fates.old (map (seed_held V.held) kit.old.seeds.items) (cached ++ maps) i }
     ensures asks { PassesAsk S.holds S.asked V.held V.faults index.now plan.now places.now fates.old
         (T.faults target.old) (T.faults target.new) kit.old kit.new (seen F.files F.place F.faults cache.old)
         (seen F.files F.place F.faults cache.new) }
@@ -93,7 +93,8 @@ fn settle_all<T: Part, S: Store, V: View, F: Folder>(
         (seen F.files F.place F.faults cache.new) cached maps → HaveOneSize index.now
         (seen F.files F.place F.faults cache.old) cached maps → UnlessMemory
         (AssembledBy (source_over index.now plan.now places.now (settled fates.old)
-        (map (held_in V.held) kit.old.seeds.items) cached maps) plan.now.wants (count_of index.now) fates.old fates.new
+        (map (seed_held V.held) kit.old.seeds.items) cached maps) plan.now.wants
+        (count_of index.now) fates.old fates.new
         kit.old.chain kit.new.chain) result }
 {
     match fill(index, plan, places, target, kit, cache, fates) {
@@ -164,11 +165,11 @@ fn assemble_lent<T: Target, S: Store, V: View, F: Folder>(
         V.faults index.now plan.now places.now (T.held target.old).bytes (T.faults target.old) (T.faults target.new)
         kit.old kit.new (seen F.files F.place F.faults cache.old) (seen F.files F.place F.faults cache.new) lost)
         (Rose (T.faults target.old) (T.faults target.new)) result }
-    ensures had { Telling V.tells (map (held_in V.held) kit.old.seeds.items) → (cached maps : List (Map (List ℕ))) →
+    ensures had { Telling V.tells (map (seed_held V.held) kit.old.seeds.items) → (cached maps : List (Map (List ℕ))) →
         cached_in (seen F.files F.place F.faults cache.old) ≡ Some cached →
         map S.holds kit.old.chain.stores ≡ map Some maps → WhereTold (T.held target.old).bytes (T.held target.new).bytes
         (λ o t. OnlyObtainable index.now (IsObtainable index.now plan.now places.now
-        (resized o (image_length index.now)) (map (held_in V.held) kit.old.seeds.items) (cached ++ maps))
+        (resized o (image_length index.now)) (map (seed_held V.held) kit.old.seeds.items) (cached ++ maps))
         (Rose (T.faults target.old) (T.faults target.new)) result o t) }
 
     // Where nothing fails.
@@ -178,14 +179,14 @@ fn assemble_lent<T: Target, S: Store, V: View, F: Folder>(
         (seen F.files F.place F.faults cache.new) cached maps → HaveOneSize index.now
         (seen F.files F.place F.faults cache.old) cached maps → IfSome (T.held target.old).bytes
         (λ o. Verdict index.now (IsObtainable index.now plan.now places.now (resized o (image_length index.now))
-        (map (held_in V.held) kit.old.seeds.items) (cached ++ maps)) result) }
+        (map (seed_held V.held) kit.old.seeds.items) (cached ++ maps)) result) }
     ensures after { (cached maps : List (Map (List ℕ))) → NothingFails S.holds S.folder S.place S.said S.faults
         S.may_lack_memory V.held V.faults index.now plan.now places.now V.tells (T.faults target.old)
         (T.faults target.new) kit.old kit.new (seen F.files F.place F.faults cache.old)
         (seen F.files F.place F.faults cache.new) cached maps → HaveOneSize index.now
         (seen F.files F.place F.faults cache.old) cached maps → WhereTold (T.held target.old).bytes
         (T.held target.new).bytes (λ o t. After index.now (IsObtainable index.now plan.now places.now
-        (resized o (image_length index.now)) (map (held_in V.held) kit.old.seeds.items) (cached ++ maps))
+        (resized o (image_length index.now)) (map (seed_held V.held) kit.old.seeds.items) (cached ++ maps))
         (resized o (image_length index.now)) t result) }
     ensures economy { (cached maps : List (Map (List ℕ))) → NothingFails S.holds S.folder S.place S.said S.faults
         S.may_lack_memory V.held V.faults index.now plan.now places.now V.tells (T.faults target.old)
@@ -193,14 +194,14 @@ fn assemble_lent<T: Target, S: Store, V: View, F: Folder>(
         (seen F.files F.place F.faults cache.new) cached maps → HaveOneSize index.now
         (seen F.files F.place F.faults cache.old) cached maps → IfSome (T.held target.old).bytes
         (λ o. AsksExactly (source_of index.now plan.now places.now (resized o (image_length index.now))
-        (map (held_in V.held) kit.old.seeds.items) cached maps) plan.now.wants kit.old.chain kit.new.chain result) }
+        (map (seed_held V.held) kit.old.seeds.items) cached maps) plan.now.wants kit.old.chain kit.new.chain result) }
     ensures reported { (cached maps : List (Map (List ℕ))) → NothingFails S.holds S.folder S.place S.said S.faults
         S.may_lack_memory V.held V.faults index.now plan.now places.now V.tells (T.faults target.old)
         (T.faults target.new) kit.old kit.new (seen F.files F.place F.faults cache.old)
         (seen F.files F.place F.faults cache.new) cached maps → HaveOneSize index.now
         (seen F.files F.place F.faults cache.old) cached maps → IfSome (T.held target.old).bytes
         (λ o. IfOk result (ReportsExactly (source_of index.now plan.now places.now (resized o (image_length index.now))
-        (map (held_in V.held) kit.old.seeds.items) cached maps) plan.now.wants)) }
+        (map (seed_held V.held) kit.old.seeds.items) cached maps) plan.now.wants)) }
 
     ensures report { IfOk result (λ r. r.kept + r.copied + r.seeded + r.cached + r.fetched ≡ count_of index.now) }
     ensures kept { IfOk result (λ r. Quiet (T.faults target.old) (T.faults target.new) →
@@ -260,11 +261,11 @@ pub fn assemble<T: Target, S: Store, V: View, F: Folder>(
         (seen F.files F.place F.faults result.cache) lost) (Rose (T.faults target) (T.faults result.target))
         result.answer) }
     ensures had { ByPlan index.now kits.items result.kits.items (λ d k j.
-        Telling V.tells (map (held_in V.held) k.seeds.items) →
+        Telling V.tells (map (seed_held V.held) k.seeds.items) →
         (cached maps : List (Map (List ℕ))) → cached_in (seen F.files F.place F.faults cache) ≡ Some cached →
         map S.holds k.chain.stores ≡ map Some maps → WhereTold (T.held target).bytes (T.held result.target).bytes
         (λ o t. OnlyObtainable index.now (IsObtainable index.now d places.now (resized o (image_length index.now))
-        (map (held_in V.held) k.seeds.items) (cached ++ maps)) (Rose (T.faults target) (T.faults result.target))
+        (map (seed_held V.held) k.seeds.items) (cached ++ maps)) (Rose (T.faults target) (T.faults result.target))
         result.answer o t)) }
 
     // Where nothing fails.
@@ -274,14 +275,14 @@ pub fn assemble<T: Target, S: Store, V: View, F: Folder>(
         (seen F.files F.place F.faults result.cache) cached maps →
         HaveOneSize index.now (seen F.files F.place F.faults cache) cached maps →
         IfSome (T.held target).bytes (λ o. Verdict index.now (IsObtainable index.now d places.now
-        (resized o (image_length index.now)) (map (held_in V.held) k.seeds.items) (cached ++ maps)) result.answer)) }
+        (resized o (image_length index.now)) (map (seed_held V.held) k.seeds.items) (cached ++ maps)) result.answer)) }
     ensures after { ByPlan index.now kits.items result.kits.items (λ d k j. (cached maps : List (Map (List ℕ))) →
         NothingFails S.holds S.folder S.place S.said S.faults S.may_lack_memory V.held V.faults index.now d places.now
         V.tells (T.faults target) (T.faults result.target) k j (seen F.files F.place F.faults cache)
         (seen F.files F.place F.faults result.cache) cached maps →
         HaveOneSize index.now (seen F.files F.place F.faults cache) cached maps →
         WhereTold (T.held target).bytes (T.held result.target).bytes (λ o t. After index.now (IsObtainable index.now d
-        places.now (resized o (image_length index.now)) (map (held_in V.held) k.seeds.items) (cached ++ maps))
+        places.now (resized o (image_length index.now)) (map (seed_held V.held) k.seeds.items) (cached ++ maps))
         (resized o (image_length index.now)) t result.answer)) }
     ensures economy { ByPlan index.now kits.items result.kits.items (λ d k j. (cached maps : List (Map (List ℕ))) →
         NothingFails S.holds S.folder S.place S.said S.faults S.may_lack_memory V.held V.faults index.now d places.now
@@ -289,7 +290,7 @@ pub fn assemble<T: Target, S: Store, V: View, F: Folder>(
         (seen F.files F.place F.faults result.cache) cached maps →
         HaveOneSize index.now (seen F.files F.place F.faults cache) cached maps →
         IfSome (T.held target).bytes (λ o. AsksExactly (source_of index.now d places.now
-        (resized o (image_length index.now)) (map (held_in V.held) k.seeds.items) cached maps) d.wants k.chain j.chain
+        (resized o (image_length index.now)) (map (seed_held V.held) k.seeds.items) cached maps) d.wants k.chain j.chain
         result.answer)) }
     ensures reported { ByPlan index.now kits.items result.kits.items (λ d k j. (cached maps : List (Map (List ℕ))) →
         NothingFails S.holds S.folder S.place S.said S.faults S.may_lack_memory V.held V.faults index.now d places.now
@@ -297,7 +298,7 @@ pub fn assemble<T: Target, S: Store, V: View, F: Folder>(
         (seen F.files F.place F.faults result.cache) cached maps →
         HaveOneSize index.now (seen F.files F.place F.faults cache) cached maps →
         IfSome (T.held target).bytes (λ o. IfOk result.answer (ReportsExactly (source_of index.now d places.now
-        (resized o (image_length index.now)) (map (held_in V.held) k.seeds.items) cached maps) d.wants))) }
+        (resized o (image_length index.now)) (map (seed_held V.held) k.seeds.items) cached maps) d.wants))) }
 
     ensures report { IfOk result.answer
         (λ r. r.kept + r.copied + r.seeded + r.cached + r.fetched ≡ count_of index.now) }

@@ -12,7 +12,7 @@ ghost use Rattle.chunk_sources.specs.Caches.{HaveOneSize, Stocked, TakesWants, c
 ghost use Rattle.chunk_sources.specs.Economy.{source_over};
 ghost use Rattle.chunk_sources.specs.Sources.{Telling};
 ghost use Rattle.dsy_base.specs.Maps.{Map};
-ghost use Rattle.extract_plan.specs.Seeds.{held_in};
+ghost use Rattle.extract_plan.specs.Seeds.{seed_held};
 ghost use Rattle.range_survey.specs.Fates.{settled};
 
 use crate::fault::Unsettled;
@@ -54,11 +54,11 @@ pub(crate) fn fill<T: Part, S: Store, V: View, F: Folder>(
         (length kit.old.seeds.items) (length kit.old.buffer.items) fates.old }
     requires unnamed { (F.pairs ≡ None) × (F.stores ≡ None) }
     requires cache { IfSome (seen F.files F.place F.faults cache.old) (λ s. s.kind ≡ kit.old.chain.kind) }
-    ensures had { Telling V.tells (map (held_in V.held) kit.old.seeds.items) → (cached maps : List (Map (List ℕ))) →
+    ensures had { Telling V.tells (map (seed_held V.held) kit.old.seeds.items) → (cached maps : List (Map (List ℕ))) →
         cached_in (seen F.files F.place F.faults cache.old) ≡ Some cached →
         map S.holds kit.old.chain.stores ≡ map Some maps → (i : ℕ) → i < count_of index.now →
         settled fates.new i ≡ true →
-        HadAt index.now plan.now places.now fates.old (map (held_in V.held) kit.old.seeds.items) (cached ++ maps) i }
+        HadAt index.now plan.now places.now fates.old (map (seed_held V.held) kit.old.seeds.items) (cached ++ maps) i }
     ensures asks { PassAsks S.holds S.asked V.held V.faults index.now plan.now places.now fates.old
         (T.faults target.old) (T.faults target.new) kit.old kit.new (seen F.files F.place F.faults cache.old)
         (seen F.files F.place F.faults cache.new) }
@@ -74,7 +74,8 @@ pub(crate) fn fill<T: Part, S: Store, V: View, F: Folder>(
         (seen F.files F.place F.faults cache.new) cached maps → HaveOneSize index.now
         (seen F.files F.place F.faults cache.old) cached maps → OnOk result
         (PassedBy (source_over index.now plan.now places.now (settled fates.old)
-        (map (held_in V.held) kit.old.seeds.items) cached maps) plan.now.wants (count_of index.now) fates.old fates.new
+        (map (seed_held V.held) kit.old.seeds.items) cached maps) plan.now.wants
+        (count_of index.now) fates.old fates.new
         kit.old.chain kit.new.chain) }
     ensures left { (cached maps : List (Map (List ℕ))) → NothingFails S.holds S.folder S.place S.said S.faults
         S.may_lack_memory V.held V.faults index.now plan.now places.now V.tells (T.faults target.old)
@@ -82,7 +83,8 @@ pub(crate) fn fill<T: Part, S: Store, V: View, F: Folder>(
         (seen F.files F.place F.faults cache.new) cached maps → HaveOneSize index.now
         (seen F.files F.place F.faults cache.old) cached maps → OnOk result
         ((i : ℕ) → i < count_of index.now → settled fates.new i ≡ false →
-        source_over index.now plan.now places.now (settled fates.old) (map (held_in V.held) kit.old.seeds.items) cached
+        source_over index.now plan.now places.now (settled fates.old)
+        (map (seed_held V.held) kit.old.seeds.items) cached
         maps (want_at plan.now i) ≡ Fate.Open) }
 {
     // Only for its contract: the count of calls fits its type.

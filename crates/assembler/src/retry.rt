@@ -15,7 +15,7 @@ ghost use Rattle.chunk_sources.specs.Economy.{source_over};
 ghost use Rattle.chunk_sources.specs.Sources.{Telling};
 ghost use Rattle.dsy_base.specs.Counts.{Rose};
 ghost use Rattle.dsy_base.specs.Maps.{Map};
-ghost use Rattle.extract_plan.specs.Seeds.{held_in};
+ghost use Rattle.extract_plan.specs.Seeds.{seed_held};
 ghost use Rattle.range_survey.specs.Fates.{settled};
 
 use crate::fault::{ExtractFault, Lost, Unsettled};
@@ -66,11 +66,11 @@ pub(crate) fn retry<T: Part, S: Store, V: View, F: Folder>(
         S.may_lack_memory V.held V.faults index.now plan.now places.now fates.old (T.faults target.old)
         (T.faults target.new) kit.old kit.new (seen F.files F.place F.faults cache.old)
         (seen F.files F.place F.faults cache.new) lost))) }
-    ensures had { Telling V.tells (map (held_in V.held) kit.old.seeds.items) → (cached maps : List (Map (List ℕ))) →
+    ensures had { Telling V.tells (map (seed_held V.held) kit.old.seeds.items) → (cached maps : List (Map (List ℕ))) →
         cached_in (seen F.files F.place F.faults cache.old) ≡ Some cached →
         map S.holds kit.old.chain.stores ≡ map Some maps → (i : ℕ) → i < count_of index.now →
         settled fates.new i ≡ true →
-        HadAt index.now plan.now places.now fates.old (map (held_in V.held) kit.old.seeds.items) (cached ++ maps) i }
+        HadAt index.now plan.now places.now fates.old (map (seed_held V.held) kit.old.seeds.items) (cached ++ maps) i }
     ensures asks { PassAsks S.holds S.asked V.held V.faults index.now plan.now places.now fates.old
         (T.faults target.old) (T.faults target.new) kit.old kit.new (seen F.files F.place F.faults cache.old)
         (seen F.files F.place F.faults cache.new) }
@@ -86,7 +86,8 @@ pub(crate) fn retry<T: Part, S: Store, V: View, F: Folder>(
         (seen F.files F.place F.faults cache.new) cached maps → HaveOneSize index.now
         (seen F.files F.place F.faults cache.old) cached maps → UnlessMemory
         (PassedBy (source_over index.now plan.now places.now (settled fates.old)
-        (map (held_in V.held) kit.old.seeds.items) cached maps) plan.now.wants (count_of index.now) fates.old fates.new
+        (map (seed_held V.held) kit.old.seeds.items) cached maps) plan.now.wants
+        (count_of index.now) fates.old fates.new
         kit.old.chain kit.new.chain) result }
 {
     // Only for its contract: the count of calls fits its type.

@@ -17,7 +17,7 @@ ghost use Rattle.dsy_base.specs.Counts.{Rose};
 ghost use Rattle.dsy_base.specs.Maps.{Map};
 ghost use Rattle.extract_plan.specs.Deal.{first_of, of_want, want_id};
 ghost use Rattle.extract_plan.specs.Places.{PlacesFit, places_at};
-ghost use Rattle.extract_plan.specs.Seeds.{held_in};
+ghost use Rattle.extract_plan.specs.Seeds.{seed_held};
 ghost use Rattle.range_survey.specs.Fates.{SettledRight, settled};
 ghost use Rattle.store_chain.specs.Chains.{KeepsStores};
 
@@ -83,11 +83,12 @@ fn settle_open<T: Part, S: Store, V: View, F: Folder>(
     ensures ok { OnOk result ((i : ℕ) → IsAmong sought.now.entries.now i → settled fates.new i ≡ true) }
     ensures only { (i : ℕ) → settled fates.old i ≡ false → settled fates.new i ≡ true →
         IsAmong sought.now.entries.now i }
-    ensures had { Telling V.tells (map (held_in V.held) seeds.old) → (cached maps : List (Map (List ℕ))) →
+    ensures had { Telling V.tells (map (seed_held V.held) seeds.old) → (cached maps : List (Map (List ℕ))) →
         cached_in (seen F.files F.place F.faults cache.old) ≡ Some cached →
         map S.holds chain.old.stores ≡ map Some maps → (i : ℕ) → settled fates.old i ≡ false →
         settled fates.new i ≡ true →
-        Had fates.old sought.now.entries.now (map (held_in V.held) seeds.old) sought.now.places.now (kind_of index.now)
+        Had fates.old sought.now.entries.now (map (seed_held V.held) seeds.old) sought.now.places.now
+        (kind_of index.now)
         sought.now.id.0 (size_of index.now entry) (cached ++ maps) }
     ensures lost { Where (λ x. (x.entry ≡ entry) × (x.id ≡ sought.now.id))
         (Rose (T.faults target.old) (T.faults target.new)) result }
@@ -114,7 +115,7 @@ fn settle_open<T: Part, S: Store, V: View, F: Folder>(
     ensures exactly { (cached maps : List (Map (List ℕ))) → SourcesQuiet S.holds S.faults V.held V.faults V.tells
         (T.faults target.old) (T.faults target.new) seeds.old seeds.new (seen F.files F.place F.faults cache.old)
         (seen F.files F.place F.faults cache.new) chain.old.stores chain.new.stores cached maps →
-        SettlesBy (source_among (settled fates.old) sought.now.entries.now (map (held_in V.held) seeds.old)
+        SettlesBy (source_among (settled fates.old) sought.now.entries.now (map (seed_held V.held) seeds.old)
         sought.now.places.now (kind_of index.now) sought.now.id.0 (size_of index.now entry) cached maps)
         (count_of index.now) fates.old fates.new chain.old chain.new result }
 
@@ -160,11 +161,11 @@ pub(crate) fn settle<T: Part, S: Store, V: View, F: Folder>(
     ensures ok { OnOk result ((i : ℕ) → IsAmong (of_want plan.now want) i → settled fates.new i ≡ true) }
     ensures only { (i : ℕ) → settled fates.old i ≡ false → settled fates.new i ≡ true →
         IsAmong (of_want plan.now want) i }
-    ensures had { Telling V.tells (map (held_in V.held) kit.old.seeds.items) → (cached maps : List (Map (List ℕ))) →
+    ensures had { Telling V.tells (map (seed_held V.held) kit.old.seeds.items) → (cached maps : List (Map (List ℕ))) →
         cached_in (seen F.files F.place F.faults cache.old) ≡ Some cached →
         map S.holds kit.old.chain.stores ≡ map Some maps → (i : ℕ) → settled fates.old i ≡ false →
         settled fates.new i ≡ true →
-        Had fates.old (of_want plan.now want) (map (held_in V.held) kit.old.seeds.items) (places_at places.now want)
+        Had fates.old (of_want plan.now want) (map (seed_held V.held) kit.old.seeds.items) (places_at places.now want)
         (kind_of index.now) (id_of index.now i) (size_of index.now i) (cached ++ maps) }
     ensures lost { Where (IsFirstOpen index.now fates.old (of_want plan.now want))
         (Rose (T.faults target.old) (T.faults target.new)) result }
@@ -192,7 +193,8 @@ pub(crate) fn settle<T: Part, S: Store, V: View, F: Folder>(
         S.may_lack_memory V.held V.faults index.now plan.now places.now V.tells (T.faults target.old)
         (T.faults target.new) kit.old kit.new (seen F.files F.place F.faults cache.old)
         (seen F.files F.place F.faults cache.new) cached maps → SettlesBy
-        (source_over index.now plan.now places.now (settled fates.old) (map (held_in V.held) kit.old.seeds.items) cached
+        (source_over index.now plan.now places.now (settled fates.old)
+        (map (seed_held V.held) kit.old.seeds.items) cached
         maps want) (count_of index.now) fates.old fates.new kit.old.chain kit.new.chain result }
 
     ensures stocked { Stocked (TakesWants S.holds index.now plan.now (λ w. w ≡ want) kit.old.chain.stores)

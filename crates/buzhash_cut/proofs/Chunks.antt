@@ -7,7 +7,7 @@ use Rattle.chunk_ends.specs.Cuts.{AreCuts}
 use Rattle.buzhash_cut.specs.Image.{named_from, listing_of, IsIndexOfImage, IndexGiven, HasTooManyCuts}
 use Rattle.buzhash_cut.specs.declared.image.CutFault.{CutFault}
 use Rattle.buzhash_cut.specs.declared.image.CutFault.TheVariants as faults
-use Rattle.buzhash_cut.specs.Entries.{IsChunk, IsStep, AreLinked, AreAll}
+use Rattle.buzhash_cut.specs.Entries.{IsCutEntry, IsStep, AreLinked, AreAll}
 use Rattle.caibx_codec.specs.Right.{IsRight}
 use Rattle.chunk_ends.specs.Sizes.{Sizes}
 use Rattle.caibx_codec.specs.Listing.{Listing, count_of, start_of, end_of, id_of, slice_of, image_length}
@@ -106,7 +106,7 @@ module _ (s : Sizes) (h : Held) (es : List (ℕ × List ℕ)) (least average gre
   listed_length = ap image_length is ∙ entries_end s.greatest 0 h.size es all.entries.steps
 
   -- what lists all chunks with their names is the index
-  pub listed_index : (t : List ℕ) → length t ≡ h.size → AreLinked (IsChunk s t) 0 es h.size → least ≡ s.least → average ≡ s.average → greatest ≡ s.greatest → IsIndexOfImage s t l
+  pub listed_index : (t : List ℕ) → length t ≡ h.size → AreLinked (IsCutEntry s t) 0 es h.size → least ≡ s.least → average ≡ s.average → greatest ≡ s.greatest → IsIndexOfImage s t l
   listed_index t long chunks a b c = record {
     ends = ends_in es;
     cuts = subst (AreCuts s t 0) (append-nil (ends_in es)) (cuts_of s t 0 h.size es [] chunks (sym long));

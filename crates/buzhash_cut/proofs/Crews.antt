@@ -2,7 +2,7 @@
 use Rattle.std.proofs.Common.{◌≡◌, ℕ, ◌+◌, ◌-◌, ◌<◌, ◌≤◌, List, [], ◌∷◌, ◌++◌, length, map, reverse, take, slice_index, slice_index_or, All, sym, ap, subst, ◌∙◌, arith, inl, inr, length-append, Option, IfSome, Result, Ok, Err, IfOk, IfErr}
 use Rattle.std.proofs.lemmas.Bool.{cases_lt}
 use Rattle.std.proofs.lemmas.List.{get_or-map, get_or-reverse, take-append-le, take_all, get_or_append_left, get_or-append-add, get_or_past, length-map, length-reverse, map-append, reverse-append}
-use Rattle.buzhash_cut.specs.Entries.{AreAll, AreEntries, AreTooMany, IsRun}
+use Rattle.buzhash_cut.specs.Entries.{AreAll, AreEntries, AreTooMany, IsEntryRun}
 use Rattle.buzhash_cut.specs.Image.{AreOfOneImage, CountsViews, HasTooManyCuts}
 use Rattle.buzhash_cut.specs.Runs.{AreRuns, HasCut, HasCutFirst}
 use Rattle.chunk_ends.specs.Sizes.{Sizes}
@@ -27,7 +27,7 @@ module _ (s : Sizes) (h k : Held) (size : k.size ≡ h.size) (bytes : k.bytes �
   entries_alike : (a b : ℕ) (es : List (ℕ × List ℕ)) → AreEntries s h.bytes a es b → AreEntries s k.bytes a es b
   entries_alike a b es p = subst (λ (o : Option (List ℕ)). AreEntries s o a es b) (sym bytes) p
 
-  run_alike : (a : ℕ) (es : List (ℕ × List ℕ)) → IsRun s h a es → IsRun s k a es
+  run_alike : (a : ℕ) (es : List (ℕ × List ℕ)) → IsEntryRun s h a es → IsEntryRun s k a es
   run_alike a es run = record { end = run.end; inside = omega (arith, run.inside, size); entries = entries_alike a run.end es run.entries }
 
   pub runs_alike : (rs : List Run) → AreRuns s h rs → AreRuns s k rs

@@ -4,7 +4,7 @@ use Rattle.std.proofs.Math.Seq.{take-add}
 use Rattle.std.proofs.lemmas.List.{take-append-drop, take-append-le, drop-take, take_all}
 use Rattle.std.proofs.lemmas.Grind.{common_steps}
 use Rattle.chunk_ends.specs.Cuts.{IsCut}
-use Rattle.chunk_ends.specs.Feeding.{Kept, WasFed}
+use Rattle.chunk_ends.specs.Feeding.{CutterKept, WasFed}
 use Rattle.chunk_ends.specs.Sizes.{Sizes}
 
 pub drop-add : (a n : ℕ) (xs : List ℕ) → drop (a + n) xs ≡ drop n (drop a xs)
@@ -61,7 +61,7 @@ module _ (t p q : List ℕ) (start at from upto n : ℕ) (same : q ≡ p) (le : 
   piece_is = ap (λ (x : List ℕ). slice_range x from upto) same ∙ piece
 
   -- what it was given in all, and what is left
-  pub read_on : (c d : Kept) → WasFed c (slice_range t start at) → ((image : List ℕ) → WasFed c image → WasFed d (image ++ take n (slice_range q from upto)))
+  pub read_on : (c d : CutterKept) → WasFed c (slice_range t start at) → ((image : List ℕ) → WasFed c image → WasFed d (image ++ take n (slice_range q from upto)))
       → WasFed d (slice_range t start (at + n)) × (slice_range p (from + n) upto ≡ slice_range t (at + n) (at + n + (upto - (from + n))))
   read_on c d fed on =
       (subst (WasFed d) (range_on t (slice_range q from upto) start at (upto - from) n le piece_is (omega arith)) (on (slice_range t start at) fed), left_on t p at from upto n inside piece)

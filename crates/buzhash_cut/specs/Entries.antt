@@ -9,7 +9,7 @@ use Rattle.chunk_store.specs.declared.id.DigestKind.TheVariants as kinds
 use Rattle.dsy_base.specs.Bytes.{Held}
 
 -- the entry is that of the image's chunk that begins at `start`
-pub record IsChunk (s : Sizes) (image : List ℕ) (start : ℕ) (e : ℕ × List ℕ) : Type 0 where
+pub record IsCutEntry (s : Sizes) (image : List ℕ) (start : ℕ) (e : ℕ × List ℕ) : Type 0 where
   pub after : start < e.0
   pub cut : IsCut s (drop start image) (e.0 - start)
   pub named : e.1 ≡ name_of kinds.Sha512T256 (slice_range image start e.0)
@@ -28,10 +28,10 @@ pub record AreEntries (s : Sizes) (bytes : Option (List ℕ)) (start : ℕ) (es 
     Type 0
   where
     pub steps : AreLinked (IsStep s.greatest) start es end
-    pub chunks : IfSome bytes (λ t. AreLinked (IsChunk s t) start es end)
+    pub chunks : IfSome bytes (λ t. AreLinked (IsCutEntry s t) start es end)
 
 -- what a worker leaves that cut from `start` on, however far it came
-pub record IsRun (s : Sizes) (h : Held) (start : ℕ) (es : List (ℕ × List ℕ)) : Type 0 where
+pub record IsEntryRun (s : Sizes) (h : Held) (start : ℕ) (es : List (ℕ × List ℕ)) : Type 0 where
   pub end : ℕ
   pub inside : end ≤ h.size
   pub entries : AreEntries s h.bytes start es end

@@ -1,6 +1,6 @@
 -- What workers cut of an image, the first one from 0 on and each other one from other places on.
 use Rattle.std.specs.Prelude.{◌≡◌, ℕ, ◌≤◌, List, [], length, All, IfOk, IfErr}
-use Rattle.buzhash_cut.specs.Entries.{AreEntries, AreTooMany, IsRun}
+use Rattle.buzhash_cut.specs.Entries.{AreEntries, AreTooMany, IsEntryRun}
 use Rattle.chunk_ends.specs.Sizes.{Sizes}
 use Rattle.buzhash_cut.specs.declared.image.CutFault.TheVariants as faults
 use Rattle.buzhash_cut.specs.declared.run.Run.{Run}
@@ -16,7 +16,7 @@ pub record IsReady {V : Type 0} (w : Worker V) : Type 0 where
 
 -- each of these was cut from its start on
 abbrev pub AreRuns : Sizes → Held → List Run → Type 0
-AreRuns s h rs = All (λ r. IsRun s h r.start (pairs r.entries.items)) rs
+AreRuns s h rs = All (λ r. IsEntryRun s h r.start (pairs r.entries.items)) rs
 
 -- what a worker leaves that has cut, where its view tells by these what it holds and how often it has failed
 module _ {V : Type 0} (held : V → Held) (failed : V → ℕ) (s : Sizes) (old new : Worker V) where

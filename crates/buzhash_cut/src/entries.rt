@@ -2,7 +2,7 @@
 
 ghost use Rattle.std.specs.Prelude.{◌≡◌, ◌≢◌, ℕ, ◌+◌, ◌<◌, ◌≤◌, [], ◌∷◌, ◌++◌, length, IfOk, IfErr, IfSome, OnOk};
 ghost use Rattle.std.specs.Prelude.{OnErr};
-ghost use Rattle.buzhash_cut.specs.Entries.{AreEntries, AreLinked, AreTooMany, IsRun, IsStep};
+ghost use Rattle.buzhash_cut.specs.Entries.{AreEntries, AreLinked, AreTooMany, IsEntryRun, IsStep};
 ghost use Rattle.buzhash_cut.specs.Slicing.{IsWithin, HasRead, begun_by};
 ghost use Rattle.caibx_codec.specs.Seen.{pair, pairs};
 ghost use Rattle.dsy_base.specs.Counts.{CountsFaults};
@@ -74,7 +74,7 @@ pub(crate) fn cut_on<V: View>(
         → AreEntries slicer.old.cutter.sizes (V.held view.old).bytes base (pairs entries.new.items) e) }
     ensures before { OnErr result ((base : ℕ) →
         AreEntries slicer.old.cutter.sizes (V.held view.old).bytes base (pairs entries.old.items) begun
-        → IsRun slicer.old.cutter.sizes (V.held view.old) base (pairs entries.new.items)) }
+        → IsEntryRun slicer.old.cutter.sizes (V.held view.old) base (pairs entries.new.items)) }
     ensures few { length (pairs entries.new.items) ≤ 4194304 }
     ensures many { IfErr result (λ f. f ≡ CutFault.TooManyItems →
         AreEntries slicer.old.cutter.sizes (V.held view.old).bytes 0 (pairs entries.old.items) begun

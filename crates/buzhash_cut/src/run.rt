@@ -1,7 +1,7 @@
 //! What is cut of an image, beginning somewhere in it as if a chunk began there. Offsets are in bytes.
 
 ghost use Rattle.std.specs.Prelude.{◌≡◌, ◌<◌, [], length};
-ghost use Rattle.buzhash_cut.specs.Entries.{IsRun};
+ghost use Rattle.buzhash_cut.specs.Entries.{IsEntryRun};
 ghost use Rattle.chunk_ends.specs.Sizes.{Sizes};
 ghost use Rattle.caibx_codec.specs.Seen.{pairs};
 ghost use Rattle.dsy_base.specs.Bytes.{Held};
@@ -29,7 +29,7 @@ impl Run {
     /// The entries of the chunks from `at` on, where one of them begins there.
     pub(crate) fn from(&self, at: u64) -> &[Entry]
         ensures chunks { 0 < length result.now → (s : Sizes) (h : Held) →
-            IsRun s h self.now.start (pairs self.now.entries.items) → IsRun s h at (pairs result.now) }
+            IsEntryRun s h self.now.start (pairs self.now.entries.items) → IsEntryRun s h at (pairs result.now) }
     {
         if at == self.start {
             return &self.entries;

@@ -4,7 +4,7 @@
 ghost use Rattle.std.specs.Prelude.{◌≡◌, ℕ, ◌+◌, ◌-◌, ◌^◌, ◌<◌, ◌≤◌, length, min, slice_range, IfOk};
 ghost use Rattle.std.specs.Prelude.{IfSome, OnOk, MatchOption, List, drop, vec_len};
 ghost use Rattle.chunk_ends.specs.Cuts.{IsCut};
-ghost use Rattle.buzhash_cut.specs.Entries.{IsChunk};
+ghost use Rattle.buzhash_cut.specs.Entries.{IsCutEntry};
 ghost use Rattle.buzhash_cut.specs.Slicing.{IsWithin, HasRead, begun_by, piece_size};
 ghost use Rattle.caibx_codec.specs.Seen.{pair};
 ghost use Rattle.chunk_store.specs.Names.{name_of};
@@ -197,7 +197,7 @@ impl Slicer {
         ensures on { IfOk result (λ e. e.end < (V.held view.old).size → begun_by self.new ≡ e.end) }
         ensures read { OnOk result (IfSome (V.held view.old).bytes (λ t. HasRead self.old t → HasRead self.new t)) }
         ensures chunk { IfOk result (λ e. IfSome (V.held view.old).bytes (λ t. HasRead self.old t
-            → IsChunk self.old.cutter.sizes t begun (pair e))) }
+            → IsCutEntry self.old.cutter.sizes t begun (pair e))) }
         ensures kept { V.held view.new ≡ V.held view.old }
         ensures faults { CountsRefusals (V.faults view.old) (V.faults view.new) result }
     {

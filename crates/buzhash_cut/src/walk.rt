@@ -1,7 +1,7 @@
 //! The runs of several workers joined to the chunks of the image. Offsets are in bytes.
 
 ghost use Rattle.std.specs.Prelude.{◌≡◌, ℕ, ◌<◌, ◌≤◌, length, All, IfOk, IfErr, IfSome, OnOk};
-ghost use Rattle.buzhash_cut.specs.Entries.{AreAll, AreEntries, AreTooMany, IsRun};
+ghost use Rattle.buzhash_cut.specs.Entries.{AreAll, AreEntries, AreTooMany, IsEntryRun};
 ghost use Rattle.buzhash_cut.specs.Runs.{AreRuns};
 ghost use Rattle.chunk_ends.specs.Sizes.{Sizes};
 ghost use Rattle.buzhash_cut.specs.Slicing.{IsWithin};
@@ -23,7 +23,8 @@ use std::mem;
 // The entries of the chunks from `at` on, where one of these runs has such.
 fn run_among(runs: &[Run], at: u64) -> Option<&[Entry]>
     ensures some { IfSome result (λ r. 0 < length r.now) }
-    ensures chunks { IfSome result (λ r. (s : Sizes) (h : Held) → AreRuns s h runs.now → IsRun s h at (pairs r.now)) }
+    ensures chunks { IfSome result (λ r. (s : Sizes) (h : Held) → AreRuns s h runs.now
+        → IsEntryRun s h at (pairs r.now)) }
 {
     for run in runs {
         let entries = run.from(at);
@@ -38,7 +39,7 @@ fn run_among(runs: &[Run], at: u64) -> Option<&[Entry]>
 fn run_from<V: View>(others: &[Worker<V>], at: u64) -> Option<&[Entry]>
     ensures some { IfSome result (λ r. 0 < length r.now) }
     ensures chunks { IfSome result (λ r. (s : Sizes) (h : Held) →
-        All (λ w. AreRuns s h w.runs.items) others.now → IsRun s h at (pairs r.now)) }
+        All (λ w. AreRuns s h w.runs.items) others.now → IsEntryRun s h at (pairs r.now)) }
 {
     for worker in others {
         if let Some(entries) = run_among(&worker.runs, at) {

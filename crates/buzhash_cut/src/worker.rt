@@ -1,7 +1,7 @@
 //! A worker that cuts an image beside others. Offsets are in bytes.
 
 ghost use Rattle.std.specs.Prelude.{◌≡◌, ◌<◌, ◌≤◌, [], length, IfOk, IfErr, IfSome, OnOk};
-ghost use Rattle.buzhash_cut.specs.Entries.{AreEntries, AreTooMany, IsRun};
+ghost use Rattle.buzhash_cut.specs.Entries.{AreEntries, AreTooMany, IsEntryRun};
 ghost use Rattle.buzhash_cut.specs.Runs.{AreRuns, HasCut, HasCutFirst, IsReady};
 ghost use Rattle.buzhash_cut.specs.Slicing.{IsWithin, HasRead, begun_by};
 ghost use Rattle.caibx_codec.specs.Seen.{pairs};
@@ -56,7 +56,7 @@ fn cut_past<V: View>(
 
     ensures end { IfOk result (λ e. (e ≤ (V.held view.old).size)
         × AreEntries slicer.old.cutter.sizes (V.held view.old).bytes start (pairs entries.new.items) e) }
-    ensures run { IsRun slicer.old.cutter.sizes (V.held view.old) start (pairs entries.new.items) }
+    ensures run { IsEntryRun slicer.old.cutter.sizes (V.held view.old) start (pairs entries.new.items) }
     ensures few { length (pairs entries.new.items) ≤ 4194304 }
     ensures many { IfErr result (λ f. f ≡ CutFault.TooManyItems → start ≡ 0
         → AreTooMany slicer.old.cutter.sizes (V.held view.old)) }
@@ -90,7 +90,7 @@ fn cut_run<V: View>(
     requires inside { (run.old.start ≤ (V.held view.old).size) × (stop ≤ (V.held view.old).size) }
     requires none { run.old.entries.items ≡ [] }
     ensures start { run.new.start ≡ run.old.start }
-    ensures run { IsRun slicer.old.cutter.sizes (V.held view.old) run.old.start (pairs run.new.entries.items) }
+    ensures run { IsEntryRun slicer.old.cutter.sizes (V.held view.old) run.old.start (pairs run.new.entries.items) }
     ensures within { OnOk result (IsWithin slicer.new (V.held view.old).size) }
     ensures sizes { slicer.new.cutter.sizes ≡ slicer.old.cutter.sizes }
     ensures kept { V.held view.new ≡ V.held view.old }

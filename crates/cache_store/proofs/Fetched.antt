@@ -6,12 +6,12 @@ use Rattle.cache_store.specs.Through.{AddedTo, Unfound}
 use Rattle.cache_store.specs.declared.cached.Kept.{Kept}
 use Rattle.cache_store.specs.declared.cached.Kept.TheVariants as kept
 use Rattle.chunk_store.specs.Folders.{chunks}
-use Rattle.dir_store.specs.Puts.{LeavesTemporary, Puts}
+use Rattle.dir_store.specs.Puts.{LeavesTemporary, PutsAtPath}
 use Rattle.dsy_base.specs.Counts.{Rose}
 use Rattle.dsy_base.specs.Maps.{Map}
 use Rattle.store_chain.specs.Giving.{Gives, SomeHolds}
-use Rattle.store_chain.specs.Wants.{IsWanted}
-use Rattle.store_chain.specs.declared.want.Want.{Want}
+use Rattle.store_chain.specs.Queries.{IsWanted}
+use Rattle.store_chain.specs.declared.query.Query.{Query}
 
 rose_on : (a b c : ℕ) → Rose a b → b ≤ c → Rose a c
 rose_on a b c (inl up) more = inl (omega (arith, up, more))
@@ -22,7 +22,7 @@ rose_from a b c less (inl up) = inl (omega (arith, up, less))
 rose_from a b c less (inr top) = inr top
 
 -- a chunk that wasn't found, though more was done since
-pub unfound_on : (w : Want) (a b c : Shelf) → b.faults ≤ c.faults → Unfound w a b → Unfound w a c
+pub unfound_on : (w : Query) (a b c : Shelf) → b.faults ≤ c.faults → Unfound w a b → Unfound w a c
 unfound_on w a b c more h = go a.files h where
   go : (o : Option (Map (List ℕ))) → IfSome (option_map chunks o) (λ m. Gives w m → Rose a.faults b.faults) → IfSome (option_map chunks o) (λ m. Gives w m → Rose a.faults c.faults)
   go None h = tt
@@ -30,7 +30,7 @@ unfound_on w a b c more h = go a.files h where
 
 -- bytes that were added to a shelf that was looked at before
 pub added_from : (id b : List ℕ) (k : Kept) (old mid new : Shelf) → mid.files ≡ old.files → old.faults ≤ mid.faults → AddedTo id b k mid new → AddedTo id b k old new
-added_from id b kept.Yes old mid new same less put = subst (λ (o : Option (Map (List ℕ))). Puts id b o new.files) same put
+added_from id b kept.Yes old mid new same less put = subst (λ (o : Option (Map (List ℕ))). PutsAtPath id b o new.files) same put
 added_from id b kept.Failed old mid new same less left =
     (subst (λ (o : Option (Map (List ℕ))). LeavesTemporary id o new.files) same left.0, rose_from old.faults mid.faults new.faults less left.1)
 added_from id b kept.Memory old mid new same less left = subst (λ (o : Option (Map (List ℕ))). LeavesTemporary id o new.files) same left
@@ -39,7 +39,7 @@ pub ok_err : {X E : Type 0} (x : X) (e : E) → Ok x ≡ Err e → ⊥
 ok_err x e is = cc
 
 -- the bytes that were added are what was wanted, and a store holds them
-pub added_wanted : {S : Type 0} (holds : S → Option (Map (List ℕ))) (w : Want) (id added b : List ℕ) (stores : List S) → added ≡ b → IsWanted w b → SomeHolds holds stores id b
+pub added_wanted : {S : Type 0} (holds : S → Option (Map (List ℕ))) (w : Query) (id added b : List ℕ) (stores : List S) → added ≡ b → IsWanted w b → SomeHolds holds stores id b
     → (q x : List ℕ) → (q ≡ id) × (x ≡ added) → (q ≡ id) × IsWanted w x × SomeHolds holds stores q x
 added_wanted holds w id added b stores same wanted held q x t =
     let back : b ≡ x = sym (t.1 ∙ same) in

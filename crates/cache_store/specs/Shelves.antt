@@ -9,7 +9,7 @@ use Rattle.chunk_store.specs.declared.id.DigestKind.{DigestKind}
 use Rattle.dir_store.specs.Names.{is_stranger}
 use Rattle.dsy_base.specs.Maps.{Map}
 use Rattle.store_chain.specs.Giving.{HoldsElse, HoldsNone}
-use Rattle.store_chain.specs.declared.want.Want.{Want}
+use Rattle.store_chain.specs.declared.query.Query.{Query}
 
 -- what contracts see of a shelf: its folder, and the digest that names the chunks
 pub record Shelved (F : Type 0) : Type 0 where
@@ -38,7 +38,7 @@ abbrev pub IsPair : List ℕ → ℕ → List (List ℕ × ℕ) → Type 0
 IsPair id size pairs = Any (λ (p : List ℕ × ℕ). (p.0 ≡ id) × (p.1 ≡ size)) pairs
 
 -- what a look for a chunk answers, where the shelf holds these, and the front of the buffer afterwards
-abbrev pub Finds : Want → Map (List ℕ) → Result ℕ CacheMiss → List ℕ → Type 0
+abbrev pub Finds : Query → Map (List ℕ) → Result ℕ CacheMiss → List ℕ → Type 0
 Finds w m (Ok n) out = m w.id.0 ≡ Some (take n out)
 Finds w m (Err miss.Absent) out = HoldsNone w m
 Finds w m (Err (miss.Wrong x)) out = HoldsElse w x m

@@ -7,7 +7,7 @@ ghost use Rattle.cache_store.specs.Through.{AddedTo, Unfound, FromShelf, FromSto
 ghost use Rattle.chunk_store.specs.Asks.{Get};
 ghost use Rattle.chunk_store.specs.Names.{name_of};
 ghost use Rattle.store_chain.specs.Chains.{KeepsStores};
-ghost use Rattle.store_chain.specs.Wants.{IsGiven, IsWanted, want_of};
+ghost use Rattle.store_chain.specs.Queries.{FillsQuery, IsWanted, query_of};
 
 use crate::shelf::{CacheMiss, CacheShelf};
 use chunk_store::id::ChunkId;
@@ -47,11 +47,11 @@ fn find_first<F: Folder>(
     out: &mut [u8],
 ) -> Result<Option<usize>, Refused>
     requires inside { IfSome size (λ n. n ≤ length out.old) }
-    ensures ok { IfOk result (λ o. IfSome o (λ n. IsGiven (want_of shelf.old.kind id.now size (length out.old)) n
+    ensures ok { IfOk result (λ o. IfSome o (λ n. FillsQuery (query_of shelf.old.kind id.now size (length out.old)) n
         out.new)) }
     ensures found { IfOk result (λ o. IfSome o (λ n. IfSome (held_on (shelf_of F.files F.place F.faults shelf.old))
         (λ m. m id.now.0 ≡ Some (take n out.new)))) }
-    ensures absent { result ≡ Ok None → Unfound (want_of shelf.old.kind id.now size (length out.old))
+    ensures absent { result ≡ Ok None → Unfound (query_of shelf.old.kind id.now size (length out.old))
         (shelf_of F.files F.place F.faults shelf.old) (shelf_of F.files F.place F.faults shelf.new) }
     ensures only { IfErr result (λ r. r ≡ Refused.Memory) }
     ensures kept { KeepsShelf (shelf_of F.files F.place F.faults shelf.old)
@@ -99,14 +99,15 @@ pub fn obtain_through<F: Folder, S: Store>(
     requires inside { IfSome size (λ n. n ≤ length out.old) }
     requires kind { shelf.old.kind ≡ chain.old.kind }
     requires unnamed { (F.pairs ≡ None) × (F.stores ≡ None) }
-    ensures ok { IfOk result (λ got. IsGiven (want_of chain.old.kind id.now size (length out.old)) got.size out.new) }
-    ensures ends { FromShelf F.files F.place F.faults (want_of chain.old.kind id.now size (length out.old))
+    ensures ok { IfOk result (λ got. FillsQuery (query_of chain.old.kind id.now size (length out.old)) got.size
+        out.new) }
+    ensures ends { FromShelf F.files F.place F.faults (query_of chain.old.kind id.now size (length out.old))
         (record { shelf = shelf.old; chain = chain.old })
         (record { shelf = shelf.new; chain = chain.new }) result out.new
         ⊎ FromStores F.files F.place F.faults S.holds S.said S.faults S.may_lack_memory S.asked S.queried
-        (want_of chain.old.kind id.now size (length out.old)) (record { shelf = shelf.old; chain = chain.old })
+        (query_of chain.old.kind id.now size (length out.old)) (record { shelf = shelf.old; chain = chain.old })
         (record { shelf = shelf.new; chain = chain.new }) result out.new }
-    ensures stocks { Stocks (λ q b. (q ≡ id.now.0) × IsWanted (want_of chain.old.kind id.now size (length out.old)) b
+    ensures stocks { Stocks (λ q b. (q ≡ id.now.0) × IsWanted (query_of chain.old.kind id.now size (length out.old)) b
         × SomeHolds S.holds chain.old.stores q b) (shelf_of F.files F.place F.faults shelf.old)
         (shelf_of F.files F.place F.faults shelf.new) }
     ensures stores { KeepsStores S.Store (λ a. a ≡ Get id.now.0) chain.old.stores chain.new.stores }
@@ -171,14 +172,14 @@ impl<F: Folder, S: Store> Cached<F, S> {
     ) -> Result<Got, Refused>
         requires inside { IfSome size (λ n. n ≤ length out.old) }
         requires unnamed { (F.pairs ≡ None) × (F.stores ≡ None) }
-        ensures ok { IfOk result (λ got. IsGiven (want_of self.old.chain.kind id.now size (length out.old)) got.size
+        ensures ok { IfOk result (λ got. FillsQuery (query_of self.old.chain.kind id.now size (length out.old)) got.size
             out.new) }
-        ensures ends { FromShelf F.files F.place F.faults (want_of self.old.chain.kind id.now size (length out.old))
+        ensures ends { FromShelf F.files F.place F.faults (query_of self.old.chain.kind id.now size (length out.old))
             self.old self.new result out.new
             ⊎ FromStores F.files F.place F.faults S.holds S.said S.faults S.may_lack_memory S.asked S.queried
-            (want_of self.old.chain.kind id.now size (length out.old)) self.old self.new result out.new }
+            (query_of self.old.chain.kind id.now size (length out.old)) self.old self.new result out.new }
         ensures stocks { Stocks (λ q b. (q ≡ id.now.0)
-            × IsWanted (want_of self.old.chain.kind id.now size (length out.old)) b
+            × IsWanted (query_of self.old.chain.kind id.now size (length out.old)) b
             × SomeHolds S.holds self.old.chain.stores q b) (shelf_of F.files F.place F.faults self.old.shelf)
             (shelf_of F.files F.place F.faults self.new.shelf) }
         ensures stores { KeepsStores S.Store (λ a. a ≡ Get id.now.0) self.old.chain.stores self.new.chain.stores }

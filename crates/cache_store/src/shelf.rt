@@ -8,9 +8,9 @@ ghost use Rattle.cache_store.specs.Shelves.{Finds, IsPair};
 ghost use Rattle.chunk_store.specs.Folders.{chunks};
 ghost use Rattle.chunk_store.specs.Names.{name_of};
 ghost use Rattle.chunk_store.specs.declared.id.DigestKind.TheVariants as kinds;
-ghost use Rattle.dir_store.specs.Puts.{LeavesTemporary, Puts};
+ghost use Rattle.dir_store.specs.Puts.{LeavesTemporary, PutsAtPath};
 ghost use Rattle.dsy_base.specs.Counts.{CountsFaults};
-ghost use Rattle.store_chain.specs.Wants.{IsGiven, want_of};
+ghost use Rattle.store_chain.specs.Queries.{FillsQuery, query_of};
 
 use chunk_store::id::{ChunkId, DigestKind};
 use chunk_store::shows::Shows;
@@ -18,7 +18,7 @@ use dsy_base::fault::{FileFault, IoFault};
 use dsy_base::folder::Folder;
 use dsy_base::look::Look;
 use std::marker::Model;
-use store_chain::want::Want;
+use store_chain::query::Query;
 
 /// Why a shelf doesn't give a chunk.
 #[derive(Clone, Copy, Debug, PartialEq, Eq)]
@@ -47,19 +47,19 @@ impl<F: Folder> Model for CacheShelf<F> {
 }
 
 // Reads the file of what is wanted.
-fn look<F: Folder>(folder: &mut F, want: &Want, out: &mut [u8]) -> Result<usize, CacheMiss>
-    requires size { want.now.lent ≡ length out.old }
-    ensures ok { IfOk result (λ n. IsGiven want.now n out.new) }
-    ensures found { IfSome (option_map chunks (F.files folder.old)) (λ m. Finds want.now m result out.new) }
+fn look<F: Folder>(folder: &mut F, query: &Query, out: &mut [u8]) -> Result<usize, CacheMiss>
+    requires size { query.now.lent ≡ length out.old }
+    ensures ok { IfOk result (λ n. FillsQuery query.now n out.new) }
+    ensures found { IfSome (option_map chunks (F.files folder.old)) (λ m. Finds query.now m result out.new) }
     ensures kept { F.files folder.new ≡ F.files folder.old }
     ensures place { F.place folder.new ≡ F.place folder.old }
     ensures faults { CountsFaults CacheMiss.Failed CacheMiss.Memory (F.faults folder.old) (F.faults folder.new) result }
 {
-    let path = want.id.path();
+    let path = query.id.path();
     match folder.read(path.as_str(), out) {
         Ok(n) => {
             let (bytes, _) = out.split_at(n);
-            match want.shown(bytes) {
+            match query.shown(bytes) {
                 None => Ok(n),
                 Some(shows) => Err(CacheMiss::Wrong(shows)),
             }
@@ -104,18 +104,18 @@ impl<F: Folder> CacheShelf<F> {
         out: &mut [u8],
     ) -> Result<usize, CacheMiss>
         requires inside { IfSome size (λ n. n ≤ length out.old) }
-        ensures ok { IfOk result (λ n. IsGiven (want_of self.old.kind id.now size (length out.old)) n out.new) }
+        ensures ok { IfOk result (λ n. FillsQuery (query_of self.old.kind id.now size (length out.old)) n out.new) }
         ensures found { IfSome (option_map chunks (F.files self.old.folder))
-            (λ m. Finds (want_of self.old.kind id.now size (length out.old)) m result out.new) }
+            (λ m. Finds (query_of self.old.kind id.now size (length out.old)) m result out.new) }
         ensures kept { F.files self.new.folder ≡ F.files self.old.folder }
         ensures place { F.place self.new.folder ≡ F.place self.old.folder }
         ensures kind { self.new.kind ≡ self.old.kind }
         ensures faults { CountsFaults CacheMiss.Failed CacheMiss.Memory
             (F.faults self.old.folder) (F.faults self.new.folder) result }
     {
-        let want = Want::of(self.kind, id, size, out.len());
-        let (lent, _) = out.split_at_mut(want.lent);
-        look(&mut self.folder, &want, lent)
+        let query = Query::of(self.kind, id, size, out.len());
+        let (lent, _) = out.split_at_mut(query.lent);
+        look(&mut self.folder, &query, lent)
     }
 
     /// Puts the chunk of this id there, in the place of what stood there. Where the type of the folder names the chunks
@@ -124,7 +124,7 @@ impl<F: Folder> CacheShelf<F> {
         requires named { name_of self.old.kind b.now ≡ id.now.0 }
         requires listed { IfSome F.pairs (IsPair id.now.0 (length b.now)) }
         requires held { IfSome F.stores (Any (λ m. m id.now.0 ≡ Some b.now)) }
-        ensures ok { OnOk result (Puts id.now.0 b.now (F.files self.old.folder) (F.files self.new.folder)) }
+        ensures ok { OnOk result (PutsAtPath id.now.0 b.now (F.files self.old.folder) (F.files self.new.folder)) }
         ensures err { OnErr result (LeavesTemporary id.now.0 (F.files self.old.folder) (F.files self.new.folder)) }
         ensures place { F.place self.new.folder ≡ F.place self.old.folder }
         ensures kind { self.new.kind ≡ self.old.kind }

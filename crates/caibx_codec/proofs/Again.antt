@@ -14,7 +14,7 @@ use Rattle.caibx_fields.specs.Words.{word, words}
 use Rattle.caibx_fields.specs.Fields.{need, word_at, end_judged}
 use Rattle.caibx_codec.specs.Listing.{Listing, IsValid, AreChunks}
 use Rattle.caibx_codec.specs.Spelling.{item, items, spelling, IsIndexFile, front_words, tail_words}
-use Rattle.caibx_codec.specs.Reading.{Read, judge, judge_at, push, reads, start, listing_of, is_whole, index_in, ◌>>=◌}
+use Rattle.caibx_codec.specs.Reading.{Read, judge, judge_at, push_to_index, reads_index, index_start, listing_read, is_read_whole, index_in, ◌>>=◌}
 use Rattle.caibx_codec.specs.Standing.{last_end}
 use Rattle.caibx_codec.proofs.Fields.{judge_word, judge_id, no_id, no_end}
 use Rattle.caibx_codec.proofs.Pieces.{reads_one, reads_none}
@@ -35,29 +35,29 @@ under : (n m : ℕ) → n < m → nat_lt n m ≡ true
 under n m h = grind (arith, nat_tests)
 
 -- all bytes that the next field still needs
-reads_field : (r : Read) (x : ℕ) (xs rest : List ℕ) → length r.part + length (x ∷ xs) ≡ need r.fields.next → reads r ((x ∷ xs) ++ rest) ≡ (judge r (r.part ++ x ∷ xs) >>= λ s. reads s rest)
-unfolding push
+reads_field : (r : Read) (x : ℕ) (xs rest : List ℕ) → length r.part + length (x ∷ xs) ≡ need r.fields.next → reads_index r ((x ∷ xs) ++ rest) ≡ (judge r (r.part ++ x ∷ xs) >>= λ s. reads_index s rest)
+unfolding push_to_index
 reads_field r x [] rest len =
     let last : nat_lt (length r.part + 1) (need r.fields.next) ≡ false = above (length r.part + 1) (need r.fields.next) (omega arith) in
-    reads_one r x rest ∙ ap (λ b. cond b (Ok (record r { part = r.part ++ x ∷ [] })) (judge r (r.part ++ x ∷ [])) >>= λ s. reads s rest) last
+    reads_one r x rest ∙ ap (λ b. cond b (Ok (record r { part = r.part ++ x ∷ [] })) (judge r (r.part ++ x ∷ [])) >>= λ s. reads_index s rest) last
 reads_field r x (y ∷ ys) rest len =
     let some = r.part ++ x ∷ [] in
     let more : nat_lt (length r.part + 1) (need r.fields.next) ≡ true = under (length r.part + 1) (need r.fields.next) (omega arith) in
-    let one : reads r ((x ∷ y ∷ ys) ++ rest) ≡ reads (record r { part = some }) ((y ∷ ys) ++ rest) = reads_one r x ((y ∷ ys) ++ rest) ∙ ap (λ b. cond b (Ok (record r { part = some })) (judge r some) >>= λ s. reads s ((y ∷ ys) ++ rest)) more in
+    let one : reads_index r ((x ∷ y ∷ ys) ++ rest) ≡ reads_index (record r { part = some }) ((y ∷ ys) ++ rest) = reads_one r x ((y ∷ ys) ++ rest) ∙ ap (λ b. cond b (Ok (record r { part = some })) (judge r some) >>= λ s. reads_index s ((y ∷ ys) ++ rest)) more in
     let left : length some + length (y ∷ ys) ≡ need r.fields.next = omega (arith, length-append r.part (x ∷ [])) in
     let others = reads_field (record r { part = some }) y ys rest left in
     let same : judge (record r { part = some }) (some ++ y ∷ ys) ≡ judge r (r.part ++ x ∷ y ∷ ys) = judge_part_at r.fields.next r some (some ++ y ∷ ys) ∙ ap (judge r) (append_assoc r.part (x ∷ []) (y ∷ ys)) in
-    one ∙ others ∙ ap (λ a. a >>= λ s. reads s rest) same
+    one ∙ others ∙ ap (λ a. a >>= λ s. reads_index s rest) same
 
 abbrev at : Fields → List (ℕ × List ℕ) → Read
 at s es = record { fields = s; entries = es; part = [] }
 
 -- a word that is right
-reads_word : (s t : Fields) (es : List (ℕ × List ℕ)) (w : ℕ) (rest : List ℕ) → need s.next ≡ 8 → w < 2 ^ 64 → word_at s.next s (length es) w ≡ Ok t → reads (at s es) (word w ++ rest) ≡ reads (at t es) rest
+reads_word : (s t : Fields) (es : List (ℕ × List ℕ)) (w : ℕ) (rest : List ℕ) → need s.next ≡ 8 → w < 2 ^ 64 → word_at s.next s (length es) w ≡ Ok t → reads_index (at s es) (word w ++ rest) ≡ reads_index (at t es) rest
 reads_word s t es w rest wide small right =
     let again : from_le_bytes w64 (word w) ≡ w = from_le_bytes-to_le_bytes_8 w small in
     let made : judge (at s es) (word w) ≡ Ok (at t es) = judge_word (at s es) (word w) (no_id s.next wide) (no_end s.next wide) ∙ ap (λ n. word_at s.next s (length es) n >>= λ u. Ok (at u es)) again ∙ ap (λ a. a >>= λ u. Ok (at u es)) right in
-    reads_field (at s es) _ _ rest (sym wide) ∙ ap (λ a. a >>= λ u. reads u rest) made
+    reads_field (at s es) _ _ rest (sym wide) ∙ ap (λ a. a >>= λ u. reads_index u rest) made
 
 -- ---- the items
 
@@ -75,10 +75,10 @@ module _ (flags min avg max : ℕ) (small : max ≤ 67108864) where
       let no_larger : nat_lt max (w - from) ≡ false = grind (arith, nat_tests) in
       rw (not_zero, room, ordered, no_larger) refl
 
-  reads_id : (es : List (ℕ × List ℕ)) (end : ℕ) (id rest : List ℕ) → length id ≡ 32 → reads (at (fields field.Id end) es) (id ++ rest) ≡ reads (at (fields field.End end) (es ++ (end, id) ∷ [])) rest
+  reads_id : (es : List (ℕ × List ℕ)) (end : ℕ) (id rest : List ℕ) → length id ≡ 32 → reads_index (at (fields field.Id end) es) (id ++ rest) ≡ reads_index (at (fields field.End end) (es ++ (end, id) ∷ [])) rest
   reads_id es end [] rest len = absurd (omega arith)
   reads_id es end (x ∷ xs) rest len =
-      reads_field (at (fields field.Id end) es) x xs rest (omega arith) ∙ ap (λ a. a >>= λ u. reads u rest) (judge_id (at (fields field.Id end) es) (x ∷ xs) refl)
+      reads_field (at (fields field.Id end) es) x xs rest (omega arith) ∙ ap (λ a. a >>= λ u. reads_index u rest) (judge_id (at (fields field.Id end) es) (x ∷ xs) refl)
 
   split : (e : ℕ × List ℕ) (es : List (ℕ × List ℕ)) (rest : List ℕ) → items (e ∷ es) ++ rest ≡ word e.0 ++ (e.1 ++ (items es ++ rest))
   unfolding items item
@@ -89,15 +89,15 @@ module _ (flags min avg max : ℕ) (small : max ≤ 67108864) where
   none_left rest = refl
 
   reads_items : (done es : List (ℕ × List ℕ)) (from : ℕ) (rest : List ℕ) → AreChunks max from es → AllByRecursion (λ e. IsId e.1) es → length done + length es ≤ 4194304 → from + length es * 67108864 < 2 ^ 64
-      → reads (at (fields field.End from) done) (items es ++ rest) ≡ reads (at (fields field.End (last_end from es)) (done ++ es)) rest
+      → reads_index (at (fields field.End from) done) (items es ++ rest) ≡ reads_index (at (fields field.End (last_end from es)) (done ++ es)) rest
   reads_items done [] from rest chunks ids few bound =
-      ap (reads (at (fields field.End from) done)) (none_left rest) ∙ ap (λ es. reads (at (fields field.End from) es) rest) (sym (append-nil done))
+      ap (reads_index (at (fields field.End from) done)) (none_left rest) ∙ ap (λ es. reads_index (at (fields field.End from) es) rest) (sym (append-nil done))
   reads_items done (e ∷ es) from rest chunks ids few bound =
       let end = reads_word (fields field.End from) (fields field.Id e.0) done e.0 (e.1 ++ (items es ++ rest)) refl (omega (arith, chunks.1, small)) (end_right done from e.0 (omega arith) chunks.0 chunks.1) in
       let id = reads_id done e.0 e.1 (items es ++ rest) ids.0.size in
       let more : length (done ++ (e.0, e.1) ∷ []) + length es ≤ 4194304 = omega (arith, length-append done ((e.0, e.1) ∷ [])) in
       let others = reads_items (done ++ (e.0, e.1) ∷ []) es e.0 rest chunks.2 ids.1 more (omega (arith, chunks.1, small)) in
-      ap (reads (at (fields field.End from) done)) (split e es rest) ∙ end ∙ id ∙ others ∙ ap (λ x. reads (at (fields field.End (last_end e.0 es)) x) rest) (append_assoc done ((e.0, e.1) ∷ []) es)
+      ap (reads_index (at (fields field.End from) done)) (split e es rest) ∙ end ∙ id ∙ others ∙ ap (λ x. reads_index (at (fields field.End (last_end e.0 es)) x) rest) (append_assoc done ((e.0, e.1) ∷ []) es)
 
 -- ---- the whole file
 
@@ -119,8 +119,8 @@ max_right flags min avg w small =
     let test : nat_lt 67108864 w ≡ false = grind (arith, nat_tests) in
     rw test refl
 
-reads_front : (l : Listing) → IsValid l → (rest : List ℕ) → reads start (words (front_words l) ++ rest) ≡ reads (at (head field.End l.flags l.least l.average l.greatest) []) rest
-unfolding start word_at
+reads_front : (l : Listing) → IsValid l → (rest : List ℕ) → reads_index index_start (words (front_words l) ++ rest) ≡ reads_index (at (head field.End l.flags l.least l.average l.greatest) []) rest
+unfolding index_start word_at
 reads_front l valid rest =
     let dig : ℕ = 0x2000000000000000 in
     reads_word (head field.HeadSize dig 0 0 0) (head field.HeadType dig 0 0 0) [] 48 _ refl (lit< tt) refl
@@ -132,7 +132,7 @@ reads_front l valid rest =
     ∙ reads_word (head field.TableSize l.flags l.least l.average l.greatest) (head field.TableType l.flags l.least l.average l.greatest) [] 0xffffffffffffffff _ refl (lit< tt) refl
     ∙ reads_word (head field.TableType l.flags l.least l.average l.greatest) (head field.End l.flags l.least l.average l.greatest) [] 0xe75b9e112f17417d rest refl (lit< tt) refl
 
-reads_tail : (l : Listing) (offset size : ℕ) → offset < 2 ^ 64 → size < 2 ^ 64 → reads (at (tail field.End l 0 0) l.entries) (words (tail_words offset size)) ≡ Ok (at (tail field.Nothing l offset size) l.entries)
+reads_tail : (l : Listing) (offset size : ℕ) → offset < 2 ^ 64 → size < 2 ^ 64 → reads_index (at (tail field.End l 0 0) l.entries) (words (tail_words offset size)) ≡ Ok (at (tail field.Nothing l offset size) l.entries)
 unfolding word_at end_judged
 reads_tail l offset size offset_fits size_fits =
     reads_word (tail field.End l 0 0) (tail field.Zero l 0 0) l.entries 0 _ refl (lit< tt) refl
@@ -142,10 +142,10 @@ reads_tail l offset size offset_fits size_fits =
     ∙ reads_word (tail field.Marker l offset size) (tail field.Nothing l offset size) l.entries 0x4b4f050e5549ecd1 [] refl (lit< tt) refl
     ∙ reads_none (at (tail field.Nothing l offset size) l.entries)
 
-reads_spelling : (l : Listing) (offset size : ℕ) → IsValid l → offset < 2 ^ 64 → size < 2 ^ 64 → reads start (spelling l offset size) ≡ Ok (at (tail field.Nothing l offset size) l.entries)
+reads_spelling : (l : Listing) (offset size : ℕ) → IsValid l → offset < 2 ^ 64 → size < 2 ^ 64 → reads_index index_start (spelling l offset size) ≡ Ok (at (tail field.Nothing l offset size) l.entries)
 unfolding spelling
 reads_spelling l offset size valid offset_fits size_fits =
-    ap (reads start) (append_assoc (words (front_words l)) (items l.entries) (words (tail_words offset size)))
+    ap (reads_index index_start) (append_assoc (words (front_words l)) (items l.entries) (words (tail_words offset size)))
     ∙ reads_front l valid (items l.entries ++ words (tail_words offset size))
     ∙ reads_items l.flags l.least l.average l.greatest valid.size [] l.entries 0 (words (tail_words offset size)) valid.chunks valid.ids (omega (arith, valid.few)) (omega (arith, valid.few))
     ∙ reads_tail l offset size offset_fits size_fits
@@ -155,8 +155,8 @@ pub file_read : (bytes : List ℕ) (l : Listing) → IsIndexFile bytes l → ind
 unfolding index_in
 file_read bytes l file =
     let spells = file.spells in
-    let read = ap (reads start) spells.is ∙ reads_spelling l spells.offset spells.size file.valid spells.offset_fits spells.size_fits in
-    ap (λ a. a >>= λ r. cond (is_whole r.fields.next) (Ok (listing_of r)) (Err (faults.Truncated (length bytes)))) read
+    let read = ap (reads_index index_start) spells.is ∙ reads_spelling l spells.offset spells.size file.valid spells.offset_fits spells.size_fits in
+    ap (λ a. a >>= λ r. cond (is_read_whole r.fields.next) (Ok (listing_read r)) (Err (faults.Truncated (length bytes)))) read
 
 -- bytes are the file of one index at most
 pub one_index : (bytes : List ℕ) (l m : Listing) → IsIndexFile bytes l → IsIndexFile bytes m → l ≡ m

@@ -10,7 +10,7 @@ use Rattle.caibx_fields.specs.declared.field.Fields.{Fields}
 use Rattle.caibx_fields.specs.Words.{word, words}
 use Rattle.caibx_fields.specs.Fields.{need, place_of, to}
 use Rattle.caibx_codec.specs.Spelling.{items, front_words, tail_words, spelling, BeginsFile}
-use Rattle.caibx_codec.specs.Reading.{Read, reads, start, listing, first_fault, fault_in_read}
+use Rattle.caibx_codec.specs.Reading.{Read, reads_index, index_start, listing, first_fault, fault_in_read}
 use Rattle.caibx_codec.specs.Standing.{head_part, tail_part, front, before, bytes_of, IsSound, IsGood}
 use Rattle.caibx_codec.proofs.Steps.{IsBytes, id_step}
 use Rattle.caibx_codec.proofs.Taken.{stands_on, start_stands, start_bytes, placed}
@@ -135,8 +135,8 @@ no_fault_read (Err f) h = absurd (cc)
 pub faultless_begins : (b : List ℕ) (k : ℕ) → IsBytes b → length b ≡ 8 * k → first_fault b ≡ None → BeginsFile b
 unfolding first_fault
 faultless_begins b k fits whole h =
-    let read = no_fault_read (reads start b) h in
-    let on = stands_on start read.0 b fits start_stands read.1 in
+    let read = no_fault_read (reads_index index_start b) h in
+    let on = stands_on index_start read.0 b fits start_stands read.1 in
     let same : bytes_of read.0 ≡ b = on.1 ∙ ap (λ x. x ++ b) start_bytes in
     let P : List ℕ → Type 0 = BeginsFile in
     subst P same (good_begins read.0 k on.0.good (ap length same ∙ whole))

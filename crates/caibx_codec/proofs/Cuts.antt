@@ -9,7 +9,7 @@ use Rattle.caibx_codec.specs.declared.reading.ReadFault.{ReadFault}
 use Rattle.caibx_codec.specs.declared.reading.ReadFault.TheVariants as errors
 use Rattle.caibx_fields.specs.Fields.{need, word_at, end_judged}
 use Rattle.caibx_codec.specs.Answers.{Judges}
-use Rattle.caibx_codec.specs.Reading.{Read, judge_at, push, reads, start, first_fault, ◌>>=◌}
+use Rattle.caibx_codec.specs.Reading.{Read, judge_at, push_to_index, reads_index, index_start, first_fault, ◌>>=◌}
 use Rattle.caibx_codec.proofs.Pieces.{reads_one, reads_none}
 use Rattle.caibx_codec.proofs.Views.{shown}
 
@@ -68,22 +68,22 @@ judge_not_cut field.Id r b g h = absurd (cc)
 judge_not_cut field.Nothing r b g h = same_err {A = Read} faults.Trailing g h refl
 judge_not_cut f r b g h = word_not_cut f r.fields (length r.entries) _ g (bind_err _ _ g h)
 
-push_not_cut : (r : Read) (x : ℕ) (g : IndexFault) → push r x ≡ Err g → NotCut g
-unfolding push
+push_not_cut : (r : Read) (x : ℕ) (g : IndexFault) → push_to_index r x ≡ Err g → NotCut g
+unfolding push_to_index
 push_not_cut r x g h = pass_err (nat_lt (length r.part + 1) (need r.fields.next)) _ g _ (judge_not_cut r.fields.next r (r.part ++ x ∷ []) g) h
 
 first_or_later : (p : Result Read IndexFault) (f : Read → Result Read IndexFault) (g : IndexFault) → (p ≡ Err g → NotCut g) → ((s : Read) → f s ≡ Err g → NotCut g) → (p >>= f) ≡ Err g → NotCut g
 first_or_later (Ok s) f g first later h = later s h
 first_or_later (Err e) f g first later h = first h
 
-reads_not_cut : (r : Read) (xs : List ℕ) (g : IndexFault) → reads r xs ≡ Err g → NotCut g
+reads_not_cut : (r : Read) (xs : List ℕ) (g : IndexFault) → reads_index r xs ≡ Err g → NotCut g
 reads_not_cut r [] g h = let no : Ok r ≡ Err g = sym (reads_none r) ∙ h in absurd (cc)
 reads_not_cut r (x ∷ xs) g h =
-    first_or_later (push r x) (λ s. reads s xs) g (push_not_cut r x g) (λ s. reads_not_cut s xs g) (sym (reads_one r x xs) ∙ h)
+    first_or_later (push_to_index r x) (λ s. reads_index s xs) g (push_not_cut r x g) (λ s. reads_not_cut s xs g) (sym (reads_one r x xs) ∙ h)
 
 fault_not_cut : (b : List ℕ) (g : IndexFault) → first_fault b ≡ Some g → NotCut g
 unfolding first_fault
-fault_not_cut b g h = reads_not_cut start b g (shown (reads start b) g h)
+fault_not_cut b g h = reads_not_cut index_start b g (shown (reads_index index_start b) g h)
 
 -- a reader that is fed answers so
 pub fed_not_cut : {A : Type 0} (b : List ℕ) (answer : Result A ReadFault) → Judges b answer → (n : ℕ) → answer ≡ Err (errors.Bad (faults.Truncated n)) → ⊥

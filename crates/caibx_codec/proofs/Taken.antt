@@ -11,8 +11,8 @@ use Rattle.caibx_fields.specs.declared.field.Fields.{Fields}
 use Rattle.caibx_fields.specs.Words.{word, words}
 use Rattle.caibx_fields.specs.Fields.{need, place_of}
 use Rattle.caibx_codec.specs.Spelling.{item, items, tail_words, spelling, IsIndexFile}
-use Rattle.caibx_codec.specs.Reading.{Read, judge, push, reads, start, listing, listing_of, is_whole, ◌>>=◌}
-use Rattle.caibx_codec.specs.Standing.{front, before, bytes_of, EndFits, IsSound, IsGood, Stands}
+use Rattle.caibx_codec.specs.Reading.{Read, judge, push_to_index, reads_index, index_start, listing, listing_read, is_read_whole, ◌>>=◌}
+use Rattle.caibx_codec.specs.Standing.{front, before, bytes_of, EndFits, IsSound, IsGood, IsReached}
 use Rattle.caibx_codec.proofs.Fields.{need_least}
 use Rattle.caibx_codec.proofs.Pieces.{reads-append, reads_one, reads_none}
 use Rattle.caibx_codec.proofs.Steps.{IsBytes, bind_ok, ok_is, judged}
@@ -37,8 +37,8 @@ below n m h = grind (arith, nat_tests)
 not_below : (n m : ℕ) → nat_lt n m ≡ false → m ≤ n
 not_below n m h = grind (arith, nat_tests)
 
-push_takes : (r t : Read) (x : ℕ) → x < 256 → IsGood r → push r x ≡ Ok t → Took r (x ∷ []) t
-unfolding push bytes_of
+push_takes : (r t : Read) (x : ℕ) → x < 256 → IsGood r → push_to_index r x ≡ Ok t → Took r (x ∷ []) t
+unfolding push_to_index bytes_of
 push_takes r t x lt good h =
     let some = r.part ++ x ∷ [] in
     let fits : IsBytes some = IsBytes-push r.part x good.bytes lt in
@@ -53,24 +53,24 @@ push_takes r t x lt good h =
     let empty : length t.part < need t.fields.next = subst (λ p. length p < need t.fields.next) (sym j.none) (need_least t.fields.next) in
     (ap (λ p. before t.fields.next t.fields t.entries ++ p) j.none ∙ append-nil (before t.fields.next t.fields t.entries) ∙ j.bytes ∙ regroup, record { sound = j.sound; bytes = none; part = empty }))
 
-pub reads_takes : (r t : Read) (xs : List ℕ) → IsBytes xs → IsGood r → reads r xs ≡ Ok t → Took r xs t
+pub reads_takes : (r t : Read) (xs : List ℕ) → IsBytes xs → IsGood r → reads_index r xs ≡ Ok t → Took r xs t
 reads_takes r t [] fits good h =
     let same : r ≡ t = ok_is r t (sym (reads_none r) ∙ h) in
     subst (Took r []) same (sym (append-nil (bytes_of r)), good)
 reads_takes r t (x ∷ xs) fits good h =
-    let one = bind_ok (push r x) (λ s. reads s xs) t (sym (reads_one r x xs) ∙ h) in
+    let one = bind_ok (push_to_index r x) (λ s. reads_index s xs) t (sym (reads_one r x xs) ∙ h) in
     let first = push_takes r one.0 x (fits zero) good one.1 in
     let others = reads_takes one.0 t xs (λ i. fits (suc i)) first.1 one.2 in
     (others.0 ∙ ap (λ b. b ++ xs) first.0 ∙ append_assoc (bytes_of r) (x ∷ []) xs, others.1)
 
 -- a reader that stands for its bytes stands for more of them after more
-pub stands_on : (r t : Read) (xs : List ℕ) → IsBytes xs → Stands r → reads r xs ≡ Ok t → Stands t × (bytes_of t ≡ bytes_of r ++ xs)
+pub stands_on : (r t : Read) (xs : List ℕ) → IsBytes xs → IsReached r → reads_index r xs ≡ Ok t → IsReached t × (bytes_of t ≡ bytes_of r ++ xs)
 stands_on r t xs fits stands h =
     let took = reads_takes r t xs fits stands.good h in
-    (record { reads = ap (reads start) took.0 ∙ reads-append start (bytes_of r) xs ∙ ap (λ a. a >>= λ s. reads s xs) stands.reads ∙ h; good = took.1 }, took.0)
+    (record { reads = ap (reads_index index_start) took.0 ∙ reads-append index_start (bytes_of r) xs ∙ ap (λ a. a >>= λ s. reads_index s xs) stands.reads ∙ h; good = took.1 }, took.0)
 
-pub start_stands : Stands start
-unfolding start bytes_of before EndFits reads
+pub start_stands : IsReached index_start
+unfolding index_start bytes_of before EndFits reads_index
 start_stands = record {
   reads = refl;
   good = record {
@@ -85,20 +85,20 @@ start_stands = record {
   };
 }
 
-pub start_bytes : bytes_of start ≡ []
-unfolding start bytes_of before
+pub start_bytes : bytes_of index_start ≡ []
+unfolding index_start bytes_of before
 start_bytes = refl
 
 -- ---- the whole file
 
-whole_at : (f : Field) (s : Fields) (es : List (ℕ × List ℕ)) (part : List ℕ) → is_whole f ≡ true → IsSound f s es → length part < need f → before f s es ++ part ≡ spelling (listing s es) s.offset s.size
+whole_at : (f : Field) (s : Fields) (es : List (ℕ × List ℕ)) (part : List ℕ) → is_read_whole f ≡ true → IsSound f s es → length part < need f → before f s es ++ part ≡ spelling (listing s es) s.offset s.size
 unfolding before spelling
 whole_at field.Nothing s es part h sound small =
     let none : part ≡ [] = nil_from_length part (omega arith) in
     ap (λ p. before field.Nothing s es ++ p) none ∙ append-nil (before field.Nothing s es)
 whole_at _ s es part h sound small = absurd (cc)
 
-pub whole_file : (r : Read) → IsGood r → is_whole r.fields.next ≡ true → IsIndexFile (bytes_of r) (listing_of r)
+pub whole_file : (r : Read) → IsGood r → is_read_whole r.fields.next ≡ true → IsIndexFile (bytes_of r) (listing_read r)
 unfolding bytes_of
 whole_file r good h = record {
   spells = record {

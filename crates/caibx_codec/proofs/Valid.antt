@@ -1,7 +1,7 @@
 -- Entries without a fault are chunks.
 use Rattle.std.proofs.Common.{◌≡◌, ℕ, ◌+◌, ◌<◌, ◌≤◌, List, [], ◌∷◌, None, refl, arith}
 use Rattle.std.proofs.lemmas.Bool.Decides.{nat_tests}
-use Rattle.caibx_codec.specs.Judge.{entry_fault, fault_of}
+use Rattle.caibx_codec.specs.Judge.{entry_fault, index_fault}
 use Rattle.caibx_codec.specs.Listing.{Listing, IsValid, AreChunks}
 
 -- the tests that passed at the first entry, and no fault at the others
@@ -22,7 +22,7 @@ no_entry_fault : (greatest k start : ℕ) (es : List (ℕ × List ℕ)) → AreC
 no_entry_fault greatest k start [] h = refl
 no_entry_fault greatest k start (e ∷ es) h = first_passes greatest k start e es h.0 h.1 (no_entry_fault greatest (k + 1) e.0 es h.2)
 
-pub no_fault : (l : Listing) → IsValid l → fault_of l ≡ None
+pub no_fault : (l : Listing) → IsValid l → index_fault l ≡ None
 no_fault l valid =
     let entries = no_entry_fault l.greatest 0 0 l.entries valid.chunks in
     grind (arith, nat_tests, valid.digest, valid.size, valid.few, entries)

@@ -8,7 +8,7 @@ use Rattle.caibx_fields.specs.declared.fault.IndexFault.{IndexFault}
 use Rattle.caibx_codec.specs.declared.reading.ViewFault.{ViewFault}
 use Rattle.caibx_codec.specs.declared.reading.ViewFault.TheVariants as viewed
 use Rattle.caibx_codec.specs.Answers.{ShowsBy, StopsBy, ReadsIndex}
-use Rattle.caibx_codec.specs.Reading.{Read, reads, start, first_fault, fault_in_read, index_in, ◌>>=◌}
+use Rattle.caibx_codec.specs.Reading.{Read, reads_index, index_start, first_fault, fault_in_read, index_in, ◌>>=◌}
 use Rattle.caibx_codec.proofs.Again.{file_read}
 use Rattle.caibx_codec.proofs.Pieces.{reads-append}
 
@@ -34,9 +34,9 @@ at_end (Err g) f e h = let same : g ≡ e = cc in ap (λ x. Err x) same
 pub faulty_front : (t : List ℕ) (n : ℕ) (f : IndexFault) → first_fault (take n t) ≡ Some f → index_in t ≡ Err f
 unfolding first_fault index_in
 faulty_front t n f h =
-    let front : reads start (take n t) ≡ Err f = shown (reads start (take n t)) f h in
-    let whole : reads start t ≡ Err f = ap (reads start) (sym (take-append-drop n t)) ∙ reads-append start (take n t) (drop n t) ∙ ap (λ a. a >>= λ s. reads s (drop n t)) front in
-    at_end (reads start t) _ f whole
+    let front : reads_index index_start (take n t) ≡ Err f = shown (reads_index index_start (take n t)) f h in
+    let whole : reads_index index_start t ≡ Err f = ap (reads_index index_start) (sym (take-append-drop n t)) ∙ reads-append index_start (take n t) (drop n t) ∙ ap (λ a. a >>= λ s. reads_index s (drop n t)) front in
+    at_end (reads_index index_start t) _ f whole
 
 stopped : (t b : List ℕ) (n : ℕ) (e : ViewFault) → b ≡ take n t → ShowsBy b e → StopsBy t e
 stopped t b n (viewed.Bad f) is h = faulty_front t n f (subst (λ x. first_fault x ≡ Some f) is h)

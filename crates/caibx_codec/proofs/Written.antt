@@ -12,7 +12,7 @@ use Rattle.dsy_base.specs.Texts.{Puts}
 use Rattle.dsy_base.specs.declared.fault.IoFault.{IoFault}
 use Rattle.caibx_fields.specs.Words.{words}
 use Rattle.caibx_codec.specs.Listing.{Listing, IsValid}
-use Rattle.caibx_codec.specs.Reading.{reads, start, first_fault, fault_in_read, index_in, ◌>>=◌}
+use Rattle.caibx_codec.specs.Reading.{reads_index, index_start, first_fault, fault_in_read, index_in, ◌>>=◌}
 use Rattle.caibx_codec.specs.Seen.{pair, pairs}
 use Rattle.caibx_codec.specs.Spelling.{items, item, front_words, tail_words, written_tail, spelling, IsIndexFile, file_of}
 use Rattle.caibx_codec.proofs.Again.{file_read}
@@ -34,7 +34,7 @@ file_length b l file =
 pub fault_after : (b c : List ℕ) (f : IndexFault) → first_fault b ≡ Some f → first_fault (b ++ c) ≡ Some f
 unfolding first_fault
 fault_after b c f h =
-    ap fault_in_read (reads-append start b c ∙ ap (λ a. a >>= λ s. reads s c) (shown (reads start b) f h))
+    ap fault_in_read (reads-append index_start b c ∙ ap (λ a. a >>= λ s. reads_index s c) (shown (reads_index index_start b) f h))
 
 take_whole : (b : List ℕ) → take (length b) b ≡ b
 take_whole b = take-length b

@@ -10,15 +10,15 @@ use Rattle.caibx_codec.specs.Spelling.{IsIndexFile}
 use Rattle.caibx_codec.specs.Reading.{Read, first_fault, index_in}
 
 -- a step of reading that leads to `read` stopped for this reason
-abbrev pub Stops : ReadFault → Result Read IndexFault → Type 0
-Stops (errors.Bad f) read = read ≡ Err f
-Stops errors.Memory read = Unit {0}
-Stops errors.Over read = ⊥
+abbrev pub ReadStops : ReadFault → Result Read IndexFault → Type 0
+ReadStops (errors.Bad f) read = read ≡ Err f
+ReadStops errors.Memory read = Unit {0}
+ReadStops errors.Over read = ⊥
 
 -- such a step was made and left `new`, or stopped
-abbrev pub Goes : {A : Type 0} → Result Read IndexFault → Result A ReadFault → Read → Type 0
-Goes read (Ok x) new = read ≡ Ok new
-Goes read (Err e) new = Stops e read
+abbrev pub ReadGoes : {A : Type 0} → Result Read IndexFault → Result A ReadFault → Read → Type 0
+ReadGoes read (Ok x) new = read ≡ Ok new
+ReadGoes read (Err e) new = ReadStops e read
 
 -- a reader was fed these bytes in all, and had not refused before the last
 abbrev pub Judges : {A : Type 0} → List ℕ → Result A ReadFault → Type 0
@@ -28,11 +28,11 @@ Judges bytes (Err errors.Memory) = Unit {0}
 Judges bytes (Err errors.Over) = ⊥
 
 -- a reader was fed these bytes in all without a refusal
-abbrev pub Ends : List ℕ → Result Listing ReadFault → Type 0
-Ends bytes (Ok i) = index_in bytes ≡ Ok i
-Ends bytes (Err (errors.Bad f)) = index_in bytes ≡ Err f
-Ends bytes (Err errors.Memory) = ⊥
-Ends bytes (Err errors.Over) = ⊥
+abbrev pub ReadEnds : List ℕ → Result Listing ReadFault → Type 0
+ReadEnds bytes (Ok i) = index_in bytes ≡ Ok i
+ReadEnds bytes (Err (errors.Bad f)) = index_in bytes ≡ Err f
+ReadEnds bytes (Err errors.Memory) = ⊥
+ReadEnds bytes (Err errors.Over) = ⊥
 
 -- its answer is right
 abbrev pub FindsIndex : List ℕ → Result Listing ReadFault → Type 0

@@ -15,8 +15,8 @@ entry_fault greatest k start (e ∷ es) =
     else entry_fault greatest (k + 1) e.0 es
 
 -- of a whole index, in the order in which its fields are judged
-abbrev pub fault_of : Listing → Option IndexFault
-fault_of l =
+abbrev pub index_fault : Listing → Option IndexFault
+index_fault l =
     if nat_le (bit_and l.flags digest_flag) 0 then Some (faults.Digest l.flags)
     else if nat_lt size_limit l.greatest then Some (faults.MaxSize l.greatest)
     else if nat_lt item_limit (length l.entries) then Some faults.Items
@@ -24,5 +24,5 @@ fault_of l =
 
 -- an index is made of what has no fault, and else its first fault is the answer
 abbrev pub Judged : Listing → Result Listing IndexFault → Type 0
-Judged l (Ok made) = (fault_of l ≡ None) × (made ≡ l)
-Judged l (Err f) = fault_of l ≡ Some f
+Judged l (Ok made) = (index_fault l ≡ None) × (made ≡ l)
+Judged l (Err f) = index_fault l ≡ Some f

@@ -36,19 +36,19 @@ abbrev pub judge : Read → List ℕ → Result Read IndexFault
 judge r b = judge_at r.fields.next r b
 
 -- one byte more
-unfoldable pub push : Read → ℕ → Result Read IndexFault
-push r b =
+unfoldable pub push_to_index : Read → ℕ → Result Read IndexFault
+push_to_index r b =
     if nat_lt (length r.part + 1) (need r.fields.next) then Ok (record r { part = r.part ++ b ∷ [] })
     else judge r (r.part ++ b ∷ [])
 
 -- more bytes
-unfoldable pub reads : Read → List ℕ → Result Read IndexFault
-reads r [] = Ok r
-reads r (b ∷ bs) = push r b >>= λ s. reads s bs
+unfoldable pub reads_index : Read → List ℕ → Result Read IndexFault
+reads_index r [] = Ok r
+reads_index r (b ∷ bs) = push_to_index r b >>= λ s. reads_index s bs
 
 -- before the first byte, with the flag set that each index has
-unfoldable pub start : Read
-start = record {
+unfoldable pub index_start : Read
+index_start = record {
   fields = record {
     next = field.HeadSize;
     flags = digest_flag;
@@ -67,13 +67,13 @@ start = record {
 abbrev pub listing : Fields → List (ℕ × List ℕ) → Listing
 listing s es = record { flags = s.flags; least = s.min; average = s.avg; greatest = s.max; entries = es }
 
-abbrev pub listing_of : Read → Listing
-listing_of r = listing r.fields r.entries
+abbrev pub listing_read : Read → Listing
+listing_read r = listing r.fields r.entries
 
 -- whether the marker was read
-abbrev pub is_whole : Field → Bool
-is_whole field.Nothing = true
-is_whole _ = false
+abbrev pub is_read_whole : Field → Bool
+is_read_whole field.Nothing = true
+is_read_whole _ = false
 
 -- the fault of a reading, if there is one
 abbrev pub fault_in_read : Result Read IndexFault → Option IndexFault
@@ -82,10 +82,10 @@ fault_in_read (Err f) = Some f
 
 -- the fault of the first field that stands whole in the bytes and is wrong
 unfoldable pub first_fault : List ℕ → Option IndexFault
-first_fault b = fault_in_read (reads start b)
+first_fault b = fault_in_read (reads_index index_start b)
 
 -- what all of the bytes are
 unfoldable pub index_in : List ℕ → Result Listing IndexFault
 index_in b = do
-  r ← reads start b
-  if is_whole r.fields.next then Ok (listing_of r) else Err (faults.Truncated (length b))
+  r ← reads_index index_start b
+  if is_read_whole r.fields.next then Ok (listing_read r) else Err (faults.Truncated (length b))

@@ -16,13 +16,14 @@ abbrev pub pairs : List Entry → List (ℕ × List ℕ)
 pairs es = map pair es
 
 -- what contracts see of an index
-abbrev pub seen : Inside → Listing
-seen i = record { flags = i.flags; least = i.min; average = i.avg; greatest = i.max; entries = pairs i.entries.items }
+abbrev pub listing_seen : Inside → Listing
+listing_seen i =
+    record { flags = i.flags; least = i.min; average = i.avg; greatest = i.max; entries = pairs i.entries.items }
 
 -- what contracts see of a reader without a fault
 abbrev pub read_of : partial.Inside → Read
 read_of p = record { fields = p.fields; entries = pairs p.entries.items; part = take p.filled p.part }
 
 -- less than the next field is there
-abbrev pub HasRoom : partial.Inside → Type 0
-HasRoom p = p.filled < need p.fields.next
+abbrev pub HasRoomForField : partial.Inside → Type 0
+HasRoomForField p = p.filled < need p.fields.next

@@ -8,7 +8,7 @@ use Rattle.caibx_fields.specs.Words.{words}
 use Rattle.caibx_fields.specs.Fields.{need}
 use Rattle.caibx_codec.specs.Listing.{IsValid}
 use Rattle.caibx_codec.specs.Spelling.{items, front_words, tail_words}
-use Rattle.caibx_codec.specs.Reading.{Read, reads, start, listing}
+use Rattle.caibx_codec.specs.Reading.{Read, reads_index, index_start, listing}
 
 -- the first n of the words before the items; all of them; the items, with the first n words of the tail
 abbrev pub head_part : Fields → ℕ → List ℕ
@@ -76,12 +76,12 @@ pub record IsGood (r : Read) : Type 0 where
   pub part : length r.part < need r.fields.next
 
 -- reading the bytes leads here
-pub record Stands (r : Read) : Type 0 where
-  pub reads : reads start (bytes_of r) ≡ Ok r
+pub record IsReached (r : Read) : Type 0 where
+  pub reads : reads_index index_start (bytes_of r) ≡ Ok r
   pub good : IsGood r
 
 -- and the bytes are these
-pub record StandsFor (r : Read) (bytes : List ℕ) : Type 0 where
-  pub stands : Stands r
+pub record IsReachedBy (r : Read) (bytes : List ℕ) : Type 0 where
+  pub stands : IsReached r
   pub is : bytes_of r ≡ bytes
   pub size : length bytes ≤ file_limit

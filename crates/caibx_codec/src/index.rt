@@ -46,11 +46,11 @@ impl Model for Index {
 
     ghost Value = { Listing };
 
-    ghost use Rattle.caibx_codec.specs.Seen.{seen};
+    ghost use Rattle.caibx_codec.specs.Seen.{listing_seen};
 
-    ghost view = { λ i. seen i };
+    ghost view = { λ i. listing_seen i };
 
-    ghost invariant = { λ i. IsValid (seen i) };
+    ghost invariant = { λ i. IsValid (listing_seen i) };
 }
 
 // The first fault of the entries.

@@ -3,9 +3,9 @@
 
 ghost use Rattle.std.specs.Prelude.{◌≡◌, ◌≢◌, ◌<◌, ◌++◌, ℕ, [], length, OnOk};
 ghost use Rattle.caibx_fields.specs.Fields.{need};
-ghost use Rattle.caibx_codec.specs.Answers.{Ends, FindsIndex, Goes, Judges};
-ghost use Rattle.caibx_codec.specs.Reading.{judge, push, reads, start};
-ghost use Rattle.caibx_codec.specs.Standing.{bytes_of, Stands, StandsFor};
+ghost use Rattle.caibx_codec.specs.Answers.{ReadEnds, FindsIndex, ReadGoes, Judges};
+ghost use Rattle.caibx_codec.specs.Reading.{judge, push_to_index, reads_index, index_start};
+ghost use Rattle.caibx_codec.specs.Standing.{bytes_of, IsReached, IsReachedBy};
 
 use crate::index::{Entry, Index};
 use crate::reading::ReadFault;
@@ -31,19 +31,19 @@ impl Model for Partial {
 
     ghost Value = { Read };
 
-    ghost use Rattle.caibx_codec.specs.Seen.{read_of, HasRoom};
+    ghost use Rattle.caibx_codec.specs.Seen.{read_of, HasRoomForField};
 
     ghost view = { λ p. read_of p };
 
-    ghost invariant = { λ p. HasRoom p };
+    ghost invariant = { λ p. HasRoomForField p };
 }
 
 impl Partial {
     /// Nothing was read yet.
-    #[tactic(auto, unfolding(crate::specs::Reading::start), using(crate::proofs::Answered::start_for))]
+    #[tactic(auto, unfolding(crate::specs::Reading::index_start), using(crate::proofs::Answered::start_for))]
     pub fn new(alloc: Global) -> Partial
-        ensures value { result ≡ start }
-        ensures ok { StandsFor result [] }
+        ensures value { result ≡ index_start }
+        ensures ok { IsReachedBy result [] }
     {
         Partial {
             fields: Fields {
@@ -66,7 +66,7 @@ impl Partial {
     #[tactic(auto, using(crate::proofs::Fields::judging))]
     fn judge(&mut self, bytes: &[u8]) -> Result<(), ReadFault>
         requires { length bytes.now ≡ need self.old.fields.next }
-        ensures { Goes (judge self.old bytes.now) result self.new }
+        ensures { ReadGoes (judge self.old bytes.now) result self.new }
     {
         self.filled = 0;
         match self.fields.next {
@@ -91,9 +91,9 @@ impl Partial {
     }
 
     // Takes one byte more.
-    #[tactic(auto, using(crate::proofs::Fields::need_most), unfolding(crate::specs::Reading::push))]
+    #[tactic(auto, using(crate::proofs::Fields::need_most), unfolding(crate::specs::Reading::push_to_index))]
     fn push(&mut self, byte: u8) -> Result<(), ReadFault>
-        ensures { Goes (push self.old byte) result self.new }
+        ensures { ReadGoes (push_to_index self.old byte) result self.new }
     {
         let filled = self.filled;
         self.part[filled] = byte;
@@ -107,7 +107,7 @@ impl Partial {
 
     // Takes more bytes.
     fn take(&mut self, piece: &[u8]) -> Result<(), ReadFault>
-        ensures { Goes (reads self.old piece.now) result self.new }
+        ensures { ReadGoes (reads_index self.old piece.now) result self.new }
     {
         for byte in piece {
             self.push(*byte)?;
@@ -117,17 +117,17 @@ impl Partial {
 
     /// Takes more bytes. After a refusal nothing is known of what was read.
     pub fn feed(&mut self, piece: &[u8]) -> Result<(), ReadFault>
-        requires { Stands self.old }
+        requires { IsReached self.old }
         ensures first { Judges (bytes_of self.old ++ piece.now) result }
         ensures only { (n : ℕ) → result ≢ Err (ReadFault.Bad (IndexFault.Truncated n)) }
-        ensures ok { OnOk result (StandsFor self.new (bytes_of self.old ++ piece.now)) }
+        ensures ok { OnOk result (IsReachedBy self.new (bytes_of self.old ++ piece.now)) }
     {
         self.take(piece)
     }
 
     // The number of bytes that were read.
     fn len(&self) -> u64
-        requires { Stands self.now }
+        requires { IsReached self.now }
         ensures { result ≡ length (bytes_of self.now) }
     {
         let part = &self.part[..self.filled];
@@ -136,8 +136,8 @@ impl Partial {
 
     /// The index, where the bytes end.
     pub fn finish(self) -> Result<Index, ReadFault>
-        requires { Stands self }
-        ensures first { Ends (bytes_of self) result }
+        requires { IsReached self }
+        ensures first { ReadEnds (bytes_of self) result }
         ensures exactly { FindsIndex (bytes_of self) result }
     {
         let at = self.len();

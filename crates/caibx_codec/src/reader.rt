@@ -4,7 +4,7 @@ ghost use Rattle.std.specs.Prelude.{◌≡◌, ◌≢◌, ◌≤◌, ℕ, ◌++�
 ghost use Rattle.std.specs.Prelude.{OnErr};
 ghost use Rattle.std.specs.Option.{option_map};
 ghost use Rattle.caibx_fields.specs.Limits.{file_limit};
-ghost use Rattle.caibx_codec.specs.Answers.{Ends, FindsIndex, Judges};
+ghost use Rattle.caibx_codec.specs.Answers.{ReadEnds, FindsIndex, Judges};
 
 use crate::index::Index;
 use crate::partial::Partial;
@@ -26,11 +26,11 @@ impl Model for IndexReader {
     ghost Value = { Option (List ℕ) };
 
     ghost use Rattle.std.specs.Option.{option_map};
-    ghost use Rattle.caibx_codec.specs.Standing.{bytes_of, Stands};
+    ghost use Rattle.caibx_codec.specs.Standing.{bytes_of, IsReached};
 
     ghost view = { λ i. option_map bytes_of i.partial };
 
-    ghost invariant = { λ i. IfSome i.partial Stands };
+    ghost invariant = { λ i. IfSome i.partial IsReached };
 }
 
 impl IndexReader {
@@ -65,7 +65,7 @@ impl IndexReader {
     /// The index whose file was fed, where it ends.
     pub fn finish(self) -> Result<Index, ReadFault>
         ensures absent { IfNone self (result ≡ Err ReadFault.Over) }
-        ensures first { IfSome self (λ t. Ends t result) }
+        ensures first { IfSome self (λ t. ReadEnds t result) }
         ensures exactly { IfSome self (λ t. FindsIndex t result) }
     {
         match self.partial {

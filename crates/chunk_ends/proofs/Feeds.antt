@@ -7,10 +7,10 @@ use Rattle.std.proofs.lemmas.List.{length-take-le, drop-append-le, take-append-l
 use Rattle.chunk_ends.proofs.Closed.{closed_on, closed_more}
 use Rattle.chunk_ends.proofs.Seams.{window_on, take-take-le}
 use Rattle.chunk_ends.specs.Cuts.{closes, window_of, IsCut}
-use Rattle.chunk_ends.specs.Feeding.{Kept, EndsFirst, EndIn, AreClosed, WasFed}
+use Rattle.chunk_ends.specs.Feeding.{CutterKept, EndsFirst, EndIn, AreClosed, WasFed}
 use Rattle.chunk_ends.specs.Sizes.{Sizes}
 
-module _ (c : Kept) (image : List ℕ) (fed : WasFed c image) where
+module _ (c : CutterKept) (image : List ℕ) (fed : WasFed c image) where
   -- the chunk that is open
   abbrev chunk : List ℕ
   chunk = drop c.begun image
@@ -36,7 +36,7 @@ module _ (c : Kept) (image : List ℕ) (fed : WasFed c image) where
   ]
 
   -- a piece was taken whole
-  pub fed_whole : (piece : List ℕ) (d : Kept) → EndIn c.sizes chunk piece None → d.sizes ≡ c.sizes → d.at ≡ c.at + length piece → d.begun ≡ c.begun
+  pub fed_whole : (piece : List ℕ) (d : CutterKept) → EndIn c.sizes chunk piece None → d.sizes ≡ c.sizes → d.at ≡ c.at + length piece → d.begun ≡ c.begun
       → d.last ≡ window_of (c.last ++ piece) → WasFed d (image ++ take (length piece) piece)
   fed_whole piece d none sizes at begun last =
       let all : image ++ take (length piece) piece ≡ image ++ piece = ap (λ (x : List ℕ). image ++ x) (take-length piece) in
@@ -77,7 +77,7 @@ module _ (c : Kept) (image : List ℕ) (fed : WasFed c image) where
       subst (λ (x : List ℕ). IsCut c.sizes x (e - c.begun)) (sym whole) (subst (IsCut c.sizes (chunk ++ rest)) (sym size) cut)
 
   -- a chunk ended
-  pub fed_end : (piece : List ℕ) (n : ℕ) (d : Kept) → EndsFirst c.sizes chunk piece n → d.sizes ≡ c.sizes → d.at ≡ c.at + n → d.begun ≡ c.at + n → d.last ≡ []
+  pub fed_end : (piece : List ℕ) (n : ℕ) (d : CutterKept) → EndsFirst c.sizes chunk piece n → d.sizes ≡ c.sizes → d.at ≡ c.at + n → d.begun ≡ c.at + n → d.last ≡ []
       → WasFed d (image ++ take n piece)
   fed_end piece n d ends sizes at begun last =
       let inside : n ≤ length piece = ends.inside in

@@ -5,7 +5,7 @@ use Rattle.chunk_ends.specs.Cuts.{closes, window_of, IsCut}
 use Rattle.chunk_ends.specs.Sizes.{Sizes}
 
 -- what a cutter keeps: how many bytes it was given, where the last end is, and the last bytes since
-pub record Kept : Type 0 where
+pub record CutterKept : Type 0 where
   pub sizes : Sizes
   pub at : ℕ
   pub begun : ℕ
@@ -32,7 +32,7 @@ AreClosed s image start (e ∷ ends) end =
 
 -- the cutter was given these bytes, from the image's first on: its last end is reached by whole chunks, none ends after
 -- it, and the last bytes since are the window
-pub record WasFed (c : Kept) (image : List ℕ) : Type 0 where
+pub record WasFed (c : CutterKept) (image : List ℕ) : Type 0 where
   pub at : c.at ≡ length image
   pub reached : (ends : List ℕ) × AreClosed c.sizes image 0 ends c.begun
   pub begun : c.begun ≤ length image

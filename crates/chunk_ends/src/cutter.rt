@@ -31,10 +31,10 @@ pub struct Cutter {
 
 impl Model for Cutter {
     ghost use Rattle.std.specs.Prelude.{◌≡◌, ◌-◌, ◌<◌, ◌≤◌, length, min};
-    ghost use Rattle.chunk_ends.specs.Feeding.{Kept};
+    ghost use Rattle.chunk_ends.specs.Feeding.{CutterKept};
     ghost use Rattle.chunk_ends.specs.Sizes.{discriminator_of};
 
-    ghost Value = { Kept };
+    ghost Value = { CutterKept };
 
     ghost view = { λ c. record { sizes = c.sizes; at = c.at; begun = c.begun; last = c.last.items } };
 

@@ -5,7 +5,7 @@ use Rattle.std.proofs.lemmas.List.{drop-append-le}
 use Rattle.dsy_base.specs.Links.{Traffic}
 use Rattle.http_frames.specs.HeadEnd.{IsFirstEnd}
 use Rattle.http_wire.specs.declared.request.Request.{Request}
-use Rattle.chunk_server.specs.Requests.{Asked, Heads, IsHead, IsNext, body_size, endless, head_limit}
+use Rattle.chunk_server.specs.Requests.{Asked, Heads, IsRequestHead, IsNextRequest, body_size, endless, head_limit}
 use Rattle.chunk_server.specs.Streams.{Stream, skips, stream_in}
 use Rattle.chunk_server.specs.declared.receiving.Heading.TheVariants as heading
 use Rattle.chunk_server.proofs.Streaming.{drop_add, some_left}
@@ -15,7 +15,7 @@ asked_of r body = record { request = r; body = body }
 
 -- the request comes first, and was looked at
 abbrev pub ComesFirst : Bool → Asked → Option Stream → Option Stream → Type 0
-ComesFirst writable a old new = IfSome old (λ s. (n : ℕ) × IsNext writable s.left n a × (new ≡ Some (skips n s)))
+ComesFirst writable a old new = IfSome old (λ s. (n : ℕ) × IsNextRequest writable s.left n a × (new ≡ Some (skips n s)))
 
 pub endless_next : (writable : Bool) (w w' : List ℕ) (t : Option Traffic) (old : Option Stream) (a : Asked) → stream_in w t ≡ old → head_limit ≤ length w
     → IfSome (stream_in w t) (λ s. Heads s.left heading.Endless) → a ≡ endless → w' ≡ drop head_limit w → ComesFirst writable a old (stream_in w' t)
@@ -32,7 +32,7 @@ abbrev IsBody : List ℕ → ℕ → Option Stream → Stream → Type 0
 IsBody body size new s = (size ≤ length s.left) × (body ≡ take size s.left) × (new ≡ Some (skips size s))
 
 pub whole_next : (writable : Bool) (w w' : List ℕ) (t : Option Traffic) (old new : Option Stream) (head size : ℕ) (r : Request) (body : List ℕ) → stream_in w t ≡ old → head ≤ length w → head ≤ head_limit
-    → IfSome (stream_in w t) (λ s. Heads s.left (heading.Ends head)) → ((more : List ℕ) → IsFirstEnd (w ++ more) head → IsHead writable (w ++ more) head r) → w' ≡ drop head w → size ≡ body_size r
+    → IfSome (stream_in w t) (λ s. Heads s.left (heading.Ends head)) → ((more : List ℕ) → IsFirstEnd (w ++ more) head → IsRequestHead writable (w ++ more) head r) → w' ≡ drop head w → size ≡ body_size r
     → IfSome (stream_in w' t) (IsBody body size new) → ComesFirst writable (asked_of r body) old new
 whole_next writable w w' None old new head size r body is le near ends says rest sized has = subst (λ (o : Option Stream). ComesFirst writable (asked_of r body) o new) is tt
 whole_next writable w w' (Some t) old new head size r body is le near ends says rest sized has =

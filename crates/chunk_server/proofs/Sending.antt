@@ -6,7 +6,7 @@ use Rattle.std.proofs.Math.Seq.{take-add, take-append_seam, drop-append_seam}
 use Rattle.dsy_base.specs.Links.{Traffic, sends}
 use Rattle.dsy_base.specs.declared.fault.IoFault.{IoFault}
 use Rattle.dsy_base.specs.declared.fault.IoFault.TheVariants as io
-use Rattle.chunk_server.specs.Streams.{SendsFront}
+use Rattle.chunk_server.specs.Streams.{SendsSomeFront}
 
 abbrev with_sent : Traffic → List ℕ → Option Traffic
 with_sent t x = Some (record { received = t.received; coming = t.coming; sent = x })
@@ -19,7 +19,7 @@ sends_both a b (Some t) = ap (with_sent t) (append_assoc t.sent a b)
 abbrev Wrote : {A : Type 0} → Result A IoFault → List ℕ → Option Traffic → Option Traffic → Type 0
 Wrote r b old new = r ≡ Err io.Failed → (n : ℕ) × (n ≤ length b) × (new ≡ option_map (sends (take n b)) old)
 
-pub second_part : {A : Type 0} (r : Result A IoFault) (h b : List ℕ) (old mid new : Option Traffic) → mid ≡ option_map (sends h) old → Wrote r b mid new → (r ≡ Err io.Memory → new ≡ mid) → OnErr r (SendsFront (h ++ b) old new)
+pub second_part : {A : Type 0} (r : Result A IoFault) (h b : List ℕ) (old mid new : Option Traffic) → mid ≡ option_map (sends h) old → Wrote r b mid new → (r ≡ Err io.Memory → new ≡ mid) → OnErr r (SendsSomeFront (h ++ b) old new)
 second_part (Ok x) h b old mid new is failed none = tt
 second_part (Err io.Failed) h b old mid new is failed none =
     let f = failed refl in

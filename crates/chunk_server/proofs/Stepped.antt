@@ -15,8 +15,8 @@ use Rattle.dsy_base.specs.Folders.{put_in}
 use Rattle.dsy_base.specs.Maps.{Map}
 use Rattle.http_wire.specs.declared.request.Act.{Act}
 use Rattle.http_wire.specs.declared.request.Act.TheVariants as act
-use Rattle.chunk_server.specs.Answers.{Answer, answer_of, bare, chunk_held, files_after, with_chunk, with_length}
-use Rattle.chunk_server.specs.Shelves.{Shelved, Steps}
+use Rattle.chunk_server.specs.Answers.{Answer, answer_to, bare, chunk_held, files_after, with_chunk, with_length}
+use Rattle.chunk_server.specs.Shelves.{ServedFolder, ServesOrFails}
 
 told_more : {P Q : Map (List ℕ) → Type 0} (o : Option (Map (List ℕ))) → ((m : Map (List ℕ)) → P m → Q m) → IfSome o P → IfSome o Q
 told_more None f p = tt
@@ -34,19 +34,19 @@ unmapped : (f : Map (List ℕ) → Map (List ℕ)) (o : Option (Map (List ℕ)))
 unmapped f None same = refl
 unmapped f (Some m) same = ap Some (sym (same m))
 
-module _ (kind : DigestKind) (old new : Shelved) (id : ChunkId) (body : List ℕ) (r : Answer) where
+module _ (kind : DigestKind) (old new : ServedFolder) (id : ChunkId) (body : List ℕ) (r : Answer) where
   -- ---- what was found
 
-  pub get_goes : (found : Option (List ℕ)) → IfSome old.files (λ m. chunk_held kind id.0 (chunks m id.0) ≡ found) → r ≡ with_chunk found → new.files ≡ old.files → old.faults ≤ new.faults → Steps kind old (act.Get id) body r new
-  unfolding answer_of files_after
+  pub get_goes : (found : Option (List ℕ)) → IfSome old.files (λ m. chunk_held kind id.0 (chunks m id.0) ≡ found) → r ≡ with_chunk found → new.files ≡ old.files → old.faults ≤ new.faults → ServesOrFails kind old (act.Get id) body r new
+  unfolding answer_to files_after
   get_goes found held is kept faults = inl (record {
     answer = told_more old.files (λ m h. is ∙ ap with_chunk (sym h)) held;
     files = kept ∙ unmapped (λ m. m) old.files (λ m. refl);
     faults = faults;
   })
 
-  pub head_goes : (found : Option (List ℕ)) → IfSome old.files (λ m. chunk_held kind id.0 (chunks m id.0) ≡ found) → r ≡ with_length found → new.files ≡ old.files → old.faults ≤ new.faults → Steps kind old (act.Head id) body r new
-  unfolding answer_of files_after
+  pub head_goes : (found : Option (List ℕ)) → IfSome old.files (λ m. chunk_held kind id.0 (chunks m id.0) ≡ found) → r ≡ with_length found → new.files ≡ old.files → old.faults ≤ new.faults → ServesOrFails kind old (act.Head id) body r new
+  unfolding answer_to files_after
   head_goes found held is kept faults = inl (record {
     answer = told_more old.files (λ m h. is ∙ ap with_length (sym h)) held;
     files = kept ∙ unmapped (λ m. m) old.files (λ m. refl);
@@ -61,26 +61,26 @@ module _ (kind : DigestKind) (old new : Shelved) (id : ChunkId) (body : List ℕ
   misnamed : name_of kind body ≢ id.0 → bytes_eq (name_of kind body) id.0 ≡ false
   misnamed other = false_from_ne_true (bytes_eq (name_of kind body) id.0) (λ h. other ((bytes_eq-Decides (name_of kind body) id.0).0 h))
 
-  put_with : (b : Bool) → bytes_eq (name_of kind body) id.0 ≡ b → r ≡ bare (cond b 200 400) → new.files ≡ option_map (λ m. cond b (put_in m (path_of id.0) body) m) old.files → old.faults ≤ new.faults → Steps kind old (act.Put id) body r new
-  unfolding answer_of files_after
+  put_with : (b : Bool) → bytes_eq (name_of kind body) id.0 ≡ b → r ≡ bare (cond b 200 400) → new.files ≡ option_map (λ m. cond b (put_in m (path_of id.0) body) m) old.files → old.faults ≤ new.faults → ServesOrFails kind old (act.Put id) body r new
+  unfolding answer_to files_after
   put_with b test is files faults = inl (record {
     answer = always old.files (λ m. is ∙ ap (λ t. bare (cond t 200 400)) (sym test));
     files = files ∙ mapped (λ m. cond b (put_in m (path_of id.0) body) m) _ old.files (λ m. ap (λ t. cond t (put_in m (path_of id.0) body) m) (sym test));
     faults = faults;
   })
 
-  pub put_goes : (path : List ℕ) → path ≡ path_of id.0 → name_of kind body ≡ id.0 → r ≡ bare 200 → new.files ≡ option_map (λ m. put_in m path body) old.files → old.faults ≤ new.faults → Steps kind old (act.Put id) body r new
+  pub put_goes : (path : List ℕ) → path ≡ path_of id.0 → name_of kind body ≡ id.0 → r ≡ bare 200 → new.files ≡ option_map (λ m. put_in m path body) old.files → old.faults ≤ new.faults → ServesOrFails kind old (act.Put id) body r new
   put_goes path at is reply files faults =
       put_with true (named is) reply (files ∙ ap (λ p. option_map (λ m. put_in m p body) old.files) at) faults
 
-  pub put_refused : name_of kind body ≢ id.0 → r ≡ bare 400 → new.files ≡ old.files → old.faults ≤ new.faults → Steps kind old (act.Put id) body r new
+  pub put_refused : name_of kind body ≢ id.0 → r ≡ bare 400 → new.files ≡ old.files → old.faults ≤ new.faults → ServesOrFails kind old (act.Put id) body r new
   put_refused other reply files faults =
       put_with false (misnamed other) reply (files ∙ unmapped (λ m. m) old.files (λ m. refl)) faults
 
 -- ---- what names no chunk
 
-pub lost_goes : (kind : DigestKind) (old new : Shelved) (body : List ℕ) (r : Answer) → r ≡ bare 404 → new.files ≡ old.files → old.faults ≤ new.faults → Steps kind old act.Lost body r new
-unfolding answer_of files_after
+pub lost_goes : (kind : DigestKind) (old new : ServedFolder) (body : List ℕ) (r : Answer) → r ≡ bare 404 → new.files ≡ old.files → old.faults ≤ new.faults → ServesOrFails kind old act.Lost body r new
+unfolding answer_to files_after
 lost_goes kind old new body r is kept faults = inl (record {
   answer = always old.files (λ m. is);
   files = kept ∙ unmapped (λ m. m) old.files (λ m. refl);
@@ -105,14 +105,14 @@ ok_more (Err e) f p = tt
 abbrev refusal : ℕ → List ℕ → Answer
 refusal status body = record { status = status; size = 0; body = body }
 
-refused_step : (kind : DigestKind) (old : Shelved) (status : ℕ) (body none : List ℕ) → none ≡ [] → Steps kind old (act.Refuse status) body (refusal status none) old
-unfolding answer_of files_after
+refused_step : (kind : DigestKind) (old : ServedFolder) (status : ℕ) (body none : List ℕ) → none ≡ [] → ServesOrFails kind old (act.Refuse status) body (refusal status none) old
+unfolding answer_to files_after
 refused_step kind old status body none is = inl (record {
   answer = always old.files (λ m. ap (refusal status) is);
   files = unmapped (λ m. m) old.files (λ m. refl);
   faults = omega arith;
 })
 
-pub refuse_goes : (kind : DigestKind) (old : Shelved) (a : Act) (status : ℕ) (body none : List ℕ) → a ≡ act.Refuse status → none ≡ [] → IfSome old.files (λ m. Steps kind old a body (refusal status none) old)
+pub refuse_goes : (kind : DigestKind) (old : ServedFolder) (a : Act) (status : ℕ) (body none : List ℕ) → a ≡ act.Refuse status → none ≡ [] → IfSome old.files (λ m. ServesOrFails kind old a body (refusal status none) old)
 refuse_goes kind old a status body none is empty =
-    subst (λ (x : Act). IfSome old.files (λ m. Steps kind old x body (refusal status none) old)) (sym is) (always old.files (λ m. refused_step kind old status body none empty))
+    subst (λ (x : Act). IfSome old.files (λ m. ServesOrFails kind old x body (refusal status none) old)) (sym is) (always old.files (λ m. refused_step kind old status body none empty))

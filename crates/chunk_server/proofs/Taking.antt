@@ -8,14 +8,14 @@ use Rattle.dsy_base.specs.Links.{Traffic, sends}
 use Rattle.dsy_base.specs.Maps.{Map}
 use Rattle.http_wire.specs.declared.request.Act.{Act}
 use Rattle.chunk_server.specs.Answers.{Answer}
-use Rattle.chunk_server.specs.Requests.{Asked, HasNone, IsNext, IsOver, behind}
-use Rattle.chunk_server.specs.Shelves.{AreAlike, Lacks, Shelved, Steps}
+use Rattle.chunk_server.specs.Requests.{Asked, HasNone, IsNextRequest, IsOver, behind}
+use Rattle.chunk_server.specs.Shelves.{AreAlikeButTemporaries, StepLacksMemory, ServedFolder, ServesOrFails}
 use Rattle.chunk_server.specs.Streams.{Stream, sent_in, skips, stream_in}
-use Rattle.chunk_server.specs.Turns.{BreaksOff, Fails, Goes, IsFair, IsNear, Lingers, Stays, Stops, reply_bytes, turn_of}
+use Rattle.chunk_server.specs.Turns.{BreaksOff, ConnectionFails, TurnsGo, IsFair, IsNear, Lingers, Stays, RequestsStop, reply_bytes, turn_of}
 use Rattle.chunk_server.proofs.Nexts.{ComesFirst}
 use Rattle.chunk_server.proofs.Talking.{always_told, if_told, talks_none, talks_one}
 
-alike_same : (o : Option (Map (List ℕ))) → AreAlike o o
+alike_same : (o : Option (Map (List ℕ))) → AreAlikeButTemporaries o o
 alike_same None = tt
 alike_same (Some m) = λ q h. refl
 
@@ -37,11 +37,11 @@ told_more w b None new is = ap (stream_in w) is
 told_more w b (Some t) new is = ap (stream_in w) is
 
 module _ (kind : DigestKind) (may : Act → List ℕ → Answer → Type 0) (writable : Bool) where
-  pub near_same : (left : Option (List ℕ)) (s : Shelved) → IsNear kind writable left s s
+  pub near_same : (left : Option (List ℕ)) (s : ServedFolder) → IsNear kind writable left s s
   near_same None s = always_told s.files (alike_same s.files)
   near_same (Some b) s = always_told s.files (inl (alike_same s.files))
 
-  nothing : (s u : Stream) (shelf : Shelved) → u.sent ≡ s.sent → BreaksOff kind may writable s.left s.sent shelf (Some s.left) u.sent shelf
+  nothing : (s u : Stream) (shelf : ServedFolder) → u.sent ≡ s.sent → BreaksOff kind may writable s.left s.sent shelf (Some s.left) u.sent shelf
   nothing s u shelf is = record {
     turns = [];
     talks = talks_none kind may writable s.left shelf;
@@ -50,13 +50,13 @@ module _ (kind : DigestKind) (may : Act → List ℕ → Answer → Type 0) (wri
     sent = is ∙ sym (append-nil s.sent);
   }
 
-  pub turn_cut : (a b : Option Stream) (shelf : Shelved) → sent_in b ≡ sent_in a → Fails kind may writable a shelf b shelf
+  pub turn_cut : (a b : Option Stream) (shelf : ServedFolder) → sent_in b ≡ sent_in a → ConnectionFails kind may writable a shelf b shelf
   turn_cut a b shelf same = paired a b same (λ s u is. (Some s.left, nothing s u shelf is))
 
-  pub turn_lacks : (a b : Option Stream) (shelf : Shelved) → sent_in b ≡ sent_in a → Lingers kind may writable a shelf b shelf
+  pub turn_lacks : (a b : Option Stream) (shelf : ServedFolder) → sent_in b ≡ sent_in a → Lingers kind may writable a shelf b shelf
   turn_lacks a b shelf same = paired a b same (λ s u is. (Some s.left, shelf, nothing s u shelf is, near_same (Some s.left) shelf))
 
-  pub turn_none : (a b : Option Stream) (shelf : Shelved) → sent_in b ≡ sent_in a → IfSome a (λ s. HasNone writable s.left) → Stops kind may writable a shelf b shelf
+  pub turn_none : (a b : Option Stream) (shelf : ServedFolder) → sent_in b ≡ sent_in a → IfSome a (λ s. HasNone writable s.left) → RequestsStop kind may writable a shelf b shelf
   turn_none None b shelf same none = tt
   turn_none (Some s) None shelf same none = tt
   turn_none (Some s) (Some u) shelf same none = (
@@ -69,22 +69,22 @@ module _ (kind : DigestKind) (may : Act → List ℕ → Answer → Type 0) (wri
     none,
   )
 
-  pub turn_unanswered : (q : Asked) (a b : Option Stream) (shelf shelf' : Shelved) → ComesFirst writable q a b → IfSome shelf.files (λ _. Lacks kind shelf q.request.act q.body shelf') → Lingers kind may writable a shelf b shelf'
+  pub turn_unanswered : (q : Asked) (a b : Option Stream) (shelf shelf' : ServedFolder) → ComesFirst writable q a b → IfSome shelf.files (λ _. StepLacksMemory kind shelf q.request.act q.body shelf') → Lingers kind may writable a shelf b shelf'
   turn_unanswered q a b shelf shelf' comes lacks =
-      weaker a (λ s n. subst (λ (o : Option Stream). IfSome o (λ u. (left : Option (List ℕ)) × (mid : Shelved) × BreaksOff kind may writable s.left s.sent shelf left u.sent mid × IsNear kind writable left mid shelf')) (sym n.2)
+      weaker a (λ s n. subst (λ (o : Option Stream). IfSome o (λ u. (left : Option (List ℕ)) × (mid : ServedFolder) × BreaksOff kind may writable s.left s.sent shelf left u.sent mid × IsNear kind writable left mid shelf')) (sym n.2)
       (Some s.left, shelf, nothing s (skips n.0 s) shelf refl, if_told shelf.files (λ l. inr (n.0, q, n.1, l)) lacks)) comes
 
-  module _ (q : Asked) (r : Answer) (a b c : Option Stream) (shelf shelf' : Shelved) (x : List ℕ) (comes : ComesFirst writable q a b)
-      (fair : IsFair kind may (turn_of q r)) (step : IfSome shelf.files (λ _. Steps kind shelf q.request.act q.body r shelf')) where
+  module _ (q : Asked) (r : Answer) (a b c : Option Stream) (shelf shelf' : ServedFolder) (x : List ℕ) (comes : ComesFirst writable q a b)
+      (fair : IsFair kind may (turn_of q r)) (step : IfSome shelf.files (λ _. ServesOrFails kind shelf q.request.act q.body r shelf')) where
     -- the turn with its whole reply
-    whole : (s : Stream) (n : ℕ) → IsNext writable s.left n q → x ≡ reply_bytes (turn_of q r) → Goes kind may writable s.left s.sent shelf (behind q s.left n) (s.sent ++ x) shelf'
+    whole : (s : Stream) (n : ℕ) → IsNextRequest writable s.left n q → x ≡ reply_bytes (turn_of q r) → TurnsGo kind may writable s.left s.sent shelf (behind q s.left n) (s.sent ++ x) shelf'
     whole s n next bytes = record {
       turns = turn_of q r ∷ [];
       talks = talks_one kind may writable s.left n q r shelf shelf' next fair step;
       sent = ap (λ y. s.sent ++ y) (bytes ∙ sym (append-nil (reply_bytes (turn_of q r))));
     }
 
-    broken : (s : Stream) (n k : ℕ) → IsNext writable s.left n q → x ≡ take k (reply_bytes (turn_of q r)) → BreaksOff kind may writable s.left s.sent shelf (behind q s.left n) (s.sent ++ x) shelf'
+    broken : (s : Stream) (n k : ℕ) → IsNextRequest writable s.left n q → x ≡ take k (reply_bytes (turn_of q r)) → BreaksOff kind may writable s.left s.sent shelf (behind q s.left n) (s.sent ++ x) shelf'
     broken s n k next bytes = record {
       turns = turn_of q r ∷ [];
       talks = talks_one kind may writable s.left n q r shelf shelf' next fair step;
@@ -101,18 +101,18 @@ module _ (kind : DigestKind) (may : Act → List ℕ → Answer → Type 0) (wri
         weaker a (λ s n. (
           tells x (skips n.0 s),
           after s n.0 n.2 more,
-          subst (λ (l : Option (List ℕ)). Goes kind may writable s.left s.sent shelf l (s.sent ++ x) shelf') (ap (λ t. cond t None (Some (drop n.0 s.left))) stays) (whole s n.0 n.1 bytes),
+          subst (λ (l : Option (List ℕ)). TurnsGo kind may writable s.left s.sent shelf l (s.sent ++ x) shelf') (ap (λ t. cond t None (Some (drop n.0 s.left))) stays) (whole s n.0 n.1 bytes),
         )) comes
 
-    pub turn_closed : c ≡ option_map (tells x) b → x ≡ reply_bytes (turn_of q r) → q.request.close ≡ true → Stops kind may writable a shelf c shelf'
+    pub turn_closed : c ≡ option_map (tells x) b → x ≡ reply_bytes (turn_of q r) → q.request.close ≡ true → RequestsStop kind may writable a shelf c shelf'
     turn_closed more bytes closes =
-        weaker a (λ s n. subst (λ (o : Option Stream). IfSome o (λ u. (left : Option (List ℕ)) × Goes kind may writable s.left s.sent shelf left u.sent shelf' × IsOver writable left)) (sym (after s n.0 n.2 more)) (
+        weaker a (λ s n. subst (λ (o : Option Stream). IfSome o (λ u. (left : Option (List ℕ)) × TurnsGo kind may writable s.left s.sent shelf left u.sent shelf' × IsOver writable left)) (sym (after s n.0 n.2 more)) (
           behind q s.left n.0,
           whole s n.0 n.1 bytes,
           subst (IsOver writable) (sym (ap (λ t. cond t None (Some (drop n.0 s.left))) closes)) tt,
         )) comes
 
-    pub turn_broken : (k : ℕ) → c ≡ option_map (tells x) b → x ≡ take k (reply_bytes (turn_of q r)) → Fails kind may writable a shelf c shelf'
+    pub turn_broken : (k : ℕ) → c ≡ option_map (tells x) b → x ≡ take k (reply_bytes (turn_of q r)) → ConnectionFails kind may writable a shelf c shelf'
     turn_broken k more bytes =
         weaker a (λ s n. subst (λ (o : Option Stream). IfSome o (λ u. (left : Option (List ℕ)) × BreaksOff kind may writable s.left s.sent shelf left u.sent shelf')) (sym (after s n.0 n.2 more)) (
           behind q s.left n.0,
@@ -121,7 +121,7 @@ module _ (kind : DigestKind) (may : Act → List ℕ → Answer → Type 0) (wri
 
     pub turn_lingers : (k : ℕ) → c ≡ option_map (tells x) b → x ≡ take k (reply_bytes (turn_of q r)) → Lingers kind may writable a shelf c shelf'
     turn_lingers k more bytes =
-        weaker a (λ s n. subst (λ (o : Option Stream). IfSome o (λ u. (left : Option (List ℕ)) × (mid : Shelved) × BreaksOff kind may writable s.left s.sent shelf left u.sent mid × IsNear kind writable left mid shelf')) (sym (after s n.0 n.2 more)) (
+        weaker a (λ s n. subst (λ (o : Option Stream). IfSome o (λ u. (left : Option (List ℕ)) × (mid : ServedFolder) × BreaksOff kind may writable s.left s.sent shelf left u.sent mid × IsNear kind writable left mid shelf')) (sym (after s n.0 n.2 more)) (
           behind q s.left n.0,
           shelf',
           broken s n.0 k n.1 bytes,

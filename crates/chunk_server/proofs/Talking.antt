@@ -10,30 +10,30 @@ use Rattle.chunk_store.specs.declared.id.DigestKind.{DigestKind}
 use Rattle.dsy_base.specs.Maps.{Map}
 use Rattle.http_wire.specs.declared.request.Act.{Act}
 use Rattle.chunk_server.specs.Answers.{Answer}
-use Rattle.chunk_server.specs.Requests.{Asked, Comes, IsNext, behind}
-use Rattle.chunk_server.specs.Shelves.{AreAlike, Shelved, Steps}
-use Rattle.chunk_server.specs.Turns.{BreaksOff, Goes, IsFair, SendsMost, Takes, Talks, Turn, replies, reply_bytes, turn_of}
+use Rattle.chunk_server.specs.Requests.{Asked, AreRequests, IsNextRequest, behind}
+use Rattle.chunk_server.specs.Shelves.{AreAlikeButTemporaries, ServedFolder, ServesOrFails}
+use Rattle.chunk_server.specs.Turns.{BreaksOff, TurnsGo, IsFair, SendsMost, Takes, Talks, Turn, replies, reply_bytes, turn_of}
 
 -- ---- requests
 
-Comes-append : (writable : Bool) (b : Option (List ℕ)) (xs ys : List Asked) (mid left : Option (List ℕ)) → Comes writable b xs mid → Comes writable mid ys left → Comes writable b (xs ++ ys) left
-unfolding Comes
-Comes-append writable b [] ys mid left one two = subst (λ (o : Option (List ℕ)). Comes writable o ys left) one two
+Comes-append : (writable : Bool) (b : Option (List ℕ)) (xs ys : List Asked) (mid left : Option (List ℕ)) → AreRequests writable b xs mid → AreRequests writable mid ys left → AreRequests writable b (xs ++ ys) left
+unfolding AreRequests
+Comes-append writable b [] ys mid left one two = subst (λ (o : Option (List ℕ)). AreRequests writable o ys left) one two
 Comes-append writable None (x ∷ xs) ys mid left one two = absurd one
 Comes-append writable (Some b) (x ∷ xs) ys mid left one two =
     (one.0, one.1, Comes-append writable (behind x b one.0) xs ys mid left one.2 two)
 
-comes_none : (writable : Bool) (b : Option (List ℕ)) → Comes writable b [] b
-unfolding Comes
+comes_none : (writable : Bool) (b : Option (List ℕ)) → AreRequests writable b [] b
+unfolding AreRequests
 comes_none writable b = refl
 
-comes_one : (writable : Bool) (b : List ℕ) (n : ℕ) (a : Asked) → IsNext writable b n a → Comes writable (Some b) (a ∷ []) (behind a b n)
-unfolding Comes
+comes_one : (writable : Bool) (b : List ℕ) (n : ℕ) (a : Asked) → IsNextRequest writable b n a → AreRequests writable (Some b) (a ∷ []) (behind a b n)
+unfolding AreRequests
 comes_one writable b n a next = (n, next, refl)
 
 -- ---- steps
 
-alike_told : (m n : Option (Map (List ℕ))) → AreAlike m n → is_some n ≡ is_some m
+alike_told : (m n : Option (Map (List ℕ))) → AreAlikeButTemporaries m n → is_some n ≡ is_some m
 alike_told None None h = refl
 alike_told None (Some n) h = absurd h
 alike_told (Some m) None h = absurd h
@@ -43,25 +43,25 @@ mapped_told : (f : Map (List ℕ) → Map (List ℕ)) (o : Option (Map (List ℕ
 mapped_told f None = refl
 mapped_told f (Some m) = refl
 
-step_told : (kind : DigestKind) (old : Shelved) (a : Act) (body : List ℕ) (r : Answer) (new : Shelved) → Steps kind old a body r new → is_some new.files ≡ is_some old.files
+step_told : (kind : DigestKind) (old : ServedFolder) (a : Act) (body : List ℕ) (r : Answer) (new : ServedFolder) → ServesOrFails kind old a body r new → is_some new.files ≡ is_some old.files
 step_told kind old a body r new (inl h) = ap is_some h.files ∙ mapped_told _ old.files
 step_told kind old a body r new (inr h) = alike_told old.files new.files h.files
 
-takes_told : (kind : DigestKind) (old : Shelved) (ts : List Turn) (new : Shelved) → Takes kind old ts new → is_some new.files ≡ is_some old.files
+takes_told : (kind : DigestKind) (old : ServedFolder) (ts : List Turn) (new : ServedFolder) → Takes kind old ts new → is_some new.files ≡ is_some old.files
 unfolding Takes
-takes_told kind old [] new h = ap (λ (s : Shelved). is_some s.files) h
+takes_told kind old [] new h = ap (λ (s : ServedFolder). is_some s.files) h
 takes_told kind old (t ∷ ts) new h = takes_told kind h.0 ts new h.2 ∙ step_told kind old t.asked.request.act t.asked.body t.answer h.0 h.1
 
-Takes-append : (kind : DigestKind) (old : Shelved) (ts us : List Turn) (mid new : Shelved) → Takes kind old ts mid → Takes kind mid us new → Takes kind old (ts ++ us) new
+Takes-append : (kind : DigestKind) (old : ServedFolder) (ts us : List Turn) (mid new : ServedFolder) → Takes kind old ts mid → Takes kind mid us new → Takes kind old (ts ++ us) new
 unfolding Takes
-Takes-append kind old [] us mid new one two = subst (λ (s : Shelved). Takes kind s us new) one two
+Takes-append kind old [] us mid new one two = subst (λ (s : ServedFolder). Takes kind s us new) one two
 Takes-append kind old (t ∷ ts) us mid new one two = (one.0, one.1, Takes-append kind one.0 ts us mid new one.2 two)
 
-takes_none : (kind : DigestKind) (s : Shelved) → Takes kind s [] s
+takes_none : (kind : DigestKind) (s : ServedFolder) → Takes kind s [] s
 unfolding Takes
 takes_none kind s = refl
 
-takes_one : (kind : DigestKind) (old : Shelved) (t : Turn) (new : Shelved) → Steps kind old t.asked.request.act t.asked.body t.answer new → Takes kind old (t ∷ []) new
+takes_one : (kind : DigestKind) (old : ServedFolder) (t : Turn) (new : ServedFolder) → ServesOrFails kind old t.asked.request.act t.asked.body t.answer new → Takes kind old (t ∷ []) new
 unfolding Takes
 takes_one kind old t new step = (new, step, refl)
 
@@ -81,28 +81,28 @@ always_told (Some x) a = a
 -- ---- turns
 
 module _ (kind : DigestKind) (may : Act → List ℕ → Answer → Type 0) (writable : Bool) where
-  pub talks_none : (b : List ℕ) (s : Shelved) → Talks kind may writable b [] (Some b) s s
+  pub talks_none : (b : List ℕ) (s : ServedFolder) → Talks kind may writable b [] (Some b) s s
   talks_none b s = record {
     comes = comes_none writable (Some b);
     fair = All-nil (IsFair kind may);
     takes = always_told s.files (takes_none kind s);
   }
 
-  pub talks_one : (b : List ℕ) (n : ℕ) (a : Asked) (r : Answer) (old new : Shelved) → IsNext writable b n a → IsFair kind may (turn_of a r) → IfSome old.files (λ _. Steps kind old a.request.act a.body r new) → Talks kind may writable b (turn_of a r ∷ []) (behind a b n) old new
+  pub talks_one : (b : List ℕ) (n : ℕ) (a : Asked) (r : Answer) (old new : ServedFolder) → IsNextRequest writable b n a → IsFair kind may (turn_of a r) → IfSome old.files (λ _. ServesOrFails kind old a.request.act a.body r new) → Talks kind may writable b (turn_of a r ∷ []) (behind a b n) old new
   talks_one b n a r old new next fair step = record {
     comes = comes_one writable b n a next;
     fair = All-cons (IsFair kind may) (turn_of a r) [] fair (All-nil (IsFair kind may));
     takes = if_told old.files (takes_one kind old (turn_of a r) new) step;
   }
 
-  talks_on : (b l : List ℕ) (ts us : List Turn) (left : Option (List ℕ)) (old mid new : Shelved) → Talks kind may writable b ts (Some l) old mid → Talks kind may writable l us left mid new → Talks kind may writable b (ts ++ us) left old new
+  talks_on : (b l : List ℕ) (ts us : List Turn) (left : Option (List ℕ)) (old mid new : ServedFolder) → Talks kind may writable b ts (Some l) old mid → Talks kind may writable l us left mid new → Talks kind may writable b (ts ++ us) left old new
   talks_on b l ts us left old mid new one two = record {
-    comes = subst (λ (xs : List Asked). Comes writable (Some b) xs left) (sym (map-append (λ (t : Turn). t.asked) ts us)) (Comes-append writable (Some b) (map (λ t. t.asked) ts) (map (λ t. t.asked) us) (Some l) left one.comes two.comes);
+    comes = subst (λ (xs : List Asked). AreRequests writable (Some b) xs left) (sym (map-append (λ (t : Turn). t.asked) ts us)) (Comes-append writable (Some b) (map (λ t. t.asked) ts) (map (λ t. t.asked) us) (Some l) left one.comes two.comes);
     fair = All-append (IsFair kind may) ts us one.fair two.fair;
     takes = both_told old.files mid.files (takes_told kind old ts mid) (Takes-append kind old ts us mid new) one.takes two.takes;
   }
 
-  pub goes_on : (b l before told after : List ℕ) (left : Option (List ℕ)) (old mid new : Shelved) → Goes kind may writable b before old (Some l) told mid → Goes kind may writable l told mid left after new → Goes kind may writable b before old left after new
+  pub goes_on : (b l before told after : List ℕ) (left : Option (List ℕ)) (old mid new : ServedFolder) → TurnsGo kind may writable b before old (Some l) told mid → TurnsGo kind may writable l told mid left after new → TurnsGo kind may writable b before old left after new
   goes_on b l before told after left old mid new one two = record {
     turns = one.turns ++ two.turns;
     talks = talks_on b l one.turns two.turns left old mid new one.talks two.talks;
@@ -134,7 +134,7 @@ module _ (kind : DigestKind) (may : Act → List ℕ → Answer → Type 0) (wri
         ap (λ x. replies ts ++ x) h.4 ∙ sym (append_assoc (replies ts) (replies h.0) (take h.2 (reply_bytes h.1))) ∙ ap (λ x. x ++ take h.2 (reply_bytes h.1)) (sym (flat_map-append reply_bytes ts h.0)),
       )
 
-  pub breaks_on : (b l before told after : List ℕ) (left : Option (List ℕ)) (old mid new : Shelved) → Goes kind may writable b before old (Some l) told mid → BreaksOff kind may writable l told mid left after new → BreaksOff kind may writable b before old left after new
+  pub breaks_on : (b l before told after : List ℕ) (left : Option (List ℕ)) (old mid new : ServedFolder) → TurnsGo kind may writable b before old (Some l) told mid → BreaksOff kind may writable l told mid left after new → BreaksOff kind may writable b before old left after new
   breaks_on b l before told after left old mid new one two = record {
     turns = one.turns ++ two.turns;
     talks = talks_on b l one.turns two.turns left old mid new one.talks two.talks;

@@ -38,12 +38,12 @@ with_length None = bare 404
 with_length (Some b) = record { status = 200; size = length b; body = [] }
 
 -- the answer against these files
-unfoldable pub answer_of : DigestKind → Map (List ℕ) → Act → List ℕ → Answer
-answer_of kind files (act.Get id) body = with_chunk (chunk_held kind id.0 (chunks files id.0))
-answer_of kind files (act.Head id) body = with_length (chunk_held kind id.0 (chunks files id.0))
-answer_of kind files (act.Put id) body = bare (if bytes_eq (name_of kind body) id.0 then 200 else 400)
-answer_of kind files act.Lost body = bare 404
-answer_of kind files (act.Refuse status) body = bare status
+unfoldable pub answer_to : DigestKind → Map (List ℕ) → Act → List ℕ → Answer
+answer_to kind files (act.Get id) body = with_chunk (chunk_held kind id.0 (chunks files id.0))
+answer_to kind files (act.Head id) body = with_length (chunk_held kind id.0 (chunks files id.0))
+answer_to kind files (act.Put id) body = bare (if bytes_eq (name_of kind body) id.0 then 200 else 400)
+answer_to kind files act.Lost body = bare 404
+answer_to kind files (act.Refuse status) body = bare status
 
 -- and the files that it leaves: a PUT of bytes of the name puts them under it
 unfoldable pub files_after : DigestKind → Map (List ℕ) → Act → List ℕ → Map (List ℕ)

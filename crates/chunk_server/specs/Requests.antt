@@ -22,15 +22,15 @@ pub record Asked : Type 0 where
   pub body : List ℕ
 
 -- what was received, as a request with its body
-abbrev pub asked_in : Received → Asked
-asked_in r = record { request = r.request; body = r.body.items }
+abbrev pub asked_of : Received → Asked
+asked_of r = record { request = r.request; body = r.body.items }
 
 -- how many bytes follow the head: none where the request is refused
 abbrev pub body_size : Request → ℕ
 body_size r = if is_refusal r.act then 0 else r.body
 
 -- the head is the first n bytes, and says this
-pub record IsHead (writable : Bool) (b : List ℕ) (n : ℕ) (r : Request) : Type 0 where
+pub record IsRequestHead (writable : Bool) (b : List ℕ) (n : ℕ) (r : Request) : Type 0 where
   pub ends : IsFirstEnd b n
   pub near : n ≤ head_limit
   pub found : (h : RequestHead) → IsRequest (take n b) h → r ≡ request_of writable h
@@ -51,16 +51,16 @@ pub record IsEndless (b : List ℕ) (n : ℕ) (a : Asked) : Type 0 where
   pub is : a ≡ endless
 
 -- a head and its whole body, n bytes in all
-pub record IsWhole (writable : Bool) (b : List ℕ) (n : ℕ) (a : Asked) : Type 0 where
+pub record IsWholeRequest (writable : Bool) (b : List ℕ) (n : ℕ) (a : Asked) : Type 0 where
   pub head : ℕ
-  pub says : IsHead writable b head a.request
+  pub says : IsRequestHead writable b head a.request
   pub size : n ≡ head + body_size a.request
   pub inside : n ≤ length b
   pub body : a.body ≡ take (body_size a.request) (drop head b)
 
 -- the request that comes first, in the first n bytes
-abbrev pub IsNext : Bool → List ℕ → ℕ → Asked → Type 0
-IsNext writable b n a = IsWhole writable b n a ⊎ IsEndless b n a
+abbrev pub IsNextRequest : Bool → List ℕ → ℕ → Asked → Type 0
+IsNextRequest writable b n a = IsWholeRequest writable b n a ⊎ IsEndless b n a
 
 -- the bytes end before a head does
 pub record EndsInHead (b : List ℕ) : Type 0 where
@@ -83,7 +83,7 @@ IsInside waiting heading.Cut = Unit {0}
 pub record EndsInBody (writable : Bool) (b : List ℕ) : Type 0 where
   pub request : Request
   pub head : ℕ
-  pub says : IsHead writable b head request
+  pub says : IsRequestHead writable b head request
   pub short : length b < head + body_size request
 
 -- no whole request comes, and none that is refused
@@ -95,11 +95,11 @@ abbrev pub behind : Asked → List ℕ → ℕ → Option (List ℕ)
 behind a b n = if a.request.close then None else Some (drop n b)
 
 -- these requests come one behind the other, and then what is left
-unfoldable pub Comes : Bool → Option (List ℕ) → List Asked → Option (List ℕ) → Type 0
-Comes writable b [] left = left ≡ b
-Comes writable None (a ∷ more) left = ⊥
-Comes writable (Some b) (a ∷ more) left =
-    (n : ℕ) × IsNext writable b n a × Comes writable (behind a b n) more left
+unfoldable pub AreRequests : Bool → Option (List ℕ) → List Asked → Option (List ℕ) → Type 0
+AreRequests writable b [] left = left ≡ b
+AreRequests writable None (a ∷ more) left = ⊥
+AreRequests writable (Some b) (a ∷ more) left =
+    (n : ℕ) × IsNextRequest writable b n a × AreRequests writable (behind a b n) more left
 
 -- no request comes any more
 abbrev pub IsOver : Bool → Option (List ℕ) → Type 0

@@ -6,18 +6,18 @@ use Rattle.chunk_store.specs.declared.id.DigestKind.{DigestKind}
 use Rattle.dir_store.specs.Names.{is_temporary}
 use Rattle.dsy_base.specs.Counts.{Rose}
 use Rattle.dsy_base.specs.Maps.{Map}
-use Rattle.chunk_server.specs.Answers.{Answer, answer_of, bare, files_after}
+use Rattle.chunk_server.specs.Answers.{Answer, answer_to, bare, files_after}
 use Rattle.chunk_server.specs.declared.shelf.Reply.{Reply}
 use Rattle.http_wire.specs.declared.request.Act.{Act}
 use Rattle.http_wire.specs.declared.request.Act.TheVariants as act
 
 -- the files of its folder, where they are told, and how often a call on it has failed
-pub record Shelved : Type 0 where
+pub record ServedFolder : Type 0 where
   pub files : Option (Map (List ℕ))
   pub faults : ℕ
 
 -- a folder as a shelf sees it
-abbrev pub shelved : {F : Type 0} → (F → Option (Map (List ℕ))) → (F → ℕ) → F → Shelved
+abbrev pub shelved : {F : Type 0} → (F → Option (Map (List ℕ))) → (F → ℕ) → F → ServedFolder
 shelved files faults folder = record { files = files folder; faults = faults folder }
 
 -- a reply as an answer
@@ -25,34 +25,35 @@ abbrev pub answer_in : Reply → Answer
 answer_in r = record { status = r.status; size = r.length; body = r.body.items }
 
 -- the files differ in temporary ones alone
-abbrev pub AreAlike : Option (Map (List ℕ)) → Option (Map (List ℕ)) → Type 0
-AreAlike (Some m) (Some n) = (q : List ℕ) → is_temporary q ≡ false → n q ≡ m q
-AreAlike (Some m) None = ⊥
-AreAlike None (Some n) = ⊥
-AreAlike None None = Unit {0}
+abbrev pub AreAlikeButTemporaries : Option (Map (List ℕ)) → Option (Map (List ℕ)) → Type 0
+AreAlikeButTemporaries (Some m) (Some n) = (q : List ℕ) → is_temporary q ≡ false → n q ≡ m q
+AreAlikeButTemporaries (Some m) None = ⊥
+AreAlikeButTemporaries None (Some n) = ⊥
+AreAlikeButTemporaries None None = Unit {0}
 
 -- the request was answered as the files say
-pub record IsStep (kind : DigestKind) (old : Shelved) (a : Act) (body : List ℕ) (r : Answer) (new : Shelved) :
-    Type 0
-  where
-    pub answer : IfSome old.files (λ m. r ≡ answer_of kind m a body)
-    pub files : new.files ≡ option_map (λ m. files_after kind m a body) old.files
-    pub faults : old.faults ≤ new.faults
+pub record IsServedStep (kind : DigestKind) (old : ServedFolder) (a : Act) (body : List ℕ) (r : Answer)
+    (new : ServedFolder) : Type 0 where
+  pub answer : IfSome old.files (λ m. r ≡ answer_to kind m a body)
+  pub files : new.files ≡ option_map (λ m. files_after kind m a body) old.files
+  pub faults : old.faults ≤ new.faults
 
 -- a call on the folder has failed, and was counted
-pub record Fails (old : Shelved) (r : Answer) (new : Shelved) : Type 0 where
+pub record FolderFails (old : ServedFolder) (r : Answer) (new : ServedFolder) : Type 0 where
   pub answer : r ≡ bare 500
-  pub files : AreAlike old.files new.files
+  pub files : AreAlikeButTemporaries old.files new.files
   pub faults : old.faults ≤ new.faults
   pub cause : Rose old.faults new.faults
 
 -- one or the other
-abbrev pub Steps : DigestKind → Shelved → Act → List ℕ → Answer → Shelved → Type 0
-Steps kind old a body r new = IsStep kind old a body r new ⊎ Fails old r new
+abbrev pub ServesOrFails : DigestKind → ServedFolder → Act → List ℕ → Answer → ServedFolder → Type 0
+ServesOrFails kind old a body r new = IsServedStep kind old a body r new ⊎ FolderFails old r new
 
 -- there was no memory: the files are as before the step, or as after it
-pub record Lacks (kind : DigestKind) (old : Shelved) (a : Act) (body : List ℕ) (new : Shelved) : Type 0 where
-  pub files : AreAlike old.files new.files ⊎ AreAlike (option_map (λ m. files_after kind m a body) old.files) new.files
+pub record StepLacksMemory (kind : DigestKind) (old : ServedFolder) (a : Act) (body : List ℕ)
+    (new : ServedFolder) : Type 0 where
+  pub files : AreAlikeButTemporaries old.files new.files
+      ⊎ AreAlikeButTemporaries (option_map (λ m. files_after kind m a body) old.files) new.files
   pub faults : old.faults ≤ new.faults
 
 -- a status that tells of no chunk
@@ -60,7 +61,7 @@ abbrev pub IsBare : Answer → Type 0
 IsBare r = (r ≡ bare 400) ⊎ ((r ≡ bare 404) ⊎ (r ≡ bare 500))
 
 -- the chunk of this id
-pub record GivesChunk (kind : DigestKind) (id : List ℕ) (r : Answer) : Type 0 where
+pub record RepliesChunk (kind : DigestKind) (id : List ℕ) (r : Answer) : Type 0 where
   pub status : r.status ≡ 200
   pub named : name_of kind r.body ≡ id
   pub size : r.size ≡ length r.body
@@ -72,16 +73,16 @@ pub record GivesLength (r : Answer) : Type 0 where
 
 -- what each shelf may answer
 abbrev pub IsAnswer : DigestKind → Act → Answer → Type 0
-IsAnswer kind (act.Get id) r = GivesChunk kind id.0 r ⊎ IsBare r
+IsAnswer kind (act.Get id) r = RepliesChunk kind id.0 r ⊎ IsBare r
 IsAnswer kind (act.Head id) r = GivesLength r ⊎ IsBare r
 IsAnswer kind (act.Put id) r = (r ≡ bare 200) ⊎ IsBare r
 IsAnswer kind act.Lost r = r ≡ bare 404
 IsAnswer kind (act.Refuse status) r = r ≡ bare status
 
 -- bytes of another name than the id aren't put, whatever the folder does
-abbrev pub Refuses : DigestKind → Act → List ℕ → Answer → Type 0
-Refuses kind (act.Put id) body r = name_of kind body ≢ id.0 → r ≡ bare 400
-Refuses kind (act.Get id) body r = Unit {0}
-Refuses kind (act.Head id) body r = Unit {0}
-Refuses kind act.Lost body r = Unit {0}
-Refuses kind (act.Refuse status) body r = Unit {0}
+abbrev pub RefusesOtherDigest : DigestKind → Act → List ℕ → Answer → Type 0
+RefusesOtherDigest kind (act.Put id) body r = name_of kind body ≢ id.0 → r ≡ bare 400
+RefusesOtherDigest kind (act.Get id) body r = Unit {0}
+RefusesOtherDigest kind (act.Head id) body r = Unit {0}
+RefusesOtherDigest kind act.Lost body r = Unit {0}
+RefusesOtherDigest kind (act.Refuse status) body r = Unit {0}

@@ -12,12 +12,12 @@ pub record Standing (F : Type 0) : Type 0 where
   pub writable : Bool
 
 -- the chunk at the front of the buffer, if one was found
-pub record IsFound (kind : DigestKind) (id buffer : List ℕ) (n : ℕ) : Type 0 where
+pub record IsFoundInBuffer (kind : DigestKind) (id buffer : List ℕ) (n : ℕ) : Type 0 where
   pub inside : n ≤ length buffer
   pub few : n ≤ body_limit
   pub named : name_of kind (take n buffer) ≡ id
 
 -- how a count goes over several calls on one object: it never falls, and rises where they failed
-pub record CountsCause {A E : Type 0} (failed : E) (old new : ℕ) (result : Result A E) : Type 0 where
+pub record CountsItsCause {A E : Type 0} (failed : E) (old new : ℕ) (result : Result A E) : Type 0 where
   pub never_falls : old ≤ new
   pub cause : result ≡ Err failed → Rose old new

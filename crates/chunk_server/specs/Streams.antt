@@ -25,8 +25,8 @@ abbrev pub sent_in : Option Stream → Option (List ℕ)
 sent_in s = option_map (λ x. x.sent) s
 
 -- a front of b was sent
-abbrev pub SendsFront : List ℕ → Option Traffic → Option Traffic → Type 0
-SendsFront b old new = (n : ℕ) × (new ≡ option_map (sends (take n b)) old)
+abbrev pub SendsSomeFront : List ℕ → Option Traffic → Option Traffic → Type 0
+SendsSomeFront b old new = (n : ℕ) × (new ≡ option_map (sends (take n b)) old)
 
 -- more bytes were looked at, and stand behind those that were taken before
 abbrev pub Moves : Option Stream → Option Stream → List ℕ → List ℕ → Type 0

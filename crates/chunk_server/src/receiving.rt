@@ -2,7 +2,8 @@
 
 ghost use Rattle.std.specs.Prelude.{◌≡◌, ℕ, ◌<◌, ◌≤◌, List, [], ◌++◌, length, take, false, true, IfOk, IfSome, None};
 ghost use Rattle.std.specs.Prelude.{Ok, OnOk, Some};
-ghost use Rattle.chunk_server.specs.Requests.{HasNone, Heads, IsHead, IsInside, IsNext, asked_in, body_size, endless};
+ghost use Rattle.chunk_server.specs.Requests.{HasNone, Heads, IsRequestHead, IsInside, IsNextRequest, asked_of};
+ghost use Rattle.chunk_server.specs.Requests.{body_size, endless};
 ghost use Rattle.chunk_server.specs.Requests.{head_limit};
 ghost use Rattle.chunk_server.specs.Streams.{Moves, given_in, sent_in, skips, stream_in};
 ghost use Rattle.dsy_base.specs.Counts.{CountsFaults};
@@ -170,7 +171,7 @@ fn body_size(request: &Request) -> usize
 
 // What is answered where a head has no end.
 fn endless(alloc: Global) -> Received
-    ensures { asked_in result ≡ endless }
+    ensures { asked_of result ≡ endless }
 {
     Received {
         request: Request {
@@ -186,7 +187,8 @@ fn endless(alloc: Global) -> Received
 fn read_head(bytes: &[u8], n: usize, writable: bool) -> Request
     requires inside { n ≤ length bytes.now }
     requires near { n ≤ head_limit }
-    ensures says { (more : List ℕ) → IsFirstEnd (bytes.now ++ more) n → IsHead writable (bytes.now ++ more) n result }
+    ensures says { (more : List ℕ) → IsFirstEnd (bytes.now ++ more) n
+        → IsRequestHead writable (bytes.now ++ more) n result }
     ensures closes { is_refusal result.act ≡ true → result.close ≡ true }
     ensures size { is_refusal result.act ≡ false → result.body ≤ body_limit }
 {
@@ -205,7 +207,7 @@ pub(crate) fn receive_request<K: Link>(
     ensures size { length waiting.new.items ≤ head_limit }
     ensures found { IfOk result (λ o. IfSome o (λ r.
         IfSome (stream_in waiting.old.items (K.state link.old).traffic) (λ s.
-        (n : ℕ) × IsNext writable s.left n (asked_in r)
+        (n : ℕ) × IsNextRequest writable s.left n (asked_of r)
         × (stream_in waiting.new.items (K.state link.new).traffic ≡ Some (skips n s))))) }
     ensures room { IfOk result (λ o. IfSome o (λ r. length r.body.items ≤ body_limit)) }
     ensures closes { IfOk result (λ o. IfSome o (λ r. is_refusal r.request.act ≡ true → r.request.close ≡ true)) }

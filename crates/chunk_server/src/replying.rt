@@ -2,7 +2,7 @@
 
 ghost use Rattle.std.specs.Prelude.{◌≡◌, ◌++◌, OnErr, OnOk, false, true};
 ghost use Rattle.std.specs.Option.{option_map};
-ghost use Rattle.chunk_server.specs.Streams.{SendsFront, given_in};
+ghost use Rattle.chunk_server.specs.Streams.{SendsSomeFront, given_in};
 ghost use Rattle.dsy_base.specs.Counts.{CountsFaults};
 ghost use Rattle.dsy_base.specs.Links.{sends};
 ghost use Rattle.http_wire.specs.ReplyText.{reply_head};
@@ -36,7 +36,7 @@ fn put_in_front(body: &mut Vec<u8>, head: &[u8]) -> bool
 fn send_apart<K: Link>(link: &mut K, head: &[u8], body: &[u8]) -> Result<(), IoFault>
     ensures ok { OnOk result ((K.state link.new).traffic
         ≡ option_map (sends (head.now ++ body.now)) (K.state link.old).traffic) }
-    ensures err { OnErr result (SendsFront (head.now ++ body.now)
+    ensures err { OnErr result (SendsSomeFront (head.now ++ body.now)
         (K.state link.old).traffic (K.state link.new).traffic) }
     ensures given { given_in (K.state link.new).traffic ≡ given_in (K.state link.old).traffic }
     ensures faults { CountsFaults IoFault.Failed IoFault.Memory
@@ -58,7 +58,7 @@ pub(crate) fn send_reply<K: Link>(
     ensures ok { OnOk result ((K.state link.new).traffic
         ≡ option_map (sends (reply_head reply.status reply.length close ++ reply.body.items))
         (K.state link.old).traffic) }
-    ensures err { OnErr result (SendsFront (reply_head reply.status reply.length close ++ reply.body.items)
+    ensures err { OnErr result (SendsSomeFront (reply_head reply.status reply.length close ++ reply.body.items)
         (K.state link.old).traffic (K.state link.new).traffic) }
     ensures given { given_in (K.state link.new).traffic ≡ given_in (K.state link.old).traffic }
     ensures faults { CountsFaults IoFault.Failed IoFault.Memory

@@ -1,10 +1,11 @@
 //! A connection is served to its end.
 
 ghost use Rattle.std.specs.Prelude.{◌≡◌, ◌≤◌, ℕ, List, length, false, true, IfOk, IfSome, Ok, Err, OnErr, Some};
-ghost use Rattle.chunk_server.specs.Requests.{asked_in, head_limit};
-ghost use Rattle.chunk_server.specs.Shelves.{Lacks, Steps, answer_in};
+ghost use Rattle.chunk_server.specs.Requests.{asked_of, head_limit};
+ghost use Rattle.chunk_server.specs.Shelves.{StepLacksMemory, ServesOrFails, answer_in};
 ghost use Rattle.chunk_server.specs.Streams.{given_in, stream_in};
-ghost use Rattle.chunk_server.specs.Turns.{Cut, Fails, IsFair, Lacking, Lingers, Served as ServedWhole, Stays, Stops};
+ghost use Rattle.chunk_server.specs.Turns.{Cut, ConnectionFails, IsFair, Lacking, Lingers, Served as ServedWhole};
+ghost use Rattle.chunk_server.specs.Turns.{Stays, RequestsStop};
 ghost use Rattle.chunk_server.specs.Turns.{turn_of};
 ghost use Rattle.dsy_base.specs.Counts.{CountsFaults, Rose};
 ghost use Rattle.http_wire.specs.Request.{body_limit};
@@ -32,10 +33,12 @@ pub enum Served {
 fn answer<H: Shelf>(alloc: Global, shelf: &mut H, received: &Received) -> Result<Reply, Memory>
     requires size { length received.now.body.items ≤ body_limit }
     ensures fair { IfOk result (λ r. IsFair (H.digest shelf.old) H.may
-        (turn_of (asked_in received.now) (answer_in r))) }
-    ensures ok { IfOk result (λ r. IfSome (H.state shelf.old).files (λ _. Steps (H.digest shelf.old) (H.state shelf.old)
+        (turn_of (asked_of received.now) (answer_in r))) }
+    ensures ok { IfOk result (λ r. IfSome (H.state shelf.old).files
+        (λ _. ServesOrFails (H.digest shelf.old) (H.state shelf.old)
         received.now.request.act received.now.body.items (answer_in r) (H.state shelf.new))) }
-    ensures err { OnErr result (IfSome (H.state shelf.old).files (λ _. Lacks (H.digest shelf.old) (H.state shelf.old)
+    ensures err { OnErr result (IfSome (H.state shelf.old).files
+        (λ _. StepLacksMemory (H.digest shelf.old) (H.state shelf.old)
         received.now.request.act received.now.body.items (H.state shelf.new))) }
     ensures kind { H.digest shelf.new ≡ H.digest shelf.old }
     ensures kept { H.takes shelf.new ≡ H.takes shelf.old }
@@ -64,10 +67,10 @@ fn take_turn<K: Link, H: Shelf>(
     ensures open { result ≡ Ok true → Stays (H.digest shelf.old) H.may (H.takes shelf.old)
         (stream_in waiting.old.items (K.state link.old).traffic) (H.state shelf.old)
         (stream_in waiting.new.items (K.state link.new).traffic) (H.state shelf.new) }
-    ensures closed { result ≡ Ok false → Stops (H.digest shelf.old) H.may (H.takes shelf.old)
+    ensures closed { result ≡ Ok false → RequestsStop (H.digest shelf.old) H.may (H.takes shelf.old)
         (stream_in waiting.old.items (K.state link.old).traffic) (H.state shelf.old)
         (stream_in waiting.new.items (K.state link.new).traffic) (H.state shelf.new) }
-    ensures cut { result ≡ Err IoFault.Failed → Fails (H.digest shelf.old) H.may (H.takes shelf.old)
+    ensures cut { result ≡ Err IoFault.Failed → ConnectionFails (H.digest shelf.old) H.may (H.takes shelf.old)
         (stream_in waiting.old.items (K.state link.old).traffic) (H.state shelf.old)
         (stream_in waiting.new.items (K.state link.new).traffic) (H.state shelf.new) }
     ensures lacking { result ≡ Err IoFault.Memory → Lingers (H.digest shelf.old) H.may (H.takes shelf.old)

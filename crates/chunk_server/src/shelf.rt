@@ -2,7 +2,7 @@
 
 ghost use Rattle.std.specs.Prelude.{◌≡◌, ℕ, Bool, List, ◌≤◌, length, IfOk, IfSome, OnErr, false};
 ghost use Rattle.chunk_server.specs.Answers.{Answer};
-ghost use Rattle.chunk_server.specs.Shelves.{IsAnswer, Lacks, Shelved, Steps, answer_in};
+ghost use Rattle.chunk_server.specs.Shelves.{IsAnswer, StepLacksMemory, ServedFolder, ServesOrFails, answer_in};
 ghost use Rattle.chunk_store.specs.declared.id.DigestKind.{DigestKind};
 ghost use Rattle.http_wire.specs.Request.{body_limit, is_refusal};
 ghost use Rattle.http_wire.specs.declared.request.Act.{Act};
@@ -22,7 +22,7 @@ pub struct Reply {
 /// What answers the requests on a connection.
 pub trait Shelf: Drop {
     /// The files of its folder, where it tells them, and how often a call on it has failed.
-    ghost state: { Self → Shelved };
+    ghost state: { Self → ServedFolder };
 
     /// The name that its folder was taken under.
     ghost place: { Self → List ℕ };
@@ -43,9 +43,9 @@ pub trait Shelf: Drop {
         ensures only { IfOk result (λ r. IsAnswer (digest self.old) act.now (answer_in r)) }
         ensures may { IfOk result (λ r. may act.now body.now (answer_in r)) }
         ensures ok { IfOk result (λ r. IfSome (state self.old).files (λ _.
-            Steps (digest self.old) (state self.old) act.now body.now (answer_in r) (state self.new))) }
+            ServesOrFails (digest self.old) (state self.old) act.now body.now (answer_in r) (state self.new))) }
         ensures err { OnErr result (IfSome (state self.old).files (λ _.
-            Lacks (digest self.old) (state self.old) act.now body.now (state self.new))) }
+            StepLacksMemory (digest self.old) (state self.old) act.now body.now (state self.new))) }
         ensures kind { digest self.new ≡ digest self.old }
         ensures kept { takes self.new ≡ takes self.old }
         ensures place { place self.new ≡ place self.old }

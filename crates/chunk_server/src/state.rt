@@ -4,8 +4,9 @@ ghost use Rattle.std.specs.Prelude.{◌≡◌, ℕ, ◌<◌, ◌≤◌, [], List
 ghost use Rattle.std.specs.Prelude.{OnOk, Some};
 ghost use Rattle.std.specs.Option.{option_map};
 ghost use Rattle.chunk_server.specs.Answers.{bare, chunk_held, with_chunk};
-ghost use Rattle.chunk_server.specs.Shelves.{AreAlike, IsAnswer, Refuses, Steps, answer_in, shelved};
-ghost use Rattle.chunk_server.specs.States.{CountsCause, IsFound};
+ghost use Rattle.chunk_server.specs.Shelves.{AreAlikeButTemporaries, IsAnswer, RefusesOtherDigest, ServesOrFails};
+ghost use Rattle.chunk_server.specs.Shelves.{answer_in, shelved};
+ghost use Rattle.chunk_server.specs.States.{CountsItsCause, IsFoundInBuffer};
 ghost use Rattle.chunk_store.specs.Folders.{chunks};
 ghost use Rattle.chunk_store.specs.declared.id.DigestKind.TheVariants as kinds;
 ghost use Rattle.dsy_base.specs.Maps.{ReadGives};
@@ -50,7 +51,7 @@ fn read_file<F: Folder>(
     ensures longer { result ≡ Err FileFault.Longer → body_limit ≤ length buffer.new.items }
     ensures kept { F.files folder.new ≡ F.files folder.old }
     ensures place { F.place folder.new ≡ F.place folder.old }
-    ensures faults { CountsCause FileFault.Failed (F.faults folder.old) (F.faults folder.new) result }
+    ensures faults { CountsItsCause FileFault.Failed (F.faults folder.old) (F.faults folder.new) result }
 {
     let path = id.path();
     while buffer.len() < LONGEST {
@@ -78,10 +79,10 @@ fn find<F: Folder>(
     ensures room { length buffer.new.items ≤ body_limit }
     ensures found { IfOk result (λ o. IfSome (F.files folder.old) (λ m.
         chunk_held kind id.now.0 (chunks m id.now.0) ≡ option_map (λ n. take n buffer.new.items) o)) }
-    ensures named { IfOk result (λ o. IfSome o (IsFound kind id.now.0 buffer.new.items)) }
+    ensures named { IfOk result (λ o. IfSome o (IsFoundInBuffer kind id.now.0 buffer.new.items)) }
     ensures kept { F.files folder.new ≡ F.files folder.old }
     ensures place { F.place folder.new ≡ F.place folder.old }
-    ensures faults { CountsCause IoFault.Failed (F.faults folder.old) (F.faults folder.new) result }
+    ensures faults { CountsItsCause IoFault.Failed (F.faults folder.old) (F.faults folder.new) result }
 {
     match read_file(folder, id, buffer) {
         Ok(n) => {
@@ -139,7 +140,7 @@ fn get<F: Folder>(
     ensures room { length buffer.new.items ≤ body_limit }
     ensures only { IfOk result (λ r. IsAnswer kind (Act.Get id.now) (answer_in r)) }
     ensures ok { IfOk result (λ r. (body : List ℕ) →
-        Steps kind (shelved F.files F.faults folder.old) (Act.Get id.now) body (answer_in r)
+        ServesOrFails kind (shelved F.files F.faults folder.old) (Act.Get id.now) body (answer_in r)
         (shelved F.files F.faults folder.new)) }
     ensures kept { F.files folder.new ≡ F.files folder.old }
     ensures place { F.place folder.new ≡ F.place folder.old }
@@ -168,7 +169,7 @@ fn head<F: Folder>(
     ensures room { length buffer.new.items ≤ body_limit }
     ensures only { IfOk result (λ r. IsAnswer kind (Act.Head id.now) (answer_in r)) }
     ensures ok { IfOk result (λ r. (body : List ℕ) →
-        Steps kind (shelved F.files F.faults folder.old) (Act.Head id.now) body (answer_in r)
+        ServesOrFails kind (shelved F.files F.faults folder.old) (Act.Head id.now) body (answer_in r)
         (shelved F.files F.faults folder.new)) }
     ensures kept { F.files folder.new ≡ F.files folder.old }
     ensures place { F.place folder.new ≡ F.place folder.old }
@@ -195,10 +196,10 @@ fn put<F: Folder>(
     body: &[u8],
 ) -> Result<Reply, Memory>
     ensures only { IfOk result (λ r. IsAnswer kind (Act.Put id.now) (answer_in r)) }
-    ensures ok { IfOk result (λ r. Steps kind (shelved F.files F.faults folder.old) (Act.Put id.now) body.now
+    ensures ok { IfOk result (λ r. ServesOrFails kind (shelved F.files F.faults folder.old) (Act.Put id.now) body.now
         (answer_in r) (shelved F.files F.faults folder.new)) }
-    ensures refused { IfOk result (λ r. Refuses kind (Act.Put id.now) body.now (answer_in r)) }
-    ensures err { OnErr result (AreAlike (F.files folder.old) (F.files folder.new)) }
+    ensures refused { IfOk result (λ r. RefusesOtherDigest kind (Act.Put id.now) body.now (answer_in r)) }
+    ensures err { OnErr result (AreAlikeButTemporaries (F.files folder.old) (F.files folder.new)) }
     ensures place { F.place folder.new ≡ F.place folder.old }
     ensures faults { F.faults folder.old ≤ F.faults folder.new }
 {
@@ -271,10 +272,11 @@ impl<F: Folder> ShelfState<F> {
         requires taken { is_refusal act.now ≡ false }
         requires size { length body.now ≤ body_limit }
         ensures only { IfOk result (λ r. IsAnswer self.old.kind act.now (answer_in r)) }
-        ensures ok { IfOk result (λ r. Steps self.old.kind (shelved F.files F.faults self.old.folder) act.now body.now
+        ensures ok { IfOk result (λ r. ServesOrFails self.old.kind
+            (shelved F.files F.faults self.old.folder) act.now body.now
             (answer_in r) (shelved F.files F.faults self.new.folder)) }
-        ensures refused { IfOk result (λ r. Refuses self.old.kind act.now body.now (answer_in r)) }
-        ensures err { OnErr result (AreAlike (F.files self.old.folder) (F.files self.new.folder)) }
+        ensures refused { IfOk result (λ r. RefusesOtherDigest self.old.kind act.now body.now (answer_in r)) }
+        ensures err { OnErr result (AreAlikeButTemporaries (F.files self.old.folder) (F.files self.new.folder)) }
         ensures place { F.place self.new.folder ≡ F.place self.old.folder }
         ensures faults { F.faults self.old.folder ≤ F.faults self.new.folder }
         ensures kind { self.new.kind ≡ self.old.kind }

@@ -24,10 +24,10 @@ use Rattle.range_survey.specs.declared.fate.Fate.TheVariants as fate
 use Rattle.store_chain.specs.Chains.{AsksOnce}
 use Rattle.store_chain.specs.Faults.{EachQuiet}
 use Rattle.store_chain.specs.Giving.{Gives, SomeHolds}
-use Rattle.store_chain.specs.Wants.{IsWanted}
+use Rattle.store_chain.specs.Queries.{IsWanted}
 use Rattle.store_chain.specs.declared.refused.Refused.{Refused}
 use Rattle.store_chain.specs.declared.refused.Refused.TheVariants as refused
-use Rattle.store_chain.specs.declared.want.Want.{Want}
+use Rattle.store_chain.specs.declared.query.Query.{Query}
 
 if_some : {X : Type 0} (o : Option X) (P : X → Type 0) (x : X) → o ≡ Some x → IfSome o P → P x
 if_some o P x is has = subst (λ q. IfSome q P) is has
@@ -66,7 +66,7 @@ unfound_never kind id size old new cached told quiet unfound gives =
 
 module _ {F S : Type 0} (files : F → Option (Map (List ℕ))) (place : F → List ℕ) (count : F → ℕ) (holds : S → Option (Map (List ℕ))) (said : S → Said)
     (faults : S → ℕ) (lacks : Bool) (asked queried : S → List ℕ → ℕ) (kind : DigestKind) (id : ChunkId) (size : ℕ) (old new : Behind F S) (out : List ℕ) where
-  abbrev w : Want
+  abbrev w : Query
   w = chunk_of kind id size
 
   abbrev before : Shelf

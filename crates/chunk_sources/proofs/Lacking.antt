@@ -19,7 +19,7 @@ use Rattle.extract_plan.specs.declared.seed.SeedPlace.{SeedPlace}
 use Rattle.store_chain.specs.Faults.{EachQuiet}
 use Rattle.store_chain.specs.Giving.{Gives, HoldsElse, HoldsNone, LacksAll}
 use Rattle.store_chain.specs.Lists.{FirstAt}
-use Rattle.store_chain.specs.Wants.{ShowsElse}
+use Rattle.store_chain.specs.Queries.{ShowsElse}
 use Rattle.store_chain.specs.declared.refused.Refused.{Refused}
 use Rattle.store_chain.specs.declared.refused.Refused.TheVariants as refused
 

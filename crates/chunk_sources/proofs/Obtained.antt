@@ -7,7 +7,7 @@ use Rattle.chunk_store.specs.Names.{name_of}
 use Rattle.chunk_store.specs.declared.id.ChunkId.{ChunkId}
 use Rattle.chunk_store.specs.declared.id.DigestKind.{DigestKind}
 use Rattle.dsy_base.specs.Maps.{Map}
-use Rattle.store_chain.specs.Wants.{IsGiven, IsWanted, want_of}
+use Rattle.store_chain.specs.Queries.{FillsQuery, IsWanted, query_of}
 use Rattle.cache_store.specs.Giving.{SomeGives}
 
 -- a store that holds what was wanted gives it
@@ -16,7 +16,7 @@ pub holds_gives : (kind : DigestKind) (id : ChunkId) (size : ℕ) (maps : List (
 holds_gives kind id size maps b right (k, m, inside, at, held) = (k, m, inside, at, (b, held, record { named = right.named; sized = right.sized }))
 
 -- a chunk that fills its room is all of it
-pub given_whole : (kind named : DigestKind) (id : ChunkId) (n size : ℕ) (out : List ℕ) → kind ≡ named → length out ≡ size → IsGiven (want_of kind id (Some size) size) n out
+pub given_whole : (kind named : DigestKind) (id : ChunkId) (n size : ℕ) (out : List ℕ) → kind ≡ named → length out ≡ size → FillsQuery (query_of kind id (Some size) size) n out
     → name_of named out ≡ id.0
 given_whole kind named id n size out same whole given =
     let sized : length (take n out) ≡ size = given.wanted.sized in

@@ -10,7 +10,7 @@ use Rattle.chunk_store.specs.declared.id.DigestKind.TheVariants.{Sha512T256}
 use Rattle.dsy_base.proofs.Counts.{rose_later}
 use Rattle.dsy_base.specs.Bytes.{Held}
 use Rattle.dsy_base.specs.Counts.{Rose}
-use Rattle.extract_plan.specs.Seeds.{Answers, CountsAnswer, GivesNot, bytes_at, place_end}
+use Rattle.extract_plan.specs.Seeds.{SeedAnswersSo, CountsAnswer, GivesNot, bytes_at, place_end}
 use Rattle.extract_plan.specs.declared.seed.SeedAnswer.{SeedAnswer}
 use Rattle.extract_plan.specs.declared.seed.SeedAnswer.TheVariants as answers
 use Rattle.extract_plan.specs.declared.seed.SeedPlace.{SeedPlace}
@@ -46,7 +46,7 @@ lacks held p id out (inr other) gives = other.1 (are_named held.bytes p id out o
 
 -- a seed that has the chunk and didn't give it failed
 pub failed_at : {V : Type 0} (held : V → Held) (faults : V → ℕ) (old new : Option V) (p : SeedPlace) (id out : List ℕ) (answer : SeedAnswer)
-    → (answer ≡ answers.Given → ⊥) → Answers (option_map held old) p id out answer → CountsAnswer (option_map faults old) (option_map faults new) answer
+    → (answer ≡ answers.Given → ⊥) → SeedAnswersSo (option_map held old) p id out answer → CountsAnswer (option_map faults old) (option_map faults new) answer
     → GivesAt (option_map held old) p id → Rose (unwrap_or (option_map faults old) 0) (unwrap_or (option_map faults new) 0)
 failed_at held faults None new p id out answer refused value counts gives = absurd gives
 failed_at held faults (Some v) None p id out answer refused value counts gives = absurd counts
@@ -92,7 +92,7 @@ falls_on old now new fell falls k = omega (arith, fell k, falls k)
 
 -- what a seed gave it has, where the type of views tells so
 pub given_at : {V : Type 0} (tells : Bool) (held : V → Held) → ((v : V) → is_some (held v).bytes ≡ tells) → (old : Option V) (views : List (Option Held)) (p : SeedPlace) (id out : List ℕ)
-    → p.seed < length views → slice_index_or views p.seed None ≡ option_map held old → Answers (option_map held old) p id out answers.Given → Telling tells views
+    → p.seed < length views → slice_index_or views p.seed None ≡ option_map held old → SeedAnswersSo (option_map held old) p id out answers.Given → Telling tells views
     → HeldAt views p id
 given_at tells held told None views p id out inside at value telling = let no : answers.Given ≡ answers.Wrong = value in absurd (cc)
 given_at tells held told (Some v) views p id out inside at value telling =

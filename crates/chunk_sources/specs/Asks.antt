@@ -13,7 +13,7 @@ use Rattle.dsy_base.specs.Counts.{Quiet}
 use Rattle.dsy_base.specs.Maps.{Map}
 use Rattle.extract_plan.specs.Deal.{Deal, first_of, of_want, want_id}
 use Rattle.extract_plan.specs.Places.{Placed, places_at}
-use Rattle.extract_plan.specs.Seeds.{faults_in, held_in}
+use Rattle.extract_plan.specs.Seeds.{faults_in, seed_held}
 use Rattle.extract_plan.specs.declared.seed.Seed.{Seed}
 use Rattle.range_survey.specs.Fates.{settled}
 use Rattle.range_survey.specs.declared.fate.Fate.{Fate}
@@ -54,7 +54,7 @@ abbrev pub IsSpared : {S V : Type 0} → (S → Option (Map (List ℕ))) → (V 
     → List Fate → ℕ → ℕ → List (Seed V) → List (Seed V) → Option Shelf → Option Shelf → List S → ℕ → Type 0
 IsSpared holds view view_faults l d x m old new s0 s1 e0 e1 stores w =
     (((j : ℕ) × IsAmong (of_want d w) j × (settled m j ≡ true)) × Quiet old new)
-    ⊎ (Any (λ p. HeldAt (map (held_in view) s0) p (want_id l d w)
+    ⊎ (Any (λ p. HeldAt (map (seed_held view) s0) p (want_id l d w)
     × Quiet (slice_index (map (faults_in view_faults) s0) p.seed) (slice_index (map (faults_in view_faults) s1) p.seed))
     (places_at x w) ⊎ CacheGives holds l stores (want_id l d w) (size_of l (first_of d w)) e0 e1)
 

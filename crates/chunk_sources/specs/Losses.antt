@@ -11,7 +11,7 @@ use Rattle.chunk_store.specs.declared.id.DigestKind.{DigestKind}
 use Rattle.dsy_base.specs.Bytes.{Held}
 use Rattle.dsy_base.specs.Counts.{Rose}
 use Rattle.dsy_base.specs.Maps.{Map}
-use Rattle.extract_plan.specs.Seeds.{faults_in, held_in}
+use Rattle.extract_plan.specs.Seeds.{faults_in, seed_held}
 use Rattle.extract_plan.specs.declared.seed.Seed.{Seed}
 use Rattle.extract_plan.specs.declared.seed.SeedPlace.{SeedPlace}
 use Rattle.range_survey.specs.Fates.{settled}
@@ -19,14 +19,14 @@ use Rattle.range_survey.specs.declared.fate.Fate.{Fate}
 use Rattle.store_chain.specs.Chains.{AsksOnce, Chained}
 use Rattle.store_chain.specs.Giving.{LacksAll}
 use Rattle.store_chain.specs.Refusals.{Refuses}
-use Rattle.store_chain.specs.Wants.{want_of}
+use Rattle.store_chain.specs.Queries.{query_of}
 use Rattle.store_chain.specs.declared.refused.Refused.{Refused}
 use Rattle.store_chain.specs.declared.refused.Refused.TheVariants as refused
-use Rattle.store_chain.specs.declared.want.Want.{Want}
+use Rattle.store_chain.specs.declared.query.Query.{Query}
 
 -- what is asked of a chain for a chunk: its id and size, into just that room
-abbrev pub chunk_of : DigestKind → ChunkId → ℕ → Want
-chunk_of kind id size = want_of kind id (Some size) size
+abbrev pub chunk_of : DigestKind → ChunkId → ℕ → Query
+chunk_of kind id size = query_of kind id (Some size) size
 
 -- a settled one of these entries couldn't be read: the target's count of faults went from old to new
 abbrev pub CopiesFailed : List Fate → List ℕ → ℕ → ℕ → Type 0
@@ -40,7 +40,7 @@ module _ {S V : Type 0} (asked queried : S → List ℕ → ℕ) (view : V → H
     where
       pub once : AsksOnce asked queried id c0 c1
       pub copies : CopiesFailed fates entries old new
-      pub seeds : SeedsFailed (map (held_in view) s0) places id (map (faults_in view_faults) s0)
+      pub seeds : SeedsFailed (map (seed_held view) s0) places id (map (faults_in view_faults) s0)
           (map (faults_in view_faults) s1)
       pub cache : CacheFailed kind id size e0 e1
 
@@ -54,7 +54,7 @@ Had fates entries views places kind id size maps = ((j : ℕ) × IsAmong entries
 -- the stores refused a chunk, and answered so
 module _ {S : Type 0} (holds : S → Option (Map (List ℕ))) (said : S → Said) (faults : S → ℕ) (lacks_memory : Bool) where
   -- the stores refused what is wanted, and lack it so if they tell what they hold
-  pub record RefusedBy (w : Want) (old new : List S) (r : Refused) : Type 0 where
+  pub record RefusedBy (w : Query) (old new : List S) (r : Refused) : Type 0 where
     pub told : Refuses said faults lacks_memory w old new r
     pub lacks : (maps : List (Map (List ℕ))) → map holds old ≡ map Some maps → LacksAll w maps r
     pub cause : (s : ℕ) → r ≡ refused.StoreFault s

@@ -9,7 +9,7 @@ use Rattle.chunk_store.specs.declared.id.DigestKind.TheVariants.{Sha512T256}
 use Rattle.dsy_base.specs.Bytes.{Held}
 use Rattle.dsy_base.specs.Counts.{Quiet, Rose}
 use Rattle.dsy_base.specs.Maps.{Map}
-use Rattle.extract_plan.specs.Seeds.{bytes_at, faults_in, held_in, place_end}
+use Rattle.extract_plan.specs.Seeds.{bytes_at, faults_in, seed_held, place_end}
 use Rattle.extract_plan.specs.declared.seed.Seed.{Seed}
 use Rattle.extract_plan.specs.declared.seed.SeedPlace.{SeedPlace}
 use Rattle.store_chain.specs.Faults.{EachQuiet, NoneFalls}
@@ -34,7 +34,7 @@ SeedsFailed views places id old new =
 
 -- the seeds hold what they held, and no count of their faults has fallen
 pub record KeepsSeeds {V : Type 0} (view : V → Held) (view_faults : V → ℕ) (old new : List (Seed V)) : Type 0 where
-  pub held : map (held_in view) new ≡ map (held_in view) old
+  pub held : map (seed_held view) new ≡ map (seed_held view) old
   pub never_fall : NoneFalls (map (faults_in view_faults) old) (map (faults_in view_faults) new)
 
 -- where there is a seed with a view, whose type tells so
@@ -47,7 +47,7 @@ pub record SourcesQuiet {S V : Type 0} (holds : S → Option (Map (List ℕ))) (
     (view_faults : V → ℕ) (tells : Bool) (old new : ℕ) (s0 s1 : List (Seed V)) (e0 e1 : Option Shelf) (c0 c1 : List S)
     (cached maps : List (Map (List ℕ))) : Type 0 where
   pub target : Quiet old new
-  pub telling : Telling tells (map (held_in view) s0)
+  pub telling : Telling tells (map (seed_held view) s0)
   pub seeds : EachQuiet (map (faults_in view_faults) s0) (map (faults_in view_faults) s1)
   pub told_cache : cached_in e0 ≡ Some cached
   pub cache : Quiet (cache_faults e0) (cache_faults e1)

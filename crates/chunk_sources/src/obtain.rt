@@ -11,7 +11,7 @@ ghost use Rattle.chunk_sources.specs.Wants.{AllOf};
 ghost use Rattle.chunk_store.specs.Names.{name_of};
 ghost use Rattle.dsy_base.specs.Maps.{Map};
 ghost use Rattle.extract_plan.specs.Places.{PlacesFit};
-ghost use Rattle.extract_plan.specs.Seeds.{held_in};
+ghost use Rattle.extract_plan.specs.Seeds.{seed_held};
 ghost use Rattle.range_survey.specs.Fates.{SettledRight, is_settled, settled};
 ghost use Rattle.store_chain.specs.Chains.{KeepsStores};
 
@@ -62,10 +62,10 @@ pub fn obtain<T: View, S: Store, V: View, F: Folder>(
         (λ t. name_of (kind_of index.now) chunk.new ≡ sought.now.id.0)) }
     ensures origin { IfOk result (λ f. is_settled f ≡ true) }
     ensures made { IfOk result (λ f. is_made f ≡ true) }
-    ensures had { Telling V.tells (map (held_in V.held) seeds.old) → (cached maps : List (Map (List ℕ))) →
+    ensures had { Telling V.tells (map (seed_held V.held) seeds.old) → (cached maps : List (Map (List ℕ))) →
         cached_in (seen F.files F.place F.faults cache.old) ≡ Some cached →
         map S.holds chain.old.stores ≡ map Some maps → OnOk result (Had fates.now sought.now.entries.now
-        (map (held_in V.held) seeds.old) sought.now.places.now (kind_of index.now) sought.now.id.0 (length chunk.old)
+        (map (seed_held V.held) seeds.old) sought.now.places.now (kind_of index.now) sought.now.id.0 (length chunk.old)
         (cached ++ maps)) }
     ensures refused { IfErr result (λ r. r ≢ Refused.Memory → RefusedBy S.holds S.said S.faults S.may_lack_memory
         (chunk_of (kind_of index.now) sought.now.id (length chunk.old)) chain.old.stores chain.new.stores r) }
@@ -85,7 +85,7 @@ pub fn obtain<T: View, S: Store, V: View, F: Folder>(
     ensures exactly { (cached maps : List (Map (List ℕ))) → SourcesQuiet S.holds S.faults V.held V.faults V.tells
         (T.faults target.old) (T.faults target.new) seeds.old seeds.new (seen F.files F.place F.faults cache.old)
         (seen F.files F.place F.faults cache.new) chain.old.stores chain.new.stores cached maps →
-        ObtainedBy (source_among (settled fates.now) sought.now.entries.now (map (held_in V.held) seeds.old)
+        ObtainedBy (source_among (settled fates.now) sought.now.entries.now (map (seed_held V.held) seeds.old)
         sought.now.places.now (kind_of index.now) sought.now.id.0 (length chunk.old) cached maps) chain.old chain.new
         result }
 

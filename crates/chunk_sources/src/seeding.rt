@@ -6,7 +6,7 @@ ghost use Rattle.chunk_store.specs.Names.{name_of};
 ghost use Rattle.chunk_store.specs.declared.id.DigestKind.TheVariants as kinds;
 ghost use Rattle.dsy_base.specs.Counts.{Rose};
 ghost use Rattle.extract_plan.specs.Places.{PlacesFit};
-ghost use Rattle.extract_plan.specs.Seeds.{faults_in, held_in};
+ghost use Rattle.extract_plan.specs.Seeds.{faults_in, seed_held};
 ghost use Rattle.store_chain.specs.Faults.{NoneFalls};
 
 use chunk_store::id::ChunkId;
@@ -23,12 +23,12 @@ fn from_seed<V: View>(
     requires seed { place.now.seed < length seeds.old }
     requires size { place.now.size ≡ length chunk.old }
     ensures ok { result ≡ true → name_of kinds.Sha512T256 chunk.new ≡ id.now.0 }
-    ensures found { result ≡ true → Telling V.tells (map (held_in V.held) seeds.old) →
-        HeldAt (map (held_in V.held) seeds.old) place.now id.now.0 }
-    ensures absent { result ≡ false → HeldAt (map (held_in V.held) seeds.old) place.now id.now.0 → Rose
+    ensures found { result ≡ true → Telling V.tells (map (seed_held V.held) seeds.old) →
+        HeldAt (map (seed_held V.held) seeds.old) place.now id.now.0 }
+    ensures absent { result ≡ false → HeldAt (map (seed_held V.held) seeds.old) place.now id.now.0 → Rose
         (slice_index (map (faults_in V.faults) seeds.old) place.now.seed)
         (slice_index (map (faults_in V.faults) seeds.new) place.now.seed) }
-    ensures kept { map (held_in V.held) seeds.new ≡ map (held_in V.held) seeds.old }
+    ensures kept { map (seed_held V.held) seeds.new ≡ map (seed_held V.held) seeds.old }
     ensures faults { NoneFalls (map (faults_in V.faults) seeds.old) (map (faults_in V.faults) seeds.new) }
 {
     match seed_gives(&mut seeds[place.seed as usize], place, id, chunk) {
@@ -47,11 +47,11 @@ pub fn from_seeds<V: View>(
 ) -> bool
     requires { PlacesFit (length seeds.old) (length chunk.old) places.now }
     ensures ok { result ≡ true → name_of kinds.Sha512T256 chunk.new ≡ id.now.0 }
-    ensures found { result ≡ true → Telling V.tells (map (held_in V.held) seeds.old) →
-        SeedsGive (map (held_in V.held) seeds.old) places.now id.now.0 }
-    ensures absent { result ≡ false → SeedsFailed (map (held_in V.held) seeds.old) places.now id.now.0
+    ensures found { result ≡ true → Telling V.tells (map (seed_held V.held) seeds.old) →
+        SeedsGive (map (seed_held V.held) seeds.old) places.now id.now.0 }
+    ensures absent { result ≡ false → SeedsFailed (map (seed_held V.held) seeds.old) places.now id.now.0
         (map (faults_in V.faults) seeds.old) (map (faults_in V.faults) seeds.new) }
-    ensures kept { map (held_in V.held) seeds.new ≡ map (held_in V.held) seeds.old }
+    ensures kept { map (seed_held V.held) seeds.new ≡ map (seed_held V.held) seeds.old }
     ensures faults { NoneFalls (map (faults_in V.faults) seeds.old) (map (faults_in V.faults) seeds.new) }
 {
     for place in places {

@@ -35,11 +35,11 @@ impl Noting {
 
 impl Listen for Noting {
     ghost use Rattle.std.specs.Prelude.{true, refl};
-    ghost use Rattle.link_forms.specs.MemLinks.{listen_of};
+    ghost use Rattle.link_forms.specs.MemLinks.{listen_state};
 
     type Link = OpenLink;
 
-    ghost state = { λ l. listen_of l.inner };
+    ghost state = { λ l. listen_state l.inner };
 
     ghost tells = { true };
 

@@ -16,7 +16,7 @@ use Rattle.command_words.specs.declared.roles.Role.TheVariants as role
 use Rattle.command_words.specs.declared.usage.UsageWhy.{UsageWhy}
 use Rattle.command_words.specs.declared.usage.WordsFault.{WordsFault}
 use Rattle.command_words.specs.OptionTable.{option_number, takes_value, times_of, takes_of}
-use Rattle.command_words.specs.Roles.{option_of, option_role, opens, awaited, count_of, role_number, spelled_role, role_of, roles_of}
+use Rattle.command_words.specs.Roles.{option_of, option_role, opens, awaited, times_of_role, role_number, spelled_role, role_of, roles_of}
 use Rattle.command_line.proofs.Following.{awaited_after, found, missed, is_none, is_one}
 use Rattle.command_line.proofs.Judged.{Pass, roles_more}
 
@@ -67,12 +67,12 @@ operand_is (role.Value p) e = absurd (omega (arith, e))
 
 -- ---- one more role
 
-one_more : (q r : Role) (roles : List Role) → role_number r ≡ role_number q → count_of q (roles ++ r ∷ []) ≡ count_of q roles + 1
-one_more q r roles same = sum_by_push (λ p. if role_number p == role_number q then 1 else 0) roles r ∙ ap (λ n. count_of q roles + n) (cond-true _ _ _ (eq-eqb (role_number r) (role_number q) same))
+one_more : (q r : Role) (roles : List Role) → role_number r ≡ role_number q → times_of_role q (roles ++ r ∷ []) ≡ times_of_role q roles + 1
+one_more q r roles same = sum_by_push (λ p. if role_number p == role_number q then 1 else 0) roles r ∙ ap (λ n. times_of_role q roles + n) (cond-true _ _ _ (eq-eqb (role_number r) (role_number q) same))
 
-none_more : (q r : Role) (roles : List Role) → (role_number r ≡ role_number q → ⊥) → count_of q (roles ++ r ∷ []) ≡ count_of q roles
+none_more : (q r : Role) (roles : List Role) → (role_number r ≡ role_number q → ⊥) → times_of_role q (roles ++ r ∷ []) ≡ times_of_role q roles
 none_more q r roles other =
-    let e = sum_by_push (λ p. if role_number p == role_number q then 1 else 0) roles r ∙ ap (λ n. count_of q roles + n) (cond-false _ _ _ (ne_eqb (role_number r) (role_number q) other)) in
+    let e = sum_by_push (λ p. if role_number p == role_number q then 1 else 0) roles r ∙ ap (λ n. times_of_role q roles + n) (cond-false _ _ _ (ne_eqb (role_number r) (role_number q) other)) in
     omega (arith, e)
 
 -- ---- along the words
@@ -105,14 +105,14 @@ named_right : (empty b : Bool) (y : UsageWhy) → name_refusal empty b y ≡ Non
 named_right true b y e = absurd (none-some _ (sym e))
 named_right false b y e = is_right b y e
 
-at_most : (q r : Role) (roles : List Role) (most : ℕ) → count_of q roles ≤ most → (role_number r ≡ role_number q → count_of q roles < most) → count_of q (roles ++ r ∷ []) ≤ most
+at_most : (q r : Role) (roles : List Role) (most : ℕ) → times_of_role q roles ≤ most → (role_number r ≡ role_number q → times_of_role q roles < most) → times_of_role q (roles ++ r ∷ []) ≤ most
 at_most q r roles most le lt = elim (cases_eq (role_number r) (role_number q)) [
   | inl same ↦ omega (arith, one_more q r roles same, lt same)
   | inr other ↦ omega (arith, none_more q r roles other, le)
 ]
 
-pub options_bounded : (k : CommandKind) (words : List (List ℕ)) (o : OptionKind) → Pass k words (length words) → count_of (role.Given o) (roles_of k words) ≤ (times_of k o).greatest
-options_bounded k words o = along_all k words (λ roles. count_of (role.Given o) roles ≤ (times_of k o).greatest) (omega arith)
+pub options_bounded : (k : CommandKind) (words : List (List ℕ)) (o : OptionKind) → Pass k words (length words) → times_of_role (role.Given o) (roles_of k words) ≤ (times_of k o).greatest
+options_bounded k words o = along_all k words (λ roles. times_of_role (role.Given o) roles ≤ (times_of k o).greatest) (omega arith)
     (λ before w ok le. let r = role_of k before w in at_most (role.Given o) r before (times_of k o).greatest le (λ same.
     let ok : refusal_of k before (role.Given o) w ≡ None = subst (λ q. refusal_of k before q w ≡ None) (given_is r o same) ok in
     ltb-true _ _ (is_right _ _ ok)))
@@ -121,11 +121,11 @@ few_operands : (k : CommandKind) (n : ℕ) (w : List ℕ) (b : Bool) → b ≡ f
 few_operands k n w true named e = absurd (true≢false named)
 few_operands k n w false named e = ltb-true _ _ (named_right _ _ _ e)
 
-pub operands_bounded : (k : CommandKind) (words : List (List ℕ)) → (takes_of k).takes_numbers ≡ false → Pass k words (length words) → count_of role.Operand (roles_of k words) ≤ (takes_of k).operands.greatest
-operands_bounded k words names = along_all k words (λ roles. count_of role.Operand roles ≤ (takes_of k).operands.greatest) (omega arith)
+pub operands_bounded : (k : CommandKind) (words : List (List ℕ)) → (takes_of k).takes_numbers ≡ false → Pass k words (length words) → times_of_role role.Operand (roles_of k words) ≤ (takes_of k).operands.greatest
+operands_bounded k words names = along_all k words (λ roles. times_of_role role.Operand roles ≤ (takes_of k).operands.greatest) (omega arith)
     (λ before w ok le. let r = role_of k before w in at_most role.Operand r before (takes_of k).operands.greatest le (λ same.
     let ok : refusal_of k before role.Operand w ≡ None = subst (λ q. refusal_of k before q w ≡ None) (operand_is r same) ok in
-    few_operands k (count_of role.Operand before) w (takes_of k).takes_numbers names ok))
+    few_operands k (times_of_role role.Operand before) w (takes_of k).takes_numbers names ok))
 
 -- ---- an option with a value has one
 
@@ -136,7 +136,7 @@ waits o (Some p) = if option_number p == option_number o then 1 else 0
 
 -- each option has its value, but one that is to come
 abbrev Paired : OptionKind → List Role → Type 0
-Paired o roles = count_of (role.Value o) roles + waits o (awaited roles) ≡ count_of (role.Given o) roles
+Paired o roles = times_of_role (role.Value o) roles + waits o (awaited roles) ≡ times_of_role (role.Given o) roles
 
 -- no value
 abbrev IsSpelled : Role → Type 0
@@ -205,12 +205,12 @@ paired_spelled o roles (role.Given p) takes free is e =
     ]
 
 paired_more : (k : CommandKind) (o : OptionKind) (roles : List Role) (w : List ℕ) (a : Option OptionKind) → takes_value o ≡ true → awaited roles ≡ a → Paired o roles
-    → Paired o (roles ++ elim a [ Some p ↦ role.Value p | None ↦ if nat_lt 0 (count_of role.Dashes roles) then role.Operand else spelled_role k w ] ∷ [])
+    → Paired o (roles ++ elim a [ Some p ↦ role.Value p | None ↦ if nat_lt 0 (times_of_role role.Dashes roles) then role.Operand else spelled_role k w ] ∷ [])
 paired_more k o roles w (Some p) takes is e = valued o p roles is e
-paired_more k o roles w None takes is e = paired_spelled o roles _ takes (spelled_if (nat_lt 0 (count_of role.Dashes roles)) role.Operand (spelled_role k w) tt (spelled k w)) is e
+paired_more k o roles w None takes is e = paired_spelled o roles _ takes (spelled_if (nat_lt 0 (times_of_role role.Dashes roles)) role.Operand (spelled_role k w) tt (spelled k w)) is e
 
 pub values_counted : (k : CommandKind) (words : List (List ℕ)) (o : OptionKind) → takes_value o ≡ true → Pass k words (length words) → awaited (roles_of k words) ≡ None
-    → count_of (role.Value o) (roles_of k words) ≡ count_of (role.Given o) (roles_of k words)
+    → times_of_role (role.Value o) (roles_of k words) ≡ times_of_role (role.Given o) (roles_of k words)
 unfolding waits
 values_counted k words o takes pass ended =
     let e = along_all k words (Paired o) refl (λ before w ok e. paired_more k o before w (awaited before) takes refl e) pass in

@@ -8,7 +8,7 @@ use Rattle.std.proofs.lemmas.List.Sums.{fold-append, sum_by-append}
 use Rattle.std.specs.List.{find, range_with_len, slice_get}
 use Rattle.command_line.specs.declared.judge.Refusal.TheVariants as refusal
 use Rattle.command_line.specs.CommandLine.{command_by, command_with}
-use Rattle.command_line.specs.Judging.{refusal_after, refusal_at, first_refused, first_fault, fault_at}
+use Rattle.command_line.specs.Judging.{refusal_after, refusal_at, first_refused, first_word_fault, fault_at}
 use Rattle.command_words.specs.declared.option_table.CommandKind.{CommandKind}
 use Rattle.command_words.specs.declared.option_table.OptionKind.{OptionKind}
 use Rattle.command_words.specs.declared.roles.Role.{Role}
@@ -17,7 +17,7 @@ use Rattle.command_words.specs.declared.usage.UsageWhy.{UsageWhy}
 use Rattle.command_words.specs.declared.usage.WordsFault.{WordsFault}
 use Rattle.command_words.specs.declared.usage.WordsFault.TheVariants as fault
 use Rattle.command_words.specs.OptionTable.{takes_value}
-use Rattle.command_words.specs.Roles.{opens, awaited, count_of, role_number, spelled_role, role_of, roles_of}
+use Rattle.command_words.specs.Roles.{opens, awaited, times_of_role, role_number, spelled_role, role_of, roles_of}
 use Rattle.command_line.proofs.Judged.{Pass, at_first}
 
 -- ---- the roles of the words that follow
@@ -54,7 +54,7 @@ awaited_after roles r = ap (λ o. elim o [ None ↦ None | Some q ↦ opens q ])
     (ap (slice_get (roles ++ r ∷ [])) (omega (arith, length_push roles r)) ∙ last_is roles r)
 
 value_is : (k : CommandKind) (roles : List Role) (v : List ℕ) (o : OptionKind) → takes_value o ≡ true → role_of k (roles ++ role.Given o ∷ []) v ≡ role.Value o
-value_is k roles v o takes = ap (λ a. elim a [ Some p ↦ role.Value p | None ↦ if nat_lt 0 (count_of role.Dashes (roles ++ role.Given o ∷ [])) then role.Operand else spelled_role k v ])
+value_is k roles v o takes = ap (λ a. elim a [ Some p ↦ role.Value p | None ↦ if nat_lt 0 (times_of_role role.Dashes (roles ++ role.Given o ∷ [])) then role.Operand else spelled_role k v ])
     (awaited_after roles (role.Given o) ∙ cond-true _ _ _ takes)
 
 pub value_follows : (k : CommandKind) (before : List (List ℕ)) (w v : List ℕ) (o : OptionKind) → role_of k (roles_of k before) w ≡ role.Given o → takes_value o ≡ true
@@ -66,11 +66,11 @@ value_follows k before w v o given takes =
 
 -- ---- after `--`
 
-operand_is : (k : CommandKind) (roles : List Role) (w : List ℕ) → awaited roles ≡ None → 0 < count_of role.Dashes roles → role_of k roles w ≡ role.Operand
+operand_is : (k : CommandKind) (roles : List Role) (w : List ℕ) → awaited roles ≡ None → 0 < times_of_role role.Dashes roles → role_of k roles w ≡ role.Operand
 operand_is k roles w none some =
-    ap (λ a. elim a [ Some p ↦ role.Value p | None ↦ if nat_lt 0 (count_of role.Dashes roles) then role.Operand else spelled_role k w ]) none ∙ cond-true _ _ _ (lt-ltb _ _ some)
+    ap (λ a. elim a [ Some p ↦ role.Value p | None ↦ if nat_lt 0 (times_of_role role.Dashes roles) then role.Operand else spelled_role k w ]) none ∙ cond-true _ _ _ (lt-ltb _ _ some)
 
-operands_later : (k : CommandKind) (roles : List Role) (words : List (List ℕ)) → awaited roles ≡ None → 0 < count_of role.Dashes roles → later k roles words ≡ map (λ v. role.Operand) words
+operands_later : (k : CommandKind) (roles : List Role) (words : List (List ℕ)) → awaited roles ≡ None → 0 < times_of_role role.Dashes roles → later k roles words ≡ map (λ v. role.Operand) words
 operands_later k roles [] none some = refl
 operands_later k roles (w ∷ words) none some =
     ap (λ r. r ∷ later k (roles ++ r ∷ []) words) (operand_is k roles w none some)
@@ -123,7 +123,7 @@ is_one (Some x) e = (x, refl)
 refusal_stays : (k : CommandKind) (words more : List (List ℕ)) (j : ℕ) → j < length words → refusal_at k (words ++ more) j ≡ refusal_at k words j
 refusal_stays k words more j lt = ap₂ (refusal_after k) (take-append-le j words more (omega (arith, lt))) (get_or_append_left words more [] j lt)
 
-decided : (k : CommandKind) (words : List (List ℕ)) (f : WordsFault) → first_fault k words ≡ Some f → command_with k words ≡ Err f
+decided : (k : CommandKind) (words : List (List ℕ)) (f : WordsFault) → first_word_fault k words ≡ Some f → command_with k words ≡ Err f
 decided k words f e = ap (λ x. command_by k words (elim x [ Some y ↦ Err y | None ↦ Ok (roles_of k words) ])) e
 
 -- a word that is refused stays the first one, for the same reason

@@ -6,7 +6,7 @@ use Rattle.std.proofs.lemmas.List.Sums.{fold_push}
 use Rattle.std.specs.List.{find, range_with_len}
 use Rattle.command_line.specs.declared.judge.Refusal.{Refusal}
 use Rattle.command_line.specs.declared.judge.Refusal.TheVariants as refusal
-use Rattle.command_line.specs.Judging.{Refuses, AnswersBy, refusal_of, refusal_at, fault_by, first_fault, fault_at, judged}
+use Rattle.command_line.specs.Judging.{RefusesWords, AnswersBy, refusal_of, refusal_at, fault_by, first_word_fault, fault_at, judged}
 use Rattle.command_words.specs.declared.option_table.CommandKind.{CommandKind}
 use Rattle.command_words.specs.declared.roles.Role.{Role}
 use Rattle.command_words.specs.declared.usage.UsageWhy.TheVariants as why
@@ -54,18 +54,18 @@ none_false r e = ap is_some e
 -- ---- what they come to
 
 pub at_first : (k : CommandKind) (words : List (List ℕ)) (i : ℕ) (r : Refusal) → i < length words → Pass k words i → refusal_at k words i ≡ Some r
-    → first_fault k words ≡ Some (fault_at (i + 1) r)
+    → first_word_fault k words ≡ Some (fault_at (i + 1) r)
 at_first k words i r lt before e =
     ap (fault_by k words) (find_first (λ j. is_some (refusal_at k words j)) 0 (length words) i (omega arith) (omega (arith, lt)) (ap is_some e) (λ j l. none_false _ (before j l)))
     ∙ ap (option_map (fault_at (i + 1))) e
 
 -- at the first word that is refused
 pub refused_here : {T : Type 0} (view : T → List Role) (k : CommandKind) (words : List (List ℕ)) (i : ℕ) (r : Refusal) → i < length words → Pass k words i
-    → Refuses (refusal_at k words i) (Err r) → AnswersBy view (judged k words) (Err (fault_at (i + 1) r))
+    → RefusesWords (refusal_at k words i) (Err r) → AnswersBy view (judged k words) (Err (fault_at (i + 1) r))
 refused_here view k words i (refusal.Why y) lt before e = ap (λ f. elim f [ Some x ↦ Err x | None ↦ Ok (roles_of k words) ]) (at_first k words i (refusal.Why y) lt before e)
 refused_here view k words i refusal.Memory lt before e = tt
 
-all_pass : (k : CommandKind) (words : List (List ℕ)) → Pass k words (length words) → first_fault k words ≡ fault_by k words None
+all_pass : (k : CommandKind) (words : List (List ℕ)) → Pass k words (length words) → first_word_fault k words ≡ fault_by k words None
 all_pass k words before = ap (fault_by k words) (find_none (λ j. is_some (refusal_at k words j)) 0 (length words) (λ j l. none_false _ (before j (omega (arith, l)))))
 
 -- where all have passed, the last one may lack its value

@@ -4,8 +4,8 @@ use Rattle.std.specs.Char.{is_ascii_digit}
 use Rattle.std.proofs.lemmas.Bool.{leb-true, ltb-false}
 use Rattle.std.proofs.lemmas.Option.{none-some}
 use Rattle.std.proofs.lemmas.List.{length-map}
-use Rattle.command_line.specs.CommandLine.{command_by, command_line, command_of, command_or_help, command_with, complete, is_alone, number, operand, read_location, stores, Reads}
-use Rattle.command_line.specs.Judging.{judged, lacks, missing}
+use Rattle.command_line.specs.CommandLine.{command_by, command_line, command_by_roles, command_or_help, command_with, complete, is_alone, number, operand, read_location, stores, ReadsWords}
+use Rattle.command_line.specs.Judging.{judged, lacks, missing_words}
 use Rattle.command_words.specs.declared.command.Command.{Command}
 use Rattle.command_words.specs.declared.command.Command.TheVariants as said
 use Rattle.command_words.specs.declared.option_table.CommandKind.{CommandKind}
@@ -20,8 +20,8 @@ use Rattle.command_words.specs.declared.usage.WordsFault.{WordsFault}
 use Rattle.command_words.specs.Limits.{Fits}
 use Rattle.command_words.specs.Locations.{location_of}
 use Rattle.command_words.specs.OptionTable.{times, names, folder_and_names, command_named, takes_of, takes_value, times_of, command_rows, option_rows}
-use Rattle.command_words.specs.Roles.{by_role, count_of, words_as}
-use Rattle.command_words.specs.Values.{number_of, number_up_to, with_digit, with_digits}
+use Rattle.command_words.specs.Roles.{by_role, times_of_role, words_as}
+use Rattle.command_words.specs.Values.{number_in_word, number_up_to, with_digit, with_digits}
 use Rattle.command_line.proofs.Counts.{Passes, judged_right, operands_bounded, options_bounded, values_counted}
 use Rattle.command_line.proofs.Following.{roles_length}
 use Rattle.command_line.proofs.Lists.{words_counted}
@@ -74,26 +74,26 @@ has_enough false false false false false e = (refl, refl)
 -- ---- how many words have each role
 
 record Counts (k : CommandKind) (roles : List Role) (words : List (List ℕ)) : Type 0 where
-  least : (times_of k option.Store).least ≤ count_of (role.Value option.Store) roles
-  greatest : (o : OptionKind) → takes_value o ≡ true → count_of (role.Value o) roles ≤ (times_of k o).greatest
-  operands_least : (takes_of k).operands.least ≤ count_of role.Operand roles
-  operands_greatest : (takes_of k).takes_numbers ≡ false → count_of role.Operand roles ≤ (takes_of k).operands.greatest
-  as_many : (r : Role) → length (words_as r roles words) ≡ count_of r roles
+  least : (times_of k option.Store).least ≤ times_of_role (role.Value option.Store) roles
+  greatest : (o : OptionKind) → takes_value o ≡ true → times_of_role (role.Value o) roles ≤ (times_of k o).greatest
+  operands_least : (takes_of k).operands.least ≤ times_of_role role.Operand roles
+  operands_greatest : (takes_of k).takes_numbers ≡ false → times_of_role role.Operand roles ≤ (takes_of k).operands.greatest
+  as_many : (r : Role) → length (words_as r roles words) ≡ times_of_role r roles
 
-counts : (k : CommandKind) (words : List (List ℕ)) (roles : List Role) → Passes k words roles → missing k roles ≡ None → Counts k roles words
+counts : (k : CommandKind) (words : List (List ℕ)) (roles : List Role) → Passes k words roles → missing_words k roles ≡ None → Counts k roles words
 counts k words roles p none =
-    let enough = has_enough (lacks k roles option.Store) (lacks k roles option.Cache) (lacks k roles option.Listen) (lacks k roles option.Yes) (nat_lt (count_of role.Operand roles) (takes_of k).operands.least) none in
-    let values : (o : OptionKind) → takes_value o ≡ true → count_of (role.Value o) roles ≡ count_of (role.Given o) roles
-    = λ o takes. subst (λ r. count_of (role.Value o) r ≡ count_of (role.Given o) r) (sym p.roles_are) (values_counted k words o takes p.pass p.ended) in
+    let enough = has_enough (lacks k roles option.Store) (lacks k roles option.Cache) (lacks k roles option.Listen) (lacks k roles option.Yes) (nat_lt (times_of_role role.Operand roles) (takes_of k).operands.least) none in
+    let values : (o : OptionKind) → takes_value o ≡ true → times_of_role (role.Value o) roles ≡ times_of_role (role.Given o) roles
+    = λ o takes. subst (λ r. times_of_role (role.Value o) r ≡ times_of_role (role.Given o) r) (sym p.roles_are) (values_counted k words o takes p.pass p.ended) in
     record {
       least = omega (arith, ltb-false _ _ enough.0, values option.Store store_takes);
-      greatest = λ o takes. omega (arith, values o takes, subst (λ r. count_of (role.Given o) r ≤ (times_of k o).greatest) (sym p.roles_are) (options_bounded k words o p.pass));
+      greatest = λ o takes. omega (arith, values o takes, subst (λ r. times_of_role (role.Given o) r ≤ (times_of k o).greatest) (sym p.roles_are) (options_bounded k words o p.pass));
       operands_least = omega (arith, ltb-false _ _ enough.1);
-      operands_greatest = λ names. subst (λ r. count_of role.Operand r ≤ (takes_of k).operands.greatest) (sym p.roles_are) (operands_bounded k words names p.pass);
+      operands_greatest = λ names. subst (λ r. times_of_role role.Operand r ≤ (takes_of k).operands.greatest) (sym p.roles_are) (operands_bounded k words names p.pass);
       as_many = λ r. words_counted r roles words (ap length p.roles_are ∙ roles_length k words);
     }
 
-stores_counted : (k : CommandKind) (roles : List Role) (words : List (List ℕ)) → Counts k roles words → length (stores (by_role roles words)) ≡ count_of (role.Value option.Store) roles
+stores_counted : (k : CommandKind) (roles : List Role) (words : List (List ℕ)) → Counts k roles words → length (stores (by_role roles words)) ≡ times_of_role (role.Value option.Store) roles
 stores_counted k roles words c = length-map (words_as (role.Value option.Store) roles words) (λ w. read_location (location_of w)) ∙ c.as_many (role.Value option.Store)
 
 -- ---- a number
@@ -136,11 +136,11 @@ unwrapped most None small = omega arith
 unwrapped most (Some n) small = small n refl
 
 number_bounded : (most : ℕ) (w : List ℕ) → number most w ≤ most
-number_bounded most w = unwrapped most (number_of 0 most w) (λ n. from_by 0 most n (number_up_to most w) (λ m. else_by most m _ (with_digits most 0 w) (λ d. digits_bounded most 0 d w (omega arith))))
+number_bounded most w = unwrapped most (number_in_word 0 most w) (λ n. from_by 0 most n (number_up_to most w) (λ m. else_by most m _ (with_digits most 0 w) (λ d. digits_bounded most 0 d w (omega arith))))
 
 -- ---- each command
 
-kept : (k : CommandKind) (roles : List Role) (words : List (List ℕ)) → Counts k roles words → Fits (command_of k (by_role roles words))
+kept : (k : CommandKind) (roles : List Role) (words : List (List ℕ)) → Counts k roles words → Fits (command_by_roles k (by_role roles words))
 kept command.Make roles words c = tt
 kept command.Extract roles words c =
     let stores = stores_counted command.Extract roles words c in (
@@ -178,7 +178,7 @@ complete_fits None place c d fits e = subst Fits (is_ok (Ok c) c d refl e) (fits
 
 by_fits : (k : CommandKind) (words : List (List ℕ)) (c : Command) (r : Result (List Role) WordsFault) → judged k words ≡ r → command_by k words r ≡ Ok c → Fits c
 by_fits k words c (Err f) is e = absurd cc
-by_fits k words c (Ok roles) is e = complete_fits (missing k roles) _ _ c (λ none. kept k roles words (counts k words roles (judged_right k words roles is) none)) e
+by_fits k words c (Ok roles) is e = complete_fits (missing_words k roles) _ _ c (λ none. kept k roles words (counts k words roles (judged_right k words roles is) none)) e
 
 if_fits : (b : Bool) (d c : Command) (rest : Result Command WordsFault) → Fits d → (rest ≡ Ok c → Fits c) → (if b then Ok d else rest) ≡ Ok c → Fits c
 if_fits true d c rest now later e = subst Fits (is_ok (Ok d) d c refl e) now
@@ -198,6 +198,6 @@ fits (w ∷ words) c e =
     (if_fits version said.Version c rest tt (named_fits (command_named w) words c)) e
 
 -- what is answered of the words fits where it is a command
-pub answer_fits : (words : List (List ℕ)) (result : Result Command WordsFault) → Reads words result → IfOk result Fits
+pub answer_fits : (words : List (List ℕ)) (result : Result Command WordsFault) → ReadsWords words result → IfOk result Fits
 answer_fits words (Ok c) e = fits words c e
 answer_fits words (Err f) e = tt

@@ -2,7 +2,7 @@
 use Rattle.std.specs.Prelude.{ℕ, ◌+◌, ◌==◌, ◌&&◌, Bool, List, [], ◌∷◌, length, map, codes, Option, Some, None}
 use Rattle.std.specs.Prelude.{unwrap_or, Result, Ok, Err, IfOk, ◌≡◌, if◌then◌else◌, nat_lt, slice_index_or}
 use Rattle.std.specs.Str.{bytes_eq}
-use Rattle.command_line.specs.Judging.{judged, missing, AnswersBy}
+use Rattle.command_line.specs.Judging.{judged, missing_words, AnswersBy}
 use Rattle.command_words.specs.declared.command.Command.{Command}
 use Rattle.command_words.specs.declared.command.Command.TheVariants as said
 use Rattle.command_words.specs.declared.command.Location.{Location}
@@ -20,8 +20,8 @@ use Rattle.command_words.specs.declared.usage.WordsFault.{WordsFault}
 use Rattle.command_words.specs.declared.usage.WordsFault.TheVariants as fault
 use Rattle.command_words.specs.Locations.{location_of}
 use Rattle.command_words.specs.OptionTable.{command_named}
-use Rattle.command_words.specs.Roles.{WordsByRole, by_role, count_of, words_as, word_as}
-use Rattle.command_words.specs.Values.{number_of, workers_of, sizes_of, listen_of}
+use Rattle.command_words.specs.Roles.{WordsByRole, by_role, times_of_role, words_as, word_as}
+use Rattle.command_words.specs.Values.{number_in_word, workers_of, sizes_of, listen_of}
 
 -- ---- what words that have passed say, by their roles
 
@@ -32,7 +32,7 @@ abbrev pub value : OptionKind → WordsByRole → List ℕ
 value o p = word_as (role.Value o) 0 p.roles p.words
 
 abbrev pub is_given : OptionKind → WordsByRole → Bool
-is_given o p = nat_lt 0 (count_of (role.Given o) p.roles)
+is_given o p = nat_lt 0 (times_of_role (role.Given o) p.roles)
 
 abbrev pub read_location : Result Location NoLocation → Location
 read_location (Ok l) = l
@@ -59,28 +59,28 @@ abbrev pub address : WordsByRole → List ℕ × ℕ
 address p = unwrap_or (listen_of (value option.Listen p)) ([], 0)
 
 abbrev pub number : ℕ → List ℕ → ℕ
-number most w = unwrap_or (number_of 0 most w) 0
+number most w = unwrap_or (number_in_word 0 most w) 0
 
-abbrev pub command_of : CommandKind → WordsByRole → Command
-command_of command.Make p = said.Make (store p) (sizes p) (workers p) (operand 0 p) (operand 1 p)
-command_of command.Extract p =
+abbrev pub command_by_roles : CommandKind → WordsByRole → Command
+command_by_roles command.Make p = said.Make (store p) (sizes p) (workers p) (operand 0 p) (operand 1 p)
+command_by_roles command.Extract p =
     said.Extract (stores p) (words_as (role.Value option.Seed) p.roles p.words) (cache p) (is_given option.InPlace p)
     (workers p) (operand 0 p) (operand 1 p)
-command_of command.VerifyIndex p = said.VerifyIndex (operand 0 p) (operand 1 p)
-command_of command.Chop p = said.Chop (store p) (operand 0 p) (operand 1 p)
-command_of command.Cache p = said.Cache (stores p) (value option.Cache p) (words_as role.Operand p.roles p.words)
-command_of command.ListChunks p = said.ListChunks (operand 0 p)
-command_of command.Info p = said.Info (stores p) (operand 0 p)
-command_of command.Verify p = said.Verify (value option.Store p) (is_given option.Repair p)
-command_of command.Prune p = said.Prune (value option.Store p) (words_as role.Operand p.roles p.words)
-command_of command.ChunkServer p =
+command_by_roles command.VerifyIndex p = said.VerifyIndex (operand 0 p) (operand 1 p)
+command_by_roles command.Chop p = said.Chop (store p) (operand 0 p) (operand 1 p)
+command_by_roles command.Cache p = said.Cache (stores p) (value option.Cache p) (words_as role.Operand p.roles p.words)
+command_by_roles command.ListChunks p = said.ListChunks (operand 0 p)
+command_by_roles command.Info p = said.Info (stores p) (operand 0 p)
+command_by_roles command.Verify p = said.Verify (value option.Store p) (is_given option.Repair p)
+command_by_roles command.Prune p = said.Prune (value option.Store p) (words_as role.Operand p.roles p.words)
+command_by_roles command.ChunkServer p =
     said.ChunkServer (value option.Store p) (address p).0 (address p).1 (is_given option.Writable p) (workers p)
-command_of command.Demo p =
+command_by_roles command.Demo p =
     said.Demo (number 18446744073709551615 (operand 0 p)) (number 536870912 (operand 1 p)) (workers p)
 
 -- that command, unless there was no memory
 abbrev pub Says : {E : Type 0} → CommandKind → WordsByRole → Result Command E → Type 0
-Says k p result = IfOk result (λ c. c ≡ command_of k p)
+Says k p result = IfOk result (λ c. c ≡ command_by_roles k p)
 
 -- ---- all words
 
@@ -91,7 +91,8 @@ complete None place c = Ok c
 
 abbrev pub command_by : CommandKind → List (List ℕ) → Result (List Role) WordsFault → Result Command WordsFault
 command_by k words (Err e) = Err e
-command_by k words (Ok roles) = complete (missing k roles) (length words + 1) (command_of k (by_role roles words))
+command_by k words (Ok roles) = complete (missing_words k roles) (length words + 1)
+    (command_by_roles k (by_role roles words))
 
 -- the words after a command
 abbrev pub command_with : CommandKind → List (List ℕ) → Result Command WordsFault
@@ -113,8 +114,8 @@ command_line (w ∷ words) =
     else command_or_help (command_named w) words)
 
 -- what reading the words may answer: exactly that, or that there was no memory
-abbrev pub Reads : List (List ℕ) → Result Command WordsFault → Type 0
-Reads words result = AnswersBy (λ c. c) (command_line words) result
+abbrev pub ReadsWords : List (List ℕ) → Result Command WordsFault → Type 0
+ReadsWords words result = AnswersBy (λ c. c) (command_line words) result
 
 -- a URL among them takes more room than `url` has
 abbrev pub FindsNoRoom : List (List ℕ) → Type 0

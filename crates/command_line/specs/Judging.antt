@@ -19,8 +19,8 @@ use Rattle.command_words.specs.declared.usage.WordsFault.{WordsFault}
 use Rattle.command_words.specs.declared.usage.WordsFault.TheVariants as fault
 use Rattle.command_words.specs.Locations.{location_of}
 use Rattle.command_words.specs.OptionTable.{takes_of, times_of}
-use Rattle.command_words.specs.Roles.{awaited, role_of, roles_of, count_of}
-use Rattle.command_words.specs.Values.{number_of, workers_of, sizes_of, listen_of, is_seed}
+use Rattle.command_words.specs.Roles.{awaited, role_of, roles_of, times_of_role}
+use Rattle.command_words.specs.Values.{number_in_word, workers_of, sizes_of, listen_of, is_seed}
 
 -- ---- one word
 
@@ -58,7 +58,7 @@ name_operand_refusal k n w = name_refusal (is_empty w) (nat_lt n (takes_of k).op
 
 -- those of `demo` are a number and a size
 abbrev pub number_refusal : ℕ → List ℕ → Option Refusal
-number_refusal most w = name_refusal (is_empty w) (is_some (number_of 0 most w)) why.BadNumber
+number_refusal most w = name_refusal (is_empty w) (is_some (number_in_word 0 most w)) why.BadNumber
 
 -- and a third one is one too many, empty or not
 abbrev pub demo_operand_refusal : ℕ → List ℕ → Option Refusal
@@ -74,9 +74,9 @@ abbrev pub refusal_of : CommandKind → List Role → Role → List ℕ → Opti
 refusal_of k before role.Dashes w = None
 refusal_of k before role.Unknown w = Some (refusal.Why why.UnknownOption)
 refusal_of k before (role.Given o) w =
-    unless (nat_lt (count_of (role.Given o) before) (times_of k o).greatest) why.TooMany
+    unless (nat_lt (times_of_role (role.Given o) before) (times_of k o).greatest) why.TooMany
 refusal_of k before (role.Value o) w = value_refusal k o w
-refusal_of k before role.Operand w = operand_refusal k (count_of role.Operand before) w
+refusal_of k before role.Operand w = operand_refusal k (times_of_role role.Operand before) w
 
 -- ---- all words
 
@@ -102,33 +102,33 @@ fault_by k words None =
 fault_by k words (Some i) = option_map (fault_at (i + 1)) (refusal_at k words i)
 
 -- the fault of the first word that is refused, or that the last one's value is missing
-abbrev pub first_fault : CommandKind → List (List ℕ) → Option WordsFault
-first_fault k words = fault_by k words (first_refused k words)
+abbrev pub first_word_fault : CommandKind → List (List ℕ) → Option WordsFault
+first_word_fault k words = fault_by k words (first_refused k words)
 
 -- the roles of the words, unless there is a fault
 abbrev pub judged : CommandKind → List (List ℕ) → Result (List Role) WordsFault
-judged k words = elim (first_fault k words) [ Some e ↦ Err e | None ↦ Ok (roles_of k words) ]
+judged k words = elim (first_word_fault k words) [ Some e ↦ Err e | None ↦ Ok (roles_of k words) ]
 
 -- the option stands less often than the command needs it
 abbrev pub lacks : CommandKind → List Role → OptionKind → Bool
-lacks k roles o = nat_lt (count_of (role.Given o) roles) (times_of k o).least
+lacks k roles o = nat_lt (times_of_role (role.Given o) roles) (times_of k o).least
 
 -- what is missing once all words have passed
-abbrev pub missing : CommandKind → List Role → Option UsageWhy
-missing k roles =
+abbrev pub missing_words : CommandKind → List Role → Option UsageWhy
+missing_words k roles =
     if lacks k roles option.Store || (lacks k roles option.Cache || lacks k roles option.Listen)
     then Some why.MissingOption
     else (if lacks k roles option.Yes then Some why.NeedsYes
-    else (if nat_lt (count_of role.Operand roles) (takes_of k).operands.least then Some why.Operands
+    else (if nat_lt (times_of_role role.Operand roles) (takes_of k).operands.least then Some why.Operands
     else None))
 
 -- ---- what the functions may answer: want of memory is free
 
 -- the answer is exactly the refusal that is expected, or want of memory
-abbrev pub Refuses : Option Refusal → Result Unit Refusal → Type 0
-Refuses expected (Ok u) = expected ≡ None
-Refuses expected (Err (refusal.Why y)) = expected ≡ Some (refusal.Why y)
-Refuses expected (Err refusal.Memory) = Unit {0}
+abbrev pub RefusesWords : Option Refusal → Result Unit Refusal → Type 0
+RefusesWords expected (Ok u) = expected ≡ None
+RefusesWords expected (Err (refusal.Why y)) = expected ≡ Some (refusal.Why y)
+RefusesWords expected (Err refusal.Memory) = Unit {0}
 
 -- the answer is exactly what is expected, or want of memory
 abbrev pub AnswersBy : {T U : Type 0} → (T → U) → Result U WordsFault → Result T WordsFault → Type 0

@@ -2,13 +2,13 @@
 //! 0 for the command.
 
 ghost use Rattle.std.specs.Prelude.{◌≡◌, ◌<◌, ◌+◌, ◌^◌, ℕ, List, length, map, string_bytes, codes, Err, IfOk};
-ghost use Rattle.command_line.specs.CommandLine.{Reads, FindsNoRoom, command_with, command_or_help, is_alone};
+ghost use Rattle.command_line.specs.CommandLine.{ReadsWords, FindsNoRoom, command_with, command_or_help, is_alone};
 ghost use Rattle.command_line.specs.Judging.{AnswersBy};
 ghost use Rattle.command_words.specs.Limits.{Fits};
 ghost use Rattle.command_words.specs.OptionTable.{command_named};
 
+use crate::checked_words::CheckedWords;
 use crate::judge::{judged, missing};
-use crate::passed::Passed;
 use command_words::command::Command;
 use command_words::option_table::{CommandKind, command_named};
 use command_words::roles::word;
@@ -32,8 +32,8 @@ fn read_with(alloc: Global, kind: CommandKind, words: &[String]) -> Result<Comma
         let place = words.len() as u64 + 1;
         return Err(WordsFault::Usage { place, why });
     }
-    let passed = Passed::of(roles.as_slice(), words);
-    passed
+    let checked = CheckedWords::of(roles.as_slice(), words);
+    checked
         .command_of(alloc, kind)
         .map_err(|_| WordsFault::Memory)
 }
@@ -61,7 +61,7 @@ fn read_named(
 
 // The command that the words are.
 fn read_line(alloc: Global, words: &[String]) -> Result<Command, WordsFault>
-    ensures { Reads (map string_bytes words.now) result }
+    ensures { ReadsWords (map string_bytes words.now) result }
 {
     let Some((first, rest)) = words.split_first() else {
         return Err(WordsFault::Usage {
@@ -80,7 +80,7 @@ fn read_line(alloc: Global, words: &[String]) -> Result<Command, WordsFault>
 
 /// The command that the words are.
 pub fn read_words(alloc: Global, words: &[String]) -> Result<Command, WordsFault>
-    ensures exactly { Reads (map string_bytes words.now) result }
+    ensures exactly { ReadsWords (map string_bytes words.now) result }
     // A URL that finds no room is answered so, however much memory there is.
     ensures room { FindsNoRoom (map string_bytes words.now) → result ≡ Err WordsFault.Memory }
     ensures fits { IfOk result Fits }

@@ -3,9 +3,9 @@
 
 ghost use Rattle.std.specs.Prelude.{◌≡◌, ◌<◌, ◌+◌, ◌^◌, ℕ, List, [], length, map, string_bytes, Result, Ok, Err, Some};
 ghost use Rattle.std.specs.Prelude.{None, IfOk};
-ghost use Rattle.command_line.specs.Judging.{Refuses, AnswersBy, number_refusal, unless, is_empty, store_refusal};
+ghost use Rattle.command_line.specs.Judging.{RefusesWords, AnswersBy, number_refusal, unless, is_empty, store_refusal};
 ghost use Rattle.command_line.specs.Judging.{name_refusal, value_refusal, name_operand_refusal, demo_operand_refusal};
-ghost use Rattle.command_line.specs.Judging.{operand_refusal, refusal_of, fault_at, judged, lacks, missing};
+ghost use Rattle.command_line.specs.Judging.{operand_refusal, refusal_of, fault_at, judged, lacks, missing_words};
 ghost use Rattle.command_words.specs.Locations.{location_of};
 ghost use Rattle.command_words.specs.OptionTable.{takes_of, times_of};
 
@@ -26,7 +26,7 @@ pub enum Refusal {
 
 // Refuses unless it is right.
 fn unless(right: bool, why: UsageWhy) -> Result<(), Refusal>
-    ensures { Refuses (unless right why) result }
+    ensures { RefusesWords (unless right why) result }
 {
     if right {
         Ok(())
@@ -37,7 +37,7 @@ fn unless(right: bool, why: UsageWhy) -> Result<(), Refusal>
 
 // Judges a name that may not be empty.
 fn judge_name(empty: bool, right: bool, why: UsageWhy) -> Result<(), Refusal>
-    ensures { Refuses (name_refusal empty right why) result }
+    ensures { RefusesWords (name_refusal empty right why) result }
 {
     if empty {
         return Err(Refusal::Why(UsageWhy::Empty));
@@ -47,7 +47,7 @@ fn judge_name(empty: bool, right: bool, why: UsageWhy) -> Result<(), Refusal>
 
 // Judges a location.
 fn judge_location(alloc: Global, needs_folder: bool, word: &str) -> Result<(), Refusal>
-    ensures { Refuses (store_refusal needs_folder (location_of word.now)) result }
+    ensures { RefusesWords (store_refusal needs_folder (location_of word.now)) result }
 {
     match read_location(alloc, word) {
         Ok(Location::Folder(_)) => Ok(()),
@@ -59,7 +59,7 @@ fn judge_location(alloc: Global, needs_folder: bool, word: &str) -> Result<(), R
 
 // Judges the value of -s.
 fn judge_store(alloc: Global, kind: CommandKind, word: &str) -> Result<(), Refusal>
-    ensures { Refuses (value_refusal kind OptionKind.Store word.now) result }
+    ensures { RefusesWords (value_refusal kind OptionKind.Store word.now) result }
 {
     if word.is_empty() {
         return Err(Refusal::Why(UsageWhy::Empty));
@@ -74,7 +74,7 @@ fn judge_value(
     option: OptionKind,
     word: &str,
 ) -> Result<(), Refusal>
-    ensures { Refuses (value_refusal kind option word.now) result }
+    ensures { RefusesWords (value_refusal kind option word.now) result }
 {
     let bytes = word.as_bytes();
     match option {
@@ -93,7 +93,7 @@ pub const GREATEST_DEMO: u64 = 536_870_912;
 
 // Judges an operand that is a number.
 fn judge_number(most: u64, word: &str) -> Result<(), Refusal>
-    ensures { Refuses (number_refusal most word.now) result }
+    ensures { RefusesWords (number_refusal most word.now) result }
 {
     let right = number(0, most, word.as_bytes()).is_some();
     judge_name(word.is_empty(), right, UsageWhy::BadNumber)
@@ -101,7 +101,7 @@ fn judge_number(most: u64, word: &str) -> Result<(), Refusal>
 
 // Judges an operand of `demo` that has so many before it: a number and a size.
 fn judge_demo_operand(before: usize, word: &str) -> Result<(), Refusal>
-    ensures { Refuses (demo_operand_refusal before word.now) result }
+    ensures { RefusesWords (demo_operand_refusal before word.now) result }
 {
     if before == 0 {
         return judge_number(u64::MAX, word);
@@ -114,7 +114,7 @@ fn judge_demo_operand(before: usize, word: &str) -> Result<(), Refusal>
 
 // Judges an operand that is a name and has so many before it.
 fn judge_name_operand(kind: CommandKind, before: usize, word: &str) -> Result<(), Refusal>
-    ensures { Refuses (name_operand_refusal kind before word.now) result }
+    ensures { RefusesWords (name_operand_refusal kind before word.now) result }
 {
     let right = before < kind.takes().operands.greatest;
     judge_name(word.is_empty(), right, UsageWhy::Operands)
@@ -122,7 +122,7 @@ fn judge_name_operand(kind: CommandKind, before: usize, word: &str) -> Result<()
 
 // Judges an operand that has so many before it.
 fn judge_operand(kind: CommandKind, before: usize, word: &str) -> Result<(), Refusal>
-    ensures { Refuses (operand_refusal kind before word.now) result }
+    ensures { RefusesWords (operand_refusal kind before word.now) result }
 {
     if kind.takes().takes_numbers {
         judge_demo_operand(before, word)
@@ -139,7 +139,7 @@ fn judge_word(
     role: Role,
     word: &str,
 ) -> Result<(), Refusal>
-    ensures { Refuses (refusal_of kind before.now role word.now) result }
+    ensures { RefusesWords (refusal_of kind before.now role word.now) result }
 {
     match role {
         Role::Dashes => Ok(()),
@@ -199,7 +199,7 @@ fn lacks(kind: CommandKind, roles: &[Role], option: OptionKind) -> bool
 
 /// What is missing once all words have passed.
 pub fn missing(kind: CommandKind, roles: &[Role]) -> Option<UsageWhy>
-    ensures { result ≡ missing kind roles.now }
+    ensures { result ≡ missing_words kind roles.now }
 {
     if lacks(kind, roles, OptionKind::Store)
         || lacks(kind, roles, OptionKind::Cache)

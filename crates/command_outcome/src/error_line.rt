@@ -9,7 +9,7 @@ ghost use Rattle.dsy_base.specs.Disk.{PutsFront};
 ghost use Rattle.dsy_base.specs.Counts.{CountsFaults};
 ghost use Rattle.command_outcome.specs.ErrorLines.{error_line_of, line_of, name_in, text_of, fault_text, flag_digits};
 ghost use Rattle.command_outcome.specs.ErrorLines.{size_text, why_text};
-ghost use Rattle.command_outcome.specs.Lines.{Adds, FitsIn};
+ghost use Rattle.command_outcome.specs.Lines.{AddsToLine, FitsIn};
 
 use crate::line::Line;
 use crate::outcome::Outcome;
@@ -62,7 +62,8 @@ pub const LINE_ROOM: usize = 256;
 
 // A text, a number and a text.
 fn add_counted(line: &mut Line, front: &str, n: u64, rest: &str) -> Result<(), Memory>
-    ensures { Adds (front.now ++ (decimal n ++ rest.now)) (length front.now + (40 + length rest.now)) line.old line.new
+    ensures { AddsToLine (front.now ++ (decimal n ++ rest.now)) (length front.now + (40 + length rest.now))
+        line.old line.new
         result }
 {
     line.add(front)?;
@@ -72,7 +73,7 @@ fn add_counted(line: &mut Line, front: &str, n: u64, rest: &str) -> Result<(), M
 
 // A text behind another.
 fn add_both(line: &mut Line, front: &str, rest: &str) -> Result<(), Memory>
-    ensures { Adds (front.now ++ rest.now) (length front.now + length rest.now) line.old line.new result }
+    ensures { AddsToLine (front.now ++ rest.now) (length front.now + length rest.now) line.old line.new result }
 {
     line.add(front)?;
     line.add(rest)
@@ -80,7 +81,7 @@ fn add_both(line: &mut Line, front: &str, rest: &str) -> Result<(), Memory>
 
 // Flags that lack the digest's.
 fn add_flags(line: &mut Line, flags: u64) -> Result<(), Memory>
-    ensures { Adds (codes "digest flag missing in flags " ++ flag_digits flags) 45 line.old line.new result }
+    ensures { AddsToLine (codes "digest flag missing in flags " ++ flag_digits flags) 45 line.old line.new result }
 {
     line.add("digest flag missing in flags ")?;
     line.add_flags(flags)
@@ -88,7 +89,7 @@ fn add_flags(line: &mut Line, flags: u64) -> Result<(), Memory>
 
 // An entry and its size.
 fn add_large(line: &mut Line, entry: u64, size: u64) -> Result<(), Memory>
-    ensures { Adds (codes "entry " ++ (decimal entry ++ (codes " has " ++ (decimal size ++ codes " bytes")))) 97
+    ensures { AddsToLine (codes "entry " ++ (decimal entry ++ (codes " has " ++ (decimal size ++ codes " bytes")))) 97
         line.old line.new result }
 {
     add_counted(line, "entry ", entry, " has ")?;
@@ -97,7 +98,7 @@ fn add_large(line: &mut Line, entry: u64, size: u64) -> Result<(), Memory>
 
 // Why bytes are no index file.
 fn add_fault(line: &mut Line, fault: IndexFault) -> Result<(), Memory>
-    ensures { Adds (fault_text fault) 97 line.old line.new result }
+    ensures { AddsToLine (fault_text fault) 97 line.old line.new result }
 {
     match fault {
         IndexFault::Truncated { at } => add_counted(line, "truncated at byte ", at, ""),
@@ -120,7 +121,7 @@ fn add_fault(line: &mut Line, fault: IndexFault) -> Result<(), Memory>
 
 // A name, what is told of it, and why its bytes are no index file.
 fn add_bad_index(line: &mut Line, name: &str, told: &str, fault: IndexFault) -> Result<(), Memory>
-    ensures { Adds (name.now ++ (told.now ++ fault_text fault)) (length name.now + (length told.now + 97))
+    ensures { AddsToLine (name.now ++ (told.now ++ fault_text fault)) (length name.now + (length told.now + 97))
         line.old line.new result }
 {
     add_both(line, name, told)?;
@@ -129,7 +130,8 @@ fn add_bad_index(line: &mut Line, name: &str, told: &str, fault: IndexFault) -> 
 
 // The words are no command.
 fn add_usage(line: &mut Line, place: u64, why: UsageWhy) -> Result<(), Memory>
-    ensures { Adds (codes "word " ++ (decimal place ++ (codes ": " ++ why_text why))) 61 line.old line.new result }
+    ensures { AddsToLine (codes "word " ++ (decimal place ++ (codes ": " ++ why_text why))) 61
+        line.old line.new result }
 {
     add_counted(line, "word ", place, ": ")?;
     line.add(why_text(why))
@@ -137,7 +139,8 @@ fn add_usage(line: &mut Line, place: u64, why: UsageWhy) -> Result<(), Memory>
 
 // A chunk, by its id and its entry.
 fn add_chunk(line: &mut Line, entry: u64, id: &ChunkId, told: &str) -> Result<(), Memory>
-    ensures { Adds (codes "chunk " ++ (encode_lower id.now.0 ++ (codes " of entry " ++ (decimal entry ++ told.now))))
+    ensures { AddsToLine (codes "chunk " ++ (encode_lower id.now.0
+        ++ (codes " of entry " ++ (decimal entry ++ told.now))))
         (120 + length told.now) line.old line.new result }
 {
     line.add("chunk ")?;
@@ -147,7 +150,7 @@ fn add_chunk(line: &mut Line, entry: u64, id: &ChunkId, told: &str) -> Result<()
 
 // The store holds other bytes under the id.
 fn add_damaged(line: &mut Line, entry: u64, id: &ChunkId, store: u32) -> Result<(), Memory>
-    ensures { Adds (codes "chunk " ++ (encode_lower id.now.0
+    ensures { AddsToLine (codes "chunk " ++ (encode_lower id.now.0
         ++ (codes " of entry " ++ (decimal entry ++ (codes " is damaged in store " ++ decimal store))))) 181
         line.old line.new result }
 {
@@ -157,7 +160,7 @@ fn add_damaged(line: &mut Line, entry: u64, id: &ChunkId, store: u32) -> Result<
 
 // The chunk of the entry has another name than the listed id.
 fn add_mismatch(line: &mut Line, entry: u64, got: &ChunkId) -> Result<(), Memory>
-    ensures { Adds (codes "entry " ++ (decimal entry ++ (codes " has the name " ++ encode_lower got.now.0))) 124
+    ensures { AddsToLine (codes "entry " ++ (decimal entry ++ (codes " has the name " ++ encode_lower got.now.0))) 124
         line.old line.new result }
 {
     add_counted(line, "entry ", entry, " has the name ")?;
@@ -166,14 +169,14 @@ fn add_mismatch(line: &mut Line, entry: u64, got: &ChunkId) -> Result<(), Memory
 
 // Images can't be cut by the sizes.
 fn add_sizes(line: &mut Line, why: SizeFault) -> Result<(), Memory>
-    ensures { Adds (codes "bad chunk sizes: " ++ size_text why) 28 line.old line.new result }
+    ensures { AddsToLine (codes "bad chunk sizes: " ++ size_text why) 28 line.old line.new result }
 {
     add_both(line, "bad chunk sizes: ", size_text(why))
 }
 
 // How a command ended that isn't done.
 fn add_text(line: &mut Line, outcome: &Outcome) -> Result<(), Memory>
-    ensures { Adds (text_of outcome.now) (length (name_in outcome.now) + 200) line.old line.new result }
+    ensures { AddsToLine (text_of outcome.now) (length (name_in outcome.now) + 200) line.old line.new result }
 {
     match outcome {
         Outcome::Done => Ok(()),
@@ -218,7 +221,7 @@ fn add_text(line: &mut Line, outcome: &Outcome) -> Result<(), Memory>
 // The line of an outcome that isn't done.
 #[tactic(auto, unfolding(crate::specs::ErrorLines::line_of))]
 fn add_line(line: &mut Line, outcome: &Outcome) -> Result<(), Memory>
-    ensures { Adds (line_of (text_of outcome.now)) (length (name_in outcome.now) + 209) line.old line.new result }
+    ensures { AddsToLine (line_of (text_of outcome.now)) (length (name_in outcome.now) + 209) line.old line.new result }
 {
     line.add("desync: ")?;
     add_text(line, outcome)?;

@@ -4,7 +4,7 @@ ghost use Rattle.std.specs.Prelude.{◌≡◌, [], ◌≤◌, IfOk, codes, lengt
 ghost use Rattle.std.specs.Fmt.{decimal};
 ghost use Rattle.hex.specs.Hex.{encode_lower};
 ghost use Rattle.command_outcome.specs.ErrorLines.{flag_digits};
-ghost use Rattle.command_outcome.specs.Lines.{Adds};
+ghost use Rattle.command_outcome.specs.Lines.{AddsToLine};
 
 use dsy_base::fault::Memory;
 use itoa::Buffer;
@@ -47,7 +47,7 @@ impl Line {
 
     // Adds bytes.
     fn add_bytes(&mut self, bytes: &[u8]) -> Result<(), Memory>
-        ensures adds { Adds bytes.now (length bytes.now) self.old self.new result }
+        ensures adds { AddsToLine bytes.now (length bytes.now) self.old self.new result }
     {
         match self.bytes.extend_from_slice(bytes) {
             Ok(()) => Ok(()),
@@ -57,14 +57,14 @@ impl Line {
 
     /// Adds a text.
     pub fn add(&mut self, text: &str) -> Result<(), Memory>
-        ensures adds { Adds text.now (length text.now) self.old self.new result }
+        ensures adds { AddsToLine text.now (length text.now) self.old self.new result }
     {
         self.add_bytes(text.as_bytes())
     }
 
     /// Adds a number in decimal digits.
     pub fn add_number(&mut self, n: u64) -> Result<(), Memory>
-        ensures adds { Adds (decimal n) 40 self.old self.new result }
+        ensures adds { AddsToLine (decimal n) 40 self.old self.new result }
     {
         let mut digits = Buffer::new();
         self.add(digits.format(n))
@@ -72,7 +72,7 @@ impl Line {
 
     /// Adds flags as 16 hexadecimal digits, the highest first.
     pub fn add_flags(&mut self, flags: u64) -> Result<(), Memory>
-        ensures adds { Adds (flag_digits flags) 16 self.old self.new result }
+        ensures adds { AddsToLine (flag_digits flags) 16 self.old self.new result }
     {
         let bytes = flags.to_be_bytes();
         let mut digits = [0u8; 16];
@@ -84,7 +84,7 @@ impl Line {
 
     /// Adds 32 bytes as 64 digits.
     pub fn add_digest(&mut self, digest: &[u8; 32]) -> Result<(), Memory>
-        ensures adds { Adds (encode_lower digest.now) 64 self.old self.new result }
+        ensures adds { AddsToLine (encode_lower digest.now) 64 self.old self.new result }
     {
         let mut digits = [0u8; 64];
         match hex::encode_to_slice(digest.as_slice(), &mut digits) {

@@ -3,8 +3,8 @@ use Rattle.std.proofs.Common.{◌≡◌, ◌∙◌, ◌+◌, ℕ, List, [], ◌+
 use Rattle.std.proofs.lemmas.List.{append-nil, append_assoc, get_or-append-add, get_or_append_left, length-append}
 use Rattle.std.proofs.Math.Seq.{drop-append_seam}
 use Rattle.std.specs.List.{Any}
-use Rattle.command_steps.specs.AnySources.{IsJoined}
-use Rattle.command_steps.specs.Dials.{AreAmong, Dials, Grows, since}
+use Rattle.command_steps.specs.AnyStores.{IsJoined}
+use Rattle.command_steps.specs.Dials.{AreAmong, Dials, EndedGrows, since}
 use Rattle.dsy_base.specs.Counts.{raised}
 use Rattle.dsy_base.specs.Links.{DialState, Traffic, with_all}
 use Rattle.http_read.specs.Asks.{Server}
@@ -12,14 +12,14 @@ use Rattle.http_read.specs.Remotes.{HasCause}
 
 -- ---- one dialer later
 
-grows_none : (a : Option (List Traffic)) → Grows a a
+grows_none : (a : Option (List Traffic)) → EndedGrows a a
 grows_none None = refl
 grows_none (Some x) = ([], ap Some (sym (append-nil x)))
 
-grows_twice : (a b c : Option (List Traffic)) → Grows a b → Grows b c → Grows a c
-grows_twice None b c g h = subst (λ o. Grows o c) g h
+grows_twice : (a b c : Option (List Traffic)) → EndedGrows a b → EndedGrows b c → EndedGrows a c
+grows_twice None b c g h = subst (λ o. EndedGrows o c) g h
 grows_twice (Some x) b c g h =
-    let k : Grows (Some (x ++ g.0)) c = subst (λ o. Grows o c) g.1 h in
+    let k : EndedGrows (Some (x ++ g.0)) c = subst (λ o. EndedGrows o c) g.1 h in
     (g.0 ++ k.0, k.1 ∙ ap Some (append_assoc x g.0 k.0))
 
 pub dials_none : (k : DialState) → Dials k k
@@ -32,7 +32,7 @@ pub dials_twice : (k i j : DialState) → Dials k i → Dials i j → Dials k j
 dials_twice k i j a b = record { ended = grows_twice k.ended i.ended j.ended a.ended b.ended; faults = omega (arith, a.faults, b.faults) }
 
 -- another dialer was joined, which tells alike
-pub grows_by : (a b : Option (List Traffic)) → is_some b ≡ is_some a → Grows a (with_all a b)
+pub grows_by : (a b : Option (List Traffic)) → is_some b ≡ is_some a → EndedGrows a (with_all a b)
 grows_by None b alike = refl
 grows_by (Some x) None alike = absurd (cc)
 grows_by (Some x) (Some y) alike = (y, refl)
@@ -52,10 +52,10 @@ among_joined (Some x) None = tt
 among_joined (Some x) (Some y) = subst (λ r. AreAmong (Some y) r) (sym (since_is x y)) (among_itself (Some y))
 
 -- before more has ended
-pub among_longer : (o a b c : Option (List Traffic)) → Grows a b → Grows b c → AreAmong o (since a b) → AreAmong o (since a c)
+pub among_longer : (o a b c : Option (List Traffic)) → EndedGrows a b → EndedGrows b c → AreAmong o (since a b) → AreAmong o (since a c)
 among_longer o None b c g h among = tt
 among_longer o (Some x) b c g h among =
-    let k : Grows (Some (x ++ g.0)) c = subst (λ r. Grows r c) g.1 h in
+    let k : EndedGrows (Some (x ++ g.0)) c = subst (λ r. EndedGrows r c) g.1 h in
     let first : since (Some x) b ≡ Some g.0 = ap (since (Some x)) g.1 ∙ since_is x g.0 in
     let f : AreAmong o (Some g.0) = subst (λ r. AreAmong o r) first among in
     let last : since (Some x) c ≡ Some (g.0 ++ k.0) = ap (since (Some x)) (k.1 ∙ ap Some (append_assoc x g.0 k.0)) ∙ since_is x (g.0 ++ k.0) in
@@ -63,10 +63,10 @@ among_longer o (Some x) b c g h among =
     subst (λ r. AreAmong o r) (sym last) (f.0, f.1, f.2, f.3 ++ k.0, same)
 
 -- after more had ended
-pub among_earlier : (o a b c : Option (List Traffic)) → Grows a b → Grows b c → AreAmong o (since b c) → AreAmong o (since a c)
+pub among_earlier : (o a b c : Option (List Traffic)) → EndedGrows a b → EndedGrows b c → AreAmong o (since b c) → AreAmong o (since a c)
 among_earlier o None b c g h among = tt
 among_earlier o (Some x) b c g h among =
-    let k : Grows (Some (x ++ g.0)) c = subst (λ r. Grows r c) g.1 h in
+    let k : EndedGrows (Some (x ++ g.0)) c = subst (λ r. EndedGrows r c) g.1 h in
     let first : since b c ≡ Some k.0 = ap (λ r. since r c) g.1 ∙ ap (since (Some (x ++ g.0))) k.1 ∙ since_is (x ++ g.0) k.0 in
     let f : AreAmong o (Some k.0) = subst (λ r. AreAmong o r) first among in
     let last : since (Some x) c ≡ Some (g.0 ++ k.0) = ap (since (Some x)) (k.1 ∙ ap Some (append_assoc x g.0 k.0)) ∙ since_is x (g.0 ++ k.0) in
@@ -87,16 +87,16 @@ any_among P o (Some t) among h =
     let s : Any P among.0 = subst (λ r. IfSome r (Any P)) among.1 h in
     subst (λ l. Any P l) (sym among.4) (any_inside P among.2 among.0 among.3 s)
 
-pub any_longer : (P : Traffic → Type 0) (a b c : Option (List Traffic)) → Grows a b → Grows b c → IfSome (since a b) (Any P) → IfSome (since a c) (Any P)
+pub any_longer : (P : Traffic → Type 0) (a b c : Option (List Traffic)) → EndedGrows a b → EndedGrows b c → IfSome (since a b) (Any P) → IfSome (since a c) (Any P)
 any_longer P a b c g h any = any_among P (since a b) (since a c) (among_longer (since a b) a b c g h (among_itself (since a b))) any
 
-pub any_earlier : (P : Traffic → Type 0) (a b c : Option (List Traffic)) → Grows a b → Grows b c → IfSome (since b c) (Any P) → IfSome (since a c) (Any P)
+pub any_earlier : (P : Traffic → Type 0) (a b c : Option (List Traffic)) → EndedGrows a b → EndedGrows b c → IfSome (since b c) (Any P) → IfSome (since a c) (Any P)
 any_earlier P a b c g h any = any_among P (since b c) (since a c) (among_earlier (since b c) a b c g h (among_itself (since b c))) any
 
 -- ---- a dialer that was joined
 
 pub joined_dials : (k j other : DialState) → is_some other.ended ≡ is_some k.ended → j.ended ≡ with_all k.ended other.ended → j.faults ≡ raised k.faults other.faults → Dials k j
-joined_dials k j other alike ended faults = record { ended = subst (Grows k.ended) (sym ended) (grows_by k.ended other.ended alike); faults = omega (arith, faults) }
+joined_dials k j other alike ended faults = record { ended = subst (EndedGrows k.ended) (sym ended) (grows_by k.ended other.ended alike); faults = omega (arith, faults) }
 
 pub joined : (k j other : DialState) (s : Server) (refused : ℕ) → j.ended ≡ with_all k.ended other.ended → j.faults ≡ raised k.faults other.faults → HasCause s refused other.ended → IsJoined k j s other refused
 joined k j other s refused ended faults cause = record {

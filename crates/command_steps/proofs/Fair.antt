@@ -8,14 +8,14 @@ use Rattle.command_outcome.specs.declared.outcome.Outcome.{Outcome}
 use Rattle.command_outcome.specs.declared.outcome.Outcome.TheVariants as ends
 use Rattle.command_steps.specs.Blames.{Blames, Keeps, Parts, Spares}
 use Rattle.command_steps.specs.Cache.{CacheOpened}
-use Rattle.command_steps.specs.Openings.{ImageOpened, IndexRead, NotRead}
+use Rattle.command_steps.specs.InputFiles.{ImageOpened, IndexRead, NotRead}
 use Rattle.command_worlds.specs.Printing.{Printed}
 use Rattle.command_steps.specs.Seeds.{IndexesRead, NoneListed}
 use Rattle.command_worlds.specs.Steps.{◌>>=◌, Passed, each, nothing}
 use Rattle.command_steps.specs.Dials.{Dials}
 use Rattle.command_steps.specs.Sources.{ConsultsStores, FailsFirst as SourceFails, FirstUnreached, OnSources, Sources, SourcesOpened, StoreRose, Unreached, sources_of, store_at}
 use Rattle.command_steps.specs.Stores.{NotReached, StoreTaken, are_folders, is_folder}
-use Rattle.command_steps.specs.Taking.{SourceTaken}
+use Rattle.command_steps.specs.TakenStores.{SourceTaken}
 use Rattle.command_worlds.specs.Worlds.{Adds, FileRose, FolderRose, OnDisk, OnOut, Pure, Reads, Step, World, Writes, world}
 use Rattle.command_words.specs.declared.command.Location.{Location}
 use Rattle.command_words.specs.declared.command.Location.TheVariants as locations

@@ -4,7 +4,7 @@ use Rattle.std.proofs.lemmas.List.{length-map}
 use Rattle.std.specs.Option.{option_map}
 use Rattle.chunk_store.specs.Folders.{chunks}
 use Rattle.dsy_base.specs.Maps.{Map}
-use Rattle.command_steps.specs.Sources.{told_at}
+use Rattle.command_steps.specs.Sources.{location_files}
 use Rattle.command_words.specs.declared.command.Location.{Location}
 
 map_map : {A B C : Type 0} (g : B → C) (f : A → B) (xs : List A) → map (λ x. g (f x)) xs ≡ map g (map f xs)
@@ -20,21 +20,21 @@ pub held_maps : {S : Type 0} (files : S → Option (Map (List ℕ))) (xs : List 
 held_maps files xs fs h = map_map (option_map chunks) files xs ∙ ap (map (option_map chunks)) h ∙ some_chunks fs
 
 -- what stands of the files of stores stands still where no call has changed it
-pub held_after : {S : Type 0} (folders : Option (Map (Map (List ℕ)))) (stores : List Location) (files : S → Option (Map (List ℕ))) (before after : List S) → IfSome folders (λ m. map files before ≡ map (told_at m) stores) → map files after ≡ map files before
-    → IfSome folders (λ m. map files after ≡ map (told_at m) stores)
+pub held_after : {S : Type 0} (folders : Option (Map (Map (List ℕ)))) (stores : List Location) (files : S → Option (Map (List ℕ))) (before after : List S) → IfSome folders (λ m. map files before ≡ map (location_files m) stores) → map files after ≡ map files before
+    → IfSome folders (λ m. map files after ≡ map (location_files m) stores)
 held_after None stores files before after found kept = tt
 held_after (Some m) stores files before after found kept = kept ∙ found
 
 -- what was found of them stands of folders that were only read since
-pub found_still : {S : Type 0} (files : S → Option (Map (List ℕ))) (location : S → Location) (old new : Option (Map (Map (List ℕ)))) (stores : List Location) (xs : List S) → IfSome old (λ m. map files xs ≡ map (told_at m) stores) → map location xs ≡ stores → new ≡ old
-    → IfSome new (λ m. map files xs ≡ map (told_at m) (map location xs))
+pub found_still : {S : Type 0} (files : S → Option (Map (List ℕ))) (location : S → Location) (old new : Option (Map (Map (List ℕ)))) (stores : List Location) (xs : List S) → IfSome old (λ m. map files xs ≡ map (location_files m) stores) → map location xs ≡ stores → new ≡ old
+    → IfSome new (λ m. map files xs ≡ map (location_files m) (map location xs))
 found_still files location old new stores xs found located same =
-    subst (λ o. IfSome o (λ m. map files xs ≡ map (told_at m) (map location xs))) (sym same)
-    (subst (λ (names : List Location). IfSome old (λ m. map files xs ≡ map (told_at m) names)) (sym located) found)
+    subst (λ o. IfSome o (λ m. map files xs ≡ map (location_files m) (map location xs))) (sym same)
+    (subst (λ (names : List Location). IfSome old (λ m. map files xs ≡ map (location_files m) names)) (sym located) found)
 
 -- where the stores are folders, they hold the chunks of those
-pub held_where : {S : Type 0} (folders : Option (Map (Map (List ℕ)))) (stores : List Location) (files : S → Option (Map (List ℕ))) (xs : List S) → IfSome folders (λ m. map files xs ≡ map (told_at m) stores)
-    → IfSome folders (λ m. (fs : List (Map (List ℕ))) → map (told_at m) stores ≡ map Some fs → map (λ s. option_map chunks (files s)) xs ≡ map Some (map chunks fs))
+pub held_where : {S : Type 0} (folders : Option (Map (Map (List ℕ)))) (stores : List Location) (files : S → Option (Map (List ℕ))) (xs : List S) → IfSome folders (λ m. map files xs ≡ map (location_files m) stores)
+    → IfSome folders (λ m. (fs : List (Map (List ℕ))) → map (location_files m) stores ≡ map Some fs → map (λ s. option_map chunks (files s)) xs ≡ map Some (map chunks fs))
 held_where None stores files xs found = tt
 held_where (Some m) stores files xs found = λ fs told. held_maps files xs fs (found ∙ told)
 

@@ -14,11 +14,11 @@ use Rattle.command_words.specs.declared.command.Location.TheVariants as location
 use Rattle.command_steps.proofs.Dialed.{among_earlier, among_longer, any_among}
 use Rattle.command_steps.proofs.Lent.{quiet_count, rose_count}
 use Rattle.command_steps.proofs.Numbers.{rose_later}
-use Rattle.command_steps.specs.AnySources.{IsGiven, IsKnown, code_of, faults_in, files_in, location_in, place_in, said_in}
+use Rattle.command_steps.specs.AnyStores.{IsGiven, IsKnown, code_of, source_faults, source_files, location_in, place_in, said_in}
 use Rattle.command_steps.specs.Dials.{Dials, since}
-use Rattle.command_steps.specs.Sources.{Consults, FailsFirst, Sources, StoreRose, files_at, said_at, told_at}
-use Rattle.command_steps.specs.declared.any_source.AnySource.{AnySource}
-use Rattle.command_steps.specs.declared.any_source.AnySource.TheVariants as stores
+use Rattle.command_steps.specs.Sources.{Consults, FailsFirst, Sources, StoreRose, files_at, said_at, location_files}
+use Rattle.command_steps.specs.declared.any_store.AnyStore.{AnyStore}
+use Rattle.command_steps.specs.declared.any_store.AnyStore.TheVariants as stores
 use Rattle.dsy_base.specs.Counts.{AllQuiet, Quiet, Rose, raised}
 use Rattle.dsy_base.specs.Links.{DialState}
 use Rattle.dsy_base.specs.Maps.{Map}
@@ -44,18 +44,18 @@ read_off (locations.Http host port prefix) =
     let back : drop (length host) (host ++ prefix) ≡ prefix = drop-append_seam host prefix in
     ap (λ h. locations.Http h port (drop (length host) (host ++ prefix))) front ∙ ap (λ x. locations.Http host port x) back
 
-read_all : {L D K : Type 0} (place : L → List ℕ) (xs : List (AnySource L D K)) → map location_of (map (place_in place) xs) ≡ map (location_in place) xs
+read_all : {L D K : Type 0} (place : L → List ℕ) (xs : List (AnyStore L D K)) → map location_of (map (place_in place) xs) ≡ map (location_in place) xs
 read_all place [] = refl
 read_all place (x ∷ xs) =
     let first : location_of (place_in place x) ≡ location_in place x = read_off (location_in place x) in
     ap (λ s. s ∷ map location_of (map (place_in place) xs)) first ∙ ap (λ l. location_in place x ∷ l) (read_all place xs)
 
 -- stores whose places were kept stand where they stood
-pub stand_still : {L D K : Type 0} (place : L → List ℕ) (old new : List (AnySource L D K)) → map (place_in place) new ≡ map (place_in place) old → map (location_in place) new ≡ map (location_in place) old
+pub stand_still : {L D K : Type 0} (place : L → List ℕ) (old new : List (AnyStore L D K)) → map (place_in place) new ≡ map (place_in place) old → map (location_in place) new ≡ map (location_in place) old
 stand_still place old new same = sym (read_all place new) ∙ ap (map location_of) same ∙ read_all place old
 
 -- so does one of them
-pub stands_there : {L D K : Type 0} (place : L → List ℕ) (old new : AnySource L D K) → place_in place new ≡ place_in place old → location_in place new ≡ location_in place old
+pub stands_there : {L D K : Type 0} (place : L → List ℕ) (old new : AnyStore L D K) → place_in place new ≡ place_in place old → location_in place new ≡ location_in place old
 stands_there place old new same = sym (read_off (location_in place new)) ∙ ap location_of same ∙ read_off (location_in place old)
 
 -- ---- what one has counted and said
@@ -84,7 +84,7 @@ dialed_rose a b f n le rose = elim (cases_lt 0 n) [
   go none (inr full) = inr (omega (arith, none, full))
 
 module _ {L D K : Type 0} (files : L → Option (Map (List ℕ))) (place : L → List ℕ) (faults : L → ℕ) (state : D → DialState) (w v : Sources) where
-  pub store_says : (s : AnySource L D K) → IfSome w.disk.folders (λ m. files_in files s ≡ told_at m (location_in place s)) → IsGiven place faults state w v s → (id : List ℕ) → KeepsOf (said_in files state s) (said_at w v (location_in place s)) id
+  pub store_says : (s : AnyStore L D K) → IfSome w.disk.folders (λ m. source_files files s ≡ location_files m (location_in place s)) → IsGiven place faults state w v s → (id : List ℕ) → KeepsOf (said_in files state s) (said_at w v (location_in place s)) id
   store_says (stores.Folder l) held given id = folder_says files place w.disk.folders l held id
   store_says (stores.Http r) held given id =
       let ended = (state r.dial).ended in
@@ -96,7 +96,7 @@ module _ {L D K : Type 0} (files : L → Option (Map (List ℕ))) (place : L →
         taken = λ b. any_among (IsTaking r.server id b) ended last given.ended;
       }
 
-  pub store_rises : (s : AnySource L D K) → IsGiven place faults state w v s → Rose 0 (faults_in faults state s) → StoreRose w v (location_in place s)
+  pub store_rises : (s : AnyStore L D K) → IsGiven place faults state w v s → Rose 0 (source_faults faults state s) → StoreRose w v (location_in place s)
   store_rises (stores.Folder l) given rose = rose_count (count_at w.disk.folder_counts (place l)) (count_at w.disk.folder_counts (place l)) (count_at v.disk.folder_counts (place l)) (faults l) (omega arith) given rose
   store_rises (stores.Http r) given rose = elim (dialed_rose w.dial.faults v.dial.faults (state r.dial).faults r.refused given.faults rose) [
     | inl counted ↦ inl counted
@@ -105,7 +105,7 @@ module _ {L D K : Type 0} (files : L → Option (Map (List ℕ))) (place : L →
 
 -- what was added after more had been consulted, and before
 module _ {L D K : Type 0} (place : L → List ℕ) (faults : L → ℕ) (state : D → DialState) where
-  pub given_earlier : (w u v : Sources) → ((q : List ℕ) → count_at w.disk.folder_counts q ≤ count_at u.disk.folder_counts q) → Dials w.dial u.dial → Dials u.dial v.dial → (s : AnySource L D K) → IsGiven place faults state u v s → IsGiven place faults state w v s
+  pub given_earlier : (w u v : Sources) → ((q : List ℕ) → count_at w.disk.folder_counts q ≤ count_at u.disk.folder_counts q) → Dials w.dial u.dial → Dials u.dial v.dial → (s : AnyStore L D K) → IsGiven place faults state u v s → IsGiven place faults state w v s
   given_earlier w u v le a b (stores.Folder l) given = omega (arith, le (place l), given)
   given_earlier w u v le a b (stores.Http r) given = record {
     faults = omega (arith, a.faults, given.faults);
@@ -113,7 +113,7 @@ module _ {L D K : Type 0} (place : L → List ℕ) (faults : L → ℕ) (state :
     cause = given.cause;
   }
 
-  pub given_longer : (w v u : Sources) → ((q : List ℕ) → count_at v.disk.folder_counts q ≤ count_at u.disk.folder_counts q) → Dials w.dial v.dial → Dials v.dial u.dial → (s : AnySource L D K) → IsGiven place faults state w v s → IsGiven place faults state w u s
+  pub given_longer : (w v u : Sources) → ((q : List ℕ) → count_at v.disk.folder_counts q ≤ count_at u.disk.folder_counts q) → Dials w.dial v.dial → Dials v.dial u.dial → (s : AnyStore L D K) → IsGiven place faults state w v s → IsGiven place faults state w u s
   given_longer w v u le a b (stores.Folder l) given = omega (arith, le (place l), given)
   given_longer w v u le a b (stores.Http r) given = record {
     faults = omega (arith, b.faults, given.faults);
@@ -180,23 +180,23 @@ module _ {S : Type 0} (location : S → Location) (said : S → Said) (counted :
         (λ s. lacks (said_at w v s)) (StoreRose w v) (λ s. lacks (said_at w v s) ⊎ StoreRose w v s) lacked failed either k before after names len same stands h
 
 -- the stores of a command stand so once they are given back
-pub all_stand : {L D K : Type 0} (files : L → Option (Map (List ℕ))) (place : L → List ℕ) (faults : L → ℕ) (state : D → DialState) (w v : Sources) (xs : List (AnySource L D K)) (names : List Location)
-    → map (location_in place) xs ≡ names → IfSome w.disk.folders (λ m. map (files_in files) xs ≡ map (told_at m) names) → All (IsGiven place faults state w v) xs → All (Stands (location_in place) (said_in files state) (faults_in faults state) w v) xs
-all_stand {L} {D} {K} files place faults state w v [] names same held given = All-nil (Stands (location_in place) (said_in files state) (faults_in faults state) w v)
+pub all_stand : {L D K : Type 0} (files : L → Option (Map (List ℕ))) (place : L → List ℕ) (faults : L → ℕ) (state : D → DialState) (w v : Sources) (xs : List (AnyStore L D K)) (names : List Location)
+    → map (location_in place) xs ≡ names → IfSome w.disk.folders (λ m. map (source_files files) xs ≡ map (location_files m) names) → All (IsGiven place faults state w v) xs → All (Stands (location_in place) (said_in files state) (source_faults faults state) w v) xs
+all_stand {L} {D} {K} files place faults state w v [] names same held given = All-nil (Stands (location_in place) (said_in files state) (source_faults faults state) w v)
 all_stand {L} {D} {K} files place faults state w v (x ∷ xs) [] same held given = absurd (cc)
 all_stand {L} {D} {K} files place faults state w v (x ∷ xs) (q ∷ names) same held given =
     let here : location_in place x ≡ q = cc in
     let rest : map (location_in place) xs ≡ names = cc in
-    All-cons (Stands (location_in place) (said_in files state) (faults_in faults state) w v) x xs
+    All-cons (Stands (location_in place) (said_in files state) (source_faults faults state) w v) x xs
     (record {
       says = store_says files place faults state w v x (head w.disk.folders here held) (given 0 x (omega arith));
       rises = store_rises files place faults state w v x (given 0 x (omega arith));
     }) (all_stand files place faults state w v xs names rest (tail w.disk.folders held) (λ j y lt. given (suc j) y (omega (arith, lt)))) where
-      head : (y : Option (Map (Map (List ℕ)))) → location_in place x ≡ q → IfSome y (λ m. map (files_in files) (x ∷ xs) ≡ map (told_at m) (q ∷ names)) → IfSome y (λ m. files_in files x ≡ told_at m (location_in place x))
+      head : (y : Option (Map (Map (List ℕ)))) → location_in place x ≡ q → IfSome y (λ m. map (source_files files) (x ∷ xs) ≡ map (location_files m) (q ∷ names)) → IfSome y (λ m. source_files files x ≡ location_files m (location_in place x))
       head None here h = tt
-      head (Some m) here h = let first : files_in files x ≡ told_at m q = cc in first ∙ ap (told_at m) (sym here)
+      head (Some m) here h = let first : source_files files x ≡ location_files m q = cc in first ∙ ap (location_files m) (sym here)
 
-      tail : (y : Option (Map (Map (List ℕ)))) → IfSome y (λ m. map (files_in files) (x ∷ xs) ≡ map (told_at m) (q ∷ names)) → IfSome y (λ m. map (files_in files) xs ≡ map (told_at m) names)
+      tail : (y : Option (Map (Map (List ℕ)))) → IfSome y (λ m. map (source_files files) (x ∷ xs) ≡ map (location_files m) (q ∷ names)) → IfSome y (λ m. map (source_files files) xs ≡ map (location_files m) names)
       tail None h = tt
       tail (Some m) h = cc
 
@@ -216,24 +216,24 @@ zeros_at (x ∷ xs) zero = refl
 zeros_at (x ∷ xs) (suc k) = zeros_at xs k
 
 module _ {L D K : Type 0} (files : L → Option (Map (List ℕ))) (place : L → List ℕ) (faults : L → ℕ) (state : D → DialState) (w v : Sources) where
-  quiet_folder : (s : AnySource L D K) (f : Map (List ℕ)) → files_in files s ≡ Some f → IsGiven place faults state w v s → AllQuiet w.disk.folder_counts v.disk.folder_counts → Quiet 0 (faults_in faults state s)
+  quiet_folder : (s : AnyStore L D K) (f : Map (List ℕ)) → source_files files s ≡ Some f → IsGiven place faults state w v s → AllQuiet w.disk.folder_counts v.disk.folder_counts → Quiet 0 (source_faults faults state s)
   quiet_folder (stores.Folder l) f told given quiet =
       quiet_count (count_at w.disk.folder_counts (place l)) (count_at w.disk.folder_counts (place l)) (count_at v.disk.folder_counts (place l)) (faults l) (omega arith) given (quiet (place l))
   quiet_folder (stores.Http r) f told given quiet = absurd (cc)
 
-  quiet_each : (fs : List (Map (List ℕ))) (after : List (AnySource L D K)) → map (files_in files) after ≡ map Some fs → All (IsGiven place faults state w v) after → AllQuiet w.disk.folder_counts v.disk.folder_counts → (k : ℕ) → Quiet 0 (slice_index (map (faults_in faults state) after) k)
+  quiet_each : (fs : List (Map (List ℕ))) (after : List (AnyStore L D K)) → map (source_files files) after ≡ map Some fs → All (IsGiven place faults state w v) after → AllQuiet w.disk.folder_counts v.disk.folder_counts → (k : ℕ) → Quiet 0 (slice_index (map (source_faults faults state) after) k)
   quiet_each fs [] told given quiet k = record { same = omega arith; below = omega arith }
   quiet_each [] (s ∷ after) told given quiet k = absurd (cc)
-  quiet_each (f ∷ fs) (s ∷ after) told given quiet zero = let first : files_in files s ≡ Some f = cc in quiet_folder s f first (given 0 s (omega arith)) quiet
+  quiet_each (f ∷ fs) (s ∷ after) told given quiet zero = let first : source_files files s ≡ Some f = cc in quiet_folder s f first (given 0 s (omega arith)) quiet
   quiet_each (f ∷ fs) (s ∷ after) told given quiet (suc k) =
-      let others : map (files_in files) after ≡ map Some fs = cc in
+      let others : map (source_files files) after ≡ map Some fs = cc in
       quiet_each fs after others (λ j y lt. given (suc j) y (omega (arith, lt))) quiet k
 
   -- none has counted a fault where no number of a folder rose
-  pub folders_quiet : (names : List Location) (fs : List (Map (List ℕ))) (before after : List (AnySource L D K)) → map (faults_in faults state) before ≡ map (λ q. 0) names → map (files_in files) after ≡ map Some fs
-      → All (IsGiven place faults state w v) after → AllQuiet w.disk.folder_counts v.disk.folder_counts → EachQuiet (map (faults_in faults state) before) (map (faults_in faults state) after)
+  pub folders_quiet : (names : List Location) (fs : List (Map (List ℕ))) (before after : List (AnyStore L D K)) → map (source_faults faults state) before ≡ map (λ q. 0) names → map (source_files files) after ≡ map Some fs
+      → All (IsGiven place faults state w v) after → AllQuiet w.disk.folder_counts v.disk.folder_counts → EachQuiet (map (source_faults faults state) before) (map (source_faults faults state) after)
   folders_quiet names fs before after fresh told given quiet = λ k.
-      subst (λ (m : ℕ). Quiet m (slice_index (map (faults_in faults state) after) k)) (sym (ap (λ (l : List ℕ). slice_index l k) fresh ∙ zeros_at names k)) (quiet_each fs after told given quiet k)
+      subst (λ (m : ℕ). Quiet m (slice_index (map (source_faults faults state) after) k)) (sym (ap (λ (l : List ℕ). slice_index l k) fresh ∙ zeros_at names k)) (quiet_each fs after told given quiet k)
 
 -- ---- the last of several
 
@@ -249,7 +249,7 @@ pub last_known : {S : Type 0} (location : S → Location) (counts : Map ℕ) (al
 last_known location counts all rest x is known = split_last (IsKnown counts) (map location rest) (location x) (subst (λ l. All (IsKnown counts) l) (last_at location all rest x is) known)
 
 -- the rest was given back, and then the last
-pub given_more : {L D K : Type 0} (place : L → List ℕ) (faults : L → ℕ) (state : D → DialState) (w u v : Sources) (all rest : List (AnySource L D K)) (x : AnySource L D K) → all ≡ rest ++ x ∷ [] → Consults w u → Consults u v
+pub given_more : {L D K : Type 0} (place : L → List ℕ) (faults : L → ℕ) (state : D → DialState) (w u v : Sources) (all rest : List (AnyStore L D K)) (x : AnyStore L D K) → all ≡ rest ++ x ∷ [] → Consults w u → Consults u v
     → All (IsGiven place faults state w u) rest → IsGiven place faults state u v x → All (IsGiven place faults state w v) all
 given_more place faults state w u v all rest x is a b before last = subst (λ l. All (IsGiven place faults state w v) l) (sym is) (All-push (IsGiven place faults state w v) rest x
     (λ k d lt. given_longer place faults state w u v b.disk.folder_counts a.dial b.dial (slice_index_or rest k d) (before k d lt))

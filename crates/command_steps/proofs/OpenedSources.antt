@@ -8,7 +8,7 @@ use Rattle.command_outcome.specs.declared.outcome.Outcome.TheVariants as ends
 use Rattle.command_words.specs.declared.command.Location.{Location}
 use Rattle.command_words.specs.declared.command.Location.TheVariants as locations
 use Rattle.command_steps.proofs.Opened.{given_back, later}
-use Rattle.command_steps.specs.Sources.{FirstUnreached, IsSourceAt, IsThere, OpensSources, Unreached, told_at}
+use Rattle.command_steps.specs.Sources.{FirstUnreached, IsSourceAt, IsThere, OpensSources, Unreached, location_files}
 use Rattle.command_worlds.specs.Worlds.{Reads}
 use Rattle.dsy_base.specs.Disk.{Disk}
 use Rattle.dsy_base.specs.Maps.{Map}
@@ -54,13 +54,13 @@ module _ {S : Type 0} (files : S → Option (Map (List ℕ))) (location : S → 
   there_all None names old new h = tt
   there_all (Some m) names old new h = there_in m names old new h
 
-  found_in : (m : Map (Map (List ℕ))) (names : List Location) (old new : List S) → OpensSources files location counted (Some m) names old new → map files new ≡ map files old ++ map (told_at m) names
+  found_in : (m : Map (Map (List ℕ))) (names : List Location) (old new : List S) → OpensSources files location counted (Some m) names old new → map files new ≡ map files old ++ map (location_files m) names
   found_in m [] old new h = ap (λ (l : List S). map files l) h ∙ sym (append-nil (map files old))
   found_in m (q ∷ names) old new h =
-      let one : map files (old ++ h.0 ∷ []) ≡ map files old ++ told_at m q ∷ [] = map-append files old (h.0 ∷ []) ∙ ap (λ (o : Option (Map (List ℕ))). map files old ++ o ∷ []) h.1.found in
-      found_in m names (old ++ h.0 ∷ []) new h.2 ∙ ap (λ (l : List (Option (Map (List ℕ)))). l ++ map (told_at m) names) one ∙ append_assoc (map files old) (told_at m q ∷ []) (map (told_at m) names)
+      let one : map files (old ++ h.0 ∷ []) ≡ map files old ++ location_files m q ∷ [] = map-append files old (h.0 ∷ []) ∙ ap (λ (o : Option (Map (List ℕ))). map files old ++ o ∷ []) h.1.found in
+      found_in m names (old ++ h.0 ∷ []) new h.2 ∙ ap (λ (l : List (Option (Map (List ℕ)))). l ++ map (location_files m) names) one ∙ append_assoc (map files old) (location_files m q ∷ []) (map (location_files m) names)
 
-  pub found_all : (folders : Option (Map (Map (List ℕ)))) (names : List Location) (old new : List S) → old ≡ [] → OpensSources files location counted folders names old new → IfSome folders (λ m. map files new ≡ map (told_at m) names)
+  pub found_all : (folders : Option (Map (Map (List ℕ)))) (names : List Location) (old new : List S) → old ≡ [] → OpensSources files location counted folders names old new → IfSome folders (λ m. map files new ≡ map (location_files m) names)
   found_all None names old new is h = tt
   found_all (Some m) names old new is h = found_in m names [] new (subst (λ (l : List S). OpensSources files location counted (Some m) names l new) is h)
 

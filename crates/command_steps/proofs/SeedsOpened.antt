@@ -9,7 +9,7 @@ use Rattle.command_steps.specs.Seeds.{IsSeedAt, IsViewed, OpensSeeds}
 use Rattle.command_worlds.specs.Worlds.{Reads}
 use Rattle.dsy_base.specs.Bytes.{Held}
 use Rattle.dsy_base.specs.Disk.{Disk}
-use Rattle.extract_plan.specs.Seeds.{faults_in, held_in}
+use Rattle.extract_plan.specs.Seeds.{faults_in, seed_held}
 use Rattle.extract_plan.specs.declared.seed.Seed.{Seed}
 
 pub reads_then : (d b e : Disk) → Reads d b → Reads b e → Reads d e
@@ -57,20 +57,20 @@ module _ {V : Type 0} (held : V → Held) (faults : V → ℕ) where
   zip_add P (x ∷ xs) us [] ws h k = absurd h
   zip_add P (x ∷ xs) us (y ∷ ys) ws h k = (h.0, zip_add P xs us ys ws h.1 k)
 
-  viewed_in : (d e : Disk) (done names : List (List ℕ)) (old new : List (Seed V)) → AllZip (IsViewed d e) done (map (held_in held) old) → OpensSeeds held faults d e names old new
-      → AllZip (IsViewed d e) (done ++ names) (map (held_in held) new)
+  viewed_in : (d e : Disk) (done names : List (List ℕ)) (old new : List (Seed V)) → AllZip (IsViewed d e) done (map (seed_held held) old) → OpensSeeds held faults d e names old new
+      → AllZip (IsViewed d e) (done ++ names) (map (seed_held held) new)
   viewed_in d e done [] old new before h =
-      let all : AllZip (IsViewed d e) done (map (held_in held) new) = subst (λ (l : List (Seed V)). AllZip (IsViewed d e) done (map (held_in held) l)) (sym h) before in
-      subst (λ (l : List (List ℕ)). AllZip (IsViewed d e) l (map (held_in held) new)) (sym (append-nil done)) all
+      let all : AllZip (IsViewed d e) done (map (seed_held held) new) = subst (λ (l : List (Seed V)). AllZip (IsViewed d e) done (map (seed_held held) l)) (sym h) before in
+      subst (λ (l : List (List ℕ)). AllZip (IsViewed d e) l (map (seed_held held) new)) (sym (append-nil done)) all
   viewed_in d e done (q ∷ names) old new before h =
       let s = h.0 in
       let is = h.1 in
-      let one : AllZip (IsViewed d e) (q ∷ []) (held_in held s ∷ []) = (is.viewed, tt) in
-      let both : AllZip (IsViewed d e) (done ++ q ∷ []) (map (held_in held) (old ++ s ∷ [])) = subst (λ (l : List (Option Held)). AllZip (IsViewed d e) (done ++ q ∷ []) l) (sym (map-append (held_in held) old (s ∷ [])))
-      (zip_add (IsViewed d e) done (q ∷ []) (map (held_in held) old) (held_in held s ∷ []) before one) in
-      subst (λ (l : List (List ℕ)). AllZip (IsViewed d e) l (map (held_in held) new)) (append_assoc done (q ∷ []) names) (viewed_in d e (done ++ q ∷ []) names (old ++ s ∷ []) new both h.2)
+      let one : AllZip (IsViewed d e) (q ∷ []) (seed_held held s ∷ []) = (is.viewed, tt) in
+      let both : AllZip (IsViewed d e) (done ++ q ∷ []) (map (seed_held held) (old ++ s ∷ [])) = subst (λ (l : List (Option Held)). AllZip (IsViewed d e) (done ++ q ∷ []) l) (sym (map-append (seed_held held) old (s ∷ [])))
+      (zip_add (IsViewed d e) done (q ∷ []) (map (seed_held held) old) (seed_held held s ∷ []) before one) in
+      subst (λ (l : List (List ℕ)). AllZip (IsViewed d e) l (map (seed_held held) new)) (append_assoc done (q ∷ []) names) (viewed_in d e (done ++ q ∷ []) names (old ++ s ∷ []) new both h.2)
 
-  pub viewed_all : (d e : Disk) (names : List (List ℕ)) (old new : List (Seed V)) → old ≡ [] → OpensSeeds held faults d e names old new → AllZip (IsViewed d e) names (map (held_in held) new)
+  pub viewed_all : (d e : Disk) (names : List (List ℕ)) (old new : List (Seed V)) → old ≡ [] → OpensSeeds held faults d e names old new → AllZip (IsViewed d e) names (map (seed_held held) new)
   viewed_all d e names old new none h = viewed_in d e [] names [] new tt (subst (λ (l : List (Seed V)). OpensSeeds held faults d e names l new) none h)
 
   fresh_in : (d e : Disk) (names : List (List ℕ)) (old new : List (Seed V)) → map (faults_in faults) old ≡ map {B = ℕ} (λ s. 0) old → OpensSeeds held faults d e names old new → map (faults_in faults) new ≡ map {B = ℕ} (λ s. 0) new

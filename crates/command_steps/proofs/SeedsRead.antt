@@ -8,7 +8,7 @@ use Rattle.caibx_codec.specs.Listing.{Listing, count_of}
 use Rattle.command_outcome.specs.declared.outcome.Outcome.{Outcome}
 use Rattle.command_outcome.specs.declared.outcome.Outcome.TheVariants as ends
 use Rattle.command_steps.proofs.Numbers.{rose_later}
-use Rattle.command_steps.specs.Openings.{IsBad, IsListed, Listed, NotRead}
+use Rattle.command_steps.specs.InputFiles.{IsBad, IsListed, Listed, NotRead}
 use Rattle.command_steps.specs.Seeds.{AllListed, NoneListed, image_name, items_with}
 use Rattle.command_worlds.specs.Worlds.{Reads}
 use Rattle.dsy_base.specs.Disk.{Disk}

@@ -4,13 +4,13 @@ use Rattle.dsy_base.specs.Counts.{raised}
 use Rattle.dsy_base.specs.Links.{DialState, Traffic}
 
 -- the connections that had ended have ended still, in their order
-abbrev pub Grows : Option (List Traffic) → Option (List Traffic) → Type 0
-Grows (Some a) new = (more : List Traffic) × (new ≡ Some (a ++ more))
-Grows None new = new ≡ None
+abbrev pub EndedGrows : Option (List Traffic) → Option (List Traffic) → Type 0
+EndedGrows (Some a) new = (more : List Traffic) × (new ≡ Some (a ++ more))
+EndedGrows None new = new ≡ None
 
 -- no connection is forgotten, and no fault: the count has not fallen, but for the greatest value that it stays at
 pub record Dials (old new : DialState) : Type 0 where
-  pub ended : Grows old.ended new.ended
+  pub ended : EndedGrows old.ended new.ended
   pub faults : raised old.faults 0 ≤ new.faults
 
 -- the connections that have ended since, where they are told

@@ -1,9 +1,9 @@
-pub mod Openings
+pub mod InputFiles
 pub mod Stores
 pub mod Dials
 pub mod Sources
-pub mod AnySources
-pub mod Taking
+pub mod AnyStores
+pub mod TakenStores
 pub mod Blames
 pub mod Cache
 pub mod Seeds

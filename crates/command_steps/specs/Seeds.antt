@@ -7,7 +7,7 @@ use Rattle.std.specs.Str.{bytes_eq}
 use Rattle.caibx_codec.specs.Listing.{Listing, count_of}
 use Rattle.command_outcome.specs.declared.outcome.Outcome.{Outcome}
 use Rattle.command_outcome.specs.declared.outcome.Outcome.TheVariants as ends
-use Rattle.command_steps.specs.Openings.{Holds, Listed, NotRead}
+use Rattle.command_steps.specs.InputFiles.{Holds, Listed, NotRead}
 use Rattle.command_worlds.specs.Worlds.{FileRose, Reads, Step}
 use Rattle.dsy_base.specs.Bytes.{Held}
 use Rattle.dsy_base.specs.Disk.{Disk}

@@ -24,7 +24,7 @@ use Rattle.store_chain.specs.Lists.{FirstAt}
 use Rattle.store_chain.specs.Refusals.{HasShown, Lacks}
 use Rattle.store_chain.specs.declared.refused.Refused.{Refused}
 use Rattle.store_chain.specs.declared.refused.Refused.TheVariants as refused
-use Rattle.store_chain.specs.declared.want.Want.{Want}
+use Rattle.store_chain.specs.declared.query.Query.{Query}
 
 pub record Sources : Type 0 where
   pub disk : Disk
@@ -67,9 +67,9 @@ abbrev pub store_at : List Location → ℕ → Location
 store_at stores k = slice_index_or stores k (locations.Folder [])
 
 -- a folder of these holds these files; a server doesn't tell
-abbrev pub told_at : Map (Map (List ℕ)) → Location → Option (Map (List ℕ))
-told_at m (locations.Folder q) = m q
-told_at m (locations.Http host port prefix) = None
+abbrev pub location_files : Map (Map (List ℕ)) → Location → Option (Map (List ℕ))
+location_files m (locations.Folder q) = m q
+location_files m (locations.Http host port prefix) = None
 
 -- a folder is there; a server is only asked later
 abbrev pub IsThere : Map (Map (List ℕ)) → Location → Type 0
@@ -105,7 +105,7 @@ FailsFirst lacks w v =
 
 -- what stores have said that lack a chunk: all have denied it; or this is the first that has shown something else
 -- under its id, and all lack it; or this is the first that failed, and all others lack it or failed too
-abbrev pub HaveLacked : Want → Sources → Sources → List Location → Refused → Type 0
+abbrev pub HaveLacked : Query → Sources → Sources → List Location → Refused → Type 0
 HaveLacked c w v stores refused.Missing = All (λ s. (said_at w v s).denied c.id.0) stores
 HaveLacked c w v stores (refused.Damaged s x) = FirstAt (λ s. (said_at w v s).denied c.id.0)
     (λ s. HasShown c x (said_at w v s)) (λ s. Lacks c (said_at w v s)) s stores
@@ -137,7 +137,7 @@ module _ {S : Type 0} (files : S → Option (Map (List ℕ))) (location : S → 
   -- a fresh store for these words
   pub record IsSourceAt (folders : Option (Map (Map (List ℕ)))) (q : Location) (s : S) : Type 0 where
     pub there : IfSome folders (λ m. IsThere m q)
-    pub found : IfSome folders (λ m. files s ≡ told_at m q)
+    pub found : IfSome folders (λ m. files s ≡ location_files m q)
     pub located : location s ≡ q
     pub unfailed : counted s ≡ 0
 

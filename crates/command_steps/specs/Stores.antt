@@ -23,9 +23,9 @@ are_folders [] = true
 are_folders (s ∷ stores) = is_folder s && are_folders stores
 
 -- the name of the folder; a server has the empty one
-abbrev pub name_of : Location → List ℕ
-name_of (locations.Folder name) = name
-name_of (locations.Http host port prefix) = []
+abbrev pub folder_name : Location → List ℕ
+folder_name (locations.Folder name) = name
+folder_name (locations.Http host port prefix) = []
 
 -- ---- how opening may refuse
 
@@ -37,11 +37,11 @@ NotReached d e q ends.Memory = Unit {0}
 NotReached d e q other = ⊥
 
 -- the outcome of a fault of opening it. Want of memory is free, since the outcome keeps the name
-abbrev pub Refuses : List ℕ → OpenFault → Outcome → Type 0
-Refuses q fault ends.Memory = Unit {0}
-Refuses q opens.Absent (ends.NoFolder name) = name ≡ q
-Refuses q opens.Failed (ends.FileFault name) = name ≡ q
-Refuses q fault other = ⊥
+abbrev pub RefusesOpening : List ℕ → OpenFault → Outcome → Type 0
+RefusesOpening q fault ends.Memory = Unit {0}
+RefusesOpening q opens.Absent (ends.NoFolder name) = name ≡ q
+RefusesOpening q opens.Failed (ends.FileFault name) = name ≡ q
+RefusesOpening q fault other = ⊥
 
 -- the folder of a store was taken to be written: it isn't there until it is given back
 abbrev pub IsTaken : Disk → Disk → List ℕ → Type 0

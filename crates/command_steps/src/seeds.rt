@@ -5,15 +5,15 @@ ghost use Rattle.std.specs.Prelude.{IfSome, IfOk, IfErr, IsSome, OnErr, OnOk};
 ghost use Rattle.std.specs.List.{All, AllZip};
 ghost use Rattle.std.specs.Map.{count_at};
 ghost use Rattle.caibx_codec.specs.Listing.{Listing, count_of};
-ghost use Rattle.command_steps.specs.Openings.{Listed};
+ghost use Rattle.command_steps.specs.InputFiles.{Listed};
 ghost use Rattle.command_steps.specs.Seeds.{AllListed, IsSeedAt, IsViewed, NoneListed, OpensSeeds, SeedsKnown};
 ghost use Rattle.command_steps.specs.Seeds.{image_name, items_with, label_in};
 ghost use Rattle.command_worlds.specs.Worlds.{Reads};
 ghost use Rattle.dsy_base.specs.Counts.{raised};
 ghost use Rattle.extract_plan.specs.Places.{items_of, seed_item_limit};
-ghost use Rattle.extract_plan.specs.Seeds.{faults_in, held_in};
+ghost use Rattle.extract_plan.specs.Seeds.{faults_in, seed_held};
 
-use crate::openings::read_index;
+use crate::input_files::load_index;
 use caibx_codec::index::Index;
 use command_outcome::outcome::Outcome;
 use dsy_base::fault::{Memory, OpenFault};
@@ -54,7 +54,7 @@ fn read_each<F: Files>(
     let Ok(name) = Name::of(alloc, first.as_str()) else {
         return Err(Outcome::Memory);
     };
-    let index = read_index(alloc, files, name)?;
+    let index = load_index(alloc, files, name)?;
     index.rules();
     let items = items + index.count();
     if items > SEED_ITEM_LIMIT {
@@ -159,7 +159,7 @@ pub fn open_seeds<F: Files>(
     indexes: &[Name],
 ) -> Result<Vec<Seed<F::View>>, Memory>
     ensures found { IfOk result (λ v. AllZip (IsViewed (F.disk files.old) (F.disk files.new))
-        (map image_name indexes.now) (map (held_in F.View.held) v.items)) }
+        (map image_name indexes.now) (map (seed_held F.View.held) v.items)) }
     ensures fresh { IfOk result (λ v. map (faults_in F.View.faults) v.items ≡ map (λ s. 0) v.items) }
     ensures known { IfOk result (λ v. SeedsKnown F.View.held (F.disk files.new).file_counts v.items) }
     ensures kept { Reads (F.disk files.old) (F.disk files.new) }

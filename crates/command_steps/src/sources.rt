@@ -2,14 +2,14 @@
 
 ghost use Rattle.std.specs.Prelude.{◌≡◌, ◌∷◌, [], ◌++◌, map, All, IfSome, IfOk, IfErr, OnOk, OnErr};
 ghost use Rattle.std.specs.List.{fold};
-ghost use Rattle.command_steps.specs.AnySources.{IsGiven, IsKnown, IsUnused, faults_in, files_in, location_in};
-ghost use Rattle.command_steps.specs.AnySources.{with_those};
+ghost use Rattle.command_steps.specs.AnyStores.{IsGiven, IsKnown, IsUnused, source_faults, source_files, location_in};
+ghost use Rattle.command_steps.specs.AnyStores.{with_those};
 ghost use Rattle.command_steps.specs.Sources.{AllThere, ConsultsStores, FirstUnreached, IsSourceAt, OpensSources};
-ghost use Rattle.command_steps.specs.Sources.{Unreached, server_at, sources, told_at};
+ghost use Rattle.command_steps.specs.Sources.{Unreached, server_at, sources, location_files};
 ghost use Rattle.command_worlds.specs.Worlds.{Reads};
 ghost use Rattle.dsy_base.specs.Counts.{raised};
 
-use crate::any_source::AnySource;
+use crate::any_store::AnyStore;
 use crate::stores::not_reached;
 use command_outcome::outcome::Outcome;
 use command_words::command::Location;
@@ -49,9 +49,9 @@ fn open<F: Files, D: Dial>(
     files: &mut F,
     dial: &D,
     store: &Location,
-) -> Result<AnySource<F::Look, D>, Outcome>
-    ensures ok { IfOk result (IsSourceAt (files_in F.Look.files) (location_in F.Look.place)
-        (faults_in F.Look.faults D.state) (F.disk files.old).folders store.now) }
+) -> Result<AnyStore<F::Look, D>, Outcome>
+    ensures ok { IfOk result (IsSourceAt (source_files F.Look.files) (location_in F.Look.place)
+        (source_faults F.Look.faults D.state) (F.disk files.old).folders store.now) }
     ensures unused { IfOk result (IsUnused D.state) }
     ensures known { IfOk result (λ s. IsKnown (F.disk files.new).folder_counts (location_in F.Look.place s)) }
     ensures err { IfErr result (Unreached (F.disk files.old) (F.disk files.new) store.now) }
@@ -59,18 +59,18 @@ fn open<F: Files, D: Dial>(
 {
     match store {
         Location::Folder(name) => match files.look(name.as_str()) {
-            Ok(look) => Ok(AnySource::Folder(DirStore::new(look))),
+            Ok(look) => Ok(AnyStore::Folder(DirStore::new(look))),
             Err(fault) => Err(not_reached(alloc, name.as_str(), fault)),
         },
         Location::Http { host, port, prefix } => {
             let store = server(alloc, dial, host.as_str(), *port, prefix.as_str())?;
-            Ok(AnySource::Http(store))
+            Ok(AnyStore::Http(store))
         }
     }
 }
 
 // Gives one back. What a server's store has dialed and counted is joined.
-fn close<F: Files, D: Dial>(files: &mut F, dial: &mut D, store: AnySource<F::Look, D>)
+fn close<F: Files, D: Dial>(files: &mut F, dial: &mut D, store: AnyStore<F::Look, D>)
     requires known { IsKnown (F.disk files.old).folder_counts (location_in F.Look.place store) }
     ensures kept { ConsultsStores (location_in F.Look.place store ∷ [])
         (sources (F.disk files.old) (D.state dial.old)) (sources (F.disk files.new) (D.state dial.new)) }
@@ -80,24 +80,24 @@ fn close<F: Files, D: Dial>(files: &mut F, dial: &mut D, store: AnySource<F::Loo
         (sources (F.disk files.old) (D.state dial.old)) (sources (F.disk files.new) (D.state dial.new)) store }
 {
     match store {
-        AnySource::Folder(store) => files.end_look(store.into_inner()),
-        AnySource::Http(store) => dial.join(store.into_dial()),
+        AnyStore::Folder(store) => files.end_look(store.into_inner()),
+        AnyStore::Http(store) => dial.join(store.into_dial()),
     }
 }
 
 // Lets one go that was never asked.
-fn drop_unasked<F: Files, D: Dial>(files: &mut F, store: AnySource<F::Look, D>)
+fn drop_unasked<F: Files, D: Dial>(files: &mut F, store: AnyStore<F::Look, D>)
     requires known { IsKnown (F.disk files.old).folder_counts (location_in F.Look.place store) }
     ensures kept { Reads (F.disk files.old) (F.disk files.new) }
 {
     match store {
-        AnySource::Folder(store) => files.end_look(store.into_inner()),
-        AnySource::Http(_) => (),
+        AnyStore::Folder(store) => files.end_look(store.into_inner()),
+        AnyStore::Http(_) => (),
     }
 }
 
 /// Lets all of them go that were never asked.
-pub fn drop_sources<F: Files, D: Dial>(files: &mut F, mut stores: Vec<AnySource<F::Look, D>>)
+pub fn drop_sources<F: Files, D: Dial>(files: &mut F, mut stores: Vec<AnyStore<F::Look, D>>)
     requires known { All (IsKnown (F.disk files.old).folder_counts) (map (location_in F.Look.place) stores.items) }
     ensures kept { Reads (F.disk files.old) (F.disk files.new) }
 {
@@ -113,8 +113,8 @@ pub fn drop_sources<F: Files, D: Dial>(files: &mut F, mut stores: Vec<AnySource<
 // Appends the store, or lets it go.
 fn keep<F: Files, D: Dial>(
     files: &mut F,
-    store: AnySource<F::Look, D>,
-    stores: &mut Vec<AnySource<F::Look, D>>,
+    store: AnyStore<F::Look, D>,
+    stores: &mut Vec<AnyStore<F::Look, D>>,
 ) -> Result<(), Outcome>
     requires known { IsKnown (F.disk files.old).folder_counts (location_in F.Look.place store) }
     ensures ok { OnOk result (stores.new.items ≡ stores.old.items ++ store ∷ []) }
@@ -137,13 +137,13 @@ fn open_each<F: Files, D: Dial>(
     files: &mut F,
     dial: &D,
     names: &[Location],
-    stores: &mut Vec<AnySource<F::Look, D>>,
+    stores: &mut Vec<AnyStore<F::Look, D>>,
 ) -> Result<(), Outcome>
     requires known { All (IsKnown (F.disk files.old).folder_counts)
         (map (location_in F.Look.place) stores.old.items) }
     requires unused { All (IsUnused D.state) stores.old.items }
-    ensures ok { OnOk result (OpensSources (files_in F.Look.files) (location_in F.Look.place)
-        (faults_in F.Look.faults D.state) (F.disk files.old).folders names.now stores.old.items stores.new.items) }
+    ensures ok { OnOk result (OpensSources (source_files F.Look.files) (location_in F.Look.place)
+        (source_faults F.Look.faults D.state) (F.disk files.old).folders names.now stores.old.items stores.new.items) }
     ensures err { IfErr result (FirstUnreached (F.disk files.old) (F.disk files.new) names.now) }
     ensures known { All (IsKnown (F.disk files.new).folder_counts)
         (map (location_in F.Look.place) stores.new.items) }
@@ -166,12 +166,12 @@ pub fn open_sources<F: Files, D: Dial>(
     files: &mut F,
     dial: &D,
     names: &[Location],
-) -> Result<Vec<AnySource<F::Look, D>>, Outcome>
+) -> Result<Vec<AnyStore<F::Look, D>>, Outcome>
     ensures there { OnOk result (AllThere (F.disk files.old) names.now) }
     ensures found { IfOk result (λ v. IfSome (F.disk files.old).folders (λ m.
-        map (files_in F.Look.files) v.items ≡ map (told_at m) names.now)) }
+        map (source_files F.Look.files) v.items ≡ map (location_files m) names.now)) }
     ensures located { IfOk result (λ v. map (location_in F.Look.place) v.items ≡ names.now) }
-    ensures fresh { IfOk result (λ v. map (faults_in F.Look.faults D.state) v.items ≡ map (λ q. 0) names.now) }
+    ensures fresh { IfOk result (λ v. map (source_faults F.Look.faults D.state) v.items ≡ map (λ q. 0) names.now) }
     ensures unused { IfOk result (λ v. All (IsUnused D.state) v.items) }
     ensures known { OnOk result (All (IsKnown (F.disk files.new).folder_counts) names.now) }
     ensures err { IfErr result (FirstUnreached (F.disk files.old) (F.disk files.new) names.now) }
@@ -191,7 +191,7 @@ pub fn open_sources<F: Files, D: Dial>(
 pub fn close_sources<F: Files, D: Dial>(
     files: &mut F,
     dial: &mut D,
-    mut stores: Vec<AnySource<F::Look, D>>,
+    mut stores: Vec<AnyStore<F::Look, D>>,
 )
     requires known { All (IsKnown (F.disk files.old).folder_counts) (map (location_in F.Look.place) stores.items) }
     ensures kept { ConsultsStores (map (location_in F.Look.place) stores.items)

@@ -1,7 +1,7 @@
 //! What words name as stores, and why their folders weren't reached.
 
 ghost use Rattle.std.specs.Prelude.{◌≡◌};
-ghost use Rattle.command_steps.specs.Stores.{Refuses, name_of};
+ghost use Rattle.command_steps.specs.Stores.{RefusesOpening, folder_name};
 
 use command_outcome::outcome::Outcome;
 use command_words::command::Location;
@@ -11,7 +11,7 @@ use std::alloc::Global;
 
 // The name of a store's folder.
 pub(crate) fn name_of(store: &Location) -> &str
-    ensures { result.now ≡ name_of store.now }
+    ensures { result.now ≡ folder_name store.now }
 {
     match store {
         Location::Folder(name) => name.as_str(),
@@ -21,7 +21,7 @@ pub(crate) fn name_of(store: &Location) -> &str
 
 // The outcome where a folder isn't reached.
 pub(crate) fn not_reached(alloc: Global, name: &str, fault: OpenFault) -> Outcome
-    ensures { Refuses name.now fault result }
+    ensures { RefusesOpening name.now fault result }
 {
     let Ok(name) = Name::of(alloc, name) else {
         return Outcome::Memory;

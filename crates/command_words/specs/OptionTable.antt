@@ -94,8 +94,8 @@ command_rows =
     ∷ []
 
 -- what the first row says that passes the test
-abbrev pub first : {R T : Type 0} → (R → Bool) → (R → T) → List R → Option T
-first passes says rows = option_map says (find passes rows)
+abbrev pub first_row : {R T : Type 0} → (R → Bool) → (R → T) → List R → Option T
+first_row passes says rows = option_map says (find passes rows)
 
 -- ---- options
 
@@ -108,11 +108,11 @@ option_number = tag_of an_option.the_type
 
 -- the option that is spelled so in one letter, or has this one spelling
 unfoldable pub short_named : List ℕ → Option OptionKind
-short_named w = first (λ row. bytes_eq w row.1) (λ row. row.0) option_rows
+short_named w = first_row (λ row. bytes_eq w row.1) (λ row. row.0) option_rows
 
 -- the option that is spelled so in words
 unfoldable pub long_named : List ℕ → Option OptionKind
-long_named w = first (λ row. bytes_eq w row.2) (λ row. row.0) option_rows
+long_named w = first_row (λ row. bytes_eq w row.2) (λ row. row.0) option_rows
 
 -- the option that is spelled so
 abbrev pub option_named : List ℕ → Option OptionKind
@@ -120,7 +120,7 @@ option_named w = option_or (short_named w) (long_named w)
 
 -- the next word is the option's value
 unfoldable pub takes_value : OptionKind → Bool
-takes_value o = unwrap_or (first (λ row. same_option row.0 o) (λ row. row.3) option_rows) false
+takes_value o = unwrap_or (first_row (λ row. same_option row.0 o) (λ row. row.3) option_rows) false
 
 -- ---- commands
 
@@ -129,15 +129,15 @@ same_command = sameb a_command.the_type
 
 -- the command that is called so
 unfoldable pub command_named : List ℕ → Option CommandKind
-command_named w = first (λ row. bytes_eq w row.1) (λ row. row.0) command_rows
+command_named w = first_row (λ row. bytes_eq w row.1) (λ row. row.0) command_rows
 
 abbrev pub times_among : OptionKind → List (OptionKind × Times) → Times
-times_among o options = unwrap_or (first (λ p. same_option p.0 o) (λ p. p.1) options) (times 0 0)
+times_among o options = unwrap_or (first_row (λ p. same_option p.0 o) (λ p. p.1) options) (times 0 0)
 
 -- how often the command takes the option
 unfoldable pub times_of : CommandKind → OptionKind → Times
-times_of k o = unwrap_or (first (λ row. same_command row.0 k) (λ row. times_among o row.2) command_rows) (times 0 0)
+times_of k o = unwrap_or (first_row (λ row. same_command row.0 k) (λ row. times_among o row.2) command_rows) (times 0 0)
 
 -- what the command takes beside its options
 unfoldable pub takes_of : CommandKind → Takes
-takes_of k = unwrap_or (first (λ row. same_command row.0 k) (λ row. row.3) command_rows) (names 0 0)
+takes_of k = unwrap_or (first_row (λ row. same_command row.0 k) (λ row. row.3) command_rows) (names 0 0)

@@ -45,15 +45,15 @@ role_number (role.Given o) = 3 + 2 * option_number o
 role_number (role.Value o) = 4 + 2 * option_number o
 
 -- how many words have the role
-abbrev pub count_of : Role → List Role → ℕ
-count_of r roles = count_by (λ q. role_number q == role_number r) roles
+abbrev pub times_of_role : Role → List Role → ℕ
+times_of_role r roles = count_by (λ q. role_number q == role_number r) roles
 
 -- what a word is after words of these roles: the value that is to come, after `--` an operand, else what it is by
 -- itself
 abbrev pub role_of : CommandKind → List Role → List ℕ → Role
 role_of k before w = elim (awaited before) [
   | Some o ↦ role.Value o
-  | None ↦ if nat_lt 0 (count_of role.Dashes before) then role.Operand else spelled_role k w
+  | None ↦ if nat_lt 0 (times_of_role role.Dashes before) then role.Operand else spelled_role k w
 ]
 
 -- the roles of the words, each by those before it

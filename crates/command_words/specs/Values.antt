@@ -23,12 +23,12 @@ abbrev at_least : ℕ → Option ℕ → Option ℕ
 at_least least None = None
 at_least least (Some n) = if nat_le least n then Some n else None
 
-abbrev pub number_of : ℕ → ℕ → List ℕ → Option ℕ
-number_of least most w = at_least least (number_up_to most w)
+abbrev pub number_in_word : ℕ → ℕ → List ℕ → Option ℕ
+number_in_word least most w = at_least least (number_up_to most w)
 
 -- workers, by -n
 abbrev pub workers_of : List ℕ → Option ℕ
-workers_of w = number_of 1 32 w
+workers_of w = number_in_word 1 32 w
 
 -- what stands before and after the first c
 abbrev pub split_at : ℕ → List ℕ → Option (List ℕ × List ℕ)
@@ -36,7 +36,7 @@ split_at c w = option_map (λ k. (take k w, drop (k + 1) w)) (position (λ b. b 
 
 -- the bytes of a number of KiB
 abbrev pub kib_of : List ℕ → Option ℕ
-kib_of w = option_map (λ n. n * 1024) (number_of 0 9999999 w)
+kib_of w = option_map (λ n. n * 1024) (number_in_word 0 9999999 w)
 
 abbrev three : Option ℕ → Option ℕ → Option ℕ → Option (List ℕ)
 three None b c = None
@@ -59,7 +59,7 @@ split_at_last c w = option_map (λ k. (take k w, drop (k + 1) w)) (rfind_below c
 abbrev pub listen_of : List ℕ → Option (List ℕ × ℕ)
 listen_of w = elim (split_at_last 58 w) [
   | None ↦ None
-  | Some p ↦ option_map (λ n. (p.0, n)) (number_of 1 65535 p.1)
+  | Some p ↦ option_map (λ n. (p.0, n)) (number_in_word 1 65535 p.1)
 ]
 
 -- the name of a seed's index ends in `.caibx` and has more before it

@@ -5,7 +5,7 @@
 
 ghost use Rattle.std.specs.Prelude.{◌≡◌, ◌<◌, false, map, unwrap_or};
 ghost use Rattle.std.specs.Str.{bytes_eq};
-ghost use Rattle.command_words.specs.OptionTable.{first, times, names, same_option, same_command, option_number};
+ghost use Rattle.command_words.specs.OptionTable.{first_row, times, names, same_option, same_command, option_number};
 ghost use Rattle.command_words.specs.OptionTable.{option_rows, command_rows, takes_value, short_named, long_named};
 ghost use Rattle.command_words.specs.OptionTable.{option_named, command_named, times_among, times_of, takes_of};
 
@@ -167,21 +167,21 @@ fn commands() -> &'static [CommandRow]
 }
 
 fn short_among(rows: &[OptionRow], word: &str) -> Option<OptionKind>
-    ensures { result ≡ first (λ row. bytes_eq word.now row.1.now) (λ row. row.0) rows.now }
+    ensures { result ≡ first_row (λ row. bytes_eq word.now row.1.now) (λ row. row.0) rows.now }
 {
     let row = rows.iter().find(|row| word == row.1)?;
     Some(row.0)
 }
 
 fn long_among(rows: &[OptionRow], word: &str) -> Option<OptionKind>
-    ensures { result ≡ first (λ row. bytes_eq word.now row.2.now) (λ row. row.0) rows.now }
+    ensures { result ≡ first_row (λ row. bytes_eq word.now row.2.now) (λ row. row.0) rows.now }
 {
     let row = rows.iter().find(|row| word == row.2)?;
     Some(row.0)
 }
 
 fn value_among(rows: &[OptionRow], option: OptionKind) -> bool
-    ensures { result ≡ unwrap_or (first (λ row. same_option row.0 option) (λ row. row.3) rows.now) false }
+    ensures { result ≡ unwrap_or (first_row (λ row. same_option row.0 option) (λ row. row.3) rows.now) false }
 {
     match rows.iter().find(|row| row.0 == option) {
         Some(row) => row.3,
@@ -190,7 +190,7 @@ fn value_among(rows: &[OptionRow], option: OptionKind) -> bool
 }
 
 fn command_among(rows: &[CommandRow], word: &str) -> Option<CommandKind>
-    ensures { result ≡ first (λ row. bytes_eq word.now row.1.now) (λ row. row.0) rows.now }
+    ensures { result ≡ first_row (λ row. bytes_eq word.now row.1.now) (λ row. row.0) rows.now }
 {
     let row = rows.iter().find(|row| word == row.1)?;
     Some(row.0)
@@ -206,7 +206,7 @@ fn times_among(option: OptionKind, options: &[(OptionKind, Times)]) -> Times
 }
 
 fn times_by(rows: &[CommandRow], kind: CommandKind, option: OptionKind) -> Times
-    ensures { let named = first (λ row. same_command row.0 kind) (λ row. times_among option row.2.now) rows.now in
+    ensures { let named = first_row (λ row. same_command row.0 kind) (λ row. times_among option row.2.now) rows.now in
         result ≡ unwrap_or named (times 0 0) }
 {
     match rows.iter().find(|row| row.0 == kind) {
@@ -216,7 +216,7 @@ fn times_by(rows: &[CommandRow], kind: CommandKind, option: OptionKind) -> Times
 }
 
 fn takes_by(rows: &[CommandRow], kind: CommandKind) -> Takes
-    ensures { result ≡ unwrap_or (first (λ row. same_command row.0 kind) (λ row. row.3) rows.now) (names 0 0) }
+    ensures { result ≡ unwrap_or (first_row (λ row. same_command row.0 kind) (λ row. row.3) rows.now) (names 0 0) }
 {
     match rows.iter().find(|row| row.0 == kind) {
         Some(row) => row.3,

@@ -2,7 +2,7 @@
 
 ghost use Rattle.std.specs.Prelude.{◌≡◌, ◌<◌, ℕ, List, [], length, map, string_bytes, slice_index_or, IfOk};
 ghost use Rattle.command_words.specs.Roles.{option_of, option_role, spelled_role, opens, awaited, role_of, role_number};
-ghost use Rattle.command_words.specs.Roles.{count_of};
+ghost use Rattle.command_words.specs.Roles.{times_of_role};
 ghost use Rattle.command_words.specs.Roles.{words_as, word_as};
 
 use crate::option_table::{CommandKind, OptionKind, option_named};
@@ -114,7 +114,7 @@ pub fn role_of(kind: CommandKind, before: &[Role], word: &str) -> Role
 
 /// How many words have the role.
 pub fn count_of(role: Role, roles: &[Role]) -> usize
-    ensures { result ≡ count_of role roles.now }
+    ensures { result ≡ times_of_role role roles.now }
 {
     let number = role.number();
     roles

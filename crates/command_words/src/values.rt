@@ -4,7 +4,8 @@ ghost use Rattle.std.specs.Prelude.{◌≡◌, ◌<◌, ◌≤◌, ◌^◌, ◌�
 ghost use Rattle.std.specs.Prelude.{◌==◌};
 ghost use Rattle.std.specs.Path.{rfind_below};
 ghost use Rattle.std.specs.Str.{IsCharBoundary};
-ghost use Rattle.command_words.specs.Values.{with_digit, with_digits, number_up_to, number_of, workers_of, split_at};
+ghost use Rattle.command_words.specs.Values.{with_digit, with_digits, number_up_to, number_in_word, workers_of};
+ghost use Rattle.command_words.specs.Values.{split_at};
 ghost use Rattle.command_words.specs.Values.{kib_of, sizes_of, listen_of, is_seed};
 
 // The number that a digit makes of the digits before it.
@@ -50,7 +51,7 @@ fn number_up_to(most: u64, word: &[u8]) -> Option<u64>
 
 /// The number from `least` to `most` that the word is.
 pub fn number(least: u64, most: u64, word: &[u8]) -> Option<u64>
-    ensures value { result ≡ number_of least most word.now }
+    ensures value { result ≡ number_in_word least most word.now }
     ensures size { IfSome result (λ n. n ≤ most) }
 {
     let n = number_up_to(most, word)?;

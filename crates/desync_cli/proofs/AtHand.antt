@@ -23,7 +23,7 @@ use Rattle.command_outcome.specs.declared.outcome.Outcome.TheVariants as ends
 use Rattle.command_steps.proofs.Cached.{cache_reads}
 use Rattle.command_steps.proofs.Numbers.{rose_longer, rose_not_quiet}
 use Rattle.command_steps.specs.Cache.{CacheOpened}
-use Rattle.command_steps.specs.Openings.{IsBad, IsListed, Listed, NotRead}
+use Rattle.command_steps.specs.InputFiles.{IsBad, IsListed, Listed, NotRead}
 use Rattle.command_steps.specs.Seeds.{IndexesRead, NoneListed, image_name, items_with}
 use Rattle.command_steps.specs.Sources.{FirstUnreached, HaveLacked, IsThere, Sources, SourcesOpened, StoreRose, Unreached, files_at, said_at, sources}
 use Rattle.command_worlds.specs.Steps.{◌>>=◌, outcome_of}
@@ -34,10 +34,10 @@ use Rattle.command_words.specs.declared.command.Command.TheVariants as commands
 use Rattle.command_words.specs.declared.command.Location.{Location}
 use Rattle.command_words.specs.declared.command.Location.TheVariants as locations
 use Rattle.desync_cli.proofs.Fair.{begun, if_any, if_some}
-use Rattle.desync_cli.specs.AtHand.{EndsAtHand, GivesEntry, IsAtHand, ListsOneSize, NeedsNoServer, into, near}
+use Rattle.desync_cli.specs.AtHand.{EndsAtHand, StoreGivesEntry, IsAtHand, ListsOneSize, NeedsNoServer, into, near}
 use Rattle.command_line.specs.CommandLine.{command_line}
 use Rattle.command_words.specs.declared.usage.WordsFault.{WordsFault}
-use Rattle.desync_cli.specs.Commands.{DesyncEnds, Ends, NoCommand, command_of, refusal_in, said_in}
+use Rattle.desync_cli.specs.Commands.{DesyncEnds, CommandEnds, NoCommand, command_of, refusal_in, command_said}
 use Rattle.dsy_base.proofs.Counts.{at_same}
 use Rattle.dsy_base.specs.Disk.{Disk}
 use Rattle.dsy_base.specs.Links.{DialState}
@@ -46,7 +46,7 @@ use Rattle.extract_plan.specs.Places.{seed_item_limit}
 use Rattle.image_commands.proofs.Wrote.{wrote_on}
 use Rattle.image_commands.specs.Extract.{Assembled, CacheFilled, CacheGrows, CacheLacksEntry, ExtractEnds, FillsCache, HadFrom, ImageMade, Into, IsLacking, KeepsIn, NotRenamed, OutMade, Renamed, Seeds, Told, WhereFolders, beside, folder_of, in_place, temporary_out}
 use Rattle.store_chain.specs.Refusals.{HasShown, Lacks}
-use Rattle.store_chain.specs.Wants.{ShowsElse}
+use Rattle.store_chain.specs.Queries.{ShowsElse}
 use Rattle.store_chain.specs.declared.refused.Refused.{Refused}
 use Rattle.store_chain.specs.declared.refused.Refused.TheVariants as refused
 use Rattle.store_commands.specs.Serving.{Heard}
@@ -190,7 +190,7 @@ module _ (w v : Sources) (none : NoneRose w.disk v.disk) (b : Map (List ℕ)) (n
     (stores : List Location) (cache : Option (List ℕ)) (out : Into) (l : Listing) (x : Seeds) where
   module _ (k : ℕ) (listed : k < count_of l) (id : ChunkId) (id_is : id.0 ≡ id_of l k) where
     abbrev Gives : Location → Type 0
-    Gives = GivesEntry n l k
+    Gives = StoreGivesEntry n l k
 
     -- what gives it isn't lacking
     lacking_not : (s : Location) → LacksEntry l k (said_at w v s) → Gives s → ⊥
@@ -405,7 +405,7 @@ fine : (c : Command) (d : Disk) (o : Outcome) → (o ≡ ends.Done) ⊎ (o ≡ e
 fine (commands.Extract stores seeds cache place workers index target) d o is = if_any d.files _ (λ b. if_any d.folders _ (λ n. λ no. is))
 fine other d o is = tt
 
-refused_at_hand : (c : Command) (k : Heard) (w v : World) (o : Outcome) → DiskQuiet w.disk v.disk → Ends k c w (Err o) v → EndsAtHand c w.disk o
+refused_at_hand : (c : Command) (k : Heard) (w v : World) (o : Outcome) → DiskQuiet w.disk v.disk → CommandEnds k c w (Err o) v → EndsAtHand c w.disk o
 refused_at_hand (commands.Extract stores seeds cache place workers index target) k w v o quiet h = go w.disk.files w.disk.folders refl refl where
   go : (f : Option (Map (List ℕ))) (g : Option (Map (Map (List ℕ)))) → w.disk.files ≡ f → w.disk.folders ≡ g → IfSome f (λ b. IfSome g (λ n. NeedsNoServer b n stores cache seeds (into place target) index → (o ≡ ends.Done) ⊎ (o ≡ ends.Memory)))
   go None g is y = tt
@@ -415,7 +415,7 @@ refused_at_hand other k w v o quiet h = tt
 
 words_refused : (words : List (List ℕ)) (d : Disk) (o : Outcome) → NoCommand words o → IfSome (command_of words) (λ c. EndsAtHand c d o)
 words_refused words d (ends.Usage place why) h = go (command_line words) h where
-  go : (r : Result Command WordsFault) → refusal_in r ≡ Some (place, why) → IfSome (said_in r) (λ c. EndsAtHand c d (ends.Usage place why))
+  go : (r : Result Command WordsFault) → refusal_in r ≡ Some (place, why) → IfSome (command_said r) (λ c. EndsAtHand c d (ends.Usage place why))
   go (Ok c) is = absurd (none-some _ is)
   go (Err fault) is = tt
 words_refused words d ends.Memory h = if_any (command_of words) _ (λ c. fine c d ends.Memory (inr refl))

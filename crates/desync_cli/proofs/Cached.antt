@@ -5,7 +5,7 @@ use Rattle.std.specs.List.{All, AllZip}
 use Rattle.std.specs.Option.{option_map}
 use Rattle.caibx_codec.specs.Listing.{Listing, count_of, id_of, kind_of}
 use Rattle.chunk_store.specs.Folders.{chunks}
-use Rattle.command_steps.specs.Openings.{IsListed}
+use Rattle.command_steps.specs.InputFiles.{IsListed}
 use Rattle.command_steps.specs.Sources.{sources, sources_of}
 use Rattle.command_worlds.specs.Worlds.{World}
 use Rattle.command_words.specs.declared.command.Location.{Location}

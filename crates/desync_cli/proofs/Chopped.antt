@@ -4,7 +4,7 @@ use Rattle.std.specs.Option.{option_map}
 use Rattle.caibx_codec.specs.Listing.{Listing, count_of}
 use Rattle.caibx_codec.specs.Right.{IsRight}
 use Rattle.chunk_store.specs.Folders.{chunks}
-use Rattle.command_steps.specs.Openings.{IsListed}
+use Rattle.command_steps.specs.InputFiles.{IsListed}
 use Rattle.command_steps.specs.Sources.{said_at, sources, sources_of}
 use Rattle.command_worlds.specs.Worlds.{World}
 use Rattle.command_words.specs.declared.command.Location.{Location}

@@ -6,7 +6,7 @@ use Rattle.command_worlds.specs.Steps.{answer_of, outcome_of}
 use Rattle.command_worlds.specs.Worlds.{World}
 use Rattle.command_words.specs.declared.command.Command.{Command}
 use Rattle.command_words.specs.declared.command.Command.TheVariants as commands
-use Rattle.desync_cli.specs.Commands.{Achieves, DesyncEnds, Ends, command_of}
+use Rattle.desync_cli.specs.Commands.{Achieves, DesyncEnds, CommandEnds, command_of}
 use Rattle.store_commands.specs.Serving.{Heard}
 use Rattle.desync_cli.proofs.Fair.{answered, begun, if_some}
 use Rattle.desync_cli.proofs.Cached.{cached}
@@ -16,7 +16,7 @@ use Rattle.desync_cli.proofs.Made.{made}
 use Rattle.desync_cli.proofs.Pruned.{pruned_to, verified_store}
 use Rattle.desync_cli.proofs.Verified.{verified}
 
-achieves : (k : Heard) (c : Command) (w v : World) → is_some w.disk.files ≡ is_some w.disk.folders → Ends k c w (Ok tt) v → Achieves k c w v
+achieves : (k : Heard) (c : Command) (w v : World) → is_some w.disk.files ≡ is_some w.disk.folders → CommandEnds k c w (Ok tt) v → Achieves k c w v
 achieves k (commands.Make store sizes workers index image) w v told h = made store sizes index image w v told h
 achieves k (commands.Extract stores seeds cache in_place workers index target) w v told h = extracted stores cache seeds in_place index target w v told h
 achieves k (commands.VerifyIndex index image) w v told h = verified index image w v h

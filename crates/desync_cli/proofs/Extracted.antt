@@ -4,7 +4,7 @@ use Rattle.caibx_codec.specs.Listing.{Listing, count_of}
 use Rattle.caibx_codec.specs.Right.{IsRight}
 use Rattle.command_words.specs.declared.command.Location.{Location}
 use Rattle.command_steps.proofs.Cached.{cache_reads}
-use Rattle.command_steps.specs.Openings.{IsListed}
+use Rattle.command_steps.specs.InputFiles.{IsListed}
 use Rattle.command_steps.specs.Seeds.{image_name}
 use Rattle.command_worlds.specs.Worlds.{World}
 use Rattle.image_commands.specs.Extract.{ExtractEnds, HadFrom, Into, IsExtracted, KeepsIn, Seeds, WhereFolders, beside, folder_of, in_place, temporary_out}

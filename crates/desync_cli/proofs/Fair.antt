@@ -24,7 +24,7 @@ use Rattle.command_steps.proofs.Fair.{IsFair, IsLeft, IsRefusal, IsStep, Unread,
 use Rattle.command_steps.proofs.Numbers.{rose_not_quiet}
 use Rattle.store_commands.specs.Caching.{FillTells, IndexesFilled, NotFilled, of_command, outcome_of_fill}
 use Rattle.image_commands.specs.Chop.{ImageChopped}
-use Rattle.desync_cli.specs.Commands.{DesyncEnds, Ends, NoCommand, TellsRefusal, WordsRead, command_of, parts, refusal_in, refusal_of, said_in, spares}
+use Rattle.desync_cli.specs.Commands.{DesyncEnds, CommandEnds, NoCommand, TellsRefusal, WordsRead, command_of, parts, refusal_in, usage_refusal, command_said, spares}
 use Rattle.store_commands.specs.Demo.{Rehearsed}
 use Rattle.image_commands.proofs.Wrote.{wrote_on}
 use Rattle.image_commands.specs.Extract.{CacheFilled, Clearing, FillsCache, ImageMade, Into, OutMade, Renamed, Seeds, beside, in_place, temporary_out}
@@ -289,7 +289,7 @@ rehearsed_fair x number size other w v h = absurd h
 
 -- ---- the commands
 
-command_step : (h : Heard) (c : Command) → IsStep whole (spares c) (parts h c) (Ends h c)
+command_step : (h : Heard) (c : Command) → IsStep whole (spares c) (parts h c) (CommandEnds h c)
 command_step h (commands.Make store sizes workers index image) = bound (pure_step (SizesJudged sizes) (judged_fair (parts h (commands.Make store sizes workers index image)) sizes)) (λ z. bound (on_disk (λ p. image_step _ _ p)) (λ told. bound (on_disk (λ p. source_taken_step _ _ _ _ p store)) (λ held. bound (on_sources (λ p. stored_step _ p store refl _ _ z told held)) (λ bytes. on_disk (λ p. written_step _ _ _ _ p index bytes)))))
 command_step h (commands.VerifyIndex index image) = bound (on_disk (λ p. index_step _ _ p index)) (λ l. bound (on_disk (λ p. image_step _ _ p)) (λ told. on_disk (λ p. checked_step _ _ p l told)))
 command_step h (commands.Chop store index image) = bound (on_disk (λ p. index_step _ _ p index)) (λ l. bound (on_disk (λ p. image_step _ _ p)) (λ told. bound (on_disk (λ p. source_taken_step _ _ _ _ p store)) (λ held. on_sources (λ p. chopped_step _ p store refl _ _ l told held))))
@@ -312,8 +312,8 @@ none_such h = absurd (cc)
 -- ---- what the top call says
 
 -- the command began where the words were read
-pub begun : (k : Heard) (words : List (List ℕ)) (w v : World) (r : Result Unit Outcome) → Passed (WordsRead words) (Ends k) w r v → (c : Command) × (command_of words ≡ Some c) × Ends k c w r v
-begun k words w v r h = (h.gave, h.did.0, subst (λ u. Ends k h.gave u r v) h.did.1 h.then)
+pub begun : (k : Heard) (words : List (List ℕ)) (w v : World) (r : Result Unit Outcome) → Passed (WordsRead words) (CommandEnds k) w r v → (c : Command) × (command_of words ≡ Some c) × CommandEnds k c w r v
+begun k words w v r h = (h.gave, h.did.0, subst (λ u. CommandEnds k h.gave u r v) h.did.1 h.then)
 
 pub if_some : {X : Type 0} (o : Option X) (P : X → Type 0) (x : X) → o ≡ Some x → P x → IfSome o P
 if_some o P x is p = subst (λ r. IfSome r P) (sym is) p
@@ -405,21 +405,21 @@ nothing_failed k words w v (Err o) (inr h) n heard taken =
     let b = begun k words w v (Err o) h in
     quiet (parts k b.0) w v o n (quiet_listener k b.0 heard) (subst (λ c. IfSome c (λ c. All (RepliesTaken w v) (parts k c).stores)) b.1 taken) ((command_step k b.0).fair w v o b.2).1
 
-unrefused : (r : Result Command WordsFault) (c : Command) → said_in r ≡ Some c → refusal_in r ≡ None
+unrefused : (r : Result Command WordsFault) (c : Command) → command_said r ≡ Some c → refusal_in r ≡ None
 unrefused (Ok d) c h = refl
 unrefused (Err e) c h = absurd (cc)
 
-words_tell : (words : List (List ℕ)) (o : Outcome) → NoCommand words o → TellsRefusal (refusal_of words) o
+words_tell : (words : List (List ℕ)) (o : Outcome) → NoCommand words o → TellsRefusal (usage_refusal words) o
 words_tell words (ends.Usage place why) h = h
 words_tell words ends.Memory h = tt
 words_tell words other h = absurd h
 
-command_tells : (words : List (List ℕ)) (o : Outcome) → IsRefusal o → refusal_of words ≡ None → TellsRefusal (refusal_of words) o
+command_tells : (words : List (List ℕ)) (o : Outcome) → IsRefusal o → usage_refusal words ≡ None → TellsRefusal (usage_refusal words) o
 command_tells words (ends.Usage place why) r h = absurd r
 command_tells words ends.Memory r h = tt
 command_tells words other r h = h
 
-pub tells_refusal : (k : Heard) (words : List (List ℕ)) (w v : World) (r : Result Unit Outcome) → DesyncEnds k words w r v → TellsRefusal (refusal_of words) (outcome_of r)
+pub tells_refusal : (k : Heard) (words : List (List ℕ)) (w v : World) (r : Result Unit Outcome) → DesyncEnds k words w r v → TellsRefusal (usage_refusal words) (outcome_of r)
 tells_refusal k words w v (Ok u) h = unrefused (command_line words) h.gave h.did.0
 tells_refusal k words w v (Err o) (inl h) = words_tell words o h.0
 tells_refusal k words w v (Err o) (inr h) = command_tells words o ((command_step k h.gave).fair (between h) v o h.then).0 (unrefused (command_line words) h.gave h.did.0)

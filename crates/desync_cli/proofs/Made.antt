@@ -10,7 +10,7 @@ use Rattle.command_steps.specs.Sources.{said_at, sources, sources_of}
 use Rattle.command_worlds.specs.Worlds.{World}
 use Rattle.command_words.specs.declared.command.Location.{Location}
 use Rattle.command_words.specs.declared.command.Location.TheVariants as locations
-use Rattle.image_commands.specs.Make.{FolderHas, IsMade, MadeOf, MakeEnds, StoreHas, sizes_of}
+use Rattle.image_commands.specs.Make.{FolderHas, IsMade, MadeOf, MakeEnds, StoreHas, cut_sizes_of}
 use Rattle.dsy_base.proofs.Counts.{at_same}
 use Rattle.dsy_base.specs.Disk.{Disk}
 use Rattle.dsy_base.specs.Maps.{Map, at_name}
@@ -27,7 +27,7 @@ others_stay l t old new stands id other = elim (stands id) [
 module _ (sizes q index image : List ℕ) (bytes : List ℕ) where
   -- what storing says of the folder, over the folders among which it was taken
   abbrev Given : Option (List ℕ) → Option (Map (List ℕ)) → Option (Map (Map (List ℕ))) → Option (Map (Map (List ℕ))) → Type 0
-  Given told held y1 y2 = IfSome y1 (λ m. IfSome held (λ f. (g : Map (List ℕ)) × (y2 ≡ Some (at_name m q (Some g))) × MadeOf (sizes_of sizes) told (Ok bytes) f g))
+  Given told held y1 y2 = IfSome y1 (λ m. IfSome held (λ f. (g : Map (List ℕ)) × (y2 ≡ Some (at_name m q (Some g))) × MadeOf (cut_sizes_of sizes) told (Ok bytes) f g))
 
   in_folder : (x : Option (Map (List ℕ))) (y : Option (Map (Map (List ℕ)))) (told : Option (List ℕ)) (held : Option (Map (List ℕ))) (z : Option (Map (List ℕ))) (y2 : Option (Map (Map (List ℕ)))) → is_some x ≡ is_some y
       → IfSome x (λ m. (t : List ℕ) × (m image ≡ Some t) × (told ≡ Some t)) → IfSome y (λ m. (f : Map (List ℕ)) × (m q ≡ Some f) × (held ≡ Some f))
@@ -62,7 +62,7 @@ module _ (sizes q index image : List ℕ) (bytes : List ℕ) where
 
 module _ (sizes index image : List ℕ) (bytes : List ℕ) (said : Said) where
   on_server : (x : Option (Map (List ℕ))) (told : Option (List ℕ)) (z : Option (Map (List ℕ))) → IfSome x (λ m. (t : List ℕ) × (m image ≡ Some t) × (told ≡ Some t)) → z ≡ option_map (λ m. at_name m index (Some bytes)) x
-      → SaysOf (sizes_of sizes) told bytes said → IfSome x (λ b. IfSome z (λ a. (l : Listing) × IsMade b a sizes index image l × SaysAll l (count_of l) said))
+      → SaysOf (cut_sizes_of sizes) told bytes said → IfSome x (λ b. IfSome z (λ a. (l : Listing) × IsMade b a sizes index image l × SaysAll l (count_of l) said))
   on_server None told z there written says = tt
   on_server (Some b) told None there written says = tt
   on_server (Some b) told (Some a) there written says =
@@ -71,7 +71,7 @@ module _ (sizes index image : List ℕ) (bytes : List ℕ) (said : Said) where
         record {
           bytes = there.0;
           image_was = there.1;
-          of_image = subst (λ o. IfSome o (λ t. IsIndexOfImage (sizes_of sizes) t says.0)) there.2 says.1;
+          of_image = subst (λ o. IfSome o (λ t. IsIndexOfImage (cut_sizes_of sizes) t says.0)) there.2 says.1;
           file = bytes;
           written = ap (λ (m : Map (List ℕ)). m index) is ∙ at_same b index (Some bytes);
           is_file = says.3;
@@ -113,8 +113,8 @@ made store sizes index image w v told h = go store h where
       let files = stored.did.0.2.adds.files ∙ ap (λ (d : Disk). d.files) taken.did.0.1 ∙ opened.did.0.1.files ∙ same_files in
       let dial = taken.did.1 ∙ opened.did.1 ∙ ap (λ (u : World). u.dial) h.did.1 in
       let of_sizes = subst (λ (z : Sizes). SaysOf z told_image bytes (said_at (sources taken.disk taken.dial) (sources stored.disk stored.dial) s)) h.did.0.0 stored.did.0.1 in
-      let first = subst (λ k. SaysOf (sizes_of sizes) told_image bytes (said_at (sources w.disk k) (sources v.disk stored.dial) s)) dial of_sizes in
-      let says = subst (λ k. SaysOf (sizes_of sizes) told_image bytes (said_at (sources w.disk w.dial) (sources v.disk k) s)) (sym stored.then.1) first in
+      let first = subst (λ k. SaysOf (cut_sizes_of sizes) told_image bytes (said_at (sources w.disk k) (sources v.disk stored.dial) s)) dial of_sizes in
+      let says = subst (λ k. SaysOf (cut_sizes_of sizes) told_image bytes (said_at (sources w.disk w.dial) (sources v.disk k) s)) (sym stored.then.1) first in
       on_server sizes index image bytes (said_at (sources_of w) (sources_of v) s) w.disk.files told_image v.disk.files
       (subst (λ x. IfSome x (λ m. (t : List ℕ) × (m image ≡ Some t) × (told_image ≡ Some t))) same_files opened.did.0.0)
       (stored.then.0.0 ∙ ap (option_map (λ m. at_name m index (Some bytes))) files)

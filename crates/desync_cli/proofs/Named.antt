@@ -7,13 +7,13 @@ use Rattle.command_outcome.specs.ErrorLines.{name_in}
 use Rattle.command_outcome.specs.declared.outcome.Outcome.{Outcome}
 use Rattle.command_outcome.specs.declared.outcome.Outcome.TheVariants as ends
 use Rattle.command_steps.specs.Cache.{CacheOpened}
-use Rattle.command_steps.specs.Openings.{ImageOpened, IndexRead, NotOpened, NotRead}
+use Rattle.command_steps.specs.InputFiles.{ImageOpened, IndexRead, NotOpened, NotRead}
 use Rattle.command_worlds.specs.Printing.{Printed}
 use Rattle.command_steps.specs.Seeds.{IndexesRead, NoneListed}
 use Rattle.command_steps.specs.Sources.{FirstUnreached, NotAsking, OnSources, Sources, SourcesOpened, Unreached, sources, sources_of}
 use Rattle.command_worlds.specs.Steps.{◌>>=◌, Passed}
-use Rattle.command_steps.specs.Stores.{NotReached, StoreTaken, name_of}
-use Rattle.command_steps.specs.Taking.{SourceTaken}
+use Rattle.command_steps.specs.Stores.{NotReached, StoreTaken, folder_name}
+use Rattle.command_steps.specs.TakenStores.{SourceTaken}
 use Rattle.command_worlds.specs.Worlds.{OnDisk, OnOut, Pure, Step, World}
 use Rattle.command_words.specs.declared.command.Location.{Location}
 use Rattle.command_words.specs.declared.command.Location.TheVariants as locations
@@ -97,13 +97,13 @@ module _ (n : ℕ) where
   not_renamed p q from to d e ends.Memory h = omega arith
   not_renamed p q from to d e other h = absurd h
 
-  unreached : (s : Location) → length (name_of s) ≤ n → (d e : Disk) (o : Outcome) → Unreached d e s o → length (name_in o) ≤ n
+  unreached : (s : Location) → length (folder_name s) ≤ n → (d e : Disk) (o : Outcome) → Unreached d e s o → length (name_in o) ≤ n
   unreached (locations.Folder q) le d e ends.Memory h = omega arith
   unreached (locations.Folder q) le d e other h = not_reached q le d e other h
   unreached (locations.Http host port prefix) le d e ends.Memory h = omega arith
   unreached (locations.Http host port prefix) le d e other h = absurd h
 
-  first_unreached : (stores : List Location) → AllShort n (map name_of stores) → (d e : Disk) (o : Outcome) → FirstUnreached d e stores o → length (name_in o) ≤ n
+  first_unreached : (stores : List Location) → AllShort n (map folder_name stores) → (d e : Disk) (o : Outcome) → FirstUnreached d e stores o → length (name_in o) ≤ n
   first_unreached [] all d e o h = absurd h
   first_unreached (s ∷ stores) all d e o (inl h) = unreached s all.0 d e o h
   first_unreached (s ∷ stores) all d e o (inr h) = first_unreached stores all.1 d e o h.1
@@ -114,11 +114,11 @@ module _ (n : ℕ) where
   none_listed (q ∷ names) all m d e o (inr (l, listed, inl h)) = omega (arith, ap (λ r. length (name_in r)) h.0)
   none_listed (q ∷ names) all m d e o (inr (l, listed, inr h)) = none_listed names all.1 _ d e o h.1
 
-  opened_tells : (stores : List Location) → AllShort n (map name_of stores) → Tells n (SourcesOpened stores)
+  opened_tells : (stores : List Location) → AllShort n (map folder_name stores) → Tells n (SourcesOpened stores)
   opened_tells stores all d e o (inl h, reads) = first_unreached stores all d e o h
   opened_tells stores all d e o (inr h, reads) = omega (arith, ap (λ r. length (name_in r)) h)
 
-  pub opened : (stores : List Location) → AllShort n (map name_of stores) → Shorts n (SourcesOpened stores)
+  pub opened : (stores : List Location) → AllShort n (map folder_name stores) → Shorts n (SourcesOpened stores)
   opened stores all = record { short = opened_tells stores all }
 
   taken_tells : (q : List ℕ) → length q ≤ n → Tells n (StoreTaken q)
@@ -127,11 +127,11 @@ module _ (n : ℕ) where
   pub taken : (q : List ℕ) → length q ≤ n → Shorts n (StoreTaken q)
   taken q le = record { short = taken_tells q le }
 
-  source_taken_tells : (s : Location) → length (name_of s) ≤ n → Tells n (SourceTaken s)
+  source_taken_tells : (s : Location) → length (folder_name s) ≤ n → Tells n (SourceTaken s)
   source_taken_tells (locations.Folder q) le d e o h = not_reached q le d e o h.0
   source_taken_tells (locations.Http host port prefix) le d e o h = omega (arith, ap (λ r. length (name_in r)) h.0)
 
-  pub source_taken : (s : Location) → length (name_of s) ≤ n → Shorts n (SourceTaken s)
+  pub source_taken : (s : Location) → length (folder_name s) ≤ n → Shorts n (SourceTaken s)
   source_taken x0 le = record { short = source_taken_tells x0 le }
 
   cache_opened_tells : (cache : Option (List ℕ)) → AllShort n (elim cache [ None ↦ [] | Some q ↦ q ∷ [] ]) → Tells n (CacheOpened cache)
@@ -201,11 +201,11 @@ module _ (n : ℕ) where
   not_asked stores l w v ends.Memory h = omega arith
   not_asked stores l w v other h = absurd h
 
-  counted_tells : (stores : List Location) → AllShort n (map name_of stores) → (l : Listing) → Tells n (IdsCounted stores l)
+  counted_tells : (stores : List Location) → AllShort n (map folder_name stores) → (l : Listing) → Tells n (IdsCounted stores l)
   counted_tells stores all l w v o (inl h, consults, asks) = first_unreached stores all w.disk v.disk o h
   counted_tells stores all l w v o (inr h, consults, asks) = not_asked stores l w v o h
 
-  pub counted : (stores : List Location) → AllShort n (map name_of stores) → (l : Listing) → Shorts n (IdsCounted stores l)
+  pub counted : (stores : List Location) → AllShort n (map folder_name stores) → (l : Listing) → Shorts n (IdsCounted stores l)
   counted stores all l = record { short = counted_tells stores all l }
 
   pruned_tells : (keeps : List ℕ → Bool) (q : List ℕ) (held : Option (Map (List ℕ))) → Tells n (StorePruned keeps q held)

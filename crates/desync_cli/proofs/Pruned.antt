@@ -3,7 +3,7 @@ use Rattle.std.proofs.Common.{◌≡◌, ℕ, List, Bool, Option, Some, None, If
 use Rattle.std.specs.List.{AllZip}
 use Rattle.std.specs.Option.{option_map}
 use Rattle.caibx_codec.specs.Listing.{Listing}
-use Rattle.command_steps.specs.Openings.{IsListed}
+use Rattle.command_steps.specs.InputFiles.{IsListed}
 use Rattle.command_worlds.specs.Worlds.{World}
 use Rattle.command_steps.proofs.Taken.{at_name_twice}
 use Rattle.store_commands.specs.Prune.{IsPruned, IsPrunedTo, PruneEnds}

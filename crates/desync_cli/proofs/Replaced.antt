@@ -14,7 +14,7 @@ use Rattle.command_worlds.specs.Steps.{◌>>=◌, outcome_of}
 use Rattle.command_steps.specs.Sources.{Sources, SourcesOpened, sources}
 use Rattle.command_worlds.specs.Worlds.{OnDisk, Reads, World, world}
 use Rattle.desync_cli.proofs.Fair.{begun, if_any, if_some}
-use Rattle.desync_cli.specs.Commands.{DesyncEnds, Ends, LeavesBehind, command_of}
+use Rattle.desync_cli.specs.Commands.{DesyncEnds, CommandEnds, LeavesBehind, command_of}
 use Rattle.store_commands.specs.Serving.{Heard}
 use Rattle.image_commands.specs.Extract.{Assembled, Cleared, ExtractEnds, Into, KeepsIn, OutMade, Seeds, StopsSomewhere, beside, folder_of, old_of, temporary_out}
 use Rattle.desync_cli.specs.Commands.{LeavesOut}
@@ -167,7 +167,7 @@ left_out stores cache seeds false index out w v o told (inr h) = go h.then where
 
 -- ---- what the top call says
 
-left_of : (k : Heard) (c : Command) (w v : World) (o : Outcome) → is_some w.disk.files ≡ is_some w.disk.folders → Ends k c w (Err o) v → LeavesBehind c w v
+left_of : (k : Heard) (c : Command) (w v : World) (o : Outcome) → is_some w.disk.files ≡ is_some w.disk.folders → CommandEnds k c w (Err o) v → LeavesBehind c w v
 left_of k (commands.Extract stores seeds cache place workers index target) w v o told h = left_out stores cache seeds place index target w v o told h
 left_of k other w v o told h = tt
 

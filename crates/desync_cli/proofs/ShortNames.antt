@@ -3,13 +3,13 @@
 use Rattle.std.proofs.Common.{◌≡◌, ℕ, zero, suc, ◌+◌, ◌≤◌, ◌<◌, ◌==◌, ◌++◌, List, [], ◌∷◌, length, map, codes, Bool, true, false, if◌then◌else◌, Option, Some, None, Result, Ok, Err, refl, ap, subst, ◌∙◌, inl, inr, slice_index_or, arith}
 use Rattle.std.proofs.lemmas.List.{length-append}
 use Rattle.std.specs.List.{list_any}
-use Rattle.command_line.specs.CommandLine.{command_by, command_line, command_of as parsed, command_or_help, complete, is_alone, read_location}
-use Rattle.command_line.specs.Judging.{judged, missing}
+use Rattle.command_line.specs.CommandLine.{command_by, command_line, command_by_roles as parsed, command_or_help, complete, is_alone, read_location}
+use Rattle.command_line.specs.Judging.{judged, missing_words}
 use Rattle.command_outcome.specs.ErrorLines.{name_in}
 use Rattle.command_outcome.specs.declared.outcome.Outcome.{Outcome}
 use Rattle.command_outcome.specs.declared.outcome.Outcome.TheVariants as ends
 use Rattle.command_worlds.specs.Steps.{outcome_of}
-use Rattle.command_steps.specs.Stores.{name_of}
+use Rattle.command_steps.specs.Stores.{folder_name}
 use Rattle.command_worlds.specs.Worlds.{World}
 use Rattle.command_words.specs.Locations.{contains_scheme, is_out_of_room, is_plain_http, location_of, server_of, url_location}
 use Rattle.command_words.specs.OptionTable.{command_named}
@@ -27,7 +27,7 @@ use Rattle.command_words.specs.declared.roles.Role.{Role}
 use Rattle.command_words.specs.declared.roles.Role.TheVariants as role
 use Rattle.command_words.specs.declared.usage.UsageWhy.{UsageWhy}
 use Rattle.command_words.specs.declared.usage.WordsFault.{WordsFault}
-use Rattle.desync_cli.specs.Commands.{DesyncEnds, Ends, NoCommand, command_of, said_in}
+use Rattle.desync_cli.specs.Commands.{DesyncEnds, CommandEnds, NoCommand, command_of, command_said}
 use Rattle.desync_cli.proofs.Fair.{begun}
 use Rattle.desync_cli.proofs.Named.{AllShort, Shorts, bound, cache_opened, checked, chopped, counted, filled, image_opened, index_read, indexes_read, judged as sizes_judged, on_disk, on_out, on_sources, opened, out_made, printed, pruned, rehearsed, served, source_taken, stored, taken, unheard, verified, written}
 use Rattle.image_commands.specs.Extract.{temporary_out}
@@ -40,20 +40,20 @@ named (Some q) = q ∷ []
 
 -- each is no longer than this
 abbrev HasShort : ℕ → Command → Type 0
-HasShort n (commands.Make store sizes workers index image) = (length (name_of store) ≤ n) × (length index ≤ n) × (length image ≤ n)
+HasShort n (commands.Make store sizes workers index image) = (length (folder_name store) ≤ n) × (length index ≤ n) × (length image ≤ n)
 HasShort n (commands.VerifyIndex index image) = (length index ≤ n) × (length image ≤ n)
-HasShort n (commands.Chop store index image) = (length (name_of store) ≤ n) × (length index ≤ n) × (length image ≤ n)
-HasShort n (commands.Cache stores cache indexes) = AllShort n (map name_of stores) × (length cache ≤ n) × AllShort n indexes
+HasShort n (commands.Chop store index image) = (length (folder_name store) ≤ n) × (length index ≤ n) × (length image ≤ n)
+HasShort n (commands.Cache stores cache indexes) = AllShort n (map folder_name stores) × (length cache ≤ n) × AllShort n indexes
 HasShort n (commands.ListChunks index) = length index ≤ n
-HasShort n (commands.Extract stores seeds cache in_place workers index target) = AllShort n (map name_of stores) × AllShort n seeds × AllShort n (named cache) × (length index ≤ n) × (length (temporary_out target) ≤ n) × (length target ≤ n)
-HasShort n (commands.Info stores index) = AllShort n (map name_of stores) × (length index ≤ n)
+HasShort n (commands.Extract stores seeds cache in_place workers index target) = AllShort n (map folder_name stores) × AllShort n seeds × AllShort n (named cache) × (length index ≤ n) × (length (temporary_out target) ≤ n) × (length target ≤ n)
+HasShort n (commands.Info stores index) = AllShort n (map folder_name stores) × (length index ≤ n)
 HasShort n (commands.Verify store repair) = length store ≤ n
 HasShort n (commands.Prune store indexes) = (length store ≤ n) × AllShort n indexes
 HasShort n (commands.ChunkServer store host port writable workers) = length store ≤ n
 HasShort n other = Unit {0}
 
 -- and so are those that its refusals tell
-command_short : (n : ℕ) (h : Heard) (c : Command) → HasShort n c → Shorts n (Ends h c)
+command_short : (n : ℕ) (h : Heard) (c : Command) → HasShort n c → Shorts n (CommandEnds h c)
 command_short n h (commands.Make store sizes workers index image) f = bound (sizes_judged n sizes) (λ z. bound (on_disk (image_opened n image f.2)) (λ told. bound (on_disk (source_taken n store f.0)) (λ held. bound (on_sources (stored n z image told store held)) (λ bytes. on_disk (written n index bytes f.1)))))
 command_short n h (commands.VerifyIndex index image) f = bound (on_disk (index_read n index f.0)) (λ l. bound (on_disk (image_opened n image f.1)) (λ told. on_disk (checked n image l told)))
 command_short n h (commands.Chop store index image) f = bound (on_disk (index_read n index f.1)) (λ l. bound (on_disk (image_opened n image f.2)) (λ told. bound (on_disk (source_taken n store f.0)) (λ held. on_sources (chopped n l image told store held))))
@@ -94,7 +94,7 @@ module _ (k : ℕ) where
   word_short (q ∷ names) all (suc i) = word_short names all.1 i
 
   abbrev ShortPlace : Result Location NoLocation → Type 0
-  ShortPlace r = length (name_of (read_location r)) ≤ k
+  ShortPlace r = length (folder_name (read_location r)) ≤ k
 
   either : {A : Type 0} (P : A → Type 0) (b : Bool) (x y : A) → P x → P y → P (if b then x else y)
   either P true x y p q = p
@@ -107,7 +107,7 @@ module _ (k : ℕ) where
   place_short : (w : List ℕ) → length w ≤ k → ShortPlace (location_of w)
   place_short w le = either ShortPlace (list_any (λ c. c == 124) w) (Err no.Bad) _ (omega arith) (either ShortPlace (contains_scheme w) _ (Ok (locations.Folder w)) (search url_short) le)
 
-  places_short : (words : List (List ℕ)) → AllShort k words → AllShort (k + 11) (map name_of (map (λ w. read_location (location_of w)) words))
+  places_short : (words : List (List ℕ)) → AllShort k words → AllShort (k + 11) (map folder_name (map (λ w. read_location (location_of w)) words))
   places_short [] all = tt
   places_short (w ∷ words) all = (omega (arith, place_short w all.0), places_short words all.1)
 
@@ -122,7 +122,7 @@ module _ (k : ℕ) where
     one : (r : Role) (i : ℕ) → length (slice_index_or (words_as r p.roles p.words) i []) ≤ k + 11
     one r i = omega (arith, word_short (words_as r p.roles p.words) (as_role r) i)
 
-    store_short : length (name_of (read_location (location_of (slice_index_or (words_as (role.Value option.Store) p.roles p.words) 0 [])))) ≤ k + 11
+    store_short : length (folder_name (read_location (location_of (slice_index_or (words_as (role.Value option.Store) p.roles p.words) 0 [])))) ≤ k + 11
     store_short = omega (arith, place_short _ (word_short _ (as_role (role.Value option.Store)) 0))
 
     cache_short : (b : Bool) → AllShort (k + 11) (named (if b then Some (slice_index_or (words_as (role.Value option.Cache) p.roles p.words) 0 []) else None))
@@ -151,7 +151,7 @@ module _ (k : ℕ) where
 
   by_kind : (kind : CommandKind) (words : List (List ℕ)) → AllShort k words → (r : Result (List Role) WordsFault) → Said (command_by kind words r)
   by_kind kind words all (Err e) = tt
-  by_kind kind words all (Ok roles) = completed (missing kind roles) (length words + 1) (parsed kind (by_role roles words)) (parsed_short (by_role roles words) all kind)
+  by_kind kind words all (Ok roles) = completed (missing_words kind roles) (length words + 1) (parsed kind (by_role roles words)) (parsed_short (by_role roles words) all kind)
 
   or_help : (o : Option CommandKind) (words : List (List ℕ)) → AllShort k words → Said (command_or_help o words)
   or_help None words all = tt
@@ -164,7 +164,7 @@ module _ (k : ℕ) where
       either Said (is_alone (w ∷ words) (codes "--help")) (Ok commands.Help) (if is_alone (w ∷ words) (codes "--version") then Ok commands.Version else later) tt
       (either Said (is_alone (w ∷ words) (codes "--version")) (Ok commands.Version) later tt (or_help (command_named w) words all.1))
 
-  said_short : (r : Result Command WordsFault) (c : Command) → Said r → said_in r ≡ Some c → HasShort (k + 11) c
+  said_short : (r : Result Command WordsFault) (c : Command) → Said r → command_said r ≡ Some c → HasShort (k + 11) c
   said_short (Ok d) c h is = subst (HasShort (k + 11)) (cc) h
   said_short (Err e) c h is = absurd (cc)
 

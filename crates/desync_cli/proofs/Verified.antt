@@ -2,7 +2,7 @@
 use Rattle.std.proofs.Common.{◌≡◌, ℕ, List, Option, Some, None, IfSome, Ok, subst}
 use Rattle.caibx_codec.specs.Listing.{Listing}
 use Rattle.caibx_codec.specs.Right.{IsRight}
-use Rattle.command_steps.specs.Openings.{IsListed}
+use Rattle.command_steps.specs.InputFiles.{IsListed}
 use Rattle.command_worlds.specs.Worlds.{World}
 use Rattle.store_commands.specs.VerifyIndex.{IsVerified, VerifyIndexEnds}
 use Rattle.dsy_base.specs.Maps.{Map}

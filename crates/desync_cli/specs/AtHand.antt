@@ -8,9 +8,9 @@ use Rattle.chunk_store.specs.Folders.{chunks}
 use Rattle.chunk_store.specs.Giving.{GivesChunk}
 use Rattle.command_outcome.specs.declared.outcome.Outcome.{Outcome}
 use Rattle.command_outcome.specs.declared.outcome.Outcome.TheVariants as ends
-use Rattle.command_steps.specs.Openings.{IsListed}
+use Rattle.command_steps.specs.InputFiles.{IsListed}
 use Rattle.command_steps.specs.Seeds.{image_name}
-use Rattle.command_steps.specs.Sources.{IsThere, told_at}
+use Rattle.command_steps.specs.Sources.{IsThere, location_files}
 use Rattle.command_words.specs.declared.command.Command.{Command}
 use Rattle.command_words.specs.declared.command.Command.TheVariants as commands
 use Rattle.command_words.specs.declared.command.Location.{Location}
@@ -21,9 +21,9 @@ use Rattle.extract_plan.specs.Places.{items_of, seed_item_limit}
 use Rattle.image_commands.specs.Extract.{Into, SeedHas, Seeds, base_of, beside, folder_of, in_place}
 
 -- a folder gives the chunk of entry i; what a server has isn't at hand
-abbrev pub GivesEntry : Map (Map (List ℕ)) → Listing → ℕ → Location → Type 0
-GivesEntry n l i s =
-    IsSomeAnd (told_at n s) (λ f. GivesChunk (kind_of l) (id_of l i) (size_of l i) (chunks f (id_of l i)))
+abbrev pub StoreGivesEntry : Map (Map (List ℕ)) → Listing → ℕ → Location → Type 0
+StoreGivesEntry n l i s =
+    IsSomeAnd (location_files n s) (λ f. GivesChunk (kind_of l) (id_of l i) (size_of l i) (chunks f (id_of l i)))
 
 -- the folders of the cache and of the stores
 abbrev pub near : Option (List ℕ) → List Location → List Location
@@ -32,7 +32,7 @@ near cache stores = map locations.Folder (folder_of cache) ++ stores
 -- entry i is at hand: an alike one is right in the base, or a seed has its chunk, or a folder gives it
 abbrev pub IsAtHand : Map (List ℕ) → Map (Map (List ℕ)) → Into → Listing → Seeds → List Location → ℕ → Type 0
 IsAtHand b n out l x folders i = RightAlike l (base_of b out l) i
-    ⊎ (((s : ℕ) × SeedHas b x (id_of l i) (size_of l i) s) ⊎ Any (GivesEntry n l i) folders)
+    ⊎ (((s : ℕ) × SeedHas b x (id_of l i) (size_of l i) s) ⊎ Any (StoreGivesEntry n l i) folders)
 
 -- the index lists each id with one size
 abbrev pub ListsOneSize : Listing → Type 0

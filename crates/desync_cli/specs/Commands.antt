@@ -39,22 +39,22 @@ listens (commands.ChunkServer store host port writable workers) = true
 listens other = false
 
 -- how each ends, from the world before it to the world after it, where this was heard
-abbrev pub Ends : Heard → Command → Step World Unit
-Ends h (commands.Make store sizes workers index image) = MakeEnds store sizes index image
-Ends h (commands.VerifyIndex index image) = VerifyIndexEnds index image
-Ends h (commands.Chop store index image) = ChopEnds store index image
-Ends h (commands.Cache stores cache indexes) = CacheEnds stores cache indexes
-Ends h (commands.ListChunks index) = ListChunksEnds index
-Ends h (commands.Extract stores seeds cache in_place workers index target) =
+abbrev pub CommandEnds : Heard → Command → Step World Unit
+CommandEnds h (commands.Make store sizes workers index image) = MakeEnds store sizes index image
+CommandEnds h (commands.VerifyIndex index image) = VerifyIndexEnds index image
+CommandEnds h (commands.Chop store index image) = ChopEnds store index image
+CommandEnds h (commands.Cache stores cache indexes) = CacheEnds stores cache indexes
+CommandEnds h (commands.ListChunks index) = ListChunksEnds index
+CommandEnds h (commands.Extract stores seeds cache in_place workers index target) =
     ExtractEnds stores cache seeds in_place index target
-Ends h (commands.Info stores index) = InfoEnds stores index
-Ends h (commands.Verify store repair) = VerifyEnds store repair
-Ends h (commands.Prune store indexes) = PruneEnds store indexes
-Ends h (commands.Demo number size workers) = DemoEnds number size
-Ends h commands.Help = OnOut (Printed (help_text topics.All))
-Ends h commands.Version = OnOut (Printed (help_text topics.Version))
-Ends h (commands.HelpOn kind) = OnOut (Printed (help_text (topics.Command kind)))
-Ends h (commands.ChunkServer store host port writable workers) = ChunkServerEnds h store writable
+CommandEnds h (commands.Info stores index) = InfoEnds stores index
+CommandEnds h (commands.Verify store repair) = VerifyEnds store repair
+CommandEnds h (commands.Prune store indexes) = PruneEnds store indexes
+CommandEnds h (commands.Demo number size workers) = DemoEnds number size
+CommandEnds h commands.Help = OnOut (Printed (help_text topics.All))
+CommandEnds h commands.Version = OnOut (Printed (help_text topics.Version))
+CommandEnds h (commands.HelpOn kind) = OnOut (Printed (help_text (topics.Command kind)))
+CommandEnds h (commands.ChunkServer store host port writable workers) = ChunkServerEnds h store writable
 
 -- what no outcome of it changes
 abbrev pub spares : Command → Spares
@@ -120,7 +120,7 @@ Achieves h (commands.Verify store repair) w v =
 Achieves h (commands.Prune store indexes) w v =
     IfSome w.disk.files (λ b. IfSome w.disk.folders (λ f. IfSome v.disk.folders (λ g.
     IsPruned b f g store indexes)))
-Achieves h other w v = Ends h other w (Ok tt) v
+Achieves h other w v = CommandEnds h other w (Ok tt) v
 
 -- a refusal leaves all files as they were, but for the temporary one
 abbrev pub LeavesOut : Bool → List ℕ → World → World → Type 0
@@ -136,20 +136,20 @@ LeavesBehind other w v = Unit {0}
 -- ---- the words
 
 -- the command of the words, and why else they are refused
-abbrev pub said_in : Result Command WordsFault → Option Command
-said_in (Ok c) = Some c
-said_in (Err fault) = None
+abbrev pub command_said : Result Command WordsFault → Option Command
+command_said (Ok c) = Some c
+command_said (Err fault) = None
 
 abbrev pub command_of : List (List ℕ) → Option Command
-command_of words = said_in (command_line words)
+command_of words = command_said (command_line words)
 
 abbrev pub refusal_in : Result Command WordsFault → Option (ℕ × UsageWhy)
 refusal_in (Ok c) = None
 refusal_in (Err (faults.Usage place why)) = Some (place, why)
 refusal_in (Err faults.Memory) = None
 
-abbrev pub refusal_of : List (List ℕ) → Option (ℕ × UsageWhy)
-refusal_of words = refusal_in (command_line words)
+abbrev pub usage_refusal : List (List ℕ) → Option (ℕ × UsageWhy)
+usage_refusal words = refusal_in (command_line words)
 
 -- the outcome tells of the words exactly where they are refused, with this place and reason. Want of memory is free
 abbrev pub TellsRefusal : Option (ℕ × UsageWhy) → Outcome → Type 0
@@ -158,7 +158,7 @@ TellsRefusal refusal ends.Memory = Unit {0}
 TellsRefusal refusal other = refusal ≡ None
 
 abbrev pub NoCommand : List (List ℕ) → Outcome → Type 0
-NoCommand words (ends.Usage place why) = refusal_of words ≡ Some (place, why)
+NoCommand words (ends.Usage place why) = usage_refusal words ≡ Some (place, why)
 NoCommand words ends.Memory = Unit {0}
 NoCommand words other = ⊥
 
@@ -170,4 +170,4 @@ WordsRead words w (Err o) v = NoCommand words o × (v ≡ w)
 abbrev pub DesyncEnds : Heard → List (List ℕ) → Step World Unit
 DesyncEnds h words = do
   c ← WordsRead words
-  Ends h c
+  CommandEnds h c

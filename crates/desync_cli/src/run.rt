@@ -8,8 +8,9 @@ ghost use Rattle.command_words.specs.Limits.{Fits};
 ghost use Rattle.command_words.specs.declared.command.Command.{Command};
 ghost use Rattle.desync_cli.specs.AtHand.{EndsAtHand};
 ghost use Rattle.desync_cli.specs.Unfailed.{NothingFailed, RepliesTaken};
-ghost use Rattle.desync_cli.specs.Commands.{Achieves, DesyncEnds, Ends, TellsRefusal, command_of, listens, parts};
-ghost use Rattle.desync_cli.specs.Commands.{LeavesBehind, refusal_of, spares};
+ghost use Rattle.desync_cli.specs.Commands.{Achieves, DesyncEnds, CommandEnds, TellsRefusal, command_of, listens};
+ghost use Rattle.desync_cli.specs.Commands.{parts};
+ghost use Rattle.desync_cli.specs.Commands.{LeavesBehind, usage_refusal, spares};
 ghost use Rattle.desync_cli.specs.Lines.{TakesLine};
 ghost use Rattle.store_commands.specs.Serving.{heard};
 ghost use Rattle.dsy_base.specs.Counts.{Quiet};
@@ -26,20 +27,20 @@ use dsy_base::files::Files;
 use dsy_base::image_files::ImageFiles;
 use dsy_base::listen::Listen;
 use dsy_base::sink::Sink;
-use image_commands::chop::chop;
+use image_commands::chop::chop_into_store;
 use image_commands::extract::extract;
 use image_commands::make::make;
 use std::alloc::Global;
 use std::thread::Threads;
-use store_commands::cache::cache as fill_cache;
+use store_commands::cache::fill_cache;
 use store_commands::demo::demo;
 use store_commands::help::help;
-use store_commands::info::info;
-use store_commands::list_chunks::list_chunks;
-use store_commands::prune::prune;
+use store_commands::info::print_info;
+use store_commands::list_chunks::print_chunks;
+use store_commands::prune::prune_folder;
 use store_commands::server::chunk_server;
 use store_commands::verify::verify;
-use store_commands::verify_index::verify_index;
+use store_commands::verify_index::check_image;
 
 // Does the command.
 fn perform<R: Threads + Sync, F: ImageFiles, D: Dial, L: Listen, O: Sink>(
@@ -56,7 +57,7 @@ where
     F::Inner: Sync,
     requires { Fits command }
     ensures unheard { listens command ≡ false → listen.new ≡ listen.old }
-    ensures ends { Ends (heard (L.state listen.old) (L.state listen.new)) command
+    ensures ends { CommandEnds (heard (L.state listen.old) (L.state listen.new)) command
         (world (F.disk files.old) (D.state dial.old) (O.output out.old)) result
         (world (F.disk files.new) (D.state dial.new) (O.output out.new)) }
 {
@@ -68,8 +69,8 @@ where
             index,
             image,
         } => make(rt, alloc, files, dial, store, sizes, workers, index, image),
-        Command::VerifyIndex { index, image } => verify_index(alloc, files, index, image),
-        Command::ListChunks { index } => list_chunks(alloc, files, out, index),
+        Command::VerifyIndex { index, image } => check_image(alloc, files, index, image),
+        Command::ListChunks { index } => print_chunks(alloc, files, out, index),
         Command::Extract {
             stores,
             seeds,
@@ -81,7 +82,7 @@ where
         } => extract(
             alloc, files, dial, stores, cache, seeds, in_place, index, target,
         ),
-        Command::Info { stores, index } => info(alloc, files, dial, out, stores, index),
+        Command::Info { stores, index } => print_info(alloc, files, dial, out, stores, index),
         Command::Help => help(out, Topic::All),
         Command::Version => help(out, Topic::Version),
         Command::HelpOn(kind) => help(out, Topic::Command(kind)),
@@ -89,14 +90,14 @@ where
             store,
             index,
             image,
-        } => chop(alloc, files, dial, store, index, image),
+        } => chop_into_store(alloc, files, dial, store, index, image),
         Command::Cache {
             stores,
             cache,
             indexes,
         } => fill_cache(alloc, files, dial, stores, cache, indexes),
         Command::Verify { store, repair } => verify(alloc, files, out, store, repair),
-        Command::Prune { store, indexes } => prune(alloc, files, store, indexes),
+        Command::Prune { store, indexes } => prune_folder(alloc, files, store, indexes),
         Command::Demo { number, size, .. } => demo(rt, alloc, out, number, size),
         Command::ChunkServer {
             store,
@@ -167,7 +168,7 @@ where
         × (files.new ≡ files.old) × (dial.new ≡ dial.old) × (listen.new ≡ listen.old) × (out.new ≡ out.old)) }
 
     // Words that are no command change nothing, and only they are refused as such.
-    ensures usage { TellsRefusal (refusal_of (map string_bytes words.now)) result.outcome }
+    ensures usage { TellsRefusal (usage_refusal (map string_bytes words.now)) result.outcome }
     ensures refused { command_of (map string_bytes words.now) ≡ None → (files.new ≡ files.old)
         × (dial.new ≡ dial.old) × (listen.new ≡ listen.old) × (out.new ≡ out.old) }
 

@@ -14,7 +14,7 @@ use Rattle.dsy_base.specs.Folders.{temporary_of, put_in}
 use Rattle.dsy_base.specs.Maps.{Map, at_name}
 use Rattle.dsy_base.specs.declared.fault.IoFault.{IoFault}
 use Rattle.dir_store.specs.Names.{is_temporary}
-use Rattle.dir_store.specs.Puts.{Puts, LeavesTemporary, Removes}
+use Rattle.dir_store.specs.Puts.{PutsAtPath, LeavesTemporary, Removes}
 
 pub chunks_left : ((q x : List ℕ) → temporary_of q ≢ path_of x) → (id : List ℕ) (m : Map (List ℕ)) (x : Option (List ℕ)) → chunks (at_name m (temporary_of (path_of id)) x) ≡ chunks m
 chunks_left none id m x = λ i q. (at_other m (temporary_of (path_of id)) x (path_of q) (λ h. none (path_of id) q (sym h))) i
@@ -46,7 +46,7 @@ module _ (id : List ℕ) (is : IsId id) (one : (a b : List ℕ) → IsId b → p
           ap (λ (r : Option (List ℕ)). cond (bytes_eq (path_of id) (path_of q)) (Some b) r) (at_other m (temporary_of (path_of id)) None (path_of q) (λ h. none (path_of id) q (sym h)))
           ∙ ap (λ t. cond t (Some b) (m (path_of q))) (same_test q)
 
-    holds_put : (b : List ℕ) (old new : Option (Map (List ℕ))) → Puts id b old new → option_map chunks new ≡ option_map (λ m. at_name m id (Some b)) (option_map chunks old)
+    holds_put : (b : List ℕ) (old new : Option (Map (List ℕ))) → PutsAtPath id b old new → option_map chunks new ≡ option_map (λ m. at_name m id (Some b)) (option_map chunks old)
     holds_put b old new put = ap (option_map chunks) put ∙ go old where
       go : (o : Option (Map (List ℕ))) → option_map chunks (option_map (λ m. put_in m (path_of id) b) o) ≡ option_map (λ m. at_name m id (Some b)) (option_map chunks o)
       go None = refl
@@ -58,7 +58,7 @@ module _ (id : List ℕ) (is : IsId id) (one : (a b : List ℕ) → IsId b → p
       go None = refl
       go (Some m) = ap Some (chunks_left none id m left.0)
 
-    pub put_holds : (b : List ℕ) (old new : Option (Map (List ℕ))) (r : Result Unit IoFault) → OnOk r (Puts id b old new) → OnOk r (option_map chunks new ≡ option_map (λ m. at_name m id (Some b)) (option_map chunks old))
+    pub put_holds : (b : List ℕ) (old new : Option (Map (List ℕ))) (r : Result Unit IoFault) → OnOk r (PutsAtPath id b old new) → OnOk r (option_map chunks new ≡ option_map (λ m. at_name m id (Some b)) (option_map chunks old))
     put_holds b old new (Ok r) put = holds_put b old new put
     put_holds b old new (Err e) put = tt
 
@@ -79,7 +79,7 @@ module _ (id : List ℕ) (is : IsId id) (one : (a b : List ℕ) → IsId b → p
     others_left x None = record { told = refl; files = tt }
     others_left x (Some m) = record { told = refl; files = λ q path temporary. at_other m (temporary_of (path_of id)) x q temporary }
 
-    pub put_others : (b : List ℕ) (old new : Option (Map (List ℕ))) (r : Result Unit IoFault) → OnOk r (Puts id b old new) → OnErr r (LeavesTemporary id old new) → KeepsOthers id old new
+    pub put_others : (b : List ℕ) (old new : Option (Map (List ℕ))) (r : Result Unit IoFault) → OnOk r (PutsAtPath id b old new) → OnErr r (LeavesTemporary id old new) → KeepsOthers id old new
     put_others b old new (Ok r) put left = subst (KeepsOthers id old) (sym put) (others_put b old)
     put_others b old new (Err e) put left = subst (KeepsOthers id old) (sym left.1) (others_left left.0 old)
 
@@ -89,7 +89,7 @@ module _ (id : List ℕ) (is : IsId id) (one : (a b : List ℕ) → IsId b → p
         let other = at_other m id (Some b) q differ in
         record { denied = λ h. other ∙ h; shown = λ x h. other ∙ h; longer = λ n h. (h.0, other ∙ h.1, h.2); taken = λ x h. other ∙ h }
 
-    pub put_said : (b : List ℕ) (old new : Option (Map (List ℕ))) (r : Result Unit IoFault) → OnOk r (Puts id b old new) → OnErr r (LeavesTemporary id old new) → (q : List ℕ) → q ≢ id
+    pub put_said : (b : List ℕ) (old new : Option (Map (List ℕ))) (r : Result Unit IoFault) → OnOk r (PutsAtPath id b old new) → OnErr r (LeavesTemporary id old new) → (q : List ℕ) → q ≢ id
         → KeepsOf (said_by (option_map chunks old)) (said_by (option_map chunks new)) q
     put_said b old new (Ok r) put left q differ = subst (λ (h : Option (Map (List ℕ))). KeepsOf (said_by (option_map chunks old)) (said_by h) q) (sym (holds_put b old new put)) (said_put b q differ (option_map chunks old))
     put_said b old new (Err e) put left q differ = subst (λ (h : Option (Map (List ℕ))). KeepsOf (said_by (option_map chunks old)) (said_by h) q) (sym (holds_left old new left)) (keeps_itself (said_by (option_map chunks old)) q)

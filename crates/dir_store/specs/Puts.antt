@@ -6,8 +6,8 @@ use Rattle.dsy_base.specs.Folders.{temporary_of, put_in}
 use Rattle.dsy_base.specs.Maps.{Map, at_name}
 
 -- the files once b is put under the id
-abbrev pub Puts : List ℕ → List ℕ → Option (Map (List ℕ)) → Option (Map (List ℕ)) → Type 0
-Puts id b old new = new ≡ option_map (λ m. put_in m (path_of id) b) old
+abbrev pub PutsAtPath : List ℕ → List ℕ → Option (Map (List ℕ)) → Option (Map (List ℕ)) → Type 0
+PutsAtPath id b old new = new ≡ option_map (λ m. put_in m (path_of id) b) old
 
 -- the files are as before but for the id's temporary file
 abbrev pub LeavesTemporary : List ℕ → Option (Map (List ℕ)) → Option (Map (List ℕ)) → Type 0

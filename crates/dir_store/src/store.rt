@@ -5,7 +5,7 @@ ghost use Rattle.std.specs.Option.{option_map};
 ghost use Rattle.chunk_store.specs.Folders.{chunks};
 ghost use Rattle.chunk_store.specs.Paths.{path_of};
 ghost use Rattle.dir_store.specs.Names.{is_temporary};
-ghost use Rattle.dir_store.specs.Puts.{Puts, LeavesTemporary, Removes};
+ghost use Rattle.dir_store.specs.Puts.{PutsAtPath, LeavesTemporary, Removes};
 ghost use Rattle.dsy_base.specs.Counts.{CountsFaults};
 ghost use Rattle.dsy_base.specs.Maps.{IsNamesOf, at_name};
 
@@ -58,7 +58,7 @@ impl<F: Look> DirStore<F> {
 impl<F: Folder> DirStore<F> {
     // Writes the file of this id.
     fn write(&mut self, id: &ChunkId, b: &[u8]) -> Result<(), IoFault>
-        ensures ok { OnOk result (Puts id.now.0 b.now (F.files self.old) (F.files self.new)) }
+        ensures ok { OnOk result (PutsAtPath id.now.0 b.now (F.files self.old) (F.files self.new)) }
         ensures err { OnErr result (LeavesTemporary id.now.0 (F.files self.old) (F.files self.new)) }
         ensures place { F.place self.new ≡ F.place self.old }
         ensures faults { CountsFaults IoFault.Failed IoFault.Memory (F.faults self.old) (F.faults self.new) result }

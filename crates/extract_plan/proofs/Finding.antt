@@ -7,8 +7,8 @@ use Rattle.std.proofs.lemmas.List.{get_or_append_left, get_or_push, take_more}
 use Rattle.std.proofs.lemmas.List.Sums.{fold_push}
 use Rattle.std.proofs.lemmas.Option.{get_or_from_slice_get, slice_get_within}
 use Rattle.caibx_codec.specs.Listing.{Listing, count_of, id_of, size_of, start_of}
-use Rattle.extract_plan.specs.Found.{AreFound, IsDone, IsFound}
-use Rattle.extract_plan.specs.Places.{Comes, items_of, place, nth_place}
+use Rattle.extract_plan.specs.Found.{AreFound, IsDone, IsFoundPlace}
+use Rattle.extract_plan.specs.Places.{ComesBefore, items_of, place, nth_place}
 use Rattle.extract_plan.specs.declared.seed.SeedPlace.{SeedPlace}
 
 some_same : {A : Type 0} (a b : A) (o : Option A) → o ≡ Some a → o ≡ Some b → a ≡ b
@@ -51,7 +51,7 @@ found_none number seeds = record {
 }
 
 found_later : (number : List ℕ → ℕ → Option ℕ) (seeds : List Listing) (s n r o w : ℕ) (p : SeedPlace) →
-    ((t j : ℕ) → IsDone s n t j → IsDone r o t j) → IsFound number seeds s n w p → IsFound number seeds r o w p
+    ((t j : ℕ) → IsDone s n t j → IsDone r o t j) → IsFoundPlace number seeds s n w p → IsFoundPlace number seeds r o w p
 found_later number seeds s n r o w p later x = record {
   listing = x.listing;
   seed = x.seed;
@@ -129,7 +129,7 @@ module _ (number : List ℕ → ℕ → Option ℕ) (seeds : List Listing) (s n 
   size_more : length more_ps ≡ length ps + 1
   size_more = length-append ps (new ∷ [])
 
-  new_found : IsFound number seeds s (n + 1) w new
+  new_found : IsFoundPlace number seeds s (n + 1) w new
   new_found = record {
     listing = m;
     seed = is;
@@ -141,17 +141,17 @@ module _ (number : List ℕ → ℕ → Option ℕ) (seeds : List Listing) (s n 
     size = refl;
   }
 
-  sound_more : (k : ℕ) → k < length more_ps → IsFound number seeds s (n + 1) (slice_index more_ws k) (nth_place more_ps k)
+  sound_more : (k : ℕ) → k < length more_ps → IsFoundPlace number seeds s (n + 1) (slice_index more_ws k) (nth_place more_ps k)
   sound_more k a =
       let size : length ws ≡ length ps = h.size in
       ⊎_elim
       (λ (e : k ≡ length ps).
-      subst (λ (p : SeedPlace). IsFound number seeds s (n + 1) (slice_index more_ws k) p) (sym (place_last ps new k e))
-      (subst (λ (v : ℕ). IsFound number seeds s (n + 1) v new) (sym (num_last ws w k (omega arith))) new_found))
+      subst (λ (p : SeedPlace). IsFoundPlace number seeds s (n + 1) (slice_index more_ws k) p) (sym (place_last ps new k e))
+      (subst (λ (v : ℕ). IsFoundPlace number seeds s (n + 1) v new) (sym (num_last ws w k (omega arith))) new_found))
       (λ (ne : k ≢ length ps).
       let low : k < length ps = omega (arith, size_more) in
-      subst (λ (p : SeedPlace). IsFound number seeds s (n + 1) (slice_index more_ws k) p) (sym (place_at ps new k low))
-      (subst (λ (v : ℕ). IsFound number seeds s (n + 1) v (nth_place ps k)) (sym (num_at ws w k (omega arith)))
+      subst (λ (p : SeedPlace). IsFoundPlace number seeds s (n + 1) (slice_index more_ws k) p) (sym (place_at ps new k low))
+      (subst (λ (v : ℕ). IsFoundPlace number seeds s (n + 1) v (nth_place ps k)) (sym (num_at ws w k (omega arith)))
       (found_later number seeds s n s (n + 1) _ _ (done_more s n) (h.sound k low))))
       (cases_eq k (length ps))
 
@@ -184,7 +184,7 @@ module _ (number : List ℕ → ℕ → Option ℕ) (seeds : List Listing) (s n 
       subst (λ (x : ℕ). HasMore x (place t (start_of l j) (size_of l j))) v_is (subst (HasMore w) place_is has_new))
       (was_done s n t j done)
 
-  comes_before : (p : SeedPlace) (v : ℕ) → IsFound number seeds s n v p → Comes p new
+  comes_before : (p : SeedPlace) (v : ℕ) → IsFoundPlace number seeds s n v p → ComesBefore p new
   comes_before p v x = ⊎_elim
       (λ (a : p.seed < s). inl a)
       (λ (e : (p.seed ≡ s) × (x.entry < n)).
@@ -193,15 +193,15 @@ module _ (number : List ℕ → ℕ → Option ℕ) (seeds : List Listing) (s n 
       inr (e.0, omega (arith, start, rises x.entry e.1)))
       x.done
 
-  ordered_more : (j k : ℕ) → j < k → k < length more_ps → Comes (nth_place more_ps j) (nth_place more_ps k)
+  ordered_more : (j k : ℕ) → j < k → k < length more_ps → ComesBefore (nth_place more_ps j) (nth_place more_ps k)
   ordered_more j k a b =
       let low : j < length ps = omega (arith, size_more) in
-      subst (λ (p : SeedPlace). Comes p (nth_place more_ps k)) (sym (place_at ps new j low))
+      subst (λ (p : SeedPlace). ComesBefore p (nth_place more_ps k)) (sym (place_at ps new j low))
       (⊎_elim
-      (λ (e : k ≡ length ps). subst (Comes (nth_place ps j)) (sym (place_last ps new k e)) (comes_before (nth_place ps j) (slice_index ws j) (h.sound j low)))
+      (λ (e : k ≡ length ps). subst (ComesBefore (nth_place ps j)) (sym (place_last ps new k e)) (comes_before (nth_place ps j) (slice_index ws j) (h.sound j low)))
       (λ (ne : k ≢ length ps).
       let last : k < length ps = omega (arith, size_more) in
-      subst (Comes (nth_place ps j)) (sym (place_at ps new k last)) (h.ordered j k a last))
+      subst (ComesBefore (nth_place ps j)) (sym (place_at ps new k last)) (h.ordered j k a last))
       (cases_eq k (length ps)))
 
   pub found_more : AreFound number seeds s (n + 1) more_ws more_ps

@@ -7,7 +7,7 @@ use Rattle.caibx_codec.specs.Listing.{Listing, count_of, id_of, size_of, start_o
 use Rattle.extract_plan.specs.Deal.{AreWants, entries_of}
 use Rattle.extract_plan.specs.Found.{AreFound, AreNumbered}
 use Rattle.extract_plan.specs.Links.{AreSorted}
-use Rattle.extract_plan.specs.Places.{ArePlaces, Comes, IsPlace, place, nth_place}
+use Rattle.extract_plan.specs.Places.{ArePlaces, ComesBefore, IsPlace, place, nth_place}
 use Rattle.extract_plan.specs.declared.seed.SeedPlace.{SeedPlace}
 use Rattle.extract_plan.proofs.Entries.{entries_rise, entry_inside, entry_of, entry_stands}
 
@@ -114,12 +114,12 @@ module _ (l : Listing) (wants : ℕ) (number : List ℕ → ℕ → Option ℕ) 
       let inside : y.0 < length (part w) = omega (arith, y.1, part_length w under) in
       (y.0, inside, part_is w y.0 x.0 (place s (start_of m j) (size_of l i)) under inside y.2 (x.3 ∙ ap (place s (start_of m j)) size_is))
 
-  ordered_at : (w j k : ℕ) → w < wants → j < k → k < length (part w) → Comes (nth_place (part w) j) (nth_place (part w) k)
+  ordered_at : (w j k : ℕ) → w < wants → j < k → k < length (part w) → ComesBefore (nth_place (part w) j) (nth_place (part w) k)
   ordered_at w j k under a h =
       let inside : k < length (entries_of ws w) = omega (arith, part_length w under) in
       let before = found.ordered _ _ (entries_rise ws w j k a inside) (entry_in w k inside) in
-      subst (λ (p : SeedPlace). Comes p (nth_place (part w) k)) (sym (part_at w j under (omega arith)))
-      (subst (Comes (nth_place ps (slice_index (entries_of ws w) j))) (sym (part_at w k under h)) before)
+      subst (λ (p : SeedPlace). ComesBefore p (nth_place (part w) k)) (sym (part_at w j under (omega arith)))
+      (subst (ComesBefore (nth_place ps (slice_index (entries_of ws w) j))) (sym (part_at w k under h)) before)
 
   pub places_are : (i : ℕ) → i < count_of l → ArePlaces seeds (id_of l i) (size_of l i) (part (slice_index want_of i))
   places_are i a = record {

@@ -30,7 +30,7 @@ abbrev pub shard_start : ℕ → ℕ → ℕ → ℕ
 shard_start n shards k = k * n / shards
 
 -- the offsets at which the shards of an index end
-pub record AreCuts (l : Listing) (shards : ℕ) (cuts : List ℕ) : Type 0 where
+pub record AreShardEnds (l : Listing) (shards : ℕ) (cuts : List ℕ) : Type 0 where
   pub size : length cuts ≡ shards
   pub ends : (k : ℕ) → k < shards → slice_index cuts k ≡ start_of l (shard_start (count_of l) shards (k + 1))
 
@@ -48,7 +48,7 @@ deal_shards d = shards_of d.workers (length d.want_of)
 pub record IsPlan (l : Listing) (count : ℕ) (d : Deal) : Type 0 where
   pub workers : d.workers ≡ count
   pub wants : AreWants l d.wants d.want_of
-  pub cuts : AreCuts l (deal_shards d) d.cuts
+  pub cuts : AreShardEnds l (deal_shards d) d.cuts
 
 -- the entries of want w, and the first of them
 abbrev pub of_want : Deal → ℕ → List ℕ

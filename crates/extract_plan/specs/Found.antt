@@ -2,7 +2,7 @@
 use Rattle.std.specs.Prelude.{◌≡◌, ℕ, ◌+◌, ◌<◌, ◌≤◌, ◌⊎◌, List, Option, Some, length, take, slice_index}
 use Rattle.std.specs.List.{slice_get}
 use Rattle.caibx_codec.specs.Listing.{Listing, count_of, id_of, size_of, start_of}
-use Rattle.extract_plan.specs.Places.{Comes, items_of, place, nth_place}
+use Rattle.extract_plan.specs.Places.{ComesBefore, items_of, place, nth_place}
 use Rattle.extract_plan.specs.declared.seed.SeedPlace.{SeedPlace}
 
 -- the number of each id and size that an index lists is its want, and nothing else has a number
@@ -15,7 +15,8 @@ abbrev pub IsDone : ℕ → ℕ → ℕ → ℕ → Type 0
 IsDone s n t j = (t < s) ⊎ ((t ≡ s) × (j < n))
 
 -- the place is that of an entry before entry n of seed s, and this is the number of its id and size
-pub record IsFound (number : List ℕ → ℕ → Option ℕ) (seeds : List Listing) (s n w : ℕ) (p : SeedPlace) : Type 0 where
+pub record IsFoundPlace (number : List ℕ → ℕ → Option ℕ) (seeds : List Listing) (s n w : ℕ)
+    (p : SeedPlace) : Type 0 where
   pub listing : Listing
   pub seed : slice_get seeds p.seed ≡ Some listing
   pub entry : ℕ
@@ -30,8 +31,8 @@ pub record AreFound (number : List ℕ → ℕ → Option ℕ) (seeds : List Lis
     (ps : List SeedPlace) : Type 0 where
   pub size : length ws ≡ length ps
   pub few : length ps ≤ items_of (take s seeds) + n
-  pub sound : (k : ℕ) → k < length ps → IsFound number seeds s n (slice_index ws k) (nth_place ps k)
+  pub sound : (k : ℕ) → k < length ps → IsFoundPlace number seeds s n (slice_index ws k) (nth_place ps k)
   pub complete : (t j w : ℕ) (m : Listing) → slice_get seeds t ≡ Some m → IsDone s n t j → j < count_of m →
       number (id_of m j) (size_of m j) ≡ Some w →
       (k : ℕ) × (k < length ps) × (slice_index ws k ≡ w) × (nth_place ps k ≡ place t (start_of m j) (size_of m j))
-  pub ordered : (j k : ℕ) → j < k → k < length ps → Comes (nth_place ps j) (nth_place ps k)
+  pub ordered : (j k : ℕ) → j < k → k < length ps → ComesBefore (nth_place ps j) (nth_place ps k)

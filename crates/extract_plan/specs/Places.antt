@@ -36,8 +36,8 @@ abbrev pub nth_place : List SeedPlace → ℕ → SeedPlace
 nth_place ps k = slice_index_or ps k (place 0 0 0)
 
 -- by seed and then by offset
-abbrev pub Comes : SeedPlace → SeedPlace → Type 0
-Comes p q = (p.seed < q.seed) ⊎ ((p.seed ≡ q.seed) × (p.start < q.start))
+abbrev pub ComesBefore : SeedPlace → SeedPlace → Type 0
+ComesBefore p q = (p.seed < q.seed) ⊎ ((p.seed ≡ q.seed) × (p.start < q.start))
 
 -- the place is that of an entry of a seed that has this id and size
 pub record IsPlace (seeds : List Listing) (id : List ℕ) (n : ℕ) (p : SeedPlace) : Type 0 where
@@ -56,7 +56,7 @@ pub record ArePlaces (seeds : List Listing) (id : List ℕ) (n : ℕ) (ps : List
   pub complete : (s i : ℕ) (l : Listing) → slice_get seeds s ≡ Some l → i < count_of l →
       id_of l i ≡ id → size_of l i ≡ n →
       (k : ℕ) × (k < length ps) × (nth_place ps k ≡ place s (start_of l i) n)
-  pub ordered : (j k : ℕ) → j < k → k < length ps → Comes (nth_place ps j) (nth_place ps k)
+  pub ordered : (j k : ℕ) → j < k → k < length ps → ComesBefore (nth_place ps j) (nth_place ps k)
 
 -- for each want of an index, the places of its chunk
 pub record IsSeedIndex (l : Listing) (d : Deal) (seeds : List Listing) (x : Placed) : Type 0 where
@@ -74,6 +74,6 @@ pub record PlacesKnown (l : Listing) (d : Deal) (x : Placed) (seeds : ℕ) : Typ
   pub fit : (w : ℕ) → w < d.wants → PlacesFit seeds (size_of l (first_of d w)) (places_at x w)
 
 -- what an index of seeds keeps: starts rise, and fit the places
-pub record IsPlaced (x : Placed) : Type 0 where
+pub record ArePlaced (x : Placed) : Type 0 where
   pub rises : (w : ℕ) → w + 1 < length x.starts → slice_index x.starts w ≤ slice_index x.starts (w + 1)
   pub fits : (w : ℕ) → w < length x.starts → slice_index x.starts w ≤ length x.items

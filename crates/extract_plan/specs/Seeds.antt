@@ -11,8 +11,8 @@ use Rattle.extract_plan.specs.declared.seed.SeedAnswer.{SeedAnswer}
 use Rattle.extract_plan.specs.declared.seed.SeedAnswer.TheVariants as answers
 
 -- what a seed's view holds, and how often a call on it has failed
-abbrev pub held_in : {V : Type 0} → (V → Held) → Seed V → Option Held
-held_in held s = option_map held s.view
+abbrev pub seed_held : {V : Type 0} → (V → Held) → Seed V → Option Held
+seed_held held s = option_map held s.view
 
 -- how often a call on the view of a seed has failed; 0 without a view
 abbrev pub faults_in : {V : Type 0} → (V → ℕ) → Seed V → ℕ
@@ -27,7 +27,7 @@ abbrev pub bytes_at : SeedPlace → List ℕ → List ℕ
 bytes_at p bytes = slice_range bytes p.start (place_end p)
 
 -- a seed gave these bytes from the place in what its view holds
-pub record Gives (held : Held) (place : SeedPlace) (id out : List ℕ) : Type 0 where
+pub record SeedGives (held : Held) (place : SeedPlace) (id out : List ℕ) : Type 0 where
   pub inside : place_end place ≤ held.size
   pub named : name_of Sha512T256 out ≡ id
   pub bytes : IfSome held.bytes (λ t. out ≡ bytes_at place t)
@@ -38,11 +38,11 @@ GivesNot held place id out = (held.size < place_end place)
     ⊎ ((place_end place ≤ held.size) × (name_of Sha512T256 out ≢ id) × IfSome held.bytes (λ t. out ≡ bytes_at place t))
 
 -- the answer of a seed with such a view, or with none
-abbrev pub Answers : Option Held → SeedPlace → List ℕ → List ℕ → SeedAnswer → Type 0
-Answers None place id out answer = answer ≡ answers.Wrong
-Answers (Some held) place id out answers.Given = Gives held place id out
-Answers (Some held) place id out answers.Wrong = GivesNot held place id out
-Answers (Some held) place id out answers.Failed = place_end place ≤ held.size
+abbrev pub SeedAnswersSo : Option Held → SeedPlace → List ℕ → List ℕ → SeedAnswer → Type 0
+SeedAnswersSo None place id out answer = answer ≡ answers.Wrong
+SeedAnswersSo (Some held) place id out answers.Given = SeedGives held place id out
+SeedAnswersSo (Some held) place id out answers.Wrong = GivesNot held place id out
+SeedAnswersSo (Some held) place id out answers.Failed = place_end place ≤ held.size
 
 -- how the count of its view goes
 abbrev pub CountsAnswer : Option ℕ → Option ℕ → SeedAnswer → Type 0

@@ -10,7 +10,7 @@ abbrev pub deal_of : Inside → Deal
 deal_of p = record { workers = p.workers; wants = p.wants; want_of = p.want_of.items; cuts = p.cuts.items }
 
 -- what holds of a plan's lists: the wants are sorted, and the numbers are within their limits
-pub record IsKept (p : Inside) : Type 0 where
+pub record IsSoundPlan (p : Inside) : Type 0 where
   pub some : 0 < p.workers
   pub few : p.workers ≤ 32
   pub entries : length p.want_of.items ≤ item_limit

@@ -28,11 +28,11 @@ impl Model for Plan {
 
     ghost Value = { Deal };
 
-    ghost use Rattle.extract_plan.specs.Seen.{IsKept, deal_of};
+    ghost use Rattle.extract_plan.specs.Seen.{IsSoundPlan, deal_of};
 
     ghost view = { λ p. deal_of p };
 
-    ghost invariant = { λ p. IsKept p };
+    ghost invariant = { λ p. IsSoundPlan p };
 }
 
 fn deal(alloc: Global, index: &Index, workers: usize) -> Result<Plan, AllocError>

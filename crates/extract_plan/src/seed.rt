@@ -2,7 +2,7 @@
 
 ghost use Rattle.std.specs.Prelude.{◌≡◌, Some, length};
 ghost use Rattle.std.specs.Option.{option_map};
-ghost use Rattle.extract_plan.specs.Seeds.{Answers, CountsAnswer};
+ghost use Rattle.extract_plan.specs.Seeds.{SeedAnswersSo, CountsAnswer};
 
 use chunk_store::id::{ChunkId, DigestKind};
 use chunk_store::range::name_range;
@@ -38,7 +38,7 @@ pub enum SeedAnswer {
 // Reads a place of an image into `out`. Given where the bytes have the id.
 fn view_gives<V: View>(view: &mut V, place: &SeedPlace, id: &ChunkId, out: &mut [u8]) -> SeedAnswer
     requires { length out.old ≡ place.now.size }
-    ensures value { Answers (Some (V.held view.old)) place.now id.now.0 out.new result }
+    ensures value { SeedAnswersSo (Some (V.held view.old)) place.now id.now.0 out.new result }
     ensures kept { V.held view.new ≡ V.held view.old }
     ensures faults { CountsAnswer (Some (V.faults view.old)) (Some (V.faults view.new)) result }
 {
@@ -67,7 +67,7 @@ pub fn seed_gives<V: View>(
     out: &mut [u8],
 ) -> SeedAnswer
     requires { length out.old ≡ place.now.size }
-    ensures value { Answers (option_map V.held seed.old.view) place.now id.now.0 out.new result }
+    ensures value { SeedAnswersSo (option_map V.held seed.old.view) place.now id.now.0 out.new result }
     ensures kept { option_map V.held seed.new.view ≡ option_map V.held seed.old.view }
     ensures faults { CountsAnswer (option_map V.faults seed.old.view) (option_map V.faults seed.new.view) result }
 {

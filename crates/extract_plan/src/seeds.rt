@@ -7,7 +7,7 @@ ghost use Rattle.caibx_codec.specs.Listing.{Listing, count_of};
 ghost use Rattle.extract_plan.specs.Deal.{AreWants};
 ghost use Rattle.extract_plan.specs.Found.{AreFound, AreNumbered};
 ghost use Rattle.extract_plan.specs.Keys.{keyed_cmp, number_of};
-ghost use Rattle.extract_plan.specs.Places.{IsPlaced, IsSeedIndex, PlacesKnown};
+ghost use Rattle.extract_plan.specs.Places.{ArePlaced, IsSeedIndex, PlacesKnown};
 ghost use Rattle.extract_plan.specs.Places.{items_of, nth_place, places_at, seed_item_limit};
 ghost use Rattle.extract_plan.specs.declared.seeds.SeedFault.TheVariants.{TooManyItems};
 
@@ -38,13 +38,13 @@ pub struct SeedIndex {
 }
 
 impl Model for SeedIndex {
-    ghost use Rattle.extract_plan.specs.Places.{IsPlaced, Placed, placed_of};
+    ghost use Rattle.extract_plan.specs.Places.{ArePlaced, Placed, placed_of};
 
     ghost Value = { Placed };
 
     ghost view = { λ x. placed_of x };
 
-    ghost invariant = { λ x. IsPlaced (placed_of x) };
+    ghost invariant = { λ x. ArePlaced (placed_of x) };
 }
 
 // Places in the order in which seeds list them, and for each the want whose chunk it has.

@@ -3,7 +3,7 @@
 ghost use Rattle.std.specs.Prelude.{◌≡◌, ◌<◌, ◌≤◌, ◌+◌, IfOk};
 ghost use Rattle.caibx_fields.specs.Limits.{item_limit};
 ghost use Rattle.caibx_codec.specs.Listing.{count_of};
-ghost use Rattle.extract_plan.specs.Deal.{AreCuts, shard_start, shards_of};
+ghost use Rattle.extract_plan.specs.Deal.{AreShardEnds, shard_start, shards_of};
 
 use caibx_codec::index::Index;
 use std::alloc::{AllocError, Global};
@@ -49,7 +49,7 @@ pub(crate) fn shard_of(n: usize, shards: usize, entry: usize) -> usize
 pub(crate) fn cuts(alloc: Global, index: &Index, shards: usize) -> Result<Vec<u64>, AllocError>
     requires few { shards ≤ 128 }
     requires full { shards ≤ count_of index.now }
-    ensures { IfOk result (λ v. AreCuts index.now shards v.items) }
+    ensures { IfOk result (λ v. AreShardEnds index.now shards v.items) }
 {
     index.rules();
     let n = index.count();

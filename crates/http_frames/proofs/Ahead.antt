@@ -4,8 +4,8 @@ use Rattle.std.proofs.lemmas.Bool.Decides.{nat_tests}
 use Rattle.std.proofs.lemmas.List.{length-append, length-take-le}
 use Rattle.http_frames.proofs.Runs.{reads-append}
 use Rattle.http_frames.specs.Ahead.{ahead, ahead_at}
-use Rattle.http_frames.specs.Body.{Reading, appended, counted, expected, in_line, push, push_at, reads, sized, start, trailed, first, missing, is_whole, ◌>>=◌}
-use Rattle.http_frames.specs.Seen.{Kept, Misses, seen}
+use Rattle.http_frames.specs.Body.{Reading, appended, counted, expected, in_line, push_to_body, push_at, reads_body, sized, body_start, trailed, first_next, missing_bytes, is_whole, ◌>>=◌}
+use Rattle.http_frames.specs.Seen.{ReaderKept, Misses, reading_seen}
 use Rattle.http_frames.specs.SizeLine.{size_in}
 use Rattle.http_frames.specs.Standing.{StandsFor}
 use Rattle.http_frames.specs.declared.body.BodyKind.{BodyKind}
@@ -15,7 +15,7 @@ use Rattle.http_frames.specs.declared.progress.Next.{Next}
 use Rattle.http_frames.specs.declared.progress.Next.TheVariants as next
 
 -- what a reader would keep of it
-abbrev kept_in : Reading → Kept
+abbrev kept_in : Reading → ReaderKept
 kept_in r = record { next = r.next; left = r.left; line = r.line; trailer = r.trailer; filled = length r.body }
 
 abbrev at : Next → ℕ → List ℕ → ℕ → List ℕ → Reading
@@ -155,41 +155,41 @@ then_lessens room n r (Err e) f one more = tt
 then_lessens room n r (Ok s) f one more = further room n r s (f s) one (more s one.misses)
 
 -- all bytes
-reads_lessens : (room : ℕ) (xs : List ℕ) (r : Reading) → Misses r.next r.left → Lessens room (length xs) r (reads room r xs)
-unfolding reads
+reads_lessens : (room : ℕ) (xs : List ℕ) (r : Reading) → Misses r.next r.left → Lessens room (length xs) r (reads_body room r xs)
+unfolding reads_body
 reads_lessens room [] r miss = record { misses = miss; fewer = λ unended. (unended, omega arith) }
 reads_lessens room (x ∷ xs) r miss =
-    subst (λ n. Lessens room n r (push room r x >>= λ s. reads room s xs)) (omega arith)
-    (then_lessens room (length xs) r (push room r x) (λ s. reads room s xs)
+    subst (λ n. Lessens room n r (push_to_body room r x >>= λ s. reads_body room s xs)) (omega arith)
+    (then_lessens room (length xs) r (push_to_body room r x) (λ s. reads_body room s xs)
     (byte_lessens r.next room r.left r.line r.trailer r.body x miss) (λ s missed. reads_lessens room xs s missed))
 
-start_misses : (k : BodyKind) → Misses (first k) (missing k)
+start_misses : (k : BodyKind) → Misses (first_next k) (missing_bytes k)
 start_misses kind.None = tt
 start_misses (kind.Length n) =
-    both (n == 0) (Misses (first (kind.Length n)) (missing (kind.Length n)))
+    both (n == 0) (Misses (first_next (kind.Length n)) (missing_bytes (kind.Length n)))
     (λ test. rw test tt)
     (λ test. let some : 0 < n = grind (arith, nat_tests) in rw test some)
 start_misses kind.Chunked = tt
 start_misses kind.ToEnd = tt
 
-began : (k : BodyKind) → Misses (start k).next (start k).left
-unfolding start
+began : (k : BodyKind) → Misses (body_start k).next (body_start k).left
+unfolding body_start
 began k = start_misses k
 
 reached : (room n : ℕ) (r s : Reading) (q : Result Reading WireFault) → Lessens room n r q → q ≡ Ok s → Leaves room n r s
 reached room n r s q less is = let P : Result Reading WireFault → Type 0 = λ p. Lessens room n r p in subst P is less
 
-pub piece_lessens : (k : BodyKind) (b c before after : List ℕ) (h n : Kept) → StandsFor k b h before → StandsFor k (b ++ c) n after
+pub piece_lessens : (k : BodyKind) (b c before after : List ℕ) (h n : ReaderKept) → StandsFor k b h before → StandsFor k (b ++ c) n after
     → length after ≡ length before → is_whole n.next ≡ false → ahead (length before) n + length c ≤ ahead (length before) h
 piece_lessens k b c before after h n stood stands same unended =
     let room = length before in
-    let once = reached room (length b) (start k) (seen h before) (reads room (start k) b) (reads_lessens room b (start k) (began k)) stood.reads in
-    let all : reads room (start k) (b ++ c) ≡ Ok (seen n after) =
-    subst (λ m. reads m (start k) (b ++ c) ≡ Ok (seen n after)) same stands.reads in
-    let on : reads room (seen h before) c ≡ Ok (seen n after) =
-    sym (ap (λ p. p >>= λ s. reads room s c) stood.reads) ∙ sym (reads-append room (start k) b c) ∙ all in
-    let less = reached room (length c) (seen h before) (seen n after) (reads room (seen h before) c) (reads_lessens room c (seen h before) once.misses) on in
+    let once = reached room (length b) (body_start k) (reading_seen h before) (reads_body room (body_start k) b) (reads_lessens room b (body_start k) (began k)) stood.reads in
+    let all : reads_body room (body_start k) (b ++ c) ≡ Ok (reading_seen n after) =
+    subst (λ m. reads_body m (body_start k) (b ++ c) ≡ Ok (reading_seen n after)) same stands.reads in
+    let on : reads_body room (reading_seen h before) c ≡ Ok (reading_seen n after) =
+    sym (ap (λ p. p >>= λ s. reads_body room s c) stood.reads) ∙ sym (reads-append room (body_start k) b c) ∙ all in
+    let less = reached room (length c) (reading_seen h before) (reading_seen n after) (reads_body room (reading_seen h before) c) (reads_lessens room c (reading_seen h before) once.misses) on in
     let H : ℕ → Type 0 = λ m. ahead room n + length c ≤ ahead room (record h { filled = m }) in
-    let N : ℕ → Type 0 = λ m. ahead room (record n { filled = m }) + length c ≤ ahead room (kept_in (seen h before)) in
-    let new : ahead room n + length c ≤ ahead room (kept_in (seen h before)) = subst N (length-take-le n.filled after stands.inside) (less.fewer unended).1 in
+    let N : ℕ → Type 0 = λ m. ahead room (record n { filled = m }) + length c ≤ ahead room (kept_in (reading_seen h before)) in
+    let new : ahead room n + length c ≤ ahead room (kept_in (reading_seen h before)) = subst N (length-take-le n.filled after stands.inside) (less.fewer unended).1 in
     subst H (length-take-le h.filled before stood.inside) new

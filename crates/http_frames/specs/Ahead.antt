@@ -1,12 +1,12 @@
 -- How many bytes of a body may still come before it is whole or has a fault. Each chunk of one byte or more has a size
 -- line and a line end, so the bound goes by the room that is left.
 use Rattle.std.specs.Prelude.{ℕ, ◌+◌, ◌-◌, ◌*◌, length}
-use Rattle.http_frames.specs.Seen.{Kept}
+use Rattle.http_frames.specs.Seen.{ReaderKept}
 use Rattle.http_frames.specs.declared.progress.Next.{Next}
 use Rattle.http_frames.specs.declared.progress.Next.TheVariants as next
 
 -- by what comes next, where the body has this room
-unfoldable pub ahead_at : Next → ℕ → Kept → ℕ
+unfoldable pub ahead_at : Next → ℕ → ReaderKept → ℕ
 ahead_at next.Whole room h = 0
 ahead_at next.ToEnd room h = room - h.filled
 ahead_at next.Length room h = h.left
@@ -19,5 +19,5 @@ ahead_at next.TrailerCr room h = 16384 - h.trailer
 ahead_at next.TrailerLine room h = 16384 - h.trailer
 
 -- how many bytes may come before the body is whole or has a fault
-abbrev pub ahead : ℕ → Kept → ℕ
+abbrev pub ahead : ℕ → ReaderKept → ℕ
 ahead room h = ahead_at h.next room h

@@ -87,28 +87,28 @@ push_at next.TrailerCr room r b = if b == 10 then Ok (over r) else trailed next.
 push_at next.TrailerLine room r b = trailed (if b == 10 then next.Trailer else next.TrailerLine) r
 
 -- one byte more, where the body has this room
-abbrev pub push : ℕ → Reading → ℕ → Result Reading WireFault
-push room r b = push_at r.next room r b
+abbrev pub push_to_body : ℕ → Reading → ℕ → Result Reading WireFault
+push_to_body room r b = push_at r.next room r b
 
 -- more bytes
-unfoldable pub reads : ℕ → Reading → List ℕ → Result Reading WireFault
-reads room r [] = Ok r
-reads room r (b ∷ bs) = push room r b >>= λ s. reads room s bs
+unfoldable pub reads_body : ℕ → Reading → List ℕ → Result Reading WireFault
+reads_body room r [] = Ok r
+reads_body room r (b ∷ bs) = push_to_body room r b >>= λ s. reads_body room s bs
 
 -- what comes first, and how many bytes are missing
-abbrev pub first : BodyKind → Next
-first kind.None = next.Whole
-first (kind.Length n) = if n == 0 then next.Whole else next.Length
-first kind.Chunked = next.SizeLine
-first kind.ToEnd = next.ToEnd
+abbrev pub first_next : BodyKind → Next
+first_next kind.None = next.Whole
+first_next (kind.Length n) = if n == 0 then next.Whole else next.Length
+first_next kind.Chunked = next.SizeLine
+first_next kind.ToEnd = next.ToEnd
 
-abbrev pub missing : BodyKind → ℕ
-missing (kind.Length n) = n
-missing _ = 0
+abbrev pub missing_bytes : BodyKind → ℕ
+missing_bytes (kind.Length n) = n
+missing_bytes _ = 0
 
 -- before the first byte
-unfoldable pub start : BodyKind → Reading
-start k = record { next = first k; left = missing k; line = []; trailer = 0; body = [] }
+unfoldable pub body_start : BodyKind → Reading
+body_start k = record { next = first_next k; left = missing_bytes k; line = []; trailer = 0; body = [] }
 
 -- whether the body is whole
 abbrev pub is_whole : Next → Bool
@@ -124,5 +124,5 @@ may_end _ = false
 -- the body that all of the bytes are, or its first fault
 unfoldable pub body_in : ℕ → BodyKind → List ℕ → Result (List ℕ) WireFault
 body_in room k b = do
-  r ← reads room (start k) b
+  r ← reads_body room (body_start k) b
   if may_end r.next then Ok r.body else Err faults.CutShort

@@ -14,8 +14,8 @@ abbrev pub print_chunk : WireChunk → List ℕ
 print_chunk c = print_chunk_line c.line ++ (c.bytes ++ 13 ∷ 10 ∷ [])
 
 -- the bytes of a chunk
-abbrev pub bytes_of : WireChunk → List ℕ
-bytes_of c = c.bytes
+abbrev pub chunk_data : WireChunk → List ℕ
+chunk_data c = c.bytes
 
 -- a line that isn't too long
 pub record IsSizeLine (l : ChunkLine) : Type 0 where
@@ -62,5 +62,5 @@ pub record IsTrailer (ls : List (List ℕ)) : Type 0 where
   pub short : length (trailer ls) ≤ trailer_limit
 
 -- the chunks, a last one of size 0, and a trailer
-abbrev pub spelling : List WireChunk → ChunkLine → List (List ℕ) → List ℕ
-spelling cs last ls = flat_map print_chunk cs ++ (print_chunk_line last ++ trailer ls)
+abbrev pub chunked_spelling : List WireChunk → ChunkLine → List (List ℕ) → List ℕ
+chunked_spelling cs last ls = flat_map print_chunk cs ++ (print_chunk_line last ++ trailer ls)

@@ -5,13 +5,13 @@ use Rattle.http_frames.specs.declared.fault.WireFault.{WireFault}
 use Rattle.http_frames.specs.declared.fault.WireFault.TheVariants as faults
 use Rattle.http_frames.specs.declared.progress.Next.{Next}
 use Rattle.http_frames.specs.declared.body.BodyKind.{BodyKind}
-use Rattle.http_frames.specs.Body.{Reading, reads, start, body_in}
-use Rattle.http_frames.specs.Seen.{Kept, seen}
+use Rattle.http_frames.specs.Body.{Reading, reads_body, body_start, body_in}
+use Rattle.http_frames.specs.Seen.{ReaderKept, reading_seen}
 
 -- a step over a front of so many of the bytes, or the fault of them all
-abbrev pub Steps : ℕ → Reading → List ℕ → Result ℕ WireFault → Reading → Type 0
-Steps room r bytes (Ok n) s = reads room r (take n bytes) ≡ Ok s
-Steps room r bytes (Err f) s = reads room r bytes ≡ Err f
+abbrev pub StepsOverFront : ℕ → Reading → List ℕ → Result ℕ WireFault → Reading → Type 0
+StepsOverFront room r bytes (Ok n) s = reads_body room r (take n bytes) ≡ Ok s
+StepsOverFront room r bytes (Err f) s = reads_body room r bytes ≡ Err f
 
 -- the same of bytes that are counted, after the last of which comes `after`, without recursion
 abbrev pub TakesCounted : ℕ → Next → Reading → List ℕ → Result ℕ WireFault → Reading → Type 0
@@ -25,23 +25,24 @@ TakesCounted room after r bytes (Ok n) s =
 TakesCounted room after r bytes (Err f) s = (room < length r.body + r.left) × (f ≡ faults.BodyTooLong)
 
 -- all of the bytes are read
-abbrev pub Goes : {A : Type 0} → Result Reading WireFault → Result A WireFault → Reading → Type 0
-Goes read (Ok x) new = read ≡ Ok new
-Goes read (Err f) new = read ≡ Err f
+abbrev pub BodyGoes : {A : Type 0} → Result Reading WireFault → Result A WireFault → Reading → Type 0
+BodyGoes read (Ok x) new = read ≡ Ok new
+BodyGoes read (Err f) new = read ≡ Err f
 
 -- these bytes are read without a fault, and lead to the reader and the slice
-pub record StandsFor (k : BodyKind) (b : List ℕ) (h : Kept) (out : List ℕ) : Type 0 where
+pub record StandsFor (k : BodyKind) (b : List ℕ) (h : ReaderKept) (out : List ℕ) : Type 0 where
   pub inside : h.filled ≤ length out
-  pub reads : reads (length out) (start k) b ≡ Ok (seen h out)
+  pub reads : reads_body (length out) (body_start k) b ≡ Ok (reading_seen h out)
 
 -- a reader that was fed these bytes in all, and had met no fault before the last
-abbrev pub Answers : {A : Type 0} → BodyKind → List ℕ → Result A WireFault → Result Kept WireFault → List ℕ → Type 0
-Answers k b (Ok x) (Ok h) out = StandsFor k b h out
-Answers k b (Ok x) (Err e) out = ⊥
-Answers k b (Err f) (Ok h) out = ⊥
-Answers k b (Err f) (Err e) out = (reads (length out) (start k) b ≡ Err f) × (e ≡ f)
+abbrev pub FeedAnswers : {A : Type 0} → BodyKind → List ℕ → Result A WireFault → Result ReaderKept WireFault → List ℕ
+    → Type 0
+FeedAnswers k b (Ok x) (Ok h) out = StandsFor k b h out
+FeedAnswers k b (Ok x) (Err e) out = ⊥
+FeedAnswers k b (Err f) (Ok h) out = ⊥
+FeedAnswers k b (Err f) (Err e) out = (reads_body (length out) (body_start k) b ≡ Err f) × (e ≡ f)
 
 -- the bytes end
-abbrev pub Ends : BodyKind → List ℕ → List ℕ → Result ℕ WireFault → Type 0
-Ends k b out (Ok n) = body_in (length out) k b ≡ Ok (take n out)
-Ends k b out (Err f) = body_in (length out) k b ≡ Err f
+abbrev pub BodyEnds : BodyKind → List ℕ → List ℕ → Result ℕ WireFault → Type 0
+BodyEnds k b out (Ok n) = body_in (length out) k b ≡ Ok (take n out)
+BodyEnds k b out (Err f) = body_in (length out) k b ≡ Err f

@@ -1,10 +1,11 @@
 //! How far the reading of a body has come (RFC 9112, sections 6.3, 7.1 and 8). Everything is counted in bytes.
 
 ghost use Rattle.std.specs.Prelude.{◌≡◌, ℕ, ◌+◌, ◌<◌, ◌≤◌, ◌++◌, ◌∷◌, [], List, length, take, IfOk};
-ghost use Rattle.http_frames.specs.Body.{push, reads, start, is_whole, may_end, sized, in_line, trailed, expected};
-ghost use Rattle.http_frames.specs.Seen.{seen, with_body, IsBetween, Misses};
+ghost use Rattle.http_frames.specs.Body.{push_to_body, reads_body, body_start, is_whole, may_end, sized, in_line};
+ghost use Rattle.http_frames.specs.Body.{trailed, expected};
+ghost use Rattle.http_frames.specs.Seen.{reading_seen, with_body, IsBetween, Misses};
 ghost use Rattle.http_frames.specs.SizeLine.{size_in};
-ghost use Rattle.http_frames.specs.Standing.{Goes, Steps, TakesCounted};
+ghost use Rattle.http_frames.specs.Standing.{BodyGoes, StepsOverFront, TakesCounted};
 
 use crate::body::BodyKind;
 use crate::fault::WireFault;
@@ -55,15 +56,15 @@ pub struct Progress {
 }
 
 impl Model for Progress {
-    ghost use Rattle.http_frames.specs.Seen.{Kept};
+    ghost use Rattle.http_frames.specs.Seen.{ReaderKept};
 
-    ghost Value = { Kept };
+    ghost Value = { ReaderKept };
 
-    ghost use Rattle.http_frames.specs.Seen.{kept_of, HasRoom};
+    ghost use Rattle.http_frames.specs.Seen.{kept_of, HasRoomForByte};
 
     ghost view = { λ p. kept_of p };
 
-    ghost invariant = { λ p. HasRoom p };
+    ghost invariant = { λ p. HasRoomForByte p };
 }
 
 // Puts the bytes into the slice, from this place on.
@@ -89,9 +90,9 @@ fn size_of(line: &[u8]) -> Option<u64>
 
 impl Progress {
     /// Nothing is read yet.
-    #[tactic(auto, unfolding(crate::specs::Body::start))]
+    #[tactic(auto, unfolding(crate::specs::Body::body_start))]
     pub fn new(kind: BodyKind) -> Progress
-        ensures value { (out : List ℕ) → seen result out ≡ start kind }
+        ensures value { (out : List ℕ) → reading_seen result out ≡ body_start kind }
         ensures size { result.filled ≡ 0 }
     {
         let (next, left) = match kind {
@@ -116,7 +117,7 @@ impl Progress {
         requires inside { self.old.filled ≤ room }
         ensures kept { self.new.filled ≡ self.old.filled }
         ensures value { (body : List ℕ) → length body ≡ self.old.filled
-            → Goes (sized room (with_body self.old body) size) result (with_body self.new body) }
+            → BodyGoes (sized room (with_body self.old body) size) result (with_body self.new body) }
     {
         let Some(size) = size else {
             return Err(WireFault::BadChunk);
@@ -141,7 +142,7 @@ impl Progress {
         requires inside { self.old.filled ≤ room }
         ensures kept { self.new.filled ≡ self.old.filled }
         ensures value { (body : List ℕ) → length body ≡ self.old.filled
-            → Goes (in_line room (with_body self.old body) byte) result (with_body self.new body) }
+            → BodyGoes (in_line room (with_body self.old body) byte) result (with_body self.new body) }
     {
         let used = self.used;
         self.line[used] = byte;
@@ -162,7 +163,7 @@ impl Progress {
         requires between { IsBetween after }
         ensures kept { self.new.filled ≡ self.old.filled }
         ensures value { (body : List ℕ) →
-            Goes (trailed after (with_body self.old body)) result (with_body self.new body) }
+            BodyGoes (trailed after (with_body self.old body)) result (with_body self.new body) }
     {
         if self.trailer >= TRAILER_LIMIT - 1 {
             return Err(WireFault::BadChunk);
@@ -178,7 +179,7 @@ impl Progress {
         requires between { IsBetween after }
         ensures kept { self.new.filled ≡ self.old.filled }
         ensures value { (body : List ℕ) →
-            Goes (expected wanted after (with_body self.old body) byte) result (with_body self.new body) }
+            BodyGoes (expected wanted after (with_body self.old body) byte) result (with_body self.new body) }
     {
         if byte != wanted {
             return Err(WireFault::BadChunk);
@@ -194,7 +195,7 @@ impl Progress {
         requires between { IsBetween self.old.next }
         ensures kept { self.new.filled ≡ self.old.filled }
         ensures value { (body : List ℕ) → length body ≡ self.old.filled
-            → Goes (push room (with_body self.old body) byte) result (with_body self.new body) }
+            → BodyGoes (push_to_body room (with_body self.old body) byte) result (with_body self.new body) }
     {
         match self.next {
             Next::SizeLine => self.take_line_byte(byte, room),
@@ -223,8 +224,8 @@ impl Progress {
         requires after { Misses after 0 }
         ensures inside { self.new.filled ≤ length out.new }
         ensures size { IfOk result (λ n. (0 < n) × (n ≤ length bytes.now)) }
-        ensures value { TakesCounted (length out.old) after (seen self.old out.old) bytes.now result
-            (seen self.new out.new) }
+        ensures value { TakesCounted (length out.old) after (reading_seen self.old out.old) bytes.now result
+            (reading_seen self.new out.new) }
     {
         if self.left > (out.len() - self.filled) as u64 {
             return Err(WireFault::BodyTooLong);
@@ -245,7 +246,8 @@ impl Progress {
         requires next { self.old.next ≡ Next.ToEnd }
         ensures inside { self.new.filled ≤ length out.new }
         ensures size { IfOk result (λ n. n ≡ length bytes.now) }
-        ensures value { Steps (length out.old) (seen self.old out.old) bytes.now result (seen self.new out.new) }
+        ensures value { StepsOverFront (length out.old) (reading_seen self.old out.old) bytes.now result
+            (reading_seen self.new out.new) }
     {
         if bytes.len() > out.len() - self.filled {
             return Err(WireFault::BodyTooLong);
@@ -261,7 +263,8 @@ impl Progress {
         requires some { 0 < length bytes.now }
         ensures inside { self.new.filled ≤ length out.new }
         ensures size { IfOk result (λ n. (0 < n) × (n ≤ length bytes.now)) }
-        ensures value { Steps (length out.old) (seen self.old out.old) bytes.now result (seen self.new out.new) }
+        ensures value { StepsOverFront (length out.old) (reading_seen self.old out.old) bytes.now result
+            (reading_seen self.new out.new) }
     {
         match self.next {
             Next::Whole => Ok(bytes.len()),
@@ -279,7 +282,8 @@ impl Progress {
     pub fn feed(&mut self, piece: &[u8], out: &mut [u8]) -> Result<(), WireFault>
         requires inside { self.old.filled ≤ length out.old }
         ensures inside { self.new.filled ≤ length out.new }
-        ensures value { Goes (reads (length out.old) (seen self.old out.old) piece.now) result (seen self.new out.new) }
+        ensures value { BodyGoes (reads_body (length out.old) (reading_seen self.old out.old) piece.now) result
+            (reading_seen self.new out.new) }
     {
         let mut at = 0;
         while at < piece.len() {

@@ -2,7 +2,7 @@
 
 ghost use Rattle.std.specs.Prelude.{◌≡◌, ℕ, ◌≤◌, List, [], ◌++◌, length, Err, IsOk, IfOk, IfErr, false};
 ghost use Rattle.http_frames.specs.Body.{is_whole};
-ghost use Rattle.http_frames.specs.Standing.{Answers, Ends, StandsFor};
+ghost use Rattle.http_frames.specs.Standing.{FeedAnswers, BodyEnds, StandsFor};
 
 use crate::body::BodyKind;
 use crate::fault::WireFault;
@@ -20,9 +20,9 @@ pub struct BodyReader {
 impl Model for BodyReader {
     ghost use Rattle.std.specs.Prelude.{Result};
     ghost use Rattle.http_frames.specs.declared.fault.WireFault.{WireFault};
-    ghost use Rattle.http_frames.specs.Seen.{Kept, standing};
+    ghost use Rattle.http_frames.specs.Seen.{ReaderKept, standing};
 
-    ghost Value = { Result Kept WireFault };
+    ghost Value = { Result ReaderKept WireFault };
 
     ghost view = { λ i. standing i.fault i.progress };
 }
@@ -49,7 +49,7 @@ impl BodyReader {
         // What is answered, and what reader and slice stand for afterwards, for each list of bytes
         // that they stood for.
         ensures first { IfOk self.old (λ h. (k : BodyKind) (b : List ℕ) → StandsFor k b h out.old
-            → Answers k (b ++ piece.now) result self.new out.new) }
+            → FeedAnswers k (b ++ piece.now) result self.new out.new) }
         ensures refused { IfErr self.old (λ f. (result ≡ Err f) × (self.new ≡ Err f) × (out.new ≡ out.old)) }
     {
         if let Some(fault) = self.fault {
@@ -83,7 +83,7 @@ impl BodyReader {
     /// chunks isn't whole.
     pub fn finish(&mut self) -> Result<usize, WireFault>
         ensures first { IfOk self.old (λ h. (k : BodyKind) (b out : List ℕ) → StandsFor k b h out
-            → Ends k b out result) }
+            → BodyEnds k b out result) }
         ensures ok { IfOk result (λ n. self.new ≡ self.old) }
         ensures size { IfOk result (λ n. IfOk self.old (λ h. n ≡ h.filled)) }
         ensures err { IfErr result (λ f. self.new ≡ Err f) }

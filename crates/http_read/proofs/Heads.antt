@@ -16,7 +16,7 @@ use Rattle.http_read.specs.declared.receiving.Received.{Received}
 use Rattle.http_frames.specs.HeadEnd.{IsFirstEnd, ends_at}
 use Rattle.http_frames.specs.declared.fault.WireFault.{WireFault}
 use Rattle.http_frames.specs.declared.fault.WireFault.TheVariants as faults
-use Rattle.http_wire.specs.Reply.{IsHead, reply_of}
+use Rattle.http_wire.specs.Reply.{IsReplyHead, reply_of}
 use Rattle.http_wire.specs.declared.reply.Method.{Method}
 use Rattle.http_wire.specs.declared.reply.ReplyHead.{ReplyHead}
 use Rattle.httparse.specs.Grammar.{ResponseHead, status_code}
@@ -31,14 +31,14 @@ none_at_front b (suc m) le = absurd (omega arith)
 -- what was received up to the end of a head and behind it says what the head says
 pub says_head : (m : Method) (head filled : ℕ) (buffer slice : List ℕ) (says : Result ReplyHead WireFault) (traffic : Option Traffic)
     → head ≤ filled → filled ≤ length buffer → length buffer ≡ 16384 → IsFirstEnd (take filled buffer) head → slice ≡ take head buffer
-    → ((h : ResponseHead) → IsHead slice h → says ≡ reply_of m (status_code h) (map name_and_value h.fields))
-    → (((h : ResponseHead) → ¬ (IsHead slice h)) → says ≡ Err faults.BadHead)
+    → ((h : ResponseHead) → IsReplyHead slice h → says ≡ reply_of m (status_code h) (map name_and_value h.fields))
+    → (((h : ResponseHead) → ¬ (IsReplyHead slice h)) → says ≡ Err faults.BadHead)
     → IfSome traffic (λ t. t.received ≡ take filled buffer) → IfSome traffic (λ t. SaysHead m t.received head says)
 says_head m head filled buffer slice says traffic le fits size ends is found absent received =
     let front : take head (take filled buffer) ≡ slice = grind (arith, common_steps) in
     let S : List ℕ → Type 0 = λ b. SaysHead m b head says in
-    let H : List ℕ → Type 0 = λ b. (h : ResponseHead) → IsHead b h → says ≡ reply_of m (status_code h) (map name_and_value h.fields) in
-    let A : List ℕ → Type 0 = λ b. ((h : ResponseHead) → ¬ (IsHead b h)) → says ≡ Err faults.BadHead in
+    let H : List ℕ → Type 0 = λ b. (h : ResponseHead) → IsReplyHead b h → says ≡ reply_of m (status_code h) (map name_and_value h.fields) in
+    let A : List ℕ → Type 0 = λ b. ((h : ResponseHead) → ¬ (IsReplyHead b h)) → says ≡ Err faults.BadHead in
     weaker traffic (λ t same. subst S (sym same) (record {
       ends = ends;
       near = omega arith;
@@ -72,8 +72,8 @@ ends_more b c (suc n) le =
 says_more : (m : Method) (b c : List ℕ) (n : ℕ) (says : Result ReplyHead WireFault) → SaysHead m b n says → SaysHead m (b ++ c) n says
 says_more m b c n says is =
     let front : take n (b ++ c) ≡ take n b = take-append-le n b c is.ends.inside in
-    let H : List ℕ → Type 0 = λ x. (h : ResponseHead) → IsHead x h → says ≡ reply_of m (status_code h) (map name_and_value h.fields) in
-    let A : List ℕ → Type 0 = λ x. ((h : ResponseHead) → ¬ (IsHead x h)) → says ≡ Err faults.BadHead in
+    let H : List ℕ → Type 0 = λ x. (h : ResponseHead) → IsReplyHead x h → says ≡ reply_of m (status_code h) (map name_and_value h.fields) in
+    let A : List ℕ → Type 0 = λ x. ((h : ResponseHead) → ¬ (IsReplyHead x h)) → says ≡ Err faults.BadHead in
     record {
       ends = record {
         inside = omega (arith, length-append b c, is.ends.inside);

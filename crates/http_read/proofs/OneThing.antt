@@ -9,7 +9,7 @@ use Rattle.http_frames.specs.declared.body.BodyKind.{BodyKind}
 use Rattle.http_frames.specs.declared.body.BodyKind.TheVariants as kind
 use Rattle.http_frames.specs.declared.fault.WireFault.{WireFault}
 use Rattle.http_frames.specs.declared.fault.WireFault.TheVariants as faults
-use Rattle.http_wire.specs.Reply.{IsHead}
+use Rattle.http_wire.specs.Reply.{IsReplyHead}
 use Rattle.http_wire.specs.declared.reply.Method.{Method}
 use Rattle.http_wire.specs.declared.reply.ReplyHead.{ReplyHead}
 use Rattle.httparse.specs.Grammar.{ResponseHead}
@@ -127,7 +127,7 @@ one_end b n k first other =
 one_says : (m : Method) (b : List ℕ) (n : ℕ) (r s : Result ReplyHead WireFault) → SaysHead m b n r → SaysHead m b n s → r ≡ s
 one_says m b n r s first other =
     same_says r s (λ apart.
-    let none : (h : ResponseHead) → ¬ (IsHead (take n b) h) = λ h is. apart (first.found h is ∙ sym (other.found h is)) in
+    let none : (h : ResponseHead) → ¬ (IsReplyHead (take n b) h) = λ h is. apart (first.found h is ∙ sym (other.found h is)) in
     apart (first.absent none ∙ sym (other.absent none)))
 
 pub one_thing : (m : Method) (b : List ℕ) (n k : ℕ) (r s : Result ReplyHead WireFault) → SaysHead m b n r → SaysHead m b k s

@@ -52,8 +52,8 @@ abbrev pub IsFront : List ℕ → List ℕ → Type 0
 IsFront b sent = (n : ℕ) × (n ≤ length b) × (sent ≡ take n b)
 
 -- the server as one list of numbers, which is what is seen of the place of its store
-abbrev pub place_of : Server → List ℕ
-place_of s = s.port ∷ length s.host ∷ s.host ++ s.prefix
+abbrev pub server_place : Server → List ℕ
+server_place s = s.port ∷ length s.host ∷ s.host ++ s.prefix
 
 -- ---- how often a server was asked
 

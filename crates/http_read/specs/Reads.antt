@@ -10,10 +10,10 @@ use Rattle.http_read.specs.declared.fault.Unanswered.{Unanswered}
 use Rattle.http_read.specs.declared.fault.Unanswered.TheVariants as unanswered
 use Rattle.http_read.specs.declared.fault.Unread.{Unread}
 use Rattle.http_read.specs.declared.fault.Unread.TheVariants as unread
-use Rattle.http_read.specs.Replies.{IsWhole}
+use Rattle.http_read.specs.Replies.{IsWholeBody}
 use Rattle.http_frames.specs.Ahead.{ahead}
-use Rattle.http_frames.specs.Body.{body_in, is_whole, reads, start}
-use Rattle.http_frames.specs.Seen.{Kept}
+use Rattle.http_frames.specs.Body.{body_in, is_whole, reads_body, body_start}
+use Rattle.http_frames.specs.Seen.{ReaderKept}
 use Rattle.http_frames.specs.Standing.{StandsFor}
 use Rattle.http_frames.specs.declared.body.BodyKind.{BodyKind}
 use Rattle.http_frames.specs.declared.fault.WireFault.{WireFault}
@@ -64,31 +64,32 @@ IfBad (Ok x) P = Unit {0}
 IfBad (Err refused) P = OnBad refused P
 
 -- a reader was fed what was received after the head, and has met no fault
-pub record Fed (k : BodyKind) (head : ℕ) (traffic : Option Traffic) (reader : Result Kept WireFault) (out : List ℕ)
+pub record Fed (k : BodyKind) (head : ℕ) (traffic : Option Traffic) (reader : Result ReaderKept WireFault)
+    (out : List ℕ)
     : Type 0 where
   pub bytes : List ℕ
-  pub kept : Kept
+  pub kept : ReaderKept
   pub is : reader ≡ Ok kept
   pub stands : StandsFor k bytes kept out
   pub received : IfSome traffic (λ t. drop head t.received ≡ bytes)
   pub inside : IfSome traffic (λ t. head ≤ length t.received)
 
 -- whether the body of a reader is whole
-abbrev pub is_over : Result Kept WireFault → Bool
+abbrev pub is_over : Result ReaderKept WireFault → Bool
 is_over (Ok h) = is_whole h.next
 is_over (Err f) = false
 
 -- how many bytes a reader may still take, and one more where the body isn't whole
-abbrev pub left_in : ℕ → Result Kept WireFault → ℕ
+abbrev pub left_in : ℕ → Result ReaderKept WireFault → ℕ
 left_in room (Ok h) = if is_whole h.next then 0 else ahead room h + 1
 left_in room (Err f) = 0
 
 -- what the body is that was received after the head, which is whole, or is all that comes
 pub record IsBody (k : BodyKind) (head room : ℕ) (t : Traffic) (b : List ℕ) : Type 0 where
   pub bytes : body_in room k (drop head t.received) ≡ Ok b
-  pub ended : IsWhole room k (drop head t.received) ⊎ (t.coming ≡ [])
+  pub ended : IsWholeBody room k (drop head t.received) ⊎ (t.coming ≡ [])
 
 -- its first fault, whatever follows, or where no more comes
 pub record IsFault (k : BodyKind) (head room : ℕ) (t : Traffic) (f : WireFault) : Type 0 where
   pub bytes : body_in room k (drop head t.received) ≡ Err f
-  pub ended : (reads room (start k) (drop head t.received) ≡ Err f) ⊎ (t.coming ≡ [])
+  pub ended : (reads_body room (body_start k) (drop head t.received) ≡ Err f) ⊎ (t.coming ≡ [])

@@ -5,7 +5,7 @@ use Rattle.http_read.specs.Asks.{Server, asks}
 use Rattle.http_read.specs.Replies.{head_limit, SaysHead, SaysStatus}
 use Rattle.http_read.specs.declared.fault.BadReply.{BadReply}
 use Rattle.http_read.specs.declared.fault.BadReply.TheVariants as bad
-use Rattle.http_frames.specs.Body.{body_in, reads, start}
+use Rattle.http_frames.specs.Body.{body_in, reads_body, body_start}
 use Rattle.http_frames.specs.HeadEnd.{ends_at}
 use Rattle.http_frames.specs.declared.body.BodyKind.{BodyKind}
 use Rattle.http_frames.specs.declared.fault.WireFault.{WireFault}
@@ -33,7 +33,7 @@ pub record HasBadBody (m : Method) (room : ℕ) (t : Traffic) (f : WireFault) : 
   pub says : SaysHead m t.received size (Ok (record { status = 200; body = body }))
   pub bytes : body_in room body (drop size t.received) ≡ Err f
   pub fits : f ≢ faults.BodyTooLong
-  pub ended : (reads room (start body) (drop size t.received) ≡ Err f) ⊎ (t.coming ≡ [])
+  pub ended : (reads_body room (body_start body) (drop size t.received) ≡ Err f) ⊎ (t.coming ≡ [])
 
 -- the statuses that aren't taken
 abbrev pub IsUnwanted : Method → ℕ → Type 0

@@ -3,12 +3,12 @@
 use Rattle.std.specs.Prelude.{◌≡◌, ℕ, ◌<◌, ◌≤◌, ◌⊎◌, List, [], take, drop, map, true, Result, Ok, Err}
 use Rattle.dsy_base.specs.Links.{Traffic}
 use Rattle.http_read.specs.Asks.{Server, asks, asks_get, asks_head, asks_put}
-use Rattle.http_frames.specs.Body.{Reading, body_in, is_whole, reads, start}
+use Rattle.http_frames.specs.Body.{Reading, body_in, is_whole, reads_body, body_start}
 use Rattle.http_frames.specs.HeadEnd.{IsFirstEnd}
 use Rattle.http_frames.specs.declared.body.BodyKind.{BodyKind}
 use Rattle.http_frames.specs.declared.fault.WireFault.{WireFault}
 use Rattle.http_frames.specs.declared.fault.WireFault.TheVariants as faults
-use Rattle.http_wire.specs.Reply.{IsHead, reply_of}
+use Rattle.http_wire.specs.Reply.{IsReplyHead, reply_of}
 use Rattle.http_wire.specs.declared.reply.Method.{Method}
 use Rattle.http_wire.specs.declared.reply.Method.TheVariants as method
 use Rattle.http_wire.specs.declared.reply.ReplyHead.{ReplyHead}
@@ -23,8 +23,9 @@ head_limit = 16384
 pub record SaysHead (m : Method) (b : List ℕ) (n : ℕ) (says : Result ReplyHead WireFault) : Type 0 where
   pub ends : IsFirstEnd b n
   pub near : n ≤ head_limit
-  pub found : (h : ResponseHead) → IsHead (take n b) h → says ≡ reply_of m (status_code h) (map name_and_value h.fields)
-  pub absent : ((h : ResponseHead) → ¬ (IsHead (take n b) h)) → says ≡ Err faults.BadHead
+  pub found : (h : ResponseHead) → IsReplyHead (take n b) h → says
+      ≡ reply_of m (status_code h) (map name_and_value h.fields)
+  pub absent : ((h : ResponseHead) → ¬ (IsReplyHead (take n b) h)) → says ≡ Err faults.BadHead
 
 -- what was received has a head with this status
 pub record SaysStatus (m : Method) (t : Traffic) (status : ℕ) : Type 0 where
@@ -33,9 +34,9 @@ pub record SaysStatus (m : Method) (t : Traffic) (status : ℕ) : Type 0 where
   pub says : SaysHead m t.received size (Ok (record { status = status; body = body }))
 
 -- these bytes are a whole body, whatever follows
-pub record IsWhole (room : ℕ) (k : BodyKind) (b : List ℕ) : Type 0 where
+pub record IsWholeBody (room : ℕ) (k : BodyKind) (b : List ℕ) : Type 0 where
   pub reading : Reading
-  pub read : reads room (start k) b ≡ Ok reading
+  pub read : reads_body room (body_start k) b ≡ Ok reading
   pub whole : is_whole reading.next ≡ true
 
 -- it has a head with the status 200, and these bytes are the body that follows, which is whole, or is all that comes
@@ -45,7 +46,7 @@ pub record SaysBody (t : Traffic) (b : List ℕ) : Type 0 where
   pub room : ℕ
   pub says : SaysHead method.Get t.received size (Ok (record { status = 200; body = body }))
   pub bytes : body_in room body (drop size t.received) ≡ Ok b
-  pub ended : IsWhole room body (drop size t.received) ⊎ (t.coming ≡ [])
+  pub ended : IsWholeBody room body (drop size t.received) ⊎ (t.coming ≡ [])
 
 -- it has a head with the status 200, and the body that follows is longer than the room for it
 pub record SaysLonger (t : Traffic) (room : ℕ) : Type 0 where

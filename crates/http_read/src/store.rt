@@ -246,7 +246,7 @@ impl<D: Dial> HttpStore<D> {
 }
 
 impl<D: Dial> Store for HttpStore<D> {
-    ghost use Rattle.http_read.specs.Asks.{place_of, sent_on, times_asked};
+    ghost use Rattle.http_read.specs.Asks.{sent_on, server_place, times_asked};
     ghost use Rattle.std.specs.Prelude.{None, false, true};
     ghost use Rattle.std.proofs.Common.{rules};
     ghost use Rattle.http_read.specs.Remotes.{faults_of, log_of, said_on};
@@ -264,7 +264,7 @@ impl<D: Dial> Store for HttpStore<D> {
 
     ghost faults = { λ s. faults_of (log_of D.state s) };
 
-    ghost place = { λ s. place_of s.server };
+    ghost place = { λ s. server_place s.server };
 
     ghost tells = { false };
 

@@ -21,11 +21,11 @@ length_text None = []
 length_text (Some n) = codes "Content-Length: " ++ (decimal n ++ codes "\r\n")
 
 -- the parts put together; of port and length these are their texts
-abbrev pub joined : List ℕ → List ℕ → List ℕ → List ℕ → List ℕ → List ℕ
-joined name path host port length =
+abbrev pub ask_of_parts : List ℕ → List ℕ → List ℕ → List ℕ → List ℕ → List ℕ
+ask_of_parts name path host port length =
     name ++ (codes " " ++ (path ++ (codes " HTTP/1.1\r\nHost: " ++ (host ++ (port
     ++ (codes "\r\nAccept-Encoding: identity\r\nConnection: close\r\n" ++ (length ++ codes "\r\n")))))))
 
 -- of a method, a host, a port, a path and a length
 unfoldable pub ask : Method → List ℕ → ℕ → List ℕ → Option ℕ → List ℕ
-ask m host port path length = joined (method_name m) path host (port_text port) (length_text length)
+ask m host port path length = ask_of_parts (method_name m) path host (port_text port) (length_text length)

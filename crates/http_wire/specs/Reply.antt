@@ -28,13 +28,13 @@ abbrev pub digit_limit : ℕ
 digit_limit = 18
 
 -- a head that is right: httparse reads all bytes as one, with room for so many lines
-pub record IsHead (head : List ℕ) (h : ResponseHead) : Type 0 where
+pub record IsReplyHead (head : List ℕ) (h : ResponseHead) : Type 0 where
   pub reads : ReadsResponse head h []
   pub few : length h.fields ≤ field_limit
 
 -- the number that 1 to 18 digits write
-unfoldable pub length_in : List ℕ → Option ℕ
-length_in v =
+unfoldable pub length_read : List ℕ → Option ℕ
+length_read v =
     if nat_lt 0 (length v) && nat_le (length v) digit_limit && list_all is_ascii_digit v
     then Some (digits_value 10 v) else None
 
@@ -55,7 +55,7 @@ unfoldable pub note : Framing → List ℕ × List ℕ → Framing
 note f line =
     if str_eq_ignore_ascii_case line.0 (codes "transfer-encoding") then record f { coding = coded f.coding line.1 }
     else if str_eq_ignore_ascii_case line.0 (codes "content-length")
-    then record f { told = agreed f.told (length_in line.1) }
+    then record f { told = agreed f.told (length_read line.1) }
     else f
 
 -- more lines, as names and values

@@ -21,11 +21,11 @@ abbrev pub close_text : Bool → List ℕ
 close_text close = if close then codes "Connection: close\r\n" else []
 
 -- the parts put together; of the phrase and of whether the connection closes these are their texts
-abbrev pub joined : ℕ → List ℕ → ℕ → List ℕ → List ℕ
-joined status phrase size close =
+abbrev pub reply_of_parts : ℕ → List ℕ → ℕ → List ℕ → List ℕ
+reply_of_parts status phrase size close =
     codes "HTTP/1.1 " ++ (decimal status ++ (codes " " ++ (phrase ++ (codes "\r\nContent-Length: " ++ (decimal size
     ++ (codes "\r\n" ++ (close ++ codes "\r\n")))))))
 
 -- of a status, the length of its body, and whether the connection closes
 unfoldable pub reply_head : ℕ → ℕ → Bool → List ℕ
-reply_head status size close = joined status (phrase_of status) size (close_text close)
+reply_head status size close = reply_of_parts status (phrase_of status) size (close_text close)

@@ -55,19 +55,19 @@ uncoded coding.Chunked = Err 411
 uncoded coding.Other = Err 411
 
 -- a PUT tells the length of its body, and the others have none (RFC 9112, sections 6.2 and 6.3)
-abbrev pub sized : Method → ContentLength → Result Unit ℕ
-sized m told.Wrong = Err 400
-sized method.Put told.Absent = Err 411
-sized method.Put (told.Number n) = if nat_lt body_limit n then Err 413 else Ok tt
-sized m told.Absent = Ok tt
-sized m (told.Number n) = if n == 0 then Ok tt else Err 400
+abbrev pub judged_length : Method → ContentLength → Result Unit ℕ
+judged_length m told.Wrong = Err 400
+judged_length method.Put told.Absent = Err 411
+judged_length method.Put (told.Number n) = if nat_lt body_limit n then Err 413 else Ok tt
+judged_length m told.Absent = Ok tt
+judged_length m (told.Number n) = if n == 0 then Ok tt else Err 400
 
 -- the method, or the status of the refusal: of the first that holds
-unfoldable pub judged : Bool → Option Method → Framing → Result Method ℕ
-judged writable name f = do
+unfoldable pub judged_request : Bool → Option Method → Framing → Result Method ℕ
+judged_request writable name f = do
   m ← allowed writable name
   _ ← uncoded f.coding
-  _ ← sized m f.told
+  _ ← judged_length m f.told
   Ok m
 
 -- what is asked for
@@ -100,8 +100,8 @@ asks_close line = str_eq_ignore_ascii_case line.0 (codes "connection") && has_cl
 -- what a request with this method, target, version and lines asks for
 unfoldable pub request_with : Bool → Option Method → List ℕ → ℕ → List (List ℕ × List ℕ) → Request
 request_with writable name target minor lines = record {
-  act = act_of (judged writable name (notes unframed lines)) (id_in target);
-  close = is_err (judged writable name (notes unframed lines)) || (minor == 0 || list_any asks_close lines);
+  act = act_of (judged_request writable name (notes unframed lines)) (id_in target);
+  close = is_err (judged_request writable name (notes unframed lines)) || (minor == 0 || list_any asks_close lines);
   body = body_told name (notes unframed lines).told;
 }
 

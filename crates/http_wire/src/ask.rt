@@ -4,7 +4,7 @@ ghost use Rattle.std.specs.Prelude.{◌≡◌, ◌++◌, IfOk, OnOk, Err, string
 ghost use Rattle.std.specs.Option.{option_map};
 ghost use Rattle.dsy_base.specs.Counts.{CountsFaults};
 ghost use Rattle.dsy_base.specs.Disk.{PutsFront};
-ghost use Rattle.http_wire.specs.Ask.{ask, joined, length_text, method_name, port_text};
+ghost use Rattle.http_wire.specs.Ask.{ask, ask_of_parts, length_text, method_name, port_text};
 
 use crate::reply::Method;
 use dsy_base::fault::IoFault;
@@ -53,7 +53,7 @@ fn joined(
     length: &str,
 ) -> Result<String, AllocError>
     ensures { IfOk result (λ t. string_bytes t
-        ≡ joined name.now path.now host.now port.now length.now) }
+        ≡ ask_of_parts name.now path.now host.now port.now length.now) }
 {
     format!(in alloc;
         "{name} {path} HTTP/1.1\r\nHost: {host}{port}\r\nAccept-Encoding: identity\r\nConnection: close\r\n{length}\r\n"

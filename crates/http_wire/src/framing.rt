@@ -2,7 +2,7 @@
 
 ghost use Rattle.std.specs.Prelude.{◌≡◌, ℕ, ◌≤◌, length, map, All};
 ghost use Rattle.httparse.specs.Spans.{header_bytes, IsHeaderWithin};
-ghost use Rattle.http_wire.specs.Reply.{agreed, by_coding, coded, length_in, note, notes, unframed};
+ghost use Rattle.http_wire.specs.Reply.{agreed, by_coding, coded, length_read, note, notes, unframed};
 
 use crate::words::is_word;
 use http_frames::body::BodyKind;
@@ -41,7 +41,7 @@ pub struct Framing {
 
 // The number that digits write, at least one and not too many.
 fn length_in(value: &[u8]) -> Option<u64>
-    ensures { result ≡ length_in value.now }
+    ensures { result ≡ length_read value.now }
 {
     if value.is_empty() {
         return None;

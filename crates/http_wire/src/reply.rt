@@ -3,7 +3,7 @@
 ghost use Rattle.std.specs.Prelude.{◌≡◌, ℕ, map, Err};
 ghost use Rattle.httparse.specs.Grammar.{ResponseHead, status_code};
 ghost use Rattle.httparse.specs.Spans.{name_and_value};
-ghost use Rattle.http_wire.specs.Reply.{has_no_body, reply_of, IsHead};
+ghost use Rattle.http_wire.specs.Reply.{has_no_body, reply_of, IsReplyHead};
 
 use crate::framing::Framing;
 use http_frames::body::BodyKind;
@@ -41,9 +41,9 @@ fn has_no_body(method: Method, status: u16) -> bool
 /// or contradicts another one, or there is a `Transfer-Encoding` other than one `chunked`.
 #[tactic(auto, unfolding(crate::specs::Reply::body_of))]
 pub fn read_reply(head: &[u8], method: Method) -> Result<ReplyHead, WireFault>
-    ensures found { (h : ResponseHead) → IsHead head.now h
+    ensures found { (h : ResponseHead) → IsReplyHead head.now h
         → result ≡ reply_of method (status_code h) (map name_and_value h.fields) }
-    ensures absent { ((h : ResponseHead) → ¬ (IsHead head.now h)) → result ≡ Err WireFault.BadHead }
+    ensures absent { ((h : ResponseHead) → ¬ (IsReplyHead head.now h)) → result ≡ Err WireFault.BadHead }
 {
     let mut lines = [EMPTY_HEADER_SPAN; FIELD_LIMIT];
     let Ok(Status::Complete(spans)) = parse_response(head, &mut lines) else {

@@ -4,7 +4,7 @@ ghost use Rattle.std.specs.Prelude.{◌≡◌, ◌++◌, IfOk, OnOk, Err, string
 ghost use Rattle.std.specs.Option.{option_map};
 ghost use Rattle.dsy_base.specs.Counts.{CountsFaults};
 ghost use Rattle.dsy_base.specs.Disk.{PutsFront};
-ghost use Rattle.http_wire.specs.ReplyText.{close_text, joined, phrase_of, reply_head};
+ghost use Rattle.http_wire.specs.ReplyText.{close_text, reply_of_parts, phrase_of, reply_head};
 
 use dsy_base::fault::IoFault;
 use dsy_base::sink::Sink;
@@ -42,7 +42,7 @@ fn joined(
     length: u64,
     close: &str,
 ) -> Result<String, AllocError>
-    ensures { IfOk result (λ t. string_bytes t ≡ joined status phrase.now length close.now) }
+    ensures { IfOk result (λ t. string_bytes t ≡ reply_of_parts status phrase.now length close.now) }
 {
     format!(in alloc; "HTTP/1.1 {status} {phrase}\r\nContent-Length: {length}\r\n{close}\r\n")
 }

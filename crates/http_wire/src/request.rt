@@ -6,7 +6,8 @@ ghost use Rattle.std.specs.Option.{option_map};
 ghost use Rattle.httparse.specs.Grammar.{RequestHead};
 ghost use Rattle.httparse.specs.Spans.{header_bytes, IsHeaderWithin};
 ghost use Rattle.http_wire.specs.Request.{act_of, allowed, asks_close, bad_request, body_limit, body_told, has_close};
-ghost use Rattle.http_wire.specs.Request.{is_refusal, judged, method_of, request_of, sized, uncoded, IsRequest};
+ghost use Rattle.http_wire.specs.Request.{is_refusal, judged_request, method_of, request_of, judged_length, uncoded};
+ghost use Rattle.http_wire.specs.Request.{IsRequest};
 
 use crate::framing::{Coding, ContentLength, Framing};
 use crate::reply::{FIELD_LIMIT, Method};
@@ -88,7 +89,7 @@ fn uncoded(coding: Coding) -> Result<(), u16>
 
 // Whether the length of the body is right for the method.
 fn sized(method: Method, told: ContentLength) -> Result<(), u16>
-    ensures { result ≡ sized method told }
+    ensures { result ≡ judged_length method told }
 {
     match (method, told) {
         (_, ContentLength::Wrong) => Err(400),
@@ -101,9 +102,9 @@ fn sized(method: Method, told: ContentLength) -> Result<(), u16>
 }
 
 // The method of a request that is taken, or the status of the refusal, by the first that holds.
-#[tactic(auto, unfolding(crate::specs::Request::judged))]
+#[tactic(auto, unfolding(crate::specs::Request::judged_request))]
 fn judged(writable: bool, method: Option<Method>, framing: Framing) -> Result<Method, u16>
-    ensures { result ≡ judged writable method framing }
+    ensures { result ≡ judged_request writable method framing }
 {
     let method = allowed(writable, method)?;
     uncoded(framing.coding)?;

@@ -3,7 +3,7 @@
 ghost use Rattle.std.specs.Prelude.{◌≡◌, drop};
 ghost use Rattle.std.specs.Option.{option_map};
 ghost use Rattle.hex.specs.Hex.{decode_sized};
-ghost use Rattle.http_wire.specs.Target.{id_in, id_with_path};
+ghost use Rattle.http_wire.specs.Target.{id_in, id_with_target};
 
 use crate::words::is_word;
 use chunk_store::id::ChunkId;
@@ -11,7 +11,7 @@ use hex::FromHex;
 
 // The id that the digits behind the `/` of the path spell, if this is its path.
 fn id_at(path: &[u8]) -> Option<ChunkId>
-    ensures { option_map (λ id. id.0) result ≡ id_with_path path.now (decode_sized (drop 5 path.now) 32) }
+    ensures { option_map (λ id. id.0) result ≡ id_with_target path.now (decode_sized (drop 5 path.now) 32) }
 {
     let (_, digits) = path.split_at_checked(5)?;
     let Ok(bytes) = <[u8; 32] as FromHex>::from_hex(digits) else {

@@ -2,7 +2,7 @@
 
 use crate::compare::{ok, same};
 use image_demo::bytes;
-use image_demo::demo::demo;
+use image_demo::demo::demo_figures;
 use image_demo::figures::Figures;
 
 // The figures of an image of so many bytes in so many chunks, each of which is fetched.
@@ -22,12 +22,12 @@ fn fetched(bytes: u64, chunks: u64) -> Figures {
 fn one_byte_is_fetched(rt: HostRuntime) {
     let image = ok(&rt, bytes::image(rt.alloc(), 7, 1));
     same(&rt, image.as_slice(), b"\x7e".as_slice());
-    same(&rt, demo(&rt, rt.alloc(), 7, 1), Ok(fetched(1, 1)));
+    same(&rt, demo_figures(&rt, rt.alloc(), 7, 1), Ok(fetched(1, 1)));
 }
 
 #[test]
 fn no_bytes_take_nothing(rt: HostRuntime) {
-    same(&rt, demo(&rt, rt.alloc(), 7, 0), Ok(fetched(0, 0)));
+    same(&rt, demo_figures(&rt, rt.alloc(), 7, 0), Ok(fetched(0, 0)));
 }
 
 #[test]

@@ -31,7 +31,7 @@ use Rattle.store_chain.specs.declared.refused.Refused.TheVariants as refused
 use Rattle.image_commands.proofs.Seeded.{given_had, had_given}
 use Rattle.command_words.specs.declared.command.Location.{Location}
 use Rattle.command_steps.proofs.Taken.{at_name_twice}
-use Rattle.command_steps.specs.Sources.{HaveLacked, Sources, told_at}
+use Rattle.command_steps.specs.Sources.{HaveLacked, Sources, location_files}
 use Rattle.image_commands.specs.Extract.{Assembled, CacheLacksEntry, CanBeHad, Into, IsLacking, Leaves, NoneAsked, OnlyHad, SeedHas, Seeds, IsTorn, StopsFailed, StopsSomewhere, Told, Undisturbed, WhereFolders, answer_of_assembly, answer_of_taking, base_of, folder_of, old_of}
 use Rattle.command_steps.specs.Seeds.{IsViewed}
 use Rattle.command_worlds.specs.Worlds.{DiskQuiet, FileRose}
@@ -268,7 +268,7 @@ module _ (w v : Sources) (stores : List Location) (cache : Option (List ℕ)) (o
   module _ (P : List (Map (List ℕ)) → List ℕ → ℕ → Type 0) (had : (b : Map (List ℕ)) → d.files ≡ Some b → (maps : List (Map (List ℕ))) (base : List ℕ) (i : ℕ) → i < count_of l → P maps base i → CanBeHad l base b x maps i)
       (back : (b : Map (List ℕ)) → d.files ≡ Some b → DiskQuiet d e → (maps : List (Map (List ℕ))) (base : List ℕ) (i : ℕ) → i < count_of l → CanBeHad l base b x maps i → P maps base i) where
     pub facts_of : (r : Result Report ExtractFault) (looks : List (Option (Map (List ℕ)))) (C : List (Map (List ℕ)) → Type 0) (t0 t1 : Option (List ℕ)) (f0 f1 : ℕ) (M N : List (Map (List ℕ)) → List (Map (List ℕ)) → Type 0)
-        → IfSome d.folders (λ m. looks ≡ map (told_at m) stores)
+        → IfSome d.folders (λ m. looks ≡ map (location_files m) stores)
         → IfSome d.folders (λ n. (cs : List (Map (List ℕ))) × (map n (folder_of cache) ≡ map Some cs) × C cs)
         → IfSome d.files (λ m. t0 ≡ Some (old_of m out)) → is_some t0 ≡ is_some t1
         → e.files ≡ option_map (λ m. at_name m out.name t1) (option_map (λ m. at_name m out.name None) d.files)
@@ -279,9 +279,9 @@ module _ (w v : Sources) (stores : List Location) (cache : Option (List ℕ)) (o
         → ((cached maps : List (Map (List ℕ))) → N cached maps → IfSome t0 (λ o. Verdict l (P (cached ++ maps) (resized o (image_length l))) r))
         → ((cached maps : List (Map (List ℕ))) → N cached maps → WhereTold t0 t1 (λ o t. After l (P (cached ++ maps) (resized o (image_length l))) (resized o (image_length l)) t r))
         → ((b : Map (List ℕ)) → d.files ≡ Some b → (fs : List (Map (List ℕ))) → looks ≡ map Some fs → (cs : List (Map (List ℕ))) → C cs → M (map chunks cs) (map chunks fs))
-        → ((b : Map (List ℕ)) → d.files ≡ Some b → (n : Map (Map (List ℕ))) (fs : List (Map (List ℕ))) → map (told_at n) stores ≡ map Some fs → looks ≡ map Some fs → (cs : List (Map (List ℕ))) → C cs → Undisturbed d e cache l cs fs → N (map chunks cs) (map chunks fs)) → AllFacts r
+        → ((b : Map (List ℕ)) → d.files ≡ Some b → (n : Map (Map (List ℕ))) (fs : List (Map (List ℕ))) → map (location_files n) stores ≡ map Some fs → looks ≡ map Some fs → (cs : List (Map (List ℕ))) → C cs → Undisturbed d e cache l cs fs → N (map chunks cs) (map chunks fs)) → AllFacts r
     facts_of r looks C t0 t1 f0 f1 M N found cached took told left rose excused bytes lacks only exactly after shown quiet b n a is y z =
-        let f : looks ≡ map (told_at n) stores = subst (λ o. IfSome o (λ m. looks ≡ map (told_at m) stores)) y found in
+        let f : looks ≡ map (location_files n) stores = subst (λ o. IfSome o (λ m. looks ≡ map (location_files m) stores)) y found in
         let g : (cs : List (Map (List ℕ))) × (map n (folder_of cache) ≡ map Some cs) × C cs = subst (λ o. IfSome o (λ n. (cs : List (Map (List ℕ))) × (map n (folder_of cache) ≡ map Some cs) × C cs)) y cached in
         let o : t0 ≡ Some (old_of b out) = subst (λ o. IfSome o (λ m. t0 ≡ Some (old_of m out))) is took in
         let lf : e.files ≡ option_map (λ m. at_name m out.name t1) (option_map (λ m. at_name m out.name None) (Some b)) =

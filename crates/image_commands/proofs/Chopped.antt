@@ -11,9 +11,9 @@ use Rattle.chunk_store.specs.Folders.{chunks}
 use Rattle.image_commands.specs.Chop.{ChoppedTo, HasLength}
 use Rattle.dsy_base.specs.Maps.{Map}
 use Rattle.command_steps.proofs.Asking.{each_asked}
-use Rattle.command_steps.specs.AnySources.{IsUnused, asked_in, location_in, with_those}
+use Rattle.command_steps.specs.AnyStores.{IsUnused, asked_in, location_in, with_those}
 use Rattle.command_steps.specs.Asking.{Asks, EachDialed}
-use Rattle.command_steps.specs.declared.any_source.AnySource.{AnySource}
+use Rattle.command_steps.specs.declared.any_store.AnyStore.{AnyStore}
 use Rattle.command_words.specs.declared.command.Location.{Location}
 use Rattle.dsy_base.specs.Links.{DialState, Traffic}
 use Rattle.http_wire.specs.declared.reply.Method.TheVariants as method
@@ -53,7 +53,7 @@ few_listed l k q =
     omega (arith, same, less)
 
 -- how often a server was asked that was given back
-pub gets_entries : {L D K : Type 0} (place : L → List ℕ) (state : D → DialState) (l : Listing) (k : ℕ) (old new : AnySource L D K) (store : Location) (w v : Option (List Traffic)) → IsUnused state old → location_in place new ≡ store
+pub gets_entries : {L D K : Type 0} (place : L → List ℕ) (state : D → DialState) (l : Listing) (k : ℕ) (old new : AnyStore L D K) (store : Location) (w v : Option (List Traffic)) → IsUnused state old → location_in place new ≡ store
     → AsksListed l k (asked_in method.Get state old) (asked_in method.Get state new) → asked_in method.Head state new ≡ asked_in method.Head state old → v ≡ with_those state w new
     → EachDialed (Asks (times_listed l (count_of l)) (λ id. 0)) (store ∷ []) w v
 gets_entries place state l k old new store w v unused located asked queried ended =

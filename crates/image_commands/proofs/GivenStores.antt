@@ -14,13 +14,13 @@ use Rattle.command_steps.proofs.Dialed.{dials_none}
 use Rattle.command_steps.proofs.Given.{given_earlier, stands_there, store_rises, store_says}
 use Rattle.command_steps.proofs.Numbers.{counted_known, counted_le, given_rose}
 use Rattle.command_steps.proofs.Opened.{given_back}
-use Rattle.command_steps.specs.AnySources.{IsGiven, faults_in, files_in, location_in, place_in, said_in}
+use Rattle.command_steps.specs.AnyStores.{IsGiven, source_faults, source_files, location_in, place_in, said_in}
 use Rattle.command_steps.specs.Sources.{DialsStores, Sources, StoreRose, said_at, sources}
 use Rattle.command_steps.specs.Stores.{is_folder}
-use Rattle.command_steps.specs.Taking.{SourceTaken, given_to}
+use Rattle.command_steps.specs.TakenStores.{SourceTaken, given_to}
 use Rattle.command_worlds.specs.Worlds.{Adds, FileRose, Reads}
-use Rattle.command_steps.specs.declared.any_source.AnySource.{AnySource}
-use Rattle.command_steps.specs.declared.any_source.AnySource.TheVariants as stores
+use Rattle.command_steps.specs.declared.any_store.AnyStore.{AnyStore}
+use Rattle.command_steps.specs.declared.any_store.AnyStore.TheVariants as stores
 use Rattle.image_commands.specs.Make.{StoreGiven, WritesStore}
 use Rattle.dsy_base.specs.Counts.{Rose, raised}
 use Rattle.dsy_base.specs.Disk.{Disk, GivesFile, HoldsSame}
@@ -65,7 +65,7 @@ folders_back d b e store files read is = is ∙ ap (given_to store files) read.f
 pub wrote : (d b e : Disk) (k j : DialState) (store : Location) (files : Option (Map (List ℕ))) → Reads d b → e.folders ≡ given_to store files b.folders → Adds b e → DialsStores (store ∷ []) k j → WritesStore store (sources d k) (sources e j)
 wrote d b e k j store files read is adds dials = record { adds = read_adds d b e read adds; folders = λ t. is ∙ server_stays store files b.folders t ∙ read.folders; dials = dials }
 
-pub given_since : {L D K : Type 0} (place : L → List ℕ) (faults : L → ℕ) (state : D → DialState) (d b e : Disk) (k j : DialState) (store : Location) (s : AnySource L D K) → Reads d b → DialsStores (store ∷ []) k j → IsGiven place faults state (sources b k) (sources e j) s → IsGiven place faults state (sources d k) (sources e j) s
+pub given_since : {L D K : Type 0} (place : L → List ℕ) (faults : L → ℕ) (state : D → DialState) (d b e : Disk) (k j : DialState) (store : Location) (s : AnyStore L D K) → Reads d b → DialsStores (store ∷ []) k j → IsGiven place faults state (sources b k) (sources e j) s → IsGiven place faults state (sources d k) (sources e j) s
 given_since place faults state d b e k j store s read dials given = given_earlier place faults state (sources d k) (sources b k) (sources e j) read.folder_counts (dials_none k) dials.0 s given
 
 -- a fault of a view that had counted none is one of its name
@@ -89,9 +89,9 @@ same_there o None = tt
 same_there o (Some m) = refl
 
 module _ {L D K : Type 0} (files : L → Option (Map (List ℕ))) (place : L → List ℕ) (faults : L → ℕ) (state : D → DialState) where
-  store_back : (w v : Sources) (s : AnySource L D K) (held : Option (Map (List ℕ))) (P : Map (List ℕ) → Map (List ℕ) → Type 0) (Q : Said → Type 0) → ((a b : Said) → ((id : List ℕ) → KeepsOf a b id) → Q a → Q b)
-      → v.disk.folders ≡ given_to (location_in place s) (files_in files s) w.disk.folders → IsGiven place faults state w v s → is_some (option_map chunks (files_in files s)) ≡ is_some (option_map chunks held)
-      → IfSome held (λ f. IfSome (files_in files s) (P f)) → Q (said_in files state s) → StoreGiven (location_in place s) held P Q w v
+  store_back : (w v : Sources) (s : AnyStore L D K) (held : Option (Map (List ℕ))) (P : Map (List ℕ) → Map (List ℕ) → Type 0) (Q : Said → Type 0) → ((a b : Said) → ((id : List ℕ) → KeepsOf a b id) → Q a → Q b)
+      → v.disk.folders ≡ given_to (location_in place s) (source_files files s) w.disk.folders → IsGiven place faults state w v s → is_some (option_map chunks (source_files files s)) ≡ is_some (option_map chunks held)
+      → IfSome held (λ f. IfSome (source_files files s) (P f)) → Q (said_in files state s) → StoreGiven (location_in place s) held P Q w v
   store_back w v (stores.Folder l) held P Q grows is given tells stands says = go w.disk.folders held (files l) is tells stands where
     go : (y : Option (Map (Map (List ℕ)))) (a b : Option (Map (List ℕ))) → v.disk.folders ≡ option_map (λ m. at_name m (place l) b) y → is_some (option_map chunks b) ≡ is_some (option_map chunks a) → IfSome a (λ f. IfSome b (P f))
         → IfSome y (λ m. IfSome a (λ f. (g : Map (List ℕ)) × (v.disk.folders ≡ Some (at_name m (place l) (Some g))) × P f g))
@@ -100,20 +100,20 @@ module _ {L D K : Type 0} (files : L → Option (Map (List ℕ))) (place : L →
     go (Some m) (Some f) None is tells stands = absurd (true≢false (sym tells))
     go (Some m) (Some f) (Some g) is tells stands = (g, is, stands)
   store_back w v (stores.Http r) held P Q grows is given tells stands says =
-      let keeps = store_says {L = L} {D = D} {K = K} files place faults state w v (stores.Http r) (same_there (files_in {L = L} {D = D} {K = K} files (stores.Http r)) w.disk.folders) given in
+      let keeps = store_says {L = L} {D = D} {K = K} files place faults state w v (stores.Http r) (same_there (source_files {L = L} {D = D} {K = K} files (stores.Http r)) w.disk.folders) given in
       grows (said_in {L = L} {D = D} {K = K} files state (stores.Http r)) (said_at w v (location_in {L = L} {D = D} {K = K} place (stores.Http r))) keeps says
 
-  module _ (w v : Sources) (store : Location) (old new : AnySource L D K) (same : place_in place new ≡ place_in place old) (located : location_in place old ≡ store) (folders : v.disk.folders ≡ given_to store (files_in files new) w.disk.folders)
+  module _ (w v : Sources) (store : Location) (old new : AnyStore L D K) (same : place_in place new ≡ place_in place old) (located : location_in place old ≡ store) (folders : v.disk.folders ≡ given_to store (source_files files new) w.disk.folders)
       (given : IsGiven place faults state w v new) where
     there : location_in place new ≡ store
     there = stands_there place old new same ∙ located
 
-    is_back : v.disk.folders ≡ given_to (location_in place new) (files_in files new) w.disk.folders
-    is_back = subst (λ s. v.disk.folders ≡ given_to s (files_in files new) w.disk.folders) (sym there) folders
+    is_back : v.disk.folders ≡ given_to (location_in place new) (source_files files new) w.disk.folders
+    is_back = subst (λ s. v.disk.folders ≡ given_to s (source_files files new) w.disk.folders) (sym there) folders
 
-    pub back : (P : Map (List ℕ) → Map (List ℕ) → Type 0) (Q : Said → Type 0) → ((x y : Said) → ((id : List ℕ) → KeepsOf x y id) → Q x → Q y) → is_some (option_map chunks (files_in files new)) ≡ is_some (option_map chunks (files_in files old))
-        → IfSome (files_in files old) (λ f. IfSome (files_in files new) (P f)) → Q (said_in files state new) → StoreGiven store (files_in files old) P Q w v
-    back P Q grows tells stands says = subst (λ s. StoreGiven s (files_in files old) P Q w v) there (store_back w v new (files_in files old) P Q grows is_back given tells stands says)
+    pub back : (P : Map (List ℕ) → Map (List ℕ) → Type 0) (Q : Said → Type 0) → ((x y : Said) → ((id : List ℕ) → KeepsOf x y id) → Q x → Q y) → is_some (option_map chunks (source_files files new)) ≡ is_some (option_map chunks (source_files files old))
+        → IfSome (source_files files old) (λ f. IfSome (source_files files new) (P f)) → Q (said_in files state new) → StoreGiven store (source_files files old) P Q w v
+    back P Q grows tells stands says = subst (λ s. StoreGiven s (source_files files old) P Q w v) there (store_back w v new (source_files files old) P Q grows is_back given tells stands says)
 
-    pub rose : faults_in faults state old ≡ 0 → Rose (faults_in faults state old) (faults_in faults state new) → StoreRose w v store
-    rose none more = subst (λ s. StoreRose w v s) there (store_rises files place faults state w v new given (subst (λ n. Rose n (faults_in faults state new)) none more))
+    pub rose : source_faults faults state old ≡ 0 → Rose (source_faults faults state old) (source_faults faults state new) → StoreRose w v store
+    rose none more = subst (λ s. StoreRose w v s) there (store_rises files place faults state w v new given (subst (λ n. Rose n (source_faults faults state new)) none more))

@@ -24,7 +24,7 @@ use Rattle.command_steps.proofs.Given.{Stands}
 use Rattle.command_steps.proofs.Numbers.{rose_longer}
 use Rattle.command_steps.specs.Blames.{name_at}
 use Rattle.command_steps.specs.Seeds.{IsViewed}
-use Rattle.command_steps.specs.Sources.{HaveLacked, Sources, StoreRose, said_at, told_at}
+use Rattle.command_steps.specs.Sources.{HaveLacked, Sources, StoreRose, said_at, location_files}
 use Rattle.command_worlds.specs.Worlds.{FileRose}
 use Rattle.image_commands.proofs.Assembled.{AllLack, LackingOver, LostAs, OthersLack, StoreAs, TargetAs}
 use Rattle.command_steps.proofs.Lacked.{have_lacked, same_length}
@@ -36,7 +36,7 @@ use Rattle.dsy_base.specs.Disk.{Disk}
 use Rattle.dsy_base.specs.Maps.{Map}
 use Rattle.extract_plan.specs.Deal.{Deal}
 use Rattle.extract_plan.specs.Places.{IsSeedIndex, Placed, places_at}
-use Rattle.extract_plan.specs.Seeds.{faults_in, held_in}
+use Rattle.extract_plan.specs.Seeds.{faults_in, seed_held}
 use Rattle.store_chain.specs.Chains.{KeepsStores}
 use Rattle.store_chain.specs.Faults.{NoneFalls}
 use Rattle.store_chain.specs.declared.refused.Refused.{Refused}
@@ -154,14 +154,14 @@ module _ {S V : Type 0} (holds folder : S → Option (Map (List ℕ))) (place : 
   IsLostHere u = IsUnobtained holds folder place said counted lacks_memory view view_faults l p x t0 old new k j e0 e1 u
 
   -- the seeds that have its chunk have failed, and the cache doesn't give it
-  module _ (mid : Disk) (b : Map (List ℕ)) (told : d.files ≡ Some b) (zip : AllZip (IsViewed d mid) seeds.images (map (held_in view) k.seeds.items)) (is : IsSeedIndex l p seeds.listings x) (later : (q : List ℕ) → FileRose d mid q → FileRose d e q)
-      (rises : (n : ℕ) → Rose (slice_index (map (faults_in view_faults) k.seeds.items) n) (slice_index (map (faults_in view_faults) j.seeds.items) n) → FileRose d e (name_at (map label_of (map (held_in view) k.seeds.items)) n))
+  module _ (mid : Disk) (b : Map (List ℕ)) (told : d.files ≡ Some b) (zip : AllZip (IsViewed d mid) seeds.images (map (seed_held view) k.seeds.items)) (is : IsSeedIndex l p seeds.listings x) (later : (q : List ℕ) → FileRose d mid q → FileRose d e q)
+      (rises : (n : ℕ) → Rose (slice_index (map (faults_in view_faults) k.seeds.items) n) (slice_index (map (faults_in view_faults) j.seeds.items) n) → FileRose d e (name_at (map label_of (map (seed_held view) k.seeds.items)) n))
       (gone : (n : ℕ) → CacheLacks (kind_of l) (id_of l n) (size_of l n) e0 e1 → CacheLacksEntry d e cache l n) where
     pub others_at : (u : Lost) → IsLostHere u → OthersLack w v stores cache out l seeds b u.entry u.id u.refused
     others_at u h = (
-      had_failed d mid b told seeds (map (held_in view) k.seeds.items) zip (id_of l u.entry) (size_of l u.entry) (places_at x (want_at p u.entry)) (is.places u.entry h.listed) e later
+      had_failed d mid b told seeds (map (seed_held view) k.seeds.items) zip (id_of l u.entry) (size_of l u.entry) (places_at x (want_at p u.entry)) (is.places u.entry h.listed) e later
           (map (faults_in view_faults) k.seeds.items) (map (faults_in view_faults) j.seeds.items) rises
-          (subst (λ (id : List ℕ). SeedsFailed (map (held_in view) k.seeds.items) (places_at x (want_at p u.entry)) id (map (faults_in view_faults) k.seeds.items) (map (faults_in view_faults) j.seeds.items)) h.id_is h.seeds),
+          (subst (λ (id : List ℕ). SeedsFailed (map (seed_held view) k.seeds.items) (places_at x (want_at p u.entry)) id (map (faults_in view_faults) k.seeds.items) (map (faults_in view_faults) j.seeds.items)) h.id_is h.seeds),
       gone u.entry h.cache,
     )
 
@@ -184,7 +184,7 @@ module _ {S V : Type 0} (holds folder : S → Option (Map (List ℕ))) (place : 
           all = stood location said counted w v a.after j.chain.stores (located j.chain.stores kept.places ∙ sym here) a.since.says a.since.never_fall stand;
         }
 
-    module _ (n : Map (Map (List ℕ))) (held : (fs : List (Map (List ℕ))) → map (told_at n) stores ≡ map Some fs → map holds k.chain.stores ≡ map Some (map chunks fs)) (rose : Rose old new → FileRose d e out.name) where
+    module _ (n : Map (Map (List ℕ))) (held : (fs : List (Map (List ℕ))) → map (location_files n) stores ≡ map Some fs → map holds k.chain.stores ≡ map Some (map chunks fs)) (rose : Rose old new → FileRose d e out.name) where
       lacks_over : (o : List ℕ) (u : Lost) (h : IsLostHere u) → (RightAlike l (resized o (image_length l)) u.entry → Rose old new) → LackingOver w v stores cache out l seeds n o u.entry u.id u.refused
       lacks_over o u h copies =
           let s = stood_at u h in (

@@ -9,14 +9,14 @@ use Rattle.std.specs.Str.{bytes_eq}
 use Rattle.std.specs.Option.{option_map}
 use Rattle.caibx_codec.specs.Listing.{Listing, count_of, id_of}
 use Rattle.command_steps.proofs.Asking.{each_asked}
-use Rattle.command_steps.specs.AnySources.{IsUnused, asked_in, location_in, with_those}
+use Rattle.command_steps.specs.AnyStores.{IsUnused, asked_in, location_in, with_those}
 use Rattle.command_steps.specs.Asking.{Asks, EachDialed}
-use Rattle.command_steps.specs.declared.any_source.AnySource.{AnySource}
+use Rattle.command_steps.specs.declared.any_store.AnyStore.{AnyStore}
 use Rattle.command_words.specs.declared.command.Location.{Location}
 use Rattle.dsy_base.specs.Links.{DialState, Traffic}
 use Rattle.http_wire.specs.declared.reply.Method.TheVariants as method
 use Rattle.image_store.specs.Chopping.{times_listed}
-use Rattle.image_store.specs.PutChunks.{AsksEach, IsListed}
+use Rattle.image_store.specs.PutChunks.{AsksEach, IsListedId}
 use Rattle.buzhash_cut.specs.Sizes.{Sizes}
 use Rattle.chunk_store.specs.Folders.{chunks}
 use Rattle.image_commands.specs.Make.{MadeOf, once_listed}
@@ -43,7 +43,7 @@ if_some (Some x) P Q f h = f x h
 
 -- ---- how often a server was asked
 
-listed_once : (l : Listing) (q : List ℕ) → IsListed l (count_of l) q → 1 ≤ times_listed l (count_of l) q
+listed_once : (l : Listing) (q : List ℕ) → IsListedId l (count_of l) q → 1 ≤ times_listed l (count_of l) q
 listed_once l q is =
     let p : ℕ × List ℕ → ℕ = λ e. cond (bytes_eq e.1 q) 1 0 in
     let all : take (count_of l) l.entries ≡ l.entries = take_all (count_of l) l.entries (omega arith) in
@@ -52,7 +52,7 @@ listed_once l q is =
     let one : p (get_or l.entries is.entry (0, [])) ≡ 1 = ap (λ b. cond b 1 0) ((bytes_eq-Decides (id_of l is.entry) q).1 (sym is.id)) in
     omega (arith, same, here, one)
 
-pub gets_image : {L D K : Type 0} (place : L → List ℕ) (state : D → DialState) (s : Sizes) (told : Option (List ℕ)) (old new : AnySource L D K) (store : Location) (w v : Option (List Traffic)) → IsUnused state old → location_in place new ≡ store
+pub gets_image : {L D K : Type 0} (place : L → List ℕ) (state : D → DialState) (s : Sizes) (told : Option (List ℕ)) (old new : AnyStore L D K) (store : Location) (w v : Option (List Traffic)) → IsUnused state old → location_in place new ≡ store
     → AsksOf s told (asked_in method.Get state old) (asked_in method.Get state new) → asked_in method.Head state new ≡ asked_in method.Head state old → v ≡ with_those state w new
     → EachDialed (Asks (λ id. 0) (λ id. 0)) (store ∷ []) w v ⊎ ((l : Listing) × Lists s told l × EachDialed (Asks (once_listed l) (λ id. 0)) (store ∷ []) w v)
 gets_image {L} {D} {K} place state s told old new store w v unused located asked queried ended = go asked where
@@ -62,7 +62,7 @@ gets_image {L} {D} {K} place state s told old new store w v unused located asked
   by : (gets : List ℕ → ℕ) → ((q : List ℕ) → asked_in method.Get state new q ≤ asked_in method.Get state old q + gets q) → EachDialed (Asks gets (λ id. 0)) (store ∷ []) w v
   by gets few = each_asked place state gets (λ id. 0) (old ∷ []) (new ∷ []) (store ∷ []) w v (All-cons (IsUnused state) old [] unused (All-nil (IsUnused state))) (few, tt) (heads, tt) (ap (λ s. s ∷ []) located) ended
 
-  once : (l : Listing) → AsksEach l (count_of l) (asked_in method.Get state old) (asked_in method.Get state new) → (q : List ℕ) → (asked_in method.Get state new q ≡ asked_in method.Get state old q) ⊎ IsListed l (count_of l) q
+  once : (l : Listing) → AsksEach l (count_of l) (asked_in method.Get state old) (asked_in method.Get state new) → (q : List ℕ) → (asked_in method.Get state new q ≡ asked_in method.Get state old q) ⊎ IsListedId l (count_of l) q
       → asked_in method.Get state new q ≤ asked_in method.Get state old q + once_listed l q
   once l each q (inl same) = omega (arith, same)
   once l each q (inr is) = let most = each.once q in let some = listed_once l q is in omega (arith, most, some)

@@ -4,7 +4,7 @@ use Rattle.std.proofs.lemmas.List.{length-append}
 use Rattle.caibx_codec.specs.Listing.{Listing}
 use Rattle.command_outcome.specs.declared.outcome.Outcome.{Outcome}
 use Rattle.command_steps.specs.Cache.{CacheOpened}
-use Rattle.command_steps.specs.Openings.{IndexRead, Listed}
+use Rattle.command_steps.specs.InputFiles.{IndexRead, Listed}
 use Rattle.command_steps.specs.Seeds.{AllListed, IndexesRead, image_name}
 use Rattle.command_worlds.specs.Steps.{◌>>=◌, Passed}
 use Rattle.command_steps.specs.Sources.{Sources, SourcesOpened, sources}

@@ -9,7 +9,7 @@ use Rattle.chunk_sources.specs.Sources.{GivesAt, HeldAt, SeedsFailed, SeedsGive}
 use Rattle.chunk_store.specs.Names.{name_of}
 use Rattle.chunk_store.specs.declared.id.DigestKind.TheVariants.{Sha512T256}
 use Rattle.command_steps.specs.Blames.{name_at}
-use Rattle.command_steps.specs.Openings.{Holds}
+use Rattle.command_steps.specs.InputFiles.{Holds}
 use Rattle.command_steps.specs.Seeds.{IsViewed, SeedsKnown, label_in}
 use Rattle.command_worlds.specs.Worlds.{FileRose}
 use Rattle.image_commands.specs.Extract.{SeedHas, Seeds}
@@ -18,7 +18,7 @@ use Rattle.dsy_base.specs.Counts.{Rose}
 use Rattle.dsy_base.specs.Disk.{Disk}
 use Rattle.dsy_base.specs.Maps.{Map}
 use Rattle.extract_plan.specs.Places.{ArePlaces, IsPlace, nth_place, place}
-use Rattle.extract_plan.specs.Seeds.{bytes_at, held_in}
+use Rattle.extract_plan.specs.Seeds.{bytes_at, seed_held}
 use Rattle.extract_plan.specs.declared.seed.Seed.{Seed}
 use Rattle.extract_plan.specs.declared.seed.SeedPlace.{SeedPlace}
 
@@ -38,12 +38,12 @@ label_is : {V : Type 0} (held : V → Held) (o : Option V) → unwrap_or (option
 label_is held None = refl
 label_is held (Some v) = refl
 
-pub labels_are : {V : Type 0} (held : V → Held) (xs : List (Seed V)) → map (label_in held) xs ≡ map label_of (map (held_in held) xs)
+pub labels_are : {V : Type 0} (held : V → Held) (xs : List (Seed V)) → map (label_in held) xs ≡ map label_of (map (seed_held held) xs)
 labels_are held [] = refl
 labels_are held (s ∷ xs) = cc (label_is held s.view, labels_are held xs)
 
 -- seeds that hold what others hold have their names
-pub same_labels : {V : Type 0} (held : V → Held) (xs ys : List (Seed V)) → map (held_in held) ys ≡ map (held_in held) xs → map (label_in held) ys ≡ map (label_in held) xs
+pub same_labels : {V : Type 0} (held : V → Held) (xs ys : List (Seed V)) → map (seed_held held) ys ≡ map (seed_held held) xs → map (label_in held) ys ≡ map (label_in held) xs
 same_labels held xs ys same = labels_are held ys ∙ ap (map label_of) same ∙ sym (labels_are held xs)
 
 pub label_at : (views : List (Option Held)) (k : ℕ) (h : Held) → slice_index_or views k None ≡ Some h → name_at (map label_of views) k ≡ h.name
@@ -59,16 +59,16 @@ view_known : {V : Type 0} (held : V → Held) (counts : Map ℕ) (o : Option V) 
 view_known held counts None known = tt
 view_known held counts (Some v) known = known
 
-known_same : {V : Type 0} (held : V → Held) (counts : Map ℕ) (x y : Seed V) → held_in held y ≡ held_in held x → IfSome x.view (λ v. IsSome (counts (held v).name)) → IfSome y.view (λ v. IsSome (counts (held v).name))
+known_same : {V : Type 0} (held : V → Held) (counts : Map ℕ) (x y : Seed V) → seed_held held y ≡ seed_held held x → IfSome x.view (λ v. IsSome (counts (held v).name)) → IfSome y.view (λ v. IsSome (counts (held v).name))
 known_same held counts x y same known = known_view held counts y.view (subst (λ o. IfSome o (λ h. IsSome (counts h.name))) (sym same) (view_known held counts x.view known))
 
 -- so their names are known
-pub same_known : {V : Type 0} (held : V → Held) (counts : Map ℕ) (xs ys : List (Seed V)) → map (held_in held) ys ≡ map (held_in held) xs → SeedsKnown held counts xs → SeedsKnown held counts ys
+pub same_known : {V : Type 0} (held : V → Held) (counts : Map ℕ) (xs ys : List (Seed V)) → map (seed_held held) ys ≡ map (seed_held held) xs → SeedsKnown held counts xs → SeedsKnown held counts ys
 same_known held counts xs [] same known = All-nil (λ s. IfSome s.view (λ v. IsSome (counts (held v).name)))
 same_known held counts [] (y ∷ ys) same known = absurd (cc)
 same_known held counts (x ∷ xs) (y ∷ ys) same known =
-    let here : held_in held y ≡ held_in held x = cc in
-    let rest : map (held_in held) ys ≡ map (held_in held) xs = cc in
+    let here : seed_held held y ≡ seed_held held x = cc in
+    let rest : map (seed_held held) ys ≡ map (seed_held held) xs = cc in
     All-cons (λ s. IfSome s.view (λ v. IsSome (counts (held v).name))) y ys (known_same held counts x y here (known 0 x (omega arith)))
     (same_known held counts xs ys rest (λ j e less. known (suc j) e (omega (arith, less))))
 
@@ -192,6 +192,6 @@ module _ (d b : Disk) (m : Map (List ℕ)) (told : d.files ≡ Some m) (x : Seed
 
 -- ---- what was counted
 
-pub zeros : {V : Type 0} (held : V → Held) (xs : List (Seed V)) → map {B = ℕ} (λ y. 0) (map label_of (map (held_in held) xs)) ≡ map {B = ℕ} (λ x. 0) xs
+pub zeros : {V : Type 0} (held : V → Held) (xs : List (Seed V)) → map {B = ℕ} (λ y. 0) (map label_of (map (seed_held held) xs)) ≡ map {B = ℕ} (λ x. 0) xs
 zeros held [] = refl
 zeros held (x ∷ xs) = ap (λ l. 0 ∷ l) (zeros held xs)

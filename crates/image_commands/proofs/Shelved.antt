@@ -12,7 +12,7 @@ use Rattle.chunk_store.specs.Giving.{GivesChunk}
 use Rattle.chunk_store.specs.declared.id.DigestKind.{DigestKind}
 use Rattle.command_steps.proofs.Numbers.{given_quiet, given_rose, rose_longer}
 use Rattle.command_steps.specs.Cache.{CacheGiven, folders_with}
-use Rattle.command_steps.specs.Sources.{told_at}
+use Rattle.command_steps.specs.Sources.{location_files}
 use Rattle.command_worlds.specs.Worlds.{DiskQuiet, FolderRose}
 use Rattle.command_words.specs.declared.command.Location.{Location}
 use Rattle.command_steps.proofs.Taken.{at_name_twice}
@@ -136,7 +136,7 @@ module _ (stores : List Location) (l : Listing) (c : List ℕ) where
       → Filled (Some (at_name m c x)) (Some (at_name m c y))
   filled_at m x y f g is now grows = (refl, (f, at_same m c x ∙ is, g, ap (at_name m c) now ∙ sym (at_name_twice m c x (Some g)), grows))
 
-module _ {S : Type 0} (holds : S → Option (Map (List ℕ))) (xs : List S) (l : Listing) (n : Map (Map (List ℕ))) (stores : List Location) (held : (fs : List (Map (List ℕ))) → map (told_at n) stores ≡ map Some fs → map holds xs ≡ map Some (map chunks fs)) where
+module _ {S : Type 0} (holds : S → Option (Map (List ℕ))) (xs : List S) (l : Listing) (n : Map (Map (List ℕ))) (stores : List Location) (held : (fs : List (Map (List ℕ))) → map (location_files n) stores ≡ map Some fs → map holds xs ≡ map Some (map chunks fs)) where
   for_cache : (q b : List ℕ) → TakesListed holds l xs q b → IsForCache l n stores q b
   for_cache q b h = (h.0, h.1, h.2.0, h.2.1, λ fs told. h.2.2 (map chunks fs) (held fs told))
 
@@ -152,7 +152,7 @@ module _ {S : Type 0} (holds : S → Option (Map (List ℕ))) (xs : List S) (l :
 
 pub cache_filled : {S : Type 0} (holds : S → Option (Map (List ℕ))) (xs : List S) (stores : List Location) (l : Listing) (e0 e1 : Option Shelf) (cache : Option (List ℕ)) (folders : Option (Map (Map (List ℕ)))) (d e : Disk)
     → name_in e0 ≡ cache → d.folders ≡ folders_with e0 folders → e.folders ≡ folders_with e1 folders → IsTold e0 folders → Stocked (TakesListed holds l xs) e0 e1
-    → IfSome d.folders (λ m. (fs : List (Map (List ℕ))) → map (told_at m) stores ≡ map Some fs → map holds xs ≡ map Some (map chunks fs))
+    → IfSome d.folders (λ m. (fs : List (Map (List ℕ))) → map (location_files m) stores ≡ map Some fs → map holds xs ≡ map Some (map chunks fs))
     → CacheFilled stores cache l d e
 cache_filled {S} holds xs stores l None None cache folders d e is was now told stocked there = subst (λ c. CacheFilled stores c l d e) is (now ∙ sym was)
 cache_filled {S} holds xs stores l None (Some t) cache folders d e is was now told stocked there = absurd stocked
@@ -161,7 +161,7 @@ cache_filled {S} holds xs stores l (Some s) (Some t) cache folders d e is was no
     subst (λ c. CacheFilled stores c l d e) is (subst (λ y. Filled stores l s.place y e.folders) (sym was) (subst (λ z. Filled stores l s.place (folders_with (Some s) folders) z) (sym now)
     (over folders told (subst (λ y. IfSome y There) was there)))) where
       There : Map (Map (List ℕ)) → Type 0
-      There m = (fs : List (Map (List ℕ))) → map (told_at m) stores ≡ map Some fs → map holds xs ≡ map Some (map chunks fs)
+      There m = (fs : List (Map (List ℕ))) → map (location_files m) stores ≡ map Some fs → map holds xs ≡ map Some (map chunks fs)
 
       over : (folders : Option (Map (Map (List ℕ)))) → IsTold (Some s) folders → IfSome (folders_with (Some s) folders) There → Filled stores l s.place (folders_with (Some s) folders) (folders_with (Some t) folders)
       over None told there = (refl, tt)

@@ -25,11 +25,11 @@ use Rattle.dsy_base.specs.Disk.{Disk}
 use Rattle.dsy_base.specs.Maps.{Map}
 use Rattle.extract_plan.specs.Deal.{Deal, IsPlan, first_of, of_want, want_id}
 use Rattle.extract_plan.specs.Places.{ArePlaces, IsSeedIndex, Placed, nth_place, place, places_at}
-use Rattle.extract_plan.specs.Seeds.{faults_in, held_in}
+use Rattle.extract_plan.specs.Seeds.{faults_in, seed_held}
 use Rattle.extract_plan.specs.declared.seed.Seed.{Seed}
 use Rattle.image_commands.proofs.Shelved.{name_in}
 use Rattle.image_commands.proofs.Seeded.{had_at, label_at, label_of}
-use Rattle.image_commands.specs.Extract.{CacheSpares, FileQuiet, Into, IsSpared, folder_of, SeedHas, Seeds, old_of}
+use Rattle.image_commands.specs.Extract.{CacheSpares, FileQuiet, Into, IsSparedOnDisk, folder_of, SeedHas, Seeds, old_of}
 
 -- a count that didn't rise
 quiet_unless : (old new : ℕ) → (Rose old new → ⊥) → Quiet old new
@@ -42,26 +42,26 @@ quiet_unless old new none = elim (cases_lt old new) [
 ]
 
 module _ {S V : Type 0} (holds : S → Option (Map (List ℕ))) (stores : List S) (e0 e1 : Option Shelf) (view : V → Held) (view_faults : V → ℕ) (d b e : Disk) (m : Map (List ℕ)) (told : d.files ≡ Some m) (l : Listing) (p : Deal) (plan : IsPlan l 1 p) (x : Placed) (o : Into) (z : Seeds) (s0 s1 : List (Seed V))
-    (zip : AllZip (IsViewed d b) z.images (map (held_in view) s0)) (is : IsSeedIndex l p z.listings x) (later : (q : List ℕ) → FileRose d b q → FileRose d e q)
-    (rises : (n : ℕ) → Rose (slice_index (map (faults_in view_faults) s0) n) (slice_index (map (faults_in view_faults) s1) n) → FileRose d e (name_at (map label_of (map (held_in view) s0)) n))
+    (zip : AllZip (IsViewed d b) z.images (map (seed_held view) s0)) (is : IsSeedIndex l p z.listings x) (later : (q : List ℕ) → FileRose d b q → FileRose d e q)
+    (rises : (n : ℕ) → Rose (slice_index (map (faults_in view_faults) s0) n) (slice_index (map (faults_in view_faults) s1) n) → FileRose d e (name_at (map label_of (map (seed_held view) s0)) n))
     (t0 : Option (List ℕ)) (took : t0 ≡ Some (old_of m o)) (f0 f1 : ℕ) (rose : Rose f0 f1 → FileRose d e o.name) where
   quiet_file : (q : List ℕ) → FileQuiet d e q → FileRose d e q → ⊥
   quiet_file q quiet rise = rose_not_quiet (count_at d.file_counts q) (count_at d.file_counts q) (count_at e.file_counts q) (omega arith) rise quiet
 
   -- the seed that has it gives it, and didn't fail
   seed_at : (w s : ℕ) (h : SeedHas m z (want_id l p w) (size_of l (first_of p w)) s) → FileQuiet d e h.image → w < p.wants
-      → Any (λ q. HeldAt (map (held_in view) s0) q (want_id l p w) × Quiet (slice_index (map (faults_in view_faults) s0) q.seed) (slice_index (map (faults_in view_faults) s1) q.seed)) (places_at x w)
+      → Any (λ q. HeldAt (map (seed_held view) s0) q (want_id l p w) × Quiet (slice_index (map (faults_in view_faults) s0) q.seed) (slice_index (map (faults_in view_faults) s1) q.seed)) (places_at x w)
   seed_at w s h quiet below =
       let i = first_of p w in
       let among = first_among l p w plan.wants below in
       let inside = listed_of l p w i plan.wants among in
       let at : slice_index p.want_of i ≡ w = (among_of p w i among).1 in
       let are : ArePlaces z.listings (want_id l p w) (size_of l i) (places_at x w) = subst (λ n. ArePlaces z.listings (want_id l p w) (size_of l i) (places_at x n)) at (is.places i inside) in
-      elim (had_at d b m told z (map (held_in view) s0) zip (want_id l p w) (size_of l i) (places_at x w) are s h) [
+      elim (had_at d b m told z (map (seed_held view) s0) zip (want_id l p w) (size_of l i) (places_at x w) are s h) [
         | inl rise ↦ absurd (quiet_file h.image quiet (later h.image rise))
         | inr u ↦
             let here = nth_place (places_at x w) u.0 in
-            let named : name_at (map label_of (map (held_in view) s0)) here.seed ≡ h.image = ap (name_at (map label_of (map (held_in view) s0))) u.2 ∙ label_at (map (held_in view) s0) s u.4 u.5 ∙ u.6 in (
+            let named : name_at (map label_of (map (seed_held view) s0)) here.seed ≡ h.image = ap (name_at (map label_of (map (seed_held view) s0))) u.2 ∙ label_at (map (seed_held view) s0) s u.4 u.5 ∙ u.6 in (
               u.0,
               here,
               u.1,
@@ -74,7 +74,7 @@ module _ {S V : Type 0} (holds : S → Option (Map (List ℕ))) (stores : List S
             )
       ]
 
-  pub spared_over : (cache : Option (List ℕ)) (w : ℕ) → w < p.wants → (IsSomeAnd cache (λ c. CacheSpares d e c l (want_id l p w) (size_of l (first_of p w))) → CacheGives holds l stores (want_id l p w) (size_of l (first_of p w)) e0 e1) → IsSpared d e m cache o l z p w → SparedOver holds view view_faults l p x t0 f0 f1 s0 s1 e0 e1 stores w
+  pub spared_over : (cache : Option (List ℕ)) (w : ℕ) → w < p.wants → (IsSomeAnd cache (λ c. CacheSpares d e c l (want_id l p w) (size_of l (first_of p w))) → CacheGives holds l stores (want_id l p w) (size_of l (first_of p w)) e0 e1) → IsSparedOnDisk d e m cache o l z p w → SparedOver holds view view_faults l p x t0 f0 f1 s0 s1 e0 e1 stores w
   spared_over cache w below gives (inl right) = inl (
     subst (λ t. IsSomeAnd t (λ b. (j : ℕ) × IsAmong (of_want p w) j × IsRightAt (resized b (image_length l)) l j)) (sym took) right.0,
     quiet_unless f0 f1 (λ rise. quiet_file o.name right.1 (rose rise)),

@@ -5,7 +5,7 @@ use Rattle.std.proofs.lemmas.List.Elements.{All-append, All-map}
 use Rattle.buzhash_cut.specs.Image.{AreOfOneImage, HasTooManyCuts}
 use Rattle.buzhash_cut.specs.Sizes.{Sizes}
 use Rattle.chunk_store.specs.Said.{Said}
-use Rattle.command_steps.specs.Openings.{Holds}
+use Rattle.command_steps.specs.InputFiles.{Holds}
 use Rattle.command_worlds.specs.Worlds.{FileRose, Reads}
 use Rattle.command_steps.proofs.Numbers.{counted_known, counted_le, given_rose, rose_longer}
 use Rattle.image_commands.specs.Views.{AreOf, GrowsBy, IfFirst, IsViewOf}

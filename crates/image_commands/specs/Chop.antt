@@ -6,10 +6,10 @@ use Rattle.chunk_store.specs.Folders.{chunks}
 use Rattle.command_outcome.specs.declared.outcome.Outcome.{Outcome}
 use Rattle.command_outcome.specs.declared.outcome.Outcome.TheVariants as ends
 use Rattle.command_steps.specs.Asking.{Asks, EachDialed}
-use Rattle.command_steps.specs.Openings.{ImageOpened, IndexRead, IsListed}
+use Rattle.command_steps.specs.InputFiles.{ImageOpened, IndexRead, IsListed}
 use Rattle.command_steps.specs.Sources.{OnSources, Sources, StoreRose}
 use Rattle.command_worlds.specs.Steps.{◌>>=◌}
-use Rattle.command_steps.specs.Taking.{SourceTaken}
+use Rattle.command_steps.specs.TakenStores.{SourceTaken}
 use Rattle.command_worlds.specs.Worlds.{FileRose, OnDisk, Step, World}
 use Rattle.command_words.specs.declared.command.Location.{Location}
 use Rattle.image_commands.specs.Make.{AnySaid, WritesStore, StoreGiven}

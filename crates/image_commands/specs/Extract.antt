@@ -30,11 +30,11 @@ use Rattle.dsy_base.specs.declared.fault.IoFault.{IoFault}
 use Rattle.dsy_base.specs.declared.fault.IoFault.TheVariants as io
 use Rattle.command_steps.specs.Asking.{AsksFew, EachDialed}
 use Rattle.command_steps.specs.Cache.{CacheOpened}
-use Rattle.command_steps.specs.Openings.{IndexRead, IsListed}
+use Rattle.command_steps.specs.InputFiles.{IndexRead, IsListed}
 use Rattle.command_steps.specs.Seeds.{IndexesRead, image_name}
 use Rattle.command_worlds.specs.Steps.{◌>>=◌}
 use Rattle.command_steps.specs.Sources.{DialsStores, HaveLacked, NotAsking, OnSources, Sources}
-use Rattle.command_steps.specs.Sources.{SourcesOpened, sources, told_at}
+use Rattle.command_steps.specs.Sources.{SourcesOpened, sources, location_files}
 use Rattle.command_worlds.specs.Worlds.{DiskQuiet, FileRose, FolderRose, OnDisk, Step, World}
 use Rattle.dsy_base.specs.Disk.{Disk, OnFile}
 use Rattle.extract_plan.specs.Deal.{Deal, IsPlan, first_of, of_want, want_id}
@@ -131,7 +131,7 @@ CacheLacksEntry d e (Some c) l k = IfSome e.folders (λ n. IfSome (n c) (λ g.
 
 -- so it is where all stores are folders of these, whose files are told
 abbrev pub WhereFolders : Map (Map (List ℕ)) → List Location → (List (Map (List ℕ)) → Type 0) → Type 0
-WhereFolders n stores P = (fs : List (Map (List ℕ))) → map (told_at n) stores ≡ map Some fs → P fs
+WhereFolders n stores P = (fs : List (Map (List ℕ))) → map (location_files n) stores ≡ map Some fs → P fs
 
 -- where stores are folders, each entry can be had, or has the base's bytes in t, unless the file failed; whatever else
 -- fails
@@ -276,8 +276,8 @@ pub record CacheSpares (d e : Disk) (cache : List ℕ) (l : Listing) (id : List 
 
 -- want w of the plan is had without the stores: an entry of it is right in the base, and no call on OUT failed; or a
 -- seed has its chunk, and no call on the seed's image failed; or the cache gives it, as it was before
-abbrev pub IsSpared : Disk → Disk → Map (List ℕ) → Option (List ℕ) → Into → Listing → Seeds → Deal → ℕ → Type 0
-IsSpared d e before cache out l x p w =
+abbrev pub IsSparedOnDisk : Disk → Disk → Map (List ℕ) → Option (List ℕ) → Into → Listing → Seeds → Deal → ℕ → Type 0
+IsSparedOnDisk d e before cache out l x p w =
     (((j : ℕ) × IsAmong (of_want p w) j × IsRightAt (base_of before out l) l j) × FileQuiet d e out.name)
     ⊎ (((s : ℕ) × (h : SeedHas before x (want_id l p w) (size_of l (first_of p w)) s) × FileQuiet d e h.image)
     ⊎ IsSomeAnd cache (λ c. CacheSpares d e c l (want_id l p w) (size_of l (first_of p w))))
@@ -293,7 +293,7 @@ pub record GetsWants (w v : Sources) (stores : List Location) (cache : Option (L
   pub plan : Deal
   pub planned : IsPlan l 1 plan
   pub gets : (spared : ℕ → Bool) → ((i : ℕ) → i < plan.wants → spared i ≡ true →
-      IsSomeAnd w.disk.files (λ b. IsSpared w.disk v.disk b cache out l x plan i)) →
+      IsSomeAnd w.disk.files (λ b. IsSparedOnDisk w.disk v.disk b cache out l x plan i)) →
       EachDialed (AsksFew method.Get (twice_wanted l plan spared)) stores w.dial.ended v.dial.ended
 
 -- ---- making the image

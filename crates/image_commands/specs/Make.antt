@@ -12,11 +12,11 @@ use Rattle.chunk_store.specs.Said.{Said}
 use Rattle.command_outcome.specs.declared.outcome.Outcome.{Outcome}
 use Rattle.command_outcome.specs.declared.outcome.Outcome.TheVariants as ends
 use Rattle.command_steps.specs.Asking.{Asks, EachDialed}
-use Rattle.command_steps.specs.Openings.{ImageOpened}
+use Rattle.command_steps.specs.InputFiles.{ImageOpened}
 use Rattle.command_steps.specs.Sources.{DialsStores, OnSources, Sources, StoreRose, said_at}
 use Rattle.command_worlds.specs.Steps.{◌>>=◌}
 use Rattle.command_steps.specs.Stores.{is_folder}
-use Rattle.command_steps.specs.Taking.{SourceTaken}
+use Rattle.command_steps.specs.TakenStores.{SourceTaken}
 use Rattle.command_worlds.specs.Worlds.{Adds, FileRose, OnDisk, Pure, Step, World, Writes}
 use Rattle.command_words.specs.declared.command.Location.{Location}
 use Rattle.command_words.specs.declared.command.Location.TheVariants as locations
@@ -30,26 +30,27 @@ use Rattle.image_store.specs.declared.put_chunks.MakeFault.TheVariants as faults
 
 -- ---- the sizes by which the image is to be cut
 
-abbrev pub sizes_of : List ℕ → Sizes
-sizes_of n = record { least = slice_index n 0; average = slice_index n 1; greatest = slice_index n 2 }
+abbrev pub cut_sizes_of : List ℕ → Sizes
+cut_sizes_of n = record { least = slice_index n 0; average = slice_index n 1; greatest = slice_index n 2 }
 
 -- they are refused exactly by their first fault
 abbrev pub SizesJudged : List ℕ → Result Sizes Outcome → Type 0
-SizesJudged n (Ok s) = (s ≡ sizes_of n) × (size_fault (sizes_of n) ≡ None)
-SizesJudged n (Err (ends.Sizes fault)) = size_fault (sizes_of n) ≡ Some fault
+SizesJudged n (Ok s) = (s ≡ cut_sizes_of n) × (size_fault (cut_sizes_of n) ≡ None)
+SizesJudged n (Err (ends.Sizes fault)) = size_fault (cut_sizes_of n) ≡ Some fault
 SizesJudged n (Err other) = ⊥
 
 -- ---- storing the image in a store that was taken
 
 -- the folder, whose files were `held`, was given back, and its files stand to those as P says
-abbrev pub GivenBack : Disk → Disk → List ℕ → Option (Map (List ℕ)) → (Map (List ℕ) → Map (List ℕ) → Type 0) → Type 0
-GivenBack d e q held P =
+abbrev pub FolderGivenBack : Disk → Disk → List ℕ → Option (Map (List ℕ)) → (Map (List ℕ) → Map (List ℕ) → Type 0)
+    → Type 0
+FolderGivenBack d e q held P =
     IfSome d.folders (λ m. IfSome held (λ f. (g : Map (List ℕ)) × (e.folders ≡ Some (at_name m q (Some g))) × P f g))
 
 -- so it was with the folder of a store. Where it is a server, Q is so of what that has said since
 abbrev pub StoreGiven : Location → Option (Map (List ℕ)) → (Map (List ℕ) → Map (List ℕ) → Type 0) → (Said → Type 0)
     → Sources → Sources → Type 0
-StoreGiven (locations.Folder q) held P Q w v = GivenBack w.disk v.disk q held P
+StoreGiven (locations.Folder q) held P Q w v = FolderGivenBack w.disk v.disk q held P
 StoreGiven (locations.Http host port prefix) held P Q w v = Q (said_at w v (locations.Http host port prefix))
 
 -- nothing is claimed of what it has said
@@ -128,7 +129,7 @@ MakeEnds store sizes index image = do
 pub record IsMade (files files_after : Map (List ℕ)) (sizes index image : List ℕ) (l : Listing) : Type 0 where
   pub bytes : List ℕ
   pub image_was : files image ≡ Some bytes
-  pub of_image : IsIndexOfImage (sizes_of sizes) bytes l
+  pub of_image : IsIndexOfImage (cut_sizes_of sizes) bytes l
   pub file : List ℕ
   pub written : files_after index ≡ Some file
   pub is_file : IsIndexFile file l

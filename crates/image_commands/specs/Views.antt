@@ -1,6 +1,6 @@
 -- Several views of one file.
 use Rattle.std.specs.Prelude.{◌≡◌, ◌⊎◌, ℕ, List, [], ◌∷◌, ◌++◌, All, Option}
-use Rattle.command_steps.specs.Openings.{Holds}
+use Rattle.command_steps.specs.InputFiles.{Holds}
 use Rattle.dsy_base.specs.Bytes.{Held}
 use Rattle.dsy_base.specs.Disk.{Disk}
 

@@ -7,10 +7,10 @@ ghost use Rattle.std.specs.Option.{option_map};
 ghost use Rattle.caibx_codec.specs.Listing.{Listing};
 ghost use Rattle.chunk_sources.specs.Caches.{seen};
 ghost use Rattle.chunk_store.specs.declared.id.DigestKind.TheVariants as kinds;
-ghost use Rattle.command_steps.specs.AnySources.{IsKnown, IsUnused, faults_in, files_in, location_in};
+ghost use Rattle.command_steps.specs.AnyStores.{IsKnown, IsUnused, source_faults, source_files, location_in};
 ghost use Rattle.command_steps.specs.Cache.{with_cache};
 ghost use Rattle.command_steps.specs.Seeds.{image_name};
-ghost use Rattle.command_steps.specs.Sources.{DialsStores, sources, told_at};
+ghost use Rattle.command_steps.specs.Sources.{DialsStores, sources, location_files};
 ghost use Rattle.command_worlds.specs.Worlds.{world};
 ghost use Rattle.image_commands.specs.Extract.{Assembled, ClearedAfter, ExtractEnds, FillsCache, IsNoFile};
 ghost use Rattle.image_commands.specs.Extract.{IsNumbered, OutMade, Renamed, answer_of_assembly, answer_of_taking};
@@ -25,9 +25,9 @@ use cache_store::shelf::CacheShelf;
 use caibx_codec::index::Index;
 use chunk_sources::kit::Kit;
 use command_outcome::outcome::Outcome;
-use command_steps::any_source::AnySource;
+use command_steps::any_store::AnyStore;
 use command_steps::cache::{give_cache, take_cache};
-use command_steps::openings::read_index;
+use command_steps::input_files::load_index;
 use command_steps::seeds::{close_seeds, open_seeds, read_indexes};
 use command_steps::sources::{close_sources, drop_sources, open_sources};
 use command_words::command::{Locations, Names};
@@ -109,11 +109,11 @@ fn assemble_into<F: Files, D: Dial>(
     files: &mut F,
     dial: &mut D,
     planned: &Planned,
-    stores: Vec<AnySource<F::Look, D>>,
+    stores: Vec<AnyStore<F::Look, D>>,
     cache: &Option<Name>,
     shelf: Option<CacheShelf<F::Folder>>,
     seeds: &[Name],
-    mut kits: Vec<Kit<AnySource<F::Look, D>, F::View>>,
+    mut kits: Vec<Kit<AnyStore<F::Look, D>, F::View>>,
     target: &str,
     fresh: bool,
 ) -> Result<(), Outcome>
@@ -123,14 +123,14 @@ fn assemble_into<F: Files, D: Dial>(
     requires known { All (IsKnown (F.disk files.old).folder_counts) (map (location_in F.Look.place) stores.items) }
     requires unused { All (IsUnused D.state) stores.items }
     requires room { (kits.items ≡ []) × (1 ≤ vec_capacity kits) }
-    requires fresh { map (faults_in F.Look.faults D.state) stores.items ≡ map (λ q. 0)
+    requires fresh { map (source_faults F.Look.faults D.state) stores.items ≡ map (λ q. 0)
         (map (location_in F.Look.place) stores.items) }
     requires cache_named { option_map (λ s. F.Folder.place s.folder) shelf ≡ cache.now }
     requires cache_known { IfSome cache.now (λ q. IsSome ((F.disk files.old).folder_counts q)) }
     requires cache_fresh { IfSome shelf (λ s. (F.Folder.faults s.folder ≡ 0) × (s.kind ≡ kinds.Sha512T256)) }
     requires found { IfSome (with_cache (seen F.Folder.files F.Folder.place F.Folder.faults shelf)
-        (F.disk files.old)).folders (λ m. map (files_in F.Look.files) stores.items
-        ≡ map (told_at m) (map (location_in F.Look.place) stores.items)) }
+        (F.disk files.old)).folders (λ m. map (source_files F.Look.files) stores.items
+        ≡ map (location_files m) (map (location_in F.Look.place) stores.items)) }
     ensures assembled { (d : Deal) (ls : List Listing) → IsPlan planned.now.index 1 d →
         IsSeedIndex planned.now.index d ls planned.now.places →
         Assembled (sources (with_cache (seen F.Folder.files F.Folder.place F.Folder.faults shelf) (F.disk files.old))
@@ -228,11 +228,11 @@ fn assemble_beside<F: Files, D: Dial>(
     files: &mut F,
     dial: &mut D,
     planned: &Planned,
-    stores: Vec<AnySource<F::Look, D>>,
+    stores: Vec<AnyStore<F::Look, D>>,
     cache: &Option<Name>,
     shelf: Option<CacheShelf<F::Folder>>,
     seeds: &[Name],
-    kits: Vec<Kit<AnySource<F::Look, D>, F::View>>,
+    kits: Vec<Kit<AnyStore<F::Look, D>, F::View>>,
     temporary: &str,
     target: Name,
 ) -> Result<(), Outcome>
@@ -242,14 +242,14 @@ fn assemble_beside<F: Files, D: Dial>(
     requires known { All (IsKnown (F.disk files.old).folder_counts) (map (location_in F.Look.place) stores.items) }
     requires unused { All (IsUnused D.state) stores.items }
     requires room { (kits.items ≡ []) × (1 ≤ vec_capacity kits) }
-    requires fresh { map (faults_in F.Look.faults D.state) stores.items ≡ map (λ q. 0)
+    requires fresh { map (source_faults F.Look.faults D.state) stores.items ≡ map (λ q. 0)
         (map (location_in F.Look.place) stores.items) }
     requires cache_named { option_map (λ s. F.Folder.place s.folder) shelf ≡ cache.now }
     requires cache_known { IfSome cache.now (λ q. IsSome ((F.disk files.old).folder_counts q)) }
     requires cache_fresh { IfSome shelf (λ s. (F.Folder.faults s.folder ≡ 0) × (s.kind ≡ kinds.Sha512T256)) }
     requires found { IfSome (with_cache (seen F.Folder.files F.Folder.place F.Folder.faults shelf)
-        (F.disk files.old)).folders (λ m. map (files_in F.Look.files) stores.items
-        ≡ map (told_at m) (map (location_in F.Look.place) stores.items)) }
+        (F.disk files.old)).folders (λ m. map (source_files F.Look.files) stores.items
+        ≡ map (location_files m) (map (location_in F.Look.place) stores.items)) }
     requires named { temporary.now ≡ temporary_out target }
     ensures made { (d : Deal) (ls : List Listing) (p : Output) → IsPlan planned.now.index 1 d →
         IsSeedIndex planned.now.index d ls planned.now.places → OutMade false
@@ -286,7 +286,7 @@ pub fn extract<F: Files, D: Dial>(
         (world (F.disk files.old) (D.state dial.old) p) result
         (world (F.disk files.new) (D.state dial.new) p) }
 {
-    let listed = read_index(alloc, files, index)?;
+    let listed = load_index(alloc, files, index)?;
     let indexes = read_indexes(alloc, files, seeds.as_slice())?;
     let Ok(planned) = plan_of(alloc, listed, indexes) else {
         return Err(Outcome::Memory);

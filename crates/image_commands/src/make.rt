@@ -4,10 +4,10 @@ ghost use Rattle.std.specs.Prelude.{◌≡◌, ℕ, ◌<◌, ◌≤◌, List, Op
 ghost use Rattle.std.specs.Prelude.{Ok, Err, IfErr, IfOk, IfSome, IsSome, OnOk};
 ghost use Rattle.std.specs.Map.{count_at};
 ghost use Rattle.buzhash_cut.specs.Image.{AreOfOneImage};
-ghost use Rattle.command_steps.specs.AnySources.{IsGiven, IsKnown, IsUnused, faults_in, files_in, location_in};
-ghost use Rattle.command_steps.specs.AnySources.{with_those};
+ghost use Rattle.command_steps.specs.AnyStores.{IsGiven, IsKnown, IsUnused, source_faults, source_files, location_in};
+ghost use Rattle.command_steps.specs.AnyStores.{with_those};
 ghost use Rattle.command_steps.specs.Sources.{sources};
-ghost use Rattle.command_steps.specs.Taking.{SourceTaken, given_to};
+ghost use Rattle.command_steps.specs.TakenStores.{SourceTaken, given_to};
 ghost use Rattle.image_commands.specs.Views.{AreOf, IfFirst};
 ghost use Rattle.command_worlds.specs.Worlds.{Adds, world};
 ghost use Rattle.image_commands.specs.Make.{ImageStored, IndexWritten, MakeEnds, SizesJudged, WritesStore};
@@ -17,8 +17,8 @@ ghost use Rattle.dsy_base.specs.Disk.{Output};
 use crate::views::{end_views, open_views};
 use buzhash_cut::sizes::CutSizes;
 use command_outcome::outcome::Outcome;
-use command_steps::any_source::AnySource;
-use command_steps::taking::{give_source, take_source};
+use command_steps::any_store::AnyStore;
+use command_steps::taken_stores::{give_source, take_source};
 use command_words::command::Location;
 use dsy_base::dial::Dial;
 use dsy_base::fault::IoFault;
@@ -51,14 +51,14 @@ fn take_store<F: Files, D: Dial>(
     dial: &D,
     views: Vec<F::View>,
     store: &Location,
-) -> Result<(Vec<F::View>, AnySource<F::Folder, D>), Outcome>
+) -> Result<(Vec<F::View>, AnyStore<F::Folder, D>), Outcome>
     requires known { All (λ v. IsSome ((F.disk files.old).file_counts (F.View.held v).name)) views.items }
     ensures kept { IfOk result (λ r. r.0 ≡ views) }
-    ensures ok { IfOk result (λ r. SourceTaken store.now (F.disk files.old) (Ok (files_in F.Folder.files r.1))
+    ensures ok { IfOk result (λ r. SourceTaken store.now (F.disk files.old) (Ok (source_files F.Folder.files r.1))
         (F.disk files.new)) }
     ensures changed { OnOk result (Adds (F.disk files.old) (F.disk files.new)) }
     ensures located { IfOk result (λ r. location_in F.Folder.place r.1 ≡ store.now) }
-    ensures fresh { IfOk result (λ r. faults_in F.Folder.faults D.state r.1 ≡ 0) }
+    ensures fresh { IfOk result (λ r. source_faults F.Folder.faults D.state r.1 ≡ 0) }
     ensures unused { IfOk result (λ r. IsUnused D.state r.1) }
     ensures known { OnOk result (IsKnown (F.disk files.new).folder_counts store.now) }
     ensures err { IfErr result (λ o. SourceTaken store.now (F.disk files.old) (Err o) (F.disk files.new)) }
@@ -78,13 +78,13 @@ fn give_store<F: Files, D: Dial>(
     dial: &mut D,
     views: Vec<F::View>,
     store: &Location,
-    taken: AnySource<F::Folder, D>,
+    taken: AnyStore<F::Folder, D>,
 )
     requires known { All (λ v. IsSome ((F.disk files.old).file_counts (F.View.held v).name)) views.items
         × IsKnown (F.disk files.old).folder_counts store.now }
     requires located { location_in F.Folder.place taken ≡ store.now }
     ensures folders { (F.disk files.new).folders
-        ≡ given_to store.now (files_in F.Folder.files taken) (F.disk files.old).folders }
+        ≡ given_to store.now (source_files F.Folder.files taken) (F.disk files.old).folders }
     ensures kept { WritesStore store.now (sources (F.disk files.old) (D.state dial.old))
         (sources (F.disk files.new) (D.state dial.new)) }
     ensures ended { (D.state dial.new).ended ≡ with_those D.state (D.state dial.old).ended taken }
@@ -105,7 +105,7 @@ struct Subfolders<I> {
 }
 
 impl<I: InnerFolders> InnerFolders for Subfolders<I> {
-    ghost use Rattle.command_steps.specs.AnySources.{code_of};
+    ghost use Rattle.command_steps.specs.AnyStores.{code_of};
     ghost use Rattle.command_words.specs.declared.command.Location.TheVariants as locations;
 
     ghost place = { λ s. code_of (locations.Folder (I.place s.inner)) };
@@ -136,7 +136,7 @@ fn store_between<R: Threads + Sync, F: ImageFiles, D: Dial>(
     sizes: &CutSizes,
     views: Vec<F::View>,
     store: &Location,
-    taken: AnySource<F::Folder, D>,
+    taken: AnyStore<F::Folder, D>,
 ) -> Result<Vec<u8>, Outcome>
 where
     F::View: Send,
@@ -148,14 +148,14 @@ where
     requires located { location_in F.Folder.place taken ≡ store.now }
     requires unused { IsUnused D.state taken }
     requires fresh { All (λ v. F.View.faults v ≡ 0) views.items
-        × (faults_in F.Folder.faults D.state taken ≡ 0) }
+        × (source_faults F.Folder.faults D.state taken ≡ 0) }
     ensures ok { IfOk result (λ b. (q : List ℕ) (told : Option (List ℕ)) →
         AreOf q told (map F.View.held views.items) →
-        ImageStored sizes.now q told store.now (files_in F.Folder.files taken)
+        ImageStored sizes.now q told store.now (source_files F.Folder.files taken)
         (sources (F.disk files.old) (D.state dial.old)) (Ok b.items) (sources (F.disk files.new) (D.state dial.new))) }
     ensures err { IfErr result (λ o. (q : List ℕ) (told : Option (List ℕ)) →
         AreOf q told (map F.View.held views.items) →
-        ImageStored sizes.now q told store.now (files_in F.Folder.files taken)
+        ImageStored sizes.now q told store.now (source_files F.Folder.files taken)
         (sources (F.disk files.old) (D.state dial.old)) (Err o) (sources (F.disk files.new) (D.state dial.new))) }
 {
     let (views, taken, stored) = store_image(

@@ -3,13 +3,13 @@
 ghost use Rattle.std.specs.Prelude.{◌≡◌, ℕ, ◌<◌, ◌≤◌, List, map, max, vec_len, All, Option, IfOk, IfErr, IsSome};
 ghost use Rattle.std.specs.Map.{count_at};
 ghost use Rattle.buzhash_cut.specs.Image.{AreOfOneImage};
-ghost use Rattle.command_steps.specs.Openings.{Holds, NotOpened};
+ghost use Rattle.command_steps.specs.InputFiles.{Holds, NotOpened};
 ghost use Rattle.command_worlds.specs.Worlds.{Reads};
 ghost use Rattle.image_commands.specs.Views.{AreOf, GrowsBy, IfFirst, IsViewOf};
 ghost use Rattle.dsy_base.specs.Counts.{raised};
 
 use command_outcome::outcome::Outcome;
-use command_steps::openings::unopened;
+use command_steps::input_files::unopened;
 use dsy_base::files::Files;
 use dsy_base::image_files::ImageFiles;
 use dsy_base::name::Name;

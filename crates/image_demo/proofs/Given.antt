@@ -18,14 +18,14 @@ use Rattle.dsy_base.specs.Bytes.{Held, resized}
 use Rattle.dsy_base.specs.Maps.{Map}
 use Rattle.extract_plan.specs.Deal.{AreWants, Deal}
 use Rattle.extract_plan.specs.Places.{IsSeedIndex, Placed}
-use Rattle.extract_plan.specs.Seeds.{held_in}
+use Rattle.extract_plan.specs.Seeds.{seed_held}
 use Rattle.extract_plan.specs.declared.seed.Seed.{Seed}
 use Rattle.image_demo.proofs.FirstEntries.{sum_counted, wants_counted}
 use Rattle.image_demo.proofs.Generated.{length-bytes_after}
 use Rattle.image_demo.proofs.Sources.{cached_none, fetched_each, seeded_each, zeros_filled}
-use Rattle.image_demo.specs.Figures.{AreFigures, HasTwoPieces, IsRefused, copied_of, fetched_of, figures_of, firsts, is_in_seed, is_in_zeros, kept_of, seeded_of}
+use Rattle.image_demo.specs.Figures.{AreFigures, HasTwoPieces, IsDemoRefused, copied_of, fetched_of, figures_of, firsts, is_in_seed, is_in_zeros, kept_entries, seeded_of}
 use Rattle.image_demo.specs.Images.{image_of, seed_of, usual_sizes}
-use Rattle.image_demo.specs.Stocks.{IsNamed, IsStocked, fault_of}
+use Rattle.image_demo.specs.Stocks.{IsNamed, IsStocked, demo_fault}
 use Rattle.image_demo.specs.declared.figures.Figures.{Figures}
 use Rattle.image_store.specs.PutChunks.{HoldsAll, IsStored, Stands}
 use Rattle.store_chain.specs.Chains.{Chained}
@@ -49,7 +49,7 @@ module _ (l m : Listing) (d : Deal) (x : Placed) (wants : AreWants l d.wants d.w
     distinct : d.wants ≡ firsts l (λ i. true)
     distinct = wants_counted l d wants
 
-    kept : r.kept ≡ kept_of l
+    kept : r.kept ≡ kept_entries l
     kept = right_ones ∙ ap (λ b. right_below l b (count_of l)) (zeros_of l)
 
     seeded : r.seeded ≡ seeded_of l m
@@ -99,7 +99,7 @@ module _ (l : Listing) (d : Deal) (x : Placed) (base : List ℕ) (views : List (
     clash b e = cc
 
   -- so a refusal names them
-  pub refusal : (held : Option (Map (List ℕ))) (stocked : IsStocked l t held) (fault : ExtractFault) → Verdict l (IsObtainable l d x base views (stocked.map ∷ [])) (Err fault) → IsNamed {A = Report} l (Err fault) → IsRefused (fault_of fault)
+  pub refusal : (held : Option (Map (List ℕ))) (stocked : IsStocked l t held) (fault : ExtractFault) → Verdict l (IsObtainable l d x base views (stocked.map ∷ [])) (Err fault) → IsNamed {A = Report} l (Err fault) → IsDemoRefused (demo_fault fault)
   refusal held stocked (faults.Missing k id) verdict named = two_pieces held stocked k named.0 verdict.1 id named.1
   refusal held stocked (faults.Damaged k id store shows) verdict named = two_pieces held stocked k named.0 verdict.1 id named.1
   refusal held stocked (faults.StoreFault store) verdict named = tt
@@ -117,19 +117,19 @@ module _ {S V : Type 0} (holds : S → Option (Map (List ℕ))) (view : V → He
   stores_told = ap (λ c. map holds c.stores) one ∙ ap (λ o. o ∷ []) is
 
   pub judged : (r s : Result Report ExtractFault) → r ≡ s
-      → ((maps : List (Map (List ℕ))) → map holds chain.stores ≡ map Some maps → IfSome told (λ o. Verdict l (IsObtainable l d x (resized o (image_length l)) (map (held_in view) seeds) maps) r))
+      → ((maps : List (Map (List ℕ))) → map holds chain.stores ≡ map Some maps → IfSome told (λ o. Verdict l (IsObtainable l d x (resized o (image_length l)) (map (seed_held view) seeds) maps) r))
       → Verdict l (IsObtainable l d x (base_of l) (Some (view v) ∷ []) (chunks ∷ [])) s
   judged r s same judge =
-      let h = subst (λ o. IfSome o (λ b. Verdict l (IsObtainable l d x (resized b (image_length l)) (map (held_in view) seeds) (chunks ∷ [])) r)) empty (judge (chunks ∷ []) stores_told) in
-      let k = subst (λ z. Verdict l (IsObtainable l d x (base_of l) (map (held_in view) z) (chunks ∷ [])) r) seeded h in
+      let h = subst (λ o. IfSome o (λ b. Verdict l (IsObtainable l d x (resized b (image_length l)) (map (seed_held view) seeds) (chunks ∷ [])) r)) empty (judge (chunks ∷ []) stores_told) in
+      let k = subst (λ z. Verdict l (IsObtainable l d x (base_of l) (map (seed_held view) z) (chunks ∷ [])) r) seeded h in
       subst (λ e. Verdict l (IsObtainable l d x (base_of l) (Some (view v) ∷ []) (chunks ∷ [])) e) same k
 
   pub told_report : (r : Result Report ExtractFault) (report : Report) → r ≡ Ok report
-      → ((maps : List (Map (List ℕ))) → map holds chain.stores ≡ map Some maps → IfSome told (λ o. IfOk r (ReportsExactly (source_of l d x (resized o (image_length l)) (map (held_in view) seeds) [] maps) d.wants)))
+      → ((maps : List (Map (List ℕ))) → map holds chain.stores ≡ map Some maps → IfSome told (λ o. IfOk r (ReportsExactly (source_of l d x (resized o (image_length l)) (map (seed_held view) seeds) [] maps) d.wants)))
       → ReportsExactly (source_of l d x (base_of l) (Some (view v) ∷ []) [] (chunks ∷ [])) d.wants report
   told_report r report same says =
-      let h = subst (λ o. IfSome o (λ b. IfOk r (ReportsExactly (source_of l d x (resized b (image_length l)) (map (held_in view) seeds) [] (chunks ∷ [])) d.wants))) empty (says (chunks ∷ []) stores_told) in
-      let k = subst (λ z. IfOk r (ReportsExactly (source_of l d x (base_of l) (map (held_in view) z) [] (chunks ∷ [])) d.wants)) seeded h in
+      let h = subst (λ o. IfSome o (λ b. IfOk r (ReportsExactly (source_of l d x (resized b (image_length l)) (map (seed_held view) seeds) [] (chunks ∷ [])) d.wants))) empty (says (chunks ∷ []) stores_told) in
+      let k = subst (λ z. IfOk r (ReportsExactly (source_of l d x (base_of l) (map (seed_held view) z) [] (chunks ∷ [])) d.wants)) seeded h in
       subst (λ e. IfOk e (ReportsExactly (source_of l d x (base_of l) (Some (view v) ∷ []) [] (chunks ∷ [])) d.wants)) same k
 
 -- a store that was empty holds each chunk

@@ -47,8 +47,8 @@ firsts l passes = firsts_below l passes (count_of l)
 
 -- the entries that are right in zeros; the different chunks that aren't there and that the seed gives; those that it
 -- doesn't; and the rest of the entries
-abbrev pub kept_of : Listing → ℕ
-kept_of l = right_below l (replicate (image_length l) 0) (count_of l)
+abbrev pub kept_entries : Listing → ℕ
+kept_entries l = right_below l (replicate (image_length l) 0) (count_of l)
 
 abbrev pub seeded_of : Listing → Listing → ℕ
 seeded_of l m = firsts l (λ i. not (is_in_zeros l i) && is_in_seed l m i)
@@ -57,7 +57,7 @@ abbrev pub fetched_of : Listing → Listing → ℕ
 fetched_of l m = firsts l (λ i. not (is_in_zeros l i) && not (is_in_seed l m i))
 
 abbrev pub copied_of : Listing → Listing → ℕ
-copied_of l m = count_of l - (kept_of l + seeded_of l m + fetched_of l m)
+copied_of l m = count_of l - (kept_entries l + seeded_of l m + fetched_of l m)
 
 -- the figures of making an image that l lists from zeros, a seed that m lists, and a store that has each chunk
 abbrev pub figures_of : Listing → Listing → ℕ → Figures
@@ -65,7 +65,7 @@ figures_of l m size = record {
   bytes = size;
   chunks = count_of l;
   distinct = firsts l (λ i. true);
-  kept = kept_of l;
+  kept = kept_entries l;
   copied = copied_of l m;
   seeded = seeded_of l m;
   fetched = fetched_of l m;
@@ -101,11 +101,11 @@ pub record HasTwoPieces (name : List ℕ) : Type 0 where
   pub other_named : name_of kinds.Sha512T256 other ≡ name
 
 -- a refusal names two unequal pieces of bytes. Want of memory is free
-abbrev pub IsRefused : DemoFault → Type 0
-IsRefused (faults.Mismatch entry id) = HasTwoPieces id.0
-IsRefused faults.Memory = Unit {0}
+abbrev pub IsDemoRefused : DemoFault → Type 0
+IsDemoRefused (faults.Mismatch entry id) = HasTwoPieces id.0
+IsDemoRefused faults.Memory = Unit {0}
 
 -- what `demo` may answer
 abbrev pub Rehearses : ℕ → ℕ → Result Figures DemoFault → Type 0
 Rehearses number size (Ok f) = AreFigures number size f
-Rehearses number size (Err fault) = IsRefused fault
+Rehearses number size (Err fault) = IsDemoRefused fault

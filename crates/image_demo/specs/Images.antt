@@ -22,13 +22,13 @@ turned_start size = size / 2
 abbrev pub turned_end : ℕ → ℕ
 turned_end size = min (size / 2 + 1048576) size
 
-abbrev pub turned : List ℕ → List ℕ
-turned bytes = map (λ c. bit_xor c 255) bytes
+abbrev pub bits_turned : List ℕ → List ℕ
+bits_turned bytes = map (λ c. bit_xor c 255) bytes
 
 -- the seed: the image with all bits of the bytes between turned round
 abbrev pub seed_of : List ℕ → List ℕ
 seed_of t = take (turned_start (length t)) t
-    ++ (turned (slice_range t (turned_start (length t)) (turned_end (length t))) ++ drop (turned_end (length t)) t)
+    ++ (bits_turned (slice_range t (turned_start (length t)) (turned_end (length t))) ++ drop (turned_end (length t)) t)
 
 -- the sizes by which both are cut, which are those of `make`
 abbrev pub usual_sizes : Sizes

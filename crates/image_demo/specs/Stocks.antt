@@ -22,7 +22,7 @@ IsNamed l (Err (faults.Damaged k id store shows)) = (k < count_of l) × (id.0 �
 IsNamed l other = Unit {0}
 
 -- what it then tells: nothing fails, so a chunk that no source gives shows two unequal pieces of bytes
-abbrev pub fault_of : ExtractFault → DemoFault
-fault_of (faults.Missing k id) = demo.Mismatch k id
-fault_of (faults.Damaged k id store shows) = demo.Mismatch k id
-fault_of other = demo.Memory
+abbrev pub demo_fault : ExtractFault → DemoFault
+demo_fault (faults.Missing k id) = demo.Mismatch k id
+demo_fault (faults.Damaged k id store shows) = demo.Mismatch k id
+demo_fault other = demo.Memory

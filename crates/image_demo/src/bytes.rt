@@ -2,7 +2,7 @@
 //! ends are exclusive.
 
 ghost use Rattle.std.specs.Prelude.{◌≡◌, ◌++◌, ◌/◌, ◌^◌, IfOk, OnOk};
-ghost use Rattle.image_demo.specs.Images.{image_of, next_state, seed_of, turned};
+ghost use Rattle.image_demo.specs.Images.{image_of, next_state, seed_of, bits_turned};
 
 use std::alloc::{AllocError, Global};
 
@@ -44,7 +44,7 @@ pub fn image(alloc: Global, number: u64, size: usize) -> Result<Vec<u8>, AllocEr
 
 // Adds the bytes with all their bits turned round.
 fn push_turned(bytes: &mut Vec<u8>, part: &[u8]) -> Result<(), AllocError>
-    ensures { OnOk result (bytes.new.items ≡ bytes.old.items ++ turned part.now) }
+    ensures { OnOk result (bytes.new.items ≡ bytes.old.items ++ bits_turned part.now) }
 {
     for byte in part {
         bytes.push(*byte ^ 255)?;

@@ -3,7 +3,7 @@
 ghost use Rattle.std.specs.Prelude.{◌≡◌, ◌≢◌, ◌<◌, ℕ, true, false, IfErr, OnOk};
 ghost use Rattle.caibx_codec.specs.Listing.{count_of, slice_of};
 ghost use Rattle.caibx_codec.specs.Right.{IsRight};
-ghost use Rattle.image_demo.specs.Figures.{IsRefused};
+ghost use Rattle.image_demo.specs.Figures.{IsDemoRefused};
 
 use crate::fault::DemoFault;
 use caibx_codec::index::Index;
@@ -27,7 +27,7 @@ pub fn compare(index: &Index, made: &[u8], image: &[u8]) -> Result<(), DemoFault
     requires right { (IsRight made.now index.now) × (IsRight image.now index.now) }
     ensures same { OnOk result ((i : ℕ) → i < count_of index.now →
         slice_of index.now made.now i ≡ slice_of index.now image.now i) }
-    ensures err { IfErr result IsRefused }
+    ensures err { IfErr result IsDemoRefused }
 {
     for i in 0..index.count() {
         if !is_same(index, i, made, image) {

@@ -19,7 +19,7 @@ use std::thread::Threads;
 
 /// The figures of the image that the number makes, of so many bytes. The seed is the same but for up to 2^20 bytes from
 /// the middle on, of which all bits are turned round.
-pub fn demo<R: Threads + Sync>(
+pub fn demo_figures<R: Threads + Sync>(
     rt: &R,
     alloc: Global,
     number: u64,

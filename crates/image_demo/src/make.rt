@@ -12,9 +12,9 @@ ghost use Rattle.dsy_base.specs.Bytes.{resized};
 ghost use Rattle.dsy_base.specs.Maps.{Map};
 ghost use Rattle.extract_plan.specs.Deal.{IsPlan};
 ghost use Rattle.extract_plan.specs.Places.{PlacesKnown};
-ghost use Rattle.extract_plan.specs.Seeds.{held_in};
-ghost use Rattle.image_demo.specs.Figures.{IsRefused, figures_of};
-ghost use Rattle.image_demo.specs.Stocks.{IsNamed, IsStocked, fault_of};
+ghost use Rattle.extract_plan.specs.Seeds.{seed_held};
+ghost use Rattle.image_demo.specs.Figures.{IsDemoRefused, figures_of};
+ghost use Rattle.image_demo.specs.Stocks.{IsNamed, IsStocked, demo_fault};
 
 use crate::cut::Indexed;
 use crate::fault::DemoFault;
@@ -53,11 +53,11 @@ fn assemble_quietly<T: Target, S: Store, V: View>(
     requires sure { (IsTrue T.never_fails) × (IsTrue S.never_fails) × (IsTrue V.never_fails) }
     ensures verdict { (maps : List (Map (List ℕ))) → map S.holds kit.chain.stores ≡ map Some maps →
         IfSome (T.held target).bytes (λ o. Verdict index.now (IsObtainable index.now planned.now.plan
-        planned.now.places (resized o (image_length index.now)) (map (held_in V.held) kit.seeds.items) maps)
+        planned.now.places (resized o (image_length index.now)) (map (seed_held V.held) kit.seeds.items) maps)
         result.answer) }
     ensures reported { (maps : List (Map (List ℕ))) → map S.holds kit.chain.stores ≡ map Some maps →
         IfSome (T.held target).bytes (λ o. IfOk result.answer (ReportsExactly (source_of index.now planned.now.plan
-        planned.now.places (resized o (image_length index.now)) (map (held_in V.held) kit.seeds.items) [] maps)
+        planned.now.places (resized o (image_length index.now)) (map (seed_held V.held) kit.seeds.items) [] maps)
         planned.now.plan.wants)) }
     ensures report { IfOk result.answer
         (λ r. r.kept + r.copied + r.seeded + r.cached + r.fetched ≡ count_of index.now) }
@@ -83,7 +83,7 @@ fn assemble_quietly<T: Target, S: Store, V: View>(
 
 // Why an image wasn't made.
 fn fault_of(fault: ExtractFault) -> DemoFault
-    ensures { result ≡ fault_of fault }
+    ensures { result ≡ demo_fault fault }
 {
     match fault {
         ExtractFault::Missing { entry, id } => DemoFault::Mismatch { entry, id },
@@ -143,7 +143,7 @@ pub fn make<T: Target, S: Store, V: View>(
     requires sure { (IsTrue T.never_fails) × (IsTrue S.never_fails) × (IsTrue V.never_fails) }
     ensures value { IfOk result (λ m. m.figures ≡ figures_of index.now seed.index (image_length index.now)) }
     ensures right { IfOk result (λ m. IfSome (T.held m.target).bytes (λ t. IsRight t index.now)) }
-    ensures err { IfErr result IsRefused }
+    ensures err { IfErr result IsDemoRefused }
 {
     index.rules();
     seed.index.rules();

@@ -10,8 +10,8 @@ use Rattle.dsy_base.specs.declared.view.View.{Ghosts as ViewWords}
 use Rattle.caibx_codec.specs.Listing.{Listing, count_of}
 use Rattle.image_store.proofs.Putting.{on_ok}
 use Rattle.image_store.proofs.Views.{all_of_first}
-use Rattle.image_store.specs.Putting.{Ends, HasPut}
-use Rattle.image_store.specs.Storing.{GoesOn, HasStored, IsAlike, IsStoredBy, IsStoring, NoneFalls}
+use Rattle.image_store.specs.Putting.{PuttingEnds, HasPut}
+use Rattle.image_store.specs.Storing.{GoesOn, HasStored, IsAlike, IsStoredBy, IsStoring, NoFaultCountFalls}
 use Rattle.image_store.specs.declared.put_chunks.MakeFault.{MakeFault}
 use Rattle.image_store.specs.declared.put_chunks.MakeFault.TheVariants as faults
 use Rattle.image_store.specs.declared.storing.Storing.{Storing}
@@ -28,12 +28,12 @@ pub seen_through : {W V X : Type 0} (f : V → X) (of : W → V) (olds news : Li
 seen_through f of olds news same = sym (map_twice f of news) ∙ ap (map f) same ∙ map_twice f of olds
 
 -- counts that don't fall, and then don't either
-pub falls_on : (old now here new : List ℕ) → NoneFalls old now → here ≡ now → NoneFalls here new → NoneFalls old new
+pub falls_on : (old now here new : List ℕ) → NoFaultCountFalls old now → here ≡ now → NoFaultCountFalls here new → NoFaultCountFalls old new
 falls_on old now here new one same two = record { never_falls = λ i. omega (arith, one.never_falls i, two.never_falls i, ap (λ (xs : List ℕ). slice_index xs i) same) }
 
 -- and those of a list whose first and whose others don't
-pub falls_cons : {W : Type 0} (f : W → ℕ) (olds : List W) (x : W) (n : ℕ) (xs ys : List W) → olds ≡ x ∷ xs → f x ≤ n → NoneFalls (map f xs) (map f ys) → NoneFalls (map f olds) (n ∷ map f ys)
-falls_cons {W} f olds x n xs ys is up rest = subst (λ (zs : List W). NoneFalls (map f zs) (n ∷ map f ys)) (sym is) (record { never_falls = at }) where
+pub falls_cons : {W : Type 0} (f : W → ℕ) (olds : List W) (x : W) (n : ℕ) (xs ys : List W) → olds ≡ x ∷ xs → f x ≤ n → NoFaultCountFalls (map f xs) (map f ys) → NoFaultCountFalls (map f olds) (n ∷ map f ys)
+falls_cons {W} f olds x n xs ys is up rest = subst (λ (zs : List W). NoFaultCountFalls (map f zs) (n ∷ map f ys)) (sym is) (record { never_falls = at }) where
   at : (i : ℕ) → slice_index (map f (x ∷ xs)) i ≤ slice_index (n ∷ map f ys) i
   at zero = up
   at (suc i) = rest.never_falls i
@@ -64,7 +64,7 @@ crew_alike {V} H vs rs image is alike =
     subst (All (IsAlike (H image))) (map_twice H (λ (r : Reader V). r.view) rs) (λ k d lt. all 0 (H image) (omega arith) (suc k) d (omega arith))
 
 pub stored_first : {V S : Type 0} (view : ViewWords V) (store : StoreWords S) (l : Listing) (first : S) (old new : V) (now : S) (seen : BTreeSet (List ℕ)) (r : Result Unit MakeFault)
-    → Ends view store l first old new now r → OnOk r (HasPut store l (view.held old).bytes (count_of l) first now seen) → HasStored store l (view.held old).bytes first now r
+    → PuttingEnds view store l first old new now r → OnOk r (HasPut store l (view.held old).bytes (count_of l) first now seen) → HasStored store l (view.held old).bytes first now r
 stored_first view store l first old new now seen r ends put = record {
   holds = on_ok r _ _ _ (λ p q. p.holds) put put;
   says = on_ok r _ _ _ (λ p q. p.says) put put;
@@ -77,7 +77,7 @@ module _ {V S : Type 0} (view : ViewWords V) (store : StoreWords S) (l : Listing
   -- the first view and those of others, in their order, and the same afterwards
   pub by_crew : {W : Type 0} (of : W → V) (vs ws : List V) (rs news : List W) (old new : V) → vs ≡ old ∷ map of rs → ws ≡ new ∷ map of news → AreOfOneImage (map view.held vs)
       → HasStored store l (view.held old).bytes first now r → view.held new ≡ view.held old → map (λ w. view.held (of w)) news ≡ map (λ w. view.held (of w)) rs
-      → CountsFaults faults.ImageFault faults.Memory (view.faults old) (view.faults new) r → NoneFalls (map (λ w. view.faults (of w)) rs) (map (λ w. view.faults (of w)) news)
+      → CountsFaults faults.ImageFault faults.Memory (view.faults old) (view.faults new) r → NoFaultCountFalls (map (λ w. view.faults (of w)) rs) (map (λ w. view.faults (of w)) news)
       → IsStoredBy view store l vs ws first now r
   by_crew of vs ws rs news old new was is alike stored kept kept_all counts falls =
       subst (λ (xs : List V). IsStoredBy view store l xs ws first now r) (sym was) (subst (λ (ys : List V). IsStoredBy view store l (old ∷ map of rs) ys first now r) (sym is) (record {

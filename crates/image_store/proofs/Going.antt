@@ -5,7 +5,7 @@ use Rattle.chunk_store.specs.declared.store.Store.{Ghosts as StoreWords}
 use Rattle.dsy_base.specs.Bytes.{Held}
 use Rattle.dsy_base.specs.declared.view.View.{Ghosts as ViewWords}
 use Rattle.image_store.proofs.Putting.{ends_on, ends_still}
-use Rattle.image_store.specs.Putting.{Ends, HasPut}
+use Rattle.image_store.specs.Putting.{PuttingEnds, HasPut}
 use Rattle.image_store.specs.Storing.{GoesOn, IsStoring}
 use Rattle.image_store.specs.declared.put_chunks.MakeFault.{MakeFault}
 use Rattle.image_store.specs.declared.storing.Storing.{Storing}
@@ -19,7 +19,7 @@ module _ {V S : Type 0} (view : ViewWords V) (store : StoreWords S) (l : Listing
     next = two.next;
     first = two.first ∙ one.first;
     ends = ends_on view store l c.first.value a.image b.image c.image b.store c.store r
-        (subst (λ (f : S). Ends view store l f a.image b.image b.store (Ok tt)) (sym two.first) one.ends) two.ends;
+        (subst (λ (f : S). PuttingEnds view store l f a.image b.image b.store (Ok tt)) (sym two.first) one.ends) two.ends;
   }
 
   -- one entry more was seen to

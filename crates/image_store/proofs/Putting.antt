@@ -12,8 +12,8 @@ use Rattle.dsy_base.specs.Counts.{CountsFaults, Rose}
 use Rattle.dsy_base.specs.declared.view.View.{Ghosts as ViewWords}
 use Rattle.image_store.proofs.Seen.{seen_on, unseen_before}
 use Rattle.image_store.proofs.Stored.{asks_later, asks_more, files_later, files_more, holds_again, holds_more, lacked_fresh, others_hold, said_again, said_more, stands_later, stands_more, tells_on}
-use Rattle.image_store.specs.PutChunks.{CountsCause, EndsAt, HoldsNamed, IsListed, PutsEnd, PutsLacked, PutsRight, SaysNamed}
-use Rattle.image_store.specs.Putting.{Ends, HasPut, HasTouched, HoldsStill, SeesTo, is_seen}
+use Rattle.image_store.specs.PutChunks.{CountsCause, EndsAt, HoldsNamed, IsListedId, PutsEnd, PutsLacked, PutsRight, SaysNamed}
+use Rattle.image_store.specs.Putting.{PuttingEnds, HasPut, HasTouched, HoldsStill, SeesTo, is_seen}
 use Rattle.image_store.specs.declared.put_chunks.MakeFault.{MakeFault}
 use Rattle.image_store.specs.declared.put_chunks.MakeFault.TheVariants as faults
 
@@ -47,7 +47,7 @@ module _ {S : Type 0} (store : StoreWords S) (l : Listing) (told : Option (List 
 
   -- the set of ids after one more was put into it, which is that of entry i
   module _ (id : List ℕ) (is : id ≡ id_of l i) (old new : BTreeSet (List ℕ)) (changed : (q : List ℕ) → is_seen new q ≡ (bytes_eq id q || is_seen old q)) (was : HasPut store l told i first now old) where
-    pub put_again : IsListed l i (id_of l i) → HasPut store l told (i + 1) first now new
+    pub put_again : IsListedId l i (id_of l i) → HasPut store l told (i + 1) first now new
     put_again before = record {
       touched = touched_later (i + 1) (omega arith) was.touched;
       holds = holds_again l i (store.holds now) before was.holds;
@@ -132,7 +132,7 @@ no_fault r e is = λ other. absurd (cc)
 
 -- nothing more was done
 pub ends_still : {V S : Type 0} (view : ViewWords V) (store : StoreWords S) (l : Listing) (k : ℕ) (first : S) (image : V) (now : S) → k ≤ count_of l
-    → HasTouched store l (view.held image).bytes k first now → Ends view store l first image image now (Ok tt)
+    → HasTouched store l (view.held image).bytes k first now → PuttingEnds view store l first image image now (Ok tt)
 ends_still view store l k first image now le was = record {
   touched = touched_later store l (view.held image).bytes k first now (count_of l) le was;
   err = tt;
@@ -143,7 +143,7 @@ ends_still view store l k first image now le was = record {
 
 -- entries were seen to, and then more of them
 pub ends_on : {V S : Type 0} (view : ViewWords V) (store : StoreWords S) (l : Listing) (first : S) (a b c : V) (now then : S) (result : Result Unit MakeFault)
-    → Ends view store l first a b now (Ok tt) → Ends view store l first b c then result → Ends view store l first a c then result
+    → PuttingEnds view store l first a b now (Ok tt) → PuttingEnds view store l first b c then result → PuttingEnds view store l first a c then result
 ends_on view store l first a b c now then result one two = record {
   touched = subst (λ (h : Held). HasTouched store l h.bytes (count_of l) first then) one.kept two.touched;
   err = subst (λ (h : Held). IfErr result (PutsEnd l h.bytes)) one.kept two.err;

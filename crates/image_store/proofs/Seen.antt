@@ -8,7 +8,7 @@ use Rattle.std.specs.Ordering.{nat_cmp, is_eq}
 use Rattle.std.specs.Str.{bytes_eq}
 use Rattle.caibx_codec.specs.Listing.{Listing, id_of}
 use Rattle.image_store.proofs.Names.{apart_is, equal_or_not}
-use Rattle.image_store.specs.PutChunks.{IsListed}
+use Rattle.image_store.specs.PutChunks.{IsListedId}
 use Rattle.image_store.specs.Putting.{AreSeen, is_seen}
 
 pub seen_more : (id q : List ℕ) (old new : Bool) → new ≡ cond (is_eq (slice_cmp nat_cmp id q)) true old → new ≡ (bytes_eq id q || old)
@@ -46,7 +46,7 @@ not_false true h = refl
 not_false false h = let z : false ≡ true = h in absurd (cc)
 
 -- an id that isn't new is that of an entry before
-pub listed_before : (l : Listing) (i : ℕ) (id : List ℕ) (seen : BTreeSet (List ℕ)) → id ≡ id_of l i → false ≡ not (is_seen seen id) → AreSeen l i seen → IsListed l i (id_of l i)
+pub listed_before : (l : Listing) (i : ℕ) (id : List ℕ) (seen : BTreeSet (List ℕ)) → id ≡ id_of l i → false ≡ not (is_seen seen id) → AreSeen l i seen → IsListedId l i (id_of l i)
 listed_before l i id seen is found known =
     let was = known id (not_false (is_seen seen id) found) in
     record { entry = was.entry; below = was.below; id = sym is ∙ was.id }

@@ -12,7 +12,7 @@ use Rattle.dsy_base.specs.Folders.{temporary_of}
 use Rattle.dsy_base.specs.Maps.{Map, at_name}
 use Rattle.image_store.proofs.Names.{equal_or_not, other_name, same_name}
 use Rattle.image_store.specs.Chopping.{SaysBefore}
-use Rattle.image_store.specs.PutChunks.{PutsRight, PutsLacked, HoldsNamed, SaysNamed, IsListed, IsStored, Stands, HoldsAll, SaysAll, IsPut, PutsFiles, AsksEach}
+use Rattle.image_store.specs.PutChunks.{PutsRight, PutsLacked, HoldsNamed, SaysNamed, IsListedId, IsStored, Stands, HoldsAll, SaysAll, IsPut, PutsFiles, AsksEach}
 use Rattle.image_store.specs.Putting.{HoldsStill}
 
 -- one of the first k entries lists the id, and the image's slice wasn't held under it at first
@@ -25,7 +25,7 @@ pub record WasLacked (l : Listing) (told : Option (List ℕ)) (held : Option (Ma
 module _ (l : Listing) where
   -- ---- entries after the first i
 
-  pub listed_later : (i j : ℕ) (q : List ℕ) → i ≤ j → IsListed l i q → IsListed l j q
+  pub listed_later : (i j : ℕ) (q : List ℕ) → i ≤ j → IsListedId l i q → IsListedId l j q
   listed_later i j q le s = record { entry = s.entry; below = omega (arith, s.below); id = s.id }
 
   stored_later : (t : List ℕ) (i j : ℕ) (q : List ℕ) (a b : Option (List ℕ)) → i ≤ j → b ≡ a → IsStored l t i q a → IsStored l t j q b
@@ -118,7 +118,7 @@ module _ (l : Listing) where
     ]
 
   -- an id of an entry before holds still
-  pub holds_again : (i : ℕ) (now : Option (Map (List ℕ))) → IsListed l i (id_of l i) → IfSome now (λ m. HoldsAll l i m) → IfSome now (λ m. HoldsAll l (i + 1) m)
+  pub holds_again : (i : ℕ) (now : Option (Map (List ℕ))) → IsListedId l i (id_of l i) → IfSome now (λ m. HoldsAll l i m) → IfSome now (λ m. HoldsAll l (i + 1) m)
   holds_again i None before held = tt
   holds_again i (Some m) before held = λ j less. elim (cases_lt j i) [
     | inl below ↦ held j below
@@ -155,7 +155,7 @@ module _ (l : Listing) where
     | inr at_least ↦ let same : i ≡ j = omega arith in subst (λ (k : ℕ). SaysNamed (kind_of l) (id_of l k) new) same here
   ]
 
-  pub said_again : (i : ℕ) (said : Said) → IsListed l i (id_of l i) → SaysAll l i said → SaysAll l (i + 1) said
+  pub said_again : (i : ℕ) (said : Said) → IsListedId l i (id_of l i) → SaysAll l i said → SaysAll l (i + 1) said
   said_again i said before all = λ j less. elim (cases_lt j i) [
     | inl below ↦ all j below
     | inr at_least ↦

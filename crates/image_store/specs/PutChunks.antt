@@ -78,7 +78,7 @@ RereadsTo kind k id told faults.Memory = ⊥
 -- ---- seeing to the first k chunks
 
 -- the id q is one of theirs
-pub record IsListed (l : Listing) (k : ℕ) (q : List ℕ) : Type 0 where
+pub record IsListedId (l : Listing) (k : ℕ) (q : List ℕ) : Type 0 where
   pub entry : ℕ
   pub below : entry < k
   pub id : q ≡ id_of l entry
@@ -119,7 +119,7 @@ pub record PutsFiles (l : Listing) (told : Option (List ℕ)) (held : ToldMap) (
 pub record AsksEach (l : Listing) (k : ℕ) (old new : List ℕ → ℕ) : Type 0 where
   pub no_less : (q : List ℕ) → old q ≤ new q
   pub once : (q : List ℕ) → new q ≤ old q + 1
-  pub listed : (q : List ℕ) → (new q ≡ old q) ⊎ IsListed l k q
+  pub listed : (q : List ℕ) → (new q ≡ old q) ⊎ IsListedId l k q
 
 -- seeing to all chunks ended early
 abbrev pub PutsEnd : Listing → Option (List ℕ) → MakeFault → Type 0

@@ -9,7 +9,8 @@ use Rattle.chunk_store.specs.declared.store.Store.{Ghosts as StoreWords}
 use Rattle.dsy_base.specs.Counts.{CountsFaults}
 use Rattle.dsy_base.specs.Maps.{Map}
 use Rattle.dsy_base.specs.declared.view.View.{Ghosts as ViewWords}
-use Rattle.image_store.specs.PutChunks.{AsksEach, CountsCause, HoldsAll, IsListed, PutsEnd, PutsFiles, SaysAll, Stands}
+use Rattle.image_store.specs.PutChunks.{AsksEach, CountsCause, HoldsAll, IsListedId, PutsEnd, PutsFiles, SaysAll}
+use Rattle.image_store.specs.PutChunks.{Stands}
 use Rattle.image_store.specs.declared.put_chunks.MakeFault.{MakeFault}
 use Rattle.image_store.specs.declared.put_chunks.MakeFault.TheVariants as faults
 
@@ -19,7 +20,7 @@ is_seen seen q = contains (slice_cmp nat_cmp) seen q
 
 -- each id in the set is that of one of the first k entries
 abbrev pub AreSeen : Listing → ℕ → BTreeSet (List ℕ) → Type 0
-AreSeen l k seen = (q : List ℕ) → is_seen seen q ≡ true → IsListed l k q
+AreSeen l k seen = (q : List ℕ) → is_seen seen q ≡ true → IsListedId l k q
 
 -- under the id the same is held now as at first, where both are told
 abbrev pub HoldsStill : List ℕ → Option (Map (List ℕ)) → Option (Map (List ℕ)) → Type 0
@@ -47,7 +48,8 @@ module _ {S : Type 0} (store : StoreWords S) (l : Listing) (told : Option (List 
         → (store.asked now q ≡ store.asked first q) × HoldsStill q (store.holds first) (store.holds now)
 
 -- seeing to entries with this view ended so
-pub record Ends {V S : Type 0} (view : ViewWords V) (store : StoreWords S) (l : Listing) (first : S) (old new : V)
+pub record PuttingEnds {V S : Type 0} (view : ViewWords V) (store : StoreWords S) (l : Listing) (first : S)
+    (old new : V)
     (now : S) (result : Result Unit MakeFault) : Type 0 where
   pub touched : HasTouched store l (view.held old).bytes (count_of l) first now
   pub err : IfErr result (PutsEnd l (view.held old).bytes)
@@ -59,4 +61,4 @@ pub record Ends {V S : Type 0} (view : ViewWords V) (store : StoreWords S) (l : 
 pub record SeesTo {V S : Type 0} (view : ViewWords V) (store : StoreWords S) (l : Listing) (k : ℕ) (first : S)
     (old new : V) (now : S) (seen : BTreeSet (List ℕ)) (result : Result Unit MakeFault) : Type 0 where
   pub put : OnOk result (HasPut store l (view.held old).bytes k first now seen)
-  pub ends : Ends view store l first old new now result
+  pub ends : PuttingEnds view store l first old new now result

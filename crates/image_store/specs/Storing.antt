@@ -7,7 +7,7 @@ use Rattle.chunk_store.specs.declared.store.Store.{Ghosts as StoreWords}
 use Rattle.dsy_base.specs.Bytes.{Held}
 use Rattle.dsy_base.specs.declared.view.View.{Ghosts as ViewWords}
 use Rattle.image_store.specs.PutChunks.{CountsCause, HoldsAll, PutsEnd, SaysAll}
-use Rattle.image_store.specs.Putting.{Ends, HasPut, HasTouched}
+use Rattle.image_store.specs.Putting.{PuttingEnds, HasPut, HasTouched}
 use Rattle.image_store.specs.declared.put_chunks.MakeFault.{MakeFault}
 use Rattle.image_store.specs.declared.put_chunks.MakeFault.TheVariants as faults
 use Rattle.image_store.specs.declared.storing.Storing.{Storing}
@@ -25,14 +25,14 @@ module _ {V S : Type 0} (view : ViewWords V) (store : StoreWords S) (l : Listing
   pub record GoesOn (old new : Storing V S) (result : Result Unit MakeFault) : Type 0 where
     pub next : OnOk result (IsStoring new)
     pub first : new.first.value ≡ old.first.value
-    pub ends : Ends view store l new.first.value old.image new.image new.store result
+    pub ends : PuttingEnds view store l new.first.value old.image new.image new.store result
 
 -- what a view holds is the image that another one holds
 abbrev pub IsAlike : Held → Held → Type 0
 IsAlike h k = (k.size ≡ h.size) × (k.bytes ≡ h.bytes)
 
 -- no count of the list has fallen
-pub record NoneFalls (old new : List ℕ) : Type 0 where
+pub record NoFaultCountFalls (old new : List ℕ) : Type 0 where
   pub never_falls : (i : ℕ) → slice_index old i ≤ slice_index new i
 
 -- seeing to all entries of an image of these bytes ended so

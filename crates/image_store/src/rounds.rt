@@ -4,7 +4,7 @@ ghost use Rattle.std.specs.Prelude.{◌≡◌, ℕ, ◌+◌, ◌<◌, ◌≤◌,
 ghost use Rattle.std.specs.Prelude.{vec_capacity, vec_len};
 ghost use Rattle.buzhash_cut.specs.Image.{AreOfOneImage};
 ghost use Rattle.caibx_codec.specs.Listing.{Listing, count_of, image_length, size_of};
-ghost use Rattle.image_store.specs.Storing.{GoesOn, IsAlike, IsStoredBy, IsStoring, NoneFalls};
+ghost use Rattle.image_store.specs.Storing.{GoesOn, IsAlike, IsStoredBy, IsStoring, NoFaultCountFalls};
 ghost use Rattle.read_ahead.specs.Ahead.{IsAhead};
 
 use crate::put_chunks::{MakeFault, put_chunks};
@@ -39,7 +39,8 @@ fn round<R: Threads + Sync, V: View, S: StoreWrite, W: View + Send, I: InnerFold
     ensures on { GoesOn V.View S.Store index.now storing.old storing.new result }
     ensures ahead { All (λ r. IsAhead index.now (W.held r.view).bytes r.ahead) readers.new }
     ensures kept { map (λ r. W.held r.view) readers.new ≡ map (λ r. W.held r.view) readers.old }
-    ensures faults { NoneFalls (map (λ r. W.faults r.view) readers.old) (map (λ r. W.faults r.view) readers.new) }
+    ensures faults { NoFaultCountFalls (map (λ r. W.faults r.view) readers.old)
+        (map (λ r. W.faults r.view) readers.new) }
 {
     let Some((reader, rest)) = readers.split_first_mut() else {
         return storing.put_round(index, claims, ready);
@@ -61,7 +62,7 @@ fn round<R: Threads + Sync, V: View, S: StoreWrite, W: View + Send, I: InnerFold
         ensures on { GoesOn V.View S.Store index.entry.now storing.entry.now storing.exit.now result }
         ensures ahead { All (λ r. IsAhead index.entry.now (W.held r.view).bytes r.ahead) rest.exit.now }
         ensures kept { map (λ r. W.held r.view) rest.exit.now ≡ map (λ r. W.held r.view) rest.entry.now }
-        ensures faults { NoneFalls (map (λ r. W.faults r.view) rest.entry.now)
+        ensures faults { NoFaultCountFalls (map (λ r. W.faults r.view) rest.entry.now)
             (map (λ r. W.faults r.view) rest.exit.now) }
     { round(rt, index, storing, rest, claims, ready, inner) };
     let (_, put) = join_mut(rt, &mut read, &mut go_on);
@@ -84,7 +85,8 @@ fn put_by_rounds<R: Threads + Sync, V: View + Send, S: StoreWrite, I: InnerFolde
     ensures on { GoesOn V.View S.Store index.now storing.old storing.new result }
     ensures all { OnOk result (storing.new.at ≡ count_of index.now) }
     ensures kept { map (λ r. V.held r.view) readers.new ≡ map (λ r. V.held r.view) readers.old }
-    ensures faults { NoneFalls (map (λ r. V.faults r.view) readers.old) (map (λ r. V.faults r.view) readers.new) }
+    ensures faults { NoFaultCountFalls (map (λ r. V.faults r.view) readers.old)
+        (map (λ r. V.faults r.view) readers.new) }
 {
     let mut at = 0;
     while at < index.count() {

@@ -5,7 +5,7 @@ use Rattle.std.specs.List.{AllZip, each_same}
 use Rattle.std.proofs.lemmas.List.{drop_more, length-take-le, drop-append-le, take-append-le, drop-drop}
 use Rattle.std.proofs.lemmas.Option.{none-some, slice_get_read, get_or_from_slice_get}
 use Rattle.std.proofs.Math.Seq.{take-add, drop-append-add, take-append-add}
-use Rattle.link_forms.specs.MemLinks.{bytes_of, come, to_come, link_of, traffic_of}
+use Rattle.link_forms.specs.MemLinks.{bytes_in_pieces, come, to_come, link_of, traffic_of}
 use Rattle.dsy_base.specs.Links.{LinkState, ReadsNext, received}
 use Rattle.link_forms.specs.declared.mem_link.MemLink.{MemLink}
 
@@ -13,16 +13,16 @@ come_passed : {Z : Type 0} (ps : List (Vec ℕ Z)) (i m : ℕ) (p : Vec ℕ Z) �
 come_passed [] i m p h = absurd (none-some p h)
 come_passed (x ∷ xs) zero m p h =
     let same : x ≡ p = get_or_from_slice_get (x ∷ xs) 0 p p h in
-    ap (λ b. b ++ take m (bytes_of xs)) (append-nil x.items) ∙ sym (ap (λ q. take (length q.items + m) (x.items ++ bytes_of xs)) (sym same) ∙ take-append-add x.items (bytes_of xs) m)
+    ap (λ b. b ++ take m (bytes_in_pieces xs)) (append-nil x.items) ∙ sym (ap (λ q. take (length q.items + m) (x.items ++ bytes_in_pieces xs)) (sym same) ∙ take-append-add x.items (bytes_in_pieces xs) m)
 come_passed (x ∷ xs) (suc i) m p h =
-    append_assoc x.items (bytes_of (take (suc i) xs)) (take m (bytes_of (drop (suc i) xs))) ∙ ap (λ b. x.items ++ b) (come_passed xs i m p h)
-    ∙ sym (append_assoc x.items (bytes_of (take i xs)) (take (length p.items + m) (bytes_of (drop i xs))))
+    append_assoc x.items (bytes_in_pieces (take (suc i) xs)) (take m (bytes_in_pieces (drop (suc i) xs))) ∙ ap (λ b. x.items ++ b) (come_passed xs i m p h)
+    ∙ sym (append_assoc x.items (bytes_in_pieces (take i xs)) (take (length p.items + m) (bytes_in_pieces (drop i xs))))
 
 to_come_passed : {Z : Type 0} (ps : List (Vec ℕ Z)) (i m : ℕ) (p : Vec ℕ Z) → slice_get ps i ≡ Some p → to_come ps (suc i) m ≡ to_come ps i (length p.items + m)
 to_come_passed [] i m p h = absurd (none-some p h)
 to_come_passed (x ∷ xs) zero m p h =
     let same : x ≡ p = get_or_from_slice_get (x ∷ xs) 0 p p h in
-    sym (ap (λ q. drop (length q.items + m) (x.items ++ bytes_of xs)) (sym same) ∙ drop-append-add x.items (bytes_of xs) m)
+    sym (ap (λ q. drop (length q.items + m) (x.items ++ bytes_in_pieces xs)) (sym same) ∙ drop-append-add x.items (bytes_in_pieces xs) m)
 to_come_passed (x ∷ xs) (suc i) m p h = to_come_passed xs i m p h
 
 -- once a piece has come whole, all is the same at the next one
@@ -42,12 +42,12 @@ link_passed l p n h e s f =
     ∙ (λ i. record { traffic = Some (record { received = g.0 i; coming = g.1 i; sent = l.sent.items }); faults = l.faults })
 
 -- a connection from which a part of this piece is read
-rest_of_piece : {Z : Type 0} (ps : List (Vec ℕ Z)) (i : ℕ) (p : Vec ℕ Z) → i < length ps → p ≡ get_or ps i p → bytes_of (drop i ps) ≡ p.items ++ bytes_of (drop (i + 1) ps)
-rest_of_piece ps i p h e = ap bytes_of (drop_more ps i p h) ∙ ap (λ q. q.items ++ bytes_of (drop (i + 1) ps)) (sym e)
+rest_of_piece : {Z : Type 0} (ps : List (Vec ℕ Z)) (i : ℕ) (p : Vec ℕ Z) → i < length ps → p ≡ get_or ps i p → bytes_in_pieces (drop i ps) ≡ p.items ++ bytes_in_pieces (drop (i + 1) ps)
+rest_of_piece ps i p h e = ap bytes_in_pieces (drop_more ps i p h) ∙ ap (λ q. q.items ++ bytes_in_pieces (drop (i + 1) ps)) (sym e)
 
 next_of_piece : {Z : Type 0} (ps : List (Vec ℕ Z)) (i at n : ℕ) (p : Vec ℕ Z) → i < length ps → p ≡ get_or ps i p → at + n ≤ length p.items → take n (to_come ps i at) ≡ take n (drop at p.items)
 next_of_piece ps i at n p h e f =
-    let more = bytes_of (drop (i + 1) ps) in
+    let more = bytes_in_pieces (drop (i + 1) ps) in
     let first : at ≤ length p.items = omega arith in
     let left : n ≤ length (drop at p.items) = rw length-drop (omega arith) in
     ap (λ b. take n (drop at b)) (rest_of_piece ps i p h e) ∙ ap (take n) (drop-append-le at p.items more first) ∙ take-append-le n (drop at p.items) more left
@@ -57,8 +57,8 @@ read_here l p n b h e f g =
     let ps = l.pieces.items in
     let left : n ≤ length (drop l.at p.items) = rw length-drop (omega arith) in
     let size : length b ≡ n = ap length g ∙ length-take-le n (drop l.at p.items) left in
-    let rest = bytes_of (drop l.piece ps) in
-    let before = bytes_of (take l.piece ps) in
+    let rest = bytes_in_pieces (drop l.piece ps) in
+    let before = bytes_in_pieces (take l.piece ps) in
     let come_more : come ps l.piece (l.at + n) ≡ come ps l.piece l.at ++ take n (to_come ps l.piece l.at) = ap (λ c. before ++ c) (take-add l.at n rest) ∙ sym (append_assoc before (take l.at rest) (take n (drop l.at rest))) in
     let left_over : to_come ps l.piece (l.at + n) ≡ drop n (to_come ps l.piece l.at) = sym (drop-drop n l.at rest) in
     record {
@@ -78,7 +78,7 @@ piece_left ps i at p h e g =
     rw there at g
 
 -- copies of pieces have the same bytes
-pub copied_bytes : {Z : Type 0} (ps qs : List (Vec ℕ Z)) → AllZip (λ v w. AllZip (λ x y. y ≡ x) v.items w.items × (vec_len w ≡ vec_len v)) ps qs → bytes_of qs ≡ bytes_of ps
+pub copied_bytes : {Z : Type 0} (ps qs : List (Vec ℕ Z)) → AllZip (λ v w. AllZip (λ x y. y ≡ x) v.items w.items × (vec_len w ≡ vec_len v)) ps qs → bytes_in_pieces qs ≡ bytes_in_pieces ps
 copied_bytes [] [] h = refl
 copied_bytes [] (q ∷ qs) h = absurd h
 copied_bytes (p ∷ ps) [] h = absurd h

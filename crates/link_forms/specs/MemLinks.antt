@@ -8,16 +8,16 @@ use Rattle.link_forms.specs.declared.mem_listen.MemListen.{MemListen}
 use Rattle.link_forms.specs.declared.open_link.Ended.{Ended, Nothing, Link'}
 
 -- all bytes of the pieces, one piece after the other
-abbrev pub bytes_of : {Z : Type 0} → List (Vec ℕ Z) → List ℕ
-bytes_of pieces = flat_map (λ p. p.items) pieces
+abbrev pub bytes_in_pieces : {Z : Type 0} → List (Vec ℕ Z) → List ℕ
+bytes_in_pieces pieces = flat_map (λ p. p.items) pieces
 
 -- what has come where so many pieces were passed and so many bytes of the others were read, and what hasn't
 abbrev pub come : {Z : Type 0} → List (Vec ℕ Z) → ℕ → ℕ → List ℕ
-come pieces piece at = bytes_of (take piece pieces) ++ take at (bytes_of (drop piece pieces))
+come pieces piece at = bytes_in_pieces (take piece pieces) ++ take at (bytes_in_pieces (drop piece pieces))
 
 -- the bytes of the pieces from offset `at` of this piece on
 abbrev pub to_come : {Z : Type 0} → List (Vec ℕ Z) → ℕ → ℕ → List ℕ
-to_come pieces piece at = drop at (bytes_of (drop piece pieces))
+to_come pieces piece at = drop at (bytes_in_pieces (drop piece pieces))
 
 -- the bytes of a connection in memory: what came, what is to come, and what was sent
 abbrev pub traffic_of : MemLink → Traffic
@@ -28,8 +28,8 @@ traffic_of l = record {
 }
 
 -- the same before anything came or went
-abbrev pub first_of : MemLink → Traffic
-first_of l = record { received = []; coming = bytes_of l.pieces.items; sent = [] }
+abbrev pub fresh_traffic : MemLink → Traffic
+fresh_traffic l = record { received = []; coming = bytes_in_pieces l.pieces.items; sent = [] }
 
 -- a connection in memory: its bytes and its count of faults
 abbrev pub link_of : MemLink → LinkState
@@ -52,9 +52,9 @@ abbrev pub dial_of : MemDial → DialState
 dial_of d = record { ended = Some (traffics_of d.ended); faults = d.faults }
 
 -- a listener in memory: the connections to come, those that have ended, and its count of faults
-abbrev pub listen_of : MemListen → ListenState
-listen_of l = record {
-  coming = Some (map first_of (drop l.next l.links.items));
+abbrev pub listen_state : MemListen → ListenState
+listen_state l = record {
+  coming = Some (map fresh_traffic (drop l.next l.links.items));
   ended = Some (states_of l.ended);
   faults = l.faults;
 }

@@ -4,7 +4,7 @@ ghost use Rattle.std.specs.Prelude.{◌≡◌, [], Some, map, slice_get, IfOk, I
 ghost use Rattle.std.specs.List.{All};
 ghost use Rattle.std.specs.Option.{option_map};
 ghost use Rattle.dsy_base.specs.Links.{IsFreshLink};
-ghost use Rattle.link_forms.specs.MemLinks.{dial_of, first_of, link_of, traffic_of};
+ghost use Rattle.link_forms.specs.MemLinks.{dial_of, fresh_traffic, link_of, traffic_of};
 
 use crate::mem_link::MemLink;
 use crate::open_link::{Ended, OpenLink};
@@ -66,7 +66,7 @@ impl MemDial {
 
 // Copies of the connections, before anything came or went.
 fn copies(alloc: Global, links: &[MemLink]) -> Result<Vec<MemLink>, AllocError>
-    ensures { IfOk result (λ made. map traffic_of made.items ≡ map first_of links.now) }
+    ensures { IfOk result (λ made. map traffic_of made.items ≡ map fresh_traffic links.now) }
 {
     let mut made = Vec::new(alloc);
     for link in links {

@@ -2,7 +2,7 @@
 
 ghost use Rattle.std.specs.Prelude.{◌≡◌, ◌<◌, length, vec_len, slice_get, IfOk, IfSome};
 ghost use Rattle.dsy_base.specs.Links.{IsFreshLink};
-ghost use Rattle.link_forms.specs.MemLinks.{bytes_of, first_of, link_of, traffic_of};
+ghost use Rattle.link_forms.specs.MemLinks.{bytes_in_pieces, fresh_traffic, link_of, traffic_of};
 
 use byte_forms::calls::{Calls, Fails};
 use dsy_base::fault::{Failed, IoFault, raise};
@@ -24,7 +24,7 @@ pub struct MemLink {
 impl MemLink {
     pub fn new(alloc: Global, pieces: Vec<Vec<u8>>, fails: Fails) -> MemLink
         ensures fresh { IsFreshLink (link_of result) }
-        ensures coming { (traffic_of result).coming ≡ bytes_of pieces.items }
+        ensures coming { (traffic_of result).coming ≡ bytes_in_pieces pieces.items }
         ensures said { result.calls.fails ≡ fails }
     {
         MemLink {
@@ -52,7 +52,7 @@ impl MemLink {
 
     /// The same connection before anything came or went.
     pub(crate) fn again(&self, alloc: Global) -> Result<MemLink, AllocError>
-        ensures same { IfOk result (λ l. traffic_of l ≡ first_of self.now) }
+        ensures same { IfOk result (λ l. traffic_of l ≡ fresh_traffic self.now) }
         ensures faults { IfOk result (λ l. l.faults ≡ 0) }
     {
         Ok(MemLink {

@@ -4,7 +4,7 @@ ghost use Rattle.std.specs.Prelude.{◌≡◌, [], Some, map, slice_get, IfSome}
 ghost use Rattle.std.specs.List.{All};
 ghost use Rattle.std.specs.Option.{option_map};
 ghost use Rattle.dsy_base.specs.Links.{IsFreshLink};
-ghost use Rattle.link_forms.specs.MemLinks.{link_of, listen_of, traffic_of};
+ghost use Rattle.link_forms.specs.MemLinks.{link_of, listen_state, traffic_of};
 
 use crate::mem_link::MemLink;
 use crate::open_link::{Ended, OpenLink};
@@ -28,10 +28,10 @@ pub struct MemListen {
 impl MemListen {
     pub fn new(alloc: Global, links: Vec<MemLink>, fails: Fails) -> MemListen
         requires fresh { All (λ l. IsFreshLink (link_of l)) links.items }
-        ensures coming { (listen_of result).coming ≡ Some (map traffic_of links.items) }
-        ensures ended { (listen_of result).ended ≡ Some [] }
+        ensures coming { (listen_state result).coming ≡ Some (map traffic_of links.items) }
+        ensures ended { (listen_state result).ended ≡ Some [] }
         ensures said { result.calls.fails ≡ fails }
-        ensures faults { (listen_of result).faults ≡ 0 }
+        ensures faults { (listen_state result).faults ≡ 0 }
     {
         MemListen {
             alloc,
@@ -45,7 +45,7 @@ impl MemListen {
 
     /// The link that ended after `k` others.
     pub fn ended(&self, k: usize) -> Option<&MemLink>
-        ensures { IfSome (listen_of self.now).ended
+        ensures { IfSome (listen_state self.now).ended
             (λ ended. option_map (λ l. link_of l.now) result ≡ slice_get ended k) }
     {
         self.ended.get(k)
@@ -57,7 +57,7 @@ impl Listen for MemListen {
 
     type Link = OpenLink;
 
-    ghost state = { listen_of };
+    ghost state = { listen_state };
 
     ghost tells = { true };
 

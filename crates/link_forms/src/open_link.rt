@@ -2,7 +2,7 @@
 
 ghost use Rattle.std.specs.Prelude.{◌≡◌, [], ◌∷◌, ◌++◌, slice_get, IfOk};
 ghost use Rattle.std.specs.Option.{option_map};
-ghost use Rattle.link_forms.specs.MemLinks.{first_of, link_of, states_of, traffic_of, traffics_of};
+ghost use Rattle.link_forms.specs.MemLinks.{fresh_traffic, link_of, states_of, traffic_of, traffics_of};
 
 use crate::mem_link::MemLink;
 use dsy_base::fault::{Failed, IoFault};
@@ -26,7 +26,7 @@ pub(crate) enum Ended {
 impl OpenLink {
     /// Opens a copy of the connection, before anything came or went.
     pub(crate) fn of(alloc: Global, link: &MemLink) -> Result<OpenLink, AllocError>
-        ensures same { IfOk result (λ l. traffic_of l.link ≡ first_of link.now) }
+        ensures same { IfOk result (λ l. traffic_of l.link ≡ fresh_traffic link.now) }
         ensures faults { IfOk result (λ l. l.link.faults ≡ 0) }
     {
         Ok(OpenLink {

@@ -5,7 +5,7 @@ use Rattle.std.proofs.lemmas.List.Elements.{All-push}
 use Rattle.std.proofs.lemmas.Option.{IfSome_then}
 use Rattle.caibx_codec.specs.Listing.{Listing, end_of, id_of, kind_of, size_of, start_of}
 use Rattle.chunk_store.specs.Names.{name_of}
-use Rattle.read_ahead.specs.Ahead.{IsAhead, IsPlaced, IsSlice, slice_at}
+use Rattle.read_ahead.specs.Ahead.{IsAhead, IsPlacedPiece, IsSlice, piece_slice}
 use Rattle.read_ahead.specs.declared.ahead.Ahead.{Ahead}
 use Rattle.read_ahead.specs.declared.ahead.Piece.{Piece}
 
@@ -38,10 +38,10 @@ slice_read l told i room at start size start_is size_is end fits named bytes =
     })
 
 module _ (l : Listing) (told : Option (List ℕ)) (a : Ahead) (room : List ℕ) (same : take a.filled room ≡ take a.filled a.room.items) (was : IsAhead l told a) where
-  placed : (filled : ℕ) → a.filled ≤ filled → All (IsPlaced l filled) a.pieces.items
+  placed : (filled : ℕ) → a.filled ≤ filled → All (IsPlacedPiece l filled) a.pieces.items
   placed filled le k d lt = let here = was.room.pieces k d lt in record { listed = here.listed; fits = omega (arith, here.fits) }
 
-  slices : All (λ p. IsSlice l told p.entry (slice_at l room p)) a.pieces.items
+  slices : All (λ p. IsSlice l told p.entry (piece_slice l room p)) a.pieces.items
   slices k d lt =
       let p : Piece = slice_index_or a.pieces.items k d in
       subst (IsSlice l told p.entry) (sym (range_same room a.room.items a.filled p.at (size_of l p.entry) same (was.room.pieces k d lt).fits)) (was.slices k d lt)
@@ -51,19 +51,19 @@ module _ (l : Listing) (told : Option (List ℕ)) (a : Ahead) (room : List ℕ) 
   ahead_still b room_is pieces filled long = record {
     room = record {
       filled = omega (arith, was.room.filled, filled, ap length room_is, long);
-      pieces = subst (All (IsPlaced l b.filled)) (sym pieces) (placed b.filled (omega arith));
+      pieces = subst (All (IsPlacedPiece l b.filled)) (sym pieces) (placed b.filled (omega arith));
     };
-    slices = subst (λ (r : List ℕ). All (λ p. IsSlice l told p.entry (slice_at l r p)) b.pieces.items) (sym room_is) (subst (All (λ p. IsSlice l told p.entry (slice_at l room p))) (sym pieces) slices);
+    slices = subst (λ (r : List ℕ). All (λ p. IsSlice l told p.entry (piece_slice l r p)) b.pieces.items) (sym room_is) (subst (All (λ p. IsSlice l told p.entry (piece_slice l room p))) (sym pieces) slices);
   }
 
   -- and the slice behind it does, too
-  pub ahead_more : (b : Ahead) (p : Piece) → b.room.items ≡ room → b.pieces.items ≡ a.pieces.items ++ p ∷ [] → a.filled ≤ b.filled → b.filled ≤ length room → IsPlaced l b.filled p
-      → IsSlice l told p.entry (slice_at l room p) → IsAhead l told b
+  pub ahead_more : (b : Ahead) (p : Piece) → b.room.items ≡ room → b.pieces.items ≡ a.pieces.items ++ p ∷ [] → a.filled ≤ b.filled → b.filled ≤ length room → IsPlacedPiece l b.filled p
+      → IsSlice l told p.entry (piece_slice l room p) → IsAhead l told b
   ahead_more b p room_is pieces up fits here slice = record {
     room = record {
       filled = omega (arith, fits, ap length room_is);
-      pieces = subst (All (IsPlaced l b.filled)) (sym pieces) (All-push (IsPlaced l b.filled) a.pieces.items p (placed b.filled up) here);
+      pieces = subst (All (IsPlacedPiece l b.filled)) (sym pieces) (All-push (IsPlacedPiece l b.filled) a.pieces.items p (placed b.filled up) here);
     };
-    slices = subst (λ (r : List ℕ). All (λ p. IsSlice l told p.entry (slice_at l r p)) b.pieces.items) (sym room_is)
-        (subst (All (λ p. IsSlice l told p.entry (slice_at l room p))) (sym pieces) (All-push (λ p. IsSlice l told p.entry (slice_at l room p)) a.pieces.items p slices slice));
+    slices = subst (λ (r : List ℕ). All (λ p. IsSlice l told p.entry (piece_slice l r p)) b.pieces.items) (sym room_is)
+        (subst (All (λ p. IsSlice l told p.entry (piece_slice l room p))) (sym pieces) (All-push (λ p. IsSlice l told p.entry (piece_slice l room p)) a.pieces.items p slices slice));
   }

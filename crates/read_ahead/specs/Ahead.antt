@@ -13,23 +13,23 @@ pub record IsSlice (l : Listing) (told : Option (List ℕ)) (i : ℕ) (b : List 
   pub is : IfSome told (λ t. b ≡ slice_of l t i)
 
 -- the piece is of a listed entry, and ends before `filled`
-pub record IsPlaced (l : Listing) (filled : ℕ) (p : Piece) : Type 0 where
+pub record IsPlacedPiece (l : Listing) (filled : ℕ) (p : Piece) : Type 0 where
   pub listed : p.entry < count_of l
   pub fits : p.at + size_of l p.entry ≤ filled
 
 -- what stands in the room where the piece says
-abbrev pub slice_at : Listing → List ℕ → Piece → List ℕ
-slice_at l room p = slice_range room p.at (p.at + size_of l p.entry)
+abbrev pub piece_slice : Listing → List ℕ → Piece → List ℕ
+piece_slice l room p = slice_range room p.at (p.at + size_of l p.entry)
 
 -- what is filled fits the room, and each piece is in it
-pub record HasRoom (l : Listing) (a : Ahead) : Type 0 where
+pub record FitsItsRoom (l : Listing) (a : Ahead) : Type 0 where
   pub filled : a.filled ≤ length a.room.items
-  pub pieces : All (IsPlaced l a.filled) a.pieces.items
+  pub pieces : All (IsPlacedPiece l a.filled) a.pieces.items
 
 -- and the slice of its entry stands there
 pub record IsAhead (l : Listing) (told : Option (List ℕ)) (a : Ahead) : Type 0 where
-  pub room : HasRoom l a
-  pub slices : All (λ p. IsSlice l told p.entry (slice_at l a.room.items p)) a.pieces.items
+  pub room : FitsItsRoom l a
+  pub slices : All (λ p. IsSlice l told p.entry (piece_slice l a.room.items p)) a.pieces.items
 
 -- how many bytes a room has for slices where the largest chunk has so many: with its list half a MiB, and half a chunk
 abbrev pub room_for : ℕ → ℕ

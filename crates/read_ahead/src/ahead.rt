@@ -4,7 +4,7 @@ ghost use Rattle.std.specs.Prelude.{◌≡◌, ℕ, ◌+◌, ◌<◌, ◌≤◌,
 ghost use Rattle.std.specs.Prelude.{slice_range, take, vec_capacity, vec_len};
 ghost use Rattle.caibx_codec.specs.Listing.{Listing, count_of, image_length, size_of};
 ghost use Rattle.chunk_store.specs.Names.{name_of};
-ghost use Rattle.read_ahead.specs.Ahead.{HasBytes, HasRoom, IsAhead, IsSlice};
+ghost use Rattle.read_ahead.specs.Ahead.{HasBytes, FitsItsRoom, IsAhead, IsSlice};
 
 use crate::claims::Claims;
 use crate::plan::{PIECES, repeats};
@@ -157,7 +157,7 @@ impl Ahead {
 
     /// The slice of entry i, where it was read.
     pub fn slice(&self, index: &Index, i: usize) -> Option<&[u8]>
-        requires { HasRoom index.now self.now }
+        requires { FitsItsRoom index.now self.now }
         ensures { IfSome result (λ b. (told : Option (List ℕ)) →
             IsAhead index.now told self.now → IsSlice index.now told i b.now) }
     {
@@ -172,7 +172,7 @@ impl Ahead {
 
 /// The slice of entry i, where it was read into one of the rooms.
 pub fn slice_among<'a>(rooms: &'a [Ahead], index: &Index, i: usize) -> Option<&'a [u8]>
-    requires { All (HasRoom index.now) rooms.now }
+    requires { All (FitsItsRoom index.now) rooms.now }
     ensures { IfSome result (λ b. (told : Option (List ℕ)) →
         All (IsAhead index.now told) rooms.now → IsSlice index.now told i b.now) }
 {

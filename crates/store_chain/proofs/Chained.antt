@@ -12,10 +12,10 @@ use Rattle.store_chain.specs.Chains.{KeepsStores, EachOnce}
 use Rattle.store_chain.specs.Faults.{EachQuiet}
 use Rattle.store_chain.specs.Giving.{LacksAll, GivesFirst, Obtains, SomeHolds}
 use Rattle.store_chain.specs.Refusals.{Lacked, LackedOrFailed, GivenBy, Refuses, RefusesFrom}
-use Rattle.store_chain.specs.Wants.{IsGiven}
+use Rattle.store_chain.specs.Queries.{FillsQuery}
 use Rattle.store_chain.specs.declared.refused.Refused.{Refused}
 use Rattle.store_chain.specs.declared.refused.Refused.TheVariants as refused
-use Rattle.store_chain.specs.declared.want.Want.{Want}
+use Rattle.store_chain.specs.declared.query.Query.{Query}
 use Rattle.store_chain.proofs.Kept.{kept_weaker}
 use Rattle.store_chain.proofs.Shown.{some_holds}
 use Rattle.store_chain.proofs.Told.{lacks_all, obtains, refuses}
@@ -25,22 +25,22 @@ use Rattle.store_chain.proofs.Pairs.{rose_at}
 pub written_back : {S : Type 0} (new old : List S) (n : ℕ) → length new ≡ n → take n (new ++ drop (length new) old) ≡ new
 written_back {S} new old n size = let P : ℕ → Type 0 = λ k. take k (new ++ drop (length new) old) ≡ new in subst P size (take-append_seam new (drop (length new) old))
 
-module _ {S : Type 0} (said : S → Said) (faults : S → ℕ) (lacks_memory : Bool) (w w' : Want) (same : w ≡ w') (old old' new new' : List S) (same_old : old ≡ old') (same_new : new ≡ new') where
-  pub found_in : (r : Result ℕ Refused) (lent rest : List ℕ) → IfOk r (λ n. IsGiven w n lent) → IfOk r (λ n. GivenBy said faults lacks_memory w (take n lent) old new)
+module _ {S : Type 0} (said : S → Said) (faults : S → ℕ) (lacks_memory : Bool) (w w' : Query) (same : w ≡ w') (old old' new new' : List S) (same_old : old ≡ old') (same_new : new ≡ new') where
+  pub found_in : (r : Result ℕ Refused) (lent rest : List ℕ) → IfOk r (λ n. FillsQuery w n lent) → IfOk r (λ n. GivenBy said faults lacks_memory w (take n lent) old new)
       → IfOk r (λ n. GivenBy said faults lacks_memory w' (take n (lent ++ rest)) old' new')
   found_in (Err e) lent rest given found = tt
   found_in (Ok n) lent rest given found =
       let inside : n ≤ length lent = given.inside in
       let b : take n lent ≡ take n (lent ++ rest) = rw take-append-le in
       let P : List ℕ → Type 0 = λ l. GivenBy said faults lacks_memory w' l old' new' in
-      let Q : Want → Type 0 = λ v. GivenBy said faults lacks_memory v (take n lent) old' new' in
+      let Q : Query → Type 0 = λ v. GivenBy said faults lacks_memory v (take n lent) old' new' in
       let R : List S → Type 0 = λ l. GivenBy said faults lacks_memory w (take n lent) l new' in
       let T : List S → Type 0 = λ l. GivenBy said faults lacks_memory w (take n lent) old l in
       subst P b (subst Q same (subst R same_old (subst T same_new found)))
 
   -- one of the stores holds it, where they tell what they hold
   pub had_in : (holds : S → Option (Map (List ℕ))) → ((s : S) → IfSome (holds s) (SaysMap (said s))) → map holds new ≡ map holds old → (r : Result ℕ Refused) (lent rest : List ℕ)
-      → IfOk r (λ n. IsGiven w n lent) → IfOk r (λ n. GivenBy said faults lacks_memory w (take n lent) old new) → IfOk r (λ n. SomeHolds holds old' w'.id.0 (take n (lent ++ rest)))
+      → IfOk r (λ n. FillsQuery w n lent) → IfOk r (λ n. GivenBy said faults lacks_memory w (take n lent) old new) → IfOk r (λ n. SomeHolds holds old' w'.id.0 (take n (lent ++ rest)))
   had_in holds says kept (Err e) lent rest given found = tt
   had_in holds says kept (Ok n) lent rest given found =
       let still : map holds new' ≡ map holds old' = ap (λ (l : List S). map holds l) (sym same_new) ∙ (kept ∙ ap (λ (l : List S). map holds l) same_old) in
@@ -49,7 +49,7 @@ module _ {S : Type 0} (said : S → Said) (faults : S → ℕ) (lacks_memory : B
   pub absent_in : (r : Result ℕ Refused) → IfErr r (RefusesFrom said faults lacks_memory w 0 old new) → IfErr r (Refuses said faults lacks_memory w' old' new')
   absent_in (Ok n) told = tt
   absent_in (Err e) told =
-      let P : Want → Type 0 = λ v. Refuses said faults lacks_memory v old' new' e in
+      let P : Query → Type 0 = λ v. Refuses said faults lacks_memory v old' new' e in
       let Q : List S → Type 0 = λ l. Refuses said faults lacks_memory w l new' e in
       let R : List S → Type 0 = λ l. Refuses said faults lacks_memory w old l e in
       subst P same (subst Q same_old (subst R same_new (refuses said faults lacks_memory w old new e told)))
@@ -70,14 +70,14 @@ module _ {S : Type 0} (said : S → Said) (faults : S → ℕ) (lacks_memory : B
     pub first_in : (r : Result ℕ Refused) → IfErr r (RefusesFrom said faults lacks_memory w 0 old new) → IfErr r (LacksAll w' maps)
     first_in (Ok n) lacks = tt
     first_in (Err e) lacks =
-        let P : Want → Type 0 = λ v. LacksAll v maps e in
+        let P : Query → Type 0 = λ v. LacksAll v maps e in
         subst P same (lacks_all said faults lacks_memory w holds says old new maps kept told_new e (refuses said faults lacks_memory w old new e lacks))
 
     refused_by : (r : Result ℕ Refused) → IfErr r (RefusesFrom said faults lacks_memory w 0 old new) → IfErr r (Refuses said faults lacks_memory w old new)
     refused_by (Ok n) lacks = tt
     refused_by (Err e) lacks = refuses said faults lacks_memory w old new e lacks
 
-    on_all : (r : Result ℕ Refused) (lent rest : List ℕ) → IfOk r (λ n. IsGiven w n lent) → Obtains lacks_memory w maps r lent → Obtains lacks_memory w maps r (lent ++ rest)
+    on_all : (r : Result ℕ Refused) (lent rest : List ℕ) → IfOk r (λ n. FillsQuery w n lent) → Obtains lacks_memory w maps r lent → Obtains lacks_memory w maps r (lent ++ rest)
     on_all (Ok n) lent rest given h =
         let inside : n ≤ length lent = given.inside in
         let b : take n lent ≡ take n (lent ++ rest) = rw take-append-le in
@@ -88,11 +88,11 @@ module _ {S : Type 0} (said : S → Said) (faults : S → ℕ) (lacks_memory : B
     on_all (Err (refused.StoreFault s)) lent rest given h = h
     on_all (Err refused.Memory) lent rest given h = h
 
-    pub exactly_in : (r : Result ℕ Refused) (lent rest : List ℕ) → EachQuiet (map faults old') (map faults new') → IfOk r (λ n. IsGiven w n lent)
+    pub exactly_in : (r : Result ℕ Refused) (lent rest : List ℕ) → EachQuiet (map faults old') (map faults new') → IfOk r (λ n. FillsQuery w n lent)
         → IfOk r (λ n. GivenBy said faults lacks_memory w (take n lent) old new) → IfErr r (RefusesFrom said faults lacks_memory w 0 old new)
         → Obtains lacks_memory w' maps r (lent ++ rest)
     exactly_in r lent rest quiet given found lacks =
-        let P : Want → Type 0 = λ v. Obtains lacks_memory v maps r (lent ++ rest) in
+        let P : Query → Type 0 = λ v. Obtains lacks_memory v maps r (lent ++ rest) in
         let Q : List S → Type 0 = λ l. EachQuiet (map faults l) (map faults new) in
         let R : List S → Type 0 = λ l. EachQuiet (map faults old') (map faults l) in
         subst P same (on_all r lent rest given (obtains said faults lacks_memory w holds says old new maps kept told_new r lent

@@ -6,8 +6,8 @@ use Rattle.dsy_base.specs.Maps.{Map}
 use Rattle.store_chain.proofs.Pairs.{cons_head, cons_nil, cons_tail}
 use Rattle.store_chain.specs.Giving.{SomeHolds}
 use Rattle.store_chain.specs.Lists.{FirstAt}
-use Rattle.store_chain.specs.Refusals.{GivenBy, Passed}
-use Rattle.store_chain.specs.declared.want.Want.{Want}
+use Rattle.store_chain.specs.Refusals.{GivenBy, PassedOver}
+use Rattle.store_chain.specs.declared.query.Query.{Query}
 
 -- one of the stores has shown the bytes, so one holds them, where all tell what they hold
 module _ {S : Type 0} (holds : S → Option (Map (List ℕ))) (said : S → Said) (says : (s : S) → IfSome (holds s) (SaysMap (said s))) (id b : List ℕ) where
@@ -28,8 +28,8 @@ module _ {S : Type 0} (holds : S → Option (Map (List ℕ))) (said : S → Said
       let less : rest.0 < length ms = rest.2 in
       (suc rest.0, rest.1, omega arith, rest.3, rest.4)
 
-  pub some_holds : (faults : S → ℕ) (lacks_memory : Bool) (w : Want) (old new : List S) → w.id.0 ≡ id → map holds new ≡ map holds old
+  pub some_holds : (faults : S → ℕ) (lacks_memory : Bool) (w : Query) (old new : List S) → w.id.0 ≡ id → map holds new ≡ map holds old
       → GivenBy said faults lacks_memory w b old new → SomeHolds holds old id b
   some_holds faults lacks_memory w old new same kept h = λ maps told.
-      let P : List ℕ → Type 0 = λ q. FirstAt (Passed said faults lacks_memory w) (λ p. (said p.1).shown q b) (λ p. p.1 ≡ p.0) h.0 (zip old new) in
-      any_shown (Passed said faults lacks_memory w) (λ p. p.1 ≡ p.0) h.0 old new maps (kept ∙ told) (subst P same h.1)
+      let P : List ℕ → Type 0 = λ q. FirstAt (PassedOver said faults lacks_memory w) (λ p. (said p.1).shown q b) (λ p. p.1 ≡ p.0) h.0 (zip old new) in
+      any_shown (PassedOver said faults lacks_memory w) (λ p. p.1 ≡ p.0) h.0 old new maps (kept ∙ told) (subst P same h.1)

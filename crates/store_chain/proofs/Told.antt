@@ -10,11 +10,11 @@ use Rattle.dsy_base.specs.Maps.{Map}
 use Rattle.store_chain.specs.Faults.{EachQuiet}
 use Rattle.store_chain.specs.Giving.{HoldsNone, Gives, HoldsElse, LacksAll, GivesFirst, Obtains}
 use Rattle.store_chain.specs.Lists.{FirstAt}
-use Rattle.store_chain.specs.Refusals.{HasShown, Lacks, Denied, Showed, Lacked, Failed, LackedOrFailed, Passed, GivenBy, Refuses, RefusesFrom}
-use Rattle.store_chain.specs.Wants.{IsWanted, ShowsElse}
+use Rattle.store_chain.specs.Refusals.{HasShown, Lacks, Denied, Showed, Lacked, Failed, LackedOrFailed, PassedOver, GivenBy, Refuses, RefusesFrom}
+use Rattle.store_chain.specs.Queries.{IsWanted, ShowsElse}
 use Rattle.store_chain.specs.declared.refused.Refused.{Refused}
 use Rattle.store_chain.specs.declared.refused.Refused.TheVariants as refused
-use Rattle.store_chain.specs.declared.want.Want.{Want}
+use Rattle.store_chain.specs.declared.query.Query.{Query}
 use Rattle.store_chain.proofs.Pairs.{cons_head, cons_tail, cons_nil, rose_at}
 
 some_injective : {X : Type 0} (a b : X) → Some a ≡ Some b → a ≡ b
@@ -25,12 +25,12 @@ sized_not None k n same is not = not
 sized_not (Some s) k n same is not = not (same ∙ is)
 
 -- bytes that are what is wanted show nothing else
-not_both : (w : Want) (a b : List ℕ) (x : Shows) → a ≡ b → IsWanted w a → ShowsElse w b x → ⊥
+not_both : (w : Query) (a b : List ℕ) (x : Shows) → a ≡ b → IsWanted w a → ShowsElse w b x → ⊥
 not_both w a b shows.Longer same wanted else = let e = ap length same in absurd (omega (arith, wanted.fits, else, e))
 not_both w a b (shows.Digest x) same wanted else = let n = wanted.named in let e = else.1 in else.2 cc
 not_both w a b (shows.Length n) same wanted else = sized_not w.size (length a) n (let e = ap length same in let l = else.2 in cc) wanted.sized else.3
 
-module _ (w : Want) (said : Said) (m : Map (List ℕ)) (says : SaysMap said m) where
+module _ (w : Query) (said : Said) (m : Map (List ℕ)) (says : SaysMap said m) where
   held_none : said.denied w.id.0 → HoldsNone w m
   held_none denied = (says.denied w.id.0).0 denied
 
@@ -74,19 +74,19 @@ module _ {S : Type 0} (holds : S → Option (Map (List ℕ))) where
   first_told B A C D E F b a c (suc n) (x ∷ xs) (y ∷ ys) (m ∷ ms) kept told h =
       (b (x, y) m (cons_head _ _ _ _ told) h.0, first_told B A C D E F b a c n xs ys ms (cons_tail _ _ _ _ kept) (cons_tail _ _ _ _ told) h.1)
 
-module _ {S : Type 0} (said : S → Said) (faults : S → ℕ) (lacks_memory : Bool) (w : Want) where
+module _ {S : Type 0} (said : S → Said) (faults : S → ℕ) (lacks_memory : Bool) (w : Query) where
   -- without a fault in the call, a store was passed for what it lacks, or for want of memory
   Skipped : S × S → Type 0
   Skipped p = Lacked said faults lacks_memory w p ⊎ IsTrue lacks_memory
 
-  skipped : (x y : S) → Quiet (faults x) (faults y) → Passed said faults lacks_memory w (x, y) → Skipped (x, y)
+  skipped : (x y : S) → Quiet (faults x) (faults y) → PassedOver said faults lacks_memory w (x, y) → Skipped (x, y)
   unfolding Skipped
   skipped x y quiet (inl lacked) = inl lacked
   skipped x y quiet (inr (inl failed)) = absurd (rose_not _ _ quiet failed)
   skipped x y quiet (inr (inr memory)) = inr memory.0
 
   passed_quiet : (A C : S × S → Type 0) (n : ℕ) (old new : List S) → EachQuiet (map faults old) (map faults new)
-      → FirstAt (Passed said faults lacks_memory w) A C n (zip old new) → FirstAt Skipped A C n (zip old new)
+      → FirstAt (PassedOver said faults lacks_memory w) A C n (zip old new) → FirstAt Skipped A C n (zip old new)
   passed_quiet A C n [] new quiet h = absurd h
   passed_quiet A C n (x ∷ xs) [] quiet h = absurd h
   passed_quiet A C zero (x ∷ xs) (y ∷ ys) quiet h = h

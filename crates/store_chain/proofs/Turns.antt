@@ -3,20 +3,20 @@ use Rattle.std.proofs.Common.{◌≡◌, ℕ, ◌+◌, suc, List, ◌∷◌, Boo
 use Rattle.std.specs.List.{All, zip}
 use Rattle.std.proofs.lemmas.List.Elements.{All-cons, All-weaker}
 use Rattle.chunk_store.specs.Said.{Said}
-use Rattle.store_chain.specs.Refusals.{graver, Denied, Showed, Lacked, Failed, LackedOrFailed, NoMemory, Passed, Tells, GivenBy, RefusesFrom}
+use Rattle.store_chain.specs.Refusals.{graver, Denied, Showed, Lacked, Failed, LackedOrFailed, NoMemory, PassedOver, Tells, GivenBy, RefusesFrom}
 use Rattle.store_chain.specs.declared.refused.Refused.{Refused}
 use Rattle.store_chain.specs.declared.refused.Refused.TheVariants as refused
-use Rattle.store_chain.specs.declared.want.Want.{Want}
+use Rattle.store_chain.specs.declared.query.Query.{Query}
 use Rattle.store_chain.proofs.Pairs.{all_of_first, zip_same}
 
-module _ {S : Type 0} (said : S → Said) (faults : S → ℕ) (lacks_memory : Bool) (w : Want) where
+module _ {S : Type 0} (said : S → Said) (faults : S → ℕ) (lacks_memory : Bool) (w : Query) where
   -- the first store gave the chunk
   pub given_first : (b : List ℕ) (x y : S) (xs zs : List S) → zs ≡ x ∷ xs → (said y).shown w.id.0 b → GivenBy said faults lacks_memory w b zs (y ∷ xs)
   given_first b x y xs zs is shown =
       let P : List S → Type 0 = λ l. GivenBy said faults lacks_memory w b l (y ∷ xs) in
       subst P (sym is) (0, (shown, zip_same xs))
 
-  passed : (number : ℕ) (x y : S) (why : Refused) → Tells said faults lacks_memory w number x y why → Passed said faults lacks_memory w (x, y)
+  passed : (number : ℕ) (x y : S) (why : Refused) → Tells said faults lacks_memory w number x y why → PassedOver said faults lacks_memory w (x, y)
   passed number x y refused.Missing tells = inl (inl tells)
   passed number x y (refused.Damaged s shows) tells = inl (inr (shows, tells.1))
   passed number x y (refused.StoreFault s) tells = inr (inl tells.1)
@@ -29,21 +29,21 @@ module _ {S : Type 0} (said : S → Said) (faults : S → ℕ) (lacks_memory : B
       let P : List S → Type 0 = λ l. GivenBy said faults lacks_memory w b l (y ∷ ys) in
       subst P (sym is) (suc given.0, (passed number x y why tells, given.1))
 
-  passed_too : (p : S × S) → LackedOrFailed said faults lacks_memory w p → Passed said faults lacks_memory w p
+  passed_too : (p : S × S) → LackedOrFailed said faults lacks_memory w p → PassedOver said faults lacks_memory w p
   passed_too p (inl lacked) = inl lacked
   passed_too p (inr failed) = inr (inl failed)
 
   -- stores that refused were passed
-  all_passed : (number : ℕ) (xs ys : List S) (then : Refused) → RefusesFrom said faults lacks_memory w (number + 1) xs ys then → All (Passed said faults lacks_memory w) (zip xs ys)
-  all_passed number xs ys refused.Missing rest = All-weaker (Denied said faults lacks_memory w) (Passed said faults lacks_memory w) (λ p h. inl (inl h)) (zip xs ys) rest
+  all_passed : (number : ℕ) (xs ys : List S) (then : Refused) → RefusesFrom said faults lacks_memory w (number + 1) xs ys then → All (PassedOver said faults lacks_memory w) (zip xs ys)
+  all_passed number xs ys refused.Missing rest = All-weaker (Denied said faults lacks_memory w) (PassedOver said faults lacks_memory w) (λ p h. inl (inl h)) (zip xs ys) rest
   all_passed number xs ys (refused.Damaged t more) rest =
-      all_of_first (Denied said faults lacks_memory w) (Showed said faults lacks_memory w more) (Lacked said faults lacks_memory w) (Passed said faults lacks_memory w)
+      all_of_first (Denied said faults lacks_memory w) (Showed said faults lacks_memory w more) (Lacked said faults lacks_memory w) (PassedOver said faults lacks_memory w)
       (λ p h. inl (inl h)) (λ p h. inl (inr (more, h))) (λ p h. inl h) rest.0 (zip xs ys) rest.2
   all_passed number xs ys (refused.StoreFault t) rest =
-      all_of_first (Lacked said faults lacks_memory w) (Failed faults) (LackedOrFailed said faults lacks_memory w) (Passed said faults lacks_memory w)
+      all_of_first (Lacked said faults lacks_memory w) (Failed faults) (LackedOrFailed said faults lacks_memory w) (PassedOver said faults lacks_memory w)
       (λ p h. inl h) (λ p h. inr (inl h)) passed_too rest.0 (zip xs ys) rest.2
   all_passed number xs ys refused.Memory rest =
-      all_of_first (LackedOrFailed said faults lacks_memory w) (NoMemory said faults lacks_memory w) (Passed said faults lacks_memory w) (Passed said faults lacks_memory w)
+      all_of_first (LackedOrFailed said faults lacks_memory w) (NoMemory said faults lacks_memory w) (PassedOver said faults lacks_memory w) (PassedOver said faults lacks_memory w)
       passed_too (λ p h. inr (inr h)) (λ p h. h) rest.1.0 (zip xs ys) rest.1.1
 
   -- the first store refused, and all the rest did

@@ -1,6 +1,6 @@
 pub mod Lists
 pub mod Faults
-pub mod Wants
+pub mod Queries
 pub mod Refusals
 pub mod Giving
 pub mod Chains

@@ -7,12 +7,12 @@ use Rattle.chunk_store.specs.declared.shows.Shows.{Shows}
 use Rattle.chunk_store.specs.declared.shows.Shows.TheVariants as shows
 use Rattle.dsy_base.specs.Counts.{Rose}
 use Rattle.store_chain.specs.Lists.{FirstAt}
-use Rattle.store_chain.specs.Wants.{ShowsElse}
+use Rattle.store_chain.specs.Queries.{ShowsElse}
 use Rattle.store_chain.specs.declared.refused.HasFault.{HasFault}
 use Rattle.store_chain.specs.declared.refused.HasFault.TheVariants as has
 use Rattle.store_chain.specs.declared.refused.Refused.{Refused}
 use Rattle.store_chain.specs.declared.refused.Refused.TheVariants as refused
-use Rattle.store_chain.specs.declared.want.Want.{Want}
+use Rattle.store_chain.specs.declared.query.Query.{Query}
 
 -- how grave a refusal is, and the graver of two: the first where they are equally grave
 abbrev pub rank : Refused → ℕ
@@ -33,13 +33,13 @@ has_after fault (Err (has.StoreFault s)) = Err fault
 has_after fault (Err has.Memory) = Err has.Memory
 
 -- a store has shown under the id bytes that show this, or more bytes than were lent
-abbrev pub HasShown : Want → Shows → Said → Type 0
+abbrev pub HasShown : Query → Shows → Said → Type 0
 HasShown w shows.Longer s = s.longer w.id.0 w.lent
 HasShown w (shows.Digest x) s = (b : List ℕ) × s.shown w.id.0 b × ShowsElse w b (shows.Digest x)
 HasShown w (shows.Length n) s = (b : List ℕ) × s.shown w.id.0 b × ShowsElse w b (shows.Length n)
 
 -- a store has denied the id, or has shown something else under it
-abbrev pub Lacks : Want → Said → Type 0
+abbrev pub Lacks : Query → Said → Type 0
 Lacks w s = s.denied w.id.0 ⊎ ((x : Shows) × HasShown w x s)
 
 -- the store of a pair has failed in the call; it hasn't, since its count is as it was
@@ -50,7 +50,7 @@ Failed faults p = Rose (faults p.0) (faults p.1)
 abbrev pub Unfailed : {S : Type 0} → (S → ℕ) → S × S → Type 0
 Unfailed faults p = faults p.1 ≡ faults p.0
 
-module _ {S : Type 0} (said : S → Said) (faults : S → ℕ) (lacks_memory : Bool) (w : Want) where
+module _ {S : Type 0} (said : S → Said) (faults : S → ℕ) (lacks_memory : Bool) (w : Query) where
   -- the store of the pair has denied the id; has shown this under it; lacks the chunk
   abbrev pub Denied : S × S → Type 0
   Denied p = (said p.1).denied w.id.0
@@ -75,12 +75,12 @@ module _ {S : Type 0} (said : S → Said) (faults : S → ℕ) (lacks_memory : B
   Tells number old new refused.Memory = NoMemory (old, new)
 
   -- a store before the one that gave: it lacks the chunk, or failed, or had no memory
-  abbrev pub Passed : S × S → Type 0
-  Passed p = Lacked p ⊎ (Failed faults p ⊎ NoMemory p)
+  abbrev pub PassedOver : S × S → Type 0
+  PassedOver p = Lacked p ⊎ (Failed faults p ⊎ NoMemory p)
 
   -- one of the stores has shown the bytes under the id, each before it was passed, and each after it is as before
   abbrev pub GivenBy : List ℕ → List S → List S → Type 0
-  GivenBy b old new = (k : ℕ) × FirstAt Passed (λ p. (said p.1).shown w.id.0 b) (λ p. p.1 ≡ p.0) k (zip old new)
+  GivenBy b old new = (k : ℕ) × FirstAt PassedOver (λ p. (said p.1).shown w.id.0 b) (λ p. p.1 ≡ p.0) k (zip old new)
 
   -- a store that failed, or lacks the chunk
   abbrev pub LackedOrFailed : S × S → Type 0
@@ -93,7 +93,7 @@ module _ {S : Type 0} (said : S → Said) (faults : S → ℕ) (lacks_memory : B
   Refuses old new refused.Missing = All Denied (zip old new)
   Refuses old new (refused.Damaged s x) = FirstAt Denied (Showed x) Lacked s (zip old new)
   Refuses old new (refused.StoreFault s) = FirstAt Lacked (Failed faults) LackedOrFailed s (zip old new)
-  Refuses old new refused.Memory = (k : ℕ) × FirstAt LackedOrFailed NoMemory Passed k (zip old new)
+  Refuses old new refused.Memory = (k : ℕ) × FirstAt LackedOrFailed NoMemory PassedOver k (zip old new)
 
   -- so it is where the first of the stores has this number
   abbrev pub RefusesFrom : ℕ → List S → List S → Refused → Type 0

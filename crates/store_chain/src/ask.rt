@@ -4,33 +4,38 @@ ghost use Rattle.std.specs.Prelude.{◌≡◌, ℕ, List, ◌+◌, ◌^◌, ◌<
 ghost use Rattle.chunk_store.specs.Asks.{Get, Sends};
 ghost use Rattle.chunk_store.specs.Said.{KeepsOf, AskedOnce};
 ghost use Rattle.store_chain.specs.Chains.{EachOnce, KeepsStores};
-ghost use Rattle.store_chain.specs.Wants.{IsGiven};
+ghost use Rattle.store_chain.specs.Queries.{FillsQuery};
 ghost use Rattle.store_chain.specs.Refusals.{Tells, GivenBy, RefusesFrom};
 
+use crate::query::Query;
 use crate::refused::Refused;
-use crate::want::Want;
 use chunk_store::shows::Shows;
 use chunk_store::store::{GetFault, Store};
 
 // Asks one store, which has this number.
-fn ask<S: Store>(store: &mut S, number: u32, want: &Want, out: &mut [u8]) -> Result<usize, Refused>
-    requires size { want.now.lent ≡ length out.old }
-    ensures ok { IfOk result (λ n. IsGiven want.now n out.new × (S.said store.new).shown want.now.id.0
+fn ask<S: Store>(
+    store: &mut S,
+    number: u32,
+    query: &Query,
+    out: &mut [u8],
+) -> Result<usize, Refused>
+    requires size { query.now.lent ≡ length out.old }
+    ensures ok { IfOk result (λ n. FillsQuery query.now n out.new × (S.said store.new).shown query.now.id.0
         (take n out.new)) }
-    ensures err { IfErr result (Tells S.said S.faults S.may_lack_memory want.now number store.old store.new) }
+    ensures err { IfErr result (Tells S.said S.faults S.may_lack_memory query.now number store.old store.new) }
     ensures kept { S.holds store.new ≡ S.holds store.old }
     ensures files { S.folder store.new ≡ S.folder store.old }
     ensures place { S.place store.new ≡ S.place store.old }
     ensures said { (q : List ℕ) → KeepsOf (S.said store.old) (S.said store.new) q }
-    ensures sends { Sends (λ a. a ≡ Get want.now.id.0) (S.sent store.old) (S.sent store.new) }
-    ensures asks { AskedOnce (S.asked store.old) (S.asked store.new) want.now.id.0 }
+    ensures sends { Sends (λ a. a ≡ Get query.now.id.0) (S.sent store.old) (S.sent store.new) }
+    ensures asks { AskedOnce (S.asked store.old) (S.asked store.new) query.now.id.0 }
     ensures queries { S.queried store.new ≡ S.queried store.old }
     ensures faults { S.faults store.old ≤ S.faults store.new }
 {
-    match store.get(&want.id, out) {
+    match store.get(&query.id, out) {
         Ok(n) => {
             let (bytes, _) = out.split_at(n);
-            match want.shown(bytes) {
+            match query.shown(bytes) {
                 None => Ok(n),
                 Some(shows) => Err(Refused::Damaged {
                     store: number,
@@ -52,25 +57,25 @@ fn ask<S: Store>(store: &mut S, number: u32, want: &Want, out: &mut [u8]) -> Res
 pub fn ask_each<S: Store>(
     stores: &mut [S],
     number: u32,
-    want: &Want,
+    query: &Query,
     out: &mut [u8],
 ) -> Result<usize, Refused>
-    requires size { want.now.lent ≡ length out.old }
+    requires size { query.now.lent ≡ length out.old }
     requires room { number + length stores.old < 2 ^ 32 }
-    ensures ok { IfOk result (λ n. IsGiven want.now n out.new) }
-    ensures found { IfOk result (λ n. GivenBy S.said S.faults S.may_lack_memory want.now (take n out.new)
+    ensures ok { IfOk result (λ n. FillsQuery query.now n out.new) }
+    ensures found { IfOk result (λ n. GivenBy S.said S.faults S.may_lack_memory query.now (take n out.new)
         stores.old stores.new) }
-    ensures err { IfErr result (RefusesFrom S.said S.faults S.may_lack_memory want.now number stores.old stores.new) }
-    ensures kept { KeepsStores S.Store (λ a. a ≡ Get want.now.id.0) stores.old stores.new }
-    ensures asks { EachOnce S.asked want.now.id.0 stores.old stores.new }
+    ensures err { IfErr result (RefusesFrom S.said S.faults S.may_lack_memory query.now number stores.old stores.new) }
+    ensures kept { KeepsStores S.Store (λ a. a ≡ Get query.now.id.0) stores.old stores.new }
+    ensures asks { EachOnce S.asked query.now.id.0 stores.old stores.new }
     ensures queries { map S.queried stores.new ≡ map S.queried stores.old }
 {
     let Some((first, rest)) = stores.split_first_mut() else {
         return Err(Refused::Missing);
     };
-    match ask(first, number, want, out) {
+    match ask(first, number, query, out) {
         Ok(n) => Ok(n),
-        Err(why) => match ask_each(rest, number + 1, want, out) {
+        Err(why) => match ask_each(rest, number + 1, query, out) {
             Ok(n) => Ok(n),
             Err(then) => Err(why.or(then)),
         },

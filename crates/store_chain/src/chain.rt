@@ -11,12 +11,12 @@ ghost use Rattle.store_chain.specs.Chains.{KeepsStores, AsksOnce, AsksNone, Each
 ghost use Rattle.store_chain.specs.Faults.{EachQuiet};
 ghost use Rattle.store_chain.specs.Giving.{LacksAll, Obtains, SomeHolds};
 ghost use Rattle.store_chain.specs.Refusals.{GivenBy, Refuses, HasFails};
-ghost use Rattle.store_chain.specs.Wants.{IsGiven, want_of};
+ghost use Rattle.store_chain.specs.Queries.{FillsQuery, query_of};
 
 use crate::ask::ask_each;
 use crate::has::has_each;
+use crate::query::Query;
 use crate::refused::{HasFault, Refused};
-use crate::want::Want;
 use chunk_store::id::{ChunkId, DigestKind};
 use chunk_store::store::Store;
 use dsy_base::fault::raise;
@@ -85,21 +85,21 @@ impl<S: Store> Chain<S> {
         out: &mut [u8],
     ) -> Result<usize, Refused>
         requires inside { IfSome size (λ n. n ≤ length out.old) }
-        ensures ok { IfOk result (λ n. IsGiven (want_of self.old.kind id.now size (length out.old)) n out.new) }
+        ensures ok { IfOk result (λ n. FillsQuery (query_of self.old.kind id.now size (length out.old)) n out.new) }
 
         // What the stores have told: of the chunk, or of want of it.
         ensures found { IfOk result (λ n. GivenBy S.said S.faults S.may_lack_memory
-            (want_of self.old.kind id.now size (length out.old)) (take n out.new) self.old.stores self.new.stores) }
+            (query_of self.old.kind id.now size (length out.old)) (take n out.new) self.old.stores self.new.stores) }
         ensures absent { IfErr result (Refuses S.said S.faults S.may_lack_memory
-            (want_of self.old.kind id.now size (length out.old)) self.old.stores self.new.stores) }
+            (query_of self.old.kind id.now size (length out.old)) self.old.stores self.new.stores) }
 
         // What stores hold that tell it, whatever fails.
         ensures had { IfOk result (λ n. SomeHolds S.holds self.old.stores id.now.0 (take n out.new)) }
         ensures first { (maps : List (Map (List ℕ))) → map S.holds self.old.stores ≡ map Some maps →
-            IfErr result (LacksAll (want_of self.old.kind id.now size (length out.old)) maps) }
+            IfErr result (LacksAll (query_of self.old.kind id.now size (length out.old)) maps) }
         ensures exactly { (maps : List (Map (List ℕ))) → map S.holds self.old.stores ≡ map Some maps →
             EachQuiet (map S.faults self.old.stores) (map S.faults self.new.stores) →
-            Obtains S.may_lack_memory (want_of self.old.kind id.now size (length out.old)) maps result out.new }
+            Obtains S.may_lack_memory (query_of self.old.kind id.now size (length out.old)) maps result out.new }
 
         ensures only { result ≡ Err Refused.Memory → IsTrue S.may_lack_memory }
         ensures cause { (s : ℕ) → result ≡ Err (Refused.StoreFault s) →
@@ -108,10 +108,10 @@ impl<S: Store> Chain<S> {
         ensures kept { KeepsStores S.Store (λ a. a ≡ Get id.now.0) self.old.stores self.new.stores }
         ensures asks { AsksOnce S.asked S.queried id.now.0 self.old self.new }
     {
-        let want = Want::of(self.kind, id, size, out.len());
+        let query = Query::of(self.kind, id, size, out.len());
         self.asks = raise(self.asks, 1);
-        let (lent, _) = out.split_at_mut(want.lent);
-        ask_each(self.stores.as_mut_slice(), 0, &want, lent)
+        let (lent, _) = out.split_at_mut(query.lent);
+        ask_each(self.stores.as_mut_slice(), 0, &query, lent)
     }
 
     /// Whether some store has something under the id. The stores are asked in order until one has.

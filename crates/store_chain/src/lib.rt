@@ -4,5 +4,5 @@
 mod ask;
 pub mod chain;
 mod has;
+pub mod query;
 pub mod refused;
-pub mod want;

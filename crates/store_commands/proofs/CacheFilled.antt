@@ -17,13 +17,13 @@ use Rattle.command_steps.proofs.Cached.{given_adds}
 use Rattle.command_steps.proofs.Dialed.{dials_none}
 use Rattle.command_steps.proofs.Given.{Stands, all_stand, folders_quiet, given_earlier}
 use Rattle.command_steps.proofs.Numbers.{given_quiet, given_rose, rose_later, rose_longer}
-use Rattle.command_steps.specs.AnySources.{IsGiven, faults_in, files_in, location_in, said_in}
+use Rattle.command_steps.specs.AnyStores.{IsGiven, source_faults, source_files, location_in, said_in}
 use Rattle.command_steps.specs.Cache.{CacheGiven, CacheOpened, with_cache}
-use Rattle.command_steps.specs.Openings.{IsBad, IsListed, Listed, NotRead}
-use Rattle.command_steps.specs.Sources.{ConsultsStores, Sources, SourcesOpened, sources, told_at}
+use Rattle.command_steps.specs.InputFiles.{IsBad, IsListed, Listed, NotRead}
+use Rattle.command_steps.specs.Sources.{ConsultsStores, Sources, SourcesOpened, sources, location_files}
 use Rattle.command_worlds.specs.Steps.{outcome_of}
 use Rattle.command_worlds.specs.Worlds.{Adds, DiskQuiet, FileRose, FolderRose, Reads, world}
-use Rattle.command_steps.specs.declared.any_source.AnySource.{AnySource}
+use Rattle.command_steps.specs.declared.any_store.AnyStore.{AnyStore}
 use Rattle.command_steps.proofs.Taken.{at_name_twice}
 use Rattle.command_steps.proofs.Found.{held_after, held_maps}
 use Rattle.command_steps.proofs.Lacked.{have_lacked, same_length}
@@ -33,16 +33,16 @@ use Rattle.dsy_base.specs.Counts.{Quiet, Rose}
 use Rattle.dsy_base.specs.Disk.{Disk, Output}
 use Rattle.dsy_base.specs.Links.{DialState}
 use Rattle.dsy_base.specs.Maps.{Map, at_name}
-use Rattle.image_store.specs.PutChunks.{IsListed as IsAmong}
+use Rattle.image_store.specs.PutChunks.{IsListedId as IsAmong}
 use Rattle.store_chain.specs.Chains.{Chained, KeepsStores}
 use Rattle.image_store.specs.Chopping.{AsksListed}
 use Rattle.store_chain.specs.Faults.{EachQuiet, NoneFalls}
 use Rattle.store_chain.specs.declared.refused.Refused.{Refused}
 use Rattle.store_chain.specs.declared.refused.Refused.TheVariants as refused
-use Rattle.store_chain.specs.declared.want.Want.{Want}
+use Rattle.store_chain.specs.declared.query.Query.{Query}
 use Rattle.verify_tool.proofs.Asked.{each_then, each_weaker}
 use Rattle.verify_tool.proofs.Holding.{each_within, quiet_within}
-use Rattle.verify_tool.specs.Filling.{FillEnds, FillStops, FillsBy, GivesEntry, HoldsTo, FillUnfailed, RefusesEntry, MayFill, filled_to}
+use Rattle.verify_tool.specs.Filling.{FillEnds, FillStops, FillsBy, GivesEntry, HoldsTo, FillUnfailed, RefusesEntry, MayFillCache, filled_to}
 use Rattle.verify_tool.specs.declared.fill.FillFault.{FillFault}
 use Rattle.verify_tool.specs.declared.fill.FillFault.TheVariants as faults
 
@@ -63,12 +63,12 @@ module _ {S : Type 0} (files folder : S → Option (Map (List ℕ))) (place : S 
   abbrev Calls : Evidence
   Calls = of_calls files said counted c0 c1 s0.faults s1.faults
 
-  held_listed : (q b : List ℕ) → MayFill holds l c0 q b → IsHeldListed Calls l q b
+  held_listed : (q b : List ℕ) → MayFillCache holds l c0 q b → IsHeldListed Calls l q b
   held_listed q b (listed, some) = (listed, λ fs told. some (map chunks fs) (held_maps files c0 fs told))
 
-  added : Stocks (MayFill holds l c0) s0 s1 → AddsListed Calls l s0.files s1.files
+  added : Stocks (MayFillCache holds l c0) s0 s1 → AddsListed Calls l s0.files s1.files
   added h =
-      let weaker = stocks_weaker (MayFill holds l c0) (IsHeldListed Calls l) held_listed s0 s1 h in
+      let weaker = stocks_weaker (MayFillCache holds l c0) (IsHeldListed Calls l) held_listed s0 s1 h in
       record { tells = weaker.told; chunks_are = weaker.chunks; strangers = weaker.strangers }
 
   lost : (k : ℕ) (id : ChunkId) (r : Refused) → RefusesEntry holds folder place said counted true l k id r s0 s1 c0 c1 → IsNotHad Calls l s1.files k id r
@@ -107,7 +107,7 @@ module _ {S : Type 0} (files folder : S → Option (Map (List ℕ))) (place : S 
   stops asked queried d0 d1 (Ok u) h = tt
   stops asked queried d0 d1 (Err fault) h = record { entry = h.entry; names = h.names; holds = h.holds; others = stopped_files (h.entry + 1) s0.files s1.files h.stocks.chunks }
 
-  pub index_filled : (r : Result Unit FillFault) → IfErr r (λ fault. StopsFilling l fault s0.files s1.files) → Stocks (MayFill holds l c0) s0 s1 → HoldsTo l (filled_to l r) s1 → FillEnds holds folder place said counted true l s0 s1 c0 c1 r
+  pub index_filled : (r : Result Unit FillFault) → IfErr r (λ fault. StopsFilling l fault s0.files s1.files) → Stocks (MayFillCache holds l c0) s0 s1 → HoldsTo l (filled_to l r) s1 → FillEnds holds folder place said counted true l s0 s1 c0 c1 r
       → ((m : Map (List ℕ)) (maps : List (Map (List ℕ))) → FillUnfailed holds counted l m maps s0 s1 c0 c1 → FillsBy l m maps r) → IndexFilled Calls l s0.files s1.files r
   index_filled r order stocks all fill_ends exactly = record { added = added stocks; holds = all; tells = tells r fill_ends; exactly = exact r exactly; order = order }
 
@@ -132,7 +132,7 @@ module _ (a b : Evidence) (held : (fs : List (Map (List ℕ))) → b.holds fs �
   pub done_wider : (l : Listing) (x y : Option (Map (List ℕ))) → IndexFilled a l x y (Ok tt) → IndexFilled b l x y (Ok tt)
   done_wider l x y h = record { added = added_wider l x y h.added; holds = h.holds; tells = tt; exactly = exactly_wider l x (Ok tt) h.exactly; order = tt }
 
-  module _ (refuse : (c : Want) (r : Refused) → a.refused c r → b.refused c r) (cache : a.cache_failed → b.cache_failed) where
+  module _ (refuse : (c : Query) (r : Refused) → a.refused c r → b.refused c r) (cache : a.cache_failed → b.cache_failed) where
     lost_wider : (l : Listing) (y : Option (Map (List ℕ))) (k : ℕ) (id : ChunkId) (r : Refused) → IsNotHad a l y k id r → IsNotHad b l y k id r
     lost_wider l y k id r h = record {
       listed = h.listed;
@@ -244,16 +244,16 @@ was_put : (o : Option (Map (Map (List ℕ)))) (q : List ℕ) (x : Option (Map (L
 was_put None q x = tt
 was_put (Some m) q x = at_same m q x
 
-held_so : (o : Option (Map (Map (List ℕ)))) (names : List Location) (xs : List (Option (Map (List ℕ)))) (fs : List (Map (List ℕ))) → IfSome o (λ n. xs ≡ map (told_at n) names) → IsSomeAnd o (λ n. map (told_at n) names ≡ map Some fs) → xs ≡ map Some fs
+held_so : (o : Option (Map (Map (List ℕ)))) (names : List Location) (xs : List (Option (Map (List ℕ)))) (fs : List (Map (List ℕ))) → IfSome o (λ n. xs ≡ map (location_files n) names) → IsSomeAnd o (λ n. map (location_files n) names ≡ map Some fs) → xs ≡ map Some fs
 held_so None names xs fs found told = absurd told
 held_so (Some n) names xs fs found told = found ∙ told
 
 -- the disk was read while the cache was filled, which was s and became t; then its folder was given back, and the stores
 module _ {L D K : Type 0} (files : L → Option (Map (List ℕ))) (place : L → List ℕ) (faults : L → ℕ) (state : D → DialState) (cache : List ℕ) (s t : Shelf)
-    (d0 b c e : Disk) (k j : DialState) (names : List Location) (before after : List (AnySource L D K))
+    (d0 b c e : Disk) (k j : DialState) (names : List Location) (before after : List (AnyStore L D K))
     (s_is : s.place ≡ cache) (t_is : t.place ≡ cache) (reads : Reads d0 b) (gives : CacheGiven (Some t) b c) (closes : ConsultsStores names (sources c k) (sources e j))
-    (fresh : map (faults_in faults state) before ≡ map (λ q. 0) names) (located : map (location_in place) after ≡ names) (same : map (files_in files) after ≡ map (files_in files) before)
-    (found : IfSome (with_cache (Some s) d0).folders (λ m. map (files_in files) before ≡ map (told_at m) names))
+    (fresh : map (source_faults faults state) before ≡ map (λ q. 0) names) (located : map (location_in place) after ≡ names) (same : map (source_files files) after ≡ map (source_files files) before)
+    (found : IfSome (with_cache (Some s) d0).folders (λ m. map (source_files files) before ≡ map (location_files m) names))
     (gained : All (IsGiven place faults state (sources c k) (sources e j)) after) where
   abbrev d : Disk
   d = with_cache (Some s) d0
@@ -282,8 +282,8 @@ module _ {L D K : Type 0} (files : L → Option (Map (List ℕ))) (place : L →
   given_all : All (IsGiven place faults state w v) after
   given_all = λ n q lt. given_earlier place faults state w (sources c k) v opened (dials_none k) closes.0.dial (slice_index_or after n q) (gained n q lt)
 
-  stand : All (Stands (location_in place) (said_in files state) (faults_in faults state) w v) after
-  stand = all_stand files place faults state w v after names located (held_after d.folders names (files_in files) before after found same) given_all
+  stand : All (Stands (location_in place) (said_in files state) (source_faults faults state) w v) after
+  stand = all_stand files place faults state w v after names located (held_after d.folders names (source_files files) before after found same) given_all
 
   cache_at : Rose 0 t.faults → FolderRose d e t.place
   cache_at rose =
@@ -293,12 +293,12 @@ module _ {L D K : Type 0} (files : L → Option (Map (List ℕ))) (place : L →
   cache_failed : Rose 0 t.faults → FolderRose d e cache
   cache_failed rose = subst (λ (q : List ℕ). FolderRose d e q) t_is (cache_at rose)
 
-  none_failed : (fs : List (Map (List ℕ))) → (of_command w v names cache).holds fs → DiskQuiet d e → Quiet 0 t.faults × EachQuiet (map (faults_in faults state) before) (map (faults_in faults state) after)
+  none_failed : (fs : List (Map (List ℕ))) → (of_command w v names cache).holds fs → DiskQuiet d e → Quiet 0 t.faults × EachQuiet (map (source_faults faults state) before) (map (source_faults faults state) after)
   none_failed fs told quiet =
       let here = quiet.folders t.place in
       let between : Quiet (count_at d.folder_counts t.place) (count_at c.folder_counts t.place) = record { same = omega (arith, here.same, closes.0.disk.folder_counts t.place); below = omega (arith, here.below, closes.0.disk.folder_counts t.place) } in (
         given_quiet (count_at d.folder_counts t.place) (count_at b.folder_counts t.place) (count_at c.folder_counts t.place) t.faults (reads.folder_counts t.place) gives.1.folder_counts.added between,
-        folders_quiet files place faults state w v names fs before after fresh (same ∙ held_so d.folders names (map (files_in files) before) fs found told) given_all quiet.folders,
+        folders_quiet files place faults state w v names fs before after fresh (same ∙ held_so d.folders names (map (source_files files) before) fs found told) given_all quiet.folders,
       )
 
   file_failed : (q : List ℕ) → FileRose d0 b q → FileRose d e q
@@ -311,14 +311,14 @@ module _ {L D K : Type 0} (files : L → Option (Map (List ℕ))) (place : L →
       ∙ ap (λ (q : List ℕ). option_map (λ (m : Map (Map (List ℕ))). at_name m q t.files) d0.folders) (t_is ∙ sym s_is) ∙ put_twice d0.folders s.place s.files t.files
       ∙ ap (λ (q : List ℕ). option_map (λ (m : Map (Map (List ℕ))). at_name m q t.files) d.folders) s_is
 
-  pub filled_between : (indexes : List (List ℕ)) (r : Result Unit Outcome) → FillsEach (of_calls (files_in files) (said_in files state) (faults_in faults state) before after 0 t.faults) d0 b indexes s.files t.files r → GetsListed w.disk indexes names w.dial v.dial → FilledBetween names cache indexes w v r
+  pub filled_between : (indexes : List (List ℕ)) (r : Result Unit Outcome) → FillsEach (of_calls (source_files files) (said_in files state) (source_faults faults state) before after 0 t.faults) d0 b indexes s.files t.files r → GetsListed w.disk indexes names w.dial v.dial → FilledBetween names cache indexes w v r
   filled_between indexes r h gets = record {
     held = s.files;
     was = subst (λ (q : List ℕ). IfSome d.folders (λ m. m q ≡ s.files)) s_is (was_put d0.folders s.place s.files);
     now = t.files;
-    filled = fills_wider (of_calls (files_in files) (said_in files state) (faults_in faults state) before after 0 t.faults) (of_command w v names cache)
-        (λ fs told. held_so d.folders names (map (files_in files) before) fs found told) none_failed
-        (λ c r h. have_lacked (location_in place) (said_in files state) (faults_in faults state) true w v names c r h.0 after h.1 located stand h.2) cache_failed
+    filled = fills_wider (of_calls (source_files files) (said_in files state) (source_faults faults state) before after 0 t.faults) (of_command w v names cache)
+        (λ fs told. held_so d.folders names (map (source_files files) before) fs found told) none_failed
+        (λ c r h. have_lacked (location_in place) (said_in files state) (source_faults faults state) true w v names c r h.0 after h.1 located stand h.2) cache_failed
         d0 b d e refl file_failed indexes s.files t.files r h;
     back = back;
     adds = all_adds;

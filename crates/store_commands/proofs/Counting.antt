@@ -14,14 +14,14 @@ use Rattle.verify_tool.specs.Counts.{AsksBefore, DeniesOthers, FailsAtEntry, hel
 use Rattle.command_words.specs.declared.command.Location.{Location}
 use Rattle.command_steps.proofs.Found.{held_maps}
 use Rattle.command_steps.proofs.Given.{Stands}
-use Rattle.command_steps.specs.Sources.{Sources, said_at, told_at}
+use Rattle.command_steps.specs.Sources.{Sources, said_at, location_files}
 use Rattle.store_commands.specs.Info.{asks_once}
 
 -- the count is exact where the stores are folders that tell
 pub counted_told : {S : Type 0} (folders : Option (Map (Map (List ℕ)))) (stores : List Location) (l : Listing) (files : S → Option (Map (List ℕ))) (xs : List S) (n : ℕ)
-    → IfSome folders (λ m. map files xs ≡ map (told_at m) stores)
+    → IfSome folders (λ m. map files xs ≡ map (location_files m) stores)
     → ((maps : List (Map (List ℕ))) → map (λ s. option_map chunks (files s)) xs ≡ map Some maps → n ≡ held_count l maps)
-    → IfSome folders (λ m. (fs : List (Map (List ℕ))) → map (told_at m) stores ≡ map Some fs → n ≡ held_count l (map chunks fs))
+    → IfSome folders (λ m. (fs : List (Map (List ℕ))) → map (location_files m) stores ≡ map Some fs → n ≡ held_count l (map chunks fs))
 counted_told None stores l files xs n found value = tt
 counted_told (Some m) stores l files xs n found value = λ fs told. value (map chunks fs) (held_maps files xs fs (found ∙ told))
 

@@ -2,7 +2,7 @@
 use Rattle.std.proofs.Common.{◌≡◌, ◌⊎◌, ℕ, List, [], ◌∷◌, ◌++◌, Bool, true, is_some, Option, Some, None, IfSome, Result, Ok, Err, OnOk, refl, sym, ap, subst, ◌∙◌, inl, inr, append_assoc}
 use Rattle.std.proofs.lemmas.List.{append-nil}
 use Rattle.std.specs.Option.{option_map}
-use Rattle.chunk_server.specs.Shelves.{Shelved, shelved}
+use Rattle.chunk_server.specs.Shelves.{ServedFolder, shelved}
 use Rattle.chunk_server.specs.States.{Standing}
 use Rattle.chunk_server.specs.Streams.{given_in}
 use Rattle.chunk_server.specs.Turns.{Cut, Lacking, Served}
@@ -18,17 +18,17 @@ use Rattle.dsy_base.specs.Maps.{Map, at_name}
 use Rattle.dsy_base.specs.declared.fault.IoFault.{IoFault}
 use Rattle.dsy_base.specs.declared.fault.IoFault.TheVariants as io
 
-served_more : (writable : Bool) (came : List Traffic) (gone : List LinkState) (old mid new : Shelved) (t : Traffic) (u : LinkState) → AreServed writable came old gone mid → IsServed writable t mid u new
+served_more : (writable : Bool) (came : List Traffic) (gone : List LinkState) (old mid new : ServedFolder) (t : Traffic) (u : LinkState) → AreServed writable came old gone mid → IsServed writable t mid u new
     → AreServed writable (came ++ t ∷ []) old (gone ++ u ∷ []) new
 unfolding AreServed
-served_more writable [] [] old mid new t u all one = (new, subst (λ (s : Shelved). IsServed writable t s u new) all one, refl)
+served_more writable [] [] old mid new t u all one = (new, subst (λ (s : ServedFolder). IsServed writable t s u new) all one, refl)
 served_more writable [] (g ∷ gone) old mid new t u all one = absurd all
 served_more writable (c ∷ came) [] old mid new t u all one = absurd all
 served_more writable (c ∷ came) (g ∷ gone) old mid new t u all one = (all.0, all.1, served_more writable came gone all.0 mid new t u all.2 one)
 
 module _ (writable : Bool) (l : ListenState) where
   -- no connection came
-  pub listens_none : (m : ListenState) (old new : Shelved) → IsIdle l m → new ≡ old → Listens writable l m old new
+  pub listens_none : (m : ListenState) (old new : ServedFolder) → IsIdle l m → new ≡ old → Listens writable l m old new
   unfolding AreServed
   listens_none m old new idle same = go l.coming l.ended idle.coming idle.ended where
     go : (c : Option (List Traffic)) (e : Option (List LinkState)) → m.coming ≡ c → m.ended ≡ e → IfSome c (λ coming. IfSome e (λ ended. TakesFront writable coming ended m old new))
@@ -45,7 +45,7 @@ module _ (writable : Bool) (l : ListenState) where
     }
 
   -- one more came and was served
-  pub listens_more : (k m : ListenState) (old mid new : Shelved) → Listens writable l k old mid → Hears (IsServed writable) k m mid new → Listens writable l m old new
+  pub listens_more : (k m : ListenState) (old mid new : ServedFolder) → Listens writable l k old mid → Hears (IsServed writable) k m mid new → Listens writable l m old new
   listens_more k m old mid new all one = go l.coming l.ended all where
     over : (coming : List Traffic) (ended : List LinkState) (front : TakesFront writable coming ended k old mid) → TakesOne (IsServed writable) front.rest (ended ++ front.gone) m mid new → TakesFront writable coming ended m old new
     over coming ended front next = record {
@@ -69,7 +69,7 @@ module _ (writable : Bool) (l : ListenState) where
     go (Some coming) (Some ended) h = over coming ended h (heard h.rest (ended ++ h.gone) h.coming h.ended)
 
   -- nothing came behind
-  pub listens_still : (k m : ListenState) (old mid new : Shelved) → Listens writable l k old mid → IsIdle k m → new ≡ mid → Listens writable l m old new
+  pub listens_still : (k m : ListenState) (old mid new : ServedFolder) → Listens writable l k old mid → IsIdle k m → new ≡ mid → Listens writable l m old new
   listens_still k m old mid new all idle same = go l.coming l.ended all where
     go : (c : Option (List Traffic)) (e : Option (List LinkState)) → IfSome c (λ coming. IfSome e (λ ended. TakesFront writable coming ended k old mid)) → IfSome c (λ coming. IfSome e (λ ended. TakesFront writable coming ended m old new))
     go None e h = tt
@@ -81,26 +81,26 @@ module _ (writable : Bool) (l : ListenState) where
       were = h.were;
       coming = idle.coming ∙ h.coming;
       ended = idle.ended ∙ h.ended;
-      served = subst (λ (s : Shelved). AreServed writable h.came old h.gone s) (sym same) h.served;
+      served = subst (λ (s : ServedFolder). AreServed writable h.came old h.gone s) (sym same) h.served;
     }
 
   -- nothing came before
-  pub listens_later : (k m : ListenState) (old new : Shelved) → IsIdle l k → Listens writable k m old new → Listens writable l m old new
+  pub listens_later : (k m : ListenState) (old new : ServedFolder) → IsIdle l k → Listens writable k m old new → Listens writable l m old new
   listens_later k m old new idle all =
       let first = subst (λ (c : Option (List Traffic)). IfSome c (λ coming. IfSome k.ended (λ ended. TakesFront writable coming ended m old new))) idle.coming all in
       subst (λ (e : Option (List LinkState)). IfSome l.coming (λ coming. IfSome e (λ ended. TakesFront writable coming ended m old new))) idle.ended first
 
-  pub runs_later : (k m : ListenState) (old new : Shelved) → IsIdle l k → RunsOut writable k m old new → RunsOut writable l m old new
+  pub runs_later : (k m : ListenState) (old new : ServedFolder) → IsIdle l k → RunsOut writable k m old new → RunsOut writable l m old new
   runs_later k m old new idle (inl all) = inl (listens_later k m old new idle all)
   runs_later k m old new idle (inr (n, mid, all, lacking)) = inr (n, mid, listens_later k n old mid idle all, lacking)
 
   -- there was no memory for the next one
-  pub runs_out : (k m : ListenState) (old mid new : Shelved) → Listens writable l k old mid → (IsIdle k m × (new ≡ mid)) ⊎ Hears (LacksMemory writable) k m mid new → RunsOut writable l m old new
+  pub runs_out : (k m : ListenState) (old mid new : ServedFolder) → Listens writable l k old mid → (IsIdle k m × (new ≡ mid)) ⊎ Hears (LacksMemory writable) k m mid new → RunsOut writable l m old new
   runs_out k m old mid new all (inl (idle, same)) = inl (listens_still k m old mid new all idle same)
   runs_out k m old mid new all (inr lacking) = inr (k, mid, all, lacking)
 
 -- one was taken, served so, and ended
-pub hears_one : (serves : Serves) (l k m : ListenState) (t : Option Traffic) (u : LinkState) (old new : Shelved) → Accepts (Some t) l.coming k.coming → k.ended ≡ l.ended → m.coming ≡ k.coming → m.ended ≡ option_map (λ done. done ++ u ∷ []) k.ended
+pub hears_one : (serves : Serves) (l k m : ListenState) (t : Option Traffic) (u : LinkState) (old new : ServedFolder) → Accepts (Some t) l.coming k.coming → k.ended ≡ l.ended → m.coming ≡ k.coming → m.ended ≡ option_map (λ done. done ++ u ∷ []) k.ended
     → (is_some l.coming ≡ true → is_some u.traffic ≡ true) → IfSome t (λ t. IfSome u.traffic (λ x. u.traffic ≡ Some x → serves t old u new)) → Hears serves l m old new
 hears_one serves l k m t u old new accepted kept coming ended told served = go l.coming l.ended accepted kept told where
   over : (coming' : List Traffic) (ended' : List LinkState) (rest : List Traffic) (v x : Traffic) → t ≡ Some v → coming' ≡ v ∷ rest → k.coming ≡ Some rest → k.ended ≡ Some ended' → u.traffic ≡ Some x → TakesOne serves coming' ended' m old new
@@ -145,9 +145,9 @@ if_both (Some x) None P Q f h = tt
 if_both (Some x) (Some y) P Q f h = f x y h
 
 -- so it is with each end of serving
-module _ (writable : Bool) (kind : DigestKind) (named : kind ≡ kinds.Sha512T256) (l k m : ListenState) (t u : LinkState) (old new : Shelved) (accepted : Accepts (Some t.traffic) l.coming k.coming) (kept : k.ended ≡ l.ended) (coming : m.coming ≡ k.coming)
+module _ (writable : Bool) (kind : DigestKind) (named : kind ≡ kinds.Sha512T256) (l k m : ListenState) (t u : LinkState) (old new : ServedFolder) (accepted : Accepts (Some t.traffic) l.coming k.coming) (kept : k.ended ≡ l.ended) (coming : m.coming ≡ k.coming)
     (ended : m.ended ≡ option_map (λ done. done ++ u ∷ []) k.ended) (told : is_some l.coming ≡ true → is_some u.traffic ≡ true) (is_fresh : IsFreshLink t) (given : given_in u.traffic ≡ given_in t.traffic) where
-  ends_as : (serves : DigestKind → Traffic → Shelved → Traffic → Shelved → Type 0) (so : Traffic → Traffic → ℕ → Type 0) (P : Serves) → ((x : Traffic) → HasEnded (so x) x u → P x old u new) → ((x y : Traffic) → serves kinds.Sha512T256 x old y new → so x y u.faults)
+  ends_as : (serves : DigestKind → Traffic → ServedFolder → Traffic → ServedFolder → Type 0) (so : Traffic → Traffic → ℕ → Type 0) (P : Serves) → ((x : Traffic) → HasEnded (so x) x u → P x old u new) → ((x y : Traffic) → serves kinds.Sha512T256 x old y new → so x y u.faults)
       → IfSome t.traffic (λ x. IfSome u.traffic (λ y. serves kind x old y new)) → Hears P l m old new
   ends_as serves so P pack f h =
       let right = subst (λ (d : DigestKind). IfSome t.traffic (λ x. IfSome u.traffic (λ y. serves d x old y new))) named h in
@@ -172,7 +172,7 @@ module _ (writable : Bool) (kind : DigestKind) (named : kind ≡ kinds.Sha512T25
 pub idle_self : (l : ListenState) → IsIdle l l
 idle_self l = record { coming = refl; ended = refl }
 
-pub as_writable : (w v : Bool) (l m : ListenState) (old new : Shelved) → w ≡ v → Hears (IsServed w) l m old new → Hears (IsServed v) l m old new
+pub as_writable : (w v : Bool) (l m : ListenState) (old new : ServedFolder) → w ≡ v → Hears (IsServed w) l m old new → Hears (IsServed v) l m old new
 as_writable w v l m old new same h = subst (λ (b : Bool). Hears (IsServed b) l m old new) same h
 
 -- a folder that is the same is the same shelf
@@ -180,7 +180,7 @@ pub same_shelf : {F : Type 0} (files : F → Option (Map (List ℕ))) (faults : 
 same_shelf files faults s t same = ap (λ x. shelved files faults x.folder) same
 
 -- the next one lacked memory, where the store is as writable as it was
-pub lacks_next : (w v : Bool) (k m : ListenState) (mid new : Shelved) (Same : Type 0) → w ≡ v → (Same → new ≡ mid) → (IsIdle k m × Same) ⊎ Hears (LacksMemory w) k m mid new → (IsIdle k m × (new ≡ mid)) ⊎ Hears (LacksMemory v) k m mid new
+pub lacks_next : (w v : Bool) (k m : ListenState) (mid new : ServedFolder) (Same : Type 0) → w ≡ v → (Same → new ≡ mid) → (IsIdle k m × Same) ⊎ Hears (LacksMemory w) k m mid new → (IsIdle k m × (new ≡ mid)) ⊎ Hears (LacksMemory v) k m mid new
 lacks_next w v k m mid new Same is f (inl (idle, same)) = inl (idle, f same)
 lacks_next w v k m mid new Same is f (inr h) = inr (subst (λ (b : Bool). Hears (LacksMemory b) k m mid new) is h)
 
@@ -192,12 +192,12 @@ standing writable folder = record { folder = folder; kind = kinds.Sha512T256; wr
 
 module _ {F : Type 0} (files : F → Option (Map (List ℕ))) (faults : F → ℕ) (h : Heard) (writable : Bool) (q : List ℕ) (taken : F) (s t : Standing F) (is : s ≡ record { folder = taken; kind = kinds.Sha512T256; writable = writable }) (unfailed : faults taken ≡ 0)
     (d e : Disk) (given : GivesFolder d e q (faults t.folder)) (back : e.folders ≡ option_map (λ m. at_name m q (files t.folder)) d.folders) where
-  at_first : (P : Bool → Shelved → Type 0) → P s.writable (shelved files faults s.folder) → P writable (fresh (files taken))
+  at_first : (P : Bool → ServedFolder → Type 0) → P s.writable (shelved files faults s.folder) → P writable (fresh (files taken))
   at_first P p =
       let first = subst (λ (x : Standing F). P x.writable (shelved files faults x.folder)) is p in
       subst (λ (n : ℕ). P writable (record { files = files taken; faults = n })) unfailed first
 
-  back_as : (P : Bool → Shelved → Shelved → Type 0) → P s.writable (shelved files faults s.folder) (shelved files faults t.folder) → ServedBack q (files taken) (P writable) d e
+  back_as : (P : Bool → ServedFolder → ServedFolder → Type 0) → P s.writable (shelved files faults s.folder) (shelved files faults t.folder) → ServedBack q (files taken) (P writable) d e
   back_as P p = record {
     left = shelved files faults t.folder;
     back = back;

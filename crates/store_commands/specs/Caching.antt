@@ -13,8 +13,8 @@ use Rattle.command_outcome.specs.declared.outcome.Outcome.{Outcome}
 use Rattle.command_outcome.specs.declared.outcome.Outcome.TheVariants as ends
 use Rattle.command_steps.specs.Asking.{Asks, EachDialed}
 use Rattle.command_steps.specs.Cache.{CacheOpened}
-use Rattle.command_steps.specs.Openings.{IsListed, Listed, NotRead}
-use Rattle.command_steps.specs.Sources.{DialsStores, OnSources, Sources, SourcesOpened, told_at}
+use Rattle.command_steps.specs.InputFiles.{IsListed, Listed, NotRead}
+use Rattle.command_steps.specs.Sources.{DialsStores, OnSources, Sources, SourcesOpened, location_files}
 use Rattle.command_worlds.specs.Steps.{◌>>=◌}
 use Rattle.command_worlds.specs.Worlds.{Adds, DiskQuiet, FolderRose, OnDisk, Step, World}
 use Rattle.command_steps.specs.Sources.{HaveLacked}
@@ -24,14 +24,14 @@ use Rattle.dsy_base.specs.Counts.{Quiet, Rose}
 use Rattle.dsy_base.specs.Disk.{Disk}
 use Rattle.dsy_base.specs.Links.{DialState}
 use Rattle.dsy_base.specs.Maps.{Map, at_name}
-use Rattle.image_store.specs.PutChunks.{HoldsAll, IsListed as IsAmong}
+use Rattle.image_store.specs.PutChunks.{HoldsAll, IsListedId as IsAmong}
 use Rattle.image_store.specs.Chopping.{times_listed}
 use Rattle.store_chain.specs.Faults.{EachQuiet}
 use Rattle.store_chain.specs.Giving.{LacksAll}
 use Rattle.store_chain.specs.Refusals.{Refuses}
 use Rattle.store_chain.specs.declared.refused.Refused.{Refused}
 use Rattle.store_chain.specs.declared.refused.Refused.TheVariants as refused
-use Rattle.store_chain.specs.declared.want.Want.{Want}
+use Rattle.store_chain.specs.declared.query.Query.{Query}
 use Rattle.verify_tool.specs.Filling.{EndsAtEntry, FillsBy, GivesEntry, HoldsEntry, ListsSize, entry_want, filled_to}
 use Rattle.verify_tool.specs.declared.fill.FillFault.{FillFault}
 use Rattle.verify_tool.specs.declared.fill.FillFault.TheVariants as faults
@@ -42,7 +42,7 @@ pub record Evidence : Type 1 where
   -- all stores are folders, which hold these files
   pub holds : List (Map (List ℕ)) → Type 0
   -- the stores have refused what is wanted, for this reason
-  pub refused : Want → Refused → Type 0
+  pub refused : Query → Refused → Type 0
   -- calls on the cache have failed; no call has
   pub cache_failed : Type 0
   pub unfailed : Type 0
@@ -50,7 +50,7 @@ pub record Evidence : Type 1 where
 -- over a command, from w to v, whose stores and cache these are
 abbrev pub of_command : Sources → Sources → List Location → List ℕ → Evidence
 of_command w v stores cache = record {
-  holds = λ fs. IsSomeAnd w.disk.folders (λ n. map (told_at n) stores ≡ map Some fs);
+  holds = λ fs. IsSomeAnd w.disk.folders (λ n. map (location_files n) stores ≡ map Some fs);
   refused = λ c r. HaveLacked c w v stores r;
   cache_failed = FolderRose w.disk v.disk cache;
   unfailed = DiskQuiet w.disk v.disk;

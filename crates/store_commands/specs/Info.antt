@@ -10,11 +10,11 @@ use Rattle.dsy_base.specs.Maps.{Map}
 use Rattle.verify_tool.specs.Counts.{DeniesOthers, held_count, is_listed_before}
 use Rattle.verify_tool.specs.Texts.{text_of_info, unique_count}
 use Rattle.command_steps.specs.Asking.{Asks, EachDialed}
-use Rattle.command_steps.specs.Openings.{IndexRead}
+use Rattle.command_steps.specs.InputFiles.{IndexRead}
 use Rattle.command_worlds.specs.Printing.{Printed}
 use Rattle.command_worlds.specs.Steps.{◌>>=◌}
 use Rattle.command_steps.specs.Sources.{AllThere, ConsultsStores, FailsFirst, FirstUnreached}
-use Rattle.command_steps.specs.Sources.{OnSources, Sources, said_at, told_at}
+use Rattle.command_steps.specs.Sources.{OnSources, Sources, said_at, location_files}
 use Rattle.command_worlds.specs.Worlds.{OnDisk, OnOut, Step, World}
 
 -- a store failed when all were asked whether they have a listed chunk: the first of those that don't deny it
@@ -33,7 +33,7 @@ pub record IsCount (w v : Sources) (stores : List Location) (l : Listing) (n : �
   pub there : AllThere w.disk stores
   pub size : n ≤ unique_count l
   pub denied : DeniesOthers (said_at w v) l (count_of l) n stores
-  pub counts : IfSome w.disk.folders (λ m. (fs : List (Map (List ℕ))) → map (told_at m) stores ≡ map Some fs
+  pub counts : IfSome w.disk.folders (λ m. (fs : List (Map (List ℕ))) → map (location_files m) stores ≡ map Some fs
       → n ≡ held_count l (map chunks fs))
 
 -- once for a listed id, and never for another
@@ -41,14 +41,14 @@ abbrev pub asks_once : Listing → List ℕ → ℕ
 asks_once l id = if is_listed_before l (count_of l) id then 1 else 0
 
 -- how many ids the stores hold, where some are given
-abbrev pub Counted : Sources → Sources → List Location → Listing → Result (Option ℕ) Outcome → Type 0
-Counted w v stores l (Ok None) = length stores ≡ 0
-Counted w v stores l (Ok (Some n)) = (0 < length stores) × IsCount w v stores l n
-Counted w v stores l (Err o) = NotCounted w v stores l o
+abbrev pub CountedInStores : Sources → Sources → List Location → Listing → Result (Option ℕ) Outcome → Type 0
+CountedInStores w v stores l (Ok None) = length stores ≡ 0
+CountedInStores w v stores l (Ok (Some n)) = (0 < length stores) × IsCount w v stores l n
+CountedInStores w v stores l (Err o) = NotCounted w v stores l o
 
 -- servers are asked for no chunk, and whether they have one at most once for each listed id
 abbrev pub IdsCounted : List Location → Listing → Step Sources (Option ℕ)
-IdsCounted stores l w r v = Counted w v stores l r × ConsultsStores stores w v
+IdsCounted stores l w r v = CountedInStores w v stores l r × ConsultsStores stores w v
     × EachDialed (Asks (λ id. 0) (asks_once l)) stores w.dial.ended v.dial.ended
 
 abbrev pub InfoEnds : List Location → List ℕ → Step World Unit

@@ -1,7 +1,7 @@
 -- `list-chunks INDEX`.
 use Rattle.std.specs.Prelude.{ℕ, List}
 use Rattle.verify_tool.specs.Texts.{text_of_chunks}
-use Rattle.command_steps.specs.Openings.{IndexRead}
+use Rattle.command_steps.specs.InputFiles.{IndexRead}
 use Rattle.command_worlds.specs.Printing.{Printed}
 use Rattle.command_worlds.specs.Steps.{◌>>=◌}
 use Rattle.command_worlds.specs.Worlds.{OnDisk, OnOut, Step, World}

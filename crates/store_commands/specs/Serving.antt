@@ -4,7 +4,7 @@ use Rattle.std.specs.Prelude.{◌≡◌, ℕ, ◌⊎◌, Bool, List, [], ◌∷�
 use Rattle.std.specs.Map.{count_at}
 use Rattle.std.specs.Option.{option_map}
 use Rattle.chunk_server.specs.Answers.{Answer}
-use Rattle.chunk_server.specs.Shelves.{Shelved}
+use Rattle.chunk_server.specs.Shelves.{ServedFolder}
 use Rattle.chunk_server.specs.Turns.{Cut, Lacking, Served}
 use Rattle.chunk_store.specs.declared.id.DigestKind.TheVariants as kinds
 use Rattle.command_outcome.specs.declared.outcome.Outcome.{Outcome}
@@ -32,7 +32,7 @@ heard old new = record { old = old; new = new }
 
 -- how a connection came and how it ended, and the store before it and after it
 abbrev pub Serves : Type 1
-Serves = Traffic → Shelved → LinkState → Shelved → Type 0
+Serves = Traffic → ServedFolder → LinkState → ServedFolder → Type 0
 
 -- a folder of chunks gives each answer that is right
 abbrev pub any_answer : Act → List ℕ → Answer → Type 0
@@ -58,12 +58,12 @@ LacksMemory writable t old u new =
     HasEnded (λ x failed. Lacking kinds.Sha512T256 any_answer writable t old x new) t u
 
 -- these connections came and ended so, each served over the files that the one before it left
-unfoldable pub AreServed : Bool → List Traffic → Shelved → List LinkState → Shelved → Type 0
+unfoldable pub AreServed : Bool → List Traffic → ServedFolder → List LinkState → ServedFolder → Type 0
 AreServed writable [] old [] new = new ≡ old
 AreServed writable [] old (u ∷ gone) new = ⊥
 AreServed writable (t ∷ came) old [] new = ⊥
 AreServed writable (t ∷ came) old (u ∷ gone) new =
-    (next : Shelved) × IsServed writable t old u next × AreServed writable came next gone new
+    (next : ServedFolder) × IsServed writable t old u next × AreServed writable came next gone new
 
 -- ---- a listener
 
@@ -74,7 +74,7 @@ pub record IsIdle (old new : ListenState) : Type 0 where
 
 -- of the connections that were to come, `queue`, the first was taken, and it has ended behind those that had, `done`
 pub record TakesOne
-    (serves : Serves) (queue : List Traffic) (done : List LinkState) (m : ListenState) (old new : Shelved) : Type 0
+    (serves : Serves) (queue : List Traffic) (done : List LinkState) (m : ListenState) (old new : ServedFolder) : Type 0
   where
     pub came : Traffic
     pub gone : LinkState
@@ -84,13 +84,13 @@ pub record TakesOne
     pub ended : m.ended ≡ Some (done ++ gone ∷ [])
     pub served : serves came old gone new
 
-abbrev pub Hears : Serves → ListenState → ListenState → Shelved → Shelved → Type 0
+abbrev pub Hears : Serves → ListenState → ListenState → ServedFolder → ServedFolder → Type 0
 Hears serves l m old new =
     IfSome l.coming (λ queue. IfSome l.ended (λ done. TakesOne serves queue done m old new))
 
 -- the first ones were taken and served, and no others
 pub record TakesFront
-    (writable : Bool) (queue : List Traffic) (done : List LinkState) (m : ListenState) (old new : Shelved) : Type 0
+    (writable : Bool) (queue : List Traffic) (done : List LinkState) (m : ListenState) (old new : ServedFolder) : Type 0
   where
     pub came : List Traffic
     pub gone : List LinkState
@@ -100,14 +100,14 @@ pub record TakesFront
     pub ended : m.ended ≡ Some (done ++ gone)
     pub served : AreServed writable came old gone new
 
-abbrev pub Listens : Bool → ListenState → ListenState → Shelved → Shelved → Type 0
+abbrev pub Listens : Bool → ListenState → ListenState → ServedFolder → ServedFolder → Type 0
 Listens writable l m old new =
     IfSome l.coming (λ queue. IfSome l.ended (λ done. TakesFront writable queue done m old new))
 
 -- and then there was no memory, for one more connection or without one
-abbrev pub RunsOut : Bool → ListenState → ListenState → Shelved → Shelved → Type 0
+abbrev pub RunsOut : Bool → ListenState → ListenState → ServedFolder → ServedFolder → Type 0
 RunsOut writable l m old new = Listens writable l m old new
-    ⊎ ((k : ListenState) × (mid : Shelved)
+    ⊎ ((k : ListenState) × (mid : ServedFolder)
     × Listens writable l k old mid × Hears (LacksMemory writable) k m mid new)
 
 -- ---- the command
@@ -119,13 +119,14 @@ answer_of_serving (Err faults.Failed) = Err ends.ListenFault
 answer_of_serving (Err faults.Memory) = Err ends.Memory
 
 -- a folder that was taken
-abbrev pub fresh : Option (Map (List ℕ)) → Shelved
+abbrev pub fresh : Option (Map (List ℕ)) → ServedFolder
 fresh held = record { files = held; faults = 0 }
 
 -- the folder, whose files were `held`, was given back as serving left it, with the faults that it has counted
-pub record ServedBack (q : List ℕ) (held : Option (Map (List ℕ))) (Serving : Shelved → Shelved → Type 0) (d e : Disk)
+pub record ServedBack (q : List ℕ) (held : Option (Map (List ℕ))) (Serving : ServedFolder → ServedFolder → Type 0)
+    (d e : Disk)
     : Type 0 where
-  pub left : Shelved
+  pub left : ServedFolder
   pub back : e.folders ≡ option_map (λ m. at_name m q left.files) d.folders
   pub counted : count_at e.folder_counts q ≡ raised (count_at d.folder_counts q) left.faults
   pub serving : Serving (fresh held) left

@@ -8,7 +8,7 @@ use Rattle.verify_tool.specs.Checks.{IsFirstWrong}
 use Rattle.verify_tool.specs.declared.check.CheckFault.{CheckFault}
 use Rattle.verify_tool.specs.declared.check.CheckFault.TheVariants as checks
 use Rattle.dsy_base.specs.Maps.{Map}
-use Rattle.command_steps.specs.Openings.{ImageOpened, IndexRead, IsListed}
+use Rattle.command_steps.specs.InputFiles.{ImageOpened, IndexRead, IsListed}
 use Rattle.command_worlds.specs.Steps.{◌>>=◌}
 use Rattle.command_worlds.specs.Worlds.{FileRose, OnDisk, Reads, Step, World}
 use Rattle.dsy_base.specs.Disk.{Disk}

@@ -5,10 +5,10 @@ ghost use Rattle.std.specs.List.{AllZip};
 ghost use Rattle.cache_store.specs.Shelves.{shelf_of};
 ghost use Rattle.caibx_codec.specs.Listing.{Listing};
 ghost use Rattle.chunk_store.specs.declared.id.DigestKind.TheVariants as kinds;
-ghost use Rattle.command_steps.specs.AnySources.{IsKnown, IsUnused, asked_in, chunks_in, faults_in, files_in};
-ghost use Rattle.command_steps.specs.AnySources.{location_in, place_in, said_in};
+ghost use Rattle.command_steps.specs.AnyStores.{IsKnown, IsUnused, asked_in, chunks_in, source_faults, source_files};
+ghost use Rattle.command_steps.specs.AnyStores.{location_in, place_in, said_in};
 ghost use Rattle.command_steps.specs.Cache.{with_cache};
-ghost use Rattle.command_steps.specs.Sources.{sources, told_at};
+ghost use Rattle.command_steps.specs.Sources.{sources, location_files};
 ghost use Rattle.command_worlds.specs.Worlds.{Reads, world};
 ghost use Rattle.store_commands.specs.Caching.{CacheEnds, FillsEach, FrontListed, IndexesFilled};
 ghost use Rattle.store_commands.specs.Caching.{answer_of_fill, listed_times, of_calls};
@@ -19,9 +19,9 @@ ghost use Rattle.store_chain.specs.Chains.{KeepsStores};
 use cache_store::cached::Cached;
 use cache_store::shelf::CacheShelf;
 use command_outcome::outcome::Outcome;
-use command_steps::any_source::AnySource;
+use command_steps::any_store::AnyStore;
 use command_steps::cache::{give_shelf, take_shelf};
-use command_steps::openings::read_index;
+use command_steps::input_files::load_index;
 use command_steps::sources::{close_sources, drop_sources, open_sources};
 use command_words::command::{Locations, Names};
 use dsy_base::dial::Dial;
@@ -64,17 +64,17 @@ fn fill_each<F: Files, D: Dial>(
     alloc: Global,
     files: &mut F,
     indexes: &[Name],
-    cached: &mut Cached<F::Folder, AnySource<F::Look, D>>,
+    cached: &mut Cached<F::Folder, AnyStore<F::Look, D>>,
 ) -> Result<(), Outcome>
     requires kind { cached.old.chain.kind ≡ kinds.Sha512T256 }
-    ensures filled { FillsEach (of_calls (files_in F.Look.files) (said_in F.Look.files D.state)
-        (faults_in F.Look.faults D.state) cached.old.chain.stores cached.new.chain.stores
+    ensures filled { FillsEach (of_calls (source_files F.Look.files) (said_in F.Look.files D.state)
+        (source_faults F.Look.faults D.state) cached.old.chain.stores cached.new.chain.stores
         (F.Folder.faults cached.old.shelf.folder) (F.Folder.faults cached.new.shelf.folder))
         (F.disk files.old) (F.disk files.new) indexes.now
         (F.Folder.files cached.old.shelf.folder) (F.Folder.files cached.new.shelf.folder) result }
     ensures kept { Reads (F.disk files.old) (F.disk files.new) }
-    ensures stores { KeepsStores (chunks_in F.Look.files) (files_in F.Look.files) (place_in F.Look.place)
-        (said_in F.Look.files D.state) (faults_in F.Look.faults D.state)
+    ensures stores { KeepsStores (chunks_in F.Look.files) (source_files F.Look.files) (place_in F.Look.place)
+        (said_in F.Look.files D.state) (source_faults F.Look.faults D.state)
         cached.old.chain.stores cached.new.chain.stores }
     ensures asks { (ls : List Listing) × FrontListed (F.disk files.old) indexes.now ls
         × AllZip (λ a b. (id : List ℕ) → asked_in methods.Get D.state b id ≤ asked_in methods.Get D.state a id
@@ -90,7 +90,7 @@ fn fill_each<F: Files, D: Dial>(
     let Ok(name) = Name::of(alloc, first.as_str()) else {
         return Err(Outcome::Memory);
     };
-    let index = read_index(alloc, files, name)?;
+    let index = load_index(alloc, files, name)?;
     let filled = fill(alloc, &index, cached);
     answer_of(filled)?;
     fill_each(alloc, files, rest, cached)
@@ -101,7 +101,7 @@ fn fill_between<F: Files, D: Dial>(
     alloc: Global,
     files: &mut F,
     dial: &mut D,
-    stores: Vec<AnySource<F::Look, D>>,
+    stores: Vec<AnyStore<F::Look, D>>,
     cache: &str,
     shelf: CacheShelf<F::Folder>,
     indexes: &[Name],
@@ -109,14 +109,14 @@ fn fill_between<F: Files, D: Dial>(
     requires size { (1 ≤ length stores.items) × (length stores.items ≤ 16) }
     requires unused { All (IsUnused D.state) stores.items }
     requires known { All (IsKnown (F.disk files.old).folder_counts) (map (location_in F.Look.place) stores.items) }
-    requires fresh { map (faults_in F.Look.faults D.state) stores.items ≡ map (λ q. 0)
+    requires fresh { map (source_faults F.Look.faults D.state) stores.items ≡ map (λ q. 0)
         (map (location_in F.Look.place) stores.items) }
     requires cache_named { F.Folder.place shelf.folder ≡ cache.now }
     requires cache_known { IsSome ((F.disk files.old).folder_counts cache.now) }
     requires cache_fresh { (F.Folder.faults shelf.folder ≡ 0) × (shelf.kind ≡ kinds.Sha512T256) }
     requires found { IfSome (with_cache (Some (shelf_of F.Folder.files F.Folder.place F.Folder.faults shelf))
-        (F.disk files.old)).folders (λ m. map (files_in F.Look.files) stores.items
-        ≡ map (told_at m) (map (location_in F.Look.place) stores.items)) }
+        (F.disk files.old)).folders (λ m. map (source_files F.Look.files) stores.items
+        ≡ map (location_files m) (map (location_in F.Look.place) stores.items)) }
     ensures filled { IndexesFilled (map (location_in F.Look.place) stores.items) cache.now indexes.now
         (sources (with_cache (Some (shelf_of F.Folder.files F.Folder.place F.Folder.faults shelf)) (F.disk files.old))
         (D.state dial.old)) result (sources (F.disk files.new) (D.state dial.new)) }
@@ -131,7 +131,7 @@ fn fill_between<F: Files, D: Dial>(
 
 /// Puts the chunks that the indexes list into CACHE, index by index, up to the first chunk that isn't had. What CACHE
 /// holds already is left where it is right; what it lacks comes from the stores, which are asked in order.
-pub fn cache<F: Files, D: Dial>(
+pub fn fill_cache<F: Files, D: Dial>(
     alloc: Global,
     files: &mut F,
     dial: &mut D,

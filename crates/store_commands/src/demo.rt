@@ -11,7 +11,7 @@ ghost use Rattle.image_demo.specs.Figures.{text_of_figures};
 use command_outcome::outcome::Outcome;
 use command_worlds::printing::printed;
 use dsy_base::sink::Sink;
-use image_demo::demo::demo as figures_of;
+use image_demo::demo::demo_figures;
 use image_demo::fault::DemoFault;
 use image_demo::figures::Figures;
 use std::alloc::Global;
@@ -27,7 +27,7 @@ fn rehearse<R: Threads + Sync>(
     requires { size ≤ 2 ^ 29 }
     ensures { Rehearsed number size result }
 {
-    match figures_of(rt, alloc, number, size) {
+    match demo_figures(rt, alloc, number, size) {
         Ok(figures) => Ok(figures),
         Err(DemoFault::Mismatch { entry, id }) => Err(Outcome::Mismatch { entry, got: id }),
         Err(DemoFault::Memory) => Err(Outcome::Memory),

@@ -1,7 +1,7 @@
 //! `info -s STORE.. INDEX`: the figures of an index, and how many of its ids the stores hold where some are given.
 
 ghost use Rattle.std.specs.Prelude.{◌≡◌, ◌≤◌, length, Some};
-ghost use Rattle.store_commands.specs.Info.{Counted, InfoEnds, asks_once};
+ghost use Rattle.store_commands.specs.Info.{CountedInStores, InfoEnds, asks_once};
 ghost use Rattle.command_steps.specs.Asking.{Asks, EachDialed};
 ghost use Rattle.command_worlds.specs.Printing.{Printed};
 ghost use Rattle.command_steps.specs.Sources.{ConsultsStores, sources};
@@ -10,7 +10,7 @@ ghost use Rattle.verify_tool.specs.Texts.{text_of_info};
 
 use caibx_codec::index::Index;
 use command_outcome::outcome::Outcome;
-use command_steps::openings::read_index;
+use command_steps::input_files::load_index;
 use command_steps::sources::{close_sources, open_sources};
 use command_words::command::{Location, Locations};
 use command_worlds::printing::printed;
@@ -22,7 +22,7 @@ use std::alloc::Global;
 use store_chain::chain::Chain;
 use store_chain::refused::HasFault;
 use verify_tool::count::count_in_store;
-use verify_tool::info::info as put_figures;
+use verify_tool::info::info;
 
 // How many different listed ids the stores hold, where some are given.
 fn count<F: Files, D: Dial>(
@@ -33,7 +33,7 @@ fn count<F: Files, D: Dial>(
     stores: &[Location],
 ) -> Result<Option<u64>, Outcome>
     requires { length stores.now ≤ 16 }
-    ensures counted { Counted (sources (F.disk files.old) (D.state dial.old))
+    ensures counted { CountedInStores (sources (F.disk files.old) (D.state dial.old))
         (sources (F.disk files.new) (D.state dial.new)) stores.now index.now result }
     ensures kept { ConsultsStores stores.now (sources (F.disk files.old) (D.state dial.old))
         (sources (F.disk files.new) (D.state dial.new)) }
@@ -67,11 +67,11 @@ fn print<O: Sink>(
     ensures printed { Printed (text_of_info index.now held) (O.output out.old)
         result (O.output out.new) }
 {
-    printed(put_figures(alloc, index, held, out))
+    printed(info(alloc, index, held, out))
 }
 
 /// Prints the figures of INDEX, with the number of its ids in the stores where some are given.
-pub fn info<F: Files, D: Dial, O: Sink>(
+pub fn print_info<F: Files, D: Dial, O: Sink>(
     alloc: Global,
     files: &mut F,
     dial: &mut D,
@@ -84,7 +84,7 @@ pub fn info<F: Files, D: Dial, O: Sink>(
         (world (F.disk files.old) (D.state dial.old) (O.output out.old)) result
         (world (F.disk files.new) (D.state dial.new) (O.output out.new)) }
 {
-    let listed = read_index(alloc, files, index)?;
+    let listed = load_index(alloc, files, index)?;
     let held = count(alloc, files, dial, &listed, stores.as_slice())?;
     print(alloc, &listed, held, out)?;
     Ok(())

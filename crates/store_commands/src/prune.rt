@@ -10,7 +10,7 @@ ghost use Rattle.verify_tool.specs.Pruning.{has_id};
 use chunk_store::id::ChunkId;
 use command_outcome::outcome::Outcome;
 use command_steps::seeds::read_indexes;
-use command_steps::taking::{give_folder, take_folder};
+use command_steps::taken_stores::{give_folder, take_folder};
 use command_words::command::Names;
 use dir_store::store::DirStore;
 use dsy_base::fault::IoFault;
@@ -20,7 +20,7 @@ use dsy_base::look::Look;
 use dsy_base::name::Name;
 use std::alloc::Global;
 use std::collections::BTreeSet;
-use verify_tool::prune::{listed_ids, prune as prune_store};
+use verify_tool::prune::{listed_ids, prune};
 
 // Prunes the store whose folder was taken. The folder is given back, whatever the answer is.
 fn prune_taken<F: Files>(
@@ -35,7 +35,7 @@ fn prune_taken<F: Files>(
     ensures { StorePruned (has_id keep.now) store.now (F.Folder.files taken)
         (F.disk files.old) result (F.disk files.new) }
 {
-    let pruned = prune_store(&mut taken, keep);
+    let pruned = prune(&mut taken, keep);
     give_folder(files, store, taken);
     match pruned {
         Ok(_) => Ok(()),
@@ -45,7 +45,7 @@ fn prune_taken<F: Files>(
 }
 
 /// Removes the chunk files of STORE that no INDEX lists, and temporary files, once all indexes have been read.
-pub fn prune<F: Files>(
+pub fn prune_folder<F: Files>(
     alloc: Global,
     files: &mut F,
     store: Name,

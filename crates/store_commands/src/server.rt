@@ -14,7 +14,7 @@ ghost use Rattle.dsy_base.specs.Links.{DialState};
 use chunk_server::serve::{Served, serve};
 use chunk_server::state::ShelfState;
 use command_outcome::outcome::Outcome;
-use command_steps::taking::{give_folder, take_folder};
+use command_steps::taken_stores::{give_folder, take_folder};
 use dir_store::store::DirStore;
 use dsy_base::fault::IoFault;
 use dsy_base::files::Files;

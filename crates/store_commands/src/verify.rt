@@ -6,7 +6,7 @@ ghost use Rattle.store_commands.specs.Verify.{StoreVerified, VerifyEnds, answer_
 ghost use Rattle.dsy_base.specs.Links.{DialState};
 
 use command_outcome::outcome::Outcome;
-use command_steps::taking::{give_folder, take_folder};
+use command_steps::taken_stores::{give_folder, take_folder};
 use dir_store::store::DirStore;
 use dsy_base::files::Files;
 use dsy_base::folder::Folder;

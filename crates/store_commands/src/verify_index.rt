@@ -8,12 +8,12 @@ ghost use Rattle.dsy_base.specs.Links.{DialState};
 
 use caibx_codec::index::Index;
 use command_outcome::outcome::Outcome;
-use command_steps::openings::{open_image, read_index};
+use command_steps::input_files::{load_index, open_image};
 use dsy_base::files::Files;
 use dsy_base::name::Name;
 use dsy_base::view::View;
 use std::alloc::Global;
-use verify_tool::check::{CheckFault, verify_index as check};
+use verify_tool::check::{CheckFault, verify_index};
 
 // The outcome of the check.
 fn answer_of(checked: Result<(), CheckFault>) -> Result<(), Outcome>
@@ -44,13 +44,13 @@ fn check_image<F: Files>(
     ensures kept { Reads (F.disk files.old)
         (F.disk files.new) }
 {
-    let checked = check(alloc, index, &mut view);
+    let checked = verify_index(alloc, index, &mut view);
     files.end_view(view);
     answer_of(checked)
 }
 
 /// Tells whether IMAGE is the image that INDEX lists: its length, then each chunk in order.
-pub fn verify_index<F: Files>(
+pub fn check_image<F: Files>(
     alloc: Global,
     files: &mut F,
     index: Name,
@@ -60,7 +60,7 @@ pub fn verify_index<F: Files>(
         (world (F.disk files.old) k p) result
         (world (F.disk files.new) k p) }
 {
-    let listed = read_index(alloc, files, index)?;
+    let listed = load_index(alloc, files, index)?;
     let view = open_image(files, image)?;
     check_image(alloc, files, &listed, view)?;
     Ok(())

@@ -15,7 +15,7 @@ use Rattle.store_chain.specs.Chains.{EachOnce}
 use Rattle.store_chain.specs.Faults.{NoneFalls}
 use Rattle.verify_tool.proofs.Counted.{turn_is}
 use Rattle.verify_tool.proofs.Distinct.{member_append, member_push}
-use Rattle.verify_tool.specs.Counts.{is_listed_before, AsksBefore, DeniesOthers, EachAsksBefore, Answers, Reaches}
+use Rattle.verify_tool.specs.Counts.{is_listed_before, AsksBefore, DeniesOthers, EachAsksBefore, TellsHeld, Reaches}
 use Rattle.verify_tool.specs.Texts.{ids_of}
 
 or_true : (a b : Bool) → (a || b) ≡ true → a ≡ false → b ≡ true
@@ -126,17 +126,17 @@ module _ {S : Type 0} (holds : S → Option (Map (List ℕ))) (said : S → Said
   pub reaches_first : (old : List S) → Reaches holds said queried faults l 0 old old
   reaches_first old = record { answered = λ q h. absurd (cc); asked = none_asked old; none_fell = λ k. omega arith }
 
-  still : (q : List ℕ) (old mid new : List S) → AllZip (λ a b. (q : List ℕ) → KeepsOf (said a) (said b) q) mid new → Answers holds said q old mid → Answers holds said q old new
+  still : (q : List ℕ) (old mid new : List S) → AllZip (λ a b. (q : List ℕ) → KeepsOf (said a) (said b) q) mid new → TellsHeld holds said q old mid → TellsHeld holds said q old new
   still q old mid new keeps a = record { held = a.held; told = a.told; denied = λ h. denied_still said q mid new keeps (a.denied h) }
 
-  from_before : (q : List ℕ) (old mid new : List S) → map holds mid ≡ map holds old → Answers holds said q mid new → Answers holds said q old new
+  from_before : (q : List ℕ) (old mid new : List S) → map holds mid ≡ map holds old → TellsHeld holds said q mid new → TellsHeld holds said q old new
   from_before q old mid new same a = record { held = a.held; told = λ maps h. a.told maps (same ∙ h); denied = a.denied }
 
   -- after one turn, in which the id of entry i was asked for where it was new
   module _ (old mid new : List S) (i : ℕ) (id : List ℕ) (inside : i < length (ids_of l)) (named : id ≡ get_or (ids_of l) i []) (before : Reaches holds said queried faults l i old mid)
       (held is_new : Bool) (member : held ≡ is_listed_before l i id) (fresh : is_new ≡ not held) (same : map holds mid ≡ map holds old)
       (keeps : AllZip (λ a b. (q : List ℕ) → KeepsOf (said a) (said b) q) mid new) where
-    answered_by : (answer : is_new ≡ true → Answers holds said id mid new) (q : List ℕ) (b e : Bool) → is_listed_before l i q ≡ b → bytes_eq q id ≡ e → is_listed_before l (i + 1) q ≡ true → Answers holds said q old new
+    answered_by : (answer : is_new ≡ true → TellsHeld holds said id mid new) (q : List ℕ) (b e : Bool) → is_listed_before l i q ≡ b → bytes_eq q id ≡ e → is_listed_before l (i + 1) q ≡ true → TellsHeld holds said q old new
     answered_by answer q true e h is more = still q old mid new keeps (before.answered q h)
     answered_by answer q false false h is more = let no : true ≡ false = sym more ∙ listed_more l i id inside named q ∙ ap (λ b. b || bytes_eq q id) h ∙ is in absurd (cc)
     answered_by answer q false true h is more =
@@ -145,7 +145,7 @@ module _ {S : Type 0} (holds : S → Option (Map (List ℕ))) (said : S → Said
           | true ↦ λ e. e
           | false ↦ λ e. (let no : true ≡ false = sym (is_known l i id held is_new member fresh e) ∙ sym (ap (is_listed_before l i) one) ∙ h in absurd (cc))
         ] in
-        let P : List ℕ → Type 0 = λ x. Answers holds said x old new in
+        let P : List ℕ → Type 0 = λ x. TellsHeld holds said x old new in
         subst P (sym one) (from_before id old mid new same (answer (new_id is_new refl)))
 
     asked_by : (b : Bool) → is_new ≡ b → (is_new ≡ false → new ≡ mid) → EachOnce queried id mid new → EachAsksBefore queried l (i + 1) old new
@@ -154,7 +154,7 @@ module _ {S : Type 0} (holds : S → Option (Map (List ℕ))) (said : S → Said
         let P : List S → Type 0 = λ ss. EachAsksBefore queried l (i + 1) old ss in
         subst P (sym (none is)) (asks_later queried l i (i + 1) (omega arith) old mid before.asked)
 
-    pub reaches_next : (is_new ≡ true → Answers holds said id mid new) → (is_new ≡ false → new ≡ mid) → EachOnce queried id mid new → NoneFalls (map faults mid) (map faults new) → Reaches holds said queried faults l (i + 1) old new
+    pub reaches_next : (is_new ≡ true → TellsHeld holds said id mid new) → (is_new ≡ false → new ≡ mid) → EachOnce queried id mid new → NoneFalls (map faults mid) (map faults new) → Reaches holds said queried faults l (i + 1) old new
     reaches_next answer none one falls = record {
       answered = λ q h. answered_by answer q (is_listed_before l i q) (bytes_eq q id) refl refl h;
       asked = asked_by is_new refl none one;

@@ -13,17 +13,17 @@ use Rattle.dsy_base.specs.Maps.{Map}
 use Rattle.store_chain.proofs.Kept.{kept_still}
 use Rattle.store_chain.specs.Faults.{EachQuiet}
 use Rattle.store_chain.specs.Giving.{Gives}
-use Rattle.store_chain.specs.Wants.{IsGiven, want_of}
+use Rattle.store_chain.specs.Queries.{FillsQuery, query_of}
 use Rattle.store_chain.specs.declared.refused.Refused.{Refused}
 use Rattle.store_chain.specs.declared.refused.Refused.TheVariants as refused
-use Rattle.store_chain.specs.declared.want.Want.{Want}
+use Rattle.store_chain.specs.declared.query.Query.{Query}
 use Rattle.verify_tool.proofs.Holding.{any_at, of_wanted, wanted_of}
-use Rattle.verify_tool.specs.Filling.{FillEnds, GivesEntry, IsGivenBy, MayFill, RefusesEntry, entry_want, fill_fault_of}
+use Rattle.verify_tool.specs.Filling.{FillEnds, GivesEntry, IsGivenBy, MayFillCache, RefusesEntry, entry_want, fill_fault_of}
 
 -- what is asked for, by the kind and the size that the index tells
-pub want_is : (l : Listing) (i : ℕ) (id : ChunkId) (kind : DigestKind) (n room : ℕ) → kind ≡ kind_of l → n ≡ size_of l i → want_of kind id (Some n) room ≡ entry_want l i id
+pub want_is : (l : Listing) (i : ℕ) (id : ChunkId) (kind : DigestKind) (n room : ℕ) → kind ≡ kind_of l → n ≡ size_of l i → query_of kind id (Some n) room ≡ entry_want l i id
 want_is l i id kind n room same sized =
-    ap (λ (k : DigestKind). want_of k id (Some n) room) same ∙ ap (λ (m : ℕ). want_of (kind_of l) id (Some m) m) sized
+    ap (λ (k : DigestKind). query_of k id (Some n) room) same ∙ ap (λ (m : ℕ). query_of (kind_of l) id (Some m) m) sized
 
 module _ {F S : Type 0} (files : F → Option (Map (List ℕ))) (place_of : F → List ℕ) (faults_of : F → ℕ)
     (holds folder : S → Option (Map (List ℕ))) (place : S → List ℕ) (said : S → Said) (faults : S → ℕ) (lacks_memory : Bool) (asked queried : S → List ℕ → ℕ)
@@ -34,7 +34,7 @@ module _ {F S : Type 0} (files : F → Option (Map (List ℕ))) (place_of : F �
   abbrev s1 : Shelf
   s1 = shelf_of files place_of faults_of new.shelf
 
-  abbrev pub Ends : Want → Result Got Refused → Type 0
+  abbrev pub Ends : Query → Result Got Refused → Type 0
   Ends w r = FromShelf files place_of faults_of w old new r out ⊎ FromStores files place_of faults_of holds said faults lacks_memory asked queried w old new r out
 
   unfound_of : (o : Option (Map (List ℕ))) → IfSome o (λ m. Gives (entry_want l i id) m → Rose s0.faults s1.faults) → IfSome o (λ m. GivesEntry l i m → Rose s0.faults s1.faults)
@@ -42,7 +42,7 @@ module _ {F S : Type 0} (files : F → Option (Map (List ℕ))) (place_of : F �
   unfound_of (Some m) h = λ gives. h (wanted_of l i id is_id m gives)
 
   -- the cache gave it, or a store
-  module _ (got : Got) (given : IsGiven (entry_want l i id) got.size out) where
+  module _ (got : Got) (given : FillsQuery (entry_want l i id) got.size out) where
     abbrev b : List ℕ
     b = take got.size out
 
@@ -70,7 +70,7 @@ module _ {F S : Type 0} (files : F → Option (Map (List ℕ))) (place_of : F �
       id_is = is_id;
       shelf = s0;
       before = old.chain.stores;
-      filled = stocks_same (MayFill holds l old.chain.stores) s0;
+      filled = stocks_same (MayFillCache holds l old.chain.stores) s0;
       until = kept_still holds folder place said faults old.chain.stores;
       unfound = unfound_of (held_on s0) h.unfound;
       kept = h.added;

@@ -11,7 +11,7 @@ use Rattle.dsy_base.specs.Counts.{Quiet, Rose}
 use Rattle.dsy_base.specs.Maps.{Map}
 use Rattle.image_store.proofs.Chopped.{asks_entry, asks_none, asks_whole}
 use Rattle.image_store.specs.Chopping.{AsksListed}
-use Rattle.image_store.specs.PutChunks.{IsListed}
+use Rattle.image_store.specs.PutChunks.{IsListedId}
 use Rattle.store_chain.proofs.Kept.{kept_on, kept_still, none_more}
 use Rattle.store_chain.proofs.Pairs.{all_zip_same}
 use Rattle.store_chain.specs.Chains.{AsksOnce, Chained, EachOnce, KeepsStores}
@@ -20,10 +20,10 @@ use Rattle.store_chain.specs.Giving.{LacksAll}
 use Rattle.store_chain.specs.Refusals.{Refuses}
 use Rattle.store_chain.specs.declared.refused.Refused.{Refused}
 use Rattle.store_chain.specs.declared.refused.Refused.TheVariants as refused
-use Rattle.store_chain.specs.declared.want.Want.{Want}
+use Rattle.store_chain.specs.declared.query.Query.{Query}
 use Rattle.verify_tool.proofs.Asked.{each_then, each_weaker}
 use Rattle.verify_tool.proofs.Holding.{damaged_never, each_within, gave_entry, holds_more, holds_none, holds_still, missing_never, not_at_first, quiet_within, rose_never, takes_earlier, told_still}
-use Rattle.verify_tool.specs.Filling.{AsksEntries, EntryUnfound, FillEnds, FillsBy, GivesEntry, HoldsTo, IsGivenBy, EndsAtEntry, FillStops, FillUnfailed, RefusesEntry, SparesStores, MayFill, entry_want, filled_to}
+use Rattle.verify_tool.specs.Filling.{AsksEntries, EntryUnfound, FillEnds, FillsBy, GivesEntry, HoldsTo, IsGivenBy, EndsAtEntry, FillStops, FillUnfailed, RefusesEntry, SparesStores, MayFillCache, entry_want, filled_to}
 use Rattle.verify_tool.specs.declared.fill.FillFault.{FillFault}
 use Rattle.verify_tool.specs.declared.fill.FillFault.TheVariants as faults
 
@@ -33,7 +33,7 @@ rose_wide a b c e ab ce (inl up) = inl (omega (arith, up))
 rose_wide a b c e ab ce (inr top) = inr (omega (arith, top))
 
 -- the first store that failed has counted it
-first_rose : {S : Type 0} (said : S → Said) (faults : S → ℕ) (lacks_memory : Bool) (w : Want) (k : ℕ) (old new : List S) → Refuses said faults lacks_memory w old new (refused.StoreFault k) → Rose (slice_index (map faults old) k) (slice_index (map faults new) k)
+first_rose : {S : Type 0} (said : S → Said) (faults : S → ℕ) (lacks_memory : Bool) (w : Query) (k : ℕ) (old new : List S) → Refuses said faults lacks_memory w old new (refused.StoreFault k) → Rose (slice_index (map faults old) k) (slice_index (map faults new) k)
 first_rose said faults lacks_memory w k [] new h = absurd h
 first_rose said faults lacks_memory w k (a ∷ old) [] h = absurd h
 first_rose said faults lacks_memory w zero (a ∷ old) (b ∷ new) h = h.0
@@ -100,14 +100,14 @@ module _ {S : Type 0} (holds folder : S → Option (Map (List ℕ))) (place : S 
     pub given : (m : Map (List ℕ)) (maps : List (Map (List ℕ))) → FillUnfailed holds store_faults l m maps s0 s c0.stores c.stores → (j : ℕ) → j < i → IsGivenBy l m maps j
     pub asks : AsksEntries asked queried l i c0 c
     pub spared : Spared s0 s c0 c
-    pub stocks : Stocks (MayFill holds l c0.stores) s0 s
-    pub order : Stocks (λ q b. IsListed l i q) s0 s
+    pub stocks : Stocks (MayFillCache holds l c0.stores) s0 s
+    pub order : Stocks (λ q b. IsListedId l i q) s0 s
     pub stores : KeepsStores holds folder place said store_faults c0.stores c.stores
 
   -- the call for entry i, which ended so
   pub record Turns (i : ℕ) (s t : Shelf) (c d : Chained S) : Type 0 where
     pub asks : ((d ≡ c) × (t.files ≡ s.files)) ⊎ (EntryUnfound l i s t × AsksOnce asked queried (id_of l i) c d)
-    pub stocks : Stocks (MayFill holds l c.stores) s t
+    pub stocks : Stocks (MayFillCache holds l c.stores) s t
     pub changed : Stocks (λ q b. q ≡ id_of l i) s t
     pub stores : KeepsStores holds folder place said store_faults c.stores d.stores
 
@@ -123,22 +123,22 @@ module _ {S : Type 0} (holds folder : S → Option (Map (List ℕ))) (place : S 
     given = λ m maps nothing j less. absurd (omega arith);
     asks = none_asked asked queried l c;
     spared = spared_none s c;
-    stocks = stocks_same (MayFill holds l c.stores) s;
-    order = stocks_same (λ q b. IsListed l 0 q) s;
+    stocks = stocks_same (MayFillCache holds l c.stores) s;
+    order = stocks_same (λ q b. IsListedId l 0 q) s;
     stores = kept_still holds folder place said store_faults c.stores;
   }
 
   module _ (i : ℕ) (inside : i < count_of l) (s0 s t : Shelf) (c0 c d : Chained S) (before : Filled i s0 s c0 c) (turn : Turns i s t c d) where
-    pub stocks_now : Stocks (MayFill holds l c0.stores) s t
-    stocks_now = stocks_weaker (MayFill holds l c.stores) (MayFill holds l c0.stores) (takes_earlier holds l c0.stores c.stores before.stores.held) s t turn.stocks
+    pub stocks_now : Stocks (MayFillCache holds l c0.stores) s t
+    stocks_now = stocks_weaker (MayFillCache holds l c.stores) (MayFillCache holds l c0.stores) (takes_earlier holds l c0.stores c.stores before.stores.held) s t turn.stocks
 
-    pub turn_stocks : Stocks (MayFill holds l c0.stores) s0 t
-    turn_stocks = stocks_on (MayFill holds l c0.stores) s0 s t before.stocks stocks_now
+    pub turn_stocks : Stocks (MayFillCache holds l c0.stores) s0 t
+    turn_stocks = stocks_on (MayFillCache holds l c0.stores) s0 s t before.stocks stocks_now
 
-    turn_order : Stocks (λ q b. IsListed l (i + 1) q) s0 t
-    turn_order = stocks_on (λ q b. IsListed l (i + 1) q) s0 s t
-        (stocks_weaker (λ q b. IsListed l i q) (λ q b. IsListed l (i + 1) q) (λ q b h. record { entry = h.entry; below = omega (arith, h.below); id = h.id }) s0 s before.order)
-        (stocks_weaker (λ q b. q ≡ id_of l i) (λ q b. IsListed l (i + 1) q) (λ q b is. record { entry = i; below = omega arith; id = is }) s t turn.changed)
+    turn_order : Stocks (λ q b. IsListedId l (i + 1) q) s0 t
+    turn_order = stocks_on (λ q b. IsListedId l (i + 1) q) s0 s t
+        (stocks_weaker (λ q b. IsListedId l i q) (λ q b. IsListedId l (i + 1) q) (λ q b h. record { entry = h.entry; below = omega (arith, h.below); id = h.id }) s0 s before.order)
+        (stocks_weaker (λ q b. q ≡ id_of l i) (λ q b. IsListedId l (i + 1) q) (λ q b is. record { entry = i; below = omega arith; id = is }) s t turn.changed)
 
     pub turn_stores : KeepsStores holds folder place said store_faults c0.stores d.stores
     turn_stores = kept_on holds folder place said store_faults c0.stores c.stores d.stores before.stores turn.stores
@@ -229,7 +229,7 @@ module _ {S : Type 0} (holds folder : S → Option (Map (List ℕ))) (place : S 
       id_is = h.id_is;
       shelf = h.shelf;
       before = h.before;
-      filled = stocks_on (MayFill holds l c0.stores) s0 s h.shelf before.stocks (stocks_weaker (MayFill holds l c.stores) (MayFill holds l c0.stores) (takes_earlier holds l c0.stores c.stores before.stores.held) s h.shelf h.filled);
+      filled = stocks_on (MayFillCache holds l c0.stores) s0 s h.shelf before.stocks (stocks_weaker (MayFillCache holds l c.stores) (MayFillCache holds l c0.stores) (takes_earlier holds l c0.stores c.stores before.stores.held) s h.shelf h.filled);
       until = kept_on holds folder place said store_faults c0.stores c.stores h.before before.stores h.until;
       unfound = h.unfound;
       kept = h.kept;
@@ -291,6 +291,6 @@ stops_none asked queried l s c = record {
   entry = 0;
   names = tt;
   holds = holds_none l s;
-  stocks = stocks_same (λ q b. IsListed l 1 q) s;
+  stocks = stocks_same (λ q b. IsListedId l 1 q) s;
   asks = none_asked_to asked queried l 1 c;
 }

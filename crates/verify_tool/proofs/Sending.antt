@@ -10,7 +10,7 @@ use Rattle.dsy_base.specs.declared.fault.IoFault.TheVariants as io
 use Rattle.verify_tool.specs.Blocks.{Sent}
 use Rattle.dsy_base.specs.Disk.{PutsFront}
 use Rattle.dsy_base.specs.Texts.{Puts}
-use Rattle.verify_tool.specs.Texts.{line_of}
+use Rattle.verify_tool.specs.Texts.{id_line}
 use Rattle.hex.specs.Hex.{encode_lower}
 
 -- one part after another
@@ -64,32 +64,32 @@ puts_last text old now new left (Err fault) (p, e, f) put =
     (cut.0, omega (arith, cut.1, length-append text []), cut.2 ∙ ap (λ b. option_map (λ t. t ++ take cut.0 b) old) (append-nil text))
 
 -- where the lines of the entries before entry i are the text so far
-module _ (es : List (ℕ × List ℕ)) (i : ℕ) (old now new : Option (List ℕ)) (left : List ℕ) (so_far : Sent (flat_map line_of (take i es)) old now left) where
-  whole_is : flat_map line_of es ≡ flat_map line_of (take i es) ++ flat_map line_of (drop i es)
-  whole_is = ap (flat_map line_of) (sym (take-append-drop i es)) ∙ flat_map-append line_of (take i es) (drop i es)
+module _ (es : List (ℕ × List ℕ)) (i : ℕ) (old now new : Option (List ℕ)) (left : List ℕ) (so_far : Sent (flat_map id_line (take i es)) old now left) where
+  whole_is : flat_map id_line es ≡ flat_map id_line (take i es) ++ flat_map id_line (drop i es)
+  whole_is = ap (flat_map id_line) (sym (take-append-drop i es)) ∙ flat_map-append id_line (take i es) (drop i es)
 
-  pub stops_in_put : PutsFront left now new → PutsFront (flat_map line_of es) old new
+  pub stops_in_put : PutsFront left now new → PutsFront (flat_map id_line es) old new
   stops_in_put cut =
       let P : List ℕ → Type 0 = λ t. PutsFront t old new in
-      subst P (sym whole_is) (prefix_cut _ old now new left (flat_map line_of (drop i es)) so_far cut)
+      subst P (sym whole_is) (prefix_cut _ old now new left (flat_map id_line (drop i es)) so_far cut)
 
-  pub stops_after_put : (rest : List ℕ) → Sent left now new rest → PutsFront (flat_map line_of es) old new
+  pub stops_after_put : (rest : List ℕ) → Sent left now new rest → PutsFront (flat_map id_line es) old new
   stops_after_put rest gone =
       let P : List ℕ → Type 0 = λ t. PutsFront t old new in
-      let sent = sent_on (flat_map line_of (take i es)) old now new left rest so_far gone in
-      subst P (sym whole_is) (prefix_sent _ old new rest (flat_map line_of (drop i es)) sent)
+      let sent = sent_on (flat_map id_line (take i es)) old now new left rest so_far gone in
+      subst P (sym whole_is) (prefix_sent _ old new rest (flat_map id_line (drop i es)) sent)
 
-  pub goes_on : (rest block id : List ℕ) → i < length es → Sent left now new rest → block ≡ rest ++ (encode_lower id ++ 10 ∷ []) → id ≡ (slice_index_or es i (0, [])).1 → Sent (flat_map line_of (take (i + 1) es)) old new block
+  pub goes_on : (rest block id : List ℕ) → i < length es → Sent left now new rest → block ≡ rest ++ (encode_lower id ++ 10 ∷ []) → id ≡ (slice_index_or es i (0, [])).1 → Sent (flat_map id_line (take (i + 1) es)) old new block
   goes_on rest block id lt gone pushed named =
-      let line : List ℕ = line_of (get_or es i (0, [])) in
-      let more : flat_map line_of (take (i + 1) es) ≡ flat_map line_of (take i es) ++ line =
-      ap (λ k. flat_map line_of (take k es)) (add-one i) ∙ ap (flat_map line_of) (take-suc es i (0, []) lt) ∙ flat_map-append line_of (take i es) _ ∙ ap (λ b. flat_map line_of (take i es) ++ b) (append-nil line) in
-      let sent = sent_more _ old new rest line (sent_on (flat_map line_of (take i es)) old now new left rest so_far gone) in
+      let line : List ℕ = id_line (get_or es i (0, [])) in
+      let more : flat_map id_line (take (i + 1) es) ≡ flat_map id_line (take i es) ++ line =
+      ap (λ k. flat_map id_line (take k es)) (add-one i) ∙ ap (flat_map id_line) (take-suc es i (0, []) lt) ∙ flat_map-append id_line (take i es) _ ∙ ap (λ b. flat_map id_line (take i es) ++ b) (append-nil line) in
+      let sent = sent_more _ old new rest line (sent_on (flat_map id_line (take i es)) old now new left rest so_far gone) in
       let P : List ℕ → Type 0 = λ t. Sent t old new (rest ++ line) in
-      let Q : List ℕ → Type 0 = λ b. Sent (flat_map line_of (take (i + 1) es)) old new b in
+      let Q : List ℕ → Type 0 = λ b. Sent (flat_map id_line (take (i + 1) es)) old new b in
       subst Q (sym (pushed ∙ ap (λ d. rest ++ (encode_lower d ++ 10 ∷ [])) named)) (subst P (sym more) sent)
 
-  pub ends : (result : Result Unit IoFault) → length es ≤ i → Puts left now new result → Puts (flat_map line_of es) old new result
+  pub ends : (result : Result Unit IoFault) → length es ≤ i → Puts left now new result → Puts (flat_map id_line es) old new result
   ends result all put =
       let P : List ℕ → Type 0 = λ t. Puts t old new result in
-      subst P (ap (flat_map line_of) (take_all i es all)) (puts_last _ old now new left result so_far put)
+      subst P (ap (flat_map id_line) (take_all i es all)) (puts_last _ old now new left result so_far put)

@@ -38,7 +38,7 @@ EachAsksBefore queried l n old new = AllZip (λ a b. AsksBefore l n (queried a) 
 
 -- it was answered whether some of the stores that stood as `old` has something under the id: that none has, all have
 -- said
-pub record Answers {S : Type 0} (holds : S → Option (Map (List ℕ))) (said : S → Said) (id : List ℕ)
+pub record TellsHeld {S : Type 0} (holds : S → Option (Map (List ℕ))) (said : S → Said) (id : List ℕ)
     (old now : List S) : Type 0 where
   pub held : Bool
   pub told : (maps : List (Map (List ℕ))) → map holds old ≡ map Some maps → held ≡ is_held maps id
@@ -55,7 +55,7 @@ module _ {S : Type 0} (holds : S → Option (Map (List ℕ))) (said : S → Said
     (l : Listing) where
   -- the stores were asked for the ids of the entries before entry n, and answered each time. No count of faults fell
   pub record Reaches (n : ℕ) (old now : List S) : Type 0 where
-    pub answered : (id : List ℕ) → is_listed_before l n id ≡ true → Answers holds said id old now
+    pub answered : (id : List ℕ) → is_listed_before l n id ≡ true → TellsHeld holds said id old now
     pub asked : EachAsksBefore queried l n old now
     pub none_fell : NoneFalls (map faults old) (map faults now)
 

@@ -6,8 +6,8 @@ use Rattle.verify_tool.specs.Texts.{unique_count}
 use Rattle.verify_tool.specs.declared.info.Figures.{Figures}
 
 -- the figures of an index
-abbrev pub figures_of : Listing → Figures
-figures_of l = record {
+abbrev pub index_figures : Listing → Figures
+index_figures l = record {
   average = l.average;
   greatest = l.greatest;
   least = l.least;

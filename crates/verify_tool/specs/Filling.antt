@@ -13,15 +13,15 @@ use Rattle.chunk_store.specs.declared.id.ChunkId.{ChunkId}
 use Rattle.dsy_base.specs.Counts.{Quiet, Rose}
 use Rattle.dsy_base.specs.Maps.{Map}
 use Rattle.image_store.specs.Chopping.{AsksListed}
-use Rattle.image_store.specs.PutChunks.{IsListed}
+use Rattle.image_store.specs.PutChunks.{IsListedId}
 use Rattle.store_chain.specs.Chains.{Chained, KeepsStores}
 use Rattle.store_chain.specs.Faults.{EachQuiet}
 use Rattle.store_chain.specs.Giving.{LacksAll, SomeHolds}
 use Rattle.store_chain.specs.Refusals.{Refuses}
-use Rattle.store_chain.specs.Wants.{want_of}
+use Rattle.store_chain.specs.Queries.{query_of}
 use Rattle.store_chain.specs.declared.refused.Refused.{Refused}
 use Rattle.store_chain.specs.declared.refused.Refused.TheVariants as refused
-use Rattle.store_chain.specs.declared.want.Want.{Want}
+use Rattle.store_chain.specs.declared.query.Query.{Query}
 use Rattle.verify_tool.specs.declared.fill.FillFault.{FillFault}
 use Rattle.verify_tool.specs.declared.fill.FillFault.TheVariants as faults
 
@@ -49,8 +49,9 @@ abbrev pub ListsSize : Listing → List ℕ → ℕ → Type 0
 ListsSize l id size = (i : ℕ) × (i < count_of l) × (id_of l i ≡ id) × (size_of l i ≡ size)
 
 -- the bytes are listed under the id, and some store holds them there
-abbrev pub MayFill : {S : Type 0} → (S → Option (Map (List ℕ))) → Listing → List S → List ℕ → List ℕ → Type 0
-MayFill holds l stores id b = ((n : ℕ) × ListsSize l id n × IsChunk (kind_of l) id n b) × SomeHolds holds stores id b
+abbrev pub MayFillCache : {S : Type 0} → (S → Option (Map (List ℕ))) → Listing → List S → List ℕ → List ℕ → Type 0
+MayFillCache holds l stores id b = ((n : ℕ) × ListsSize l id n × IsChunk (kind_of l) id n b)
+    × SomeHolds holds stores id b
 
 -- ---- where nothing fails
 
@@ -96,8 +97,8 @@ abbrev pub EntryUnfound : Listing → ℕ → Shelf → Shelf → Type 0
 EntryUnfound l i old new = IfSome (held_on old) (λ m. GivesEntry l i m → Rose old.faults new.faults)
 
 -- what the stores are asked for: the chunk of this id, of the size of entry i
-abbrev pub entry_want : Listing → ℕ → ChunkId → Want
-entry_want l i id = want_of (kind_of l) id (Some (size_of l i)) (size_of l i)
+abbrev pub entry_want : Listing → ℕ → ChunkId → Query
+entry_want l i id = query_of (kind_of l) id (Some (size_of l i)) (size_of l i)
 
 -- the answer where the stores refuse the chunk of an entry
 abbrev pub fill_fault_of : ℕ → ChunkId → Refused → FillFault
@@ -114,7 +115,7 @@ module _ {S : Type 0} (holds folder : S → Option (Map (List ℕ))) (place : S 
     pub id_is : id.0 ≡ id_of l k
     pub shelf : Shelf
     pub before : List S
-    pub filled : Stocks (MayFill holds l c0) s0 shelf
+    pub filled : Stocks (MayFillCache holds l c0) s0 shelf
     pub until : KeepsStores holds folder place said store_faults c0 before
     pub unfound : EntryUnfound l k shelf s1
     pub kept : s1.files ≡ shelf.files
@@ -167,5 +168,5 @@ pub record FillStops {S : Type 0} (asked queried : S → List ℕ → ℕ) (l : 
   pub entry : ℕ
   pub names : EndsAtEntry entry (Err fault)
   pub holds : HoldsTo l entry s1
-  pub stocks : Stocks (λ q b. IsListed l (entry + 1) q) s0 s1
+  pub stocks : Stocks (λ q b. IsListedId l (entry + 1) q) s0 s1
   pub asks : AsksEntries asked queried l (entry + 1) c0 c1

@@ -7,12 +7,12 @@ use Rattle.hex.specs.Hex.{encode_lower}
 use Rattle.caibx_codec.specs.Listing.{Listing, count_of, image_length}
 
 -- the line of an entry: its id
-abbrev pub line_of : ℕ × List ℕ → List ℕ
-line_of e = encode_lower e.1 ++ 10 ∷ []
+abbrev pub id_line : ℕ × List ℕ → List ℕ
+id_line e = encode_lower e.1 ++ 10 ∷ []
 
 -- the lines of all entries, in their order
 abbrev pub text_of_chunks : Listing → List ℕ
-text_of_chunks l = flat_map line_of l.entries
+text_of_chunks l = flat_map id_line l.entries
 
 -- the ids of the entries, in their order
 abbrev pub ids_of : Listing → List (List ℕ)

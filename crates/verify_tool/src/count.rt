@@ -8,7 +8,7 @@ ghost use Rattle.dsy_base.specs.Maps.{Map};
 ghost use Rattle.caibx_codec.specs.Listing.{count_of};
 ghost use Rattle.store_chain.specs.Chains.{AsksNone, EachOnce, KeepsStores};
 ghost use Rattle.store_chain.specs.Refusals.{HasFails};
-ghost use Rattle.verify_tool.specs.Counts.{is_held, held_count, Answers, DeniesOthers, EachAsksBefore, FailsAtEntry};
+ghost use Rattle.verify_tool.specs.Counts.{is_held, held_count, TellsHeld, DeniesOthers, EachAsksBefore, FailsAtEntry};
 ghost use Rattle.verify_tool.specs.Texts.{unique_count};
 
 use caibx_codec::index::Index;
@@ -24,7 +24,7 @@ fn count_one<S: Store>(chain: &mut Chain<S>, id: &ChunkId, is_new: bool) -> Resu
     ensures value { (maps : List (Map (List ℕ))) → map S.holds chain.old.stores ≡ map Some maps →
         IfOk result (λ n. n ≡ cond (is_new && is_held maps id.now.0) 1 0) }
     ensures size { IfOk result (λ n. n ≤ cond is_new 1 0) }
-    ensures ok { OnOk result (is_new ≡ true → Answers S.holds S.said id.now.0 chain.old.stores chain.new.stores) }
+    ensures ok { OnOk result (is_new ≡ true → TellsHeld S.holds S.said id.now.0 chain.old.stores chain.new.stores) }
 
     ensures absent { IfOk result (λ n. n ≡ 0 → is_new ≡ true → All (λ s. (S.said s).denied id.now.0) chain.new.stores) }
 

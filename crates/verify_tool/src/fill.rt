@@ -8,7 +8,8 @@ ghost use Rattle.dsy_base.specs.Maps.{Map};
 ghost use Rattle.store_chain.specs.Chains.{AsksOnce, KeepsStores};
 ghost use Rattle.store_chain.specs.Faults.{EachQuiet};
 ghost use Rattle.verify_tool.specs.Filling.{AsksEntries, EntryUnfound, FillEnds, FillsBy, GivesEntry, HoldsTo};
-ghost use Rattle.verify_tool.specs.Filling.{IsGivenBy, EndsAtEntry, FillStops, FillUnfailed, SparesStores, MayFill};
+ghost use Rattle.verify_tool.specs.Filling.{IsGivenBy, EndsAtEntry, FillStops, FillUnfailed, SparesStores};
+ghost use Rattle.verify_tool.specs.Filling.{MayFillCache};
 ghost use Rattle.verify_tool.specs.Filling.{fill_fault_of, filled_to};
 
 use cache_store::cached::{Cached, Kept};
@@ -92,7 +93,7 @@ fn fill_entry<F: Folder, S: Store>(
         ⊎ (EntryUnfound index.now i (shelf_of F.files F.place F.faults cached.old.shelf)
         (shelf_of F.files F.place F.faults cached.new.shelf)
         × AsksOnce S.asked S.queried (id_of index.now i) cached.old.chain cached.new.chain) }
-    ensures stocks { Stocks (MayFill S.holds index.now cached.old.chain.stores)
+    ensures stocks { Stocks (MayFillCache S.holds index.now cached.old.chain.stores)
         (shelf_of F.files F.place F.faults cached.old.shelf) (shelf_of F.files F.place F.faults cached.new.shelf) }
     ensures changed { Stocks (λ q b. q ≡ id_of index.now i)
         (shelf_of F.files F.place F.faults cached.old.shelf) (shelf_of F.files F.place F.faults cached.new.shelf) }
@@ -137,7 +138,7 @@ fn fill_entries<F: Folder, S: Store>(
     ensures asks { AsksEntries S.asked S.queried index.now (count_of index.now) cached.old.chain cached.new.chain }
     ensures spared { SparesStores index.now (shelf_of F.files F.place F.faults cached.old.shelf)
         (shelf_of F.files F.place F.faults cached.new.shelf) cached.old.chain cached.new.chain }
-    ensures stocks { Stocks (MayFill S.holds index.now cached.old.chain.stores)
+    ensures stocks { Stocks (MayFillCache S.holds index.now cached.old.chain.stores)
         (shelf_of F.files F.place F.faults cached.old.shelf) (shelf_of F.files F.place F.faults cached.new.shelf) }
     ensures stores { KeepsStores S.holds S.folder S.place S.said S.faults
         cached.old.chain.stores cached.new.chain.stores }
@@ -174,7 +175,7 @@ pub fn fill<F: Folder, S: Store>(
     ensures asks { AsksEntries S.asked S.queried index.now (count_of index.now) cached.old.chain cached.new.chain }
     ensures spared { SparesStores index.now (shelf_of F.files F.place F.faults cached.old.shelf)
         (shelf_of F.files F.place F.faults cached.new.shelf) cached.old.chain cached.new.chain }
-    ensures stocks { Stocks (MayFill S.holds index.now cached.old.chain.stores)
+    ensures stocks { Stocks (MayFillCache S.holds index.now cached.old.chain.stores)
         (shelf_of F.files F.place F.faults cached.old.shelf) (shelf_of F.files F.place F.faults cached.new.shelf) }
     ensures stores { KeepsStores S.holds S.folder S.place S.said S.faults
         cached.old.chain.stores cached.new.chain.stores }

@@ -5,7 +5,7 @@ ghost use Rattle.dsy_base.specs.Counts.{CountsFaults};
 ghost use Rattle.dsy_base.specs.Texts.{Puts};
 ghost use Rattle.serde_json.specs.View.{members_view, view};
 ghost use Rattle.verify_tool.specs.Texts.{text_of_info, unique_count};
-ghost use Rattle.verify_tool.specs.Figures.{members_of, data_of, figures_of};
+ghost use Rattle.verify_tool.specs.Figures.{members_of, data_of, index_figures};
 
 use caibx_codec::index::Index;
 use dsy_base::fault::IoFault;
@@ -38,7 +38,7 @@ fn unique_ids(alloc: Global, index: &Index) -> Result<u64, AllocError>
 
 impl Figures {
     fn of(alloc: Global, index: &Index) -> Result<Figures, AllocError>
-        ensures value { IfOk result (λ f. f ≡ figures_of index.now) }
+        ensures value { IfOk result (λ f. f ≡ index_figures index.now) }
     {
         Ok(Figures {
             average: index.avg(),

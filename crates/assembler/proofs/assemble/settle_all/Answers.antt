@@ -19,7 +19,7 @@ use Rattle.assembler.proofs.TwoPasses.{ends_map, err_map}
 use Rattle.assembler.specs.Passes.{HadAt, want_at}
 use Rattle.dsy_base.proofs.Counts.{rose_later}
 use Rattle.extract_plan.specs.Deal.{of_want, want_id}
-use Rattle.extract_plan.specs.Seeds.{held_in}
+use Rattle.extract_plan.specs.Seeds.{seed_held}
 use Rattle.assembler.proofs.assemble.settle_all.Goals as goal
 use Rattle.assembler.proofs.assemble.settle_all.Given.{Over}
 use Rattle.cache_store.specs.Shelves.{Shelf, Shelved}
@@ -92,7 +92,7 @@ returns-in-Ok-clause-left g c =
 pub returns-in-Ok-clause-had : goal.returns-in-Ok-clause-had
 returns-in-Ok-clause-had g c = λ tells cached maps has told i inside is.
     let step = c.in-Ok.ensures.step in
-    let views = map (held_in g.V.View.held) in
+    let views = map (seed_held g.V.View.held) in
     let l = c.args.index.now in
     let d = c.args.plan.now in
     let x = c.args.places.now in
@@ -161,7 +161,7 @@ returns-in-Ok-clause-exactly g c = λ cached maps nothing one.
     let k = c.args.kit.now in
     let j = c.fill.new.kit in
     let i = c.retry.new.kit in
-    let views = map (held_in v.held) k.seeds.items in
+    let views = map (seed_held v.held) k.seeds.items in
     let e0 = (see g c.args.cache.now) in
     let e1 = (see g c.fill.new.cache) in
     let e2 = (see g c.retry.new.cache) in
@@ -175,7 +175,7 @@ returns-in-Ok-clause-exactly g c = λ cached maps nothing one.
     step.never_falls step.seeds.never_fall step.stores.never_fall (stocked_falls T e0 e1 stocked) step.stores.held step.seeds.held later.0 later.1 nothing in
     let still = one_size_on s.holds l d A k.chain.stores e0 e1 cached later.0 maps stocked nothing.told_cache later.1 nothing.told one in
     unless_map _ _ c.retry.result
-    (λ again. passes_by l d x c.requires.ready.wants c.args.fates.now c.fill.new.fates c.retry.new.fates views (map (held_in v.held) j.seeds.items) cached later.0 maps
+    (λ again. passes_by l d x c.requires.ready.wants c.args.fates.now c.fill.new.fates c.retry.new.fates views (map (seed_held v.held) j.seeds.items) cached later.0 maps
     k.chain j.chain i.chain step.seeds.held (c.in-Ok.ensures.had first.telling cached maps first.told_cache first.told) (c.in-Ok.ensures.left cached maps first one)
     (give_before s.holds l d A k.chain.stores e0 e1 cached later.0 maps stocked nothing.told_cache later.1 nothing.told c.requires.ready.wants (λ w below. below) one)
     (c.in-Ok.ensures.exactly cached maps first one) again)

@@ -13,7 +13,7 @@ use Rattle.assembler.proofs.Stepped.{step_none}
 use Rattle.caibx_codec.specs.Listing.{id_of, kind_of, size_of, count_of}
 use Rattle.chunk_store.specs.declared.id.ChunkId.{ChunkId}
 use Rattle.extract_plan.specs.Places.{PlacesFit}
-use Rattle.extract_plan.specs.Seeds.{faults_in, held_in}
+use Rattle.extract_plan.specs.Seeds.{faults_in, seed_held}
 use Rattle.range_survey.specs.Fates.{settled}
 use Rattle.extract_plan.specs.declared.seed.Seed.{Seed}
 use Rattle.store_chain.specs.Faults.{EachQuiet}
@@ -64,7 +64,7 @@ pub returns-clause-had : goal.returns-clause-had
 returns-clause-had g c =
     λ tells cached maps has told i was now.
     let f = c.in-Some.ensures in
-    let views = map (held_in g.V.View.held) in
+    let views = map (seed_held g.V.View.held) in
     let had = rw c.deref_mut.ensures.value at c.settle_open.ensures.had tells cached maps has told i was now in
     had_as c.args.index.now c.args.plan.now c.args.want c.requires.ready.wants c.requires.want c.entries-entries.result.now c.entries-entries.ensures c.args.fates.now (views c.args.kit.now.seeds.items) c.args.places.now c.places-places.result.now (kind_of c.args.index.now) (cached ++ maps) c.in-Some.entry i c.id-id.result.0
     (f.0, f.1, f.2) (c.settle_open.ensures.only i was now) c.id-id.ensures c.places-places.ensures had
@@ -112,14 +112,14 @@ returns-in_default-clause-exactly g c = λ cached maps nothing.
     let d = c.args.plan.now in
     let w = c.args.want in
     let m = c.args.fates.now in
-    let views = map (held_in g.V.View.held) c.args.kit.now.seeds.items in
+    let views = map (seed_held g.V.View.held) c.args.kit.now.seeds.items in
     let kept = all_kept l d w c.requires.ready.wants c.requires.want c.entries-entries.result.now c.entries-entries.ensures m views c.args.places.now cached maps c.in_default.ensures in
     settles_kept (source_over l d c.args.places.now (settled m) views cached maps w) (count_of l) m c.args.kit.now.chain kept c.asks.ensures.below
 
 pub returns-clause-exactly : goal.returns-clause-exactly
 returns-clause-exactly g c = λ cached maps nothing.
     let f = c.in-Some.ensures in
-    let views = map (held_in g.V.View.held) in
+    let views = map (seed_held g.V.View.held) in
     let counts = map (faults_in g.V.View.faults) in
     let kept = with_items_is c.args.kit.now.seeds c.settle_open.new.seeds (omega (arith, c.settle_open.auto.seeds, c.deref_mut.ensures.len)) in
     let first = c.deref_mut.ensures.value in

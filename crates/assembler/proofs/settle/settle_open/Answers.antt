@@ -8,7 +8,7 @@ use Rattle.caibx_codec.specs.Listing.{kind_of, size_of, count_of}
 use Rattle.chunk_sources.specs.Caches.{seen}
 use Rattle.chunk_sources.specs.Economy.{ObtainedBy, source_among}
 use Rattle.chunk_sources.specs.Losses.{Had}
-use Rattle.extract_plan.specs.Seeds.{held_in}
+use Rattle.extract_plan.specs.Seeds.{seed_held}
 use Rattle.dsy_base.specs.Bytes.{Held}
 use Rattle.range_survey.specs.Fates.{settled}
 use Rattle.range_survey.specs.declared.fate.Fate.{Fate}
@@ -23,14 +23,14 @@ see g = seen g.F.Look.files g.F.Look.place g.F.Look.faults
 pub returns-in-Ok-put-clause-had : goal.returns-in-Ok-put-clause-had
 returns-in-Ok-put-clause-had g c = λ tells cached maps has told i was now.
     let sought = c.args.sought.now in
-    let Q : ℕ → Type 0 = λ n. Had c.args.fates.now sought.entries.now (map (held_in g.V.View.held) c.args.seeds.now) sought.places.now (kind_of c.args.index.now) sought.id.0 n (cached ++ maps) in
+    let Q : ℕ → Type 0 = λ n. Had c.args.fates.now sought.entries.now (map (seed_held g.V.View.held) c.args.seeds.now) sought.places.now (kind_of c.args.index.now) sought.id.0 n (cached ++ maps) in
     let whole : length c.split_at_mut-chunk.result.0.now ≡ size_of c.args.index.now c.args.entry = c.split_at_mut-chunk.ensures.front_len ∙ c.entry.ensures.size in
     subst Q whole (c.in-Ok.ensures.had tells cached maps has told)
 
 pub returns-in-Err-put-clause-had : goal.returns-in-Err-put-clause-had
 returns-in-Err-put-clause-had g c = λ tells cached maps has told i was now.
     let sought = c.args.sought.now in
-    let Q : ℕ → Type 0 = λ n. Had c.args.fates.now sought.entries.now (map (held_in g.V.View.held) c.args.seeds.now) sought.places.now (kind_of c.args.index.now) sought.id.0 n (cached ++ maps) in
+    let Q : ℕ → Type 0 = λ n. Had c.args.fates.now sought.entries.now (map (seed_held g.V.View.held) c.args.seeds.now) sought.places.now (kind_of c.args.index.now) sought.id.0 n (cached ++ maps) in
     let whole : length c.split_at_mut-chunk.result.0.now ≡ size_of c.args.index.now c.args.entry = c.split_at_mut-chunk.ensures.front_len ∙ c.entry.ensures.size in
     subst Q whole (c.in-Ok.ensures.had tells cached maps has told)
 
@@ -39,7 +39,7 @@ returns-in-Ok-put-clause-exactly g c = λ cached maps quiet.
     let q = c.args.sought.now in
     let m = c.args.fates.now in
     let faults = g.T.View.faults in
-    let from : ℕ → Fate = λ n. source_among (settled m) q.entries.now (map (held_in g.V.View.held) c.args.seeds.now) q.places.now (kind_of c.args.index.now) q.id.0 n cached maps in
+    let from : ℕ → Fate = λ n. source_among (settled m) q.entries.now (map (seed_held g.V.View.held) c.args.seeds.now) q.places.now (kind_of c.args.index.now) q.id.0 n cached maps in
     let size : ℕ = size_of c.args.index.now c.args.entry in
     let whole : length c.split_at_mut-chunk.result.0.now ≡ size = c.split_at_mut-chunk.ensures.front_len ∙ c.entry.ensures.size in
     let sooner = nothing_first g.S.Store.holds g.S.Store.faults g.V.View.held g.V.View.faults g.V.View.tells (faults c.args.target.now) (faults c.obtain.new.target) (faults c.put.new.target)
@@ -138,7 +138,7 @@ pub returns-in-Err-clause-exactly : goal.returns-in-Err-clause-exactly
 returns-in-Err-clause-exactly g c = λ cached maps quiet.
     let q = c.args.sought.now in
     let m = c.args.fates.now in
-    let from : ℕ → Fate = λ n. source_among (settled m) q.entries.now (map (held_in g.V.View.held) c.args.seeds.now) q.places.now (kind_of c.args.index.now) q.id.0 n cached maps in
+    let from : ℕ → Fate = λ n. source_among (settled m) q.entries.now (map (seed_held g.V.View.held) c.args.seeds.now) q.places.now (kind_of c.args.index.now) q.id.0 n cached maps in
     let size : ℕ = size_of c.args.index.now c.args.entry in
     let whole : length c.split_at_mut-chunk.result.0.now ≡ size = c.split_at_mut-chunk.ensures.front_len ∙ c.entry.ensures.size in
     let got = subst (λ (n : ℕ). ObtainedBy (from n) c.args.chain.now c.obtain.new.chain (Err c.in-Err.refused)) whole (c.in-Err.ensures.exactly cached maps quiet) in

@@ -1,6 +1,6 @@
 use Rattle.std.proofs.Common.{◌≡◌, IfSome, ap, subst, ◌∙◌, arith}
 use Rattle.buzhash_cut.proofs.Joins.{if_both, entries_more, many_next}
-use Rattle.buzhash_cut.specs.Entries.{IsChunk}
+use Rattle.buzhash_cut.specs.Entries.{IsCutEntry}
 use Rattle.chunk_ends.specs.Sizes.{Sizes}
 use Rattle.buzhash_cut.specs.Slicing.{IsWithin, HasRead}
 use Rattle.caibx_codec.specs.Seen.{pair, pairs}
@@ -14,12 +14,12 @@ loop-at-preserved g c =
     let told = (g.V.View.held c.args.view.now).bytes in
     let r = c.loop-at.slicer in
     let e = pair c.in-Ok.entry in
-    let got : IfSome told (λ t. HasRead r t → IsChunk r.cutter.sizes t c.loop-at.at e) =
-    subst (λ (h : Held). IfSome h.bytes (λ t. HasRead r t → IsChunk r.cutter.sizes t c.loop-at.at e)) inv.held c.in-Ok.ensures.chunk in
+    let got : IfSome told (λ t. HasRead r t → IsCutEntry r.cutter.sizes t c.loop-at.at e) =
+    subst (λ (h : Held). IfSome h.bytes (λ t. HasRead r t → IsCutEntry r.cutter.sizes t c.loop-at.at e)) inv.held c.in-Ok.ensures.chunk in
     let on : IfSome told (λ t. HasRead r t → HasRead c.next.new.self t) =
     subst (λ (h : Held). IfSome h.bytes (λ t. HasRead r t → HasRead c.next.new.self t)) inv.held c.in-Ok.ensures.read in
-    let chunk : IfSome told (λ t. IsChunk s t c.loop-at.at e) =
-    if_both told _ _ _ inv.read got (λ t h f. subst (λ (z : Sizes). IsChunk z t c.loop-at.at e) inv.sizes (f h)) in
+    let chunk : IfSome told (λ t. IsCutEntry s t c.loop-at.at e) =
+    if_both told _ _ _ inv.read got (λ t h f. subst (λ (z : Sizes). IsCutEntry z t c.loop-at.at e) inv.sizes (f h)) in
     let size : (g.V.View.held c.loop-at.view).size ≡ (g.V.View.held c.args.view.now).size = ap (λ (h : Held). h.size) inv.held in
     let most : r.cutter.sizes.greatest ≡ s.greatest = ap (λ (z : Sizes). z.greatest) inv.sizes in
     let end = c.in-Ok.ensures.end in
@@ -43,8 +43,8 @@ returns-in-Err-clause-many g c = λ is all.
     let told = (g.V.View.held c.args.view.now).bytes in
     let r = c.loop-at.slicer in
     let e = pair c.in-Ok.entry in
-    let got : IfSome told (λ t. HasRead r t → IsChunk r.cutter.sizes t c.loop-at.at e) =
-    subst (λ (h : Held). IfSome h.bytes (λ t. HasRead r t → IsChunk r.cutter.sizes t c.loop-at.at e)) inv.held c.in-Ok.ensures.chunk in
-    let chunk : IfSome told (λ t. IsChunk s t c.loop-at.at e) =
-    if_both told _ _ _ inv.read got (λ t h f. subst (λ (z : Sizes). IsChunk z t c.loop-at.at e) inv.sizes (f h)) in
+    let got : IfSome told (λ t. HasRead r t → IsCutEntry r.cutter.sizes t c.loop-at.at e) =
+    subst (λ (h : Held). IfSome h.bytes (λ t. HasRead r t → IsCutEntry r.cutter.sizes t c.loop-at.at e)) inv.held c.in-Ok.ensures.chunk in
+    let chunk : IfSome told (λ t. IsCutEntry s t c.loop-at.at e) =
+    if_both told _ _ _ inv.read got (λ t h f. subst (λ (z : Sizes). IsCutEntry z t c.loop-at.at e) inv.sizes (f h)) in
     if_both told _ _ _ (inv.chunks 0 all).chunks chunk (λ t p is_chunk. many_next s t c.loop-at.at (pairs c.loop-at.entries.items) e p is_chunk (c.in-Err.ensures.many is))

@@ -9,7 +9,7 @@ use Rattle.dsy_base.specs.Maps.{Map}
 use Rattle.store_chain.proofs.Kept.{kept_still}
 use Rattle.store_chain.specs.Giving.{GivesFirst}
 use Rattle.store_chain.specs.Refusals.{GivenBy}
-use Rattle.store_chain.specs.Wants.{IsWanted, want_of}
+use Rattle.store_chain.specs.Queries.{IsWanted, query_of}
 use Rattle.cache_store.proofs.cached.obtain_through.Goals as goal
 
 pub returns-in_err-n-clause-stores : goal.returns-in_err-n-clause-stores
@@ -23,11 +23,11 @@ returns-clause-ends g c =
     let old : Shelf = shelf_of g.F.Look.files g.F.Look.place g.F.Look.faults c.args.shelf.now in
     let mid : Shelf = shelf_of g.F.Look.files g.F.Look.place g.F.Look.faults c.find_first.new.shelf in
     let new : Shelf = shelf_of g.F.Look.files g.F.Look.place g.F.Look.faults c.keep-kept.new.shelf in
-    let P : DigestKind → Type 0 = λ k. Unfound (want_of k c.args.id.now c.args.size (length c.args.out.now)) old mid in
+    let P : DigestKind → Type 0 = λ k. Unfound (query_of k c.args.id.now c.args.size (length c.args.out.now)) old mid in
     let Q : List ℕ → Type 0 = λ b. AddedTo c.args.id.now.0 b c.keep-kept.result old new in
     let b : List ℕ = take c.in_ok-n-2.n c.obtain.new.out in
-    let G : ℕ → Type 0 = λ n. GivenBy g.S.Store.said g.S.Store.faults g.S.Store.may_lack_memory (want_of c.args.chain.now.kind c.args.id.now c.args.size n) b c.args.chain.now.stores c.obtain.new.self.stores in
-    let O : ℕ → List (Map (List ℕ)) → Type 0 = λ n maps. GivesFirst g.S.Store.may_lack_memory (want_of c.args.chain.now.kind c.args.id.now c.args.size n) maps b in
+    let G : ℕ → Type 0 = λ n. GivenBy g.S.Store.said g.S.Store.faults g.S.Store.may_lack_memory (query_of c.args.chain.now.kind c.args.id.now c.args.size n) b c.args.chain.now.stores c.obtain.new.self.stores in
+    let O : ℕ → List (Map (List ℕ)) → Type 0 = λ n maps. GivesFirst g.S.Store.may_lack_memory (query_of c.args.chain.now.kind c.args.id.now c.args.size n) maps b in
     inr (record {
       unfound = unfound_on _ old mid new c.keep-kept.ensures.stocks.never_falls (subst P c.requires.kind (c.in_ok-n.ensures.absent (ap Ok c.in_default.is)));
       added = (refl, subst Q c.split_at.ensures.front (added_from c.args.id.now.0 c.split_at.result.0.now c.keep-kept.result old mid new c.find_first.ensures.kept.files c.find_first.ensures.kept.never_falls c.keep-kept.ensures.added));
@@ -47,7 +47,7 @@ returns-clause-stocks g c =
     let mid : Shelf = shelf_of g.F.Look.files g.F.Look.place g.F.Look.faults c.find_first.new.shelf in
     let new : Shelf = shelf_of g.F.Look.files g.F.Look.place g.F.Look.faults c.keep-kept.new.shelf in
     let b : List ℕ = take c.in_ok-n-2.n c.obtain.new.out in
-    let W : ℕ → Type 0 = λ n. IsWanted (want_of c.args.chain.now.kind c.args.id.now c.args.size n) b in
+    let W : ℕ → Type 0 = λ n. IsWanted (query_of c.args.chain.now.kind c.args.id.now c.args.size n) b in
     let given = c.in_ok-n-2.ensures.ok in
     stocks_on _ old mid new (stocks_looked _ old mid c.find_first.ensures.kept) (stocks_weaker (λ q x. (q ≡ c.args.id.now.0) × (x ≡ c.split_at.result.0.now)) _
     (added_wanted g.S.Store.holds _ c.args.id.now.0 c.split_at.result.0.now b c.args.chain.now.stores c.split_at.ensures.front (subst W c.find_first.auto.out given.wanted) c.in_ok-n-2.ensures.had) mid new c.keep-kept.ensures.stocks)

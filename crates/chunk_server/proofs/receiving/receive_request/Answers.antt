@@ -1,6 +1,6 @@
 use Rattle.std.proofs.Common.{ℕ, ◌≤◌, List, ◌++◌, length, ap, subst, ◌∙◌, arith, length-drop}
 use Rattle.http_frames.specs.HeadEnd.{IsFirstEnd}
-use Rattle.chunk_server.specs.Requests.{IsHead, head_limit}
+use Rattle.chunk_server.specs.Requests.{IsRequestHead, head_limit}
 use Rattle.chunk_server.proofs.Nexts.{endless_next, whole_next}
 use Rattle.chunk_server.proofs.Streaming.{sent_same}
 use Rattle.chunk_server.proofs.receiving.receive_request.Goals as goal
@@ -25,6 +25,6 @@ returns-in-Ok-Some-clause-found g c =
     let found = rw c.in-Ok-Ends.field-0-is at c.in-Ok-Ends.ensures.found in
     let has = rw c.in-Ok-Some.field-0-is at c.in-Ok-Some.ensures.found in
     let near : c.in-Ok-Ends.head ≤ head_limit = omega (arith, inside, c.receive_head.ensures.size) in
-    let says = subst (λ (w : List ℕ). (more : List ℕ) → IsFirstEnd (w ++ more) c.in-Ok-Ends.head → IsHead c.args.writable (w ++ more) c.in-Ok-Ends.head c.read_head-request.result) c.as_slice.ensures.value c.read_head-request.ensures.says in
+    let says = subst (λ (w : List ℕ). (more : List ℕ) → IsFirstEnd (w ++ more) c.in-Ok-Ends.head → IsRequestHead c.args.writable (w ++ more) c.in-Ok-Ends.head c.read_head-request.result) c.as_slice.ensures.value c.read_head-request.ensures.says in
     whole_next c.args.writable c.receive_head.new.waiting.items c.skip-2.new.waiting.items (g.K.Link.state c.receive_head.new.link).traffic _ _ c.in-Ok-Ends.head c.body_size.result c.read_head-request.result c.in-Ok-Some.body.items
     c.in-Ok-Ends.ensures.ok inside near found says c.skip-2.ensures c.body_size.ensures has

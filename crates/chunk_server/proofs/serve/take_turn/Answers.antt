@@ -1,7 +1,7 @@
 use Rattle.std.proofs.Common.{◌≡◌, Bool, true, false, Ok, ◌++◌, take, refl, ap, subst}
 use Rattle.std.specs.Prelude.{not, IfSome}
 use Rattle.http_wire.specs.ReplyText.{reply_head}
-use Rattle.chunk_server.specs.Requests.{HasNone, asked_in}
+use Rattle.chunk_server.specs.Requests.{HasNone, asked_of}
 use Rattle.chunk_server.specs.Shelves.{answer_in}
 use Rattle.chunk_server.specs.Streams.{stream_in}
 use Rattle.chunk_server.proofs.Nexts.{ComesFirst}
@@ -35,7 +35,7 @@ pub returns-in-Err-answer-clause-lacking : goal.returns-in-Err-answer-clause-lac
 returns-in-Err-answer-clause-lacking g c = λ h.
     let a = stream_in c.args.waiting.now.items (g.K.Link.state c.args.link.now).traffic in
     let b = stream_in c.receive_request.new.waiting.items (g.K.Link.state c.receive_request.new.link).traffic in
-    let q = asked_in c.in-Ok-Some.received in
+    let q = asked_of c.in-Ok-Some.received in
     let found = rw c.in-Ok-Some.field-0-is at c.in-Ok-Some.ensures.found in
     turn_unanswered (g.H.Shelf.digest c.args.shelf.now) g.H.Shelf.may (g.H.Shelf.takes c.args.shelf.now) q a b (g.H.Shelf.state c.args.shelf.now) (g.H.Shelf.state c.answer.new.shelf)
     (subst (λ (w : Bool). ComesFirst w q a b) c.writable.ensures found) c.in-Err-answer.ensures.err
@@ -44,7 +44,7 @@ pub returns-in-Ok-send_reply-clause-open : goal.returns-in-Ok-send_reply-clause-
 returns-in-Ok-send_reply-clause-open g c = λ h.
     let a = stream_in c.args.waiting.now.items (g.K.Link.state c.args.link.now).traffic in
     let b = stream_in c.receive_request.new.waiting.items (g.K.Link.state c.receive_request.new.link).traffic in
-    let q = asked_in c.in-Ok-Some.received in
+    let q = asked_of c.in-Ok-Some.received in
     let close = c.in-Ok-Some.received.request.close in
     let bytes = reply_head c.in-Ok.reply.status c.in-Ok.reply.length close ++ c.in-Ok.reply.body.items in
     let found = rw c.in-Ok-Some.field-0-is at c.in-Ok-Some.ensures.found in
@@ -57,7 +57,7 @@ pub returns-in-Ok-send_reply-clause-closed : goal.returns-in-Ok-send_reply-claus
 returns-in-Ok-send_reply-clause-closed g c = λ h.
     let a = stream_in c.args.waiting.now.items (g.K.Link.state c.args.link.now).traffic in
     let b = stream_in c.receive_request.new.waiting.items (g.K.Link.state c.receive_request.new.link).traffic in
-    let q = asked_in c.in-Ok-Some.received in
+    let q = asked_of c.in-Ok-Some.received in
     let close = c.in-Ok-Some.received.request.close in
     let bytes = reply_head c.in-Ok.reply.status c.in-Ok.reply.length close ++ c.in-Ok.reply.body.items in
     let found = rw c.in-Ok-Some.field-0-is at c.in-Ok-Some.ensures.found in
@@ -70,7 +70,7 @@ pub returns-clause-cut : goal.returns-clause-cut
 returns-clause-cut g c = λ h.
     let a = stream_in c.args.waiting.now.items (g.K.Link.state c.args.link.now).traffic in
     let b = stream_in c.receive_request.new.waiting.items (g.K.Link.state c.receive_request.new.link).traffic in
-    let q = asked_in c.in-Ok-Some.received in
+    let q = asked_of c.in-Ok-Some.received in
     let bytes = reply_head c.in-Ok.reply.status c.in-Ok.reply.length c.in-Ok-Some.received.request.close ++ c.in-Ok.reply.body.items in
     let found = rw c.in-Ok-Some.field-0-is at c.in-Ok-Some.ensures.found in
     let n = c.in-Err-send_reply.ensures.err.0 in
@@ -82,7 +82,7 @@ pub returns-clause-lacking : goal.returns-clause-lacking
 returns-clause-lacking g c = λ h.
     let a = stream_in c.args.waiting.now.items (g.K.Link.state c.args.link.now).traffic in
     let b = stream_in c.receive_request.new.waiting.items (g.K.Link.state c.receive_request.new.link).traffic in
-    let q = asked_in c.in-Ok-Some.received in
+    let q = asked_of c.in-Ok-Some.received in
     let bytes = reply_head c.in-Ok.reply.status c.in-Ok.reply.length c.in-Ok-Some.received.request.close ++ c.in-Ok.reply.body.items in
     let found = rw c.in-Ok-Some.field-0-is at c.in-Ok-Some.ensures.found in
     let n = c.in-Err-send_reply.ensures.err.0 in

@@ -10,7 +10,7 @@ use Rattle.chunk_sources.specs.Caches.{CacheFailed, CacheLacks, Stocked, TakesCh
 use Rattle.chunk_sources.specs.Economy.{ObtainedBy, source_behind}
 use Rattle.chunk_sources.specs.Losses.{RefusedBy, chunk_of}
 use Rattle.chunk_store.specs.Names.{name_of}
-use Rattle.extract_plan.specs.Seeds.{faults_in, held_in}
+use Rattle.extract_plan.specs.Seeds.{faults_in, seed_held}
 use Rattle.range_survey.specs.Fates.{settled}
 use Rattle.store_chain.proofs.Kept.{kept_still}
 use Rattle.chunk_sources.proofs.obtain.obtain.Given.{Over}
@@ -38,13 +38,13 @@ pub returns-then-copy-clause-exactly : goal.returns-then-copy-clause-exactly
 returns-then-copy-clause-exactly g c = λ cached maps quiet.
     let q = c.args.sought.now in
     let found = c.copy.ensures.found c.if-copy.true in
-    by_copy (settled c.args.fates.now) q.entries.now (map (held_in g.V.View.held) c.args.seeds.now) q.places.now (kind_of c.args.index.now) q.id.0 (length c.args.chunk.now) cached maps
+    by_copy (settled c.args.fates.now) q.entries.now (map (seed_held g.V.View.held) c.args.seeds.now) q.places.now (kind_of c.args.index.now) q.id.0 (length c.args.chunk.now) cached maps
     c.args.chain.now c.args.chain.now c.requires.asks refl found.0 found.1 found.2
 
 pub returns-then-from_seeds-clause-exactly : goal.returns-then-from_seeds-clause-exactly
 returns-then-from_seeds-clause-exactly g c = λ cached maps quiet.
     let q = c.args.sought.now in
-    by_seed (settled c.args.fates.now) q.entries.now (map (held_in g.V.View.held) c.args.seeds.now) q.places.now (kind_of c.args.index.now) q.id.0 (length c.args.chunk.now) cached maps
+    by_seed (settled c.args.fates.now) q.entries.now (map (seed_held g.V.View.held) c.args.seeds.now) q.places.now (kind_of c.args.index.now) q.id.0 (length c.args.chunk.now) cached maps
     c.args.chain.now c.args.chain.now
     (λ i among is. quiet_never (g.T.View.faults c.args.target.now) (g.T.View.faults c.copy.new.target) quiet.target (c.copy.ensures.absent c.if-copy.false i among is))
     c.requires.asks refl (c.from_seeds.ensures.found c.if-from_seeds.true quiet.telling)
@@ -100,7 +100,7 @@ returns-clause-asked g c =
 pub returns-clause-exactly : goal.returns-clause-exactly
 returns-clause-exactly g c = λ cached maps quiet.
     let q = c.args.sought.now in
-    let views = map (held_in g.V.View.held) c.args.seeds.now in
+    let views = map (seed_held g.V.View.held) c.args.seeds.now in
     let counts = map (faults_in g.V.View.faults) in
     let size : length c.from_seeds.new.chunk ≡ length c.args.chunk.now = omega (arith, c.from_seeds.auto.chunk, c.copy.auto.chunk) in
     by_rest (settled c.args.fates.now) q.entries.now views q.places.now (kind_of c.args.index.now) q.id.0 (length c.args.chunk.now) cached maps

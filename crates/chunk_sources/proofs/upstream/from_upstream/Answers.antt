@@ -12,7 +12,7 @@ use Rattle.chunk_sources.specs.Losses.{chunk_of}
 use Rattle.chunk_store.specs.declared.id.DigestKind.{DigestKind}
 use Rattle.dsy_base.specs.Counts.{Quiet}
 use Rattle.store_chain.specs.Chains.{AsksOnce}
-use Rattle.store_chain.specs.Wants.{IsWanted}
+use Rattle.store_chain.specs.Queries.{IsWanted}
 use Rattle.chunk_sources.proofs.upstream.from_upstream.Given.{Over}
 use Rattle.chunk_sources.proofs.upstream.from_upstream.Goals as goal
 

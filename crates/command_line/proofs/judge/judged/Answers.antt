@@ -2,7 +2,7 @@ use Rattle.std.proofs.Common.{Vec, Global, ◌≡◌, ◌<◌, ◌++◌, List, �
 use Rattle.std.proofs.lemmas.Bool.{cond-true}
 use Rattle.std.proofs.lemmas.List.{length-map, length_push, take_all}
 use Rattle.command_line.proofs.Judged.{Pass, roles_more, judged_here, pass_more, refused_here, lacks_value, has_all}
-use Rattle.command_line.specs.Judging.{Refuses, AnswersBy, judged}
+use Rattle.command_line.specs.Judging.{RefusesWords, AnswersBy, judged}
 use Rattle.command_words.specs.Roles.{awaited, role_of, roles_of}
 use Rattle.command_words.specs.declared.roles.Role.{Role}
 use Rattle.command_words.specs.declared.usage.UsageWhy.TheVariants as why
@@ -15,7 +15,7 @@ returns-in-Err-clause-exactly c =
     let lt : c.loop-i.i < length bytes = omega (arith, c.loop-i-test.true, length-map c.args.words.now string_bytes) in
     let e = judged_here c.args.kind bytes c.loop-i.i _ _ _ (c.as_slice-before.ensures.value ∙ c.loop-i.invariant.0) c.role_of-role.ensures c.word-word.ensures in
     subst (λ f. AnswersBy {T = Vec Role Global} (λ v. v.items) (judged c.args.kind bytes) (Err f)) (sym c.fault_at.ensures)
-    (refused_here {T = Vec Role Global} (λ v. v.items) c.args.kind bytes c.loop-i.i c.in-Err.refusal lt c.loop-i.invariant.1 (subst (λ r. Refuses r (Err c.in-Err.refusal)) e c.in-Err.ensures))
+    (refused_here {T = Vec Role Global} (λ v. v.items) c.args.kind bytes c.loop-i.i c.in-Err.refusal lt c.loop-i.invariant.1 (subst (λ r. RefusesWords r (Err c.in-Err.refusal)) e c.in-Err.ensures))
 
 pub loop-i-preserved : goal.loop-i-preserved
 loop-i-preserved c =

@@ -2,7 +2,7 @@ use Rattle.std.proofs.Common.{subst, ◌∙◌, ℕ, ◌+◌, ◌≤◌, List, a
 use Rattle.std.proofs.lemmas.Result.{IfErr-weaker, on_ok_weaker}
 use Rattle.command_steps.proofs.SeedsRead.{all_more, none_more}
 use Rattle.command_steps.proofs.seeds.+read_each.Goals as goal
-use Rattle.command_steps.specs.Openings.{Listed}
+use Rattle.command_steps.specs.InputFiles.{Listed}
 use Rattle.command_steps.specs.Seeds.{NoneListed}
 use Rattle.extract_plan.specs.Places.{seed_item_limit}
 
@@ -11,14 +11,14 @@ returns-clause-ok g t c =
     let at = g.F.Files.disk in
     let listed = subst (λ (q : List ℕ). Listed (at c.args.files.now) q c.in_ok-index.index) (c.in-Ok.ensures ∙ c.as_str.ensures) c.in_ok-index.ensures.ok in
     rw c.in-Some.ensures.cases.0 (on_ok_weaker c.read_each.result
-    (all_more (at c.args.files.now) (at c.read_index.new.files) c.in_ok-index.ensures.kept c.in-Some.first.now c.in-Some.rest.now c.in_ok-index.index c.args.items c.count.result seed_item_limit c.args.indexes.now.items c.push.new.self.items c.read_each.new.indexes.items
+    (all_more (at c.args.files.now) (at c.load_index.new.files) c.in_ok-index.ensures.kept c.in-Some.first.now c.in-Some.rest.now c.in_ok-index.index c.args.items c.count.result seed_item_limit c.args.indexes.now.items c.push.new.self.items c.read_each.new.indexes.items
     listed c.count.ensures c.in-Ok-push.ensures.items) c.read_each.ensures.ok)
 
 pub returns-clause-err : goal.returns-clause-err
 returns-clause-err g t c =
     let at = g.F.Files.disk in
     let d = at c.args.files.now in
-    let b = at c.read_index.new.files in
+    let b = at c.load_index.new.files in
     let e = at c.read_each.new.files in
     let k = c.count.result in
     let rest = c.in-Some.rest.now in

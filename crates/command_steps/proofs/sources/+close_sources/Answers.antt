@@ -1,13 +1,13 @@
 use Rattle.std.proofs.Common.{map, rules}
 use Rattle.command_steps.proofs.Consulted.{consults_more}
 use Rattle.command_steps.proofs.Given.{given_more, known_later, last_at, last_known}
-use Rattle.command_steps.specs.AnySources.{location_in}
+use Rattle.command_steps.specs.AnyStores.{location_in}
 use Rattle.command_steps.specs.Sources.{sources}
 use Rattle.command_steps.proofs.sources.+close_sources.Goals as goal
 use Rattle.std.proofs.Common.{◌∙◌, ap, sym}
 use Rattle.std.proofs.lemmas.List.Sums.{fold_push}
 use Rattle.std.specs.List.{fold}
-use Rattle.command_steps.specs.AnySources.{with_those}
+use Rattle.command_steps.specs.AnyStores.{with_those}
 
 pub close_sources-requires : goal.close_sources-requires
 close_sources-requires g t c =

@@ -1,7 +1,7 @@
 use Rattle.std.proofs.Common.{rules}
 use Rattle.command_steps.proofs.Consulted.{reads_twice}
 use Rattle.command_steps.proofs.Given.{all_later, last_known}
-use Rattle.command_steps.specs.AnySources.{location_in}
+use Rattle.command_steps.specs.AnyStores.{location_in}
 use Rattle.command_steps.proofs.sources.+drop_sources.Goals as goal
 
 pub drop_unasked-requires : goal.drop_unasked-requires

@@ -1,6 +1,6 @@
 use Rattle.std.proofs.Common.{◌∙◌, ℕ, List, Option, subst}
 use Rattle.std.proofs.lemmas.Result.{err_from_is_err_and}
-use Rattle.command_steps.specs.AnySources.{faults_in, files_in, location_in}
+use Rattle.command_steps.specs.AnyStores.{source_faults, source_files, location_in}
 use Rattle.command_steps.specs.Sources.{OpensSources}
 use Rattle.command_steps.proofs.OpenedSources.{unreached_after}
 use Rattle.command_steps.proofs.sources.+open_each.Goals as goal
@@ -10,16 +10,16 @@ pub returns-in_err-open_each-clause-err : goal.returns-in_err-open_each-clause-e
 returns-in_err-open_each-clause-err g t c =
     let at = g.F.Files.disk in
     let p = err_from_is_err_and c.from_residual-in_err-open_each.result c.from_residual-in_err-open_each.ensures.1 in
-    let h = unreached_after (files_in g.F.Look.Look.files) (location_in g.F.Look.Look.place) (faults_in g.F.Look.Look.faults g.D.Dial.state) (at c.args.files.now) (at c.open.new.files) (at c.keep.new.files) (at c.open_each.new.files) c.in_ok-store.ensures.kept c.in_ok-keep.ensures.kept
+    let h = unreached_after (source_files g.F.Look.Look.files) (location_in g.F.Look.Look.place) (source_faults g.F.Look.Look.faults g.D.Dial.state) (at c.args.files.now) (at c.open.new.files) (at c.keep.new.files) (at c.open_each.new.files) c.in_ok-store.ensures.kept c.in_ok-keep.ensures.kept
     c.in-Some.first.now c.in-Some.rest.now c.in_ok-store.store c.in_err-open_each.field-0.0 c.in_ok-store.ensures.ok c.in_err-open_each.ensures.err in
     rw (p.1, p.2) (rw c.in-Some.ensures.cases.0 h)
 
 pub returns-clause-ok : goal.returns-clause-ok
 returns-clause-ok g t c =
     let same = c.in_ok-keep.ensures.kept.folders ∙ c.in_ok-store.ensures.kept.folders in
-    let files = files_in g.F.Look.Look.files in
+    let files = source_files g.F.Look.Look.files in
     let location = location_in g.F.Look.Look.place in
-    let faults = faults_in g.F.Look.Look.faults g.D.Dial.state in
+    let faults = source_faults g.F.Look.Look.faults g.D.Dial.state in
     let rest = subst (λ (f : Option (Map (Map (List ℕ)))). OpensSources files location faults f c.in-Some.rest.now c.keep.new.stores.items c.open_each.new.stores.items) same c.in_ok-open_each.ensures.ok in
     let opens = subst (λ l. OpensSources files location faults (g.F.Files.disk c.args.files.now).folders c.in-Some.rest.now l c.open_each.new.stores.items) c.in_ok-keep.ensures.ok rest in
     rw c.in-Some.ensures.cases.0 (c.in_ok-store.store, c.in_ok-store.ensures.ok, opens)

@@ -1,14 +1,14 @@
 use Rattle.std.proofs.Common.{◌&&◌, ◌∙◌, ap, false, subst, sym, true, IsTrue}
 use Rattle.command_steps.proofs.Consulted.{reads_none}
 use Rattle.command_steps.proofs.Dialed.{joined, joined_dials}
-use Rattle.command_steps.specs.AnySources.{IsGiven, location_in}
+use Rattle.command_steps.specs.AnyStores.{IsGiven, location_in}
 use Rattle.command_steps.specs.Sources.{sources}
 use Rattle.command_steps.specs.Stores.{is_folder}
 use Rattle.command_steps.proofs.sources.close.Goals as goal
 use Rattle.dsy_base.specs.Counts.{raised}
 use Rattle.dsy_base.specs.Links.{with_all}
 use Rattle.std.proofs.Common.{◌≡◌}
-use Rattle.command_steps.specs.AnySources.{with_those}
+use Rattle.command_steps.specs.AnyStores.{with_those}
 
 pub returns-in-Http-clause-kept : goal.returns-in-Http-clause-kept
 returns-in-Http-clause-kept g c =

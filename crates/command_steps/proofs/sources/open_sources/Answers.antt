@@ -1,28 +1,28 @@
 use Rattle.std.proofs.Common.{All, List, subst}
-use Rattle.command_steps.specs.AnySources.{IsKnown, faults_in, files_in, location_in}
+use Rattle.command_steps.specs.AnyStores.{IsKnown, source_faults, source_files, location_in}
 use Rattle.command_words.specs.declared.command.Location.{Location}
 use Rattle.command_steps.proofs.OpenedSources.{first_longer, found_all, fresh_all, located_all, there_all}
 use Rattle.command_steps.proofs.sources.open_sources.Goals as goal
 
 pub returns-in-Ok-clause-there : goal.returns-in-Ok-clause-there
 returns-in-Ok-clause-there g c =
-    there_all (files_in g.F.Look.Look.files) (location_in g.F.Look.Look.place) (faults_in g.F.Look.Look.faults g.D.Dial.state) (g.F.Files.disk c.args.files.now).folders c.args.names.now c.new-stores.result.items c.open_each.new.stores.items c.in-Ok.ensures.ok
+    there_all (source_files g.F.Look.Look.files) (location_in g.F.Look.Look.place) (source_faults g.F.Look.Look.faults g.D.Dial.state) (g.F.Files.disk c.args.files.now).folders c.args.names.now c.new-stores.result.items c.open_each.new.stores.items c.in-Ok.ensures.ok
 
 pub returns-in-Ok-clause-found : goal.returns-in-Ok-clause-found
 returns-in-Ok-clause-found g c =
-    found_all (files_in g.F.Look.Look.files) (location_in g.F.Look.Look.place) (faults_in g.F.Look.Look.faults g.D.Dial.state) (g.F.Files.disk c.args.files.now).folders c.args.names.now c.new-stores.result.items c.open_each.new.stores.items c.new-stores.ensures.items c.in-Ok.ensures.ok
+    found_all (source_files g.F.Look.Look.files) (location_in g.F.Look.Look.place) (source_faults g.F.Look.Look.faults g.D.Dial.state) (g.F.Files.disk c.args.files.now).folders c.args.names.now c.new-stores.result.items c.open_each.new.stores.items c.new-stores.ensures.items c.in-Ok.ensures.ok
 
 pub returns-in-Ok-clause-located : goal.returns-in-Ok-clause-located
 returns-in-Ok-clause-located g c =
-    located_all (files_in g.F.Look.Look.files) (location_in g.F.Look.Look.place) (faults_in g.F.Look.Look.faults g.D.Dial.state) (g.F.Files.disk c.args.files.now).folders c.args.names.now c.new-stores.result.items c.open_each.new.stores.items c.new-stores.ensures.items c.in-Ok.ensures.ok
+    located_all (source_files g.F.Look.Look.files) (location_in g.F.Look.Look.place) (source_faults g.F.Look.Look.faults g.D.Dial.state) (g.F.Files.disk c.args.files.now).folders c.args.names.now c.new-stores.result.items c.open_each.new.stores.items c.new-stores.ensures.items c.in-Ok.ensures.ok
 
 pub returns-in-Ok-clause-fresh : goal.returns-in-Ok-clause-fresh
 returns-in-Ok-clause-fresh g c =
-    fresh_all (files_in g.F.Look.Look.files) (location_in g.F.Look.Look.place) (faults_in g.F.Look.Look.faults g.D.Dial.state) (g.F.Files.disk c.args.files.now).folders c.args.names.now c.new-stores.result.items c.open_each.new.stores.items c.new-stores.ensures.items c.in-Ok.ensures.ok
+    fresh_all (source_files g.F.Look.Look.files) (location_in g.F.Look.Look.place) (source_faults g.F.Look.Look.faults g.D.Dial.state) (g.F.Files.disk c.args.files.now).folders c.args.names.now c.new-stores.result.items c.open_each.new.stores.items c.new-stores.ensures.items c.in-Ok.ensures.ok
 
 pub returns-in-Ok-clause-known : goal.returns-in-Ok-clause-known
 returns-in-Ok-clause-known g c =
-    let located = located_all (files_in g.F.Look.Look.files) (location_in g.F.Look.Look.place) (faults_in g.F.Look.Look.faults g.D.Dial.state) (g.F.Files.disk c.args.files.now).folders c.args.names.now c.new-stores.result.items c.open_each.new.stores.items c.new-stores.ensures.items c.in-Ok.ensures.ok in
+    let located = located_all (source_files g.F.Look.Look.files) (location_in g.F.Look.Look.place) (source_faults g.F.Look.Look.faults g.D.Dial.state) (g.F.Files.disk c.args.files.now).folders c.args.names.now c.new-stores.result.items c.open_each.new.stores.items c.new-stores.ensures.items c.in-Ok.ensures.ok in
     subst (λ (l : List Location). All (IsKnown (g.F.Files.disk c.open_each.new.files).folder_counts) l) located c.in-Ok.ensures.known
 
 pub returns-in-Err-clause-err : goal.returns-in-Err-clause-err

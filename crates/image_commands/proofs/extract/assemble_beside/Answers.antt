@@ -4,7 +4,7 @@ use Rattle.cache_store.specs.Shelves.{Shelf, Shelved}
 use Rattle.chunk_sources.specs.Caches.{seen}
 use Rattle.command_steps.specs.Cache.{with_cache}
 use Rattle.image_commands.proofs.extract.assemble_beside.Given.{Over}
-use Rattle.command_steps.specs.AnySources.{location_in}
+use Rattle.command_steps.specs.AnyStores.{location_in}
 use Rattle.command_steps.specs.Seeds.{image_name}
 use Rattle.command_steps.specs.Sources.{NotAsking, sources}
 use Rattle.command_worlds.specs.Worlds.{world}

@@ -18,10 +18,10 @@ use Rattle.command_steps.proofs.Dialed.{dials_none}
 use Rattle.command_steps.proofs.Given.{all_later, all_stand, folders_quiet, given_earlier, given_longer, stand_still}
 use Rattle.command_steps.proofs.Lent.{each_quiet, store_rose}
 use Rattle.command_steps.proofs.Numbers.{counted_known, counted_le, given_quiet, given_rose, rose_later, rose_longer, rose_not_quiet}
-use Rattle.command_steps.specs.AnySources.{IsGiven, IsKnown, chunks_in, faults_in, files_in, location_in, place_in, said_in}
-use Rattle.command_steps.specs.Sources.{sources, told_at}
+use Rattle.command_steps.specs.AnyStores.{IsGiven, IsKnown, chunks_in, source_faults, source_files, location_in, place_in, said_in}
+use Rattle.command_steps.specs.Sources.{sources, location_files}
 use Rattle.command_steps.specs.Stores.{are_folders}
-use Rattle.command_steps.specs.declared.any_source.AnySource.{AnySource}
+use Rattle.command_steps.specs.declared.any_store.AnyStore.{AnyStore}
 use Rattle.command_steps.specs.Seeds.{IsViewed, image_name, label_in}
 use Rattle.command_worlds.specs.Worlds.{FileRose}
 use Rattle.image_commands.proofs.Assembled.{ExcusesAs, assembled, facts_of, given_excuses, had_of, not_taken_as, obtainable_of, same_before, stopped_before}
@@ -40,13 +40,13 @@ use Rattle.extract_plan.specs.Seeds as seeds
 use Rattle.assembler.specs.Assemblies.{SparedOver}
 use Rattle.command_steps.proofs.Asking.{each_got, few_each, none_dialed}
 use Rattle.command_steps.proofs.Lacked.{same_length}
-use Rattle.command_steps.specs.AnySources.{IsUnused, asked_in}
+use Rattle.command_steps.specs.AnyStores.{IsUnused, asked_in}
 use Rattle.command_steps.specs.Asking.{AsksFew, EachDialed}
 use Rattle.caibx_codec.specs.Listing.{size_of}
 use Rattle.extract_plan.specs.Deal.{first_of, want_id}
 use Rattle.http_wire.specs.declared.reply.Method.TheVariants as method
 use Rattle.image_commands.proofs.Spared.{cache_gives, of_told, spared_over}
-use Rattle.image_commands.specs.Extract.{IsSpared, twice_wanted}
+use Rattle.image_commands.specs.Extract.{IsSparedOnDisk, twice_wanted}
 
 -- what is seen of the cache
 abbrev see : (g : Over) → Option (Shelved g.row.F-Folder.Denot) → Option Shelf
@@ -100,7 +100,7 @@ returns-in_default-clause-kept g c =
     let read = c.in_default.ensures.kept in
     let gave = given_adds o b b1 c.give_cache.ensures.given in
     let closed = c.drop_sources.ensures.kept in
-    let files = files_in g.F.Look.Look.files in
+    let files = source_files g.F.Look.Look.files in
     let items = c.args.stores.items in
     let names = map (location_in g.F.Look.Look.place) items in
     let l = c.args.planned.now.index in
@@ -181,7 +181,7 @@ returns-in-Err-clause-kept g c =
     let closed = c.drop_sources-in-Err.ensures.kept in
     let ended = c.close_seeds.ensures.kept in
     let read = c.in-Ok.ensures.kept in
-    let files = files_in g.F.Look.Look.files in
+    let files = source_files g.F.Look.Look.files in
     let items = c.args.stores.items in
     let names = map (location_in g.F.Look.Look.place) items in
     let l = c.args.planned.now.index in
@@ -220,7 +220,7 @@ returns-clause-kept g c =
     let closed = c.close_sources.ensures.kept.0.disk in
     let ended = c.close_seeds-2.ensures.kept in
     let back = wrote_back b5 e _ _ c.give.ensures.counts in
-    let files = files_in g.F.Look.Look.files in
+    let files = source_files g.F.Look.Look.files in
     let holds = chunks_in g.F.Look.Look.files in
     let items = c.args.stores.items in
     let names = map (location_in g.F.Look.Look.place) items in
@@ -251,8 +251,8 @@ pub assemble-ended-requires-clause-places : goal.assemble-ended-requires-clause-
 assemble-ended-requires-clause-places g c =
     let view = g.F.View.View.held in
     let items = c.in-Ok.seeds.items in
-    let zipped = zipped_many (IsViewed (g.F.Files.disk c.args.files.now) (g.F.Files.disk c.open_seeds.new.files)) (map image_name c.args.seeds.now) (map (seeds.held_in view) items) c.in-Ok.ensures.found in
-    let many : length items ≡ length c.args.seeds.now = sym (length-map items (seeds.held_in view)) ∙ sym zipped ∙ length-map c.args.seeds.now image_name in
+    let zipped = zipped_many (IsViewed (g.F.Files.disk c.args.files.now) (g.F.Files.disk c.open_seeds.new.files)) (map image_name c.args.seeds.now) (map (seeds.seed_held view) items) c.in-Ok.ensures.found in
+    let many : length items ≡ length c.args.seeds.now = sym (length-map items (seeds.seed_held view)) ∙ sym zipped ∙ length-map c.args.seeds.now image_name in
     let same : length c.new-kit.result.seeds.items ≡ length c.args.seeds.now = ap (λ v. length v.items) c.new-kit.ensures.seeds ∙ many in
     let k = c.new-kit.result in
     let one = pushed c.args.kits.items c.push.new.self.items k c.push.result c.unwrap.result c.requires.room.0 c.unwrap.ensures c.push.ensures.items in (
@@ -321,7 +321,7 @@ close_seeds-requires-2 g c =
     let gave = given_adds (see g c.assemble-ended.result.cache) (at c.take.new.self) (at c.give_cache-2.new.files) c.give_cache-2.ensures.given in
     let later : (q : List ℕ) → IsSome (b.file_counts q) → IsSome (b3.file_counts q) = λ q known. c.close_sources.ensures.kept.0.disk.known q (gave.known q (counted_known b.file_counts (at c.take.new.self).file_counts _ c.in-Ok-take.ensures.counts.counts q known)) in
     let opened = all_known_later view b.file_counts b3.file_counts later c.in-Ok.seeds.items c.in-Ok.ensures.known in
-    let same : map (seeds.held_in view) c.new-kit.result.seeds.items ≡ map (seeds.held_in view) c.in-Ok.seeds.items = ap (λ v. map (seeds.held_in view) v.items) c.new-kit.ensures.seeds in
+    let same : map (seeds.seed_held view) c.new-kit.result.seeds.items ≡ map (seeds.seed_held view) c.in-Ok.seeds.items = ap (λ v. map (seeds.seed_held view) v.items) c.new-kit.ensures.seeds in
     record { known = same_known view b3.file_counts c.in-Ok.seeds.items c.swap_remove-kit.result.seeds.items ((c.assemble-ended.ensures.seeds.so k j one other).held ∙ same) opened }
 
 pub give-requires-clause-known : goal.give-requires-clause-known
@@ -353,7 +353,7 @@ returns-clause-assembled g c = λ p ls plan is.
     let held = g.F.Target.View.held in
     let view = g.F.View.View.held in
     let view_faults = g.F.View.View.faults in
-    let files = files_in g.F.Look.Look.files in
+    let files = source_files g.F.Look.Look.files in
     let at_place = g.F.Look.Look.place in
     let place = place_in at_place in
     let location = location_in at_place in
@@ -361,7 +361,7 @@ returns-clause-assembled g c = λ p ls plan is.
     let said = said_in g.F.Look.Look.files state in
     let k0 = state c.args.dial.now in
     let k1 = state c.close_sources.new.dial in
-    let faults = faults_in g.F.Look.Look.faults g.D.Dial.state in
+    let faults = source_faults g.F.Look.Look.faults g.D.Dial.state in
     let holds = chunks_in g.F.Look.Look.files in
     let q = c.args.target.now in
     let o : Into = record { name = q; fresh = c.args.fresh } in
@@ -379,7 +379,7 @@ returns-clause-assembled g c = λ p ls plan is.
     let x = c.args.planned.now.places in
     let z : Seeds = record { images = map image_name c.args.seeds.now; listings = ls } in
     let items = k.seeds.items in
-    let views = map (seeds.held_in view) items in
+    let views = map (seeds.seed_held view) items in
     let labels = map label_of views in
     let r = c.assemble-ended.result.answer in
     let over = c.assemble-ended.ensures in
@@ -396,9 +396,9 @@ returns-clause-assembled g c = λ p ls plan is.
     let f1 = g.F.Target.View.faults c.assemble-ended.result.target in
     let opens = c.in-Ok.ensures in
     let same : before ≡ c.args.stores.items = ap (λ k. k.stores) (c.new-kit.ensures.chain ∙ c.new.ensures.value) in
-    let found = subst (λ xs. IfSome d.folders (λ m. map files xs ≡ map (told_at m) (map location xs))) (sym same) c.requires.found in
+    let found = subst (λ xs. IfSome d.folders (λ m. map files xs ≡ map (location_files m) (map location xs))) (sym same) c.requires.found in
     let fresh_stores = subst (λ xs. map faults xs ≡ map {B = ℕ} (λ q. 0) (map location xs)) (sym same) c.requires.fresh in
-    let zip : AllZip (IsViewed d b) z.images views = subst (λ v. AllZip (IsViewed d b) z.images (map (seeds.held_in view) v.items)) (sym c.new-kit.ensures.seeds) opens.found in
+    let zip : AllZip (IsViewed d b) z.images views = subst (λ v. AllZip (IsViewed d b) z.images (map (seeds.seed_held view) v.items)) (sym c.new-kit.ensures.seeds) opens.found in
     let unfailed : map (seeds.faults_in view_faults) items ≡ map {B = ℕ} (λ s. 0) items = subst (λ v. map (seeds.faults_in view_faults) v.items ≡ map {B = ℕ} (λ s. 0) v.items) (sym c.new-kit.ensures.seeds) opens.fresh in
     let fresh_seeds : map (seeds.faults_in view_faults) items ≡ map {B = ℕ} (λ q. 0) labels = unfailed ∙ sym (zeros view items) in
     let lent = given_adds e1 b2 bc c.give_cache-2.ensures.given in
@@ -435,7 +435,7 @@ returns-clause-assembled g c = λ p ls plan is.
     let given_stores : All (IsGiven at_place g.F.Look.Look.faults state w v) after = λ n s lt.
     given_longer at_place g.F.Look.Look.faults state w (sources b3 k1) v counted_on dialed (dials_none k1) (slice_index_or after n s)
     (given_earlier at_place g.F.Look.Look.faults state w (sources bc k0) (sources b3 k1) opened (dials_none k0) dialed (slice_index_or after n s) (closed n s lt)) in
-    let located : (ys : List (AnySource g.row.F-Look.Denot g.row.D.Denot g.row.D-Link.Denot)) → map place ys ≡ map place before → map location ys ≡ names = λ ys placed. stand_still at_place before ys placed in
+    let located : (ys : List (AnyStore g.row.F-Look.Denot g.row.D.Denot g.row.D-Link.Denot)) → map place ys ≡ map place before → map location ys ≡ names = λ ys placed. stand_still at_place before ys placed in
     let after_at = located after stores.places in
     let stand = all_stand g.F.Look.Look.files at_place g.F.Look.Look.faults state w v after names after_at (held_after d.folders names files before after found stores.files) given_stores in
     let name = named g cache c.args.shelf c.requires.cache_named in
@@ -469,7 +469,7 @@ returns-clause-assembled g c = λ p ls plan is.
     (g.met.F.Target.View.told c.in-Ok-take.taken ∙ sym (g.met.F.Target.View.told c.assemble-ended.result.target))
     left rose excused over.bytes
     (λ m told n y. lacks_told holds files place location said faults _ view view_faults l p x w v names cache o z t0 f0 f1 k j e0 e1 stores located stand n
-    (λ fs told. held_maps files before fs (subst (λ o. IfSome o (λ m. map files before ≡ map (told_at m) names)) y found ∙ told)) rose m
+    (λ fs told. held_maps files before fs (subst (λ o. IfSome o (λ m. map files before ≡ map (location_files m) names)) y found ∙ told)) rose m
     (others_at holds files place location said faults _ view view_faults l p x w v names cache o z t0 f0 f1 k j e0 e1 b m told zip is later rises (cache_lacking d e e0 e1 cache l d'.folders name_now shelf_now shelf_rose)) (Rose f0 f1) r lost)
     (λ cached maps n. had (λ _. n.0) cached maps n.1 n.2) (λ cached maps n. exactly cached maps n.0 n.1) (λ cached maps n. after_all cached maps n.0 n.1)
     (λ m y fs looks cs shelved. (tells m y, shelved, held_maps files before fs looks))
@@ -563,7 +563,7 @@ returns-clause-asks g c = λ p ls plan is.
     let x = c.args.planned.now.places in
     let z : Seeds = record { images = map image_name c.args.seeds.now; listings = ls } in
     let items = k.seeds.items in
-    let views = map (seeds.held_in view) items in
+    let views = map (seeds.seed_held view) items in
     let labels = map label_of views in
     let over = c.assemble-ended.ensures in
     let stores = over.stores.so k j one other in
@@ -574,7 +574,7 @@ returns-clause-asks g c = λ p ls plan is.
     let f1 = g.F.Target.View.faults c.assemble-ended.result.target in
     let opens = c.in-Ok.ensures in
     let same : before ≡ c.args.stores.items = ap (λ k. k.stores) (c.new-kit.ensures.chain ∙ c.new.ensures.value) in
-    let zip : AllZip (IsViewed d b) z.images views = subst (λ v. AllZip (IsViewed d b) z.images (map (seeds.held_in view) v.items)) (sym c.new-kit.ensures.seeds) opens.found in
+    let zip : AllZip (IsViewed d b) z.images views = subst (λ v. AllZip (IsViewed d b) z.images (map (seeds.seed_held view) v.items)) (sym c.new-kit.ensures.seeds) opens.found in
     let unfailed : map (seeds.faults_in view_faults) items ≡ map {B = ℕ} (λ s. 0) items = subst (λ v. map (seeds.faults_in view_faults) v.items ≡ map {B = ℕ} (λ s. 0) v.items) (sym c.new-kit.ensures.seeds) opens.fresh in
     let fresh_seeds : map (seeds.faults_in view_faults) items ≡ map {B = ℕ} (λ q. 0) labels = unfailed ∙ sym (zeros view items) in
     let lent = given_adds e1 b2 bc c.give_cache-2.ensures.given in
@@ -589,7 +589,7 @@ returns-clause-asks g c = λ p ls plan is.
     omega (arith, first, next, last) in
     let le : count_at d.file_counts q ≤ count_at b4.file_counts q = omega (arith, le_mid q, c.close_seeds-2.ensures.kept.counts q) in
     let rose : Rose f0 f1 → FileRose d e q = λ y. given_rose _ _ _ _ le added (rw c.in-Ok-take.ensures.fresh.0 at y) in
-    let located : (ys : List (AnySource g.row.F-Look.Denot g.row.D.Denot g.row.D-Link.Denot)) → map place ys ≡ map place before → map location ys ≡ names = λ ys placed. stand_still at_place before ys placed in
+    let located : (ys : List (AnyStore g.row.F-Look.Denot g.row.D.Denot g.row.D-Link.Denot)) → map place ys ≡ map place before → map location ys ≡ names = λ ys placed. stand_still at_place before ys placed in
     let after_at = located after stores.places in
     let seeds_added : All (λ s. raised (count_at b3.file_counts (label_in view s)) (seeds.faults_in view_faults s) ≤ count_at e.file_counts (label_in view s)) j.seeds.items = λ n s lt.
     let here = c.close_seeds-2.ensures.added n s lt in
@@ -626,7 +626,7 @@ returns-clause-asks g c = λ p ls plan is.
       plan = p;
       planned = plan;
       gets = λ spared are.
-          let asked = over.asks.so p k j plan one other spared (λ i below yes. of_told d.files (λ m. IsSpared d e m cache o l z p i) (SparedOver holds view view_faults l p x t0 f0 f1 items j.seeds.items e0 e1 before i)
+          let asked = over.asks.so p k j plan one other spared (λ i below yes. of_told d.files (λ m. IsSparedOnDisk d e m cache o l z p i) (SparedOver holds view view_faults l p x t0 f0 f1 items j.seeds.items e0 e1 before i)
           (λ m told so. spared_over holds before e0 e1 view view_faults d b e m told l p plan x o z items j.seeds.items zip is later rises t0 (subst (λ f. IfSome f (λ m. t0 ≡ Some (old_of m o))) told took) f0 f1 rose cache i below
           (cache_gives holds before d e l (want_id l p i) (size_of l (first_of p i)) e0 e1 cache name_now (cached_there e0 cache name d'.folders (cache_told g c.args.files.now c.args.shelf)) shelf_rose) so) (are i below yes)) in
           let few = few_each (asked_in method.Get state) (twice_wanted l p spared) before after (same_length place before after (sym stores.places)) (λ q n. asked.most q n) in

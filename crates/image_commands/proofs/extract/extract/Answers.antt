@@ -8,8 +8,8 @@ use Rattle.cache_store.specs.Shelves.{Shelf, Shelved}
 use Rattle.command_steps.proofs.Cached.{cache_longer, cache_reads}
 use Rattle.command_steps.specs.Cache.{with_cache}
 use Rattle.image_commands.proofs.extract.extract.Given.{Over}
-use Rattle.command_steps.specs.AnySources.{IsKnown, files_in, location_in}
-use Rattle.command_steps.specs.Openings.{Listed}
+use Rattle.command_steps.specs.AnyStores.{IsKnown, source_files, location_in}
+use Rattle.command_steps.specs.InputFiles.{Listed}
 use Rattle.command_steps.specs.Seeds.{image_name}
 use Rattle.command_worlds.specs.Worlds.{world}
 use Rattle.command_steps.proofs.Found.{found_still}
@@ -26,7 +26,7 @@ see g = seen g.F.Folder.Look.files g.F.Folder.Look.place g.F.Folder.Look.faults
 pub plan_of-requires-clause-few : goal.plan_of-requires-clause-few
 plan_of-requires-clause-few g c =
     let listed = rw c.as_slice.ensures at c.in_ok-indexes.ensures.ok in
-    let many = zipped_many (λ q l. Listed (g.F.Files.disk c.read_index.new.files) q l) c.args.seeds c.in_ok-indexes.indexes.items listed in
+    let many = zipped_many (λ q l. Listed (g.F.Files.disk c.load_index.new.files) q l) c.args.seeds c.in_ok-indexes.indexes.items listed in
     omega (arith, many, c.requires.seeds)
 
 pub returns-in_err-opened : goal.returns-in_err-opened
@@ -53,7 +53,7 @@ assemble_into-requires-clause-plan g c =
     let plan = c.in-Ok.ensures.plan in (
       plan.0,
       rw c.in-Ok.ensures.index plan.1,
-      rw c.as_slice-seeds.ensures (known_places_of (g.F.Files.disk c.read_index.new.files) c.args.seeds c.in_ok-indexes.indexes.items c.in_ok-listed.listed p.index plan.0 p.places listed c.in-Ok.ensures.index plan.3),
+      rw c.as_slice-seeds.ensures (known_places_of (g.F.Files.disk c.load_index.new.files) c.args.seeds c.in_ok-indexes.indexes.items c.in_ok-listed.listed p.index plan.0 p.places listed c.in-Ok.ensures.index plan.3),
     )
 
 pub assemble_into-requires-clause-size : goal.assemble_into-requires-clause-size
@@ -76,7 +76,7 @@ assemble_beside-requires-clause-plan g c =
     let plan = c.in-Ok.ensures.plan in (
       plan.0,
       rw c.in-Ok.ensures.index plan.1,
-      rw c.as_slice-seeds.ensures (known_places_of (g.F.Files.disk c.read_index.new.files) c.args.seeds c.in_ok-indexes.indexes.items c.in_ok-listed.listed p.index plan.0 p.places listed c.in-Ok.ensures.index plan.3),
+      rw c.as_slice-seeds.ensures (known_places_of (g.F.Files.disk c.load_index.new.files) c.args.seeds c.in_ok-indexes.indexes.items c.in_ok-listed.listed p.index plan.0 p.places listed c.in-Ok.ensures.index plan.3),
     )
 
 pub assemble_beside-requires-clause-size : goal.assemble_beside-requires-clause-size
@@ -98,7 +98,7 @@ assemble_into-requires-clause-found g c =
     let opened = c.in_ok-opened.ensures in
     let m = with_cache (see g c.in-Ok-take_cache.shelf) (at c.take_cache.new.files) in
     let reached = cache_reads c.args.cache (at c.open_sources.new.files) m (Ok tt) c.in-Ok-take_cache.ensures.ok in
-    found_still (files_in g.F.Look.Look.files) (location_in g.F.Look.Look.place) (at c.read_indexes.new.files).folders m.folders c.as_slice-2.result.now c.in_ok-opened.opened.items opened.found opened.located (reached.folders ∙ opened.kept.folders)
+    found_still (source_files g.F.Look.Look.files) (location_in g.F.Look.Look.place) (at c.read_indexes.new.files).folders m.folders c.as_slice-2.result.now c.in_ok-opened.opened.items opened.found opened.located (reached.folders ∙ opened.kept.folders)
 
 pub assemble_beside-requires-clause-found : goal.assemble_beside-requires-clause-found
 assemble_beside-requires-clause-found g c =
@@ -106,7 +106,7 @@ assemble_beside-requires-clause-found g c =
     let opened = c.in_ok-opened.ensures in
     let m = with_cache (see g c.in-Ok-take_cache.shelf) (at c.take_cache.new.files) in
     let reached = cache_reads c.args.cache (at c.open_sources.new.files) m (Ok tt) c.in-Ok-take_cache.ensures.ok in
-    found_still (files_in g.F.Look.Look.files) (location_in g.F.Look.Look.place) (at c.read_indexes.new.files).folders m.folders c.as_slice-2.result.now c.in_ok-opened.opened.items opened.found opened.located (reached.folders ∙ opened.kept.folders)
+    found_still (source_files g.F.Look.Look.files) (location_in g.F.Look.Look.place) (at c.read_indexes.new.files).folders m.folders c.as_slice-2.result.now c.in_ok-opened.opened.items opened.found opened.located (reached.folders ∙ opened.kept.folders)
 
 pub drop_sources-requires : goal.drop_sources-requires
 drop_sources-requires g c =
@@ -178,7 +178,7 @@ returns-then-in_place g c =
           subst (λ n. ended n c.args.seeds c.args.target l) located (subst (λ q. ended (map (location_in g.F.Look.Look.place) items) q c.args.target l) c.as_slice-seeds.ensures
           (subst (λ l. ended (map (location_in g.F.Look.Look.place) items) c.as_slice-seeds.result.now c.args.target l) c.in-Ok.ensures.index named)) in
           subst (λ place. ExtractEnds c.args.stores cache c.args.seeds place c.args.index c.args.target (world d k p) c.assemble_into.result (world e j p)) (sym c.if-in_place.true)
-          (ends_with c.args.stores cache c.args.seeds true c.args.index c.args.target l ls d (at c.read_index.new.files) (at c.read_indexes.new.files) f m e k j p c.assemble_into.result
+          (ends_with c.args.stores cache c.args.seeds true c.args.index c.args.target l ls d (at c.load_index.new.files) (at c.read_indexes.new.files) f m e k j p c.assemble_into.result
           (listed.ok, listed.kept) ((rw c.as_slice.ensures at read.ok, read.few), read.kept) (there, opened.kept)
           c.in-Ok-take_cache.ensures.ok into);
     }
@@ -210,7 +210,7 @@ returns g c =
           subst (λ n. ended n c.args.seeds c.args.target l) located (subst (λ q. ended (map (location_in g.F.Look.Look.place) items) q c.args.target l) c.as_slice-seeds.ensures
           (subst (λ l. ended (map (location_in g.F.Look.Look.place) items) c.as_slice-seeds.result.now c.args.target l) c.in-Ok.ensures.index named)) in
           subst (λ place. ExtractEnds c.args.stores cache c.args.seeds place c.args.index c.args.target (world d k p) c.assemble_beside.result (world e j p)) (sym c.if-in_place.false)
-          (ends_with c.args.stores cache c.args.seeds false c.args.index c.args.target l ls d (at c.read_index.new.files) (at c.read_indexes.new.files) f m e k j p c.assemble_beside.result
+          (ends_with c.args.stores cache c.args.seeds false c.args.index c.args.target l ls d (at c.load_index.new.files) (at c.read_indexes.new.files) f m e k j p c.assemble_beside.result
           (listed.ok, listed.kept) ((rw c.as_slice.ensures at read.ok, read.few), read.kept) (there, opened.kept)
           c.in-Ok-take_cache.ensures.ok into);
     }

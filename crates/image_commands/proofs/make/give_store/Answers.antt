@@ -1,18 +1,18 @@
-use Rattle.command_steps.specs.AnySources.{files_in}
+use Rattle.command_steps.specs.AnyStores.{source_files}
 use Rattle.image_commands.proofs.GivenStores.{folders_back, given_since, wrote}
 use Rattle.image_commands.proofs.make.give_store.Goals as goal
 
 pub returns-clause-folders : goal.returns-clause-folders
 returns-clause-folders g c =
     let at = g.F.Files.disk in
-    folders_back (at c.args.files.now) (at c.end_views.new.files) (at c.give_source.new.files) c.args.store.now (files_in g.F.Folder.Look.files c.args.taken)
+    folders_back (at c.args.files.now) (at c.end_views.new.files) (at c.give_source.new.files) c.args.store.now (source_files g.F.Folder.Look.files c.args.taken)
     c.end_views.ensures.kept c.give_source.ensures.folders
 
 pub returns-clause-kept : goal.returns-clause-kept
 returns-clause-kept g c =
     let at = g.F.Files.disk in
     let state = g.D.Dial.state in
-    wrote (at c.args.files.now) (at c.end_views.new.files) (at c.give_source.new.files) (state c.args.dial.now) (state c.give_source.new.dial) c.args.store.now (files_in g.F.Folder.Look.files c.args.taken)
+    wrote (at c.args.files.now) (at c.end_views.new.files) (at c.give_source.new.files) (state c.args.dial.now) (state c.give_source.new.dial) c.args.store.now (source_files g.F.Folder.Look.files c.args.taken)
     c.end_views.ensures.kept c.give_source.ensures.folders c.give_source.ensures.changed c.give_source.ensures.dialed
 
 pub returns-clause-given : goal.returns-clause-given

@@ -1,6 +1,6 @@
 use Rattle.std.proofs.Common.{All, IsSome, map, slice_index_or, inl, inr, refl, subst, sym}
 use Rattle.std.proofs.lemmas.Result.{err_from_is_err_and}
-use Rattle.command_steps.specs.AnySources.{files_in}
+use Rattle.command_steps.specs.AnyStores.{source_files}
 use Rattle.command_steps.specs.Sources.{sources}
 use Rattle.image_commands.specs.Views.{AreOf}
 use Rattle.image_commands.proofs.make.make.Goals as goal
@@ -22,7 +22,7 @@ returns-in_err-bytes g c =
     let views = c.in_ok-views.ensures in
     let opened = views.bytes in
     let took = c.in_ok-views-2.ensures in
-    let files = files_in g.F.Folder.Look.files c.in_ok-views-2.taken in
+    let files = source_files g.F.Folder.Look.files c.in_ok-views-2.taken in
     let w = sources (at c.take_store.new.files) (state c.args.dial.now) in
     let v = sources (at c.store_between.new.files) (state c.store_between.new.dial) in
     let are = subst (λ vs. AreOf c.args.image opened.0 (map held vs.items)) (sym took.kept) opened.2 in
@@ -38,7 +38,7 @@ returns-in_err-write_index g c =
     let views = c.in_ok-views.ensures in
     let opened = views.bytes in
     let took = c.in_ok-views-2.ensures in
-    let files = files_in g.F.Folder.Look.files c.in_ok-views-2.taken in
+    let files = source_files g.F.Folder.Look.files c.in_ok-views-2.taken in
     let w = sources (at c.take_store.new.files) (state c.args.dial.now) in
     let v = sources (at c.store_between.new.files) (state c.store_between.new.dial) in
     let are = subst (λ vs. AreOf c.args.image opened.0 (map held vs.items)) (sym took.kept) opened.2 in
@@ -53,7 +53,7 @@ returns g c =
     let views = c.in_ok-views.ensures in
     let opened = views.bytes in
     let took = c.in_ok-views-2.ensures in
-    let files = files_in g.F.Folder.Look.files c.in_ok-views-2.taken in
+    let files = source_files g.F.Folder.Look.files c.in_ok-views-2.taken in
     let w = sources (at c.take_store.new.files) (state c.args.dial.now) in
     let v = sources (at c.store_between.new.files) (state c.store_between.new.dial) in
     let are = subst (λ vs. AreOf c.args.image opened.0 (map held vs.items)) (sym took.kept) opened.2 in

@@ -2,7 +2,7 @@ use Rattle.std.proofs.Common.{◌≡◌, ◌<◌, ◌∙◌, ℕ, List, Option, 
 use Rattle.std.specs.Option.{option_map}
 use Rattle.chunk_store.specs.Folders.{chunks}
 use Rattle.command_steps.proofs.Given.{stands_there}
-use Rattle.command_steps.specs.AnySources.{asked_in, code_of, files_in, said_in}
+use Rattle.command_steps.specs.AnyStores.{asked_in, code_of, source_files, said_in}
 use Rattle.command_steps.specs.Sources.{sources}
 use Rattle.image_commands.proofs.GivenStores.{back, rose, stored_more}
 use Rattle.image_commands.proofs.Made.{gets_image, if_some, made_of, unmade}
@@ -38,15 +38,15 @@ returns-in-Ok g c =
     let some : 0 < length xs = omega (arith, c.requires.some) in
     let old = c.args.taken in
     let new = c.store_image-views.result.1 in
-    let before = option_map chunks (files_in files old) in
-    let after = option_map chunks (files_in files new) in
+    let before = option_map chunks (source_files files old) in
+    let after = option_map chunks (source_files files new) in
     let w = sources (at c.args.files.now) (state c.args.dial.now) in
     let v = sources (at c.give_store.new.files) (state c.give_store.new.dial) in
     let gave = c.give_store.ensures in
     let done = c.store_image-views.ensures in
     let r = Ok c.in-Ok.bytes.items in
     let stored = λ (q : List ℕ) (told : Option (List ℕ)) (are : AreOf q told (map held xs)).
-    let holds = made_of s told r (files_in files old) (files_in files new) (rw c.in-Ok.is at (exactly_of held xs q told some are s (λ b. b.items) before after c.store_image-views.result.2 done.exactly)) (files_of held xs q told some are s before (files_in files old) (files_in files new) done.files) in
+    let holds = made_of s told r (source_files files old) (source_files files new) (rw c.in-Ok.is at (exactly_of held xs q told some are s (λ b. b.items) before after c.store_image-views.result.2 done.exactly)) (files_of held xs q told some are s before (source_files files old) (source_files files new) done.files) in
     back files place counts state w v c.args.store.now old new done.place c.requires.located gave.folders gave.given (MadeOf s told r) (SaysOf s told c.in-Ok.bytes.items) (stored_more s told c.in-Ok.bytes.items) done.tells (holds) (said_of held xs q told some are s c.in-Ok.bytes.items (said_in files state new) (rw c.in-Ok.is at done.said)) in
     let few = λ (q : List ℕ) (told : Option (List ℕ)) (are : AreOf q told (map held xs)). few_of held xs q told some are s _ _ (λ (x : ⊥). x) (rw c.in-Ok.is at done.many) in
     let gets = λ (q : List ℕ) (told : Option (List ℕ)) (are : AreOf q told (map held xs)).
@@ -67,15 +67,15 @@ returns-in-ImageFault g c =
     let some : 0 < length xs = omega (arith, c.requires.some) in
     let old = c.args.taken in
     let new = c.store_image-views.result.1 in
-    let before = option_map chunks (files_in files old) in
-    let after = option_map chunks (files_in files new) in
+    let before = option_map chunks (source_files files old) in
+    let after = option_map chunks (source_files files new) in
     let w = sources (at c.args.files.now) (state c.args.dial.now) in
     let v = sources (at c.give_store.new.files) (state c.give_store.new.dial) in
     let gave = c.give_store.ensures in
     let done = c.store_image-views.ensures in
     let r = Err faults.ImageFault in
     let stored = λ (q : List ℕ) (told : Option (List ℕ)) (are : AreOf q told (map held xs)).
-    let holds = made_of s told r (files_in files old) (files_in files new) (rw (c.in-Err.is, c.in-ImageFault.is) at (exactly_of held xs q told some are s (λ b. b.items) before after c.store_image-views.result.2 done.exactly)) (files_of held xs q told some are s before (files_in files old) (files_in files new) done.files) in
+    let holds = made_of s told r (source_files files old) (source_files files new) (rw (c.in-Err.is, c.in-ImageFault.is) at (exactly_of held xs q told some are s (λ b. b.items) before after c.store_image-views.result.2 done.exactly)) (files_of held xs q told some are s before (source_files files old) (source_files files new) done.files) in
     back files place counts state w v c.args.store.now old new done.place c.requires.located gave.folders gave.given (MadeOf s told r) (AnySaid) (λ a b keeps says. tt) done.tells (holds) (tt) in
     let gets = λ (q : List ℕ) (told : Option (List ℕ)) (are : AreOf q told (map held xs)).
     gets_image place state s told old new c.args.store.now (state c.args.dial.now).ended (state c.give_store.new.dial).ended c.requires.unused (stands_there place old new done.place ∙ c.requires.located)
@@ -95,16 +95,16 @@ returns-in-TooManyItems g c =
     let some : 0 < length xs = omega (arith, c.requires.some) in
     let old = c.args.taken in
     let new = c.store_image-views.result.1 in
-    let before = option_map chunks (files_in files old) in
-    let after = option_map chunks (files_in files new) in
+    let before = option_map chunks (source_files files old) in
+    let after = option_map chunks (source_files files new) in
     let w = sources (at c.args.files.now) (state c.args.dial.now) in
     let v = sources (at c.give_store.new.files) (state c.give_store.new.dial) in
     let gave = c.give_store.ensures in
     let done = c.store_image-views.ensures in
     let r = Err faults.TooManyItems in
     let stored = λ (q : List ℕ) (told : Option (List ℕ)) (are : AreOf q told (map held xs)).
-    let holds = made_of s told r (files_in files old) (files_in files new) (rw (c.in-Err.is, c.in-TooManyItems.is) at (exactly_of held xs q told some are s (λ b. b.items) before after c.store_image-views.result.2 done.exactly)) (files_of held xs q told some are s before (files_in files old) (files_in files new) done.files) in
-    back files place counts state w v c.args.store.now old new done.place c.requires.located gave.folders gave.given (λ f g. (g ≡ f) × MadeOf s told r f g) (AnySaid) (λ a b keeps says. tt) done.tells (unmade s told r (files_in files old) (files_in files new) (ap (files_in files) (done.untouched (search rules))) holds) (tt) in
+    let holds = made_of s told r (source_files files old) (source_files files new) (rw (c.in-Err.is, c.in-TooManyItems.is) at (exactly_of held xs q told some are s (λ b. b.items) before after c.store_image-views.result.2 done.exactly)) (files_of held xs q told some are s before (source_files files old) (source_files files new) done.files) in
+    back files place counts state w v c.args.store.now old new done.place c.requires.located gave.folders gave.given (λ f g. (g ≡ f) × MadeOf s told r f g) (AnySaid) (λ a b keeps says. tt) done.tells (unmade s told r (source_files files old) (source_files files new) (ap (source_files files) (done.untouched (search rules))) holds) (tt) in
     let many = λ (q : List ℕ) (told : Option (List ℕ)) (are : AreOf q told (map held xs)). of_first held xs q told some are (λ o. IsOfImage s o faults.TooManyItems) (rw (c.in-Err.is, c.in-TooManyItems.is) at done.cause) in
     let gets = λ (q : List ℕ) (told : Option (List ℕ)) (are : AreOf q told (map held xs)).
     gets_image place state s told old new c.args.store.now (state c.args.dial.now).ended (state c.give_store.new.dial).ended c.requires.unused (stands_there place old new done.place ∙ c.requires.located)
@@ -124,15 +124,15 @@ returns-in-Changed g c =
     let some : 0 < length xs = omega (arith, c.requires.some) in
     let old = c.args.taken in
     let new = c.store_image-views.result.1 in
-    let before = option_map chunks (files_in files old) in
-    let after = option_map chunks (files_in files new) in
+    let before = option_map chunks (source_files files old) in
+    let after = option_map chunks (source_files files new) in
     let w = sources (at c.args.files.now) (state c.args.dial.now) in
     let v = sources (at c.give_store.new.files) (state c.give_store.new.dial) in
     let gave = c.give_store.ensures in
     let done = c.store_image-views.ensures in
     let r = Err (faults.Changed c.in-Changed.entry c.in-Changed.was c.in-Changed.got) in
     let stored = λ (q : List ℕ) (told : Option (List ℕ)) (are : AreOf q told (map held xs)).
-    let holds = made_of s told r (files_in files old) (files_in files new) (rw (c.in-Err.is, c.in-Changed.is) at (exactly_of held xs q told some are s (λ b. b.items) before after c.store_image-views.result.2 done.exactly)) (files_of held xs q told some are s before (files_in files old) (files_in files new) done.files) in
+    let holds = made_of s told r (source_files files old) (source_files files new) (rw (c.in-Err.is, c.in-Changed.is) at (exactly_of held xs q told some are s (λ b. b.items) before after c.store_image-views.result.2 done.exactly)) (files_of held xs q told some are s before (source_files files old) (source_files files new) done.files) in
     back files place counts state w v c.args.store.now old new done.place c.requires.located gave.folders gave.given (MadeOf s told r) (AnySaid) (λ a b keeps says. tt) done.tells (holds) (tt) in
     let untold = λ (q : List ℕ) (told : Option (List ℕ)) (are : AreOf q told (map held xs)). of_first held xs q told some are (λ o. IsOfImage s o (faults.Changed c.in-Changed.entry c.in-Changed.was c.in-Changed.got)) (rw (c.in-Err.is, c.in-Changed.is) at done.cause) in
     let gets = λ (q : List ℕ) (told : Option (List ℕ)) (are : AreOf q told (map held xs)).
@@ -153,15 +153,15 @@ returns-in-StoreFault g c =
     let some : 0 < length xs = omega (arith, c.requires.some) in
     let old = c.args.taken in
     let new = c.store_image-views.result.1 in
-    let before = option_map chunks (files_in files old) in
-    let after = option_map chunks (files_in files new) in
+    let before = option_map chunks (source_files files old) in
+    let after = option_map chunks (source_files files new) in
     let w = sources (at c.args.files.now) (state c.args.dial.now) in
     let v = sources (at c.give_store.new.files) (state c.give_store.new.dial) in
     let gave = c.give_store.ensures in
     let done = c.store_image-views.ensures in
     let r = Err faults.StoreFault in
     let stored = λ (q : List ℕ) (told : Option (List ℕ)) (are : AreOf q told (map held xs)).
-    let holds = made_of s told r (files_in files old) (files_in files new) (rw (c.in-Err.is, c.in-StoreFault.is) at (exactly_of held xs q told some are s (λ b. b.items) before after c.store_image-views.result.2 done.exactly)) (files_of held xs q told some are s before (files_in files old) (files_in files new) done.files) in
+    let holds = made_of s told r (source_files files old) (source_files files new) (rw (c.in-Err.is, c.in-StoreFault.is) at (exactly_of held xs q told some are s (λ b. b.items) before after c.store_image-views.result.2 done.exactly)) (files_of held xs q told some are s before (source_files files old) (source_files files new) done.files) in
     back files place counts state w v c.args.store.now old new done.place c.requires.located gave.folders gave.given (MadeOf s told r) (AnySaid) (λ a b keeps says. tt) done.tells (holds) (tt) in
     let few = λ (q : List ℕ) (told : Option (List ℕ)) (are : AreOf q told (map held xs)). few_of held xs q told some are s _ _ (λ (x : ⊥). x) (rw (c.in-Err.is, c.in-StoreFault.is) at done.many) in
     let risen = rose files place counts state w v c.args.store.now old new done.place c.requires.located gave.folders gave.given c.requires.fresh.1 (done.store_faults.cause (search rules)) in
@@ -183,15 +183,15 @@ returns-in-Memory g c =
     let some : 0 < length xs = omega (arith, c.requires.some) in
     let old = c.args.taken in
     let new = c.store_image-views.result.1 in
-    let before = option_map chunks (files_in files old) in
-    let after = option_map chunks (files_in files new) in
+    let before = option_map chunks (source_files files old) in
+    let after = option_map chunks (source_files files new) in
     let w = sources (at c.args.files.now) (state c.args.dial.now) in
     let v = sources (at c.give_store.new.files) (state c.give_store.new.dial) in
     let gave = c.give_store.ensures in
     let done = c.store_image-views.ensures in
     let r = Err faults.Memory in
     let stored = λ (q : List ℕ) (told : Option (List ℕ)) (are : AreOf q told (map held xs)).
-    let holds = made_of s told r (files_in files old) (files_in files new) (rw (c.in-Err.is, c.in-Memory.is) at (exactly_of held xs q told some are s (λ b. b.items) before after c.store_image-views.result.2 done.exactly)) (files_of held xs q told some are s before (files_in files old) (files_in files new) done.files) in
+    let holds = made_of s told r (source_files files old) (source_files files new) (rw (c.in-Err.is, c.in-Memory.is) at (exactly_of held xs q told some are s (λ b. b.items) before after c.store_image-views.result.2 done.exactly)) (files_of held xs q told some are s before (source_files files old) (source_files files new) done.files) in
     back files place counts state w v c.args.store.now old new done.place c.requires.located gave.folders gave.given (MadeOf s told r) (AnySaid) (λ a b keeps says. tt) done.tells (holds) (tt) in
     let gets = λ (q : List ℕ) (told : Option (List ℕ)) (are : AreOf q told (map held xs)).
     gets_image place state s told old new c.args.store.now (state c.args.dial.now).ended (state c.give_store.new.dial).ended c.requires.unused (stands_there place old new done.place ∙ c.requires.located)

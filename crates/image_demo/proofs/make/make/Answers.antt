@@ -6,7 +6,7 @@ use Rattle.caibx_codec.specs.Listing.{count_of, image_length}
 use Rattle.caibx_codec.specs.Right.{IsRight}
 use Rattle.dsy_base.specs.Bytes.{resized}
 use Rattle.image_demo.proofs.Given.{base_of, judged, made_figures, refusal, told_bytes, told_report}
-use Rattle.image_demo.specs.Figures.{IsRefused}
+use Rattle.image_demo.specs.Figures.{IsDemoRefused}
 use Rattle.image_demo.specs.Stocks.{IsNamed}
 use Rattle.image_demo.proofs.make.make.Goals as goal
 
@@ -37,6 +37,6 @@ returns-clause-err g c =
     let x = c.in_ok-planned.planned.places in
     let s = c.requires.stocked.2 in
     let kit = c.in_ok-kit.kit in
-    subst IsRefused (sym c.fault_of.ensures) (refusal l d x (base_of l) (Some (g.V.View.held c.args.seed.view) ∷ []) c.rules.ensures c.requires.stocked.0 c.requires.stocked.1 (g.S.Store.holds c.args.store) s c.in-Err.fault
+    subst IsDemoRefused (sym c.fault_of.ensures) (refusal l d x (base_of l) (Some (g.V.View.held c.args.seed.view) ∷ []) c.rules.ensures c.requires.stocked.0 c.requires.stocked.1 (g.S.Store.holds c.args.store) s c.in-Err.fault
     (judged g.S.Store.holds g.V.View.held c.args.store c.args.seed.view l d x kit.chain kit.seeds.items (g.T.View.held c.args.target).bytes c.in_ok-kit.ensures.chain c.in_ok-kit.ensures.seeds c.requires.none s.map s.told c.assemble_quietly-target.result.answer _ c.in-Err.is c.assemble_quietly-target.ensures.verdict)
     (subst (λ (r : Result Report ExtractFault). IsNamed l r) c.in-Err.is c.assemble_quietly-target.ensures.named))

@@ -3,7 +3,7 @@ use Rattle.caibx_codec.specs.Listing.{image_length}
 use Rattle.std.proofs.lemmas.List.Elements.{All-cons, All-head, All-rest}
 use Rattle.std.proofs.lemmas.Option.{IfSome_then}
 use Rattle.image_store.proofs.Crews.{falls_cons}
-use Rattle.image_store.specs.Storing.{NoneFalls}
+use Rattle.image_store.specs.Storing.{NoFaultCountFalls}
 use Rattle.read_ahead.specs.Ahead.{IsAhead}
 use Rattle.read_ahead.specs.declared.reader.Reader.{Reader}
 use Rattle.image_store.proofs.rounds.+round.Goals as goal
@@ -60,4 +60,4 @@ returns-clause-faults g t c =
     let x = c.in-Some.reader.now in
     let xs = c.in-Some.rest.now in
     falls_cons F c.args.readers.now x _ xs _ c.in-Some.ensures.cases.0 (subst (λ n. F x ≤ n) (search rules) c.join_mut-put.ensures.0.met.1.1.1)
-    (subst (λ ys. NoneFalls (map F xs) (map F ys)) (search rules) c.join_mut-put.ensures.1.met.1.1.1.1)
+    (subst (λ ys. NoFaultCountFalls (map F xs) (map F ys)) (search rules) c.join_mut-put.ensures.1.met.1.1.1.1)

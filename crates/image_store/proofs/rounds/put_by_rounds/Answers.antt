@@ -1,5 +1,5 @@
 use Rattle.std.proofs.Common.{All, Ok, map, refl, sym, subst, ◌∙◌}
-use Rattle.image_store.specs.Storing.{IsAlike, NoneFalls}
+use Rattle.image_store.specs.Storing.{IsAlike, NoFaultCountFalls}
 use Rattle.image_store.proofs.Crews.{falls_on, ready_all, seen_through, sizes_all}
 use Rattle.image_store.proofs.Going.{goes_on}
 use Rattle.caibx_codec.specs.Listing.{image_length}
@@ -24,6 +24,6 @@ loop-at-preserved g c =
       inside = c.round_end-end.ensures.1;
       ready = subst (All (IsAhead l h.bytes)) (sym c.change_all.ensures.changed) (ready_all (λ v. g.V.View.held v) read h (subst (All (IsAlike h)) (sym kept) c.requires.alike) l done.ahead);
       kept = seen_through (λ v. g.V.View.held v) (λ r. r.view) read c.change_all.new.readers c.change_all.ensures.kept ∙ kept;
-      faults = subst (NoneFalls (map (λ r. g.V.View.faults r.view) c.args.readers.now)) (sym (seen_through (λ v. g.V.View.faults v) (λ r. r.view) read c.change_all.new.readers c.change_all.ensures.kept))
+      faults = subst (NoFaultCountFalls (map (λ r. g.V.View.faults r.view) c.args.readers.now)) (sym (seen_through (λ v. g.V.View.faults v) (λ r. r.view) read c.change_all.new.readers c.change_all.ensures.kept))
           (falls_on _ _ _ _ inv.faults refl done.faults);
     }

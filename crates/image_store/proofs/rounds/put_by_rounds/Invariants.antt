@@ -1,6 +1,6 @@
 use Rattle.std.proofs.Common.{◌≡◌, ◌-◌, ◌≤◌, All, Ok, map}
 use Rattle.caibx_codec.specs.Listing.{count_of}
-use Rattle.image_store.specs.Storing.{GoesOn, NoneFalls}
+use Rattle.image_store.specs.Storing.{GoesOn, NoFaultCountFalls}
 use Rattle.read_ahead.specs.Ahead.{IsAhead}
 use Rattle.image_store.proofs.rounds.put_by_rounds.Given as goal
 
@@ -11,7 +11,7 @@ invariant-loop-at g l = record {
   inside : l.at ≤ count_of l.index;
   ready : All (IsAhead l.index (g.V.View.held l.fn.storing.image).bytes) l.ready;
   kept : map (λ r. g.V.View.held r.view) l.readers ≡ map (λ r. g.V.View.held r.view) l.fn.readers;
-  faults : NoneFalls (map (λ r. g.V.View.faults r.view) l.fn.readers) (map (λ r. g.V.View.faults r.view) l.readers);
+  faults : NoFaultCountFalls (map (λ r. g.V.View.faults r.view) l.fn.readers) (map (λ r. g.V.View.faults r.view) l.readers);
 }
 
 abbrev pub decreases-loop-at : goal.decreases-loop-at

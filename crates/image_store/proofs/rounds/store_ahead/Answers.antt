@@ -2,7 +2,7 @@ use Rattle.std.proofs.Common.{◌≡◌, ◌∷◌, All, ap, arith, map, sym, su
 use Rattle.std.proofs.lemmas.List.{with_items_is}
 use Rattle.std.specs.Vec.{with_items}
 use Rattle.caibx_codec.specs.Listing.{image_length}
-use Rattle.image_store.specs.Storing.{IsAlike, IsStoredBy, NoneFalls}
+use Rattle.image_store.specs.Storing.{IsAlike, IsStoredBy, NoFaultCountFalls}
 use Rattle.read_ahead.specs.Ahead.{IsAhead}
 use Rattle.image_store.proofs.Crews.{by_crew, crew_alike, stored_on}
 use Rattle.image_store.proofs.rounds.store_ahead.Goals as goal
@@ -39,4 +39,4 @@ returns g c =
     subst (λ s. IsStoredBy g.V.View g.S.Store l c.args.views.items c.dismiss.new.views.items c.args.store s r) (sym c.end-image.ensures.1)
     (by_crew g.V.View g.S.Store l c.args.store b.store r (λ r. r.view) c.args.views.items c.dismiss.new.views.items rs news a.image b.image was is c.requires.alike stored done.on.ends.kept
     (subst (λ rs. map (λ r. g.V.View.held r.view) news ≡ map (λ r. g.V.View.held r.view) rs) c.deref_mut.ensures.value done.kept) done.on.ends.image_faults
-    (subst (λ rs. NoneFalls (map (λ r. g.V.View.faults r.view) rs) (map (λ r. g.V.View.faults r.view) news)) c.deref_mut.ensures.value done.faults))
+    (subst (λ rs. NoFaultCountFalls (map (λ r. g.V.View.faults r.view) rs) (map (λ r. g.V.View.faults r.view) news)) c.deref_mut.ensures.value done.faults))

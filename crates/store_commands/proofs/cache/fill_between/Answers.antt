@@ -3,12 +3,12 @@ use Rattle.cache_store.specs.Shelves.{shelf_of}
 use Rattle.command_words.specs.declared.command.Location.{Location}
 use Rattle.command_steps.proofs.Cached.{given_adds}
 use Rattle.command_steps.proofs.Given.{all_later, stand_still}
-use Rattle.command_steps.specs.AnySources.{IsGiven, IsKnown, IsUnused, asked_in, faults_in, files_in, location_in, said_in, with_those}
+use Rattle.command_steps.specs.AnyStores.{IsGiven, IsKnown, IsUnused, asked_in, source_faults, source_files, location_in, said_in, with_those}
 use Rattle.std.specs.List.{fold}
 use Rattle.command_steps.proofs.Asking.{each_asked, none_more}
 use Rattle.http_wire.specs.declared.reply.Method.TheVariants as method
 use Rattle.command_steps.specs.Cache.{CacheGiven, with_cache}
-use Rattle.command_steps.specs.Sources.{ConsultsStores, sources, told_at}
+use Rattle.command_steps.specs.Sources.{ConsultsStores, sources, location_files}
 use Rattle.store_commands.proofs.CacheFilled.{filled_between}
 use Rattle.store_commands.proofs.cache.fill_between.Goals as goal
 use Rattle.store_commands.specs.Caching.{FillsEach, listed_times, of_calls}
@@ -48,9 +48,9 @@ returns g c =
     let place = g.F.Look.Look.place in
     let faults = g.F.Look.Look.faults in
     let state = g.D.Dial.state in
-    let told = files_in files in
+    let told = source_files files in
     let said = said_in files state in
-    let counted = faults_in faults state in
+    let counted = source_faults faults state in
     let cache = c.args.cache.now in
     let indexes = c.args.indexes.now in
     let xs = c.args.stores.items in
@@ -74,7 +74,7 @@ returns g c =
     let given : c.into_parts-shelf.result.0 ≡ c.fill_each-filled.new.cached.shelf = ap (λ p. p.0) c.into_parts-shelf.ensures in
     let located : map (location_in place) after ≡ names = stand_still place before after over.stores.places ∙ ap (map (location_in place)) first in
     let fresh = subst (λ ys. map counted ys ≡ map {B = ℕ} (λ q. 0) names) (sym first) c.requires.fresh in
-    let found = subst (λ ys. IfSome (with_cache (Some s) d0).folders (λ n. map told ys ≡ map (told_at n) names)) (sym first) c.requires.found in
+    let found = subst (λ ys. IfSome (with_cache (Some s) d0).folders (λ n. map told ys ≡ map (location_files n) names)) (sym first) c.requires.found in
     let gives = subst (λ f. CacheGiven (Some (shelf_of D.files D.place D.faults f)) b m) given c.give_shelf.ensures.given in
     let closes = subst (λ ys. ConsultsStores (map (location_in place) ys) (sources m k) (sources e j)) last c.close_sources.ensures.kept in
     let closed = subst (λ ns. ConsultsStores ns (sources m k) (sources e j)) located closes in

@@ -6,9 +6,9 @@ use Rattle.chunk_store.specs.Said.{KeepsOf, Said}
 use Rattle.command_steps.proofs.Consulted.{only_read, reads_consult}
 use Rattle.command_steps.proofs.Dialed.{dials_none}
 use Rattle.command_steps.proofs.Given.{all_stand, fails_first, given_earlier, stand_still}
-use Rattle.command_steps.specs.AnySources.{IsGiven, IsKnown, asked_in, chunks_in, faults_in, files_in, location_in, said_in}
+use Rattle.command_steps.specs.AnyStores.{IsGiven, IsKnown, asked_in, chunks_in, source_faults, source_files, location_in, said_in}
 use Rattle.command_steps.specs.Sources.{ConsultsStores, sources}
-use Rattle.command_steps.specs.declared.any_source.AnySource.{AnySource}
+use Rattle.command_steps.specs.declared.any_store.AnyStore.{AnyStore}
 use Rattle.command_words.specs.declared.command.Location.{Location}
 use Rattle.command_steps.proofs.Asking.{each_asked, none_dialed, none_more}
 use Rattle.command_steps.specs.Asking.{Asks}
@@ -44,9 +44,9 @@ returns-in-Ok-clause-counted g c =
     let kept = rw c.new-chain.ensures.value at c.count_in_store-counted.ensures.kept in
     let located = stand_still place before after kept.places ∙ opened.located in
     let state = g.D.Dial.state in
-    let files = files_in g.F.Look.Look.files in
-    let faults : AnySource g.row.F-Look.Denot g.row.D.Denot g.row.D-Link.Denot → ℕ = faults_in g.F.Look.Look.faults state in
-    let said : AnySource g.row.F-Look.Denot g.row.D.Denot g.row.D-Link.Denot → Said = said_in g.F.Look.Look.files state in
+    let files = source_files g.F.Look.Look.files in
+    let faults : AnyStore g.row.F-Look.Denot g.row.D.Denot g.row.D-Link.Denot → ℕ = source_faults g.F.Look.Look.faults state in
+    let said : AnyStore g.row.F-Look.Denot g.row.D.Denot g.row.D-Link.Denot → Said = said_in g.F.Look.Look.files state in
     let stores = c.args.stores.now in
     let d = at c.args.files.now in
     let k = state c.args.dial.now in
@@ -118,8 +118,8 @@ returns-in-StoreFault-clause-counted g c =
     let kept = rw c.new-chain.ensures.value at c.count_in_store-counted.ensures.kept in
     let located = stand_still place before after kept.places ∙ opened.located in
     let state = g.D.Dial.state in
-    let files = files_in g.F.Look.Look.files in
-    let faults = faults_in g.F.Look.Look.faults state in
+    let files = source_files g.F.Look.Look.files in
+    let faults = source_faults g.F.Look.Look.faults state in
     let said = said_in g.F.Look.Look.files state in
     let stores = c.args.stores.now in
     let d = at c.args.files.now in

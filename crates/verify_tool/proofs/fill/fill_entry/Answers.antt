@@ -1,8 +1,8 @@
 use Rattle.std.proofs.Common.{Ok, Err, length, sym, subst}
 use Rattle.cache_store.specs.Shelves.{shelf_of}
 use Rattle.caibx_codec.specs.Listing.{Listing}
-use Rattle.store_chain.specs.Wants.{IsGiven}
-use Rattle.store_chain.specs.declared.want.Want.{Want}
+use Rattle.store_chain.specs.Queries.{FillsQuery}
+use Rattle.store_chain.specs.declared.query.Query.{Query}
 use Rattle.verify_tool.proofs.EntryCalls.{Ends, call_gives, call_refused, want_is}
 use Rattle.verify_tool.specs.Filling.{FillEnds}
 use Rattle.verify_tool.specs.declared.fill.FillFault.{FillFault}
@@ -19,8 +19,8 @@ returns-in-Yes-clause-given g c =
     let got = c.in-Ok.got in
     let out = c.obtain.new.out in
     let wanted = want_is l i entry.id c.args.cached.now.chain.kind entry.size (length c.args.chunk.now) c.requires.kind c.entry-entry.ensures.size in
-    let Given : Want → Type 0 = λ w. IsGiven w got.size out in
-    let Had : Want → Type 0 = λ w. Ends F.files F.place F.faults S.holds S.folder S.place S.said S.faults S.may_lack_memory S.asked S.queried l i entry.id is_id
+    let Given : Query → Type 0 = λ w. FillsQuery w got.size out in
+    let Had : Query → Type 0 = λ w. Ends F.files F.place F.faults S.holds S.folder S.place S.said S.faults S.may_lack_memory S.asked S.queried l i entry.id is_id
     c.args.cached.now c.obtain.new.self out w (Ok got) in
     λ m maps held told quiet. call_gives F.files F.place F.faults S.holds S.folder S.place S.said S.faults S.may_lack_memory S.asked S.queried l i entry.id is_id
     c.args.cached.now c.obtain.new.self out got
@@ -36,7 +36,7 @@ returns-in-Err-clause-err g c =
     let is_id = c.entry-entry.ensures.id in
     let out = c.obtain.new.out in
     let wanted = want_is l i entry.id c.args.cached.now.chain.kind entry.size (length c.args.chunk.now) c.requires.kind c.entry-entry.ensures.size in
-    let Had : Want → Type 0 = λ w. Ends F.files F.place F.faults S.holds S.folder S.place S.said S.faults S.may_lack_memory S.asked S.queried l i entry.id is_id
+    let Had : Query → Type 0 = λ w. Ends F.files F.place F.faults S.holds S.folder S.place S.said S.faults S.may_lack_memory S.asked S.queried l i entry.id is_id
     c.args.cached.now c.obtain.new.self out w (Err c.in-Err.refused) in
     let Told : FillFault → Type 0 = λ f. FillEnds S.holds S.folder S.place S.said S.faults S.may_lack_memory l
     (shelf_of F.files F.place F.faults c.args.cached.now.shelf) (shelf_of F.files F.place F.faults c.obtain.new.self.shelf)

@@ -3,7 +3,7 @@ use Rattle.std.proofs.lemmas.List.{length-take}
 use Rattle.buzhash_cut.proofs.Joins.{if_one}
 use Rattle.buzhash_cut.proofs.Pieces.{cut_in, read_on}
 use Rattle.chunk_ends.specs.Cuts.{IsCut}
-use Rattle.chunk_ends.specs.Feeding.{Kept}
+use Rattle.chunk_ends.specs.Feeding.{CutterKept}
 use Rattle.buzhash_cut.specs.Slicing.{HasRead}
 use Rattle.buzhash_cut.proofs.slicer.Slicer.give.Goals as goal
 
@@ -44,4 +44,4 @@ returns-in-Some-clause-cut g c =
     let e : ℕ = r.start + c.in-Some.end in
     let here = cut_in t r.piece.items c.deref.result.now r.start r.at r.from r.upto n c.deref.ensures.value le inside h.left r.cutter.sizes r.cutter.begun c.in-Some.end (λ more. cut _ more h.fed) in
     subst (λ (start : ℕ). IsCut c.args.self.now.cutter.sizes (drop (start + c.args.self.now.cutter.begun) t) (e - (start + c.args.self.now.cutter.begun))) c.refill.ensures.same.1
-    (subst (λ (k : Kept). IsCut k.sizes (drop (r.start + k.begun) t) (e - (r.start + k.begun))) c.refill.ensures.same.0 here))
+    (subst (λ (k : CutterKept). IsCut k.sizes (drop (r.start + k.begun) t) (e - (r.start + k.begun))) c.refill.ensures.same.0 here))

@@ -1,0 +1,221 @@
+//! The values of checked words, by their roles.
+
+ghost use Rattle.std.specs.Prelude.{◌≡◌, IfOk};
+ghost use Rattle.command_line.specs.CommandLine as line;
+ghost use Rattle.command_line.specs.CommandLine.{Says};
+ghost use Rattle.command_words.specs.Locations.{location_of};
+
+use crate::checked_words::CheckedWords;
+use crate::judge::GREATEST_DEMO;
+use command_words::command::{Command, Location, Locations};
+use command_words::location::read_location;
+use command_words::option_table::{CommandKind, OptionKind};
+use command_words::roles::Role;
+use command_words::values;
+use dsy_base::name::Name;
+use std::alloc::{AllocError, Global};
+
+/// The number of workers where none is given.
+pub const USUAL_WORKERS: u32 = 10;
+
+/// The chunk sizes in bytes where none are given.
+pub const USUAL_SIZES: [u64; 3] = [16384, 65536, 262144];
+
+// The location of a checked word. What refuses it now is want of memory.
+fn checked_location(alloc: Global, word: &str) -> Result<Location, AllocError>
+    ensures { IfOk result (λ l. l ≡ line.read_location (location_of word.now)) }
+{
+    read_location(alloc, word).map_err(|_| AllocError)
+}
+
+impl<'a> CheckedWords<'a> {
+    // The value of an option.
+    fn value(&self, option: OptionKind) -> &'a str
+        ensures { result.now ≡ line.value option self.now }
+    {
+        self.word_as(Role::Value(option), 0)
+    }
+
+    // The value of an option as a name.
+    fn named(&self, alloc: Global, option: OptionKind) -> Result<Name, AllocError>
+        ensures { IfOk result (λ n. n ≡ line.value option self.now) }
+    {
+        Name::of(alloc, self.value(option))
+    }
+
+    // An operand as a name.
+    fn operand(&self, alloc: Global, place: usize) -> Result<Name, AllocError>
+        ensures { IfOk result (λ n. n ≡ line.operand place self.now) }
+    {
+        Name::of(alloc, self.word_as(Role::Operand, place))
+    }
+
+    // An operand as a number.
+    fn number(&self, most: u64, place: usize) -> u64
+        ensures { result ≡ line.number most (line.operand place self.now) }
+    {
+        let word = self.word_as(Role::Operand, place);
+        values::number(0, most, word.as_bytes()).unwrap_or(0)
+    }
+
+    // Whether an option without a value is given.
+    fn is_given(&self, option: OptionKind) -> bool
+        ensures { result ≡ line.is_given option self.now }
+    {
+        self.count_of(Role::Given(option)) > 0
+    }
+
+    // The one location.
+    fn store(&self, alloc: Global) -> Result<Location, AllocError>
+        ensures { IfOk result (λ l. l ≡ line.store self.now) }
+    {
+        checked_location(alloc, self.value(OptionKind::Store))
+    }
+
+    // The locations, in order.
+    fn stores(&self, alloc: Global) -> Result<Locations, AllocError>
+        ensures { IfOk result (λ l. l ≡ line.stores self.now) }
+    {
+        let role = Role::Value(OptionKind::Store);
+        let mut locations = Vec::new(alloc);
+        for i in 0..self.count_of(role) {
+            locations.push(checked_location(alloc, self.word_as(role, i))?)?;
+        }
+        Ok(Locations::of(locations))
+    }
+
+    // The cache, where one is given.
+    fn cache(&self, alloc: Global) -> Result<Option<Name>, AllocError>
+        ensures { IfOk result (λ c. c ≡ line.cache self.now) }
+    {
+        if self.is_given(OptionKind::Cache) {
+            Ok(Some(self.named(alloc, OptionKind::Cache)?))
+        } else {
+            Ok(None)
+        }
+    }
+
+    fn workers(&self) -> u32
+        ensures { result ≡ line.workers self.now }
+    {
+        let word = self.value(OptionKind::Concurrency);
+        values::workers(word.as_bytes()).unwrap_or(USUAL_WORKERS)
+    }
+
+    fn sizes(&self) -> [u64; 3]
+        ensures { result ≡ line.sizes self.now }
+    {
+        let word = self.value(OptionKind::ChunkSize);
+        values::sizes(word.as_bytes()).unwrap_or(USUAL_SIZES)
+    }
+
+    // The host and the port to listen at.
+    fn address(&self) -> (&'a str, u16)
+        ensures host { result.0.now ≡ (line.address self.now).0 }
+        ensures port { result.1 ≡ (line.address self.now).1 }
+    {
+        values::listen(self.value(OptionKind::Listen)).unwrap_or(("", 0))
+    }
+
+    fn make(&self, alloc: Global) -> Result<Command, AllocError>
+        ensures { Says CommandKind.Make self.now result }
+    {
+        Ok(Command::Make {
+            store: self.store(alloc)?,
+            sizes: self.sizes(),
+            workers: self.workers(),
+            index: self.operand(alloc, 0)?,
+            image: self.operand(alloc, 1)?,
+        })
+    }
+
+    fn extract(&self, alloc: Global) -> Result<Command, AllocError>
+        ensures { Says CommandKind.Extract self.now result }
+    {
+        Ok(Command::Extract {
+            stores: self.stores(alloc)?,
+            seeds: self.names_as(alloc, Role::Value(OptionKind::Seed))?,
+            cache: self.cache(alloc)?,
+            in_place: self.is_given(OptionKind::InPlace),
+            workers: self.workers(),
+            index: self.operand(alloc, 0)?,
+            target: self.operand(alloc, 1)?,
+        })
+    }
+
+    fn chop(&self, alloc: Global) -> Result<Command, AllocError>
+        ensures { Says CommandKind.Chop self.now result }
+    {
+        Ok(Command::Chop {
+            store: self.store(alloc)?,
+            index: self.operand(alloc, 0)?,
+            image: self.operand(alloc, 1)?,
+        })
+    }
+
+    fn fill(&self, alloc: Global) -> Result<Command, AllocError>
+        ensures { Says CommandKind.Cache self.now result }
+    {
+        Ok(Command::Cache {
+            stores: self.stores(alloc)?,
+            cache: self.named(alloc, OptionKind::Cache)?,
+            indexes: self.names_as(alloc, Role::Operand)?,
+        })
+    }
+
+    fn chunk_server(&self, alloc: Global) -> Result<Command, AllocError>
+        ensures { Says CommandKind.ChunkServer self.now result }
+    {
+        let (host, port) = self.address();
+        Ok(Command::ChunkServer {
+            store: self.named(alloc, OptionKind::Store)?,
+            host: Name::of(alloc, host)?,
+            port,
+            writable: self.is_given(OptionKind::Writable),
+            workers: self.workers(),
+        })
+    }
+
+    fn demo(&self) -> Command
+        ensures { result ≡ line.command_by_roles CommandKind.Demo self.now }
+    {
+        Command::Demo {
+            number: self.number(u64::MAX, 0),
+            size: self.number(GREATEST_DEMO, 1),
+            workers: self.workers(),
+        }
+    }
+
+    /// The command that they say.
+    pub fn command_of(&self, alloc: Global, kind: CommandKind) -> Result<Command, AllocError>
+        ensures { Says kind self.now result }
+    {
+        match kind {
+            CommandKind::Make => self.make(alloc),
+            CommandKind::Extract => self.extract(alloc),
+            CommandKind::VerifyIndex => Ok(Command::VerifyIndex {
+                index: self.operand(alloc, 0)?,
+                image: self.operand(alloc, 1)?,
+            }),
+            CommandKind::Chop => self.chop(alloc),
+            CommandKind::Cache => self.fill(alloc),
+            CommandKind::ListChunks => Ok(Command::ListChunks {
+                index: self.operand(alloc, 0)?,
+            }),
+            CommandKind::Info => Ok(Command::Info {
+                stores: self.stores(alloc)?,
+                index: self.operand(alloc, 0)?,
+            }),
+            CommandKind::Verify => Ok(Command::Verify {
+                store: self.named(alloc, OptionKind::Store)?,
+                repair: self.is_given(OptionKind::Repair),
+            }),
+            CommandKind::Prune => Ok(Command::Prune {
+                store: self.named(alloc, OptionKind::Store)?,
+                indexes: self.names_as(alloc, Role::Operand)?,
+            }),
+            CommandKind::ChunkServer => self.chunk_server(alloc),
+            CommandKind::Demo => Ok(self.demo()),
+        }
+    }
+}

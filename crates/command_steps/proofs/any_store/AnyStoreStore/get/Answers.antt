@@ -1,0 +1,11 @@
+use Rattle.std.proofs.Common.{◌≡◌, subst, sym}
+use Rattle.command_steps.specs.AnyStores.{asked_in}
+use Rattle.http_read.specs.Asks.{times_asked}
+use Rattle.http_wire.specs.declared.reply.Method.TheVariants as methods
+use Rattle.command_steps.proofs.any_store.AnyStoreStore.get.Goals as goal
+
+pub returns-in-Http-clause-queries : goal.returns-in-Http-clause-queries
+returns-in-Http-clause-queries g c =
+    let state = g.D.Dial.state in
+    let new = c.get-in-Http.new.self in
+    subst (λ s. times_asked new.server methods.Head (state new.dial).ended ≡ asked_in methods.Head state s) (sym c.in-Http.is) c.get-in-Http.ensures.queries

@@ -1,0 +1,67 @@
+use Rattle.std.proofs.Common.{◌≡◌, List, ℕ, Bool, Ok, Err, inl, inr, refl, subst, ap, ◌∙◌}
+use Rattle.std.proofs.lemmas.Result.{err_from_is_err_and}
+use Rattle.command_steps.specs.Seeds.{IndexesRead, NoneListed}
+use Rattle.command_steps.specs.Stores.{NotReached, StoreTaken}
+use Rattle.store_commands.proofs.GivenFolders.{reads_still}
+use Rattle.store_commands.specs.Prune.{StorePruned}
+use Rattle.verify_tool.specs.Pruning.{has_id, is_listed_in}
+use Rattle.store_commands.proofs.prune.prune_folder.Goals as goal
+
+pub returns-in_err-listed : goal.returns-in_err-listed
+returns-in_err-listed g c =
+    let p = err_from_is_err_and c.from_residual.result c.from_residual.ensures.1 in
+    let at = g.F.Files.disk in
+    let refused = subst (λ (qs : List (List ℕ)). NoneListed (at c.args.files.now) (at c.read_indexes.new.files) 0 qs c.in_err-listed.field-0.0) c.as_slice.ensures c.in_err-listed.ensures.err in
+    record { ends = λ k o. rw (p.1, p.2) (inl ((refused, c.in_err-listed.ensures.kept), refl, refl)) }
+
+pub returns-in_default : goal.returns-in_default
+returns-in_default g c =
+    let at = g.F.Files.disk in
+    let listed = c.in_ok-listed.ensures in
+    let read = subst (λ (qs : List (List ℕ)). IndexesRead qs (at c.args.files.now) (Ok c.in_ok-listed.listed.items) (at c.read_indexes.new.files)) c.as_slice.ensures ((listed.ok, listed.few), listed.kept) in
+    record { ends = λ k o. inr (record { disk = _; dial = _; out = _; gave = c.in_ok-listed.listed.items; did = (read, refl, refl); then = inl ((tt, reads_still (at c.read_indexes.new.files)), refl, refl) }) }
+
+pub returns-in_err-taken : goal.returns-in_err-taken
+returns-in_err-taken g c =
+    let p = err_from_is_err_and c.from_residual-in_err-taken.result c.from_residual-in_err-taken.ensures.1 in
+    let at = g.F.Files.disk in
+    let listed = c.in_ok-listed.ensures in
+    let read = subst (λ (qs : List (List ℕ)). IndexesRead qs (at c.args.files.now) (Ok c.in_ok-listed.listed.items) (at c.read_indexes.new.files)) c.as_slice.ensures ((listed.ok, listed.few), listed.kept) in
+    let took = c.in_err-taken.ensures in
+    let refused = subst (λ (q : List ℕ). NotReached (at c.read_indexes.new.files) (at c.take_folder.new.files) q c.in_err-taken.field-0.0) c.as_str.ensures took.err in
+    record { ends = λ k o. rw (p.1, p.2) (inr (record { disk = _; dial = _; out = _; gave = c.in_ok-listed.listed.items; did = (read, refl, refl); then = inl ((refused, took.kept), refl, refl) })) }
+
+pub returns-in_err-prune_taken : goal.returns-in_err-prune_taken
+returns-in_err-prune_taken g c =
+    let p = err_from_is_err_and c.from_residual-in_err-prune_taken.result c.from_residual-in_err-prune_taken.ensures.1 in
+    let at = g.F.Files.disk in
+    let listed = c.in_ok-listed.ensures in
+    let ls = c.in_ok-listed.listed.items in
+    let read = subst (λ (qs : List (List ℕ)). IndexesRead qs (at c.args.files.now) (Ok ls) (at c.read_indexes.new.files)) c.as_slice.ensures ((listed.ok, listed.few), listed.kept) in
+    let took = c.in_ok-taken.ensures in
+    let held = g.F.Folder.Look.files c.in_ok-taken.taken in
+    let told : has_id c.in-Ok.keep ≡ is_listed_in c.deref.result.now = (λ i q. (c.in-Ok.ensures.value q) i) in
+    let same : has_id c.in-Ok.keep ≡ is_listed_in ls = told ∙ ap is_listed_in c.deref.ensures.value in
+    let there = subst (λ (q : List ℕ). StorePruned (has_id c.in-Ok.keep) q held (at c.take_folder.new.files) (Err c.in_err-prune_taken.field-0.0) (at c.prune_taken.new.files)) c.as_str-2.ensures c.in_err-prune_taken.ensures in
+    let pruned = subst (λ (k : List ℕ → Bool). StorePruned k c.args.store held (at c.take_folder.new.files) (Err c.in_err-prune_taken.field-0.0) (at c.prune_taken.new.files)) same there in
+    let taken = subst (λ (q : List ℕ). StoreTaken q (at c.read_indexes.new.files) (Ok held) (at c.take_folder.new.files)) c.as_str.ensures (took.ok.found, took.changed) in
+    record {
+      ends = λ k o. rw (p.1, p.2) (inr (record { disk = _; dial = _; out = _; gave = ls; did = (read, refl, refl); then = inr (record { disk = _; dial = _; out = _; gave = held; did = (taken, refl, refl); then = (pruned, refl, refl) }) }));
+    }
+
+pub returns : goal.returns
+returns g c =
+    let at = g.F.Files.disk in
+    let listed = c.in_ok-listed.ensures in
+    let ls = c.in_ok-listed.listed.items in
+    let read = subst (λ (qs : List (List ℕ)). IndexesRead qs (at c.args.files.now) (Ok ls) (at c.read_indexes.new.files)) c.as_slice.ensures ((listed.ok, listed.few), listed.kept) in
+    let took = c.in_ok-taken.ensures in
+    let held = g.F.Folder.Look.files c.in_ok-taken.taken in
+    let told : has_id c.in-Ok.keep ≡ is_listed_in c.deref.result.now = (λ i q. (c.in-Ok.ensures.value q) i) in
+    let same : has_id c.in-Ok.keep ≡ is_listed_in ls = told ∙ ap is_listed_in c.deref.ensures.value in
+    let there = subst (λ (q : List ℕ). StorePruned (has_id c.in-Ok.keep) q held (at c.take_folder.new.files) (Ok tt) (at c.prune_taken.new.files)) c.as_str-2.ensures c.in_ok-prune_taken.ensures in
+    let pruned = subst (λ (k : List ℕ → Bool). StorePruned k c.args.store held (at c.take_folder.new.files) (Ok tt) (at c.prune_taken.new.files)) same there in
+    let taken = subst (λ (q : List ℕ). StoreTaken q (at c.read_indexes.new.files) (Ok held) (at c.take_folder.new.files)) c.as_str.ensures (took.ok.found, took.changed) in
+    record {
+      ends = λ k o. record { disk = _; dial = _; out = _; gave = ls; did = (read, refl, refl); then = record { disk = _; dial = _; out = _; gave = held; did = (taken, refl, refl); then = (pruned, refl, refl) } };
+    }
