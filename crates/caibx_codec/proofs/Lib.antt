@@ -11,3 +11,4 @@ pub mod Written
 pub mod Valid
 pub mod Rules
 pub mod Largest
+pub mod Asks
