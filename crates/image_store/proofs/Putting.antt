@@ -1,21 +1,52 @@
 -- The store on the way through the entries of an index: one entry more, and the whole way.
-use Rattle.std.proofs.Common.{◌≡◌, ◌≢◌, ℕ, ◌+◌, ◌<◌, ◌≤◌, inl, inr, List, false, Option, Some, None, IfSome, Result, Ok, Err, IfErr, OnOk, refl, sym, ap, subst, ◌∙◌, arith, ◌||◌}
+use Rattle.std.proofs.Common.{◌≡◌, ◌≢◌, ◌⊎◌, ℕ, ◌+◌, ◌<◌, ◌≤◌, inl, inr, List, false, Option, Some, None, IfSome, Result, Ok, Err, IfErr, OnOk, refl, sym, ap, subst, ◌∙◌, arith, ◌||◌}
 use Rattle.std.specs.BTreeSet.{BTreeSet}
 use Rattle.std.specs.Option.{option_map}
 use Rattle.std.specs.Str.{bytes_eq}
+use Rattle.caibx_codec.proofs.Asks.{get_listed, put_listed}
 use Rattle.caibx_codec.specs.Listing.{Listing, count_of, id_of, kind_of, slice_of}
+use Rattle.chunk_store.proofs.Sends.{sends_on, sends_weaker}
+use Rattle.chunk_store.specs.Asks.{Ask, Get, Put, Sends, Sent}
 use Rattle.chunk_store.specs.Names.{name_of}
 use Rattle.chunk_store.specs.Said.{AskedOnce, KeepsOf}
+use Rattle.chunk_store.specs.declared.id.DigestKind.{DigestKind}
 use Rattle.chunk_store.specs.declared.store.Store.{Ghosts as StoreWords}
 use Rattle.dsy_base.specs.Bytes.{Held}
 use Rattle.dsy_base.specs.Counts.{CountsFaults, Rose}
 use Rattle.dsy_base.specs.declared.view.View.{Ghosts as ViewWords}
 use Rattle.image_store.proofs.Seen.{seen_on, unseen_before}
 use Rattle.image_store.proofs.Stored.{asks_later, asks_more, files_later, files_more, holds_again, holds_more, lacked_fresh, others_hold, said_again, said_more, stands_later, stands_more, tells_on}
-use Rattle.image_store.specs.PutChunks.{CountsCause, EndsAt, HoldsNamed, IsListedId, PutsEnd, PutsLacked, PutsRight, SaysNamed}
+use Rattle.image_store.specs.PutChunks.{KeepsListed, KeepsNamed, CountsCause, EndsAt, HoldsNamed, IsListedId, PutsEnd, PutsLacked, PutsRight, SaysNamed}
 use Rattle.image_store.specs.Putting.{PuttingEnds, HasPut, HasTouched, HoldsStill, SeesTo, is_seen}
 use Rattle.image_store.specs.declared.put_chunks.MakeFault.{MakeFault}
 use Rattle.image_store.specs.declared.put_chunks.MakeFault.TheVariants as faults
+
+-- what a call for entry i may send
+keeps_listed : (l : Listing) (i : ℕ) → i < count_of l → (a : Ask) → KeepsNamed (kind_of l) (id_of l i) a → KeepsListed l a
+keeps_listed l i inside a (inl get) = inl (get_listed l i inside (id_of l i) refl a get)
+keeps_listed l i inside a (inr put) = inr (put_listed l i inside (id_of l i) refl put.0 put.2 a put.1)
+
+pub sends_entry : (l : Listing) (i : ℕ) → i < count_of l → (r s t : Sent) → Sends (KeepsListed l) r s → Sends (KeepsNamed (kind_of l) (id_of l i)) s t → Sends (KeepsListed l) r t
+sends_entry l i inside r s t before here =
+    sends_on (KeepsListed l) r s t before (sends_weaker (KeepsNamed (kind_of l) (id_of l i)) (KeepsListed l) (keeps_listed l i inside) s t here)
+
+-- a chunk was asked for and then put
+pub sends_both : (id b : List ℕ) (r s t : Sent) → Sends (λ a. a ≡ Get id) r s → Sends (λ a. a ≡ Put id b) s t → Sends (λ a. (a ≡ Get id) ⊎ (a ≡ Put id b)) r t
+sends_both id b r s t get put =
+    sends_on (λ a. (a ≡ Get id) ⊎ (a ≡ Put id b)) r s t
+    (sends_weaker (λ a. a ≡ Get id) (λ a. (a ≡ Get id) ⊎ (a ≡ Put id b)) (λ a e. inl e) r s get)
+    (sends_weaker (λ a. a ≡ Put id b) (λ a. (a ≡ Get id) ⊎ (a ≡ Put id b)) (λ a e. inr e) s t put)
+
+pub sends_get : (id b : List ℕ) (r s : Sent) → Sends (λ a. a ≡ Get id) r s → Sends (λ a. (a ≡ Get id) ⊎ (a ≡ Put id b)) r s
+sends_get id b r s get = sends_weaker (λ a. a ≡ Get id) (λ a. (a ≡ Get id) ⊎ (a ≡ Put id b)) (λ a e. inl e) r s get
+
+named_ask : (kind : DigestKind) (id b : List ℕ) → name_of kind b ≡ id → (a : Ask) → (a ≡ Get id) ⊎ (a ≡ Put id b) → KeepsNamed kind id a
+named_ask kind id b named a (inl get) = inl get
+named_ask kind id b named a (inr put) = inr (b, put, named)
+
+-- and the chunk has the name
+pub sends_named : (kind : DigestKind) (id b : List ℕ) (r s : Sent) → name_of kind b ≡ id → Sends (λ a. (a ≡ Get id) ⊎ (a ≡ Put id b)) r s → Sends (KeepsNamed kind id) r s
+sends_named kind id b r s named sends = sends_weaker (λ a. (a ≡ Get id) ⊎ (a ≡ Put id b)) (KeepsNamed kind id) (named_ask kind id b named) r s sends
 
 pub on_ok : {A E : Type 0} (r : Result A E) (P Q R : Type 0) → (P → Q → R) → OnOk r P → OnOk r Q → OnOk r R
 on_ok (Ok x) P Q R f p q = f p q
@@ -42,6 +73,7 @@ module _ {S : Type 0} (store : StoreWords S) (l : Listing) (told : Option (List 
     place = was.place;
     asks = asks_later l i j (store.asked first) (store.asked now) le was.asks;
     queries = was.queries;
+    sends = was.sends;
     faults = was.faults;
   }
 
@@ -70,16 +102,17 @@ module _ {S : Type 0} (store : StoreWords S) (l : Listing) (told : Option (List 
       abbrev Changed : Type 0
       Changed = PutsRight (kind_of l) (id_of l i) (option_map (λ t. slice_of l t i) told) (store.holds now) (store.holds then)
 
-      pub touched_more : Changed → PutsLacked (id_of l i) (option_map (λ t. slice_of l t i) told) (store.holds now) (store.folder now) (store.folder then)
+      pub touched_more : i < count_of l → Sends (KeepsNamed (kind_of l) (id_of l i)) (store.sent now) (store.sent then) → Changed → PutsLacked (id_of l i) (option_map (λ t. slice_of l t i) told) (store.holds now) (store.folder now) (store.folder then)
           → store.place then ≡ store.place now → AskedOnce (store.asked now) (store.asked then) (id_of l i) → store.queried then ≡ store.queried now → store.faults now ≤ store.faults then
           → HasTouched store l told (i + 1) first then
-      touched_more put files place asks queries faults = record {
+      touched_more inside sends put files place asks queries faults = record {
         stands = stands_more l told i (store.holds first) (store.holds now) (store.holds then) put was.touched.stands;
         files = files_more l told i (store.holds first) (store.holds now) (store.folder first) (store.folder now) (store.folder then) files (lacked_fresh l told i (store.holds first) (store.holds now) was.touched.tells still) was.touched.files;
         tells = tells_on (kind_of l) (id_of l i) (option_map (λ t. slice_of l t i) told) (store.holds now) (store.holds then) put ∙ was.touched.tells;
         place = place ∙ was.touched.place;
         asks = asks_more l i (store.asked first) (store.asked now) (store.asked then) asks fresh was.touched.asks;
         queries = queries ∙ was.touched.queries;
+        sends = sends_entry l i inside (store.sent first) (store.sent now) (store.sent then) was.touched.sends sends;
         faults = omega (arith, faults, was.touched.faults);
       }
 

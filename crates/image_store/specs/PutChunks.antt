@@ -3,8 +3,10 @@
 use Rattle.std.specs.Prelude.{◌≡◌, ◌≢◌, ◌⊎◌, slice_range, ℕ, ◌+◌, ◌<◌, ◌≤◌, List, Option, Some, IfSome, is_some, Result}
 use Rattle.std.specs.Prelude.{Err}
 use Rattle.std.specs.Option.{option_map}
+use Rattle.caibx_codec.specs.Asks.{IsListedGet, IsListedPut}
 use Rattle.caibx_codec.specs.Listing.{Listing, count_of, id_of, kind_of, slice_of}
 use Rattle.caibx_codec.specs.Right.{IsRightAt}
+use Rattle.chunk_store.specs.Asks.{Ask, Get, Put}
 use Rattle.chunk_store.specs.Folders.{KeepsOthers}
 use Rattle.chunk_store.specs.Names.{name_of}
 use Rattle.chunk_store.specs.Paths.{path_of}
@@ -74,6 +76,14 @@ RereadsTo kind k id told faults.ImageFault = Unit {0}
 RereadsTo kind k id told faults.TooManyItems = ⊥
 RereadsTo kind k id told faults.StoreFault = ⊥
 RereadsTo kind k id told faults.Memory = ⊥
+
+-- the chunk of this id is asked for, or bytes of this name are put under it
+abbrev pub KeepsNamed : DigestKind → List ℕ → Ask → Type 0
+KeepsNamed kind id a = (a ≡ Get id) ⊎ ((b : List ℕ) × (a ≡ Put id b) × (name_of kind b ≡ id))
+
+-- so it is with a chunk of the index
+abbrev pub KeepsListed : Listing → Ask → Type 0
+KeepsListed l a = IsListedGet l a ⊎ IsListedPut l a
 
 -- ---- seeing to the first k chunks
 

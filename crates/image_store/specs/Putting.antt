@@ -5,11 +5,12 @@ use Rattle.std.specs.BTreeSet.{BTreeSet, contains}
 use Rattle.std.specs.Cmp.Lexicographic.{slice_cmp}
 use Rattle.std.specs.Ordering.{nat_cmp}
 use Rattle.caibx_codec.specs.Listing.{Listing, count_of}
+use Rattle.chunk_store.specs.Asks.{Sends}
 use Rattle.chunk_store.specs.declared.store.Store.{Ghosts as StoreWords}
 use Rattle.dsy_base.specs.Counts.{CountsFaults}
 use Rattle.dsy_base.specs.Maps.{Map}
 use Rattle.dsy_base.specs.declared.view.View.{Ghosts as ViewWords}
-use Rattle.image_store.specs.PutChunks.{AsksEach, CountsCause, HoldsAll, IsListedId, PutsEnd, PutsFiles, SaysAll}
+use Rattle.image_store.specs.PutChunks.{KeepsListed, AsksEach, CountsCause, HoldsAll, IsListedId, PutsEnd, PutsFiles, SaysAll}
 use Rattle.image_store.specs.PutChunks.{Stands}
 use Rattle.image_store.specs.declared.put_chunks.MakeFault.{MakeFault}
 use Rattle.image_store.specs.declared.put_chunks.MakeFault.TheVariants as faults
@@ -36,6 +37,7 @@ module _ {S : Type 0} (store : StoreWords S) (l : Listing) (told : Option (List 
     pub place : store.place now ≡ store.place first
     pub asks : AsksEach l k (store.asked first) (store.asked now)
     pub queries : store.queried now ≡ store.queried first
+    pub sends : Sends (KeepsListed l) (store.sent first) (store.sent now)
     pub faults : store.faults first ≤ store.faults now
 
   -- they were, and theirs are the ids in the set. Any other id is as at first

@@ -5,9 +5,10 @@ use Rattle.buzhash_cut.specs.Image.{IsIndexOfImage, HasTooManyCuts}
 use Rattle.buzhash_cut.specs.Sizes.{Sizes}
 use Rattle.caibx_codec.specs.Listing.{Listing, count_of}
 use Rattle.caibx_codec.specs.Spelling.{IsIndexFile, file_of}
+use Rattle.chunk_store.specs.Asks.{Sends, Sent}
 use Rattle.chunk_store.specs.Said.{Said}
 use Rattle.dsy_base.specs.Maps.{Map}
-use Rattle.image_store.specs.PutChunks.{ToldMap, HoldsAll, Stands, PutsFiles, AsksEach, SaysAll}
+use Rattle.image_store.specs.PutChunks.{ToldMap, HoldsAll, KeepsListed, Stands, PutsFiles, AsksEach, SaysAll}
 use Rattle.image_store.specs.declared.put_chunks.MakeFault.{MakeFault}
 use Rattle.image_store.specs.declared.put_chunks.MakeFault.TheVariants as faults
 
@@ -76,6 +77,10 @@ PutsFilesOf s told held old new =
 -- nothing was asked for, or at most each id of the index once
 abbrev pub AsksOf : Sizes → Option (List ℕ) → (List ℕ → ℕ) → (List ℕ → ℕ) → Type 0
 AsksOf s told old new = (new ≡ old) ⊎ ((l : Listing) × Lists s told l × AsksEach l (count_of l) old new)
+
+-- nothing was sent, or but fronts of requests for chunks of the index, or to take bytes of their digests
+abbrev pub SendsOf : Sizes → Option (List ℕ) → Sent → Sent → Type 0
+SendsOf s told old new = (new ≡ old) ⊎ ((l : Listing) × Lists s told l × Sends (KeepsListed l) old new)
 
 -- of each id of the index whose file these bytes are, the store has shown or taken bytes of that name
 abbrev pub SaysOf : Sizes → Option (List ℕ) → List ℕ → Said → Type 0

@@ -4,12 +4,13 @@
 ghost use Rattle.std.specs.Prelude.{◌≡◌, ℕ, List, ◌<◌, ◌≤◌, ◌≢◌, Err, IfErr, IfSome, OnErr, OnOk, is_some, length};
 ghost use Rattle.caibx_codec.specs.Listing.{count_of, id_of, image_length, kind_of, size_of};
 ghost use Rattle.caibx_codec.specs.Right.{IsRight, IsRightAt};
+ghost use Rattle.chunk_store.specs.Asks.{Sends};
 ghost use Rattle.chunk_store.specs.Said.{AskedOnce, KeepsOf};
 ghost use Rattle.dsy_base.specs.Counts.{CountsFaults};
 ghost use Rattle.image_store.specs.Chopping.{AsksListed, ChopStops, IsMismatch, StopsAt, TellsLength};
 ghost use Rattle.image_store.specs.Chopping.{most_seen, seen_to};
 ghost use Rattle.image_store.specs.PutChunks.{CountsCause, HoldsAll, HoldsNamed, PutsFiles, PutsLacked, PutsRight};
-ghost use Rattle.image_store.specs.PutChunks.{SaysAll, SaysNamed, Stands, told_slice};
+ghost use Rattle.image_store.specs.PutChunks.{KeepsListed, KeepsNamed, SaysAll, SaysNamed, Stands, told_slice};
 
 use crate::put_chunks::{MakeFault, put_entry};
 use caibx_codec::index::Index;
@@ -57,6 +58,7 @@ fn chop_entry<V: View, S: StoreWrite>(
     ensures kept { V.held image.new ≡ V.held image.old }
     ensures place { S.place store.new ≡ S.place store.old }
     ensures said { (q : List ℕ) → q ≢ id_of index.now i → KeepsOf (S.said store.old) (S.said store.new) q }
+    ensures sends { Sends (KeepsNamed (kind_of index.now) (id_of index.now i)) (S.sent store.old) (S.sent store.new) }
     ensures asks { AskedOnce (S.asked store.old) (S.asked store.new) (id_of index.now i) }
     ensures queries { S.queried store.new ≡ S.queried store.old }
     ensures image_faults { CountsFaults ChopFault.ImageFault ChopFault.Memory
@@ -99,6 +101,7 @@ fn chop_entries<V: View, S: StoreWrite>(
     ensures tells { is_some (S.holds store.new) ≡ is_some (S.holds store.old) }
     ensures kept { V.held image.new ≡ V.held image.old }
     ensures place { S.place store.new ≡ S.place store.old }
+    ensures sends { Sends (KeepsListed index.now) (S.sent store.old) (S.sent store.new) }
     ensures asks { AsksListed index.now (most_seen index.now result) (S.asked store.old) (S.asked store.new) }
     ensures queries { S.queried store.new ≡ S.queried store.old }
     ensures image_faults { CountsFaults ChopFault.ImageFault ChopFault.Memory
@@ -137,6 +140,7 @@ pub fn chop<V: View, S: StoreWrite>(
     ensures tells { is_some (S.holds store.new) ≡ is_some (S.holds store.old) }
     ensures kept { V.held image.new ≡ V.held image.old }
     ensures place { S.place store.new ≡ S.place store.old }
+    ensures sends { Sends (KeepsListed index.now) (S.sent store.old) (S.sent store.new) }
     ensures asks { AsksListed index.now (most_seen index.now result) (S.asked store.old) (S.asked store.new) }
     ensures queries { S.queried store.new ≡ S.queried store.old }
     ensures image_faults { CountsFaults ChopFault.ImageFault ChopFault.Memory

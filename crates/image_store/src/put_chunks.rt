@@ -8,13 +8,14 @@ ghost use Rattle.std.specs.Ordering.{nat_cmp};
 ghost use Rattle.std.specs.Str.{bytes_eq};
 ghost use Rattle.caibx_codec.specs.Listing.{count_of, id_of, kind_of, size_of, image_length};
 ghost use Rattle.caibx_codec.specs.Right.{IsRightAt};
+ghost use Rattle.chunk_store.specs.Asks.{Get, Put, Sends};
 ghost use Rattle.chunk_store.specs.Names.{name_of};
 ghost use Rattle.chunk_store.specs.Said.{KeepsOf, AskedOnce};
 ghost use Rattle.dsy_base.specs.Counts.{CountsFaults};
 ghost use Rattle.read_ahead.specs.Ahead.{IsSlice};
 ghost use Rattle.image_store.specs.PutChunks.{told_range, told_slice, CountsCause, PutsUnder, PutsRight, PutsLacked};
 ghost use Rattle.image_store.specs.PutChunks.{HoldsNamed, SaysNamed, HoldsAll, SaysAll, Stands, PutsFiles, AsksEach};
-ghost use Rattle.image_store.specs.PutChunks.{EndsAt, RereadsTo, PutsEnd};
+ghost use Rattle.image_store.specs.PutChunks.{EndsAt, KeepsListed, KeepsNamed, RereadsTo, PutsEnd};
 ghost use Rattle.image_store.specs.Putting.{HasPut, SeesTo};
 
 use caibx_codec::index::Index;
@@ -102,6 +103,7 @@ fn is_held<S: Store>(
     ensures files { S.folder store.new ≡ S.folder store.old }
     ensures place { S.place store.new ≡ S.place store.old }
     ensures said { (q : List ℕ) → KeepsOf (S.said store.old) (S.said store.new) q }
+    ensures sends { Sends (λ a. a ≡ Get id.now.0) (S.sent store.old) (S.sent store.new) }
     ensures asks { AskedOnce (S.asked store.old) (S.asked store.new) id.now.0 }
     ensures queries { S.queried store.new ≡ S.queried store.old }
     ensures faults { CountsCause IoFault.Failed (S.faults store.old) (S.faults store.new) result }
@@ -119,6 +121,7 @@ fn is_held<S: Store>(
 }
 
 // Sees to it that the store holds the chunk under the id. It isn't put where it is held.
+#[tactic(auto, using(crate::proofs::Putting::sends_get))]
 fn keep<S: StoreWrite>(
     store: &mut S,
     id: &ChunkId,
@@ -134,6 +137,7 @@ fn keep<S: StoreWrite>(
     ensures files { PutsLacked id.now.0 (Some chunk.now) (S.holds store.old) (S.folder store.old) (S.folder store.new) }
     ensures place { S.place store.new ≡ S.place store.old }
     ensures said { (q : List ℕ) → q ≢ id.now.0 → KeepsOf (S.said store.old) (S.said store.new) q }
+    ensures sends { Sends (λ a. (a ≡ Get id.now.0) ⊎ (a ≡ Put id.now.0 chunk.now)) (S.sent store.old) (S.sent store.new) }
     ensures asks { AskedOnce (S.asked store.old) (S.asked store.new) id.now.0 }
     ensures queries { S.queried store.new ≡ S.queried store.old }
     ensures faults { CountsCause IoFault.Failed (S.faults store.old) (S.faults store.new) result }
@@ -145,6 +149,7 @@ fn keep<S: StoreWrite>(
 }
 
 // Sees to it that the store holds this chunk, whose name is the id. `room` is as long as the chunk.
+#[tactic(auto, using(crate::proofs::Putting::sends_named))]
 fn put_named<S: StoreWrite>(
     store: &mut S,
     kind: DigestKind,
@@ -161,6 +166,7 @@ fn put_named<S: StoreWrite>(
     ensures only { IfErr result (λ e. (e ≡ MakeFault.StoreFault) ⊎ (e ≡ MakeFault.Memory)) }
     ensures place { S.place store.new ≡ S.place store.old }
     ensures said { (q : List ℕ) → q ≢ id.now.0 → KeepsOf (S.said store.old) (S.said store.new) q }
+    ensures sends { Sends (KeepsNamed kind id.now.0) (S.sent store.old) (S.sent store.new) }
     ensures asks { AskedOnce (S.asked store.old) (S.asked store.new) id.now.0 }
     ensures queries { S.queried store.new ≡ S.queried store.old }
     ensures faults { CountsCause MakeFault.StoreFault (S.faults store.old) (S.faults store.new) result }
@@ -200,6 +206,7 @@ fn see_to<V: View, S: StoreWrite>(
     ensures kept { V.held image.new ≡ V.held image.old }
     ensures place { S.place store.new ≡ S.place store.old }
     ensures said { (q : List ℕ) → q ≢ id.now.0 → KeepsOf (S.said store.old) (S.said store.new) q }
+    ensures sends { Sends (KeepsNamed kind id.now.0) (S.sent store.old) (S.sent store.new) }
     ensures asks { AskedOnce (S.asked store.old) (S.asked store.new) id.now.0 }
     ensures queries { S.queried store.new ≡ S.queried store.old }
     ensures image_faults { CountsFaults MakeFault.ImageFault MakeFault.Memory
@@ -240,6 +247,7 @@ pub(crate) fn put_entry<V: View, S: StoreWrite>(
     ensures kept { V.held image.new ≡ V.held image.old }
     ensures place { S.place store.new ≡ S.place store.old }
     ensures said { (q : List ℕ) → q ≢ id_of index.now i → KeepsOf (S.said store.old) (S.said store.new) q }
+    ensures sends { Sends (KeepsNamed (kind_of index.now) (id_of index.now i)) (S.sent store.old) (S.sent store.new) }
     ensures asks { AskedOnce (S.asked store.old) (S.asked store.new) (id_of index.now i) }
     ensures queries { S.queried store.new ≡ S.queried store.old }
     ensures image_faults { CountsFaults MakeFault.ImageFault MakeFault.Memory
@@ -318,6 +326,7 @@ pub fn put_chunks<V: View, S: StoreWrite>(
     ensures tells { is_some (S.holds store.new) ≡ is_some (S.holds store.old) }
     ensures kept { V.held image.new ≡ V.held image.old }
     ensures place { S.place store.new ≡ S.place store.old }
+    ensures sends { Sends (KeepsListed index.now) (S.sent store.old) (S.sent store.new) }
     ensures asks { AsksEach index.now (count_of index.now) (S.asked store.old) (S.asked store.new) }
     ensures queries { S.queried store.new ≡ S.queried store.old }
     ensures image_faults { CountsFaults MakeFault.ImageFault MakeFault.Memory

@@ -1,5 +1,7 @@
 use Rattle.image_store.proofs.Chopped.{stops_none}
 use Rattle.image_store.proofs.Stored.{holds_none, stands_same, files_same}
+use Rattle.chunk_store.proofs.Sends.{sends_still}
+use Rattle.image_store.specs.PutChunks.{KeepsListed}
 use Rattle.image_store.proofs.chop.chop.Goals as goal
 
 -- nothing was seen to
@@ -20,3 +22,6 @@ returns-in_default-clause-order g c = stops_none g.S.Store c.args.index.now _ c.
 
 pub returns-in_default-room-clause-order : goal.returns-in_default-room-clause-order
 returns-in_default-room-clause-order g c = stops_none g.S.Store c.args.index.now _ c.args.store.now
+
+pub returns-in_default-room-clause-sends : goal.returns-in_default-room-clause-sends
+returns-in_default-room-clause-sends g c = sends_still (KeepsListed c.args.index.now) (g.S.Store.sent c.args.store.now)

@@ -6,6 +6,7 @@ use Rattle.image_store.specs.Chopping.{AsksListed, ChopStops, most_seen, seen_to
 use Rattle.image_store.specs.PutChunks.{SaysAll, Stands, PutsFiles}
 use Rattle.image_store.specs.declared.chop.ChopFault.{ChopFault}
 use Rattle.image_store.proofs.Chopped.{right_more, asks_entry, asks_whole, seen_early, most_early}
+use Rattle.image_store.proofs.Putting.{sends_entry}
 use Rattle.image_store.proofs.Stored.{stands_later, stands_more, holds_more, holds_still, said_before, said_more, said_none, files_later, files_more, lacked_again, tells_on}
 use Rattle.image_store.proofs.chop.chop_entries.Goals as goal
 
@@ -101,6 +102,11 @@ returns-in_err-chop_entry-clause-order g c =
       asks = asks_entry l i (g.S.Store.asked c.args.store.now) (g.S.Store.asked c.loop-i.store) (g.S.Store.asked c.chop_entry.new.store) less done.asks inv.asks;
     })
 
+pub returns-in_err-chop_entry-clause-sends : goal.returns-in_err-chop_entry-clause-sends
+returns-in_err-chop_entry-clause-sends g c =
+    let less : c.loop-i.i < count_of c.args.index.now = omega (arith, c.loop-i-test.true, c.count-i-end.ensures) in
+    sends_entry c.args.index.now c.loop-i.i less (g.S.Store.sent c.args.store.now) (g.S.Store.sent c.loop-i.store) (g.S.Store.sent c.chop_entry.new.store) c.loop-i.invariant.sends c.chop_entry.ensures.sends
+
 pub loop-i-preserved : goal.loop-i-preserved
 loop-i-preserved g c =
     let l = c.args.index.now in
@@ -125,6 +131,7 @@ loop-i-preserved g c =
       files = files_more l told i first now files_first (g.S.Store.folder c.loop-i.store) (g.S.Store.folder c.chop_entry.new.store) files (lacked_again l told i first now inv.tells inv.stands) inv.files;
       asks = asks_entry l i (g.S.Store.asked c.args.store.now) (g.S.Store.asked c.loop-i.store) (g.S.Store.asked c.chop_entry.new.store) less ok.asks inv.asks;
       tells = tells_on (kind_of l) (id_of l i) slice now new ok.changed ∙ inv.tells;
+      sends = sends_entry l i less (g.S.Store.sent c.args.store.now) (g.S.Store.sent c.loop-i.store) (g.S.Store.sent c.chop_entry.new.store) inv.sends ok.sends;
       queries = ok.queries ∙ inv.queries;
       image = ok.kept ∙ inv.image;
       place = ok.place ∙ inv.place;

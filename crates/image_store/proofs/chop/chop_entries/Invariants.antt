@@ -1,6 +1,7 @@
 use Rattle.std.proofs.Common.{◌≡◌, ◌≤◌, IfSome, is_some}
+use Rattle.chunk_store.specs.Asks.{Sends}
 use Rattle.image_store.specs.Chopping.{AreRightTo, AsksListed}
-use Rattle.image_store.specs.PutChunks.{HoldsAll, SaysAll, Stands, PutsFiles}
+use Rattle.image_store.specs.PutChunks.{HoldsAll, KeepsListed, SaysAll, Stands, PutsFiles}
 use Rattle.image_store.proofs.chop.chop_entries.Given as goal
 
 -- the first i entries were seen to
@@ -16,6 +17,7 @@ invariant-loop-i g l =
       files : PutsFiles l.index told (held l.fn.store) l.i (g.S.Store.folder l.fn.store) (g.S.Store.folder l.store);
       asks : AsksListed l.index l.i (g.S.Store.asked l.fn.store) (g.S.Store.asked l.store);
       tells : is_some (held l.store) ≡ is_some (held l.fn.store);
+      sends : Sends (KeepsListed l.index) (g.S.Store.sent l.fn.store) (g.S.Store.sent l.store);
       queries : g.S.Store.queried l.store ≡ g.S.Store.queried l.fn.store;
       image : g.V.View.held l.image ≡ g.V.View.held l.fn.image;
       place : g.S.Store.place l.store ≡ g.S.Store.place l.fn.store;

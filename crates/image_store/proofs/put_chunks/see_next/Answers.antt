@@ -23,7 +23,7 @@ returns-then-branch g c =
     let changed = c.in_ok-is_new.ensures.changed in
     let none : is_seen c.args.seen.now c.id-id.result.0 ≡ false = not_true _ (sym c.if-branch.true ∙ c.in_ok-is_new.ensures.found) in
     let touched = touched_more g.S.Store l told i first now c.id-id.result.0 c.id-id.ensures c.args.seen.now c.is_new.new.seen changed c.requires.put none then
-    done.changed done.files done.place done.asks done.queries done.store_faults.never_falls in
+    c.requires.listed done.sends done.changed done.files done.place done.asks done.queries done.store_faults.never_falls in
     record {
       put = on_ok c.put_entry.result _ _ _ (put_more g.S.Store l told i first now c.id-id.result.0 c.id-id.ensures c.args.seen.now c.is_new.new.seen changed c.requires.put none then
           done.changed done.asks done.said touched) done.ok done.told;

@@ -16,6 +16,7 @@ returns g c =
         place = done.place;
         asks = done.asks;
         queries = done.queries;
+        sends = done.sends;
         faults = done.store_faults.never_falls;
       };
       err = done.err;

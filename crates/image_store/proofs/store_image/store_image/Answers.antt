@@ -4,7 +4,7 @@ use Rattle.buzhash_cut.specs.Image.{IsIndexOfImage}
 use Rattle.caibx_codec.specs.Listing.{image_length}
 use Rattle.image_store.proofs.Answered.{few_cuts, if_err}
 use Rattle.image_store.proofs.Views.{all_kept, if_ok}
-use Rattle.image_store.specs.StoreImage.{IsOfImage, StoresImage, PutsFilesOf, SaysOf, AsksOf}
+use Rattle.image_store.specs.StoreImage.{IsOfImage, StoresImage, PutsFilesOf, SaysOf, SendsOf, AsksOf}
 use Rattle.image_store.proofs.store_image.store_image.Goals as goal
 
 pub store_listed-requires-clause-some : goal.store_listed-requires-clause-some
@@ -48,3 +48,8 @@ pub returns-clause-asks : goal.returns-clause-asks
 returns-clause-asks g c = all_kept (λ v. g.V.View.held v)
     (λ h. AsksOf c.args.sizes.now h.bytes (g.S.Store.asked c.args.store) (g.S.Store.asked c.store_listed.result.1))
     c.index_of-views.result.0.items c.args.views.items (sym c.index_of-views.ensures.kept) c.store_listed.ensures.asks
+
+pub returns-clause-sends : goal.returns-clause-sends
+returns-clause-sends g c = all_kept (λ v. g.V.View.held v)
+    (λ h. SendsOf c.args.sizes.now h.bytes (g.S.Store.sent c.args.store) (g.S.Store.sent c.store_listed.result.1))
+    c.index_of-views.result.0.items c.args.views.items (sym c.index_of-views.ensures.kept) c.store_listed.ensures.sends
