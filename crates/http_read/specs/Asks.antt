@@ -38,14 +38,14 @@ abbrev pub asks_put : Server → List ℕ → List ℕ → List ℕ
 asks_put s id b = asks s method.Put id b
 
 -- the whole request for what a store is asked
-abbrev pub request_of : Server → Ask → List ℕ
-request_of s (Get id) = asks_get s id
-request_of s (Has id) = asks_head s id
-request_of s (Put id b) = asks_put s id b
+abbrev pub ask_bytes : Server → Ask → List ℕ
+ask_bytes s (Get id) = asks_get s id
+ask_bytes s (Has id) = asks_head s id
+ask_bytes s (Put id b) = asks_put s id b
 
 -- what was sent to the server on the connections that have ended, where they are told
 abbrev pub sent_on : Server → Option (List Traffic) → Sent
-sent_on s ended = record { spells = request_of s; ended = option_map (map (λ t. t.sent)) ended }
+sent_on s ended = record { spells = ask_bytes s; ended = option_map (map (λ t. t.sent)) ended }
 
 -- a front of these bytes was sent
 abbrev pub IsFront : List ℕ → List ℕ → Type 0
