@@ -4,9 +4,11 @@ use Rattle.std.specs.List.{AllZip}
 use Rattle.cache_store.proofs.Stocked.{stocks_on, stocks_same, stocks_weaker}
 use Rattle.cache_store.specs.Giving.{SomeGives}
 use Rattle.cache_store.specs.Shelves.{Shelf, Stocks, held_on}
+use Rattle.caibx_codec.specs.Asks.{IsListedGet}
 use Rattle.caibx_codec.specs.Listing.{Listing, count_of, id_of, kind_of, size_of}
 use Rattle.chunk_store.specs.Said.{AskedOnce, Said}
 use Rattle.chunk_store.specs.declared.id.ChunkId.{ChunkId}
+use Rattle.chunk_store.specs.declared.store.Store.{Ghosts as StoreWords}
 use Rattle.dsy_base.specs.Counts.{Quiet, Rose}
 use Rattle.dsy_base.specs.Maps.{Map}
 use Rattle.image_store.proofs.Chopped.{asks_entry, asks_none, asks_whole}
@@ -89,7 +91,7 @@ module _ {S : Type 0} (asked queried : S → List ℕ → ℕ) (l : Listing) whe
 
 -- ---- from one entry to the next
 
-module _ {S : Type 0} (holds folder : S → Option (Map (List ℕ))) (place : S → List ℕ) (said : S → Said) (store_faults : S → ℕ) (lacks_memory : Bool) (asked queried : S → List ℕ → ℕ) (l : Listing) where
+module _ {S : Type 0} (store : StoreWords S) (l : Listing) where
   -- the stores were spared where the cache gave each listed chunk, and the cache stood as it was
   abbrev Spared : Shelf → Shelf → Chained S → Chained S → Type 0
   Spared s0 s c0 c = IfSome (held_on s0) (λ m. ((i : ℕ) → i < count_of l → GivesEntry l i m) → Quiet s0.faults s.faults → (c ≡ c0) × (s.files ≡ s0.files))
@@ -97,19 +99,19 @@ module _ {S : Type 0} (holds folder : S → Option (Map (List ℕ))) (place : S 
   -- the calls for the first i entries
   pub record Filled (i : ℕ) (s0 s : Shelf) (c0 c : Chained S) : Type 0 where
     pub holds_all : HoldsTo l i s
-    pub given : (m : Map (List ℕ)) (maps : List (Map (List ℕ))) → FillUnfailed holds store_faults l m maps s0 s c0.stores c.stores → (j : ℕ) → j < i → IsGivenBy l m maps j
-    pub asks : AsksEntries asked queried l i c0 c
+    pub given : (m : Map (List ℕ)) (maps : List (Map (List ℕ))) → FillUnfailed store.holds store.faults l m maps s0 s c0.stores c.stores → (j : ℕ) → j < i → IsGivenBy l m maps j
+    pub asks : AsksEntries store.asked store.queried l i c0 c
     pub spared : Spared s0 s c0 c
-    pub stocks : Stocks (MayFillCache holds l c0.stores) s0 s
+    pub stocks : Stocks (MayFillCache store.holds l c0.stores) s0 s
     pub order : Stocks (λ q b. IsListedId l i q) s0 s
-    pub stores : KeepsStores holds folder place said store_faults c0.stores c.stores
+    pub stores : KeepsStores store (IsListedGet l) c0.stores c.stores
 
   -- the call for entry i, which ended so
   pub record Turns (i : ℕ) (s t : Shelf) (c d : Chained S) : Type 0 where
-    pub asks : ((d ≡ c) × (t.files ≡ s.files)) ⊎ (EntryUnfound l i s t × AsksOnce asked queried (id_of l i) c d)
-    pub stocks : Stocks (MayFillCache holds l c.stores) s t
+    pub asks : ((d ≡ c) × (t.files ≡ s.files)) ⊎ (EntryUnfound l i s t × AsksOnce store.asked store.queried (id_of l i) c d)
+    pub stocks : Stocks (MayFillCache store.holds l c.stores) s t
     pub changed : Stocks (λ q b. q ≡ id_of l i) s t
-    pub stores : KeepsStores holds folder place said store_faults c.stores d.stores
+    pub stores : KeepsStores store (IsListedGet l) c.stores d.stores
 
   spared_none : (s : Shelf) (c : Chained S) → Spared s s c c
   spared_none s c = go (held_on s) where
@@ -121,37 +123,37 @@ module _ {S : Type 0} (holds folder : S → Option (Map (List ℕ))) (place : S 
   filled_none s c = record {
     holds_all = holds_none l s;
     given = λ m maps nothing j less. absurd (omega arith);
-    asks = none_asked asked queried l c;
+    asks = none_asked store.asked store.queried l c;
     spared = spared_none s c;
-    stocks = stocks_same (MayFillCache holds l c.stores) s;
+    stocks = stocks_same (MayFillCache store.holds l c.stores) s;
     order = stocks_same (λ q b. IsListedId l 0 q) s;
-    stores = kept_still holds folder place said store_faults c.stores;
+    stores = kept_still store (IsListedGet l) c.stores;
   }
 
   module _ (i : ℕ) (inside : i < count_of l) (s0 s t : Shelf) (c0 c d : Chained S) (before : Filled i s0 s c0 c) (turn : Turns i s t c d) where
-    pub stocks_now : Stocks (MayFillCache holds l c0.stores) s t
-    stocks_now = stocks_weaker (MayFillCache holds l c.stores) (MayFillCache holds l c0.stores) (takes_earlier holds l c0.stores c.stores before.stores.held) s t turn.stocks
+    pub stocks_now : Stocks (MayFillCache store.holds l c0.stores) s t
+    stocks_now = stocks_weaker (MayFillCache store.holds l c.stores) (MayFillCache store.holds l c0.stores) (takes_earlier store.holds l c0.stores c.stores before.stores.held) s t turn.stocks
 
-    pub turn_stocks : Stocks (MayFillCache holds l c0.stores) s0 t
-    turn_stocks = stocks_on (MayFillCache holds l c0.stores) s0 s t before.stocks stocks_now
+    pub turn_stocks : Stocks (MayFillCache store.holds l c0.stores) s0 t
+    turn_stocks = stocks_on (MayFillCache store.holds l c0.stores) s0 s t before.stocks stocks_now
 
     turn_order : Stocks (λ q b. IsListedId l (i + 1) q) s0 t
     turn_order = stocks_on (λ q b. IsListedId l (i + 1) q) s0 s t
         (stocks_weaker (λ q b. IsListedId l i q) (λ q b. IsListedId l (i + 1) q) (λ q b h. record { entry = h.entry; below = omega (arith, h.below); id = h.id }) s0 s before.order)
         (stocks_weaker (λ q b. q ≡ id_of l i) (λ q b. IsListedId l (i + 1) q) (λ q b is. record { entry = i; below = omega arith; id = is }) s t turn.changed)
 
-    pub turn_stores : KeepsStores holds folder place said store_faults c0.stores d.stores
-    turn_stores = kept_on holds folder place said store_faults c0.stores c.stores d.stores before.stores turn.stores
+    pub turn_stores : KeepsStores store (IsListedGet l) c0.stores d.stores
+    turn_stores = kept_on store (IsListedGet l) c0.stores c.stores d.stores before.stores turn.stores
 
-    once_of : ((d ≡ c) × (t.files ≡ s.files)) ⊎ (EntryUnfound l i s t × AsksOnce asked queried (id_of l i) c d) → (d ≡ c) ⊎ AsksOnce asked queried (id_of l i) c d
+    once_of : ((d ≡ c) × (t.files ≡ s.files)) ⊎ (EntryUnfound l i s t × AsksOnce store.asked store.queried (id_of l i) c d) → (d ≡ c) ⊎ AsksOnce store.asked store.queried (id_of l i) c d
     once_of (inl same) = inl same.0
     once_of (inr more) = inr more.1
 
-    turn_asks : AsksEntries asked queried l (i + 1) c0 d
-    turn_asks = asked_entry asked queried l i inside c0 c d before.asks (once_of turn.asks)
+    turn_asks : AsksEntries store.asked store.queried l (i + 1) c0 d
+    turn_asks = asked_entry store.asked store.queried l i inside c0 c d before.asks (once_of turn.asks)
 
-    pub turn_asks_all : AsksEntries asked queried l (count_of l) c0 d
-    turn_asks_all = asked_all asked queried l (i + 1) (omega (arith, inside)) c0 d turn_asks
+    pub turn_asks_all : AsksEntries store.asked store.queried l (count_of l) c0 d
+    turn_asks_all = asked_all store.asked store.queried l (i + 1) (omega (arith, inside)) c0 d turn_asks
 
     turn_spared : Spared s0 t c0 d
     turn_spared = go (held_on s0) refl before.spared where
@@ -177,19 +179,19 @@ module _ {S : Type 0} (holds folder : S → Option (Map (List ℕ))) (place : S 
       go (Some m) h = λ all quiet. (h all quiet).0
 
     -- nothing has failed over the whole, so neither before nor in this call
-    module _ (m : Map (List ℕ)) (maps : List (Map (List ℕ))) (nothing : FillUnfailed holds store_faults l m maps s0 t c0.stores d.stores) where
+    module _ (m : Map (List ℕ)) (maps : List (Map (List ℕ))) (nothing : FillUnfailed store.holds store.faults l m maps s0 t c0.stores d.stores) where
       shelf_quiet : Quiet s.faults t.faults
       shelf_quiet = quiet_within s0.faults s.faults t.faults t.faults before.stocks.never_falls (omega arith) nothing.shelf
 
-      stores_quiet : EachQuiet (map store_faults c.stores) (map store_faults d.stores)
-      stores_quiet = each_within (map store_faults c0.stores) (map store_faults c.stores) (map store_faults d.stores) (map store_faults d.stores) before.stores.never_fall (λ k. omega arith) nothing.stores
+      stores_quiet : EachQuiet (map store.faults c.stores) (map store.faults d.stores)
+      stores_quiet = each_within (map store.faults c0.stores) (map store.faults c.stores) (map store.faults d.stores) (map store.faults d.stores) before.stores.never_fall (λ k. omega arith) nothing.stores
 
-      nothing_before : FillUnfailed holds store_faults l m maps s0 s c0.stores c.stores
+      nothing_before : FillUnfailed store.holds store.faults l m maps s0 s c0.stores c.stores
       nothing_before = record {
         held = nothing.held;
         told = nothing.told;
         shelf = quiet_within s0.faults s0.faults s.faults t.faults (omega arith) turn.stocks.never_falls nothing.shelf;
-        stores = each_within (map store_faults c0.stores) (map store_faults c0.stores) (map store_faults c.stores) (map store_faults d.stores) (λ k. omega arith) turn.stores.never_fall nothing.stores;
+        stores = each_within (map store.faults c0.stores) (map store.faults c0.stores) (map store.faults c.stores) (map store.faults d.stores) (λ k. omega arith) turn.stores.never_fall nothing.stores;
         sizes = nothing.sizes;
       }
 
@@ -197,21 +199,21 @@ module _ {S : Type 0} (holds folder : S → Option (Map (List ℕ))) (place : S 
       given_before = before.given m maps nothing_before
 
       -- by the cache as it was then or by a store, so by the cache as it was at first or by a store
-      given_here : ((n : Map (List ℕ)) → held_on s ≡ Some n → map holds c.stores ≡ map Some maps → EachQuiet (map store_faults c.stores) (map store_faults d.stores) → IsGivenBy l n maps i) → IsGivenBy l m maps i
+      given_here : ((n : Map (List ℕ)) → held_on s ≡ Some n → map store.holds c.stores ≡ map Some maps → EachQuiet (map store.faults c.stores) (map store.faults d.stores) → IsGivenBy l n maps i) → IsGivenBy l m maps i
       given_here gives =
           let now = told_still s0 s m nothing.held before.stocks.told in
           let P : Option (Map (List ℕ)) → Type 0 = λ o. IfSome o (λ n. GivesEntry l i n → IsGivenBy l m maps i) in
-          let gave : GivesEntry l i now.0 → IsGivenBy l m maps i = subst P now.1 (gave_entry holds l c0.stores m maps nothing.told i s0 s nothing.held before.stocks) in
+          let gave : GivesEntry l i now.0 → IsGivenBy l m maps i = subst P now.1 (gave_entry store.holds l c0.stores m maps nothing.told i s0 s nothing.held before.stocks) in
           elim (gives now.0 now.1 (before.stores.held ∙ nothing.told) stores_quiet) [
             | inl there ↦ gave there
             | inr store ↦ inr store
           ]
 
     pub filled_more : IfSome (held_on t) (GivesEntry l i)
-        → ((m : Map (List ℕ)) (maps : List (Map (List ℕ))) → held_on s ≡ Some m → map holds c.stores ≡ map Some maps → EachQuiet (map store_faults c.stores) (map store_faults d.stores) → IsGivenBy l m maps i)
+        → ((m : Map (List ℕ)) (maps : List (Map (List ℕ))) → held_on s ≡ Some m → map store.holds c.stores ≡ map Some maps → EachQuiet (map store.faults c.stores) (map store.faults d.stores) → IsGivenBy l m maps i)
         → Filled (i + 1) s0 t c0 d
     filled_more there gives = record {
-      holds_all = holds_more l i t there (holds_still holds l c0.stores i s t stocks_now before.holds_all);
+      holds_all = holds_more l i t there (holds_still store.holds l c0.stores i s t stocks_now before.holds_all);
       given = λ m maps nothing. below_more _ _ (given_before m maps nothing) (given_here m maps nothing (λ n held told quiet. gives n maps held told quiet));
       asks = turn_asks;
       spared = turn_spared;
@@ -222,23 +224,23 @@ module _ {S : Type 0} (holds folder : S → Option (Map (List ℕ))) (place : S 
 
     -- ---- where entry i ended early
 
-    refuses : (k : ℕ) (id : ChunkId) (r : Refused) → RefusesEntry holds folder place said store_faults lacks_memory l k id r s t c.stores d.stores
-        → RefusesEntry holds folder place said store_faults lacks_memory l k id r s0 t c0.stores d.stores
+    refuses : (k : ℕ) (id : ChunkId) (r : Refused) → RefusesEntry store l k id r s t c.stores d.stores
+        → RefusesEntry store l k id r s0 t c0.stores d.stores
     refuses k id r h = record {
       listed = h.listed;
       id_is = h.id_is;
       shelf = h.shelf;
       before = h.before;
-      filled = stocks_on (MayFillCache holds l c0.stores) s0 s h.shelf before.stocks (stocks_weaker (MayFillCache holds l c.stores) (MayFillCache holds l c0.stores) (takes_earlier holds l c0.stores c.stores before.stores.held) s h.shelf h.filled);
-      until = kept_on holds folder place said store_faults c0.stores c.stores h.before before.stores h.until;
+      filled = stocks_on (MayFillCache store.holds l c0.stores) s0 s h.shelf before.stocks (stocks_weaker (MayFillCache store.holds l c.stores) (MayFillCache store.holds l c0.stores) (takes_earlier store.holds l c0.stores c.stores before.stores.held) s h.shelf h.filled);
+      until = kept_on store (IsListedGet l) c0.stores c.stores h.before before.stores h.until;
       unfound = h.unfound;
       kept = h.kept;
       refused = h.refused;
       lacks = λ maps told. h.lacks maps (before.stores.held ∙ told);
     }
 
-    pub turn_ends : (fault : FillFault) → FillEnds holds folder place said store_faults lacks_memory l s t c.stores d.stores (Err fault)
-        → FillEnds holds folder place said store_faults lacks_memory l s0 t c0.stores d.stores (Err fault)
+    pub turn_ends : (fault : FillFault) → FillEnds store l s t c.stores d.stores (Err fault)
+        → FillEnds store l s0 t c0.stores d.stores (Err fault)
     turn_ends (faults.Missing k id) h = refuses k id refused.Missing h
     turn_ends (faults.Damaged k id s x) h = refuses k id (refused.Damaged s x) h
     turn_ends (faults.StoreFault k) h = (h.0, h.1, refuses h.0 h.1 (refused.StoreFault k) h.2)
@@ -246,42 +248,42 @@ module _ {S : Type 0} (holds folder : S → Option (Map (List ℕ))) (place : S 
     turn_ends faults.Memory h = tt
 
     pub turn_holds : (fault : FillFault) → EndsAtEntry i (Err fault) → HoldsTo l (filled_to l (Err fault)) t
-    turn_holds (faults.Missing k id) at = subst (λ (n : ℕ). HoldsTo l n t) (sym at) (holds_still holds l c0.stores i s t stocks_now before.holds_all)
-    turn_holds (faults.Damaged k id x y) at = subst (λ (n : ℕ). HoldsTo l n t) (sym at) (holds_still holds l c0.stores i s t stocks_now before.holds_all)
+    turn_holds (faults.Missing k id) at = subst (λ (n : ℕ). HoldsTo l n t) (sym at) (holds_still store.holds l c0.stores i s t stocks_now before.holds_all)
+    turn_holds (faults.Damaged k id x y) at = subst (λ (n : ℕ). HoldsTo l n t) (sym at) (holds_still store.holds l c0.stores i s t stocks_now before.holds_all)
     turn_holds (faults.StoreFault k) at = holds_none l t
     turn_holds faults.CacheFault at = holds_none l t
     turn_holds faults.Memory at = holds_none l t
 
-    pub turn_stops : (fault : FillFault) → EndsAtEntry i (Err fault) → FillStops asked queried l fault s0 t c0 d
+    pub turn_stops : (fault : FillFault) → EndsAtEntry i (Err fault) → FillStops store.asked store.queried l fault s0 t c0 d
     turn_stops fault at = record {
       entry = i;
       names = at;
-      holds = holds_still holds l c0.stores i s t stocks_now before.holds_all;
+      holds = holds_still store.holds l c0.stores i s t stocks_now before.holds_all;
       stocks = turn_order;
       asks = turn_asks;
     }
 
     -- the cache at first didn't give a chunk that was refused, and no store does
-    lost_here : (m : Map (List ℕ)) (maps : List (Map (List ℕ))) → FillUnfailed holds store_faults l m maps s0 t c0.stores d.stores → (k : ℕ) (id : ChunkId) (r : Refused) → k ≡ i
-        → RefusesEntry holds folder place said store_faults lacks_memory l k id r s0 t c0.stores d.stores
+    lost_here : (m : Map (List ℕ)) (maps : List (Map (List ℕ))) → FillUnfailed store.holds store.faults l m maps s0 t c0.stores d.stores → (k : ℕ) (id : ChunkId) (r : Refused) → k ≡ i
+        → RefusesEntry store l k id r s0 t c0.stores d.stores
         → (LacksAll (entry_want l k id) maps r → SomeGives (kind_of l) (id_of l k) (size_of l k) maps → ⊥)
         → IsGivenBy l m maps k → ⊥
     lost_here m maps nothing k id r at h never (inl first) =
-        not_at_first holds l c0.stores m maps nothing.told nothing.sizes k s0 h.shelf t h.listed nothing.held h.filled h.unfound
+        not_at_first store.holds l c0.stores m maps nothing.told nothing.sizes k s0 h.shelf t h.listed nothing.held h.filled h.unfound
         (quiet_within s0.faults h.shelf.faults t.faults t.faults h.filled.never_falls (omega arith) nothing.shelf) first
     lost_here m maps nothing k id r at h never (inr store) = never (h.lacks maps nothing.told) store
 
-    pub turn_exactly : (fault : FillFault) → EndsAtEntry i (Err fault) → FillEnds holds folder place said store_faults lacks_memory l s0 t c0.stores d.stores (Err fault)
-        → (m : Map (List ℕ)) (maps : List (Map (List ℕ))) → FillUnfailed holds store_faults l m maps s0 t c0.stores d.stores → FillsBy l m maps (Err fault)
+    pub turn_exactly : (fault : FillFault) → EndsAtEntry i (Err fault) → FillEnds store l s0 t c0.stores d.stores (Err fault)
+        → (m : Map (List ℕ)) (maps : List (Map (List ℕ))) → FillUnfailed store.holds store.faults l m maps s0 t c0.stores d.stores → FillsBy l m maps (Err fault)
     turn_exactly (faults.Missing k id) at h m maps nothing =
         (lost_here m maps nothing k id refused.Missing at h (missing_never l k id h.id_is maps), subst (λ (n : ℕ). (j : ℕ) → j < n → IsGivenBy l m maps j) (sym at) (given_before m maps nothing))
     turn_exactly (faults.Damaged k id x y) at h m maps nothing =
         (lost_here m maps nothing k id (refused.Damaged x y) at h (damaged_never l k id h.id_is x y maps), subst (λ (n : ℕ). (j : ℕ) → j < n → IsGivenBy l m maps j) (sym at) (given_before m maps nothing))
     turn_exactly (faults.StoreFault k) at h m maps nothing =
         let first = h.2 in
-        rose_never (slice_index (map store_faults c0.stores) k) (slice_index (map store_faults d.stores) k) (nothing.stores k)
-        (rose_wide (slice_index (map store_faults c0.stores) k) (slice_index (map store_faults first.before) k) (slice_index (map store_faults d.stores) k) (slice_index (map store_faults d.stores) k)
-        (first.until.never_fall k) (omega arith) (first_rose said store_faults lacks_memory (entry_want l h.0 h.1) k first.before d.stores first.refused))
+        rose_never (slice_index (map store.faults c0.stores) k) (slice_index (map store.faults d.stores) k) (nothing.stores k)
+        (rose_wide (slice_index (map store.faults c0.stores) k) (slice_index (map store.faults first.before) k) (slice_index (map store.faults d.stores) k) (slice_index (map store.faults d.stores) k)
+        (first.until.never_fall k) (omega arith) (first_rose store.said store.faults store.may_lack_memory (entry_want l h.0 h.1) k first.before d.stores first.refused))
     turn_exactly faults.CacheFault at h m maps nothing = rose_never s0.faults t.faults nothing.shelf h
     turn_exactly faults.Memory at h m maps nothing = tt
 

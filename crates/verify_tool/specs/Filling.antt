@@ -1,15 +1,16 @@
 -- What filling a cache by an index may answer, and what it does to the cache. l lists the chunks, `holds` gives what a
 -- store holds. s0 and s1 are the cache's shelf before and afterwards, c0 and c1 the stores.
 use Rattle.std.specs.Prelude.{◌≡◌, ◌⊎◌, ℕ, ◌+◌, ◌<◌, ◌≤◌, List, ◌∷◌, length, map}
-use Rattle.std.specs.Prelude.{Bool, Option, Some, IfSome, Result, Ok, Err}
+use Rattle.std.specs.Prelude.{Option, Some, IfSome, Result, Ok, Err}
 use Rattle.std.specs.List.{AllZip}
 use Rattle.cache_store.specs.Giving.{GiveOneSize, SomeGives}
 use Rattle.cache_store.specs.Shelves.{Shelf, Stocks, held_on}
+use Rattle.caibx_codec.specs.Asks.{IsListedGet}
 use Rattle.caibx_codec.specs.Listing.{Listing, count_of, id_of, kind_of, size_of}
 use Rattle.chunk_store.specs.Giving.{GivesChunk, IsChunk}
 use Rattle.chunk_store.specs.Names.{name_of}
-use Rattle.chunk_store.specs.Said.{Said}
 use Rattle.chunk_store.specs.declared.id.ChunkId.{ChunkId}
+use Rattle.chunk_store.specs.declared.store.Store.{Ghosts as StoreWords}
 use Rattle.dsy_base.specs.Counts.{Quiet, Rose}
 use Rattle.dsy_base.specs.Maps.{Map}
 use Rattle.image_store.specs.Chopping.{AsksListed}
@@ -107,20 +108,19 @@ fill_fault_of entry id (refused.Damaged s x) = faults.Damaged entry id s x
 fill_fault_of entry id (refused.StoreFault s) = faults.StoreFault s
 fill_fault_of entry id refused.Memory = faults.Memory
 
-module _ {S : Type 0} (holds folder : S → Option (Map (List ℕ))) (place : S → List ℕ) (said : S → Said)
-    (store_faults : S → ℕ) (lacks_memory : Bool) (l : Listing) where
+module _ {S : Type 0} (store : StoreWords S) (l : Listing) where
   -- in the last call the cache, as it was then, didn't give the chunk of entry k or failed, and the stores refused it
   pub record RefusesEntry (k : ℕ) (id : ChunkId) (r : Refused) (s0 s1 : Shelf) (c0 c1 : List S) : Type 0 where
     pub listed : k < count_of l
     pub id_is : id.0 ≡ id_of l k
     pub shelf : Shelf
     pub before : List S
-    pub filled : Stocks (MayFillCache holds l c0) s0 shelf
-    pub until : KeepsStores holds folder place said store_faults c0 before
+    pub filled : Stocks (MayFillCache store.holds l c0) s0 shelf
+    pub until : KeepsStores store (IsListedGet l) c0 before
     pub unfound : EntryUnfound l k shelf s1
     pub kept : s1.files ≡ shelf.files
-    pub refused : Refuses said store_faults lacks_memory (entry_want l k id) before c1 r
-    pub lacks : (maps : List (Map (List ℕ))) → map holds c0 ≡ map Some maps → LacksAll (entry_want l k id) maps r
+    pub refused : Refuses store.said store.faults store.may_lack_memory (entry_want l k id) before c1 r
+    pub lacks : (maps : List (Map (List ℕ))) → map store.holds c0 ≡ map Some maps → LacksAll (entry_want l k id) maps r
 
   -- how filling may end: the chunk of an entry was refused, or the cache failed
   abbrev pub FillEnds : Shelf → Shelf → List S → List S → Result Unit FillFault → Type 0

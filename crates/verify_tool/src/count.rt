@@ -5,7 +5,9 @@ ghost use Rattle.std.specs.Prelude.{IfOk, IfErr, OnOk, OnErr, cond, true, false,
 ghost use Rattle.std.specs.Prelude.{slice_index};
 ghost use Rattle.dsy_base.specs.Counts.{Rose};
 ghost use Rattle.dsy_base.specs.Maps.{Map};
+ghost use Rattle.caibx_codec.specs.Asks.{IsListedHas};
 ghost use Rattle.caibx_codec.specs.Listing.{count_of};
+ghost use Rattle.chunk_store.specs.Asks.{Has};
 ghost use Rattle.store_chain.specs.Chains.{AsksNone, EachOnce, KeepsStores};
 ghost use Rattle.store_chain.specs.Refusals.{HasFails};
 ghost use Rattle.verify_tool.specs.Counts.{is_held, held_count, TellsHeld, DeniesOthers, EachAsksBefore, FailsAtEntry};
@@ -33,7 +35,7 @@ fn count_one<S: Store>(chain: &mut Chain<S>, id: &ChunkId, is_new: bool) -> Resu
     ensures cause { (s : ℕ) → result ≡ Err (HasFault.StoreFault s) →
         Rose (slice_index (map S.faults chain.old.stores) s) (slice_index (map S.faults chain.new.stores) s) }
 
-    ensures kept { KeepsStores S.holds S.folder S.place S.said S.faults chain.old.stores chain.new.stores }
+    ensures kept { KeepsStores S.Store (λ a. a ≡ Has id.now.0) chain.old.stores chain.new.stores }
     ensures asks { AsksNone S.asked chain.old chain.new }
     ensures queries { EachOnce S.queried id.now.0 chain.old.stores chain.new.stores }
     ensures unasked { is_new ≡ false → chain.new ≡ chain.old }
@@ -67,7 +69,7 @@ pub fn count_in_store<S: Store>(
     ensures cause { (s : ℕ) → result ≡ Err (HasFault.StoreFault s) →
         Rose (slice_index (map S.faults chain.old.stores) s) (slice_index (map S.faults chain.new.stores) s) }
 
-    ensures kept { KeepsStores S.holds S.folder S.place S.said S.faults chain.old.stores chain.new.stores }
+    ensures kept { KeepsStores S.Store (IsListedHas index.now) chain.old.stores chain.new.stores }
     ensures asks { AsksNone S.asked chain.old chain.new }
     ensures queries { EachAsksBefore S.queried index.now (count_of index.now) chain.old.stores chain.new.stores }
 {

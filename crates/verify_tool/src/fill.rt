@@ -3,6 +3,7 @@
 
 ghost use Rattle.std.specs.Prelude.{◌≡◌, ◌⊎◌, ℕ, List, ◌<◌, ◌≤◌, Some, None, IfSome, IfErr, OnOk, length, map};
 ghost use Rattle.cache_store.specs.Shelves.{Stocks, held_on, shelf_of};
+ghost use Rattle.caibx_codec.specs.Asks.{IsListedGet};
 ghost use Rattle.caibx_codec.specs.Listing.{count_of, kind_of, id_of, size_of};
 ghost use Rattle.dsy_base.specs.Maps.{Map};
 ghost use Rattle.store_chain.specs.Chains.{AsksOnce, KeepsStores};
@@ -84,7 +85,7 @@ fn fill_entry<F: Folder, S: Store>(
         EachQuiet (map S.faults cached.old.chain.stores) (map S.faults cached.new.chain.stores) →
         OnOk result (IsGivenBy index.now m maps i) }
     ensures names { EndsAtEntry i result }
-    ensures err { FillEnds S.holds S.folder S.place S.said S.faults S.may_lack_memory index.now
+    ensures err { FillEnds S.Store index.now
         (shelf_of F.files F.place F.faults cached.old.shelf) (shelf_of F.files F.place F.faults cached.new.shelf)
         cached.old.chain.stores cached.new.chain.stores result }
 
@@ -97,8 +98,7 @@ fn fill_entry<F: Folder, S: Store>(
         (shelf_of F.files F.place F.faults cached.old.shelf) (shelf_of F.files F.place F.faults cached.new.shelf) }
     ensures changed { Stocks (λ q b. q ≡ id_of index.now i)
         (shelf_of F.files F.place F.faults cached.old.shelf) (shelf_of F.files F.place F.faults cached.new.shelf) }
-    ensures stores { KeepsStores S.holds S.folder S.place S.said S.faults
-        cached.old.chain.stores cached.new.chain.stores }
+    ensures stores { KeepsStores S.Store (IsListedGet index.now) cached.old.chain.stores cached.new.chain.stores }
     ensures same { cached.new.chain.kind ≡ cached.old.chain.kind }
 {
     put_changes_one_chunk();
@@ -125,7 +125,7 @@ fn fill_entries<F: Folder, S: Store>(
     requires unnamed { (F.pairs ≡ None) × (F.stores ≡ None) }
     ensures holds { HoldsTo index.now (filled_to index.now result)
         (shelf_of F.files F.place F.faults cached.new.shelf) }
-    ensures err { FillEnds S.holds S.folder S.place S.said S.faults S.may_lack_memory index.now
+    ensures err { FillEnds S.Store index.now
         (shelf_of F.files F.place F.faults cached.old.shelf) (shelf_of F.files F.place F.faults cached.new.shelf)
         cached.old.chain.stores cached.new.chain.stores result }
     ensures exactly { (m : Map (List ℕ)) → (maps : List (Map (List ℕ))) → FillUnfailed S.holds S.faults index.now m maps
@@ -140,8 +140,7 @@ fn fill_entries<F: Folder, S: Store>(
         (shelf_of F.files F.place F.faults cached.new.shelf) cached.old.chain cached.new.chain }
     ensures stocks { Stocks (MayFillCache S.holds index.now cached.old.chain.stores)
         (shelf_of F.files F.place F.faults cached.old.shelf) (shelf_of F.files F.place F.faults cached.new.shelf) }
-    ensures stores { KeepsStores S.holds S.folder S.place S.said S.faults
-        cached.old.chain.stores cached.new.chain.stores }
+    ensures stores { KeepsStores S.Store (IsListedGet index.now) cached.old.chain.stores cached.new.chain.stores }
 {
     for i in 0..index.count() {
         fill_entry(index, i, cached, chunk)?;
@@ -160,7 +159,7 @@ pub fn fill<F: Folder, S: Store>(
     requires unnamed { (F.pairs ≡ None) × (F.stores ≡ None) }
     ensures holds { HoldsTo index.now (filled_to index.now result)
         (shelf_of F.files F.place F.faults cached.new.shelf) }
-    ensures err { FillEnds S.holds S.folder S.place S.said S.faults S.may_lack_memory index.now
+    ensures err { FillEnds S.Store index.now
         (shelf_of F.files F.place F.faults cached.old.shelf) (shelf_of F.files F.place F.faults cached.new.shelf)
         cached.old.chain.stores cached.new.chain.stores result }
     // Where nothing fails.
@@ -177,8 +176,7 @@ pub fn fill<F: Folder, S: Store>(
         (shelf_of F.files F.place F.faults cached.new.shelf) cached.old.chain cached.new.chain }
     ensures stocks { Stocks (MayFillCache S.holds index.now cached.old.chain.stores)
         (shelf_of F.files F.place F.faults cached.old.shelf) (shelf_of F.files F.place F.faults cached.new.shelf) }
-    ensures stores { KeepsStores S.holds S.folder S.place S.said S.faults
-        cached.old.chain.stores cached.new.chain.stores }
+    ensures stores { KeepsStores S.Store (IsListedGet index.now) cached.old.chain.stores cached.new.chain.stores }
 {
     let Ok(mut chunk) = index.room(alloc) else {
         return Err(FillFault::Memory);

@@ -5,7 +5,7 @@ ghost use Rattle.hex.specs.Hex.{encode_lower};
 ghost use Rattle.dsy_base.specs.Counts.{CountsFaults};
 ghost use Rattle.dsy_base.specs.Texts.{Puts};
 ghost use Rattle.verify_tool.specs.Texts.{text_of_chunks};
-ghost use Rattle.verify_tool.specs.Blocks.{Sends};
+ghost use Rattle.verify_tool.specs.Blocks.{PutsBlock};
 
 use caibx_codec::index::Index;
 use chunk_store::id::ChunkId;
@@ -27,7 +27,7 @@ pub(crate) fn push_line(block: &mut Vec<u8>, id: &ChunkId) -> Result<(), AllocEr
 
 // Puts the block once it is full, and begins it anew.
 fn put_full<S: Sink>(out: &mut S, block: &mut Vec<u8>) -> Result<(), IoFault>
-    ensures bytes { Sends block.old.items (S.output out.old).taken (S.output out.new).taken block.new.items result }
+    ensures bytes { PutsBlock block.old.items (S.output out.old).taken (S.output out.new).taken block.new.items result }
     ensures faults { CountsFaults IoFault.Failed IoFault.Memory (S.output out.old).faults (S.output out.new).faults
         result }
 {

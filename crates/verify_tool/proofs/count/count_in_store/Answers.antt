@@ -3,8 +3,11 @@ use Rattle.std.proofs.lemmas.List.{length-map, get_or-map}
 use Rattle.std.specs.BTreeSet.{contains}
 use Rattle.std.specs.Cmp.Lexicographic.{slice_cmp}
 use Rattle.std.specs.Ordering.{nat_cmp}
+use Rattle.caibx_codec.proofs.Asks.{has_listed}
+use Rattle.caibx_codec.specs.Asks.{IsListedHas}
 use Rattle.caibx_codec.specs.Listing.{Listing, id_of, count_of}
-use Rattle.store_chain.proofs.Kept.{kept_still, kept_on}
+use Rattle.chunk_store.specs.Asks.{Has}
+use Rattle.store_chain.proofs.Kept.{kept_still, kept_on, kept_weaker}
 use Rattle.verify_tool.proofs.Asked.{asks_later, denies_first, denies_next, each_one_more, is_first, is_known, reaches_first, reaches_next}
 use Rattle.verify_tool.proofs.Counted.{turn_at_most, turn_holds, turn_passes, few_counted}
 use Rattle.store_chain.specs.Refusals.{HasFails}
@@ -32,7 +35,7 @@ loop-i-init g c =
       size = omega arith;
       reaches = reaches_first S.holds S.said S.queried S.faults c.args.index.now stores;
       denies = denies_first S.said c.args.index.now stores;
-      kept = kept_still S.holds S.folder S.place S.said S.faults stores;
+      kept = kept_still S (IsListedHas c.args.index.now) stores;
       asks = record { stores = refl; calls = refl; kind = refl };
     }
 
@@ -74,7 +77,8 @@ returns-in-Err-count_one-clause-first g c =
 pub returns-in-Err-count_one-clause-kept : goal.returns-in-Err-count_one-clause-kept
 returns-in-Err-count_one-clause-kept g c =
     let S = g.S.Store in
-    kept_on S.holds S.folder S.place S.said S.faults c.args.chain.now.stores c.loop-i.chain.stores c.count_one.new.chain.stores c.loop-i.invariant.kept c.count_one.ensures.kept
+    kept_on S (IsListedHas c.args.index.now) c.args.chain.now.stores c.loop-i.chain.stores c.count_one.new.chain.stores c.loop-i.invariant.kept
+    (kept_weaker S (λ a. a ≡ Has c.id-id.result.0) (IsListedHas c.args.index.now) (has_listed c.args.index.now c.loop-i.i (omega (arith, c.count-i-end.ensures)) c.id-id.result.0 c.id-id.ensures) c.loop-i.chain.stores c.count_one.new.chain.stores c.count_one.ensures.kept)
 
 pub returns-in-Err-count_one-clause-queries : goal.returns-in-Err-count_one-clause-queries
 unfolding returns-in-Err-count_one-clause-first
@@ -109,6 +113,6 @@ loop-i-preserved g c =
       reaches = reaches_next S.holds S.said S.queried S.faults l old mid new i id inside is before.reaches _ c.in-Ok.is_new (before.asked id) c.in-Ok.ensures.added before.kept.held one.kept.says
           one.ok (λ h. ap (λ x. x.stores) (one.unasked h)) one.queries one.kept.never_fall;
       denies = denies_next S.said l mid new one.kept.says i id inside is c.loop-i.n before.denies c.in-Ok.is_new c.in-Ok-count_one.more (is_known l i id _ c.in-Ok.is_new (before.asked id) c.in-Ok.ensures.added) one.size one.absent;
-      kept = kept_on S.holds S.folder S.place S.said S.faults old mid new before.kept one.kept;
+      kept = kept_on S (IsListedHas l) old mid new before.kept (kept_weaker S (λ a. a ≡ Has id) (IsListedHas l) (has_listed l i lt id c.id-id.ensures) mid new one.kept);
       asks = record { stores = one.asks.stores ∙ before.asks.stores; calls = one.asks.calls ∙ before.asks.calls; kind = one.asks.kind ∙ before.asks.kind };
     }

@@ -5,6 +5,7 @@ use Rattle.std.specs.List.{filter}
 use Rattle.std.specs.Ordering.{nat_cmp}
 use Rattle.std.specs.Set.{distinct_count, is_member}
 use Rattle.std.specs.Str.{bytes_eq}
+use Rattle.caibx_codec.specs.Asks.{IsListedHas}
 use Rattle.dsy_base.specs.Maps.{Map}
 use Rattle.store_chain.specs.Chains.{AsksNone, KeepsStores}
 use Rattle.verify_tool.specs.Counts.{is_held, DeniesOthers, Reaches}
@@ -23,6 +24,6 @@ invariant-loop-i g l =
       size : l.n ≤ distinct_count bytes_eq front;
       reaches : Reaches S.holds S.said S.queried S.faults l.index l.i old l.chain.stores;
       denies : DeniesOthers S.said l.index l.i l.n l.chain.stores;
-      kept : KeepsStores S.holds S.folder S.place S.said S.faults old l.chain.stores;
+      kept : KeepsStores S (IsListedHas l.index) old l.chain.stores;
       asks : AsksNone S.asked l.fn.chain l.chain;
     }

@@ -1,5 +1,6 @@
 use Rattle.std.proofs.Common.{arith}
 use Rattle.cache_store.specs.Shelves.{shelf_of}
+use Rattle.caibx_codec.specs.Asks.{IsListedGet}
 use Rattle.store_chain.proofs.Kept.{kept_still}
 use Rattle.verify_tool.proofs.Filled.{asked_all, none_asked, stops_none}
 use Rattle.verify_tool.proofs.fill.fill.Goals as goal
@@ -13,7 +14,7 @@ returns-in_default-clause-asks g c =
 pub returns-in_default-clause-stores : goal.returns-in_default-clause-stores
 returns-in_default-clause-stores g c =
     let S = g.S.Store in
-    kept_still S.holds S.folder S.place S.said S.faults c.args.cached.now.chain.stores
+    kept_still S (IsListedGet c.args.index.now) c.args.cached.now.chain.stores
 
 pub returns-in_default-clause-order : goal.returns-in_default-clause-order
 returns-in_default-clause-order g c =

@@ -11,7 +11,7 @@ pub loop-i-init : goal.loop-i-init
 loop-i-init g c =
     let F = g.F.Look in
     let S = g.S.Store in
-    filled_none S.holds S.folder S.place S.said S.faults S.may_lack_memory S.asked S.queried c.args.index.now (shelf_of F.files F.place F.faults c.args.cached.now.shelf) c.args.cached.now.chain
+    filled_none S c.args.index.now (shelf_of F.files F.place F.faults c.args.cached.now.shelf) c.args.cached.now.chain
 
 -- the call for entry i ended early
 pub returns-in_err-fill_entry : goal.returns-in_err-fill_entry
@@ -27,23 +27,23 @@ returns-in_err-fill_entry g c =
     let d = c.fill_entry.new.cached.chain in
     let inside : i < count_of l = omega (arith, c.loop-i-test.true, c.count-i-end.ensures) in
     let before = c.loop-i.invariant in
-    let turn : Turns S.holds S.folder S.place S.said S.faults S.may_lack_memory S.asked S.queried l i s t c.loop-i.cached.chain d = record { asks = c.fill_entry.ensures.asks; stocks = c.fill_entry.ensures.stocks; changed = c.fill_entry.ensures.changed; stores = c.fill_entry.ensures.stores } in
+    let turn : Turns S l i s t c.loop-i.cached.chain d = record { asks = c.fill_entry.ensures.asks; stocks = c.fill_entry.ensures.stocks; changed = c.fill_entry.ensures.changed; stores = c.fill_entry.ensures.stores } in
     let fault = c.in_err-fill_entry.field-0.0 in
     let answer : c.from_residual.result ≡ Err fault = search rules in
     let Had : Result Unit FillFault → Type 0 = λ r. HoldsTo l (filled_to l r) t in
-    let Ended : Result Unit FillFault → Type 0 = λ r. FillEnds S.holds S.folder S.place S.said S.faults S.may_lack_memory l s0 t c0.stores d.stores r in
+    let Ended : Result Unit FillFault → Type 0 = λ r. FillEnds S l s0 t c0.stores d.stores r in
     let Exact : Result Unit FillFault → Type 0 = λ r. (m : Map (List ℕ)) → (maps : List (Map (List ℕ))) → FillUnfailed S.holds S.faults l m maps s0 t c0.stores d.stores → FillsBy l m maps r in
     let Stopped : Result Unit FillFault → Type 0 = λ r. IfErr r (λ e. FillStops S.asked S.queried l e s0 t c0 d) in
-    let ended = turn_ends S.holds S.folder S.place S.said S.faults S.may_lack_memory S.asked S.queried l i inside s0 s t c0 c.loop-i.cached.chain d before turn fault c.in_err-fill_entry.ensures.err in
+    let ended = turn_ends S l i inside s0 s t c0 c.loop-i.cached.chain d before turn fault c.in_err-fill_entry.ensures.err in
     record {
-      holds = subst Had (sym answer) (turn_holds S.holds S.folder S.place S.said S.faults S.may_lack_memory S.asked S.queried l i inside s0 s t c0 c.loop-i.cached.chain d before turn fault c.in_err-fill_entry.ensures.names);
+      holds = subst Had (sym answer) (turn_holds S l i inside s0 s t c0 c.loop-i.cached.chain d before turn fault c.in_err-fill_entry.ensures.names);
       err = subst Ended (sym answer) ended;
-      exactly = subst Exact (sym answer) (turn_exactly S.holds S.folder S.place S.said S.faults S.may_lack_memory S.asked S.queried l i inside s0 s t c0 c.loop-i.cached.chain d before turn fault c.in_err-fill_entry.ensures.names ended);
-      order = subst Stopped (sym answer) (turn_stops S.holds S.folder S.place S.said S.faults S.may_lack_memory S.asked S.queried l i inside s0 s t c0 c.loop-i.cached.chain d before turn fault c.in_err-fill_entry.ensures.names);
-      asks = turn_asks_all S.holds S.folder S.place S.said S.faults S.may_lack_memory S.asked S.queried l i inside s0 s t c0 c.loop-i.cached.chain d before turn;
-      spared = turn_spares S.holds S.folder S.place S.said S.faults S.may_lack_memory S.asked S.queried l i inside s0 s t c0 c.loop-i.cached.chain d before turn;
-      stocks = turn_stocks S.holds S.folder S.place S.said S.faults S.may_lack_memory S.asked S.queried l i inside s0 s t c0 c.loop-i.cached.chain d before turn;
-      stores = turn_stores S.holds S.folder S.place S.said S.faults S.may_lack_memory S.asked S.queried l i inside s0 s t c0 c.loop-i.cached.chain d before turn;
+      exactly = subst Exact (sym answer) (turn_exactly S l i inside s0 s t c0 c.loop-i.cached.chain d before turn fault c.in_err-fill_entry.ensures.names ended);
+      order = subst Stopped (sym answer) (turn_stops S l i inside s0 s t c0 c.loop-i.cached.chain d before turn fault c.in_err-fill_entry.ensures.names);
+      asks = turn_asks_all S l i inside s0 s t c0 c.loop-i.cached.chain d before turn;
+      spared = turn_spares S l i inside s0 s t c0 c.loop-i.cached.chain d before turn;
+      stocks = turn_stocks S l i inside s0 s t c0 c.loop-i.cached.chain d before turn;
+      stores = turn_stores S l i inside s0 s t c0 c.loop-i.cached.chain d before turn;
     }
 
 pub loop-i-preserved : goal.loop-i-preserved
@@ -56,7 +56,7 @@ loop-i-preserved g c =
     let s : Shelf = shelf_of F.files F.place F.faults c.loop-i.cached.shelf in
     let t : Shelf = shelf_of F.files F.place F.faults c.fill_entry.new.cached.shelf in
     let inside : i < count_of l = omega (arith, c.loop-i-test.true, c.count-i-end.ensures) in
-    filled_more S.holds S.folder S.place S.said S.faults S.may_lack_memory S.asked S.queried l i inside s0 s t c.args.cached.now.chain c.loop-i.cached.chain c.fill_entry.new.cached.chain c.loop-i.invariant
+    filled_more S l i inside s0 s t c.args.cached.now.chain c.loop-i.cached.chain c.fill_entry.new.cached.chain c.loop-i.invariant
     (record { asks = c.fill_entry.ensures.asks; stocks = c.fill_entry.ensures.stocks; changed = c.fill_entry.ensures.changed; stores = c.fill_entry.ensures.stores }) c.in_ok-fill_entry.ensures.ok c.in_ok-fill_entry.ensures.given
 
 pub returns-clause-exactly : goal.returns-clause-exactly

@@ -7,5 +7,5 @@ abbrev pub invariant-loop-i : goal.invariant-loop-i
 invariant-loop-i g l =
     let S = g.S.Store in
     let F = g.F.Look in
-    Filled S.holds S.folder S.place S.said S.faults S.may_lack_memory S.asked S.queried l.index l.i
+    Filled S l.index l.i
     (shelf_of F.files F.place F.faults l.fn.cached.shelf) (shelf_of F.files F.place F.faults l.cached.shelf) l.fn.cached.chain l.cached.chain

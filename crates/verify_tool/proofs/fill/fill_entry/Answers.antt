@@ -3,7 +3,7 @@ use Rattle.cache_store.specs.Shelves.{shelf_of}
 use Rattle.caibx_codec.specs.Listing.{Listing}
 use Rattle.store_chain.specs.Queries.{FillsQuery}
 use Rattle.store_chain.specs.declared.query.Query.{Query}
-use Rattle.verify_tool.proofs.EntryCalls.{Ends, call_gives, call_refused, want_is}
+use Rattle.verify_tool.proofs.EntryCalls.{Ends, call_gives, call_refused, entry_kept, want_is}
 use Rattle.verify_tool.specs.Filling.{FillEnds}
 use Rattle.verify_tool.specs.declared.fill.FillFault.{FillFault}
 use Rattle.verify_tool.proofs.fill.fill_entry.Goals as goal
@@ -20,9 +20,9 @@ returns-in-Yes-clause-given g c =
     let out = c.obtain.new.out in
     let wanted = want_is l i entry.id c.args.cached.now.chain.kind entry.size (length c.args.chunk.now) c.requires.kind c.entry-entry.ensures.size in
     let Given : Query → Type 0 = λ w. FillsQuery w got.size out in
-    let Had : Query → Type 0 = λ w. Ends F.files F.place F.faults S.holds S.folder S.place S.said S.faults S.may_lack_memory S.asked S.queried l i entry.id is_id
+    let Had : Query → Type 0 = λ w. Ends F.files F.place F.faults S l i entry.id is_id
     c.args.cached.now c.obtain.new.self out w (Ok got) in
-    λ m maps held told quiet. call_gives F.files F.place F.faults S.holds S.folder S.place S.said S.faults S.may_lack_memory S.asked S.queried l i entry.id is_id
+    λ m maps held told quiet. call_gives F.files F.place F.faults S l i entry.id is_id
     c.args.cached.now c.obtain.new.self out got
     (subst Given wanted c.in-Ok.ensures.ok) m maps held told quiet (subst Had wanted c.in-Ok.ensures.ends)
 
@@ -36,12 +36,28 @@ returns-in-Err-clause-err g c =
     let is_id = c.entry-entry.ensures.id in
     let out = c.obtain.new.out in
     let wanted = want_is l i entry.id c.args.cached.now.chain.kind entry.size (length c.args.chunk.now) c.requires.kind c.entry-entry.ensures.size in
-    let Had : Query → Type 0 = λ w. Ends F.files F.place F.faults S.holds S.folder S.place S.said S.faults S.may_lack_memory S.asked S.queried l i entry.id is_id
+    let Had : Query → Type 0 = λ w. Ends F.files F.place F.faults S l i entry.id is_id
     c.args.cached.now c.obtain.new.self out w (Err c.in-Err.refused) in
-    let Told : FillFault → Type 0 = λ f. FillEnds S.holds S.folder S.place S.said S.faults S.may_lack_memory l
+    let Told : FillFault → Type 0 = λ f. FillEnds S l
     (shelf_of F.files F.place F.faults c.args.cached.now.shelf) (shelf_of F.files F.place F.faults c.obtain.new.self.shelf)
     c.args.cached.now.chain.stores c.obtain.new.self.chain.stores (Err f) in
     subst Told (sym c.fault_at.ensures.value)
-    (call_refused F.files F.place F.faults S.holds S.folder S.place S.said S.faults S.may_lack_memory S.asked S.queried l i entry.id is_id
+    (call_refused F.files F.place F.faults S l i entry.id is_id
     c.args.cached.now c.obtain.new.self out
     c.requires.listed c.in-Err.refused (subst Had wanted c.in-Err.ensures.ends))
+
+pub returns-in-Yes-clause-stores : goal.returns-in-Yes-clause-stores
+returns-in-Yes-clause-stores g c =
+    entry_kept g.S.Store c.args.index.now c.args.i c.entry-entry.result.id.0 c.args.cached.now.chain.stores c.obtain.new.self.chain.stores c.requires.listed c.entry-entry.ensures.id c.obtain.ensures.stores
+
+pub returns-in-Failed-clause-stores : goal.returns-in-Failed-clause-stores
+returns-in-Failed-clause-stores g c =
+    entry_kept g.S.Store c.args.index.now c.args.i c.entry-entry.result.id.0 c.args.cached.now.chain.stores c.obtain.new.self.chain.stores c.requires.listed c.entry-entry.ensures.id c.obtain.ensures.stores
+
+pub returns-in-Memory-clause-stores : goal.returns-in-Memory-clause-stores
+returns-in-Memory-clause-stores g c =
+    entry_kept g.S.Store c.args.index.now c.args.i c.entry-entry.result.id.0 c.args.cached.now.chain.stores c.obtain.new.self.chain.stores c.requires.listed c.entry-entry.ensures.id c.obtain.ensures.stores
+
+pub returns-in-Err-clause-stores : goal.returns-in-Err-clause-stores
+returns-in-Err-clause-stores g c =
+    entry_kept g.S.Store c.args.index.now c.args.i c.entry-entry.result.id.0 c.args.cached.now.chain.stores c.obtain.new.self.chain.stores c.requires.listed c.entry-entry.ensures.id c.obtain.ensures.stores
