@@ -65,7 +65,7 @@ all_few m state n (x ∷ xs) (y ∷ ys) unused few =
     (few_dialed m state n y (λ q. let none = unused_none m state x (unused 0 x (omega arith)) q in let at = few.0 q in omega (arith, none, at)))
     (all_few m state n xs ys (all_tail (IsUnused state) x xs unused) few.1)
 
-both_dialed : {L D K : Type 0} (state : D → DialState) (gets heads : List ℕ → ℕ) (s : AnyStore L D K) → IsDialed state (AsksFew method.Get gets) s → IsDialed state (AsksFew method.Head heads) s → IsDialed state (Asks gets heads) s
+pub both_dialed : {L D K : Type 0} (state : D → DialState) (gets heads : List ℕ → ℕ) (s : AnyStore L D K) → IsDialed state (AsksFew method.Get gets) s → IsDialed state (AsksFew method.Head heads) s → IsDialed state (Asks gets heads) s
 both_dialed state gets heads (stores.Folder l) a b = tt
 both_dialed state gets heads (stores.Http r) a b = go (state r.dial).ended a b where
   go : (o : Option (List Traffic)) → IfSome o (AsksFew method.Get gets r.server) → IfSome o (AsksFew method.Head heads r.server) → IfSome o (Asks gets heads r.server)

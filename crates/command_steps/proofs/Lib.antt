@@ -14,3 +14,4 @@ pub mod SeedsRead
 pub mod Found
 pub mod Lacked
 pub mod Asking
+pub mod AskedOnly

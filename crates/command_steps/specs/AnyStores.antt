@@ -3,6 +3,7 @@
 use Rattle.std.specs.Prelude.{◌≡◌, ◌++◌, ◌≤◌, ℕ, List, [], ◌∷◌, length, Option, Some, None, IfSome, IsSome}
 use Rattle.std.specs.Map.{count_at}
 use Rattle.std.specs.Option.{option_map}
+use Rattle.chunk_store.specs.Asks.{Sent, sends_nothing}
 use Rattle.chunk_store.specs.Folders.{chunks}
 use Rattle.chunk_store.specs.Said.{Said, SaysMap, said_by, says_map}
 use Rattle.command_steps.specs.Dials.{AreAmong, since}
@@ -15,7 +16,7 @@ use Rattle.dir_store.specs.Stores.{lies_map, unasked_map}
 use Rattle.dsy_base.specs.Counts.{raised}
 use Rattle.dsy_base.specs.Links.{DialState, Traffic, with_all}
 use Rattle.dsy_base.specs.Maps.{Map}
-use Rattle.http_read.specs.Asks.{Server, times_asked}
+use Rattle.http_read.specs.Asks.{Server, sent_on, times_asked}
 use Rattle.http_read.specs.Remotes.{HasCause, said_on}
 use Rattle.http_wire.specs.declared.reply.Method.{Method}
 
@@ -46,6 +47,11 @@ chunks_in files s = option_map chunks (source_files files s)
 abbrev pub said_in : {L D K : Type 0} → (L → Option (Map (List ℕ))) → (D → DialState) → AnyStore L D K → Said
 said_in files state (stores.Folder l) = said_by (option_map chunks (files l))
 said_in files state (stores.Http r) = said_on r.server (state r.dial).ended
+
+-- what it was sent
+abbrev pub source_sent : {L D K : Type 0} → (D → DialState) → AnyStore L D K → Sent
+source_sent state (stores.Folder l) = sends_nothing
+source_sent state (stores.Http r) = sent_on r.server (state r.dial).ended
 
 -- how often a call on it has failed, or a reply to it wasn't taken
 abbrev pub source_faults : {L D K : Type 0} → (L → ℕ) → (D → DialState) → AnyStore L D K → ℕ

@@ -1,10 +1,12 @@
 -- How servers are asked over a command: by which methods, for which ids, and how often.
 use Rattle.std.specs.Prelude.{◌≡◌, ℕ, ◌≤◌, List, [], ◌∷◌, Option, Some, IfSome}
+use Rattle.std.specs.List.{All}
+use Rattle.chunk_store.specs.Asks.{Ask, IsFrontOf}
 use Rattle.command_steps.specs.Sources.{server_at}
 use Rattle.command_words.specs.declared.command.Location.{Location}
 use Rattle.command_words.specs.declared.command.Location.TheVariants as locations
 use Rattle.dsy_base.specs.Links.{Traffic, with_all}
-use Rattle.http_read.specs.Asks.{Server, times_asked}
+use Rattle.http_read.specs.Asks.{Server, ask_bytes, times_asked}
 use Rattle.http_wire.specs.declared.reply.Method.{Method}
 use Rattle.http_wire.specs.declared.reply.Method.TheVariants as method
 
@@ -15,6 +17,14 @@ AsksFew m n s ended = (id : List ℕ) → times_asked s m (Some ended) id ≤ n 
 -- for chunks it was asked at most so often, and so often whether it has them
 abbrev pub Asks : (List ℕ → ℕ) → (List ℕ → ℕ) → Server → List Traffic → Type 0
 Asks gets heads s ended = AsksFew method.Get gets s ended × AsksFew method.Head heads s ended
+
+-- it was sent nothing but fronts of requests for asks of which P holds
+abbrev pub SendsFronts : (Ask → Type 0) → Server → List Traffic → Type 0
+SendsFronts P s ended = All (λ t. IsFrontOf P (ask_bytes s) t.sent) ended
+
+-- it was asked so often, and sent nothing else
+abbrev pub AsksOnly : (List ℕ → ℕ) → (List ℕ → ℕ) → (Ask → Type 0) → Server → List Traffic → Type 0
+AsksOnly gets heads P s ended = Asks gets heads s ended × SendsFronts P s ended
 
 -- those that have ended since are, in the order of the stores, some on the server of each: P is so of these. A folder
 -- has none

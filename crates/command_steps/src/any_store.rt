@@ -22,7 +22,7 @@ impl<L: Look, D: Dial> Store for AnyStore<L, D> {
     ghost use Rattle.std.specs.Prelude.{false, true};
     ghost use Rattle.std.proofs.Common.{rules};
     ghost use Rattle.command_steps.specs.AnyStores.{chunks_in, source_files, place_in, source_faults, said_in};
-    ghost use Rattle.command_steps.specs.AnyStores.{asked_in, lies_any, says_any, unasked_any};
+    ghost use Rattle.command_steps.specs.AnyStores.{asked_in, lies_any, says_any, source_sent, unasked_any};
     ghost use Rattle.http_wire.specs.declared.reply.Method.TheVariants as methods;
 
     ghost holds = { chunks_in L.files };
@@ -30,6 +30,8 @@ impl<L: Look, D: Dial> Store for AnyStore<L, D> {
     ghost folder = { source_files L.files };
 
     ghost said = { said_in L.files D.state };
+
+    ghost sent = { source_sent D.state };
 
     ghost asked = { asked_in methods.Get D.state };
 
