@@ -1,6 +1,7 @@
 -- The chunks of an image as entries: where each ends, and its name.
 use Rattle.std.specs.Prelude.{◌≡◌, ℕ, ◌+◌, ◌-◌, ◌<◌, ◌≤◌, List, [], ◌∷◌, length, drop, slice_range, Option}
 use Rattle.std.specs.Prelude.{IfSome}
+use Rattle.caibx_fields.specs.Limits.{item_limit}
 use Rattle.chunk_ends.specs.Cuts.{IsCut}
 use Rattle.buzhash_cut.specs.Image.{HasTooManyCuts}
 use Rattle.chunk_ends.specs.Sizes.{Sizes}
@@ -38,7 +39,7 @@ pub record IsEntryRun (s : Sizes) (h : Held) (start : ℕ) (es : List (ℕ × Li
 
 -- the entries of all chunks of the image
 pub record AreAll (s : Sizes) (h : Held) (es : List (ℕ × List ℕ)) : Type 0 where
-  pub few : length es ≤ 4194304
+  pub few : length es ≤ item_limit
   pub entries : AreEntries s h.bytes 0 es h.size
   pub sized : IfSome h.bytes (λ t. length t ≡ h.size)
 

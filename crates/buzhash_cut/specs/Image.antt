@@ -1,5 +1,6 @@
 -- The index of an image: its chunks by their ends, each with its name.
 use Rattle.std.specs.Prelude.{◌≡◌, ℕ, ◌<◌, ◌≤◌, List, [], ◌∷◌, length, slice_index, slice_range, All, Result, Ok, Err}
+use Rattle.caibx_fields.specs.Limits.{item_limit}
 use Rattle.chunk_ends.specs.Cuts.{AreCuts}
 use Rattle.chunk_ends.specs.Sizes.{Sizes}
 use Rattle.buzhash_cut.specs.declared.image.CutFault.{CutFault}
@@ -37,7 +38,7 @@ pub record IsIndexOfImage (s : Sizes) (image : List ℕ) (l : Listing) : Type 0 
 pub record HasTooManyCuts (s : Sizes) (image : List ℕ) : Type 0 where
   pub ends : List ℕ
   pub cuts : AreCuts s image 0 ends
-  pub many : 4194304 < length ends
+  pub many : item_limit < length ends
 
 -- what making the index of an image may answer
 abbrev pub IndexGiven : Sizes → List ℕ → Result Listing CutFault → Type 0

@@ -1,6 +1,7 @@
 -- What workers cut of an image, the first one from 0 on and each other one from other places on.
 use Rattle.std.specs.Prelude.{◌≡◌, ℕ, ◌≤◌, List, [], length, All, IfOk, IfErr}
 use Rattle.buzhash_cut.specs.Entries.{AreEntries, AreTooMany, IsEntryRun}
+use Rattle.caibx_fields.specs.Limits.{item_limit}
 use Rattle.chunk_ends.specs.Sizes.{Sizes}
 use Rattle.buzhash_cut.specs.declared.image.CutFault.TheVariants as faults
 use Rattle.buzhash_cut.specs.declared.run.Run.{Run}
@@ -30,6 +31,6 @@ module _ {V : Type 0} (held : V → Held) (failed : V → ℕ) (s : Sizes) (old 
   pub record HasCutFirst : Type 0 where
     pub end : IfOk new.end (λ e. (e ≤ (held old.view).size)
         × AreEntries s (held old.view).bytes 0 (pairs new.entries.items) e)
-    pub few : length (pairs new.entries.items) ≤ 4194304
+    pub few : length (pairs new.entries.items) ≤ item_limit
     pub many : IfErr new.end (λ f. f ≡ faults.TooManyItems → AreTooMany s (held old.view))
     pub counts : CountsFaults faults.ImageFault faults.Memory (failed old.view) (failed new.view) new.end

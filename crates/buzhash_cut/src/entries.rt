@@ -5,25 +5,24 @@ ghost use Rattle.std.specs.Prelude.{OnErr};
 ghost use Rattle.buzhash_cut.specs.Entries.{AreEntries, AreLinked, AreTooMany, IsEntryRun, IsStep};
 ghost use Rattle.buzhash_cut.specs.Slicing.{IsWithin, HasRead, begun_by};
 ghost use Rattle.caibx_codec.specs.Seen.{pair, pairs};
+ghost use Rattle.caibx_fields.specs.Limits.{item_limit};
 ghost use Rattle.dsy_base.specs.Counts.{CountsFaults};
 
 use crate::image::CutFault;
 use crate::slicer::Slicer;
 use caibx_codec::index::Entry;
+use caibx_fields::format::ITEM_LIMIT;
 use dsy_base::view::View;
-
-/// The greatest number of chunks that an index may list.
-const MOST: usize = 4_194_304;
 
 // Adds an entry, where there may be one more.
 fn add_entry(entries: &mut Vec<Entry>, entry: Entry) -> Result<(), CutFault>
     ensures added { OnOk result (pairs entries.new.items ≡ pairs entries.old.items ++ pair entry ∷ []) }
     ensures kept { OnErr result (pairs entries.new.items ≡ pairs entries.old.items) }
-    ensures few { OnOk result (length (pairs entries.new.items) ≤ 4194304) }
-    ensures many { IfErr result (λ f. f ≡ CutFault.TooManyItems → 4194304 ≤ length (pairs entries.old.items)) }
+    ensures few { OnOk result (length (pairs entries.new.items) ≤ item_limit) }
+    ensures many { IfErr result (λ f. f ≡ CutFault.TooManyItems → item_limit ≤ length (pairs entries.old.items)) }
     ensures read { IfErr result (λ f. f ≢ CutFault.ImageFault) }
 {
-    if MOST <= entries.len() {
+    if ITEM_LIMIT <= entries.len() {
         return Err(CutFault::TooManyItems);
     }
     if entries.push(entry).is_err() {
@@ -35,16 +34,16 @@ fn add_entry(entries: &mut Vec<Entry>, entry: Entry) -> Result<(), CutFault>
 /// Adds the entries of a run, where there may be so many more. Answers where the last one ends.
 pub(crate) fn add_run(entries: &mut Vec<Entry>, run: &[Entry]) -> Result<u64, CutFault>
     requires some { 0 < length run.now }
-    requires few { length (pairs entries.old.items) ≤ 4194304 }
+    requires few { length (pairs entries.old.items) ≤ item_limit }
     ensures added { OnOk result (pairs entries.new.items ≡ pairs entries.old.items ++ pairs run.now) }
     ensures end { IfOk result (λ e. (greatest start end : ℕ) → AreLinked (IsStep greatest) start (pairs run.now) end
         → e ≡ end) }
-    ensures few { OnOk result (length (pairs entries.new.items) ≤ 4194304) }
+    ensures few { OnOk result (length (pairs entries.new.items) ≤ item_limit) }
     ensures many { IfErr result (λ f. f ≡ CutFault.TooManyItems →
-        4194304 < length (pairs entries.old.items) + length (pairs run.now)) }
+        item_limit < length (pairs entries.old.items) + length (pairs run.now)) }
     ensures read { IfErr result (λ f. f ≢ CutFault.ImageFault) }
 {
-    if MOST - entries.len() < run.len() {
+    if ITEM_LIMIT - entries.len() < run.len() {
         return Err(CutFault::TooManyItems);
     }
     if entries.extend_from_slice(run).is_err() {
@@ -66,7 +65,7 @@ pub(crate) fn cut_on<V: View>(
     requires begun { (begun_by slicer.old ≡ begun) × (begun ≤ (V.held view.old).size) }
     requires read { IfSome (V.held view.old).bytes (HasRead slicer.old) }
     requires stop { stop ≤ (V.held view.old).size }
-    requires few { length (pairs entries.old.items) ≤ 4194304 }
+    requires few { length (pairs entries.old.items) ≤ item_limit }
 
     ensures end { IfOk result (λ e. (begun ≤ e) × (stop ≤ e) × (e ≤ (V.held view.old).size)) }
     ensures chunks { IfOk result (λ e. (base : ℕ) →
@@ -75,7 +74,7 @@ pub(crate) fn cut_on<V: View>(
     ensures before { OnErr result ((base : ℕ) →
         AreEntries slicer.old.cutter.sizes (V.held view.old).bytes base (pairs entries.old.items) begun
         → IsEntryRun slicer.old.cutter.sizes (V.held view.old) base (pairs entries.new.items)) }
-    ensures few { length (pairs entries.new.items) ≤ 4194304 }
+    ensures few { length (pairs entries.new.items) ≤ item_limit }
     ensures many { IfErr result (λ f. f ≡ CutFault.TooManyItems →
         AreEntries slicer.old.cutter.sizes (V.held view.old).bytes 0 (pairs entries.old.items) begun
         → AreTooMany slicer.old.cutter.sizes (V.held view.old)) }

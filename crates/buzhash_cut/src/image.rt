@@ -4,6 +4,7 @@ ghost use Rattle.std.specs.Prelude.{◌≡◌, ◌≤◌, ◌<◌, map, reverse,
 ghost use Rattle.buzhash_cut.specs.Image.{AreOfOneImage, IndexGiven, CountsViews};
 ghost use Rattle.buzhash_cut.specs.Runs.{IsReady};
 ghost use Rattle.caibx_codec.specs.Listing.{count_of, image_length};
+ghost use Rattle.caibx_fields.specs.Limits.{item_limit};
 
 use crate::worker::Worker;
 use crate::workers::{dismiss, entries_by, hire};
@@ -49,7 +50,7 @@ fn index_by<R: Threads + Sync, V: View + Send>(
     ensures exactly { All (λ h. IfSome h.bytes (λ t. IndexGiven sizes.now t result))
         (map (λ w. V.held w.view) workers.old.items) }
     ensures size { IfOk result (λ l. All (λ h. image_length l ≡ h.size) (map (λ w. V.held w.view) workers.old.items)) }
-    ensures few { IfOk result (λ l. count_of l ≤ 4194304) }
+    ensures few { IfOk result (λ l. count_of l ≤ item_limit) }
     ensures kept { map (λ w. V.held w.view) workers.new.items ≡ map (λ w. V.held w.view) workers.old.items }
     ensures len { vec_len workers.new ≡ vec_len workers.old }
     ensures faults { CountsViews CutFault.ImageFault CutFault.Memory
@@ -82,7 +83,7 @@ pub fn index_view<R: Threads + Sync, V: View + Send>(
         views.items }
     ensures size { IfOk result.1 (λ l. All (λ v. image_length l ≡ (V.held v).size) views.items) }
     ensures kept { map V.held result.0.items ≡ map V.held views.items }
-    ensures few { IfOk result.1 (λ l. count_of l ≤ 4194304) }
+    ensures few { IfOk result.1 (λ l. count_of l ≤ item_limit) }
     ensures faults { CountsViews CutFault.ImageFault CutFault.Memory
         (map V.faults views.items) (map V.faults result.0.items) result.1 }
 {

@@ -4,6 +4,7 @@ ghost use Rattle.std.specs.Prelude.{◌≡◌, ◌<◌, ◌⊎◌, ℕ, List};
 ghost use Rattle.buzhash_cut.specs.Image.{HasTooManyCuts, IsIndexOfImage};
 ghost use Rattle.caibx_codec.specs.Right.{IsRight};
 ghost use Rattle.buzhash_cut.specs.Right.{HasTwins};
+ghost use Rattle.caibx_fields.specs.Limits.{item_limit};
 ghost use Rattle.chunk_ends.specs.Sizes.{Sizes};
 ghost use Rattle.caibx_codec.specs.Listing.{Listing, count_of};
 
@@ -28,5 +29,5 @@ pub fn index_is_one()
 /// The index of an image with too many cuts lists more chunks than an index may, so no index file spells it.
 pub fn many_cuts()
     ensures value { (s : Sizes) (image : List ℕ) (l : Listing) →
-        HasTooManyCuts s image → IsIndexOfImage s image l → 4194304 < count_of l }
+        HasTooManyCuts s image → IsIndexOfImage s image l → item_limit < count_of l }
 {}

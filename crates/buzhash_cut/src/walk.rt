@@ -3,6 +3,7 @@
 ghost use Rattle.std.specs.Prelude.{◌≡◌, ℕ, ◌<◌, ◌≤◌, length, All, IfOk, IfErr, IfSome, OnOk};
 ghost use Rattle.buzhash_cut.specs.Entries.{AreAll, AreEntries, AreTooMany, IsEntryRun};
 ghost use Rattle.buzhash_cut.specs.Runs.{AreRuns};
+ghost use Rattle.caibx_fields.specs.Limits.{item_limit};
 ghost use Rattle.chunk_ends.specs.Sizes.{Sizes};
 ghost use Rattle.buzhash_cut.specs.Slicing.{IsWithin};
 ghost use Rattle.caibx_codec.specs.Seen.{pairs};
@@ -88,13 +89,13 @@ fn walk_on<V: View>(
     requires within { IsWithin slicer.old (V.held view.old).size }
     requires more { at < (V.held view.old).size }
     requires runs { All (λ w. AreRuns slicer.old.cutter.sizes (V.held view.old) w.runs.items) others.now }
-    requires few { length (pairs entries.old.items) ≤ 4194304 }
+    requires few { length (pairs entries.old.items) ≤ item_limit }
     requires chunks { AreEntries slicer.old.cutter.sizes (V.held view.old).bytes 0 (pairs entries.old.items) at }
 
     ensures end { IfOk result (λ e. (at < e) × (e ≤ (V.held view.old).size)) }
     ensures chunks { IfOk result (λ e.
         AreEntries slicer.old.cutter.sizes (V.held view.old).bytes 0 (pairs entries.new.items) e) }
-    ensures few { OnOk result (length (pairs entries.new.items) ≤ 4194304) }
+    ensures few { OnOk result (length (pairs entries.new.items) ≤ item_limit) }
     ensures many { IfErr result (λ f. f ≡ CutFault.TooManyItems →
         AreTooMany slicer.old.cutter.sizes (V.held view.old)) }
 
@@ -122,7 +123,7 @@ fn walk<V: View>(
 ) -> Result<(), CutFault>
     requires inside { begun ≤ (V.held view.old).size }
     requires runs { All (λ w. AreRuns sizes.now (V.held view.old) w.runs.items) others.now }
-    requires few { length (pairs entries.old.items) ≤ 4194304 }
+    requires few { length (pairs entries.old.items) ≤ item_limit }
     requires chunks { AreEntries sizes.now (V.held view.old).bytes 0 (pairs entries.old.items) begun }
     ensures all { OnOk result (AreAll sizes.now (V.held view.old) (pairs entries.new.items)) }
     ensures many { IfErr result (λ f. f ≡ CutFault.TooManyItems → AreTooMany sizes.now (V.held view.old)) }
@@ -154,7 +155,7 @@ pub(crate) fn joined<V: View>(
     sizes: &CutSizes,
 ) -> Result<Vec<Entry>, CutFault>
     requires runs { All (λ w. AreRuns sizes.now (V.held first.old.view) w.runs.items) others.now }
-    requires few { length (pairs first.old.entries.items) ≤ 4194304 }
+    requires few { length (pairs first.old.entries.items) ≤ item_limit }
     requires end { IfOk first.old.end (λ e. (e ≤ (V.held first.old.view).size)
         × AreEntries sizes.now (V.held first.old.view).bytes 0 (pairs first.old.entries.items) e) }
     requires many { IfErr first.old.end (λ f. f ≡ CutFault.TooManyItems

@@ -5,6 +5,7 @@ ghost use Rattle.buzhash_cut.specs.Entries.{AreEntries, AreTooMany, IsEntryRun};
 ghost use Rattle.buzhash_cut.specs.Runs.{AreRuns, HasCut, HasCutFirst, IsReady};
 ghost use Rattle.buzhash_cut.specs.Slicing.{IsWithin, HasRead, begun_by};
 ghost use Rattle.caibx_codec.specs.Seen.{pairs};
+ghost use Rattle.caibx_fields.specs.Limits.{item_limit};
 ghost use Rattle.dsy_base.specs.Counts.{CountsFaults};
 
 use crate::blocks::Blocks;
@@ -51,13 +52,13 @@ fn cut_past<V: View>(
     requires begun { begun < (V.held view.old).size → begun_by slicer.old ≡ begun }
     requires inside { begun ≤ (V.held view.old).size }
     requires read { IfSome (V.held view.old).bytes (HasRead slicer.old) }
-    requires few { length (pairs entries.old.items) ≤ 4194304 }
+    requires few { length (pairs entries.old.items) ≤ item_limit }
     requires chunks { AreEntries slicer.old.cutter.sizes (V.held view.old).bytes start (pairs entries.old.items) begun }
 
     ensures end { IfOk result (λ e. (e ≤ (V.held view.old).size)
         × AreEntries slicer.old.cutter.sizes (V.held view.old).bytes start (pairs entries.new.items) e) }
     ensures run { IsEntryRun slicer.old.cutter.sizes (V.held view.old) start (pairs entries.new.items) }
-    ensures few { length (pairs entries.new.items) ≤ 4194304 }
+    ensures few { length (pairs entries.new.items) ≤ item_limit }
     ensures many { IfErr result (λ f. f ≡ CutFault.TooManyItems → start ≡ 0
         → AreTooMany slicer.old.cutter.sizes (V.held view.old)) }
 
@@ -115,7 +116,7 @@ fn cut_steps<V: View>(
     requires none { pairs entries.old.items ≡ [] }
     ensures end { IfOk result (λ e. (e ≤ (V.held view.old).size)
         × AreEntries sizes.now (V.held view.old).bytes 0 (pairs entries.new.items) e) }
-    ensures few { length (pairs entries.new.items) ≤ 4194304 }
+    ensures few { length (pairs entries.new.items) ≤ item_limit }
     ensures many { IfErr result (λ f. f ≡ CutFault.TooManyItems → AreTooMany sizes.now (V.held view.old)) }
     ensures kept { V.held view.new ≡ V.held view.old }
     ensures faults { CountsFaults CutFault.ImageFault CutFault.Memory (V.faults view.old) (V.faults view.new) result }

@@ -14,9 +14,10 @@ ghost use Rattle.store_chain.specs.Queries.{FillsQuery, query_of};
 
 use chunk_store::id::{ChunkId, DigestKind};
 use chunk_store::shows::Shows;
-use dsy_base::fault::{FileFault, IoFault};
+use chunk_store::store::{GetFault, Store};
+use dir_store::store::DirStore;
+use dsy_base::fault::IoFault;
 use dsy_base::folder::Folder;
-use dsy_base::look::Look;
 use std::marker::Model;
 use store_chain::query::Query;
 
@@ -34,7 +35,7 @@ pub enum CacheMiss {
 /// The chunk files of a folder, which is asked before stores.
 #[derive(Drop)]
 pub struct CacheShelf<F: Folder> {
-    folder: F,
+    store: DirStore<F>,
     kind: DigestKind,
 }
 
@@ -43,20 +44,23 @@ impl<F: Folder> Model for CacheShelf<F> {
 
     ghost Value = { Shelved F };
 
-    ghost view = { λ s. record { folder = s.folder; kind = s.kind } };
+    ghost view = { λ s. record { folder = s.store; kind = s.kind } };
 }
 
 // Reads the file of what is wanted.
-fn look<F: Folder>(folder: &mut F, query: &Query, out: &mut [u8]) -> Result<usize, CacheMiss>
+fn look<F: Folder>(
+    store: &mut DirStore<F>,
+    query: &Query,
+    out: &mut [u8],
+) -> Result<usize, CacheMiss>
     requires size { query.now.lent ≡ length out.old }
     ensures ok { IfOk result (λ n. FillsQuery query.now n out.new) }
-    ensures found { IfSome (option_map chunks (F.files folder.old)) (λ m. Finds query.now m result out.new) }
-    ensures kept { F.files folder.new ≡ F.files folder.old }
-    ensures place { F.place folder.new ≡ F.place folder.old }
-    ensures faults { CountsFaults CacheMiss.Failed CacheMiss.Memory (F.faults folder.old) (F.faults folder.new) result }
+    ensures found { IfSome (option_map chunks (F.files store.old)) (λ m. Finds query.now m result out.new) }
+    ensures kept { F.files store.new ≡ F.files store.old }
+    ensures place { F.place store.new ≡ F.place store.old }
+    ensures faults { CountsFaults CacheMiss.Failed CacheMiss.Memory (F.faults store.old) (F.faults store.new) result }
 {
-    let path = query.id.path();
-    match folder.read(path.as_str(), out) {
+    match store.get(&query.id, out) {
         Ok(n) => {
             let (bytes, _) = out.split_at(n);
             match query.shown(bytes) {
@@ -64,10 +68,10 @@ fn look<F: Folder>(folder: &mut F, query: &Query, out: &mut [u8]) -> Result<usiz
                 Some(shows) => Err(CacheMiss::Wrong(shows)),
             }
         }
-        Err(FileFault::Absent) => Err(CacheMiss::Absent),
-        Err(FileFault::Longer) => Err(CacheMiss::Wrong(Shows::Longer)),
-        Err(FileFault::Failed) => Err(CacheMiss::Failed),
-        Err(FileFault::Memory) => Err(CacheMiss::Memory),
+        Err(GetFault::Missing) => Err(CacheMiss::Absent),
+        Err(GetFault::Longer) => Err(CacheMiss::Wrong(Shows::Longer)),
+        Err(GetFault::Failed) => Err(CacheMiss::Failed),
+        Err(GetFault::Memory) => Err(CacheMiss::Memory),
     }
 }
 
@@ -77,7 +81,7 @@ impl<F: Folder> CacheShelf<F> {
         ensures { result ≡ record { folder = folder; kind = kinds.Sha512T256 } }
     {
         CacheShelf {
-            folder,
+            store: DirStore::new(folder),
             kind: DigestKind::Sha512T256,
         }
     }
@@ -85,7 +89,7 @@ impl<F: Folder> CacheShelf<F> {
     pub fn into_inner(self) -> F
         ensures { result ≡ self.folder }
     {
-        self.folder
+        self.store.into_inner()
     }
 
     /// Which digest names the chunks.
@@ -115,7 +119,7 @@ impl<F: Folder> CacheShelf<F> {
     {
         let query = Query::of(self.kind, id, size, out.len());
         let (lent, _) = out.split_at_mut(query.lent);
-        look(&mut self.folder, &query, lent)
+        look(&mut self.store, &query, lent)
     }
 
     /// Puts the chunk of this id there, in the place of what stood there. Where the type of the folder names the chunks
@@ -131,7 +135,6 @@ impl<F: Folder> CacheShelf<F> {
         ensures faults { CountsFaults IoFault.Failed IoFault.Memory
             (F.faults self.old.folder) (F.faults self.new.folder) result }
     {
-        let path = id.path();
-        self.folder.put(path.as_str(), b)
+        self.store.write(id, b)
     }
 }

@@ -3,7 +3,11 @@
 ghost use Rattle.std.specs.Prelude.{◌≡◌, ◌^◌, ◌≤◌};
 ghost use Rattle.chunk_ends.specs.Sizes.{AreSizes, SizesGiven, discriminator_of};
 
+use caibx_fields::format::SIZE_LIMIT;
 use std::marker::Model;
+
+/// What the average size may be at most: 4 MiB.
+const AVERAGE_LIMIT: u64 = 4_194_304;
 
 /// Why three sizes are none by which one can cut.
 #[derive(Clone, Copy, Debug, PartialEq, Eq)]
@@ -49,10 +53,10 @@ impl CutSizes {
         if avg < min || max < avg {
             return Err(SizeFault::Order);
         }
-        if 4_194_304 < avg {
+        if AVERAGE_LIMIT < avg {
             return Err(SizeFault::AvgTooLarge);
         }
-        if 67_108_864 < max {
+        if SIZE_LIMIT < max {
             return Err(SizeFault::MaxTooLarge);
         }
         Ok(CutSizes { min, avg, max })

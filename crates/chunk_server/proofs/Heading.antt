@@ -2,8 +2,8 @@
 use Rattle.std.proofs.Common.{◌≡◌, ℕ, zero, suc, ◌-◌, ◌<◌, ◌≤◌, List, [], ◌++◌, length, false, refl, ap, ◌∙◌, arith}
 use Rattle.std.proofs.Math.ListN.{get_or-append}
 use Rattle.std.proofs.lemmas.List.{length-append}
-use Rattle.http_frames.specs.HeadEnd.{IsFirstEnd, ends_at}
-use Rattle.chunk_server.specs.Requests.{EndsInHead, HasNoEnd, head_limit}
+use Rattle.http_frames.specs.HeadEnd.{IsFirstEnd, ends_at, head_limit}
+use Rattle.chunk_server.specs.Requests.{EndsInHead, HasNoEnd}
 
 -- what follows the first bytes changes nothing of where a head ends in them
 pub ends_more : (b c : List ℕ) (n : ℕ) → n ≤ length b → ends_at (b ++ c) n ≡ ends_at b n

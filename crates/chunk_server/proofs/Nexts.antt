@@ -3,9 +3,9 @@ use Rattle.std.proofs.Common.{◌≡◌, ℕ, ◌+◌, ◌≤◌, List, ◌++◌
 use Rattle.std.specs.Prelude.{IfSome}
 use Rattle.std.proofs.lemmas.List.{drop-append-le}
 use Rattle.dsy_base.specs.Links.{Traffic}
-use Rattle.http_frames.specs.HeadEnd.{IsFirstEnd}
+use Rattle.http_frames.specs.HeadEnd.{IsFirstEnd, head_limit}
 use Rattle.http_wire.specs.declared.request.Request.{Request}
-use Rattle.chunk_server.specs.Requests.{Asked, Heads, IsRequestHead, IsNextRequest, body_size, endless, head_limit}
+use Rattle.chunk_server.specs.Requests.{Asked, Heads, IsRequestHead, IsNextRequest, body_size, endless}
 use Rattle.chunk_server.specs.Streams.{Stream, skips, stream_in}
 use Rattle.chunk_server.specs.declared.receiving.Heading.TheVariants as heading
 use Rattle.chunk_server.proofs.Streaming.{drop_add, some_left}

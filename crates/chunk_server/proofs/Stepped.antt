@@ -11,6 +11,7 @@ use Rattle.chunk_store.specs.Names.{name_of}
 use Rattle.chunk_store.specs.Paths.{path_of}
 use Rattle.chunk_store.specs.declared.id.ChunkId.{ChunkId}
 use Rattle.chunk_store.specs.declared.id.DigestKind.{DigestKind}
+use Rattle.dir_store.specs.Puts.{PutsAtPath}
 use Rattle.dsy_base.specs.Folders.{put_in}
 use Rattle.dsy_base.specs.Maps.{Map}
 use Rattle.http_wire.specs.declared.request.Act.{Act}
@@ -69,9 +70,8 @@ module _ (kind : DigestKind) (old new : ServedFolder) (id : ChunkId) (body : Lis
     faults = faults;
   })
 
-  pub put_goes : (path : List ℕ) → path ≡ path_of id.0 → name_of kind body ≡ id.0 → r ≡ bare 200 → new.files ≡ option_map (λ m. put_in m path body) old.files → old.faults ≤ new.faults → ServesOrFails kind old (act.Put id) body r new
-  put_goes path at is reply files faults =
-      put_with true (named is) reply (files ∙ ap (λ p. option_map (λ m. put_in m p body) old.files) at) faults
+  pub put_goes : name_of kind body ≡ id.0 → r ≡ bare 200 → PutsAtPath id.0 body old.files new.files → old.faults ≤ new.faults → ServesOrFails kind old (act.Put id) body r new
+  put_goes is reply files faults = put_with true (named is) reply files faults
 
   pub put_refused : name_of kind body ≢ id.0 → r ≡ bare 400 → new.files ≡ old.files → old.faults ≤ new.faults → ServesOrFails kind old (act.Put id) body r new
   put_refused other reply files faults =

@@ -4,8 +4,8 @@ use Rattle.std.specs.Prelude.{IfSome}
 use Rattle.std.proofs.Math.Seq.{take-add}
 use Rattle.std.proofs.lemmas.List.{take-append-le, drop-append-le, drop-drop}
 use Rattle.dsy_base.specs.Links.{Traffic}
-use Rattle.http_frames.specs.HeadEnd.{IsFirstEnd, ends_at}
-use Rattle.chunk_server.specs.Requests.{Heads, head_limit}
+use Rattle.http_frames.specs.HeadEnd.{IsFirstEnd, ends_at, head_limit}
+use Rattle.chunk_server.specs.Requests.{Heads}
 use Rattle.chunk_server.specs.Streams.{Moves, Stream, sent_in, stream_in}
 use Rattle.chunk_server.specs.declared.receiving.Heading.TheVariants as heading
 use Rattle.chunk_server.proofs.Heading.{first_end_more, no_end_more}

@@ -2,13 +2,13 @@
 -- RFC 9110, section 15; when each comes is this project's own.
 use Rattle.std.specs.Prelude.{ℕ, List, [], length, nat_le, if◌then◌else◌, ◌&&◌, Option, Some, None}
 use Rattle.std.specs.Str.{bytes_eq}
+use Rattle.caibx_fields.specs.Limits.{size_limit}
 use Rattle.chunk_store.specs.Folders.{chunks}
 use Rattle.chunk_store.specs.Names.{name_of}
 use Rattle.chunk_store.specs.Paths.{path_of}
 use Rattle.chunk_store.specs.declared.id.DigestKind.{DigestKind}
 use Rattle.dsy_base.specs.Folders.{put_in}
 use Rattle.dsy_base.specs.Maps.{Map}
-use Rattle.http_wire.specs.Request.{body_limit}
 use Rattle.http_wire.specs.declared.request.Act.{Act}
 use Rattle.http_wire.specs.declared.request.Act.TheVariants as act
 
@@ -26,7 +26,7 @@ bare status = record { status = status; size = 0; body = [] }
 abbrev pub chunk_held : DigestKind → List ℕ → Option (List ℕ) → Option (List ℕ)
 chunk_held kind id None = None
 chunk_held kind id (Some b) =
-    if bytes_eq (name_of kind b) id && nat_le (length b) body_limit then Some b else None
+    if bytes_eq (name_of kind b) id && nat_le (length b) size_limit then Some b else None
 
 -- with the chunk, or with its length alone (RFC 9110, section 9.3.2)
 abbrev pub with_chunk : Option (List ℕ) → Answer

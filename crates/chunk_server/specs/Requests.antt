@@ -7,14 +7,10 @@ use Rattle.httparse.specs.Grammar.{RequestHead}
 use Rattle.chunk_server.specs.declared.receiving.Heading.{Heading}
 use Rattle.chunk_server.specs.declared.receiving.Heading.TheVariants as heading
 use Rattle.chunk_server.specs.declared.receiving.Received.{Received}
-use Rattle.http_frames.specs.HeadEnd.{ends_at, IsFirstEnd}
+use Rattle.http_frames.specs.HeadEnd.{ends_at, IsFirstEnd, head_limit}
 use Rattle.http_wire.specs.Request.{bad_request, is_refusal, request_of, IsRequest}
 use Rattle.http_wire.specs.declared.request.Act.TheVariants as act
 use Rattle.http_wire.specs.declared.request.Request.{Request}
-
--- the most bytes of a head
-abbrev pub head_limit : ℕ
-head_limit = 16384
 
 -- a request with its body
 pub record Asked : Type 0 where

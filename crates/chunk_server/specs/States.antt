@@ -1,9 +1,8 @@
 -- What contracts see of a shelf over a folder, and of a chunk file that is read.
-use Rattle.std.specs.Prelude.{◌≡◌, ℕ, ◌≤◌, List, length, take, Bool, Result, Err}
+use Rattle.std.specs.Prelude.{◌≡◌, ℕ, ◌≤◌, List, length, take, Bool}
+use Rattle.caibx_fields.specs.Limits.{size_limit}
 use Rattle.chunk_store.specs.Names.{name_of}
 use Rattle.chunk_store.specs.declared.id.DigestKind.{DigestKind}
-use Rattle.dsy_base.specs.Counts.{Rose}
-use Rattle.http_wire.specs.Request.{body_limit}
 
 -- the folder, which digest names its chunks, and whether chunks may be put
 pub record Standing (F : Type 0) : Type 0 where
@@ -14,10 +13,5 @@ pub record Standing (F : Type 0) : Type 0 where
 -- the chunk at the front of the buffer, if one was found
 pub record IsFoundInBuffer (kind : DigestKind) (id buffer : List ℕ) (n : ℕ) : Type 0 where
   pub inside : n ≤ length buffer
-  pub few : n ≤ body_limit
+  pub few : n ≤ size_limit
   pub named : name_of kind (take n buffer) ≡ id
-
--- how a count goes over several calls on one object: it never falls, and rises where they failed
-pub record CountsItsCause {A E : Type 0} (failed : E) (old new : ℕ) (result : Result A E) : Type 0 where
-  pub never_falls : old ≤ new
-  pub cause : result ≡ Err failed → Rose old new

@@ -2,18 +2,18 @@
 
 ghost use Rattle.std.specs.Prelude.{◌≡◌, ℕ, ◌<◌, ◌≤◌, List, [], ◌++◌, length, take, false, true, IfOk, IfSome, None};
 ghost use Rattle.std.specs.Prelude.{Ok, OnOk, Some};
+ghost use Rattle.caibx_fields.specs.Limits.{size_limit};
 ghost use Rattle.chunk_server.specs.Requests.{HasNone, Heads, IsRequestHead, IsInside, IsNextRequest, asked_of};
 ghost use Rattle.chunk_server.specs.Requests.{body_size, endless};
-ghost use Rattle.chunk_server.specs.Requests.{head_limit};
 ghost use Rattle.chunk_server.specs.Streams.{Moves, given_in, sent_in, skips, stream_in};
 ghost use Rattle.dsy_base.specs.Counts.{CountsFaults};
-ghost use Rattle.http_frames.specs.HeadEnd.{IsFirstEnd};
-ghost use Rattle.http_wire.specs.Request.{body_limit, is_refusal};
+ghost use Rattle.http_frames.specs.HeadEnd.{IsFirstEnd, head_limit};
+ghost use Rattle.http_wire.specs.Request.{is_refusal};
 
-use crate::waiting::{HEAD_LIMIT, read_on, skip};
+use crate::waiting::{read_on, skip};
 use dsy_base::fault::IoFault;
 use dsy_base::link::Link;
-use http_frames::head::head_end;
+use http_frames::head::{HEAD_LIMIT, head_end};
 use http_wire::request::{Act, Request, read_request};
 use std::alloc::Global;
 
@@ -160,7 +160,7 @@ fn receive_body<K: Link>(
 
 // How many bytes follow the head.
 fn body_size(request: &Request) -> usize
-    requires few { is_refusal request.now.act ≡ false → request.now.body ≤ body_limit }
+    requires few { is_refusal request.now.act ≡ false → request.now.body ≤ size_limit }
     ensures { result ≡ body_size request.now }
 {
     match request.act {
@@ -190,7 +190,7 @@ fn read_head(bytes: &[u8], n: usize, writable: bool) -> Request
     ensures says { (more : List ℕ) → IsFirstEnd (bytes.now ++ more) n
         → IsRequestHead writable (bytes.now ++ more) n result }
     ensures closes { is_refusal result.act ≡ true → result.close ≡ true }
-    ensures size { is_refusal result.act ≡ false → result.body ≤ body_limit }
+    ensures size { is_refusal result.act ≡ false → result.body ≤ size_limit }
 {
     let (head, _) = bytes.split_at(n);
     read_request(head, writable)
@@ -209,7 +209,7 @@ pub(crate) fn receive_request<K: Link>(
         IfSome (stream_in waiting.old.items (K.state link.old).traffic) (λ s.
         (n : ℕ) × IsNextRequest writable s.left n (asked_of r)
         × (stream_in waiting.new.items (K.state link.new).traffic ≡ Some (skips n s))))) }
-    ensures room { IfOk result (λ o. IfSome o (λ r. length r.body.items ≤ body_limit)) }
+    ensures room { IfOk result (λ o. IfSome o (λ r. length r.body.items ≤ size_limit)) }
     ensures closes { IfOk result (λ o. IfSome o (λ r. is_refusal r.request.act ≡ true → r.request.close ≡ true)) }
     ensures absent { result ≡ Ok None → IfSome (stream_in waiting.old.items (K.state link.old).traffic)
         (λ s. HasNone writable s.left) }

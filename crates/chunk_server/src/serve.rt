@@ -1,14 +1,15 @@
 //! A connection is served to its end.
 
 ghost use Rattle.std.specs.Prelude.{◌≡◌, ◌≤◌, ℕ, List, length, false, true, IfOk, IfSome, Ok, Err, OnErr, Some};
-ghost use Rattle.chunk_server.specs.Requests.{asked_of, head_limit};
+ghost use Rattle.caibx_fields.specs.Limits.{size_limit};
+ghost use Rattle.chunk_server.specs.Requests.{asked_of};
 ghost use Rattle.chunk_server.specs.Shelves.{StepLacksMemory, ServesOrFails, answer_in};
 ghost use Rattle.chunk_server.specs.Streams.{given_in, stream_in};
 ghost use Rattle.chunk_server.specs.Turns.{Cut, ConnectionFails, IsFair, Lacking, Lingers, Served as ServedWhole};
 ghost use Rattle.chunk_server.specs.Turns.{Stays, RequestsStop};
 ghost use Rattle.chunk_server.specs.Turns.{turn_of};
 ghost use Rattle.dsy_base.specs.Counts.{CountsFaults, Rose};
-ghost use Rattle.http_wire.specs.Request.{body_limit};
+ghost use Rattle.http_frames.specs.HeadEnd.{head_limit};
 
 use crate::receiving::{Received, receive_request};
 use crate::replying::send_reply;
@@ -31,7 +32,7 @@ pub enum Served {
 
 // The answer to a request. One that is refused isn't shown to the shelf.
 fn answer<H: Shelf>(alloc: Global, shelf: &mut H, received: &Received) -> Result<Reply, Memory>
-    requires size { length received.now.body.items ≤ body_limit }
+    requires size { length received.now.body.items ≤ size_limit }
     ensures fair { IfOk result (λ r. IsFair (H.digest shelf.old) H.may
         (turn_of (asked_of received.now) (answer_in r))) }
     ensures ok { IfOk result (λ r. IfSome (H.state shelf.old).files

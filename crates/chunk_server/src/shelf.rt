@@ -1,10 +1,11 @@
 //! Shelves: what answers requests for chunks.
 
 ghost use Rattle.std.specs.Prelude.{◌≡◌, ℕ, Bool, List, ◌≤◌, length, IfOk, IfSome, OnErr, false};
+ghost use Rattle.caibx_fields.specs.Limits.{size_limit};
 ghost use Rattle.chunk_server.specs.Answers.{Answer};
 ghost use Rattle.chunk_server.specs.Shelves.{IsAnswer, StepLacksMemory, ServedFolder, ServesOrFails, answer_in};
 ghost use Rattle.chunk_store.specs.declared.id.DigestKind.{DigestKind};
-ghost use Rattle.http_wire.specs.Request.{body_limit, is_refusal};
+ghost use Rattle.http_wire.specs.Request.{is_refusal};
 ghost use Rattle.http_wire.specs.declared.request.Act.{Act};
 
 use chunk_store::id::DigestKind;
@@ -39,7 +40,7 @@ pub trait Shelf: Drop {
     /// Answers a request.
     fn answer(&mut self, act: &Act, body: &[u8]) -> Result<Reply, Memory>
         requires taken { is_refusal act.now ≡ false }
-        requires size { length body.now ≤ body_limit }
+        requires size { length body.now ≤ size_limit }
         ensures only { IfOk result (λ r. IsAnswer (digest self.old) act.now (answer_in r)) }
         ensures may { IfOk result (λ r. may act.now body.now (answer_in r)) }
         ensures ok { IfOk result (λ r. IfSome (state self.old).files (λ _.

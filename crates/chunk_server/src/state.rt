@@ -3,88 +3,46 @@
 ghost use Rattle.std.specs.Prelude.{◌≡◌, ℕ, ◌<◌, ◌≤◌, [], List, length, take, false, Err, IfErr, IfOk, IfSome, OnErr};
 ghost use Rattle.std.specs.Prelude.{OnOk, Some};
 ghost use Rattle.std.specs.Option.{option_map};
+ghost use Rattle.caibx_fields.specs.Limits.{size_limit};
 ghost use Rattle.chunk_server.specs.Answers.{bare, chunk_held, with_chunk};
 ghost use Rattle.chunk_server.specs.Shelves.{AreAlikeButTemporaries, IsAnswer, RefusesOtherDigest, ServesOrFails};
 ghost use Rattle.chunk_server.specs.Shelves.{answer_in, shelved};
-ghost use Rattle.chunk_server.specs.States.{CountsItsCause, IsFoundInBuffer};
+ghost use Rattle.chunk_server.specs.States.{IsFoundInBuffer};
+ghost use Rattle.chunk_store.specs.Causes.{CountsCause};
 ghost use Rattle.chunk_store.specs.Folders.{chunks};
 ghost use Rattle.chunk_store.specs.declared.id.DigestKind.TheVariants as kinds;
-ghost use Rattle.dsy_base.specs.Maps.{ReadGives};
-ghost use Rattle.http_wire.specs.Request.{body_limit, is_refusal};
+ghost use Rattle.http_wire.specs.Request.{is_refusal};
 
 use crate::replying::HEAD_ROOM;
 use crate::shelf::{Reply, Shelf};
 use chunk_store::id::{ChunkId, DigestKind};
+use chunk_store::store::GetFault;
 use dir_store::laws::put_leaves_a_temporary;
-use dsy_base::fault::{FileFault, IoFault, Memory};
+use dir_store::store::{DirStore, FIRST_READ};
+use dsy_base::fault::{IoFault, Memory};
 use dsy_base::folder::Folder;
 use http_wire::request::Act;
-use std::alloc::{AllocError, Global};
+use std::alloc::Global;
 use std::marker::Model;
-
-/// How many bytes of a chunk file are read at first: 256 KiB.
-const FIRST: usize = 262_144;
-
-/// How many are read at most: 64 MiB, the size of the greatest chunk.
-const LONGEST: usize = 67_108_864;
-
-// Makes the buffer longer, at least twice as long where it may be.
-fn grow(buffer: &mut Vec<u8>) -> Result<(), AllocError>
-    requires room { length buffer.old.items < body_limit }
-    ensures ok { OnOk result (length buffer.old.items < length buffer.new.items) }
-    ensures room { length buffer.new.items ≤ body_limit }
-{
-    let size = (buffer.len() * 2).max(FIRST).min(LONGEST);
-    buffer.resize(size, 0)
-}
-
-// Reads the file of this id. `Longer`: it has more than 64 MiB.
-fn read_file<F: Folder>(
-    folder: &mut F,
-    id: &ChunkId,
-    buffer: &mut Vec<u8>,
-) -> Result<usize, FileFault>
-    requires room { length buffer.old.items ≤ body_limit }
-    ensures room { length buffer.new.items ≤ body_limit }
-    ensures bytes { IfSome (F.files folder.old) (λ m. ReadGives (chunks m id.now.0) result buffer.new.items) }
-    ensures size { IfOk result (λ n. n ≤ length buffer.new.items) }
-    ensures longer { result ≡ Err FileFault.Longer → body_limit ≤ length buffer.new.items }
-    ensures kept { F.files folder.new ≡ F.files folder.old }
-    ensures place { F.place folder.new ≡ F.place folder.old }
-    ensures faults { CountsItsCause FileFault.Failed (F.faults folder.old) (F.faults folder.new) result }
-{
-    let path = id.path();
-    while buffer.len() < LONGEST {
-        match folder.read(path.as_str(), buffer.as_mut_slice()) {
-            Err(FileFault::Longer) => {}
-            answer => return answer,
-        }
-        match grow(buffer) {
-            Ok(()) => {}
-            Err(_) => return Err(FileFault::Memory),
-        }
-    }
-    folder.read(path.as_str(), buffer.as_mut_slice())
-}
 
 // Finds the chunk of this id, and leaves it at the front of the buffer. Bytes of another name, or more than 64 MiB, are
 // none.
 fn find<F: Folder>(
-    folder: &mut F,
+    store: &mut DirStore<F>,
     kind: DigestKind,
     id: &ChunkId,
     buffer: &mut Vec<u8>,
 ) -> Result<Option<usize>, IoFault>
-    requires room { length buffer.old.items ≤ body_limit }
-    ensures room { length buffer.new.items ≤ body_limit }
-    ensures found { IfOk result (λ o. IfSome (F.files folder.old) (λ m.
+    requires room { length buffer.old.items ≤ size_limit }
+    ensures room { length buffer.new.items ≤ size_limit }
+    ensures found { IfOk result (λ o. IfSome (F.files store.old) (λ m.
         chunk_held kind id.now.0 (chunks m id.now.0) ≡ option_map (λ n. take n buffer.new.items) o)) }
     ensures named { IfOk result (λ o. IfSome o (IsFoundInBuffer kind id.now.0 buffer.new.items)) }
-    ensures kept { F.files folder.new ≡ F.files folder.old }
-    ensures place { F.place folder.new ≡ F.place folder.old }
-    ensures faults { CountsItsCause IoFault.Failed (F.faults folder.old) (F.faults folder.new) result }
+    ensures kept { F.files store.new ≡ F.files store.old }
+    ensures place { F.place store.new ≡ F.place store.old }
+    ensures faults { CountsCause IoFault.Failed (F.faults store.old) (F.faults store.new) result }
 {
-    match read_file(folder, id, buffer) {
+    match store.read_whole(id, buffer) {
         Ok(n) => {
             let (chunk, _) = buffer.as_slice().split_at(n);
             if id.is_of(kind, chunk) {
@@ -93,10 +51,10 @@ fn find<F: Folder>(
                 Ok(None)
             }
         }
-        Err(FileFault::Absent) => Ok(None),
-        Err(FileFault::Longer) => Ok(None),
-        Err(FileFault::Failed) => Err(IoFault::Failed),
-        Err(FileFault::Memory) => Err(IoFault::Memory),
+        Err(GetFault::Missing) => Ok(None),
+        Err(GetFault::Longer) => Ok(None),
+        Err(GetFault::Failed) => Err(IoFault::Failed),
+        Err(GetFault::Memory) => Err(IoFault::Memory),
     }
 }
 
@@ -131,22 +89,22 @@ fn with_chunk(alloc: Global, chunk: &[u8]) -> Result<Reply, Memory>
 // The answer to a GET.
 fn get<F: Folder>(
     alloc: Global,
-    folder: &mut F,
+    store: &mut DirStore<F>,
     kind: DigestKind,
     id: &ChunkId,
     buffer: &mut Vec<u8>,
 ) -> Result<Reply, Memory>
-    requires room { length buffer.old.items ≤ body_limit }
-    ensures room { length buffer.new.items ≤ body_limit }
+    requires room { length buffer.old.items ≤ size_limit }
+    ensures room { length buffer.new.items ≤ size_limit }
     ensures only { IfOk result (λ r. IsAnswer kind (Act.Get id.now) (answer_in r)) }
     ensures ok { IfOk result (λ r. (body : List ℕ) →
-        ServesOrFails kind (shelved F.files F.faults folder.old) (Act.Get id.now) body (answer_in r)
-        (shelved F.files F.faults folder.new)) }
-    ensures kept { F.files folder.new ≡ F.files folder.old }
-    ensures place { F.place folder.new ≡ F.place folder.old }
-    ensures faults { F.faults folder.old ≤ F.faults folder.new }
+        ServesOrFails kind (shelved F.files F.faults store.old) (Act.Get id.now) body (answer_in r)
+        (shelved F.files F.faults store.new)) }
+    ensures kept { F.files store.new ≡ F.files store.old }
+    ensures place { F.place store.new ≡ F.place store.old }
+    ensures faults { F.faults store.old ≤ F.faults store.new }
 {
-    match find(folder, kind, id, buffer) {
+    match find(store, kind, id, buffer) {
         Ok(Some(n)) => {
             let (chunk, _) = buffer.as_slice().split_at(n);
             with_chunk(alloc, chunk)
@@ -160,22 +118,22 @@ fn get<F: Folder>(
 // The answer to a HEAD.
 fn head<F: Folder>(
     alloc: Global,
-    folder: &mut F,
+    store: &mut DirStore<F>,
     kind: DigestKind,
     id: &ChunkId,
     buffer: &mut Vec<u8>,
 ) -> Result<Reply, Memory>
-    requires room { length buffer.old.items ≤ body_limit }
-    ensures room { length buffer.new.items ≤ body_limit }
+    requires room { length buffer.old.items ≤ size_limit }
+    ensures room { length buffer.new.items ≤ size_limit }
     ensures only { IfOk result (λ r. IsAnswer kind (Act.Head id.now) (answer_in r)) }
     ensures ok { IfOk result (λ r. (body : List ℕ) →
-        ServesOrFails kind (shelved F.files F.faults folder.old) (Act.Head id.now) body (answer_in r)
-        (shelved F.files F.faults folder.new)) }
-    ensures kept { F.files folder.new ≡ F.files folder.old }
-    ensures place { F.place folder.new ≡ F.place folder.old }
-    ensures faults { F.faults folder.old ≤ F.faults folder.new }
+        ServesOrFails kind (shelved F.files F.faults store.old) (Act.Head id.now) body (answer_in r)
+        (shelved F.files F.faults store.new)) }
+    ensures kept { F.files store.new ≡ F.files store.old }
+    ensures place { F.place store.new ≡ F.place store.old }
+    ensures faults { F.faults store.old ≤ F.faults store.new }
 {
-    match find(folder, kind, id, buffer) {
+    match find(store, kind, id, buffer) {
         Ok(Some(n)) => Ok(Reply {
             status: 200,
             length: n as u64,
@@ -190,25 +148,24 @@ fn head<F: Folder>(
 // The answer to a PUT.
 fn put<F: Folder>(
     alloc: Global,
-    folder: &mut F,
+    store: &mut DirStore<F>,
     kind: DigestKind,
     id: &ChunkId,
     body: &[u8],
 ) -> Result<Reply, Memory>
     ensures only { IfOk result (λ r. IsAnswer kind (Act.Put id.now) (answer_in r)) }
-    ensures ok { IfOk result (λ r. ServesOrFails kind (shelved F.files F.faults folder.old) (Act.Put id.now) body.now
-        (answer_in r) (shelved F.files F.faults folder.new)) }
+    ensures ok { IfOk result (λ r. ServesOrFails kind (shelved F.files F.faults store.old) (Act.Put id.now) body.now
+        (answer_in r) (shelved F.files F.faults store.new)) }
     ensures refused { IfOk result (λ r. RefusesOtherDigest kind (Act.Put id.now) body.now (answer_in r)) }
-    ensures err { OnErr result (AreAlikeButTemporaries (F.files folder.old) (F.files folder.new)) }
-    ensures place { F.place folder.new ≡ F.place folder.old }
-    ensures faults { F.faults folder.old ≤ F.faults folder.new }
+    ensures err { OnErr result (AreAlikeButTemporaries (F.files store.old) (F.files store.new)) }
+    ensures place { F.place store.new ≡ F.place store.old }
+    ensures faults { F.faults store.old ≤ F.faults store.new }
 {
     put_leaves_a_temporary();
     if !id.is_of(kind, body) {
         return Ok(bare(alloc, 400));
     }
-    let path = id.path();
-    match folder.put(path.as_str(), body) {
+    match store.write(id, body) {
         Ok(()) => Ok(bare(alloc, 200)),
         Err(IoFault::Failed) => Ok(bare(alloc, 500)),
         Err(IoFault::Memory) => Err(Memory),
@@ -220,7 +177,7 @@ fn put<F: Folder>(
 #[derive(Drop)]
 pub struct ShelfState<F: Folder> {
     alloc: Global,
-    folder: F,
+    store: DirStore<F>,
     kind: DigestKind,
     writable: bool,
     buffer: Vec<u8>,
@@ -229,13 +186,13 @@ pub struct ShelfState<F: Folder> {
 impl<F: Folder> Model for ShelfState<F> {
     ghost use Rattle.std.specs.Prelude.{◌≤◌, length};
     ghost use Rattle.chunk_server.specs.States.{Standing};
-    ghost use Rattle.http_wire.specs.Request.{body_limit};
+    ghost use Rattle.caibx_fields.specs.Limits.{size_limit};
 
     ghost Value = { Standing F };
 
-    ghost view = { λ s. record { folder = s.folder; kind = s.kind; writable = s.writable } };
+    ghost view = { λ s. record { folder = s.store; kind = s.kind; writable = s.writable } };
 
-    ghost invariant = { λ s. length s.buffer.items ≤ body_limit };
+    ghost invariant = { λ s. length s.buffer.items ≤ size_limit };
 }
 
 impl<F: Folder> ShelfState<F> {
@@ -247,10 +204,10 @@ impl<F: Folder> ShelfState<F> {
         ensures err { IfErr result (λ e. e.0 ≡ folder) }
     {
         let mut buffer = Vec::new(alloc);
-        match buffer.resize(FIRST, 0) {
+        match buffer.resize(FIRST_READ, 0) {
             Ok(()) => Ok(ShelfState {
                 alloc,
-                folder,
+                store: DirStore::new(folder),
                 kind: DigestKind::Sha512T256,
                 writable,
                 buffer,
@@ -262,7 +219,7 @@ impl<F: Folder> ShelfState<F> {
     pub fn into_inner(self) -> F
         ensures { result ≡ self.folder }
     {
-        self.folder
+        self.store.into_inner()
     }
 
     /// Answers a request. GET: 200 with the chunk where bytes of its name are held under the id, at most 64 MiB, else
@@ -270,7 +227,7 @@ impl<F: Folder> ShelfState<F> {
     /// held. A target that is no chunk's path: 404. 500: a call on the folder has failed.
     pub fn apply(&mut self, act: &Act, body: &[u8]) -> Result<Reply, Memory>
         requires taken { is_refusal act.now ≡ false }
-        requires size { length body.now ≤ body_limit }
+        requires size { length body.now ≤ size_limit }
         ensures only { IfOk result (λ r. IsAnswer self.old.kind act.now (answer_in r)) }
         ensures ok { IfOk result (λ r. ServesOrFails self.old.kind
             (shelved F.files F.faults self.old.folder) act.now body.now
@@ -283,21 +240,9 @@ impl<F: Folder> ShelfState<F> {
         ensures kept { self.new.writable ≡ self.old.writable }
     {
         match act {
-            Act::Get(id) => get(
-                self.alloc,
-                &mut self.folder,
-                self.kind,
-                id,
-                &mut self.buffer,
-            ),
-            Act::Head(id) => head(
-                self.alloc,
-                &mut self.folder,
-                self.kind,
-                id,
-                &mut self.buffer,
-            ),
-            Act::Put(id) => put(self.alloc, &mut self.folder, self.kind, id, body),
+            Act::Get(id) => get(self.alloc, &mut self.store, self.kind, id, &mut self.buffer),
+            Act::Head(id) => head(self.alloc, &mut self.store, self.kind, id, &mut self.buffer),
+            Act::Put(id) => put(self.alloc, &mut self.store, self.kind, id, body),
             Act::Lost => Ok(bare(self.alloc, 404)),
             Act::Refuse(_) => unreachable!(),
         }

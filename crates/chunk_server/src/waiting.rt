@@ -1,15 +1,13 @@
 //! Bytes that were received and wait to be looked at. They are no more than a head may have.
 
 ghost use Rattle.std.specs.Prelude.{◌≡◌, ◌<◌, ◌≤◌, [], length, drop, true, false, IfSome, Ok, OnOk};
-ghost use Rattle.chunk_server.specs.Requests.{head_limit};
 ghost use Rattle.chunk_server.specs.Streams.{given_in, sent_in, stream_in};
 ghost use Rattle.dsy_base.specs.Counts.{CountsFaults};
+ghost use Rattle.http_frames.specs.HeadEnd.{head_limit};
 
 use dsy_base::fault::IoFault;
 use dsy_base::link::Link;
-
-/// The most bytes of a head.
-pub(crate) const HEAD_LIMIT: usize = 16_384;
+use http_frames::head::HEAD_LIMIT;
 
 // The first n bytes were looked at.
 pub(crate) fn skip(waiting: &mut Vec<u8>, n: usize)

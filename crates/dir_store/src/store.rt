@@ -1,8 +1,11 @@
 //! The chunk files of a folder as a store. Sizes are in bytes.
 
-ghost use Rattle.std.specs.Prelude.{◌≡◌, IfSome, IfOk, IsTrue, OnOk, OnErr, is_some};
+ghost use Rattle.std.specs.Prelude.{◌≡◌, ◌<◌, ◌≤◌, Err, IfSome, IfOk, IsTrue, OnOk, OnErr, is_some, length};
 ghost use Rattle.std.specs.Option.{option_map};
+ghost use Rattle.caibx_fields.specs.Limits.{size_limit};
+ghost use Rattle.chunk_store.specs.Causes.{CountsCause};
 ghost use Rattle.chunk_store.specs.Folders.{chunks};
+ghost use Rattle.chunk_store.specs.Gets.{GetGives};
 ghost use Rattle.chunk_store.specs.Paths.{path_of};
 ghost use Rattle.dir_store.specs.Names.{is_temporary};
 ghost use Rattle.dir_store.specs.Puts.{PutsAtPath, LeavesTemporary, Removes};
@@ -10,6 +13,7 @@ ghost use Rattle.dsy_base.specs.Counts.{CountsFaults};
 ghost use Rattle.dsy_base.specs.Maps.{IsNamesOf, at_name};
 
 use crate::laws::chunk_is_no_temporary;
+use caibx_fields::format::SIZE_LIMIT;
 use chunk_store::id::ChunkId;
 use chunk_store::laws::{id_has_32_bytes, path_names_one_id, temporary_is_no_path};
 use chunk_store::store::{GetFault, Store, StoreWrite};
@@ -17,6 +21,7 @@ use dsy_base::fault::{FileFault, IoFault};
 use dsy_base::folder::Folder;
 use dsy_base::look::Look;
 use dsy_base::name::Name;
+use std::alloc::AllocError;
 use std::marker::Model;
 
 /// The chunk files of a folder, as a store. Contracts see it as the folder.
@@ -29,6 +34,19 @@ impl<F: Look> Model for DirStore<F> {
     ghost Value = { F };
 
     ghost view = { λ s. s.folder };
+}
+
+/// How many bytes of a chunk file are read at first: 256 KiB.
+pub const FIRST_READ: usize = 262_144;
+
+// Makes the buffer longer, at least twice as long where it may be.
+fn grow(buffer: &mut Vec<u8>) -> Result<(), AllocError>
+    requires room { length buffer.old.items < size_limit }
+    ensures ok { OnOk result (length buffer.old.items < length buffer.new.items) }
+    ensures room { length buffer.new.items ≤ size_limit }
+{
+    let size = (buffer.len() * 2).max(FIRST_READ).min(SIZE_LIMIT as usize);
+    buffer.resize(size, 0)
 }
 
 impl<F: Look> DirStore<F> {
@@ -53,11 +71,37 @@ impl<F: Look> DirStore<F> {
     {
         self.folder.names()
     }
+
+    /// Reads the file of this id to the front of the buffer, which becomes as long as is needed. `Longer`: the file has
+    /// more than 64 MiB.
+    pub fn read_whole(&mut self, id: &ChunkId, buffer: &mut Vec<u8>) -> Result<usize, GetFault>
+        requires room { length buffer.old.items ≤ size_limit }
+        ensures room { length buffer.new.items ≤ size_limit }
+        ensures bytes { IfSome (option_map chunks (F.files self.old))
+            (λ m. GetGives (m id.now.0) result buffer.new.items) }
+        ensures ok { IfOk result (λ n. n ≤ length buffer.new.items) }
+        ensures longer { result ≡ Err GetFault.Longer → length buffer.new.items ≡ size_limit }
+        ensures kept { F.files self.new ≡ F.files self.old }
+        ensures place { F.place self.new ≡ F.place self.old }
+        ensures faults { CountsCause GetFault.Failed (F.faults self.old) (F.faults self.new) result }
+    {
+        while buffer.len() < SIZE_LIMIT as usize {
+            match self.get(id, buffer.as_mut_slice()) {
+                Err(GetFault::Longer) => {}
+                answer => return answer,
+            }
+            match grow(buffer) {
+                Ok(()) => {}
+                Err(_) => return Err(GetFault::Memory),
+            }
+        }
+        self.get(id, buffer.as_mut_slice())
+    }
 }
 
 impl<F: Folder> DirStore<F> {
-    // Writes the file of this id.
-    fn write(&mut self, id: &ChunkId, b: &[u8]) -> Result<(), IoFault>
+    /// Writes the file of this id.
+    pub fn write(&mut self, id: &ChunkId, b: &[u8]) -> Result<(), IoFault>
         ensures ok { OnOk result (PutsAtPath id.now.0 b.now (F.files self.old) (F.files self.new)) }
         ensures err { OnErr result (LeavesTemporary id.now.0 (F.files self.old) (F.files self.new)) }
         ensures place { F.place self.new ≡ F.place self.old }

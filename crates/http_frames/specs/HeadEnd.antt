@@ -2,6 +2,10 @@
 use Rattle.std.specs.Prelude.{◌≡◌, ℕ, ◌-◌, ◌<◌, ◌≤◌, List, length, slice_index, nat_le}
 use Rattle.std.specs.Prelude.{◌==◌, Bool, true, false, ◌&&◌, ◌||◌}
 
+-- the most bytes that are looked at for the end of a head
+abbrev pub head_limit : ℕ
+head_limit = 16384
+
 -- the first n bytes end with LF LF or LF CR LF
 unfoldable pub ends_at : List ℕ → ℕ → Bool
 ends_at b n =

@@ -3,6 +3,9 @@
 ghost use Rattle.std.specs.Prelude.{◌≡◌, ℕ, ◌<◌, ◌≤◌, length, IfSome, IfNone, true, false};
 ghost use Rattle.http_frames.specs.HeadEnd.{ends_at, IsFirstEnd};
 
+/// The most bytes that are looked at for the end of a head.
+pub const HEAD_LIMIT: usize = 16_384;
+
 // Whether the first n bytes end as a head does: with LF LF, or with LF CR LF.
 #[tactic(auto, unfolding(crate::specs::HeadEnd::ends_at))]
 fn ends_at(bytes: &[u8], n: usize) -> bool

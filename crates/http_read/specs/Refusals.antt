@@ -2,11 +2,11 @@
 use Rattle.std.specs.Prelude.{◌≡◌, ◌≢◌, ℕ, ◌<◌, ◌≤◌, ◌⊎◌, List, [], length, drop, false, Ok, Err}
 use Rattle.dsy_base.specs.Links.{Traffic}
 use Rattle.http_read.specs.Asks.{Server, asks}
-use Rattle.http_read.specs.Replies.{head_limit, SaysHead, SaysStatus}
+use Rattle.http_read.specs.Replies.{SaysHead, SaysStatus}
 use Rattle.http_read.specs.declared.fault.BadReply.{BadReply}
 use Rattle.http_read.specs.declared.fault.BadReply.TheVariants as bad
 use Rattle.http_frames.specs.Body.{body_in, reads_body, body_start}
-use Rattle.http_frames.specs.HeadEnd.{ends_at}
+use Rattle.http_frames.specs.HeadEnd.{ends_at, head_limit}
 use Rattle.http_frames.specs.declared.body.BodyKind.{BodyKind}
 use Rattle.http_frames.specs.declared.fault.WireFault.{WireFault}
 use Rattle.http_frames.specs.declared.fault.WireFault.TheVariants as faults

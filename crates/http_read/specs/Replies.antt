@@ -4,7 +4,7 @@ use Rattle.std.specs.Prelude.{◌≡◌, ℕ, ◌<◌, ◌≤◌, ◌⊎◌, Lis
 use Rattle.dsy_base.specs.Links.{Traffic}
 use Rattle.http_read.specs.Asks.{Server, asks, asks_get, asks_head, asks_put}
 use Rattle.http_frames.specs.Body.{Reading, body_in, is_whole, reads_body, body_start}
-use Rattle.http_frames.specs.HeadEnd.{IsFirstEnd}
+use Rattle.http_frames.specs.HeadEnd.{IsFirstEnd, head_limit}
 use Rattle.http_frames.specs.declared.body.BodyKind.{BodyKind}
 use Rattle.http_frames.specs.declared.fault.WireFault.{WireFault}
 use Rattle.http_frames.specs.declared.fault.WireFault.TheVariants as faults
@@ -14,10 +14,6 @@ use Rattle.http_wire.specs.declared.reply.Method.TheVariants as method
 use Rattle.http_wire.specs.declared.reply.ReplyHead.{ReplyHead}
 use Rattle.httparse.specs.Grammar.{ResponseHead, status_code}
 use Rattle.httparse.specs.Spans.{name_and_value}
-
--- the most bytes of a head
-abbrev pub head_limit : ℕ
-head_limit = 16384
 
 -- the head is the first n of these bytes, and says this
 pub record SaysHead (m : Method) (b : List ℕ) (n : ℕ) (says : Result ReplyHead WireFault) : Type 0 where

@@ -3,18 +3,20 @@
 ghost use Rattle.std.specs.Prelude.{◌≡◌, ◌<◌, ◌≤◌, ◌⊎◌, ℕ, [], ◌++◌, length, take, IfOk, IfSome, Ok, OnOk, true, false};
 ghost use Rattle.std.specs.Option.{option_map};
 ghost use Rattle.dsy_base.specs.Links.{IsFreshLink, sends};
+ghost use Rattle.http_frames.specs.HeadEnd.{head_limit};
 ghost use Rattle.http_read.specs.Asks.{IsFront};
 ghost use Rattle.http_read.specs.Answers.{AnswersGet, AnswersHead, AnswersPut, got_of};
 ghost use Rattle.http_read.specs.Reads.{CountsReply, IfBad, Receives, SendsFront, unanswered_of};
 ghost use Rattle.http_read.specs.Refusals.{IsBadReply, IsRefused};
-ghost use Rattle.http_read.specs.Replies.{head_limit, SaysHead};
+ghost use Rattle.http_read.specs.Replies.{SaysHead};
 
 use crate::body::read_body;
 use crate::fault::{BadReply, Unanswered, Unread};
-use crate::receiving::{HEAD_LIMIT, Received, receive};
+use crate::receiving::{Received, receive};
 use dsy_base::fault::IoFault;
 use dsy_base::link::Link;
 use http_frames::fault::WireFault;
+use http_frames::head::HEAD_LIMIT;
 use http_wire::reply::{Method, ReplyHead, read_reply};
 
 // What is said of a chunk that was asked for.

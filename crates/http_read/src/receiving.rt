@@ -3,16 +3,12 @@
 ghost use Rattle.std.specs.Prelude.{◌≡◌, ◌<◌, ◌≤◌, [], length, take, IfOk, IfSome};
 ghost use Rattle.http_read.specs.Reads.{CountsRead, IfWire, Receives};
 ghost use Rattle.http_read.specs.Refusals.{HasNoHead};
-ghost use Rattle.http_read.specs.Replies.{head_limit};
-ghost use Rattle.http_frames.specs.HeadEnd.{IsFirstEnd};
+ghost use Rattle.http_frames.specs.HeadEnd.{IsFirstEnd, head_limit};
 
 use crate::fault::Unread;
 use dsy_base::link::Link;
 use http_frames::fault::WireFault;
 use http_frames::head::head_end;
-
-/// The most bytes of a head.
-pub(crate) const HEAD_LIMIT: usize = 16_384;
 
 // What was received up to the read in which the head ended: the size of the head, and of all of it.
 #[derive(Clone, Copy, Debug, PartialEq, Eq)]

@@ -4,6 +4,7 @@ use Rattle.std.specs.Prelude.{ℕ, ◌≤◌, List, [], length, map, Result, Ok,
 use Rattle.std.specs.Prelude.{if◌then◌else◌, Bool, true, false, ◌&&◌, ◌||◌, Option, Some, None, codes, is_err}
 use Rattle.std.specs.List.{list_any, slice_split}
 use Rattle.std.specs.Str.{bytes_eq, str_eq_ignore_ascii_case}
+use Rattle.caibx_fields.specs.Limits.{size_limit}
 use Rattle.httparse.specs.Grammar.{RequestHead, ReadsRequest, trim_ows}
 use Rattle.httparse.specs.Spans.{name_and_value}
 use Rattle.http_wire.specs.Reply.{field_limit, notes, unframed}
@@ -18,10 +19,6 @@ use Rattle.http_wire.specs.declared.reply.Method.TheVariants as method
 use Rattle.http_wire.specs.declared.request.Act.{Act}
 use Rattle.http_wire.specs.declared.request.Act.TheVariants as act
 use Rattle.http_wire.specs.declared.request.Request.{Request}
-
--- the most bytes of a body
-abbrev pub body_limit : ℕ
-body_limit = 67108864
 
 -- a head that is right: httparse reads all bytes as one, with room for so many lines
 pub record IsRequest (head : List ℕ) (h : RequestHead) : Type 0 where
@@ -58,7 +55,7 @@ uncoded coding.Other = Err 411
 abbrev pub judged_length : Method → ContentLength → Result Unit ℕ
 judged_length m told.Wrong = Err 400
 judged_length method.Put told.Absent = Err 411
-judged_length method.Put (told.Number n) = if nat_lt body_limit n then Err 413 else Ok tt
+judged_length method.Put (told.Number n) = if nat_lt size_limit n then Err 413 else Ok tt
 judged_length m told.Absent = Ok tt
 judged_length m (told.Number n) = if n == 0 then Ok tt else Err 400
 

@@ -3,9 +3,10 @@
 ghost use Rattle.std.specs.Prelude.{◌≡◌, ℕ, ◌≤◌, length, map, All, true, false};
 ghost use Rattle.std.specs.List.{list_any};
 ghost use Rattle.std.specs.Option.{option_map};
+ghost use Rattle.caibx_fields.specs.Limits.{size_limit};
 ghost use Rattle.httparse.specs.Grammar.{RequestHead};
 ghost use Rattle.httparse.specs.Spans.{header_bytes, IsHeaderWithin};
-ghost use Rattle.http_wire.specs.Request.{act_of, allowed, asks_close, bad_request, body_limit, body_told, has_close};
+ghost use Rattle.http_wire.specs.Request.{act_of, allowed, asks_close, bad_request, body_told, has_close};
 ghost use Rattle.http_wire.specs.Request.{is_refusal, judged_request, method_of, request_of, judged_length, uncoded};
 ghost use Rattle.http_wire.specs.Request.{IsRequest};
 
@@ -13,12 +14,10 @@ use crate::framing::{Coding, ContentLength, Framing};
 use crate::reply::{FIELD_LIMIT, Method};
 use crate::target::id_in;
 use crate::words::{is_word, trimmed};
+use caibx_fields::format::SIZE_LIMIT;
 use chunk_store::id::ChunkId;
 use httparse::Status;
 use httparse::spans::{EMPTY_HEADER_SPAN, HeaderSpan, parse_request};
-
-/// The most bytes of a body that is taken: 64 MiB, the greatest size of a chunk.
-pub const BODY_LIMIT: u64 = 67_108_864;
 
 /// What a request asks for.
 #[derive(Clone, Copy, Debug, PartialEq, Eq)]
@@ -94,7 +93,7 @@ fn sized(method: Method, told: ContentLength) -> Result<(), u16>
     match (method, told) {
         (_, ContentLength::Wrong) => Err(400),
         (Method::Put, ContentLength::Absent) => Err(411),
-        (Method::Put, ContentLength::Number(number)) if number > BODY_LIMIT => Err(413),
+        (Method::Put, ContentLength::Number(number)) if number > SIZE_LIMIT => Err(413),
         (Method::Put, ContentLength::Number(_)) => Ok(()),
         (_, ContentLength::Number(number)) if number > 0 => Err(400),
         _ => Ok(()),
@@ -162,13 +161,13 @@ fn ask_close(head: &[u8], lines: &[HeaderSpan]) -> bool
 /// to be one head, as `head_end` bounds it. A request is refused, with the status of the first that holds: 400 where
 /// the bytes aren't a head, or one of more than 64 header lines; 405 where the method isn't taken; 411 where there is a
 /// `Transfer-Encoding`; 400 where a `Content-Length` isn't 1 to 18 digits, contradicts another one, or isn't 0 for GET
-/// or HEAD; 411 where a PUT has none; 413 where it is above `BODY_LIMIT`. Behind a refusal the connection is closed.
+/// or HEAD; 411 where a PUT has none; 413 where it is above `SIZE_LIMIT`. Behind a refusal the connection is closed.
 #[tactic(auto, unfolding(crate::specs::Request::request_with))]
 pub fn read_request(head: &[u8], writable: bool) -> Request
     ensures found { (h : RequestHead) → IsRequest head.now h → result ≡ request_of writable h }
     ensures absent { ((h : RequestHead) → ¬ (IsRequest head.now h)) → result ≡ bad_request }
     ensures closes { is_refusal result.act ≡ true → result.close ≡ true }
-    ensures size { is_refusal result.act ≡ false → result.body ≤ body_limit }
+    ensures size { is_refusal result.act ≡ false → result.body ≤ size_limit }
 {
     let mut lines = [EMPTY_HEADER_SPAN; FIELD_LIMIT];
     let Ok(Status::Complete(spans)) = parse_request(head, &mut lines) else {

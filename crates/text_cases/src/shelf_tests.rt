@@ -1,7 +1,8 @@
 //! Shelves over a folder in memory, and the connections in memory that they serve, through the bounds of their traits.
 
 ghost use Rattle.std.specs.Prelude.{◌≡◌, ◌<◌, ◌≤◌, length, false};
-ghost use Rattle.http_wire.specs.Request.{body_limit, is_refusal};
+ghost use Rattle.caibx_fields.specs.Limits.{size_limit};
+ghost use Rattle.http_wire.specs.Request.{is_refusal};
 
 use crate::compare::{ok, same};
 use crate::pieces::pieces_of;
@@ -52,7 +53,7 @@ fn answers<H: Shelf>(
     sent: &[u8],
 )
     requires taken { is_refusal act ≡ false }
-    requires size { length body.now ≤ body_limit }
+    requires size { length body.now ≤ size_limit }
 {
     let reply = ok(rt, shelf.answer(&act, body));
     same(rt, reply.status, status);

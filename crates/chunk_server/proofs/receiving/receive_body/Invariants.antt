@@ -1,7 +1,7 @@
 use Rattle.std.proofs.Common.{◌≡◌, ◌-◌, ◌≤◌, [], length}
-use Rattle.chunk_server.specs.Requests.{head_limit}
 use Rattle.chunk_server.specs.Streams.{Moves, given_in, sent_in, stream_in}
 use Rattle.chunk_server.proofs.receiving.receive_body.Given as goal
+use Rattle.http_frames.specs.HeadEnd.{head_limit}
 
 -- a part of the body has come
 abbrev pub invariant-pieces : goal.invariant-pieces

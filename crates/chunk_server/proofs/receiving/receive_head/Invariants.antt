@@ -1,7 +1,7 @@
 use Rattle.std.proofs.Common.{◌≡◌, ◌-◌, ◌≤◌, length}
-use Rattle.chunk_server.specs.Requests.{head_limit}
 use Rattle.chunk_server.specs.Streams.{given_in, stream_in}
 use Rattle.chunk_server.proofs.receiving.receive_head.Given as goal
+use Rattle.http_frames.specs.HeadEnd.{head_limit}
 
 -- bytes have come, and no more than a head may have
 abbrev pub invariant-loop-waiting : goal.invariant-loop-waiting

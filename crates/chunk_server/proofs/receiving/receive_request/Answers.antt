@@ -1,6 +1,6 @@
 use Rattle.std.proofs.Common.{ℕ, ◌≤◌, List, ◌++◌, length, ap, subst, ◌∙◌, arith, length-drop}
-use Rattle.http_frames.specs.HeadEnd.{IsFirstEnd}
-use Rattle.chunk_server.specs.Requests.{IsRequestHead, head_limit}
+use Rattle.http_frames.specs.HeadEnd.{IsFirstEnd, head_limit}
+use Rattle.chunk_server.specs.Requests.{IsRequestHead}
 use Rattle.chunk_server.proofs.Nexts.{endless_next, whole_next}
 use Rattle.chunk_server.proofs.Streaming.{sent_same}
 use Rattle.chunk_server.proofs.receiving.receive_request.Goals as goal

@@ -1,8 +1,8 @@
 use Rattle.std.proofs.Common.{◌≡◌, ◌≤◌, [], length}
-use Rattle.chunk_server.specs.Requests.{head_limit}
 use Rattle.chunk_server.specs.Streams.{given_in, stream_in}
 use Rattle.chunk_server.specs.Turns.{Stays}
 use Rattle.chunk_server.proofs.serve.serve.Given as goal
+use Rattle.http_frames.specs.HeadEnd.{head_limit}
 
 -- whole turns were taken, and the connection is open
 abbrev pub invariant-turns : goal.invariant-turns
