@@ -284,7 +284,8 @@ def body_of(lines, start, indent):
 QUESTIONS = {'labels': labels_that_are_not_there, 'list': labels_that_are_not_listed, 'names': names_that_are_not_there,
              'crates': crates_that_no_table_has, 'reached': definitions_that_are_not_read_aloud,
              'comments': definitions_without_a_comment, 'twice': names_with_two_meanings,
-             'aliases': calls_with_an_alias, 'vain': crates_named_in_vain, 'long': crates_that_are_too_long, 'bodies': bodies_that_are_too_long}
+             'aliases': calls_with_an_alias, 'vain': crates_named_in_vain, 'long': crates_that_are_too_long,
+             'bodies': bodies_that_are_too_long}
 
 if __name__ == '__main__':
     print('\n'.join(QUESTIONS[sys.argv[1]]()))
