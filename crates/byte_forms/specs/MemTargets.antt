@@ -1,17 +1,12 @@
--- What a target in memory and its parts hold, and what is left of a target that was split.
+-- What a target in memory or one of its parts holds, and what is left of a target that was split.
 use Rattle.std.specs.Prelude.{Some, vec_len}
 use Rattle.dsy_base.specs.Bytes.{Held}
 use Rattle.dsy_base.specs.Splits.{Left}
-use Rattle.byte_forms.specs.declared.mem_part.MemPart.{MemPart}
 use Rattle.byte_forms.specs.declared.mem_target.MemTarget.{MemTarget}
 
--- what a target in memory holds
+-- what a target in memory holds, or a part of one
 abbrev pub target_held : MemTarget → Held
 target_held t = record { bytes = Some t.bytes.items; size = vec_len t.bytes; name = t.name }
-
--- what a part in memory holds
-abbrev pub part_held : MemPart → Held
-part_held p = record { bytes = Some p.bytes.items; size = vec_len p.bytes; name = p.name }
 
 -- what is left of a target in memory beside its parts
 abbrev pub target_left : MemTarget → Left

@@ -5,9 +5,9 @@ ghost use Rattle.std.specs.List.{sum_by};
 ghost use Rattle.dsy_base.specs.Bytes.{written, resized};
 ghost use Rattle.dsy_base.specs.Counts.{raised};
 ghost use Rattle.dsy_base.specs.Splits.{joined, held_joined};
-ghost use Rattle.byte_forms.specs.MemTargets.{target_held, part_held, target_left};
+ghost use Rattle.byte_forms.specs.MemTargets.{target_held, target_left};
 
-use crate::mem_part::{MemPart, gather, join_parts, parts_of};
+use crate::mem_part::{MemoryPart, join_parts, parts_of};
 use crate::ranges::{RangeFails, next_fails};
 use dsy_base::fault::{Failed, IoFault, SplitFault, raise};
 use dsy_base::name::Name;
@@ -21,10 +21,12 @@ pub struct MemFile {
     pub fails: RangeFails,
 }
 
-/// Bytes in memory that can be written. A write that fails fills its range with the byte 0xee.
+/// Bytes in memory that can be written, or a part of such bytes. A write that fails fills its range with the byte 0xee.
 #[derive(Debug, Drop)]
 pub struct MemTarget {
     bytes: Vec<u8>,
+    // where they begin in the target that they are a part of, or 0
+    from: u64,
     fails: RangeFails,
     faults: u64,
     name: Name,
@@ -39,6 +41,7 @@ impl MemTarget {
     {
         MemTarget {
             bytes,
+            from: 0,
             fails,
             faults: 0,
             name: Name::empty(alloc),
@@ -59,6 +62,7 @@ impl MemTarget {
     {
         MemTarget {
             bytes: file.bytes,
+            from: 0,
             fails: file.fails,
             faults: 0,
             name,
@@ -75,6 +79,31 @@ impl MemTarget {
             fails: self.fails,
         };
         (file, self.faults)
+    }
+}
+
+impl MemoryPart for MemTarget {
+    type Said = RangeFails;
+
+    fn of(
+        alloc: Global,
+        bytes: Vec<u8>,
+        from: u64,
+        said: &RangeFails,
+    ) -> Result<MemTarget, AllocError> {
+        let to = from.saturating_add(bytes.len() as u64);
+        let fails = said.within(alloc, from, to)?;
+        Ok(MemTarget {
+            bytes,
+            from,
+            fails,
+            faults: 0,
+            name: Name::empty(alloc),
+        })
+    }
+
+    fn bytes(&self) -> &[u8] {
+        self.bytes.as_slice()
     }
 }
 
@@ -132,7 +161,7 @@ impl Target for MemTarget {
     // The bytes stay, as room for those of the parts.
     type Rest = MemTarget;
 
-    type Piece = MemPart;
+    type Piece = MemTarget;
 
     ghost left = { λ t. record { size = vec_len t.bytes; name = t.name; faults = t.faults } };
 
@@ -148,7 +177,7 @@ impl Target for MemTarget {
         }
     }
 
-    fn split(self, cuts: &[u64]) -> Result<(MemTarget, Vec<MemPart>), (MemTarget, SplitFault)> {
+    fn split(self, cuts: &[u64]) -> Result<(MemTarget, Vec<MemTarget>), (MemTarget, SplitFault)> {
         let mut target = self;
         if 0 < target.fails.split {
             target.fails.split -= 1;
@@ -162,9 +191,9 @@ impl Target for MemTarget {
         }
     }
 
-    fn rejoin(rest: MemTarget, parts: Vec<MemPart>) -> MemTarget
-        requires { sum_by (λ p. (part_held p).size) parts.items ≡ (target_left rest).size }
-        ensures bytes { target_held result ≡ held_joined (target_left rest) true (joined part_held parts.items) }
+    fn rejoin(rest: MemTarget, parts: Vec<MemTarget>) -> MemTarget
+        requires { sum_by (λ p. (target_held p).size) parts.items ≡ (target_left rest).size }
+        ensures bytes { target_held result ≡ held_joined (target_left rest) true (joined target_held parts.items) }
         ensures faults { result.faults ≡ raised (target_left rest).faults (sum_by (λ p. p.faults) parts.items) }
     {
         let mut target = rest;
@@ -176,6 +205,19 @@ impl Target for MemTarget {
     ghost parts_tell = { refl };
 
     ghost parts_fail = { refl };
+}
+
+// Gives the target back what the parts have left of its fails, and counts the faults of all.
+fn gather(fails: &mut RangeFails, count: u64, parts: &[MemTarget]) -> u64
+    ensures { result ≡ raised count (sum_by (λ p. p.faults) parts.now) }
+{
+    let mut faults = count;
+    for part in parts.iter() {
+        let to = part.from.saturating_add(part.bytes.len() as u64);
+        fails.take_back(&part.fails, part.from, to);
+        faults = raise(faults, part.faults);
+    }
+    faults
 }
 
 /// Writes `b` over the bytes from offset `at` on.

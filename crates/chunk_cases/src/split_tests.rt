@@ -9,7 +9,7 @@ use byte_forms::mem_target::MemTarget;
 use byte_forms::ranges::RangeFails;
 use dsy_base::fault::SplitFault;
 use dsy_base::view::{Target, View};
-use dsy_sure::sure_target::SureTarget;
+use dsy_sure::sure_bytes::SureBytes;
 use std::alloc::Global;
 use std::process::Abort;
 
@@ -60,7 +60,7 @@ fn a_rejoined_target_holds_what_its_parts_hold(rt: HostRuntime) {
         the_second_part_is_written(&rt, alloc, t).bytes(),
         b"abcxyf".as_slice(),
     );
-    let t = SureTarget::new(alloc, ok(&rt, b"abcdef".to_vec(alloc)));
+    let t = SureBytes::new(alloc, ok(&rt, b"abcdef".to_vec(alloc)));
     same(
         &rt,
         the_second_part_is_written(&rt, alloc, t).bytes(),

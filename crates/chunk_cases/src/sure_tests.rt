@@ -11,8 +11,7 @@ use dsy_base::view::{Target, View};
 use dsy_sure::sure_files::SureFiles;
 use dsy_sure::sure_folder::SureFolder;
 use dsy_sure::sure_sink::SureSink;
-use dsy_sure::sure_target::SureTarget;
-use dsy_sure::sure_view::SureView;
+use dsy_sure::sure_bytes::SureBytes;
 use std::alloc::Global;
 use std::process::Abort;
 
@@ -28,7 +27,7 @@ fn a_sink_takes_what_is_put(rt: HostRuntime) {
 #[test]
 fn a_view_is_read_by_place(rt: HostRuntime) {
     let alloc = rt.alloc();
-    let mut view = SureView::new(alloc, ok(&rt, b"view".to_vec(alloc)));
+    let mut view = SureBytes::new(alloc, ok(&rt, b"view".to_vec(alloc)));
     ends_in(&rt, alloc, &mut view, 0, b"view");
     ends_in(&rt, alloc, &mut view, 1, b"iew");
 }
@@ -36,7 +35,7 @@ fn a_view_is_read_by_place(rt: HostRuntime) {
 #[test]
 fn a_target_is_written_by_place(rt: HostRuntime) {
     let alloc = rt.alloc();
-    let mut t = SureTarget::new(alloc, ok(&rt, b"old".to_vec(alloc)));
+    let mut t = SureBytes::new(alloc, ok(&rt, b"old".to_vec(alloc)));
     ok(&rt, t.set_len(5));
     same(&rt, writes(&mut t, 1, b"xy"), true);
     ends_in(&rt, alloc, &mut t, 1, b"xy\0\0");

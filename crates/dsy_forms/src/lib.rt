@@ -4,4 +4,5 @@
 pub mod mem_files;
 pub mod mem_folder;
 pub mod mem_sink;
+pub mod named_files;
 pub mod no_folders;

@@ -13,7 +13,7 @@ ghost use Rattle.dsy_forms.specs.MemFiles.{folder_counts_of};
 ghost use Rattle.dsy_base.specs.Slots.{counts_in, held_in};
 ghost use Rattle.dsy_forms.specs.Trees.{map_of};
 
-use crate::mem_folder::{MemFolder, MemLook};
+use crate::mem_folder::MemFolder;
 use byte_forms::calls::{Calls, Fails};
 use byte_forms::mem_target::{MemFile, MemTarget};
 use byte_forms::mem_view::MemView;
@@ -138,7 +138,7 @@ impl Files for MemFiles {
 
     type Target = MemTarget;
 
-    type Look = MemLook;
+    type Look = MemFolder;
 
     type Folder = MemFolder;
 
@@ -206,7 +206,7 @@ impl Files for MemFiles {
         remove_file(&mut self.files, name)
     }
 
-    fn look(&mut self, name: &str) -> Result<MemLook, OpenFault> {
+    fn look(&mut self, name: &str) -> Result<MemFolder, OpenFault> {
         call_on(self.alloc, &mut self.folders, &mut self.calls, name)?;
         let Ok(place) = Name::of(self.alloc, name) else {
             return Err(OpenFault::Memory);
@@ -214,7 +214,7 @@ impl Files for MemFiles {
         look_at(&self.folders, name, place)
     }
 
-    fn end_look(&mut self, l: MemLook) {
+    fn end_look(&mut self, l: MemFolder) {
         let (place, faults) = l.into_count();
         count(&mut self.folders, place.as_str(), faults);
     }
@@ -416,10 +416,10 @@ fn copy_of(alloc: Global, files: &Slots<MemFile>, name: &str) -> Result<Option<C
 }
 
 // A look at the folder under the name.
-fn look_at(folders: &Slots<MemFolder>, name: &str, place: Name) -> Result<MemLook, OpenFault>
+fn look_at(folders: &Slots<MemFolder>, name: &str, place: Name) -> Result<MemFolder, OpenFault>
     ensures found { OpenGives (folders_in folders.now name.now)
-        (λ l f. map_of l.folder.files ≡ f) result }
-    ensures fresh { IfOk result (λ l. (l.folder.faults ≡ 0) × (l.folder.name ≡ place)) }
+        (λ l f. map_of l.files ≡ f) result }
+    ensures fresh { IfOk result (λ l. (l.faults ≡ 0) × (l.name ≡ place)) }
     ensures only { result ≢ Err OpenFault.Failed }
 {
     let Some(slot) = folders.get(name) else {

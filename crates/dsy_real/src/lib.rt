@@ -2,9 +2,8 @@
 //! contracts how often a call has failed, and nothing of what they hold.
 #![tactic(auto)]
 
+pub mod real_bytes;
 pub mod real_files;
 pub mod real_folder;
 pub mod real_part;
 pub mod real_sink;
-pub mod real_target;
-pub mod real_view;

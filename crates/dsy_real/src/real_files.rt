@@ -5,9 +5,8 @@ ghost use Rattle.std.specs.Map.{count_at};
 ghost use Rattle.dsy_base.specs.Counts.{Rose, Counted};
 ghost use Rattle.dsy_base.specs.Slots.{counts_in};
 
+use crate::real_bytes::RealBytes;
 use crate::real_folder::{RealFolder, RealInner, put_file, remove_file};
-use crate::real_target::RealTarget;
-use crate::real_view::RealView;
 use dsy_base::fault::{IoFault, OpenFault};
 use dsy_base::files::Files;
 use dsy_base::image_files::ImageFiles;
@@ -160,9 +159,9 @@ impl<'a, R: System<File = File>> RealFiles<'a, R> {
 }
 
 impl<'a, R: System<File = File> + AllocGlobal + Clone + Drop> Files for RealFiles<'a, R> {
-    type View = RealView<'a, R>;
+    type View = RealBytes<'a, R>;
 
-    type Target = RealTarget<'a, R>;
+    type Target = RealBytes<'a, R>;
 
     type Look = RealFolder<'a, R>;
 
@@ -183,12 +182,12 @@ impl<'a, R: System<File = File> + AllocGlobal + Clone + Drop> Files for RealFile
 
     ghost never_fails = { false };
 
-    fn view(&mut self, name: &str) -> Result<RealView<'a, R>, OpenFault> {
+    fn view(&mut self, name: &str) -> Result<RealBytes<'a, R>, OpenFault> {
         let Ok(label) = named(self.alloc, &mut self.files, name) else {
             return Err(OpenFault::Memory);
         };
         match stat(self.rt, name) {
-            Found::File(size) => Ok(RealView::new(self.rt, label, size)),
+            Found::File(size) => Ok(RealBytes::new(self.rt, self.alloc, label, size)),
             Found::Nothing => Err(OpenFault::Absent),
             Found::Folder | Found::Other => {
                 fail(&mut self.files, name);
@@ -197,12 +196,12 @@ impl<'a, R: System<File = File> + AllocGlobal + Clone + Drop> Files for RealFile
         }
     }
 
-    fn end_view(&mut self, v: RealView<'a, R>) {
+    fn end_view(&mut self, v: RealBytes<'a, R>) {
         let (label, faults) = v.into_parts();
         count(&mut self.files, label.as_str(), faults);
     }
 
-    fn take(&mut self, name: &str, fresh: bool) -> Result<RealTarget<'a, R>, IoFault> {
+    fn take(&mut self, name: &str, fresh: bool) -> Result<RealBytes<'a, R>, IoFault> {
         let Ok(label) = named(self.alloc, &mut self.files, name) else {
             return Err(IoFault::Memory);
         };
@@ -211,7 +210,7 @@ impl<'a, R: System<File = File> + AllocGlobal + Clone + Drop> Files for RealFile
             Found::Folder | Found::Other => None,
         };
         match opened {
-            Some(size) => Ok(RealTarget::new(self.rt, self.alloc, label, size)),
+            Some(size) => Ok(RealBytes::new(self.rt, self.alloc, label, size)),
             None => {
                 fail(&mut self.files, name);
                 Err(IoFault::Failed)
@@ -219,8 +218,8 @@ impl<'a, R: System<File = File> + AllocGlobal + Clone + Drop> Files for RealFile
         }
     }
 
-    fn give(&mut self, name: &str, t: RealTarget<'a, R>) {
-        let faults = t.into_faults();
+    fn give(&mut self, name: &str, t: RealBytes<'a, R>) {
+        let (_, faults) = t.into_parts();
         count(&mut self.files, name, faults);
     }
 

@@ -3,7 +3,7 @@
 ghost use Rattle.std.specs.Prelude.{◌≡◌, ◌≤◌, length, IfOk};
 ghost use Rattle.dsy_base.specs.Counts.{Rose};
 
-use crate::real_view::read_at;
+use crate::real_bytes::read_at;
 use dsy_base::fault::{FileFault, IoFault, raise};
 use dsy_base::folder::Folder;
 use dsy_base::inner_folders::InnerFolders;

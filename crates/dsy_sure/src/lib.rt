@@ -2,9 +2,7 @@
 //! nothing stands under a name, a file is longer than the buffer, or there is no memory.
 #![tactic(auto)]
 
+pub mod sure_bytes;
 pub mod sure_files;
 pub mod sure_folder;
-pub mod sure_part;
 pub mod sure_sink;
-pub mod sure_target;
-pub mod sure_view;

@@ -9,9 +9,8 @@ ghost use Rattle.dsy_base.specs.Slots.{held_in};
 ghost use Rattle.dsy_forms.specs.Trees.{map_of};
 ghost use Rattle.dsy_sure.specs.SureFiles.{files_in, folders_in, files_of, folders_of, zeros_in};
 
-use crate::sure_folder::{SureFolder, SureLook};
-use crate::sure_target::SureTarget;
-use crate::sure_view::SureView;
+use crate::sure_bytes::SureBytes;
+use crate::sure_folder::SureFolder;
 use dsy_base::fault::{IoFault, Memory, OpenFault};
 use dsy_base::files::Files;
 use dsy_base::image_files::ImageFiles;
@@ -97,11 +96,11 @@ impl SureFiles {
 }
 
 impl Files for SureFiles {
-    type View = SureView;
+    type View = SureBytes;
 
-    type Target = SureTarget;
+    type Target = SureBytes;
 
-    type Look = SureLook;
+    type Look = SureFolder;
 
     type Folder = SureFolder;
 
@@ -115,7 +114,7 @@ impl Files for SureFiles {
 
     ghost never_fails = { true };
 
-    fn view(&mut self, name: &str) -> Result<SureView, OpenFault> {
+    fn view(&mut self, name: &str) -> Result<SureBytes, OpenFault> {
         make_room(self.alloc, &mut self.files, name)?;
         let Ok(place) = Name::of(self.alloc, name) else {
             return Err(OpenFault::Memory);
@@ -123,27 +122,27 @@ impl Files for SureFiles {
         match copy_of(self.alloc, &self.files, name) {
             Err(_) => Err(OpenFault::Memory),
             Ok(None) => Err(OpenFault::Absent),
-            Ok(Some(bytes)) => Ok(SureView::of(place, bytes)),
+            Ok(Some(bytes)) => Ok(SureBytes::of(place, bytes)),
         }
     }
 
-    fn end_view(&mut self, v: SureView) {
+    fn end_view(&mut self, v: SureBytes) {
         drop(v);
     }
 
-    fn take(&mut self, name: &str, fresh: bool) -> Result<SureTarget, IoFault> {
+    fn take(&mut self, name: &str, fresh: bool) -> Result<SureBytes, IoFault> {
         make_room(self.alloc, &mut self.files, name)?;
         let Ok(place) = Name::of(self.alloc, name) else {
             return Err(IoFault::Memory);
         };
         let bytes = take_file(self.alloc, &mut self.files, name);
         if fresh {
-            return Ok(SureTarget::of(place, Vec::new(self.alloc)));
+            return Ok(SureBytes::of(place, Vec::new(self.alloc)));
         }
-        Ok(SureTarget::of(place, bytes))
+        Ok(SureBytes::of(place, bytes))
     }
 
-    fn give(&mut self, name: &str, t: SureTarget) {
+    fn give(&mut self, name: &str, t: SureBytes) {
         put_file(&mut self.files, name, t.into_bytes());
     }
 
@@ -166,7 +165,7 @@ impl Files for SureFiles {
         remove_file(&mut self.files, name)
     }
 
-    fn look(&mut self, name: &str) -> Result<SureLook, OpenFault> {
+    fn look(&mut self, name: &str) -> Result<SureFolder, OpenFault> {
         make_room(self.alloc, &mut self.folders, name)?;
         let Ok(place) = Name::of(self.alloc, name) else {
             return Err(OpenFault::Memory);
@@ -174,7 +173,7 @@ impl Files for SureFiles {
         look_at(&self.folders, name, place)
     }
 
-    fn end_look(&mut self, l: SureLook) {
+    fn end_look(&mut self, l: SureFolder) {
         drop(l);
     }
 
@@ -325,10 +324,10 @@ fn copy_of(alloc: Global, files: &Slots<Vec<u8>>, name: &str) -> Result<Option<V
 }
 
 // A look at the folder under the name.
-fn look_at(folders: &Slots<SureFolder>, name: &str, place: Name) -> Result<SureLook, OpenFault>
+fn look_at(folders: &Slots<SureFolder>, name: &str, place: Name) -> Result<SureFolder, OpenFault>
     ensures found { OpenGives (folders_in folders.now name.now)
-        (λ l f. map_of l.folder.files ≡ f) result }
-    ensures named { IfOk result (λ l. l.folder.name ≡ place) }
+        (λ l f. map_of l.files ≡ f) result }
+    ensures named { IfOk result (λ l. l.name ≡ place) }
     ensures only { result ≢ Err OpenFault.Failed }
 {
     let Some(slot) = folders.get(name) else {

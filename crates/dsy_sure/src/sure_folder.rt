@@ -1,11 +1,6 @@
 //! Folders in memory, whose calls never fail. Names are relative, with `/` between components.
 
-ghost use Rattle.std.specs.Prelude.{◌≡◌, ◌≢◌, ℕ, List, [], None, Some, IfOk, OnOk, OnErr, is_some, map};
-ghost use Rattle.std.specs.Prelude.{string_bytes};
-ghost use Rattle.std.specs.BTreeMap.{keys, IsOrdered};
-ghost use Rattle.std.specs.List.{filter};
-ghost use Rattle.std.specs.String.{string_cmp};
-ghost use Rattle.dsy_base.specs.Maps.{IsNamesOf, ReadGives, at_name, is_listed};
+ghost use Rattle.std.specs.Prelude.{◌≡◌, ℕ, List, [], None, IfOk};
 ghost use Rattle.dsy_forms.specs.Trees.{map_of};
 
 use dsy_base::fault::{FileFault, IoFault};
@@ -13,10 +8,12 @@ use dsy_base::folder::Folder;
 use dsy_base::look::Look;
 use dsy_base::name::Name;
 use dsy_base::temporary::temporary_name;
+use dsy_forms::named_files::{copied, listed_names, put_file, read_whole, remove_file};
 use std::alloc::{AllocError, Global};
 use std::collections::BTreeMap;
 
-/// A folder in memory. Where there is no memory for a put, a temporary file of the same name may be gone.
+/// A folder in memory, or a look at one. Where there is no memory for a put, a temporary file of the same name may be
+/// gone.
 #[derive(Drop)]
 pub struct SureFolder {
     alloc: Global,
@@ -48,24 +45,17 @@ impl SureFolder {
         }
     }
 
-    /// A look at the folder under a name.
-    pub(crate) fn look(&self, name: Name) -> Result<SureLook, AllocError>
-        ensures files { IfOk result (λ l. map_of l.folder.files ≡ map_of self.now.files) }
-        ensures place { IfOk result (λ l. l.folder.name ≡ name) }
+    /// A copy of the folder under a name.
+    pub(crate) fn look(&self, name: Name) -> Result<SureFolder, AllocError>
+        ensures files { IfOk result (λ l. map_of l.files ≡ map_of self.now.files) }
+        ensures place { IfOk result (λ l. l.name ≡ name) }
     {
-        let folder = SureFolder {
+        Ok(SureFolder {
             alloc: self.alloc,
             files: copied(&self.files)?,
             name,
-        };
-        Ok(SureLook { folder })
+        })
     }
-}
-
-/// A copy of a folder in memory, which can only be read.
-#[derive(Drop)]
-pub struct SureLook {
-    folder: SureFolder,
 }
 
 impl Look for SureFolder {
@@ -117,123 +107,4 @@ impl Folder for SureFolder {
     fn remove(&mut self, name: &str) -> Result<bool, IoFault> {
         Ok(remove_file(&mut self.files, name))
     }
-}
-
-impl Look for SureLook {
-    ghost use Rattle.std.specs.Prelude.{Some, true, refl};
-    ghost use Rattle.dsy_forms.specs.Trees.{map_of};
-
-    ghost files = { λ l. Some (map_of l.folder.files) };
-
-    ghost faults = { λ _. 0 };
-
-    ghost place = { λ l. l.folder.name };
-
-    ghost tells = { true };
-
-    ghost never_fails = { true };
-
-    fn read(&mut self, name: &str, out: &mut [u8]) -> Result<usize, FileFault> {
-        self.folder.read(name, out)
-    }
-
-    fn has(&mut self, name: &str) -> Result<bool, IoFault> {
-        self.folder.has(name)
-    }
-
-    fn names(&mut self) -> Result<Vec<Name>, IoFault> {
-        self.folder.names()
-    }
-
-    ghost told = { λ _. refl };
-
-    ghost sure = { λ _ _. refl };
-}
-
-// Reads the whole of `b`, if it fits.
-fn read_whole(b: &[u8], out: &mut [u8]) -> Result<usize, FileFault>
-    ensures bytes { ReadGives (Some b.now) result out.new }
-    ensures only { result ≢ Err FileFault.Failed }
-{
-    let n = b.len();
-    if out.len() < n {
-        return Err(FileFault::Longer);
-    }
-    let (front, _) = out.split_at_mut(n);
-    front.copy_from_slice(b);
-    Ok(n)
-}
-
-// Whether the name has at most one `/`.
-fn is_shallow(name: &str) -> bool
-    ensures { result ≡ is_listed name.now }
-{
-    name.as_bytes().iter().filter(|c| **c == b'/').count() <= 1
-}
-
-// The keys that a folder lists, in their order.
-fn shallow_keys(alloc: Global, files: &BTreeMap<String, Vec<u8>>) -> Result<Vec<Name>, AllocError>
-    ensures value { IfOk result
-        (λ v. v.items ≡ filter is_listed (map string_bytes (keys files.now))) }
-    ensures named { IsOrdered string_cmp files.now }
-{
-    let mut names = Vec::new(alloc);
-    for key in files.keys() {
-        let name = key.as_str();
-        if is_shallow(name) {
-            names.push(Name::of(alloc, name)?)?;
-        }
-    }
-    Ok(names)
-}
-
-// The names that a folder lists.
-#[tactic(auto, using(dsy_forms::proofs::Trees::names_of_map))]
-fn listed_names(alloc: Global, files: &BTreeMap<String, Vec<u8>>) -> Result<Vec<Name>, AllocError>
-    ensures { IfOk result (λ v. IsNamesOf (map_of files.now) v.items) }
-{
-    let names = shallow_keys(alloc, files)?;
-    Ok(names)
-}
-
-// Puts `b` under the name.
-#[tactic(auto, using(std::proofs::lemmas::Map::Text::text_keys))]
-fn put_file(
-    alloc: Global,
-    files: &mut BTreeMap<String, Vec<u8>>,
-    name: &str,
-    b: &[u8],
-) -> Result<(), IoFault>
-    ensures ok { OnOk result ((q : List ℕ) → map_of files.new q
-        ≡ at_name (map_of files.old) name.now (Some b.now) q) }
-    ensures err { OnErr result ((q : List ℕ) → map_of files.new q ≡ map_of files.old q) }
-    ensures only { result ≢ Err IoFault.Failed }
-{
-    let Ok(key) = String::from_str(alloc, name) else {
-        return Err(IoFault::Memory);
-    };
-    let Ok(bytes) = Vec::from_slice(alloc, b) else {
-        return Err(IoFault::Memory);
-    };
-    match files.insert(key, bytes) {
-        Ok(_) => Ok(()),
-        Err(_) => Err(IoFault::Memory),
-    }
-}
-
-// Removes what stands under the name, and answers whether there was anything.
-#[tactic(auto, using(std::proofs::lemmas::Map::Text::text_keys))]
-fn remove_file(files: &mut BTreeMap<String, Vec<u8>>, name: &str) -> bool
-    ensures value { result ≡ is_some (map_of files.old name.now) }
-    ensures changed { (q : List ℕ) → map_of files.new q ≡ at_name (map_of files.old) name.now None q }
-{
-    files.remove(name).is_some()
-}
-
-// A copy of files.
-#[tactic(auto, using(dsy_forms::proofs::Trees::map_of_clone))]
-fn copied(files: &BTreeMap<String, Vec<u8>>) -> Result<BTreeMap<String, Vec<u8>>, AllocError>
-    ensures { IfOk result (λ f. map_of f ≡ map_of files.now) }
-{
-    Ok(files.clone()?)
 }

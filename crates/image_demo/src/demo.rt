@@ -12,8 +12,7 @@ use crate::make::make;
 use crate::stock::stock;
 use buzhash_cut::laws::image_is_right;
 use chunk_store::mem_store::MemStore;
-use dsy_sure::sure_target::SureTarget;
-use dsy_sure::sure_view::SureView;
+use dsy_sure::sure_bytes::SureBytes;
 use std::alloc::Global;
 use std::thread::Threads;
 
@@ -38,12 +37,12 @@ pub fn demo_figures<R: Threads + Sync>(
     let Ok(image) = Vec::from_slice(alloc, &bytes) else {
         return Err(DemoFault::Memory);
     };
-    let indexed = cut(rt, alloc, SureView::new(alloc, bytes))?;
+    let indexed = cut(rt, alloc, SureBytes::new(alloc, bytes))?;
     let Indexed { mut view, index } = indexed;
-    let seed = cut(rt, alloc, SureView::new(alloc, turned))?;
+    let seed = cut(rt, alloc, SureBytes::new(alloc, turned))?;
     let mut store = MemStore::new(alloc);
     stock(alloc, &index, &mut view, &mut store)?;
-    let target = SureTarget::new(alloc, Vec::new(alloc));
+    let target = SureBytes::new(alloc, Vec::new(alloc));
     let made = make(alloc, &index, target, store, seed)?;
     compare(&index, made.target.bytes(), &image)?;
     Ok(made.figures)

@@ -1,4 +1,4 @@
-//! Files of the operating system that are written. Offsets are bytes from 0.
+//! Files of the operating system that are read and written by place. Offsets are bytes from 0.
 
 ghost use Rattle.std.specs.Prelude.{◌≡◌, None, false};
 ghost use Rattle.std.specs.List.{sum_by};
@@ -6,24 +6,34 @@ ghost use Rattle.dsy_base.specs.Counts.{raised};
 ghost use Rattle.dsy_base.specs.Splits.{joined, held_joined};
 
 use crate::real_part::{RealPart, close_parts, open_parts};
-use crate::real_view::read_at;
 use dsy_base::fault::{Failed, IoFault, SplitFault, raise};
 use dsy_base::name::Name;
 use dsy_base::view::{Part, Target, View};
 use std::alloc::Global;
 use std::fs::{File, OpenOptions};
-use std::io;
 use std::os::unix::fs::FileExt;
 use std::rt::Files;
+use std::{fs, io};
 
-/// A file that is written. Each call opens it anew.
+/// The bytes of a file. Each call opens it anew, so however many there are, no limit on open files is met.
 #[derive(Drop)]
-pub struct RealTarget<'a, R: Files<File = File>> {
+pub struct RealBytes<'a, R: Files<File = File>> {
     rt: &'a R,
     alloc: Global,
     name: Name,
     size: u64,
     faults: u64,
+}
+
+/// Fills `out` with the bytes of the file from offset `at` on.
+pub(crate) fn read_at<R: Files<File = File>>(
+    rt: &R,
+    name: &str,
+    at: u64,
+    out: &mut [u8],
+) -> io::Result<()> {
+    let file = fs::open(rt, name)?;
+    file.read_exact_at(out, at)
 }
 
 fn write_at<R: Files<File = File>>(rt: &R, name: &str, at: u64, b: &[u8]) -> io::Result<()> {
@@ -36,14 +46,14 @@ fn set_len<R: Files<File = File>>(rt: &R, name: &str, n: u64) -> io::Result<()> 
     file.set_len(n)
 }
 
-impl<'a, R: Files<File = File>> RealTarget<'a, R> {
+impl<'a, R: Files<File = File>> RealBytes<'a, R> {
     /// The file, which has `size` bytes.
-    pub fn new(rt: &'a R, alloc: Global, name: Name, size: u64) -> RealTarget<'a, R>
+    pub fn new(rt: &'a R, alloc: Global, name: Name, size: u64) -> RealBytes<'a, R>
         ensures size { result.size ≡ size }
         ensures named { result.name ≡ name }
         ensures faults { result.faults ≡ 0 }
     {
-        RealTarget {
+        RealBytes {
             rt,
             alloc,
             name,
@@ -52,15 +62,15 @@ impl<'a, R: Files<File = File>> RealTarget<'a, R> {
         }
     }
 
-    /// How often a call on it has failed.
-    pub fn into_faults(self) -> u64
-        ensures { result ≡ self.entry.faults }
+    /// The name that it was taken under, and how often a call on it has failed.
+    pub fn into_parts(self) -> (Name, u64)
+        ensures { (result.0 ≡ self.entry.name) × (result.1 ≡ self.entry.faults) }
     {
-        self.faults
+        (self.name, self.faults)
     }
 }
 
-impl<R: Files<File = File>> View for RealTarget<'_, R> {
+impl<R: Files<File = File>> View for RealBytes<'_, R> {
     ghost use Rattle.std.specs.Prelude.{None, false, refl};
     ghost use Rattle.std.proofs.Common.{rules};
 
@@ -93,7 +103,7 @@ impl<R: Files<File = File>> View for RealTarget<'_, R> {
     ghost sure = { Prim.search rules };
 }
 
-impl<R: Files<File = File>> Part for RealTarget<'_, R> {
+impl<R: Files<File = File>> Part for RealBytes<'_, R> {
     fn write_at(&mut self, at: u64, b: &[u8]) -> Result<(), Failed> {
         match write_at(self.rt, self.name.as_str(), at, b) {
             Ok(()) => Ok(()),
@@ -105,12 +115,12 @@ impl<R: Files<File = File>> Part for RealTarget<'_, R> {
     }
 }
 
-impl<'a, R: Files<File = File>> Target for RealTarget<'a, R> {
+impl<'a, R: Files<File = File>> Target for RealBytes<'a, R> {
     ghost use Rattle.std.specs.Prelude.{refl};
 
     type Piece = RealPart;
 
-    type Rest = RealTarget<'a, R>;
+    type Rest = RealBytes<'a, R>;
 
     ghost left = { λ t. record { size = t.size; name = t.name; faults = t.faults } };
 
@@ -130,7 +140,7 @@ impl<'a, R: Files<File = File>> Target for RealTarget<'a, R> {
     fn split(
         self,
         cuts: &[u64],
-    ) -> Result<(RealTarget<'a, R>, Vec<RealPart>), (RealTarget<'a, R>, SplitFault)> {
+    ) -> Result<(RealBytes<'a, R>, Vec<RealPart>), (RealBytes<'a, R>, SplitFault)> {
         let mut target = self;
         match open_parts(
             target.rt,
@@ -148,7 +158,7 @@ impl<'a, R: Files<File = File>> Target for RealTarget<'a, R> {
         }
     }
 
-    fn rejoin(rest: RealTarget<'a, R>, parts: Vec<RealPart>) -> RealTarget<'a, R>
+    fn rejoin(rest: RealBytes<'a, R>, parts: Vec<RealPart>) -> RealBytes<'a, R>
         requires { sum_by (λ p. p.size) parts.items ≡ rest.size }
         ensures bytes { record { bytes = None; size = result.size; name = result.name }
             ≡ held_joined (record { size = rest.entry.size; name = rest.entry.name; faults = rest.entry.faults }) false

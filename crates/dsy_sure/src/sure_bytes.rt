@@ -1,32 +1,31 @@
-//! Bytes in memory that can be written, and always are. Offsets are bytes from 0, ends are exclusive.
+//! Bytes in memory that are always read and written. Offsets are bytes from 0, ends are exclusive.
 
 ghost use Rattle.std.specs.Prelude.{◌≡◌, [], true};
 ghost use Rattle.std.specs.List.{sum_by};
 ghost use Rattle.dsy_base.specs.Counts.{raised};
 ghost use Rattle.dsy_base.specs.Splits.{joined, held_joined};
-ghost use Rattle.dsy_sure.specs.SureTargets.{target_held, part_held, target_left};
+ghost use Rattle.dsy_sure.specs.SureTargets.{target_held, target_left};
 
-use crate::sure_part::SurePart;
-use byte_forms::mem_part::{join_parts, parts_of};
+use byte_forms::mem_part::{MemoryPart, join_parts, parts_of};
 use byte_forms::mem_target::{resize, write_over};
 use dsy_base::fault::{Failed, IoFault, SplitFault};
 use dsy_base::name::Name;
 use dsy_base::view::{Part, Target, View};
-use std::alloc::Global;
+use std::alloc::{AllocError, Global};
 
-/// Bytes in memory that can be written. Reads and writes never fail.
+/// A view, a target or a part of a target in memory. Reads and writes never fail.
 #[derive(Debug, Drop)]
-pub struct SureTarget {
+pub struct SureBytes {
     bytes: Vec<u8>,
     name: Name,
 }
 
-impl SureTarget {
-    pub fn new(alloc: Global, bytes: Vec<u8>) -> SureTarget
+impl SureBytes {
+    pub fn new(alloc: Global, bytes: Vec<u8>) -> SureBytes
         ensures bytes { result.bytes ≡ bytes }
         ensures named { result.name ≡ [] }
     {
-        SureTarget::of(Name::empty(alloc), bytes)
+        SureBytes::of(Name::empty(alloc), bytes)
     }
 
     pub fn bytes(&self) -> &[u8]
@@ -35,12 +34,12 @@ impl SureTarget {
         self.bytes.as_slice()
     }
 
-    /// A target under a name.
-    pub(crate) fn of(name: Name, bytes: Vec<u8>) -> SureTarget
+    /// The bytes of the file of this name.
+    pub(crate) fn of(name: Name, bytes: Vec<u8>) -> SureBytes
         ensures bytes { result.bytes ≡ bytes }
         ensures named { result.name ≡ name }
     {
-        SureTarget { bytes, name }
+        SureBytes { bytes, name }
     }
 
     pub(crate) fn into_bytes(self) -> Vec<u8>
@@ -50,7 +49,22 @@ impl SureTarget {
     }
 }
 
-impl View for SureTarget {
+impl MemoryPart for SureBytes {
+    type Said = ();
+
+    fn of(alloc: Global, bytes: Vec<u8>, _from: u64, _said: &()) -> Result<SureBytes, AllocError> {
+        Ok(SureBytes {
+            bytes,
+            name: Name::empty(alloc),
+        })
+    }
+
+    fn bytes(&self) -> &[u8] {
+        self.bytes.as_slice()
+    }
+}
+
+impl View for SureBytes {
     ghost use Rattle.std.specs.Prelude.{Some, vec_len, true, refl};
     ghost use Rattle.std.proofs.Common.{rules};
 
@@ -79,20 +93,20 @@ impl View for SureTarget {
     ghost sure = { λ _ _. refl };
 }
 
-impl Part for SureTarget {
+impl Part for SureBytes {
     fn write_at(&mut self, at: u64, b: &[u8]) -> Result<(), Failed> {
         write_over(&mut self.bytes, at as usize, b);
         Ok(())
     }
 }
 
-impl Target for SureTarget {
+impl Target for SureBytes {
     ghost use Rattle.std.specs.Prelude.{vec_len, refl};
 
-    type Piece = SurePart;
+    type Piece = SureBytes;
 
     // The bytes stay, as room for those of the parts.
-    type Rest = SureTarget;
+    type Rest = SureBytes;
 
     ghost left = { λ t. record { size = vec_len t.bytes; name = t.name; faults = 0 } };
 
@@ -103,7 +117,7 @@ impl Target for SureTarget {
         }
     }
 
-    fn split(self, cuts: &[u64]) -> Result<(SureTarget, Vec<SurePart>), (SureTarget, SplitFault)> {
+    fn split(self, cuts: &[u64]) -> Result<(SureBytes, Vec<SureBytes>), (SureBytes, SplitFault)> {
         let alloc = *self.bytes.allocator();
         match parts_of(alloc, self.bytes.as_slice(), cuts, &()) {
             Ok(parts) => Ok((self, parts)),
@@ -111,9 +125,9 @@ impl Target for SureTarget {
         }
     }
 
-    fn rejoin(rest: SureTarget, parts: Vec<SurePart>) -> SureTarget
-        requires { sum_by (λ p. (part_held p).size) parts.items ≡ (target_left rest).size }
-        ensures bytes { target_held result ≡ held_joined (target_left rest) true (joined part_held parts.items) }
+    fn rejoin(rest: SureBytes, parts: Vec<SureBytes>) -> SureBytes
+        requires { sum_by (λ p. (target_held p).size) parts.items ≡ (target_left rest).size }
+        ensures bytes { target_held result ≡ held_joined (target_left rest) true (joined target_held parts.items) }
         ensures faults { 0 ≡ raised (target_left rest).faults (sum_by (λ _. 0) parts.items) }
     {
         let mut target = rest;

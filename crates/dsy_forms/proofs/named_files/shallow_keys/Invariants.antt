@@ -2,7 +2,7 @@ use Rattle.std.proofs.Common.{◌≡◌, ◌++◌, map, string_bytes}
 use Rattle.std.specs.BTreeMap.{keys}
 use Rattle.std.specs.List.{filter}
 use Rattle.dsy_base.specs.Maps.{is_listed}
-use Rattle.dsy_sure.proofs.sure_folder.shallow_keys.Given as goal
+use Rattle.dsy_forms.proofs.named_files.shallow_keys.Given as goal
 
 -- the names so far, and those of the keys that are left
 abbrev pub invariant-loop-key : goal.invariant-loop-key

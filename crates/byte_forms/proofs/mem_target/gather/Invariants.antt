@@ -1,7 +1,7 @@
 use Rattle.std.proofs.Common.{◌≡◌, take}
 use Rattle.std.specs.List.{sum_by}
 use Rattle.dsy_base.specs.Counts.{raised}
-use Rattle.byte_forms.proofs.mem_part.gather.Given as goal
+use Rattle.byte_forms.proofs.mem_target.gather.Given as goal
 
 -- the faults of the parts so far are counted
 abbrev pub invariant-loop-part : goal.invariant-loop-part
