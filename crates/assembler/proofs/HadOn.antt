@@ -21,7 +21,7 @@ use Rattle.extract_plan.specs.Deal.{AreWants, Deal, of_want}
 use Rattle.extract_plan.specs.Places.{Placed, places_at}
 use Rattle.range_survey.specs.Fates.{settled}
 use Rattle.range_survey.specs.declared.fate.Fate.{Fate}
-use Rattle.store_chain.specs.Chains.{KeepsStores}
+use Rattle.store_chain.specs.Chains.{KeepsHeld}
 
 -- this is known of each settled entry, where the cache e and the stores hold maps
 abbrev pub HadUpTo : {S : Type 0} → Listing → Deal → Placed → Bool → (S → Option (Map (List ℕ))) → List Fate → List (Option Held)
@@ -74,7 +74,7 @@ module _ (l : Listing) (d : Deal) (x : Placed) (wants : AreWants l d.wants d.wan
   -- after one more want
   pub had_more : {S : Type 0} (tells : Bool) (holds folder : S → Option (Map (List ℕ))) (place : S → List ℕ) (said : S → Said) (faults : S → ℕ)
       (m now new : List Fate) (views after : List (Option Held)) (e f : Option Shelf) (s0 s1 : List S) (w : ℕ) (A : ℕ → Type 0) → Stocked (TakesWants holds l d A s0) e f
-      → KeepsStores holds folder place said faults s0 s1 → after ≡ views
+      → KeepsHeld holds folder place said faults s0 s1 → after ≡ views
       → HadUpTo l d x tells holds m views e s0 now
       → ((i : ℕ) → settled now i ≡ false → settled new i ≡ true → IsAmong (of_want d w) i)
       → (Telling tells after → (cached maps : List (Map (List ℕ))) → cached_in f ≡ Some cached → map holds s1 ≡ map Some maps

@@ -24,8 +24,8 @@ use Rattle.extract_plan.specs.Places.{Placed, places_at}
 use Rattle.extract_plan.specs.Seeds.{faults_in, seed_held}
 use Rattle.extract_plan.specs.declared.seed.SeedPlace.{SeedPlace}
 use Rattle.range_survey.specs.declared.fate.Fate.{Fate}
-use Rattle.store_chain.proofs.Kept.{kept_on, kept_still}
-use Rattle.store_chain.specs.Chains.{KeepsStores}
+use Rattle.store_chain.proofs.Kept.{stay_on, stay_still}
+use Rattle.store_chain.specs.Chains.{KeepsHeld}
 use Rattle.store_chain.specs.Faults.{NoneFalls}
 use Rattle.store_chain.specs.declared.refused.Refused.TheVariants as refused
 
@@ -48,7 +48,7 @@ module _ {S V : Type 0} (holds folder : S → Option (Map (List ℕ))) (place : 
     (store_faults : S → ℕ) (lacks_memory : Bool) (view : V → Held) (view_faults : V → ℕ) (l : Listing) (d : Deal)
     (x : Placed) where
   abbrev Keeps : List S → List S → Type 0
-  Keeps = KeepsStores holds folder place said store_faults
+  Keeps = KeepsHeld holds folder place said store_faults
 
   abbrev AreLost : List Fate → ℕ → ℕ → Kit S V → Kit S V → Option Shelf → Option Shelf → Lost → Type 0
   AreLost m a b k j e f lost = IsLost holds folder place said store_faults lacks_memory view view_faults l d x m a b k j e f lost
@@ -93,7 +93,7 @@ module _ {S V : Type 0} (holds folder : S → Option (Map (List ℕ))) (place : 
       after = was.stores.after;
       until = was.stores.until;
       refused = was.stores.refused;
-      since = kept_on holds folder place said store_faults was.stores.after j.chain.stores i.chain.stores was.stores.since stores;
+      since = stay_on holds folder place said store_faults was.stores.after j.chain.stores i.chain.stores was.stores.since stores;
     };
     had_memory = was.had_memory;
   }
@@ -117,7 +117,7 @@ module _ {S V : Type 0} (holds folder : S → Option (Map (List ℕ))) (place : 
         stores = record {
           before = was.stores.before;
           after = was.stores.after;
-          until = kept_on holds folder place said store_faults k.chain.stores j.chain.stores was.stores.before stores was.stores.until;
+          until = stay_on holds folder place said store_faults k.chain.stores j.chain.stores was.stores.before stores was.stores.until;
           refused = was.stores.refused;
           since = was.stores.since;
         };
@@ -154,7 +154,7 @@ module _ {S V : Type 0} (holds folder : S → Option (Map (List ℕ))) (place : 
             after = i.chain.stores;
             until = stores;
             refused = refusing;
-            since = kept_still holds folder place said store_faults i.chain.stores;
+            since = stay_still holds folder place said store_faults i.chain.stores;
           };
           had_memory = had_memory;
         }

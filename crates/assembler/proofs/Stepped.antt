@@ -15,7 +15,7 @@ use Rattle.extract_plan.specs.Places.{Placed, PlacesKnown}
 use Rattle.extract_plan.specs.Seeds.{faults_in, seed_held}
 use Rattle.extract_plan.specs.declared.seed.Seed.{Seed}
 use Rattle.range_survey.specs.declared.fate.Fate.{Fate}
-use Rattle.store_chain.proofs.Kept.{kept_still, kept_on}
+use Rattle.store_chain.proofs.Kept.{stay_still, stay_on}
 
 -- ---- seeds
 
@@ -48,7 +48,7 @@ module _ {T S V : Type 0} (held : T → Held) (faults : T → ℕ) (holds folder
     name = refl;
     size = refl;
     never_falls = omega arith;
-    stores = kept_still holds folder place said store_faults k.chain.stores;
+    stores = stay_still holds folder place said store_faults k.chain.stores;
     kind = refl;
     seeds = seeds_none view view_faults k.seeds.items;
     room = refl;
@@ -64,7 +64,7 @@ module _ {T S V : Type 0} (held : T → Held) (faults : T → ℕ) (holds folder
     name = next.name ∙ first.name;
     size = next.size ∙ first.size;
     never_falls = omega (arith, first.never_falls, next.never_falls);
-    stores = kept_on holds folder place said store_faults k.chain.stores j.chain.stores i.chain.stores first.stores next.stores;
+    stores = stay_on holds folder place said store_faults k.chain.stores j.chain.stores i.chain.stores first.stores next.stores;
     kind = next.kind ∙ first.kind;
     seeds = seeds_on view view_faults k.seeds.items j.seeds.items i.seeds.items first.seeds next.seeds;
     room = next.room ∙ first.room;

@@ -12,7 +12,7 @@ use Rattle.extract_plan.specs.Deal.{AreWants, Deal}
 use Rattle.extract_plan.specs.Places.{Placed, PlacesKnown}
 use Rattle.range_survey.specs.Fates.{SettledRight}
 use Rattle.range_survey.specs.declared.fate.Fate.{Fate}
-use Rattle.store_chain.specs.Chains.{KeepsStores}
+use Rattle.store_chain.specs.Chains.{KeepsHeld}
 
 -- all is as it must be before entries are settled: the plan and the places are of the index, the buffer has room for
 -- each chunk, the target has the image's length, and each settled entry is right in it
@@ -36,7 +36,7 @@ module _ {T S V : Type 0} (held : T → Held) (faults : T → ℕ) (holds folder
     pub name : (held b).name ≡ (held a).name
     pub size : (held b).size ≡ (held a).size
     pub never_falls : faults a ≤ faults b
-    pub stores : KeepsStores holds folder place said store_faults k.chain.stores j.chain.stores
+    pub stores : KeepsHeld holds folder place said store_faults k.chain.stores j.chain.stores
     pub kind : j.chain.kind ≡ k.chain.kind
     pub seeds : KeepsSeeds view view_faults k.seeds.items j.seeds.items
     pub room : length j.buffer.items ≡ length k.buffer.items

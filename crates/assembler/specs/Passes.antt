@@ -22,7 +22,7 @@ use Rattle.extract_plan.specs.Seeds.{faults_in, seed_held}
 use Rattle.chunk_sources.specs.Wants.{IsAmong}
 use Rattle.range_survey.specs.Fates.{settled}
 use Rattle.range_survey.specs.declared.fate.Fate.{Fate}
-use Rattle.store_chain.specs.Chains.{KeepsStores}
+use Rattle.store_chain.specs.Chains.{KeepsHeld}
 use Rattle.store_chain.specs.declared.refused.Refused.TheVariants as refused
 
 -- the want of entry i
@@ -41,9 +41,9 @@ module _ {S V : Type 0} (holds folder : S → Option (Map (List ℕ))) (place : 
   pub record RefusedOnce (lost : Lost) (old new : List S) : Type 0 where
     pub before : List S
     pub after : List S
-    pub until : KeepsStores holds folder place said store_faults old before
+    pub until : KeepsHeld holds folder place said store_faults old before
     pub refused : RefusedBy holds said store_faults lacks_memory (lost_want l lost) before after lost.refused
-    pub since : KeepsStores holds folder place said store_faults after new
+    pub since : KeepsHeld holds folder place said store_faults after new
 
   -- no source gave the chunk of this entry: settled entries that are alike couldn't be read, seeds that have it failed,
   -- the cache lacks it or failed, and the stores refused it, though there was memory. Between, the count of the

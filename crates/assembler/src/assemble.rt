@@ -24,7 +24,7 @@ ghost use Rattle.extract_plan.specs.Deal.{AreWants, Deal, IsPlan};
 ghost use Rattle.extract_plan.specs.Places.{PlacesKnown};
 ghost use Rattle.extract_plan.specs.Seeds.{seed_held};
 ghost use Rattle.range_survey.specs.Fates.{FirstFates, OpenWrong, SettledRight, settled};
-ghost use Rattle.store_chain.specs.Chains.{KeepsStores};
+ghost use Rattle.store_chain.specs.Chains.{KeepsHeld};
 
 use crate::fault::{ExtractFault, Lost};
 use crate::fill::fill;
@@ -213,7 +213,7 @@ fn assemble_lent<T: Target, S: Store, V: View, F: Folder>(
 
     ensures name { (T.held target.new).name ≡ (T.held target.old).name }
     ensures faults { T.faults target.old ≤ T.faults target.new }
-    ensures stores { KeepsStores S.holds S.folder S.place S.said S.faults kit.old.chain.stores kit.new.chain.stores }
+    ensures stores { KeepsHeld S.holds S.folder S.place S.said S.faults kit.old.chain.stores kit.new.chain.stores }
     ensures kind { kit.new.chain.kind ≡ kit.old.chain.kind }
     ensures stocked { Stocked (TakesListed S.holds index.now kit.old.chain.stores)
         (seen F.files F.place F.faults cache.old) (seen F.files F.place F.faults cache.new) }
@@ -313,7 +313,7 @@ pub fn assemble<T: Target, S: Store, V: View, F: Folder>(
     ensures name { (T.held result.target).name ≡ (T.held target).name }
     ensures faults { T.faults target ≤ T.faults result.target }
     ensures stores { OfKit kits.items result.kits.items
-        (λ k j. KeepsStores S.holds S.folder S.place S.said S.faults k.chain.stores j.chain.stores) }
+        (λ k j. KeepsHeld S.holds S.folder S.place S.said S.faults k.chain.stores j.chain.stores) }
     ensures kind { OfKit kits.items result.kits.items (λ k j. j.chain.kind ≡ k.chain.kind) }
     ensures stocked { OfKit kits.items result.kits.items (λ k j. Stocked (TakesListed S.holds index.now k.chain.stores)
         (seen F.files F.place F.faults cache) (seen F.files F.place F.faults result.cache)) }

@@ -19,7 +19,7 @@ ghost use Rattle.extract_plan.specs.Deal.{first_of, of_want, want_id};
 ghost use Rattle.extract_plan.specs.Places.{PlacesFit, places_at};
 ghost use Rattle.extract_plan.specs.Seeds.{seed_held};
 ghost use Rattle.range_survey.specs.Fates.{SettledRight, settled};
-ghost use Rattle.store_chain.specs.Chains.{KeepsStores};
+ghost use Rattle.store_chain.specs.Chains.{KeepsHeld};
 
 use crate::fault::{Lost, Unsettled};
 use crate::put::put;
@@ -128,7 +128,7 @@ fn settle_open<T: Part, S: Store, V: View, F: Folder>(
     ensures seeds { KeepsSeeds V.held V.faults seeds.old seeds.new }
     ensures stocked { Stocked (TakesChunk S.holds (kind_of index.now) sought.now.id.0 (size_of index.now entry)
         chain.old.stores) (seen F.files F.place F.faults cache.old) (seen F.files F.place F.faults cache.new) }
-    ensures stores { KeepsStores S.holds S.folder S.place S.said S.faults chain.old.stores chain.new.stores }
+    ensures stores { KeepsHeld S.holds S.folder S.place S.said S.faults chain.old.stores chain.new.stores }
     ensures same_kind { chain.new.kind ≡ chain.old.kind }
 {
     let (chunk, _) = buf.split_at_mut(index.entry(entry).size);

@@ -13,7 +13,7 @@ ghost use Rattle.dsy_base.specs.Maps.{Map};
 ghost use Rattle.extract_plan.specs.Places.{PlacesFit};
 ghost use Rattle.extract_plan.specs.Seeds.{seed_held};
 ghost use Rattle.range_survey.specs.Fates.{SettledRight, is_settled, settled};
-ghost use Rattle.store_chain.specs.Chains.{KeepsStores};
+ghost use Rattle.store_chain.specs.Chains.{KeepsHeld};
 
 use crate::copy::copy;
 use crate::seeding::from_seeds;
@@ -94,7 +94,7 @@ pub fn obtain<T: View, S: Store, V: View, F: Folder>(
     ensures seeds { KeepsSeeds V.held V.faults seeds.old seeds.new }
     ensures stocked { Stocked (TakesChunk S.holds (kind_of index.now) sought.now.id.0 (length chunk.old)
         chain.old.stores) (seen F.files F.place F.faults cache.old) (seen F.files F.place F.faults cache.new) }
-    ensures stores { KeepsStores S.holds S.folder S.place S.said S.faults chain.old.stores chain.new.stores }
+    ensures stores { KeepsHeld S.holds S.folder S.place S.said S.faults chain.old.stores chain.new.stores }
     ensures same_kind { chain.new.kind ≡ chain.old.kind }
 {
     if copy(index, sought.entries, fates, target, chunk) {

@@ -11,7 +11,7 @@ ghost use Rattle.chunk_store.specs.Names.{name_of};
 ghost use Rattle.dsy_base.specs.Counts.{Quiet};
 ghost use Rattle.dsy_base.specs.Maps.{Map};
 ghost use Rattle.range_survey.specs.Fates.{is_settled};
-ghost use Rattle.store_chain.specs.Chains.{AsksOnce, KeepsStores};
+ghost use Rattle.store_chain.specs.Chains.{AsksOnce, KeepsHeld};
 ghost use Rattle.store_chain.specs.Faults.{EachQuiet};
 
 use cache_store::cached::obtain_through;
@@ -60,7 +60,7 @@ pub(crate) fn from_upstream<S: Store, F: Folder>(
 
     ensures stocked { Stocked (TakesChunk S.holds chain.old.kind id.now.0 (length chunk.old) chain.old.stores)
         (seen F.files F.place F.faults cache.old) (seen F.files F.place F.faults cache.new) }
-    ensures stores { KeepsStores S.holds S.folder S.place S.said S.faults chain.old.stores chain.new.stores }
+    ensures stores { KeepsHeld S.holds S.folder S.place S.said S.faults chain.old.stores chain.new.stores }
     ensures same_kind { chain.new.kind ≡ chain.old.kind }
 {
     let size = Some(chunk.len());

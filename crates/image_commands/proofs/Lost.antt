@@ -37,7 +37,7 @@ use Rattle.dsy_base.specs.Maps.{Map}
 use Rattle.extract_plan.specs.Deal.{Deal}
 use Rattle.extract_plan.specs.Places.{IsSeedIndex, Placed, places_at}
 use Rattle.extract_plan.specs.Seeds.{faults_in, seed_held}
-use Rattle.store_chain.specs.Chains.{KeepsStores}
+use Rattle.store_chain.specs.Chains.{KeepsHeld}
 use Rattle.store_chain.specs.Faults.{NoneFalls}
 use Rattle.store_chain.specs.declared.refused.Refused.{Refused}
 use Rattle.store_chain.specs.declared.refused.Refused.TheVariants as refused
@@ -166,7 +166,7 @@ module _ {S V : Type 0} (holds folder : S → Option (Map (List ℕ))) (place : 
     )
 
   -- over stores that were given back: these stand so
-  module _ (kept : KeepsStores holds folder place said counted k.chain.stores j.chain.stores) (located : (ys : List S) → map place ys ≡ map place k.chain.stores → map location ys ≡ stores) (stand : All (Stands location said counted w v) j.chain.stores) where
+  module _ (kept : KeepsHeld holds folder place said counted k.chain.stores j.chain.stores) (located : (ys : List S) → map place ys ≡ map place k.chain.stores → map location ys ≡ stores) (stand : All (Stands location said counted w v) j.chain.stores) where
     -- how the stores stood when the entry's chunk was asked for
     record StoodAt (u : Lost) (h : IsLostHere u) : Type 0 where
       many : length h.stores.before ≡ length h.stores.after

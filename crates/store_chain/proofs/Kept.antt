@@ -1,12 +1,13 @@
 -- What stores keep that are only asked, and how often they were asked.
-use Rattle.std.proofs.Common.{◌≡◌, ℕ, zero, suc, ◌≤◌, List, [], ◌∷◌, map, refl, sym, subst, ap, ◌∙◌, arith}
+use Rattle.std.proofs.Common.{◌≡◌, ℕ, zero, suc, ◌≤◌, List, [], ◌∷◌, map, Option, refl, sym, subst, ap, ◌∙◌, arith}
 use Rattle.std.specs.List.{AllZip}
 use Rattle.chunk_store.proofs.Sends.{sends_on, sends_still, sends_weaker}
 use Rattle.chunk_store.proofs.Said.{keeps_itself, keeps_on, asked_no_more}
 use Rattle.chunk_store.specs.Asks.{Ask, Sends, Sent}
 use Rattle.chunk_store.specs.Said.{Said, KeepsOf, AskedOnce}
 use Rattle.chunk_store.specs.declared.store.Store.{Ghosts as StoreWords}
-use Rattle.store_chain.specs.Chains.{KeepsStores, EachOnce}
+use Rattle.dsy_base.specs.Maps.{Map}
+use Rattle.store_chain.specs.Chains.{KeepsHeld, KeepsStores, EachOnce}
 use Rattle.store_chain.specs.Faults.{NoneFalls}
 use Rattle.store_chain.proofs.Pairs.{all_zip_same}
 
@@ -105,3 +106,29 @@ module _ {S : Type 0} (store : StoreWords S) (P : Ask → Type 0) where
           sends = (sends, rest.sends);
           never_fall = none_falls rest.never_fall;
         })
+
+-- ---- whatever was sent
+
+pub stay_of : {S : Type 0} (store : StoreWords S) (P : Ask → Type 0) (xs ys : List S) → KeepsStores store P xs ys → KeepsHeld store.holds store.folder store.place store.said store.faults xs ys
+stay_of store P xs ys h = record { held = h.held; files = h.files; places = h.places; says = h.says; never_fall = h.never_fall }
+
+module _ {S : Type 0} (holds folder : S → Option (Map (List ℕ))) (place : S → List ℕ) (said : S → Said) (faults : S → ℕ) where
+  -- stores that weren't asked
+  pub stay_still : (xs : List S) → KeepsHeld holds folder place said faults xs xs
+  stay_still xs = record {
+    held = refl;
+    files = refl;
+    places = refl;
+    says = all_zip_same (λ a b. (q : List ℕ) → KeepsOf (said a) (said b) q) (λ s. keeps_itself (said s)) xs;
+    never_fall = λ k. omega arith;
+  }
+
+  -- stores that were asked again
+  pub stay_on : (xs ys zs : List S) → KeepsHeld holds folder place said faults xs ys → KeepsHeld holds folder place said faults ys zs → KeepsHeld holds folder place said faults xs zs
+  stay_on xs ys zs first then = record {
+    held = then.held ∙ first.held;
+    files = then.files ∙ first.files;
+    places = then.places ∙ first.places;
+    says = said_all said xs ys zs first.says then.says;
+    never_fall = λ k. omega (arith, first.never_fall k, then.never_fall k);
+  }

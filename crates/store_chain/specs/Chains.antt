@@ -1,11 +1,12 @@
 -- What contracts see of a chain, and what a call on it leaves.
-use Rattle.std.specs.Prelude.{◌≡◌, ℕ, ◌<◌, ◌^◌, List, map}
+use Rattle.std.specs.Prelude.{◌≡◌, ℕ, ◌<◌, ◌^◌, List, map, Option}
 use Rattle.std.specs.List.{AllZip}
 use Rattle.chunk_store.specs.Asks.{Ask, Sends}
-use Rattle.chunk_store.specs.Said.{KeepsOf, AskedOnce}
+use Rattle.chunk_store.specs.Said.{Said, KeepsOf, AskedOnce}
 use Rattle.chunk_store.specs.declared.id.DigestKind.{DigestKind}
 use Rattle.chunk_store.specs.declared.store.Store.{Ghosts as StoreWords}
 use Rattle.dsy_base.specs.Counts.{raised}
+use Rattle.dsy_base.specs.Maps.{Map}
 use Rattle.store_chain.specs.Faults.{NoneFalls}
 
 -- the stores in their order, the number of calls of `obtain`, and the digest that names the chunks
@@ -23,6 +24,15 @@ pub record KeepsStores {S : Type 0} (store : StoreWords S) (P : Ask → Type 0) 
   pub says : AllZip (λ a b. (q : List ℕ) → KeepsOf (store.said a) (store.said b) q) old new
   pub sends : AllZip (λ a b. Sends P (store.sent a) (store.sent b)) old new
   pub never_fall : NoneFalls (map store.faults old) (map store.faults new)
+
+-- the same, whatever was sent
+pub record KeepsHeld {S : Type 0} (holds folder : S → Option (Map (List ℕ))) (place : S → List ℕ) (said : S → Said)
+    (faults : S → ℕ) (old new : List S) : Type 0 where
+  pub held : map holds new ≡ map holds old
+  pub files : map folder new ≡ map folder old
+  pub places : map place new ≡ map place old
+  pub says : AllZip (λ a b. (q : List ℕ) → KeepsOf (said a) (said b) q) old new
+  pub never_fall : NoneFalls (map faults old) (map faults new)
 
 -- each store counts at most one question more, and for this id alone
 abbrev pub EachOnce : {S : Type 0} → (S → List ℕ → ℕ) → List ℕ → List S → List S → Type 0

@@ -3,13 +3,13 @@ use Rattle.assembler.proofs.OnePlan.{alone, by_one, by_only, of_alone, of_same, 
 use Rattle.assembler.proofs.assemble.assemble.Goals as goal
 use Rattle.extract_plan.specs.Deal.{Deal}
 use Rattle.extract_plan.specs.Places.{PlacesKnown}
-use Rattle.store_chain.proofs.Kept.{kept_still}
+use Rattle.store_chain.proofs.Kept.{stay_still}
 
 -- nothing was touched
 pub returns-in_default-clause-stores : goal.returns-in_default-clause-stores
 returns-in_default-clause-stores g c =
     let s = g.S.Store in
-    of_same c.args.kits.items (λ k. kept_still s.holds s.folder s.place s.said s.faults k.chain.stores)
+    of_same c.args.kits.items (λ k. stay_still s.holds s.folder s.place s.said s.faults k.chain.stores)
 
 pub assemble_lent-answer-requires-clause-places : goal.assemble_lent-answer-requires-clause-places
 assemble_lent-answer-requires-clause-places g c =

@@ -21,8 +21,8 @@ use Rattle.assembler.proofs.Assembled.{Ran, after_fault, after_ok, asks_over, by
 use Rattle.assembler.proofs.Based.{Surveyed, only_first, over_of, some_map, told_of}
 use Rattle.assembler.proofs.TwoPasses.{ok_apart, torn_map}
 use Rattle.assembler.specs.Fills.{Fills, FillsTorn, WhereTold}
-use Rattle.store_chain.proofs.Kept.{kept_still}
-use Rattle.store_chain.specs.Chains.{Chained, KeepsStores}
+use Rattle.store_chain.proofs.Kept.{stay_still}
+use Rattle.store_chain.specs.Chains.{Chained, KeepsHeld}
 use Rattle.assembler.proofs.assemble.assemble_lent.Given.{Over}
 use Rattle.assembler.proofs.assemble.assemble_lent.Goals.{After-drop-fates, After-drop-fates-2}
 use Rattle.assembler.proofs.assemble.assemble_lent.Goals as goal
@@ -119,9 +119,9 @@ ran_ok g c =
 pub returns-in_err-fates-clause-stores : goal.returns-in_err-fates-clause-stores
 returns-in_err-fates-clause-stores g c =
     let s = g.S.Store in
-    subst (λ (y : List g.row.S.Denot). KeepsStores s.holds s.folder s.place s.said s.faults c.args.kit.now.chain.stores y)
+    subst (λ (y : List g.row.S.Denot). KeepsHeld s.holds s.folder s.place s.said s.faults c.args.kit.now.chain.stores y)
     (sym (ap (λ (y : Chained g.row.S.Denot). y.stores) c.survey_first.ensures.chain))
-    (kept_still s.holds s.folder s.place s.said s.faults c.args.kit.now.chain.stores)
+    (stay_still s.holds s.folder s.place s.said s.faults c.args.kit.now.chain.stores)
 
 -- the passes ended with a fault
 pub returns-in_err-settle_all-clause-bytes : goal.returns-in_err-settle_all-clause-bytes

@@ -12,7 +12,7 @@ use Rattle.chunk_sources.specs.Losses.{RefusedBy, chunk_of}
 use Rattle.chunk_store.specs.Names.{name_of}
 use Rattle.extract_plan.specs.Seeds.{faults_in, seed_held}
 use Rattle.range_survey.specs.Fates.{settled}
-use Rattle.store_chain.proofs.Kept.{kept_still}
+use Rattle.store_chain.proofs.Kept.{stay_still}
 use Rattle.chunk_sources.proofs.obtain.obtain.Given.{Over}
 use Rattle.chunk_sources.proofs.obtain.obtain.Goals as goal
 
@@ -21,10 +21,10 @@ abbrev see : (g : Over) → Option (Shelved g.row.F.Denot) → Option Shelf
 see g = seen g.F.Look.files g.F.Look.place g.F.Look.faults
 
 pub returns-then-copy-clause-stores : goal.returns-then-copy-clause-stores
-returns-then-copy-clause-stores g c = kept_still g.S.Store.holds g.S.Store.folder g.S.Store.place g.S.Store.said g.S.Store.faults c.args.chain.now.stores
+returns-then-copy-clause-stores g c = stay_still g.S.Store.holds g.S.Store.folder g.S.Store.place g.S.Store.said g.S.Store.faults c.args.chain.now.stores
 
 pub returns-then-from_seeds-clause-stores : goal.returns-then-from_seeds-clause-stores
-returns-then-from_seeds-clause-stores g c = kept_still g.S.Store.holds g.S.Store.folder g.S.Store.place g.S.Store.said g.S.Store.faults c.args.chain.now.stores
+returns-then-from_seeds-clause-stores g c = stay_still g.S.Store.holds g.S.Store.folder g.S.Store.place g.S.Store.said g.S.Store.faults c.args.chain.now.stores
 
 pub returns-then-copy-clause-stocked : goal.returns-then-copy-clause-stocked
 returns-then-copy-clause-stocked g c =

@@ -11,6 +11,8 @@ use Rattle.chunk_sources.specs.Caches.{CacheFailed, Stocked, TakesChunk, cache_f
 use Rattle.chunk_sources.specs.Losses.{chunk_of}
 use Rattle.chunk_store.specs.declared.id.DigestKind.{DigestKind}
 use Rattle.dsy_base.specs.Counts.{Quiet}
+use Rattle.chunk_store.specs.Asks.{Get}
+use Rattle.store_chain.proofs.Kept.{stay_of}
 use Rattle.store_chain.specs.Chains.{AsksOnce}
 use Rattle.store_chain.specs.Queries.{IsWanted}
 use Rattle.chunk_sources.proofs.upstream.from_upstream.Given.{Over}
@@ -176,3 +178,18 @@ returns-in_err-got-clause-asked g c =
     × CacheFailed kind id.0 size (see g q) (Some (shelf_of f.files f.place f.faults new.shelf))) (sym c.in-Some.is)
     (asked_through f.files f.place f.faults s.holds s.said s.faults s.may_lack_memory s.asked s.queried kind id size
     (record { shelf = c.in-Some.shelf; chain = c.args.chain.now }) (record { shelf = new.shelf; chain = new.chain }) new.out c.in_err-got.field-0.0 c.in_err-got.ensures.ends isnt))
+
+pub returns-in_err-obtain-clause-stores : goal.returns-in_err-obtain-clause-stores
+returns-in_err-obtain-clause-stores g c = stay_of g.S.Store (λ a. a ≡ Get c.args.id.now.0) c.args.chain.now.stores c.obtain.new.self.stores c.obtain.ensures.kept
+
+pub returns-in_default-clause-stores : goal.returns-in_default-clause-stores
+returns-in_default-clause-stores g c = stay_of g.S.Store (λ a. a ≡ Get c.args.id.now.0) c.args.chain.now.stores c.obtain.new.self.stores c.obtain.ensures.kept
+
+pub returns-in_err-got-clause-stores : goal.returns-in_err-got-clause-stores
+returns-in_err-got-clause-stores g c = stay_of g.S.Store (λ a. a ≡ Get c.args.id.now.0) c.args.chain.now.stores c.obtain_through.new.chain.stores c.obtain_through.ensures.stores
+
+pub returns-then-got-clause-stores : goal.returns-then-got-clause-stores
+returns-then-got-clause-stores g c = stay_of g.S.Store (λ a. a ≡ Get c.args.id.now.0) c.args.chain.now.stores c.obtain_through.new.chain.stores c.obtain_through.ensures.stores
+
+pub returns-else-got-clause-stores : goal.returns-else-got-clause-stores
+returns-else-got-clause-stores g c = stay_of g.S.Store (λ a. a ≡ Get c.args.id.now.0) c.args.chain.now.stores c.obtain_through.new.chain.stores c.obtain_through.ensures.stores
