@@ -75,7 +75,8 @@ fn store_listed<R: Threads + Sync, V: View + Send, S: StoreWrite, I: InnerFolder
     ensures tells { is_some (S.holds result.1) ≡ is_some (S.holds store) }
     ensures kept { map V.held result.0.items ≡ map V.held views.items }
     ensures place { S.place result.1 ≡ S.place store }
-    ensures sends { All (λ v. SendsOf sizes.now (V.held v).bytes (S.sent store) (S.sent result.1)) views.items }
+    ensures sends { All (λ v. SendsOf sizes.now (V.held v).bytes (S.asked store) (S.asked result.1)
+        (S.sent store) (S.sent result.1)) views.items }
     ensures asks { All (λ v. AsksOf sizes.now (V.held v).bytes (S.asked store) (S.asked result.1)) views.items }
     ensures queries { S.queried result.1 ≡ S.queried store }
     ensures image_faults { CountsViews MakeFault.ImageFault MakeFault.Memory
@@ -129,7 +130,8 @@ pub fn store_image<R: Threads + Sync, V: View + Send, S: StoreWrite, I: InnerFol
     ensures tells { is_some (S.holds result.1) ≡ is_some (S.holds store) }
     ensures kept { map V.held result.0.items ≡ map V.held views.items }
     ensures place { S.place result.1 ≡ S.place store }
-    ensures sends { All (λ v. SendsOf sizes.now (V.held v).bytes (S.sent store) (S.sent result.1)) views.items }
+    ensures sends { All (λ v. SendsOf sizes.now (V.held v).bytes (S.asked store) (S.asked result.1)
+        (S.sent store) (S.sent result.1)) views.items }
     ensures asks { All (λ v. AsksOf sizes.now (V.held v).bytes (S.asked store) (S.asked result.1)) views.items }
     ensures queries { S.queried result.1 ≡ S.queried store }
     ensures image_faults { CountsViews MakeFault.ImageFault MakeFault.Memory

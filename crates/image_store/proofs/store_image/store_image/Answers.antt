@@ -51,5 +51,5 @@ returns-clause-asks g c = all_kept (λ v. g.V.View.held v)
 
 pub returns-clause-sends : goal.returns-clause-sends
 returns-clause-sends g c = all_kept (λ v. g.V.View.held v)
-    (λ h. SendsOf c.args.sizes.now h.bytes (g.S.Store.sent c.args.store) (g.S.Store.sent c.store_listed.result.1))
+    (λ h. SendsOf c.args.sizes.now h.bytes (g.S.Store.asked c.args.store) (g.S.Store.asked c.store_listed.result.1) (g.S.Store.sent c.args.store) (g.S.Store.sent c.store_listed.result.1))
     c.index_of-views.result.0.items c.args.views.items (sym c.index_of-views.ensures.kept) c.store_listed.ensures.sends

@@ -27,7 +27,7 @@ pub returns-in-Err-clause-asks : goal.returns-in-Err-clause-asks
 returns-in-Err-clause-asks g c = λ k d lt. inr (c.args.index.now, c.requires.index k d lt, (c.store_entries-views.ensures.stored k d lt).touched.asks)
 
 pub returns-in-Err-clause-sends : goal.returns-in-Err-clause-sends
-returns-in-Err-clause-sends g c = λ k d lt. inr (c.args.index.now, c.requires.index k d lt, (c.store_entries-views.ensures.stored k d lt).touched.sends)
+returns-in-Err-clause-sends g c = λ k d lt. inr (c.args.index.now, c.requires.index k d lt, (c.store_entries-views.ensures.stored k d lt).touched.asks, (c.store_entries-views.ensures.stored k d lt).touched.sends)
 
 pub returns-in-Err-clause-queries : goal.returns-in-Err-clause-queries
 returns-in-Err-clause-queries g c = c.store_entries-views.ensures.once.1.touched.queries
@@ -57,7 +57,7 @@ pub returns-in-Ok-clause-asks : goal.returns-in-Ok-clause-asks
 returns-in-Ok-clause-asks g c = λ k d lt. inr (c.args.index.now, c.requires.index k d lt, (c.store_entries-views.ensures.stored k d lt).touched.asks)
 
 pub returns-in-Ok-clause-sends : goal.returns-in-Ok-clause-sends
-returns-in-Ok-clause-sends g c = λ k d lt. inr (c.args.index.now, c.requires.index k d lt, (c.store_entries-views.ensures.stored k d lt).touched.sends)
+returns-in-Ok-clause-sends g c = λ k d lt. inr (c.args.index.now, c.requires.index k d lt, (c.store_entries-views.ensures.stored k d lt).touched.asks, (c.store_entries-views.ensures.stored k d lt).touched.sends)
 
 pub returns-in-Ok-clause-queries : goal.returns-in-Ok-clause-queries
 returns-in-Ok-clause-queries g c = c.store_entries-views.ensures.once.1.touched.queries
@@ -79,7 +79,7 @@ pub returns-in-Err-spell-clause-asks : goal.returns-in-Err-spell-clause-asks
 returns-in-Err-spell-clause-asks g c = λ k d lt. inr (c.args.index.now, c.requires.index k d lt, (c.store_entries-views.ensures.stored k d lt).touched.asks)
 
 pub returns-in-Err-spell-clause-sends : goal.returns-in-Err-spell-clause-sends
-returns-in-Err-spell-clause-sends g c = λ k d lt. inr (c.args.index.now, c.requires.index k d lt, (c.store_entries-views.ensures.stored k d lt).touched.sends)
+returns-in-Err-spell-clause-sends g c = λ k d lt. inr (c.args.index.now, c.requires.index k d lt, (c.store_entries-views.ensures.stored k d lt).touched.asks, (c.store_entries-views.ensures.stored k d lt).touched.sends)
 
 pub returns-in-Err-spell-clause-queries : goal.returns-in-Err-spell-clause-queries
 returns-in-Err-spell-clause-queries g c = c.store_entries-views.ensures.once.1.touched.queries
