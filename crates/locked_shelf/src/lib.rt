@@ -1,0 +1,12 @@
+//! A folder of chunks that threads share: a shelf behind a lock, and a thread for each connection that comes. Connections
+//! are counted from 0.
+#![tactic(auto)]
+
+pub mod door;
+mod ended;
+mod gathering;
+mod kept;
+mod named_folder;
+pub mod serve_all;
+pub mod serve_folder;
+mod tally;

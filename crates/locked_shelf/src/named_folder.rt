@@ -1,0 +1,101 @@
+//! Folders whose type names the files that they began with, and the name that they were taken under.
+
+ghost use Rattle.std.specs.Prelude.{◌≡◌, ℕ, List, [], Option, None};
+ghost use Rattle.dsy_base.specs.Maps.{Map};
+
+use dsy_base::fault::{FileFault, IoFault};
+use dsy_base::folder::Folder;
+use dsy_base::look::Look;
+use dsy_base::name::Name;
+use std::marker::{Brand, Model, PhantomData};
+
+/// What the type of a folder names. Each call of a program picks it.
+pub(crate) trait FolderName {
+    /// The files that the folder began with.
+    ghost opening: { Option (Map (List ℕ)) };
+
+    /// The name that it was taken under.
+    ghost place: { List ℕ };
+}
+
+impl FolderName for Brand {
+    ghost opening = { None };
+
+    ghost place = { [] };
+}
+
+/// A folder whose type names what N has.
+#[derive(Drop)]
+pub(crate) struct NamedFolder<F: Folder, N: FolderName> {
+    folder: F,
+    of: PhantomData<N>,
+}
+
+impl<F: Folder, N: FolderName> Model for NamedFolder<F, N> {
+    ghost use Rattle.std.specs.Prelude.{◌≡◌};
+
+    ghost Value = { F };
+
+    ghost view = { λ s. s.folder };
+
+    ghost invariant = { λ s. F.place s.folder ≡ N.place };
+}
+
+impl<F: Folder, N: FolderName> NamedFolder<F, N> {
+    pub fn new(folder: F) -> NamedFolder<F, N>
+        requires place { F.place folder ≡ N.place }
+        ensures { result ≡ folder }
+    {
+        NamedFolder {
+            folder,
+            of: PhantomData,
+        }
+    }
+
+    pub fn into_inner(self) -> F
+        ensures same { result ≡ self }
+        ensures place { F.place result ≡ N.place }
+    {
+        self.folder
+    }
+}
+
+impl<F: Folder, N: FolderName> Look for NamedFolder<F, N> {
+    ghost files = { λ s. F.files s };
+
+    ghost faults = { λ s. F.faults s };
+
+    ghost place = { λ s. F.place s };
+
+    ghost tells = { F.tells };
+
+    ghost never_fails = { F.never_fails };
+
+    fn read(&mut self, name: &str, out: &mut [u8]) -> Result<usize, FileFault> {
+        self.folder.read(name, out)
+    }
+
+    fn has(&mut self, name: &str) -> Result<bool, IoFault> {
+        self.folder.has(name)
+    }
+
+    fn names(&mut self) -> Result<Vec<Name>, IoFault> {
+        self.folder.names()
+    }
+
+    ghost told = { F.told };
+
+    ghost sure = { F.sure };
+}
+
+impl<F: Folder, N: FolderName> Folder for NamedFolder<F, N> {
+    ghost opening = { N.opening };
+
+    fn put(&mut self, name: &str, b: &[u8]) -> Result<(), IoFault> {
+        self.folder.put(name, b)
+    }
+
+    fn remove(&mut self, name: &str) -> Result<bool, IoFault> {
+        self.folder.remove(name)
+    }
+}

@@ -1,0 +1,255 @@
+//! Each connection that comes is served by a thread of its own.
+
+ghost use Rattle.std.specs.Prelude.{◌≡◌, ◌≢◌, ◌<◌, ◌≤◌, [], false, Some};
+ghost use Rattle.dsy_base.specs.Counts.{Rose};
+ghost use Rattle.dsy_base.specs.Links.{IsFreshLink, ListenState};
+ghost use Rattle.locked_shelf.specs.Endings.{EndsOver};
+ghost use Rattle.locked_shelf.specs.Listening.{IsServing, ServesAll, ServesSome};
+
+use crate::door::LockedShelf;
+use crate::ended::{EndedLink, Mode, serve_link};
+use crate::gathering::{Gathered, Gathering};
+use crate::tally::Tally;
+use dsy_base::fault::IoFault;
+use dsy_base::folder::Folder;
+use dsy_base::link::Link;
+use dsy_base::listen::Listen;
+use std::alloc::Global;
+use std::marker::Brand;
+use std::sync::Wait;
+use std::thread;
+use std::thread::{Scope, Threads};
+
+/// How many connections are served at once. Further ones wait in the listener's queue, where they take no memory and no
+/// file of the program's.
+pub const MOST: u64 = 256;
+
+/// How serving ended.
+#[derive(Clone, Copy, Debug, PartialEq, Eq)]
+pub enum AllServed {
+    /// No more connections come.
+    Ended,
+    /// A call on the listener has failed.
+    ListenFault,
+    /// There was no memory.
+    Memory,
+}
+
+// Serves a connection to its end, and leaves it with those that have ended.
+fn serve_into<K: Link, F: Folder, M: Mode, R: Wait>(
+    rt: &R,
+    alloc: Global,
+    shelf: &LockedShelf<F>,
+    gathering: &Gathering<K, F, M>,
+    link: K,
+)
+    requires mode { shelf.now.writable ≡ M.writable }
+    requires fresh { IsFreshLink (K.state link) }
+{
+    let ended = serve_link(rt, alloc, shelf, link);
+    gathering.add(rt, ended);
+}
+
+// Gives a connection back.
+fn give_one<L: Listen, F: Folder, M: Mode>(
+    listen: &mut L,
+    ended: EndedLink<L::Link, F, M>,
+    tally: &mut Tally,
+)
+    ensures back { (first : ListenState) →
+        IsServing (EndsOver F.opening F.never_fails M.writable L.Link.tells) first
+        (L.state listen.old) tally.old.pending tally.old.lacking
+        → IsServing (EndsOver F.opening F.never_fails M.writable L.Link.tells) first
+        (L.state listen.new) tally.new.pending tally.new.lacking }
+    ensures coming { (L.state listen.new).coming ≡ (L.state listen.old).coming }
+    ensures faults { (L.state listen.new).faults ≡ (L.state listen.old).faults }
+    ensures few { tally.new.pending ≤ tally.old.pending }
+{
+    let (link, lacking) = ended.into_parts();
+    tally.settle(lacking);
+    listen.end(link);
+}
+
+// Gives connections back.
+fn give_back<L: Listen, F: Folder, M: Mode>(
+    listen: &mut L,
+    gathered: Gathered<L::Link, F, M>,
+    tally: &mut Tally,
+)
+    ensures back { (first : ListenState) →
+        IsServing (EndsOver F.opening F.never_fails M.writable L.Link.tells) first
+        (L.state listen.old) tally.old.pending tally.old.lacking
+        → IsServing (EndsOver F.opening F.never_fails M.writable L.Link.tells) first
+        (L.state listen.new) tally.new.pending tally.new.lacking }
+    ensures coming { (L.state listen.new).coming ≡ (L.state listen.old).coming }
+    ensures faults { (L.state listen.new).faults ≡ (L.state listen.old).faults }
+    ensures few { tally.new.pending ≤ tally.old.pending }
+{
+    tally.lose(gathered.lost);
+    for ended in gathered.links {
+        give_one(listen, ended, tally);
+    }
+}
+
+// Gives back those that have ended. Where as many are served as may be, it waits until one has ended.
+fn make_room<L: Listen, F: Folder, M: Mode, R: Wait>(
+    rt: &R,
+    alloc: Global,
+    listen: &mut L,
+    gathering: &Gathering<L::Link, F, M>,
+    tally: &mut Tally,
+)
+    ensures room { tally.new.pending < MOST }
+    ensures back { (first : ListenState) →
+        IsServing (EndsOver F.opening F.never_fails M.writable L.Link.tells) first
+        (L.state listen.old) tally.old.pending tally.old.lacking
+        → IsServing (EndsOver F.opening F.never_fails M.writable L.Link.tells) first
+        (L.state listen.new) tally.new.pending tally.new.lacking }
+    ensures coming { (L.state listen.new).coming ≡ (L.state listen.old).coming }
+    ensures faults { (L.state listen.new).faults ≡ (L.state listen.old).faults }
+{
+    give_back(listen, gathering.take(rt, alloc), tally);
+    'rounds: for _ in rt.forever() {
+        if tally.pending < MOST {
+            return;
+        }
+        give_back(listen, gathering.await_some(rt, alloc), tally);
+    }
+    unreachable!()
+}
+
+// Takes connections until no more come, and starts a thread for each. Those that have ended are given back before the
+// next one is taken. Where `one_by_one` is true each is served here instead, and so it is where a start is refused,
+// which hands the work back.
+fn hear<'s, E, L: Listen, F: Folder + Send, M: Mode + Send, R: Threads + Wait + Sync>(
+    rt: &'s R,
+    alloc: Global,
+    scope: &Scope<'s, E>,
+    listen: &mut L,
+    shelf: &'s LockedShelf<F>,
+    gathering: &'s Gathering<L::Link, F, M>,
+    one_by_one: bool,
+) -> (AllServed, Tally)
+where
+    L::Link: Send,
+    requires mode { shelf.now.writable ≡ M.writable }
+    ensures heard { IsServing (EndsOver F.opening F.never_fails M.writable L.Link.tells)
+        (L.state listen.old) (L.state listen.new) result.1.pending result.1.lacking }
+    ensures end { result.0 ≡ AllServed.Ended → (L.state listen.new).coming ≡ Some [] }
+    ensures cause { result.0 ≡ AllServed.ListenFault → Rose (L.state listen.old).faults (L.state listen.new).faults }
+{
+    let mut tally = Tally {
+        pending: 0,
+        lacking: false,
+    };
+    'links: for _ in 0..u64::MAX {
+        make_room(rt, alloc, listen, gathering, &mut tally);
+        match listen.accept() {
+            Ok(Some(link)) => {
+                tally.pending += 1;
+                let work = move ||
+                    requires { (shelf.now.writable ≡ M.writable) × IsFreshLink (L.Link.state link) }
+                { serve_into(rt, alloc, shelf, gathering, link) };
+                if one_by_one {
+                    work();
+                } else if let Err(refused) = scope.spawn(work) {
+                    (refused.value)();
+                }
+            }
+            Ok(None) => return (AllServed::Ended, tally),
+            Err(IoFault::Failed) => return (AllServed::ListenFault, tally),
+            Err(IoFault::Memory) => return (AllServed::Memory, tally),
+        }
+    }
+    // More connections than 64 bits count.
+    (AllServed::Memory, tally)
+}
+
+// Serves all connections by threads, which all have ended when it answers.
+fn serve_scoped<'x, L: Listen, F: Folder + Send, M: Mode + Send, R: Threads + Wait + Sync>(
+    rt: &'x R,
+    alloc: Global,
+    listen: &mut L,
+    shelf: &'x LockedShelf<F>,
+    gathering: &'x Gathering<L::Link, F, M>,
+    one_by_one: bool,
+) -> (AllServed, Tally)
+where
+    L::Link: Send,
+    requires mode { shelf.now.writable ≡ M.writable }
+    ensures heard { IsServing (EndsOver F.opening F.never_fails M.writable L.Link.tells)
+        (L.state listen.old) (L.state listen.new) result.1.pending result.1.lacking }
+    ensures end { result.0 ≡ AllServed.Ended → (L.state listen.new).coming ≡ Some [] }
+    ensures cause { result.0 ≡ AllServed.ListenFault → Rose (L.state listen.old).faults (L.state listen.new).faults }
+{
+    let lent = &mut *listen;
+    let (back, served, mut tally) = thread::scope(
+        thread::scope_env(),
+        rt,
+        move |scope| -> (&mut L, AllServed, Tally)
+            requires { shelf.now.writable ≡ M.writable }
+            ensures same { result.0.ghost_name ≡ lent.entry.ghost_name }
+            ensures heard { IsServing (EndsOver F.opening F.never_fails M.writable L.Link.tells)
+                (L.state lent.entry.now) (L.state result.0.now) result.2.pending result.2.lacking }
+            ensures end { result.1 ≡ AllServed.Ended → (L.state result.0.now).coming ≡ Some [] }
+            ensures cause { result.1 ≡ AllServed.ListenFault
+                → Rose (L.state lent.entry.now).faults (L.state result.0.now).faults }
+        {
+            let (served, tally) = hear(rt, alloc, scope, lent, shelf, gathering, one_by_one);
+            (lent, served, tally)
+        },
+    );
+    give_back(back, gathering.take(rt, alloc), &mut tally);
+    (served, tally)
+}
+
+// Serves all connections, where the type names whether chunks may be put.
+fn serve_by<L: Listen, F: Folder + Send, M: Mode + Send, R: Threads + Wait + Sync>(
+    rt: &R,
+    alloc: Global,
+    listen: &mut L,
+    shelf: &LockedShelf<F>,
+    one_by_one: bool,
+) -> AllServed
+where
+    L::Link: Send,
+    requires mode { shelf.now.writable ≡ M.writable }
+    ensures end { result ≡ AllServed.Ended → (L.state listen.new).coming ≡ Some [] }
+    ensures served { result ≢ AllServed.Memory → ServesAll (EndsOver F.opening F.never_fails M.writable L.Link.tells)
+        (L.state listen.old) (L.state listen.new) }
+    ensures lacking { ServesSome (EndsOver F.opening F.never_fails M.writable L.Link.tells)
+        (L.state listen.old) (L.state listen.new) }
+    ensures cause { result ≡ AllServed.ListenFault → Rose (L.state listen.old).faults (L.state listen.new).faults }
+    ensures faults { (L.state listen.old).faults ≤ (L.state listen.new).faults }
+{
+    let gathering: Gathering<L::Link, F, M> = Gathering::new(alloc);
+    let (served, tally) = serve_scoped(rt, alloc, listen, shelf, &gathering, one_by_one);
+    if tally.lacking || tally.pending > 0 {
+        AllServed::Memory
+    } else {
+        served
+    }
+}
+
+/// Serves each connection that comes, until no more come: by a thread of its own, or one after the other where
+/// `one_by_one` is true. When it answers, all of them have ended. A call that fails on a connection ends it alone.
+pub fn serve_all<L: Listen, F: Folder + Send, R: Threads + Wait + Sync>(
+    rt: &R,
+    alloc: Global,
+    listen: &mut L,
+    shelf: &LockedShelf<F>,
+    one_by_one: bool,
+) -> AllServed
+where
+    L::Link: Send,
+    ensures end { result ≡ AllServed.Ended → (L.state listen.new).coming ≡ Some [] }
+    ensures served { result ≢ AllServed.Memory →
+        ServesAll (EndsOver F.opening F.never_fails shelf.now.writable L.Link.tells)
+        (L.state listen.old) (L.state listen.new) }
+    ensures lacking { ServesSome (EndsOver F.opening F.never_fails shelf.now.writable L.Link.tells)
+        (L.state listen.old) (L.state listen.new) }
+    ensures cause { result ≡ AllServed.ListenFault → Rose (L.state listen.old).faults (L.state listen.new).faults }
+    ensures faults { (L.state listen.old).faults ≤ (L.state listen.new).faults }
+{
+    serve_by::<L, F, Brand, R>(rt, alloc, listen, shelf, one_by_one)
+}
