@@ -18,12 +18,11 @@ const SECONDS_TO_LINGER: u64 = 1;
 
 const READS_TO_LINGER: u64 = 1_024;
 
-/// A connection over TCP.
+/// A connection over TCP. Once it is finished it has no stream.
 #[derive(Drop)]
 pub struct RealLink<S: Read + Write + Drop> {
-    stream: S,
+    stream: Option<S>,
     faults: u64,
-    finished: bool,
 }
 
 // Reads once, where no signal comes between.
@@ -51,6 +50,19 @@ fn drain<S: Read>(stream: &mut S) {
     }
 }
 
+// Says that nothing more is sent, and takes what the peer still sends, for a short time: the end of a connection that is
+// closed before that was taken may reach the peer before the last reply does (RFC 9112, section 9.6).
+fn linger<S: Read + OpenStream>(stream: &mut S) {
+    if stream.shutdown(Shutdown::Write).is_err() {
+        return;
+    }
+    let wait = Some(Duration::from_secs(SECONDS_TO_LINGER));
+    if stream.set_read_timeout(wait).is_err() {
+        return;
+    }
+    drain(stream);
+}
+
 // Says how long the stream waits, and that it sends at once what it is given.
 fn set_up<S: OpenStream>(stream: &S) -> io::Result<()> {
     let wait = Some(Duration::from_secs(SECONDS_TO_WAIT));
@@ -66,9 +78,8 @@ impl<S: Read + Write + OpenStream + Drop> RealLink<S> {
     {
         set_up(&stream)?;
         Ok(RealLink {
-            stream,
+            stream: Some(stream),
             faults: 0,
-            finished: false,
         })
     }
 
@@ -81,23 +92,9 @@ impl<S: Read + Write + OpenStream + Drop> RealLink<S> {
 
     /// Says that nothing more is sent. A fault of that is passed over, since all that was to be sent has gone.
     pub fn shut(&self) {
-        let _ = self.stream.shutdown(Shutdown::Write);
-    }
-
-    // Says that nothing more is sent, and takes what the peer still sends, for a short time: the end of a connection
-    // that is closed before that was taken may reach the peer before the last reply does (RFC 9112, section 9.6). Where
-    // a call on it has failed nothing is waited for.
-    fn linger(&mut self)
-        ensures faults { self.new.faults ≡ self.old.faults }
-    {
-        if self.faults > 0 || self.stream.shutdown(Shutdown::Write).is_err() {
-            return;
+        if let Some(stream) = &self.stream {
+            let _ = stream.shutdown(Shutdown::Write);
         }
-        let wait = Some(Duration::from_secs(SECONDS_TO_LINGER));
-        if self.stream.set_read_timeout(wait).is_err() {
-            return;
-        }
-        drain(&mut self.stream);
     }
 }
 
@@ -109,7 +106,11 @@ impl<S: Read + Write + OpenStream + Drop> Link for RealLink<S> {
     ghost tells = { false };
 
     fn read(&mut self, out: &mut [u8]) -> Result<usize, Failed> {
-        match read_once(&mut self.stream, out) {
+        let read = match &mut self.stream {
+            Some(stream) => read_once(stream, out),
+            None => Err(io::Error::from(ErrorKind::NotConnected)),
+        };
+        match read {
             Ok(n) => Ok(n),
             Err(_) => {
                 self.faults = raise(self.faults, 1);
@@ -119,7 +120,11 @@ impl<S: Read + Write + OpenStream + Drop> Link for RealLink<S> {
     }
 
     fn write(&mut self, b: &[u8]) -> Result<(), IoFault> {
-        match self.stream.write_all(b) {
+        let written = match &mut self.stream {
+            Some(stream) => stream.write_all(b),
+            None => Err(io::Error::from(ErrorKind::NotConnected)),
+        };
+        match written {
             Ok(()) => Ok(()),
             Err(_) => {
                 self.faults = raise(self.faults, 1);
@@ -128,10 +133,12 @@ impl<S: Read + Write + OpenStream + Drop> Link for RealLink<S> {
         }
     }
 
+    // Where a call on it has failed nothing is waited for.
     fn finish(&mut self) {
-        if !self.finished {
-            self.finished = true;
-            self.linger();
+        if let Some(mut stream) = self.stream.take() {
+            if self.faults == 0 {
+                linger(&mut stream);
+            }
         }
     }
 
