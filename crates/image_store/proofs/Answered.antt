@@ -5,8 +5,9 @@ use Rattle.buzhash_cut.specs.Sizes.{Sizes}
 use Rattle.caibx_codec.specs.Listing.{Listing, count_of}
 use Rattle.caibx_codec.specs.Right.{IsRight}
 use Rattle.caibx_codec.specs.Spelling.{IsIndexFile, file_of}
+use Rattle.chunk_store.specs.Causes.{CountsCause}
 use Rattle.dsy_base.specs.Maps.{Map}
-use Rattle.image_store.specs.PutChunks.{CountsCause, HoldsAll, Stands, PutsEnd}
+use Rattle.image_store.specs.PutChunks.{HoldsAll, Stands, PutsEnd}
 use Rattle.image_store.specs.StoreImage.{Indexes, IsOfCutting, IsOfImage, IsOfStoring, IsStoredAs, EndsEarly}
 use Rattle.image_store.specs.declared.put_chunks.MakeFault.{MakeFault}
 use Rattle.image_store.specs.declared.put_chunks.MakeFault.TheVariants as faults

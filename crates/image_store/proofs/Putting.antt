@@ -7,6 +7,7 @@ use Rattle.caibx_codec.proofs.Asks.{get_listed, put_listed}
 use Rattle.caibx_codec.specs.Listing.{Listing, count_of, id_of, kind_of, slice_of}
 use Rattle.chunk_store.proofs.Sends.{sends_on, sends_weaker}
 use Rattle.chunk_store.specs.Asks.{Ask, Get, Put, Sends, Sent}
+use Rattle.chunk_store.specs.Causes.{CountsCause}
 use Rattle.chunk_store.specs.Names.{name_of}
 use Rattle.chunk_store.specs.Said.{AskedOnce, KeepsOf}
 use Rattle.chunk_store.specs.declared.id.DigestKind.{DigestKind}
@@ -16,7 +17,7 @@ use Rattle.dsy_base.specs.Counts.{CountsFaults, Rose}
 use Rattle.dsy_base.specs.declared.view.View.{Ghosts as ViewWords}
 use Rattle.image_store.proofs.Seen.{seen_on, unseen_before}
 use Rattle.image_store.proofs.Stored.{asks_later, asks_more, files_later, files_more, holds_again, holds_more, lacked_fresh, others_hold, said_again, said_more, stands_later, stands_more, tells_on}
-use Rattle.image_store.specs.PutChunks.{KeepsListed, KeepsNamed, CountsCause, EndsAt, HoldsNamed, IsListedId, PutsEnd, PutsLacked, PutsRight, SaysNamed}
+use Rattle.image_store.specs.PutChunks.{KeepsListed, KeepsNamed, EndsAt, HoldsNamed, IsListedId, PutsEnd, PutsLacked, PutsRight, SaysNamed}
 use Rattle.image_store.specs.Putting.{PuttingEnds, HasPut, HasTouched, HoldsStill, SeesTo, is_seen}
 use Rattle.image_store.specs.declared.put_chunks.MakeFault.{MakeFault}
 use Rattle.image_store.specs.declared.put_chunks.MakeFault.TheVariants as faults

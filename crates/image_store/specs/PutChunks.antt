@@ -1,7 +1,6 @@
 -- What seeing to the chunks of an image does to a store. l lists the chunks, t are the image's bytes, and `told` are
 -- bytes where they are told.
-use Rattle.std.specs.Prelude.{◌≡◌, ◌≢◌, ◌⊎◌, slice_range, ℕ, ◌+◌, ◌<◌, ◌≤◌, List, Option, Some, IfSome, is_some, Result}
-use Rattle.std.specs.Prelude.{Err}
+use Rattle.std.specs.Prelude.{◌≡◌, ◌≢◌, ◌⊎◌, slice_range, ℕ, ◌+◌, ◌<◌, ◌≤◌, List, Option, Some, IfSome, is_some}
 use Rattle.std.specs.Option.{option_map}
 use Rattle.caibx_codec.specs.Asks.{IsListedGet, IsListedPut}
 use Rattle.caibx_codec.specs.Listing.{Listing, count_of, id_of, kind_of, slice_of}
@@ -12,17 +11,10 @@ use Rattle.chunk_store.specs.Names.{name_of}
 use Rattle.chunk_store.specs.Paths.{path_of}
 use Rattle.chunk_store.specs.Said.{Said}
 use Rattle.chunk_store.specs.declared.id.DigestKind.{DigestKind}
-use Rattle.dsy_base.specs.Counts.{Rose}
 use Rattle.dsy_base.specs.Folders.{temporary_of}
 use Rattle.dsy_base.specs.Maps.{Map, at_name}
 use Rattle.image_store.specs.declared.put_chunks.MakeFault.{MakeFault}
 use Rattle.image_store.specs.declared.put_chunks.MakeFault.TheVariants as faults
-
--- how a store's count of faults goes over asking it for a chunk and then putting the chunk: it never falls, and rises
--- where a call failed
-pub record CountsCause {A E : Type 0} (failed : E) (old new : ℕ) (result : Result A E) : Type 0 where
-  pub never_falls : old ≤ new
-  pub cause : result ≡ Err failed → Rose old new
 
 -- bytes under each id, or under each name of a folder, where they are told
 abbrev pub ToldMap : Type 0

@@ -6,11 +6,12 @@ use Rattle.std.specs.Cmp.Lexicographic.{slice_cmp}
 use Rattle.std.specs.Ordering.{nat_cmp}
 use Rattle.caibx_codec.specs.Listing.{Listing, count_of}
 use Rattle.chunk_store.specs.Asks.{Sends}
+use Rattle.chunk_store.specs.Causes.{CountsCause}
 use Rattle.chunk_store.specs.declared.store.Store.{Ghosts as StoreWords}
 use Rattle.dsy_base.specs.Counts.{CountsFaults}
 use Rattle.dsy_base.specs.Maps.{Map}
 use Rattle.dsy_base.specs.declared.view.View.{Ghosts as ViewWords}
-use Rattle.image_store.specs.PutChunks.{KeepsListed, AsksEach, CountsCause, HoldsAll, IsListedId, PutsEnd, PutsFiles, SaysAll}
+use Rattle.image_store.specs.PutChunks.{KeepsListed, AsksEach, HoldsAll, IsListedId, PutsEnd, PutsFiles, SaysAll}
 use Rattle.image_store.specs.PutChunks.{Stands}
 use Rattle.image_store.specs.declared.put_chunks.MakeFault.{MakeFault}
 use Rattle.image_store.specs.declared.put_chunks.MakeFault.TheVariants as faults

@@ -3,10 +3,11 @@ use Rattle.std.specs.Prelude.{◌≡◌, ℕ, ◌<◌, ◌≤◌, All, IfErr, If
 use Rattle.std.specs.Prelude.{slice_index}
 use Rattle.buzhash_cut.specs.Image.{CountsViews}
 use Rattle.caibx_codec.specs.Listing.{Listing, count_of, image_length, size_of}
+use Rattle.chunk_store.specs.Causes.{CountsCause}
 use Rattle.chunk_store.specs.declared.store.Store.{Ghosts as StoreWords}
 use Rattle.dsy_base.specs.Bytes.{Held}
 use Rattle.dsy_base.specs.declared.view.View.{Ghosts as ViewWords}
-use Rattle.image_store.specs.PutChunks.{CountsCause, HoldsAll, PutsEnd, SaysAll}
+use Rattle.image_store.specs.PutChunks.{HoldsAll, PutsEnd, SaysAll}
 use Rattle.image_store.specs.Putting.{PuttingEnds, HasPut, HasTouched}
 use Rattle.image_store.specs.declared.put_chunks.MakeFault.{MakeFault}
 use Rattle.image_store.specs.declared.put_chunks.MakeFault.TheVariants as faults

@@ -5,11 +5,12 @@ ghost use Rattle.std.specs.Prelude.{◌≡◌, ℕ, List, ◌<◌, ◌≤◌, �
 ghost use Rattle.caibx_codec.specs.Listing.{count_of, id_of, image_length, kind_of, size_of};
 ghost use Rattle.caibx_codec.specs.Right.{IsRight, IsRightAt};
 ghost use Rattle.chunk_store.specs.Asks.{Sends};
+ghost use Rattle.chunk_store.specs.Causes.{CountsCause};
 ghost use Rattle.chunk_store.specs.Said.{AskedOnce, KeepsOf};
 ghost use Rattle.dsy_base.specs.Counts.{CountsFaults};
 ghost use Rattle.image_store.specs.Chopping.{AsksListed, ChopStops, IsMismatch, StopsAt, TellsLength};
 ghost use Rattle.image_store.specs.Chopping.{most_seen, seen_to};
-ghost use Rattle.image_store.specs.PutChunks.{CountsCause, HoldsAll, HoldsNamed, PutsFiles, PutsLacked, PutsRight};
+ghost use Rattle.image_store.specs.PutChunks.{HoldsAll, HoldsNamed, PutsFiles, PutsLacked, PutsRight};
 ghost use Rattle.image_store.specs.PutChunks.{KeepsListed, KeepsNamed, SaysAll, SaysNamed, Stands, told_slice};
 
 use crate::put_chunks::{MakeFault, put_entry};

@@ -9,11 +9,12 @@ ghost use Rattle.std.specs.Str.{bytes_eq};
 ghost use Rattle.caibx_codec.specs.Listing.{count_of, id_of, kind_of, size_of, image_length};
 ghost use Rattle.caibx_codec.specs.Right.{IsRightAt};
 ghost use Rattle.chunk_store.specs.Asks.{Get, Put, Sends};
+ghost use Rattle.chunk_store.specs.Causes.{CountsCause};
 ghost use Rattle.chunk_store.specs.Names.{name_of};
 ghost use Rattle.chunk_store.specs.Said.{KeepsOf, AskedOnce};
 ghost use Rattle.dsy_base.specs.Counts.{CountsFaults};
 ghost use Rattle.read_ahead.specs.Ahead.{IsSlice};
-ghost use Rattle.image_store.specs.PutChunks.{told_range, told_slice, CountsCause, PutsUnder, PutsRight, PutsLacked};
+ghost use Rattle.image_store.specs.PutChunks.{told_range, told_slice, PutsUnder, PutsRight, PutsLacked};
 ghost use Rattle.image_store.specs.PutChunks.{HoldsNamed, SaysNamed, HoldsAll, SaysAll, Stands, PutsFiles, AsksEach};
 ghost use Rattle.image_store.specs.PutChunks.{EndsAt, KeepsListed, KeepsNamed, RereadsTo, PutsEnd};
 ghost use Rattle.image_store.specs.Putting.{HasPut, SeesTo};
@@ -137,7 +138,8 @@ fn keep<S: StoreWrite>(
     ensures files { PutsLacked id.now.0 (Some chunk.now) (S.holds store.old) (S.folder store.old) (S.folder store.new) }
     ensures place { S.place store.new ≡ S.place store.old }
     ensures said { (q : List ℕ) → q ≢ id.now.0 → KeepsOf (S.said store.old) (S.said store.new) q }
-    ensures sends { Sends (λ a. (a ≡ Get id.now.0) ⊎ (a ≡ Put id.now.0 chunk.now)) (S.sent store.old) (S.sent store.new) }
+    ensures sends { Sends (λ a. (a ≡ Get id.now.0) ⊎ (a ≡ Put id.now.0 chunk.now))
+        (S.sent store.old) (S.sent store.new) }
     ensures asks { AskedOnce (S.asked store.old) (S.asked store.new) id.now.0 }
     ensures queries { S.queried store.new ≡ S.queried store.old }
     ensures faults { CountsCause IoFault.Failed (S.faults store.old) (S.faults store.new) result }
@@ -176,45 +178,6 @@ fn put_named<S: StoreWrite>(
         Err(IoFault::Failed) => Err(MakeFault::StoreFault),
         Err(IoFault::Memory) => Err(MakeFault::Memory),
     }
-}
-
-// Sees to one entry.
-fn see_to<V: View, S: StoreWrite>(
-    image: &mut V,
-    store: &mut S,
-    kind: DigestKind,
-    entry: u64,
-    id: &ChunkId,
-    start: u64,
-    chunk: &mut [u8],
-    room: &mut [u8],
-) -> Result<(), MakeFault>
-    requires inside { start + length chunk.old ≤ (V.held image.old).size }
-    requires room { length room.old ≡ length chunk.old }
-    ensures ok { OnOk result (IfSome (S.holds store.new) (λ m. HoldsNamed kind id.now.0 (m id.now.0))) }
-    ensures told { OnOk result (SaysNamed kind id.now.0 (S.said store.new)) }
-    ensures right { OnOk result (IfSome (told_range (V.held image.old).bytes start (start + length chunk.old))
-        (λ b. name_of kind b ≡ id.now.0)) }
-    ensures changed { PutsRight kind id.now.0 (told_range (V.held image.old).bytes start (start + length chunk.old))
-        (S.holds store.old) (S.holds store.new) }
-    ensures files { PutsLacked id.now.0 (told_range (V.held image.old).bytes start (start + length chunk.old))
-        (S.holds store.old) (S.folder store.old) (S.folder store.new) }
-    ensures err { IfErr result (EndsAt kind entry id.now.0
-        (told_range (V.held image.old).bytes start (start + length chunk.old))) }
-    ensures untouched { (k : ℕ) → (was got : ChunkId) → result ≡ Err (MakeFault.Changed k was got) →
-        store.new ≡ store.old }
-    ensures kept { V.held image.new ≡ V.held image.old }
-    ensures place { S.place store.new ≡ S.place store.old }
-    ensures said { (q : List ℕ) → q ≢ id.now.0 → KeepsOf (S.said store.old) (S.said store.new) q }
-    ensures sends { Sends (KeepsNamed kind id.now.0) (S.sent store.old) (S.sent store.new) }
-    ensures asks { AskedOnce (S.asked store.old) (S.asked store.new) id.now.0 }
-    ensures queries { S.queried store.new ≡ S.queried store.old }
-    ensures image_faults { CountsFaults MakeFault.ImageFault MakeFault.Memory
-        (V.faults image.old) (V.faults image.new) result }
-    ensures store_faults { CountsCause MakeFault.StoreFault (S.faults store.old) (S.faults store.new) result }
-{
-    read_again(image, kind, entry, id, start, chunk)?;
-    put_named(store, kind, id, chunk, room)
 }
 
 // Sees to entry i. Its slice may have been read, and then it isn't read again.
@@ -261,16 +224,8 @@ pub(crate) fn put_entry<V: View, S: StoreWrite>(
         return put_named(store, kind, &listed.id, bytes, held);
     }
     let (bytes, _) = chunk.split_at_mut(listed.size);
-    see_to(
-        image,
-        store,
-        kind,
-        i as u64,
-        &listed.id,
-        listed.start,
-        bytes,
-        held,
-    )
+    read_again(image, kind, i as u64, &listed.id, listed.start, bytes)?;
+    put_named(store, kind, &listed.id, bytes, held)
 }
 
 // Sees to entry i, unless its id was seen to.

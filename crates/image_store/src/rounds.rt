@@ -8,7 +8,7 @@ ghost use Rattle.image_store.specs.Storing.{GoesOn, IsAlike, IsStoredBy, IsStori
 ghost use Rattle.read_ahead.specs.Ahead.{IsAhead};
 
 use crate::put_chunks::{MakeFault, put_chunks};
-use crate::storing::Storing;
+use crate::storing::{Rooms, Storing};
 use caibx_codec::index::Index;
 use chunk_store::store::{Store, StoreWrite};
 use dsy_base::inner_folders::InnerFolders;
@@ -105,24 +105,23 @@ fn store_alone<V: View, S: StoreWrite>(
     index: &Index,
     views: Vec<V>,
     store: S,
-    chunk: Vec<u8>,
-    room: Vec<u8>,
+    rooms: Rooms,
 ) -> (Vec<V>, S, Result<(), MakeFault>)
     requires some { 0 < vec_len views }
     requires alike { AreOfOneImage (map V.held views.items) }
     requires size { All (λ v. image_length index.now ≡ (V.held v).size) views.items }
-    requires chunk { (i : ℕ) → i < count_of index.now → size_of index.now i ≤ length chunk.items }
-    requires room { (i : ℕ) → i < count_of index.now → size_of index.now i ≤ length room.items }
+    requires chunk { (i : ℕ) → i < count_of index.now → size_of index.now i ≤ length rooms.chunk.items }
+    requires room { (i : ℕ) → i < count_of index.now → size_of index.now i ≤ length rooms.room.items }
     ensures { IsStoredBy V.View S.Store index.now views.items result.0.items store result.1 result.2 }
 {
-    let (mut views, mut store, mut chunk, mut room) = (views, store, chunk, room);
+    let (mut views, mut store, mut rooms) = (views, store, rooms);
     let put = put_chunks(
         alloc,
         index,
         &mut views[0],
         &mut store,
-        &mut chunk,
-        &mut room,
+        &mut rooms.chunk,
+        &mut rooms.room,
     );
     (views, store, put)
 }
@@ -130,14 +129,12 @@ fn store_alone<V: View, S: StoreWrite>(
 // Sees to all entries with the first view, for which the others read ahead.
 fn store_ahead<R: Threads + Sync, V: View + Send, S: StoreWrite, I: InnerFolders + Sync>(
     rt: &R,
-    alloc: Global,
     index: &Index,
     views: Vec<V>,
     crew: Crew<V>,
     store: S,
     inner: &Option<I>,
-    chunk: Vec<u8>,
-    room: Vec<u8>,
+    rooms: Rooms,
 ) -> (Vec<V>, S, Result<(), MakeFault>)
     requires none { crew.readers.items ≡ [] }
     requires crew { (vec_len views ≡ vec_len crew.rooms + 1) × (vec_len crew.ready ≡ vec_len crew.rooms)
@@ -145,13 +142,14 @@ fn store_ahead<R: Threads + Sync, V: View + Send, S: StoreWrite, I: InnerFolders
     requires ready { (l : Listing) (told : Option (List ℕ)) → All (IsAhead l told) crew.ready.items }
     requires alike { AreOfOneImage (map V.held views.items) }
     requires size { All (λ v. image_length index.now ≡ (V.held v).size) views.items }
-    requires chunk { (i : ℕ) → i < count_of index.now → size_of index.now i ≤ length chunk.items }
-    requires room { (i : ℕ) → i < count_of index.now → size_of index.now i ≤ length room.items }
+    requires chunk { (i : ℕ) → i < count_of index.now → size_of index.now i ≤ length rooms.chunk.items }
+    requires room { (i : ℕ) → i < count_of index.now → size_of index.now i ≤ length rooms.room.items }
     ensures { IsStoredBy V.View S.Store index.now views.items result.0.items store result.1 result.2 }
 {
     let (mut views, mut crew) = (views, crew);
+    let alloc = *rooms.chunk.allocator();
     let image = hire(&mut views, &mut crew.rooms, &mut crew.readers);
-    let mut storing = Storing::new(alloc, image, store, chunk, room);
+    let mut storing = Storing::new(alloc, image, store, rooms);
     let put = put_by_rounds(
         rt,
         index,
@@ -193,12 +191,13 @@ pub(crate) fn store_entries<
     let Ok(room) = index.room(alloc) else {
         return (views, store, Err(MakeFault::Memory));
     };
+    let rooms = Rooms { chunk, room };
     let others = views.len() - 1;
     if others == 0 {
-        return store_alone(alloc, index, views, store, chunk, room);
+        return store_alone(alloc, index, views, store, rooms);
     }
-    match Crew::new(alloc, others, chunk.len()) {
-        Ok(crew) => store_ahead(rt, alloc, index, views, crew, store, inner, chunk, room),
-        Err(_) => store_alone(alloc, index, views, store, chunk, room),
+    match Crew::new(alloc, others, rooms.chunk.len()) {
+        Ok(crew) => store_ahead(rt, index, views, crew, store, inner, rooms),
+        Err(_) => store_alone(alloc, index, views, store, rooms),
     }
 }

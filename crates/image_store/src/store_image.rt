@@ -4,7 +4,8 @@ ghost use Rattle.std.specs.Prelude.{◌≡◌, ◌≢◌, ◌<◌, ◌≤◌, ma
 ghost use Rattle.std.specs.Prelude.{IsErrAnd, Err};
 ghost use Rattle.buzhash_cut.specs.Image.{AreOfOneImage, CountsViews, HasTooManyCuts, IsIndexOfImage};
 ghost use Rattle.caibx_codec.specs.Listing.{count_of, image_length};
-ghost use Rattle.image_store.specs.PutChunks.{CountsCause};
+ghost use Rattle.caibx_fields.specs.Limits.{item_limit};
+ghost use Rattle.chunk_store.specs.Causes.{CountsCause};
 ghost use Rattle.image_store.specs.StoreImage.{Indexes, IsOfCutting, IsOfStoring, StoresImage, PutsFilesOf, AsksOf};
 ghost use Rattle.image_store.specs.StoreImage.{IsOfImage, SaysOf, SendsOf};
 
@@ -34,7 +35,7 @@ fn index_of<R: Threads + Sync, V: View + Send>(
     ensures size { IfOk result.1 (λ l. All (λ v. image_length l ≡ (V.held v).size) views.items) }
     ensures only { IfErr result.1 IsOfCutting }
     ensures kept { map V.held result.0.items ≡ map V.held views.items }
-    ensures few { IfOk result.1 (λ l. count_of l ≤ 4194304) }
+    ensures few { IfOk result.1 (λ l. count_of l ≤ item_limit) }
     ensures faults { CountsViews MakeFault.ImageFault MakeFault.Memory
         (map V.faults views.items) (map V.faults result.0.items) result.1 }
 {
@@ -61,7 +62,7 @@ fn store_listed<R: Threads + Sync, V: View + Send, S: StoreWrite, I: InnerFolder
     requires alike { AreOfOneImage (map V.held views.items) }
     requires index { All (λ v. IfSome (V.held v).bytes (λ t. IsIndexOfImage sizes.now t index.now)) views.items }
     requires size { All (λ v. image_length index.now ≡ (V.held v).size) views.items }
-    requires few { count_of index.now ≤ 4194304 }
+    requires few { count_of index.now ≤ item_limit }
     requires place { IfSome inner.now (λ i. I.place i ≡ S.place store) }
     ensures exactly { All (λ v. IfSome (V.held v).bytes (λ t. IfSome (S.holds store) (λ old.
         IfSome (S.holds result.1) (λ new. StoresImage sizes.now (λ b. b.items) t old new result.2)))) views.items }

@@ -15,6 +15,13 @@ use std::alloc::Global;
 use std::collections::BTreeSet;
 use std::snapshot::Snapshot;
 
+/// Room for the slice of an entry, and for the bytes that the store holds in its place, each as long as the largest.
+#[derive(Drop)]
+pub(crate) struct Rooms {
+    pub chunk: Vec<u8>,
+    pub room: Vec<u8>,
+}
+
 /// A view of the image, the store, and how far the storing has come: the entries before `at` were seen to, and `first`
 /// is the store as it was before. `chunk` and `room` have room for the largest.
 #[derive(Drop)]
@@ -30,16 +37,10 @@ pub(crate) struct Storing<V, S> {
 
 impl<V: View, S: StoreWrite> Storing<V, S> {
     /// Nothing was seen to.
-    pub(crate) fn new(
-        alloc: Global,
-        image: V,
-        store: S,
-        chunk: Vec<u8>,
-        room: Vec<u8>,
-    ) -> Storing<V, S>
+    pub(crate) fn new(alloc: Global, image: V, store: S, rooms: Rooms) -> Storing<V, S>
         ensures storing { (l : Listing) → image_length l ≡ (V.held image).size
-            → ((i : ℕ) → i < count_of l → size_of l i ≤ length chunk.items)
-            → ((i : ℕ) → i < count_of l → size_of l i ≤ length room.items)
+            → ((i : ℕ) → i < count_of l → size_of l i ≤ length rooms.chunk.items)
+            → ((i : ℕ) → i < count_of l → size_of l i ≤ length rooms.room.items)
             → IsStoring V.View S.Store l result }
         ensures image { result.image ≡ image }
         ensures first { result.first.value ≡ store }
@@ -51,8 +52,8 @@ impl<V: View, S: StoreWrite> Storing<V, S> {
             first,
             at: 0,
             seen: BTreeSet::new(alloc),
-            chunk,
-            room,
+            chunk: rooms.chunk,
+            room: rooms.room,
         }
     }
 

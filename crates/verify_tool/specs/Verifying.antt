@@ -4,6 +4,7 @@ use Rattle.std.specs.Prelude.{take, map, nat_lt, codes, Option, Some, None, IfSo
 use Rattle.std.specs.List.{filter, flat_map}
 use Rattle.std.specs.Option.{option_map}
 use Rattle.std.specs.Str.{bytes_eq}
+use Rattle.caibx_fields.specs.Limits.{size_limit}
 use Rattle.chunk_store.specs.Folders.{chunks}
 use Rattle.chunk_store.specs.Names.{name_of}
 use Rattle.chunk_store.specs.Paths.{path_of}
@@ -16,14 +17,10 @@ use Rattle.hex.specs.Hex.{encode_lower}
 use Rattle.verify_tool.specs.Pruning.{without}
 use Rattle.verify_tool.specs.declared.verify.StoreCheck.{StoreCheck}
 
--- the size of the longest chunk file that is read: 64 MiB
-abbrev pub longest_file : ℕ
-longest_file = 67108864
-
 -- whether there are bytes, and they aren't the chunk of this id: too many, or of another name
 abbrev pub is_wrong : List ℕ → Option (List ℕ) → Bool
 is_wrong id None = false
-is_wrong id (Some b) = nat_lt longest_file (length b) || not (bytes_eq (name_of Sha512T256 b) id)
+is_wrong id (Some b) = nat_lt size_limit (length b) || not (bytes_eq (name_of Sha512T256 b) id)
 
 -- whether a chunk file lies under the id, and is damaged
 abbrev pub is_damaged : Map (List ℕ) → List ℕ → Bool
@@ -106,8 +103,3 @@ found_at id b = cond b (id ∷ []) []
 abbrev pub ChecksFile : Bool → List ℕ → Change → Result Bool StoreCheck → Type 0
 ChecksFile repair id c (Ok b) = IfSome c.old (λ m. b ≡ is_damaged m id) × AreTold repair (found_at id b) c
 ChecksFile repair id c (Err fault) = IsUntouched c ⊎ IsCutShort repair id c
-
--- what a read of a chunk file into a buffer of `room` bytes tells: whether it is damaged, or that it is longer
-abbrev pub TellsFile : Map (List ℕ) → List ℕ → ℕ → Option Bool → Type 0
-TellsFile m id room (Some b) = b ≡ is_damaged m id
-TellsFile m id room None = (b : List ℕ) × (chunks m id ≡ Some b) × (nat_lt room (length b) ≡ true)

@@ -1,17 +1,18 @@
 //! Checking a folder store: each chunk file is read and named. Sizes are in bytes.
 
 ghost use Rattle.std.specs.Prelude.{◌≡◌, ◌<◌, ◌≤◌, IfOk, IfSome, OnOk, OnErr, length, cond, [], ◌∷◌};
+ghost use Rattle.caibx_fields.specs.Limits.{size_limit};
+ghost use Rattle.chunk_store.specs.Causes.{CountsCause};
 ghost use Rattle.dir_store.specs.Lists.{IsIdsOf};
 ghost use Rattle.dsy_base.specs.Counts.{CountsFaults};
 ghost use Rattle.dsy_base.specs.Texts.{Puts};
-ghost use Rattle.image_store.specs.PutChunks.{CountsCause};
-ghost use Rattle.verify_tool.specs.Verifying.{ChecksFile, IsStoreChecked, StopsVerifying, TellsFile};
-ghost use Rattle.verify_tool.specs.Verifying.{is_damaged, left_of, line_of_damaged, longest_file};
+ghost use Rattle.verify_tool.specs.Verifying.{ChecksFile, IsStoreChecked, StopsVerifying};
+ghost use Rattle.verify_tool.specs.Verifying.{is_damaged, left_of, line_of_damaged};
 
 use crate::list::push_line;
 use chunk_store::id::{ChunkId, DigestKind};
 use chunk_store::laws::{id_has_32_bytes, path_names_one_id};
-use chunk_store::store::{GetFault, Store};
+use chunk_store::store::GetFault;
 use dir_store::store::DirStore;
 use dsy_base::fault::IoFault;
 use dsy_base::folder::Folder;
@@ -28,74 +29,28 @@ pub enum StoreCheck {
     Memory,
 }
 
-/// How many bytes of a chunk file are read at first: 256 KiB.
-const FIRST: usize = 262_144;
-
-/// How many are read at most: 64 MiB, the size of the greatest chunk.
-const LONGEST: usize = 67_108_864;
-
-// Makes the buffer longer, at least twice as long where it may be.
-fn grow(buf: &mut Vec<u8>) -> Result<(), AllocError>
-    requires room { length buf.old.items < longest_file }
-    ensures ok { OnOk result (length buf.old.items < length buf.new.items) }
-    ensures room { length buf.new.items ≤ longest_file }
-{
-    let size = (buf.len() * 2).max(FIRST).min(LONGEST);
-    buf.resize(size, 0)
-}
-
-// Reads the chunk file of this id once, and tells whether it is damaged. None where it is longer than the buffer.
-fn look_at<F: Folder>(
-    store: &mut DirStore<F>,
-    id: &ChunkId,
-    buf: &mut [u8],
-) -> Result<Option<bool>, IoFault>
-    requires room { length buf.old ≤ longest_file }
-    ensures value { IfOk result (λ told. IfSome (F.files store.old) (λ m. TellsFile m id.now.0 (length buf.new) told)) }
-    ensures size { length buf.new ≡ length buf.old }
-    ensures kept { F.files store.new ≡ F.files store.old }
-    ensures place { F.place store.new ≡ F.place store.old }
-    ensures faults { CountsCause IoFault.Failed (F.faults store.old) (F.faults store.new) result }
-{
-    match store.get(id, buf) {
-        Ok(n) => {
-            let (chunk, _) = buf.split_at(n);
-            Ok(Some(!id.is_of(DigestKind::Sha512T256, chunk)))
-        }
-        Err(GetFault::Missing) => Ok(Some(false)),
-        Err(GetFault::Longer) => Ok(None),
-        Err(GetFault::Failed) => Err(IoFault::Failed),
-        Err(GetFault::Memory) => Err(IoFault::Memory),
-    }
-}
-
 // Whether the chunk file of this id is damaged. The buffer becomes as long as is needed.
 fn is_damaged<F: Folder>(
     store: &mut DirStore<F>,
     id: &ChunkId,
     buf: &mut Vec<u8>,
 ) -> Result<bool, IoFault>
-    requires room { length buf.old.items ≤ longest_file }
+    requires room { length buf.old.items ≤ size_limit }
     ensures value { IfOk result (λ b. IfSome (F.files store.old) (λ m. b ≡ is_damaged m id.now.0)) }
-    ensures room { length buf.new.items ≤ longest_file }
+    ensures room { length buf.new.items ≤ size_limit }
     ensures kept { F.files store.new ≡ F.files store.old }
     ensures place { F.place store.new ≡ F.place store.old }
     ensures faults { CountsCause IoFault.Failed (F.faults store.old) (F.faults store.new) result }
 {
-    while buf.len() < LONGEST {
-        match look_at(store, id, buf) {
-            Ok(Some(damaged)) => return Ok(damaged),
-            Ok(None) => {}
-            Err(fault) => return Err(fault),
+    match store.read_whole(id, buf) {
+        Ok(n) => {
+            let (chunk, _) = buf.as_slice().split_at(n);
+            Ok(!id.is_of(DigestKind::Sha512T256, chunk))
         }
-        match grow(buf) {
-            Ok(()) => {}
-            Err(_) => return Err(IoFault::Memory),
-        }
-    }
-    match look_at(store, id, buf) {
-        Ok(told) => Ok(told.unwrap_or(true)),
-        Err(fault) => Err(fault),
+        Err(GetFault::Missing) => Ok(false),
+        Err(GetFault::Longer) => Ok(true),
+        Err(GetFault::Failed) => Err(IoFault::Failed),
+        Err(GetFault::Memory) => Err(IoFault::Memory),
     }
 }
 
@@ -152,14 +107,14 @@ fn check_file<F: Folder, S: Sink>(
     buf: &mut Vec<u8>,
     out: &mut S,
 ) -> Result<bool, StoreCheck>
-    requires room { length buf.old.items ≤ longest_file }
+    requires room { length buf.old.items ≤ size_limit }
     ensures ends { ChecksFile repair id.now.0 (record {
       old = F.files store.old;
       new = F.files store.new;
       before = (S.output out.old).taken;
       taken = (S.output out.new).taken;
     }) result }
-    ensures room { length buf.new.items ≤ longest_file }
+    ensures room { length buf.new.items ≤ size_limit }
     ensures place { F.place store.new ≡ F.place store.old }
     ensures store_faults { CountsCause StoreCheck.StoreFault (F.faults store.old) (F.faults store.new) result }
     ensures faults { CountsFaults StoreCheck.OutFault StoreCheck.Memory (S.output out.old).faults
