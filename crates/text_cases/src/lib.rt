@@ -5,6 +5,8 @@
 #[cfg(test)]
 mod compare;
 #[cfg(test)]
+mod gate_tests;
+#[cfg(test)]
 mod help_tests;
 #[cfg(test)]
 mod line_tests;
