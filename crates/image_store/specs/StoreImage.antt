@@ -78,8 +78,7 @@ PutsFilesOf s told held old new =
 abbrev pub AsksOf : Sizes → Option (List ℕ) → (List ℕ → ℕ) → (List ℕ → ℕ) → Type 0
 AsksOf s told old new = (new ≡ old) ⊎ ((l : Listing) × Lists s told l × AsksEach l (count_of l) old new)
 
--- nothing was asked for or sent; or each id of the index was asked for once at most, and nothing else was sent but fronts
--- of such requests, and of those to take bytes of their digests
+-- nothing was asked for or sent; or each id of the index at most once, and nothing sent but fronts of such requests
 abbrev pub SendsOf : Sizes → Option (List ℕ) → (List ℕ → ℕ) → (List ℕ → ℕ) → Sent → Sent → Type 0
 SendsOf s told asked asked_now sent sent_now = ((asked_now ≡ asked) × (sent_now ≡ sent))
     ⊎ ((l : Listing) × Lists s told l × AsksEach l (count_of l) asked asked_now × Sends (KeepsListed l) sent sent_now)
