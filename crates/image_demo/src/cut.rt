@@ -3,6 +3,7 @@
 ghost use Rattle.std.specs.Prelude.{◌≡◌, ◌≤◌, IfOk, IfErr, IfSome};
 ghost use Rattle.buzhash_cut.specs.Image.{IndexGiven, IsIndexOfImage};
 ghost use Rattle.caibx_codec.specs.Listing.{count_of, image_length};
+ghost use Rattle.caibx_fields.specs.Limits.{item_limit};
 ghost use Rattle.dsy_base.specs.Counts.{CountsFaults};
 ghost use Rattle.image_demo.specs.Images.{usual_sizes};
 
@@ -40,7 +41,7 @@ fn index_one<R: Threads + Sync, V: View + Send>(
     ensures exactly { IfSome (V.held view).bytes (λ t. IndexGiven usual_sizes t result.1) }
     ensures size { IfOk result.1 (λ l. image_length l ≡ (V.held view).size) }
     ensures kept { V.held result.0 ≡ V.held view }
-    ensures few { IfOk result.1 (λ l. count_of l ≤ 4194304) }
+    ensures few { IfOk result.1 (λ l. count_of l ≤ item_limit) }
     ensures faults { CountsFaults CutFault.ImageFault CutFault.Memory (V.faults view) (V.faults result.0) result.1 }
 {
     let mut views = Vec::new(alloc);
@@ -63,7 +64,7 @@ pub fn cut<R: Threads + Sync, V: View + Send>(
 ) -> Result<Indexed<V>, DemoFault>
     ensures exactly { IfOk result (λ x. IfSome (V.held view).bytes (λ t. IsIndexOfImage usual_sizes t x.index)) }
     ensures size { IfOk result (λ x. image_length x.index ≡ (V.held view).size) }
-    ensures few { IfOk result (λ x. count_of x.index ≤ 4194304) }
+    ensures few { IfOk result (λ x. count_of x.index ≤ item_limit) }
     ensures kept { IfOk result (λ x. V.held x.view ≡ V.held view) }
     ensures err { IfErr result (λ e. e ≡ DemoFault.Memory) }
 {

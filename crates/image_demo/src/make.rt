@@ -4,6 +4,7 @@ ghost use Rattle.std.specs.Prelude.{◌≡◌, ◌≤◌, ◌+◌, ℕ, List, []
 ghost use Rattle.std.specs.Prelude.{IsTrue};
 ghost use Rattle.assembler.specs.Assemblies.{IsObtainable, Verdict};
 ghost use Rattle.assembler.specs.Economy.{ReportsExactly};
+ghost use Rattle.caibx_fields.specs.Limits.{item_limit};
 ghost use Rattle.range_survey.specs.Reports.{right_below};
 ghost use Rattle.caibx_codec.specs.Listing.{count_of, image_length, kind_of};
 ghost use Rattle.caibx_codec.specs.Right.{IsRight};
@@ -138,7 +139,7 @@ pub fn make<T: Target, S: Store, V: View>(
     requires stocked { (t : List ℕ) × IsRight t index.now × IsStocked index.now t (S.holds store) }
     requires seeds { IfSome (V.held seed.view).bytes (λ t. IsRight t seed.index) }
     requires size { image_length seed.index ≡ (V.held seed.view).size }
-    requires few { count_of seed.index ≤ 4194304 }
+    requires few { count_of seed.index ≤ item_limit }
     requires tells { IsTrue V.tells }
     requires sure { (IsTrue T.never_fails) × (IsTrue S.never_fails) × (IsTrue V.never_fails) }
     ensures value { IfOk result (λ m. m.figures ≡ figures_of index.now seed.index (image_length index.now)) }

@@ -2,6 +2,7 @@
 
 ghost use Rattle.std.specs.Prelude.{◌≡◌, ◌≤◌, [], ◌∷◌, Some, IfOk, IfErr};
 ghost use Rattle.caibx_codec.specs.Listing.{count_of};
+ghost use Rattle.caibx_fields.specs.Limits.{item_limit};
 ghost use Rattle.chunk_store.specs.declared.id.DigestKind.TheVariants as kinds;
 ghost use Rattle.extract_plan.specs.Deal.{IsPlan};
 ghost use Rattle.extract_plan.specs.Places.{IsSeedIndex, PlacesKnown};
@@ -27,7 +28,7 @@ pub struct Planned {
 impl Planned {
     /// The plan with one seed, whose index this is.
     pub fn of(alloc: Global, index: &Index, seed: Index) -> Result<Planned, DemoFault>
-        requires few { count_of seed ≤ 4194304 }
+        requires few { count_of seed ≤ item_limit }
         ensures plan { IfOk result (λ p. IsPlan index.now 1 p.plan) }
         ensures places { IfOk result (λ p. IsSeedIndex index.now p.plan (seed ∷ []) p.places) }
         ensures known { IfOk result (λ p. PlacesKnown index.now p.plan p.places 1) }
