@@ -283,9 +283,9 @@ sources_fair s x p w v (q ∷ names) o (inl h) = reached q o h where
 sources_fair s x p w v (q ∷ names) o (inr h) = sources_fair s x p w v names o h.1
 
 -- the folder of a cache
-pub cache_step : (s : Spares) (x : Parts) (p : Unread) (cache : Option (List ℕ)) → IsStep (round p) s x (CacheOpened cache)
-cache_step s x p cache = record { fair = λ d e o h. go cache d e o h; leaves = λ d e r h. reads p (cache_reads cache d e r h) } where
-  go : (cache : Option (List ℕ)) (d e : Disk) (o : Outcome) → CacheOpened cache d (Err o) e → IsFair x o (round p d) (round p e)
+pub cache_step : (s : Spares) (x : Parts) (p : Unread) (stores : List Location) (cache : Option (List ℕ)) → IsStep (round p) s x (CacheOpened stores cache)
+cache_step s x p stores cache = record { fair = λ d e o h. go cache d e o h; leaves = λ d e r h. reads p (cache_reads stores cache d e r h) } where
+  go : (cache : Option (List ℕ)) (d e : Disk) (o : Outcome) → CacheOpened stores cache d (Err o) e → IsFair x o (round p d) (round p e)
   go None d e o h = absurd h
   go (Some q) d e o h = reached_fair s x p d e q o h.0
 

@@ -1,4 +1,5 @@
 pub mod Numbers
+pub mod Used
 pub mod Lent
 pub mod Opened
 pub mod OpenedSources

@@ -1,9 +1,11 @@
 -- The folder of a cache, which is taken to be written and given back. A cache is named by its folder; or there is none.
-use Rattle.std.specs.Prelude.{◌≡◌, ℕ, List, Option, Some, None, IfSome, IsSome, Ok, Err}
+use Rattle.std.specs.Prelude.{◌≡◌, ℕ, List, [], ◌∷◌, Option, Some, None, IfSome, IsSome, Ok, Err}
 use Rattle.std.specs.Option.{option_map}
 use Rattle.cache_store.specs.Shelves.{Shelf}
 use Rattle.command_steps.specs.Stores.{NotReached}
+use Rattle.command_steps.specs.Uses.{Uses, folders_of}
 use Rattle.command_worlds.specs.Worlds.{Reads, Step}
+use Rattle.command_words.specs.declared.command.Location.{Location}
 use Rattle.dsy_base.specs.Disk.{Disk, GivesFolder}
 use Rattle.dsy_base.specs.Maps.{Map, at_name}
 
@@ -21,12 +23,13 @@ with_cache cache d = record {
   folder_counts = d.folder_counts;
 }
 
--- the cache's folder was reached. Where there is no cache, nothing is touched
-abbrev pub CacheOpened : Option (List ℕ) → Step Disk Unit
-CacheOpened None d (Ok u) e = e ≡ d
-CacheOpened None d (Err o) e = ⊥
-CacheOpened (Some q) d (Ok u) e = IfSome d.folders (λ m. IsSome (m q)) × Reads d e
-CacheOpened (Some q) d (Err o) e = NotReached d e q o × Reads d e
+-- the cache's folder was reached. Where it wasn't, these stores were given back. Where there is no cache, nothing is
+-- touched
+abbrev pub CacheOpened : List Location → Option (List ℕ) → Step Disk Unit
+CacheOpened stores None d (Ok u) e = e ≡ d
+CacheOpened stores None d (Err o) e = ⊥
+CacheOpened stores (Some q) d (Ok u) e = IfSome d.folders (λ m. IsSome (m q)) × Reads d e × Uses [] (q ∷ []) d e
+CacheOpened stores (Some q) d (Err o) e = NotReached d e q o × Reads d e × Uses [] (q ∷ folders_of stores) d e
 
 -- it was given back, with the faults that it has counted
 abbrev pub CacheGiven : Option Shelf → Disk → Disk → Type 0

@@ -1,11 +1,12 @@
 -- Reading an index, and opening an image.
-use Rattle.std.specs.Prelude.{◌≡◌, ℕ, List, Option, Some, None, IfSome, Ok, Err}
+use Rattle.std.specs.Prelude.{◌≡◌, ℕ, List, [], ◌∷◌, Option, Some, None, IfSome, Ok, Err}
 use Rattle.caibx_codec.specs.Listing.{Listing}
 use Rattle.caibx_codec.specs.Reading.{index_in}
 use Rattle.caibx_codec.specs.Spelling.{IsIndexFile}
 use Rattle.caibx_fields.specs.declared.fault.IndexFault.{IndexFault}
 use Rattle.command_outcome.specs.declared.outcome.Outcome.{Outcome}
 use Rattle.command_outcome.specs.declared.outcome.Outcome.TheVariants as ends
+use Rattle.command_steps.specs.Uses.{Uses}
 use Rattle.command_worlds.specs.Worlds.{FileRose, Reads, Step}
 use Rattle.dsy_base.specs.Disk.{Disk}
 use Rattle.dsy_base.specs.Maps.{Map}
@@ -35,8 +36,8 @@ NotRead d e q ends.Memory = Unit {0}
 NotRead d e q other = ⊥
 
 abbrev pub IndexRead : List ℕ → Step Disk Listing
-IndexRead q d (Ok l) e = Listed d q l × Reads d e
-IndexRead q d (Err o) e = NotRead d e q o × Reads d e
+IndexRead q d (Ok l) e = Listed d q l × Reads d e × Uses (q ∷ []) [] d e
+IndexRead q d (Err o) e = NotRead d e q o × Reads d e × Uses (q ∷ []) [] d e
 
 -- ---- an image
 
@@ -51,5 +52,5 @@ NotOpened d e q ends.Memory = Unit {0}
 NotOpened d e q other = ⊥
 
 abbrev pub ImageOpened : List ℕ → Step Disk (Option (List ℕ))
-ImageOpened q d (Ok told) e = Holds d q told × Reads d e
-ImageOpened q d (Err o) e = NotOpened d e q o × Reads d e
+ImageOpened q d (Ok told) e = Holds d q told × Reads d e × Uses (q ∷ []) [] d e
+ImageOpened q d (Err o) e = NotOpened d e q o × Reads d e × Uses (q ∷ []) [] d e

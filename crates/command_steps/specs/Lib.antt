@@ -1,3 +1,4 @@
+pub mod Uses
 pub mod InputFiles
 pub mod Stores
 pub mod Dials

@@ -8,6 +8,7 @@ use Rattle.caibx_codec.specs.Listing.{Listing, count_of}
 use Rattle.command_outcome.specs.declared.outcome.Outcome.{Outcome}
 use Rattle.command_outcome.specs.declared.outcome.Outcome.TheVariants as ends
 use Rattle.command_steps.specs.InputFiles.{Holds, Listed, NotRead}
+use Rattle.command_steps.specs.Uses.{Uses}
 use Rattle.command_worlds.specs.Worlds.{FileRose, Reads, Step}
 use Rattle.dsy_base.specs.Bytes.{Held}
 use Rattle.dsy_base.specs.Disk.{Disk}
@@ -42,7 +43,8 @@ NoneListed d e n (q ∷ names) o = NotRead d e q o ⊎ ((l : Listing) × Listed 
 -- the indexes of these names were read in order, and list no more items together than they may
 abbrev pub IndexesRead : List (List ℕ) → Step Disk (List Listing)
 IndexesRead names d (Ok ls) e = (AllListed d names ls × (items_of ls ≤ seed_item_limit)) × Reads d e
-IndexesRead names d (Err o) e = NoneListed d e 0 names o × Reads d e
+    × Uses names [] d e
+IndexesRead names d (Err o) e = NoneListed d e 0 names o × Reads d e × Uses names [] d e
 
 -- ---- their images
 

@@ -10,6 +10,7 @@ use Rattle.command_outcome.specs.declared.outcome.Outcome.{Outcome}
 use Rattle.command_outcome.specs.declared.outcome.Outcome.TheVariants as ends
 use Rattle.command_steps.specs.Dials.{Dials, since}
 use Rattle.command_steps.specs.Stores.{NotReached, are_folders}
+use Rattle.command_steps.specs.Uses.{Uses, folders_of}
 use Rattle.command_worlds.specs.Worlds.{FolderRose, Reads, Step, World}
 use Rattle.command_words.specs.declared.command.Location.{Location}
 use Rattle.command_words.specs.declared.command.Location.TheVariants as locations
@@ -128,8 +129,9 @@ FirstUnreached d e (s ∷ stores) o =
 
 -- the stores were opened, and there was room for what is to be read from them
 abbrev pub SourcesOpened : List Location → Step Disk Unit
-SourcesOpened stores d (Ok u) e = AllThere d stores × Reads d e
-SourcesOpened stores d (Err o) e = (FirstUnreached d e stores o ⊎ (o ≡ ends.Memory)) × Reads d e
+SourcesOpened stores d (Ok u) e = AllThere d stores × Reads d e × Uses [] (folders_of stores) d e
+SourcesOpened stores d (Err o) e =
+    (FirstUnreached d e stores o ⊎ (o ≡ ends.Memory)) × Reads d e × Uses [] (folders_of stores) d e
 
 -- ---- the stores that were opened
 

@@ -1,6 +1,6 @@
 //! The cache of a command: its folder is taken to be written, and given back.
 
-ghost use Rattle.std.specs.Prelude.{◌≡◌, Ok, Err, Some, IfSome, IfOk, IfErr, OnOk, IsSome};
+ghost use Rattle.std.specs.Prelude.{◌≡◌, [], Ok, Err, Some, IfSome, IfOk, IfErr, OnOk, IsSome};
 ghost use Rattle.std.specs.Option.{option_map};
 ghost use Rattle.cache_store.specs.Shelves.{shelf_of};
 ghost use Rattle.chunk_store.specs.declared.id.DigestKind.TheVariants as kinds;
@@ -20,12 +20,12 @@ pub fn take_shelf<F: Files>(
     files: &mut F,
     name: &str,
 ) -> Result<CacheShelf<F::Folder>, Outcome>
-    ensures ok { IfOk result (λ s. CacheOpened (Some name.now) (F.disk files.old) (Ok tt) (with_cache
+    ensures ok { IfOk result (λ s. CacheOpened [] (Some name.now) (F.disk files.old) (Ok tt) (with_cache
         (Some (shelf_of F.Folder.files F.Folder.place F.Folder.faults s)) (F.disk files.new))) }
     ensures named { IfOk result (λ s. F.Folder.place s.folder ≡ name.now) }
     ensures fresh { IfOk result (λ s. (F.Folder.faults s.folder ≡ 0) × (s.kind ≡ kinds.Sha512T256)) }
     ensures known { OnOk result (IsSome ((F.disk files.new).folder_counts name.now)) }
-    ensures err { IfErr result (λ o. CacheOpened (Some name.now) (F.disk files.old) (Err o) (F.disk files.new)) }
+    ensures err { IfErr result (λ o. CacheOpened [] (Some name.now) (F.disk files.old) (Err o) (F.disk files.new)) }
 {
     match files.take_folder(name) {
         Ok(folder) => Ok(CacheShelf::new(folder)),
@@ -49,12 +49,12 @@ pub fn take_cache<F: Files>(
     files: &mut F,
     cache: &Option<Name>,
 ) -> Result<Option<CacheShelf<F::Folder>>, Outcome>
-    ensures ok { IfOk result (λ o. CacheOpened cache.now (F.disk files.old) (Ok tt) (with_cache
+    ensures ok { IfOk result (λ o. CacheOpened [] cache.now (F.disk files.old) (Ok tt) (with_cache
         (option_map (shelf_of F.Folder.files F.Folder.place F.Folder.faults) o) (F.disk files.new))) }
     ensures named { IfOk result (λ o. option_map (λ s. F.Folder.place s.folder) o ≡ cache.now) }
     ensures fresh { IfOk result (λ o. IfSome o (λ s. (F.Folder.faults s.folder ≡ 0) × (s.kind ≡ kinds.Sha512T256))) }
     ensures known { OnOk result (IfSome cache.now (λ q. IsSome ((F.disk files.new).folder_counts q))) }
-    ensures err { IfErr result (λ o. CacheOpened cache.now (F.disk files.old) (Err o) (F.disk files.new)) }
+    ensures err { IfErr result (λ o. CacheOpened [] cache.now (F.disk files.old) (Err o) (F.disk files.new)) }
 {
     let Some(name) = cache else {
         return Ok(None);

@@ -1,7 +1,8 @@
 //! Reading an index, and opening an image.
 
-ghost use Rattle.std.specs.Prelude.{◌≡◌, IfOk, IfErr, IsSome, OnOk};
+ghost use Rattle.std.specs.Prelude.{◌≡◌, [], ◌∷◌, IfOk, IfErr, IsSome, OnOk};
 ghost use Rattle.command_steps.specs.InputFiles.{Holds, Listed, NotOpened, NotRead};
+ghost use Rattle.command_steps.specs.Uses.{Uses};
 ghost use Rattle.command_worlds.specs.Worlds.{Reads};
 
 use caibx_codec::index::Index;
@@ -17,6 +18,7 @@ pub fn load_index<F: Files>(alloc: Global, files: &mut F, name: Name) -> Result<
     ensures ok { IfOk result (Listed (F.disk files.old) name) }
     ensures err { IfErr result (NotRead (F.disk files.old) (F.disk files.new) name) }
     ensures kept { Reads (F.disk files.old) (F.disk files.new) }
+    ensures used { Uses (name ∷ []) [] (F.disk files.old) (F.disk files.new) }
 {
     let mut view = match files.view(name.as_str()) {
         Ok(view) => view,
@@ -54,6 +56,7 @@ pub fn open_image<F: Files>(files: &mut F, name: Name) -> Result<F::View, Outcom
     ensures known { OnOk result (IsSome ((F.disk files.new).file_counts name)) }
     ensures err { IfErr result (NotOpened (F.disk files.old) (F.disk files.new) name) }
     ensures kept { Reads (F.disk files.old) (F.disk files.new) }
+    ensures used { Uses (name ∷ []) [] (F.disk files.old) (F.disk files.new) }
 {
     match files.view(name.as_str()) {
         Ok(view) => Ok(view),

@@ -8,6 +8,7 @@ ghost use Rattle.caibx_codec.specs.Listing.{Listing, count_of};
 ghost use Rattle.command_steps.specs.InputFiles.{Listed};
 ghost use Rattle.command_steps.specs.Seeds.{AllListed, IsSeedAt, IsViewed, NoneListed, OpensSeeds, SeedsKnown};
 ghost use Rattle.command_steps.specs.Seeds.{image_name, items_with, label_in};
+ghost use Rattle.command_steps.specs.Uses.{Uses};
 ghost use Rattle.command_worlds.specs.Worlds.{Reads};
 ghost use Rattle.dsy_base.specs.Counts.{raised};
 ghost use Rattle.extract_plan.specs.Places.{items_of, seed_item_limit};
@@ -47,6 +48,7 @@ fn read_each<F: Files>(
         × (items_with items ls ≤ seed_item_limit) × (indexes.new.items ≡ indexes.old.items ++ ls)) }
     ensures err { IfErr result (NoneListed (F.disk files.old) (F.disk files.new) items names.now) }
     ensures kept { Reads (F.disk files.old) (F.disk files.new) }
+    ensures used { Uses names.now [] (F.disk files.old) (F.disk files.new) }
 {
     let Some((first, rest)) = names.split_first() else {
         return Ok(());
@@ -77,6 +79,7 @@ pub fn read_indexes<F: Files>(
     ensures few { IfOk result (λ v. items_of v.items ≤ seed_item_limit) }
     ensures err { IfErr result (NoneListed (F.disk files.old) (F.disk files.new) 0 names.now) }
     ensures kept { Reads (F.disk files.old) (F.disk files.new) }
+    ensures used { Uses names.now [] (F.disk files.old) (F.disk files.new) }
 {
     let mut indexes = Vec::new(alloc);
     read_each(alloc, files, names, 0, &mut indexes)?;

@@ -141,9 +141,9 @@ module _ (d e : Disk) (n : Map (Map (List ℕ))) (folders : d.folders ≡ Some n
   unreached (s ∷ stores) o there (inl h) = one_unreached s o (there 0 s (omega arith)) h
   unreached (s ∷ stores) o there (inr h) = unreached stores o (λ j q lt. there (suc j) q (omega (arith, lt))) h.1
 
-  cache_unreached : (cache : Option (List ℕ)) (o : Outcome) → IfSome cache (λ c. IsSome (n c)) → CacheOpened cache d (Err o) e → o ≡ ends.Memory
-  cache_unreached None o there h = absurd h
-  cache_unreached (Some c) o there h = not_reached c o there h.0
+  cache_unreached : (stores : List Location) (cache : Option (List ℕ)) (o : Outcome) → IfSome cache (λ c. IsSome (n c)) → CacheOpened stores cache d (Err o) e → o ≡ ends.Memory
+  cache_unreached stores None o there h = absurd h
+  cache_unreached stores (Some c) o there h = not_reached c o there h.0
 
 -- ---- what stores lack
 
@@ -364,7 +364,7 @@ module _ (stores : List Location) (cache : Option (List ℕ)) (seeds : List (Lis
     climbs1 : Climbs w.disk h.disk
     climbs1 = read_climbs w.disk h.disk read
 
-    seeds_then : (OnDisk (IndexesRead seeds) >>= (λ ls. OnDisk (SourcesOpened stores) >>= (λ u. OnDisk (CacheOpened cache) >>= (λ u. OutMade place stores cache out h.gave (seeds_of ls))))) (world h.disk h.dial h.out) (Err o) v → o ≡ ends.Memory
+    seeds_then : (OnDisk (IndexesRead seeds) >>= (λ ls. OnDisk (SourcesOpened stores) >>= (λ u. OnDisk (CacheOpened stores cache) >>= (λ u. OutMade place stores cache out h.gave (seeds_of ls))))) (world h.disk h.dial h.out) (Err o) v → o ≡ ends.Memory
     seeds_then (inl k) = seeds_unread h.disk v.disk b files1 (still h.disk climbs1) 0 seeds no.listings o no.seeds_listed no.few k.0.0
     seeds_then (inr k) = stores_then k.then where
       files2 : k.disk.files ≡ Some b
@@ -382,7 +382,7 @@ module _ (stores : List Location) (cache : Option (List ℕ)) (seeds : List (Lis
       hand : AllNear h.gave k.gave
       hand = subst (λ l. AllNear l k.gave) (sym is_listing) (subst (λ ls. AllNear no.listing ls) (sym are_listings) no.at_hand)
 
-      stores_then : (OnDisk (SourcesOpened stores) >>= (λ u. OnDisk (CacheOpened cache) >>= (λ u. OutMade place stores cache out h.gave (seeds_of k.gave)))) (world k.disk k.dial k.out) (Err o) v → o ≡ ends.Memory
+      stores_then : (OnDisk (SourcesOpened stores) >>= (λ u. OnDisk (CacheOpened stores cache) >>= (λ u. OutMade place stores cache out h.gave (seeds_of k.gave)))) (world k.disk k.dial k.out) (Err o) v → o ≡ ends.Memory
       stores_then (inl m) = elim m.0.0 [ inl first ↦ unreached k.disk v.disk n folders2 (still k.disk climbs2) stores o no.there first | inr memory ↦ memory ]
       stores_then (inr m) = cache_then m.then where
         folders3 : m.disk.folders ≡ Some n
@@ -391,10 +391,10 @@ module _ (stores : List Location) (cache : Option (List ℕ)) (seeds : List (Lis
         climbs3 : Climbs w.disk m.disk
         climbs3 = climbs_on w.disk k.disk m.disk climbs2 (read_climbs k.disk m.disk m.did.0.1)
 
-        cache_then : (OnDisk (CacheOpened cache) >>= (λ u. OutMade place stores cache out h.gave (seeds_of k.gave))) (world m.disk m.dial m.out) (Err o) v → o ≡ ends.Memory
-        cache_then (inl g) = cache_unreached m.disk v.disk n folders3 (still m.disk climbs3) cache o no.cache_there g.0
+        cache_then : (OnDisk (CacheOpened stores cache) >>= (λ u. OutMade place stores cache out h.gave (seeds_of k.gave))) (world m.disk m.dial m.out) (Err o) v → o ≡ ends.Memory
+        cache_then (inl g) = cache_unreached m.disk v.disk n folders3 (still m.disk climbs3) stores cache o no.cache_there g.0
         cache_then (inr g) =
-            let reached = cache_reads cache m.disk g.disk (Ok tt) g.did.0 in
+            let reached = cache_reads stores cache m.disk g.disk (Ok tt) g.did.0 in
             out_at_hand stores cache out h.gave (seeds_of k.gave) w.disk v quiet b n (λ c. subst ListsOneSize (sym is_listing) (no.one_size c)) (world g.disk g.dial g.out) (reached.files ∙ m.did.0.1.files ∙ files2) (reached.folders ∙ folders3)
             (climbs_on w.disk m.disk g.disk climbs3 (read_climbs m.disk g.disk reached)) place hand o g.then
 

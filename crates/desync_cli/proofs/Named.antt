@@ -134,12 +134,12 @@ module _ (n : ℕ) where
   pub source_taken : (s : Location) → length (folder_name s) ≤ n → Shorts n (SourceTaken s)
   source_taken x0 le = record { short = source_taken_tells x0 le }
 
-  cache_opened_tells : (cache : Option (List ℕ)) → AllShort n (elim cache [ None ↦ [] | Some q ↦ q ∷ [] ]) → Tells n (CacheOpened cache)
-  cache_opened_tells None all d e o h = absurd h
-  cache_opened_tells (Some q) all d e o h = not_reached q all.0 d e o h.0
+  cache_opened_tells : (stores : List Location) (cache : Option (List ℕ)) → AllShort n (elim cache [ None ↦ [] | Some q ↦ q ∷ [] ]) → Tells n (CacheOpened stores cache)
+  cache_opened_tells stores None all d e o h = absurd h
+  cache_opened_tells stores (Some q) all d e o h = not_reached q all.0 d e o h.0
 
-  pub cache_opened : (cache : Option (List ℕ)) → AllShort n (elim cache [ None ↦ [] | Some q ↦ q ∷ [] ]) → Shorts n (CacheOpened cache)
-  cache_opened cache all = record { short = cache_opened_tells cache all }
+  pub cache_opened : (stores : List Location) (cache : Option (List ℕ)) → AllShort n (elim cache [ None ↦ [] | Some q ↦ q ∷ [] ]) → Shorts n (CacheOpened stores cache)
+  cache_opened stores cache all = record { short = cache_opened_tells stores cache all }
 
   judged_tells : (sizes : List ℕ) (w v : World) (o : Outcome) → Pure (SizesJudged sizes) w (Err o) v → length (name_in o) ≤ n
   judged_tells sizes w v (ends.Sizes fault) h = omega arith

@@ -122,7 +122,7 @@ left_out stores cache seeds false index out w v o told (inr h) = go h.then where
   first : h.disk.files ≡ w.disk.files
   first = h.did.0.1.files
 
-  go : (OnDisk (IndexesRead seeds) >>= (λ ls. OnDisk (SourcesOpened stores) >>= (λ u. OnDisk (CacheOpened cache) >>= (λ u. OutMade false stores cache out h.gave (record { images = map image_name seeds; listings = ls }))))) (world h.disk h.dial h.out) (Err o) v → LeavesOut false out w v
+  go : (OnDisk (IndexesRead seeds) >>= (λ ls. OnDisk (SourcesOpened stores) >>= (λ u. OnDisk (CacheOpened stores cache) >>= (λ u. OutMade false stores cache out h.gave (record { images = map image_name seeds; listings = ls }))))) (world h.disk h.dial h.out) (Err o) v → LeavesOut false out w v
   go (inl k) = left_same false out w v (k.0.1.files ∙ first)
   go (inr k) = opened k.then where
     read : k.disk.files ≡ w.disk.files
@@ -131,17 +131,17 @@ left_out stores cache seeds false index out w v o told (inr h) = go h.then where
     x : Seeds
     x = record { images = map image_name seeds; listings = k.gave }
 
-    opened : (OnDisk (SourcesOpened stores) >>= (λ u. OnDisk (CacheOpened cache) >>= (λ u. OutMade false stores cache out h.gave x))) (world k.disk k.dial k.out) (Err o) v → LeavesOut false out w v
+    opened : (OnDisk (SourcesOpened stores) >>= (λ u. OnDisk (CacheOpened stores cache) >>= (λ u. OutMade false stores cache out h.gave x))) (world k.disk k.dial k.out) (Err o) v → LeavesOut false out w v
     opened (inl m) = left_same false out w v (m.0.1.files ∙ read)
     opened (inr g) = shelved g.then where
       open_files : g.disk.files ≡ w.disk.files
       open_files = g.did.0.1.files ∙ read
 
-      shelved : (OnDisk (CacheOpened cache) >>= (λ u. OutMade false stores cache out h.gave x)) (world g.disk g.dial g.out) (Err o) v → LeavesOut false out w v
-      shelved (inl m) = left_same false out w v ((cache_reads cache g.disk v.disk (Err o) m.0).files ∙ open_files)
+      shelved : (OnDisk (CacheOpened stores cache) >>= (λ u. OutMade false stores cache out h.gave x)) (world g.disk g.dial g.out) (Err o) v → LeavesOut false out w v
+      shelved (inl m) = left_same false out w v ((cache_reads stores cache g.disk v.disk (Err o) m.0).files ∙ open_files)
       shelved (inr m) = made m.then where
         reached : Reads g.disk m.disk
-        reached = cache_reads cache g.disk m.disk (Ok tt) m.did.0
+        reached = cache_reads stores cache g.disk m.disk (Ok tt) m.did.0
 
         files : m.disk.files ≡ w.disk.files
         files = reached.files ∙ open_files

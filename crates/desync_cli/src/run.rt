@@ -28,8 +28,8 @@ use dsy_base::image_files::ImageFiles;
 use dsy_base::listen::Listen;
 use dsy_base::sink::Sink;
 use image_commands::chop::chop_into_store;
-use image_commands::extract::extract;
-use image_commands::make::make;
+use image_commands::extract::{Extraction, extract};
+use image_commands::make::{Making, make};
 use std::alloc::Global;
 use std::thread::Threads;
 use store_commands::cache::fill_cache;
@@ -68,7 +68,19 @@ where
             workers,
             index,
             image,
-        } => make(rt, alloc, files, dial, store, sizes, workers, index, image),
+        } => make(
+            rt,
+            alloc,
+            files,
+            dial,
+            Making {
+                store,
+                sizes,
+                workers,
+                index,
+                image,
+            },
+        ),
         Command::VerifyIndex { index, image } => check_image(alloc, files, index, image),
         Command::ListChunks { index } => print_chunks(alloc, files, out, index),
         Command::Extract {
@@ -80,7 +92,17 @@ where
             target,
             ..
         } => extract(
-            alloc, files, dial, stores, cache, seeds, in_place, index, target,
+            alloc,
+            files,
+            dial,
+            Extraction {
+                stores,
+                cache,
+                seeds,
+                in_place,
+                index,
+                target,
+            },
         ),
         Command::Info { stores, index } => print_info(alloc, files, dial, out, stores, index),
         Command::Help => help(out, Topic::All),

@@ -1,16 +1,16 @@
 -- An extraction by way of a temporary file: its steps in order, and what they need of one another.
-use Rattle.std.proofs.Common.{◌≡◌, ◌≢◌, ℕ, ◌+◌, List, length, codes, Bool, map, Option, Result, Ok, Err, refl, sym, ap, subst, inr, arith}
+use Rattle.std.proofs.Common.{◌≡◌, ◌≢◌, ℕ, ◌+◌, List, length, codes, Bool, map, Option, Result, Ok, Err, refl, sym, ap, subst, inl, inr, arith}
 use Rattle.std.proofs.lemmas.List.{length-append}
 use Rattle.caibx_codec.specs.Listing.{Listing}
 use Rattle.command_outcome.specs.declared.outcome.Outcome.{Outcome}
-use Rattle.command_steps.specs.Cache.{CacheOpened}
 use Rattle.command_steps.specs.InputFiles.{IndexRead, Listed}
 use Rattle.command_steps.specs.Seeds.{AllListed, IndexesRead, image_name}
 use Rattle.command_worlds.specs.Steps.{◌>>=◌, Passed}
-use Rattle.command_steps.specs.Sources.{Sources, SourcesOpened, sources}
+use Rattle.command_steps.specs.Sources.{Sources, sources}
 use Rattle.command_worlds.specs.Worlds.{Step, World, world}
 use Rattle.command_words.specs.declared.command.Location.{Location}
 use Rattle.image_commands.proofs.Seeded.{zipped_many}
+use Rattle.image_commands.specs.Held.{AllReached}
 use Rattle.image_commands.specs.Extract.{ClearedAfter, Clearing, ExtractEnds, OutMade, temporary_out}
 use Rattle.dsy_base.specs.Disk.{Disk, Output}
 use Rattle.dsy_base.specs.Links.{DialState}
@@ -39,10 +39,10 @@ passed_any step next w (Ok b) v h = h
 passed_any step next w (Err o) v h = inr h
 
 -- OUT was made so after the steps before it
-pub ends_with : (stores : List Location) (cache : Option (List ℕ)) (seeds : List (List ℕ)) (place : Bool) (index out : List ℕ) (l : Listing) (ls : List Listing) (d b c f m e : Disk) (k j : DialState) (p : Output) (r : Result Unit Outcome)
-    → IndexRead index d (Ok l) b → IndexesRead seeds b (Ok ls) c → SourcesOpened stores c (Ok tt) f → CacheOpened cache f (Ok tt) m → OutMade place stores cache out l (record { images = map image_name seeds; listings = ls }) (world m k p) r (world e j p)
+pub ends_with : (stores : List Location) (cache : Option (List ℕ)) (seeds : List (List ℕ)) (place : Bool) (index out : List ℕ) (l : Listing) (ls : List Listing) (d b c m e : Disk) (k j : DialState) (p : Output) (r : Result Unit Outcome)
+    → IndexRead index d (Ok l) b → IndexesRead seeds b (Ok ls) c → AllReached stores cache c (Ok tt) m → OutMade place stores cache out l (record { images = map image_name seeds; listings = ls }) (world m k p) r (world e j p)
     → ExtractEnds stores cache seeds place index out (world d k p) r (world e j p)
-ends_with stores cache seeds place index out l ls d b c f m e k j p r listed read opened shelved made =
+ends_with stores cache seeds place index out l ls d b c m e k j p r listed read reached made =
     passed_any _ _ (world d k p) r (world e j p) (record {
       disk = b;
       dial = k;
@@ -55,7 +55,30 @@ ends_with stores cache seeds place index out l ls d b c f m e k j p r listed rea
         out = p;
         gave = ls;
         did = (read, refl, refl);
-        then = passed_any _ _ (world c k p) r (world e j p) (record { disk = f; dial = k; out = p; gave = tt; did = (opened, refl, refl); then = passed_any _ _ (world f k p) r (world e j p) (record { disk = m; dial = k; out = p; gave = tt; did = (shelved, refl, refl); then = made }) });
+        then = passed_any _ _ (world c k p) r (world e j p) (record { disk = reached.0; dial = k; out = p; gave = tt; did = (reached.1, refl, refl); then = passed_any _ _ (world reached.0 k p) r (world e j p) (record { disk = m; dial = k; out = p; gave = tt; did = (reached.2, refl, refl); then = made }) });
+      });
+    })
+
+-- the stores or the cache weren't reached after the indexes were read
+pub ends_unreached : (stores : List Location) (cache : Option (List ℕ)) (seeds : List (List ℕ)) (place : Bool) (index out : List ℕ) (l : Listing) (ls : List Listing) (d b c e : Disk) (k : DialState) (p : Output) (o : Outcome)
+    → IndexRead index d (Ok l) b → IndexesRead seeds b (Ok ls) c → AllReached stores cache c (Err o) e → ExtractEnds stores cache seeds place index out (world d k p) (Err o) (world e k p)
+ends_unreached stores cache seeds place index out l ls d b c e k p o listed read refused =
+    inr (record {
+      disk = b;
+      dial = k;
+      out = p;
+      gave = l;
+      did = (listed, refl, refl);
+      then = inr (record {
+        disk = c;
+        dial = k;
+        out = p;
+        gave = ls;
+        did = (read, refl, refl);
+        then = elim refused [
+          | inl h ↦ inl (h, refl, refl)
+          | inr h ↦ inr (record { disk = h.0; dial = k; out = p; gave = tt; did = (h.1, refl, refl); then = inl (h.2, refl, refl) })
+        ];
       });
     })
 

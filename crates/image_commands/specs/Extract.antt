@@ -369,5 +369,5 @@ ExtractEnds stores cache seeds in_place index out = do
   l ← OnDisk (IndexRead index)
   ls ← OnDisk (IndexesRead seeds)
   _ ← OnDisk (SourcesOpened stores)
-  _ ← OnDisk (CacheOpened cache)
+  _ ← OnDisk (CacheOpened stores cache)
   OutMade in_place stores cache out l (record { images = map image_name seeds; listings = ls })

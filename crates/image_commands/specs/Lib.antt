@@ -1,3 +1,4 @@
+pub mod Held
 pub mod Chop
 pub mod Extract
 pub mod Make

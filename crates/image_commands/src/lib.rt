@@ -3,6 +3,7 @@
 
 pub mod chop;
 pub mod extract;
+mod held;
 pub mod make;
 mod store_with_image;
 mod views;

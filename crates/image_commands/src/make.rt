@@ -44,6 +44,23 @@ fn judge(sizes: [u64; 3]) -> Result<CutSizes, Outcome>
     }
 }
 
+/// The words of a `make`: the sizes are the least, the average and the greatest chunk size in bytes, not yet judged.
+#[derive(Drop)]
+pub struct Making {
+    pub store: Location,
+    pub sizes: [u64; 3],
+    pub workers: u32,
+    pub index: Name,
+    pub image: Name,
+}
+
+// The views of an image, and a store that is taken to be written.
+#[derive(Drop)]
+struct Stored<V: View, W: Folder, D: Dial> {
+    views: Vec<V>,
+    taken: AnyStore<W, D>,
+}
+
 // Takes the store. Where it isn't reached, the views are given back.
 fn take_store<F: Files, D: Dial>(
     alloc: Global,
@@ -51,20 +68,20 @@ fn take_store<F: Files, D: Dial>(
     dial: &D,
     views: Vec<F::View>,
     store: &Location,
-) -> Result<(Vec<F::View>, AnyStore<F::Folder, D>), Outcome>
+) -> Result<Stored<F::View, F::Folder, D>, Outcome>
     requires known { All (λ v. IsSome ((F.disk files.old).file_counts (F.View.held v).name)) views.items }
-    ensures kept { IfOk result (λ r. r.0 ≡ views) }
-    ensures ok { IfOk result (λ r. SourceTaken store.now (F.disk files.old) (Ok (source_files F.Folder.files r.1))
+    ensures kept { IfOk result (λ r. r.views ≡ views) }
+    ensures ok { IfOk result (λ r. SourceTaken store.now (F.disk files.old) (Ok (source_files F.Folder.files r.taken))
         (F.disk files.new)) }
     ensures changed { OnOk result (Adds (F.disk files.old) (F.disk files.new)) }
-    ensures located { IfOk result (λ r. location_in F.Folder.place r.1 ≡ store.now) }
-    ensures fresh { IfOk result (λ r. source_faults F.Folder.faults D.state r.1 ≡ 0) }
-    ensures unused { IfOk result (λ r. IsUnused D.state r.1) }
+    ensures located { IfOk result (λ r. location_in F.Folder.place r.taken ≡ store.now) }
+    ensures fresh { IfOk result (λ r. source_faults F.Folder.faults D.state r.taken ≡ 0) }
+    ensures unused { IfOk result (λ r. IsUnused D.state r.taken) }
     ensures known { OnOk result (IsKnown (F.disk files.new).folder_counts store.now) }
     ensures err { IfErr result (λ o. SourceTaken store.now (F.disk files.old) (Err o) (F.disk files.new)) }
 {
     match take_source(alloc, files, dial, store) {
-        Ok(taken) => Ok((views, taken)),
+        Ok(taken) => Ok(Stored { views, taken }),
         Err(outcome) => {
             end_views(files, views);
             Err(outcome)
@@ -134,30 +151,30 @@ fn store_between<R: Threads + Sync, F: ImageFiles, D: Dial>(
     files: &mut F,
     dial: &mut D,
     sizes: &CutSizes,
-    views: Vec<F::View>,
     store: &Location,
-    taken: AnyStore<F::Folder, D>,
+    opened: Stored<F::View, F::Folder, D>,
 ) -> Result<Vec<u8>, Outcome>
 where
     F::View: Send,
     F::Inner: Sync,
-    requires some { 0 < vec_len views }
-    requires alike { AreOfOneImage (map F.View.held views.items) }
-    requires image { All (λ v. IsSome ((F.disk files.old).file_counts (F.View.held v).name)) views.items }
+    requires some { 0 < vec_len opened.views }
+    requires alike { AreOfOneImage (map F.View.held opened.views.items) }
+    requires image { All (λ v. IsSome ((F.disk files.old).file_counts (F.View.held v).name)) opened.views.items }
     requires known { IsKnown (F.disk files.old).folder_counts store.now }
-    requires located { location_in F.Folder.place taken ≡ store.now }
-    requires unused { IsUnused D.state taken }
-    requires fresh { All (λ v. F.View.faults v ≡ 0) views.items
-        × (source_faults F.Folder.faults D.state taken ≡ 0) }
+    requires located { location_in F.Folder.place opened.taken ≡ store.now }
+    requires unused { IsUnused D.state opened.taken }
+    requires fresh { All (λ v. F.View.faults v ≡ 0) opened.views.items
+        × (source_faults F.Folder.faults D.state opened.taken ≡ 0) }
     ensures ok { IfOk result (λ b. (q : List ℕ) (told : Option (List ℕ)) →
-        AreOf q told (map F.View.held views.items) →
-        ImageStored sizes.now q told store.now (source_files F.Folder.files taken)
+        AreOf q told (map F.View.held opened.views.items) →
+        ImageStored sizes.now q told store.now (source_files F.Folder.files opened.taken)
         (sources (F.disk files.old) (D.state dial.old)) (Ok b.items) (sources (F.disk files.new) (D.state dial.new))) }
     ensures err { IfErr result (λ o. (q : List ℕ) (told : Option (List ℕ)) →
-        AreOf q told (map F.View.held views.items) →
-        ImageStored sizes.now q told store.now (source_files F.Folder.files taken)
+        AreOf q told (map F.View.held opened.views.items) →
+        ImageStored sizes.now q told store.now (source_files F.Folder.files opened.taken)
         (sources (F.disk files.old) (D.state dial.old)) (Err o) (sources (F.disk files.new) (D.state dial.new))) }
 {
+    let Stored { views, taken } = opened;
     let (views, taken, stored) = store_image(
         rt,
         alloc,
@@ -197,23 +214,26 @@ pub fn make<R: Threads + Sync, F: ImageFiles, D: Dial>(
     alloc: Global,
     files: &mut F,
     dial: &mut D,
-    store: Location,
-    sizes: [u64; 3],
-    workers: u32,
-    index: Name,
-    image: Name,
+    words: Making,
 ) -> Result<(), Outcome>
 where
     F::View: Send,
     F::Inner: Sync,
-    ensures ends { (p : Output) → MakeEnds store sizes index image
+    ensures ends { (p : Output) → MakeEnds words.store words.sizes words.index words.image
         (world (F.disk files.old) (D.state dial.old) p) result
         (world (F.disk files.new) (D.state dial.new) p) }
 {
+    let Making {
+        store,
+        sizes,
+        workers,
+        index,
+        image,
+    } = words;
     let sizes = judge(sizes)?;
     let views = open_views(alloc, files, image, workers)?;
-    let (views, taken) = take_store(alloc, files, dial, views, &store)?;
-    let bytes = store_between(rt, alloc, files, dial, &sizes, views, &store, taken)?;
+    let opened = take_store(alloc, files, dial, views, &store)?;
+    let bytes = store_between(rt, alloc, files, dial, &sizes, &store, opened)?;
     write_index(files, index, &bytes)?;
     Ok(())
 }

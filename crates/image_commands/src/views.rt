@@ -1,9 +1,11 @@
 //! The views of an image that is cut: as many as there are workers.
 
-ghost use Rattle.std.specs.Prelude.{◌≡◌, ℕ, ◌<◌, ◌≤◌, List, map, max, vec_len, All, Option, IfOk, IfErr, IsSome};
+ghost use Rattle.std.specs.Prelude.{◌≡◌, ℕ, ◌<◌, ◌≤◌, List, [], ◌∷◌, map, max, vec_len, All, Option, IfOk, IfErr};
+ghost use Rattle.std.specs.Prelude.{IsSome};
 ghost use Rattle.std.specs.Map.{count_at};
 ghost use Rattle.buzhash_cut.specs.Image.{AreOfOneImage};
 ghost use Rattle.command_steps.specs.InputFiles.{Holds, NotOpened};
+ghost use Rattle.command_steps.specs.Uses.{Uses};
 ghost use Rattle.command_worlds.specs.Worlds.{Reads};
 ghost use Rattle.image_commands.specs.Views.{AreOf, GrowsBy, IfFirst, IsViewOf};
 ghost use Rattle.dsy_base.specs.Counts.{raised};
@@ -19,6 +21,7 @@ use std::alloc::Global;
 // Opens one view more. One that can't be opened, or that is of another size, is left out.
 fn add_view<F: Files>(files: &mut F, image: &str, size: u64, views: &mut Vec<F::View>)
     ensures kept { Reads (F.disk files.old) (F.disk files.new) }
+    ensures used { Uses (image.now ∷ []) [] (F.disk files.old) (F.disk files.new) }
     ensures changed { GrowsBy (λ v. (F.View.faults v ≡ 0)
         × IsViewOf (F.disk files.old) image.now size (F.View.held v)
         × IsSome ((F.disk files.new).file_counts image.now)) views.old.items views.new.items }
@@ -53,6 +56,7 @@ pub fn open_views<F: ImageFiles>(
         All (λ v. IsSome ((F.disk files.new).file_counts (F.View.held v).name)) vs.items) }
     ensures err { IfErr result (NotOpened (F.disk files.old) (F.disk files.new) image) }
     ensures kept { Reads (F.disk files.old) (F.disk files.new) }
+    ensures used { Uses (image ∷ []) [] (F.disk files.old) (F.disk files.new) }
 {
     let first = match files.view(image.as_str()) {
         Ok(view) => view,

@@ -227,7 +227,7 @@ fill_passed over l x y (Err fault) u is filled = absurd (cc)
 -- ---- the command
 
 pub cache_ends : (stores : List Location) (cache : List ℕ) (indexes : List (List ℕ)) (k j : DialState) (p : Output) (b c d e : Disk) (r : Result Unit Outcome)
-    → SourcesOpened stores b (Ok tt) c → CacheOpened (Some cache) c (Ok tt) d → FilledBetween stores cache indexes (sources d k) (sources e j) r → CacheEnds stores cache indexes (world b k p) r (world e j p)
+    → SourcesOpened stores b (Ok tt) c → CacheOpened stores (Some cache) c (Ok tt) d → FilledBetween stores cache indexes (sources d k) (sources e j) r → CacheEnds stores cache indexes (world b k p) r (world e j p)
 cache_ends stores cache indexes k j p b c d e (Ok u) opened taken filled =
     record { disk = c; dial = k; out = p; gave = tt; did = (opened, refl, refl); then = record { disk = d; dial = k; out = p; gave = tt; did = (taken, refl, refl); then = (filled, refl) } }
 cache_ends stores cache indexes k j p b c d e (Err o) opened taken filled =

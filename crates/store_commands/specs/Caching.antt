@@ -196,7 +196,7 @@ IndexesFilled stores cache indexes w r v = FilledBetween stores cache indexes w 
 abbrev pub CacheEnds : List Location → List ℕ → List (List ℕ) → Step World Unit
 CacheEnds stores cache indexes = do
   _ ← OnDisk (SourcesOpened stores)
-  _ ← OnDisk (CacheOpened (Some cache))
+  _ ← OnDisk (CacheOpened stores (Some cache))
   OnSources (IndexesFilled stores cache indexes)
 
 -- each INDEX is an index file, and the cache's folder, which was there, holds bytes with the name of each chunk that it

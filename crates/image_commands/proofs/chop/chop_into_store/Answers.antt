@@ -20,7 +20,7 @@ returns-in_err-chop_between g c =
     let v = sources (at c.chop_between.new.files) (state c.chop_between.new.dial) in
     let of_view = subst (λ y. ImageChopped l (held y).name (held y).bytes c.args.store files w (Err c.in_err-chop_between.field-0.0) v) took.kept c.in_err-chop_between.ensures in
     let chopped = subst (λ (n : List ℕ). ImageChopped l n (held c.in_ok-view.view).bytes c.args.store files w (Err c.in_err-chop_between.field-0.0) v) view.fresh.1 of_view in
-    record { ends = λ o. rw (p.1, p.2) (inr (record { disk = _; dial = _; out = _; gave = l; did = ((listed.ok, listed.kept), refl, refl); then = inr (record { disk = _; dial = _; out = _; gave = _; did = ((view.ok, view.kept), refl, refl); then = inr (record { disk = _; dial = _; out = _; gave = files; did = (took.ok, refl, refl); then = (chopped, refl) }) }) })) }
+    record { ends = λ o. rw (p.1, p.2) (inr (record { disk = _; dial = _; out = _; gave = l; did = ((listed.ok, listed.kept, listed.used), refl, refl); then = inr (record { disk = _; dial = _; out = _; gave = _; did = ((view.ok, view.kept, view.used), refl, refl); then = inr (record { disk = _; dial = _; out = _; gave = files; did = (took.ok, refl, refl); then = (chopped, refl) }) }) })) }
 
 pub returns : goal.returns
 returns g c =
@@ -36,4 +36,4 @@ returns g c =
     let v = sources (at c.chop_between.new.files) (state c.chop_between.new.dial) in
     let of_view = subst (λ y. ImageChopped l (held y).name (held y).bytes c.args.store files w (Ok tt) v) took.kept c.in_ok-chop_between.ensures in
     let chopped = subst (λ (n : List ℕ). ImageChopped l n (held c.in_ok-view.view).bytes c.args.store files w (Ok tt) v) view.fresh.1 of_view in
-    record { ends = λ o. record { disk = _; dial = _; out = _; gave = l; did = ((listed.ok, listed.kept), refl, refl); then = record { disk = _; dial = _; out = _; gave = _; did = ((view.ok, view.kept), refl, refl); then = record { disk = _; dial = _; out = _; gave = files; did = (took.ok, refl, refl); then = (chopped, refl) } } } }
+    record { ends = λ o. record { disk = _; dial = _; out = _; gave = l; did = ((listed.ok, listed.kept, listed.used), refl, refl); then = record { disk = _; dial = _; out = _; gave = _; did = ((view.ok, view.kept, view.used), refl, refl); then = record { disk = _; dial = _; out = _; gave = files; did = (took.ok, refl, refl); then = (chopped, refl) } } } }

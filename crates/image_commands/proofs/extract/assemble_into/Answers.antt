@@ -59,95 +59,139 @@ cache_told g f o = told_files g.F.Folder.Look.tells g.F.Folder.Look.files g.F.Fo
 named : (g : Over) (cache : Option (List ℕ)) (o : Option (Shelved g.row.F-Folder.Denot)) → option_map (λ s. g.F.Folder.Look.place s.folder) o ≡ cache → name_in (see g o) ≡ cache
 named g cache o is = same_names g.F.Folder.Look.files g.F.Folder.Look.place g.F.Folder.Look.faults o ∙ is
 
-pub drop_sources-requires : goal.drop_sources-requires
-drop_sources-requires g c =
+pub let_go-requires : goal.let_go-requires
+let_go-requires g c =
     let at = g.F.Files.disk in
-    let stores = map (location_in g.F.Look.Look.place) c.args.stores.items in
+    let d' = at c.args.files.now in
     let b = at c.open_seeds.new.files in
-    let gave = given_adds (see g c.args.shelf) b (at c.give_cache.new.files) c.give_cache.ensures.given in
-    record { known = all_later (at c.args.files.now).folder_counts (at c.give_cache.new.files).folder_counts (λ q is. gave.folder_known q (c.in_default.ensures.kept.folder_known q is)) stores c.requires.known }
+    let read = c.in_default.ensures.kept in
+    let lent = c.requires.held.lent in
+    record {
+      given = record {
+        stores = all_later d'.folder_counts b.folder_counts read.folder_known (map (location_in g.F.Look.Look.place) c.args.held.stores.items) lent.stores;
+        named = lent.named;
+        cache = known_still c.args.held.cache d'.folder_counts b.folder_counts read.folder_known lent.cache;
+        seeds = all_known_later g.F.View.View.held d'.file_counts b.file_counts read.known c.args.held.seeds.items lent.seeds;
+      };
+    }
+
+pub let_go-requires-in-Err : goal.let_go-requires-in-Err
+let_go-requires-in-Err g c =
+    let at = g.F.Files.disk in
+    let d' = at c.args.files.now in
+    let b = at c.open_seeds.new.files in
+    let b2 = at c.take.new.self in
+    let lent = c.requires.held.lent in
+    let folder_known : (q : List ℕ) → IsSome (d'.folder_counts q) → IsSome (b2.folder_counts q) = λ q is. subst (λ (m : Map ℕ). IsSome (m q)) (sym c.in-Err.ensures.counts.folder_counts) (c.in-Ok.ensures.kept.folder_known q is) in
+    let known : (q : List ℕ) → IsSome (b.file_counts q) → IsSome (b2.file_counts q) = counted_known b.file_counts b2.file_counts _ c.in-Err.ensures.counts.counts in
+    record {
+      given = record {
+        stores = all_later d'.folder_counts b2.folder_counts folder_known (map (location_in g.F.Look.Look.place) c.args.held.stores.items) lent.stores;
+        named = lent.named;
+        cache = known_still c.args.held.cache d'.folder_counts b2.folder_counts folder_known lent.cache;
+        seeds = all_known_later g.F.View.View.held b.file_counts b2.file_counts known c.in-Ok.seeds.items c.in-Ok.ensures.known;
+      };
+    }
+
+pub give_back-requires : goal.give_back-requires
+give_back-requires g c =
+    let k = c.new-kit.result in
+    let back = c.assemble-ended.result.kits in
+    let j = c.swap_remove-kit.result in
+    let one = pushed c.args.held.kits.items c.push.new.self.items k c.push.result c.unwrap.result c.requires.held.room.0 c.unwrap.ensures c.push.ensures.items in
+    let other = alone back.items j (sym back.ok.0 ∙ c.assemble-ended.ensures.size) c.swap_remove-kit.ensures.value in
+    let at = g.F.Files.disk in
+    let place = g.F.Look.Look.place in
+    let location = location_in place in
+    let view = g.F.View.View.held in
+    let d' = at c.args.files.now in
+    let b = at c.open_seeds.new.files in
+    let b2 = at c.take.new.self in
+    let xs = c.args.held.stores.items in
+    let folder_known : (q : List ℕ) → IsSome (d'.folder_counts q) → IsSome (b2.folder_counts q) = λ q is. subst (λ (m : Map ℕ). IsSome (m q)) (sym c.in-Ok-take.ensures.counts.folder_counts) (c.in-Ok.ensures.kept.folder_known q is) in
+    let same : k.chain.stores ≡ xs = ap (λ k. k.stores) (c.new-kit.ensures.chain ∙ c.new.ensures.value) in
+    let now = all_later d'.folder_counts b2.folder_counts folder_known (map location xs) c.requires.held.lent.stores in
+    let located = stand_still place k.chain.stores j.chain.stores (c.assemble-ended.ensures.stores.so k j one other).places ∙ ap (map location) same in
+    let e0 = see g c.args.held.shelf in
+    let e1 = see g c.assemble-ended.result.cache in
+    let cache = c.args.held.cache in
+    let name_now : name_in e1 ≡ cache = name_after _ e0 e1 cache (c.assemble-ended.ensures.stocked.so k j one other) (named g cache c.args.held.shelf c.requires.held.lent.named) in
+    let later : (q : List ℕ) → IsSome (b.file_counts q) → IsSome (b2.file_counts q) = counted_known b.file_counts b2.file_counts _ c.in-Ok-take.ensures.counts.counts in
+    let opened = all_known_later view b.file_counts b2.file_counts later c.in-Ok.seeds.items c.in-Ok.ensures.known in
+    let seeded : map (seeds.seed_held view) k.seeds.items ≡ map (seeds.seed_held view) c.in-Ok.seeds.items = ap (λ v. map (seeds.seed_held view) v.items) c.new-kit.ensures.seeds in
+    record {
+      given = record {
+        stores = rw c.into_stores-stores.ensures.value (subst (λ (q : List Location). All (IsKnown b2.folder_counts) q) (sym located) now);
+        named = sym (same_names g.F.Folder.Look.files g.F.Folder.Look.place g.F.Folder.Look.faults c.assemble-ended.result.cache) ∙ name_now;
+        cache = known_still cache d'.folder_counts b2.folder_counts folder_known c.requires.held.lent.cache;
+        seeds = same_known view b2.file_counts c.in-Ok.seeds.items j.seeds.items ((c.assemble-ended.ensures.seeds.so k j one other).held ∙ seeded) opened;
+      };
+    }
 
 pub returns-in_default-clause-assembled : goal.returns-in_default-clause-assembled
 returns-in_default-clause-assembled g c = λ p ls plan is.
     let at = g.F.Files.disk in
-    let o = see g c.args.shelf in
+    let o = see g c.args.held.shelf in
     let d' = at c.args.files.now in
     let d = with_cache o d' in
-    let gave = given_adds o (at c.open_seeds.new.files) (at c.give_cache.new.files) c.give_cache.ensures.given in
-    let name = named g c.args.cache.now c.args.shelf c.requires.cache_named in
+    let gone = c.let_go.ensures.kept in
+    let name = named g c.args.held.cache c.args.held.shelf c.requires.held.lent.named in
     let k = g.D.Dial.state c.args.dial.now in
-    stopped_before (sources d k) (sources (at c.drop_sources.new.files) k) (map (location_in g.F.Look.Look.place) c.args.stores.items) c.args.cache.now (record { name = c.args.target.now; fresh = c.args.fresh }) c.args.planned.now.index
-    (record { images = map image_name c.args.seeds.now; listings = ls })
-    (λ cs. cached_in o ≡ Some (map chunks cs)) (cached_there o c.args.cache.now name d'.folders (cache_told g c.args.files.now c.args.shelf))
-    (c.drop_sources.ensures.kept.files ∙ gave.files ∙ c.in_default.ensures.kept.files)
-    (refl, c.drop_sources.ensures.kept.folders ∙ given_folders o (at c.open_seeds.new.files) (at c.give_cache.new.files) c.give_cache.ensures.given ∙ ap (folders_with o) c.in_default.ensures.kept.folders)
+    stopped_before (sources d k) (sources (at c.let_go.new.files) k) (map (location_in g.F.Look.Look.place) c.args.held.stores.items) c.args.held.cache (record { name = c.args.target.now; fresh = c.args.fresh }) c.args.planned.now.index
+    (record { images = map image_name c.args.planned.now.seeds; listings = ls })
+    (λ cs. cached_in o ≡ Some (map chunks cs)) (cached_there o c.args.held.cache name d'.folders (cache_told g c.args.files.now c.args.held.shelf))
+    (gone.files ∙ c.in_default.ensures.kept.files)
+    (refl, gone.folders ∙ ap (folders_with o) c.in_default.ensures.kept.folders)
 
 pub returns-in_default-clause-numbered : goal.returns-in_default-clause-numbered
-returns-in_default-clause-numbered g c =
-    let at = g.F.Files.disk in
-    let gave = given_adds (see g c.args.shelf) (at c.open_seeds.new.files) (at c.give_cache.new.files) c.give_cache.ensures.given in
-    inr (refl, c.drop_sources.ensures.kept.files ∙ gave.files ∙ c.in_default.ensures.kept.files)
+returns-in_default-clause-numbered g c = inr (refl, c.let_go.ensures.kept.files ∙ c.in_default.ensures.kept.files)
 
 pub returns-in_default-clause-kept : goal.returns-in_default-clause-kept
 returns-in_default-clause-kept g c =
     let at = g.F.Files.disk in
-    let o = see g c.args.shelf in
+    let o = see g c.args.held.shelf in
     let d' = at c.args.files.now in
     let d = with_cache o d' in
     let b = at c.open_seeds.new.files in
-    let b1 = at c.give_cache.new.files in
-    let e = at c.drop_sources.new.files in
+    let e = at c.let_go.new.files in
     let read = c.in_default.ensures.kept in
-    let gave = given_adds o b b1 c.give_cache.ensures.given in
-    let closed = c.drop_sources.ensures.kept in
+    let gone = c.let_go.ensures.kept in
     let files = source_files g.F.Look.Look.files in
-    let items = c.args.stores.items in
+    let items = c.args.held.stores.items in
     let names = map (location_in g.F.Look.Look.place) items in
     let l = c.args.planned.now.index in
     record {
-      folders = cache_filled (chunks_in g.F.Look.Look.files) items names l o o c.args.cache.now d'.folders d e (named g c.args.cache.now c.args.shelf c.requires.cache_named) refl
-          (closed.folders ∙ given_folders o b b1 c.give_cache.ensures.given ∙ ap (folders_with o) read.folders) (cache_told g c.args.files.now c.args.shelf) (stocked_none (TakesListed (chunks_in g.F.Look.Look.files) l items) o)
-          (held_where d.folders names files items c.requires.found);
-      counts = λ q. omega (arith, read.counts q, gave.counts q, closed.counts q);
-      folder_counts = λ q. omega (arith, read.folder_counts q, gave.folder_counts q, closed.folder_counts q);
-    }
-
-pub drop_sources-requires-in-Err : goal.drop_sources-requires-in-Err
-drop_sources-requires-in-Err g c =
-    let at = g.F.Files.disk in
-    let stores = map (location_in g.F.Look.Look.place) c.args.stores.items in
-    let gave = given_adds (see g c.args.shelf) (at c.take.new.self) (at c.give_cache-in-Err.new.files) c.give_cache-in-Err.ensures.given in
-    record {
-      known = all_later (at c.args.files.now).folder_counts (at c.give_cache-in-Err.new.files).folder_counts
-          (λ q is. gave.folder_known q (subst (λ (m : Map ℕ). IsSome (m q)) (sym c.in-Err.ensures.counts.folder_counts) (c.in-Ok.ensures.kept.folder_known q is))) stores c.requires.known;
+      folders = cache_filled (chunks_in g.F.Look.Look.files) items names l o o c.args.held.cache d'.folders d e (named g c.args.held.cache c.args.held.shelf c.requires.held.lent.named) refl
+          (gone.folders ∙ ap (folders_with o) read.folders) (cache_told g c.args.files.now c.args.held.shelf) (stocked_none (TakesListed (chunks_in g.F.Look.Look.files) l items) o)
+          (held_where d.folders names files items c.requires.held.found);
+      counts = λ q. omega (arith, read.counts q, gone.counts q);
+      folder_counts = λ q. omega (arith, read.folder_counts q, gone.folder_counts q);
     }
 
 pub returns-in-Err-clause-assembled : goal.returns-in-Err-clause-assembled
 returns-in-Err-clause-assembled g c = λ p ls plan is.
     let at = g.F.Files.disk in
-    let s = see g c.args.shelf in
+    let s = see g c.args.held.shelf in
     let d' = at c.args.files.now in
     let d = with_cache s d' in
     let b = at c.open_seeds.new.files in
     let b2 = at c.take.new.self in
-    let b3 = at c.give_cache-in-Err.new.files in
-    let b4 = at c.drop_sources-in-Err.new.files in
-    let e = at c.close_seeds.new.files in
+    let e = at c.let_go-in-Err.new.files in
     let q = c.args.target.now in
     let o : Into = record { name = q; fresh = c.args.fresh } in
     let l = c.args.planned.now.index in
-    let x : Seeds = record { images = map image_name c.args.seeds.now; listings = ls } in
-    let names = map (location_in g.F.Look.Look.place) c.args.stores.items in
+    let x : Seeds = record { images = map image_name c.args.planned.now.seeds; listings = ls } in
+    let names = map (location_in g.F.Look.Look.place) c.args.held.stores.items in
     let took = c.in-Err.ensures.faults in
-    let gave = given_adds s b2 b3 c.give_cache-in-Err.ensures.given in
-    let name = named g c.args.cache.now c.args.shelf c.requires.cache_named in
-    let le : count_at b2.file_counts q ≤ count_at e.file_counts q = omega (arith, gave.counts q, c.drop_sources-in-Err.ensures.kept.counts q, c.close_seeds.ensures.kept.counts q) in
+    let gone = c.let_go-in-Err.ensures.kept in
+    let name = named g c.args.held.cache c.args.held.shelf c.requires.held.lent.named in
+    let le : count_at b2.file_counts q ≤ count_at e.file_counts q = gone.counts q in
     let k = g.D.Dial.state c.args.dial.now in
-    let before = same_before (sources d k) (sources e k) names c.args.cache.now o l x (λ cs. cached_in s ≡ Some (map chunks cs))
-    (cached_there s c.args.cache.now name d'.folders (cache_told g c.args.files.now c.args.shelf))
-    (c.close_seeds.ensures.kept.files ∙ c.drop_sources-in-Err.ensures.kept.files ∙ gave.files ∙ c.in-Err.ensures.err ∙ c.in-Ok.ensures.kept.files)
-    (refl, c.close_seeds.ensures.kept.folders ∙ c.drop_sources-in-Err.ensures.kept.folders ∙ given_folders s b2 b3 c.give_cache-in-Err.ensures.given ∙ ap (folders_with s) ((wrote_on b b2 _ c.in-Err.ensures.counts).folders ∙ c.in-Ok.ensures.kept.folders)) in
-    rw c.not_taken.ensures (not_taken_as (sources d k) (sources e k) names c.args.cache.now o l x c.in-Err.fault before
+    let before = same_before (sources d k) (sources e k) names c.args.held.cache o l x (λ cs. cached_in s ≡ Some (map chunks cs))
+    (cached_there s c.args.held.cache name d'.folders (cache_told g c.args.files.now c.args.held.shelf))
+    (gone.files ∙ c.in-Err.ensures.err ∙ c.in-Ok.ensures.kept.files)
+    (refl, gone.folders ∙ ap (folders_with s) ((wrote_on b b2 _ c.in-Err.ensures.counts).folders ∙ c.in-Ok.ensures.kept.folders)) in
+    rw c.not_taken.ensures (not_taken_as (sources d k) (sources e k) names c.args.held.cache o l x c.in-Err.fault before
     (λ failed. rose_longer (count_at d.file_counts q) (count_at b2.file_counts q) (count_at e.file_counts q) le
     (rose_later (count_at d.file_counts q) (count_at b.file_counts q) (count_at b2.file_counts q) (c.in-Ok.ensures.kept.counts q) (took.cause (ap Err failed)))))
 
@@ -157,105 +201,92 @@ returns-in-Err-clause-numbered g c =
     let q = c.args.target.now in
     let b = at c.open_seeds.new.files in
     let b2 = at c.take.new.self in
-    let b3 = at c.give_cache-in-Err.new.files in
-    let e = at c.close_seeds.new.files in
-    let gave = given_adds (see g c.args.shelf) b2 b3 c.give_cache-in-Err.ensures.given in
-    let le : count_at b2.file_counts q ≤ count_at e.file_counts q = omega (arith, gave.counts q, c.drop_sources-in-Err.ensures.kept.counts q, c.close_seeds.ensures.kept.counts q) in
+    let e = at c.let_go-in-Err.new.files in
+    let gone = c.let_go-in-Err.ensures.kept in
     rw c.not_taken.ensures (untaken_numbered q (at c.args.files.now) e (count_at b.file_counts q) c.in-Err.fault
-    (λ failed. rose_longer (count_at b.file_counts q) (count_at b2.file_counts q) (count_at e.file_counts q) le (c.in-Err.ensures.faults.cause (ap Err failed)))
-    (c.close_seeds.ensures.kept.files ∙ c.drop_sources-in-Err.ensures.kept.files ∙ gave.files ∙ c.in-Err.ensures.err ∙ c.in-Ok.ensures.kept.files))
+    (λ failed. rose_longer (count_at b.file_counts q) (count_at b2.file_counts q) (count_at e.file_counts q) (gone.counts q) (c.in-Err.ensures.faults.cause (ap Err failed)))
+    (gone.files ∙ c.in-Err.ensures.err ∙ c.in-Ok.ensures.kept.files))
 
 pub returns-in-Err-clause-kept : goal.returns-in-Err-clause-kept
 returns-in-Err-clause-kept g c =
     let at = g.F.Files.disk in
-    let o = see g c.args.shelf in
+    let o = see g c.args.held.shelf in
     let d' = at c.args.files.now in
     let d = with_cache o d' in
     let b = at c.open_seeds.new.files in
     let b2 = at c.take.new.self in
-    let b3 = at c.give_cache-in-Err.new.files in
-    let b4 = at c.drop_sources-in-Err.new.files in
-    let e = at c.close_seeds.new.files in
+    let e = at c.let_go-in-Err.new.files in
     let took = wrote_on b b2 _ c.in-Err.ensures.counts in
-    let gave = given_adds o b2 b3 c.give_cache-in-Err.ensures.given in
-    let closed = c.drop_sources-in-Err.ensures.kept in
-    let ended = c.close_seeds.ensures.kept in
+    let gone = c.let_go-in-Err.ensures.kept in
     let read = c.in-Ok.ensures.kept in
     let files = source_files g.F.Look.Look.files in
-    let items = c.args.stores.items in
+    let items = c.args.held.stores.items in
     let names = map (location_in g.F.Look.Look.place) items in
     let l = c.args.planned.now.index in
     record {
-      folders = cache_filled (chunks_in g.F.Look.Look.files) items names l o o c.args.cache.now d'.folders d e (named g c.args.cache.now c.args.shelf c.requires.cache_named) refl
-          (ended.folders ∙ closed.folders ∙ given_folders o b2 b3 c.give_cache-in-Err.ensures.given ∙ ap (folders_with o) (took.folders ∙ read.folders)) (cache_told g c.args.files.now c.args.shelf)
-          (stocked_none (TakesListed (chunks_in g.F.Look.Look.files) l items) o) (held_where d.folders names files items c.requires.found);
-      counts = λ q. omega (arith, read.counts q, took.counts q, gave.counts q, closed.counts q, ended.counts q);
-      folder_counts = λ q. omega (arith, read.folder_counts q, took.folder_counts q, gave.folder_counts q, closed.folder_counts q, ended.folder_counts q);
+      folders = cache_filled (chunks_in g.F.Look.Look.files) items names l o o c.args.held.cache d'.folders d e (named g c.args.held.cache c.args.held.shelf c.requires.held.lent.named) refl
+          (gone.folders ∙ ap (folders_with o) (took.folders ∙ read.folders)) (cache_told g c.args.files.now c.args.held.shelf)
+          (stocked_none (TakesListed (chunks_in g.F.Look.Look.files) l items) o) (held_where d.folders names files items c.requires.held.found);
+      counts = λ q. omega (arith, read.counts q, took.counts q, gone.counts q);
+      folder_counts = λ q. omega (arith, read.folder_counts q, took.folder_counts q, gone.folder_counts q);
     }
 
 pub returns-in-Err-clause-tells : goal.returns-in-Err-clause-tells
-returns-in-Err-clause-tells g c = (g.met.F.Files.told c.close_seeds.new.files).0 ∙ sym ((g.met.F.Files.told c.args.files.now).0)
+returns-in-Err-clause-tells g c = (g.met.F.Files.told c.let_go-in-Err.new.files).0 ∙ sym ((g.met.F.Files.told c.args.files.now).0)
 
 pub returns-clause-kept : goal.returns-clause-kept
 returns-clause-kept g c =
     let k = c.new-kit.result in
     let back = c.assemble-ended.result.kits in
     let j = c.swap_remove-kit.result in
-    let one = pushed c.args.kits.items c.push.new.self.items k c.push.result c.unwrap.result c.requires.room.0 c.unwrap.ensures c.push.ensures.items in
+    let one = pushed c.args.held.kits.items c.push.new.self.items k c.push.result c.unwrap.result c.requires.held.room.0 c.unwrap.ensures c.push.ensures.items in
     let other = alone back.items j (sym back.ok.0 ∙ c.assemble-ended.ensures.size) c.swap_remove-kit.ensures.value in
     let at = g.F.Files.disk in
-    let s = see g c.args.shelf in
+    let s = see g c.args.held.shelf in
     let t = see g c.assemble-ended.result.cache in
     let d' = at c.args.files.now in
     let d = with_cache s d' in
     let b = at c.open_seeds.new.files in
     let b2 = at c.take.new.self in
-    let b3 = at c.give_cache-2.new.files in
-    let b4 = at c.close_sources.new.files in
-    let b5 = at c.close_seeds-2.new.files in
+    let b3 = c.give_back.ensures.given.cached in
+    let b4 = c.give_back.ensures.given.closed in
+    let b5 = at c.give_back.new.files in
     let e = at c.give.new.self in
     let read = c.in-Ok.ensures.kept in
     let took = wrote_on b b2 _ c.in-Ok-take.ensures.counts in
-    let gave = given_adds t b2 b3 c.give_cache-2.ensures.given in
-    let closed = c.close_sources.ensures.kept.0.disk in
-    let ended = c.close_seeds-2.ensures.kept in
+    let gave = given_adds t b2 b3 c.give_back.ensures.given.cache in
+    let closed = c.give_back.ensures.given.stores.0.disk in
+    let ended = c.give_back.ensures.given.seeds in
     let back = wrote_back b5 e _ _ c.give.ensures.counts in
     let files = source_files g.F.Look.Look.files in
     let holds = chunks_in g.F.Look.Look.files in
-    let items = c.args.stores.items in
+    let items = c.args.held.stores.items in
     let names = map (location_in g.F.Look.Look.place) items in
     let l = c.args.planned.now.index in
     let same : c.new-kit.result.chain.stores ≡ items = ap (λ k. k.stores) (c.new-kit.ensures.chain ∙ c.new.ensures.value) in
     let stocked = subst (λ xs. Stocked (TakesListed holds l xs) s t) same (c.assemble-ended.ensures.stocked.so k j one other) in
     record {
-      folders = cache_filled holds items names l s t c.args.cache.now d'.folders d e (named g c.args.cache.now c.args.shelf c.requires.cache_named) refl
-          (back.folders ∙ ended.folders ∙ closed.folders ∙ given_folders t b2 b3 c.give_cache-2.ensures.given ∙ ap (folders_with t) (took.folders ∙ read.folders)) (cache_told g c.args.files.now c.args.shelf)
-          stocked (held_where d.folders names files items c.requires.found);
+      folders = cache_filled holds items names l s t c.args.held.cache d'.folders d e (named g c.args.held.cache c.args.held.shelf c.requires.held.lent.named) refl
+          (back.folders ∙ ended.folders ∙ closed.folders ∙ given_folders t b2 b3 c.give_back.ensures.given.cache ∙ ap (folders_with t) (took.folders ∙ read.folders)) (cache_told g c.args.files.now c.args.held.shelf)
+          stocked (held_where d.folders names files items c.requires.held.found);
       counts = λ q. omega (arith, read.counts q, took.counts q, gave.counts q, closed.counts q, ended.counts q, back.counts q);
       folder_counts = λ q. omega (arith, read.folder_counts q, took.folder_counts q, gave.folder_counts q, closed.folder_counts q, ended.folder_counts q, back.folder_counts q);
     }
 
-pub give_cache-requires-2-clause-known : goal.give_cache-requires-2-clause-known
-give_cache-requires-2-clause-known g c =
-    let at = g.F.Files.disk in
-    let b = at c.open_seeds.new.files in
-    known_still c.args.cache.now (at c.args.files.now).folder_counts (at c.take.new.self).folder_counts
-    (λ q is. subst (λ (m : Map ℕ). IsSome (m q)) (sym c.in-Ok-take.ensures.counts.folder_counts) (c.in-Ok.ensures.kept.folder_known q is)) c.requires.cache_known
-
 pub unwrap-requires : goal.unwrap-requires
 unwrap-requires g c =
-    let none = c.args.kits.ok.0 ∙ ap length c.requires.room.0 in
-    c.push.ensures.succeeds (omega (arith, none, c.requires.room.1))
+    let none = c.args.held.kits.ok.0 ∙ ap length c.requires.held.room.0 in
+    c.push.ensures.succeeds (omega (arith, none, c.requires.held.room.1))
 
 pub assemble-ended-requires-clause-places : goal.assemble-ended-requires-clause-places
 assemble-ended-requires-clause-places g c =
     let view = g.F.View.View.held in
     let items = c.in-Ok.seeds.items in
-    let zipped = zipped_many (IsViewed (g.F.Files.disk c.args.files.now) (g.F.Files.disk c.open_seeds.new.files)) (map image_name c.args.seeds.now) (map (seeds.seed_held view) items) c.in-Ok.ensures.found in
-    let many : length items ≡ length c.args.seeds.now = sym (length-map items (seeds.seed_held view)) ∙ sym zipped ∙ length-map c.args.seeds.now image_name in
-    let same : length c.new-kit.result.seeds.items ≡ length c.args.seeds.now = ap (λ v. length v.items) c.new-kit.ensures.seeds ∙ many in
+    let zipped = zipped_many (IsViewed (g.F.Files.disk c.args.files.now) (g.F.Files.disk c.open_seeds.new.files)) (map image_name c.args.planned.now.seeds) (map (seeds.seed_held view) items) (rw c.as_slice.ensures at c.in-Ok.ensures.found) in
+    let many : length items ≡ length c.args.planned.now.seeds = sym (length-map items (seeds.seed_held view)) ∙ sym zipped ∙ length-map c.args.planned.now.seeds image_name in
+    let same : length c.new-kit.result.seeds.items ≡ length c.args.planned.now.seeds = ap (λ v. length v.items) c.new-kit.ensures.seeds ∙ many in
     let k = c.new-kit.result in
-    let one = pushed c.args.kits.items c.push.new.self.items k c.push.result c.unwrap.result c.requires.room.0 c.unwrap.ensures c.push.ensures.items in (
+    let one = pushed c.args.held.kits.items c.push.new.self.items k c.push.result c.unwrap.result c.requires.held.room.0 c.unwrap.ensures c.push.ensures.items in (
       c.requires.plan.0,
       c.requires.plan.1,
       all_alone (λ q. PlacesKnown c.args.planned.now.index c.requires.plan.0 c.args.planned.now.places (length q.seeds.items)) c.push.new.self.items k one
@@ -263,92 +294,33 @@ assemble-ended-requires-clause-places g c =
     )
 
 pub assemble-ended-requires-clause-cache : goal.assemble-ended-requires-clause-cache
-assemble-ended-requires-clause-cache g c = same_kind g.F.Folder.Look.files g.F.Folder.Look.place g.F.Folder.Look.faults _ c.args.shelf c.requires.cache_fresh
-
-pub give_cache-requires-2-clause-named : goal.give_cache-requires-2-clause-named
-give_cache-requires-2-clause-named g c =
-    let k = c.new-kit.result in
-    let back = c.assemble-ended.result.kits in
-    let j = c.swap_remove-kit.result in
-    let one = pushed c.args.kits.items c.push.new.self.items k c.push.result c.unwrap.result c.requires.room.0 c.unwrap.ensures c.push.ensures.items in
-    let other = alone back.items j (sym back.ok.0 ∙ c.assemble-ended.ensures.size) c.swap_remove-kit.ensures.value in
-    let e0 = see g c.args.shelf in
-    let e1 = see g c.assemble-ended.result.cache in
-    let cache = c.args.cache.now in
-    let now : name_in e1 ≡ cache = name_after _ e0 e1 cache (c.assemble-ended.ensures.stocked.so k j one other) (named g cache c.args.shelf c.requires.cache_named) in
-    sym (same_names g.F.Folder.Look.files g.F.Folder.Look.place g.F.Folder.Look.faults c.assemble-ended.result.cache) ∙ now
-
-pub close_sources-requires : goal.close_sources-requires
-close_sources-requires g c =
-    let k = c.new-kit.result in
-    let back = c.assemble-ended.result.kits in
-    let j = c.swap_remove-kit.result in
-    let one = pushed c.args.kits.items c.push.new.self.items k c.push.result c.unwrap.result c.requires.room.0 c.unwrap.ensures c.push.ensures.items in
-    let other = alone back.items j (sym back.ok.0 ∙ c.assemble-ended.ensures.size) c.swap_remove-kit.ensures.value in
-    let at = g.F.Files.disk in
-    let place = g.F.Look.Look.place in
-    let location = location_in place in
-    let counts = (at c.give_cache-2.new.files).folder_counts in
-    let xs = c.args.stores.items in
-    let same : c.new-kit.result.chain.stores ≡ xs = ap (λ k. k.stores) (c.new-kit.ensures.chain ∙ c.new.ensures.value) in
-    let b2 = at c.take.new.self in
-    let gave = given_adds (see g c.assemble-ended.result.cache) b2 (at c.give_cache-2.new.files) c.give_cache-2.ensures.given in
-    let now = all_later (at c.args.files.now).folder_counts counts
-    (λ q is. gave.folder_known q (subst (λ (m : Map ℕ). IsSome (m q)) (sym c.in-Ok-take.ensures.counts.folder_counts) (c.in-Ok.ensures.kept.folder_known q is))) (map location xs) c.requires.known in
-    let located = stand_still place c.new-kit.result.chain.stores c.swap_remove-kit.result.chain.stores (c.assemble-ended.ensures.stores.so k j one other).places ∙ ap (map location) same in
-    record { known = rw c.into_stores.ensures.value (subst (λ (q : List Location). All (IsKnown counts) q) (sym located) now) }
-
-pub close_seeds-requires : goal.close_seeds-requires
-close_seeds-requires g c =
-    let at = g.F.Files.disk in
-    let b = at c.open_seeds.new.files in
-    let b3 = at c.drop_sources-in-Err.new.files in
-    let gave = given_adds (see g c.args.shelf) (at c.take.new.self) (at c.give_cache-in-Err.new.files) c.give_cache-in-Err.ensures.given in
-    let later : (q : List ℕ) → IsSome (b.file_counts q) → IsSome (b3.file_counts q) = λ q known. c.drop_sources-in-Err.ensures.kept.known q (gave.known q (counted_known b.file_counts (at c.take.new.self).file_counts _ c.in-Err.ensures.counts.counts q known)) in
-    record { known = all_known_later g.F.View.View.held b.file_counts b3.file_counts later c.in-Ok.seeds.items c.in-Ok.ensures.known }
-
-pub close_seeds-requires-2 : goal.close_seeds-requires-2
-close_seeds-requires-2 g c =
-    let k = c.new-kit.result in
-    let back = c.assemble-ended.result.kits in
-    let j = c.swap_remove-kit.result in
-    let one = pushed c.args.kits.items c.push.new.self.items k c.push.result c.unwrap.result c.requires.room.0 c.unwrap.ensures c.push.ensures.items in
-    let other = alone back.items j (sym back.ok.0 ∙ c.assemble-ended.ensures.size) c.swap_remove-kit.ensures.value in
-    let at = g.F.Files.disk in
-    let view = g.F.View.View.held in
-    let b = at c.open_seeds.new.files in
-    let b3 = at c.close_sources.new.files in
-    let gave = given_adds (see g c.assemble-ended.result.cache) (at c.take.new.self) (at c.give_cache-2.new.files) c.give_cache-2.ensures.given in
-    let later : (q : List ℕ) → IsSome (b.file_counts q) → IsSome (b3.file_counts q) = λ q known. c.close_sources.ensures.kept.0.disk.known q (gave.known q (counted_known b.file_counts (at c.take.new.self).file_counts _ c.in-Ok-take.ensures.counts.counts q known)) in
-    let opened = all_known_later view b.file_counts b3.file_counts later c.in-Ok.seeds.items c.in-Ok.ensures.known in
-    let same : map (seeds.seed_held view) c.new-kit.result.seeds.items ≡ map (seeds.seed_held view) c.in-Ok.seeds.items = ap (λ v. map (seeds.seed_held view) v.items) c.new-kit.ensures.seeds in
-    record { known = same_known view b3.file_counts c.in-Ok.seeds.items c.swap_remove-kit.result.seeds.items ((c.assemble-ended.ensures.seeds.so k j one other).held ∙ same) opened }
+assemble-ended-requires-clause-cache g c = same_kind g.F.Folder.Look.files g.F.Folder.Look.place g.F.Folder.Look.faults _ c.args.held.shelf c.requires.held.shelf
 
 pub give-requires-clause-known : goal.give-requires-clause-known
 give-requires-clause-known g c =
     let at = g.F.Files.disk in
-    let gave = given_adds (see g c.assemble-ended.result.cache) (at c.take.new.self) (at c.give_cache-2.new.files) c.give_cache-2.ensures.given in
-    c.close_seeds-2.ensures.kept.known _ (c.close_sources.ensures.kept.0.disk.known _ (gave.known _ c.in-Ok-take.ensures.known))
+    let gave = given_adds (see g c.assemble-ended.result.cache) (at c.take.new.self) (c.give_back.ensures.given.cached) c.give_back.ensures.given.cache in
+    c.give_back.ensures.given.seeds.known _ (c.give_back.ensures.given.stores.0.disk.known _ (gave.known _ c.in-Ok-take.ensures.known))
 
 pub returns-clause-numbered : goal.returns-clause-numbered
 returns-clause-numbered g c =
     let at = g.F.Files.disk in
-    let gave = given_adds (see g c.assemble-ended.result.cache) (at c.take.new.self) (at c.give_cache-2.new.files) c.give_cache-2.ensures.given in
-    inl (c.give.ensures.counts.counts.counted.known (c.close_seeds-2.ensures.kept.known _ (c.close_sources.ensures.kept.0.disk.known _ (gave.known _ c.in-Ok-take.ensures.known))))
+    let gave = given_adds (see g c.assemble-ended.result.cache) (at c.take.new.self) (c.give_back.ensures.given.cached) c.give_back.ensures.given.cache in
+    inl (c.give.ensures.counts.counts.counted.known (c.give_back.ensures.given.seeds.known _ (c.give_back.ensures.given.stores.0.disk.known _ (gave.known _ c.in-Ok-take.ensures.known))))
 
 pub returns-clause-assembled : goal.returns-clause-assembled
 returns-clause-assembled g c = λ p ls plan is.
     let at = g.F.Files.disk in
-    let e0 = see g c.args.shelf in
+    let e0 = see g c.args.held.shelf in
     let e1 = see g c.assemble-ended.result.cache in
-    let cache = c.args.cache.now in
+    let cache = c.args.held.cache in
     let d' = at c.args.files.now in
     let d = with_cache e0 d' in
     let b = at c.open_seeds.new.files in
     let b2 = at c.take.new.self in
-    let bc = at c.give_cache-2.new.files in
-    let b3 = at c.close_sources.new.files in
-    let b4 = at c.close_seeds-2.new.files in
+    let bc = c.give_back.ensures.given.cached in
+    let b3 = c.give_back.ensures.given.closed in
+    let b4 = at c.give_back.new.files in
     let e = at c.give.new.self in
     let held = g.F.Target.View.held in
     let view = g.F.View.View.held in
@@ -360,7 +332,7 @@ returns-clause-assembled g c = λ p ls plan is.
     let state = g.D.Dial.state in
     let said = said_in g.F.Look.Look.files state in
     let k0 = state c.args.dial.now in
-    let k1 = state c.close_sources.new.dial in
+    let k1 = state c.give_back.new.dial in
     let faults = source_faults g.F.Look.Look.faults g.D.Dial.state in
     let holds = chunks_in g.F.Look.Look.files in
     let q = c.args.target.now in
@@ -368,7 +340,7 @@ returns-clause-assembled g c = λ p ls plan is.
     let k = c.new-kit.result in
     let back = c.assemble-ended.result.kits in
     let j = c.swap_remove-kit.result in
-    let one = pushed c.args.kits.items c.push.new.self.items k c.push.result c.unwrap.result c.requires.room.0 c.unwrap.ensures c.push.ensures.items in
+    let one = pushed c.args.held.kits.items c.push.new.self.items k c.push.result c.unwrap.result c.requires.held.room.0 c.unwrap.ensures c.push.ensures.items in
     let other = alone back.items j (sym back.ok.0 ∙ c.assemble-ended.ensures.size) c.swap_remove-kit.ensures.value in
     let before = k.chain.stores in
     let after = j.chain.stores in
@@ -377,7 +349,7 @@ returns-clause-assembled g c = λ p ls plan is.
     let v = sources e k1 in
     let l = c.args.planned.now.index in
     let x = c.args.planned.now.places in
-    let z : Seeds = record { images = map image_name c.args.seeds.now; listings = ls } in
+    let z : Seeds = record { images = map image_name c.args.planned.now.seeds; listings = ls } in
     let items = k.seeds.items in
     let views = map (seeds.seed_held view) items in
     let labels = map label_of views in
@@ -395,17 +367,17 @@ returns-clause-assembled g c = λ p ls plan is.
     let f0 = g.F.Target.View.faults c.in-Ok-take.taken in
     let f1 = g.F.Target.View.faults c.assemble-ended.result.target in
     let opens = c.in-Ok.ensures in
-    let same : before ≡ c.args.stores.items = ap (λ k. k.stores) (c.new-kit.ensures.chain ∙ c.new.ensures.value) in
-    let found = subst (λ xs. IfSome d.folders (λ m. map files xs ≡ map (location_files m) (map location xs))) (sym same) c.requires.found in
-    let fresh_stores = subst (λ xs. map faults xs ≡ map {B = ℕ} (λ q. 0) (map location xs)) (sym same) c.requires.fresh in
-    let zip : AllZip (IsViewed d b) z.images views = subst (λ v. AllZip (IsViewed d b) z.images (map (seeds.seed_held view) v.items)) (sym c.new-kit.ensures.seeds) opens.found in
+    let same : before ≡ c.args.held.stores.items = ap (λ k. k.stores) (c.new-kit.ensures.chain ∙ c.new.ensures.value) in
+    let found = subst (λ xs. IfSome d.folders (λ m. map files xs ≡ map (location_files m) (map location xs))) (sym same) c.requires.held.found in
+    let fresh_stores = subst (λ xs. map faults xs ≡ map {B = ℕ} (λ q. 0) (map location xs)) (sym same) c.requires.held.fresh in
+    let zip : AllZip (IsViewed d b) z.images views = subst (λ v. AllZip (IsViewed d b) z.images (map (seeds.seed_held view) v.items)) (sym c.new-kit.ensures.seeds) (rw c.as_slice.ensures at opens.found) in
     let unfailed : map (seeds.faults_in view_faults) items ≡ map {B = ℕ} (λ s. 0) items = subst (λ v. map (seeds.faults_in view_faults) v.items ≡ map {B = ℕ} (λ s. 0) v.items) (sym c.new-kit.ensures.seeds) opens.fresh in
     let fresh_seeds : map (seeds.faults_in view_faults) items ≡ map {B = ℕ} (λ q. 0) labels = unfailed ∙ sym (zeros view items) in
-    let lent = given_adds e1 b2 bc c.give_cache-2.ensures.given in
-    let uncounted : b3.file_counts ≡ b2.file_counts = c.close_sources.ensures.counts ∙ given_files e1 b2 bc c.give_cache-2.ensures.given in
+    let lent = given_adds e1 b2 bc c.give_back.ensures.given.cache in
+    let uncounted : b3.file_counts ≡ b2.file_counts = c.give_back.ensures.given.counts ∙ given_files e1 b2 bc c.give_back.ensures.given.cache in
     let gave = c.give.ensures.files in
     let out = c.in-Ok-take.ensures.ok in
-    let left = gave ∙ ap (option_map (λ m. at_name m q t1)) (c.close_seeds-2.ensures.kept.files ∙ c.close_sources.ensures.kept.0.disk.files ∙ lent.files ∙ out ∙ ap (option_map (λ m. at_name m q None)) opens.kept.files) in
+    let left = gave ∙ ap (option_map (λ m. at_name m q t1)) (c.give_back.ensures.given.seeds.files ∙ c.give_back.ensures.given.stores.0.disk.files ∙ lent.files ∙ out ∙ ap (option_map (λ m. at_name m q None)) opens.kept.files) in
     let took = subst (λ f. IfSome f (λ m. t0 ≡ Some (old_of m o))) opens.kept.files (c.in-Ok-take.ensures.bytes) in
     let added = c.give.ensures.counts.counts.added in
     let given : (y : List ℕ) → count_at b4.file_counts y ≤ count_at e.file_counts y = λ y. counted_le b4.file_counts e.file_counts _ c.give.ensures.counts.counts.counted y in
@@ -414,7 +386,7 @@ returns-clause-assembled g c = λ p ls plan is.
     let next = counted_le b.file_counts b2.file_counts _ c.in-Ok-take.ensures.counts.counts y in
     let last : count_at b3.file_counts y ≡ count_at b2.file_counts y = ap (λ (m : Map ℕ). count_at m y) uncounted in
     omega (arith, first, next, last) in
-    let le : count_at d.file_counts q ≤ count_at b4.file_counts q = omega (arith, le_mid q, c.close_seeds-2.ensures.kept.counts q) in
+    let le : count_at d.file_counts q ≤ count_at b4.file_counts q = omega (arith, le_mid q, c.give_back.ensures.given.seeds.counts q) in
     let reached : (y : List ℕ) → count_at d.folder_counts y ≤ count_at b2.folder_counts y = λ y.
     let first = opens.kept.folder_counts y in
     let last : count_at b2.folder_counts y ≡ count_at b.folder_counts y = ap (λ (m : Map ℕ). count_at m y) c.in-Ok-take.ensures.counts.folder_counts in
@@ -422,11 +394,11 @@ returns-clause-assembled g c = λ p ls plan is.
     let opened : (y : List ℕ) → count_at d.folder_counts y ≤ count_at bc.folder_counts y = λ y. omega (arith, reached y, lent.folder_counts y) in
     let rose : Rose f0 f1 → FileRose d e q = λ y. given_rose _ _ _ _ le added (rw c.in-Ok-take.ensures.fresh.0 at y) in
     let excused : ExcusesAs f0 f1 (count_at d.file_counts q) (count_at e.file_counts q) = λ xs y. given_excuses xs _ _ _ _ le added (rw c.in-Ok-take.ensures.fresh.0 at y) in
-    let closed = rw c.into_stores.ensures.value at c.close_sources.ensures.given in
-    let dialed = c.close_sources.ensures.kept.0.dial in
-    let stays : e.folder_counts ≡ b3.folder_counts = c.give.ensures.counts.folder_counts ∙ c.close_seeds-2.ensures.counts in
+    let closed = rw c.into_stores-stores.ensures.value at c.give_back.ensures.given.given in
+    let dialed = c.give_back.ensures.given.stores.0.dial in
+    let stays : e.folder_counts ≡ b3.folder_counts = c.give.ensures.counts.folder_counts ∙ c.give_back.ensures.given.folder_counts in
     let ended : (y : List ℕ) → count_at bc.folder_counts y ≤ count_at e.folder_counts y = λ y.
-    let first = c.close_sources.ensures.kept.0.disk.folder_counts y in
+    let first = c.give_back.ensures.given.stores.0.disk.folder_counts y in
     let last : count_at e.folder_counts y ≡ count_at b3.folder_counts y = ap (λ (m : Map ℕ). count_at m y) stays in
     omega (arith, first, last) in
     let counted_on : (y : List ℕ) → count_at b3.folder_counts y ≤ count_at e.folder_counts y = λ y.
@@ -438,14 +410,14 @@ returns-clause-assembled g c = λ p ls plan is.
     let located : (ys : List (AnyStore g.row.F-Look.Denot g.row.D.Denot g.row.D-Link.Denot)) → map place ys ≡ map place before → map location ys ≡ names = λ ys placed. stand_still at_place before ys placed in
     let after_at = located after stores.places in
     let stand = all_stand g.F.Look.Look.files at_place g.F.Look.Look.faults state w v after names after_at (held_after d.folders names files before after found stores.files) given_stores in
-    let name = named g cache c.args.shelf c.requires.cache_named in
+    let name = named g cache c.args.held.shelf c.requires.held.lent.named in
     let name_now = name_after _ e0 e1 cache stocked name in
-    let none = fresh_faults g.F.Folder.Look.files g.F.Folder.Look.place g.F.Folder.Look.faults _ c.args.shelf c.requires.cache_fresh in
-    let shelf_rose = cache_rose d e b2 bc reached ended (cache_faults e0) e1 none c.give_cache-2.ensures.given in
-    let shelf_now : e.folders ≡ folders_with e1 d'.folders = c.give.ensures.counts.folders ∙ c.close_seeds-2.ensures.kept.folders ∙ c.close_sources.ensures.kept.0.disk.folders ∙ given_folders e1 b2 bc c.give_cache-2.ensures.given
+    let none = fresh_faults g.F.Folder.Look.files g.F.Folder.Look.place g.F.Folder.Look.faults _ c.args.held.shelf c.requires.held.shelf in
+    let shelf_rose = cache_rose d e b2 bc reached ended (cache_faults e0) e1 none c.give_back.ensures.given.cache in
+    let shelf_now : e.folders ≡ folders_with e1 d'.folders = c.give.ensures.counts.folders ∙ c.give_back.ensures.given.seeds.folders ∙ c.give_back.ensures.given.stores.0.disk.folders ∙ given_folders e1 b2 bc c.give_back.ensures.given.cache
     ∙ ap (folders_with e1) (c.in-Ok-take.ensures.counts.folders ∙ opens.kept.folders) in
     let seeds_added : All (λ s. raised (count_at b3.file_counts (label_in view s)) (seeds.faults_in view_faults s) ≤ count_at e.file_counts (label_in view s)) j.seeds.items = λ n s lt.
-    let here = c.close_seeds-2.ensures.added n s lt in
+    let here = c.give_back.ensures.given.added n s lt in
     let on = given (label_in view (slice_index_or j.seeds.items n s)) in
     omega (arith, here, on) in
     let labelled : map (label_in view) j.seeds.items ≡ labels = same_labels view items j.seeds.items kept.held ∙ labels_are view items in
@@ -453,7 +425,7 @@ returns-clause-assembled g c = λ p ls plan is.
     let later : (y : List ℕ) → FileRose d b y → FileRose d e y = λ y.
     let next = counted_le b.file_counts b2.file_counts _ c.in-Ok-take.ensures.counts.counts y in
     let last : count_at b3.file_counts y ≡ count_at b2.file_counts y = ap (λ (m : Map ℕ). count_at m y) uncounted in
-    let more = c.close_seeds-2.ensures.kept.counts y in
+    let more = c.give_back.ensures.given.seeds.counts y in
     let end = given y in
     let on : count_at b.file_counts y ≤ count_at e.file_counts y = omega (arith, next, last, more, end) in
     rose_longer (count_at d.file_counts y) (count_at b.file_counts y) (count_at e.file_counts y) on in
@@ -465,7 +437,7 @@ returns-clause-assembled g c = λ p ls plan is.
     r (map files before) (λ cs. cached_in e0 ≡ Some (map chunks cs)) t0 t1 f0 f1
     (λ cached maps. IsTrue g.F.View.View.tells × (cached_in e0 ≡ Some cached) × (map holds k.chain.stores ≡ map Some maps))
     (λ cached maps. SourcesQuiet holds faults view view_faults g.F.View.View.tells f0 f1 k.seeds.items j.seeds.items e0 e1 k.chain.stores j.chain.stores cached maps × HaveOneSize l e0 cached maps)
-    found (cached_there e0 cache name d'.folders (cache_told g c.args.files.now c.args.shelf)) took
+    found (cached_there e0 cache name d'.folders (cache_told g c.args.files.now c.args.held.shelf)) took
     (g.met.F.Target.View.told c.in-Ok-take.taken ∙ sym (g.met.F.Target.View.told c.assemble-ended.result.target))
     left rose excused over.bytes
     (λ m told n y. lacks_told holds files place location said faults _ view view_faults l p x w v names cache o z t0 f0 f1 k j e0 e1 stores located stand n
@@ -479,7 +451,7 @@ returns-clause-assembled g c = λ p ls plan is.
         telling = λ _. tells m y;
         seeds = each_quiet (seeds.faults_in view_faults) (label_in view) d.file_counts b3.file_counts e.file_counts le_mid items j.seeds.items labels fresh_seeds seeds_added quiet.0.files;
         told_cache = shelved;
-        cache = cache_quiet d e b2 bc reached ended (cache_faults e0) e1 none c.give_cache-2.ensures.given quiet.0;
+        cache = cache_quiet d e b2 bc reached ended (cache_faults e0) e1 none c.give_back.ensures.given.cache quiet.0;
         told = held_maps files before fs looks;
         stores = folders_quiet g.F.Look.Look.files at_place g.F.Look.Look.faults state w v names fs before after fresh_stores (stores.files ∙ looks) given_stores quiet.0.folders;
       },
@@ -500,12 +472,12 @@ returns-clause-dialed g c =
     let k = c.new-kit.result in
     let back = c.assemble-ended.result.kits in
     let j = c.swap_remove-kit.result in
-    let one = pushed c.args.kits.items c.push.new.self.items k c.push.result c.unwrap.result c.requires.room.0 c.unwrap.ensures c.push.ensures.items in
+    let one = pushed c.args.held.kits.items c.push.new.self.items k c.push.result c.unwrap.result c.requires.held.room.0 c.unwrap.ensures c.push.ensures.items in
     let other = alone back.items j (sym back.ok.0 ∙ c.assemble-ended.ensures.size) c.swap_remove-kit.ensures.value in
     let place = g.F.Look.Look.place in
-    let same : c.new-kit.result.chain.stores ≡ c.args.stores.items = ap (λ k. k.stores) (c.new-kit.ensures.chain ∙ c.new.ensures.value) in
+    let same : c.new-kit.result.chain.stores ≡ c.args.held.stores.items = ap (λ k. k.stores) (c.new-kit.ensures.chain ∙ c.new.ensures.value) in
     let located = stand_still place c.new-kit.result.chain.stores c.swap_remove-kit.result.chain.stores (c.assemble-ended.ensures.stores.so k j one other).places ∙ ap (map (location_in place)) same in
-    let kept = rw c.into_stores.ensures.value at c.close_sources.ensures.kept in
+    let kept = rw c.into_stores-stores.ensures.value at c.give_back.ensures.given.stores in
     (kept.0.dial, λ t. kept.1 (subst (λ (l : List Location). IsTrue (are_folders l)) (sym located) t))
 
 pub returns-clause-tells : goal.returns-clause-tells
@@ -515,28 +487,28 @@ pub returns-in_default-clause-asks : goal.returns-in_default-clause-asks
 returns-in_default-clause-asks g c = λ p ls plan is. record {
   plan = p;
   planned = plan;
-  gets = λ spared are. none_dialed (AsksFew method.Get (twice_wanted c.args.planned.now.index p spared)) (λ s id. omega arith) (map (location_in g.F.Look.Look.place) c.args.stores.items) (g.D.Dial.state c.args.dial.now).ended;
+  gets = λ spared are. none_dialed (AsksFew method.Get (twice_wanted c.args.planned.now.index p spared)) (λ s id. omega arith) (map (location_in g.F.Look.Look.place) c.args.held.stores.items) (g.D.Dial.state c.args.dial.now).ended;
 }
 
 pub returns-in-Err-clause-asks : goal.returns-in-Err-clause-asks
 returns-in-Err-clause-asks g c = λ p ls plan is. record {
   plan = p;
   planned = plan;
-  gets = λ spared are. none_dialed (AsksFew method.Get (twice_wanted c.args.planned.now.index p spared)) (λ s id. omega arith) (map (location_in g.F.Look.Look.place) c.args.stores.items) (g.D.Dial.state c.args.dial.now).ended;
+  gets = λ spared are. none_dialed (AsksFew method.Get (twice_wanted c.args.planned.now.index p spared)) (λ s id. omega arith) (map (location_in g.F.Look.Look.place) c.args.held.stores.items) (g.D.Dial.state c.args.dial.now).ended;
 }
 
 pub returns-clause-asks : goal.returns-clause-asks
 returns-clause-asks g c = λ p ls plan is.
     let at = g.F.Files.disk in
-    let e0 = see g c.args.shelf in
+    let e0 = see g c.args.held.shelf in
     let e1 = see g c.assemble-ended.result.cache in
     let d' = at c.args.files.now in
     let d = with_cache e0 d' in
     let b = at c.open_seeds.new.files in
     let b2 = at c.take.new.self in
-    let bc = at c.give_cache-2.new.files in
-    let b3 = at c.close_sources.new.files in
-    let b4 = at c.close_seeds-2.new.files in
+    let bc = c.give_back.ensures.given.cached in
+    let b3 = c.give_back.ensures.given.closed in
+    let b4 = at c.give_back.new.files in
     let e = at c.give.new.self in
     let held = g.F.Target.View.held in
     let view = g.F.View.View.held in
@@ -546,13 +518,13 @@ returns-clause-asks g c = λ p ls plan is.
     let location = location_in at_place in
     let state = g.D.Dial.state in
     let k0 = state c.args.dial.now in
-    let k1 = state c.close_sources.new.dial in
+    let k1 = state c.give_back.new.dial in
     let q = c.args.target.now in
     let o : Into = record { name = q; fresh = c.args.fresh } in
     let k = c.new-kit.result in
     let back = c.assemble-ended.result.kits in
     let j = c.swap_remove-kit.result in
-    let one = pushed c.args.kits.items c.push.new.self.items k c.push.result c.unwrap.result c.requires.room.0 c.unwrap.ensures c.push.ensures.items in
+    let one = pushed c.args.held.kits.items c.push.new.self.items k c.push.result c.unwrap.result c.requires.held.room.0 c.unwrap.ensures c.push.ensures.items in
     let other = alone back.items j (sym back.ok.0 ∙ c.assemble-ended.ensures.size) c.swap_remove-kit.ensures.value in
     let before = k.chain.stores in
     let after = j.chain.stores in
@@ -561,7 +533,7 @@ returns-clause-asks g c = λ p ls plan is.
     let v = sources e k1 in
     let l = c.args.planned.now.index in
     let x = c.args.planned.now.places in
-    let z : Seeds = record { images = map image_name c.args.seeds.now; listings = ls } in
+    let z : Seeds = record { images = map image_name c.args.planned.now.seeds; listings = ls } in
     let items = k.seeds.items in
     let views = map (seeds.seed_held view) items in
     let labels = map label_of views in
@@ -573,12 +545,12 @@ returns-clause-asks g c = λ p ls plan is.
     let f0 = g.F.Target.View.faults c.in-Ok-take.taken in
     let f1 = g.F.Target.View.faults c.assemble-ended.result.target in
     let opens = c.in-Ok.ensures in
-    let same : before ≡ c.args.stores.items = ap (λ k. k.stores) (c.new-kit.ensures.chain ∙ c.new.ensures.value) in
-    let zip : AllZip (IsViewed d b) z.images views = subst (λ v. AllZip (IsViewed d b) z.images (map (seeds.seed_held view) v.items)) (sym c.new-kit.ensures.seeds) opens.found in
+    let same : before ≡ c.args.held.stores.items = ap (λ k. k.stores) (c.new-kit.ensures.chain ∙ c.new.ensures.value) in
+    let zip : AllZip (IsViewed d b) z.images views = subst (λ v. AllZip (IsViewed d b) z.images (map (seeds.seed_held view) v.items)) (sym c.new-kit.ensures.seeds) (rw c.as_slice.ensures at opens.found) in
     let unfailed : map (seeds.faults_in view_faults) items ≡ map {B = ℕ} (λ s. 0) items = subst (λ v. map (seeds.faults_in view_faults) v.items ≡ map {B = ℕ} (λ s. 0) v.items) (sym c.new-kit.ensures.seeds) opens.fresh in
     let fresh_seeds : map (seeds.faults_in view_faults) items ≡ map {B = ℕ} (λ q. 0) labels = unfailed ∙ sym (zeros view items) in
-    let lent = given_adds e1 b2 bc c.give_cache-2.ensures.given in
-    let uncounted : b3.file_counts ≡ b2.file_counts = c.close_sources.ensures.counts ∙ given_files e1 b2 bc c.give_cache-2.ensures.given in
+    let lent = given_adds e1 b2 bc c.give_back.ensures.given.cache in
+    let uncounted : b3.file_counts ≡ b2.file_counts = c.give_back.ensures.given.counts ∙ given_files e1 b2 bc c.give_back.ensures.given.cache in
     let took = subst (λ f. IfSome f (λ m. t0 ≡ Some (old_of m o))) opens.kept.files (c.in-Ok-take.ensures.bytes) in
     let added = c.give.ensures.counts.counts.added in
     let given : (y : List ℕ) → count_at b4.file_counts y ≤ count_at e.file_counts y = λ y. counted_le b4.file_counts e.file_counts _ c.give.ensures.counts.counts.counted y in
@@ -587,12 +559,12 @@ returns-clause-asks g c = λ p ls plan is.
     let next = counted_le b.file_counts b2.file_counts _ c.in-Ok-take.ensures.counts.counts y in
     let last : count_at b3.file_counts y ≡ count_at b2.file_counts y = ap (λ (m : Map ℕ). count_at m y) uncounted in
     omega (arith, first, next, last) in
-    let le : count_at d.file_counts q ≤ count_at b4.file_counts q = omega (arith, le_mid q, c.close_seeds-2.ensures.kept.counts q) in
+    let le : count_at d.file_counts q ≤ count_at b4.file_counts q = omega (arith, le_mid q, c.give_back.ensures.given.seeds.counts q) in
     let rose : Rose f0 f1 → FileRose d e q = λ y. given_rose _ _ _ _ le added (rw c.in-Ok-take.ensures.fresh.0 at y) in
     let located : (ys : List (AnyStore g.row.F-Look.Denot g.row.D.Denot g.row.D-Link.Denot)) → map place ys ≡ map place before → map location ys ≡ names = λ ys placed. stand_still at_place before ys placed in
     let after_at = located after stores.places in
     let seeds_added : All (λ s. raised (count_at b3.file_counts (label_in view s)) (seeds.faults_in view_faults s) ≤ count_at e.file_counts (label_in view s)) j.seeds.items = λ n s lt.
-    let here = c.close_seeds-2.ensures.added n s lt in
+    let here = c.give_back.ensures.given.added n s lt in
     let on = given (label_in view (slice_index_or j.seeds.items n s)) in
     omega (arith, here, on) in
     let labelled : map (label_in view) j.seeds.items ≡ labels = same_labels view items j.seeds.items kept.held ∙ labels_are view items in
@@ -600,35 +572,35 @@ returns-clause-asks g c = λ p ls plan is.
     let later : (y : List ℕ) → FileRose d b y → FileRose d e y = λ y.
     let next = counted_le b.file_counts b2.file_counts _ c.in-Ok-take.ensures.counts.counts y in
     let last : count_at b3.file_counts y ≡ count_at b2.file_counts y = ap (λ (m : Map ℕ). count_at m y) uncounted in
-    let more = c.close_seeds-2.ensures.kept.counts y in
+    let more = c.give_back.ensures.given.seeds.counts y in
     let end = given y in
     let on : count_at b.file_counts y ≤ count_at e.file_counts y = omega (arith, next, last, more, end) in
     rose_longer (count_at d.file_counts y) (count_at b.file_counts y) (count_at e.file_counts y) on in
     let holds = chunks_in g.F.Look.Look.files in
-    let cache = c.args.cache.now in
+    let cache = c.args.held.cache in
     let stocked = over.stocked.so k j one other in
     let reached : (y : List ℕ) → count_at d.folder_counts y ≤ count_at b2.folder_counts y = λ y.
     let first = opens.kept.folder_counts y in
     let last : count_at b2.folder_counts y ≡ count_at b.folder_counts y = ap (λ (m : Map ℕ). count_at m y) c.in-Ok-take.ensures.counts.folder_counts in
     omega (arith, first, last) in
-    let stays : e.folder_counts ≡ b3.folder_counts = c.give.ensures.counts.folder_counts ∙ c.close_seeds-2.ensures.counts in
+    let stays : e.folder_counts ≡ b3.folder_counts = c.give.ensures.counts.folder_counts ∙ c.give_back.ensures.given.folder_counts in
     let ended : (y : List ℕ) → count_at bc.folder_counts y ≤ count_at e.folder_counts y = λ y.
-    let first = c.close_sources.ensures.kept.0.disk.folder_counts y in
+    let first = c.give_back.ensures.given.stores.0.disk.folder_counts y in
     let last : count_at e.folder_counts y ≡ count_at b3.folder_counts y = ap (λ (m : Map ℕ). count_at m y) stays in
     omega (arith, first, last) in
-    let name = named g cache c.args.shelf c.requires.cache_named in
+    let name = named g cache c.args.held.shelf c.requires.held.lent.named in
     let name_now = name_after _ e0 e1 cache stocked name in
-    let none = fresh_faults g.F.Folder.Look.files g.F.Folder.Look.place g.F.Folder.Look.faults _ c.args.shelf c.requires.cache_fresh in
-    let shelf_rose = cache_rose d e b2 bc reached ended (cache_faults e0) e1 none c.give_cache-2.ensures.given in
-    let unused = subst (λ xs. All (IsUnused state) xs) (sym same) c.requires.unused in
-    let last_ended = rw c.into_stores.ensures.value at c.close_sources.ensures.ended in
+    let none = fresh_faults g.F.Folder.Look.files g.F.Folder.Look.place g.F.Folder.Look.faults _ c.args.held.shelf c.requires.held.shelf in
+    let shelf_rose = cache_rose d e b2 bc reached ended (cache_faults e0) e1 none c.give_back.ensures.given.cache in
+    let unused = subst (λ xs. All (IsUnused state) xs) (sym same) c.requires.held.unused in
+    let last_ended = rw c.into_stores-stores.ensures.value at c.give_back.ensures.given.ended in
     record {
       plan = p;
       planned = plan;
       gets = λ spared are.
           let asked = over.asks.so p k j plan one other spared (λ i below yes. of_told d.files (λ m. IsSparedOnDisk d e m cache o l z p i) (SparedOver holds view view_faults l p x t0 f0 f1 items j.seeds.items e0 e1 before i)
           (λ m told so. spared_over holds before e0 e1 view view_faults d b e m told l p plan x o z items j.seeds.items zip is later rises t0 (subst (λ f. IfSome f (λ m. t0 ≡ Some (old_of m o))) told took) f0 f1 rose cache i below
-          (cache_gives holds before d e l (want_id l p i) (size_of l (first_of p i)) e0 e1 cache name_now (cached_there e0 cache name d'.folders (cache_told g c.args.files.now c.args.shelf)) shelf_rose) so) (are i below yes)) in
+          (cache_gives holds before d e l (want_id l p i) (size_of l (first_of p i)) e0 e1 cache name_now (cached_there e0 cache name d'.folders (cache_told g c.args.files.now c.args.held.shelf)) shelf_rose) so) (are i below yes)) in
           let few = few_each (asked_in method.Get state) (twice_wanted l p spared) before after (same_length place before after (sym stores.places)) (λ q n. asked.most q n) in
           subst (λ xs. EachDialed (AsksFew method.Get (twice_wanted l p spared)) (map location xs) k0.ended k1.ended) same
           (each_got at_place state (twice_wanted l p spared) before after names k0.ended k1.ended unused few after_at last_ended);

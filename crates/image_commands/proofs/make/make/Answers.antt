@@ -9,7 +9,7 @@ pub store_between-requires-clause-image : goal.store_between-requires-clause-ima
 store_between-requires-clause-image g c κs lives =
     let d = g.F.Files.disk c.take_store.new.files in
     let held = g.F.View.View.held in
-    let took = c.in_ok-views-2.ensures in
+    let took = c.in_ok-opened.ensures in
     let known = c.in_ok-views.ensures.known in
     subst (λ vs. All (λ v. IsSome (d.file_counts (held v).name)) vs.items) (sym took.kept) (λ k e lt. took.changed.known (held (slice_index_or c.in_ok-views.views.items k e)).name (known k e lt))
 
@@ -21,13 +21,13 @@ returns-in_err-bytes g c =
     let held = g.F.View.View.held in
     let views = c.in_ok-views.ensures in
     let opened = views.bytes in
-    let took = c.in_ok-views-2.ensures in
-    let files = source_files g.F.Folder.Look.files c.in_ok-views-2.taken in
+    let took = c.in_ok-opened.ensures in
+    let files = source_files g.F.Folder.Look.files c.in_ok-opened.opened.taken in
     let w = sources (at c.take_store.new.files) (state c.args.dial.now) in
     let v = sources (at c.store_between.new.files) (state c.store_between.new.dial) in
-    let are = subst (λ vs. AreOf c.args.image opened.0 (map held vs.items)) (sym took.kept) opened.2 in
-    let stored = c.in_err-bytes.ensures.err c.args.image opened.0 are in
-    record { ends = λ o. rw (p.1, p.2) (inr (record { disk = _; dial = _; out = _; gave = c.in_ok-sizes.sizes; did = (c.in_ok-sizes.ensures, refl); then = inr (record { disk = _; dial = _; out = _; gave = opened.0; did = ((opened.1, views.kept), refl, refl); then = inr (record { disk = _; dial = _; out = _; gave = files; did = (took.ok, refl, refl); then = inl (stored, refl) }) }) })) }
+    let are = subst (λ vs. AreOf c.args.words.image opened.0 (map held vs.items)) (sym took.kept) opened.2 in
+    let stored = c.in_err-bytes.ensures.err c.args.words.image opened.0 are in
+    record { ends = λ o. rw (p.1, p.2) (inr (record { disk = _; dial = _; out = _; gave = c.in_ok-sizes.sizes; did = (c.in_ok-sizes.ensures, refl); then = inr (record { disk = _; dial = _; out = _; gave = opened.0; did = ((opened.1, views.kept, views.used), refl, refl); then = inr (record { disk = _; dial = _; out = _; gave = files; did = (took.ok, refl, refl); then = inl (stored, refl) }) }) })) }
 
 pub returns-in_err-write_index : goal.returns-in_err-write_index
 returns-in_err-write_index g c =
@@ -37,13 +37,13 @@ returns-in_err-write_index g c =
     let held = g.F.View.View.held in
     let views = c.in_ok-views.ensures in
     let opened = views.bytes in
-    let took = c.in_ok-views-2.ensures in
-    let files = source_files g.F.Folder.Look.files c.in_ok-views-2.taken in
+    let took = c.in_ok-opened.ensures in
+    let files = source_files g.F.Folder.Look.files c.in_ok-opened.opened.taken in
     let w = sources (at c.take_store.new.files) (state c.args.dial.now) in
     let v = sources (at c.store_between.new.files) (state c.store_between.new.dial) in
-    let are = subst (λ vs. AreOf c.args.image opened.0 (map held vs.items)) (sym took.kept) opened.2 in
-    let stored = c.in_ok-bytes.ensures.ok c.args.image opened.0 are in
-    record { ends = λ o. rw (p.1, p.2) (inr (record { disk = _; dial = _; out = _; gave = c.in_ok-sizes.sizes; did = (c.in_ok-sizes.ensures, refl); then = inr (record { disk = _; dial = _; out = _; gave = opened.0; did = ((opened.1, views.kept), refl, refl); then = inr (record { disk = _; dial = _; out = _; gave = files; did = (took.ok, refl, refl); then = inr (record { disk = _; dial = _; out = _; gave = c.in_ok-bytes.bytes.items; did = (stored, refl); then = (c.in_err-write_index.ensures, refl, refl) }) }) }) })) }
+    let are = subst (λ vs. AreOf c.args.words.image opened.0 (map held vs.items)) (sym took.kept) opened.2 in
+    let stored = c.in_ok-bytes.ensures.ok c.args.words.image opened.0 are in
+    record { ends = λ o. rw (p.1, p.2) (inr (record { disk = _; dial = _; out = _; gave = c.in_ok-sizes.sizes; did = (c.in_ok-sizes.ensures, refl); then = inr (record { disk = _; dial = _; out = _; gave = opened.0; did = ((opened.1, views.kept, views.used), refl, refl); then = inr (record { disk = _; dial = _; out = _; gave = files; did = (took.ok, refl, refl); then = inr (record { disk = _; dial = _; out = _; gave = c.in_ok-bytes.bytes.items; did = (stored, refl); then = (c.in_err-write_index.ensures, refl, refl) }) }) }) })) }
 
 pub returns : goal.returns
 returns g c =
@@ -52,10 +52,10 @@ returns g c =
     let held = g.F.View.View.held in
     let views = c.in_ok-views.ensures in
     let opened = views.bytes in
-    let took = c.in_ok-views-2.ensures in
-    let files = source_files g.F.Folder.Look.files c.in_ok-views-2.taken in
+    let took = c.in_ok-opened.ensures in
+    let files = source_files g.F.Folder.Look.files c.in_ok-opened.opened.taken in
     let w = sources (at c.take_store.new.files) (state c.args.dial.now) in
     let v = sources (at c.store_between.new.files) (state c.store_between.new.dial) in
-    let are = subst (λ vs. AreOf c.args.image opened.0 (map held vs.items)) (sym took.kept) opened.2 in
-    let stored = c.in_ok-bytes.ensures.ok c.args.image opened.0 are in
-    record { ends = λ o. record { disk = _; dial = _; out = _; gave = c.in_ok-sizes.sizes; did = (c.in_ok-sizes.ensures, refl); then = record { disk = _; dial = _; out = _; gave = opened.0; did = ((opened.1, views.kept), refl, refl); then = record { disk = _; dial = _; out = _; gave = files; did = (took.ok, refl, refl); then = record { disk = _; dial = _; out = _; gave = c.in_ok-bytes.bytes.items; did = (stored, refl); then = (rw c.deref.ensures.value at c.in_ok-write_index.ensures, refl, refl) } } } } }
+    let are = subst (λ vs. AreOf c.args.words.image opened.0 (map held vs.items)) (sym took.kept) opened.2 in
+    let stored = c.in_ok-bytes.ensures.ok c.args.words.image opened.0 are in
+    record { ends = λ o. record { disk = _; dial = _; out = _; gave = c.in_ok-sizes.sizes; did = (c.in_ok-sizes.ensures, refl); then = record { disk = _; dial = _; out = _; gave = opened.0; did = ((opened.1, views.kept, views.used), refl, refl); then = record { disk = _; dial = _; out = _; gave = files; did = (took.ok, refl, refl); then = record { disk = _; dial = _; out = _; gave = c.in_ok-bytes.bytes.items; did = (stored, refl); then = (rw c.deref.ensures.value at c.in_ok-write_index.ensures, refl, refl) } } } } }

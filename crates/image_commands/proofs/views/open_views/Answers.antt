@@ -1,6 +1,7 @@
-use Rattle.std.proofs.Common.{◌≡◌, ℕ, List, [], IsSome, slice_index_or, sym, map, rules, arith, inr, subst}
+use Rattle.std.proofs.Common.{◌≡◌, ℕ, List, [], ◌∷◌, IsSome, slice_index_or, sym, map, rules, arith, inr, subst}
 use Rattle.std.proofs.lemmas.List.Elements.{All-map}
 use Rattle.command_steps.proofs.Consulted.{reads_twice}
+use Rattle.command_steps.proofs.Used.{file_used, uses_twice}
 use Rattle.image_commands.specs.Views.{IsViewOf}
 use Rattle.image_commands.proofs.Viewed.{all_grow, all_tell, alike, few_grow, grows_as, long_enough, of_one, opened_read, some_grow, view_earlier}
 use Rattle.image_commands.proofs.views.open_views.Goals as goal
@@ -24,6 +25,7 @@ loop-opened-init g c =
       few = search rules;
       counted = omega arith;
       opened = all_grow (λ v. (g.F.View.View.faults v ≡ 0) × IsViewOf d q c.size-size.result (held v)) [] c.push.new.self.items (inr (_, search rules, opened)) (λ k e lt. absurd (omega (arith, lt)));
+      used = file_used q d (g.F.Files.disk c.view.new.self) (rw c.as_str.ensures at found.counts);
       reads = opened_read d (g.F.Files.disk c.view.new.self) q found.kept (rw c.as_str.ensures at found.counts);
       known = all_grow (λ v. IsSome ((g.F.Files.disk c.view.new.self).file_counts (held v).name)) [] c.push.new.self.items (inr (_, search rules, subst (λ (n : List ℕ). IsSome ((g.F.Files.disk c.view.new.self).file_counts n)) (sym found.fresh.1) found.known)) (λ k e lt. absurd (omega (arith, lt)));
     }
@@ -45,6 +47,7 @@ loop-opened-preserved g c =
       few = omega (arith, inv.few, few_grow _ c.loop-opened.views.items c.add_view.new.views.items added);
       counted = omega (arith, c.loop-opened-test.true);
       opened = all_grow _ c.loop-opened.views.items c.add_view.new.views.items grows inv.opened;
+      used = uses_twice (q ∷ []) [] d b (g.F.Files.disk c.add_view.new.files) inv.used (rw c.as_str-in-loop-opened.ensures at c.add_view.ensures.used);
       reads = reads_twice d b (g.F.Files.disk c.add_view.new.files) inv.reads c.add_view.ensures.kept;
       known = all_grow _ c.loop-opened.views.items c.add_view.new.views.items known (λ k e lt. c.add_view.ensures.kept.known (held (slice_index_or c.loop-opened.views.items k e)).name (inv.known k e lt));
     }

@@ -1,4 +1,5 @@
-use Rattle.std.proofs.Common.{◌≡◌, ◌<◌, ◌≤◌, max, vec_len, All, IsSome}
+use Rattle.std.proofs.Common.{◌≡◌, [], ◌∷◌, ◌<◌, ◌≤◌, max, vec_len, All, IsSome}
+use Rattle.command_steps.specs.Uses.{Uses}
 use Rattle.command_worlds.specs.Worlds.{Reads}
 use Rattle.image_commands.specs.Views.{IsViewOf}
 use Rattle.image_commands.proofs.views.open_views.Given as goal
@@ -10,5 +11,6 @@ invariant-loop-opened g l = record {
   counted : l._opened ≤ max 1 l.count;
   opened : All (λ v. (g.F.View.View.faults v ≡ 0) × IsViewOf (g.F.Files.disk l.fn.files) l.fn.image l.size (g.F.View.View.held v)) l.views.items;
   reads : Reads (g.F.Files.disk l.fn.files) (g.F.Files.disk l.files);
+  used : Uses (l.fn.image ∷ []) [] (g.F.Files.disk l.fn.files) (g.F.Files.disk l.files);
   known : All (λ v. IsSome ((g.F.Files.disk l.files).file_counts (g.F.View.View.held v).name)) l.views.items;
 }

@@ -18,7 +18,7 @@ pub returns-in_default : goal.returns-in_default
 returns-in_default g c =
     let at = g.F.Files.disk in
     let listed = c.in_ok-listed.ensures in
-    let read = subst (λ (qs : List (List ℕ)). IndexesRead qs (at c.args.files.now) (Ok c.in_ok-listed.listed.items) (at c.read_indexes.new.files)) c.as_slice.ensures ((listed.ok, listed.few), listed.kept) in
+    let read = subst (λ (qs : List (List ℕ)). IndexesRead qs (at c.args.files.now) (Ok c.in_ok-listed.listed.items) (at c.read_indexes.new.files)) c.as_slice.ensures ((listed.ok, listed.few), listed.kept, listed.used) in
     record { ends = λ k o. inr (record { disk = _; dial = _; out = _; gave = c.in_ok-listed.listed.items; did = (read, refl, refl); then = inl ((tt, reads_still (at c.read_indexes.new.files)), refl, refl) }) }
 
 pub returns-in_err-taken : goal.returns-in_err-taken
@@ -26,7 +26,7 @@ returns-in_err-taken g c =
     let p = err_from_is_err_and c.from_residual-in_err-taken.result c.from_residual-in_err-taken.ensures.1 in
     let at = g.F.Files.disk in
     let listed = c.in_ok-listed.ensures in
-    let read = subst (λ (qs : List (List ℕ)). IndexesRead qs (at c.args.files.now) (Ok c.in_ok-listed.listed.items) (at c.read_indexes.new.files)) c.as_slice.ensures ((listed.ok, listed.few), listed.kept) in
+    let read = subst (λ (qs : List (List ℕ)). IndexesRead qs (at c.args.files.now) (Ok c.in_ok-listed.listed.items) (at c.read_indexes.new.files)) c.as_slice.ensures ((listed.ok, listed.few), listed.kept, listed.used) in
     let took = c.in_err-taken.ensures in
     let refused = subst (λ (q : List ℕ). NotReached (at c.read_indexes.new.files) (at c.take_folder.new.files) q c.in_err-taken.field-0.0) c.as_str.ensures took.err in
     record { ends = λ k o. rw (p.1, p.2) (inr (record { disk = _; dial = _; out = _; gave = c.in_ok-listed.listed.items; did = (read, refl, refl); then = inl ((refused, took.kept), refl, refl) })) }
@@ -37,7 +37,7 @@ returns-in_err-prune_taken g c =
     let at = g.F.Files.disk in
     let listed = c.in_ok-listed.ensures in
     let ls = c.in_ok-listed.listed.items in
-    let read = subst (λ (qs : List (List ℕ)). IndexesRead qs (at c.args.files.now) (Ok ls) (at c.read_indexes.new.files)) c.as_slice.ensures ((listed.ok, listed.few), listed.kept) in
+    let read = subst (λ (qs : List (List ℕ)). IndexesRead qs (at c.args.files.now) (Ok ls) (at c.read_indexes.new.files)) c.as_slice.ensures ((listed.ok, listed.few), listed.kept, listed.used) in
     let took = c.in_ok-taken.ensures in
     let held = g.F.Folder.Look.files c.in_ok-taken.taken in
     let told : has_id c.in-Ok.keep ≡ is_listed_in c.deref.result.now = (λ i q. (c.in-Ok.ensures.value q) i) in
@@ -54,7 +54,7 @@ returns g c =
     let at = g.F.Files.disk in
     let listed = c.in_ok-listed.ensures in
     let ls = c.in_ok-listed.listed.items in
-    let read = subst (λ (qs : List (List ℕ)). IndexesRead qs (at c.args.files.now) (Ok ls) (at c.read_indexes.new.files)) c.as_slice.ensures ((listed.ok, listed.few), listed.kept) in
+    let read = subst (λ (qs : List (List ℕ)). IndexesRead qs (at c.args.files.now) (Ok ls) (at c.read_indexes.new.files)) c.as_slice.ensures ((listed.ok, listed.few), listed.kept, listed.used) in
     let took = c.in_ok-taken.ensures in
     let held = g.F.Folder.Look.files c.in_ok-taken.taken in
     let told : has_id c.in-Ok.keep ≡ is_listed_in c.deref.result.now = (λ i q. (c.in-Ok.ensures.value q) i) in

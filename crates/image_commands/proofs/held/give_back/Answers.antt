@@ -1,0 +1,39 @@
+use Rattle.std.proofs.Common.{ℕ, List, IsSome}
+use Rattle.command_steps.proofs.Cached.{given_adds}
+use Rattle.command_steps.proofs.Given.{all_later}
+use Rattle.chunk_sources.specs.Caches.{seen}
+use Rattle.image_commands.proofs.Seeded.{all_known_later}
+use Rattle.image_commands.proofs.held.give_back.Goals as goal
+use Rattle.image_commands.specs.Held.{stores_of}
+
+pub close_sources-requires : goal.close_sources-requires
+close_sources-requires g c =
+    let at = g.F.Files.disk in
+    let o = seen g.F.Folder.Look.files g.F.Folder.Look.place g.F.Folder.Look.faults c.args.held.shelf in
+    let gave = given_adds o (at c.args.files.now) (at c.give_cache.new.files) c.give_cache.ensures.given in
+    record { known = all_later (at c.args.files.now).folder_counts (at c.give_cache.new.files).folder_counts gave.folder_known (stores_of g.F.Look.Look c.args.held) c.requires.given.stores }
+
+pub close_seeds-requires : goal.close_seeds-requires
+close_seeds-requires g c =
+    let at = g.F.Files.disk in
+    let o = seen g.F.Folder.Look.files g.F.Folder.Look.place g.F.Folder.Look.faults c.args.held.shelf in
+    let gave = given_adds o (at c.args.files.now) (at c.give_cache.new.files) c.give_cache.ensures.given in
+    record { known = all_known_later g.F.View.View.held (at c.args.files.now).file_counts (at c.close_sources.new.files).file_counts (λ q is. c.close_sources.ensures.kept.0.disk.known q (gave.known q is)) c.args.held.seeds.items c.requires.given.seeds }
+
+pub returns : goal.returns
+returns g c =
+    let at = g.F.Files.disk in
+    record {
+      given = record {
+        cached = at c.give_cache.new.files;
+        cache = c.give_cache.ensures.given;
+        closed = at c.close_sources.new.files;
+        stores = c.close_sources.ensures.kept;
+        counts = c.close_sources.ensures.counts;
+        given = c.close_sources.ensures.given;
+        ended = c.close_sources.ensures.ended;
+        seeds = c.close_seeds.ensures.kept;
+        folder_counts = c.close_seeds.ensures.counts;
+        added = c.close_seeds.ensures.added;
+      };
+    }

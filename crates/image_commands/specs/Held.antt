@@ -1,0 +1,70 @@
+-- What an extraction holds while it runs: its stores, the shelf of its cache, and the images of its seeds.
+use Rattle.std.specs.Prelude.{◌≡◌, ◌⊎◌, ℕ, ◌≤◌, List, [], All, IfSome, IsSome, Option, Ok, Err, map, vec_capacity}
+use Rattle.std.specs.List.{fold}
+use Rattle.std.specs.Map.{count_at}
+use Rattle.std.specs.Option.{option_map}
+use Rattle.chunk_sources.specs.Caches.{seen}
+use Rattle.chunk_store.specs.declared.id.DigestKind.TheVariants as kinds
+use Rattle.command_steps.specs.AnyStores.{IsGiven, IsKnown, IsUnused, source_faults, source_files, location_in}
+use Rattle.command_steps.specs.AnyStores.{with_those}
+use Rattle.command_steps.specs.Cache.{CacheGiven, CacheOpened, with_cache}
+use Rattle.command_steps.specs.Seeds.{SeedsKnown, label_in}
+use Rattle.command_steps.specs.Sources.{ConsultsStores, Sources, SourcesOpened, sources, location_files}
+use Rattle.command_words.specs.declared.command.Location.{Location}
+use Rattle.command_worlds.specs.Worlds.{Reads, Step}
+use Rattle.dsy_base.specs.Counts.{raised}
+use Rattle.dsy_base.specs.Disk.{Disk}
+use Rattle.dsy_base.specs.Links.{DialState}
+use Rattle.dsy_base.specs.declared.look.Look.{Ghosts as LookWords}
+use Rattle.dsy_base.specs.declared.view.View.{Ghosts as ViewWords}
+use Rattle.extract_plan.specs.Seeds.{faults_in}
+use Rattle.image_commands.specs.declared.held.Held.{Held}
+
+-- the stores were opened, and then the cache's folder was reached
+abbrev pub AllReached : List Location → Option (List ℕ) → Step Disk Unit
+AllReached stores cache d (Ok u) e = (m : Disk) × SourcesOpened stores d (Ok u) m × CacheOpened stores cache m (Ok u) e
+AllReached stores cache d (Err o) e = SourcesOpened stores d (Err o) e
+    ⊎ ((m : Disk) × SourcesOpened stores d (Ok tt) m × CacheOpened stores cache m (Err o) e)
+
+-- the words that name its stores
+abbrev pub stores_of : {L W V D K : Type 0} → LookWords L → Held L W V D K → List Location
+stores_of look h = map (location_in look.place) h.stores.items
+
+-- the disk with the cache's folder in its place again
+abbrev pub disk_with : {L W V D K : Type 0} → LookWords W → Held L W V D K → Disk → Disk
+disk_with folder h d = with_cache (seen folder.files folder.place folder.faults h.shelf) d
+
+-- all of it can be given back
+pub record CanBeGiven {L W V D K : Type 0} (look : LookWords L) (folder : LookWords W) (view : ViewWords V) (d : Disk)
+    (h : Held L W V D K) : Type 0 where
+  pub stores : All (IsKnown d.folder_counts) (stores_of look h)
+  pub named : option_map (λ s. folder.place s.folder) h.shelf ≡ h.cache
+  pub cache : IfSome h.cache (λ q. IsSome (d.folder_counts q))
+  pub seeds : SeedsKnown view.held d.file_counts h.seeds.items
+
+-- it was just reached: nothing was asked and nothing failed yet, no seed is open, and there is room for a kit
+pub record IsReached {L W V D K : Type 0} (look : LookWords L) (folder : LookWords W) (view : ViewWords V)
+    (state : D → DialState) (d : Disk) (h : Held L W V D K) : Type 0 where
+  pub lent : CanBeGiven look folder view d h
+  pub unused : All (IsUnused state) h.stores.items
+  pub fresh : map (source_faults look.faults state) h.stores.items ≡ map (λ q. 0) (stores_of look h)
+  pub shelf : IfSome h.shelf (λ s. (folder.faults s.folder ≡ 0) × (s.kind ≡ kinds.Sha512T256))
+  pub found : IfSome (disk_with folder h d).folders (λ m.
+      map (source_files look.files) h.stores.items ≡ map (location_files m) (stores_of look h))
+  pub none : h.seeds.items ≡ []
+  pub room : (h.kits.items ≡ []) × (1 ≤ vec_capacity h.kits)
+
+-- the cache's folder was given back, then the stores, and then the images of the seeds
+pub record IsGivenBack {L W V D K : Type 0} (look : LookWords L) (folder : LookWords W) (view : ViewWords V)
+    (state : D → DialState) (h : Held L W V D K) (w v : Sources) : Type 0 where
+  pub cached : Disk
+  pub cache : CacheGiven (seen folder.files folder.place folder.faults h.shelf) w.disk cached
+  pub closed : Disk
+  pub stores : ConsultsStores (stores_of look h) (sources cached w.dial) (sources closed v.dial)
+  pub counts : closed.file_counts ≡ cached.file_counts
+  pub given : All (IsGiven look.place look.faults state (sources cached w.dial) (sources closed v.dial)) h.stores.items
+  pub ended : v.dial.ended ≡ fold (with_those state) w.dial.ended h.stores.items
+  pub seeds : Reads closed v.disk
+  pub folder_counts : v.disk.folder_counts ≡ closed.folder_counts
+  pub added : All (λ s. raised (count_at closed.file_counts (label_in view.held s)) (faults_in view.faults s)
+      ≤ count_at v.disk.file_counts (label_in view.held s)) h.seeds.items
