@@ -30,7 +30,7 @@ fn answer_of(checked: Result<(), CheckFault>) -> Result<(), Outcome>
 
 // Holds the image against the index, and gives it back.
 #[tactic(auto, using(crate::proofs::VerifyIndex::checked))]
-fn check_image<F: Files>(
+fn check_view<F: Files>(
     alloc: Global,
     files: &mut F,
     index: &Index,
@@ -62,6 +62,6 @@ pub fn check_image<F: Files>(
 {
     let listed = load_index(alloc, files, index)?;
     let view = open_image(files, image)?;
-    check_image(alloc, files, &listed, view)?;
+    check_view(alloc, files, &listed, view)?;
     Ok(())
 }
