@@ -1,5 +1,6 @@
 -- `chop -s STORE INDEX IMAGE`. A name is its bytes; t are the image's bytes.
-use Rattle.std.specs.Prelude.{◌≡◌, ◌≢◌, ℕ, List, [], ◌∷◌, length, Option, Some, IfSome, Result, Ok, Err, OnErr}
+use Rattle.std.specs.Prelude.{◌≡◌, ◌≢◌, ℕ, ◌+◌, List, [], ◌∷◌, length, Option, Some, IfSome, IsTrue, not}
+use Rattle.std.specs.Prelude.{Result, Ok, Err, OnErr}
 use Rattle.caibx_codec.specs.Listing.{Listing, count_of, image_length}
 use Rattle.caibx_codec.specs.Right.{IsRight}
 use Rattle.chunk_store.specs.Folders.{chunks}
@@ -7,14 +8,16 @@ use Rattle.command_outcome.specs.declared.outcome.Outcome.{Outcome}
 use Rattle.command_outcome.specs.declared.outcome.Outcome.TheVariants as ends
 use Rattle.command_steps.specs.Asking.{Asks, EachDialed}
 use Rattle.command_steps.specs.InputFiles.{ImageOpened, IndexRead, IsListed}
-use Rattle.command_steps.specs.Sources.{OnSources, Sources, StoreRose}
+use Rattle.command_steps.specs.Sources.{OnSources, Sources, StoreRose, said_at}
+use Rattle.command_steps.specs.Stores.{is_folder}
 use Rattle.command_worlds.specs.Steps.{◌>>=◌}
 use Rattle.command_steps.specs.TakenStores.{SourceTaken}
 use Rattle.command_worlds.specs.Worlds.{FileRose, OnDisk, Step, World}
 use Rattle.command_words.specs.declared.command.Location.{Location}
 use Rattle.image_commands.specs.Make.{AnySaid, WritesStore, StoreGiven}
 use Rattle.dsy_base.specs.Maps.{Map}
-use Rattle.image_store.specs.Chopping.{IsMismatch, StopsInOrder, most_seen, seen_to, times_listed}
+use Rattle.image_store.specs.Chopping.{AreRightTo, IsMismatch, SaysBefore, StopsInOrder, most_seen, seen_to}
+use Rattle.image_store.specs.Chopping.{times_listed}
 use Rattle.image_store.specs.PutChunks.{HoldsAll, PutsFiles, SaysAll, Stands}
 use Rattle.image_store.specs.declared.chop.ChopFault.{ChopFault}
 use Rattle.image_store.specs.declared.chop.ChopFault.TheVariants as faults
@@ -57,10 +60,28 @@ module _ (l : Listing) (image : List ℕ) (told : Option (List ℕ)) (store : Lo
   GetsEntries w v =
       EachDialed (Asks (times_listed l (count_of l)) (λ id. 0)) (store ∷ []) w.dial.ended v.dial.ended
 
+  -- chopping into a server ended at this entry: those before it are right, and of their chunks the server has taken or
+  -- shown bytes of the listed names; it was asked for these and for that of the entry alone
+  pub record StopsAtServer (w v : Sources) : Type 0 where
+    pub entry : ℕ
+    pub right : AreRightTo l entry told
+    pub says : SaysBefore l entry (said_at w v store)
+    pub gets : EachDialed (Asks (times_listed l (entry + 1)) (λ id. 0)) (store ∷ []) w.dial.ended v.dial.ended
+
   abbrev pub ImageChopped : Step Sources Unit
   ImageChopped w (Ok u) v = IfSome told (λ t. IsRight t l) × ChopGiven (Ok u) w v × WritesStore store w v
       × GetsEntries w v
   ImageChopped w (Err o) v = NotChopped w v o × WritesStore store w v × GetsEntries w v
+      × (IsTrue (not (is_folder store)) → StopsAtServer w v)
+
+-- the answer of a chop
+abbrev pub answer_of_chop : Result Unit ChopFault → Result Unit Outcome
+answer_of_chop (Ok u) = Ok tt
+answer_of_chop (Err (faults.Length n)) = Err (ends.Length n)
+answer_of_chop (Err (faults.Mismatch k got)) = Err (ends.Mismatch k got)
+answer_of_chop (Err faults.ImageFault) = Err ends.ImageFault
+answer_of_chop (Err faults.StoreFault) = Err (ends.StoreFault 0)
+answer_of_chop (Err faults.Memory) = Err ends.Memory
 
 -- ---- the command
 

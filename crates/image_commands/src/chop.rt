@@ -4,7 +4,7 @@ ghost use Rattle.std.specs.Prelude.{◌≡◌, IsSome};
 ghost use Rattle.command_steps.specs.AnyStores.{IsKnown, IsUnused, source_faults, source_files, location_in};
 ghost use Rattle.command_steps.specs.Sources.{sources};
 ghost use Rattle.command_worlds.specs.Worlds.{world};
-ghost use Rattle.image_commands.specs.Chop.{ChopEnds, ImageChopped};
+ghost use Rattle.image_commands.specs.Chop.{ChopEnds, ImageChopped, answer_of_chop};
 ghost use Rattle.dsy_base.specs.Disk.{Output};
 
 use crate::store_with_image::{give_with_image, take_with_image};
@@ -21,6 +21,20 @@ use dsy_base::name::Name;
 use dsy_base::view::View;
 use image_store::chop::{ChopFault, chop};
 use std::alloc::Global;
+
+// The answer of a chop.
+fn answer_of(chopped: Result<(), ChopFault>) -> Result<(), Outcome>
+    ensures { result ≡ answer_of_chop chopped }
+{
+    match chopped {
+        Ok(()) => Ok(()),
+        Err(ChopFault::Length { size }) => Err(Outcome::Length { size }),
+        Err(ChopFault::Mismatch { entry, got }) => Err(Outcome::Mismatch { entry, got }),
+        Err(ChopFault::ImageFault) => Err(Outcome::ImageFault),
+        Err(ChopFault::StoreFault) => Err(Outcome::StoreFault { store: 0 }),
+        Err(ChopFault::Memory) => Err(Outcome::Memory),
+    }
+}
 
 // Chops the image into the store that was taken. Image and store are given back, whatever the answer is.
 fn chop_between<F: Files, D: Dial>(
@@ -43,16 +57,7 @@ fn chop_between<F: Files, D: Dial>(
 {
     let chopped = chop(alloc, index, &mut view, &mut taken);
     give_with_image(files, dial, view, store, taken);
-    match chopped {
-        Ok(()) => Ok(()),
-        Err(fault) => match fault {
-            ChopFault::Length { size } => Err(Outcome::Length { size }),
-            ChopFault::Mismatch { entry, got } => Err(Outcome::Mismatch { entry, got }),
-            ChopFault::ImageFault => Err(Outcome::ImageFault),
-            ChopFault::StoreFault => Err(Outcome::StoreFault { store: 0 }),
-            ChopFault::Memory => Err(Outcome::Memory),
-        },
-    }
+    answer_of(chopped)
 }
 
 /// Puts the chunks of IMAGE that INDEX lists into STORE, in order, up to the first that isn't IMAGE's. What STORE holds
