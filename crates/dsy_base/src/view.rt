@@ -1,7 +1,7 @@
 //! Bytes that are read and written by place. Offsets are bytes from 0, ends are exclusive.
 
-ghost use Rattle.std.specs.Prelude.{◌≡◌, ℕ, Bool, IsTrue, List, ◌+◌, ◌≤◌, length, slice_range, is_some, IfSome, OnOk};
-ghost use Rattle.std.specs.Prelude.{OnErr, IfOk, IfErr, map};
+ghost use Rattle.std.specs.Prelude.{◌≡◌, ℕ, Bool, IsTrue, List, ◌+◌, ◌^◌, ◌<◌, ◌≤◌, length, slice_range};
+ghost use Rattle.std.specs.Prelude.{is_some, IfSome, OnOk, OnErr, IfOk, IfErr, map};
 ghost use Rattle.std.specs.List.{sum_by, All};
 ghost use Rattle.dsy_base.specs.Bytes.{Held, held_written, held_resized};
 ghost use Rattle.dsy_base.specs.Counts.{CountsFaults, CountsRefusals, raised};
@@ -83,6 +83,7 @@ pub trait Target: Part {
           name = (Self.held self).name;
           faults = Self.faults self;
         }) }
+        ensures counted { IfOk result (λ r. (left r.0).faults < 2 ^ 64) }
         ensures parts { IfOk result (λ r. map (λ p. extent (Self.Piece.held p)) r.1.items
             ≡ extents (Self.held self).bytes 0 cuts.now) }
         ensures fresh { IfOk result (λ r. All (λ p. Self.Piece.faults p ≡ 0) r.1.items) }
