@@ -1,13 +1,9 @@
 -- A target past its old length, after its length was set.
-use Rattle.std.proofs.Common.{◌≡◌, ◌≢◌, ℕ, ◌+◌, ◌-◌, ◌<◌, ◌≤◌, List, ◌++◌, length, take, drop, replicate, Option, Some, None, IfSome, sym, ap, subst, ◌∙◌, inl, inr, arith, length-append}
+use Rattle.std.proofs.Common.{◌≡◌, ℕ, ◌+◌, ◌-◌, ◌<◌, ◌≤◌, List, ◌++◌, length, take, drop, replicate, Option, Some, None, IfSome, sym, ap, subst, ◌∙◌, inl, inr, arith, length-append}
 use Rattle.std.proofs.lemmas.Bool.{cases_lt}
 use Rattle.std.proofs.lemmas.List.{take-replicate, drop-replicate, take_all, length-take, length-replicate}
 use Rattle.std.proofs.Math.Seq.{drop-append-add}
 use Rattle.std.specs.Option.{option_map}
-use Rattle.caibx_codec.specs.Listing.{Listing, Rules, count_of, start_of, end_of, size_of, id_of, kind_of, slice_of, image_length}
-use Rattle.caibx_codec.specs.Right.{IsRightAt}
-use Rattle.chunk_store.specs.Names.{name_of}
-use Rattle.chunk_store.specs.declared.id.DigestKind.TheVariants as kinds
 use Rattle.dsy_base.specs.Bytes.{Held, resized}
 use Rattle.range_survey.specs.Zeros.{ZerosFrom}
 
@@ -45,19 +41,3 @@ zeros_then (Some o) h n size is sized = rw is (subst (λ (k : ℕ). ZerosFrom k 
 -- told bytes are as many as the size says
 pub as_long : (h : Held) (n : ℕ) → h.size ≡ n → IfSome h.bytes (λ t. length t ≡ h.size) → IfSome h.bytes (λ t. length t ≡ n)
 as_long h n is sized = rw is at sized
-
--- a range past the old length is zeros
-slice_zeros : (l : Listing) (rules : Rules l) (i old : ℕ) → i < count_of l → old ≤ start_of l i → (t : List ℕ) → length t ≡ image_length l → ZerosFrom old t
-    → slice_of l t i ≡ replicate (size_of l i) 0
-slice_zeros l rules i old lt past t size zeros =
-    zeros (start_of l i) (end_of l i) past (omega (arith, rules.rises i lt)) (omega (arith, size, rules.inside i lt))
-
--- an entry there isn't right where so many zeros have another name
-pub zeros_misnamed : (l : Listing) (rules : Rules l) (i old : ℕ) → i < count_of l → old ≤ start_of l i
-    → (name : List ℕ) → name ≡ name_of kinds.Sha512T256 (replicate (size_of l i) 0) → name ≢ id_of l i → (X : Type 0)
-    → (now : Option (List ℕ)) → IfSome now (λ t. length t ≡ image_length l) → IfSome now (ZerosFrom old) → IfSome now (λ t. IsRightAt t l i → X)
-zeros_misnamed l rules i old lt past name named other X None size zeros = tt
-zeros_misnamed l rules i old lt past name named other X (Some t) size zeros = λ right.
-    let is : name_of (kind_of l) (slice_of l t i) ≡ name_of kinds.Sha512T256 (replicate (size_of l i) 0) =
-    ap (name_of kinds.Sha512T256) (slice_zeros l rules i old lt past t size zeros) in
-    absurd (other (named ∙ sym is ∙ right))

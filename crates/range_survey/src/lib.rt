@@ -3,6 +3,7 @@
 
 pub mod fate;
 mod fed_zeros;
+pub mod look;
 pub mod report;
 pub mod survey;
 pub mod zeros;

@@ -1,7 +1,7 @@
 //! What an assembly did, in numbers of entries.
 
-ghost use Rattle.std.specs.Prelude.{◌≡◌, ℕ, ◌+◌, ◌<◌, length, true};
-ghost use Rattle.range_survey.specs.Reports.{tally};
+ghost use Rattle.std.specs.Prelude.{◌≡◌, ℕ, ◌+◌, ◌^◌, ◌<◌, length, true};
+ghost use Rattle.range_survey.specs.Reports.{one_if, tally};
 ghost use Rattle.range_survey.specs.Fates.{settled};
 ghost use Rattle.range_survey.specs.declared.fate.Fate.TheVariants as fate;
 
@@ -23,7 +23,8 @@ pub struct Report {
 }
 
 impl Report {
-    fn new() -> Report
+    /// No entries yet.
+    pub fn new() -> Report
         ensures { result ≡ record { kept = 0; copied = 0; seeded = 0; cached = 0; fetched = 0 } }
     {
         Report {
@@ -32,6 +33,26 @@ impl Report {
             seeded: 0,
             cached: 0,
             fetched: 0,
+        }
+    }
+
+    /// Counts one entry more, which has this fate.
+    pub fn count(&mut self, one: Fate)
+        requires few { self.old.kept + self.old.copied + self.old.seeded + self.old.cached + self.old.fetched + 1
+            < 2 ^ 64 }
+        ensures kept { self.new.kept ≡ self.old.kept + one_if fate.Kept one }
+        ensures copied { self.new.copied ≡ self.old.copied + one_if fate.Copied one }
+        ensures seeded { self.new.seeded ≡ self.old.seeded + one_if fate.Seeded one }
+        ensures cached { self.new.cached ≡ self.old.cached + one_if fate.Cached one }
+        ensures fetched { self.new.fetched ≡ self.old.fetched + one_if fate.Fetched one }
+    {
+        match one {
+            Fate::Open => {}
+            Fate::Kept => self.kept += 1,
+            Fate::Copied => self.copied += 1,
+            Fate::Seeded => self.seeded += 1,
+            Fate::Cached => self.cached += 1,
+            Fate::Fetched => self.fetched += 1,
         }
     }
 
@@ -47,14 +68,7 @@ impl Report {
     {
         let mut report = Report::new();
         for i in 0..fates.len() {
-            match fates[i] {
-                Fate::Open => {}
-                Fate::Kept => report.kept += 1,
-                Fate::Copied => report.copied += 1,
-                Fate::Seeded => report.seeded += 1,
-                Fate::Cached => report.cached += 1,
-                Fate::Fetched => report.fetched += 1,
-            }
+            report.count(fates[i]);
         }
         report
     }

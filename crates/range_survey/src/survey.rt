@@ -13,50 +13,12 @@ ghost use Rattle.range_survey.specs.Fates.{FirstFates, SettledRight, OpenWrong, 
 ghost use Rattle.range_survey.specs.Zeros.{ZerosFrom, IsTabled, zeros_at};
 
 use crate::fate::Fate;
+use crate::look::has_digest;
 use crate::zeros::ZeroNames;
-use caibx_codec::index::{Index, Listed};
-use chunk_store::id::{ChunkId, DigestKind};
-use chunk_store::range::name_range;
+use caibx_codec::index::Index;
 use dsy_base::fault::{Failed, IoFault};
 use dsy_base::view::{Target, View};
 use std::alloc::Global;
-
-// Whether the range at `start` has the name. It is read into `chunk`. A failed read doesn't show that it has.
-fn has_name<T: View>(
-    target: &mut T,
-    kind: DigestKind,
-    id: &ChunkId,
-    start: u64,
-    chunk: &mut [u8],
-) -> bool
-    requires inside { start + length chunk.old ≤ (T.held target.old).size }
-    ensures yes { result ≡ true → IfSome (T.held target.old).bytes
-        (λ t. name_of kind (slice_range t start (start + length chunk.old)) ≡ id.now.0) }
-    ensures no { result ≡ false → IfSome (T.held target.old).bytes
-        (λ t. name_of kind (slice_range t start (start + length chunk.old)) ≡ id.now.0 →
-        Rose (T.faults target.old) (T.faults target.new)) }
-    ensures kept { T.held target.new ≡ T.held target.old }
-    ensures faults { T.faults target.old ≤ T.faults target.new }
-{
-    match name_range(target, kind, start, chunk) {
-        Ok(name) => name.is(id),
-        Err(Failed) => false,
-    }
-}
-
-// The name of so many zeros as the entry has bytes, where it begins at or past `old` and the table has its size.
-fn tabled_name(zeros: &ZeroNames, index: &Index, old: u64, i: usize) -> Option<ChunkId>
-    requires listed { i < count_of index.now }
-    ensures found { OnSome result (IsTabled zeros.now index.now old i) }
-    ensures known { IsTabled zeros.now index.now old i → IsSome result }
-    ensures value { IfSome result (λ id. id.0 ≡ name_of kinds.Sha512T256 (replicate (size_of index.now i) 0)) }
-{
-    let listed = index.entry(i);
-    if listed.start < old {
-        return None;
-    }
-    zeros.name(listed.size)
-}
 
 // Whether entry i is right. A range of zeros of which the table has the name isn't read.
 fn is_right<T: View>(
@@ -79,13 +41,10 @@ fn is_right<T: View>(
     ensures faults { T.faults target.old ≤ T.faults target.new }
 {
     index.rules();
-    let Listed { start, size, id } = index.entry(i);
-    match tabled_name(zeros, index, old, i) {
-        Some(name) => name.is(&id),
-        None => {
-            let (chunk, _) = buf.split_at_mut(size);
-            has_name(target, index.kind(), &id, start, chunk)
-        }
+    let start = index.entry(i).start;
+    match has_digest(zeros, index, old, i, target, start, buf) {
+        Ok(right) => right,
+        Err(Failed) => false,
     }
 }
 
