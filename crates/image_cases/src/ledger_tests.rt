@@ -12,7 +12,9 @@ use dsy_base::view::{Part, View};
 use extract_plan::plan::Plan;
 use range_ledger::run::RunName;
 use range_ledger::shard::Shard;
-use range_ledger::unread::{Surveyed, Unread, shard_size};
+use range_ledger::unread::{Surveyed, Unread, open_fates, shard_size};
+use range_survey::fate::Fate;
+use range_survey::zeros::ZeroNames;
 use std::alloc::Global;
 use std::marker::Brand;
 use std::process::Abort;
@@ -32,7 +34,7 @@ fn puts<P: Part, R: RunName>(
 {
     assert!(rt; entry < index.count() && plan.shard_of(entry) == shard.number());
     assert!(rt; index.entry(entry).size == chunk.len());
-    shard.put(entry, chunk).is_ok()
+    shard.put(entry, chunk, Fate::Fetched).is_ok()
 }
 
 // The entry is settled, and reads as these bytes.
@@ -69,13 +71,12 @@ fn surveyed<'a, R: RunName>(
     let Ok(mut buf) = index.room(alloc) else {
         panic!(rt; "no memory");
     };
-    match Unread::<MemTarget, R>::new(alloc, index, plan, 0, part) {
-        Ok(mut unread) => {
-            same(rt, unread.survey(&mut buf), found);
-            unread.begin()
-        }
-        Err(_) => panic!(rt; "no memory"),
-    }
+    let fates = ok(rt, open_fates::<R>(alloc, index, plan, 0));
+    let zeros = ok(rt, ZeroNames::of(alloc, index, index.length(), &mut buf));
+    index.rules();
+    let mut unread = Unread::<MemTarget, R>::new(index, plan, 0, part, fates);
+    same(rt, unread.survey(&zeros, index.length(), &mut buf), found);
+    unread.begin()
 }
 
 // Entries 0 and 2 are right at first. The first put into entry 1 fails.

@@ -1,5 +1,5 @@
 -- A survey as far as it has come: its first k entries were looked at.
-use Rattle.std.proofs.Common.{◌≡◌, ℕ, zero, suc, ◌+◌, ◌-◌, ◌^◌, ◌<◌, ◌≤◌, Bool, true, false, List, [], ◌∷◌, length, get_or, Option, Some, None, IfSome, IsTrue, Result, Ok, Err, if◌then◌else◌, refl, sym, ap, subst, ◌∙◌, ◌⊎◌, inl, inr, arith}
+use Rattle.std.proofs.Common.{◌≡◌, ℕ, zero, suc, ◌+◌, ◌-◌, ◌^◌, ◌<◌, ◌≤◌, Bool, true, false, List, [], ◌∷◌, length, Option, Some, None, IfSome, IsTrue, Result, Ok, Err, if◌then◌else◌, refl, sym, ap, subst, ◌∙◌, ◌⊎◌, inl, inr, arith}
 use Rattle.std.specs.Prelude.{OnErr}
 use Rattle.std.proofs.lemmas.Bool.{cases_eq, true≢false}
 use Rattle.dsy_base.specs.Bytes.{Held}
@@ -7,35 +7,37 @@ use Rattle.dsy_base.specs.Counts.{CountsRefusals, Rose}
 use Rattle.dsy_base.specs.declared.fault.Failed.{Failed}
 use Rattle.caibx_codec.specs.Listing.{kind_of, slice_of}
 use Rattle.chunk_store.specs.Names.{name_of}
+use Rattle.range_survey.specs.Fates.{settled}
+use Rattle.range_survey.specs.declared.fate.Fate.{Fate}
 use Rattle.range_ledger.proofs.Keeps.{same_seen}
 use Rattle.range_ledger.proofs.Surveys.{slice_base}
 use Rattle.range_ledger.specs.Extents.{IsRightIn}
-use Rattle.range_ledger.specs.Runs.{Run, Seen, Has, IsDealtShard, IsKept, IsOneOf, IsUnread, SettlesOne, WasSurveyed, WhereTold, base_in, extent_of, first_in, is_settled, settled_below, slice_at}
+use Rattle.range_ledger.specs.Runs.{Run, Seen, Has, IsDealtShard, IsKept, IsOneOf, IsUnread, SettlesOne, WasSurveyed, WhereTells, base_in, extent_of, first_in, has_settled, settled_below, slice_at}
 use Rattle.range_ledger.specs.declared.unread.Surveyed.{Surveyed}
 
 -- the part with these marks and this count
-abbrev pub marked : Seen → List Bool → ℕ → Seen
-marked old marks faults = record { number = old.number; settled = marks; faults = faults; held = old.held }
+abbrev pub marked : Seen → List Fate → ℕ → Seen
+marked old marks faults = record { number = old.number; fates = marks; faults = faults; held = old.held }
 
 -- each entry so far that is right in t and isn't settled is one on which a read has failed
-pub record Misses (r : Run) (old : Seen) (marks : List Bool) (faults : ℕ) (flag : Bool) (k : ℕ) (t : List ℕ) : Type 0 where
+pub record Misses (r : Run) (old : Seen) (marks : List Fate) (faults : ℕ) (flag : Bool) (k : ℕ) (t : List ℕ) : Type 0 where
   pub failed : List ℕ
   pub few : (length failed + old.faults ≤ faults) ⊎ (2 ^ 64 ≤ faults + 1)
   pub none : flag ≡ false → failed ≡ []
-  pub missed : (e : ℕ) → Has r old e → e < first_in r old.number + k → is_settled r (marked old marks faults) e ≡ false
+  pub missed : (e : ℕ) → Has r old e → e < first_in r old.number + k → has_settled r (marked old marks faults) e ≡ false
       → IsRightIn (extent_of r old.number) t e → IsOneOf failed e
 
-pub record Surveying (r : Run) (old : Seen) (marks : List Bool) (faults : ℕ) (found : Surveyed) (k : ℕ) : Type 0 where
-  pub size : length marks ≡ length old.settled
+pub record Surveying (r : Run) (old : Seen) (marks : List Fate) (faults : ℕ) (found : Surveyed) (k : ℕ) : Type 0 where
+  pub size : length marks ≡ length old.fates
   pub never_falls : old.faults ≤ faults
-  pub later : (e : ℕ) → Has r old e → first_in r old.number + k ≤ e → is_settled r (marked old marks faults) e ≡ false
+  pub later : (e : ℕ) → Has r old e → first_in r old.number + k ≤ e → has_settled r (marked old marks faults) e ≡ false
   pub count : found.settled ≡ settled_below r (marked old marks faults) k
   pub few : found.settled ≤ k
   pub rose : found.failed ≡ true → Rose old.faults faults
   pub quiet : found.failed ≡ false → faults ≡ old.faults
   pub told : IsTrue r.tells → IfSome old.held.bytes (Misses r old marks faults found.failed k)
 
-pub begins : (r : Run) (old : Seen) → ((e : ℕ) → is_settled r old e ≡ false) → Surveying r old old.settled old.faults (record { settled = 0; failed = false }) 0
+pub begins : (r : Run) (old : Seen) → ((e : ℕ) → has_settled r old e ≡ false) → Surveying r old old.fates old.faults (record { settled = 0; failed = false }) 0
 begins r old none = record {
   size = refl;
   never_falls = omega arith;
@@ -46,7 +48,7 @@ begins r old none = record {
   quiet = λ e. refl;
   told = λ tells. some old.held.bytes;
 } where
-  some : (o : Option (List ℕ)) → IfSome o (Misses r old old.settled old.faults false 0)
+  some : (o : Option (List ℕ)) → IfSome o (Misses r old old.fates old.faults false 0)
   some None = tt
   some (Some t) = record {
     failed = [];
@@ -56,20 +58,20 @@ begins r old none = record {
   }
 
 -- marks that agree below k count alike
-same_below : (r : Run) (a b : Seen) → a.number ≡ b.number → (k : ℕ) → ((j : ℕ) → j < k → is_settled r a (first_in r b.number + j) ≡ is_settled r b (first_in r b.number + j))
+same_below : (r : Run) (a b : Seen) → a.number ≡ b.number → (k : ℕ) → ((j : ℕ) → j < k → has_settled r a (first_in r b.number + j) ≡ has_settled r b (first_in r b.number + j))
     → settled_below r a k ≡ settled_below r b k
 same_below r a b number zero h = refl
 same_below r a b number (suc k) h =
     let rest = same_below r a b number k (λ j lt. h j (omega (arith, lt))) in
-    let at : is_settled r a (first_in r a.number + k) ≡ is_settled r b (first_in r b.number + k) =
-    ap (λ n. is_settled r a (first_in r n + k)) number ∙ h k (omega arith) in
-    ap (λ n. n + (if is_settled r a (first_in r a.number + k) then 1 else 0)) rest ∙ ap (λ m. settled_below r b k + (if m then 1 else 0)) at
+    let at : has_settled r a (first_in r a.number + k) ≡ has_settled r b (first_in r b.number + k) =
+    ap (λ n. has_settled r a (first_in r n + k)) number ∙ h k (omega arith) in
+    ap (λ n. n + (if has_settled r a (first_in r a.number + k) then 1 else 0)) rest ∙ ap (λ m. settled_below r b k + (if m then 1 else 0)) at
 
 on_some : {P Q : List ℕ → Type 0} (o : Option (List ℕ)) → IfSome o P → ((t : List ℕ) → o ≡ Some t → P t → Q t) → IfSome o Q
 on_some None h f = tt
 on_some (Some t) h f = f t refl h
 
-module _ (r : Run) (old : Seen) (k : ℕ) (has : Has r old (first_in r old.number + k)) (marks marks' : List Bool) (faults faults' : ℕ) (found found' : Surveyed)
+module _ (r : Run) (old : Seen) (k : ℕ) (has : Has r old (first_in r old.number + k)) (marks marks' : List Fate) (faults faults' : ℕ) (found found' : Surveyed)
     (is : Surveying r old marks faults found k) (le : faults ≤ faults') where
   -- the entry was right
   pub found_right : SettlesOne r (marked old marks faults) (marked old marks' faults') (first_in r old.number + k) → faults' ≡ faults
@@ -87,7 +89,7 @@ module _ (r : Run) (old : Seen) (k : ℕ) (has : Has r old (first_in r old.numbe
       few = elim m.few [ inl few ↦ inl (omega (arith, few, le)) | inr most ↦ inr (omega (arith, most, le)) ];
       none = λ f. m.none (sym flag ∙ f);
       missed = λ j at lt unset right. elim (cases_eq j (first_in r old.number + k)) [
-        | inl equal ↦ absurd (true≢false (sym (subst (λ i. is_settled r (marked old marks' faults') i ≡ true) (sym equal) one.this) ∙ unset))
+        | inl equal ↦ absurd (true≢false (sym (subst (λ i. has_settled r (marked old marks' faults') i ≡ true) (sym equal) one.this) ∙ unset))
         | inr differ ↦ m.missed j at (omega (arith, lt, differ)) (sym (one.others j at differ) ∙ unset) right
       ];
     });
@@ -104,12 +106,12 @@ module _ (r : Run) (old : Seen) (k : ℕ) (has : Has r old (first_in r old.numbe
 
   -- the entry wasn't right, or its read failed
   module _ (same : marks' ≡ marks) where
-    as_before : (i : ℕ) → is_settled r (marked old marks' faults') i ≡ is_settled r (marked old marks faults) i
-    as_before i = ap (λ xs. get_or xs (i - first_in r old.number) false) same
+    as_before : (i : ℕ) → has_settled r (marked old marks' faults') i ≡ has_settled r (marked old marks faults) i
+    as_before i = ap (λ xs. settled xs (i - first_in r old.number)) same
 
     counted' : settled_below r (marked old marks faults) k ≡ settled_below r (marked old marks' faults') (k + 1)
     counted' =
-        let open' : is_settled r (marked old marks' faults') (first_in r old.number + k) ≡ false = as_before _ ∙ is.later _ has (omega arith) in
+        let open' : has_settled r (marked old marks' faults') (first_in r old.number + k) ≡ false = as_before _ ∙ is.later _ has (omega arith) in
         let below = same_below r (marked old marks' faults') (marked old marks faults) refl k (λ j lt. as_before _) in
         let step : settled_below r (marked old marks' faults') k + 0 ≡ settled_below r (marked old marks' faults') (suc k) =
         ap (λ m. settled_below r (marked old marks' faults') k + (if m then 1 else 0)) (sym open') in
@@ -168,23 +170,23 @@ module _ (r : Run) (old : Seen) (k : ℕ) (has : Has r old (first_in r old.numbe
 -- one entry more was looked at, with this answer
 pub looked : (r : Run) (old : Seen) (k : ℕ) → Has r old (first_in r old.number + k) → (now now' : Seen) (found found' : Surveyed)
     → now.number ≡ old.number → now.held ≡ old.held → now'.number ≡ now.number → now'.held ≡ now.held
-    → Surveying r old now.settled now.faults found k → (answer : Result Bool Failed)
+    → Surveying r old now.fates now.faults found k → (answer : Result Bool Failed)
     → (answer ≡ Ok true → SettlesOne r now now' (first_in r old.number + k))
-    → (answer ≡ Ok false → (now'.settled ≡ now.settled) × WhereTold r now now' (λ t _. IsRightIn (extent_of r now.number) t (first_in r old.number + k) → ⊥))
-    → OnErr answer (now'.settled ≡ now.settled) → CountsRefusals now.faults now'.faults answer
+    → (answer ≡ Ok false → (now'.fates ≡ now.fates) × WhereTells r now now' (λ t _. IsRightIn (extent_of r now.number) t (first_in r old.number + k) → ⊥))
+    → OnErr answer (now'.fates ≡ now.fates) → CountsRefusals now.faults now'.faults answer
     → (answer ≡ Ok true → (found'.settled ≡ found.settled + 1) × (found'.failed ≡ found.failed))
     → (answer ≡ Ok false → found' ≡ found)
     → OnErr answer ((found'.settled ≡ found.settled) × (found'.failed ≡ true))
-    → Surveying r old now'.settled now'.faults found' (k + 1)
+    → Surveying r old now'.fates now'.faults found' (k + 1)
 looked r old k has now now' found found' number held number' held' is (Ok true) when_right when_wrong when_not counts add_right add_wrong add_not =
-    let here : marked old now.settled now.faults ≡ now = same_seen (marked old now.settled now.faults) now (sym number) refl refl (sym held) in
-    let there : marked old now'.settled now'.faults ≡ now' = same_seen (marked old now'.settled now'.faults) now' (sym number ∙ sym number') refl refl (sym held ∙ sym held') in
-    let one : SettlesOne r (marked old now.settled now.faults) (marked old now'.settled now'.faults) (first_in r old.number + k) =
-    subst (λ v. SettlesOne r v (marked old now'.settled now'.faults) (first_in r old.number + k)) (sym here)
+    let here : marked old now.fates now.faults ≡ now = same_seen (marked old now.fates now.faults) now (sym number) refl refl (sym held) in
+    let there : marked old now'.fates now'.faults ≡ now' = same_seen (marked old now'.fates now'.faults) now' (sym number ∙ sym number') refl refl (sym held ∙ sym held') in
+    let one : SettlesOne r (marked old now.fates now.faults) (marked old now'.fates now'.faults) (first_in r old.number + k) =
+    subst (λ v. SettlesOne r v (marked old now'.fates now'.faults) (first_in r old.number + k)) (sym here)
     (subst (λ v. SettlesOne r now v (first_in r old.number + k)) (sym there) (when_right refl)) in
-    found_right r old k has now.settled now'.settled now.faults now'.faults found found' is counts.never_falls one counts.done (add_right refl).0 (add_right refl).1
+    found_right r old k has now.fates now'.fates now.faults now'.faults found found' is counts.never_falls one counts.done (add_right refl).0 (add_right refl).1
 looked r old k has now now' found found' number held number' held' is (Ok false) when_right when_wrong when_not counts add_right add_wrong add_not =
-    found_wrong r old k has now.settled now'.settled now.faults now'.faults found found' is counts.never_falls (when_wrong refl).0 counts.done
+    found_wrong r old k has now.fates now'.fates now.faults now'.faults found found' is counts.never_falls (when_wrong refl).0 counts.done
     (λ tells. subst (λ n. IfSome old.held.bytes (λ t. IsRightIn (extent_of r n) t (first_in r old.number + k) → ⊥)) number
     (subst (λ (h : Held). IfSome h.bytes (λ t. IsRightIn (extent_of r now.number) t (first_in r old.number + k) → ⊥)) held (first_of _ now.held.bytes now'.held.bytes (ap (λ (h : Held). h.bytes) held') ((when_wrong refl).1 tells))))
     (add_wrong refl) where
@@ -194,11 +196,11 @@ looked r old k has now now' found found' number held number' held' is (Ok false)
         go None h = tt
         go (Some t) h = h
 looked r old k has now now' found found' number held number' held' is (Err e) when_right when_wrong when_not counts add_right add_wrong add_not =
-    found_none r old k has now.settled now'.settled now.faults now'.faults found found' is counts.never_falls when_not counts.cause add_not.0 add_not.1
+    found_none r old k has now.fates now'.fates now.faults now'.faults found found' is counts.never_falls when_not counts.cause add_not.0 add_not.1
 
 -- ---- all entries were looked at
 
-module _ (r : Run) (old : Seen) (dealt : IsDealtShard r old) (marks : List Bool) (faults : ℕ) (found : Surveyed)
+module _ (r : Run) (old : Seen) (dealt : IsDealtShard r old) (marks : List Fate) (faults : ℕ) (found : Surveyed)
     (is : Surveying r old marks faults found (length marks)) (unread : IsUnread r (marked old marks faults)) where
   all : (e : ℕ) → Has r old e → e < first_in r old.number + length marks
   all e has = omega (arith, has.to, dealt.count, is.size)
@@ -206,7 +208,7 @@ module _ (r : Run) (old : Seen) (dealt : IsDealtShard r old) (marks : List Bool)
   pub kept : WasSurveyed r (marked old marks faults)
   kept tells = go old.held.bytes (is.told tells) (unread.bytes tells) (λ e has set. unread.right e has set tells) where
     go : (o : Option (List ℕ)) → IfSome o (Misses r old marks faults found.failed (length marks)) → IfSome o (λ t. t ≡ base_in r old.number)
-        → ((e : ℕ) → Has r old e → is_settled r (marked old marks faults) e ≡ true → IfSome o (λ t. IsRightIn (extent_of r old.number) t e))
+        → ((e : ℕ) → Has r old e → has_settled r (marked old marks faults) e ≡ true → IfSome o (λ t. IsRightIn (extent_of r old.number) t e))
         → IfSome o (IsKept r (marked old marks faults))
     go None m b right = tt
     go (Some t) m b right = record {
@@ -221,17 +223,17 @@ module _ (r : Run) (old : Seen) (dealt : IsDealtShard r old) (marks : List Bool)
       slices e has = ap (λ u. slice_at r old u e) b ∙ slice_base r old dealt e has
 
       decide : (e : ℕ) → Has r old e → IsRightIn (extent_of r old.number) t e
-          → (is_settled r (marked old marks faults) e ≡ true) ⊎ IsOneOf m.failed e
-      decide e has named = pick (is_settled r (marked old marks faults) e) refl where
-        pick : (b : Bool) → is_settled r (marked old marks faults) e ≡ b → (is_settled r (marked old marks faults) e ≡ true) ⊎ IsOneOf m.failed e
+          → (has_settled r (marked old marks faults) e ≡ true) ⊎ IsOneOf m.failed e
+      decide e has named = pick (has_settled r (marked old marks faults) e) refl where
+        pick : (b : Bool) → has_settled r (marked old marks faults) e ≡ b → (has_settled r (marked old marks faults) e ≡ true) ⊎ IsOneOf m.failed e
         pick true s = inl s
         pick false s = inr (m.missed e has (all e has) s named)
 
   -- where no read failed, an entry that isn't settled isn't right
   pub wrong_left : found.failed ≡ false → IsTrue r.tells → IfSome old.held.bytes (λ t. (e : ℕ) → Has r old e
-      → is_settled r (marked old marks faults) e ≡ false → IsRightIn (extent_of r old.number) t e → ⊥)
+      → has_settled r (marked old marks faults) e ≡ false → IsRightIn (extent_of r old.number) t e → ⊥)
   wrong_left quiet tells = go old.held.bytes (is.told tells) where
     go : (o : Option (List ℕ)) → IfSome o (Misses r old marks faults found.failed (length marks))
-        → IfSome o (λ t. (e : ℕ) → Has r old e → is_settled r (marked old marks faults) e ≡ false → IsRightIn (extent_of r old.number) t e → ⊥)
+        → IfSome o (λ t. (e : ℕ) → Has r old e → has_settled r (marked old marks faults) e ≡ false → IsRightIn (extent_of r old.number) t e → ⊥)
     go None m = tt
     go (Some t) m = λ e has unset right. subst (λ es. IsOneOf es e) (m.none quiet) (m.missed e has (all e has) unset right)

@@ -1,5 +1,5 @@
 -- Where the entries of a shard lie among those of the index.
-use Rattle.std.proofs.Common.{◌≡◌, ℕ, zero, suc, ◌+◌, ◌-◌, ◌*◌, ◌/◌, ◌<◌, ◌≤◌, false, get_or, replicate, refl, ap, ◌∙◌, arith, length, subst, ◌⊎◌, inl, inr}
+use Rattle.std.proofs.Common.{◌≡◌, ℕ, zero, suc, ◌+◌, ◌-◌, ◌*◌, ◌/◌, ◌<◌, ◌≤◌, false, replicate, refl, ap, ◌∙◌, arith, length, subst, inl, inr}
 use Rattle.std.proofs.Math.Nat.{div-le_of_le-mul, div-mul-le_self}
 use Rattle.std.proofs.lemmas.Bool.{cases_eq}
 use Rattle.std.proofs.lemmas.List.{length-replicate}
@@ -7,8 +7,10 @@ use Rattle.std.proofs.lemmas.Nat.{le-div}
 use Rattle.caibx_codec.specs.Listing.{Listing, Rules, count_of, end_of, start_of}
 use Rattle.dsy_base.specs.Bytes.{Held}
 use Rattle.extract_plan.specs.Deal.{Deal, deal_shards, shard_start}
+use Rattle.range_survey.specs.Fates.{settled}
+use Rattle.range_survey.specs.declared.fate.Fate.TheVariants as fate
 use Rattle.range_ledger.specs.Extents.{IsValidExtent, length_in}
-use Rattle.range_ledger.specs.Runs.{Run, Seen, IsDealtShard, extent_of, first_in, is_settled}
+use Rattle.range_ledger.specs.Runs.{Run, Seen, IsDealtShard, extent_of, first_in, has_settled}
 
 start_inside : (n s k : ℕ) → k ≤ s → shard_start n s k ≤ n
 start_inside n s k h = let most : k * n ≤ s * n = grind arith in div-le_of_le-mul s most
@@ -27,27 +29,27 @@ valid_shard r k rules lt = record {
   some = start_rises (count_of r.listing) r.shards k (omega (arith, lt));
 }
 
-no_mark : (n i : ℕ) → get_or (replicate n false) i false ≡ false
-no_mark zero i = refl
-no_mark (suc n) zero = refl
-no_mark (suc n) (suc i) = no_mark n i
+none_set : (n i : ℕ) → settled (replicate n fate.Open) i ≡ false
+none_set zero i = refl
+none_set (suc n) zero = refl
+none_set (suc n) (suc i) = none_set n i
 
 -- a shard of which nothing is settled
 abbrev pub fresh : ℕ → ℕ → ℕ → Held → Seen
-fresh k n faults held = record { number = k; settled = replicate n false; faults = faults; held = held }
+fresh k n faults held = record { number = k; fates = replicate n fate.Open; faults = faults; held = held }
 
-pub none_settled : (r : Run) (k n faults : ℕ) (held : Held) (e : ℕ) → is_settled r (fresh k n faults held) e ≡ false
-none_settled r k n faults held e = no_mark n (e - first_in r k)
+pub none_settled : (r : Run) (k n faults : ℕ) (held : Held) (e : ℕ) → has_settled r (fresh k n faults held) e ≡ false
+none_settled r k n faults held e = none_set n (e - first_in r k)
 
 pub fresh_dealt : (r : Run) (k n faults : ℕ) (held : Held) → Rules r.listing → k < r.shards → first_in r k + n ≡ first_in r (k + 1)
     → held.size ≡ length_in (extent_of r k) → IsDealtShard r (fresh k n faults held)
 fresh_dealt r k n faults held rules lt count size = record {
   valid = valid_shard r k rules lt;
-  count = ap (λ m. first_in r k + m) (length-replicate n false) ∙ count;
+  count = ap (λ m. first_in r k + m) (length-replicate n fate.Open) ∙ count;
   size = size;
 }
 
-start_more : (n s k : ℕ) → 0 < s → s ≤ n → shard_start n s k < shard_start n s (k + 1)
+pub start_more : (n s k : ℕ) → 0 < s → s ≤ n → shard_start n s k < shard_start n s (k + 1)
 start_more n s k some full =
     let low : k * n / s * s ≤ k * n = div-mul-le_self (k * n) s in
     let more : (k + 1) * n ≡ k * n + n = grind arith in

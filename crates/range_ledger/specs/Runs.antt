@@ -1,11 +1,14 @@
 -- What a run is over, and what a shard keeps of it. Entries and shards count from 0.
-use Rattle.std.specs.Prelude.{◌≡◌, ◌≢◌, ◌⊎◌, ℕ, ◌+◌, ◌-◌, ◌^◌, ◌≤◌, List, [], ◌∷◌, length, get_or, slice_range}
+use Rattle.std.specs.Prelude.{◌≡◌, ◌≢◌, ◌⊎◌, ℕ, ◌+◌, ◌-◌, ◌^◌, ◌≤◌, List, [], ◌∷◌, length, replicate, slice_range}
 use Rattle.std.specs.Prelude.{Bool, true, false, IfSome, IsTrue, zero, suc, if◌then◌else◌}
 use Rattle.caibx_codec.specs.Listing.{Listing, count_of, id_of, kind_of, size_of, slice_of, start_of}
 use Rattle.caibx_codec.specs.Right.{IsRightAt}
 use Rattle.chunk_store.specs.Names.{name_of}
 use Rattle.dsy_base.specs.Bytes.{Held}
 use Rattle.extract_plan.specs.Deal.{Deal, deal_shards, shard_start}
+use Rattle.range_survey.specs.Fates.{settled}
+use Rattle.range_survey.specs.declared.fate.Fate.{Fate}
+use Rattle.range_survey.specs.declared.fate.Fate.TheVariants as fate
 use Rattle.range_ledger.specs.Extents.{Extent, IsIn, IsRightIn, IsValidExtent, length_in, slice_in}
 
 -- what a run is over: its index, the base's bytes, into how many shards it is cut, which entries may be filled, and
@@ -35,11 +38,15 @@ pub record IsDealt (r : Run) (l : Listing) (d : Deal) : Type 0 where
   pub entries : length d.want_of ≡ count_of r.listing
   pub shards : deal_shards d ≡ r.shards
 
--- what contracts see of a shard: its number, which of its entries are settled, how often its part has failed, and what
--- the part holds
+-- the fates of the entries of shard k before any is settled
+abbrev pub open_in : Run → ℕ → List Fate
+open_in r k = replicate (first_in r (k + 1) - first_in r k) fate.Open
+
+-- what contracts see of a shard: its number, what became of its entries, how often its part has failed, and what the
+-- part holds
 pub record Seen : Type 0 where
   pub number : ℕ
-  pub settled : List Bool
+  pub fates : List Fate
   pub faults : ℕ
   pub held : Held
 
@@ -48,12 +55,21 @@ abbrev pub Has : Run → Seen → ℕ → Type 0
 Has r s e = IsIn (extent_of r s.number) e
 
 -- whether entry e is settled in what is seen of a shard
-abbrev pub is_settled : Run → Seen → ℕ → Bool
-is_settled r s e = get_or s.settled (e - first_in r s.number) false
+abbrev pub has_settled : Run → Seen → ℕ → Bool
+has_settled r s e = settled s.fates (e - first_in r s.number)
 
 -- the bytes of the part that entry e covers
 abbrev pub slice_at : Run → Seen → List ℕ → ℕ → List ℕ
 slice_at r s t e = slice_in (extent_of r s.number) t e
+
+-- the range of entry e is zeros, if it begins at or past `old` in the target
+abbrev pub HasZeros : Run → ℕ → Seen → ℕ → Type 0
+HasZeros r old s e = old ≤ start_of r.listing e
+    → IfSome s.held.bytes (λ t. slice_at r s t e ≡ replicate (size_of r.listing e) 0)
+
+-- so is each range of it
+abbrev pub HasZerosFrom : Run → ℕ → Seen → Type 0
+HasZerosFrom r old s = (e : ℕ) → Has r s e → HasZeros r old s e
 
 -- a call on each of these entries has failed: they are no more than the count has risen from 0, unless that stands at
 -- its greatest value
@@ -71,17 +87,17 @@ IsOneOf (f ∷ fs) e = (e ≡ f) ⊎ IsOneOf fs e
 pub record IsKept (r : Run) (s : Seen) (t : List ℕ) : Type 0 where
   pub failed : List ℕ
   pub few : HaveFailed failed s.faults
-  pub right : (e : ℕ) → Has r s e → is_settled r s e ≡ true → IsRightIn (extent_of r s.number) t e
-  pub filled : (e : ℕ) → Has r s e → is_settled r s e ≡ true → IsRightAt r.base r.listing e ⊎ (r.may e ≡ true)
-  pub untouched : (e : ℕ) → Has r s e → is_settled r s e ≡ false
+  pub right : (e : ℕ) → Has r s e → has_settled r s e ≡ true → IsRightIn (extent_of r s.number) t e
+  pub filled : (e : ℕ) → Has r s e → has_settled r s e ≡ true → IsRightAt r.base r.listing e ⊎ (r.may e ≡ true)
+  pub untouched : (e : ℕ) → Has r s e → has_settled r s e ≡ false
       → (slice_at r s t e ≡ slice_of r.listing r.base e) ⊎ IsOneOf failed e
   pub base_right : (e : ℕ) → Has r s e → IsRightAt r.base r.listing e
-      → (is_settled r s e ≡ true) ⊎ IsOneOf failed e
+      → (has_settled r s e ≡ true) ⊎ IsOneOf failed e
 
 -- what is so of each shard, whether its part tells or not
 pub record IsDealtShard (r : Run) (s : Seen) : Type 0 where
   pub valid : IsValidExtent (extent_of r s.number)
-  pub count : first_in r s.number + length s.settled ≡ first_in r (s.number + 1)
+  pub count : first_in r s.number + length s.fates ≡ first_in r (s.number + 1)
   pub size : s.held.size ≡ length_in (extent_of r s.number)
 
 -- what the type of a shard keeps
@@ -92,7 +108,7 @@ pub record IsShard (r : Run) (s : Seen) : Type 0 where
 -- what the type of a part keeps whose survey isn't over: it holds the base's bytes, and what is settled is right
 pub record IsUnread (r : Run) (s : Seen) : Type 0 where
   pub bytes : IsTrue r.tells → IfSome s.held.bytes (λ t. t ≡ base_in r s.number)
-  pub right : (e : ℕ) → Has r s e → is_settled r s e ≡ true
+  pub right : (e : ℕ) → Has r s e → has_settled r s e ≡ true
       → IsTrue r.tells → IfSome s.held.bytes (λ t. IsRightIn (extent_of r s.number) t e)
 
 -- the survey of the part was made: what its type keeps once it is a shard
@@ -107,15 +123,15 @@ pub record MayFill (r : Run) (e : ℕ) (b : List ℕ) : Type 0 where
 
 -- entry e is settled, and of the others those that were
 pub record SettlesOne (r : Run) (old new : Seen) (e : ℕ) : Type 0 where
-  pub size : length new.settled ≡ length old.settled
-  pub this : is_settled r new e ≡ true
-  pub others : (j : ℕ) → Has r old j → j ≢ e → is_settled r new j ≡ is_settled r old j
+  pub size : length new.fates ≡ length old.fates
+  pub this : has_settled r new e ≡ true
+  pub others : (j : ℕ) → Has r old j → j ≢ e → has_settled r new j ≡ has_settled r old j
 
 -- what holds of a part's bytes before and afterwards, where the run's target tells them
-abbrev pub WhereTold : Run → Seen → Seen → (List ℕ → List ℕ → Type 0) → Type 0
-WhereTold r old new P = IsTrue r.tells → IfSome old.held.bytes (λ t. IfSome new.held.bytes (P t))
+abbrev pub WhereTells : Run → Seen → Seen → (List ℕ → List ℕ → Type 0) → Type 0
+WhereTells r old new P = IsTrue r.tells → IfSome old.held.bytes (λ t. IfSome new.held.bytes (P t))
 
 -- how many of its first k entries are settled
 abbrev pub settled_below : Run → Seen → ℕ → ℕ
 settled_below r s zero = 0
-settled_below r s (suc k) = settled_below r s k + (if is_settled r s (first_in r s.number + k) then 1 else 0)
+settled_below r s (suc k) = settled_below r s k + (if has_settled r s (first_in r s.number + k) then 1 else 0)

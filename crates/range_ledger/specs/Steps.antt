@@ -2,14 +2,14 @@
 use Rattle.std.specs.Prelude.{ℕ, zero, suc, ◌+◌, List, [], ◌∷◌, ◌++◌, length, Bool, true, false, Result, Ok, Err}
 use Rattle.dsy_base.specs.declared.fault.Failed.{Failed}
 use Rattle.range_ledger.specs.Machine.{Event, LeadsTo, Put, Settle, Skip, Torn}
-use Rattle.range_ledger.specs.Runs.{Run, Seen, extent_of, first_in, is_settled}
+use Rattle.range_ledger.specs.Runs.{Run, Seen, extent_of, first_in, has_settled}
 
 -- events lead from one shard to the next
 abbrev pub Leads : Run → List Event → Seen → Seen → List ℕ → List ℕ → Type 0
-Leads r es old new t u = LeadsTo (extent_of r old.number) es t (is_settled r old) u (is_settled r new)
+Leads r es old new t u = LeadsTo (extent_of r old.number) es t (has_settled r old) u (has_settled r new)
 
 -- putting a chunk into an entry: one Skip where it is settled, else one Put, or after a refusal one Torn
-abbrev pub Puts : Run → ℕ → List ℕ → Bool → Result Unit Failed → Seen → Seen → List ℕ → List ℕ → Type 0
+abbrev pub Puts : {A : Type 0} → Run → ℕ → List ℕ → Bool → Result A Failed → Seen → Seen → List ℕ → List ℕ → Type 0
 Puts r e b true result old new t u = Leads r (Skip e ∷ []) old new t u
 Puts r e b false (Ok x) old new t u = Leads r (Put e b ∷ []) old new t u
 Puts r e b false (Err x) old new t u = (y : List ℕ) × Leads r (Torn e y ∷ []) old new t u
@@ -23,8 +23,8 @@ settle_if false e = []
 abbrev pub settles_below : Run → Seen → ℕ → List Event
 settles_below r s zero = []
 settles_below r s (suc k) =
-    settles_below r s k ++ settle_if (is_settled r s (first_in r s.number + k)) (first_in r s.number + k)
+    settles_below r s k ++ settle_if (has_settled r s (first_in r s.number + k)) (first_in r s.number + k)
 
 -- a survey: one Settle for each entry that is settled after it
 abbrev pub Surveys : Run → Seen → Seen → List ℕ → List ℕ → Type 0
-Surveys r old new t u = Leads r (settles_below r new (length new.settled)) old new t u
+Surveys r old new t u = Leads r (settles_below r new (length new.fates)) old new t u

@@ -1,4 +1,4 @@
-//! Shards of a target that know which of their entries are right, and the core machine of which their calls are steps.
+//! Shards of a target that know what became of their entries, and the core machine of which their calls are steps.
 #![tactic(auto)]
 
 mod entries;

@@ -1,20 +1,26 @@
-//! Shards: parts of a target that know which of their entries are right. Entries and shards count from 0.
+//! Shards: parts of a target that know what became of their entries. Entries and shards count from 0.
 
-ghost use Rattle.std.specs.Prelude.{◌≡◌, ◌∷◌, [], length, true, OnErr, OnOk};
+ghost use Rattle.std.specs.Prelude.{◌≡◌, ◌∷◌, ◌-◌, ◌≤◌, ℕ, List, [], length, set, true, false};
+ghost use Rattle.std.specs.Prelude.{is_some, IfSome, Ok, OnErr, OnOk};
 ghost use Rattle.caibx_codec.specs.Listing.{id_of, kind_of, size_of};
 ghost use Rattle.chunk_store.specs.Names.{name_of};
-ghost use Rattle.dsy_base.specs.Counts.{CountsRefusals};
+ghost use Rattle.dsy_base.specs.Bytes.{held_written};
+ghost use Rattle.dsy_base.specs.Counts.{CountsRefusals, Rose};
+ghost use Rattle.range_ledger.specs.Extents.{begin_in};
 ghost use Rattle.range_ledger.specs.Machine.{Read};
-ghost use Rattle.range_ledger.specs.Runs.{Has, IsShard, MayFill, SettlesOne, WasSurveyed, WhereTold, is_settled};
+ghost use Rattle.range_ledger.specs.Runs.{Has, IsShard, MayFill, SettlesOne, WasSurveyed, WhereTells};
+ghost use Rattle.range_ledger.specs.Runs.{extent_of, first_in, has_settled, slice_at};
 ghost use Rattle.range_ledger.specs.Steps.{Leads, Puts};
+ghost use Rattle.range_survey.specs.Fates.{fate_at, is_settled};
 
 use crate::entries::Entries;
 use crate::run::RunName;
 use dsy_base::fault::Failed;
 use dsy_base::view::{Part, View};
+use range_survey::fate::Fate;
 use std::marker::Model;
 
-/// A part of a target, and which of its entries are right.
+/// A part of a target, and what became of its entries.
 #[derive(Drop)]
 pub struct Shard<'a, P: Part, R: RunName> {
     entries: Entries<'a, P, R>,
@@ -41,7 +47,9 @@ impl<'a, P: Part, R: RunName> Shard<'a, P, R> {
 
     /// What a shard keeps. Nothing is done.
     pub fn rules(&self)
-        ensures { IsShard R.run self.now }
+        ensures kept { IsShard R.run self.now }
+        ensures tells { is_some self.now.held.bytes ≡ P.tells }
+        ensures sized { IfSome self.now.held.bytes (λ t. length t ≡ self.now.held.size) }
     {
         self.entries.rules();
     }
@@ -56,47 +64,88 @@ impl<'a, P: Part, R: RunName> Shard<'a, P, R> {
     /// Whether an entry is settled.
     pub fn settled(&self, entry: usize) -> bool
         requires inside { Has R.run self.now entry }
-        ensures value { result ≡ is_settled R.run self.now entry }
+        ensures value { result ≡ has_settled R.run self.now entry }
     {
         self.entries.settled(entry)
+    }
+
+    /// What became of an entry.
+    pub fn fate(&self, entry: usize) -> Fate
+        requires inside { Has R.run self.now entry }
+        ensures value { result ≡ fate_at self.now.fates (entry - first_in R.run self.now.number) }
+    {
+        self.entries.fate(entry)
     }
 
     /// Reads the range of a settled entry, whose digest isn't computed again. After a refusal `out` holds any bytes.
     pub fn read_settled(&mut self, entry: usize, out: &mut [u8]) -> Result<(), Failed>
         requires inside { Has R.run self.old entry }
-        requires settled { is_settled R.run self.old entry ≡ true }
+        requires settled { has_settled R.run self.old entry ≡ true }
         requires size { length out.old ≡ size_of R.run.listing entry }
-        ensures exactly { OnOk result (WhereTold R.run self.old self.new
+        ensures exactly { OnOk result (WhereTells R.run self.old self.new
             (Leads R.run (Read entry out.new ∷ []) self.old self.new)) }
-        ensures right { OnOk result (WhereTold R.run self.old self.new
+        ensures right { OnOk result (WhereTells R.run self.old self.new
             (λ _ _. name_of (kind_of R.run.listing) out.new ≡ id_of R.run.listing entry)) }
+        ensures bytes { OnOk result (IfSome self.old.held.bytes (λ t. out.new ≡ slice_at R.run self.old t entry)) }
         ensures number { self.new.number ≡ self.old.number }
-        ensures kept { self.new.settled ≡ self.old.settled }
+        ensures kept { self.new.fates ≡ self.old.fates }
         ensures held { self.new.held ≡ self.old.held }
         ensures faults { CountsRefusals self.old.faults self.new.faults result }
     {
         self.entries.read(entry, out)
     }
 
-    /// Puts its chunk into an entry. A settled entry is left as it is. After a refusal the range holds any bytes.
-    pub fn put(&mut self, entry: usize, b: &[u8]) -> Result<(), Failed>
+    /// Reads the range of an entry where it is settled. Whether it was, and could be read.
+    pub fn read(&mut self, entry: usize, out: &mut [u8]) -> bool
+        requires inside { Has R.run self.old entry }
+        requires size { length out.old ≡ size_of R.run.listing entry }
+        ensures found { result ≡ true → (has_settled R.run self.old entry ≡ true)
+            × IfSome self.old.held.bytes (λ t. out.new ≡ slice_at R.run self.old t entry) }
+        ensures absent { result ≡ false → has_settled R.run self.old entry ≡ true →
+            Rose self.old.faults self.new.faults }
+        ensures number { self.new.number ≡ self.old.number }
+        ensures kept { self.new.fates ≡ self.old.fates }
+        ensures held { self.new.held ≡ self.old.held }
+        ensures faults { self.old.faults ≤ self.new.faults }
+    {
+        if !self.settled(entry) {
+            return false;
+        }
+        match self.read_settled(entry, out) {
+            Ok(()) => true,
+            Err(Failed) => false,
+        }
+    }
+
+    /// Puts its chunk into an entry, which then has this fate. A settled entry is left as it is. Whether it was put.
+    /// After a refusal the range holds any bytes.
+    pub fn put(&mut self, entry: usize, b: &[u8], fate: Fate) -> Result<bool, Failed>
         requires inside { Has R.run self.old entry }
         requires may { MayFill R.run entry b.now }
+        requires fate { is_settled fate ≡ true }
         ensures ok { OnOk result (SettlesOne R.run self.old self.new entry) }
-        ensures err { OnErr result (self.new.settled ≡ self.old.settled) }
-        ensures kept { is_settled R.run self.old entry ≡ true → self.new ≡ self.old }
-        ensures exactly { WhereTold R.run self.old self.new
-            (Puts R.run entry b.now (is_settled R.run self.old entry) result self.old self.new) }
+        ensures changed { result ≡ Ok true → (has_settled R.run self.old entry ≡ false)
+            × (self.new.fates ≡ set self.old.fates (entry - first_in R.run self.old.number) fate) }
+        ensures bytes { result ≡ Ok true → self.new.held
+            ≡ held_written self.old.held (begin_in (extent_of R.run self.old.number) entry) b.now }
+        ensures left { result ≡ Ok false → has_settled R.run self.old entry ≡ true }
+        ensures failed { OnErr result ((x : List ℕ) × (length x ≡ length b.now) × (self.new.held
+            ≡ held_written self.old.held (begin_in (extent_of R.run self.old.number) entry) x)) }
+        ensures only { OnErr result (has_settled R.run self.old entry ≡ false) }
+        ensures err { OnErr result (self.new.fates ≡ self.old.fates) }
+        ensures kept { has_settled R.run self.old entry ≡ true → self.new ≡ self.old }
+        ensures exactly { WhereTells R.run self.old self.new
+            (Puts R.run entry b.now (has_settled R.run self.old entry) result self.old self.new) }
         ensures number { self.new.number ≡ self.old.number }
         ensures faults { CountsRefusals self.old.faults self.new.faults result }
     {
         if self.settled(entry) {
-            return Ok(());
+            return Ok(false);
         }
         match self.entries.write(entry, b) {
             Ok(()) => {
-                self.entries.settle(entry);
-                Ok(())
+                self.entries.settle(entry, fate);
+                Ok(true)
             }
             Err(Failed) => Err(Failed),
         }

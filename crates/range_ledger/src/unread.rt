@@ -1,24 +1,27 @@
 //! Parts of a target before their survey is over. Entries and shards count from 0.
 
-ghost use Rattle.std.specs.Prelude.{◌≡◌, ◌+◌, ◌^◌, ◌<◌, ◌≤◌, ℕ, IfErr, IfOk, IfSome, IsTrue, Ok, OnErr, false};
-ghost use Rattle.std.specs.Prelude.{length, true};
+ghost use Rattle.std.specs.Prelude.{◌≡◌, ◌+◌, ◌^◌, ◌<◌, ◌≤◌, ℕ, IfOk, IfSome, IsTrue, Ok, OnErr, false, length, true};
 ghost use Rattle.caibx_codec.specs.Listing.{count_of, size_of};
 ghost use Rattle.dsy_base.specs.Counts.{CountsRefusals, Rose};
 ghost use Rattle.extract_plan.specs.Deal.{deal_shards};
 ghost use Rattle.range_ledger.specs.Extents.{IsRightIn, length_in};
-ghost use Rattle.range_ledger.specs.Runs.{Has, IsDealt, IsUnread, SettlesOne, WasSurveyed, WhereTold, base_in};
-ghost use Rattle.range_ledger.specs.Runs.{extent_of, is_settled, settled_below};
+ghost use Rattle.range_ledger.specs.Runs.{Has, HasZeros, HasZerosFrom, IsDealt, IsDealtShard, IsUnread};
+ghost use Rattle.range_ledger.specs.Runs.{SettlesOne, WasSurveyed, WhereTells, base_in};
+ghost use Rattle.range_ledger.specs.Runs.{extent_of, has_settled, open_in, settled_below};
 ghost use Rattle.range_ledger.specs.Steps.{Surveys};
+ghost use Rattle.range_survey.specs.Fates.{FirstFates};
+ghost use Rattle.range_survey.specs.Zeros.{IsTabled};
 
 use crate::entries::Entries;
 use crate::run::RunName;
 use crate::shard::Shard;
-use caibx_codec::index::{Index, Listed};
-use chunk_store::id::DigestKind;
-use dsy_base::fault::{Failed, Memory};
+use caibx_codec::index::Index;
+use dsy_base::fault::Failed;
 use dsy_base::view::{Part, View};
 use extract_plan::plan::Plan;
-use std::alloc::Global;
+use range_survey::fate::Fate;
+use range_survey::zeros::ZeroNames;
+use std::alloc::{AllocError, Global};
 use std::marker::Model;
 
 /// A part of a target, and which of its entries a survey has found to be right so far.
@@ -49,6 +52,23 @@ pub fn shard_size<R: RunName>(index: &Index, plan: &Plan, number: usize) -> u64
     index.end(past - 1) - index.entry(first).start
 }
 
+/// The fates of the entries of shard `number` of the plan, of which none is settled.
+pub fn open_fates<R: RunName>(
+    alloc: Global,
+    index: &Index,
+    plan: &Plan,
+    number: usize,
+) -> Result<Vec<Fate>, AllocError>
+    requires dealt { IsDealt R.run index.now plan.now }
+    requires inside { number < deal_shards plan.now }
+    ensures value { IfOk result (λ v. v.items ≡ open_in R.run number) }
+{
+    index.rules();
+    let first = plan.first_of(number);
+    let past = plan.first_of(number + 1);
+    vec![in alloc; Fate::Open; past - first]
+}
+
 /// What a survey found: how many entries it settled, and whether a read failed.
 #[derive(Clone, Copy, Debug, PartialEq, Eq)]
 pub struct Surveyed {
@@ -74,79 +94,94 @@ impl Surveyed {
 }
 
 impl<'a, P: Part, R: RunName> Unread<'a, P, R> {
-    /// Shard `number` of the plan, of which nothing is settled yet. A refusal hands the part back.
+    /// Shard `number` of the plan, of which nothing is settled yet.
     pub fn new(
-        alloc: Global,
         index: &'a Index,
         plan: &Plan,
         number: usize,
         part: P,
-    ) -> Result<Unread<'a, P, R>, (P, Memory)>
+        fates: Vec<Fate>,
+    ) -> Unread<'a, P, R>
         requires dealt { IsDealt R.run index.now plan.now }
         requires inside { number < deal_shards plan.now }
         requires size { (P.held part).size ≡ length_in (extent_of R.run number) }
+        requires open { fates.items ≡ open_in R.run number }
         requires bytes { IsTrue R.run.tells → IfSome (P.held part).bytes (λ t. t ≡ base_in R.run number) }
-        ensures number { IfOk result (λ u. u.number ≡ number) }
-        ensures none { IfOk result (λ u. (e : ℕ) → is_settled R.run u e ≡ false) }
-        ensures inside { IfOk result (λ u. (e : ℕ) → Has R.run u e → e < count_of R.run.listing) }
-        ensures held { IfOk result (λ u. u.held ≡ P.held part) }
-        ensures faults { IfOk result (λ u. u.faults ≡ P.faults part) }
-        ensures err { IfErr result (λ e. e.0 ≡ part) }
+        ensures number { result.number ≡ number }
+        ensures none { (e : ℕ) → has_settled R.run result e ≡ false }
+        ensures inside { (e : ℕ) → Has R.run result e → e < count_of R.run.listing }
+        ensures held { result.held ≡ P.held part }
+        ensures faults { result.faults ≡ P.faults part }
+        ensures dealt { IsDealtShard R.run result }
     {
-        match Entries::new(alloc, index, plan, number, part) {
-            Ok(entries) => Ok(Unread { entries }),
-            Err(refused) => Err(refused),
-        }
+        let entries = Entries::new(index, plan, number, part, fates);
+        entries.rules();
+        Unread { entries }
     }
 
     /// Whether an entry is settled.
     pub fn settled(&self, entry: usize) -> bool
         requires inside { Has R.run self.now entry }
-        ensures value { result ≡ is_settled R.run self.now entry }
+        ensures value { result ≡ has_settled R.run self.now entry }
     {
         self.entries.settled(entry)
     }
 
-    // Reads the range of an entry, and settles the entry where it has its digest. Whether it has.
-    fn look_at(&mut self, entry: usize, buf: &mut [u8]) -> Result<bool, Failed>
+    // Settles an entry where its range has its digest. Whether it has.
+    fn look_at(
+        &mut self,
+        zeros: &ZeroNames,
+        old: u64,
+        entry: usize,
+        buf: &mut [u8],
+    ) -> Result<bool, Failed>
         requires inside { Has R.run self.old entry }
         requires room { size_of R.run.listing entry ≤ length buf.old }
-        requires none { is_settled R.run self.old entry ≡ false }
+        requires none { has_settled R.run self.old entry ≡ false }
+        requires zeros { HasZeros R.run old self.old entry }
         ensures yes { result ≡ Ok true → SettlesOne R.run self.old self.new entry }
-        ensures no { result ≡ Ok false → (self.new.settled ≡ self.old.settled) × WhereTold R.run self.old self.new
+        ensures no { result ≡ Ok false → (self.new.fates ≡ self.old.fates) × WhereTells R.run self.old self.new
             (λ t _. IsRightIn (extent_of R.run self.old.number) t entry → ⊥) }
-        ensures err { OnErr result (self.new.settled ≡ self.old.settled) }
+        ensures err { OnErr result (self.new.fates ≡ self.old.fates) }
+        ensures first { (k : ℕ) → FirstFates self.old.fates k → FirstFates self.new.fates k }
+        ensures unread { IsTabled zeros.now R.run.listing old entry → self.new.faults ≡ self.old.faults }
         ensures number { self.new.number ≡ self.old.number }
         ensures held { self.new.held ≡ self.old.held }
         ensures faults { CountsRefusals self.old.faults self.new.faults result }
         ensures room { length buf.new ≡ length buf.old }
-        ensures unread { IsUnread R.run self.new }
+        ensures kept { IsUnread R.run self.new }
     {
-        let Listed { size, id, .. } = self.entries.listed(entry);
-        let (range, _) = buf.split_at_mut(size);
-        self.entries.read(entry, range)?;
-        if !id.is_of(DigestKind::Sha512T256, range) {
-            return Ok(false);
+        match self.entries.has_digest(zeros, old, entry, buf) {
+            Ok(true) => {
+                self.entries.settle(entry, Fate::Kept);
+                Ok(true)
+            }
+            Ok(false) => Ok(false),
+            Err(Failed) => Err(Failed),
         }
-        self.entries.settle(entry);
-        Ok(true)
     }
 
-    /// Reads each entry, and settles exactly those whose bytes have the listed digest. An entry whose read failed stays
-    /// unsettled. `buf` has room for the largest entry.
-    pub fn survey(&mut self, buf: &mut [u8]) -> Surveyed
-        requires none { (e : ℕ) → is_settled R.run self.old e ≡ false }
+    /// Settles exactly those entries whose bytes have the listed digest. An entry whose read failed stays unsettled.
+    /// The target's bytes from `old` on are zeros, and a range there isn't read where the table has its size. `buf` has
+    /// room for the largest entry.
+    pub fn survey(&mut self, zeros: &ZeroNames, old: u64, buf: &mut [u8]) -> Surveyed
+        requires none { (e : ℕ) → has_settled R.run self.old e ≡ false }
         requires room { (e : ℕ) → Has R.run self.old e → size_of R.run.listing e ≤ length buf.old }
+        requires zeros { HasZerosFrom R.run old self.old }
         ensures ok { WasSurveyed R.run self.new }
-        ensures exactly { WhereTold R.run self.old self.new (Surveys R.run self.old self.new) }
-        ensures no { result.failed ≡ false → WhereTold R.run self.old self.new (λ t _. (e : ℕ) → Has R.run self.new e →
-            is_settled R.run self.new e ≡ false → IsRightIn (extent_of R.run self.new.number) t e → ⊥) }
-        ensures size { result.settled ≡ settled_below R.run self.new (length self.new.settled) }
+        ensures exactly { WhereTells R.run self.old self.new (Surveys R.run self.old self.new) }
+        ensures no { result.failed ≡ false → WhereTells R.run self.old self.new (λ t _. (e : ℕ) → Has R.run self.new e →
+            has_settled R.run self.new e ≡ false → IsRightIn (extent_of R.run self.new.number) t e → ⊥) }
+        ensures first { (k : ℕ) → FirstFates self.new.fates k }
+        ensures size { result.settled ≡ settled_below R.run self.new (length self.new.fates) }
+        ensures unread { ((e : ℕ) → Has R.run self.old e → IsTabled zeros.now R.run.listing old e) →
+            self.new.faults ≡ self.old.faults }
         ensures number { self.new.number ≡ self.old.number }
         ensures held { self.new.held ≡ self.old.held }
         ensures failed { result.failed ≡ true → Rose self.old.faults self.new.faults }
         ensures quiet { result.failed ≡ false → self.new.faults ≡ self.old.faults }
         ensures faults { self.old.faults ≤ self.new.faults }
+        ensures room { length buf.new ≡ length buf.old }
     {
         let mut found = Surveyed {
             settled: 0,
@@ -154,7 +189,7 @@ impl<'a, P: Part, R: RunName> Unread<'a, P, R> {
         };
         for k in 0..self.entries.count() {
             let entry = self.entries.entry(k);
-            found.add(self.look_at(entry, buf));
+            found.add(self.look_at(zeros, old, entry, buf));
         }
         found
     }

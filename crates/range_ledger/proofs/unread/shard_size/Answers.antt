@@ -1,7 +1,6 @@
-use Rattle.std.proofs.Common.{◌≡◌, ◌-◌, ◌≤◌, sym, subst, ap, ◌∙◌, arith}
+use Rattle.std.proofs.Common.{◌≡◌, ◌-◌, sym, ap, ◌∙◌, arith}
 use Rattle.caibx_codec.specs.Listing.{count_of, end_of, start_of}
-use Rattle.extract_plan.specs.Deal.{Deal}
-use Rattle.range_ledger.proofs.Dealt.{HasEntries, has_entries}
+use Rattle.range_ledger.proofs.Dealt.{has_entries}
 use Rattle.range_ledger.proofs.unread.shard_size.Goals as goal
 
 pub end-requires : goal.end-requires
