@@ -1,0 +1,5 @@
+pub mod Pieces
+pub mod Writes
+pub mod Wholes
+pub mod Putting
+pub mod Begun

@@ -1,0 +1,299 @@
+use Rattle.std.proofs.Common.{◌≡◌, length, set, vec_len, IfSome, sym, subst, ◌∙◌, arith, rules}
+use Rattle.std.proofs.lemmas.List.{get_or-set_same}
+use Rattle.caibx_codec.specs.Listing.{id_of, kind_of}
+use Rattle.chunk_store.specs.Names.{name_of}
+use Rattle.owned_shards.proofs.Putting.{Found, PutEnds, found, put_ends, stays_whole}
+use Rattle.owned_shards.proofs.Wholes.{has_it}
+use Rattle.range_ledger.specs.Runs.{Has, Seen}
+use Rattle.owned_shards.specs.Wholes.{IsTold, Whole, whole_of}
+use Rattle.owned_shards.proofs.shards.ShardsLedger.put.Goals as goal
+
+pub index_mut-requires : goal.index_mut-requires
+index_mut-requires g c =
+    let r = g.R.RunName.run in
+    let ss = c.self.inside.shards.items in
+    let is = c.self.invariant.1 in
+    let k = c.shard_of-k.result in
+    let at : Found r ss k c.args.entry = found r c.self.inside.index.now c.self.inside.plan.now c.self.invariant.0 ss is.shards k c.args.entry
+    c.shard_of-k.ensures.from c.shard_of-k.ensures.to c.shard_of-k.ensures.inside in
+    let size : length ss ≡ vec_len c.self.inside.shards = search rules in
+    omega (arith, at.lt, size)
+
+pub put-put-requires-clause-inside : goal.put-put-requires-clause-inside
+put-put-requires-clause-inside g c =
+    let r = g.R.RunName.run in
+    let ss = c.self.inside.shards.items in
+    let is = c.self.invariant.1 in
+    let k = c.shard_of-k.result in
+    let at : Found r ss k c.args.entry = found r c.self.inside.index.now c.self.inside.plan.now c.self.invariant.0 ss is.shards k c.args.entry
+    c.shard_of-k.ensures.from c.shard_of-k.ensures.to c.shard_of-k.ensures.inside in
+    has_it r ss is.shards k at.lt c.index_mut.result.now c.index_mut.ensures.value c.args.entry at.from at.to
+
+pub index-requires : goal.index-requires
+index-requires g c =
+    let r = g.R.RunName.run in
+    let ss = c.self.inside.shards.items in
+    let is = c.self.invariant.1 in
+    let k = c.shard_of-k.result in
+    let at : Found r ss k c.args.entry = found r c.self.inside.index.now c.self.inside.plan.now c.self.invariant.0 ss is.shards k c.args.entry
+    c.shard_of-k.ensures.from c.shard_of-k.ensures.to c.shard_of-k.ensures.inside in
+    let size : length ss ≡ vec_len c.self.inside.shards = search rules in
+    omega (arith, at.lt, size)
+
+pub invariant_of-self : goal.invariant_of-self
+invariant_of-self g c =
+    let r = g.R.RunName.run in
+    let ss = c.self.inside.shards.items in
+    let is = c.self.invariant.1 in
+    let k = c.shard_of-k.result in
+    let at : Found r ss k c.args.entry = found r c.self.inside.index.now c.self.inside.plan.now c.self.invariant.0 ss is.shards k c.args.entry
+    c.shard_of-k.ensures.from c.shard_of-k.ensures.to c.shard_of-k.ensures.inside in
+    let s : Seen = c.index_mut.result.now in
+    let here = c.index_mut.ensures.value in
+    let new : Seen = c.put-put.new.self in
+    let n = c.put-put.ensures in
+    let left = g.T.Target.left c.self.inside.rest in
+    let tells = g.T.View.tells in
+    let has : Has r s c.args.entry = has_it r ss is.shards k at.lt s here c.args.entry at.from at.to in
+    let now : c.index.result.now ≡ new = c.index.ensures ∙ get_or-set_same ss k new c.index.result.now at.lt in
+    let good : IsTold r new = subst (IsTold r) now (record {
+      kept = c.rules.ensures.kept;
+      tells = c.rules.ensures.tells ∙ (g.met.T.Target.parts_tell ∙ sym is.tells);
+      sized = c.rules.ensures.sized;
+    }) in (
+      c.self.invariant.0,
+      stays_whole r left tells ss is k at.lt s here c.args.entry c.requires.listed has new n.number good,
+      c.self.invariant.2,
+      c.self.invariant.3,
+    )
+
+pub returns-clause-ok : goal.returns-clause-ok
+returns-clause-ok g c =
+    let r = g.R.RunName.run in
+    let ss = c.self.inside.shards.items in
+    let is = c.self.invariant.1 in
+    let k = c.shard_of-k.result in
+    let at : Found r ss k c.args.entry = found r c.self.inside.index.now c.self.inside.plan.now c.self.invariant.0 ss is.shards k c.args.entry
+    c.shard_of-k.ensures.from c.shard_of-k.ensures.to c.shard_of-k.ensures.inside in
+    let s : Seen = c.index_mut.result.now in
+    let here = c.index_mut.ensures.value in
+    let new : Seen = c.put-put.new.self in
+    let n = c.put-put.ensures in
+    let left = g.T.Target.left c.self.inside.rest in
+    let tells = g.T.View.tells in
+    let has : Has r s c.args.entry = has_it r ss is.shards k at.lt s here c.args.entry at.from at.to in
+    let right : IfSome (whole_of left tells ss).held.bytes (λ t. name_of (kind_of r.listing) c.args.chunk.now ≡ id_of r.listing c.args.entry) =
+    subst (λ (w : Whole). IfSome w.held.bytes (λ t. name_of (kind_of r.listing) c.args.chunk.now ≡ id_of r.listing c.args.entry)) (sym c.self.view_is) c.requires.right in
+    let ends = put_ends r left tells ss is k at.lt s here c.args.entry c.requires.listed has new c.args.fate c.requires.fate c.requires.made c.args.chunk.now c.requires.chunk right c.put-put.result
+    n.changed n.bytes n.left n.kept n.failed n.only n.err n.faults in
+    (subst (λ (w : Whole). PutEnds r.listing c.args.entry c.args.fate w (whole_of left tells (set ss k new)) c.put-put.result) c.self.view_is ends).ok
+
+pub returns-clause-origin : goal.returns-clause-origin
+returns-clause-origin g c =
+    let r = g.R.RunName.run in
+    let ss = c.self.inside.shards.items in
+    let is = c.self.invariant.1 in
+    let k = c.shard_of-k.result in
+    let at : Found r ss k c.args.entry = found r c.self.inside.index.now c.self.inside.plan.now c.self.invariant.0 ss is.shards k c.args.entry
+    c.shard_of-k.ensures.from c.shard_of-k.ensures.to c.shard_of-k.ensures.inside in
+    let s : Seen = c.index_mut.result.now in
+    let here = c.index_mut.ensures.value in
+    let new : Seen = c.put-put.new.self in
+    let n = c.put-put.ensures in
+    let left = g.T.Target.left c.self.inside.rest in
+    let tells = g.T.View.tells in
+    let has : Has r s c.args.entry = has_it r ss is.shards k at.lt s here c.args.entry at.from at.to in
+    let right : IfSome (whole_of left tells ss).held.bytes (λ t. name_of (kind_of r.listing) c.args.chunk.now ≡ id_of r.listing c.args.entry) =
+    subst (λ (w : Whole). IfSome w.held.bytes (λ t. name_of (kind_of r.listing) c.args.chunk.now ≡ id_of r.listing c.args.entry)) (sym c.self.view_is) c.requires.right in
+    let ends = put_ends r left tells ss is k at.lt s here c.args.entry c.requires.listed has new c.args.fate c.requires.fate c.requires.made c.args.chunk.now c.requires.chunk right c.put-put.result
+    n.changed n.bytes n.left n.kept n.failed n.only n.err n.faults in
+    (subst (λ (w : Whole). PutEnds r.listing c.args.entry c.args.fate w (whole_of left tells (set ss k new)) c.put-put.result) c.self.view_is ends).origin
+
+pub returns-clause-changed : goal.returns-clause-changed
+returns-clause-changed g c =
+    let r = g.R.RunName.run in
+    let ss = c.self.inside.shards.items in
+    let is = c.self.invariant.1 in
+    let k = c.shard_of-k.result in
+    let at : Found r ss k c.args.entry = found r c.self.inside.index.now c.self.inside.plan.now c.self.invariant.0 ss is.shards k c.args.entry
+    c.shard_of-k.ensures.from c.shard_of-k.ensures.to c.shard_of-k.ensures.inside in
+    let s : Seen = c.index_mut.result.now in
+    let here = c.index_mut.ensures.value in
+    let new : Seen = c.put-put.new.self in
+    let n = c.put-put.ensures in
+    let left = g.T.Target.left c.self.inside.rest in
+    let tells = g.T.View.tells in
+    let has : Has r s c.args.entry = has_it r ss is.shards k at.lt s here c.args.entry at.from at.to in
+    let right : IfSome (whole_of left tells ss).held.bytes (λ t. name_of (kind_of r.listing) c.args.chunk.now ≡ id_of r.listing c.args.entry) =
+    subst (λ (w : Whole). IfSome w.held.bytes (λ t. name_of (kind_of r.listing) c.args.chunk.now ≡ id_of r.listing c.args.entry)) (sym c.self.view_is) c.requires.right in
+    let ends = put_ends r left tells ss is k at.lt s here c.args.entry c.requires.listed has new c.args.fate c.requires.fate c.requires.made c.args.chunk.now c.requires.chunk right c.put-put.result
+    n.changed n.bytes n.left n.kept n.failed n.only n.err n.faults in
+    (subst (λ (w : Whole). PutEnds r.listing c.args.entry c.args.fate w (whole_of left tells (set ss k new)) c.put-put.result) c.self.view_is ends).changed
+
+pub returns-clause-err : goal.returns-clause-err
+returns-clause-err g c =
+    let r = g.R.RunName.run in
+    let ss = c.self.inside.shards.items in
+    let is = c.self.invariant.1 in
+    let k = c.shard_of-k.result in
+    let at : Found r ss k c.args.entry = found r c.self.inside.index.now c.self.inside.plan.now c.self.invariant.0 ss is.shards k c.args.entry
+    c.shard_of-k.ensures.from c.shard_of-k.ensures.to c.shard_of-k.ensures.inside in
+    let s : Seen = c.index_mut.result.now in
+    let here = c.index_mut.ensures.value in
+    let new : Seen = c.put-put.new.self in
+    let n = c.put-put.ensures in
+    let left = g.T.Target.left c.self.inside.rest in
+    let tells = g.T.View.tells in
+    let has : Has r s c.args.entry = has_it r ss is.shards k at.lt s here c.args.entry at.from at.to in
+    let right : IfSome (whole_of left tells ss).held.bytes (λ t. name_of (kind_of r.listing) c.args.chunk.now ≡ id_of r.listing c.args.entry) =
+    subst (λ (w : Whole). IfSome w.held.bytes (λ t. name_of (kind_of r.listing) c.args.chunk.now ≡ id_of r.listing c.args.entry)) (sym c.self.view_is) c.requires.right in
+    let ends = put_ends r left tells ss is k at.lt s here c.args.entry c.requires.listed has new c.args.fate c.requires.fate c.requires.made c.args.chunk.now c.requires.chunk right c.put-put.result
+    n.changed n.bytes n.left n.kept n.failed n.only n.err n.faults in
+    (subst (λ (w : Whole). PutEnds r.listing c.args.entry c.args.fate w (whole_of left tells (set ss k new)) c.put-put.result) c.self.view_is ends).err
+
+pub returns-clause-kept : goal.returns-clause-kept
+returns-clause-kept g c =
+    let r = g.R.RunName.run in
+    let ss = c.self.inside.shards.items in
+    let is = c.self.invariant.1 in
+    let k = c.shard_of-k.result in
+    let at : Found r ss k c.args.entry = found r c.self.inside.index.now c.self.inside.plan.now c.self.invariant.0 ss is.shards k c.args.entry
+    c.shard_of-k.ensures.from c.shard_of-k.ensures.to c.shard_of-k.ensures.inside in
+    let s : Seen = c.index_mut.result.now in
+    let here = c.index_mut.ensures.value in
+    let new : Seen = c.put-put.new.self in
+    let n = c.put-put.ensures in
+    let left = g.T.Target.left c.self.inside.rest in
+    let tells = g.T.View.tells in
+    let has : Has r s c.args.entry = has_it r ss is.shards k at.lt s here c.args.entry at.from at.to in
+    let right : IfSome (whole_of left tells ss).held.bytes (λ t. name_of (kind_of r.listing) c.args.chunk.now ≡ id_of r.listing c.args.entry) =
+    subst (λ (w : Whole). IfSome w.held.bytes (λ t. name_of (kind_of r.listing) c.args.chunk.now ≡ id_of r.listing c.args.entry)) (sym c.self.view_is) c.requires.right in
+    let ends = put_ends r left tells ss is k at.lt s here c.args.entry c.requires.listed has new c.args.fate c.requires.fate c.requires.made c.args.chunk.now c.requires.chunk right c.put-put.result
+    n.changed n.bytes n.left n.kept n.failed n.only n.err n.faults in
+    (subst (λ (w : Whole). PutEnds r.listing c.args.entry c.args.fate w (whole_of left tells (set ss k new)) c.put-put.result) c.self.view_is ends).kept
+
+pub returns-clause-others : goal.returns-clause-others
+returns-clause-others g c =
+    let r = g.R.RunName.run in
+    let ss = c.self.inside.shards.items in
+    let is = c.self.invariant.1 in
+    let k = c.shard_of-k.result in
+    let at : Found r ss k c.args.entry = found r c.self.inside.index.now c.self.inside.plan.now c.self.invariant.0 ss is.shards k c.args.entry
+    c.shard_of-k.ensures.from c.shard_of-k.ensures.to c.shard_of-k.ensures.inside in
+    let s : Seen = c.index_mut.result.now in
+    let here = c.index_mut.ensures.value in
+    let new : Seen = c.put-put.new.self in
+    let n = c.put-put.ensures in
+    let left = g.T.Target.left c.self.inside.rest in
+    let tells = g.T.View.tells in
+    let has : Has r s c.args.entry = has_it r ss is.shards k at.lt s here c.args.entry at.from at.to in
+    let right : IfSome (whole_of left tells ss).held.bytes (λ t. name_of (kind_of r.listing) c.args.chunk.now ≡ id_of r.listing c.args.entry) =
+    subst (λ (w : Whole). IfSome w.held.bytes (λ t. name_of (kind_of r.listing) c.args.chunk.now ≡ id_of r.listing c.args.entry)) (sym c.self.view_is) c.requires.right in
+    let ends = put_ends r left tells ss is k at.lt s here c.args.entry c.requires.listed has new c.args.fate c.requires.fate c.requires.made c.args.chunk.now c.requires.chunk right c.put-put.result
+    n.changed n.bytes n.left n.kept n.failed n.only n.err n.faults in
+    (subst (λ (w : Whole). PutEnds r.listing c.args.entry c.args.fate w (whole_of left tells (set ss k new)) c.put-put.result) c.self.view_is ends).others
+
+pub returns-clause-grows : goal.returns-clause-grows
+returns-clause-grows g c =
+    let r = g.R.RunName.run in
+    let ss = c.self.inside.shards.items in
+    let is = c.self.invariant.1 in
+    let k = c.shard_of-k.result in
+    let at : Found r ss k c.args.entry = found r c.self.inside.index.now c.self.inside.plan.now c.self.invariant.0 ss is.shards k c.args.entry
+    c.shard_of-k.ensures.from c.shard_of-k.ensures.to c.shard_of-k.ensures.inside in
+    let s : Seen = c.index_mut.result.now in
+    let here = c.index_mut.ensures.value in
+    let new : Seen = c.put-put.new.self in
+    let n = c.put-put.ensures in
+    let left = g.T.Target.left c.self.inside.rest in
+    let tells = g.T.View.tells in
+    let has : Has r s c.args.entry = has_it r ss is.shards k at.lt s here c.args.entry at.from at.to in
+    let right : IfSome (whole_of left tells ss).held.bytes (λ t. name_of (kind_of r.listing) c.args.chunk.now ≡ id_of r.listing c.args.entry) =
+    subst (λ (w : Whole). IfSome w.held.bytes (λ t. name_of (kind_of r.listing) c.args.chunk.now ≡ id_of r.listing c.args.entry)) (sym c.self.view_is) c.requires.right in
+    let ends = put_ends r left tells ss is k at.lt s here c.args.entry c.requires.listed has new c.args.fate c.requires.fate c.requires.made c.args.chunk.now c.requires.chunk right c.put-put.result
+    n.changed n.bytes n.left n.kept n.failed n.only n.err n.faults in
+    (subst (λ (w : Whole). PutEnds r.listing c.args.entry c.args.fate w (whole_of left tells (set ss k new)) c.put-put.result) c.self.view_is ends).grows
+
+pub returns-clause-bytes : goal.returns-clause-bytes
+returns-clause-bytes g c =
+    let r = g.R.RunName.run in
+    let ss = c.self.inside.shards.items in
+    let is = c.self.invariant.1 in
+    let k = c.shard_of-k.result in
+    let at : Found r ss k c.args.entry = found r c.self.inside.index.now c.self.inside.plan.now c.self.invariant.0 ss is.shards k c.args.entry
+    c.shard_of-k.ensures.from c.shard_of-k.ensures.to c.shard_of-k.ensures.inside in
+    let s : Seen = c.index_mut.result.now in
+    let here = c.index_mut.ensures.value in
+    let new : Seen = c.put-put.new.self in
+    let n = c.put-put.ensures in
+    let left = g.T.Target.left c.self.inside.rest in
+    let tells = g.T.View.tells in
+    let has : Has r s c.args.entry = has_it r ss is.shards k at.lt s here c.args.entry at.from at.to in
+    let right : IfSome (whole_of left tells ss).held.bytes (λ t. name_of (kind_of r.listing) c.args.chunk.now ≡ id_of r.listing c.args.entry) =
+    subst (λ (w : Whole). IfSome w.held.bytes (λ t. name_of (kind_of r.listing) c.args.chunk.now ≡ id_of r.listing c.args.entry)) (sym c.self.view_is) c.requires.right in
+    let ends = put_ends r left tells ss is k at.lt s here c.args.entry c.requires.listed has new c.args.fate c.requires.fate c.requires.made c.args.chunk.now c.requires.chunk right c.put-put.result
+    n.changed n.bytes n.left n.kept n.failed n.only n.err n.faults in
+    (subst (λ (w : Whole). PutEnds r.listing c.args.entry c.args.fate w (whole_of left tells (set ss k new)) c.put-put.result) c.self.view_is ends).bytes
+
+pub returns-clause-faults : goal.returns-clause-faults
+returns-clause-faults g c =
+    let r = g.R.RunName.run in
+    let ss = c.self.inside.shards.items in
+    let is = c.self.invariant.1 in
+    let k = c.shard_of-k.result in
+    let at : Found r ss k c.args.entry = found r c.self.inside.index.now c.self.inside.plan.now c.self.invariant.0 ss is.shards k c.args.entry
+    c.shard_of-k.ensures.from c.shard_of-k.ensures.to c.shard_of-k.ensures.inside in
+    let s : Seen = c.index_mut.result.now in
+    let here = c.index_mut.ensures.value in
+    let new : Seen = c.put-put.new.self in
+    let n = c.put-put.ensures in
+    let left = g.T.Target.left c.self.inside.rest in
+    let tells = g.T.View.tells in
+    let has : Has r s c.args.entry = has_it r ss is.shards k at.lt s here c.args.entry at.from at.to in
+    let right : IfSome (whole_of left tells ss).held.bytes (λ t. name_of (kind_of r.listing) c.args.chunk.now ≡ id_of r.listing c.args.entry) =
+    subst (λ (w : Whole). IfSome w.held.bytes (λ t. name_of (kind_of r.listing) c.args.chunk.now ≡ id_of r.listing c.args.entry)) (sym c.self.view_is) c.requires.right in
+    let ends = put_ends r left tells ss is k at.lt s here c.args.entry c.requires.listed has new c.args.fate c.requires.fate c.requires.made c.args.chunk.now c.requires.chunk right c.put-put.result
+    n.changed n.bytes n.left n.kept n.failed n.only n.err n.faults in
+    (subst (λ (w : Whole). PutEnds r.listing c.args.entry c.args.fate w (whole_of left tells (set ss k new)) c.put-put.result) c.self.view_is ends).faults
+
+pub returns-clause-cause : goal.returns-clause-cause
+returns-clause-cause g c =
+    let r = g.R.RunName.run in
+    let ss = c.self.inside.shards.items in
+    let is = c.self.invariant.1 in
+    let k = c.shard_of-k.result in
+    let at : Found r ss k c.args.entry = found r c.self.inside.index.now c.self.inside.plan.now c.self.invariant.0 ss is.shards k c.args.entry
+    c.shard_of-k.ensures.from c.shard_of-k.ensures.to c.shard_of-k.ensures.inside in
+    let s : Seen = c.index_mut.result.now in
+    let here = c.index_mut.ensures.value in
+    let new : Seen = c.put-put.new.self in
+    let n = c.put-put.ensures in
+    let left = g.T.Target.left c.self.inside.rest in
+    let tells = g.T.View.tells in
+    let has : Has r s c.args.entry = has_it r ss is.shards k at.lt s here c.args.entry at.from at.to in
+    let right : IfSome (whole_of left tells ss).held.bytes (λ t. name_of (kind_of r.listing) c.args.chunk.now ≡ id_of r.listing c.args.entry) =
+    subst (λ (w : Whole). IfSome w.held.bytes (λ t. name_of (kind_of r.listing) c.args.chunk.now ≡ id_of r.listing c.args.entry)) (sym c.self.view_is) c.requires.right in
+    let ends = put_ends r left tells ss is k at.lt s here c.args.entry c.requires.listed has new c.args.fate c.requires.fate c.requires.made c.args.chunk.now c.requires.chunk right c.put-put.result
+    n.changed n.bytes n.left n.kept n.failed n.only n.err n.faults in
+    (subst (λ (w : Whole). PutEnds r.listing c.args.entry c.args.fate w (whole_of left tells (set ss k new)) c.put-put.result) c.self.view_is ends).cause
+
+pub returns-clause-failed : goal.returns-clause-failed
+returns-clause-failed g c =
+    let r = g.R.RunName.run in
+    let ss = c.self.inside.shards.items in
+    let is = c.self.invariant.1 in
+    let k = c.shard_of-k.result in
+    let at : Found r ss k c.args.entry = found r c.self.inside.index.now c.self.inside.plan.now c.self.invariant.0 ss is.shards k c.args.entry
+    c.shard_of-k.ensures.from c.shard_of-k.ensures.to c.shard_of-k.ensures.inside in
+    let s : Seen = c.index_mut.result.now in
+    let here = c.index_mut.ensures.value in
+    let new : Seen = c.put-put.new.self in
+    let n = c.put-put.ensures in
+    let left = g.T.Target.left c.self.inside.rest in
+    let tells = g.T.View.tells in
+    let has : Has r s c.args.entry = has_it r ss is.shards k at.lt s here c.args.entry at.from at.to in
+    let right : IfSome (whole_of left tells ss).held.bytes (λ t. name_of (kind_of r.listing) c.args.chunk.now ≡ id_of r.listing c.args.entry) =
+    subst (λ (w : Whole). IfSome w.held.bytes (λ t. name_of (kind_of r.listing) c.args.chunk.now ≡ id_of r.listing c.args.entry)) (sym c.self.view_is) c.requires.right in
+    let ends = put_ends r left tells ss is k at.lt s here c.args.entry c.requires.listed has new c.args.fate c.requires.fate c.requires.made c.args.chunk.now c.requires.chunk right c.put-put.result
+    n.changed n.bytes n.left n.kept n.failed n.only n.err n.faults in
+    (subst (λ (w : Whole). PutEnds r.listing c.args.entry c.args.fate w (whole_of left tells (set ss k new)) c.put-put.result) c.self.view_is ends).failed

@@ -1,0 +1,97 @@
+-- What the shards of a target make up together. Entries and shards count from 0.
+use Rattle.std.specs.Prelude.{◌≡◌, ℕ, ◌+◌, ◌<◌, List, [], ◌∷◌, ◌++◌, length, zero, suc}
+use Rattle.std.specs.Prelude.{true, Bool, Option, Some, None, IfSome, IsTrue}
+use Rattle.std.specs.Prelude.{if◌then◌else◌, is_some}
+use Rattle.std.specs.List.{flat_map, sum_by}
+use Rattle.caibx_codec.specs.Listing.{Listing, count_of, image_length, start_of}
+use Rattle.dsy_base.specs.Bytes.{Held, resized}
+use Rattle.dsy_base.specs.Counts.{raised}
+use Rattle.dsy_base.specs.Splits.{Left, extent_at, held_joined, joined}
+use Rattle.extract_plan.specs.Deal.{AreShardEnds, Deal, deal_shards}
+use Rattle.range_ledger.specs.Runs.{IsDealt, IsShard, Run, Seen, base_in, first_in, open_in}
+use Rattle.range_survey.specs.Fates.{FirstFates}
+use Rattle.range_survey.specs.declared.fate.Fate.{Fate}
+
+-- what contracts see of a target in shards: what it holds, what became of its entries, and how often a call on it has
+-- failed
+pub record Whole : Type 0 where
+  pub held : Held
+  pub fates : List Fate
+  pub faults : ℕ
+
+-- what became of the entries of these shards
+abbrev pub fates_of : List Seen → List Fate
+fates_of ss = flat_map (λ s. s.fates) ss
+
+-- the bytes of these shards
+abbrev pub bytes_of : List Seen → List ℕ
+bytes_of ss = joined (λ (s : Seen). s.held) ss
+
+-- how often a call on one of them has failed
+abbrev pub faults_of : List Seen → ℕ
+faults_of ss = sum_by (λ s. s.faults) ss
+
+-- the target of which this is left beside these shards
+abbrev pub whole_of : Left → Bool → List Seen → Whole
+whole_of left tells ss = record {
+  held = held_joined left tells (bytes_of ss);
+  fates = fates_of ss;
+  faults = raised left.faults (faults_of ss);
+}
+
+-- a shard of a run, whose part tells its bytes where the run says so
+pub record IsTold (r : Run) (s : Seen) : Type 0 where
+  pub kept : IsShard r s
+  pub tells : is_some s.held.bytes ≡ r.tells
+  pub sized : IfSome s.held.bytes (λ t. length t ≡ s.held.size)
+
+-- the shards of a run from the k-th on, of each of which P is so
+abbrev pub ShardsWith : (Seen → Type 0) → Run → ℕ → List Seen → Type 0
+ShardsWith P r k [] = k ≡ r.shards
+ShardsWith P r k (s ∷ ss) = (s.number ≡ k) × (P s × ShardsWith P r (k + 1) ss)
+
+-- the shards of a run from the k-th on
+abbrev pub AreShards : Run → ℕ → List Seen → Type 0
+AreShards r k ss = ShardsWith (IsTold r) r k ss
+
+-- the run is over this index by this plan, and over a target that holds this once it has the image's length; each entry
+-- may be filled
+pub record IsOver (r : Run) (l : Listing) (d : Deal) (told : Bool) (old : Held) : Type 0 where
+  pub dealt : IsDealt r l d
+  pub workers : 0 < d.workers
+  pub cuts : AreShardEnds l (deal_shards d) d.cuts
+  pub base : IfSome old.bytes (λ o. r.base ≡ resized o (image_length l))
+  pub may : (e : ℕ) → r.may e ≡ true
+  pub tells : r.tells ≡ told
+
+-- what a target in shards keeps
+pub record IsWhole (r : Run) (told : Bool) (left : Left) (ss : List Seen) : Type 0 where
+  pub shards : AreShards r 0 ss
+  pub some : 0 < count_of r.listing → 0 < r.shards
+  pub size : left.size ≡ image_length r.listing
+  pub may : (e : ℕ) → r.may e ≡ true
+  pub tells : r.tells ≡ told
+
+-- the fates of the first n shards, of which none is settled
+abbrev pub open_below : Run → ℕ → List (List Fate)
+open_below r zero = []
+open_below r (suc n) = open_below r n ++ open_in r n ∷ []
+
+-- the base's bytes, where the run's target tells them
+abbrev pub base_told : Run → Option (List ℕ)
+base_told r = if r.tells then Some r.base else None
+
+-- the extent of shard k in the base
+abbrev pub base_extent : Run → ℕ → Option (List ℕ) × ℕ
+base_extent r k = extent_at (base_told r) (start_of r.listing (first_in r k)) (start_of r.listing (first_in r (k + 1)))
+
+-- the extents of the first n shards
+abbrev pub extents_below : Run → ℕ → List (Option (List ℕ) × ℕ)
+extents_below r zero = []
+extents_below r (suc n) = extents_below r n ++ base_extent r n ∷ []
+
+-- a shard right after its survey: no entry was filled, and its part holds the base's bytes
+pub record Begun (r : Run) (s : Seen) : Type 0 where
+  pub told : IsTold r s
+  pub first : (k : ℕ) → FirstFates s.fates k
+  pub base : IsTrue r.tells → IfSome s.held.bytes (λ t. t ≡ base_in r s.number)

@@ -1,0 +1,156 @@
+//! A target in shards, all of which one worker owns. Offsets are bytes from 0; entries and shards count from 0.
+
+ghost use Rattle.std.specs.Prelude.{◌≡◌, ◌+◌, ◌++◌, ◌<◌, ◌≤◌, ◌∷◌, [], ℕ, length};
+ghost use Rattle.std.specs.Prelude.{map, true, vec_capacity, vec_len};
+ghost use Rattle.caibx_codec.specs.Listing.{count_of};
+ghost use Rattle.range_ledger.specs.Runs.{IsDealt};
+ghost use Rattle.owned_shards.specs.Wholes.{IsWhole, whole_of};
+ghost use Rattle.range_survey.specs.Fates.{settled};
+ghost use Rattle.range_survey.specs.Reports.{tally};
+ghost use Rattle.range_survey.specs.declared.fate.Fate.TheVariants as fate;
+
+use caibx_codec::index::Index;
+use dsy_base::fault::Failed;
+use dsy_base::view::{Part, Target, View};
+use extract_plan::plan::Plan;
+use range_ledger::ledger::Ledger;
+use range_ledger::run::RunName;
+use range_ledger::shard::Shard;
+use range_survey::fate::Fate;
+use range_survey::report::Report;
+use std::marker::Model;
+
+/// A target in shards. `parts` has the room that joining them takes.
+#[derive(Drop)]
+pub struct Shards<'a, R: RunName, T: Target> {
+    index: &'a Index,
+    plan: &'a Plan,
+    rest: T::Rest,
+    shards: Vec<Shard<'a, T::Piece, R>>,
+    parts: Vec<T::Piece>,
+}
+
+impl<'a, R: RunName, T: Target> Model for Shards<'a, R, T> {
+    ghost use Rattle.std.specs.Prelude.{◌≡◌, ◌≤◌, [], vec_capacity, vec_len};
+    ghost use Rattle.range_ledger.specs.Runs.{IsDealt};
+    ghost use Rattle.owned_shards.specs.Wholes.{IsWhole, Whole, whole_of};
+
+    ghost Value = { Whole };
+
+    ghost view = { λ s. whole_of (T.left s.rest) T.tells s.shards.items };
+
+    ghost invariant = { λ s. IsDealt R.run s.index.now s.plan.now × IsWhole R.run T.tells (T.left s.rest) s.shards.items
+        × (s.parts.items ≡ []) × (vec_len s.shards ≤ vec_capacity s.parts) };
+}
+
+/// Puts a value into a list that has room for it.
+pub(crate) fn put_back<X: Drop>(values: &mut Vec<X>, value: X)
+    requires room { vec_len values.old < vec_capacity values.old }
+    ensures items { values.new.items ≡ values.old.items ++ value ∷ [] }
+    ensures size { vec_len values.new ≡ vec_len values.old + 1 }
+    ensures kept { vec_capacity values.old ≤ vec_capacity values.new }
+{
+    let _ = values.push(value);
+}
+
+// The parts of the shards, in their order. `parts` has the room for them.
+fn parts_of<'a, P: Part, R: RunName>(shards: Vec<Shard<'a, P, R>>, parts: Vec<P>) -> Vec<P>
+    requires none { parts.items ≡ [] }
+    requires room { vec_len shards ≤ vec_capacity parts }
+    ensures held { map (λ p. P.held p) result.items ≡ map (λ s. s.held) shards.entry.items }
+    ensures faults { map (λ p. P.faults p) result.items ≡ map (λ s. s.faults) shards.entry.items }
+{
+    let mut shards = shards;
+    let mut parts = parts;
+    while let Some(shard) = shards.pop() {
+        put_back(&mut parts, shard.into_part());
+    }
+    parts.reverse();
+    parts
+}
+
+impl<'a, R: RunName, T: Target> Shards<'a, R, T> {
+    /// The target that is left so beside these shards. `parts` has the room that joining them takes.
+    pub(crate) fn new(
+        index: &'a Index,
+        plan: &'a Plan,
+        rest: T::Rest,
+        shards: Vec<Shard<'a, T::Piece, R>>,
+        parts: Vec<T::Piece>,
+    ) -> Shards<'a, R, T>
+        requires dealt { IsDealt R.run index.now plan.now }
+        requires whole { IsWhole R.run T.tells (T.left rest) shards.items }
+        requires none { parts.items ≡ [] }
+        requires room { vec_len shards ≤ vec_capacity parts }
+        ensures { result ≡ whole_of (T.left rest) T.tells shards.entry.items }
+    {
+        Shards {
+            index,
+            plan,
+            rest,
+            shards,
+            parts,
+        }
+    }
+
+    /// The target, whose parts are joined. It takes no memory.
+    pub fn into_target(self) -> T
+        ensures held { T.held result ≡ self.entry.held }
+        ensures faults { T.faults result ≡ self.entry.faults }
+    {
+        let parts = parts_of(self.shards, self.parts);
+        T::rejoin(self.rest, parts)
+    }
+
+    /// The numbers of entries with each fate.
+    pub fn report(&self) -> Report
+        ensures kept { result.kept ≡ tally fate.Kept self.now.fates (length self.now.fates) }
+        ensures copied { result.copied ≡ tally fate.Copied self.now.fates (length self.now.fates) }
+        ensures seeded { result.seeded ≡ tally fate.Seeded self.now.fates (length self.now.fates) }
+        ensures cached { result.cached ≡ tally fate.Cached self.now.fates (length self.now.fates) }
+        ensures fetched { result.fetched ≡ tally fate.Fetched self.now.fates (length self.now.fates) }
+        ensures all { ((i : ℕ) → i < length self.now.fates → settled self.now.fates i ≡ true) →
+            result.kept + result.copied + result.seeded + result.cached + result.fetched ≡ length self.now.fates }
+    {
+        self.rules();
+        self.index.rules();
+        let mut report = Report::new();
+        for entry in 0..self.index.count() {
+            report.count(self.fate(entry));
+        }
+        report
+    }
+}
+
+impl<'a, R: RunName, T: Target> Ledger for Shards<'a, R, T> {
+    ghost run = { R.run };
+
+    ghost held = { λ s. s.held };
+
+    ghost fates = { λ s. s.fates };
+
+    ghost faults = { λ s. s.faults };
+
+    fn rules(&self) {
+        let _ = &self.shards;
+    }
+
+    fn fate(&self, entry: usize) -> Fate {
+        let k = self.plan.shard_of(entry);
+        self.shards[k].fate(entry)
+    }
+
+    fn read(&mut self, entry: usize, out: &mut [u8]) -> bool {
+        let k = self.plan.shard_of(entry);
+        let read = self.shards[k].read(entry, out);
+        self.shards[k].rules();
+        read
+    }
+
+    fn put(&mut self, entry: usize, chunk: &[u8], fate: Fate) -> Result<bool, Failed> {
+        let k = self.plan.shard_of(entry);
+        let put = self.shards[k].put(entry, chunk, fate);
+        self.shards[k].rules();
+        put
+    }
+}
