@@ -1,7 +1,8 @@
 //! Tests of shards, which know which of their entries are right. Entries are chunks of one byte.
 
-ghost use Rattle.std.specs.Prelude.{◌≡◌, ℕ, false, true};
-ghost use Rattle.range_ledger.specs.Runs.{IsDealt};
+ghost use Rattle.std.specs.Prelude.{◌≡◌, ◌<◌, ℕ, false, true};
+ghost use Rattle.caibx_codec.specs.Listing.{count_of};
+ghost use Rattle.range_ledger.specs.Runs.{Has, IsDealt, has_settled};
 
 use crate::compare::{ok, same};
 use crate::indexes::index_of_pieces;
@@ -55,6 +56,28 @@ fn reads<P: Part, R: RunName>(
     same(rt, out.as_slice(), chunk);
 }
 
+// Surveys the shard, in which no range is past the old end.
+fn surveys<R: RunName>(
+    rt: &impl Abort,
+    alloc: Global,
+    index: &Index,
+    unread: &mut Unread<MemTarget, R>,
+    found: Surveyed,
+)
+    requires listing { R.run.listing ≡ index.now }
+    requires none { (e : ℕ) → has_settled R.run unread.old e ≡ false }
+    requires inside { (e : ℕ) → Has R.run unread.old e → e < count_of R.run.listing }
+{
+    index.rules();
+    let old = index.length();
+    let mut room = ok(rt, index.room(alloc));
+    let zeros = ok(rt, ZeroNames::of(alloc, index, old, &mut room));
+    let Ok(mut buf) = index.room(alloc) else {
+        panic!(rt; "no memory");
+    };
+    same(rt, unread.survey(&zeros, old, &mut buf), found);
+}
+
 // The first shard of the plan over this part, after its survey.
 fn surveyed<'a, R: RunName>(
     rt: &impl Abort,
@@ -67,15 +90,11 @@ fn surveyed<'a, R: RunName>(
     requires dealt { IsDealt R.run index.now plan.now }
     requires untold { R.run.tells ≡ false }
 {
-    assert!(rt; 0 < plan.shards() && part.size() == shard_size::<R>(index, plan, 0));
-    let Ok(mut buf) = index.room(alloc) else {
-        panic!(rt; "no memory");
-    };
+    assert!(rt; 0 < plan.shards());
     let fates = ok(rt, open_fates::<R>(alloc, index, plan, 0));
-    let zeros = ok(rt, ZeroNames::of(alloc, index, index.length(), &mut buf));
-    index.rules();
+    assert!(rt; part.size() == shard_size::<R>(index, plan, 0));
     let mut unread = Unread::<MemTarget, R>::new(index, plan, 0, part, fates);
-    same(rt, unread.survey(&zeros, index.length(), &mut buf), found);
+    surveys(rt, alloc, index, &mut unread, found);
     unread.begin()
 }
 
