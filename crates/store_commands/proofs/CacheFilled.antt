@@ -6,10 +6,12 @@ use Rattle.std.specs.Map.{count_at}
 use Rattle.std.specs.Option.{option_map}
 use Rattle.cache_store.proofs.Stocked.{stocks_weaker}
 use Rattle.cache_store.specs.Shelves.{Shelf, Stocks, held_on}
+use Rattle.caibx_codec.specs.Asks.{IsListedGet}
 use Rattle.caibx_codec.specs.Listing.{Listing, count_of}
 use Rattle.chunk_store.specs.Folders.{chunks}
 use Rattle.chunk_store.specs.Said.{Said}
 use Rattle.chunk_store.specs.declared.id.ChunkId.{ChunkId}
+use Rattle.chunk_store.specs.declared.store.Store.{Ghosts as StoreWords}
 use Rattle.command_outcome.specs.declared.outcome.Outcome.{Outcome}
 use Rattle.command_outcome.specs.declared.outcome.Outcome.TheVariants as ends
 use Rattle.command_words.specs.declared.command.Location.{Location}
@@ -25,7 +27,7 @@ use Rattle.command_worlds.specs.Steps.{outcome_of}
 use Rattle.command_worlds.specs.Worlds.{Adds, DiskQuiet, FileRose, FolderRose, Reads, world}
 use Rattle.command_steps.specs.declared.any_store.AnyStore.{AnyStore}
 use Rattle.command_steps.proofs.Taken.{at_name_twice}
-use Rattle.command_steps.proofs.Found.{held_after, held_maps}
+use Rattle.command_steps.proofs.Found.{held_after}
 use Rattle.command_steps.proofs.Lacked.{have_lacked, same_length}
 use Rattle.store_commands.specs.Caching.{AddsListed, AllFilled, CacheEnds, Evidence, FillExactly, FillTells, FilledBetween, FillsEach, IndexFilled, IsHeldListed, IsNotHad, NotFilled, StopsFilling, answer_of_fill, of_calls, of_command, outcome_of_fill, FrontListed, GetsListed, listed_times}
 use Rattle.dsy_base.proofs.Counts.{at_same}
@@ -37,12 +39,13 @@ use Rattle.image_store.specs.PutChunks.{IsListedId as IsAmong}
 use Rattle.store_chain.specs.Chains.{Chained, KeepsStores}
 use Rattle.image_store.specs.Chopping.{AsksListed}
 use Rattle.store_chain.specs.Faults.{EachQuiet, NoneFalls}
+use Rattle.store_chain.specs.Refusals.{Refuses}
 use Rattle.store_chain.specs.declared.refused.Refused.{Refused}
 use Rattle.store_chain.specs.declared.refused.Refused.TheVariants as refused
 use Rattle.store_chain.specs.declared.query.Query.{Query}
 use Rattle.verify_tool.proofs.Asked.{each_then, each_weaker}
 use Rattle.verify_tool.proofs.Holding.{each_within, quiet_within}
-use Rattle.verify_tool.specs.Filling.{FillEnds, FillStops, FillsBy, GivesEntry, HoldsTo, FillUnfailed, RefusesEntry, MayFillCache, filled_to}
+use Rattle.verify_tool.specs.Filling.{FillEnds, FillStops, FillsBy, GivesEntry, HoldsTo, FillUnfailed, RefusesEntry, MayFillCache, entry_want, filled_to}
 use Rattle.verify_tool.specs.declared.fill.FillFault.{FillFault}
 use Rattle.verify_tool.specs.declared.fill.FillFault.TheVariants as faults
 
@@ -55,33 +58,30 @@ of_told o P x is h = subst (λ r. IfSome r P) is h
 
 -- ---- by one index
 
-module _ {S : Type 0} (files folder : S → Option (Map (List ℕ))) (place : S → List ℕ) (said : S → Said) (counted : S → ℕ) (l : Listing) (s0 s1 : Shelf) (c0 c1 : List S)
-    (kept : KeepsStores (λ s. option_map chunks (files s)) folder place said counted c0 c1) where
-  abbrev holds : S → Option (Map (List ℕ))
-  holds s = option_map chunks (files s)
-
+module _ {S : Type 0} (store : StoreWords S) (files : S → Option (Map (List ℕ))) (l : Listing) (s0 s1 : Shelf) (c0 c1 : List S)
+    (kept : KeepsStores store (IsListedGet l) c0 c1) (maps_of : (fs : List (Map (List ℕ))) → map files c0 ≡ map Some fs → map store.holds c0 ≡ map Some (map chunks fs)) (lacks : store.may_lack_memory ≡ true) where
   abbrev Calls : Evidence
-  Calls = of_calls files said counted c0 c1 s0.faults s1.faults
+  Calls = of_calls files store.said store.faults c0 c1 s0.faults s1.faults
 
-  held_listed : (q b : List ℕ) → MayFillCache holds l c0 q b → IsHeldListed Calls l q b
-  held_listed q b (listed, some) = (listed, λ fs told. some (map chunks fs) (held_maps files c0 fs told))
+  held_listed : (q b : List ℕ) → MayFillCache store.holds l c0 q b → IsHeldListed Calls l q b
+  held_listed q b (listed, some) = (listed, λ fs told. some (map chunks fs) (maps_of fs told))
 
-  added : Stocks (MayFillCache holds l c0) s0 s1 → AddsListed Calls l s0.files s1.files
+  added : Stocks (MayFillCache store.holds l c0) s0 s1 → AddsListed Calls l s0.files s1.files
   added h =
-      let weaker = stocks_weaker (MayFillCache holds l c0) (IsHeldListed Calls l) held_listed s0 s1 h in
+      let weaker = stocks_weaker (MayFillCache store.holds l c0) (IsHeldListed Calls l) held_listed s0 s1 h in
       record { tells = weaker.told; chunks_are = weaker.chunks; strangers = weaker.strangers }
 
-  lost : (k : ℕ) (id : ChunkId) (r : Refused) → RefusesEntry holds folder place said counted true l k id r s0 s1 c0 c1 → IsNotHad Calls l s1.files k id r
+  lost : (k : ℕ) (id : ChunkId) (r : Refused) → RefusesEntry store l k id r s0 s1 c0 c1 → IsNotHad Calls l s1.files k id r
   lost k id r h = record {
     listed = h.listed;
     id_is = h.id_is;
     cache = if_told (option_map chunks s1.files) (λ m. GivesEntry l k m → Rose s0.faults s1.faults)
         (λ m is gives. rose_later s0.faults h.shelf.faults s1.faults h.filled.never_falls (of_told (held_on h.shelf) (λ m. GivesEntry l k m → Rose h.shelf.faults s1.faults) m (ap (option_map chunks) (sym h.kept) ∙ is) h.unfound gives));
-    said = (h.before, same_length place h.before c1 (h.until.places ∙ sym kept.places), h.refused);
-    lacks = λ fs told. h.lacks (map chunks fs) (held_maps files c0 fs told);
+    said = (h.before, same_length store.place h.before c1 (h.until.places ∙ sym kept.places), subst (λ b. Refuses store.said store.faults b (entry_want l k id) h.before c1 r) lacks h.refused);
+    lacks = λ fs told. h.lacks (map chunks fs) (maps_of fs told);
   }
 
-  tells : (r : Result Unit FillFault) → FillEnds holds folder place said counted true l s0 s1 c0 c1 r → FillTells Calls l s1.files r
+  tells : (r : Result Unit FillFault) → FillEnds store l s0 s1 c0 c1 r → FillTells Calls l s1.files r
   tells (Ok u) h = tt
   tells (Err (faults.Missing k id)) h = lost k id refused.Missing h
   tells (Err (faults.Damaged k id s x)) h = lost k id (refused.Damaged s x) h
@@ -89,9 +89,9 @@ module _ {S : Type 0} (files folder : S → Option (Map (List ℕ))) (place : S 
   tells (Err faults.CacheFault) h = h
   tells (Err faults.Memory) h = tt
 
-  exact : (r : Result Unit FillFault) → ((m : Map (List ℕ)) (maps : List (Map (List ℕ))) → FillUnfailed holds counted l m maps s0 s1 c0 c1 → FillsBy l m maps r) → FillExactly Calls l s0.files r
+  exact : (r : Result Unit FillFault) → ((m : Map (List ℕ)) (maps : List (Map (List ℕ))) → FillUnfailed store.holds store.faults l m maps s0 s1 c0 c1 → FillsBy l m maps r) → FillExactly Calls l s0.files r
   exact r h = λ fs told unfailed. if_told (option_map chunks s0.files) _ (λ m held_is sizes.
-      h m (map chunks fs) (record { held = held_is; told = held_maps files c0 fs told; shelf = unfailed.0; stores = unfailed.1; sizes = sizes }))
+      h m (map chunks fs) (record { held = held_is; told = maps_of fs told; shelf = unfailed.0; stores = unfailed.1; sizes = sizes }))
 
   -- where it ended early
   stopped_files : (k : ℕ) (x y : Option (Map (List ℕ))) → IfSome x (λ m. IfSome y (λ n. (q : List ℕ) → (chunks n q ≡ chunks m q) ⊎ ((b : List ℕ) × (chunks n q ≡ Some b) × IsAmong l k q)))
@@ -107,8 +107,8 @@ module _ {S : Type 0} (files folder : S → Option (Map (List ℕ))) (place : S 
   stops asked queried d0 d1 (Ok u) h = tt
   stops asked queried d0 d1 (Err fault) h = record { entry = h.entry; names = h.names; holds = h.holds; others = stopped_files (h.entry + 1) s0.files s1.files h.stocks.chunks }
 
-  pub index_filled : (r : Result Unit FillFault) → IfErr r (λ fault. StopsFilling l fault s0.files s1.files) → Stocks (MayFillCache holds l c0) s0 s1 → HoldsTo l (filled_to l r) s1 → FillEnds holds folder place said counted true l s0 s1 c0 c1 r
-      → ((m : Map (List ℕ)) (maps : List (Map (List ℕ))) → FillUnfailed holds counted l m maps s0 s1 c0 c1 → FillsBy l m maps r) → IndexFilled Calls l s0.files s1.files r
+  pub index_filled : (r : Result Unit FillFault) → IfErr r (λ fault. StopsFilling l fault s0.files s1.files) → Stocks (MayFillCache store.holds l c0) s0 s1 → HoldsTo l (filled_to l r) s1 → FillEnds store l s0 s1 c0 c1 r
+      → ((m : Map (List ℕ)) (maps : List (Map (List ℕ))) → FillUnfailed store.holds store.faults l m maps s0 s1 c0 c1 → FillsBy l m maps r) → IndexFilled Calls l s0.files s1.files r
   index_filled r order stocks all fill_ends exactly = record { added = added stocks; holds = all; tells = tells r fill_ends; exactly = exact r exactly; order = order }
 
 -- ---- seen over more calls

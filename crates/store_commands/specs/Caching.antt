@@ -4,14 +4,16 @@ use Rattle.std.specs.Prelude.{Option, Some, IfSome, IfErr, IsSomeAnd, IsTrue, tr
 use Rattle.std.specs.List.{All, AllZip, Any}
 use Rattle.std.specs.Option.{option_map}
 use Rattle.cache_store.specs.Giving.{GiveOneSize}
+use Rattle.caibx_codec.specs.Asks.{IsListedGet}
 use Rattle.caibx_codec.specs.Listing.{Listing, count_of, id_of, kind_of}
+use Rattle.chunk_store.specs.Asks.{Ask}
 use Rattle.chunk_store.specs.Folders.{chunks}
 use Rattle.chunk_store.specs.Giving.{IsChunk}
 use Rattle.chunk_store.specs.Said.{Said}
 use Rattle.chunk_store.specs.declared.id.ChunkId.{ChunkId}
 use Rattle.command_outcome.specs.declared.outcome.Outcome.{Outcome}
 use Rattle.command_outcome.specs.declared.outcome.Outcome.TheVariants as ends
-use Rattle.command_steps.specs.Asking.{Asks, EachDialed}
+use Rattle.command_steps.specs.Asking.{AsksOnly, EachDialed}
 use Rattle.command_steps.specs.Cache.{CacheOpened}
 use Rattle.command_steps.specs.InputFiles.{IsListed, Listed, NotRead}
 use Rattle.command_steps.specs.Sources.{DialsStores, OnSources, Sources, SourcesOpened, location_files}
@@ -169,11 +171,17 @@ abbrev pub listed_times : List Listing → List ℕ → ℕ
 listed_times [] id = 0
 listed_times (l ∷ ls) id = times_listed l (count_of l) id + listed_times ls id
 
--- each server was asked for the chunk of an id at most once for each entry that lists it, and never whether it has one
+-- the chunk of one of their entries is asked for
+abbrev pub IsGetAmong : List Listing → Ask → Type 0
+IsGetAmong [] a = ⊥
+IsGetAmong (l ∷ ls) a = IsListedGet l a ⊎ IsGetAmong ls a
+
+-- each server was asked for the chunk of an id at most once for each entry that lists it, and never whether it has one,
+-- and nothing else was sent to it but fronts of such requests
 pub record GetsListed (d : Disk) (indexes : List (List ℕ)) (stores : List Location) (k j : DialState) : Type 0 where
   pub listings : List Listing
   pub read : FrontListed d indexes listings
-  pub gets : EachDialed (Asks (listed_times listings) (λ id. 0)) stores k.ended j.ended
+  pub gets : EachDialed (AsksOnly (listed_times listings) (λ id. 0) (IsGetAmong listings)) stores k.ended j.ended
 
 -- ---- the command
 

@@ -1,6 +1,7 @@
 -- `info -s STORE.. INDEX`.
 use Rattle.std.specs.Prelude.{◌≡◌, ◌⊎◌, ℕ, ◌<◌, ◌≤◌, if◌then◌else◌, List, length}
 use Rattle.std.specs.Prelude.{map, Option, Some, None, IfSome, Result, Ok, Err}
+use Rattle.caibx_codec.specs.Asks.{IsListedHas}
 use Rattle.caibx_codec.specs.Listing.{Listing, count_of, id_of}
 use Rattle.chunk_store.specs.Folders.{chunks}
 use Rattle.command_outcome.specs.declared.outcome.Outcome.{Outcome}
@@ -9,7 +10,7 @@ use Rattle.command_words.specs.declared.command.Location.{Location}
 use Rattle.dsy_base.specs.Maps.{Map}
 use Rattle.verify_tool.specs.Counts.{DeniesOthers, held_count, is_listed_before}
 use Rattle.verify_tool.specs.Texts.{text_of_info, unique_count}
-use Rattle.command_steps.specs.Asking.{Asks, EachDialed}
+use Rattle.command_steps.specs.Asking.{AsksOnly, EachDialed}
 use Rattle.command_steps.specs.InputFiles.{IndexRead}
 use Rattle.command_worlds.specs.Printing.{Printed}
 use Rattle.command_worlds.specs.Steps.{◌>>=◌}
@@ -46,10 +47,11 @@ CountedInStores w v stores l (Ok None) = length stores ≡ 0
 CountedInStores w v stores l (Ok (Some n)) = (0 < length stores) × IsCount w v stores l n
 CountedInStores w v stores l (Err o) = NotCounted w v stores l o
 
--- servers are asked for no chunk, and whether they have one at most once for each listed id
+-- servers are asked for no chunk, and whether they have one at most once for each listed id, and nothing else is sent
+-- to them but fronts of such requests
 abbrev pub IdsCounted : List Location → Listing → Step Sources (Option ℕ)
 IdsCounted stores l w r v = CountedInStores w v stores l r × ConsultsStores stores w v
-    × EachDialed (Asks (λ id. 0) (asks_once l)) stores w.dial.ended v.dial.ended
+    × EachDialed (AsksOnly (λ id. 0) (asks_once l) (IsListedHas l)) stores w.dial.ended v.dial.ended
 
 abbrev pub InfoEnds : List Location → List ℕ → Step World Unit
 InfoEnds stores index = do

@@ -5,19 +5,20 @@ ghost use Rattle.std.specs.List.{AllZip};
 ghost use Rattle.cache_store.specs.Shelves.{shelf_of};
 ghost use Rattle.caibx_codec.specs.Listing.{Listing};
 ghost use Rattle.chunk_store.specs.declared.id.DigestKind.TheVariants as kinds;
-ghost use Rattle.command_steps.specs.AnyStores.{IsKnown, IsUnused, asked_in, chunks_in, source_faults, source_files};
-ghost use Rattle.command_steps.specs.AnyStores.{location_in, place_in, said_in};
+ghost use Rattle.command_steps.specs.AnyStores.{IsKnown, IsUnused, asked_in, source_faults, source_files};
+ghost use Rattle.command_steps.specs.AnyStores.{location_in, said_in};
 ghost use Rattle.command_steps.specs.Cache.{with_cache};
 ghost use Rattle.command_steps.specs.Sources.{sources, location_files};
 ghost use Rattle.command_worlds.specs.Worlds.{Reads, world};
 ghost use Rattle.store_commands.specs.Caching.{CacheEnds, FillsEach, FrontListed, IndexesFilled};
-ghost use Rattle.store_commands.specs.Caching.{answer_of_fill, listed_times, of_calls};
+ghost use Rattle.store_commands.specs.Caching.{IsGetAmong, answer_of_fill, listed_times, of_calls};
 ghost use Rattle.http_wire.specs.declared.reply.Method.TheVariants as methods;
 ghost use Rattle.dsy_base.specs.Disk.{Output};
 ghost use Rattle.store_chain.specs.Chains.{KeepsStores};
 
 use cache_store::cached::Cached;
 use cache_store::shelf::CacheShelf;
+use chunk_store::store::Store;
 use command_outcome::outcome::Outcome;
 use command_steps::any_store::AnyStore;
 use command_steps::cache::{give_shelf, take_shelf};
@@ -73,12 +74,11 @@ fn fill_each<F: Files, D: Dial>(
         (F.disk files.old) (F.disk files.new) indexes.now
         (F.Folder.files cached.old.shelf.folder) (F.Folder.files cached.new.shelf.folder) result }
     ensures kept { Reads (F.disk files.old) (F.disk files.new) }
-    ensures stores { KeepsStores (chunks_in F.Look.files) (source_files F.Look.files) (place_in F.Look.place)
-        (said_in F.Look.files D.state) (source_faults F.Look.faults D.state)
-        cached.old.chain.stores cached.new.chain.stores }
     ensures asks { (ls : List Listing) × FrontListed (F.disk files.old) indexes.now ls
         × AllZip (λ a b. (id : List ℕ) → asked_in methods.Get D.state b id ≤ asked_in methods.Get D.state a id
-        + listed_times ls id) cached.old.chain.stores cached.new.chain.stores }
+        + listed_times ls id) cached.old.chain.stores cached.new.chain.stores
+        × KeepsStores ⟦<AnyStore<F::Look, D> as Store>⟧ (IsGetAmong ls)
+        cached.old.chain.stores cached.new.chain.stores }
     ensures queries { map (asked_in methods.Head D.state) cached.new.chain.stores
         ≡ map (asked_in methods.Head D.state) cached.old.chain.stores }
     ensures place { F.Folder.place cached.new.shelf.folder ≡ F.Folder.place cached.old.shelf.folder }

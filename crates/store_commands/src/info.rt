@@ -1,8 +1,9 @@
 //! `info -s STORE.. INDEX`: the figures of an index, and how many of its ids the stores hold where some are given.
 
 ghost use Rattle.std.specs.Prelude.{◌≡◌, ◌≤◌, length, Some};
+ghost use Rattle.caibx_codec.specs.Asks.{IsListedHas};
 ghost use Rattle.store_commands.specs.Info.{CountedInStores, InfoEnds, asks_once};
-ghost use Rattle.command_steps.specs.Asking.{Asks, EachDialed};
+ghost use Rattle.command_steps.specs.Asking.{AsksOnly, EachDialed};
 ghost use Rattle.command_worlds.specs.Printing.{Printed};
 ghost use Rattle.command_steps.specs.Sources.{ConsultsStores, sources};
 ghost use Rattle.command_worlds.specs.Worlds.{world};
@@ -37,8 +38,8 @@ fn count<F: Files, D: Dial>(
         (sources (F.disk files.new) (D.state dial.new)) stores.now index.now result }
     ensures kept { ConsultsStores stores.now (sources (F.disk files.old) (D.state dial.old))
         (sources (F.disk files.new) (D.state dial.new)) }
-    ensures asks { EachDialed (Asks (λ id. 0) (asks_once index.now)) stores.now (D.state dial.old).ended
-        (D.state dial.new).ended }
+    ensures asks { EachDialed (AsksOnly (λ id. 0) (asks_once index.now) (IsListedHas index.now)) stores.now
+        (D.state dial.old).ended (D.state dial.new).ended }
 {
     if stores.is_empty() {
         return Ok(None);

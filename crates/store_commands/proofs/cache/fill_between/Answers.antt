@@ -5,13 +5,14 @@ use Rattle.command_steps.proofs.Cached.{given_adds}
 use Rattle.command_steps.proofs.Given.{all_later, stand_still}
 use Rattle.command_steps.specs.AnyStores.{IsGiven, IsKnown, IsUnused, asked_in, source_faults, source_files, location_in, said_in, with_those}
 use Rattle.std.specs.List.{fold}
-use Rattle.command_steps.proofs.Asking.{each_asked, none_more}
+use Rattle.command_steps.proofs.AskedOnly.{each_asked_only}
+use Rattle.command_steps.proofs.Asking.{none_more}
 use Rattle.http_wire.specs.declared.reply.Method.TheVariants as method
 use Rattle.command_steps.specs.Cache.{CacheGiven, with_cache}
 use Rattle.command_steps.specs.Sources.{ConsultsStores, sources, location_files}
 use Rattle.store_commands.proofs.CacheFilled.{filled_between}
 use Rattle.store_commands.proofs.cache.fill_between.Goals as goal
-use Rattle.store_commands.specs.Caching.{FillsEach, listed_times, of_calls}
+use Rattle.store_commands.specs.Caching.{FillsEach, IsGetAmong, listed_times, of_calls}
 
 pub give_shelf-requires : goal.give_shelf-requires
 give_shelf-requires g c =
@@ -35,7 +36,7 @@ close_sources-requires g c =
     let after = c.fill_each-filled.new.cached.chain.stores in
     let first : before ≡ c.args.stores.items = ap (λ b. b.chain.stores) c.new-cached.ensures ∙ ap (λ k. k.stores) c.new.ensures.value in
     let last : c.into_stores.result.items ≡ after = c.into_stores.ensures.value ∙ ap (λ p. p.1.stores) c.into_parts-shelf.ensures in
-    let located = ap (map (location_in place)) last ∙ stand_still place before after over.stores.places ∙ ap (map (location_in place)) first in
+    let located = ap (map (location_in place)) last ∙ stand_still place before after over.asks.3.places ∙ ap (map (location_in place)) first in
     let gave = given_adds (Some (shelf_of D.files D.place D.faults c.into_parts-shelf.result.0)) (at c.fill_each-filled.new.files) (at c.give_shelf.new.files) c.give_shelf.ensures.given in
     let known = all_later (at c.args.files.now).folder_counts (at c.give_shelf.new.files).folder_counts (λ q is. gave.folder_known q (over.kept.folder_known q is)) (map (location_in place) c.args.stores.items) c.requires.known in
     record { known = subst (λ (l : List Location). All (IsKnown (at c.give_shelf.new.files).folder_counts) l) (sym located) known }
@@ -72,7 +73,7 @@ returns g c =
     let began : shelf ≡ c.args.shelf = ap (λ b. b.shelf) c.new-cached.ensures in
     let last : c.into_stores.result.items ≡ after = c.into_stores.ensures.value ∙ ap (λ p. p.1.stores) c.into_parts-shelf.ensures in
     let given : c.into_parts-shelf.result.0 ≡ c.fill_each-filled.new.cached.shelf = ap (λ p. p.0) c.into_parts-shelf.ensures in
-    let located : map (location_in place) after ≡ names = stand_still place before after over.stores.places ∙ ap (map (location_in place)) first in
+    let located : map (location_in place) after ≡ names = stand_still place before after over.asks.3.places ∙ ap (map (location_in place)) first in
     let fresh = subst (λ ys. map counted ys ≡ map {B = ℕ} (λ q. 0) names) (sym first) c.requires.fresh in
     let found = subst (λ ys. IfSome (with_cache (Some s) d0).folders (λ n. map told ys ≡ map (location_files n) names)) (sym first) c.requires.found in
     let gives = subst (λ f. CacheGiven (Some (shelf_of D.files D.place D.faults f)) b m) given c.give_shelf.ensures.given in
@@ -83,8 +84,8 @@ returns g c =
     let at_zero = subst (λ (n : ℕ). FillsEach (of_calls told said counted before after n t.faults) d0 b indexes s.files t.files c.fill_each-filled.result) c.requires.cache_fresh.0 from in
     let asked = over.asks in
     let ended = subst (λ ys. j.ended ≡ fold (with_those state) k.ended ys) last c.close_sources.ensures.ended in
-    let gets = each_asked place state (listed_times asked.0) (λ id. 0) before after names k.ended j.ended (subst (λ ys. All (IsUnused state) ys) (sym first) c.requires.unused) asked.2 (none_more (asked_in method.Head state) before after over.queries) located ended in
+    let gets = each_asked_only place state (listed_times asked.0) (λ id. 0) (IsGetAmong asked.0) before after names k.ended j.ended (subst (λ ys. All (IsUnused state) ys) (sym first) c.requires.unused) asked.2 (none_more (asked_in method.Head state) before after over.queries) asked.3.sends located ended in
     record {
-      filled = filled_between files place faults state cache s t d0 b m e k j names before after c.requires.cache_named (over.place ∙ ap (λ f. D.place f.folder) began ∙ c.requires.cache_named) over.kept gives closed fresh located over.stores.files found gained indexes c.fill_each-filled.result at_zero
+      filled = filled_between files place faults state cache s t d0 b m e k j names before after c.requires.cache_named (over.place ∙ ap (λ f. D.place f.folder) began ∙ c.requires.cache_named) over.kept gives closed fresh located over.asks.3.files found gained indexes c.fill_each-filled.result at_zero
           (record { listings = asked.0; read = asked.1; gets = gets });
     }

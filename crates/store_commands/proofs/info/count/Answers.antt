@@ -1,6 +1,7 @@
 use Rattle.std.proofs.Common.{◌<◌, ◌∙◌, ℕ, All, List, arith, inr, length, slice_index_or, subst, sym}
 use Rattle.std.proofs.lemmas.Grind.{common_steps}
 use Rattle.std.proofs.lemmas.List.Elements.{length_all_zip}
+use Rattle.caibx_codec.specs.Asks.{IsListedHas}
 use Rattle.caibx_codec.specs.Listing.{id_of}
 use Rattle.chunk_store.specs.Said.{KeepsOf, Said}
 use Rattle.command_steps.proofs.Consulted.{only_read, reads_consult}
@@ -10,8 +11,9 @@ use Rattle.command_steps.specs.AnyStores.{IsGiven, IsKnown, asked_in, chunks_in,
 use Rattle.command_steps.specs.Sources.{ConsultsStores, sources}
 use Rattle.command_steps.specs.declared.any_store.AnyStore.{AnyStore}
 use Rattle.command_words.specs.declared.command.Location.{Location}
-use Rattle.command_steps.proofs.Asking.{each_asked, none_dialed, none_more}
-use Rattle.command_steps.specs.Asking.{Asks}
+use Rattle.command_steps.proofs.Asking.{none_dialed, none_more}
+use Rattle.command_steps.proofs.AskedOnly.{each_asked_only}
+use Rattle.command_steps.specs.Asking.{AsksOnly}
 use Rattle.store_commands.proofs.Counting.{counted_told, each_once, ended_by, others_denied}
 use Rattle.store_commands.specs.Info.{asks_once}
 use Rattle.http_wire.specs.declared.reply.Method.TheVariants as method
@@ -155,8 +157,8 @@ returns-in-Ok-clause-asks g c =
     let ended = rw c.into_stores.ensures.value at c.close_sources.ensures.ended in
     let asked = rw c.new-chain.ensures.value at c.count_in_store-counted.ensures.asks.stores in
     let queried = rw c.new-chain.ensures.value at c.count_in_store-counted.ensures.queries in
-    each_asked place state (λ id. 0) (asks_once c.args.index.now) before after c.args.stores.now (state c.args.dial.now).ended (state c.close_sources.new.dial).ended opened.unused
-    (none_more (asked_in method.Get state) before after asked) (each_once (asked_in method.Head state) c.args.index.now before after queried) located ended
+    each_asked_only place state (λ id. 0) (asks_once c.args.index.now) (IsListedHas c.args.index.now) before after c.args.stores.now (state c.args.dial.now).ended (state c.close_sources.new.dial).ended opened.unused
+    (none_more (asked_in method.Get state) before after asked) (each_once (asked_in method.Head state) c.args.index.now before after queried) kept.sends located ended
 
 pub returns-in-StoreFault-clause-asks : goal.returns-in-StoreFault-clause-asks
 returns-in-StoreFault-clause-asks g c =
@@ -170,8 +172,8 @@ returns-in-StoreFault-clause-asks g c =
     let ended = rw c.into_stores.ensures.value at c.close_sources.ensures.ended in
     let asked = rw c.new-chain.ensures.value at c.count_in_store-counted.ensures.asks.stores in
     let queried = rw c.new-chain.ensures.value at c.count_in_store-counted.ensures.queries in
-    each_asked place state (λ id. 0) (asks_once c.args.index.now) before after c.args.stores.now (state c.args.dial.now).ended (state c.close_sources.new.dial).ended opened.unused
-    (none_more (asked_in method.Get state) before after asked) (each_once (asked_in method.Head state) c.args.index.now before after queried) located ended
+    each_asked_only place state (λ id. 0) (asks_once c.args.index.now) (IsListedHas c.args.index.now) before after c.args.stores.now (state c.args.dial.now).ended (state c.close_sources.new.dial).ended opened.unused
+    (none_more (asked_in method.Get state) before after asked) (each_once (asked_in method.Head state) c.args.index.now before after queried) kept.sends located ended
 
 pub returns-in-Memory-clause-asks : goal.returns-in-Memory-clause-asks
 returns-in-Memory-clause-asks g c =
@@ -185,8 +187,9 @@ returns-in-Memory-clause-asks g c =
     let ended = rw c.into_stores.ensures.value at c.close_sources.ensures.ended in
     let asked = rw c.new-chain.ensures.value at c.count_in_store-counted.ensures.asks.stores in
     let queried = rw c.new-chain.ensures.value at c.count_in_store-counted.ensures.queries in
-    each_asked place state (λ id. 0) (asks_once c.args.index.now) before after c.args.stores.now (state c.args.dial.now).ended (state c.close_sources.new.dial).ended opened.unused
-    (none_more (asked_in method.Get state) before after asked) (each_once (asked_in method.Head state) c.args.index.now before after queried) located ended
+    each_asked_only place state (λ id. 0) (asks_once c.args.index.now) (IsListedHas c.args.index.now) before after c.args.stores.now (state c.args.dial.now).ended (state c.close_sources.new.dial).ended opened.unused
+    (none_more (asked_in method.Get state) before after asked) (each_once (asked_in method.Head state) c.args.index.now before after queried) kept.sends located ended
 
 pub returns-in_err-opened-clause-asks : goal.returns-in_err-opened-clause-asks
-returns-in_err-opened-clause-asks g c = none_dialed (Asks (λ id. 0) (asks_once c.args.index.now)) (λ s. (λ id. omega arith, λ id. omega arith)) c.args.stores.now (g.D.Dial.state c.args.dial.now).ended
+returns-in_err-opened-clause-asks g c = none_dialed (AsksOnly (λ id. 0) (asks_once c.args.index.now) (IsListedHas c.args.index.now))
+    (λ s. ((λ id. omega arith, λ id. omega arith), λ k d lt. absurd (omega (arith, lt)))) c.args.stores.now (g.D.Dial.state c.args.dial.now).ended
