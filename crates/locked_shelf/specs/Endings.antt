@@ -39,7 +39,8 @@ module _ (kind : DigestKind) (may : Act → List ℕ → Answer → Type 0) (wri
   HasEndedSo false l = IfSome l.traffic IsAnswered ⊎ (Rose 0 l.faults × IfSome l.traffic IsBrokenOff)
   HasEndedSo true l = IfSome l.traffic IsBrokenOff
 
--- the same over a folder whose type names the files that it began with. The bytes are told exactly where `tells` is true
+-- the same over a folder whose type names the files that it began with. The bytes are told exactly where `tells` is
+-- true
 pub record EndsOver
     (opening : Option (Map (List ℕ))) (never_fails writable tells lacking : Bool) (l : LinkState) : Type 0 where
   pub told : is_some l.traffic ≡ tells

@@ -1,5 +1,5 @@
-//! A folder of chunks that threads share: a shelf behind a lock, and a thread for each connection that comes. Connections
-//! are counted from 0.
+//! A folder of chunks that threads share: a shelf behind a lock, and a thread for each connection that comes.
+//! Connections are counted from 0.
 #![tactic(auto)]
 
 pub mod door;

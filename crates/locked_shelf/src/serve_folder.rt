@@ -51,9 +51,9 @@ where
     (shelf.into_inner().into_inner().into_inner(), served)
 }
 
-/// Listens at an address, and serves the chunks of a folder over each connection that comes, by a thread for each, until
-/// no more come. The folder is given back, with right chunks added or put in the place of others. `ListenFault`: it
-/// can't listen there, or the next connection can't be taken.
+/// Listens at an address, and serves the chunks of a folder over each connection that comes, by a thread for each,
+/// until no more come. The folder is given back, with right chunks added or put in the place of others. `ListenFault`:
+/// it can't listen there, or the next connection can't be taken.
 pub fn serve_folder<L: Listen, F: Folder + Send, R: Threads + Wait + Sync>(
     rt: &R,
     alloc: Global,

@@ -50,8 +50,8 @@ fn drain<S: Read>(stream: &mut S) {
     }
 }
 
-// Says that nothing more is sent, and takes what the peer still sends, for a short time: the end of a connection that is
-// closed before that was taken may reach the peer before the last reply does (RFC 9112, section 9.6).
+// Says that nothing more is sent, and takes what the peer still sends, for a short time: the end of a connection that
+// is closed before that was taken may reach the peer before the last reply does (RFC 9112, section 9.6).
 fn linger<S: Read + OpenStream>(stream: &mut S) {
     if stream.shutdown(Shutdown::Write).is_err() {
         return;
