@@ -13,7 +13,7 @@ returns-in_err-held g c =
     let at = g.F.Files.disk in
     let state = g.D.Dial.state in
     let counted = subst (λ (s : List Location). IdsCounted s c.in_ok-listed.listed (sources (at c.load_index.new.files) (state c.args.dial.now)) (Err c.in_err-held.field-0.0) (sources (at c.count.new.files) (state c.count.new.dial))) c.as_slice.ensures (held.counted, held.kept, held.asks) in
-    record { ends = rw (p.1, p.2) (inr (record { disk = _; dial = _; out = _; gave = c.in_ok-listed.listed; did = ((listed.ok, listed.kept), refl, refl); then = inl (counted, refl) })) }
+    record { ends = rw (p.1, p.2) (inr (record { disk = _; dial = _; out = _; gave = c.in_ok-listed.listed; did = ((listed.ok, listed.kept, listed.used), refl, refl); then = inl (counted, refl) })) }
 
 pub returns-in_err-print : goal.returns-in_err-print
 returns-in_err-print g c =
@@ -23,7 +23,7 @@ returns-in_err-print g c =
     let at = g.F.Files.disk in
     let state = g.D.Dial.state in
     let counted = subst (λ (s : List Location). IdsCounted s c.in_ok-listed.listed (sources (at c.load_index.new.files) (state c.args.dial.now)) (Ok c.in_ok-held.held) (sources (at c.count.new.files) (state c.count.new.dial))) c.as_slice.ensures (held.counted, held.kept, held.asks) in
-    record { ends = rw (p.1, p.2) (inr (record { disk = _; dial = _; out = _; gave = c.in_ok-listed.listed; did = ((listed.ok, listed.kept), refl, refl); then = inr (record { disk = _; dial = _; out = _; gave = _; did = (counted, refl); then = (c.in_err-print.ensures.printed, refl, refl) }) })) }
+    record { ends = rw (p.1, p.2) (inr (record { disk = _; dial = _; out = _; gave = c.in_ok-listed.listed; did = ((listed.ok, listed.kept, listed.used), refl, refl); then = inr (record { disk = _; dial = _; out = _; gave = _; did = (counted, refl); then = (c.in_err-print.ensures.printed, refl, refl) }) })) }
 
 pub returns : goal.returns
 returns g c =
@@ -32,4 +32,4 @@ returns g c =
     let at = g.F.Files.disk in
     let state = g.D.Dial.state in
     let counted = subst (λ (s : List Location). IdsCounted s c.in_ok-listed.listed (sources (at c.load_index.new.files) (state c.args.dial.now)) (Ok c.in_ok-held.held) (sources (at c.count.new.files) (state c.count.new.dial))) c.as_slice.ensures (held.counted, held.kept, held.asks) in
-    record { ends = record { disk = _; dial = _; out = _; gave = c.in_ok-listed.listed; did = ((listed.ok, listed.kept), refl, refl); then = record { disk = _; dial = _; out = _; gave = _; did = (counted, refl); then = (c.in_ok-print.ensures.printed, refl, refl) } } }
+    record { ends = record { disk = _; dial = _; out = _; gave = c.in_ok-listed.listed; did = ((listed.ok, listed.kept, listed.used), refl, refl); then = record { disk = _; dial = _; out = _; gave = _; did = (counted, refl); then = (c.in_ok-print.ensures.printed, refl, refl) } } }

@@ -1,6 +1,6 @@
 use Rattle.std.proofs.Common.{◌≡◌, List, ℕ, Bool, Ok, Err, inl, inr, refl, subst, ap, ◌∙◌}
 use Rattle.std.proofs.lemmas.Result.{err_from_is_err_and}
-use Rattle.command_steps.specs.Seeds.{IndexesRead, NoneListed}
+use Rattle.command_steps.specs.Seeds.{IndexesRead}
 use Rattle.command_steps.specs.Stores.{NotReached, StoreTaken}
 use Rattle.store_commands.proofs.GivenFolders.{reads_still}
 use Rattle.store_commands.specs.Prune.{StorePruned}
@@ -11,8 +11,9 @@ pub returns-in_err-listed : goal.returns-in_err-listed
 returns-in_err-listed g c =
     let p = err_from_is_err_and c.from_residual.result c.from_residual.ensures.1 in
     let at = g.F.Files.disk in
-    let refused = subst (λ (qs : List (List ℕ)). NoneListed (at c.args.files.now) (at c.read_indexes.new.files) 0 qs c.in_err-listed.field-0.0) c.as_slice.ensures c.in_err-listed.ensures.err in
-    record { ends = λ k o. rw (p.1, p.2) (inl ((refused, c.in_err-listed.ensures.kept), refl, refl)) }
+    let unread = c.in_err-listed.ensures in
+    let refused = subst (λ (qs : List (List ℕ)). IndexesRead qs (at c.args.files.now) (Err c.in_err-listed.field-0.0) (at c.read_indexes.new.files)) c.as_slice.ensures (unread.err, unread.kept, unread.used) in
+    record { ends = λ k o. rw (p.1, p.2) (inl (refused, refl, refl)) }
 
 pub returns-in_default : goal.returns-in_default
 returns-in_default g c =

@@ -11,7 +11,7 @@ returns-in_err-check_view g c =
     let check = c.in_err-check_view.ensures in
     let at = g.F.Files.disk in
     let checked = subst (λ (n : List ℕ). ImageChecked n c.in_ok-listed.listed (g.F.View.View.held c.in_ok-view.view).bytes (at c.open_image.new.files) (Err c.in_err-check_view.field-0.0) (at c.check_view.new.files)) view.fresh.1 (check.checked, check.kept) in
-    record { ends = λ k o. rw (p.1, p.2) (inr (record { disk = _; dial = _; out = _; gave = c.in_ok-listed.listed; did = ((listed.ok, listed.kept), refl, refl); then = inr (record { disk = _; dial = _; out = _; gave = _; did = ((view.ok, view.kept), refl, refl); then = (checked, refl, refl) }) })) }
+    record { ends = λ k o. rw (p.1, p.2) (inr (record { disk = _; dial = _; out = _; gave = c.in_ok-listed.listed; did = ((listed.ok, listed.kept, listed.used), refl, refl); then = inr (record { disk = _; dial = _; out = _; gave = _; did = ((view.ok, view.kept, view.used), refl, refl); then = (checked, refl, refl) }) })) }
 
 pub returns : goal.returns
 returns g c =
@@ -20,4 +20,4 @@ returns g c =
     let check = c.in_ok-check_view.ensures in
     let at = g.F.Files.disk in
     let checked = subst (λ (n : List ℕ). ImageChecked n c.in_ok-listed.listed (g.F.View.View.held c.in_ok-view.view).bytes (at c.open_image.new.files) (Ok tt) (at c.check_view.new.files)) view.fresh.1 (check.checked, check.kept) in
-    record { ends = λ k o. record { disk = _; dial = _; out = _; gave = c.in_ok-listed.listed; did = ((listed.ok, listed.kept), refl, refl); then = record { disk = _; dial = _; out = _; gave = _; did = ((view.ok, view.kept), refl, refl); then = (checked, refl, refl) } } }
+    record { ends = λ k o. record { disk = _; dial = _; out = _; gave = c.in_ok-listed.listed; did = ((listed.ok, listed.kept, listed.used), refl, refl); then = record { disk = _; dial = _; out = _; gave = _; did = ((view.ok, view.kept, view.used), refl, refl); then = (checked, refl, refl) } } }
