@@ -1,32 +1,31 @@
 -- How often stores were asked, from one want to the next.
-use Rattle.std.proofs.Common.{◌≡◌, ◌⊎◌, ℕ, zero, suc, ◌+◌, ◌-◌, ◌<◌, ◌≤◌, List, [], ◌∷◌, map, slice_index, Option, Bool, true, false, if◌then◌else◌, inl, inr, refl, sym, subst, arith, add-one}
-use Rattle.std.proofs.lemmas.Bool.{cases_Bool}
+use Rattle.std.proofs.Common.{◌≡◌, ◌≢◌, ◌⊎◌, ℕ, zero, suc, ◌+◌, ◌<◌, ◌≤◌, List, [], ◌∷◌, slice_index, Bool, true, false, if◌then◌else◌, inl, inr, refl, sym, ap, ◌∙◌, subst, arith}
+use Rattle.std.proofs.lemmas.Bool.{cases_Bool, cases_eq, true≢false}
 use Rattle.std.proofs.lemmas.Slice.Eq.{bytes_eq-Decides}
 use Rattle.std.specs.Bool.{Decides}
 use Rattle.std.specs.Str.{bytes_eq}
 use Rattle.assembler.proofs.CacheSpared.{cache_never, cache_part}
 use Rattle.assembler.proofs.Counted.{quiet_part}
-use Rattle.assembler.proofs.Filled.{grows_none, settled_on}
-use Rattle.assembler.proofs.Stepped.{seeds_none}
-use Rattle.assembler.specs.Fills.{Grows}
-use Rattle.cache_store.specs.Shelves.{Shelf}
-use Rattle.caibx_codec.specs.Listing.{Listing, kind_of, size_of}
-use Rattle.chunk_sources.proofs.Cached.{stocked_none}
+use Rattle.assembler.proofs.Filled.{settled_on}
+use Rattle.assembler.proofs.Stepped.{stretch_none}
+use Rattle.assembler.specs.Passes.{PassAsks, once}
+use Rattle.assembler.specs.Stages.{Stage, Stretch, from}
+use Rattle.caibx_codec.specs.Listing.{size_of}
+use Rattle.chunk_sources.proofs.Cached.{stocked_falls}
 use Rattle.chunk_sources.proofs.Lacking.{quiet_never}
 use Rattle.chunk_sources.specs.Asks.{AreSpared, AsksAtMost, IsSpared, asked_at, asks_below, asks_for, calls_below, calls_for}
-use Rattle.chunk_sources.specs.Caches.{Stocked, TakesWants, cache_faults}
+use Rattle.chunk_sources.specs.Caches.{TakesWants}
 use Rattle.chunk_sources.specs.Losses.{AskedLast}
-use Rattle.chunk_sources.specs.Sources.{HeldAt, KeepsSeeds}
+use Rattle.chunk_sources.specs.Sources.{HeldAt, counts_of, views_of}
+use Rattle.chunk_sources.specs.Wants.{Task, want_chunk}
 use Rattle.chunk_store.specs.Said.{AskedOnce}
-use Rattle.dsy_base.specs.Bytes.{Held}
+use Rattle.chunk_store.specs.declared.store.Store.{Ghosts as StoreWords}
 use Rattle.dsy_base.specs.Counts.{Rose}
-use Rattle.dsy_base.specs.Maps.{Map}
-use Rattle.extract_plan.specs.Deal.{AreWants, Deal, first_of, of_want, want_id}
-use Rattle.extract_plan.specs.Places.{Placed, places_at}
-use Rattle.extract_plan.specs.Seeds.{faults_in, seed_held}
+use Rattle.dsy_base.specs.declared.view.View.{Ghosts as ViewWords}
+use Rattle.extract_plan.specs.Deal.{AreWants, first_of, want_id}
 use Rattle.extract_plan.specs.declared.seed.Seed.{Seed}
 use Rattle.extract_plan.specs.declared.seed.SeedPlace.{SeedPlace}
-use Rattle.range_survey.specs.declared.fate.Fate.{Fate}
+use Rattle.range_survey.specs.Fates.{settled}
 use Rattle.store_chain.specs.Chains.{AsksOnce, Chained, EachOnce}
 
 -- ---- one store, and each of several
@@ -43,27 +42,27 @@ once_by old new id q false same once =
 once_here : (old new : List ℕ → ℕ) (id q : List ℕ) → AskedOnce old new id → (old q ≤ new q) × (new q ≤ old q + one_if id q)
 once_here old new id q once = once_by old new id q (bytes_eq id q) (bytes_eq-Decides id q) once
 
-once_at : {S : Type 0} (asked : S → List ℕ → ℕ) (id : List ℕ) (xs ys : List S) → EachOnce asked id xs ys → (q : List ℕ) (k : ℕ)
-    → (asked_at asked xs q k ≤ asked_at asked ys q k) × (asked_at asked ys q k ≤ asked_at asked xs q k + one_if id q)
-once_at asked id [] [] all q k = (omega arith, omega arith)
-once_at asked id [] (y ∷ ys) all q k = absurd all
-once_at asked id (x ∷ xs) [] all q k = absurd all
-once_at asked id (x ∷ xs) (y ∷ ys) all q zero = once_here (asked x) (asked y) id q all.0
-once_at asked id (x ∷ xs) (y ∷ ys) all q (suc k) = once_at asked id xs ys all.1 q k
+once_at : {S : Type 0} (store : StoreWords S) (id : List ℕ) (xs ys : List S) → EachOnce store.asked id xs ys → (q : List ℕ) (k : ℕ)
+    → (asked_at store xs q k ≤ asked_at store ys q k) × (asked_at store ys q k ≤ asked_at store xs q k + one_if id q)
+once_at store id [] [] all q k = (omega arith, omega arith)
+once_at store id [] (y ∷ ys) all q k = absurd all
+once_at store id (x ∷ xs) [] all q k = absurd all
+once_at store id (x ∷ xs) (y ∷ ys) all q zero = once_here (store.asked x) (store.asked y) id q all.0
+once_at store id (x ∷ xs) (y ∷ ys) all q (suc k) = once_at store id xs ys all.1 q k
 
 -- ---- chains
 
 -- no call
-pub asks_none : {S : Type 0} (asked : S → List ℕ → ℕ) (c : ℕ) (n : List ℕ → ℕ) (chain : Chained S) → AsksAtMost asked c n chain chain
-asks_none asked c n chain = record { no_fewer = omega arith; calls = omega arith; no_less = λ q k. omega arith; most = λ q k. omega arith }
+pub asks_none : {S : Type 0} (store : StoreWords S) (c : ℕ) (n : List ℕ → ℕ) (chain : Chained S) → AsksAtMost store c n chain chain
+asks_none store c n chain = record { no_fewer = omega arith; calls = omega arith; no_less = λ q k. omega arith; most = λ q k. omega arith }
 
-pub asks_same : {S : Type 0} (asked : S → List ℕ → ℕ) (c : ℕ) (n : List ℕ → ℕ) (old new : Chained S) → new ≡ old → AsksAtMost asked c n old new
-asks_same asked c n old new same = subst (AsksAtMost asked c n old) (sym same) (asks_none asked c n old)
+pub asks_same : {S : Type 0} (store : StoreWords S) (c : ℕ) (n : List ℕ → ℕ) (old new : Chained S) → new ≡ old → AsksAtMost store c n old new
+asks_same store c n old new same = subst (AsksAtMost store c n old) (sym same) (asks_none store c n old)
 
 -- calls, and then others
-pub asks_on : {S : Type 0} (asked : S → List ℕ → ℕ) (c e : ℕ) (n m : List ℕ → ℕ) (old mid new : Chained S)
-    → AsksAtMost asked c n old mid → AsksAtMost asked e m mid new → AsksAtMost asked (c + e) (λ q. n q + m q) old new
-asks_on asked c e n m old mid new first next = record {
+pub asks_on : {S : Type 0} (store : StoreWords S) (c e : ℕ) (n m : List ℕ → ℕ) (old mid new : Chained S)
+    → AsksAtMost store c n old mid → AsksAtMost store e m mid new → AsksAtMost store (c + e) (λ q. n q + m q) old new
+asks_on store c e n m old mid new first next = record {
   no_fewer = omega (arith, first.no_fewer, next.no_fewer);
   calls = omega (arith, first.calls, next.calls);
   no_less = λ q k. omega (arith, first.no_less q k, next.no_less q k);
@@ -71,148 +70,188 @@ asks_on asked c e n m old mid new first next = record {
 }
 
 -- so many at most, and so more at most
-pub asks_up : {S : Type 0} (asked : S → List ℕ → ℕ) (c e : ℕ) (n m : List ℕ → ℕ) (old new : Chained S) → c ≤ e → ((q : List ℕ) → n q ≤ m q)
-    → AsksAtMost asked c n old new → AsksAtMost asked e m old new
-asks_up asked c e n m old new fewer less asks = record {
+pub asks_up : {S : Type 0} (store : StoreWords S) (c e : ℕ) (n m : List ℕ → ℕ) (old new : Chained S) → c ≤ e → ((q : List ℕ) → n q ≤ m q)
+    → AsksAtMost store c n old new → AsksAtMost store e m old new
+asks_up store c e n m old new fewer less asks = record {
   no_fewer = asks.no_fewer;
   calls = omega (arith, asks.calls);
   no_less = asks.no_less;
   most = λ q k. omega (arith, asks.most q k, less q);
 }
 
--- ---- wants
+-- ---- sums over the wants below a number
 
--- the wants below w, and then want w
-pub asks_more : {S : Type 0} (asked : S → List ℕ → ℕ) (ids : ℕ → List ℕ) (spared : ℕ → Bool) (w : ℕ) (old mid new : Chained S)
-    → AsksAtMost asked (calls_below spared w) (asks_below ids spared w) old mid
-    → AsksAtMost asked (calls_for spared w) (asks_for ids spared w) mid new
-    → AsksAtMost asked (calls_below spared (w + 1)) (asks_below ids spared (w + 1)) old new
-asks_more asked ids spared w old mid new first next =
-    rw (add-one w) (asks_on asked (calls_below spared w) (calls_for spared w) (asks_below ids spared w) (asks_for ids spared w) old mid new first next)
+abbrev sums : (ℕ → ℕ) → ℕ → ℕ
+sums p zero = 0
+sums p (suc k) = sums p k + p k
 
-none_more : (w : ℕ) → w ≡ zero + w
-none_more w = omega arith
+calls_are : (spared : ℕ → Bool) (n : ℕ) → calls_below spared n ≡ sums (calls_for spared) n
+calls_are spared zero = refl
+calls_are spared (suc n) = ap (λ k. k + calls_for spared n) (calls_are spared n)
 
-one_more : (n w : ℕ) → suc (n + w) ≡ suc n + w
-one_more n w = omega arith
+asks_are : (ids : ℕ → List ℕ) (spared : ℕ → Bool) (q : List ℕ) (n : ℕ) → asks_below ids spared n q ≡ sums (λ w. asks_for ids spared w q) n
+asks_are ids spared q zero = refl
+asks_are ids spared q (suc n) = ap (λ k. k + asks_for ids spared n q) (asks_are ids spared q n)
 
-still_below : (a b c : ℕ) → a ≤ b → a ≤ b + c
-still_below a b c le = omega arith
+-- where one term alone differs, which was 0
+module _ (p r : ℕ → ℕ) (w : ℕ) (others : (v : ℕ) → v ≢ w → r v ≡ p v) where
+  sums_same : (n : ℕ) → n ≤ w → sums r n ≡ sums p n
+  sums_same zero le = refl
+  sums_same (suc n) le = omega (arith, sums_same n (omega arith), others n (omega arith))
 
-calls_up : (spared : ℕ → Bool) (w n : ℕ) → calls_below spared w ≤ calls_below spared (n + w)
-calls_up spared w zero = subst (λ k. calls_below spared w ≤ calls_below spared k) (none_more w) (omega arith)
-calls_up spared w (suc n) = subst (λ k. calls_below spared w ≤ calls_below spared k) (one_more n w) (still_below (calls_below spared w) (calls_below spared (n + w)) (calls_for spared (n + w)) (calls_up spared w n))
+  sums_one : p w ≡ 0 → (n : ℕ) → w < n → sums p n + r w ≤ sums r n
+  sums_one was zero less = absurd (omega arith)
+  sums_one was (suc n) less = elim (cases_eq n w) [
+    | inl same ↦ omega (arith, sums_same n (omega arith), ap p same, was, ap r same)
+    | inr apart ↦ omega (arith, sums_one was n (omega arith), others n apart)
+  ]
 
-ids_up : (ids : ℕ → List ℕ) (spared : ℕ → Bool) (w n : ℕ) (q : List ℕ) → asks_below ids spared w q ≤ asks_below ids spared (n + w) q
-ids_up ids spared w zero q = subst (λ k. asks_below ids spared w q ≤ asks_below ids spared k q) (none_more w) (omega arith)
-ids_up ids spared w (suc n) q = subst (λ k. asks_below ids spared w q ≤ asks_below ids spared k q) (one_more n w) (still_below (asks_below ids spared w q) (asks_below ids spared (n + w) q) (asks_for ids spared (n + w) q) (ids_up ids spared w n q))
+-- where no term is greater
+sums_fewer : (p r : ℕ → ℕ) → ((v : ℕ) → r v ≤ p v) → (n : ℕ) → sums r n ≤ sums p n
+sums_fewer p r fewer zero = omega arith
+sums_fewer p r fewer (suc n) = omega (arith, sums_fewer p r fewer n, fewer n)
 
--- the wants below w are among those below n
-pub asks_all : {S : Type 0} (asked : S → List ℕ → ℕ) (ids : ℕ → List ℕ) (spared : ℕ → Bool) (w n : ℕ) (old new : Chained S) → w ≤ n
-    → AsksAtMost asked (calls_below spared w) (asks_below ids spared w) old new → AsksAtMost asked (calls_below spared n) (asks_below ids spared n) old new
-asks_all asked ids spared w n old new le asks =
-    let e : (n - w) + w ≡ n = omega arith in
-    asks_up asked (calls_below spared w) (calls_below spared n) (asks_below ids spared w) (asks_below ids spared n) old new
-    (subst (λ k. calls_below spared w ≤ calls_below spared k) e (calls_up spared w (n - w)))
-    (λ q. subst (λ k. asks_below ids spared w q ≤ asks_below ids spared k q) e (ids_up ids spared w (n - w) q))
-    asks
+-- a want that is spared takes nothing
+fewer_for : (was is : Bool) (k : ℕ) → (was ≡ true → is ≡ true) → (if is then 0 else k) ≤ (if was then 0 else k)
+fewer_for was true k more = omega arith
+fewer_for false false k more = omega arith
+fewer_for true false k more = absurd (true≢false (sym (more refl)))
 
 -- one call for a want that isn't spared
-pub asks_last : {S : Type 0} (asked queried : S → List ℕ → ℕ) (ids : ℕ → List ℕ) (spared : ℕ → Bool) (w : ℕ) (old new : Chained S) → spared w ≡ false
-    → AsksOnce asked queried (ids w) old new → AsksAtMost asked (calls_for spared w) (asks_for ids spared w) old new
-asks_last asked queried ids spared w old new isnt once =
+asks_last : {S : Type 0} (store : StoreWords S) (ids : ℕ → List ℕ) (spared : ℕ → Bool) (w : ℕ) (old new : Chained S) → spared w ≡ false
+    → AsksOnce store.asked store.queried (ids w) old new → AsksAtMost store (calls_for spared w) (asks_for ids spared w) old new
+asks_last store ids spared w old new isnt once =
     let one : calls_for spared w ≡ 1 = rw (isnt) refl in
     let here : (q : List ℕ) → asks_for ids spared w q ≡ one_if (ids w) q = λ q. rw (isnt) refl in
     record {
       no_fewer = omega (arith, once.calls, once.below);
       calls = omega (arith, once.calls, one);
-      no_less = λ q k. (once_at asked (ids w) old.stores new.stores once.stores q k).0;
-      most = λ q k. omega (arith, (once_at asked (ids w) old.stores new.stores once.stores q k).1, here q);
+      no_less = λ q k. (once_at store (ids w) old.stores new.stores once.stores q k).0;
+      most = λ q k. omega (arith, (once_at store (ids w) old.stores new.stores once.stores q k).1, here q);
     }
+
+-- a want that isn't done takes no call
+abbrev pub unless : (ℕ → Bool) → (ℕ → Bool) → ℕ → Bool
+unless done spared w = if done w then spared w else true
+
+undone : (done spared : ℕ → Bool) (w : ℕ) → done w ≡ false → unless done spared w ≡ true
+undone done spared w isnt = ap (λ b. if b then spared w else true) isnt
+
+as_done : (done spared : ℕ → Bool) (w : ℕ) → done w ≡ true → unless done spared w ≡ spared w
+as_done done spared w is = ap (λ b. if b then spared w else true) is
 
 -- ---- wants that are had without the stores
 
-module _ {S V : Type 0} (holds : S → Option (Map (List ℕ))) (view : V → Held) (view_faults : V → ℕ) (l : Listing) (d : Deal) (x : Placed) where
+module _ {S V : Type 0} (store : StoreWords S) (view : ViewWords V) (t : Task) where
+  abbrev Over : (ℕ → Type 0) → Stage S V → Stage S V → Type 0
+  Over A a b = Stretch store view t A a b
+
+  abbrev Spared : Stage S V → Stage S V → ℕ → Type 0
+  Spared a b w = IsSpared store view t (λ j. settled a.fates j ≡ true) (from a) (from b) w
+
   -- a want that was spared over a stretch was spared over each part of it
-  pub spared_part : (m n : List Fate) (a b c e : ℕ) (s0 s1 s2 s3 : List (Seed V)) (e0 e1 e2 e3 : Option Shelf) (c0 c1 : List S) (A : ℕ → Type 0) (w : ℕ)
-      → AreWants l d.wants d.want_of → ((v : ℕ) → A v → v < d.wants) → Grows m n → a ≤ b → c ≤ e
-      → KeepsSeeds view view_faults s0 s1 → KeepsSeeds view view_faults s2 s3 → Stocked (TakesWants holds l d A c0) e0 e1 → cache_faults e2 ≤ cache_faults e3
-      → map holds c1 ≡ map holds c0
-      → IsSpared holds view view_faults l d x m a e s0 s3 e0 e3 c0 w → IsSpared holds view view_faults l d x n b c s1 s2 e1 e2 c1 w
-  spared_part m n a b c e s0 s1 s2 s3 e0 e1 e2 e3 c0 c1 A w wants within grows ab ce before after stocked fell same (inl ((j, among, is), quiet)) =
-      inl ((j, among, settled_on m n grows j is), quiet_part a b c e ab ce quiet)
-  spared_part m n a b c e s0 s1 s2 s3 e0 e1 e2 e3 c0 c1 A w wants within grows ab ce before after stocked fell same (inr (inl (k, p, inside, at, (has, quiet)))) =
-      let counts : List (Seed V) → ℕ = λ s. slice_index (map (faults_in view_faults) s) p.seed in
+  spared_part : (A B : ℕ → Type 0) (a b c e : Stage S V) (w : ℕ) → AreWants t.listing t.plan.wants t.plan.want_of → ((v : ℕ) → A v → v < t.plan.wants)
+      → Over A a b → Over B c e → Spared a e w → Spared b c w
+  spared_part A B a b c e w wants within before after (inl ((j, among, is), quiet)) =
+      inl ((j, among, settled_on a.fates b.fates before.step.grows j is), quiet_part a.faults b.faults c.faults e.faults before.step.never_falls after.step.never_falls quiet)
+  spared_part A B a b c e w wants within before after (inr (inl (k, p, inside, at, (has, quiet)))) =
+      let counts : Stage S V → ℕ = λ y. slice_index (counts_of view y.kit.seeds.items) p.seed in
       inr (inl (
         k,
         p,
         inside,
         at,
         (
-          subst (λ views. HeldAt views p (want_id l d w)) (sym before.held) has,
-          quiet_part (counts s0) (counts s1) (counts s2) (counts s3) (before.never_fall p.seed) (after.never_fall p.seed) quiet,
+          subst (λ views. HeldAt views p (want_id t.listing t.plan w)) (sym before.step.seeds.held) has,
+          quiet_part (counts a) (counts b) (counts c) (counts e) (before.step.seeds.never_fall p.seed) (after.step.seeds.never_fall p.seed) quiet,
         ),
       ))
-  spared_part m n a b c e s0 s1 s2 s3 e0 e1 e2 e3 c0 c1 A w wants within grows ab ce before after stocked fell same (inr (inr gives)) =
-      inr (inr (cache_part holds l d A c0 c1 e0 e1 e2 e3 (want_id l d w) (size_of l (first_of d w)) wants within stocked fell same gives))
+  spared_part A B a b c e w wants within before after (inr (inr gives)) =
+      inr (inr (cache_part store t.listing t.plan A a.kit.chain.stores b.kit.chain.stores a.cache b.cache c.cache e.cache (want_id t.listing t.plan w)
+      (size_of t.listing (first_of t.plan w)) wants within before.stocked
+      (stocked_falls (TakesWants store t.listing t.plan B c.kit.chain.stores) c.cache e.cache after.stocked) before.step.stores.held gives))
 
-  -- over the first part of it
-  pub spared_first : (m : List Fate) (a b c : ℕ) (s0 s1 s2 : List (Seed V)) (e0 e1 e2 : Option Shelf) (c0 : List S) (w : ℕ) → AreWants l d.wants d.want_of
-      → b ≤ c → KeepsSeeds view view_faults s1 s2 → cache_faults e1 ≤ cache_faults e2
-      → IsSpared holds view view_faults l d x m a c s0 s2 e0 e2 c0 w → IsSpared holds view view_faults l d x m a b s0 s1 e0 e1 c0 w
-  spared_first m a b c s0 s1 s2 e0 e1 e2 c0 w wants bc after fell =
-      spared_part m m a a b c s0 s0 s1 s2 e0 e0 e1 e2 c0 c0 (λ v. ⊥) w wants (λ v none. absurd none) (grows_none m) (omega arith) bc (seeds_none view view_faults s0) after
-      (stocked_none (TakesWants holds l d (λ v. ⊥) c0) e0) fell refl
+  -- over the first part of it, and over the rest of it
+  pub spared_first : (B : ℕ → Type 0) (a b c : Stage S V) (w : ℕ) → AreWants t.listing t.plan.wants t.plan.want_of → Over B b c → Spared a c w → Spared a b w
+  spared_first B a b c w wants next = spared_part (λ v. ⊥) B a a b c w wants (λ v none. absurd none) (stretch_none store view t (λ v. ⊥) a) next
 
-  -- over the rest of it
-  pub spared_rest : (m n : List Fate) (a b c : ℕ) (s0 s1 s2 : List (Seed V)) (e0 e1 e2 : Option Shelf) (c0 c1 : List S) (A : ℕ → Type 0) (w : ℕ) → AreWants l d.wants d.want_of
-      → ((v : ℕ) → A v → v < d.wants) → Grows m n → a ≤ b → KeepsSeeds view view_faults s0 s1 → Stocked (TakesWants holds l d A c0) e0 e1 → map holds c1 ≡ map holds c0
-      → IsSpared holds view view_faults l d x m a c s0 s2 e0 e2 c0 w → IsSpared holds view view_faults l d x n b c s1 s2 e1 e2 c1 w
-  spared_rest m n a b c s0 s1 s2 e0 e1 e2 c0 c1 A w wants within grows ab before stocked same =
-      spared_part m n a b c c s0 s1 s2 s2 e0 e1 e2 e2 c0 c1 A w wants within grows ab (omega arith) before (seeds_none view view_faults s2) stocked (omega arith) same
+  pub spared_rest : (A : ℕ → Type 0) (a b c : Stage S V) (w : ℕ) → AreWants t.listing t.plan.wants t.plan.want_of → ((v : ℕ) → A v → v < t.plan.wants)
+      → Over A a b → Spared a c w → Spared b c w
+  spared_rest A a b c w wants within first = spared_part A (λ v. ⊥) a b c c w wants within first (stretch_none store view t (λ v. ⊥) c)
 
   -- the chain was asked for want w as a last resort
-  abbrev pub Last : (S → List ℕ → ℕ) → (S → List ℕ → ℕ) → List Fate → ℕ → ℕ → List (Seed V) → List (Seed V) → Option Shelf → Option Shelf → Chained S → Chained S → ℕ → Type 0
-  Last asked queried m a b s0 s1 e0 e1 c0 c1 w =
-      AskedLast asked queried view view_faults (kind_of l) (want_id l d w) (size_of l (first_of d w)) m (of_want d w) (places_at x w) a b s0 s1 e0 e1 c0 c1
+  abbrev pub Last : Stage S V → Stage S V → ℕ → Type 0
+  Last a b w = AskedLast store view (want_chunk t w) a.fates (from a) (from b)
 
   -- the stores weren't asked for it
-  pub spared_never : (asked queried : S → List ℕ → ℕ) (m : List Fate) (a b : ℕ) (s0 s1 : List (Seed V)) (e0 e1 : Option Shelf) (c0 c1 : Chained S) (w : ℕ)
-      → IsSpared holds view view_faults l d x m a b s0 s1 e0 e1 c0.stores w → Last asked queried m a b s0 s1 e0 e1 c0 c1 w → ⊥
-  spared_never asked queried m a b s0 s1 e0 e1 c0 c1 w (inl ((j, among, is), quiet)) last = quiet_never a b quiet (last.copies j among is)
-  spared_never asked queried m a b s0 s1 e0 e1 c0 c1 w (inr (inl (k, p, inside, at, (has, quiet)))) last =
-      let counts : List (Seed V) → SeedPlace → ℕ = λ s y. slice_index (map (faults_in view_faults) s) y.seed in
-      let failed : HeldAt (map (seed_held view) s0) p (want_id l d w) → Rose (counts s0 p) (counts s1 p) =
-      subst (λ y. HeldAt (map (seed_held view) s0) y (want_id l d w) → Rose (counts s0 y) (counts s1 y)) at (last.seeds k p inside) in
+  spared_never : (a b : Stage S V) (w : ℕ) → Spared a b w → Last a b w → ⊥
+  spared_never a b w (inl ((j, among, is), quiet)) last = quiet_never a.faults b.faults quiet (last.copies j among is)
+  spared_never a b w (inr (inl (k, p, inside, at, (has, quiet)))) last =
+      let counts : List (Seed V) → SeedPlace → ℕ = λ s y. slice_index (counts_of view s) y.seed in
+      let s0 = a.kit.seeds.items in
+      let s1 = b.kit.seeds.items in
+      let failed : HeldAt (views_of view s0) p (want_id t.listing t.plan w) → Rose (counts s0 p) (counts s1 p) =
+      subst (λ y. HeldAt (views_of view s0) y (want_id t.listing t.plan w) → Rose (counts s0 y) (counts s1 y)) at (last.seeds k p inside) in
       quiet_never (counts s0 p) (counts s1 p) quiet (failed has)
-  spared_never asked queried m a b s0 s1 e0 e1 c0 c1 w (inr (inr gives)) last = cache_never holds l c0.stores (want_id l d w) (size_of l (first_of d w)) e0 e1 gives last.cache
+  spared_never a b w (inr (inr gives)) last =
+      cache_never store t.listing a.kit.chain.stores (want_id t.listing t.plan w) (size_of t.listing (first_of t.plan w)) a.cache b.cache gives last.cache
 
   -- what one want asks
-  pub asks_want : (asked queried : S → List ℕ → ℕ) (m : List Fate) (a b : ℕ) (s0 s1 : List (Seed V)) (e0 e1 : Option Shelf) (c0 c1 : Chained S) (spared : ℕ → Bool) (w : ℕ)
-      → (spared w ≡ true → IsSpared holds view view_faults l d x m a b s0 s1 e0 e1 c0.stores w) → (c1 ≡ c0) ⊎ Last asked queried m a b s0 s1 e0 e1 c0 c1 w
-      → AsksAtMost asked (calls_for spared w) (asks_for (want_id l d) spared w) c0 c1
-  asks_want asked queried m a b s0 s1 e0 e1 c0 c1 spared w are (inl same) = asks_same asked (calls_for spared w) (asks_for (want_id l d) spared w) c0 c1 same
-  asks_want asked queried m a b s0 s1 e0 e1 c0 c1 spared w are (inr last) = elim (cases_Bool (spared w)) [
-    | inl is ↦ absurd (spared_never asked queried m a b s0 s1 e0 e1 c0 c1 w (are is) last)
-    | inr isnt ↦ asks_last asked queried (want_id l d) spared w c0 c1 isnt last.once
+  asks_want : (a b : Stage S V) (spared : ℕ → Bool) (w : ℕ) → (spared w ≡ true → Spared a b w) → (b.kit.chain ≡ a.kit.chain) ⊎ Last a b w
+      → AsksAtMost store (calls_for spared w) (asks_for (want_id t.listing t.plan) spared w) a.kit.chain b.kit.chain
+  asks_want a b spared w are (inl same) = asks_same store (calls_for spared w) (asks_for (want_id t.listing t.plan) spared w) a.kit.chain b.kit.chain same
+  asks_want a b spared w are (inr last) = elim (cases_Bool (spared w)) [
+    | inl is ↦ absurd (spared_never a b w (are is) last)
+    | inr isnt ↦ asks_last store (want_id t.listing t.plan) spared w a.kit.chain b.kit.chain isnt last.once
   ]
 
-  -- the wants below k were asked for at most once, between these fates, counts, seeds, caches and chains
-  abbrev pub AsksUpTo : (S → List ℕ → ℕ) → List Fate → ℕ → ℕ → List (Seed V) → List (Seed V) → Option Shelf → Option Shelf → Chained S → Chained S → ℕ → Type 0
-  AsksUpTo asked m a b s0 s1 e0 e1 c0 c1 k = (spared : ℕ → Bool) → AreSpared holds view view_faults l d x m a b s0 s1 e0 e1 c0.stores spared
-      → AsksAtMost asked (calls_below spared k) (asks_below (want_id l d) spared k) c0 c1
+  -- ---- the wants that are done
 
-  -- so are those below w + 1, where want w was asked for at most once since
-  pub up_to_more : (asked queried : S → List ℕ → ℕ) (m n : List Fate) (a b c : ℕ) (s0 s1 s2 : List (Seed V)) (e0 e1 e2 : Option Shelf) (c0 c1 c2 : Chained S) (A : ℕ → Type 0) (w : ℕ)
-      → AreWants l d.wants d.want_of → ((v : ℕ) → A v → v < d.wants) → w < d.wants → Grows m n → a ≤ b → b ≤ c → KeepsSeeds view view_faults s0 s1 → KeepsSeeds view view_faults s1 s2
-      → Stocked (TakesWants holds l d A c0.stores) e0 e1 → cache_faults e1 ≤ cache_faults e2 → map holds c1.stores ≡ map holds c0.stores
-      → AsksUpTo asked m a b s0 s1 e0 e1 c0 c1 w → (c2 ≡ c1) ⊎ Last asked queried n b c s1 s2 e1 e2 c1 c2 w → AsksUpTo asked m a c s0 s2 e0 e2 c0 c2 (w + 1)
-  up_to_more asked queried m n a b c s0 s1 s2 e0 e1 e2 c0 c1 c2 A w wants within below grows ab bc before after stocked fell same first next = λ spared are.
-      asks_more asked (want_id l d) spared w c0 c1 c2
-      (first spared (λ v inside is. spared_first m a b c s0 s1 s2 e0 e1 e2 c0.stores v wants bc after fell (are v inside is)))
-      (asks_want asked queried n b c s1 s2 e1 e2 c1 c2 spared w
-      (λ is. spared_rest m n a b c s0 s1 s2 e0 e1 e2 c0.stores c1.stores A w wants within grows ab before stocked same (are w below is)) next)
+  -- each was asked for at most once
+  abbrev pub AsksDone : (ℕ → Bool) → Stage S V → Stage S V → Type 0
+  AsksDone done a b = (spared : ℕ → Bool) → AreSpared store view t a.fates (from a) (from b) spared
+      → AsksAtMost store (calls_below (unless done spared) t.plan.wants) (asks_below (want_id t.listing t.plan) (unless done spared) t.plan.wants) a.kit.chain b.kit.chain
 
-  pub up_to_all : (asked : S → List ℕ → ℕ) (m : List Fate) (a b : ℕ) (s0 s1 : List (Seed V)) (e0 e1 : Option Shelf) (c0 c1 : Chained S) (w k : ℕ) → w ≤ k
-      → AsksUpTo asked m a b s0 s1 e0 e1 c0 c1 w → AsksUpTo asked m a b s0 s1 e0 e1 c0 c1 k
-  up_to_all asked m a b s0 s1 e0 e1 c0 c1 w k le asks = λ spared are. asks_all asked (want_id l d) spared w k c0 c1 le (asks spared are)
+  pub asks_done_none : (done : ℕ → Bool) (a : Stage S V) → AsksDone done a a
+  asks_done_none done a = λ spared are.
+      asks_none store (calls_below (unless done spared) t.plan.wants) (asks_below (want_id t.listing t.plan) (unless done spared) t.plan.wants) a.kit.chain
+
+  -- one want more
+  pub asks_done_more : (done later : ℕ → Bool) (B : ℕ → Type 0) (a b c : Stage S V) (w : ℕ) → AreWants t.listing t.plan.wants t.plan.want_of
+      → ((v : ℕ) → done v ≡ true → v < t.plan.wants) → w < t.plan.wants → done w ≡ false → later w ≡ true → ((v : ℕ) → v ≢ w → later v ≡ done v)
+      → Over (λ v. done v ≡ true) a b → Over B b c → (c.kit.chain ≡ b.kit.chain) ⊎ Last b c w → AsksDone done a b → AsksDone later a c
+  asks_done_more done later B a b c w wants within below wasnt is others first next asks before = λ spared are.
+      let n = t.plan.wants in
+      let f = unless done spared in
+      let g = unless later spared in
+      let ids = want_id t.listing t.plan in
+      let elsewhere : (v : ℕ) → v ≢ w → g v ≡ f v = λ v apart. ap (λ b. if b then spared v else true) (others v apart) in
+      let was : f w ≡ true = undone done spared w wasnt in
+      let here : g w ≡ spared w = as_done later spared w is in
+      let so_far = before spared (λ v less so. spared_first B a b c v wants next (are v less so)) in
+      let one = asks_want b c g w (λ so. spared_rest (λ v. done v ≡ true) a b c w wants within first (are w below (sym here ∙ so))) asks in
+      let calls : calls_below f n + calls_for g w ≤ calls_below g n =
+      let one = sums_one (calls_for f) (calls_for g) w (λ v apart. ap (λ b. if b then 0 else 1) (elsewhere v apart)) (ap (λ b. if b then 0 else 1) was) n below in
+      omega (arith, calls_are f n, calls_are g n, one) in
+      let each : (q : List ℕ) → asks_below ids f n q + asks_for ids g w q ≤ asks_below ids g n q = λ q.
+      let one = sums_one (λ v. asks_for ids f v q) (λ v. asks_for ids g v q) w (λ v apart. rw (elsewhere v apart) refl) (rw was refl) n below in
+      omega (arith, asks_are ids f q n, asks_are ids g q n, one) in
+      asks_up store (calls_below f n + calls_for g w) (calls_below g n) (λ q. asks_below ids f n q + asks_for ids g w q) (asks_below ids g n)
+      a.kit.chain c.kit.chain calls each
+      (asks_on store (calls_below f n) (calls_for g w) (asks_below ids f n) (asks_for ids g w) a.kit.chain b.kit.chain c.kit.chain so_far one)
+
+  pub asks_done_all : (done : ℕ → Bool) (a b : Stage S V) → AsksDone done a b → PassAsks store view t once a b
+  asks_done_all done a b asks = λ spared are.
+      let n = t.plan.wants in
+      let ids = want_id t.listing t.plan in
+      let f = unless done spared in
+      let more : (v : ℕ) → spared v ≡ true → f v ≡ true = λ v is. elim (cases_Bool (done v)) [
+        | inl was ↦ as_done done spared v was ∙ is
+        | inr wasnt ↦ undone done spared v wasnt
+      ] in
+      let calls : calls_below f n ≤ calls_below spared n =
+      omega (arith, calls_are f n, calls_are spared n, sums_fewer (calls_for spared) (calls_for f) (λ v. fewer_for (spared v) (f v) 1 (more v)) n) in
+      let each : (q : List ℕ) → asks_below ids f n q ≤ asks_below ids spared n q = λ q.
+      let fewer = sums_fewer (λ v. asks_for ids spared v q) (λ v. asks_for ids f v q) (λ v. fewer_for (spared v) (f v) (if bytes_eq (ids v) q then 1 else 0) (more v)) n in
+      omega (arith, asks_are ids f q n, asks_are ids spared q n, fewer) in
+      asks_up store (calls_below f n) (calls_below spared n) (asks_below ids f n) (asks_below ids spared n) a.kit.chain b.kit.chain calls each (asks spared are)

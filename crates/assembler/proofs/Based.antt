@@ -1,6 +1,6 @@
 -- What an assembly leaves of the base, which are the target's bytes with the image's length. The fates are m after the
 -- survey and n at the end, and the counts of the target's faults a at first, b after the survey and c at the end.
-use Rattle.std.proofs.Common.{◌≡◌, ◌⊎◌, ℕ, ◌<◌, ◌≤◌, List, ◌++◌, length, Option, Some, None, IfSome, Err, true, false, refl, sym, ap, ◌∙◌, subst, inl, inr, arith}
+use Rattle.std.proofs.Common.{◌≡◌, ◌⊎◌, ℕ, ◌<◌, ◌≤◌, List, [], ◌++◌, length, Option, Some, None, IfSome, Err, true, false, refl, sym, ap, ◌∙◌, subst, inl, inr, arith}
 use Rattle.std.proofs.Math.Logic.{⊎_map}
 use Rattle.std.proofs.lemmas.Bool.{cases_Bool}
 use Rattle.std.proofs.lemmas.List.Elements.{Contains-append_left, Contains-append_right}
@@ -8,7 +8,7 @@ use Rattle.std.specs.Option.{option_map}
 use Rattle.assembler.proofs.Filled.{right_on, rose_still}
 use Rattle.assembler.specs.Assemblies.{Assembles, KeepsBase, KeepsTorn}
 use Rattle.assembler.specs.Faults.{fault_of}
-use Rattle.assembler.specs.Fills.{Fills, WhereTold}
+use Rattle.range_ledger.specs.Fills.{Fills, WhereTold}
 use Rattle.assembler.specs.Obtainable.{OnlyObtainable}
 use Rattle.assembler.specs.Passes.{EndsBy}
 use Rattle.assembler.specs.declared.fault.ExtractFault.{ExtractFault}
@@ -21,7 +21,7 @@ use Rattle.dsy_base.specs.Bytes.{Held, held_resized, resized}
 use Rattle.dsy_base.specs.Counts.{Rose}
 use Rattle.extract_plan.specs.Deal.{AreAlike}
 use Rattle.std.specs.List.{Contains}
-use Rattle.range_survey.proofs.Excused.{excused_rose, excuses_on}
+use Rattle.range_survey.proofs.Excused.{excused_rose, excuses_none, excuses_on}
 use Rattle.range_survey.specs.Fates.{OpenWrong, SettledRight, settled}
 use Rattle.range_survey.specs.declared.fate.Fate.{Fate}
 use Rattle.store_chain.specs.declared.refused.Refused.{Refused}
@@ -128,22 +128,22 @@ ends_map P Q F G e lost torn (inr (inl (is, f))) = inr (inl (is, torn f))
 ends_map P Q F G e lost torn (inr (inr is)) = inr (inr is)
 
 -- no entry was written
-pub only_first : (l : Listing) (P : List ℕ → ℕ → Type 0) (failed : Type 0) (e : ExtractFault) (o t : Option (List ℕ))
-    → (t ≡ o) ⊎ (t ≡ option_map (λ y. resized y (image_length l)) o) → WhereTold o t (λ y z. OnlyObtainable l (P y) failed (Err e) y z)
-only_first l P failed e None t same = tt
-only_first l P failed e (Some y) t (inl same) = subst (λ u. IfSome u (λ z. OnlyObtainable l (P y) failed (Err e) y z)) (sym same) (inl refl)
-only_first l P failed e (Some y) t (inr long) = subst (λ u. IfSome u (λ z. OnlyObtainable l (P y) failed (Err e) y z)) (sym long) (inr (λ i inside. inr (inl refl)))
+pub only_first : (l : Listing) (P : List ℕ → ℕ → Type 0) (a b : ℕ) → a ≤ b → (e : ExtractFault) (o t : Option (List ℕ))
+    → (t ≡ o) ⊎ (t ≡ option_map (λ y. resized y (image_length l)) o) → WhereTold o t (λ y z. OnlyObtainable l (P y) a b (Err e) y z)
+only_first l P a b ab e None t same = tt
+only_first l P a b ab e (Some y) t (inl same) = subst (λ u. IfSome u (λ z. OnlyObtainable l (P y) a b (Err e) y z)) (sym same) (inl refl)
+only_first l P a b ab e (Some y) t (inr long) = subst (λ u. IfSome u (λ z. OnlyObtainable l (P y) a b (Err e) y z)) (sym long)
+    (inr (record { failed = []; excused = excuses_none a b ab; each = λ i inside. inr (inl refl) }))
 
 -- ---- as the calls say it
 
-pub over_of : (l : Listing) (m items : List Fate) (a b : ℕ) (old mid : Held) → mid ≡ held_resized old (image_length l) → m ≡ items
-    → IfSome mid.bytes (λ t. length t ≡ mid.size) → IfSome mid.bytes (λ t. SettledRight l t items (count_of l)) → IfSome mid.bytes (λ t. OpenWrong l t items a b (count_of l))
+pub over_of : (l : Listing) (m : List Fate) (a b : ℕ) (old mid : Held) → mid ≡ held_resized old (image_length l)
+    → IfSome mid.bytes (λ t. length t ≡ mid.size) → IfSome mid.bytes (λ t. SettledRight l t m (count_of l)) → IfSome mid.bytes (λ t. OpenWrong l t m a b (count_of l))
     → IfSome old.bytes (λ y. Surveyed l m a b (resized y (image_length l)))
-over_of l m items a b old mid is same size right wrong =
+over_of l m a b old mid is size right wrong =
     let long = subst (λ (n : ℕ). IfSome mid.bytes (λ t. length t ≡ n)) (ap (λ (h : Held). h.size) is) size in
-    made_of (Surveyed l m a b) (λ y. resized y (image_length l)) old.bytes mid.bytes (ap (λ (h : Held). h.bytes) is)
-    (subst (λ (xs : List Fate). IfSome mid.bytes (Surveyed l xs a b)) (sym same) (surveyed l items a b mid.bytes long right wrong))
+    made_of (Surveyed l m a b) (λ y. resized y (image_length l)) old.bytes mid.bytes (ap (λ (h : Held). h.bytes) is) (surveyed l m a b mid.bytes long right wrong)
 
-pub told_of : (l : Listing) (old mid : Held) (t : Option (List ℕ)) (P : List ℕ → List ℕ → Type 0) → mid ≡ held_resized old (image_length l) → WhereTold mid.bytes t P
-    → WhereTold old.bytes t (λ y. P (resized y (image_length l)))
-told_of l old mid t P is has = made_of (λ y. IfSome t (P y)) (λ y. resized y (image_length l)) old.bytes mid.bytes (ap (λ (h : Held). h.bytes) is) has
+pub told_of : (l : Listing) (o mid t : Option (List ℕ)) (P : List ℕ → List ℕ → Type 0) → mid ≡ option_map (λ y. resized y (image_length l)) o → WhereTold mid t P
+    → WhereTold o t (λ y. P (resized y (image_length l)))
+told_of l o mid t P is has = made_of (λ y. IfSome t (P y)) (λ y. resized y (image_length l)) o mid is has

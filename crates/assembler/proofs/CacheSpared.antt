@@ -9,38 +9,39 @@ use Rattle.chunk_sources.proofs.Cached.{stocked_falls, stocked_gives, stocked_to
 use Rattle.chunk_sources.proofs.Lacking.{quiet_never}
 use Rattle.chunk_sources.specs.Caches.{CacheFailed, CacheGives, IsListedAs, Stocked, TakesWants, cache_faults, cached_in}
 use Rattle.chunk_store.specs.Giving.{IsChunk}
+use Rattle.chunk_store.specs.declared.store.Store.{Ghosts as StoreWords}
 use Rattle.dsy_base.specs.Counts.{Rose}
 use Rattle.dsy_base.specs.Maps.{Map}
 use Rattle.extract_plan.specs.Deal.{AreWants, Deal, first_of}
 use Rattle.store_chain.specs.Giving.{SomeHolds}
 
-module _ {S : Type 0} (holds : S → Option (Map (List ℕ))) (l : Listing) (d : Deal) where
+module _ {S : Type 0} (store : StoreWords S) (l : Listing) (d : Deal) where
   -- what is added under the id is the chunk
   added_is : (A : ℕ → Type 0) (stores : List S) (id : List ℕ) (size : ℕ) → AreWants l d.wants d.want_of → ((v : ℕ) → A v → v < d.wants)
-      → ((n : ℕ) (b : List ℕ) → IsListedAs l id n → IsChunk (kind_of l) id n b → SomeHolds holds stores id b → n ≡ size)
-      → (b : List ℕ) → TakesWants holds l d A stores id b → IsChunk (kind_of l) id size b
+      → ((n : ℕ) (b : List ℕ) → IsListedAs l id n → IsChunk (kind_of l) id n b → SomeHolds store.holds stores id b → n ≡ size)
+      → (b : List ℕ) → TakesWants store l d A stores id b → IsChunk (kind_of l) id size b
   added_is A stores id size wants below one b (v, among, (is, chunk, held)) =
       let first = first_of d v in
       let inside = listed_of l d v first wants (first_among l d v wants (below v among)) in
       let here : IsChunk (kind_of l) id (size_of l first) b = subst (λ (q : List ℕ). IsChunk (kind_of l) q (size_of l first) b) (sym is) chunk in
-      let there : SomeHolds holds stores id b = subst (λ (q : List ℕ). SomeHolds holds stores q b) (sym is) held in
+      let there : SomeHolds store.holds stores id b = subst (λ (q : List ℕ). SomeHolds store.holds stores q b) (sym is) held in
       subst (λ (n : ℕ). IsChunk (kind_of l) id n b) (one (size_of l first) b (first, inside, sym is, refl) here there) here
 
   -- so it gives the chunk still
-  given_still : (A : ℕ → Type 0) (stores : List S) (e f : Option Shelf) (id : List ℕ) (size : ℕ) → Stocked (TakesWants holds l d A stores) e f
-      → ((b : List ℕ) → TakesWants holds l d A stores id b → IsChunk (kind_of l) id size b) → (o : Option (List (Map (List ℕ)))) → cached_in e ≡ o
+  given_still : (A : ℕ → Type 0) (stores : List S) (e f : Option Shelf) (id : List ℕ) (size : ℕ) → Stocked (TakesWants store l d A stores) e f
+      → ((b : List ℕ) → TakesWants store l d A stores id b → IsChunk (kind_of l) id size b) → (o : Option (List (Map (List ℕ)))) → cached_in e ≡ o
       → IsSomeAnd o (SomeGives (kind_of l) id size) → IsSomeAnd (cached_in f) (SomeGives (kind_of l) id size)
   given_still A stores e f id size stocked all None is has = absurd has
   given_still A stores e f id size stocked all (Some was) is has =
-      let later = stocked_told (TakesWants holds l d A stores) e f was stocked is in
+      let later = stocked_told (TakesWants store l d A stores) e f was stocked is in
       subst (λ (o : Option (List (Map (List ℕ)))). IsSomeAnd o (SomeGives (kind_of l) id size)) (sym later.1)
-      (stocked_gives (TakesWants holds l d A stores) (kind_of l) id size e f was later.0 stocked is later.1 all has)
+      (stocked_gives (TakesWants store l d A stores) (kind_of l) id size e f was later.0 stocked is later.1 all has)
 
   pub cache_part : (A : ℕ → Type 0) (s0 s1 : List S) (e0 e1 e2 e3 : Option Shelf) (id : List ℕ) (size : ℕ) → AreWants l d.wants d.want_of → ((v : ℕ) → A v → v < d.wants)
-      → Stocked (TakesWants holds l d A s0) e0 e1 → cache_faults e2 ≤ cache_faults e3 → map holds s1 ≡ map holds s0
-      → CacheGives holds l s0 id size e0 e3 → CacheGives holds l s1 id size e1 e2
+      → Stocked (TakesWants store l d A s0) e0 e1 → cache_faults e2 ≤ cache_faults e3 → map store.holds s1 ≡ map store.holds s0
+      → CacheGives store l s0 id size e0 e3 → CacheGives store l s1 id size e1 e2
   cache_part A s0 s1 e0 e1 e2 e3 id size wants below stocked le same has =
-      let falls = stocked_falls (TakesWants holds l d A s0) e0 e1 stocked in
+      let falls = stocked_falls (TakesWants store l d A s0) e0 e1 stocked in
       record {
         gives = given_still A s0 e0 e1 id size stocked (added_is A s0 id size wants below has.one_size) (cached_in e0) refl has.gives;
         sound = quiet_part (cache_faults e0) (cache_faults e1) (cache_faults e2) (cache_faults e3) falls le has.sound;
@@ -48,9 +49,9 @@ module _ {S : Type 0} (holds : S → Option (Map (List ℕ))) (l : Listing) (d :
       }
 
 -- a cache that gives the chunk and doesn't fail was asked before the stores
-pub cache_never : {S : Type 0} (holds : S → Option (Map (List ℕ))) (l : Listing) (stores : List S) (id : List ℕ) (size : ℕ) (e0 e1 : Option Shelf)
-    → CacheGives holds l stores id size e0 e1 → CacheFailed (kind_of l) id size e0 e1 → ⊥
-cache_never holds l stores id size e0 e1 has failed = go (cached_in e0) has.gives failed where
+pub cache_never : {S : Type 0} (store : StoreWords S) (l : Listing) (stores : List S) (id : List ℕ) (size : ℕ) (e0 e1 : Option Shelf)
+    → CacheGives store l stores id size e0 e1 → CacheFailed (kind_of l) id size e0 e1 → ⊥
+cache_never store l stores id size e0 e1 has failed = go (cached_in e0) has.gives failed where
   go : (o : Option (List (Map (List ℕ)))) → IsSomeAnd o (SomeGives (kind_of l) id size)
       → IfSome o (λ cached. SomeGives (kind_of l) id size cached → Rose (cache_faults e0) (cache_faults e1)) → ⊥
   go None gives fails = gives

@@ -6,34 +6,33 @@ use Rattle.assembler.proofs.EconomySources.{source_kept, source_same}
 use Rattle.assembler.proofs.EconomySums.{raised_on, sum_none, sum_one, sum_same}
 use Rattle.assembler.proofs.Entries.{among, among_of}
 use Rattle.assembler.proofs.Filled.{open_before, settled_on}
-use Rattle.assembler.proofs.Tallies.{tallied_none, tallied_on}
-use Rattle.assembler.specs.Assemblies.{NothingFails}
+use Rattle.assembler.proofs.Passed.{OneMore}
 use Rattle.assembler.proofs.Stocking.{give_same}
-use Rattle.cache_store.specs.Shelves.{Shelf}
+use Rattle.assembler.proofs.Tallies.{tallied_none, tallied_on}
 use Rattle.assembler.specs.Economy.{HadMemory, PassedBy, SettledBy, SettlesBy, Tallied, sum_below}
-use Rattle.assembler.specs.Kits.{Step}
-use Rattle.assembler.specs.Passes.{want_at}
-use Rattle.range_survey.specs.Reports.{one_if, tally}
+use Rattle.assembler.specs.Passes.{WhereQuiet, source_at, want_at}
+use Rattle.assembler.specs.Settling.{Settles}
+use Rattle.assembler.specs.Stages.{Stage, Stretch, from}
 use Rattle.assembler.specs.declared.fault.Unsettled.{Unsettled}
 use Rattle.assembler.specs.declared.fault.Unsettled.TheVariants as unsettled
-use Rattle.caibx_codec.specs.Listing.{Listing, count_of}
-use Rattle.chunk_sources.proofs.Cached.{stocked_falls, stocked_told}
+use Rattle.caibx_codec.specs.Listing.{count_of}
+use Rattle.chunk_sources.proofs.Cached.{stocked_told}
 use Rattle.chunk_sources.proofs.Origins.{same_raised}
-use Rattle.chunk_sources.specs.Caches.{HaveOneSize, Stocked, TakesWants, cached_in}
+use Rattle.chunk_sources.specs.Caches.{HaveOneSize, TakesWants, cached_in}
 use Rattle.chunk_sources.specs.Economy.{pass_asks, source_over}
-use Rattle.chunk_sources.specs.Wants.{IsAmong}
-use Rattle.chunk_sources.specs.declared.kit.Kit.{Kit}
-use Rattle.chunk_store.specs.Said.{Said}
+use Rattle.chunk_sources.specs.Sources.{SourcesQuiet, views_of}
+use Rattle.chunk_sources.specs.Wants.{IsAmong, Task}
+use Rattle.chunk_store.specs.declared.store.Store.{Ghosts as StoreWords}
 use Rattle.dsy_base.specs.Bytes.{Held}
 use Rattle.dsy_base.specs.Counts.{raised}
 use Rattle.dsy_base.specs.Maps.{Map}
-use Rattle.extract_plan.specs.Deal.{of_want, AreWants, Deal}
-use Rattle.extract_plan.specs.Places.{Placed}
+use Rattle.dsy_base.specs.declared.view.View.{Ghosts as ViewWords}
+use Rattle.extract_plan.specs.Deal.{of_want, AreWants}
 use Rattle.range_survey.specs.Fates.{settled}
+use Rattle.range_survey.specs.Reports.{one_if, tally}
 use Rattle.range_survey.specs.declared.fate.Fate.{Fate}
 use Rattle.range_survey.specs.declared.fate.Fate.TheVariants as fate
 use Rattle.store_chain.specs.Chains.{Chained}
-use Rattle.extract_plan.specs.Seeds.{seed_held}
 
 -- the source of a want that is done, and else one that costs nothing
 abbrev pub so_far : (ℕ → Bool) → (ℕ → Fate) → ℕ → Fate
@@ -124,113 +123,102 @@ left_want source n m0 m1 es (Err unsettled.TargetFault) memory settles all i amo
 
 -- ---- the pass
 
-module _ {T S V : Type 0} (held : T → Held) (faults : T → ℕ) (holds folder : S → Option (Map (List ℕ))) (place : S → List ℕ) (said : S → Said)
-    (store_faults : S → ℕ) (lacks_memory : Bool) (view : V → Held) (view_faults : V → ℕ) (tells : Bool) (l : Listing) (d : Deal) (x : Placed) where
-  abbrev Nothing : T → Kit S V → T → Kit S V → Option Shelf → Option Shelf → List (Map (List ℕ)) → List (Map (List ℕ)) → Type 0
-  Nothing a k b j e f cached maps = NothingFails holds folder place said store_faults lacks_memory view view_faults l d x tells (faults a) (faults b) k j e f cached maps
+module _ {S V : Type 0} (store : StoreWords S) (view : ViewWords V) (t : Task) where
+  abbrev Nothing : Stage S V → Stage S V → List (Map (List ℕ)) → List (Map (List ℕ)) → Type 0
+  Nothing a b cached maps = SourcesQuiet store view (from a) (from b) cached maps
 
-  abbrev pub SourceFrom : Kit S V → List Fate → List (Map (List ℕ)) → List (Map (List ℕ)) → ℕ → Fate
-  SourceFrom k m cached maps = source_over l d x (settled m) (map (seed_held view) k.seeds.items) cached maps
+  -- from the stage a on
+  pub record Paid (done : ℕ → Bool) (a b : Stage S V) : Type 0 where
+    pub untouched : (i : ℕ) → done (want_at t.plan i) ≡ false → settled b.fates i ≡ settled a.fates i
+    pub passed : WhereQuiet store view t.listing (from a) (from b) (λ cached maps.
+        PassedBy (so_far done (source_at view t a cached maps)) t.plan.wants (count_of t.listing) a.fates b.fates a.kit.chain b.kit.chain)
+    pub left : WhereQuiet store view t.listing (from a) (from b) (λ cached maps. (i : ℕ) → i < count_of t.listing → done (want_at t.plan i) ≡ true
+        → settled b.fates i ≡ false → source_at view t a cached maps (want_at t.plan i) ≡ fate.Open)
 
-  -- from the target a, the kit k, the fates m and the cache e on
-  pub record Paid (done : ℕ → Bool) (a : T) (k : Kit S V) (m : List Fate) (b : T) (j : Kit S V) (n : List Fate) (e f : Option Shelf) : Type 0 where
-    pub untouched : (i : ℕ) → done (want_at d i) ≡ false → settled n i ≡ settled m i
-    pub passed : (cached maps : List (Map (List ℕ))) → Nothing a k b j e f cached maps → HaveOneSize l e cached maps
-        → PassedBy (so_far done (SourceFrom k m cached maps)) d.wants (count_of l) m n k.chain j.chain
-    pub left : (cached maps : List (Map (List ℕ))) → Nothing a k b j e f cached maps → HaveOneSize l e cached maps
-        → (i : ℕ) → i < count_of l → done (want_at d i) ≡ true → settled n i ≡ false → SourceFrom k m cached maps (want_at d i) ≡ fate.Open
-
-  pub paid_none : (done : ℕ → Bool) (a : T) (k : Kit S V) (m : List Fate) (e : Option Shelf) → ((w : ℕ) → done w ≡ false) → k.chain.asks < 2 ^ 64 → Paid done a k m a k m e e
-  paid_none done a k m e none bound = record {
+  pub paid_none : (done : ℕ → Bool) (a : Stage S V) → ((w : ℕ) → done w ≡ false) → a.kit.chain.asks < 2 ^ 64 → Paid done a a
+  paid_none done a none bound = record {
     untouched = λ i isnt. refl;
-    passed = λ cached maps nothing one. passed_nothing done (SourceFrom k m cached maps) d.wants (count_of l) m k.chain none bound;
-    left = λ cached maps nothing one i inside is isnt. absurd (true≢false (sym is ∙ none (want_at d i)));
+    passed = λ cached maps nothing one. passed_nothing done (source_at view t a cached maps) t.plan.wants (count_of t.listing) a.fates a.kit.chain none bound;
+    left = λ cached maps nothing one i inside is isnt. absurd (true≢false (sym is ∙ none (want_at t.plan i)));
   }
 
-  module _ (a : T) (k : Kit S V) (m : List Fate) (b : T) (j : Kit S V) (n : List Fate) (c : T) (i : Kit S V) (o : List Fate) (e f h : Option Shelf)
-      (first : Step held faults holds folder place said store_faults view view_faults l a k m b j n)
-      (next : Step held faults holds folder place said store_faults view view_faults l b j n c i o)
-      (wants : AreWants l d.wants d.want_of) (w : ℕ) (only : (y : ℕ) → settled n y ≡ false → settled o y ≡ true → IsAmong (of_want d w) y) where
+  module _ (a b c : Stage S V) (wants : AreWants t.listing t.plan.wants t.plan.want_of) (w : ℕ) (done later : ℕ → Bool) (more : OneMore done later w t.plan.wants)
+      (first : Stretch store view t (λ v. done v ≡ true) a b) (next : Settles store view t w b c) (before : Paid done a b) where
     -- the entries of other wants
-    others_stay : (y : ℕ) → want_at d y ≢ w → settled o y ≡ settled n y
-    others_stay y apart = elim (cases_Bool (settled n y)) [
-      | inl was ↦ settled_on n o next.grows y was ∙ sym was
-      | inr wasnt ↦ elim (cases_Bool (settled o y)) [
-        | inl is ↦ absurd (apart (among_of d w y (only y wasnt is)).1)
+    others_stay : (y : ℕ) → want_at t.plan y ≢ w → settled c.fates y ≡ settled b.fates y
+    others_stay y apart = elim (cases_Bool (settled b.fates y)) [
+      | inl was ↦ settled_on b.fates c.fates next.stretch.step.grows y was ∙ sym was
+      | inr wasnt ↦ elim (cases_Bool (settled c.fates y)) [
+        | inl is ↦ absurd (apart (among_of t.plan w y (next.only y wasnt is)).1)
         | inr isnt ↦ isnt ∙ sym wasnt
       ]
     ]
 
-    module _ (done later : ℕ → Bool) (below : w < d.wants) (wasnt : done w ≡ false) (is : later w ≡ true) (others : (v : ℕ) → v ≢ w → later v ≡ done v)
-        (within : (v : ℕ) → done v ≡ true → v < d.wants) (stocked : Stocked (TakesWants holds l d (λ v. done v ≡ true) k.chain.stores) e f)
-        (since : Stocked (TakesWants holds l d (λ v. v ≡ w) j.chain.stores) f h) (before : Paid done a k m b j n e f) where
-      apart_from : (v : ℕ) → later v ≡ false → v ≢ w
-      apart_from v isnt same = true≢false (sym is ∙ ap later (sym same) ∙ isnt)
+    apart_from : (v : ℕ) → later v ≡ false → v ≢ w
+    apart_from v isnt same = true≢false (sym more.now ∙ ap later (sym same) ∙ isnt)
 
-      -- its source is what it was at first
-      source_still : (was now maps : List (Map (List ℕ))) → cached_in e ≡ Some was → cached_in f ≡ Some now → map holds k.chain.stores ≡ map Some maps → HaveOneSize l e was maps
-          → SourceFrom j n now maps w ≡ SourceFrom k m was maps w
-      source_still was now maps told tells held one =
-          ap (λ (views : List (Option Held)). source_over l d x (settled n) views now maps w) first.seeds.held
-          ∙ source_same l d x (map (seed_held view) k.seeds.items) maps w now was (settled n) (settled m)
-          (λ y among. before.untouched y (ap done (among_of d w y among).1 ∙ wasnt))
-          (give_same holds l d (λ v. done v ≡ true) k.chain.stores e f was now maps stocked told tells held wants within one w below
-          (λ so. true≢false (sym so ∙ wasnt)))
+    -- its source is what it was at first
+    source_still : (was now maps : List (Map (List ℕ))) → cached_in a.cache ≡ Some was → cached_in b.cache ≡ Some now → map store.holds a.kit.chain.stores ≡ map Some maps
+        → HaveOneSize t.listing a.cache was maps → source_at view t b now maps w ≡ source_at view t a was maps w
+    source_still was now maps told tells held one =
+        ap (λ (views : List (Option Held)). source_over t (settled b.fates) views now maps w) first.step.seeds.held
+        ∙ source_same t (views_of view a.kit.seeds.items) maps w now was (settled b.fates) (settled a.fates)
+        (λ y among. before.untouched y (ap done (among_of t.plan w y among).1 ∙ more.wasnt))
+        (give_same store t.listing t.plan (λ v. done v ≡ true) a.kit.chain.stores a.cache b.cache was now maps first.stocked told tells held wants more.within one w more.below
+        (λ so. true≢false (sym so ∙ more.wasnt)))
 
-      untouched_more : (y : ℕ) → later (want_at d y) ≡ false → settled o y ≡ settled m y
-      untouched_more y isnt =
-          let apart = apart_from (want_at d y) isnt in
-          others_stay y apart ∙ before.untouched y (sym (others (want_at d y) apart) ∙ isnt)
+    untouched_more : (y : ℕ) → later (want_at t.plan y) ≡ false → settled c.fates y ≡ settled a.fates y
+    untouched_more y isnt =
+        let apart = apart_from (want_at t.plan y) isnt in
+        others_stay y apart ∙ before.untouched y (sym (more.others (want_at t.plan y) apart) ∙ isnt)
 
-      module _ (r : Result Unit Unsettled) (memory : HadMemory r) (all : OnOk r ((y : ℕ) → IsAmong (of_want d w) y → settled o y ≡ true))
-          (exactly : (cached maps : List (Map (List ℕ))) → Nothing b j c i f h cached maps → SettlesBy (SourceFrom j n cached maps w) (count_of l) n o j.chain i.chain r) where
-        earlier : (cached maps : List (Map (List ℕ))) → Nothing a k c i e h cached maps → Nothing a k b j e f cached maps
-        earlier cached maps nothing = nothing_first holds store_faults view view_faults tells (faults a) (faults b) (faults c) k.seeds.items j.seeds.items i.seeds.items
-            e f h k.chain.stores j.chain.stores i.chain.stores cached maps next.never_falls next.seeds.never_fall next.stores.never_fall
-            (stocked_falls (TakesWants holds l d (λ v. v ≡ w) j.chain.stores) f h since) nothing
+    module _ (r : Result Unit Unsettled) (memory : HadMemory r) (all : OnOk r ((y : ℕ) → IsAmong (of_want t.plan w) y → settled c.fates y ≡ true))
+        (exactly : (cached maps : List (Map (List ℕ))) → Nothing b c cached maps
+        → SettlesBy (source_at view t b cached maps w) (count_of t.listing) b.fates c.fates b.kit.chain c.kit.chain r) where
+      earlier : (cached maps : List (Map (List ℕ))) → Nothing a c cached maps → Nothing a b cached maps
+      earlier cached maps nothing = nothing_first store view t (λ v. v ≡ w) a b c cached maps next.stretch nothing
 
-        now_by : (cached maps : List (Map (List ℕ))) → Nothing a k c i e h cached maps → HaveOneSize l e cached maps
-            → (i.chain.asks ≡ raised j.chain.asks (pass_asks (SourceFrom k m cached maps w))) × SettledBy (SourceFrom k m cached maps w) (count_of l) n o r
-        now_by cached maps nothing one =
-            let T = TakesWants holds l d (λ v. done v ≡ true) k.chain.stores in
-            let later = stocked_told T e f cached stocked nothing.told_cache in
-            let by = exactly later.0 maps (nothing_next holds store_faults view view_faults tells (faults a) (faults b) (faults c) k.seeds.items j.seeds.items i.seeds.items
-            e f h k.chain.stores j.chain.stores i.chain.stores cached maps first.never_falls first.seeds.never_fall first.stores.never_fall
-            (stocked_falls T e f stocked) first.stores.held first.seeds.held later.0 later.1 nothing) in
-            subst (λ (s : Fate). (i.chain.asks ≡ raised j.chain.asks (pass_asks s)) × SettledBy s (count_of l) n o r)
-            (source_still cached later.0 maps nothing.told_cache later.1 nothing.told one) (by.0 memory, by.1)
+      now_by : (cached maps : List (Map (List ℕ))) → Nothing a c cached maps → HaveOneSize t.listing a.cache cached maps
+          → (c.kit.chain.asks ≡ raised b.kit.chain.asks (pass_asks (source_at view t a cached maps w)))
+          × SettledBy (source_at view t a cached maps w) (count_of t.listing) b.fates c.fates r
+      now_by cached maps nothing one =
+          let later_on = stocked_told (TakesWants store t.listing t.plan (λ v. done v ≡ true) a.kit.chain.stores) a.cache b.cache cached first.stocked nothing.told_cache in
+          let by = exactly later_on.0 maps (nothing_next store view t (λ v. done v ≡ true) a b c cached maps first later_on.0 later_on.1 nothing) in
+          subst (λ (s : Fate). (c.kit.chain.asks ≡ raised b.kit.chain.asks (pass_asks s)) × SettledBy s (count_of t.listing) b.fates c.fates r)
+          (source_still cached later_on.0 maps nothing.told_cache later_on.1 nothing.told one) (by.0 memory, by.1)
 
-        passed_more : (cached maps : List (Map (List ℕ))) → Nothing a k c i e h cached maps → HaveOneSize l e cached maps
-            → PassedBy (so_far later (SourceFrom k m cached maps)) d.wants (count_of l) m o k.chain i.chain
-        passed_more cached maps nothing one =
-            let call = now_by cached maps nothing one in
-            let source = SourceFrom k m cached maps in
-            passed_on done later w d.wants below wasnt is others source (count_of l) m n o k.chain j.chain i.chain
-            (before.passed cached maps (earlier cached maps nothing) one) call.0 (tallied_want (source w) (count_of l) n o r memory call.1)
+      passed_more : (cached maps : List (Map (List ℕ))) → Nothing a c cached maps → HaveOneSize t.listing a.cache cached maps
+          → PassedBy (so_far later (source_at view t a cached maps)) t.plan.wants (count_of t.listing) a.fates c.fates a.kit.chain c.kit.chain
+      passed_more cached maps nothing one =
+          let call = now_by cached maps nothing one in
+          let source = source_at view t a cached maps in
+          passed_on done later w t.plan.wants more.below more.wasnt more.now more.others source (count_of t.listing) a.fates b.fates c.fates a.kit.chain b.kit.chain c.kit.chain
+          (before.passed cached maps (earlier cached maps nothing) one) call.0 (tallied_want (source w) (count_of t.listing) b.fates c.fates r memory call.1)
 
-        left_more : (cached maps : List (Map (List ℕ))) → Nothing a k c i e h cached maps → HaveOneSize l e cached maps
-            → (y : ℕ) → y < count_of l → later (want_at d y) ≡ true → settled o y ≡ false → SourceFrom k m cached maps (want_at d y) ≡ fate.Open
-        left_more cached maps nothing one y inside so isnt = elim (cases_eq (want_at d y) w) [
-          | inl same ↦
-              let size : length d.want_of ≡ count_of l = wants.size in
-              ap (SourceFrom k m cached maps) same
-              ∙ left_want (SourceFrom k m cached maps w) (count_of l) n o (of_want d w) r memory (now_by cached maps nothing one).1 all y
-              (among d w y (omega (arith, inside, size)) same) isnt
-          | inr apart ↦ before.left cached maps (earlier cached maps nothing) one y inside (sym (others (want_at d y) apart) ∙ so) (open_before n o next.grows y isnt)
-        ]
+      left_more : (cached maps : List (Map (List ℕ))) → Nothing a c cached maps → HaveOneSize t.listing a.cache cached maps
+          → (y : ℕ) → y < count_of t.listing → later (want_at t.plan y) ≡ true → settled c.fates y ≡ false → source_at view t a cached maps (want_at t.plan y) ≡ fate.Open
+      left_more cached maps nothing one y inside so isnt = elim (cases_eq (want_at t.plan y) w) [
+        | inl same ↦
+            let size : length t.plan.want_of ≡ count_of t.listing = wants.size in
+            ap (source_at view t a cached maps) same
+            ∙ left_want (source_at view t a cached maps w) (count_of t.listing) b.fates c.fates (of_want t.plan w) r memory (now_by cached maps nothing one).1 all y
+            (among t.plan w y (omega (arith, inside, size)) same) isnt
+        | inr apart ↦ before.left cached maps (earlier cached maps nothing) one y inside (sym (more.others (want_at t.plan y) apart) ∙ so)
+            (open_before b.fates c.fates next.stretch.step.grows y isnt)
+      ]
 
-        pub paid_more : Paid later a k m c i o e h
-        paid_more = record { untouched = untouched_more; passed = passed_more; left = left_more }
+      pub paid_more : Paid later a c
+      paid_more = record { untouched = untouched_more; passed = passed_more; left = left_more }
 
   -- at the end: each want is done, or was settled at first
-  pub paid_all : (done : ℕ → Bool) (a : T) (k : Kit S V) (m : List Fate) (b : T) (j : Kit S V) (n : List Fate) (e f : Option Shelf)
-      → ((w : ℕ) → w < d.wants → (done w ≡ true) ⊎ ((i : ℕ) × IsAmong (of_want d w) i × (settled m i ≡ true))) → Paid done a k m b j n e f
-      → (cached maps : List (Map (List ℕ))) → Nothing a k b j e f cached maps → HaveOneSize l e cached maps
-      → PassedBy (SourceFrom k m cached maps) d.wants (count_of l) m n k.chain j.chain
-  paid_all done a k m b j n e f all paid cached maps nothing one =
-      passed_all done (SourceFrom k m cached maps) d.wants (count_of l) m n k.chain j.chain
+  pub paid_all : (done : ℕ → Bool) (a b : Stage S V)
+      → ((w : ℕ) → w < t.plan.wants → (done w ≡ true) ⊎ ((i : ℕ) × IsAmong (of_want t.plan w) i × (settled a.fates i ≡ true))) → Paid done a b
+      → WhereQuiet store view t.listing (from a) (from b) (λ cached maps.
+      PassedBy (source_at view t a cached maps) t.plan.wants (count_of t.listing) a.fates b.fates a.kit.chain b.kit.chain)
+  paid_all done a b all paid cached maps nothing one =
+      passed_all done (source_at view t a cached maps) t.plan.wants (count_of t.listing) a.fates b.fates a.kit.chain b.kit.chain
       (λ w less. elim (all w less) [
         | inl is ↦ inl is
-        | inr other ↦ inr (source_kept l d x (map (seed_held view) k.seeds.items) maps w cached (settled m) other.0 other.1 other.2)
+        | inr other ↦ inr (source_kept t (views_of view a.kit.seeds.items) maps w cached (settled a.fates) other.0 other.1 other.2)
       ])
       (paid.passed cached maps nothing one)

@@ -1,23 +1,21 @@
 -- Both passes together: the second asks once more for each want that has no source, and for no other.
-use Rattle.std.proofs.Common.{◌≡◌, ◌⊎◌, ◌++◌, ℕ, ◌+◌, ◌<◌, List, Option, true, false, refl, sym, ap, subst, ◌∙◌, inl, inr, arith}
+use Rattle.std.proofs.Common.{◌≡◌, ◌⊎◌, ◌++◌, ℕ, ◌+◌, ◌<◌, List, Bool, Option, true, false, refl, sym, ap, subst, ◌∙◌, inl, inr, arith}
 use Rattle.std.proofs.lemmas.Bool.{cases_Bool}
 use Rattle.assembler.proofs.EconomySources.{had_source, source_kept, source_open}
 use Rattle.assembler.proofs.EconomySums.{raised_on, sum_both}
 use Rattle.assembler.proofs.Tallies.{tallied_on}
 use Rattle.assembler.proofs.Entries.{among_of, first_among, listed_of}
-use Rattle.assembler.proofs.HadOn.{had_alike}
+use Rattle.assembler.proofs.HadOn.{had_want}
 use Rattle.assembler.specs.Economy.{AssembledBy, PassedBy, all_asks, sum_below}
 use Rattle.assembler.specs.Passes.{HadAt, want_at}
 use Rattle.range_survey.specs.Reports.{one_if, tally}
-use Rattle.caibx_codec.specs.Listing.{Listing, count_of, id_of, kind_of, size_of}
+use Rattle.caibx_codec.specs.Listing.{count_of, kind_of, size_of}
 use Rattle.chunk_sources.specs.Economy.{pass_asks, source_over, stores_give}
-use Rattle.chunk_sources.specs.Losses.{Had}
-use Rattle.chunk_sources.specs.Wants.{IsAmong}
+use Rattle.chunk_sources.specs.Wants.{IsAmong, Task}
 use Rattle.dsy_base.specs.Bytes.{Held}
 use Rattle.dsy_base.specs.Counts.{raised}
 use Rattle.dsy_base.specs.Maps.{Map}
-use Rattle.extract_plan.specs.Deal.{first_of, of_want, want_id, AreWants, Deal}
-use Rattle.extract_plan.specs.Places.{Placed, places_at}
+use Rattle.extract_plan.specs.Deal.{first_of, of_want, want_id, AreWants}
 use Rattle.range_survey.specs.Fates.{settled}
 use Rattle.range_survey.specs.declared.fate.Fate.{Fate}
 use Rattle.range_survey.specs.declared.fate.Fate.TheVariants as fate
@@ -75,49 +73,43 @@ both_passes s t wants n m0 m1 m2 c0 c1 c2 again first next =
     }
 
 -- the cache gave `cached` before the first pass and `now` before the second: nothing that neither it nor a store gave
-module _ (l : Listing) (d : Deal) (x : Placed) (wants : AreWants l d.wants d.want_of) (m n : List Fate) (views : List (Option Held)) (cached now maps : List (Map (List ℕ)))
-    (had : (i : ℕ) → i < count_of l → settled n i ≡ true → HadAt l d x m views (cached ++ maps) i)
-    (left : (i : ℕ) → i < count_of l → settled n i ≡ false → source_over l d x (settled m) views cached maps (want_at d i) ≡ fate.Open) (w : ℕ) (below : w < d.wants)
-    (gave : stores_give (kind_of l) (want_id l d w) (size_of l (first_of d w)) now ≡ true → (stores_give (kind_of l) (want_id l d w) (size_of l (first_of d w)) cached ≡ true)
-    ⊎ (stores_give (kind_of l) (want_id l d w) (size_of l (first_of d w)) maps ≡ true)) where
-  abbrev Before : Fate
-  Before = source_over l d x (settled m) views cached maps w
+module _ (t : Task) (wants : AreWants t.listing t.plan.wants t.plan.want_of) (m n : List Fate) (views : List (Option Held)) (cached now maps : List (Map (List ℕ)))
+    (had : (i : ℕ) → i < count_of t.listing → settled n i ≡ true → HadAt t m views (cached ++ maps) i)
+    (left : (i : ℕ) → i < count_of t.listing → settled n i ≡ false → source_over t (settled m) views cached maps (want_at t.plan i) ≡ fate.Open) where
+  abbrev Give : ℕ → List (Map (List ℕ)) → Bool
+  Give w stores = stores_give (kind_of t.listing) (want_id t.listing t.plan w) (size_of t.listing (first_of t.plan w)) stores
+
+  abbrev Before : ℕ → Fate
+  Before w = source_over t (settled m) views cached maps w
 
   -- a want of which an entry was settled had a source
-  had_one : (i : ℕ) → IsAmong (of_want d w) i → settled n i ≡ true → Before ≡ fate.Open → ⊥
-  had_one i among is none =
-      let first = first_among l d w wants below in
-      let here : HadAt l d x m views (cached ++ maps) (first_of d w) = had_alike l d x wants m views (cached ++ maps) w (first_of d w) i first among (had i (listed_of l d w i wants among) is) in
-      let at : want_at d (first_of d w) ≡ w = (among_of d w (first_of d w) first).1 in
-      had_source l d x views maps w cached m
-      (subst (λ (v : ℕ). Had m (of_want d v) views (places_at x v) (kind_of l) (id_of l (first_of d w)) (size_of l (first_of d w)) (cached ++ maps)) at here) none
+  had_one : (w i : ℕ) → IsAmong (of_want t.plan w) i → settled n i ≡ true → Before w ≡ fate.Open → ⊥
+  had_one w i among is none =
+      had_source t views maps w cached m (had_want t wants m views (cached ++ maps) w i among (had i (listed_of t.listing t.plan w i wants among) is)) none
 
-  pub source_again : Again Before (source_over l d x (settled n) views now maps w)
-  source_again =
-      let first = first_among l d w wants below in
-      let at : want_at d (first_of d w) ≡ w = (among_of d w (first_of d w) first).1 in
-      elim (cases_Bool (settled n (first_of d w))) [
-        | inl is ↦ inr (had_one (first_of d w) first is, source_kept l d x views maps w now (settled n) (first_of d w) first is)
+  source_again : (w : ℕ) → w < t.plan.wants → (Give w now ≡ true → (Give w cached ≡ true) ⊎ (Give w maps ≡ true))
+      → Again (Before w) (source_over t (settled n) views now maps w)
+  source_again w below gave =
+      let i = first_of t.plan w in
+      let first = first_among t.listing t.plan w wants below in
+      let at : want_at t.plan i ≡ w = (among_of t.plan w i first).1 in
+      elim (cases_Bool (settled n i)) [
+        | inl is ↦ inr (had_one w i first is, source_kept t views maps w now (settled n) i first is)
         | inr isnt ↦
-            let none : Before ≡ fate.Open = ap (source_over l d x (settled m) views cached maps) (sym at) ∙ left (first_of d w) (listed_of l d w (first_of d w) wants first) isnt in
+            let none : Before w ≡ fate.Open = ap (source_over t (settled m) views cached maps) (sym at) ∙ left i (listed_of t.listing t.plan w i wants first) isnt in
             inl (
               none,
-              source_open l d x views maps w cached now (settled m) (settled n) none (λ i among. elim (cases_Bool (settled n i)) [
-                | inl is ↦ absurd (had_one i among is none)
+              source_open t views maps w cached now (settled m) (settled n) none (λ j among. elim (cases_Bool (settled n j)) [
+                | inl is ↦ absurd (had_one w j among is none)
                 | inr still ↦ still
               ]) gave,
             )
       ]
 
-pub passes_by : {S : Type 0} (l : Listing) (d : Deal) (x : Placed) → AreWants l d.wants d.want_of → (m n o : List Fate) (views after : List (Option Held)) (cached now maps : List (Map (List ℕ)))
-    (c0 c1 c2 : Chained S) → after ≡ views
-    → ((i : ℕ) → i < count_of l → settled n i ≡ true → HadAt l d x m views (cached ++ maps) i)
-    → ((i : ℕ) → i < count_of l → settled n i ≡ false → source_over l d x (settled m) views cached maps (want_at d i) ≡ fate.Open)
-    → ((w : ℕ) → stores_give (kind_of l) (want_id l d w) (size_of l (first_of d w)) now ≡ true → (stores_give (kind_of l) (want_id l d w) (size_of l (first_of d w)) cached ≡ true)
-    ⊎ (stores_give (kind_of l) (want_id l d w) (size_of l (first_of d w)) maps ≡ true))
-    → PassedBy (source_over l d x (settled m) views cached maps) d.wants (count_of l) m n c0 c1 → PassedBy (source_over l d x (settled n) after now maps) d.wants (count_of l) n o c1 c2
-    → AssembledBy (source_over l d x (settled m) views cached maps) d.wants (count_of l) m o c0 c2
-passes_by l d x wants m n o views after cached now maps c0 c1 c2 same had left gave first next =
-    both_passes (source_over l d x (settled m) views cached maps) (source_over l d x (settled n) views now maps) d.wants (count_of l) m n o c0 c1 c2
-    (λ w below. source_again l d x wants m n views cached now maps had left w below (gave w)) first
-    (subst (λ (v : List (Option Held)). PassedBy (source_over l d x (settled n) v now maps) d.wants (count_of l) n o c1 c2) same next)
+  pub passes_by : {S : Type 0} (o : List Fate) (after : List (Option Held)) (c0 c1 c2 : Chained S) → after ≡ views
+      → ((w : ℕ) → Give w now ≡ true → (Give w cached ≡ true) ⊎ (Give w maps ≡ true))
+      → PassedBy Before t.plan.wants (count_of t.listing) m n c0 c1 → PassedBy (source_over t (settled n) after now maps) t.plan.wants (count_of t.listing) n o c1 c2
+      → AssembledBy Before t.plan.wants (count_of t.listing) m o c0 c2
+  passes_by o after c0 c1 c2 same gave first next =
+      both_passes Before (source_over t (settled n) views now maps) t.plan.wants (count_of t.listing) m n o c0 c1 c2 (λ w below. source_again w below (gave w)) first
+      (subst (λ (v : List (Option Held)). PassedBy (source_over t (settled n) v now maps) t.plan.wants (count_of t.listing) n o c1 c2) same next)

@@ -2,16 +2,14 @@
 use Rattle.std.proofs.Common.{◌≡◌, ◌⊎◌, ◌++◌, ℕ, List, Bool, true, false, if◌then◌else◌, Option, refl, sym, ap, ◌∙◌, inl, inr}
 use Rattle.std.proofs.lemmas.Bool.{true≢false}
 use Rattle.std.specs.List.{list_any}
-use Rattle.caibx_codec.specs.Listing.{Listing, kind_of, size_of}
 use Rattle.chunk_sources.proofs.Cached.{gives_part}
 use Rattle.chunk_sources.proofs.Origins.{kept_source, none_right, right_same, seeds_decide, some_right, stores_decide}
 use Rattle.chunk_sources.specs.Economy.{seeds_give, source_over, stores_give}
 use Rattle.chunk_sources.specs.Losses.{Had}
-use Rattle.chunk_sources.specs.Wants.{IsAmong}
+use Rattle.chunk_sources.specs.Wants.{IsAmong, Task, Wanted, want_chunk}
 use Rattle.dsy_base.specs.Bytes.{Held}
 use Rattle.dsy_base.specs.Maps.{Map}
-use Rattle.extract_plan.specs.Deal.{first_of, of_want, want_id, Deal}
-use Rattle.extract_plan.specs.Places.{Placed, places_at}
+use Rattle.extract_plan.specs.Deal.{of_want}
 use Rattle.range_survey.specs.Fates.{is_settled, settled}
 use Rattle.range_survey.specs.declared.fate.Fate.{Fate}
 use Rattle.range_survey.specs.declared.fate.Fate.TheVariants as fate
@@ -48,44 +46,46 @@ four_none false e false false true false none isnt found = elim (found refl) [
 
 -- ---- the source of a want
 
-module _ (l : Listing) (d : Deal) (x : Placed) (views : List (Option Held)) (maps : List (Map (List ℕ))) (w : ℕ) where
+module _ (t : Task) (views : List (Option Held)) (maps : List (Map (List ℕ))) (w : ℕ) where
+  abbrev chunk : Wanted
+  chunk = want_chunk t w
+
   abbrev Source : List (Map (List ℕ)) → (ℕ → Bool) → Fate
-  Source cached is_right = source_over l d x is_right views cached maps w
+  Source cached is_right = source_over t is_right views cached maps w
 
   abbrev Give : List (Map (List ℕ)) → Bool
-  Give stores = stores_give (kind_of l) (want_id l d w) (size_of l (first_of d w)) stores
+  Give stores = stores_give chunk.kind chunk.id chunk.size stores
+
+  abbrev Seeded : Bool
+  Seeded = seeds_give views chunk.places chunk.id
 
   -- it depends on the entries of the want alone, and on whether the cache gives it
-  pub source_same : (cached now : List (Map (List ℕ))) (f g : ℕ → Bool) → ((i : ℕ) → IsAmong (of_want d w) i → f i ≡ g i) → Give cached ≡ Give now
+  pub source_same : (cached now : List (Map (List ℕ))) (f g : ℕ → Bool) → ((i : ℕ) → IsAmong (of_want t.plan w) i → f i ≡ g i) → Give cached ≡ Give now
       → Source cached f ≡ Source now g
   source_same cached now f g same give =
-      ap (λ a. of_four a (seeds_give views (places_at x w) (want_id l d w)) (Give cached) (Give maps)) (right_same f g (of_want d w) same)
-      ∙ ap (λ k. of_four (list_any g (of_want d w)) (seeds_give views (places_at x w) (want_id l d w)) k (Give maps)) give
+      ap (λ a. of_four a Seeded (Give cached) (Give maps)) (right_same f g (of_want t.plan w) same)
+      ∙ ap (λ k. of_four (list_any g (of_want t.plan w)) Seeded k (Give maps)) give
 
-  pub source_kept : (cached : List (Map (List ℕ))) (f : ℕ → Bool) (i : ℕ) → IsAmong (of_want d w) i → f i ≡ true → Source cached f ≡ fate.Kept
-  source_kept cached f i among is =
-      kept_source f (of_want d w) views (places_at x w) (kind_of l) (want_id l d w) (size_of l (first_of d w)) cached maps i among is
+  pub source_kept : (cached : List (Map (List ℕ))) (f : ℕ → Bool) (i : ℕ) → IsAmong (of_want t.plan w) i → f i ≡ true → Source cached f ≡ fate.Kept
+  source_kept cached f i among is = kept_source f chunk views cached maps i among is
 
   -- a want that has none has none still, while no entry is right and the cache gives nothing that none gave
-  pub source_open : (cached now : List (Map (List ℕ))) (f g : ℕ → Bool) → Source cached f ≡ fate.Open → ((i : ℕ) → IsAmong (of_want d w) i → g i ≡ false)
+  pub source_open : (cached now : List (Map (List ℕ))) (f g : ℕ → Bool) → Source cached f ≡ fate.Open → ((i : ℕ) → IsAmong (of_want t.plan w) i → g i ≡ false)
       → (Give now ≡ true → (Give cached ≡ true) ⊎ (Give maps ≡ true)) → Source now g ≡ fate.Open
   source_open cached now f g none wrong gave =
-      four_none (list_any f (of_want d w)) (list_any g (of_want d w)) (seeds_give views (places_at x w) (want_id l d w))
-      (Give cached) (Give now) (Give maps) none
-      (none_right g (of_want d w) (λ i among is. true≢false (sym is ∙ wrong i among))) gave
+      four_none (list_any f (of_want t.plan w)) (list_any g (of_want t.plan w)) Seeded (Give cached) (Give now) (Give maps) none
+      (none_right g (of_want t.plan w) (λ i among is. true≢false (sym is ∙ wrong i among))) gave
 
-  found : (cached : List (Map (List ℕ))) (m : List Fate) → Had m (of_want d w) views (places_at x w) (kind_of l) (want_id l d w) (size_of l (first_of d w)) (cached ++ maps)
-      → (list_any (settled m) (of_want d w) ≡ true) ⊎ ((seeds_give views (places_at x w) (want_id l d w) ≡ true) ⊎ ((Give cached ≡ true) ⊎ (Give maps ≡ true)))
-  found cached m (inl (i, among, is)) = inl (some_right (settled m) (of_want d w) i among is)
-  found cached m (inr (inl seeds)) = inr (inl ((seeds_decide views (places_at x w) (want_id l d w)).1 seeds))
-  found cached m (inr (inr stores)) = elim (gives_part (kind_of l) (want_id l d w) (size_of l (first_of d w)) cached maps stores) [
-    | inl cache ↦ inr (inr (inl ((stores_decide (kind_of l) (want_id l d w) (size_of l (first_of d w)) cached).1 cache)))
-    | inr store ↦ inr (inr (inr ((stores_decide (kind_of l) (want_id l d w) (size_of l (first_of d w)) maps).1 store)))
+  found : (cached : List (Map (List ℕ))) (m : List Fate) → Had m chunk views (cached ++ maps)
+      → (list_any (settled m) (of_want t.plan w) ≡ true) ⊎ ((Seeded ≡ true) ⊎ ((Give cached ≡ true) ⊎ (Give maps ≡ true)))
+  found cached m (inl (i, among, is)) = inl (some_right (settled m) (of_want t.plan w) i among is)
+  found cached m (inr (inl seeds)) = inr (inl ((seeds_decide views chunk.places chunk.id).1 seeds))
+  found cached m (inr (inr stores)) = elim (gives_part chunk.kind chunk.id chunk.size cached maps stores) [
+    | inl cache ↦ inr (inr (inl ((stores_decide chunk.kind chunk.id chunk.size cached).1 cache)))
+    | inr store ↦ inr (inr (inr ((stores_decide chunk.kind chunk.id chunk.size maps).1 store)))
   ]
 
   -- what was had came from one
-  pub had_source : (cached : List (Map (List ℕ))) (m : List Fate)
-      → Had m (of_want d w) views (places_at x w) (kind_of l) (want_id l d w) (size_of l (first_of d w)) (cached ++ maps)
-      → Source cached (settled m) ≡ fate.Open → ⊥
+  pub had_source : (cached : List (Map (List ℕ))) (m : List Fate) → Had m chunk views (cached ++ maps) → Source cached (settled m) ≡ fate.Open → ⊥
   had_source cached m had none =
-      four_any (list_any (settled m) (of_want d w)) (seeds_give views (places_at x w) (want_id l d w)) (Give cached) (Give maps) (found cached m had) none
+      four_any (list_any (settled m) (of_want t.plan w)) Seeded (Give cached) (Give maps) (found cached m had) none

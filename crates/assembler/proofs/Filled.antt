@@ -7,14 +7,13 @@ use Rattle.std.proofs.lemmas.List.Elements.{Contains-append_left, Contains-appen
 use Rattle.std.specs.List.{Contains}
 use Rattle.caibx_codec.specs.Listing.{Listing, count_of, kind_of, slice_of}
 use Rattle.caibx_codec.specs.Right.{IsRightAt}
-use Rattle.chunk_sources.specs.Economy.{is_made}
 use Rattle.chunk_store.specs.Names.{name_of}
 use Rattle.dsy_base.specs.Counts.{Rose}
 use Rattle.range_survey.proofs.Excused.{excuses_none, excuses_on, excuses_since}
 use Rattle.range_survey.proofs.Fated.{set_apart, set_here}
-use Rattle.range_survey.specs.Fates.{SettledRight, fate_at, is_settled, settled}
+use Rattle.range_survey.specs.Fates.{SettledRight, fate_at, is_made, is_settled, settled}
 use Rattle.range_survey.specs.declared.fate.Fate.{Fate}
-use Rattle.assembler.specs.Fills.{Fills, FillsTorn, Grows, WhereTold}
+use Rattle.range_ledger.specs.Fills.{Fills, FillsTorn, Grows, WhereTold}
 
 -- a count that rose before it rose further or stayed
 pub rose_still : (a b c : ℕ) → b ≤ c → Rose a b → Rose a c

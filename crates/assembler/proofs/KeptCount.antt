@@ -2,15 +2,14 @@
 use Rattle.std.proofs.Common.{◌≡◌, ◌⊎◌, ℕ, zero, suc, ◌<◌, ◌≤◌, List, Bool, true, false, if◌then◌else◌, refl, sym, ap, ◌∙◌, inl, inr, arith}
 use Rattle.std.proofs.lemmas.Bool.{cases_Bool, true≢false}
 use Rattle.std.proofs.lemmas.Slice.Eq.{bytes_eq-Decides}
-use Rattle.assembler.specs.Fills.{Grows}
+use Rattle.range_ledger.specs.Fills.{Grows}
 use Rattle.range_survey.specs.Reports.{one_if, right_below, tally}
 use Rattle.caibx_codec.specs.Listing.{Listing, count_of, id_of, kind_of, slice_of}
 use Rattle.chunk_sources.proofs.Lacking.{quiet_never}
-use Rattle.chunk_sources.specs.Economy.{is_made}
 use Rattle.chunk_store.specs.Names.{name_of}
 use Rattle.dsy_base.specs.Counts.{Quiet}
 use Rattle.range_survey.proofs.Excused.{excused_rose}
-use Rattle.range_survey.specs.Fates.{FirstFates, OpenWrong, SettledRight, fate_at, is_right_at, is_settled, settled}
+use Rattle.range_survey.specs.Fates.{FirstFates, OpenWrong, SettledRight, fate_at, is_made, is_right_at, is_settled, settled}
 use Rattle.range_survey.specs.declared.fate.Fate.{Fate}
 use Rattle.range_survey.specs.declared.fate.Fate.TheVariants as fate
 

@@ -1,19 +1,16 @@
-pub mod Writes
 pub mod Tallies
 pub mod Filled
 pub mod Entries
-pub mod Stepped
 pub mod Counted
 pub mod CacheSpared
-pub mod Asked
 pub mod Stocking
+pub mod Stepped
+pub mod Asked
 pub mod HadOn
 pub mod Passed
 pub mod Settled
 pub mod Lost
 pub mod Tried
-pub mod TriedAsks
-pub mod Retried
 pub mod TwoPasses
 pub mod KeptCount
 pub mod EconomySums
@@ -28,3 +25,5 @@ pub mod EconomyRetried
 pub mod EconomyPasses
 pub mod EconomyReported
 pub mod OnePlan
+pub mod WholePasses
+pub mod Writes

@@ -1,33 +1,46 @@
 -- What it takes that no source gave a chunk, over a longer stretch: what went before, and what came after.
-use Rattle.std.proofs.Common.{◌≡◌, ◌≢◌, ℕ, ◌<◌, ◌≤◌, List, map, Option, Bool, slice_index, inl, inr, sym, ◌∙◌, subst, arith}
+use Rattle.std.proofs.Common.{◌≡◌, ◌≢◌, ℕ, ◌<◌, ◌≤◌, List, Bool, Option, Result, Err, set, true, ap, slice_index, inl, inr, sym, ◌∙◌, subst, arith}
 use Rattle.std.proofs.lemmas.List.Elements.{All-weaker}
 use Rattle.cache_store.specs.Shelves.{Shelf}
 use Rattle.assembler.proofs.Entries.{among_of, first_among, ids_same, listed_of}
+use Rattle.std.proofs.lemmas.Bool.{true≢false}
 use Rattle.assembler.proofs.Filled.{rose_still, settled_on}
-use Rattle.assembler.specs.Fills.{Grows}
-use Rattle.assembler.specs.Losses.{IsFirstOpen, lost_want}
-use Rattle.assembler.specs.Passes.{IsLost, want_at}
+use Rattle.assembler.proofs.Passed.{OneMore}
+use Rattle.assembler.proofs.Tried.{is_tried}
+use Rattle.range_ledger.specs.Fills.{Grows}
+use Rattle.assembler.specs.Losses.{IsFirstOpen, Where, lost_want}
+use Rattle.assembler.specs.Passes.{Loses, want_at}
+use Rattle.assembler.specs.Settling.{HasEnded}
+use Rattle.assembler.specs.Stages.{Stage, Stretch, from}
 use Rattle.assembler.specs.declared.fault.Lost.{Lost}
-use Rattle.caibx_codec.specs.Listing.{Listing, count_of, id_of, kind_of, size_of}
+use Rattle.assembler.specs.declared.fault.Unsettled.{Unsettled}
+use Rattle.assembler.specs.declared.fault.Unsettled.TheVariants as unsettled
+use Rattle.caibx_codec.specs.Asks.{IsListedGet}
+use Rattle.caibx_codec.specs.Listing.{count_of, id_of, kind_of, size_of}
 use Rattle.chunk_sources.proofs.Cached.{stocked_falls, stocked_gave, stocked_was}
 use Rattle.chunk_sources.specs.Caches.{CacheLacks, Stocked, TakesWants, cache_faults}
 use Rattle.chunk_sources.specs.Losses.{AskedLast, CopiesFailed, RefusedBy}
-use Rattle.chunk_sources.specs.Sources.{KeepsSeeds, HeldAt, SeedsFailed}
-use Rattle.chunk_sources.specs.declared.kit.Kit.{Kit}
-use Rattle.chunk_store.specs.Said.{Said}
+use Rattle.chunk_sources.specs.Sources.{HeldAt, SeedsFailed, counts_of, views_of}
+use Rattle.chunk_sources.specs.Wants.{Task, want_chunk}
+use Rattle.chunk_store.specs.declared.store.Store.{Ghosts as StoreWords}
 use Rattle.dsy_base.proofs.Counts.{rose_later}
 use Rattle.dsy_base.specs.Bytes.{Held}
 use Rattle.dsy_base.specs.Counts.{Rose}
-use Rattle.dsy_base.specs.Maps.{Map}
-use Rattle.extract_plan.specs.Deal.{AreWants, Deal, first_of, of_want, want_id}
-use Rattle.extract_plan.specs.Places.{Placed, places_at}
-use Rattle.extract_plan.specs.Seeds.{faults_in, seed_held}
+use Rattle.dsy_base.specs.declared.view.View.{Ghosts as ViewWords}
+use Rattle.extract_plan.specs.Deal.{AreWants, first_of, of_want, want_id}
+use Rattle.extract_plan.specs.Places.{places_at}
 use Rattle.extract_plan.specs.declared.seed.SeedPlace.{SeedPlace}
 use Rattle.range_survey.specs.declared.fate.Fate.{Fate}
-use Rattle.store_chain.proofs.Kept.{stay_on, stay_still}
-use Rattle.store_chain.specs.Chains.{KeepsHeld}
+use Rattle.store_chain.proofs.Kept.{kept_on, kept_still}
 use Rattle.store_chain.specs.Faults.{NoneFalls}
 use Rattle.store_chain.specs.declared.refused.Refused.TheVariants as refused
+
+-- what a refusal says of the want's entries
+pub torn_of : (P : Lost → Type 0) (F : Type 0) (r : Result Unit Unsettled) (e : Unsettled) → r ≡ Err e → e ≡ unsettled.TargetFault → Where P F r → F
+torn_of P F r e is why says = subst (Where P F) (is ∙ ap (λ y. Err y) why) says
+
+pub lost_of : (P : Lost → Type 0) (F : Type 0) (r : Result Unit Unsettled) (e : Unsettled) (x : Lost) → r ≡ Err e → e ≡ unsettled.Lost x → Where P F r → P x
+lost_of P F r e x is why says = subst (Where P F) (is ∙ ap (λ y. Err y) why) says
 
 -- seeds that failed have failed over a longer stretch too
 failed_wider : (views : List (Option Held)) (places : List SeedPlace) (id : List ℕ) (f0 f1 f2 f3 : List ℕ) → NoneFalls f0 f1 → NoneFalls f2 f3
@@ -44,21 +57,22 @@ copies_wider : (m0 m1 : List Fate) (es : List ℕ) (a b c e : ℕ) → Grows m0 
 copies_wider m0 m1 es a b c e grows before after failed = λ i among is.
     rose_later a b e before (rose_still b c e after (failed i among (settled_on m0 m1 grows i is)))
 
-module _ {S V : Type 0} (holds folder : S → Option (Map (List ℕ))) (place : S → List ℕ) (said : S → Said)
-    (store_faults : S → ℕ) (lacks_memory : Bool) (view : V → Held) (view_faults : V → ℕ) (l : Listing) (d : Deal)
-    (x : Placed) where
-  abbrev Keeps : List S → List S → Type 0
-  Keeps = KeepsHeld holds folder place said store_faults
+module _ {S V : Type 0} (store : StoreWords S) (view : ViewWords V) (t : Task) where
+  abbrev Over : (ℕ → Type 0) → Stage S V → Stage S V → Type 0
+  Over A a b = Stretch store view t A a b
 
-  abbrev AreLost : List Fate → ℕ → ℕ → Kit S V → Kit S V → Option Shelf → Option Shelf → Lost → Type 0
-  AreLost m a b k j e f lost = IsLost holds folder place said store_faults lacks_memory view view_faults l d x m a b k j e f lost
+  abbrev AreLost : Stage S V → Stage S V → Lost → Type 0
+  AreLost a b lost = Loses store view t a b lost
 
   -- a cache that lacks the chunk of an entry lacks it while other wants are settled
-  lacks_later : (w : ℕ) (lost : Lost) (stores : List S) (e f h : Option Shelf) → AreWants l d.wants d.want_of → w < d.wants → lost.entry < count_of l
-      → want_at d lost.entry ≢ w → Stocked (TakesWants holds l d (λ v. v ≡ w) stores) f h
-      → CacheLacks (kind_of l) (id_of l lost.entry) (size_of l lost.entry) e f → CacheLacks (kind_of l) (id_of l lost.entry) (size_of l lost.entry) e h
+  lacks_later : (w : ℕ) (lost : Lost) (stores : List S) (e f h : Option Shelf) → AreWants t.listing t.plan.wants t.plan.want_of → w < t.plan.wants → lost.entry < count_of t.listing
+      → want_at t.plan lost.entry ≢ w → Stocked (TakesWants store t.listing t.plan (λ v. v ≡ w) stores) f h
+      → CacheLacks (kind_of t.listing) (id_of t.listing lost.entry) (size_of t.listing lost.entry) e f
+      → CacheLacks (kind_of t.listing) (id_of t.listing lost.entry) (size_of t.listing lost.entry) e h
   lacks_later w lost stores e f h wants below inside apart stocked was = λ now tells gives.
-      let T = TakesWants holds l d (λ v. v ≡ w) stores in
+      let l = t.listing in
+      let d = t.plan in
+      let T = TakesWants store l d (λ v. v ≡ w) stores in
       let before = stocked_was T f h now stocked tells in
       elim (stocked_gave T (kind_of l) (id_of l lost.entry) (size_of l lost.entry) f h before.0 now stocked before.1 tells gives) [
         | inl gave ↦ rose_still (cache_faults e) (cache_faults f) (cache_faults h) (stocked_falls T f h stocked) (was before.0 before.1 gave)
@@ -71,90 +85,116 @@ module _ {S V : Type 0} (holds folder : S → Option (Map (List ℕ))) (place : 
       ]
 
   -- it lacks it over all that went before too
-  lacks_since : (A : ℕ → Type 0) (stores : List S) (id : List ℕ) (size : ℕ) (e f h : Option Shelf) → Stocked (TakesWants holds l d A stores) e f
-      → CacheLacks (kind_of l) id size f h → CacheLacks (kind_of l) id size e h
+  lacks_since : (A : ℕ → Type 0) (stores : List S) (id : List ℕ) (size : ℕ) (e f h : Option Shelf) → Stocked (TakesWants store t.listing t.plan A stores) e f
+      → CacheLacks (kind_of t.listing) id size f h → CacheLacks (kind_of t.listing) id size e h
   lacks_since A stores id size e f h stocked lacks = λ now tells gives.
-      rose_later (cache_faults e) (cache_faults f) (cache_faults h) (stocked_falls (TakesWants holds l d A stores) e f stocked) (lacks now tells gives)
+      rose_later (cache_faults e) (cache_faults f) (cache_faults h) (stocked_falls (TakesWants store t.listing t.plan A stores) e f stocked) (lacks now tells gives)
 
-  -- what is lost stays lost
-  pub lost_later : (m : List Fate) (a b c : ℕ) (k j i : Kit S V) (e f h : Option Shelf) (w : ℕ) (lost : Lost) → AreWants l d.wants d.want_of → w < d.wants
-      → want_at d lost.entry ≢ w → Stocked (TakesWants holds l d (λ v. v ≡ w) j.chain.stores) f h → b ≤ c → Keeps j.chain.stores i.chain.stores
-      → KeepsSeeds view view_faults j.seeds.items i.seeds.items → AreLost m a b k j e f lost → AreLost m a c k i e h lost
-  lost_later m a b c k j i e f h w lost wants below apart stocked le stores seeds was = record {
-    cache = lacks_later w lost j.chain.stores e f h wants below was.listed apart stocked was.cache;
+  -- what is lost stays lost while another want is settled
+  pub lost_later : (a b c : Stage S V) (w : ℕ) (lost : Lost) → AreWants t.listing t.plan.wants t.plan.want_of → w < t.plan.wants → want_at t.plan lost.entry ≢ w
+      → Over (λ v. v ≡ w) b c → AreLost a b lost → AreLost a c lost
+  lost_later a b c w lost wants below apart over was = record {
+    cache = lacks_later w lost b.kit.chain.stores a.cache b.cache c.cache wants below was.listed apart over.stocked was.cache;
     listed = was.listed;
     id_is = was.id_is;
-    copies = λ n among is. rose_still a b c le (was.copies n among is);
-    seeds = failed_wider (map (seed_held view) k.seeds.items) (places_at x (want_at d lost.entry)) lost.id.0 (map (faults_in view_faults) k.seeds.items)
-        (map (faults_in view_faults) k.seeds.items) (map (faults_in view_faults) j.seeds.items) (map (faults_in view_faults) i.seeds.items)
-        (λ s. omega arith) seeds.never_fall was.seeds;
+    copies = λ n among is. rose_still a.faults b.faults c.faults over.step.never_falls (was.copies n among is);
+    seeds = failed_wider (views_of view a.kit.seeds.items) (places_at t.places (want_at t.plan lost.entry)) lost.id.0 (counts_of view a.kit.seeds.items)
+        (counts_of view a.kit.seeds.items) (counts_of view b.kit.seeds.items) (counts_of view c.kit.seeds.items)
+        (λ s. omega arith) over.step.seeds.never_fall was.seeds;
     stores = record {
       before = was.stores.before;
       after = was.stores.after;
       until = was.stores.until;
       refused = was.stores.refused;
-      since = stay_on holds folder place said store_faults was.stores.after j.chain.stores i.chain.stores was.stores.since stores;
+      since = kept_on store (IsListedGet t.listing) was.stores.after b.kit.chain.stores c.kit.chain.stores was.stores.since over.step.stores;
     };
     had_memory = was.had_memory;
   }
 
   -- what is lost is lost over all that went before too
-  pub lost_since : (m0 m1 : List Fate) (a b c : ℕ) (k j i : Kit S V) (e f h : Option Shelf) (A : ℕ → Type 0) (lost : Lost) → Stocked (TakesWants holds l d A k.chain.stores) e f
-      → Grows m0 m1 → a ≤ b → Keeps k.chain.stores j.chain.stores
-      → KeepsSeeds view view_faults k.seeds.items j.seeds.items → AreLost m1 b c j i f h lost → AreLost m0 a c k i e h lost
-  lost_since m0 m1 a b c k j i e f h A lost stocked grows le stores seeds was =
-      let places = places_at x (want_at d lost.entry) in
-      let f0 = map (faults_in view_faults) k.seeds.items in
-      let f1 = map (faults_in view_faults) j.seeds.items in
-      let f2 = map (faults_in view_faults) i.seeds.items in
+  pub lost_since : (A : ℕ → Type 0) (a b c : Stage S V) (lost : Lost) → Over A a b → AreLost b c lost → AreLost a c lost
+  lost_since A a b c lost over was =
+      let places = places_at t.places (want_at t.plan lost.entry) in
+      let f0 = counts_of view a.kit.seeds.items in
+      let f1 = counts_of view b.kit.seeds.items in
+      let f2 = counts_of view c.kit.seeds.items in
       record {
         listed = was.listed;
         id_is = was.id_is;
-        copies = copies_wider m0 m1 (of_want d (want_at d lost.entry)) a b c c grows le (omega arith) was.copies;
-        cache = lacks_since A k.chain.stores (id_of l lost.entry) (size_of l lost.entry) e f h stocked was.cache;
-        seeds = subst (λ v. SeedsFailed v places lost.id.0 f0 f2) seeds.held
-            (failed_wider (map (seed_held view) j.seeds.items) places lost.id.0 f0 f1 f2 f2 seeds.never_fall (λ s. omega arith) was.seeds);
+        copies = copies_wider a.fates b.fates (of_want t.plan (want_at t.plan lost.entry)) a.faults b.faults c.faults c.faults over.step.grows over.step.never_falls
+            (omega arith) was.copies;
+        cache = lacks_since A a.kit.chain.stores (id_of t.listing lost.entry) (size_of t.listing lost.entry) a.cache b.cache c.cache over.stocked was.cache;
+        seeds = subst (λ v. SeedsFailed v places lost.id.0 f0 f2) over.step.seeds.held
+            (failed_wider (views_of view b.kit.seeds.items) places lost.id.0 f0 f1 f2 f2 over.step.seeds.never_fall (λ s. omega arith) was.seeds);
         stores = record {
           before = was.stores.before;
           after = was.stores.after;
-          until = stay_on holds folder place said store_faults k.chain.stores j.chain.stores was.stores.before stores was.stores.until;
+          until = kept_on store (IsListedGet t.listing) a.kit.chain.stores b.kit.chain.stores was.stores.before over.step.stores was.stores.until;
           refused = was.stores.refused;
           since = was.stores.since;
         };
         had_memory = was.had_memory;
       }
 
-  -- the first open entry of a want that the stores refused is lost, since what was settled at first was settled then
-  module _ (asked queried : S → List ℕ → ℕ) where
-    pub lost_now : (m0 m1 : List Fate) (a b c : ℕ) (k j i : Kit S V) (e f h : Option Shelf) (A : ℕ → Type 0) (w : ℕ) (lost : Lost)
-        → Stocked (TakesWants holds l d A k.chain.stores) e f → AreWants l d.wants d.want_of → w < d.wants → Grows m0 m1 → a ≤ b
-        → Keeps k.chain.stores j.chain.stores → KeepsSeeds view view_faults k.seeds.items j.seeds.items → IsFirstOpen l m1 (of_want d w) lost
-        → RefusedBy holds said store_faults lacks_memory (lost_want l lost) j.chain.stores i.chain.stores lost.refused
-        → AskedLast asked queried view view_faults (kind_of l) (want_id l d w) (size_of l (first_of d w)) m1 (of_want d w) (places_at x w) b c j.seeds.items i.seeds.items f h j.chain i.chain
-        → CacheLacks (kind_of l) (id_of l lost.entry) (size_of l lost.entry) f h → lost.refused ≢ refused.Memory → AreLost m0 a c k i e h lost
-    lost_now m0 m1 a b c k j i e f h A w lost stocked wants below grows le stores seeds first refusing last lacks had_memory =
-        let is_of : want_at d lost.entry ≡ w = (among_of d w lost.entry first.among).1 in
-        let f0 = map (faults_in view_faults) k.seeds.items in
-        let f1 = map (faults_in view_faults) j.seeds.items in
-        let f2 = map (faults_in view_faults) i.seeds.items in
-        let id : want_id l d w ≡ lost.id.0 = (ids_same l d w (first_of d w) lost.entry wants (first_among l d w wants below) first.among).0 ∙ sym first.id_is in
-        let copies : CopiesFailed m0 (of_want d w) a c = copies_wider m0 m1 (of_want d w) a b c c grows le (omega arith) last.copies in
-        let failed : SeedsFailed (map (seed_held view) k.seeds.items) (places_at x w) (want_id l d w) f0 f2 =
-        subst (λ v. SeedsFailed v (places_at x w) (want_id l d w) f0 f2) seeds.held
-        (failed_wider (map (seed_held view) j.seeds.items) (places_at x w) (want_id l d w) f0 f1 f2 f2 seeds.never_fall (λ s. omega arith) last.seeds) in
-        record {
-          listed = listed_of l d w lost.entry wants first.among;
-          id_is = first.id_is;
-          copies = subst (λ v. CopiesFailed m0 (of_want d v) a c) (sym is_of) copies;
-          cache = lacks_since A k.chain.stores (id_of l lost.entry) (size_of l lost.entry) e f h stocked lacks;
-          seeds = subst (λ q. SeedsFailed (map (seed_held view) k.seeds.items) (places_at x (want_at d lost.entry)) q f0 f2) id
-              (subst (λ v. SeedsFailed (map (seed_held view) k.seeds.items) (places_at x v) (want_id l d w) f0 f2) (sym is_of) failed);
-          stores = record {
-            before = j.chain.stores;
-            after = i.chain.stores;
-            until = stores;
-            refused = refusing;
-            since = stay_still holds folder place said store_faults i.chain.stores;
-          };
-          had_memory = had_memory;
-        }
+  -- the first open entry of a want that the stores refused is lost
+  pub lost_now : (a b : Stage S V) (w : ℕ) (lost : Lost) → AreWants t.listing t.plan.wants t.plan.want_of → w < t.plan.wants → Over (λ v. v ≡ w) a b
+      → IsFirstOpen t.listing a.fates (of_want t.plan w) lost
+      → RefusedBy store (lost_want t.listing lost) a.kit.chain.stores b.kit.chain.stores lost.refused
+      → AskedLast store view (want_chunk t w) a.fates (from a) (from b)
+      → CacheLacks (kind_of t.listing) (id_of t.listing lost.entry) (size_of t.listing lost.entry) a.cache b.cache
+      → lost.refused ≢ refused.Memory → AreLost a b lost
+  lost_now a b w lost wants below over first refusing last lacks had_memory =
+      let l = t.listing in
+      let d = t.plan in
+      let views = views_of view a.kit.seeds.items in
+      let f0 = counts_of view a.kit.seeds.items in
+      let f1 = counts_of view b.kit.seeds.items in
+      let is_of : want_at d lost.entry ≡ w = (among_of d w lost.entry first.among).1 in
+      let id : want_id l d w ≡ lost.id.0 = (ids_same l d w (first_of d w) lost.entry wants (first_among l d w wants below) first.among).0 ∙ sym first.id_is in
+      record {
+        listed = listed_of l d w lost.entry wants first.among;
+        id_is = first.id_is;
+        copies = subst (λ v. CopiesFailed a.fates (of_want d v) a.faults b.faults) (sym is_of) last.copies;
+        cache = lacks;
+        seeds = subst (λ q. SeedsFailed views (places_at t.places (want_at d lost.entry)) q f0 f1) id
+            (subst (λ v. SeedsFailed views (places_at t.places v) (want_id l d w) f0 f1) (sym is_of) last.seeds);
+        stores = record {
+          before = a.kit.chain.stores;
+          after = b.kit.chain.stores;
+          until = kept_still store (IsListedGet l) a.kit.chain.stores;
+          refused = refusing;
+          since = kept_still store (IsListedGet l) b.kit.chain.stores;
+        };
+        had_memory = had_memory;
+      }
+
+  -- so it is where a call for a want has ended so
+  pub lost_ended : (a b : Stage S V) (w : ℕ) (lost : Lost) (r : Result Unit Unsettled) (e : Unsettled) → AreWants t.listing t.plan.wants t.plan.want_of → w < t.plan.wants → Over (λ v. v ≡ w) a b
+      → HasEnded store view t w a b r → r ≡ Err e → e ≡ unsettled.Lost lost → lost.refused ≢ refused.Memory → AreLost a b lost
+  lost_ended a b w lost r e wants below over ended is why had_memory =
+      lost_now a b w lost wants below over (lost_of _ _ r e lost is why ended.lost) (lost_of _ _ r e lost is why ended.refused had_memory) (lost_of _ _ r e lost is why ended.asked had_memory)
+      (lost_of _ _ r e lost is why ended.missed had_memory) had_memory
+
+  -- ---- over wants that were tried
+
+  -- so it is with a want that was tried
+  abbrev pub LostTried : List Bool → Stage S V → Stage S V → Lost → Type 0
+  LostTried tried a b lost = AreLost a b lost × (is_tried tried (want_at t.plan lost.entry) ≡ true)
+
+  module _ (tried : List Bool) (a b c : Stage S V) (w : ℕ) (wants : AreWants t.listing t.plan.wants t.plan.want_of)
+      (more : OneMore (is_tried tried) (is_tried (set tried w true)) w t.plan.wants) (next : Over (λ v. v ≡ w) b c) where
+    -- what was lost is lost, and so is what the stores refused now
+    pub still_lost : (lost : Lost) → LostTried tried a b lost → LostTried (set tried w true) a c lost
+    still_lost lost was =
+        let apart : want_at t.plan lost.entry ≢ w = λ same. true≢false (sym was.1 ∙ ap (is_tried tried) same ∙ more.wasnt) in (
+          lost_later a b c w lost wants more.below apart next was.0,
+          more.others (want_at t.plan lost.entry) apart ∙ was.1,
+        )
+
+    pub newly_lost : (A : ℕ → Type 0) (lost : Lost) (r : Result Unit Unsettled) (e : Unsettled) → Over A a b → HasEnded store view t w b c r → r ≡ Err e → e ≡ unsettled.Lost lost
+        → lost.refused ≢ refused.Memory → LostTried (set tried w true) a c lost
+    newly_lost A lost r e first ended is why had_memory =
+        let first_of_all : IsFirstOpen t.listing b.fates (of_want t.plan w) lost = lost_of _ _ r e lost is why ended.lost in (
+          lost_since A a b c lost first (lost_ended b c w lost r e wants more.below next ended is why had_memory),
+          ap (is_tried (set tried w true)) (among_of t.plan w lost.entry first_of_all.among).1 ∙ more.now,
+        )

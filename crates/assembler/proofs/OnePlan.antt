@@ -1,7 +1,12 @@
 -- An index has one plan for so many workers, and a list of one kit has one kit.
-use Rattle.std.proofs.Common.{◌≡◌, ◌∙◌, ℕ, zero, suc, ◌<◌, List, [], ◌∷◌, All, length, slice_index, slice_index_or, slice_set, refl, sym, ap, subst, arith}
-use Rattle.std.proofs.lemmas.List.{ext_get_or}
-use Rattle.assembler.specs.OneKit.{ByPlan, OfKit}
+use Rattle.std.proofs.Common.{◌≡◌, ◌∙◌, ℕ, zero, suc, ◌<◌, List, [], ◌∷◌, ◌++◌, All, Option, length, slice_index, slice_index_or, slice_set, refl, sym, ap, subst, arith}
+use Rattle.std.proofs.lemmas.List.{ext_get_or, length-append}
+use Rattle.assembler.specs.OneKit.{ByPlan, OfKit, lent}
+use Rattle.cache_store.specs.Shelves.{Shelf}
+use Rattle.chunk_sources.specs.Sources.{Sources, sources}
+use Rattle.chunk_sources.specs.Wants.{Task}
+use Rattle.chunk_sources.specs.declared.kit.Kit.{Kit}
+use Rattle.extract_plan.specs.Places.{Placed}
 use Rattle.caibx_codec.specs.Listing.{Listing, count_of}
 use Rattle.extract_plan.specs.Deal.{AreShardEnds, AreWants, Deal, IsPlan, deal_shards, shards_of}
 
@@ -71,6 +76,19 @@ module _ {K : Type 0} where
   alone (x ∷ []) y one is = ap (λ q. q ∷ []) (sym is)
   alone (x ∷ z ∷ xs) y one is = absurd (omega (arith, one))
 
+  -- the list of which the last was taken
+  pub last_alone : (xs ys : List K) (k : K) → xs ≡ ys ++ k ∷ [] → length xs ≡ 1 → xs ≡ k ∷ []
+  last_alone xs [] k is one = is
+  last_alone xs (y ∷ ys) k is one =
+      let long : length xs ≡ suc (length (ys ++ k ∷ [])) = ap (λ zs. length zs) is in
+      absurd (omega (arith, long, one, length-append ys (k ∷ [])))
+
+  pub none_left : (xs ys : List K) (k : K) → xs ≡ ys ++ k ∷ [] → length xs ≡ 1 → ys ≡ []
+  none_left xs [] k is one = refl
+  none_left xs (y ∷ ys) k is one =
+      let long : length xs ≡ suc (length (ys ++ k ∷ [])) = ap (λ zs. length zs) is in
+      absurd (omega (arith, long, one, length-append ys (k ∷ [])))
+
   pub one_of : (xs : List K) → length xs ≡ 1 → (y : K) × (xs ≡ y ∷ [])
   one_of [] one = absurd (omega (arith, one))
   one_of (x ∷ []) one = (x, refl)
@@ -92,20 +110,26 @@ module _ {K : Type 0} where
   pub of_alone : (P : K → Type 0) (xs : List K) (y : K) → xs ≡ y ∷ [] → All P xs → P y
   of_alone P xs y is all = subst (λ zs. All P zs) is all 0 y (omega arith)
 
-  head_same : (x y : K) → x ∷ [] ≡ y ∷ [] → x ≡ y
+  pub head_same : (x y : K) → x ∷ [] ≡ y ∷ [] → x ≡ y
   head_same x y same = ap (λ xs. slice_index_or xs 0 x) same
-
-  -- what is so of the plan and of the only kit, whose place another takes
-  pub by_only : (l : Listing) (xs : List K) (d : Deal) (k j : K) → IsPlan l 1 d → length xs ≡ 1 → k ≡ slice_index_or xs 0 k → {So : Deal → K → K → Type 0} → So d k j
-      → ByPlan l xs (slice_set xs 0 j) So
-  by_only l xs d k j plan one at {So} is = record {
-    so = λ e q p planned first last.
-        let before : k ≡ q = head_same k q (sym (alone xs k one at) ∙ first) in
-        let after : j ≡ p = head_same j p (sym (alone_set xs j one) ∙ last) in
-        let same : d ≡ e = same_plan l 1 d e plan planned in
-        subst (λ f. So f q p) same (subst (λ r. So d r p) before (subst (λ r. So d k r) after is));
-  }
 
   -- what is so of a kit that stayed
   pub of_same : (xs : List K) {So : K → K → Type 0} → ((k : K) → So k k) → OfKit xs xs So
   of_same xs {So} is = record { so = λ k j first last. subst (λ r. So k r) (head_same k j (sym first ∙ last)) (is k) }
+
+-- what is so of the plan and of the only kit, whose place another takes
+pub by_only : {S V : Type 0} (l : Listing) (x : Placed) (a b : ℕ) (e f : Option Shelf) (xs ys : List (Kit S V)) (d : Deal) (k j : Kit S V) → IsPlan l 1 d → xs ≡ k ∷ [] → ys ≡ j ∷ []
+    → {So : Task → Sources S V → Sources S V → Type 0} → So (record { listing = l; plan = d; places = x }) (sources a k.seeds.items e k.chain) (sources b j.seeds.items f j.chain)
+    → ByPlan l x (lent a xs e) (lent b ys f) So
+by_only {S} {V} l x a b e f xs ys d k j plan first last {So} is = record {
+  so = λ t q p listed placed planned one other.
+      let before : k ≡ q = head_same k q (sym first ∙ one) in
+      let after : j ≡ p = head_same j p (sym last ∙ other) in
+      let same : d ≡ t.plan = same_plan l 1 d t.plan plan planned in
+      let task_is : (◌≡◌ {A = Task} (record { listing = l; plan = d; places = x }) t) =
+      ap (λ (n : Deal). record { listing = l; plan = n; places = x }) same ∙ ap (λ (n : Listing). record { listing = n; plan = t.plan; places = x }) (sym listed)
+      ∙ ap (λ (n : Placed). record { listing = t.listing; plan = t.plan; places = n }) (sym placed) in
+      subst (λ (n : Task). So n (sources a q.seeds.items e q.chain) (sources b p.seeds.items f p.chain)) task_is
+      (subst (λ (r : Kit S V). So (record { listing = l; plan = d; places = x }) (sources a r.seeds.items e r.chain) (sources b p.seeds.items f p.chain)) before
+      (subst (λ (r : Kit S V). So (record { listing = l; plan = d; places = x }) (sources a k.seeds.items e k.chain) (sources b r.seeds.items f r.chain)) after is));
+}

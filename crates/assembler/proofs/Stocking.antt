@@ -12,6 +12,7 @@ use Rattle.chunk_sources.proofs.Origins.{stores_decide}
 use Rattle.chunk_sources.specs.Caches.{HaveOneSize, IsListedAs, Stocked, TakesListed, TakesWants, cached_in}
 use Rattle.chunk_sources.specs.Economy.{stores_give}
 use Rattle.chunk_store.specs.Giving.{GivesChunk, IsChunk}
+use Rattle.chunk_store.specs.declared.store.Store.{Ghosts as StoreWords}
 use Rattle.dsy_base.specs.Maps.{Map}
 use Rattle.extract_plan.specs.Deal.{AreWants, Deal, first_of, want_id}
 
@@ -28,33 +29,33 @@ same_want l d wants v w one other id size =
     let within = listed_of l d w (first_of d w) wants b in
     sym (among_of d v (first_of d v) a).1 ∙ (wants.alike (first_of d v) (first_of d w) inside within).1 (id, size) ∙ (among_of d w (first_of d w) b).1
 
-module _ {S : Type 0} (holds : S → Option (Map (List ℕ))) (l : Listing) (d : Deal) where
+module _ {S : Type 0} (store : StoreWords S) (l : Listing) (d : Deal) where
   abbrev Takes : (ℕ → Type 0) → List S → List ℕ → List ℕ → Type 0
-  Takes Among stores = TakesWants holds l d Among stores
+  Takes Among stores = TakesWants store l d Among stores
 
   -- stores that hold the same, and more wants
-  pub takes_more : (A B : ℕ → Type 0) → ((w : ℕ) → A w → B w) → (s0 s1 : List S) → map holds s1 ≡ map holds s0 → (q b : List ℕ) → Takes A s1 q b → Takes B s0 q b
+  pub takes_more : (A B : ℕ → Type 0) → ((w : ℕ) → A w → B w) → (s0 s1 : List S) → map store.holds s1 ≡ map store.holds s0 → (q b : List ℕ) → Takes A s1 q b → Takes B s0 q b
   takes_more A B more s0 s1 same q b (w, among, (is, chunk, held)) = (w, more w among, (is, chunk, λ maps told. held maps (same ∙ told)))
 
   pub stocking_wider : (A B : ℕ → Type 0) → ((w : ℕ) → A w → B w) → (s : List S) (e f : Option Shelf) → Stocked (Takes A s) e f → Stocked (Takes B s) e f
   stocking_wider A B more s e f stocked = stocked_wider (Takes A s) (Takes B s) (takes_more A B more s s refl) e f stocked
 
   -- one stretch and then another
-  pub stocking_on : (A B C : ℕ → Type 0) → ((w : ℕ) → A w → C w) → ((w : ℕ) → B w → C w) → (s0 s1 : List S) → map holds s1 ≡ map holds s0
+  pub stocking_on : (A B C : ℕ → Type 0) → ((w : ℕ) → A w → C w) → ((w : ℕ) → B w → C w) → (s0 s1 : List S) → map store.holds s1 ≡ map store.holds s0
       → (e f g : Option Shelf) → Stocked (Takes A s0) e f → Stocked (Takes B s1) f g → Stocked (Takes C s0) e g
   stocking_on A B C a b s0 s1 same e f g first next =
       stocked_on (Takes C s0) e f g (stocked_wider (Takes A s0) (Takes C s0) (takes_more A C a s0 s0 refl) e f first)
       (stocked_wider (Takes B s1) (Takes C s0) (takes_more B C b s0 s1 same) f g next)
 
   -- what was added some store gives
-  pub takes_give : (A : ℕ → Type 0) (stores : List S) (maps : List (Map (List ℕ))) (id b : List ℕ) (n : ℕ) → map holds stores ≡ map Some maps
+  pub takes_give : (A : ℕ → Type 0) (stores : List S) (maps : List (Map (List ℕ))) (id b : List ℕ) (n : ℕ) → map store.holds stores ≡ map Some maps
       → Takes A stores id b → IsChunk (kind_of l) id n b → SomeGives (kind_of l) id n maps
   takes_give A stores maps id b n told (w, among, (is, chunk, held)) right =
       any_map (λ (m : Map (List ℕ)). m id ≡ Some b) (λ (m : Map (List ℕ)). GivesChunk (kind_of l) id n (m id)) (λ m at. (b, at, right)) maps
       (subst (λ (q : List ℕ). Any (λ (m : Map (List ℕ)). m q ≡ Some b) maps) (sym is) (held maps told))
 
   module _ (A : ℕ → Type 0) (stores : List S) (e f : Option Shelf) (was now maps : List (Map (List ℕ))) (stocked : Stocked (Takes A stores) e f)
-      (told : cached_in e ≡ Some was) (tells : cached_in f ≡ Some now) (held : map holds stores ≡ map Some maps) where
+      (told : cached_in e ≡ Some was) (tells : cached_in f ≡ Some now) (held : map store.holds stores ≡ map Some maps) where
     -- the cache and the stores together gave what they give
     pub gave_from : (id : List ℕ) (n : ℕ) → SomeGives (kind_of l) id n (now ++ maps) → SomeGives (kind_of l) id n (was ++ maps)
     gave_from id n gives = elim (gives_part (kind_of l) id n now maps gives) [
@@ -134,8 +135,8 @@ module _ {S : Type 0} (holds : S → Option (Map (List ℕ))) (l : Listing) (d :
           ]
 
 -- what is added for wants is added for entries
-pub listed_takes : {S : Type 0} (holds : S → Option (Map (List ℕ))) (l : Listing) (d : Deal) (stores : List S) (e f : Option Shelf) → AreWants l d.wants d.want_of
-    → Stocked (TakesWants holds l d (λ w. w < d.wants) stores) e f → Stocked (TakesListed holds l stores) e f
-listed_takes holds l d stores e f wants stocked =
-    stocked_wider (TakesWants holds l d (λ w. w < d.wants) stores) (TakesListed holds l stores)
+pub listed_takes : {S : Type 0} (store : StoreWords S) (l : Listing) (d : Deal) (stores : List S) (e f : Option Shelf) → AreWants l d.wants d.want_of
+    → Stocked (TakesWants store l d (λ w. w < d.wants) stores) e f → Stocked (TakesListed store l stores) e f
+listed_takes store l d stores e f wants stocked =
+    stocked_wider (TakesWants store l d (λ w. w < d.wants) stores) (TakesListed store l stores)
     (λ q b takes. (first_of d takes.0, listed_of l d takes.0 (first_of d takes.0) wants (first_among l d takes.0 wants takes.1), takes.2)) e f stocked

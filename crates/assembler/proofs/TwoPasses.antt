@@ -1,13 +1,12 @@
 -- Two passes as one.
-use Rattle.std.proofs.Common.{◌≡◌, ℕ, List, Result, Ok, Err, IfErr, inl, inr}
+use Rattle.std.proofs.Common.{◌≡◌, ℕ, List, Result, Ok, Err, IfErr, refl, inl, inr}
 use Rattle.assembler.specs.Faults.{fault_of}
 use Rattle.assembler.specs.Passes.{EndsBy, EndsTorn}
 use Rattle.assembler.specs.declared.fault.ExtractFault.{ExtractFault}
 use Rattle.assembler.specs.declared.fault.ExtractFault.TheVariants as faults
 use Rattle.assembler.specs.declared.fault.Lost.{Lost}
-use Rattle.caibx_codec.specs.Listing.{Listing}
+use Rattle.chunk_sources.specs.Wants.{Task}
 use Rattle.chunk_store.specs.declared.id.ChunkId.{ChunkId}
-use Rattle.extract_plan.specs.Deal.{Deal}
 use Rattle.range_survey.specs.declared.fate.Fate.{Fate}
 use Rattle.store_chain.specs.declared.refused.Refused.{Refused}
 use Rattle.store_chain.specs.declared.refused.Refused.TheVariants as refused
@@ -35,8 +34,21 @@ Settled = Result (Unit {0}) ExtractFault
 pub err_same : (e f : ExtractFault) → Path Settled (Err e) (Err f) → e ≡ f
 err_same e f is = cc
 
-pub torn_map : (l : Listing) (d : Deal) (m n : List Fate) (P Q : ℕ → Type 0) → ((i : ℕ) → P i → Q i) → EndsTorn l d m n P → EndsTorn l d m n Q
-torn_map l d m n P Q f h = record { entry = h.entry; listed = h.listed; was_open = h.was_open; before = h.before; torn = h.torn; among = h.among; is_torn = f h.torn h.is_torn }
+pub torn_map : (t : Task) (m n : List Fate) (P Q : ℕ → Type 0) → ((i : ℕ) → P i → Q i) → EndsTorn t m n P → EndsTorn t m n Q
+torn_map t m n P Q f h = record { entry = h.entry; listed = h.listed; was_open = h.was_open; before = h.before; torn = h.torn; among = h.among; is_torn = f h.torn h.is_torn }
 
 pub ok_apart : (u : Unit {0}) → Path Settled (Ok u) (Err faults.TargetFault) → ⊥
 ok_apart u is = absurd (cc)
+
+pub memory_apart : Path Settled (Err faults.Memory) (Err faults.TargetFault) → ⊥
+memory_apart is = absurd (cc)
+
+pub target_apart : faults.TargetFault ≡ faults.Memory → ⊥
+target_apart is = absurd (cc)
+
+-- nor that there was no memory, unless it was so
+pub memory_never : (k : ℕ) (id : ChunkId) (r : Refused) → (r ≡ refused.Memory → ⊥) → fault_of k id r ≡ faults.Memory → ⊥
+memory_never k id refused.Missing had is = let no : faults.Missing k id ≡ faults.Memory = is in absurd (cc)
+memory_never k id (refused.Damaged s x) had is = let no : faults.Damaged k id s x ≡ faults.Memory = is in absurd (cc)
+memory_never k id (refused.StoreFault s) had is = let no : faults.StoreFault s ≡ faults.Memory = is in absurd (cc)
+memory_never k id refused.Memory had is = had refl

@@ -1,31 +1,34 @@
 -- How an assembly may end. `o` are the target's bytes before it, the base is `o` with the image's length, t are the
 -- bytes after it. The count of the target's faults goes from old to new.
-use Rattle.std.specs.Prelude.{◌≡◌, ◌⊎◌, ℕ, ◌+◌, ◌<◌, List, length, map, slice_index, true, Bool, Option, IfSome}
+use Rattle.std.specs.Prelude.{◌≡◌, ◌⊎◌, ℕ, ◌<◌, List, ◌++◌, length, map, true, Bool, Option, Some, IfOk, IfSome}
 use Rattle.std.specs.Prelude.{IsSomeAnd, Result, Ok, Err}
-use Rattle.std.specs.List.{Any, Contains}
-use Rattle.assembler.specs.Passes.{RefusedOnce, want_at}
+use Rattle.std.specs.List.{Contains}
+use Rattle.assembler.specs.Economy.{AsksExactly, ReportsExactly}
+use Rattle.assembler.specs.Obtainable.{OnlyObtainable}
+use Rattle.assembler.specs.Passes.{EndsBy, RefusedOnce, WhereQuiet, twice, want_at}
 use Rattle.assembler.specs.declared.fault.ExtractFault.{ExtractFault}
 use Rattle.assembler.specs.declared.fault.ExtractFault.TheVariants as faults
 use Rattle.assembler.specs.declared.fault.Lost.{Lost}
-use Rattle.range_survey.specs.declared.report.Report.{Report}
 use Rattle.cache_store.specs.Giving.{SomeGives}
-use Rattle.cache_store.specs.Shelves.{Shelf}
+use Rattle.caibx_codec.specs.Asks.{IsListedGet}
 use Rattle.caibx_codec.specs.Listing.{Listing, count_of, id_of, image_length, kind_of, size_of, slice_of}
 use Rattle.caibx_codec.specs.Right.{IsRight, IsRightAt}
-use Rattle.chunk_sources.specs.Asks.{AsksAtMost, asks_below, calls_below}
-use Rattle.chunk_sources.specs.Caches.{CacheGives, CacheLacks}
-use Rattle.chunk_sources.specs.Sources.{HeldAt, SeedsFailed, SeedsGive, SourcesQuiet}
-use Rattle.chunk_sources.specs.Wants.{IsAmong}
-use Rattle.chunk_sources.specs.declared.kit.Kit.{Kit}
-use Rattle.chunk_store.specs.Said.{Said}
+use Rattle.chunk_sources.specs.Asks.{AsksAtMost, IsSpared, asks_below, calls_below}
+use Rattle.chunk_sources.specs.Caches.{CacheLacks, Stocked, TakesListed, cached_in}
+use Rattle.chunk_sources.specs.Economy.{source_of}
+use Rattle.chunk_sources.specs.Sources.{KeepsSeeds, SeedsFailed, SeedsGive, Sources, Telling, counts_of, views_of}
+use Rattle.chunk_sources.specs.Wants.{Task}
+use Rattle.chunk_store.specs.declared.store.Store.{Ghosts as StoreWords}
 use Rattle.dsy_base.specs.Bytes.{Held, resized}
-use Rattle.dsy_base.specs.Counts.{Quiet, Rose}
+use Rattle.dsy_base.specs.Counts.{Rose}
 use Rattle.dsy_base.specs.Maps.{Map}
-use Rattle.extract_plan.specs.Deal.{first_of, of_want, want_id, AreAlike, Deal}
-use Rattle.extract_plan.specs.Places.{Placed, places_at}
-use Rattle.extract_plan.specs.Seeds.{faults_in, seed_held}
-use Rattle.extract_plan.specs.declared.seed.Seed.{Seed}
+use Rattle.dsy_base.specs.declared.view.View.{Ghosts as ViewWords}
+use Rattle.extract_plan.specs.Deal.{AreAlike, want_id}
+use Rattle.extract_plan.specs.Places.{places_at}
+use Rattle.range_ledger.specs.Fills.{WhereTold}
 use Rattle.range_survey.specs.Excuses.{Excuses}
+use Rattle.range_survey.specs.declared.report.Report.{Report}
+use Rattle.store_chain.specs.Chains.{KeepsStores}
 
 -- an entry that is alike to entry i is right in the base
 abbrev pub RightAlike : Listing → List ℕ → ℕ → Type 0
@@ -33,9 +36,10 @@ RightAlike l base i = (j : ℕ) × (j < count_of l) × AreAlike l j i × IsRight
 
 -- entry i can be had: an alike one is right in the base, or a seed gives its chunk, or the cache or a store does, which
 -- hold these maps
-abbrev pub IsObtainable : Listing → Deal → Placed → List ℕ → List (Option Held) → List (Map (List ℕ)) → ℕ → Type 0
-IsObtainable l d x base views maps i = RightAlike l base i
-    ⊎ (SeedsGive views (places_at x (want_at d i)) (id_of l i) ⊎ SomeGives (kind_of l) (id_of l i) (size_of l i) maps)
+abbrev pub IsObtainable : Task → List ℕ → List (Option Held) → List (Map (List ℕ)) → ℕ → Type 0
+IsObtainable t base views maps i = RightAlike t.listing base i
+    ⊎ (SeedsGive views (places_at t.places (want_at t.plan i)) (id_of t.listing i)
+    ⊎ SomeGives (kind_of t.listing) (id_of t.listing i) (size_of t.listing i) maps)
 
 -- each range is right or the base's, unless a write to it failed; and a range that is right in the base was never
 -- written, unless a read of it failed
@@ -90,45 +94,53 @@ After l P base t (Err faults.Memory) = Unit {0}
 After l P base t r = (i : ℕ) → i < count_of l → (P i → IsRightAt t l i)
     × ((P i → ⊥) → slice_of l t i ≡ slice_of l base i)
 
-module _ {S V : Type 0} (holds folder : S → Option (Map (List ℕ))) (place : S → List ℕ) (said : S → Said)
-    (store_faults : S → ℕ) (lacks_memory : Bool) (view : V → Held) (view_faults : V → ℕ) (l : Listing) (d : Deal)
-    (x : Placed) where
+module _ {S V : Type 0} (store : StoreWords S) (view : ViewWords V) (t : Task) where
   -- no source gave the chunk of this entry: an alike entry that is right in the base couldn't be read, a seed that has
   -- the chunk failed, the cache lacks it or failed, and the stores refused it
-  pub record IsUnobtained (o : Option (List ℕ)) (old new : ℕ) (k j : Kit S V) (e0 e1 : Option Shelf) (lost : Lost) :
-      Type 0
-    where
-      pub listed : lost.entry < count_of l
-      pub id_is : lost.id.0 ≡ id_of l lost.entry
-      pub copies : IfSome o (λ b. RightAlike l (resized b (image_length l)) lost.entry → Rose old new)
-      pub seeds : SeedsFailed (map (seed_held view) k.seeds.items) (places_at x (want_at d lost.entry)) lost.id.0
-          (map (faults_in view_faults) k.seeds.items) (map (faults_in view_faults) j.seeds.items)
-      pub cache : CacheLacks (kind_of l) (id_of l lost.entry) (size_of l lost.entry) e0 e1
-      pub stores : RefusedOnce holds folder place said store_faults lacks_memory view view_faults l d x lost
-          k.chain.stores j.chain.stores
+  pub record IsUnobtained (o : Option (List ℕ)) (old new : Sources S V) (lost : Lost) : Type 0 where
+    pub listed : lost.entry < count_of t.listing
+    pub id_is : lost.id.0 ≡ id_of t.listing lost.entry
+    pub copies : IfSome o (λ b. RightAlike t.listing (resized b (image_length t.listing)) lost.entry
+        → Rose old.faults new.faults)
+    pub seeds : SeedsFailed (views_of view old.seeds) (places_at t.places (want_at t.plan lost.entry)) lost.id.0
+        (counts_of view old.seeds) (counts_of view new.seeds)
+    pub cache : CacheLacks (kind_of t.listing) (id_of t.listing lost.entry) (size_of t.listing lost.entry) old.cache
+        new.cache
+    pub stores : RefusedOnce store view t lost old.chain.stores new.chain.stores
 
-  -- nothing fails: the target, the seeds, the cache and the stores, which hold these maps, are quiet, and the seeds'
-  -- views tell, where there are any
-  abbrev pub NothingFails : Bool → ℕ → ℕ → Kit S V → Kit S V → Option Shelf → Option Shelf → List (Map (List ℕ))
-      → List (Map (List ℕ)) → Type 0
-  NothingFails tells old new k j e0 e1 cached maps = SourcesQuiet holds store_faults view view_faults tells old new
-      k.seeds.items j.seeds.items e0 e1 k.chain.stores j.chain.stores cached maps
+  -- want w is had without the stores: an entry of it is right in the base, and the target didn't fail; or a seed gives
+  -- it that didn't fail; or the opening cache does, which didn't fail
+  abbrev pub SparedOver : Option (List ℕ) → Sources S V → Sources S V → ℕ → Type 0
+  SparedOver o old new w = IsSpared store view t
+      (λ j. IsSomeAnd o (λ b. IsRightAt (resized b (image_length t.listing)) t.listing j)) old new w
 
--- want w is had without the stores: an entry of it is right in the base, and the target didn't fail; or a seed gives it
--- that didn't fail; or the opening cache does, which didn't fail
-abbrev pub SparedOver : {S V : Type 0} → (S → Option (Map (List ℕ))) → (V → Held) → (V → ℕ) → Listing → Deal → Placed
-    → Option (List ℕ) → ℕ → ℕ → List (Seed V) → List (Seed V) → Option Shelf → Option Shelf → List S → ℕ → Type 0
-SparedOver holds view view_faults l d x o old new s0 s1 e0 e1 stores w =
-    (IsSomeAnd o (λ b. (j : ℕ) × IsAmong (of_want d w) j × IsRightAt (resized b (image_length l)) l j) × Quiet old new)
-    ⊎ (Any (λ p. HeldAt (map (seed_held view) s0) p (want_id l d w)
-    × Quiet (slice_index (map (faults_in view_faults) s0) p.seed) (slice_index (map (faults_in view_faults) s1) p.seed))
-    (places_at x w) ⊎ CacheGives holds l stores (want_id l d w) (size_of l (first_of d w)) e0 e1)
+  -- how often an assembly asks: for each want at most twice, and not for a spared one
+  abbrev pub AssemblyAsks : Option (List ℕ) → Sources S V → Sources S V → Type 0
+  AssemblyAsks o old new = (spared : ℕ → Bool)
+      → ((w : ℕ) → w < t.plan.wants → spared w ≡ true → SparedOver o old new w)
+      → AsksAtMost store (twice (calls_below spared t.plan.wants))
+      (λ q. twice (asks_below (want_id t.listing t.plan) spared t.plan.wants q)) old.chain new.chain
 
--- how often an assembly asks: for each want at most twice, and not for a spared one
-abbrev pub AssemblyAsks : {S V : Type 0} → (S → Option (Map (List ℕ))) → (S → List ℕ → ℕ) → (V → Held) → (V → ℕ)
-    → Listing → Deal → Placed → Option (List ℕ) → ℕ → ℕ → Kit S V → Kit S V → Option Shelf → Option Shelf → Type 0
-AssemblyAsks holds asked view view_faults l d x o old new k j e0 e1 = (spared : ℕ → Bool)
-    → ((w : ℕ) → w < d.wants → spared w ≡ true → SparedOver holds view view_faults l d x o old new k.seeds.items
-    j.seeds.items e0 e1 k.chain.stores w)
-    → AsksAtMost asked (calls_below spared d.wants + calls_below spared d.wants)
-    (λ q. asks_below (want_id l d) spared d.wants q + asks_below (want_id l d) spared d.wants q) k.chain j.chain
+  -- what an assembly has done, from these bytes and sources to those
+  pub record IsAssembled (o p : Option (List ℕ)) (old new : Sources S V) (answer : Result Report ExtractFault) : Type 0 where
+    pub bytes : WhereTold o p (Assembles t.listing old.faults new.faults answer)
+    pub lost : EndsBy (IsUnobtained o old new) (Rose old.faults new.faults) answer
+    pub had : Telling view.tells (views_of view old.seeds) → (cached maps : List (Map (List ℕ)))
+        → cached_in old.cache ≡ Some cached → map store.holds old.chain.stores ≡ map Some maps
+        → WhereTold o p (λ y z. OnlyObtainable t.listing (IsObtainable t (resized y (image_length t.listing))
+        (views_of view old.seeds) (cached ++ maps)) old.faults new.faults answer y z)
+    pub exactly : WhereQuiet store view t.listing old new (λ cached maps. IfSome o (λ y. Verdict t.listing
+        (IsObtainable t (resized y (image_length t.listing)) (views_of view old.seeds) (cached ++ maps)) answer))
+    pub after : WhereQuiet store view t.listing old new (λ cached maps. WhereTold o p (λ y z. After t.listing
+        (IsObtainable t (resized y (image_length t.listing)) (views_of view old.seeds) (cached ++ maps))
+        (resized y (image_length t.listing)) z answer))
+    pub economy : WhereQuiet store view t.listing old new (λ cached maps. IfSome o (λ y. AsksExactly
+        (source_of t (resized y (image_length t.listing)) (views_of view old.seeds) cached maps) t.plan.wants old.chain
+        new.chain answer))
+    pub reported : WhereQuiet store view t.listing old new (λ cached maps. IfSome o (λ y. IfOk answer (ReportsExactly
+        (source_of t (resized y (image_length t.listing)) (views_of view old.seeds) cached maps) t.plan.wants)))
+    pub asks : AssemblyAsks o old new
+    pub stores : KeepsStores store (IsListedGet t.listing) old.chain.stores new.chain.stores
+    pub kind : new.chain.kind ≡ old.chain.kind
+    pub stocked : Stocked (TakesListed store t.listing old.chain.stores) old.cache new.cache
+    pub seeds : KeepsSeeds view old.seeds new.seeds

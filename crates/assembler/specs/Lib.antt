@@ -1,9 +1,10 @@
 pub mod Faults
-pub mod Fills
-pub mod Kits
+pub mod Stages
 pub mod Losses
 pub mod OneKit
 pub mod Passes
+pub mod Settling
 pub mod Assemblies
 pub mod Obtainable
 pub mod Economy
+pub mod Laying

@@ -1,28 +1,31 @@
 -- What a pass over the wants of an index leaves.
-use Rattle.std.specs.Prelude.{◌≡◌, ◌≢◌, ◌⊎◌, ℕ, ◌+◌, ◌<◌, List, map, slice_index, Bool, true, false, Option}
-use Rattle.std.specs.Prelude.{Result, Ok, Err}
+use Rattle.std.specs.Prelude.{◌≡◌, ◌≢◌, ◌⊎◌, ◌++◌, ℕ, ◌+◌, ◌<◌, List, map, slice_index, Bool, true, false, Option, Some}
+use Rattle.std.specs.Prelude.{Result, Ok, Err, IfErr, OnOk}
 use Rattle.assembler.specs.Faults.{fault_of}
 use Rattle.assembler.specs.Losses.{lost_want}
+use Rattle.assembler.specs.Stages.{Stage, Stretch, from}
 use Rattle.assembler.specs.declared.fault.ExtractFault.{ExtractFault}
 use Rattle.assembler.specs.declared.fault.ExtractFault.TheVariants as faults
 use Rattle.assembler.specs.declared.fault.Lost.{Lost}
-use Rattle.cache_store.specs.Shelves.{Shelf}
+use Rattle.caibx_codec.specs.Asks.{IsListedGet}
 use Rattle.caibx_codec.specs.Listing.{Listing, count_of, id_of, kind_of, size_of}
 use Rattle.chunk_sources.specs.Asks.{AreSpared, AsksAtMost, asks_below, calls_below}
-use Rattle.chunk_sources.specs.Caches.{CacheLacks}
-use Rattle.chunk_sources.specs.Losses.{CopiesFailed, Had, RefusedBy}
-use Rattle.chunk_sources.specs.Sources.{SeedsFailed}
-use Rattle.chunk_sources.specs.declared.kit.Kit.{Kit}
-use Rattle.chunk_store.specs.Said.{Said}
+use Rattle.chunk_sources.specs.Caches.{CacheLacks, HaveOneSize, cached_in}
+use Rattle.chunk_sources.specs.Economy.{source_over}
+use Rattle.chunk_sources.specs.Losses.{CopiesFailed, Had, MayLack, RefusedBy}
+use Rattle.chunk_sources.specs.Sources.{SeedsFailed, Sources, SourcesQuiet, Telling, counts_of, views_of}
+use Rattle.chunk_sources.specs.Wants.{IsAmong, Task, want_chunk}
+use Rattle.chunk_store.specs.declared.store.Store.{Ghosts as StoreWords}
 use Rattle.dsy_base.specs.Bytes.{Held}
+use Rattle.dsy_base.specs.Counts.{Rose}
 use Rattle.dsy_base.specs.Maps.{Map}
+use Rattle.dsy_base.specs.declared.view.View.{Ghosts as ViewWords}
 use Rattle.extract_plan.specs.Deal.{Deal, of_want, want_id}
-use Rattle.extract_plan.specs.Places.{Placed, places_at}
-use Rattle.extract_plan.specs.Seeds.{faults_in, seed_held}
-use Rattle.chunk_sources.specs.Wants.{IsAmong}
+use Rattle.extract_plan.specs.Places.{places_at}
+use Rattle.range_ledger.specs.Fills.{FillsTorn, WhereTold}
 use Rattle.range_survey.specs.Fates.{settled}
 use Rattle.range_survey.specs.declared.fate.Fate.{Fate}
-use Rattle.store_chain.specs.Chains.{KeepsHeld}
+use Rattle.store_chain.specs.Chains.{KeepsStores}
 use Rattle.store_chain.specs.declared.refused.Refused.TheVariants as refused
 
 -- the want of entry i
@@ -30,33 +33,8 @@ abbrev pub want_at : Deal → ℕ → ℕ
 want_at d i = slice_index d.want_of i
 
 -- where the chunk of entry i may have come from, over what was settled before the pass
-abbrev pub HadAt : Listing → Deal → Placed → List Fate → List (Option Held) → List (Map (List ℕ)) → ℕ → Type 0
-HadAt l d x m views maps i =
-    Had m (of_want d (want_at d i)) views (places_at x (want_at d i)) (kind_of l) (id_of l i) (size_of l i) maps
-
-module _ {S V : Type 0} (holds folder : S → Option (Map (List ℕ))) (place : S → List ℕ) (said : S → Said)
-    (store_faults : S → ℕ) (lacks_memory : Bool) (view : V → Held) (view_faults : V → ℕ) (l : Listing) (d : Deal)
-    (x : Placed) where
-  -- the stores refused the chunk of the lost entry in one call between
-  pub record RefusedOnce (lost : Lost) (old new : List S) : Type 0 where
-    pub before : List S
-    pub after : List S
-    pub until : KeepsHeld holds folder place said store_faults old before
-    pub refused : RefusedBy holds said store_faults lacks_memory (lost_want l lost) before after lost.refused
-    pub since : KeepsHeld holds folder place said store_faults after new
-
-  -- no source gave the chunk of this entry: settled entries that are alike couldn't be read, seeds that have it failed,
-  -- the cache lacks it or failed, and the stores refused it, though there was memory. Between, the count of the
-  -- target's faults went from old to new
-  pub record IsLost (m : List Fate) (old new : ℕ) (k j : Kit S V) (e0 e1 : Option Shelf) (lost : Lost) : Type 0 where
-    pub listed : lost.entry < count_of l
-    pub id_is : lost.id.0 ≡ id_of l lost.entry
-    pub copies : CopiesFailed m (of_want d (want_at d lost.entry)) old new
-    pub seeds : SeedsFailed (map (seed_held view) k.seeds.items) (places_at x (want_at d lost.entry)) lost.id.0
-        (map (faults_in view_faults) k.seeds.items) (map (faults_in view_faults) j.seeds.items)
-    pub cache : CacheLacks (kind_of l) (id_of l lost.entry) (size_of l lost.entry) e0 e1
-    pub stores : RefusedOnce lost k.chain.stores j.chain.stores
-    pub had_memory : lost.refused ≢ refused.Memory
+abbrev pub HadAt : Task → List Fate → List (Option Held) → List (Map (List ℕ)) → ℕ → Type 0
+HadAt t m views maps i = Had m (want_chunk t (want_at t.plan i)) views maps
 
 -- how the second pass may end: with a lost entry, with a write that failed, or with want of memory
 abbrev pub EndsBy : {A : Type 0} → (Lost → Type 0) → Type 0 → Result A ExtractFault → Type 0
@@ -66,26 +44,88 @@ EndsBy P F (Err e) = ((lost : Lost) × (e ≡ fault_of lost.entry lost.id lost.r
 
 -- a write failed that would have made this entry right, or one of its want that is torn. It was open by m, and all
 -- entries before it are settled by n
-pub record EndsTorn (l : Listing) (d : Deal) (m n : List Fate) (IsTorn : ℕ → Type 0) : Type 0 where
+pub record EndsTorn (t : Task) (m n : List Fate) (IsTorn : ℕ → Type 0) : Type 0 where
   pub entry : ℕ
-  pub listed : entry < count_of l
+  pub listed : entry < count_of t.listing
   pub was_open : settled m entry ≡ false
   pub before : (i : ℕ) → i < entry → settled n i ≡ true
   pub torn : ℕ
-  pub among : IsAmong (of_want d (want_at d entry)) torn
+  pub among : IsAmong (of_want t.plan (want_at t.plan entry)) torn
   pub is_torn : IsTorn torn
 
--- how often a pass asks: for each want at most once, and not for a spared one
-abbrev pub PassAsks : {S V : Type 0} → (S → Option (Map (List ℕ))) → (S → List ℕ → ℕ) → (V → Held) → (V → ℕ) → Listing
-    → Deal → Placed → List Fate → ℕ → ℕ → Kit S V → Kit S V → Option Shelf → Option Shelf → Type 0
-PassAsks holds asked view view_faults l d x m old new k j e0 e1 = (spared : ℕ → Bool)
-    → AreSpared holds view view_faults l d x m old new k.seeds.items j.seeds.items e0 e1 k.chain.stores spared
-    → AsksAtMost asked (calls_below spared d.wants) (asks_below (want_id l d) spared d.wants) k.chain j.chain
+-- where the chunk of a want comes from, over a stage
+abbrev pub source_at : {S V : Type 0} → ViewWords V → Task → Stage S V → List (Map (List ℕ)) → List (Map (List ℕ)) → ℕ
+    → Fate
+source_at view t a cached maps w = source_over t (settled a.fates) (views_of view a.kit.seeds.items) cached maps w
 
--- how often two passes ask
-abbrev pub PassesAsk : {S V : Type 0} → (S → Option (Map (List ℕ))) → (S → List ℕ → ℕ) → (V → Held) → (V → ℕ) → Listing
-    → Deal → Placed → List Fate → ℕ → ℕ → Kit S V → Kit S V → Option Shelf → Option Shelf → Type 0
-PassesAsk holds asked view view_faults l d x m old new k j e0 e1 = (spared : ℕ → Bool)
-    → AreSpared holds view view_faults l d x m old new k.seeds.items j.seeds.items e0 e1 k.chain.stores spared
-    → AsksAtMost asked (calls_below spared d.wants + calls_below spared d.wants)
-    (λ q. asks_below (want_id l d) spared d.wants q + asks_below (want_id l d) spared d.wants q) k.chain j.chain
+-- once, and twice
+abbrev pub once : ℕ → ℕ
+once n = n
+
+abbrev pub twice : ℕ → ℕ
+twice n = n + n
+
+module _ {S V : Type 0} (store : StoreWords S) (view : ViewWords V) where
+  -- what holds where nothing fails, of all that the cache and the stores hold, which have chunks of one size for each id
+  abbrev pub WhereQuiet : Listing → Sources S V → Sources S V
+      → (List (Map (List ℕ)) → List (Map (List ℕ)) → Type 0) → Type 0
+  WhereQuiet l old new P = (cached maps : List (Map (List ℕ))) → SourcesQuiet store view old new cached maps
+      → HaveOneSize l old.cache cached maps → P cached maps
+
+  module _ (t : Task) where
+    -- the stores refused the chunk of the lost entry in one call between
+    pub record RefusedOnce (lost : Lost) (old new : List S) : Type 0 where
+      pub before : List S
+      pub after : List S
+      pub until : KeepsStores store (IsListedGet t.listing) old before
+      pub refused : RefusedBy store (lost_want t.listing lost) before after lost.refused
+      pub since : KeepsStores store (IsListedGet t.listing) after new
+
+    -- no source gave the chunk of this entry: settled entries that are alike couldn't be read, seeds that have it
+    -- failed, the cache lacks it or failed, and the stores refused it, though there was memory
+    pub record IsLost (m : List Fate) (old new : Sources S V) (lost : Lost) : Type 0 where
+      pub listed : lost.entry < count_of t.listing
+      pub id_is : lost.id.0 ≡ id_of t.listing lost.entry
+      pub copies : CopiesFailed m (of_want t.plan (want_at t.plan lost.entry)) old.faults new.faults
+      pub seeds : SeedsFailed (views_of view old.seeds) (places_at t.places (want_at t.plan lost.entry)) lost.id.0
+          (counts_of view old.seeds) (counts_of view new.seeds)
+      pub cache : CacheLacks (kind_of t.listing) (id_of t.listing lost.entry) (size_of t.listing lost.entry) old.cache
+          new.cache
+      pub stores : RefusedOnce lost old.chain.stores new.chain.stores
+      pub had_memory : lost.refused ≢ refused.Memory
+
+    -- the same of a stretch, as it has come to b
+    abbrev pub Loses : Stage S V → Stage S V → Lost → Type 0
+    Loses a b lost = IsLost a.fates (from a) (from b) lost
+
+    -- where the chunk of each entry that is settled now may have come from, over a stage
+    abbrev pub HadAll : Stage S V → List Fate → Type 0
+    HadAll a now = Telling view.tells (views_of view a.kit.seeds.items) → (cached maps : List (Map (List ℕ)))
+        → cached_in a.cache ≡ Some cached → map store.holds a.kit.chain.stores ≡ map Some maps
+        → (i : ℕ) → i < count_of t.listing → settled now i ≡ true
+        → HadAt t a.fates (views_of view a.kit.seeds.items) (cached ++ maps) i
+
+    -- how often passes ask: so often for each want at most, and not for a spared one
+    abbrev pub PassAsks : (ℕ → ℕ) → Stage S V → Stage S V → Type 0
+    PassAsks times a b = (spared : ℕ → Bool) → AreSpared store view t a.fates (from a) (from b) spared
+        → AsksAtMost store (times (calls_below spared t.plan.wants))
+        (λ q. times (asks_below (want_id t.listing t.plan) spared t.plan.wants q)) a.kit.chain b.kit.chain
+
+    -- what one pass leaves, or two
+    pub record HasPassed (times : ℕ → ℕ) (a b : Stage S V) : Type 0 where
+      pub had : HadAll a b.fates
+      pub asks : PassAsks times a b
+      pub stretch : Stretch store view t (λ w. w < t.plan.wants) a b
+
+    -- how the second pass ends. Its first lost entry is named, before which all are settled; no entry before the one
+    -- whose write ended it was lost; each entry that is left open is lost, unless a write that failed or want of memory
+    -- ended the pass
+    pub record Ends (a b : Stage S V) (result : Result Unit ExtractFault) : Type 0 where
+      pub ok : OnOk result ((i : ℕ) → i < count_of t.listing → settled b.fates i ≡ true)
+      pub first : EndsBy (λ lost. Loses a b lost × ((i : ℕ) → i < lost.entry → settled b.fates i ≡ true))
+          (Rose a.faults b.faults) result
+      pub failed : result ≡ Err faults.TargetFault → EndsTorn t a.fates b.fates (λ i. WhereTold a.held.bytes
+          b.held.bytes (FillsTorn t.listing a.fates b.fates a.faults b.faults i))
+      pub left : IfErr result (λ e. (e ≡ faults.Memory) ⊎ (Rose a.faults b.faults ⊎ ((i : ℕ) → i < count_of t.listing
+          → settled b.fates i ≡ false → (lost : Lost) × (want_at t.plan lost.entry ≡ want_at t.plan i) × Loses a b lost)))
+      pub memory : result ≡ Err faults.Memory → MayLack store a.cache

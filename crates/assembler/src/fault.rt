@@ -1,6 +1,6 @@
 //! Why an image can't be assembled. Entries and stores count from 0.
 
-ghost use Rattle.std.specs.Prelude.{◌≡◌};
+ghost use Rattle.std.specs.Prelude.{◌≡◌, ◌≢◌, true, false};
 ghost use Rattle.assembler.specs.Faults.{fault_of};
 
 use chunk_store::id::ChunkId;
@@ -48,6 +48,14 @@ pub(crate) enum Unsettled {
 }
 
 impl Lost {
+    /// Whether the stores had no memory.
+    pub(crate) fn lacked_memory(&self) -> bool
+        ensures yes { result ≡ true → self.now.refused ≡ Refused.Memory }
+        ensures no { result ≡ false → self.now.refused ≢ Refused.Memory }
+    {
+        self.refused == Refused::Memory
+    }
+
     /// The answer of an assembly whose first lost entry this is.
     pub(crate) fn fault(&self) -> ExtractFault
         ensures { result ≡ fault_of self.now.entry self.now.id self.now.refused }

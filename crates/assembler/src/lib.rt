@@ -1,10 +1,13 @@
-//! The assembly of an image: a target becomes what an index lists, with what it holds already, with chunks from seeds,
-//! from a cache and from a chain of stores.
+//! Images are assembled: a target becomes the image of an index, from what is right in it already, seeds, a cache and
+//! stores.
 #![tactic(auto)]
 
 pub mod assemble;
 pub mod fault;
 mod fill;
+mod passes;
 mod put;
 mod retry;
 mod settle;
+mod whole;
+mod work;

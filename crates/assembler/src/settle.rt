@@ -1,141 +1,143 @@
 //! Settling the entries of one want.
 
-ghost use Rattle.std.specs.Prelude.{◌≡◌, ◌≢◌, ◌⊎◌, ◌++◌, ℕ, List, ◌<◌, ◌≤◌, ◌^◌, length, map, slice_index};
-ghost use Rattle.std.specs.Prelude.{true, false, None, Some, IfSome, OnOk, MatchOption, Err};
-ghost use Rattle.assembler.specs.Assemblies.{NothingFails};
+ghost use Rattle.std.specs.Prelude.{◌≡◌, ◌≢◌, ◌⊎◌, ◌++◌, ℕ, List, ◌<◌, ◌≤◌, length, map, slice_index, is_some};
+ghost use Rattle.std.specs.Prelude.{true, false, None, Some, IfSome, IsSome, IsTrue, OnOk, MatchOption, Err};
 ghost use Rattle.assembler.specs.Economy.{SettlesBy};
-ghost use Rattle.assembler.specs.Fills.{Fills, FillsTorn, Grows, WhereTold};
-ghost use Rattle.assembler.specs.Kits.{Ready, Step};
-ghost use Rattle.assembler.specs.Losses.{IsFirstOpen, Where, lost_want};
-ghost use Rattle.caibx_codec.specs.Listing.{count_of, id_of, kind_of, size_of, image_length};
-ghost use Rattle.chunk_sources.specs.Caches.{CacheLacks, Stocked, TakesChunk, TakesWants, cached_in, seen};
-ghost use Rattle.chunk_sources.specs.Economy.{source_among, source_over};
-ghost use Rattle.chunk_sources.specs.Losses.{AskedLast, Had, RefusedBy, chunk_of};
-ghost use Rattle.chunk_sources.specs.Sources.{KeepsSeeds, SourcesQuiet, Telling};
-ghost use Rattle.chunk_sources.specs.Wants.{AllOf, IsAmong};
+ghost use Rattle.assembler.specs.Losses.{Where};
+ghost use Rattle.assembler.specs.Passes.{source_at};
+ghost use Rattle.assembler.specs.Settling.{HasEnded, Settles};
+ghost use Rattle.assembler.specs.Stages.{Ready, from, stage, task};
+ghost use Rattle.assembler.specs.declared.fault.Lost.{Lost};
+ghost use Rattle.caibx_codec.specs.Listing.{count_of, kind_of};
+ghost use Rattle.chunk_sources.specs.Caches.{CacheLacks, Stocked, TakesChunk, cached_in, seen};
+ghost use Rattle.chunk_sources.specs.Economy.{source_among};
+ghost use Rattle.chunk_sources.specs.Losses.{AskedLast, Had, MayLack, RefusedBy, chunk_of};
+ghost use Rattle.chunk_sources.specs.Sources.{KeepsSeeds, SourcesQuiet, Telling, sources, views_of};
+ghost use Rattle.chunk_sources.specs.Wants.{AllOf, IsAmong, sought_chunk};
+ghost use Rattle.chunk_store.specs.Asks.{Get};
 ghost use Rattle.dsy_base.specs.Counts.{Rose};
 ghost use Rattle.dsy_base.specs.Maps.{Map};
-ghost use Rattle.extract_plan.specs.Deal.{first_of, of_want, want_id};
-ghost use Rattle.extract_plan.specs.Places.{PlacesFit, places_at};
-ghost use Rattle.extract_plan.specs.Seeds.{seed_held};
-ghost use Rattle.range_survey.specs.Fates.{SettledRight, settled};
-ghost use Rattle.store_chain.specs.Chains.{KeepsHeld};
+ghost use Rattle.extract_plan.specs.Places.{PlacesFit};
+ghost use Rattle.range_ledger.specs.Fills.{Fills, FillsTorn, Grows, WhereTold};
+ghost use Rattle.range_survey.specs.Fates.{settled};
+ghost use Rattle.store_chain.specs.Chains.{KeepsStores};
 
 use crate::fault::{Lost, Unsettled};
 use crate::put::put;
+use crate::work::{Wants, Work};
 use cache_store::shelf::CacheShelf;
-use caibx_codec::index::Index;
-use chunk_sources::kit::Kit;
 use chunk_sources::obtain::{Sought, obtain};
 use chunk_store::store::Store;
 use dsy_base::fault::Failed;
 use dsy_base::folder::Folder;
-use dsy_base::view::{Part, View};
-use extract_plan::plan::Plan;
+use dsy_base::view::View;
 use extract_plan::seed::Seed;
-use extract_plan::seeds::SeedIndex;
-use range_survey::fate::Fate;
+use range_ledger::ledger::Ledger;
 use store_chain::chain::Chain;
 use store_chain::refused::Refused;
 
 // The first of these entries that is open.
-fn first_open(entries: &[u32], fates: &[Fate]) -> Option<usize>
-    requires { (k : ℕ) → k < length entries.now → slice_index entries.now k < length fates.now }
+fn first_open<E: Ledger>(entries: &[u32], ledger: &E) -> Option<usize>
+    requires { (k : ℕ) → k < length entries.now → slice_index entries.now k < count_of E.run.listing }
     ensures { MatchOption result
-        ((k : ℕ) → k < length entries.now → settled fates.now (slice_index entries.now k) ≡ true)
-        (λ i. (k : ℕ) × (k < length entries.now) × (slice_index entries.now k ≡ i) × (settled fates.now i ≡ false)
-        × ((j : ℕ) → j < k → settled fates.now (slice_index entries.now j) ≡ true)) }
+        ((k : ℕ) → k < length entries.now → settled (E.fates ledger.now) (slice_index entries.now k) ≡ true)
+        (λ i. (k : ℕ) × (k < length entries.now) × (slice_index entries.now k ≡ i)
+        × (settled (E.fates ledger.now) i ≡ false)
+        × ((j : ℕ) → j < k → settled (E.fates ledger.now) (slice_index entries.now j) ≡ true)) }
 {
     for entry in entries {
         let i = *entry as usize;
-        if !fates[i].is_settled() {
+        if !ledger.fate(i).is_settled() {
             return Some(i);
         }
     }
     None
 }
 
-// Makes the open ones of the entries that are sought right, of which `entry` is the first.
-fn settle_open<T: Part, S: Store, V: View, F: Folder>(
-    index: &Index,
-    sought: &Sought<'_>,
+// An open entry of a want: what is sought for it, and the size of its chunk.
+#[derive(Clone, Copy)]
+struct Opened<'a> {
     entry: usize,
-    fates: &mut [Fate],
-    target: &mut T,
+    sought: Sought<'a>,
+    size: usize,
+}
+
+// Makes the open ones of the entries that are sought right, of which the opened one is the first.
+fn settle_open<E: Ledger, S: Store, V: View, F: Folder>(
+    opened: &Opened<'_>,
+    ledger: &mut E,
     seeds: &mut [Seed<V>],
     cache: &mut Option<CacheShelf<F>>,
     chain: &mut Chain<S>,
     buf: &mut [u8],
 ) -> Result<(), Unsettled>
-    requires entries { AllOf index.now sought.now.id.0 (size_of index.now entry) sought.now.entries.now }
-    requires listed { entry < count_of index.now }
-    requires among { IsAmong sought.now.entries.now entry }
-    requires is_open { settled fates.old entry ≡ false }
-    requires places { PlacesFit (length seeds.old) (size_of index.now entry) sought.now.places.now }
-    requires kind { chain.old.kind ≡ kind_of index.now }
-    requires room { size_of index.now entry ≤ length buf.old }
-    requires size { (T.held target.old).size ≡ image_length index.now }
-    requires fates { length fates.old ≡ count_of index.now }
-    requires right { IfSome (T.held target.old).bytes (λ t. SettledRight index.now t fates.old (count_of index.now)) }
-    requires asks { chain.old.asks < 2 ^ 64 }
+    requires entries { AllOf E.run.listing opened.now.sought.id.0 opened.now.size opened.now.sought.entries.now }
+    requires among { IsAmong opened.now.sought.entries.now opened.now.entry }
+    requires is_open { settled (E.fates ledger.old) opened.now.entry ≡ false }
+    requires places { PlacesFit (length seeds.old) opened.now.size opened.now.sought.places.now }
+    requires room { opened.now.size ≤ length buf.old }
+    requires kind { chain.old.kind ≡ kind_of E.run.listing }
     requires unnamed { (F.pairs ≡ None) × (F.stores ≡ None) }
-    requires cache { IfSome (seen F.files F.place F.faults cache.old) (λ s. s.kind ≡ chain.old.kind) }
-    ensures ok { OnOk result ((i : ℕ) → IsAmong sought.now.entries.now i → settled fates.new i ≡ true) }
-    ensures only { (i : ℕ) → settled fates.old i ≡ false → settled fates.new i ≡ true →
-        IsAmong sought.now.entries.now i }
-    ensures had { Telling V.tells (map (seed_held V.held) seeds.old) → (cached maps : List (Map (List ℕ))) →
-        cached_in (seen F.files F.place F.faults cache.old) ≡ Some cached →
-        map S.holds chain.old.stores ≡ map Some maps → (i : ℕ) → settled fates.old i ≡ false →
-        settled fates.new i ≡ true →
-        Had fates.old sought.now.entries.now (map (seed_held V.held) seeds.old) sought.now.places.now
-        (kind_of index.now)
-        sought.now.id.0 (size_of index.now entry) (cached ++ maps) }
-    ensures lost { Where (λ x. (x.entry ≡ entry) × (x.id ≡ sought.now.id))
-        (Rose (T.faults target.old) (T.faults target.new)) result }
-    ensures failed { result ≡ Err Unsettled.TargetFault → (i : ℕ) × IsAmong sought.now.entries.now i
-        × WhereTold (T.held target.old).bytes (T.held target.new).bytes (FillsTorn index.now fates.old fates.new
-        (T.faults target.old) (T.faults target.new) i) }
-    ensures refused { Where (λ x. x.refused ≢ Refused.Memory → RefusedBy S.holds S.said S.faults S.may_lack_memory
-        (chunk_of (kind_of index.now) sought.now.id (size_of index.now entry)) chain.old.stores chain.new.stores
-        x.refused) (Unit {0}) result }
-    ensures missed { Where (λ x. x.refused ≢ Refused.Memory → CacheLacks (kind_of index.now) sought.now.id.0
-        (size_of index.now entry) (seen F.files F.place F.faults cache.old) (seen F.files F.place F.faults cache.new))
+    requires cache { IfSome (seen F.Look cache.old) (λ s. s.kind ≡ chain.old.kind) }
+    ensures ok { OnOk result ((i : ℕ) → IsAmong opened.now.sought.entries.now i → settled (E.fates ledger.new) i ≡ true) }
+    ensures only { (i : ℕ) → settled (E.fates ledger.old) i ≡ false → settled (E.fates ledger.new) i ≡ true →
+        IsAmong opened.now.sought.entries.now i }
+    ensures had { Telling V.tells (views_of V.View seeds.old) → (cached maps : List (Map (List ℕ))) →
+        cached_in (seen F.Look cache.old) ≡ Some cached → map S.holds chain.old.stores ≡ map Some maps → (i : ℕ) →
+        settled (E.fates ledger.old) i ≡ false → settled (E.fates ledger.new) i ≡ true → Had (E.fates ledger.old)
+        (sought_chunk (kind_of E.run.listing) opened.now.sought opened.now.size) (views_of V.View seeds.old)
+        (cached ++ maps) }
+    ensures lost { Where (λ x. (x.entry ≡ opened.now.entry) × (x.id ≡ opened.now.sought.id))
+        (Rose (E.faults ledger.old) (E.faults ledger.new)) result }
+    ensures failed { result ≡ Err Unsettled.TargetFault → (i : ℕ) × IsAmong opened.now.sought.entries.now i
+        × WhereTold (E.held ledger.old).bytes (E.held ledger.new).bytes (FillsTorn E.run.listing (E.fates ledger.old)
+        (E.fates ledger.new) (E.faults ledger.old) (E.faults ledger.new) i) }
+    ensures refused { Where (λ x. x.refused ≢ Refused.Memory → RefusedBy S.Store
+        (chunk_of (kind_of E.run.listing) opened.now.sought.id opened.now.size) chain.old.stores chain.new.stores x.refused)
         (Unit {0}) result }
-    ensures asked { Where (λ x. x.refused ≢ Refused.Memory → AskedLast S.asked S.queried V.held V.faults
-        (kind_of index.now) sought.now.id.0 (size_of index.now entry) fates.old sought.now.entries.now
-        sought.now.places.now (T.faults target.old) (T.faults target.new) seeds.old seeds.new
-        (seen F.files F.place F.faults cache.old) (seen F.files F.place F.faults cache.new) chain.old chain.new)
-        (Unit {0}) result }
-    ensures asks { (chain.new ≡ chain.old) ⊎ AskedLast S.asked S.queried V.held V.faults (kind_of index.now)
-        sought.now.id.0 (size_of index.now entry) fates.old sought.now.entries.now sought.now.places.now
-        (T.faults target.old) (T.faults target.new) seeds.old seeds.new (seen F.files F.place F.faults cache.old)
-        (seen F.files F.place F.faults cache.new) chain.old chain.new }
+    ensures missed { Where (λ x. x.refused ≢ Refused.Memory → CacheLacks (kind_of E.run.listing) opened.now.sought.id.0
+        opened.now.size (seen F.Look cache.old) (seen F.Look cache.new)) (Unit {0}) result }
+    ensures asked { Where (λ x. x.refused ≢ Refused.Memory → AskedLast S.Store V.View
+        (sought_chunk (kind_of E.run.listing) opened.now.sought opened.now.size) (E.fates ledger.old)
+        (sources (E.faults ledger.old) seeds.old (seen F.Look cache.old) chain.old)
+        (sources (E.faults ledger.new) seeds.new (seen F.Look cache.new) chain.new)) (Unit {0}) result }
+    ensures memory { Where (λ x. x.refused ≡ Refused.Memory → MayLack S.Store (seen F.Look cache.old)) (Unit {0})
+        result }
+    ensures asks { (chain.new ≡ chain.old) ⊎ AskedLast S.Store V.View
+        (sought_chunk (kind_of E.run.listing) opened.now.sought opened.now.size) (E.fates ledger.old)
+        (sources (E.faults ledger.old) seeds.old (seen F.Look cache.old) chain.old)
+        (sources (E.faults ledger.new) seeds.new (seen F.Look cache.new) chain.new) }
 
     // Where nothing fails.
-    ensures exactly { (cached maps : List (Map (List ℕ))) → SourcesQuiet S.holds S.faults V.held V.faults V.tells
-        (T.faults target.old) (T.faults target.new) seeds.old seeds.new (seen F.files F.place F.faults cache.old)
-        (seen F.files F.place F.faults cache.new) chain.old.stores chain.new.stores cached maps →
-        SettlesBy (source_among (settled fates.old) sought.now.entries.now (map (seed_held V.held) seeds.old)
-        sought.now.places.now (kind_of index.now) sought.now.id.0 (size_of index.now entry) cached maps)
-        (count_of index.now) fates.old fates.new chain.old chain.new result }
+    ensures exactly { (cached maps : List (Map (List ℕ))) → SourcesQuiet S.Store V.View
+        (sources (E.faults ledger.old) seeds.old (seen F.Look cache.old) chain.old)
+        (sources (E.faults ledger.new) seeds.new (seen F.Look cache.new) chain.new) cached maps →
+        SettlesBy (source_among (settled (E.fates ledger.old))
+        (sought_chunk (kind_of E.run.listing) opened.now.sought opened.now.size) (views_of V.View seeds.old) cached maps)
+        (count_of E.run.listing) (E.fates ledger.old) (E.fates ledger.new) chain.old chain.new result }
 
-    ensures grows { Grows fates.old fates.new }
-    ensures bytes { WhereTold (T.held target.old).bytes (T.held target.new).bytes
-        (Fills index.now fates.old fates.new (T.faults target.old) (T.faults target.new)) }
-    ensures name { (T.held target.new).name ≡ (T.held target.old).name }
-    ensures same_size { (T.held target.new).size ≡ (T.held target.old).size }
-    ensures faults { T.faults target.old ≤ T.faults target.new }
-    ensures seeds { KeepsSeeds V.held V.faults seeds.old seeds.new }
-    ensures stocked { Stocked (TakesChunk S.holds (kind_of index.now) sought.now.id.0 (size_of index.now entry)
-        chain.old.stores) (seen F.files F.place F.faults cache.old) (seen F.files F.place F.faults cache.new) }
-    ensures stores { KeepsHeld S.holds S.folder S.place S.said S.faults chain.old.stores chain.new.stores }
+    ensures grows { Grows (E.fates ledger.old) (E.fates ledger.new) }
+    ensures bytes { WhereTold (E.held ledger.old).bytes (E.held ledger.new).bytes (Fills E.run.listing
+        (E.fates ledger.old) (E.fates ledger.new) (E.faults ledger.old) (E.faults ledger.new)) }
+    ensures tells { is_some (E.held ledger.new).bytes ≡ is_some (E.held ledger.old).bytes }
+    ensures name { (E.held ledger.new).name ≡ (E.held ledger.old).name }
+    ensures size { (E.held ledger.new).size ≡ (E.held ledger.old).size }
+    ensures faults { E.faults ledger.old ≤ E.faults ledger.new }
+    ensures seeds { KeepsSeeds V.View seeds.old seeds.new }
+    ensures stocked { Stocked (TakesChunk S.Store (kind_of E.run.listing) opened.now.sought.id.0 opened.now.size
+        chain.old.stores) (seen F.Look cache.old) (seen F.Look cache.new) }
+    ensures stores { KeepsStores S.Store (λ a. a ≡ Get opened.now.sought.id.0) chain.old.stores chain.new.stores }
     ensures same_kind { chain.new.kind ≡ chain.old.kind }
 {
-    let (chunk, _) = buf.split_at_mut(index.entry(entry).size);
-    let id = sought.id;
-    match obtain(index, sought, fates, target, seeds, cache, chain, chunk) {
-        Err(refused) => Err(Unsettled::Lost(Lost { entry, id, refused })),
-        Ok(origin) => match put(index, sought.entries, chunk, origin, target, fates) {
+    let (chunk, _) = buf.split_at_mut(opened.size);
+    let sought = &opened.sought;
+    match obtain(sought, ledger, seeds, cache, chain, chunk) {
+        Err(refused) => Err(Unsettled::Lost(Lost {
+            entry: opened.entry,
+            id: sought.id,
+            refused,
+        })),
+        Ok(origin) => match put(sought.entries, chunk, origin, ledger) {
             Ok(()) => Ok(()),
             Err(Failed) => Err(Unsettled::TargetFault),
         },
@@ -143,85 +145,63 @@ fn settle_open<T: Part, S: Store, V: View, F: Folder>(
 }
 
 /// Makes the open entries of a want right, and leaves all others.
-pub(crate) fn settle<T: Part, S: Store, V: View, F: Folder>(
-    index: &Index,
-    plan: &Plan,
-    places: &SeedIndex,
+pub(crate) fn settle<E: Ledger, S: Store, V: View, F: Folder>(
+    wants: &Wants<'_>,
     want: usize,
-    target: &mut T,
-    kit: &mut Kit<S, V>,
-    cache: &mut Option<CacheShelf<F>>,
-    fates: &mut [Fate],
+    work: &mut Work<E, S, V, F>,
 ) -> Result<(), Unsettled>
-    requires ready { Ready index.now plan.now places.now (T.held target.old) kit.old.chain.kind
-        (length kit.old.seeds.items) (length kit.old.buffer.items) fates.old }
-    requires want { want < plan.now.wants }
+    requires listing { wants.now.index.now ≡ E.run.listing }
+    requires ready { Ready (task E.run.listing wants.now) (stage E.Ledger F.Look work.old) }
+    requires want { want < wants.now.plan.now.wants }
     requires unnamed { (F.pairs ≡ None) × (F.stores ≡ None) }
-    requires cache { IfSome (seen F.files F.place F.faults cache.old) (λ s. s.kind ≡ kit.old.chain.kind) }
-    ensures ok { OnOk result ((i : ℕ) → IsAmong (of_want plan.now want) i → settled fates.new i ≡ true) }
-    ensures only { (i : ℕ) → settled fates.old i ≡ false → settled fates.new i ≡ true →
-        IsAmong (of_want plan.now want) i }
-    ensures had { Telling V.tells (map (seed_held V.held) kit.old.seeds.items) → (cached maps : List (Map (List ℕ))) →
-        cached_in (seen F.files F.place F.faults cache.old) ≡ Some cached →
-        map S.holds kit.old.chain.stores ≡ map Some maps → (i : ℕ) → settled fates.old i ≡ false →
-        settled fates.new i ≡ true →
-        Had fates.old (of_want plan.now want) (map (seed_held V.held) kit.old.seeds.items) (places_at places.now want)
-        (kind_of index.now) (id_of index.now i) (size_of index.now i) (cached ++ maps) }
-    ensures lost { Where (IsFirstOpen index.now fates.old (of_want plan.now want))
-        (Rose (T.faults target.old) (T.faults target.new)) result }
-    ensures failed { result ≡ Err Unsettled.TargetFault → (i : ℕ) × IsAmong (of_want plan.now want) i
-        × WhereTold (T.held target.old).bytes (T.held target.new).bytes (FillsTorn index.now fates.old fates.new
-        (T.faults target.old) (T.faults target.new) i) }
-    ensures refused { Where (λ x. x.refused ≢ Refused.Memory → RefusedBy S.holds S.said S.faults S.may_lack_memory
-        (lost_want index.now x) kit.old.chain.stores kit.new.chain.stores x.refused) (Unit {0}) result }
-    ensures missed { Where (λ x. x.refused ≢ Refused.Memory → CacheLacks (kind_of index.now) (id_of index.now x.entry)
-        (size_of index.now x.entry) (seen F.files F.place F.faults cache.old) (seen F.files F.place F.faults cache.new))
-        (Unit {0}) result }
-    ensures asked { Where (λ x. x.refused ≢ Refused.Memory → AskedLast S.asked S.queried V.held V.faults
-        (kind_of index.now) (want_id index.now plan.now want) (size_of index.now (first_of plan.now want)) fates.old
-        (of_want plan.now want) (places_at places.now want) (T.faults target.old) (T.faults target.new)
-        kit.old.seeds.items kit.new.seeds.items (seen F.files F.place F.faults cache.old)
-        (seen F.files F.place F.faults cache.new) kit.old.chain kit.new.chain) (Unit {0}) result }
-    ensures asks { (kit.new.chain ≡ kit.old.chain) ⊎ AskedLast S.asked S.queried V.held V.faults
-        (kind_of index.now) (want_id index.now plan.now want) (size_of index.now (first_of plan.now want)) fates.old
-        (of_want plan.now want) (places_at places.now want) (T.faults target.old) (T.faults target.new)
-        kit.old.seeds.items kit.new.seeds.items (seen F.files F.place F.faults cache.old)
-        (seen F.files F.place F.faults cache.new) kit.old.chain kit.new.chain }
+    ensures settles { Settles S.Store V.View (task E.run.listing wants.now) want (stage E.Ledger F.Look work.old)
+        (stage E.Ledger F.Look work.new) }
+    ensures ends { HasEnded S.Store V.View (task E.run.listing wants.now) want (stage E.Ledger F.Look work.old)
+        (stage E.Ledger F.Look work.new) result }
 
     // Where nothing fails.
-    ensures exactly { (cached maps : List (Map (List ℕ))) → NothingFails S.holds S.folder S.place S.said S.faults
-        S.may_lack_memory V.held V.faults index.now plan.now places.now V.tells (T.faults target.old)
-        (T.faults target.new) kit.old kit.new (seen F.files F.place F.faults cache.old)
-        (seen F.files F.place F.faults cache.new) cached maps → SettlesBy
-        (source_over index.now plan.now places.now (settled fates.old)
-        (map (seed_held V.held) kit.old.seeds.items) cached
-        maps want) (count_of index.now) fates.old fates.new kit.old.chain kit.new.chain result }
-
-    ensures stocked { Stocked (TakesWants S.holds index.now plan.now (λ w. w ≡ want) kit.old.chain.stores)
-        (seen F.files F.place F.faults cache.old) (seen F.files F.place F.faults cache.new) }
-
-    ensures step { Step T.held T.faults S.holds S.folder S.place S.said S.faults V.held V.faults index.now
-        target.old kit.old fates.old target.new kit.new fates.new }
+    ensures exactly { (cached maps : List (Map (List ℕ))) → SourcesQuiet S.Store V.View
+        (from (stage E.Ledger F.Look work.old)) (from (stage E.Ledger F.Look work.new)) cached maps →
+        SettlesBy (source_at V.View (task E.run.listing wants.now) (stage E.Ledger F.Look work.old) cached maps
+        want) (count_of E.run.listing) (E.fates work.old.ledger) (E.fates work.new.ledger) work.old.kit.chain
+        work.new.kit.chain result }
 {
     // Only for its contract: the count of calls fits its type.
-    kit.chain.asks();
-    let entries = plan.entries(want);
-    let Some(entry) = first_open(entries, fates) else {
+    work.kit.chain.asks();
+    let entries = wants.plan.entries(want);
+    let Some(entry) = first_open(entries, &work.ledger) else {
         return Ok(());
     };
-    let id = index.id(entry);
-    let places = places.places(want);
-    let sought = Sought {
-        id,
-        entries,
-        places,
+    let id = wants.index.id(entry);
+    let places = wants.places.places(want);
+    let opened = Opened {
+        entry,
+        sought: Sought {
+            id,
+            entries,
+            places,
+        },
+        size: wants.index.entry(entry).size,
     };
-    let Kit {
-        chain,
-        seeds,
-        buffer,
-    } = kit;
     settle_open(
-        index, &sought, entry, fates, target, seeds, cache, chain, buffer,
+        &opened,
+        &mut work.ledger,
+        &mut work.kit.seeds,
+        &mut work.cache,
+        &mut work.kit.chain,
+        &mut work.kit.buffer,
     )
+}
+
+/// Whether the stores had no memory, which ends a pass.
+pub(crate) fn lacked_memory(ended: &Result<(), Unsettled>) -> bool
+    ensures yes { result ≡ true → (lost : Lost) × (ended.now ≡ Err (Unsettled.Lost lost))
+        × (lost.refused ≡ Refused.Memory) }
+    ensures no { result ≡ false → (lost : Lost) → ended.now ≡ Err (Unsettled.Lost lost) →
+        lost.refused ≢ Refused.Memory }
+{
+    match ended {
+        Err(Unsettled::Lost(lost)) => lost.refused == Refused::Memory,
+        Ok(()) | Err(Unsettled::TargetFault) => false,
+    }
 }

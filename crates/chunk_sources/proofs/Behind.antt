@@ -1,5 +1,5 @@
 -- What the cache and the stores behind it gave, and what it took.
-use Rattle.std.proofs.Common.{◌≡◌, ◌⊎◌, ◌++◌, ℕ, ◌<◌, ◌^◌, List, [], ◌∷◌, map, take, Option, Some, None, IfSome, Bool, true, false, Result, Ok, Err, sym, ap, ◌∙◌, subst, inl, inr, slice_index, refl, arith, ◌≢◌}
+use Rattle.std.proofs.Common.{◌≡◌, ◌⊎◌, ◌++◌, ℕ, ◌<◌, ◌^◌, List, [], ◌∷◌, map, take, Option, Some, None, IfSome, true, false, Result, Ok, Err, sym, ap, ◌∙◌, subst, inl, inr, slice_index, refl, arith, ◌≢◌}
 use Rattle.std.proofs.lemmas.Bool.{true≢false}
 use Rattle.std.proofs.lemmas.Option.{same_Some}
 use Rattle.std.specs.Option.{option_map}
@@ -15,11 +15,12 @@ use Rattle.chunk_sources.specs.Caches.{CacheFailed, TakesChunk, cached_in}
 use Rattle.chunk_sources.specs.Economy.{ObtainedBy, source_behind}
 use Rattle.chunk_sources.specs.Losses.{chunk_of}
 use Rattle.chunk_store.specs.Folders.{chunks}
-use Rattle.chunk_store.specs.Said.{Said}
 use Rattle.chunk_store.specs.declared.id.ChunkId.{ChunkId}
 use Rattle.chunk_store.specs.declared.id.DigestKind.{DigestKind}
+use Rattle.chunk_store.specs.declared.store.Store.{Ghosts as StoreWords}
 use Rattle.dsy_base.specs.Counts.{Quiet, Rose}
 use Rattle.dsy_base.specs.Maps.{Map}
+use Rattle.dsy_base.specs.declared.look.Look.{Ghosts as LookWords}
 use Rattle.range_survey.specs.declared.fate.Fate.TheVariants as fate
 use Rattle.store_chain.specs.Chains.{AsksOnce}
 use Rattle.store_chain.specs.Faults.{EachQuiet}
@@ -64,39 +65,38 @@ unfound_never kind id size old new cached told quiet unfound gives =
     quiet_never old.faults new.faults quiet
     (if_some (held_on old) (λ m. Gives (chunk_of kind id size) m → Rose old.faults new.faults) (chunks at.0) (ap (option_map chunks) at.1) unfound has)
 
-module _ {F S : Type 0} (files : F → Option (Map (List ℕ))) (place : F → List ℕ) (count : F → ℕ) (holds : S → Option (Map (List ℕ))) (said : S → Said)
-    (faults : S → ℕ) (lacks : Bool) (asked queried : S → List ℕ → ℕ) (kind : DigestKind) (id : ChunkId) (size : ℕ) (old new : Behind F S) (out : List ℕ) where
+module _ {F S : Type 0} (look : LookWords F) (store : StoreWords S) (kind : DigestKind) (id : ChunkId) (size : ℕ) (old new : Behind F S) (out : List ℕ) where
   abbrev w : Query
   w = chunk_of kind id size
 
   abbrev before : Shelf
-  before = shelf_of files place count old.shelf
+  before = shelf_of look.files look.place look.faults old.shelf
 
   abbrev after : Shelf
-  after = shelf_of files place count new.shelf
+  after = shelf_of look.files look.place look.faults new.shelf
 
   abbrev Ends : Result Got Refused → Type 0
-  Ends r = FromShelf files place count w old new r out ⊎ FromStores files place count holds said faults lacks asked queried w old new r out
+  Ends r = FromShelf look.files look.place look.faults w old new r out ⊎ FromStores look.files look.place look.faults store.holds store.said store.faults store.may_lack_memory store.asked store.queried w old new r out
 
   -- the stores were asked only where the shelf failed or lacks the chunk
   pub asks_through : (r : Result Got Refused) → Ends r
-      → (new.chain ≡ old.chain) ⊎ (AsksOnce asked queried id.0 old.chain new.chain × CacheFailed kind id.0 size (Some before) (Some after))
+      → (new.chain ≡ old.chain) ⊎ (AsksOnce store.asked store.queried id.0 old.chain new.chain × CacheFailed kind id.0 size (Some before) (Some after))
   asks_through r (inl from) = inl from.chain
   asks_through r (inr from) = inr (from.asks, unfound_failed kind id size before after from.unfound)
 
   pub asked_through : (r : Refused) → Ends (Err r) → r ≢ refused.Memory
-      → AsksOnce asked queried id.0 old.chain new.chain × CacheFailed kind id.0 size (Some before) (Some after)
+      → AsksOnce store.asked store.queried id.0 old.chain new.chain × CacheFailed kind id.0 size (Some before) (Some after)
   asked_through r (inl from) isnt = absurd (isnt from.answer)
   asked_through r (inr from) isnt = (from.asks, unfound_failed kind id size before after from.unfound)
 
-  module _ (cached maps : List (Map (List ℕ))) (told : cached_in (Some before) ≡ Some cached) (held : map holds old.chain.stores ≡ map Some maps) where
-    from_shelf : (got : Got) → IsWanted w (take got.size out) → FromShelf files place count w old new (Ok got) out → SomeGives kind id.0 size cached
+  module _ (cached maps : List (Map (List ℕ))) (told : cached_in (Some before) ≡ Some cached) (held : map store.holds old.chain.stores ≡ map Some maps) where
+    from_shelf : (got : Got) → IsWanted w (take got.size out) → FromShelf look.files look.place look.faults w old new (Ok got) out → SomeGives kind id.0 size cached
     from_shelf got right from =
         let at = told_at before.files cached told in
         let is = if_some (held_on before) (λ m. m id.0 ≡ Some (take got.size out)) (chunks at.0) (ap (option_map chunks) at.1) from.answer.2 in
         subst (SomeGives kind id.0 size) (sym at.2) (one_gives kind id.0 size (chunks at.0) (take got.size out, is, record { named = right.named; sized = right.sized }))
 
-    from_stores : (got : Got) → IsWanted w (take got.size out) → FromStores files place count holds said faults lacks asked queried w old new (Ok got) out
+    from_stores : (got : Got) → IsWanted w (take got.size out) → FromStores look.files look.place look.faults store.holds store.said store.faults store.may_lack_memory store.asked store.queried w old new (Ok got) out
         → SomeGives kind id.0 size maps
     from_stores got right from = holds_gives kind id size maps (take got.size out) right (from.had maps held)
 
@@ -117,18 +117,18 @@ module _ {F S : Type 0} (files : F → Option (Map (List ℕ))) (place : F → L
       cached_through got up below right (inl from) = by_cache kind id.0 size cached maps old.chain new.chain below from.chain (from_shelf got right from)
       cached_through got up below right (inr from) = absurd (true≢false (sym from.added.0 ∙ up))
 
-      pub refused_through : EachQuiet (map faults old.chain.stores) (map faults new.chain.stores) → (r : Refused) → Ends (Err r) → ObtainedBy (source_behind kind id.0 size cached maps) old.chain new.chain (Err r)
+      pub refused_through : EachQuiet (map store.faults old.chain.stores) (map store.faults new.chain.stores) → (r : Refused) → Ends (Err r) → ObtainedBy (source_behind kind id.0 size cached maps) old.chain new.chain (Err r)
       refused_through quiet r (inl from) =
           subst (λ (q : Refused). ObtainedBy (source_behind kind id.0 size cached maps) old.chain new.chain (Err q)) (sym from.answer)
           (by_want kind id.0 size cached maps old.chain new.chain)
       refused_through quiet r (inr from) =
           by_none kind id.0 size cached maps old.chain new.chain (unfound_never kind id size before after cached told still from.unfound) from.asks.calls r
           (lacked_memory kind id size maps r
-          (λ s is. quiet_never (slice_index (map faults old.chain.stores) s) (slice_index (map faults new.chain.stores) s) (quiet s) (from.cause s (ap (λ (q : Refused). Err q) is)))
+          (λ s is. quiet_never (slice_index (map store.faults old.chain.stores) s) (slice_index (map store.faults new.chain.stores) s) (quiet s) (from.cause s (ap (λ (q : Refused). Err q) is)))
           (from.first maps held))
 
 -- what was wanted is the chunk
-pub takes_wanted : {S : Type 0} (holds : S → Option (Map (List ℕ))) (kind : DigestKind) (id : ChunkId) (size : ℕ) (stores : List S) (q b : List ℕ)
-    → (q ≡ id.0) × IsWanted (chunk_of kind id size) b × SomeHolds holds stores q b → TakesChunk holds kind id.0 size stores q b
-takes_wanted holds kind id size stores q b (same, right, held) =
-    (same, record { named = right.named; sized = right.sized }, subst (λ (p : List ℕ). SomeHolds holds stores p b) same held)
+pub takes_wanted : {S : Type 0} (store : StoreWords S) (kind : DigestKind) (id : ChunkId) (size : ℕ) (stores : List S) (q b : List ℕ)
+    → (q ≡ id.0) × IsWanted (chunk_of kind id size) b × SomeHolds store.holds stores q b → TakesChunk store kind id.0 size stores q b
+takes_wanted store kind id size stores q b (same, right, held) =
+    (same, record { named = right.named; sized = right.sized }, subst (λ (p : List ℕ). SomeHolds store.holds stores p b) same held)

@@ -11,7 +11,7 @@ use Rattle.std.specs.Str.{bytes_eq}
 use Rattle.cache_store.specs.Giving.{SomeGives}
 use Rattle.chunk_sources.specs.Economy.{ObtainedBy, given_at, source_behind, is_chunk, seeds_give, source_among, stores_give, told_at}
 use Rattle.chunk_sources.specs.Sources.{GivesAt, HeldAt, SeedsGive}
-use Rattle.chunk_sources.specs.Wants.{IsAmong}
+use Rattle.chunk_sources.specs.Wants.{IsAmong, Wanted}
 use Rattle.chunk_store.specs.Giving.{GivesChunk, IsChunk}
 use Rattle.chunk_store.specs.Names.{name_of}
 use Rattle.chunk_store.specs.declared.id.DigestKind.{DigestKind}
@@ -118,29 +118,28 @@ module _ {S : Type 0} (kind : DigestKind) (id : List ℕ) (size : ℕ) (cached m
       | inr never ↦ rw (not_cached, never) (λ isnt. calls, inr refl)
     ]
 
-module _ (is_right : ℕ → Bool) (es : List ℕ) (views : List (Option Held)) (places : List SeedPlace) (kind : DigestKind) (id : List ℕ) (size : ℕ)
-    (cached maps : List (Map (List ℕ))) where
+module _ (is_right : ℕ → Bool) (q : Wanted) (views : List (Option Held)) (cached maps : List (Map (List ℕ))) where
   abbrev source : Fate
-  source = source_among is_right es views places kind id size cached maps
+  source = source_among is_right q views cached maps
 
-  pub kept_source : (i : ℕ) → IsAmong es i → is_right i ≡ true → source ≡ fate.Kept
-  kept_source i among is = rw (some_right is_right es i among is) refl
+  pub kept_source : (i : ℕ) → IsAmong q.entries i → is_right i ≡ true → source ≡ fate.Kept
+  kept_source i among is = rw (some_right is_right q.entries i among is) refl
 
   module _ {S : Type 0} (old new : Chained S) where
-    pub by_copy : old.asks < 2 ^ 64 → new ≡ old → (i : ℕ) → IsAmong es i → is_right i ≡ true → ObtainedBy source old new (Ok fate.Copied)
+    pub by_copy : old.asks < 2 ^ 64 → new ≡ old → (i : ℕ) → IsAmong q.entries i → is_right i ≡ true → ObtainedBy source old new (Ok fate.Copied)
     by_copy below same i among is =
         rw (kept_source i among is, same) (λ isnt. same_raised old.asks below, refl)
 
-    module _ (none : (i : ℕ) → IsAmong es i → is_right i ≡ true → ⊥) where
-      not_kept : list_any is_right es ≡ false
-      not_kept = none_right is_right es none
+    module _ (none : (i : ℕ) → IsAmong q.entries i → is_right i ≡ true → ⊥) where
+      not_kept : list_any is_right q.entries ≡ false
+      not_kept = none_right is_right q.entries none
 
-      pub by_seed : old.asks < 2 ^ 64 → new ≡ old → SeedsGive views places id → ObtainedBy source old new (Ok fate.Seeded)
+      pub by_seed : old.asks < 2 ^ 64 → new ≡ old → SeedsGive views q.places q.id → ObtainedBy source old new (Ok fate.Seeded)
       by_seed below same gives =
-          rw (not_kept, (seeds_decide views places id).1 gives, same) (λ isnt. same_raised old.asks below, refl)
+          rw (not_kept, (seeds_decide views q.places q.id).1 gives, same) (λ isnt. same_raised old.asks below, refl)
 
       -- where no seed gives it the cache and the stores are what is left
-      pub by_rest : (SeedsGive views places id → ⊥) → (r : Result Fate Refused) → ObtainedBy (source_behind kind id size cached maps) old new r → ObtainedBy source old new r
+      pub by_rest : (SeedsGive views q.places q.id → ⊥) → (r : Result Fate Refused) → ObtainedBy (source_behind q.kind q.id q.size cached maps) old new r → ObtainedBy source old new r
       by_rest seedless r got =
-          let not_seeded : seeds_give views places id ≡ false = false_from_ne_true (seeds_give views places id) (λ e. seedless ((seeds_decide views places id).0 e)) in
+          let not_seeded : seeds_give views q.places q.id ≡ false = false_from_ne_true (seeds_give views q.places q.id) (λ e. seedless ((seeds_decide views q.places q.id).0 e)) in
           rw (not_kept, not_seeded) got

@@ -7,15 +7,16 @@ use Rattle.caibx_codec.specs.Listing.{Listing, count_of, id_of, kind_of, size_of
 use Rattle.chunk_store.specs.Folders.{chunks}
 use Rattle.chunk_store.specs.Giving.{IsChunk}
 use Rattle.chunk_store.specs.declared.id.DigestKind.{DigestKind}
+use Rattle.chunk_store.specs.declared.store.Store.{Ghosts as StoreWords}
 use Rattle.dsy_base.specs.Counts.{Quiet, Rose}
 use Rattle.dsy_base.specs.Maps.{Map}
+use Rattle.dsy_base.specs.declared.look.Look.{Ghosts as LookWords}
 use Rattle.extract_plan.specs.Deal.{Deal, first_of, want_id}
 use Rattle.store_chain.specs.Giving.{SomeHolds}
 
 -- what is seen of it
-abbrev pub seen : {F : Type 0} → (F → Option (Map (List ℕ))) → (F → List ℕ) → (F → ℕ) → Option (Shelved F) →
-    Option Shelf
-seen files place faults cache = option_map (shelf_of files place faults) cache
+abbrev pub seen : {F : Type 0} → LookWords F → Option (Shelved F) → Option Shelf
+seen look cache = option_map (shelf_of look.files look.place look.faults) cache
 
 -- the chunks that it holds, where it tells them: one map. Where there is no cache there is none
 abbrev pub cached_in : Option Shelf → Option (List (Map (List ℕ)))
@@ -45,20 +46,18 @@ Stocked Takes (Some s) None = ⊥
 Stocked Takes (Some s) (Some t) = Stocks Takes s t
 
 -- what is added for a chunk of this id and size: that chunk, which some store holds
-abbrev pub TakesChunk : {S : Type 0} → (S → Option (Map (List ℕ))) → DigestKind → List ℕ → ℕ → List S → List ℕ → List ℕ
-    → Type 0
-TakesChunk holds kind id size stores q b = (q ≡ id) × IsChunk kind id size b × SomeHolds holds stores id b
+abbrev pub TakesChunk : {S : Type 0} → StoreWords S → DigestKind → List ℕ → ℕ → List S → List ℕ → List ℕ → Type 0
+TakesChunk store kind id size stores q b = (q ≡ id) × IsChunk kind id size b × SomeHolds store.holds stores id b
 
 -- what is added for these wants
-abbrev pub TakesWants : {S : Type 0} → (S → Option (Map (List ℕ))) → Listing → Deal → (ℕ → Type 0) → List S → List ℕ
-    → List ℕ → Type 0
-TakesWants holds l d Among stores q b = (w : ℕ) × Among w
-    × TakesChunk holds (kind_of l) (want_id l d w) (size_of l (first_of d w)) stores q b
+abbrev pub TakesWants : {S : Type 0} → StoreWords S → Listing → Deal → (ℕ → Type 0) → List S → List ℕ → List ℕ → Type 0
+TakesWants store l d Among stores q b = (w : ℕ) × Among w
+    × TakesChunk store (kind_of l) (want_id l d w) (size_of l (first_of d w)) stores q b
 
 -- what is added for the entries of an index
-abbrev pub TakesListed : {S : Type 0} → (S → Option (Map (List ℕ))) → Listing → List S → List ℕ → List ℕ → Type 0
-TakesListed holds l stores q b = (i : ℕ) × (i < count_of l)
-    × TakesChunk holds (kind_of l) (id_of l i) (size_of l i) stores q b
+abbrev pub TakesListed : {S : Type 0} → StoreWords S → Listing → List S → List ℕ → List ℕ → Type 0
+TakesListed store l stores q b = (i : ℕ) × (i < count_of l)
+    × TakesChunk store (kind_of l) (id_of l i) (size_of l i) stores q b
 
 -- the index lists the id with this size
 abbrev pub IsListedAs : Listing → List ℕ → ℕ → Type 0
@@ -72,9 +71,9 @@ HaveOneSize l cache cached maps = IsSome cache → GiveOneSize (IsListedAs l) (k
 -- the cache gives the chunk, and doesn't fail; and of the sizes that the index lists with the id, the stores hold
 -- chunks of this one alone, so that no other chunk is added under the id. So it is where the index lists the id with
 -- one size
-pub record CacheGives {S : Type 0} (holds : S → Option (Map (List ℕ))) (l : Listing) (stores : List S) (id : List ℕ)
-    (size : ℕ) (old new : Option Shelf) : Type 0 where
+pub record CacheGives {S : Type 0} (store : StoreWords S) (l : Listing) (stores : List S) (id : List ℕ) (size : ℕ)
+    (old new : Option Shelf) : Type 0 where
   pub gives : IsSomeAnd (cached_in old) (SomeGives (kind_of l) id size)
   pub sound : Quiet (cache_faults old) (cache_faults new)
-  pub one_size : (n : ℕ) (b : List ℕ) → IsListedAs l id n → IsChunk (kind_of l) id n b → SomeHolds holds stores id b
+  pub one_size : (n : ℕ) (b : List ℕ) → IsListedAs l id n → IsChunk (kind_of l) id n b → SomeHolds store.holds stores id b
       → n ≡ size

@@ -1,17 +1,15 @@
 -- Where a chunk comes from where nothing fails, and what that costs.
 use Rattle.std.specs.Prelude.{◌≡◌, ◌≢◌, ◌⊎◌, ◌&&◌, ◌==◌, ℕ, List, length, nat_le, slice_index_or, Bool}
-use Rattle.std.specs.Prelude.{true, false, if◌then◌else◌, Option, Some, None, Result, Ok, Err}
+use Rattle.std.specs.Prelude.{false, if◌then◌else◌, Option, Some, None, Result, Ok, Err}
 use Rattle.std.specs.List.{list_any}
 use Rattle.std.specs.Str.{bytes_eq}
-use Rattle.caibx_codec.specs.Listing.{Listing, kind_of, size_of}
+use Rattle.chunk_sources.specs.Wants.{Task, Wanted, want_chunk}
 use Rattle.chunk_store.specs.Names.{name_of}
 use Rattle.chunk_store.specs.declared.id.DigestKind.{DigestKind}
 use Rattle.chunk_store.specs.declared.id.DigestKind.TheVariants.{Sha512T256}
 use Rattle.dsy_base.specs.Bytes.{Held}
 use Rattle.dsy_base.specs.Counts.{raised}
 use Rattle.dsy_base.specs.Maps.{Map}
-use Rattle.extract_plan.specs.Deal.{first_of, of_want, want_id, Deal}
-use Rattle.extract_plan.specs.Places.{Placed, places_at}
 use Rattle.extract_plan.specs.Seeds.{bytes_at, place_end}
 use Rattle.extract_plan.specs.declared.seed.SeedPlace.{SeedPlace}
 use Rattle.range_survey.specs.Fates.{is_right_at}
@@ -55,23 +53,19 @@ source_behind kind id size cached maps =
 
 -- where a chunk comes from: one of its entries that is right already, or else a seed, or else the cache, or else a
 -- store; Open where no source gives it
-abbrev pub source_among : (ℕ → Bool) → List ℕ → List (Option Held) → List SeedPlace → DigestKind → List ℕ → ℕ
-    → List (Map (List ℕ)) → List (Map (List ℕ)) → Fate
-source_among is_right entries views places kind id size cached maps =
-    if list_any is_right entries then fate.Kept
-    else if seeds_give views places id then fate.Seeded
-    else source_behind kind id size cached maps
+abbrev pub source_among : (ℕ → Bool) → Wanted → List (Option Held) → List (Map (List ℕ)) → List (Map (List ℕ)) → Fate
+source_among is_right q views cached maps =
+    if list_any is_right q.entries then fate.Kept
+    else if seeds_give views q.places q.id then fate.Seeded
+    else source_behind q.kind q.id q.size cached maps
 
 -- where the chunk of want w does
-abbrev pub source_over : Listing → Deal → Placed → (ℕ → Bool) → List (Option Held) → List (Map (List ℕ))
-    → List (Map (List ℕ)) → ℕ → Fate
-source_over l d x is_right views cached maps w = source_among is_right (of_want d w) views (places_at x w) (kind_of l)
-    (want_id l d w) (size_of l (first_of d w)) cached maps
+abbrev pub source_over : Task → (ℕ → Bool) → List (Option Held) → List (Map (List ℕ)) → List (Map (List ℕ)) → ℕ → Fate
+source_over t is_right views cached maps w = source_among is_right (want_chunk t w) views cached maps
 
 -- over the base of an extraction
-abbrev pub source_of : Listing → Deal → Placed → List ℕ → List (Option Held) → List (Map (List ℕ)) → List (Map (List ℕ))
-    → ℕ → Fate
-source_of l d x base views cached maps w = source_over l d x (is_right_at l base) views cached maps w
+abbrev pub source_of : Task → List ℕ → List (Option Held) → List (Map (List ℕ)) → List (Map (List ℕ)) → ℕ → Fate
+source_of t base views cached maps w = source_over t (is_right_at t.listing base) views cached maps w
 
 -- ---- what that costs
 
@@ -92,15 +86,6 @@ origin_of fate.Copied = fate.Copied
 origin_of fate.Seeded = fate.Seeded
 origin_of fate.Cached = fate.Cached
 origin_of fate.Fetched = fate.Fetched
-
--- the fates of entries that were made right
-abbrev pub is_made : Fate → Bool
-is_made fate.Open = false
-is_made fate.Kept = false
-is_made fate.Copied = true
-is_made fate.Seeded = true
-is_made fate.Cached = true
-is_made fate.Fetched = true
 
 -- what is answered for a chunk with this source, where nothing fails. Want of memory is free
 abbrev pub AnsweredBy : Fate → Result Fate Refused → Type 0

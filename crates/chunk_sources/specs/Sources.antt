@@ -6,12 +6,15 @@ use Rattle.cache_store.specs.Shelves.{Shelf}
 use Rattle.chunk_sources.specs.Caches.{cache_faults, cached_in}
 use Rattle.chunk_store.specs.Names.{name_of}
 use Rattle.chunk_store.specs.declared.id.DigestKind.TheVariants.{Sha512T256}
+use Rattle.chunk_store.specs.declared.store.Store.{Ghosts as StoreWords}
 use Rattle.dsy_base.specs.Bytes.{Held}
 use Rattle.dsy_base.specs.Counts.{Quiet, Rose}
 use Rattle.dsy_base.specs.Maps.{Map}
+use Rattle.dsy_base.specs.declared.view.View.{Ghosts as ViewWords}
 use Rattle.extract_plan.specs.Seeds.{bytes_at, faults_in, seed_held, place_end}
 use Rattle.extract_plan.specs.declared.seed.Seed.{Seed}
 use Rattle.extract_plan.specs.declared.seed.SeedPlace.{SeedPlace}
+use Rattle.store_chain.specs.Chains.{Chained}
 use Rattle.store_chain.specs.Faults.{EachQuiet, NoneFalls}
 
 -- a view with this stands at the place, inside it, and the bytes there are told and have the id
@@ -32,24 +35,40 @@ abbrev pub SeedsFailed : List (Option Held) → List SeedPlace → List ℕ → 
 SeedsFailed views places id old new =
     All (λ p. HeldAt views p id → Rose (slice_index old p.seed) (slice_index new p.seed)) places
 
+-- what the views of seeds hold, and how often each has failed
+abbrev pub views_of : {V : Type 0} → ViewWords V → List (Seed V) → List (Option Held)
+views_of view seeds = map (seed_held view.held) seeds
+
+abbrev pub counts_of : {V : Type 0} → ViewWords V → List (Seed V) → List ℕ
+counts_of view seeds = map (faults_in view.faults) seeds
+
 -- the seeds hold what they held, and no count of their faults has fallen
-pub record KeepsSeeds {V : Type 0} (view : V → Held) (view_faults : V → ℕ) (old new : List (Seed V)) : Type 0 where
-  pub held : map (seed_held view) new ≡ map (seed_held view) old
-  pub never_fall : NoneFalls (map (faults_in view_faults) old) (map (faults_in view_faults) new)
+pub record KeepsSeeds {V : Type 0} (view : ViewWords V) (old new : List (Seed V)) : Type 0 where
+  pub held : views_of view new ≡ views_of view old
+  pub never_fall : NoneFalls (counts_of view old) (counts_of view new)
 
 -- where there is a seed with a view, whose type tells so
 abbrev pub Telling : Bool → List (Option Held) → Type 0
 Telling tells views = Any (λ v. IsSome v) views → IsTrue tells
 
--- nothing fails that chunks come from: the target, the seeds, the cache and the stores, which hold these maps, are
--- quiet, and the seeds' views tell, where there are any
-pub record SourcesQuiet {S V : Type 0} (holds : S → Option (Map (List ℕ))) (store_faults : S → ℕ) (view : V → Held)
-    (view_faults : V → ℕ) (tells : Bool) (old new : ℕ) (s0 s1 : List (Seed V)) (e0 e1 : Option Shelf) (c0 c1 : List S)
+-- what chunks are got from, as it stands: how often the target has failed, the seeds, the cache, and the chain
+pub record Sources (S V : Type 0) : Type 0 where
+  pub faults : ℕ
+  pub seeds : List (Seed V)
+  pub cache : Option Shelf
+  pub chain : Chained S
+
+abbrev pub sources : {S V : Type 0} → ℕ → List (Seed V) → Option Shelf → Chained S → Sources S V
+sources faults seeds cache chain = record { faults = faults; seeds = seeds; cache = cache; chain = chain }
+
+-- nothing of it fails: the target, the seeds, the cache and the stores, which hold these maps, are quiet, and the seeds'
+-- views tell, where there are any
+pub record SourcesQuiet {S V : Type 0} (store : StoreWords S) (view : ViewWords V) (old new : Sources S V)
     (cached maps : List (Map (List ℕ))) : Type 0 where
-  pub target : Quiet old new
-  pub telling : Telling tells (map (seed_held view) s0)
-  pub seeds : EachQuiet (map (faults_in view_faults) s0) (map (faults_in view_faults) s1)
-  pub told_cache : cached_in e0 ≡ Some cached
-  pub cache : Quiet (cache_faults e0) (cache_faults e1)
-  pub told : map holds c0 ≡ map Some maps
-  pub stores : EachQuiet (map store_faults c0) (map store_faults c1)
+  pub target : Quiet old.faults new.faults
+  pub telling : Telling view.tells (views_of view old.seeds)
+  pub seeds : EachQuiet (counts_of view old.seeds) (counts_of view new.seeds)
+  pub told_cache : cached_in old.cache ≡ Some cached
+  pub cache : Quiet (cache_faults old.cache) (cache_faults new.cache)
+  pub told : map store.holds old.chain.stores ≡ map Some maps
+  pub stores : EachQuiet (map store.faults old.chain.stores) (map store.faults new.chain.stores)

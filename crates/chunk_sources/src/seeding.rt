@@ -1,12 +1,11 @@
 //! Chunks from seeds. Seeds count from 0.
 
 ghost use Rattle.std.specs.Prelude.{◌≡◌, ◌<◌, length, map, slice_index, true, false};
-ghost use Rattle.chunk_sources.specs.Sources.{HeldAt, SeedsFailed, SeedsGive, Telling};
+ghost use Rattle.chunk_sources.specs.Sources.{HeldAt, SeedsFailed, SeedsGive, Telling, counts_of, views_of};
 ghost use Rattle.chunk_store.specs.Names.{name_of};
 ghost use Rattle.chunk_store.specs.declared.id.DigestKind.TheVariants as kinds;
 ghost use Rattle.dsy_base.specs.Counts.{Rose};
 ghost use Rattle.extract_plan.specs.Places.{PlacesFit};
-ghost use Rattle.extract_plan.specs.Seeds.{faults_in, seed_held};
 ghost use Rattle.store_chain.specs.Faults.{NoneFalls};
 
 use chunk_store::id::ChunkId;
@@ -23,13 +22,13 @@ fn from_seed<V: View>(
     requires seed { place.now.seed < length seeds.old }
     requires size { place.now.size ≡ length chunk.old }
     ensures ok { result ≡ true → name_of kinds.Sha512T256 chunk.new ≡ id.now.0 }
-    ensures found { result ≡ true → Telling V.tells (map (seed_held V.held) seeds.old) →
-        HeldAt (map (seed_held V.held) seeds.old) place.now id.now.0 }
-    ensures absent { result ≡ false → HeldAt (map (seed_held V.held) seeds.old) place.now id.now.0 → Rose
-        (slice_index (map (faults_in V.faults) seeds.old) place.now.seed)
-        (slice_index (map (faults_in V.faults) seeds.new) place.now.seed) }
-    ensures kept { map (seed_held V.held) seeds.new ≡ map (seed_held V.held) seeds.old }
-    ensures faults { NoneFalls (map (faults_in V.faults) seeds.old) (map (faults_in V.faults) seeds.new) }
+    ensures found { result ≡ true → Telling V.tells (views_of V.View seeds.old) →
+        HeldAt (views_of V.View seeds.old) place.now id.now.0 }
+    ensures absent { result ≡ false → HeldAt (views_of V.View seeds.old) place.now id.now.0 → Rose
+        (slice_index (counts_of V.View seeds.old) place.now.seed)
+        (slice_index (counts_of V.View seeds.new) place.now.seed) }
+    ensures kept { views_of V.View seeds.new ≡ views_of V.View seeds.old }
+    ensures faults { NoneFalls (counts_of V.View seeds.old) (counts_of V.View seeds.new) }
 {
     match seed_gives(&mut seeds[place.seed as usize], place, id, chunk) {
         SeedAnswer::Given => true,
@@ -47,12 +46,12 @@ pub fn from_seeds<V: View>(
 ) -> bool
     requires { PlacesFit (length seeds.old) (length chunk.old) places.now }
     ensures ok { result ≡ true → name_of kinds.Sha512T256 chunk.new ≡ id.now.0 }
-    ensures found { result ≡ true → Telling V.tells (map (seed_held V.held) seeds.old) →
-        SeedsGive (map (seed_held V.held) seeds.old) places.now id.now.0 }
-    ensures absent { result ≡ false → SeedsFailed (map (seed_held V.held) seeds.old) places.now id.now.0
-        (map (faults_in V.faults) seeds.old) (map (faults_in V.faults) seeds.new) }
-    ensures kept { map (seed_held V.held) seeds.new ≡ map (seed_held V.held) seeds.old }
-    ensures faults { NoneFalls (map (faults_in V.faults) seeds.old) (map (faults_in V.faults) seeds.new) }
+    ensures found { result ≡ true → Telling V.tells (views_of V.View seeds.old) →
+        SeedsGive (views_of V.View seeds.old) places.now id.now.0 }
+    ensures absent { result ≡ false → SeedsFailed (views_of V.View seeds.old) places.now id.now.0
+        (counts_of V.View seeds.old) (counts_of V.View seeds.new) }
+    ensures kept { views_of V.View seeds.new ≡ views_of V.View seeds.old }
+    ensures faults { NoneFalls (counts_of V.View seeds.old) (counts_of V.View seeds.new) }
 {
     for place in places {
         if from_seed(place, seeds, id, chunk) {

@@ -5,13 +5,14 @@ ghost use Rattle.std.specs.Prelude.{IfOk, IfErr, OnOk};
 ghost use Rattle.cache_store.specs.Giving.{SomeGives};
 ghost use Rattle.chunk_sources.specs.Caches.{CacheFailed, CacheLacks, Stocked, TakesChunk, cache_faults, cached_in};
 ghost use Rattle.chunk_sources.specs.Caches.{seen};
-ghost use Rattle.chunk_sources.specs.Economy.{ObtainedBy, is_made, source_behind};
-ghost use Rattle.chunk_sources.specs.Losses.{RefusedBy, chunk_of};
+ghost use Rattle.chunk_sources.specs.Economy.{ObtainedBy, source_behind};
+ghost use Rattle.chunk_sources.specs.Losses.{MayLack, RefusedBy, chunk_of};
+ghost use Rattle.chunk_store.specs.Asks.{Get};
 ghost use Rattle.chunk_store.specs.Names.{name_of};
 ghost use Rattle.dsy_base.specs.Counts.{Quiet};
 ghost use Rattle.dsy_base.specs.Maps.{Map};
-ghost use Rattle.range_survey.specs.Fates.{is_settled};
-ghost use Rattle.store_chain.specs.Chains.{AsksOnce, KeepsHeld};
+ghost use Rattle.range_survey.specs.Fates.{is_made, is_settled};
+ghost use Rattle.store_chain.specs.Chains.{AsksOnce, KeepsStores};
 ghost use Rattle.store_chain.specs.Faults.{EachQuiet};
 
 use cache_store::cached::obtain_through;
@@ -32,35 +33,36 @@ pub(crate) fn from_upstream<S: Store, F: Folder>(
     chunk: &mut [u8],
 ) -> Result<Fate, Refused>
     requires unnamed { (F.pairs ≡ None) × (F.stores ≡ None) }
-    requires kind { IfSome (seen F.files F.place F.faults cache.old) (λ s. s.kind ≡ chain.old.kind) }
+    requires kind { IfSome (seen F.Look cache.old) (λ s. s.kind ≡ chain.old.kind) }
     requires asks { chain.old.asks < 2 ^ 64 }
     ensures ok { OnOk result (name_of chain.old.kind chunk.new ≡ id.now.0) }
     ensures origin { IfOk result (λ f. is_settled f ≡ true) }
     ensures made { IfOk result (λ f. is_made f ≡ true) }
-    ensures had { (cached maps : List (Map (List ℕ))) → cached_in (seen F.files F.place F.faults cache.old) ≡ Some
+    ensures had { (cached maps : List (Map (List ℕ))) → cached_in (seen F.Look cache.old) ≡ Some
         cached → map S.holds chain.old.stores ≡ map Some maps →
         OnOk result (SomeGives chain.old.kind id.now.0 (length chunk.old) (cached ++ maps)) }
-    ensures refused { IfErr result (λ r. r ≢ Refused.Memory → RefusedBy S.holds S.said S.faults S.may_lack_memory
+    ensures refused { IfErr result (λ r. r ≢ Refused.Memory → RefusedBy S.Store
         (chunk_of chain.old.kind id.now (length chunk.old)) chain.old.stores chain.new.stores r) }
+    ensures memory { IfErr result (λ r. r ≡ Refused.Memory → MayLack S.Store (seen F.Look cache.old)) }
     ensures missed { IfErr result (λ r. r ≢ Refused.Memory → CacheLacks chain.old.kind id.now.0 (length chunk.old)
-        (seen F.files F.place F.faults cache.old) (seen F.files F.place F.faults cache.new)) }
+        (seen F.Look cache.old) (seen F.Look cache.new)) }
     ensures asks { (chain.new ≡ chain.old) ⊎ (AsksOnce S.asked S.queried id.now.0 chain.old chain.new
-        × CacheFailed chain.old.kind id.now.0 (length chunk.old) (seen F.files F.place F.faults cache.old)
-        (seen F.files F.place F.faults cache.new)) }
+        × CacheFailed chain.old.kind id.now.0 (length chunk.old) (seen F.Look cache.old)
+        (seen F.Look cache.new)) }
     ensures asked { IfErr result (λ r. r ≢ Refused.Memory → AsksOnce S.asked S.queried id.now.0 chain.old chain.new
-        × CacheFailed chain.old.kind id.now.0 (length chunk.old) (seen F.files F.place F.faults cache.old)
-        (seen F.files F.place F.faults cache.new)) }
+        × CacheFailed chain.old.kind id.now.0 (length chunk.old) (seen F.Look cache.old)
+        (seen F.Look cache.new)) }
 
     // Where nothing fails.
-    ensures exactly { (cached maps : List (Map (List ℕ))) → cached_in (seen F.files F.place F.faults cache.old) ≡ Some
-        cached → Quiet (cache_faults (seen F.files F.place F.faults cache.old))
-        (cache_faults (seen F.files F.place F.faults cache.new)) → map S.holds chain.old.stores ≡ map Some maps →
+    ensures exactly { (cached maps : List (Map (List ℕ))) → cached_in (seen F.Look cache.old) ≡ Some
+        cached → Quiet (cache_faults (seen F.Look cache.old))
+        (cache_faults (seen F.Look cache.new)) → map S.holds chain.old.stores ≡ map Some maps →
         EachQuiet (map S.faults chain.old.stores) (map S.faults chain.new.stores) →
         ObtainedBy (source_behind chain.old.kind id.now.0 (length chunk.old) cached maps) chain.old chain.new result }
 
-    ensures stocked { Stocked (TakesChunk S.holds chain.old.kind id.now.0 (length chunk.old) chain.old.stores)
-        (seen F.files F.place F.faults cache.old) (seen F.files F.place F.faults cache.new) }
-    ensures stores { KeepsHeld S.holds S.folder S.place S.said S.faults chain.old.stores chain.new.stores }
+    ensures stocked { Stocked (TakesChunk S.Store chain.old.kind id.now.0 (length chunk.old) chain.old.stores)
+        (seen F.Look cache.old) (seen F.Look cache.new) }
+    ensures stores { KeepsStores S.Store (λ a. a ≡ Get id.now.0) chain.old.stores chain.new.stores }
     ensures same_kind { chain.new.kind ≡ chain.old.kind }
 {
     let size = Some(chunk.len());

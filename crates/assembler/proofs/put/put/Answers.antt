@@ -5,7 +5,7 @@ use Rattle.dsy_base.specs.declared.fault.Failed.{Failed}
 use Rattle.range_survey.specs.Fates.{fate_at, is_settled, settled}
 use Rattle.range_survey.specs.declared.fate.Fate.{Fate}
 use Rattle.range_survey.specs.declared.fate.Fate.TheVariants as fate
-use Rattle.assembler.specs.Fills.{Grows}
+use Rattle.range_ledger.specs.Fills.{Grows}
 use Rattle.assembler.proofs.Filled.{grows_on, rose_still, settled_on, told_on, torn_on, torn_still}
 use Rattle.assembler.proofs.Tallies.{put_passed, put_some, put_written}
 use Rattle.caibx_codec.specs.Listing.{count_of}
@@ -59,51 +59,52 @@ module _ (m0 m1 m2 : List Fate) (grows : Grows m1 m2) (es : List ℕ) (n : ℕ) 
 
 pub loop-entry-preserved : goal.loop-entry-preserved
 loop-entry-preserved g c =
-    let l = c.args.index.now in
+    let e = g.E.Ledger in
+    let l = e.run.listing in
     let es = c.args.entries.now in
     let n = c.loop-entry.entry-index in
-    let held = g.T.View.held in
-    let t0 = c.args.target.now in
-    let t1 = c.loop-entry.target in
-    let t2 = c.put_one.new.target in
-    let a = g.T.View.faults t0 in
-    let b = g.T.View.faults t1 in
-    let d = g.T.View.faults t2 in
-    let m0 = c.args.fates.now in
-    let m1 = c.loop-entry.fates in
-    let m2 = c.put_one.new.fates in
+    let held = e.held in
+    let t0 = c.args.ledger.now in
+    let t1 = c.loop-entry.ledger in
+    let t2 = c.put.new.self in
+    let a = e.faults t0 in
+    let b = e.faults t1 in
+    let d = e.faults t2 in
+    let m0 = e.fates t0 in
+    let m1 = e.fates t1 in
+    let m2 = e.fates t2 in
     let inv = c.loop-entry.invariant in
-    let ens = c.put_one.ensures in
-    let told = g.met.T.View.told in
+    let ens = c.put.ensures in
     let listed : slice_index es n < count_of l = c.requires.entries n c.loop-entry-test.true in
-    let inside : slice_index es n < length m1 = omega (arith, listed, c.requires.fates, inv.grows.size) in
+    let inside : slice_index es n < length m1 = omega (arith, listed, c.rules.ensures.counted, inv.grows.size) in
+    let xy = sym inv.tells in
+    let yz = sym ens.tells in
     record {
-      next = elim c.match-put_one.branch [
+      next = elim c.match-put.branch [
         | in-Ok-true w ↦ inr w.fate-is
         | in-Ok-false w ↦ rw w.fate-is inv.next
         | in-Err w ↦ rw w.fate-is inv.next
       ];
-      ok = elim c.match-put_one.branch [
+      ok = elim c.match-put.branch [
         | in-Ok-true w ↦ rw w.ended-is (on_ok c.loop-entry.ended (all_on m0 m1 m2 ens.grows es n ens.others w.in-Ok-true.ensures.ok) inv.ok)
         | in-Ok-false w ↦ rw w.ended-is (on_ok c.loop-entry.ended (all_on m0 m1 m2 ens.grows es n ens.others w.in-Ok-false.ensures.ok) inv.ok)
         | in-Err w ↦ rw w.ended-is tt
       ];
       origin = origin_on m0 m1 m2 ens.grows es n ens.others c.args.origin c.loop-entry.fate inv.next ens.origin inv.origin;
       only = among_on m0 m1 m2 ens.grows es n ens.others inv.only;
-      tallied = elim c.match-put_one.branch [
+      tallied = elim c.match-put.branch [
         | in-Ok-true w ↦ rw (w.ended-is, w.fate-is) (on_ok c.loop-entry.ended (put_written c.args.origin c.loop-entry.fate es n (count_of l) m0 m1 m2 inside listed (ens.changed (w.in-Ok-true.is ∙ ap Ok w.in-Ok-true.field-0-test)).0 (ens.changed (w.in-Ok-true.is ∙ ap Ok w.in-Ok-true.field-0-test)).1) inv.tallied)
         | in-Ok-false w ↦ rw (w.ended-is, w.fate-is) (on_ok c.loop-entry.ended (put_passed c.args.origin c.loop-entry.fate es n (count_of l) m0 m1 m2 (ens.kept (w.in-Ok-false.is ∙ ap Ok w.in-Ok-false.field-0-test)).0 (ens.kept (w.in-Ok-false.is ∙ ap Ok w.in-Ok-false.field-0-test)).1) inv.tallied)
         | in-Err w ↦ rw w.ended-is tt
       ];
       grows = grows_on m0 m1 m2 inv.grows ens.grows;
-      bytes = told_on l m0 m1 m2 a b d (held t0).bytes (held t1).bytes (held t2).bytes (told t0 ∙ sym (told t1)) (told t1 ∙ sym (told t2)) ens.faults inv.grows ens.grows inv.bytes ens.bytes;
+      bytes = told_on l m0 m1 m2 a b d (held t0).bytes (held t1).bytes (held t2).bytes xy yz ens.faults inv.grows ens.grows inv.bytes ens.bytes;
+      tells = ens.tells ∙ inv.tells;
       name = ens.name ∙ inv.name;
       size = ens.size ∙ inv.size;
       never_falls = omega (arith, inv.never_falls, ens.faults);
       failed =
-          let xy = told t0 ∙ sym (told t1) in
-          let yz = told t1 ∙ sym (told t2) in
-          elim c.match-put_one.branch [
+          elim c.match-put.branch [
             | in-Ok-true w ↦ rw w.ended-is (on_err c.loop-entry.ended (λ f. (f.0, f.1, torn_still l m0 m1 m2 a b d f.0 ens.faults inv.grows ens.grows (held t0).bytes (held t1).bytes (held t2).bytes xy yz f.2 ens.bytes)) inv.failed)
             | in-Ok-false w ↦ rw w.ended-is (on_err c.loop-entry.ended (λ f. (f.0, f.1, torn_still l m0 m1 m2 a b d f.0 ens.faults inv.grows ens.grows (held t0).bytes (held t1).bytes (held t2).bytes xy yz f.2 ens.bytes)) inv.failed)
             | in-Err w ↦ rw w.ended-is (
@@ -112,7 +113,7 @@ loop-entry-preserved g c =
               torn_on l m0 m1 m2 a b d (slice_index es n) ens.faults inv.grows ens.grows (held t0).bytes (held t1).bytes (held t2).bytes xy yz inv.bytes w.in-Err.ensures.failed,
             )
           ];
-      cause = elim c.match-put_one.branch [
+      cause = elim c.match-put.branch [
         | in-Ok-true w ↦ rw w.ended-is (on_err c.loop-entry.ended (rose_still a b d ens.faults) inv.cause)
         | in-Ok-false w ↦ rw w.ended-is (on_err c.loop-entry.ended (rose_still a b d ens.faults) inv.cause)
         | in-Err w ↦ rw w.ended-is (rose_later a b d inv.never_falls w.in-Err.ensures.cause)
@@ -122,5 +123,5 @@ loop-entry-preserved g c =
 pub returns-clause-tallied : goal.returns-clause-tallied
 returns-clause-tallied g c =
     on_ok c.loop-entry.ended
-    (put_some c.args.origin c.loop-entry.fate c.args.entries.now c.loop-entry.entry-index (count_of c.args.index.now) c.args.fates.now c.loop-entry.fates (omega (arith, c.loop-entry-test.false)))
+    (put_some c.args.origin c.loop-entry.fate c.args.entries.now c.loop-entry.entry-index (count_of g.E.Ledger.run.listing) (g.E.Ledger.fates c.args.ledger.now) (g.E.Ledger.fates c.loop-entry.ledger) (omega (arith, c.loop-entry-test.false)))
     c.loop-entry.invariant.tallied

@@ -4,4 +4,4 @@ use Rattle.assembler.proofs.settle.first_open.Given as goal
 
 -- each entry that was passed is settled
 abbrev pub invariant-loop-entry : goal.invariant-loop-entry
-invariant-loop-entry l = (k : ℕ) → k < l.entry-index → settled l.fates (slice_index l.entries k) ≡ true
+invariant-loop-entry g l = (k : ℕ) → k < l.entry-index → settled (g.E.Ledger.fates l.ledger) (slice_index l.entries k) ≡ true

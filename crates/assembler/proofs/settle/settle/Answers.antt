@@ -1,177 +1,211 @@
-use Rattle.std.proofs.Common.{◌≡◌, ◌∙◌, ◌++◌, ℕ, List, length, map, false, inl, inr, ⊎_elim, ap, sym, subst, arith, Option}
+use Rattle.std.proofs.Common.{◌≡◌, ◌∙◌, ◌<◌, ◌++◌, ℕ, List, length, Option, Result, OnOk, Ok, Err, refl, inl, ap, sym, subst, arith}
+use Rattle.std.proofs.lemmas.Bool.{true≢false}
 use Rattle.std.proofs.lemmas.List.{with_items_is}
-use Rattle.assembler.proofs.Settled.{all_as, all_kept, asked_as, first_open, fit, had_as, inside, listed, refused_as, settles_as, takes_as, where_both, where_map}
 use Rattle.assembler.proofs.EconomySettled.{settles_kept}
-use Rattle.chunk_sources.proofs.SeedAnswers.{telling_on}
-use Rattle.chunk_sources.proofs.Cached.{stocked_none, stocked_wider}
+use Rattle.assembler.proofs.Settled.{all_as, all_kept, asks_as, first_open, fit, inside, keeps_as, last_as, listed, refused_as, same_chunk, takes_as, where_both, where_map}
+use Rattle.assembler.proofs.Stepped.{stretch_none}
+use Rattle.assembler.specs.Economy.{SettlesBy}
+use Rattle.assembler.specs.Stages.{stage, task}
+use Rattle.caibx_codec.specs.Listing.{Listing, count_of, id_of, kind_of, size_of}
+use Rattle.chunk_sources.proofs.Cached.{stocked_wider}
 use Rattle.chunk_sources.specs.Caches.{CacheLacks, TakesChunk, TakesWants, seen}
-use Rattle.chunk_sources.specs.Economy.{source_over}
-use Rattle.chunk_sources.specs.Sources.{KeepsSeeds}
-use Rattle.chunk_sources.specs.Wants.{IsAmong}
-use Rattle.extract_plan.specs.Deal.{of_want}
-use Rattle.assembler.proofs.Stepped.{step_none}
-use Rattle.caibx_codec.specs.Listing.{id_of, kind_of, size_of, count_of}
+use Rattle.chunk_sources.specs.Economy.{source_among, source_over}
+use Rattle.chunk_sources.specs.Losses.{Had}
+use Rattle.chunk_sources.specs.Sources.{KeepsSeeds, SourcesQuiet, Telling, sources, views_of}
+use Rattle.chunk_sources.specs.Wants.{IsAmong, Wanted}
 use Rattle.chunk_store.specs.declared.id.ChunkId.{ChunkId}
+use Rattle.assembler.specs.declared.fault.Unsettled.{Unsettled}
+use Rattle.std.specs.Vec.{with_items}
 use Rattle.extract_plan.specs.Places.{PlacesFit}
-use Rattle.extract_plan.specs.Seeds.{faults_in, seed_held}
-use Rattle.range_survey.specs.Fates.{settled}
 use Rattle.extract_plan.specs.declared.seed.Seed.{Seed}
-use Rattle.store_chain.specs.Faults.{EachQuiet}
-use Rattle.assembler.proofs.settle.settle.Goals as goal
+use Rattle.range_survey.specs.Fates.{settled}
 use Rattle.assembler.proofs.settle.settle.Given.{Over}
+use Rattle.assembler.proofs.settle.settle.Goals as goal
+use Rattle.assembler.proofs.settle.settle.Goals.{In-Some, After-entry}
 use Rattle.cache_store.specs.Shelves.{Shelf, Shelved}
+
+on_ok : {P Q : Type 0} (r : Result Unit Unsettled) → (P → Q) → OnOk r P → OnOk r Q
+on_ok (Ok x) f p = f p
+on_ok (Err e) f p = tt
 
 -- what is seen of a cache
 abbrev see : (g : Over) → Option (Shelved g.row.F.Denot) → Option Shelf
-see g = seen g.F.Look.files g.F.Look.place g.F.Look.faults
+see g = seen g.F.Look
 
 pub first_open-requires : goal.first_open-requires
-first_open-requires g c = inside c.args.index.now c.args.plan.now c.args.want c.requires.ready.wants c.requires.want c.entries-entries.result.now c.entries-entries.ensures _ c.requires.ready.fates
+first_open-requires g c =
+    inside (task g.E.Ledger.run.listing c.args.wants.now) c.args.want c.requires.ready.wants c.requires.want c.entries-entries.result.now c.entries-entries.ensures
 
-pub returns-in_default-clause-step : goal.returns-in_default-clause-step
-returns-in_default-clause-step g c = step_none g.T.View.held g.T.View.faults g.S.Store.holds g.S.Store.folder g.S.Store.place g.S.Store.said g.S.Store.faults g.V.View.held g.V.View.faults c.args.index.now c.args.target.now c.args.kit.now c.args.fates.now
+-- all of the want was settled before
+pub returns-in_default-clause-settles : goal.returns-in_default-clause-settles
+returns-in_default-clause-settles g c =
+    let a = stage g.E.Ledger g.F.Look c.args.work.now in
+    record {
+      only = λ i was is. absurd (true≢false (sym is ∙ was));
+      had = λ tells cached maps has told i was is. absurd (true≢false (sym is ∙ was));
+      asks = inl refl;
+      stretch = stretch_none g.S.Store g.V.View (task g.E.Ledger.run.listing c.args.wants.now) (λ v. v ≡ c.args.want) a;
+    }
+
+pub returns-in_default-clause-exactly : goal.returns-in_default-clause-exactly
+returns-in_default-clause-exactly g c = λ cached maps quiet.
+    let t = task g.E.Ledger.run.listing c.args.wants.now in
+    let m = g.E.Ledger.fates c.args.work.now.ledger in
+    let views = views_of g.V.View c.args.work.now.kit.seeds.items in
+    settles_kept (source_over t (settled m) views cached maps c.args.want) (count_of t.listing) m c.args.work.now.kit.chain
+    (all_kept t c.args.want c.requires.ready.wants c.requires.want c.entries-entries.result.now c.entries-entries.ensures m views cached maps c.in_default.ensures)
+    c.asks.ensures.below
+
+-- the entry is one of the want
+among : (g : Over) (c : In-Some g) → IsAmong c.entries-entries.result.now c.in-Some.entry
+among g c = let f = c.in-Some.ensures in (f.0, f.1, f.2)
+
+is_listed : (g : Over) (c : In-Some g) → c.in-Some.entry < count_of g.E.Ledger.run.listing
+is_listed g c =
+    listed (task g.E.Ledger.run.listing c.args.wants.now) c.args.want c.requires.ready.wants c.requires.want c.entries-entries.result.now c.entries-entries.ensures
+    c.in-Some.entry (among g c)
 
 pub id-id-requires : goal.id-id-requires
-id-id-requires g c =
-    let f = c.in-Some.ensures in
-    listed c.args.index.now c.args.plan.now c.args.want c.requires.ready.wants c.requires.want c.entries-entries.result.now c.entries-entries.ensures c.in-Some.entry (f.0, f.1, f.2)
+id-id-requires g c = omega (arith, is_listed g c, ap count_of c.requires.listing)
+
+-- its id and its size
+named : (g : Over) (c : After-entry g) → c.id-id.result.0 ≡ id_of g.E.Ledger.run.listing c.in-Some.entry
+named g c = c.id-id.ensures ∙ ap (λ (l : Listing). id_of l c.in-Some.entry) c.requires.listing
+
+sized : (g : Over) (c : After-entry g) → c.entry.result.size ≡ size_of g.E.Ledger.run.listing c.in-Some.entry
+sized g c = c.entry.ensures.size ∙ ap (λ (l : Listing). size_of l c.in-Some.entry) c.requires.listing
 
 pub settle_open-requires-clause-entries : goal.settle_open-requires-clause-entries
 settle_open-requires-clause-entries g c =
-    let f = c.in-Some.ensures in
-    all_as c.args.index.now c.args.plan.now c.args.want c.requires.ready.wants c.requires.want c.entries-entries.result.now c.entries-entries.ensures c.in-Some.entry c.id-id.result.0 (f.0, f.1, f.2) c.id-id.ensures
+    let at = goal.at.settle_open-requires-clause-entries g c in
+    all_as (task g.E.Ledger.run.listing c.args.wants.now) c.args.want c.requires.ready.wants c.requires.want c.entries-entries.result.now c.entries-entries.ensures
+    c.in-Some.entry (among g at.In-Some) c.id-id.result.0 (named g at.After-entry) c.entry.result.size (sized g at.After-entry)
 
 pub settle_open-requires-clause-places : goal.settle_open-requires-clause-places
 settle_open-requires-clause-places g c =
-    let f = c.in-Some.ensures in
-    let known = fit c.args.index.now c.args.plan.now c.args.want c.requires.ready.wants c.requires.want c.entries-entries.result.now c.entries-entries.ensures c.args.places.now (length c.args.kit.now.seeds.items) c.places-places.result.now c.in-Some.entry c.requires.ready.places c.places-places.ensures (f.0, f.1, f.2) in
-    subst (λ (n : ℕ). PlacesFit n (size_of c.args.index.now c.in-Some.entry) c.places-places.result.now) (sym (ap (λ (xs : List (Seed g.row.V.Denot)). length xs) c.deref_mut.ensures.value)) known
+    let at = goal.at.settle_open-requires-clause-places g c in
+    subst (λ (xs : List (Seed g.row.V.Denot)). PlacesFit (length xs) c.entry.result.size c.places-places.result.now) (sym c.deref_mut.ensures.value)
+    (fit (task g.E.Ledger.run.listing c.args.wants.now) c.args.want c.requires.ready.wants c.requires.want c.entries-entries.result.now c.entries-entries.ensures
+    c.in-Some.entry (among g at.In-Some) c.id-id.result.0 (named g at.After-entry) c.entry.result.size (sized g at.After-entry)
+    (length c.args.work.now.kit.seeds.items) c.places-places.result.now c.requires.ready.places c.places-places.ensures)
 
 pub settle_open-requires-clause-room : goal.settle_open-requires-clause-room
 settle_open-requires-clause-room g c =
-    let f = c.in-Some.ensures in
-    let lt = listed c.args.index.now c.args.plan.now c.args.want c.requires.ready.wants c.requires.want c.entries-entries.result.now c.entries-entries.ensures c.in-Some.entry (f.0, f.1, f.2) in
-    let same = ap (λ (xs : List ℕ). length xs) c.deref_mut-2.ensures.value in
-    omega (arith, same, c.requires.ready.room c.in-Some.entry lt)
+    let at = goal.at.settle_open-requires-clause-room g c in
+    omega (arith, sized g at.After-entry, c.requires.ready.room c.in-Some.entry (is_listed g at.In-Some), ap (λ (xs : List ℕ). length xs) c.deref_mut-2.ensures.value)
 
-pub returns-clause-ok : goal.returns-clause-ok
-returns-clause-ok g c = rw c.entries-entries.ensures at c.settle_open.ensures.ok
-
-pub returns-clause-only : goal.returns-clause-only
-returns-clause-only g c = rw c.entries-entries.ensures at c.settle_open.ensures.only
-
-pub returns-clause-had : goal.returns-clause-had
-returns-clause-had g c =
-    λ tells cached maps has told i was now.
-    let f = c.in-Some.ensures in
-    let views = map (seed_held g.V.View.held) in
-    let had = rw c.deref_mut.ensures.value at c.settle_open.ensures.had tells cached maps has told i was now in
-    had_as c.args.index.now c.args.plan.now c.args.want c.requires.ready.wants c.requires.want c.entries-entries.result.now c.entries-entries.ensures c.args.fates.now (views c.args.kit.now.seeds.items) c.args.places.now c.places-places.result.now (kind_of c.args.index.now) (cached ++ maps) c.in-Some.entry i c.id-id.result.0
-    (f.0, f.1, f.2) (c.settle_open.ensures.only i was now) c.id-id.ensures c.places-places.ensures had
-
-pub returns-clause-lost : goal.returns-clause-lost
-returns-clause-lost g c =
-    let f = c.in-Some.ensures in
-    where_map _ _ _ c.settle_open.result
-    (λ x is. first_open c.args.index.now c.args.plan.now c.args.want c.requires.ready.wants c.requires.want c.entries-entries.result.now c.entries-entries.ensures c.args.fates.now f.0 x f.1 (f.2 ∙ sym is.0)
-    (subst (λ (n : ℕ). settled c.args.fates.now n ≡ false) (sym is.0) f.3) f.4 (ap (λ (q : ChunkId). q.0) is.1 ∙ c.id-id.ensures ∙ ap (id_of c.args.index.now) (sym is.0)))
-    c.settle_open.ensures.lost
-
-pub returns-clause-failed : goal.returns-clause-failed
-returns-clause-failed g c = λ is.
-    let f = c.settle_open.ensures.failed is in
-    (f.0, subst (λ (xs : List ℕ). IsAmong xs f.0) c.entries-entries.ensures f.1, f.2)
-
-pub returns-clause-refused : goal.returns-clause-refused
-returns-clause-refused g c =
-    where_both _ _ _ _ (Unit {0}) c.settle_open.result
-    (λ x is told memory. refused_as g.S.Store.holds g.S.Store.said g.S.Store.faults g.S.Store.may_lack_memory c.args.index.now c.in-Some.entry c.id-id.result x c.args.kit.now.chain.stores c.settle_open.new.chain.stores is.0 is.1 (told memory))
-    c.settle_open.ensures.lost c.settle_open.ensures.refused
-
-pub returns-clause-asked : goal.returns-clause-asked
-returns-clause-asked g c =
-    let f = c.in-Some.ensures in
-    let kept = with_items_is c.args.kit.now.seeds c.settle_open.new.seeds (omega (arith, c.settle_open.auto.seeds, c.deref_mut.ensures.len)) in
-    where_map _ _ _ c.settle_open.result
-    (λ x h memory. asked_as c.args.index.now c.args.plan.now c.args.want c.requires.ready.wants c.requires.want c.entries-entries.result.now c.entries-entries.ensures g.S.Store.asked g.S.Store.queried g.V.View.held g.V.View.faults c.args.fates.now _ _ c.args.places.now c.places-places.result.now c.in-Some.entry c.id-id.result.0
-    _ _ _ _ _ _ _ _ (f.0, f.1, f.2) c.id-id.ensures c.places-places.ensures c.deref_mut.ensures.value (sym kept) (h memory))
-    c.settle_open.ensures.asked
-
-pub returns-clause-asks : goal.returns-clause-asks
-returns-clause-asks g c =
-    let f = c.in-Some.ensures in
-    let kept = with_items_is c.args.kit.now.seeds c.settle_open.new.seeds (omega (arith, c.settle_open.auto.seeds, c.deref_mut.ensures.len)) in
-    ⊎_elim (λ same. inl same)
-    (λ h. inr (asked_as c.args.index.now c.args.plan.now c.args.want c.requires.ready.wants c.requires.want c.entries-entries.result.now c.entries-entries.ensures g.S.Store.asked g.S.Store.queried g.V.View.held g.V.View.faults c.args.fates.now _ _ c.args.places.now c.places-places.result.now c.in-Some.entry c.id-id.result.0
-    _ _ _ _ _ _ _ _ (f.0, f.1, f.2) c.id-id.ensures c.places-places.ensures c.deref_mut.ensures.value (sym kept) h))
-    c.settle_open.ensures.asks
-
-pub returns-in_default-clause-exactly : goal.returns-in_default-clause-exactly
-returns-in_default-clause-exactly g c = λ cached maps nothing.
-    let l = c.args.index.now in
-    let d = c.args.plan.now in
+pub returns-clause-settles : goal.returns-clause-settles
+returns-clause-settles g c =
+    let at = goal.at.returns-clause-settles g c in
+    let t = task g.E.Ledger.run.listing c.args.wants.now in
     let w = c.args.want in
-    let m = c.args.fates.now in
-    let views = map (seed_held g.V.View.held) c.args.kit.now.seeds.items in
-    let kept = all_kept l d w c.requires.ready.wants c.requires.want c.entries-entries.result.now c.entries-entries.ensures m views c.args.places.now cached maps c.in_default.ensures in
-    settles_kept (source_over l d c.args.places.now (settled m) views cached maps w) (count_of l) m c.args.kit.now.chain kept c.asks.ensures.below
-
-pub returns-clause-exactly : goal.returns-clause-exactly
-returns-clause-exactly g c = λ cached maps nothing.
-    let f = c.in-Some.ensures in
-    let views = map (seed_held g.V.View.held) in
-    let counts = map (faults_in g.V.View.faults) in
-    let kept = with_items_is c.args.kit.now.seeds c.settle_open.new.seeds (omega (arith, c.settle_open.auto.seeds, c.deref_mut.ensures.len)) in
-    let first = c.deref_mut.ensures.value in
-    let here : EachQuiet (counts c.deref_mut.result.now) (counts c.settle_open.new.seeds) =
-    subst (λ (xs : List (Seed g.row.V.Denot)). EachQuiet (counts xs) (counts c.settle_open.new.seeds)) (sym first)
-    (subst (λ (xs : List (Seed g.row.V.Denot)). EachQuiet (counts c.args.kit.now.seeds.items) (counts xs)) kept nothing.seeds) in
-    settles_as c.args.index.now c.args.plan.now c.args.want c.requires.ready.wants c.requires.want c.entries-entries.result.now c.entries-entries.ensures
-    c.args.fates.now c.settle_open.new.fates (count_of c.args.index.now) c.args.kit.now.chain c.settle_open.new.chain c.settle_open.result
-    (views c.deref_mut.result.now) (views c.args.kit.now.seeds.items) c.args.places.now c.places-places.result.now cached maps c.in-Some.entry c.id-id.result.0
-    (f.0, f.1, f.2) c.id-id.ensures c.places-places.ensures (ap views first)
-    (c.settle_open.ensures.exactly cached maps (record { target = nothing.target; telling = telling_on g.V.View.tells (views c.args.kit.now.seeds.items) (views c.deref_mut.result.now) (ap views first) nothing.telling; seeds = here; told_cache = nothing.told_cache; cache = nothing.cache; told = nothing.told; stores = nothing.stores }))
-
-pub returns-clause-step : goal.returns-clause-step
-returns-clause-step g c =
-    let kept = with_items_is c.args.kit.now.seeds c.settle_open.new.seeds (omega (arith, c.settle_open.auto.seeds, c.deref_mut.ensures.len)) in
-    let room = with_items_is c.args.kit.now.buffer c.settle_open.new.buf (omega (arith, c.settle_open.auto.buf, c.deref_mut-2.ensures.len)) in
     let e = c.settle_open.ensures in
-    let seeds = rw c.deref_mut.ensures.value at e.seeds in
+    let es = c.entries-entries.result.now in
+    let old = g.E.Ledger.fates c.args.work.now.ledger in
+    let seeds = c.args.work.now.kit.seeds in
+    let views = views_of g.V.View seeds.items in
+    let first = c.deref_mut.ensures.value in
+    let kept = with_items_is seeds c.settle_open.new.seeds (omega (arith, c.settle_open.auto.seeds, c.deref_mut.ensures.len)) in
+    let buffer = with_items_is c.args.work.now.kit.buffer c.settle_open.new.buf (omega (arith, c.settle_open.auto.buf, c.deref_mut-2.ensures.len)) in
+    let is = c.entries-entries.ensures in
+    let n = c.entry.result.size in
+    let i = c.in-Some.entry in
+    let id = c.id-id.result.0 in
+    let found = among g at.In-Some in
+    let named_so = named g at.After-entry in
+    let sized_so = sized g at.After-entry in
+    let same = same_chunk t w c.requires.ready.wants c.requires.want es is i found id named_so n sized_so c.places-places.result.now c.places-places.ensures in
     record {
-      grows = e.grows;
-      bytes = e.bytes;
-      name = e.name;
-      size = e.same_size;
-      never_falls = e.faults;
-      stores = e.stores;
-      kind = e.same_kind;
-      seeds = subst (λ (xs : List (Seed g.row.V.Denot)). KeepsSeeds g.V.View.held g.V.View.faults c.args.kit.now.seeds.items xs) (sym kept) seeds;
-      room = ap (λ (xs : List ℕ). length xs) room ∙ omega (arith, c.settle_open.auto.buf, ap (λ (xs : List ℕ). length xs) c.deref_mut-2.ensures.value);
+      only = λ j was is_now. subst (λ (xs : List ℕ). IsAmong xs j) is (e.only j was is_now);
+      had = λ tells cached maps has told j was is_now.
+          subst (λ (q : Wanted). Had old q views (cached ++ maps)) same
+          (subst (λ (xs : List (Seed g.row.V.Denot)). Had old (record { kind = kind_of t.listing; id = id; size = n; entries = es; places = c.places-places.result.now }) (views_of g.V.View xs) (cached ++ maps)) first
+          (e.had (subst (λ (xs : List (Seed g.row.V.Denot)). Telling g.V.View.tells (views_of g.V.View xs)) (sym first) tells) cached maps has told j was is_now));
+      asks = asks_as g.S.Store g.V.View old same (g.E.Ledger.faults c.args.work.now.ledger) (g.E.Ledger.faults c.settle_open.new.ledger) (see g c.args.work.now.cache) (see g c.settle_open.new.cache)
+          c.args.work.now.kit.chain c.settle_open.new.chain c.deref_mut.result.now seeds.items c.settle_open.new.seeds (with_items seeds c.settle_open.new.seeds).items first (sym kept) e.asks;
+      stretch = record {
+        step = record {
+          grows = e.grows;
+          bytes = e.bytes;
+          tells = e.tells;
+          name = e.name;
+          size = e.size;
+          never_falls = e.faults;
+          stores = keeps_as t w c.requires.ready.wants c.requires.want es is i found id named_so n sized_so g.S.Store c.args.work.now.kit.chain.stores c.settle_open.new.chain.stores e.stores;
+          kind = e.same_kind;
+          seeds = subst (λ (xs : List (Seed g.row.V.Denot)). KeepsSeeds g.V.View seeds.items xs) (sym kept) (subst (λ (xs : List (Seed g.row.V.Denot)). KeepsSeeds g.V.View xs c.settle_open.new.seeds) first e.seeds);
+          room = ap (λ (xs : List ℕ). length xs) buffer ∙ omega (arith, c.settle_open.auto.buf, ap (λ (xs : List ℕ). length xs) c.deref_mut-2.ensures.value);
+        };
+        stocked = stocked_wider (TakesChunk g.S.Store (kind_of t.listing) id n c.args.work.now.kit.chain.stores)
+            (TakesWants g.S.Store t.listing t.plan (λ v. v ≡ w) c.args.work.now.kit.chain.stores)
+            (takes_as t w c.requires.ready.wants c.requires.want es is i found id named_so n sized_so g.S.Store c.args.work.now.kit.chain.stores)
+            (see g c.args.work.now.cache) (see g c.settle_open.new.cache) e.stocked;
+      };
     }
 
-pub returns-in_default-clause-stocked : goal.returns-in_default-clause-stocked
-returns-in_default-clause-stocked g c =
-    stocked_none (TakesWants g.S.Store.holds c.args.index.now c.args.plan.now (λ w. w ≡ c.args.want) c.args.kit.now.chain.stores) (see g c.args.cache.now)
-
-pub returns-clause-missed : goal.returns-clause-missed
-returns-clause-missed g c =
-    let l = c.args.index.now in
-    where_both _ _ _ _ (Unit {0}) c.settle_open.result
-    (λ x is lacks memory.
-    let named : c.id-id.result.0 ≡ id_of l x.entry = c.id-id.ensures ∙ ap (id_of l) (sym is.0) in
-    subst (λ (n : ℕ). CacheLacks (kind_of l) (id_of l x.entry) n (see g c.args.cache.now) (see g c.settle_open.new.cache)) (ap (size_of l) (sym is.0))
-    (subst (λ (q : List ℕ). CacheLacks (kind_of l) q (size_of l c.in-Some.entry) (see g c.args.cache.now) (see g c.settle_open.new.cache)) named (lacks memory)))
-    c.settle_open.ensures.lost c.settle_open.ensures.missed
-
-pub returns-clause-stocked : goal.returns-clause-stocked
-returns-clause-stocked g c =
+pub returns-clause-ends : goal.returns-clause-ends
+returns-clause-ends g c =
+    let at = goal.at.returns-clause-ends g c in
+    let t = task g.E.Ledger.run.listing c.args.wants.now in
+    let w = c.args.want in
+    let e = c.settle_open.ensures in
+    let es = c.entries-entries.result.now in
+    let old = g.E.Ledger.fates c.args.work.now.ledger in
+    let seeds = c.args.work.now.kit.seeds in
+    let first = c.deref_mut.ensures.value in
+    let kept = with_items_is seeds c.settle_open.new.seeds (omega (arith, c.settle_open.auto.seeds, c.deref_mut.ensures.len)) in
+    let is = c.entries-entries.ensures in
+    let n = c.entry.result.size in
+    let i = c.in-Some.entry in
+    let id = c.id-id.result in
+    let found = among g at.In-Some in
+    let named_so = named g at.After-entry in
+    let sized_so = sized g at.After-entry in
     let f = c.in-Some.ensures in
-    let l = c.args.index.now in
-    let d = c.args.plan.now in
-    let stores = c.args.kit.now.chain.stores in
-    let holds = g.S.Store.holds in
-    let among : IsAmong (of_want d c.args.want) c.in-Some.entry = subst (λ (xs : List ℕ). IsAmong xs c.in-Some.entry) c.entries-entries.ensures (f.0, f.1, f.2) in
-    stocked_wider (TakesChunk holds (kind_of l) c.id-id.result.0 (size_of l c.in-Some.entry) stores) (TakesWants holds l d (λ w. w ≡ c.args.want) stores)
-    (takes_as holds l d c.args.want c.in-Some.entry c.id-id.result.0 stores c.requires.ready.wants c.requires.want among c.id-id.ensures)
-    (see g c.args.cache.now) (see g c.settle_open.new.cache) c.settle_open.ensures.stocked
+    let same = same_chunk t w c.requires.ready.wants c.requires.want es is i found id.0 named_so n sized_so c.places-places.result.now c.places-places.ensures in
+    record {
+      ok = on_ok c.settle_open.result (λ all j inside. all j (subst (λ (xs : List ℕ). IsAmong xs j) (sym is) inside)) e.ok;
+      lost = where_map _ _ _ c.settle_open.result
+          (λ x at_x. first_open t w c.requires.ready.wants c.requires.want es is old f.0 x f.1 (f.2 ∙ sym at_x.0)
+          (ap (settled old) at_x.0 ∙ f.3) f.4 (ap (λ (q : ChunkId). q.0) at_x.1 ∙ named_so ∙ ap (id_of t.listing) (sym at_x.0)))
+          e.lost;
+      failed = λ is_torn. let torn = e.failed is_torn in (torn.0, subst (λ (xs : List ℕ). IsAmong xs torn.0) is torn.1, torn.2);
+      refused = where_both _ _ _ _ (Unit {0}) c.settle_open.result
+          (λ x at_x refusing memory. refused_as g.S.Store t i n id x c.args.work.now.kit.chain.stores c.settle_open.new.chain.stores sized_so at_x.0 at_x.1 (refusing memory))
+          e.lost e.refused;
+      missed = where_both _ _ _ _ (Unit {0}) c.settle_open.result
+          (λ x at_x lacks memory.
+          subst (λ (k : ℕ). CacheLacks (kind_of t.listing) (id_of t.listing x.entry) k (see g c.args.work.now.cache) (see g c.settle_open.new.cache)) (sized_so ∙ ap (size_of t.listing) (sym at_x.0))
+          (subst (λ (q : List ℕ). CacheLacks (kind_of t.listing) q n (see g c.args.work.now.cache) (see g c.settle_open.new.cache)) (named_so ∙ ap (id_of t.listing) (sym at_x.0)) (lacks memory)))
+          e.lost e.missed;
+      asked = where_map _ _ _ c.settle_open.result
+          (λ x asked memory. last_as g.S.Store g.V.View old same (g.E.Ledger.faults c.args.work.now.ledger) (g.E.Ledger.faults c.settle_open.new.ledger) (see g c.args.work.now.cache)
+          (see g c.settle_open.new.cache) c.args.work.now.kit.chain c.settle_open.new.chain c.deref_mut.result.now seeds.items c.settle_open.new.seeds
+          (with_items seeds c.settle_open.new.seeds).items first (sym kept) (asked memory))
+          e.asked;
+      memory = e.memory;
+    }
+
+pub returns-clause-exactly : goal.returns-clause-exactly
+returns-clause-exactly g c = λ cached maps quiet.
+    let at = goal.at.returns-clause-exactly g c in
+    let t = task g.E.Ledger.run.listing c.args.wants.now in
+    let w = c.args.want in
+    let seeds = c.args.work.now.kit.seeds in
+    let old = g.E.Ledger.fates c.args.work.now.ledger in
+    let first = c.deref_mut.ensures.value in
+    let kept = with_items_is seeds c.settle_open.new.seeds (omega (arith, c.settle_open.auto.seeds, c.deref_mut.ensures.len)) in
+    let same = same_chunk t w c.requires.ready.wants c.requires.want c.entries-entries.result.now c.entries-entries.ensures c.in-Some.entry (among g at.In-Some) c.id-id.result.0
+    (named g at.After-entry) c.entry.result.size (sized g at.After-entry) c.places-places.result.now c.places-places.ensures in
+    let f0 = g.E.Ledger.faults c.args.work.now.ledger in
+    let f1 = g.E.Ledger.faults c.settle_open.new.ledger in
+    let e0 = see g c.args.work.now.cache in
+    let e1 = see g c.settle_open.new.cache in
+    let c0 = c.args.work.now.kit.chain in
+    let c1 = c.settle_open.new.chain in
+    subst (λ (q : Wanted). SettlesBy (source_among (settled old) q (views_of g.V.View seeds.items) cached maps) (count_of t.listing) old (g.E.Ledger.fates c.settle_open.new.ledger) c0 c1 c.settle_open.result) same
+    (subst (λ (xs : List (Seed g.row.V.Denot)). SettlesBy (source_among (settled old) (record { kind = kind_of t.listing; id = c.id-id.result.0; size = c.entry.result.size; entries = c.entries-entries.result.now; places = c.places-places.result.now })
+    (views_of g.V.View xs) cached maps) (count_of t.listing) old (g.E.Ledger.fates c.settle_open.new.ledger) c0 c1 c.settle_open.result) first
+    (c.settle_open.ensures.exactly cached maps
+    (subst (λ (xs : List (Seed g.row.V.Denot)). SourcesQuiet g.S.Store g.V.View (sources f0 xs e0 c0) (sources f1 c.settle_open.new.seeds e1 c1) cached maps) (sym first)
+    (subst (λ (xs : List (Seed g.row.V.Denot)). SourcesQuiet g.S.Store g.V.View (sources f0 seeds.items e0 c0) (sources f1 xs e1 c1) cached maps) kept quiet))))

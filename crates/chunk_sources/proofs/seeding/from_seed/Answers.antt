@@ -1,8 +1,8 @@
-use Rattle.std.proofs.Common.{◌≡◌, ⊎_elim, None, subst, get_or, map, arith, rules}
+use Rattle.std.proofs.Common.{◌≡◌, ⊎_elim, None, subst, get_or, arith, rules}
 use Rattle.std.proofs.lemmas.List.{get_or-map, length-map}
 use Rattle.std.proofs.Math.Seq.{map-set_same}
 use Rattle.chunk_sources.proofs.SeedAnswers.{rose_at, none_falls, failed_at, given_at, never_falls}
-use Rattle.chunk_sources.specs.Sources.{GivesAt}
+use Rattle.chunk_sources.specs.Sources.{GivesAt, views_of}
 use Rattle.extract_plan.specs.Seeds.{faults_in, seed_held}
 use Rattle.extract_plan.specs.declared.seed.SeedAnswer.TheVariants as answers
 use Rattle.chunk_sources.proofs.seeding.from_seed.Goals as goal
@@ -40,6 +40,6 @@ returns-in-Given-clause-found g c = λ _ telling.
     let seeds = c.args.seeds.now in
     let place = c.args.place.now in
     let d = c.index-seeds-place.result in
-    given_at g.V.View.tells g.V.View.held g.met.V.View.told (get_or seeds place.seed d).view (map (seed_held g.V.View.held) seeds) place c.args.id.now.0 c.seed_gives.new.out
+    given_at g.V.View.tells g.V.View.held g.met.V.View.told (get_or seeds place.seed d).view (views_of g.V.View seeds) place c.args.id.now.0 c.seed_gives.new.out
     (omega (arith, c.requires.seed, length-map seeds (seed_held g.V.View.held))) (get_or-map (seed_held g.V.View.held) seeds place.seed d None c.requires.seed)
     (search rules) telling

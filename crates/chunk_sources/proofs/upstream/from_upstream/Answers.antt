@@ -11,8 +11,6 @@ use Rattle.chunk_sources.specs.Caches.{CacheFailed, Stocked, TakesChunk, cache_f
 use Rattle.chunk_sources.specs.Losses.{chunk_of}
 use Rattle.chunk_store.specs.declared.id.DigestKind.{DigestKind}
 use Rattle.dsy_base.specs.Counts.{Quiet}
-use Rattle.chunk_store.specs.Asks.{Get}
-use Rattle.store_chain.proofs.Kept.{stay_of}
 use Rattle.store_chain.specs.Chains.{AsksOnce}
 use Rattle.store_chain.specs.Queries.{IsWanted}
 use Rattle.chunk_sources.proofs.upstream.from_upstream.Given.{Over}
@@ -20,7 +18,7 @@ use Rattle.chunk_sources.proofs.upstream.from_upstream.Goals as goal
 
 -- what is seen of a cache
 abbrev see : (g : Over) → Option (Shelved g.row.F.Denot) → Option Shelf
-see g = seen g.F.Look.files g.F.Look.place g.F.Look.faults
+see g = seen g.F.Look
 
 -- ---- no cache
 
@@ -80,7 +78,7 @@ returns-in_err-got-clause-exactly g c = λ cached maps told quiet held still.
     let s = g.S.Store in
     let f = g.F.Look in
     let p = err_from_is_err_and c.from_residual-in_err-got.result c.from_residual-in_err-got.ensures.1 in
-    rw (p.1, p.2) (refused_through f.files f.place f.faults s.holds s.said s.faults s.may_lack_memory s.asked s.queried c.args.chain.now.kind c.args.id.now (length c.args.chunk.now)
+    rw (p.1, p.2) (refused_through f s c.args.chain.now.kind c.args.id.now (length c.args.chunk.now)
     (record { shelf = c.in-Some.shelf; chain = c.args.chain.now }) (record { shelf = c.obtain_through.new.shelf; chain = c.obtain_through.new.chain }) c.obtain_through.new.out
     cached maps (ap (λ q. cached_in (see g q)) (sym c.in-Some.is) ∙ told) held
     (subst (λ (q : Option (Shelved g.row.F.Denot)). Quiet (cache_faults (see g q)) (f.faults c.obtain_through.new.shelf.folder)) c.in-Some.is quiet)
@@ -90,7 +88,7 @@ pub returns-then-got-clause-had : goal.returns-then-got-clause-had
 returns-then-got-clause-had g c = λ cached maps told held.
     let s = g.S.Store in
     let f = g.F.Look in
-    had_through f.files f.place f.faults s.holds s.said s.faults s.may_lack_memory s.asked s.queried c.args.chain.now.kind c.args.id.now (length c.args.chunk.now)
+    had_through f s c.args.chain.now.kind c.args.id.now (length c.args.chunk.now)
     (record { shelf = c.in-Some.shelf; chain = c.args.chain.now }) (record { shelf = c.obtain_through.new.shelf; chain = c.obtain_through.new.chain }) c.obtain_through.new.out
     cached maps (ap (λ q. cached_in (see g q)) (sym c.in-Some.is) ∙ told) held
     c.in_ok-got.got c.in_ok-got.ensures.ok.wanted c.in_ok-got.ensures.ends
@@ -99,7 +97,7 @@ pub returns-then-got-clause-exactly : goal.returns-then-got-clause-exactly
 returns-then-got-clause-exactly g c = λ cached maps told quiet held still.
     let s = g.S.Store in
     let f = g.F.Look in
-    fetched_through f.files f.place f.faults s.holds s.said s.faults s.may_lack_memory s.asked s.queried c.args.chain.now.kind c.args.id.now (length c.args.chunk.now)
+    fetched_through f s c.args.chain.now.kind c.args.id.now (length c.args.chunk.now)
     (record { shelf = c.in-Some.shelf; chain = c.args.chain.now }) (record { shelf = c.obtain_through.new.shelf; chain = c.obtain_through.new.chain }) c.obtain_through.new.out
     cached maps (ap (λ q. cached_in (see g q)) (sym c.in-Some.is) ∙ told) held
     (subst (λ (q : Option (Shelved g.row.F.Denot)). Quiet (cache_faults (see g q)) (f.faults c.obtain_through.new.shelf.folder)) c.in-Some.is quiet)
@@ -111,17 +109,17 @@ returns-then-got-clause-stocked g c =
     let stores = c.args.chain.now.stores in
     let size : ℕ = length c.args.chunk.now in
     let w = chunk_of c.args.chain.now.kind c.args.id.now size in
-    subst (λ (q : Option (Shelved g.row.F.Denot)). Stocked (TakesChunk g.S.Store.holds c.args.chain.now.kind c.args.id.now.0 size stores) (see g q)
+    subst (λ (q : Option (Shelved g.row.F.Denot)). Stocked (TakesChunk g.S.Store c.args.chain.now.kind c.args.id.now.0 size stores) (see g q)
     (Some (shelf_of f.files f.place f.faults c.obtain_through.new.shelf))) (sym c.in-Some.is)
-    (stocked_wider (λ q b. (q ≡ c.args.id.now.0) × IsWanted w b × SomeHolds g.S.Store.holds stores q b) (TakesChunk g.S.Store.holds c.args.chain.now.kind c.args.id.now.0 size stores)
-    (takes_wanted g.S.Store.holds c.args.chain.now.kind c.args.id.now size stores)
+    (stocked_wider (λ q b. (q ≡ c.args.id.now.0) × IsWanted w b × SomeHolds g.S.Store.holds stores q b) (TakesChunk g.S.Store c.args.chain.now.kind c.args.id.now.0 size stores)
+    (takes_wanted g.S.Store c.args.chain.now.kind c.args.id.now size stores)
     (Some (shelf_of f.files f.place f.faults c.in-Some.shelf)) (Some (shelf_of f.files f.place f.faults c.obtain_through.new.shelf)) c.in_ok-got.ensures.stocks)
 
 pub returns-else-got-clause-had : goal.returns-else-got-clause-had
 returns-else-got-clause-had g c = λ cached maps told held.
     let s = g.S.Store in
     let f = g.F.Look in
-    had_through f.files f.place f.faults s.holds s.said s.faults s.may_lack_memory s.asked s.queried c.args.chain.now.kind c.args.id.now (length c.args.chunk.now)
+    had_through f s c.args.chain.now.kind c.args.id.now (length c.args.chunk.now)
     (record { shelf = c.in-Some.shelf; chain = c.args.chain.now }) (record { shelf = c.obtain_through.new.shelf; chain = c.obtain_through.new.chain }) c.obtain_through.new.out
     cached maps (ap (λ q. cached_in (see g q)) (sym c.in-Some.is) ∙ told) held
     c.in_ok-got.got c.in_ok-got.ensures.ok.wanted c.in_ok-got.ensures.ends
@@ -136,7 +134,7 @@ returns-then-got-clause-asks g c =
     let new = c.obtain_through.new in
     subst (λ (q : Option (Shelved g.row.F.Denot)). (new.chain ≡ c.args.chain.now) ⊎ (AsksOnce s.asked s.queried id.0 c.args.chain.now new.chain
     × CacheFailed kind id.0 size (see g q) (Some (shelf_of f.files f.place f.faults new.shelf)))) (sym c.in-Some.is)
-    (asks_through f.files f.place f.faults s.holds s.said s.faults s.may_lack_memory s.asked s.queried kind id size
+    (asks_through f s kind id size
     (record { shelf = c.in-Some.shelf; chain = c.args.chain.now }) (record { shelf = new.shelf; chain = new.chain }) new.out (Ok c.in_ok-got.got) c.in_ok-got.ensures.ends)
 
 pub returns-else-got-clause-asks : goal.returns-else-got-clause-asks
@@ -149,7 +147,7 @@ returns-else-got-clause-asks g c =
     let new = c.obtain_through.new in
     subst (λ (q : Option (Shelved g.row.F.Denot)). (new.chain ≡ c.args.chain.now) ⊎ (AsksOnce s.asked s.queried id.0 c.args.chain.now new.chain
     × CacheFailed kind id.0 size (see g q) (Some (shelf_of f.files f.place f.faults new.shelf)))) (sym c.in-Some.is)
-    (asks_through f.files f.place f.faults s.holds s.said s.faults s.may_lack_memory s.asked s.queried kind id size
+    (asks_through f s kind id size
     (record { shelf = c.in-Some.shelf; chain = c.args.chain.now }) (record { shelf = new.shelf; chain = new.chain }) new.out (Ok c.in_ok-got.got) c.in_ok-got.ensures.ends)
 
 pub returns-in_err-got-clause-asks : goal.returns-in_err-got-clause-asks
@@ -162,7 +160,7 @@ returns-in_err-got-clause-asks g c =
     let new = c.obtain_through.new in
     subst (λ (q : Option (Shelved g.row.F.Denot)). (new.chain ≡ c.args.chain.now) ⊎ (AsksOnce s.asked s.queried id.0 c.args.chain.now new.chain
     × CacheFailed kind id.0 size (see g q) (Some (shelf_of f.files f.place f.faults new.shelf)))) (sym c.in-Some.is)
-    (asks_through f.files f.place f.faults s.holds s.said s.faults s.may_lack_memory s.asked s.queried kind id size
+    (asks_through f s kind id size
     (record { shelf = c.in-Some.shelf; chain = c.args.chain.now }) (record { shelf = new.shelf; chain = new.chain }) new.out (Err c.in_err-got.field-0.0) c.in_err-got.ensures.ends)
 
 pub returns-in_err-got-clause-asked : goal.returns-in_err-got-clause-asked
@@ -176,20 +174,5 @@ returns-in_err-got-clause-asked g c =
     let p = err_from_is_err_and c.from_residual-in_err-got.result c.from_residual-in_err-got.ensures.1 in
     rw (p.1, p.2) (λ isnt. subst (λ (q : Option (Shelved g.row.F.Denot)). AsksOnce s.asked s.queried id.0 c.args.chain.now new.chain
     × CacheFailed kind id.0 size (see g q) (Some (shelf_of f.files f.place f.faults new.shelf))) (sym c.in-Some.is)
-    (asked_through f.files f.place f.faults s.holds s.said s.faults s.may_lack_memory s.asked s.queried kind id size
+    (asked_through f s kind id size
     (record { shelf = c.in-Some.shelf; chain = c.args.chain.now }) (record { shelf = new.shelf; chain = new.chain }) new.out c.in_err-got.field-0.0 c.in_err-got.ensures.ends isnt))
-
-pub returns-in_err-obtain-clause-stores : goal.returns-in_err-obtain-clause-stores
-returns-in_err-obtain-clause-stores g c = stay_of g.S.Store (λ a. a ≡ Get c.args.id.now.0) c.args.chain.now.stores c.obtain.new.self.stores c.obtain.ensures.kept
-
-pub returns-in_default-clause-stores : goal.returns-in_default-clause-stores
-returns-in_default-clause-stores g c = stay_of g.S.Store (λ a. a ≡ Get c.args.id.now.0) c.args.chain.now.stores c.obtain.new.self.stores c.obtain.ensures.kept
-
-pub returns-in_err-got-clause-stores : goal.returns-in_err-got-clause-stores
-returns-in_err-got-clause-stores g c = stay_of g.S.Store (λ a. a ≡ Get c.args.id.now.0) c.args.chain.now.stores c.obtain_through.new.chain.stores c.obtain_through.ensures.stores
-
-pub returns-then-got-clause-stores : goal.returns-then-got-clause-stores
-returns-then-got-clause-stores g c = stay_of g.S.Store (λ a. a ≡ Get c.args.id.now.0) c.args.chain.now.stores c.obtain_through.new.chain.stores c.obtain_through.ensures.stores
-
-pub returns-else-got-clause-stores : goal.returns-else-got-clause-stores
-returns-else-got-clause-stores g c = stay_of g.S.Store (λ a. a ≡ Get c.args.id.now.0) c.args.chain.now.stores c.obtain_through.new.chain.stores c.obtain_through.ensures.stores

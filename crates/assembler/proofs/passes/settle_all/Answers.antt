@@ -1,0 +1,41 @@
+use Rattle.std.proofs.Common.{◌<◌, refl, inl, inr}
+use Rattle.assembler.proofs.Stepped.{ready_on}
+use Rattle.assembler.proofs.TwoPasses.{memory_apart}
+use Rattle.assembler.proofs.WholePasses.{ends_both, exactly_both, passed_both, passed_once}
+use Rattle.assembler.specs.Stages.{stage, task}
+use Rattle.assembler.proofs.passes.settle_all.Goals as goal
+
+pub retry-requires-clause-ready : goal.retry-requires-clause-ready
+retry-requires-clause-ready g c =
+    ready_on g.S.Store g.V.View (task g.E.Ledger.run.listing c.args.wants.now) (λ w. w < c.args.wants.now.plan.now.wants) (stage g.E.Ledger g.F.Look c.args.work.now)
+    (stage g.E.Ledger g.F.Look c.fill.new.work) c.in-Ok.ensures.passes.stretch c.requires.ready
+
+pub returns-in-Ok-clause-passes : goal.returns-in-Ok-clause-passes
+returns-in-Ok-clause-passes g c =
+    passed_both g.S.Store g.V.View (task g.E.Ledger.run.listing c.args.wants.now) c.requires.ready.wants (stage g.E.Ledger g.F.Look c.args.work.now)
+    (stage g.E.Ledger g.F.Look c.fill.new.work) (stage g.E.Ledger g.F.Look c.retry.new.work) c.in-Ok.ensures.passes c.retry.ensures.passes
+
+pub returns-in-Ok-clause-ends : goal.returns-in-Ok-clause-ends
+returns-in-Ok-clause-ends g c =
+    ends_both g.S.Store g.V.View (task g.E.Ledger.run.listing c.args.wants.now) c.requires.ready.wants (stage g.E.Ledger g.F.Look c.args.work.now)
+    (stage g.E.Ledger g.F.Look c.fill.new.work) (stage g.E.Ledger g.F.Look c.retry.new.work) c.in-Ok.ensures.passes c.retry.ensures.passes c.retry.result c.retry.ensures.ends
+
+pub returns-in-Ok-clause-exactly : goal.returns-in-Ok-clause-exactly
+returns-in-Ok-clause-exactly g c =
+    exactly_both g.S.Store g.V.View (task g.E.Ledger.run.listing c.args.wants.now) c.requires.ready.wants (stage g.E.Ledger g.F.Look c.args.work.now)
+    (stage g.E.Ledger g.F.Look c.fill.new.work) (stage g.E.Ledger g.F.Look c.retry.new.work) c.in-Ok.ensures.passes c.retry.ensures.passes c.retry.result
+    c.in-Ok.ensures.exactly c.in-Ok.ensures.left c.retry.ensures.exactly
+
+pub returns-in-Err-clause-passes : goal.returns-in-Err-clause-passes
+returns-in-Err-clause-passes g c =
+    passed_once g.S.Store g.V.View (task g.E.Ledger.run.listing c.args.wants.now) c.requires.ready.wants (stage g.E.Ledger g.F.Look c.args.work.now)
+    (stage g.E.Ledger g.F.Look c.fill.new.work) c.in-Err.ensures.passes
+
+pub returns-in-Err-clause-ends : goal.returns-in-Err-clause-ends
+returns-in-Err-clause-ends g c = record {
+  ok = tt;
+  first = inr (inr refl);
+  failed = λ is. absurd (memory_apart is);
+  left = inl refl;
+  memory = λ is. c.in-Err.ensures.memory;
+}
