@@ -45,8 +45,8 @@ asks_below ids spared zero q = 0
 asks_below ids spared (suc k) q = asks_below ids spared k q + asks_for ids spared k q
 
 module _ {S V : Type 0} (store : StoreWords S) (view : ViewWords V) (t : Task) where
-  -- want w is had without the stores: an entry of it is such, and the target didn't fail; or a seed gives it that didn't
-  -- fail; or the cache does, which didn't fail
+  -- want w is had without the stores: an entry of it is such, and the target didn't fail; or a seed gives it that
+  -- didn't fail; or the cache does, which didn't fail
   abbrev pub IsSpared : (ℕ → Type 0) → Sources S V → Sources S V → ℕ → Type 0
   IsSpared Is old new w = (((j : ℕ) × IsAmong (of_want t.plan w) j × Is j) × Quiet old.faults new.faults)
       ⊎ (Any (λ p. HeldAt (views_of view old.seeds) p (want_id t.listing t.plan w)

@@ -75,5 +75,5 @@ pub record CacheGives {S : Type 0} (store : StoreWords S) (l : Listing) (stores 
     (old new : Option Shelf) : Type 0 where
   pub gives : IsSomeAnd (cached_in old) (SomeGives (kind_of l) id size)
   pub sound : Quiet (cache_faults old) (cache_faults new)
-  pub one_size : (n : ℕ) (b : List ℕ) → IsListedAs l id n → IsChunk (kind_of l) id n b → SomeHolds store.holds stores id b
-      → n ≡ size
+  pub one_size : (n : ℕ) (b : List ℕ) → IsListedAs l id n → IsChunk (kind_of l) id n b
+      → SomeHolds store.holds stores id b → n ≡ size

@@ -61,8 +61,8 @@ pub record Sources (S V : Type 0) : Type 0 where
 abbrev pub sources : {S V : Type 0} → ℕ → List (Seed V) → Option Shelf → Chained S → Sources S V
 sources faults seeds cache chain = record { faults = faults; seeds = seeds; cache = cache; chain = chain }
 
--- nothing of it fails: the target, the seeds, the cache and the stores, which hold these maps, are quiet, and the seeds'
--- views tell, where there are any
+-- nothing of it fails: the target, the seeds, the cache and the stores, which hold these maps, are quiet, and the
+-- seeds' views tell, where there are any
 pub record SourcesQuiet {S V : Type 0} (store : StoreWords S) (view : ViewWords V) (old new : Sources S V)
     (cached maps : List (Map (List ℕ))) : Type 0 where
   pub target : Quiet old.faults new.faults
