@@ -17,6 +17,7 @@ use Rattle.assembler.specs.Assemblies.{After, Assembles, AssemblyAsks, KeepsBase
 use Rattle.assembler.specs.Economy.{AsksExactly, AssembledBy, ReportsExactly, UnlessMemory}
 use Rattle.assembler.specs.Faults.{fault_of}
 use Rattle.assembler.specs.Obtainable.{OnlyObtainable}
+use Rattle.assembler.specs.OneKit.{AreUnused}
 use Rattle.assembler.specs.Passes.{Ends, EndsBy, HadAt, HasPassed, Loses, WhereQuiet, source_at, twice, want_at}
 use Rattle.assembler.specs.Stages.{Stage, from}
 use Rattle.assembler.specs.declared.fault.ExtractFault.{ExtractFault}
@@ -157,37 +158,37 @@ module _ {S V : Type 0} (store : StoreWords S) (view : ViewWords V) (t : Task) (
 
     -- ---- bytes
 
-    bytes_by : (why : ExtractFault) → r ≡ Err why
+    bytes_by : (Unused : Type 0) (why : ExtractFault) → r ≡ Err why
         → EndsBy {A = Unit {0}} (λ lost. Loses store view t a b lost × ((i : ℕ) → i < lost.entry → settled b.fates i ≡ true)) (Rose a.faults b.faults) (Err why)
-        → WhereTold o b.held.bytes (Assembles t.listing f b.faults (Err why))
-    bytes_by why so (inl lost) = told_map o b.held.bytes Found Filled (Assembles t.listing f b.faults (Err why))
+        → WhereTold o b.held.bytes (Assembles t.listing Unused f b.faults (Err why))
+    bytes_by Unused why so (inl lost) = told_map o b.held.bytes Found Filled (Assembles t.listing Unused f b.faults (Err why))
         (λ y z over fills.
-        assembles_err t.listing f b.faults y z (leaves t.listing a.fates b.fates f a.faults b.faults ran.rises rises_on (over_base y) z over fills)
+        assembles_err t.listing Unused f b.faults y z (leaves t.listing a.fates b.fates f a.faults b.faults ran.rises rises_on (over_base y) z over fills)
         (λ x. Loses store view t a b x × ((i : ℕ) → i < x.entry → settled b.fates i ≡ true)) why
         (λ x is i less. right_at t.listing a.fates b.fates f a.faults b.faults ran.rises rises_on (over_base y) z over fills i (omega (arith, less, is.0.listed)) (is.1 i less))
         lost)
         ran.over filled
-    bytes_by why so (inr (inl (is, rose))) =
+    bytes_by Unused why so (inr (inl (is, rose))) =
         let h = ran.ends.failed (so ∙ ap (λ (y : ExtractFault). Err y) is) in
         let w = want_at t.plan h.entry in
-        subst (λ y. WhereTold o b.held.bytes (Assembles t.listing f b.faults (Err y))) (sym is)
-        (told_map o b.held.bytes Found (λ y. FillsTorn t.listing a.fates b.fates a.faults b.faults h.torn (over_base y)) (Assembles t.listing f b.faults (Err faults.TargetFault))
+        subst (λ y. WhereTold o b.held.bytes (Assembles t.listing Unused f b.faults (Err y))) (sym is)
+        (told_map o b.held.bytes Found (λ y. FillsTorn t.listing a.fates b.fates a.faults b.faults h.torn (over_base y)) (Assembles t.listing Unused f b.faults (Err faults.TargetFault))
         (λ y z over fills. inr (leaves_torn t.listing a.fates b.fates f a.faults b.faults ran.rises rises_on (over_base y) z over fills.0 h.entry h.torn h.listed h.was_open h.before
         (listed_of t.listing t.plan w h.torn ran.wants h.among) (ids_same t.listing t.plan w h.torn h.entry ran.wants h.among (here t ran.wants h.entry h.listed)) fills.1))
         ran.over (told_of t.listing o a.held.bytes b.held.bytes (FillsTorn t.listing a.fates b.fates a.faults b.faults h.torn) ran.base h.is_torn))
-    bytes_by why so (inr (inr is)) = subst (λ y. WhereTold o b.held.bytes (Assembles t.listing f b.faults (Err y))) (sym is)
-        (told_map o b.held.bytes Found Filled (Assembles t.listing f b.faults (Err faults.Memory))
+    bytes_by Unused why so (inr (inr is)) = subst (λ y. WhereTold o b.held.bytes (Assembles t.listing Unused f b.faults (Err y))) (sym is)
+        (told_map o b.held.bytes Found Filled (Assembles t.listing Unused f b.faults (Err faults.Memory))
         (λ y z over fills. inr (leaves t.listing a.fates b.fates f a.faults b.faults ran.rises rises_on (over_base y) z over fills))
         ran.over filled)
 
-    pub bytes_err : (why : ExtractFault) → r ≡ Err why → WhereTold o b.held.bytes (Assembles t.listing f b.faults (Err why))
-    bytes_err why so = bytes_by why so (subst (EndsBy _ _) so ran.ends.first)
+    pub bytes_err : (Unused : Type 0) (why : ExtractFault) → r ≡ Err why → WhereTold o b.held.bytes (Assembles t.listing Unused f b.faults (Err why))
+    bytes_err Unused why so = bytes_by Unused why so (subst (EndsBy _ _) so ran.ends.first)
 
     all_settled : (u : Unit {0}) → r ≡ Ok u → (i : ℕ) → i < count_of t.listing → settled b.fates i ≡ true
     all_settled u so = subst (λ q. OnOk q ((i : ℕ) → i < count_of t.listing → settled b.fates i ≡ true)) so ran.ends.ok
 
-    pub bytes_ok : (u : Unit {0}) → r ≡ Ok u → (report : Report) → WhereTold o b.held.bytes (Assembles t.listing f b.faults (Ok report))
-    bytes_ok u so report = told_map o b.held.bytes Found Filled (Assembles t.listing f b.faults (Ok report))
+    pub bytes_ok : (Unused : Type 0) (u : Unit {0}) → r ≡ Ok u → (report : Report) → WhereTold o b.held.bytes (Assembles t.listing Unused f b.faults (Ok report))
+    bytes_ok Unused u so report = told_map o b.held.bytes Found Filled (Assembles t.listing Unused f b.faults (Ok report))
         (λ y z over fills. (
           right_all t.listing a.fates b.fates f a.faults b.faults ran.rises rises_on (over_base y) z over fills (all_settled u so),
           leaves t.listing a.fates b.fates f a.faults b.faults ran.rises rises_on (over_base y) z over fills,
@@ -440,7 +441,7 @@ module _ {S V : Type 0} (store : StoreWords S) (view : ViewWords V) (t : Task) (
 -- what an assembly that has run has done
 module _ {S V : Type 0} (store : StoreWords S) (view : ViewWords V) (t : Task) (o : Option (List ℕ)) (f : ℕ) (a b : Stage S V) (r : Result Unit ExtractFault) (ran : Ran store view t o f a b r) where
   did : (answer : Result Report ExtractFault)
-      → WhereTold o b.held.bytes (Assembles t.listing f b.faults answer)
+      → WhereTold o b.held.bytes (Assembles t.listing (AreUnused (first_sources store view t o f a b) (from b)) f b.faults answer)
       → EndsBy (IsUnobtained store view t o (first_sources store view t o f a b) (from b)) (Rose f b.faults) answer
       → (Telling view.tells (views_of view a.kit.seeds.items) → (cached maps : List (Map (List ℕ))) → cached_in a.cache ≡ Some cached → map store.holds a.kit.chain.stores ≡ map Some maps
       → WhereTold o b.held.bytes (λ y z. OnlyObtainable t.listing (IsObtainable t (resized y (image_length t.listing)) (views_of view a.kit.seeds.items) (cached ++ maps)) f b.faults answer y z))
@@ -469,7 +470,7 @@ module _ {S V : Type 0} (store : StoreWords S) (view : ViewWords V) (t : Task) (
   }
 
   pub assembled_err : (why : ExtractFault) → r ≡ Err why → IsAssembled store view t o b.held.bytes (first_sources store view t o f a b) (from b) (Err why)
-  assembled_err why so = did (Err why) (bytes_err store view t o f a b r ran why so) (lost_err store view t o f a b r ran why so)
+  assembled_err why so = did (Err why) (bytes_err store view t o f a b r ran (AreUnused (first_sources store view t o f a b) (from b)) why so) (lost_err store view t o f a b r ran why so)
       (λ telling cached maps has told. only_err store view t o f a b r ran cached maps telling has told why)
       (λ cached maps nothing one. exactly_err store view t o f a b r ran cached maps nothing one why so)
       (λ cached maps nothing one. after_fault store view t o f a b r ran cached maps nothing one why so)
@@ -479,7 +480,7 @@ module _ {S V : Type 0} (store : StoreWords S) (view : ViewWords V) (t : Task) (
   pub assembled_ok : (u : Unit {0}) → r ≡ Ok u → (report : Report)
       → report.seeded ≡ tally fate.Seeded b.fates (count_of t.listing) → report.cached ≡ tally fate.Cached b.fates (count_of t.listing) → report.fetched ≡ tally fate.Fetched b.fates (count_of t.listing)
       → IsAssembled store view t o b.held.bytes (first_sources store view t o f a b) (from b) (Ok report)
-  assembled_ok u so report seeded cached_is fetched = did (Ok report) (bytes_ok store view t o f a b r ran u so report) tt
+  assembled_ok u so report seeded cached_is fetched = did (Ok report) (bytes_ok store view t o f a b r ran (AreUnused (first_sources store view t o f a b) (from b)) u so report) tt
       (λ telling cached maps has told. only_ok store view t o f a b r ran cached maps telling has told u so report)
       (λ cached maps nothing one. exactly_ok store view t o f a b r ran cached maps nothing one u so report)
       (λ cached maps nothing one. after_ok store view t o f a b r ran cached maps nothing one u so report)
@@ -499,27 +500,50 @@ keeps_itself l a b ab y = record {
   kept = λ i inside right. inl refl;
 }
 
-pub assembles_none : (l : Listing) (old new : Held) (a b : ℕ) → a ≤ b → (e : ExtractFault)
-    → ((e ≡ faults.TargetFault) × (new ≡ old) × Rose a b) ⊎ ((e ≡ faults.Memory) × ((new ≡ old) ⊎ (new ≡ held_resized old (image_length l))))
-    → WhereTold old.bytes new.bytes (Assembles l a b (Err e))
-assembles_none l old new a b ab e (inl (is, stays, rose)) =
-    subst (λ (q : ExtractFault). WhereTold old.bytes new.bytes (Assembles l a b (Err q))) (sym is)
-    (subst (λ (h : Held). WhereTold old.bytes h.bytes (Assembles l a b (Err faults.TargetFault))) (sym stays) (go old.bytes)) where
-      go : (o : Option (List ℕ)) → WhereTold o o (Assembles l a b (Err faults.TargetFault))
-      go None = tt
-      go (Some y) = inl refl
-assembles_none l old new a b ab e (inr (is, inl stays)) =
-    subst (λ (q : ExtractFault). WhereTold old.bytes new.bytes (Assembles l a b (Err q))) (sym is)
-    (subst (λ (h : Held). WhereTold old.bytes h.bytes (Assembles l a b (Err faults.Memory))) (sym stays) (go old.bytes)) where
-      go : (o : Option (List ℕ)) → WhereTold o o (Assembles l a b (Err faults.Memory))
-      go None = tt
-      go (Some y) = inl refl
-assembles_none l old new a b ab e (inr (is, inr long)) =
-    subst (λ (q : ExtractFault). WhereTold old.bytes new.bytes (Assembles l a b (Err q))) (sym is)
-    (subst (λ (h : Held). WhereTold old.bytes h.bytes (Assembles l a b (Err faults.Memory))) (sym long) (go old.bytes)) where
-      go : (o : Option (List ℕ)) → WhereTold o (option_map (λ y. resized y (image_length l)) o) (Assembles l a b (Err faults.Memory))
-      go None = tt
-      go (Some y) = inr (keeps_itself l a b ab y)
+-- a refusal before any write: the target has its old bytes, or these with the image's length
+pub assembles_none : (l : Listing) (Unused : Type 0) → Unused → (old new : Held) (a b : ℕ) → a ≤ b → (e : ExtractFault)
+    → ((e ≡ faults.TargetFault) × Rose a b) ⊎ (e ≡ faults.Memory) → (new ≡ old) ⊎ (new ≡ held_resized old (image_length l))
+    → WhereTold old.bytes new.bytes (Assembles l Unused a b (Err e))
+assembles_none l Unused unused old new a b ab e why stands = at e why stands where
+  longer : List ℕ → List ℕ
+  longer y = resized y (image_length l)
+
+  same : (o : Option (List ℕ)) (q : ExtractFault) → ((y : List ℕ) → Assembles l Unused a b (Err q) y y) → WhereTold o o (Assembles l Unused a b (Err q))
+  same None q is = tt
+  same (Some y) q is = is y
+
+  long : (o : Option (List ℕ)) (q : ExtractFault) → ((y : List ℕ) → Assembles l Unused a b (Err q) y (longer y)) → WhereTold o (option_map longer o) (Assembles l Unused a b (Err q))
+  long None q is = tt
+  long (Some y) q is = is y
+
+  both : (q : ExtractFault) → ((y : List ℕ) → Assembles l Unused a b (Err q) y y) → ((y : List ℕ) → Assembles l Unused a b (Err q) y (longer y))
+      → (new ≡ old) ⊎ (new ≡ held_resized old (image_length l)) → WhereTold old.bytes new.bytes (Assembles l Unused a b (Err q))
+  both q kept set (inl is) = subst (λ (h : Held). WhereTold old.bytes h.bytes (Assembles l Unused a b (Err q))) (sym is) (same old.bytes q kept)
+  both q kept set (inr is) = subst (λ (h : Held). WhereTold old.bytes h.bytes (Assembles l Unused a b (Err q))) (sym is) (long old.bytes q set)
+
+  at : (q : ExtractFault) → ((q ≡ faults.TargetFault) × Rose a b) ⊎ (q ≡ faults.Memory) → (new ≡ old) ⊎ (new ≡ held_resized old (image_length l))
+      → WhereTold old.bytes new.bytes (Assembles l Unused a b (Err q))
+  at q (inl (is, rose)) how = subst (λ (x : ExtractFault). WhereTold old.bytes new.bytes (Assembles l Unused a b (Err x))) (sym is)
+      (both faults.TargetFault (λ y. inl (unused, inl refl)) (λ y. inl (unused, inr refl)) how)
+  at q (inr is) how = subst (λ (x : ExtractFault). WhereTold old.bytes new.bytes (Assembles l Unused a b (Err x))) (sym is)
+      (both faults.Memory (λ y. inl refl) (λ y. inr (keeps_itself l a b ab y)) how)
+
+-- what holds where nothing was used may be said in other words
+pub assembles_as : (l : Listing) (Unused Other : Type 0) (a b : ℕ) (r : Result Report ExtractFault) (o t : List ℕ) → (Unused → Other)
+    → Assembles l Unused a b r o t → Assembles l Other a b r o t
+assembles_as l Unused Other a b (Ok r) o t said is = is
+assembles_as l Unused Other a b (Err (faults.Missing k id)) o t said is = is
+assembles_as l Unused Other a b (Err (faults.Damaged k id s shows)) o t said is = is
+assembles_as l Unused Other a b (Err (faults.StoreFault s)) o t said is = is
+assembles_as l Unused Other a b (Err faults.TargetFault) o t said (inl is) = inl (said is.0, is.1)
+assembles_as l Unused Other a b (Err faults.TargetFault) o t said (inr torn) = inr torn
+assembles_as l Unused Other a b (Err faults.Memory) o t said is = is
+
+pub told_as : (l : Listing) {Unused Other : Type 0} (a b : ℕ) (r : Result Report ExtractFault) (o p : Option (List ℕ)) → (Unused → Other)
+    → WhereTold o p (Assembles l Unused a b r) → WhereTold o p (Assembles l Other a b r)
+told_as l a b r None p said is = tt
+told_as l a b r (Some y) None said is = tt
+told_as l {Unused} {Other} a b r (Some y) (Some z) said is = assembles_as l Unused Other a b r y z said is
 
 -- one that was refused before any write
 module _ {S V : Type 0} (store : StoreWords S) (view : ViewWords V) (t : Task) (old new : Held) (a b : ℕ) (ab : a ≤ b) (seeds : List (Seed V)) (cache : Option Shelf) (chain : Chained S) where
@@ -533,32 +557,29 @@ module _ {S V : Type 0} (store : StoreWords S) (view : ViewWords V) (t : Task) (
   CanBeHad maps y i = IsObtainable t (resized y (image_length t.listing)) (views_of view seeds) maps i
 
   pub assembled_none : (e : ExtractFault)
-      → ((e ≡ faults.TargetFault) × (new ≡ old) × Rose a b) ⊎ ((e ≡ faults.Memory) × ((new ≡ old) ⊎ (new ≡ held_resized old (image_length t.listing))))
+      → ((e ≡ faults.TargetFault) × Rose a b) ⊎ (e ≡ faults.Memory) → (new ≡ old) ⊎ (new ≡ held_resized old (image_length t.listing))
       → IsAssembled store view t old.bytes new.bytes Earlier Later (Err e)
-  assembled_none e why = record {
-    bytes = assembles_none t.listing old new a b ab e why;
+  assembled_none e why stands = record {
+    bytes = assembles_none t.listing (AreUnused Earlier Later) (refl, (refl, refl)) old new a b ab e why stands;
     lost = elim why [
-      | inl failed ↦ inr (inl (failed.0, failed.2))
-      | inr memory ↦ inr (inr memory.0)
+      | inl failed ↦ inr (inl failed)
+      | inr memory ↦ inr (inr memory)
     ];
-    had = λ telling cached maps has told. only_first t.listing (CanBeHad (cached ++ maps)) a b ab e old.bytes new.bytes (elim why [
-      | inl failed ↦ inl (ap (λ (h : Held). h.bytes) failed.1)
-      | inr memory ↦ elim memory.1 [
-        | inl same ↦ inl (ap (λ (h : Held). h.bytes) same)
-        | inr long ↦ inr (ap (λ (h : Held). h.bytes) long)
-      ]
+    had = λ telling cached maps has told. only_first t.listing (CanBeHad (cached ++ maps)) a b ab e old.bytes new.bytes (elim stands [
+      | inl same ↦ inl (ap (λ (h : Held). h.bytes) same)
+      | inr long ↦ inr (ap (λ (h : Held). h.bytes) long)
     ]);
     exactly = λ cached maps nothing one. some_all old.bytes (λ y. Verdict t.listing (CanBeHad (cached ++ maps) y) (Err e)) (λ y. elim why [
-      | inl failed ↦ absurd (quiet_never a b nothing.target failed.2)
-      | inr memory ↦ subst (λ (q : ExtractFault). Verdict t.listing (CanBeHad (cached ++ maps) y) (Err q)) (sym memory.0) tt
+      | inl failed ↦ absurd (quiet_never a b nothing.target failed.1)
+      | inr memory ↦ subst (λ (q : ExtractFault). Verdict t.listing (CanBeHad (cached ++ maps) y) (Err q)) (sym memory) tt
     ]);
     after = λ cached maps nothing one. told_all old.bytes new.bytes (λ y z. After t.listing (CanBeHad (cached ++ maps) y) (resized y (image_length t.listing)) z (Err e)) (λ y z. elim why [
-      | inl failed ↦ absurd (quiet_never a b nothing.target failed.2)
-      | inr memory ↦ subst (λ (q : ExtractFault). After t.listing (CanBeHad (cached ++ maps) y) (resized y (image_length t.listing)) z (Err q)) (sym memory.0) tt
+      | inl failed ↦ absurd (quiet_never a b nothing.target failed.1)
+      | inr memory ↦ subst (λ (q : ExtractFault). After t.listing (CanBeHad (cached ++ maps) y) (resized y (image_length t.listing)) z (Err q)) (sym memory) tt
     ]);
     economy = λ cached maps nothing one. some_all old.bytes (λ y. AsksExactly (source_of t (resized y (image_length t.listing)) (views_of view seeds) cached maps) t.plan.wants chain chain (Err e)) (λ y. elim why [
-      | inl failed ↦ absurd (quiet_never a b nothing.target failed.2)
-      | inr memory ↦ subst (λ (q : ExtractFault). AsksExactly (source_of t (resized y (image_length t.listing)) (views_of view seeds) cached maps) t.plan.wants chain chain (Err q)) (sym memory.0) tt
+      | inl failed ↦ absurd (quiet_never a b nothing.target failed.1)
+      | inr memory ↦ subst (λ (q : ExtractFault). AsksExactly (source_of t (resized y (image_length t.listing)) (views_of view seeds) cached maps) t.plan.wants chain chain (Err q)) (sym memory) tt
     ]);
     reported = λ cached maps nothing one. some_all old.bytes (λ y. Unit {0}) (λ y. tt);
     asks = λ spared are. asks_none store (twice (calls_below spared t.plan.wants)) (λ q. twice (asks_below (want_id t.listing t.plan) spared t.plan.wants q)) chain;

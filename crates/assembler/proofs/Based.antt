@@ -110,17 +110,17 @@ module _ (l : Listing) (m n : List Fate) (a b c : ℕ) (ab : a ≤ b) (bc : b �
 
 -- ---- how it ended
 
-module _ (l : Listing) (a c : ℕ) (o t : List ℕ) (leaves : KeepsBase l a c (resized o (image_length l)) t) where
-  assembles_named : (k : ℕ) (id : ChunkId) (r : Refused) → ((i : ℕ) → i < k → IsRightAt t l i) → Assembles l a c (Err (fault_of k id r)) o t
+module _ (l : Listing) (Unused : Type 0) (a c : ℕ) (o t : List ℕ) (leaves : KeepsBase l a c (resized o (image_length l)) t) where
+  assembles_named : (k : ℕ) (id : ChunkId) (r : Refused) → ((i : ℕ) → i < k → IsRightAt t l i) → Assembles l Unused a c (Err (fault_of k id r)) o t
   assembles_named k id refused.Missing right = (leaves, right)
   assembles_named k id (refused.Damaged s x) right = (leaves, right)
   assembles_named k id (refused.StoreFault s) right = leaves
   assembles_named k id refused.Memory right = inr leaves
 
   pub assembles_err : (P : Lost → Type 0) (e : ExtractFault) → ((x : Lost) → P x → (i : ℕ) → i < x.entry → IsRightAt t l i)
-      → (lost : Lost) × (e ≡ fault_of lost.entry lost.id lost.refused) × P lost → Assembles l a c (Err e) o t
+      → (lost : Lost) × (e ≡ fault_of lost.entry lost.id lost.refused) × P lost → Assembles l Unused a c (Err e) o t
   assembles_err P e before (x, is, lost) =
-      subst (λ y. Assembles l a c (Err y) o t) (sym is) (assembles_named x.entry x.id x.refused (before x lost))
+      subst (λ y. Assembles l Unused a c (Err y) o t) (sym is) (assembles_named x.entry x.id x.refused (before x lost))
 
 pub ends_map : (P Q : Lost → Type 0) (F G : Type 0) (e : ExtractFault) → ((x : Lost) → P x → Q x) → (F → G) → EndsBy {A = Unit {0}} P F (Err e) → EndsBy {A = Unit {0}} Q G (Err e)
 ends_map P Q F G e lost torn (inl (x, is, p)) = inl (x, is, lost x p)

@@ -113,6 +113,12 @@ module _ {K : Type 0} where
   pub head_same : (x y : K) → x ∷ [] ≡ y ∷ [] → x ≡ y
   head_same x y same = ap (λ xs. slice_index_or xs 0 x) same
 
+  -- what is so of the only kit, whose place another took
+  pub of_only : (xs ys : List K) (k j : K) → xs ≡ k ∷ [] → ys ≡ j ∷ [] → {So : K → K → Type 0} → So k j → OfKit xs ys So
+  of_only xs ys k j first last {So} is = record {
+    so = λ q p one other. subst (λ (r : K). So r p) (head_same k q (sym first ∙ one)) (subst (λ (r : K). So k r) (head_same j p (sym last ∙ other)) is);
+  }
+
   -- what is so of a kit that stayed
   pub of_same : (xs : List K) {So : K → K → Type 0} → ((k : K) → So k k) → OfKit xs xs So
   of_same xs {So} is = record { so = λ k j first last. subst (λ r. So k r) (head_same k j (sym first ∙ last)) (is k) }

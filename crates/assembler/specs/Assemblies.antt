@@ -5,6 +5,7 @@ use Rattle.std.specs.Prelude.{IsSomeAnd, Result, Ok, Err}
 use Rattle.std.specs.List.{Contains}
 use Rattle.assembler.specs.Economy.{AsksExactly, ReportsExactly}
 use Rattle.assembler.specs.Obtainable.{OnlyObtainable}
+use Rattle.assembler.specs.OneKit.{AreUnused}
 use Rattle.assembler.specs.Passes.{EndsBy, RefusedOnce, WhereQuiet, twice, want_at}
 use Rattle.assembler.specs.declared.fault.ExtractFault.{ExtractFault}
 use Rattle.assembler.specs.declared.fault.ExtractFault.TheVariants as faults
@@ -63,16 +64,18 @@ pub record KeepsTorn (l : Listing) (old new : ℕ) (base t : List ℕ) : Type 0 
   pub alike : AreAlike l torn entry
   pub is_torn : Contains keeps.failed torn
 
--- the bytes after it: where no entry is named the length may not have been set
-abbrev pub Assembles : Listing → ℕ → ℕ → Result Report ExtractFault → List ℕ → List ℕ → Type 0
-Assembles l old new (Ok r) o t = IsRight t l × KeepsBase l old new (resized o (image_length l)) t
-Assembles l old new (Err (faults.Missing k id)) o t =
+-- the bytes after it: where no entry is named the length may not have been set. Where no write ended it, the target
+-- couldn't be made into shards, and then nothing else was used
+abbrev pub Assembles : Listing → Type 0 → ℕ → ℕ → Result Report ExtractFault → List ℕ → List ℕ → Type 0
+Assembles l Unused old new (Ok r) o t = IsRight t l × KeepsBase l old new (resized o (image_length l)) t
+Assembles l Unused old new (Err (faults.Missing k id)) o t =
     KeepsBase l old new (resized o (image_length l)) t × ((i : ℕ) → i < k → IsRightAt t l i)
-Assembles l old new (Err (faults.Damaged k id s shows)) o t =
+Assembles l Unused old new (Err (faults.Damaged k id s shows)) o t =
     KeepsBase l old new (resized o (image_length l)) t × ((i : ℕ) → i < k → IsRightAt t l i)
-Assembles l old new (Err (faults.StoreFault s)) o t = KeepsBase l old new (resized o (image_length l)) t
-Assembles l old new (Err faults.TargetFault) o t = (t ≡ o) ⊎ KeepsTorn l old new (resized o (image_length l)) t
-Assembles l old new (Err faults.Memory) o t = (t ≡ o) ⊎ KeepsBase l old new (resized o (image_length l)) t
+Assembles l Unused old new (Err (faults.StoreFault s)) o t = KeepsBase l old new (resized o (image_length l)) t
+Assembles l Unused old new (Err faults.TargetFault) o t =
+    (Unused × ((t ≡ o) ⊎ (t ≡ resized o (image_length l)))) ⊎ KeepsTorn l old new (resized o (image_length l)) t
+Assembles l Unused old new (Err faults.Memory) o t = (t ≡ o) ⊎ KeepsBase l old new (resized o (image_length l)) t
 
 -- all entries below k can be had, and k can't
 abbrev pub IsLeast : (ℕ → Type 0) → ℕ → Type 0
@@ -122,8 +125,9 @@ module _ {S V : Type 0} (store : StoreWords S) (view : ViewWords V) (t : Task) w
       (λ q. twice (asks_below (want_id t.listing t.plan) spared t.plan.wants q)) old.chain new.chain
 
   -- what an assembly has done, from these bytes and sources to those
-  pub record IsAssembled (o p : Option (List ℕ)) (old new : Sources S V) (answer : Result Report ExtractFault) : Type 0 where
-    pub bytes : WhereTold o p (Assembles t.listing old.faults new.faults answer)
+  pub record IsAssembled (o p : Option (List ℕ)) (old new : Sources S V) (answer : Result Report ExtractFault)
+      : Type 0 where
+    pub bytes : WhereTold o p (Assembles t.listing (AreUnused old new) old.faults new.faults answer)
     pub lost : EndsBy (IsUnobtained o old new) (Rose old.faults new.faults) answer
     pub had : Telling view.tells (views_of view old.seeds) → (cached maps : List (Map (List ℕ)))
         → cached_in old.cache ≡ Some cached → map store.holds old.chain.stores ≡ map Some maps

@@ -7,4 +7,3 @@ pub mod Settling
 pub mod Assemblies
 pub mod Obtainable
 pub mod Economy
-pub mod Laying

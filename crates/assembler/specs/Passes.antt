@@ -66,7 +66,8 @@ abbrev pub twice : ℕ → ℕ
 twice n = n + n
 
 module _ {S V : Type 0} (store : StoreWords S) (view : ViewWords V) where
-  -- what holds where nothing fails, of all that the cache and the stores hold, which have chunks of one size for each id
+  -- what holds where nothing fails, of all that the cache and the stores hold, which have chunks of one size for each
+  -- id
   abbrev pub WhereQuiet : Listing → Sources S V → Sources S V
       → (List (Map (List ℕ)) → List (Map (List ℕ)) → Type 0) → Type 0
   WhereQuiet l old new P = (cached maps : List (Map (List ℕ))) → SourcesQuiet store view old new cached maps
@@ -127,5 +128,6 @@ module _ {S V : Type 0} (store : StoreWords S) (view : ViewWords V) where
       pub failed : result ≡ Err faults.TargetFault → EndsTorn t a.fates b.fates (λ i. WhereTold a.held.bytes
           b.held.bytes (FillsTorn t.listing a.fates b.fates a.faults b.faults i))
       pub left : IfErr result (λ e. (e ≡ faults.Memory) ⊎ (Rose a.faults b.faults ⊎ ((i : ℕ) → i < count_of t.listing
-          → settled b.fates i ≡ false → (lost : Lost) × (want_at t.plan lost.entry ≡ want_at t.plan i) × Loses a b lost)))
+          → settled b.fates i ≡ false
+          → (lost : Lost) × (want_at t.plan lost.entry ≡ want_at t.plan i) × Loses a b lost)))
       pub memory : result ≡ Err faults.Memory → MayLack store a.cache

@@ -3,7 +3,7 @@
 ghost use Rattle.std.specs.Prelude.{◌≡◌, ℕ, ◌+◌, ◌≤◌, length, None, IfSome, IfOk, vec_len};
 ghost use Rattle.std.specs.List.{All};
 ghost use Rattle.assembler.specs.Assemblies.{Assembles, IsAssembled};
-ghost use Rattle.assembler.specs.OneKit.{ByPlan, lent};
+ghost use Rattle.assembler.specs.OneKit.{ByPlan, IsUnused, lent};
 ghost use Rattle.caibx_codec.specs.Listing.{count_of, image_length, kind_of};
 ghost use Rattle.chunk_sources.specs.Caches.{seen};
 ghost use Rattle.chunk_sources.specs.Sources.{sources};
@@ -11,12 +11,12 @@ ghost use Rattle.dsy_base.specs.Bytes.{resized};
 ghost use Rattle.dsy_base.specs.Counts.{Quiet};
 ghost use Rattle.extract_plan.specs.Deal.{AreWants, Deal, IsPlan};
 ghost use Rattle.extract_plan.specs.Places.{PlacesKnown};
+ghost use Rattle.owned_shards.specs.Wholes.{IsOver};
 ghost use Rattle.range_ledger.specs.Fills.{WhereTold};
 ghost use Rattle.range_survey.specs.Reports.{right_below};
 
 use crate::fault::ExtractFault;
 use crate::passes::settle_all;
-use crate::whole::survey;
 use crate::work::{Wants, Work};
 use cache_store::shelf::CacheShelf;
 use caibx_codec::index::Index;
@@ -27,6 +27,7 @@ use dsy_base::folder::Folder;
 use dsy_base::view::{Part, Target, View};
 use extract_plan::plan::Plan;
 use extract_plan::seeds::SeedIndex;
+use owned_shards::survey::survey_shards;
 use range_ledger::ledger::Ledger;
 use range_ledger::run::RunName;
 use range_survey::report::Report;
@@ -52,7 +53,7 @@ fn assemble_with<R: RunName, T: Target, S: Store, V: View, F: Folder>(
     kit: Kit<S, V>,
     cache: Option<CacheShelf<F>>,
 ) -> Ended<T, S, V, F>
-    requires listing { index.now ≡ R.run.listing }
+    requires over { IsOver R.run index.now plan.now T.tells (T.held target) }
     requires wants { AreWants index.now plan.now.wants plan.now.want_of }
     requires places { PlacesKnown index.now plan.now places.now (length kit.seeds.items) }
     requires kind { kit.chain.kind ≡ kind_of index.now }
@@ -87,15 +88,10 @@ fn assemble_with<R: RunName, T: Target, S: Store, V: View, F: Folder>(
             answer: Err(ExtractFault::Memory),
         };
     };
-    let Kit { chain, seeds, .. } = kit;
-    match survey::<R, T>(alloc, index, target, &mut buffer) {
+    match survey_shards::<R, T>(alloc, index, plan, target, &mut buffer) {
         Err((target, fault)) => Ended {
             target,
-            kit: Kit {
-                chain,
-                seeds,
-                buffer,
-            },
+            kit,
             cache,
             answer: Err(match fault {
                 IoFault::Failed => ExtractFault::TargetFault,
@@ -105,6 +101,7 @@ fn assemble_with<R: RunName, T: Target, S: Store, V: View, F: Folder>(
         Ok(ledger) => {
             // Only for its contract: what is settled is right.
             ledger.rules();
+            let Kit { chain, seeds, .. } = kit;
             let mut work = Work {
                 ledger,
                 kit: Kit {
@@ -163,8 +160,10 @@ pub fn assemble<T: Target, S: Store, V: View, F: Folder>(
     requires kind { All (λ k. k.chain.kind ≡ kind_of index.now) kits.items }
     requires cache { IfSome (seen F.Look cache) (λ s. s.kind ≡ kind_of index.now) }
     requires unnamed { (F.pairs ≡ None) × (F.stores ≡ None) }
-    ensures bytes { WhereTold (T.held target).bytes (T.held result.target).bytes
-        (Assembles index.now (T.faults target) (T.faults result.target) result.answer) }
+    ensures bytes { WhereTold (T.held target).bytes (T.held result.target).bytes (Assembles index.now
+        (IsUnused (lent (T.faults target) kits.items (seen F.Look cache))
+        (lent (T.faults result.target) result.kits.items (seen F.Look result.cache)))
+        (T.faults target) (T.faults result.target) result.answer) }
     ensures assembled { ByPlan index.now places.now (lent (T.faults target) kits.items (seen F.Look cache))
         (lent (T.faults result.target) result.kits.items (seen F.Look result.cache))
         (λ t a b. IsAssembled S.Store V.View t (T.held target).bytes (T.held result.target).bytes a b result.answer) }

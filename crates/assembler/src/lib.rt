@@ -9,5 +9,4 @@ mod passes;
 mod put;
 mod retry;
 mod settle;
-mod whole;
 mod work;

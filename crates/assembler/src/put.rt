@@ -1,6 +1,7 @@
 //! Writing a chunk into the ranges of a want's entries.
 
-ghost use Rattle.std.specs.Prelude.{◌≡◌, ◌⊎◌, ℕ, ◌<◌, ◌≤◌, length, slice_index, true, false, IfSome, OnOk, OnErr, is_some};
+ghost use Rattle.std.specs.Prelude.{◌≡◌, ◌⊎◌, ℕ, ◌<◌, ◌≤◌, length, slice_index};
+ghost use Rattle.std.specs.Prelude.{true, false, IfSome, OnOk, OnErr, is_some};
 ghost use Rattle.assembler.specs.Economy.{Tallied};
 ghost use Rattle.caibx_codec.specs.Listing.{count_of, id_of, kind_of, size_of};
 ghost use Rattle.chunk_sources.specs.Wants.{IsAmong};

@@ -15,7 +15,8 @@ use dsy_base::view::View;
 use range_ledger::ledger::Ledger;
 
 /// Settles the open entries in rising order, with each want once, which is then marked as tried. Goes on past a want
-/// whose chunk no source gives, and then answers for the first such entry. A write that fails and want of memory end it.
+/// whose chunk no source gives, and then answers for the first such entry. A write that fails and want of memory end
+/// it.
 pub(crate) fn retry<E: Ledger, S: Store, V: View, F: Folder>(
     wants: &Wants<'_>,
     mut tried: Vec<bool>,

@@ -79,7 +79,8 @@ fn settle_open<E: Ledger, S: Store, V: View, F: Folder>(
     requires kind { chain.old.kind ≡ kind_of E.run.listing }
     requires unnamed { (F.pairs ≡ None) × (F.stores ≡ None) }
     requires cache { IfSome (seen F.Look cache.old) (λ s. s.kind ≡ chain.old.kind) }
-    ensures ok { OnOk result ((i : ℕ) → IsAmong opened.now.sought.entries.now i → settled (E.fates ledger.new) i ≡ true) }
+    ensures ok { OnOk result ((i : ℕ) → IsAmong opened.now.sought.entries.now i →
+        settled (E.fates ledger.new) i ≡ true) }
     ensures only { (i : ℕ) → settled (E.fates ledger.old) i ≡ false → settled (E.fates ledger.new) i ≡ true →
         IsAmong opened.now.sought.entries.now i }
     ensures had { Telling V.tells (views_of V.View seeds.old) → (cached maps : List (Map (List ℕ))) →
@@ -93,8 +94,8 @@ fn settle_open<E: Ledger, S: Store, V: View, F: Folder>(
         × WhereTold (E.held ledger.old).bytes (E.held ledger.new).bytes (FillsTorn E.run.listing (E.fates ledger.old)
         (E.fates ledger.new) (E.faults ledger.old) (E.faults ledger.new) i) }
     ensures refused { Where (λ x. x.refused ≢ Refused.Memory → RefusedBy S.Store
-        (chunk_of (kind_of E.run.listing) opened.now.sought.id opened.now.size) chain.old.stores chain.new.stores x.refused)
-        (Unit {0}) result }
+        (chunk_of (kind_of E.run.listing) opened.now.sought.id opened.now.size) chain.old.stores chain.new.stores
+        x.refused) (Unit {0}) result }
     ensures missed { Where (λ x. x.refused ≢ Refused.Memory → CacheLacks (kind_of E.run.listing) opened.now.sought.id.0
         opened.now.size (seen F.Look cache.old) (seen F.Look cache.new)) (Unit {0}) result }
     ensures asked { Where (λ x. x.refused ≢ Refused.Memory → AskedLast S.Store V.View
@@ -113,8 +114,8 @@ fn settle_open<E: Ledger, S: Store, V: View, F: Folder>(
         (sources (E.faults ledger.old) seeds.old (seen F.Look cache.old) chain.old)
         (sources (E.faults ledger.new) seeds.new (seen F.Look cache.new) chain.new) cached maps →
         SettlesBy (source_among (settled (E.fates ledger.old))
-        (sought_chunk (kind_of E.run.listing) opened.now.sought opened.now.size) (views_of V.View seeds.old) cached maps)
-        (count_of E.run.listing) (E.fates ledger.old) (E.fates ledger.new) chain.old chain.new result }
+        (sought_chunk (kind_of E.run.listing) opened.now.sought opened.now.size) (views_of V.View seeds.old) cached
+        maps) (count_of E.run.listing) (E.fates ledger.old) (E.fates ledger.new) chain.old chain.new result }
 
     ensures grows { Grows (E.fates ledger.old) (E.fates ledger.new) }
     ensures bytes { WhereTold (E.held ledger.old).bytes (E.held ledger.new).bytes (Fills E.run.listing

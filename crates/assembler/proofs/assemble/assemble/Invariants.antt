@@ -1,7 +1,22 @@
-use Rattle.std.proofs.Common.{[], true}
+use Rattle.std.proofs.Common.{ℕ, List, [], Option, Some, None, true}
+use Rattle.caibx_codec.specs.Listing.{image_length}
+use Rattle.dsy_base.specs.Bytes.{resized}
 use Rattle.extract_plan.specs.Deal.{deal_shards}
 use Rattle.assembler.proofs.assemble.assemble.Given as goal
 
--- the run is over this index
+-- the base of a target with these bytes; none where they aren't told
+unfoldable pub base_of : Option (List ℕ) → ℕ → List ℕ
+base_of None n = []
+base_of (Some y) n = resized y n
+
+-- the run is over this index and this target, and each entry may be filled
 abbrev pub ghosts-assemble_with : goal.ghosts-assemble_with
-ghosts-assemble_with g a = record { run = record { listing = a.index.now; base = []; shards = deal_shards a.plan.now; may = λ _. true; tells = true } }
+ghosts-assemble_with g a = record {
+  run = record {
+    listing = a.index.now;
+    base = base_of (g.T.View.held a.target).bytes (image_length a.index.now);
+    shards = deal_shards a.plan.now;
+    may = λ _. true;
+    tells = g.T.View.tells;
+  };
+}
