@@ -12,13 +12,14 @@ use Rattle.buzhash_cut.specs.Sizes.{Sizes}
 use Rattle.caibx_codec.specs.Listing.{Listing, Rules, count_of, end_of, id_of, image_length, size_of, slice_of, start_of}
 use Rattle.caibx_codec.specs.Right.{IsRight, IsRightAt}
 use Rattle.chunk_sources.specs.Economy.{source_of}
+use Rattle.chunk_sources.specs.Sources.{views_of}
 use Rattle.chunk_store.specs.declared.id.ChunkId.{ChunkId}
 use Rattle.chunk_store.specs.declared.id.DigestKind.TheVariants as kinds
 use Rattle.dsy_base.specs.Bytes.{Held, resized}
 use Rattle.dsy_base.specs.Maps.{Map}
+use Rattle.dsy_base.specs.declared.view.View.{Ghosts as ViewWords}
 use Rattle.extract_plan.specs.Deal.{AreWants, Deal}
 use Rattle.extract_plan.specs.Places.{IsSeedIndex, Placed}
-use Rattle.extract_plan.specs.Seeds.{seed_held}
 use Rattle.extract_plan.specs.declared.seed.Seed.{Seed}
 use Rattle.image_demo.proofs.FirstEntries.{sum_counted, wants_counted}
 use Rattle.image_demo.proofs.Generated.{length-bytes_after}
@@ -26,6 +27,7 @@ use Rattle.image_demo.proofs.Sources.{cached_none, fetched_each, seeded_each, ze
 use Rattle.image_demo.specs.Figures.{AreFigures, HasTwoPieces, IsDemoRefused, copied_of, fetched_of, figures_of, firsts, is_in_seed, is_in_zeros, kept_entries, seeded_of}
 use Rattle.image_demo.specs.Images.{image_of, seed_of, usual_sizes}
 use Rattle.image_demo.specs.Stocks.{IsNamed, IsStocked, demo_fault}
+use Rattle.image_demo.specs.Tasks.{task_of}
 use Rattle.image_demo.specs.declared.figures.Figures.{Figures}
 use Rattle.image_store.specs.PutChunks.{HoldsAll, IsStored, Stands}
 use Rattle.store_chain.specs.Chains.{Chained}
@@ -42,8 +44,8 @@ zeros_of : (l : Listing) → base_of l ≡ replicate (image_length l) 0
 zeros_of l = zeros_filled (image_length l)
 
 module _ (l m : Listing) (d : Deal) (x : Placed) (wants : AreWants l d.wants d.want_of) (index : IsSeedIndex l d (m ∷ []) x) (held : Held) (t : List ℕ) (told : held.bytes ≡ Some t) (right : IsRight t m) (rules : Rules m) (size : image_length m ≡ held.size) (chunks : Map (List ℕ)) where
-  pub made_figures : (n : ℕ) (r : Report) → ((i : ℕ) → i < count_of l → IsObtainable l d x (base_of l) (Some held ∷ []) (chunks ∷ []) i)
-      → ReportsExactly (source_of l d x (base_of l) (Some held ∷ []) [] (chunks ∷ [])) d.wants r → r.kept + r.copied + r.seeded + r.cached + r.fetched ≡ count_of l → r.kept ≡ right_below l (base_of l) (count_of l)
+  pub made_figures : (n : ℕ) (r : Report) → ((i : ℕ) → i < count_of l → IsObtainable (task_of l d x) (base_of l) (Some held ∷ []) (chunks ∷ []) i)
+      → ReportsExactly (source_of (task_of l d x) (base_of l) (Some held ∷ []) [] (chunks ∷ [])) d.wants r → r.kept + r.copied + r.seeded + r.cached + r.fetched ≡ count_of l → r.kept ≡ right_below l (base_of l) (count_of l)
       → (f : Figures) → f ≡ record { bytes = n; chunks = count_of l; distinct = d.wants; kept = r.kept; copied = r.copied; seeded = r.seeded; fetched = r.fetched } → f ≡ figures_of l m n
   made_figures n r obtainable reported all right_ones f is = is ∙ (λ i. record { bytes = n; chunks = count_of l; distinct = distinct i; kept = kept i; copied = copied i; seeded = seeded i; fetched = fetched i }) where
     distinct : d.wants ≡ firsts l (λ i. true)
@@ -74,7 +76,7 @@ module _ (l : Listing) (d : Deal) (x : Placed) (base : List ℕ) (views : List (
       length-take-le (end_of l k - start_of l k) (drop (start_of l k) t) (omega (arith, left, all, within, rises))
 
   -- where the store holds bytes of each name, what can't be had shows two unequal pieces of one name
-  pub two_pieces : (held : Option (Map (List ℕ))) (stocked : IsStocked l t held) (k : ℕ) → k < count_of l → (IsObtainable l d x base views (stocked.map ∷ []) k → ⊥) → (id : ChunkId) → id.0 ≡ id_of l k → HasTwoPieces id.0
+  pub two_pieces : (held : Option (Map (List ℕ))) (stocked : IsStocked l t held) (k : ℕ) → k < count_of l → (IsObtainable (task_of l d x) base views (stocked.map ∷ []) k → ⊥) → (id : ChunkId) → id.0 ≡ id_of l k → HasTwoPieces id.0
   two_pieces held stocked k inside lacked id is = elim (stocked.each (id_of l k)) [
     | inl none ↦ absurd (clash (stocked.all k inside).0 (sym none ∙ (stocked.all k inside).1))
     | inr s ↦ record {
@@ -99,7 +101,7 @@ module _ (l : Listing) (d : Deal) (x : Placed) (base : List ℕ) (views : List (
     clash b e = cc
 
   -- so a refusal names them
-  pub refusal : (held : Option (Map (List ℕ))) (stocked : IsStocked l t held) (fault : ExtractFault) → Verdict l (IsObtainable l d x base views (stocked.map ∷ [])) (Err fault) → IsNamed {A = Report} l (Err fault) → IsDemoRefused (demo_fault fault)
+  pub refusal : (held : Option (Map (List ℕ))) (stocked : IsStocked l t held) (fault : ExtractFault) → Verdict l (IsObtainable (task_of l d x) base views (stocked.map ∷ [])) (Err fault) → IsNamed {A = Report} l (Err fault) → IsDemoRefused (demo_fault fault)
   refusal held stocked (faults.Missing k id) verdict named = two_pieces held stocked k named.0 verdict.1 id named.1
   refusal held stocked (faults.Damaged k id store shows) verdict named = two_pieces held stocked k named.0 verdict.1 id named.1
   refusal held stocked (faults.StoreFault store) verdict named = tt
@@ -111,26 +113,26 @@ told_bytes None h = absurd (cc)
 told_bytes (Some t) h = (t, refl)
 
 -- with one store and one seed, and an empty target
-module _ {S V : Type 0} (holds : S → Option (Map (List ℕ))) (view : V → Held) (store : S) (v : V) (l : Listing) (d : Deal) (x : Placed) (chain : Chained S) (seeds : List (Seed V)) (told : Option (List ℕ))
+module _ {S V : Type 0} (holds : S → Option (Map (List ℕ))) (view : ViewWords V) (store : S) (v : V) (l : Listing) (d : Deal) (x : Placed) (chain : Chained S) (seeds : List (Seed V)) (told : Option (List ℕ))
     (one : chain ≡ record { stores = store ∷ []; asks = 0; kind = kinds.Sha512T256 }) (seeded : seeds ≡ record { view = Some v } ∷ []) (empty : told ≡ Some []) (chunks : Map (List ℕ)) (is : holds store ≡ Some chunks) where
   stores_told : map holds chain.stores ≡ Some chunks ∷ []
   stores_told = ap (λ c. map holds c.stores) one ∙ ap (λ o. o ∷ []) is
 
   pub judged : (r s : Result Report ExtractFault) → r ≡ s
-      → ((maps : List (Map (List ℕ))) → map holds chain.stores ≡ map Some maps → IfSome told (λ o. Verdict l (IsObtainable l d x (resized o (image_length l)) (map (seed_held view) seeds) maps) r))
-      → Verdict l (IsObtainable l d x (base_of l) (Some (view v) ∷ []) (chunks ∷ [])) s
+      → ((maps : List (Map (List ℕ))) → map holds chain.stores ≡ map Some maps → IfSome told (λ o. Verdict l (IsObtainable (task_of l d x) (resized o (image_length l)) (views_of view seeds) maps) r))
+      → Verdict l (IsObtainable (task_of l d x) (base_of l) (Some (view.held v) ∷ []) (chunks ∷ [])) s
   judged r s same judge =
-      let h = subst (λ o. IfSome o (λ b. Verdict l (IsObtainable l d x (resized b (image_length l)) (map (seed_held view) seeds) (chunks ∷ [])) r)) empty (judge (chunks ∷ []) stores_told) in
-      let k = subst (λ z. Verdict l (IsObtainable l d x (base_of l) (map (seed_held view) z) (chunks ∷ [])) r) seeded h in
-      subst (λ e. Verdict l (IsObtainable l d x (base_of l) (Some (view v) ∷ []) (chunks ∷ [])) e) same k
+      let h = subst (λ o. IfSome o (λ b. Verdict l (IsObtainable (task_of l d x) (resized b (image_length l)) (views_of view seeds) (chunks ∷ [])) r)) empty (judge (chunks ∷ []) stores_told) in
+      let k = subst (λ z. Verdict l (IsObtainable (task_of l d x) (base_of l) (views_of view z) (chunks ∷ [])) r) seeded h in
+      subst (λ e. Verdict l (IsObtainable (task_of l d x) (base_of l) (Some (view.held v) ∷ []) (chunks ∷ [])) e) same k
 
   pub told_report : (r : Result Report ExtractFault) (report : Report) → r ≡ Ok report
-      → ((maps : List (Map (List ℕ))) → map holds chain.stores ≡ map Some maps → IfSome told (λ o. IfOk r (ReportsExactly (source_of l d x (resized o (image_length l)) (map (seed_held view) seeds) [] maps) d.wants)))
-      → ReportsExactly (source_of l d x (base_of l) (Some (view v) ∷ []) [] (chunks ∷ [])) d.wants report
+      → ((maps : List (Map (List ℕ))) → map holds chain.stores ≡ map Some maps → IfSome told (λ o. IfOk r (ReportsExactly (source_of (task_of l d x) (resized o (image_length l)) (views_of view seeds) [] maps) d.wants)))
+      → ReportsExactly (source_of (task_of l d x) (base_of l) (Some (view.held v) ∷ []) [] (chunks ∷ [])) d.wants report
   told_report r report same says =
-      let h = subst (λ o. IfSome o (λ b. IfOk r (ReportsExactly (source_of l d x (resized b (image_length l)) (map (seed_held view) seeds) [] (chunks ∷ [])) d.wants))) empty (says (chunks ∷ []) stores_told) in
-      let k = subst (λ z. IfOk r (ReportsExactly (source_of l d x (base_of l) (map (seed_held view) z) [] (chunks ∷ [])) d.wants)) seeded h in
-      subst (λ e. IfOk e (ReportsExactly (source_of l d x (base_of l) (Some (view v) ∷ []) [] (chunks ∷ [])) d.wants)) same k
+      let h = subst (λ o. IfSome o (λ b. IfOk r (ReportsExactly (source_of (task_of l d x) (resized b (image_length l)) (views_of view seeds) [] (chunks ∷ [])) d.wants))) empty (says (chunks ∷ []) stores_told) in
+      let k = subst (λ z. IfOk r (ReportsExactly (source_of (task_of l d x) (base_of l) (views_of view z) [] (chunks ∷ [])) d.wants)) seeded h in
+      subst (λ e. IfOk e (ReportsExactly (source_of (task_of l d x) (base_of l) (Some (view.held v) ∷ []) [] (chunks ∷ [])) d.wants)) same k
 
 -- a store that was empty holds each chunk
 pub stocked : (l : Listing) (told : Option (List ℕ)) (old new : Option (Map (List ℕ))) → old ≡ Some (λ _. None) → is_some new ≡ is_some old → IfSome new (λ m. HoldsAll l (count_of l) m)

@@ -1,5 +1,5 @@
 -- An assembly from sources that never fail.
-use Rattle.std.proofs.Common.{◌≡◌, ℕ, zero, suc, List, [], ◌∷◌, map, slice_index, Option, Some, None, Bool, IsTrue, refl, arith, inl, inr, sym, subst, unwrap_or, Result, Ok, Err, IfOk, IfSome, ◌<◌}
+use Rattle.std.proofs.Common.{◌≡◌, ℕ, zero, suc, List, [], ◌∷◌, map, slice_index, Option, Some, None, IsTrue, refl, arith, inl, inr, sym, subst, unwrap_or, Result, Ok, Err, IfOk, IfSome, ◌<◌}
 use Rattle.std.specs.Option.{option_map}
 use Rattle.assembler.specs.Faults.{fault_of}
 use Rattle.assembler.specs.Passes.{EndsBy}
@@ -8,14 +8,16 @@ use Rattle.assembler.specs.declared.fault.Lost.{Lost}
 use Rattle.cache_store.specs.Shelves.{Shelf}
 use Rattle.caibx_codec.specs.Listing.{Listing, count_of, id_of}
 use Rattle.chunk_sources.specs.Caches.{HaveOneSize, Stocked, cache_faults}
-use Rattle.chunk_sources.specs.Sources.{SourcesQuiet}
+use Rattle.chunk_sources.specs.Sources.{SourcesQuiet, sources}
 use Rattle.chunk_store.specs.declared.id.ChunkId.{ChunkId}
-use Rattle.dsy_base.specs.Bytes.{Held}
+use Rattle.chunk_store.specs.declared.store.Store.{Ghosts as StoreWords}
 use Rattle.dsy_base.specs.Counts.{Quiet, Rose}
 use Rattle.dsy_base.specs.Maps.{Map}
+use Rattle.dsy_base.specs.declared.view.View.{Ghosts as ViewWords}
 use Rattle.extract_plan.specs.Seeds.{faults_in}
 use Rattle.extract_plan.specs.declared.seed.Seed.{Seed}
 use Rattle.image_demo.specs.Stocks.{IsNamed}
+use Rattle.store_chain.specs.Chains.{Chained}
 use Rattle.store_chain.specs.Faults.{EachQuiet}
 use Rattle.store_chain.specs.declared.refused.Refused.{Refused}
 use Rattle.store_chain.specs.declared.refused.Refused.TheVariants as refused
@@ -41,18 +43,18 @@ no_cache : (Takes : List ℕ → List ℕ → Type 0) (e : Option Shelf) → Sto
 no_cache Takes None h = refl
 no_cache Takes (Some s) h = absurd h
 
-module _ {S V : Type 0} (holds : S → Option (Map (List ℕ))) (store_faults : S → ℕ) (view : V → Held) (view_faults : V → ℕ) where
-  pub nothing_fails : (tells : Bool) (old new : ℕ) (s0 s1 : List (Seed V)) (e1 : Option Shelf) (c0 c1 : List S) (maps : List (Map (List ℕ))) (Takes : List ℕ → List ℕ → Type 0)
-      → IsTrue tells → old ≡ 0 → new ≡ 0 → ((s : S) → store_faults s ≡ 0) → ((v : V) → view_faults v ≡ 0) → Stocked Takes None e1 → map holds c0 ≡ map Some maps
-      → SourcesQuiet holds store_faults view view_faults tells old new s0 s1 None e1 c0 c1 [] maps
-  nothing_fails tells old new s0 s1 e1 c0 c1 maps Takes t o n stores views none told = record {
+module _ {S V : Type 0} (store : StoreWords S) (view : ViewWords V) where
+  pub nothing_fails : (old new : ℕ) (s0 s1 : List (Seed V)) (e1 : Option Shelf) (c0 c1 : Chained S) (maps : List (Map (List ℕ))) (Takes : List ℕ → List ℕ → Type 0)
+      → IsTrue view.tells → old ≡ 0 → new ≡ 0 → ((s : S) → store.faults s ≡ 0) → ((v : V) → view.faults v ≡ 0) → Stocked Takes None e1 → map store.holds c0.stores ≡ map Some maps
+      → SourcesQuiet store view (sources old s0 None c0) (sources new s1 e1 c1) [] maps
+  nothing_fails old new s0 s1 e1 c0 c1 maps Takes t o n stores views none told = record {
     target = still old new o n;
     telling = λ _. t;
-    seeds = all_still (faults_in view_faults) (seed_still view_faults views) s0 s1;
+    seeds = all_still (faults_in view.faults) (seed_still view.faults views) s0 s1;
     told_cache = refl;
     cache = still 0 (cache_faults e1) refl (no_cache Takes e1 none);
     told = told;
-    stores = all_still store_faults stores c0 c1;
+    stores = all_still store.faults stores c0.stores c1.stores;
   }
 
 -- where there is no cache, sizes don't matter

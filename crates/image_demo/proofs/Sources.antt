@@ -23,6 +23,7 @@ use Rattle.extract_plan.specs.Places.{IsSeedIndex, Placed, nth_place, place, pla
 use Rattle.extract_plan.specs.declared.seed.SeedPlace.{SeedPlace}
 use Rattle.image_demo.proofs.FirstEntries.{alike_decides, any_filtered, any_in_range, any_of_range, entries_alike}
 use Rattle.image_demo.specs.Figures.{is_alike, is_in_seed, is_in_zeros}
+use Rattle.image_demo.specs.Tasks.{task_of}
 use Rattle.range_survey.specs.Fates.{is_right_at}
 use Rattle.range_survey.specs.declared.fate.Fate.{Fate}
 use Rattle.range_survey.specs.declared.fate.Fate.TheVariants as fate
@@ -127,7 +128,7 @@ module _ (l m : Listing) (d : Deal) (x : Placed) (wants : AreWants l d.wants d.w
       stored kind id size (suc k, n, inside, is, rest) = absurd (omega (arith, inside))
 
       -- a chunk that can be had, and is neither in zeros nor in the seed, is in the store
-      fetched : (i : ℕ) → i < count_of l → IsObtainable l d x base views (map ∷ []) i → is_in_zeros l i ≡ false → is_in_seed l m i ≡ false
+      fetched : (i : ℕ) → i < count_of l → IsObtainable (task_of l d x) base views (map ∷ []) i → is_in_zeros l i ≡ false → is_in_seed l m i ≡ false
           → stores_give (kind_of l) (id_of l i) (size_of l i) (map ∷ []) ≡ true
       fetched i below (inl alike) none n = absurd (clash (sym none ∙ right_alike i alike)) where
         clash : false ≡ true → ⊥
@@ -138,7 +139,7 @@ module _ (l m : Listing) (d : Deal) (x : Placed) (wants : AreWants l d.wants d.w
       fetched i below (inr (inr held_there)) none n = stored _ _ _ held_there
 
       abbrev source : ℕ → Fate
-      source w = source_of l d x base views [] (map ∷ []) w
+      source w = source_of (task_of l d x) base views [] (map ∷ []) w
 
       stands : (i : ℕ) → i < count_of l → source (want i) ≡ (if is_in_zeros l i then fate.Kept else if is_in_seed l m i then fate.Seeded else if stores_give (kind_of l) (id_of l i) (size_of l i) (map ∷ []) then fate.Fetched else fate.Open)
       stands i below = (λ k. pick (kept_alike i below k) (seen k) (stores_give (kind_of l) (ids.0 k) (ids.1 k) (map ∷ []))) where
@@ -154,7 +155,7 @@ module _ (l m : Listing) (d : Deal) (x : Placed) (wants : AreWants l d.wants d.w
         seen : seeds_give views (found i) (want_id l d (want i)) ≡ is_in_seed l m i
         seen = ap (seeds_give views (found i)) ids.0 ∙ seed_gives i below
 
-      module _ (obtainable : (i : ℕ) → i < count_of l → IsObtainable l d x base views (map ∷ []) i) where
+      module _ (obtainable : (i : ℕ) → i < count_of l → IsObtainable (task_of l d x) base views (map ∷ []) i) where
         one_seeded : (a b c : Bool) → one_if fate.Seeded (if a then fate.Kept else if b then fate.Seeded else if c then fate.Fetched else fate.Open) ≡ (if not a && b then 1 else 0)
         one_seeded true b c = refl
         one_seeded false true c = refl

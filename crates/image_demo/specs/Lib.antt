@@ -1,3 +1,4 @@
 pub mod Images
 pub mod Figures
 pub mod Stocks
+pub mod Tasks

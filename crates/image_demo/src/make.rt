@@ -9,13 +9,14 @@ ghost use Rattle.range_survey.specs.Reports.{right_below};
 ghost use Rattle.caibx_codec.specs.Listing.{count_of, image_length, kind_of};
 ghost use Rattle.caibx_codec.specs.Right.{IsRight};
 ghost use Rattle.chunk_sources.specs.Economy.{source_of};
+ghost use Rattle.chunk_sources.specs.Sources.{views_of};
 ghost use Rattle.dsy_base.specs.Bytes.{resized};
 ghost use Rattle.dsy_base.specs.Maps.{Map};
 ghost use Rattle.extract_plan.specs.Deal.{IsPlan};
 ghost use Rattle.extract_plan.specs.Places.{PlacesKnown};
-ghost use Rattle.extract_plan.specs.Seeds.{seed_held};
 ghost use Rattle.image_demo.specs.Figures.{IsDemoRefused, figures_of};
 ghost use Rattle.image_demo.specs.Stocks.{IsNamed, IsStocked, demo_fault};
+ghost use Rattle.image_demo.specs.Tasks.{task_of};
 
 use crate::cut::Indexed;
 use crate::fault::DemoFault;
@@ -53,13 +54,13 @@ fn assemble_quietly<T: Target, S: Store, V: View>(
     requires tells { IsTrue V.tells }
     requires sure { (IsTrue T.never_fails) × (IsTrue S.never_fails) × (IsTrue V.never_fails) }
     ensures verdict { (maps : List (Map (List ℕ))) → map S.holds kit.chain.stores ≡ map Some maps →
-        IfSome (T.held target).bytes (λ o. Verdict index.now (IsObtainable index.now planned.now.plan
-        planned.now.places (resized o (image_length index.now)) (map (seed_held V.held) kit.seeds.items) maps)
+        IfSome (T.held target).bytes (λ o. Verdict index.now (IsObtainable (task_of index.now planned.now.plan
+        planned.now.places) (resized o (image_length index.now)) (views_of V.View kit.seeds.items) maps)
         result.answer) }
     ensures reported { (maps : List (Map (List ℕ))) → map S.holds kit.chain.stores ≡ map Some maps →
-        IfSome (T.held target).bytes (λ o. IfOk result.answer (ReportsExactly (source_of index.now planned.now.plan
-        planned.now.places (resized o (image_length index.now)) (map (seed_held V.held) kit.seeds.items) [] maps)
-        planned.now.plan.wants)) }
+        IfSome (T.held target).bytes (λ o. IfOk result.answer (ReportsExactly (source_of (task_of index.now
+        planned.now.plan planned.now.places) (resized o (image_length index.now)) (views_of V.View kit.seeds.items) []
+        maps) planned.now.plan.wants)) }
     ensures report { IfOk result.answer
         (λ r. r.kept + r.copied + r.seeded + r.cached + r.fetched ≡ count_of index.now) }
     ensures kept { IfOk result.answer (λ r. IfSome (T.held target).bytes

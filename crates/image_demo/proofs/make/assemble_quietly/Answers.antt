@@ -1,4 +1,4 @@
-use Rattle.std.proofs.Common.{◌≡◌, ◌∙◌, ℕ, List, sym}
+use Rattle.std.proofs.Common.{◌≡◌, ◌∙◌, ℕ, List, refl, sym}
 use Rattle.assembler.proofs.OnePlan.{one_of}
 use Rattle.range_survey.specs.Reports.{right_below}
 use Rattle.range_survey.specs.declared.report.Report.{Report}
@@ -6,6 +6,7 @@ use Rattle.caibx_codec.specs.Listing.{count_of, image_length}
 use Rattle.chunk_sources.specs.Caches.{TakesListed}
 use Rattle.dsy_base.specs.Bytes.{resized}
 use Rattle.image_demo.proofs.Quiet.{named_by, no_sizes, nothing_fails, once_quiet, still}
+use Rattle.image_demo.specs.Tasks.{task_of}
 use Rattle.image_demo.proofs.make.assemble_quietly.Goals as goal
 
 pub returns-clause-verdict : goal.returns-clause-verdict
@@ -13,8 +14,9 @@ returns-clause-verdict g c = λ maps told.
     let ended = c.assemble-ended.ensures in
     let kits = c.assemble-ended.result.kits in
     let j = one_of kits.items (sym kits.ok.0 ∙ ended.size) in
-    ended.exactly.so c.args.planned.now.plan c.args.kit j.0 c.requires.plan c.in-Ok.ensures.items j.1 _ maps
-    (nothing_fails g.S.Store.holds g.S.Store.faults g.V.View.held g.V.View.faults _ _ _ _ _ _ _ _ maps (TakesListed g.S.Store.holds c.args.index.now c.args.kit.chain.stores) c.requires.tells (g.met.T.View.sure _ c.requires.sure.0) (g.met.T.View.sure _ c.requires.sure.0) (λ s. g.met.S.Store.sure s c.requires.sure.1) (λ v. g.met.V.View.sure v c.requires.sure.2) (ended.stocked.so c.args.kit j.0 c.in-Ok.ensures.items j.1) told)
+    let done = ended.assembled.so (task_of c.args.index.now c.args.planned.now.plan c.args.planned.now.places) c.args.kit j.0 refl refl c.requires.plan c.in-Ok.ensures.items j.1 in
+    done.exactly _ maps
+    (nothing_fails g.S.Store g.V.View _ _ _ _ _ _ _ maps (TakesListed g.S.Store c.args.index.now c.args.kit.chain.stores) c.requires.tells (g.met.T.View.sure _ c.requires.sure.0) (g.met.T.View.sure _ c.requires.sure.0) (λ s. g.met.S.Store.sure s c.requires.sure.1) (λ v. g.met.V.View.sure v c.requires.sure.2) done.stocked told)
     (no_sizes c.args.index.now maps)
 
 pub returns-clause-reported : goal.returns-clause-reported
@@ -22,8 +24,9 @@ returns-clause-reported g c = λ maps told.
     let ended = c.assemble-ended.ensures in
     let kits = c.assemble-ended.result.kits in
     let j = one_of kits.items (sym kits.ok.0 ∙ ended.size) in
-    ended.reported.so c.args.planned.now.plan c.args.kit j.0 c.requires.plan c.in-Ok.ensures.items j.1 _ maps
-    (nothing_fails g.S.Store.holds g.S.Store.faults g.V.View.held g.V.View.faults _ _ _ _ _ _ _ _ maps (TakesListed g.S.Store.holds c.args.index.now c.args.kit.chain.stores) c.requires.tells (g.met.T.View.sure _ c.requires.sure.0) (g.met.T.View.sure _ c.requires.sure.0) (λ s. g.met.S.Store.sure s c.requires.sure.1) (λ v. g.met.V.View.sure v c.requires.sure.2) (ended.stocked.so c.args.kit j.0 c.in-Ok.ensures.items j.1) told)
+    let done = ended.assembled.so (task_of c.args.index.now c.args.planned.now.plan c.args.planned.now.places) c.args.kit j.0 refl refl c.requires.plan c.in-Ok.ensures.items j.1 in
+    done.reported _ maps
+    (nothing_fails g.S.Store g.V.View _ _ _ _ _ _ _ maps (TakesListed g.S.Store c.args.index.now c.args.kit.chain.stores) c.requires.tells (g.met.T.View.sure _ c.requires.sure.0) (g.met.T.View.sure _ c.requires.sure.0) (λ s. g.met.S.Store.sure s c.requires.sure.1) (λ v. g.met.V.View.sure v c.requires.sure.2) done.stocked told)
     (no_sizes c.args.index.now maps)
 
 pub returns-clause-kept : goal.returns-clause-kept
@@ -38,4 +41,5 @@ returns-clause-named g c =
     let ended = c.assemble-ended.ensures in
     let kits = c.assemble-ended.result.kits in
     let j = one_of kits.items (sym kits.ok.0 ∙ ended.size) in
-    named_by c.args.index.now _ _ c.assemble-ended.result.answer (λ x is. (is.listed, is.id_is)) (ended.lost.so c.args.planned.now.plan c.args.kit j.0 c.requires.plan c.in-Ok.ensures.items j.1)
+    let done = ended.assembled.so (task_of c.args.index.now c.args.planned.now.plan c.args.planned.now.places) c.args.kit j.0 refl refl c.requires.plan c.in-Ok.ensures.items j.1 in
+    named_by c.args.index.now _ _ c.assemble-ended.result.answer (λ x is. (is.listed, is.id_is)) done.lost
