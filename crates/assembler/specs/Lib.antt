@@ -7,3 +7,4 @@ pub mod Settling
 pub mod Assemblies
 pub mod Obtainable
 pub mod Economy
+pub mod Begun

@@ -16,8 +16,8 @@ ghost use Rattle.range_ledger.specs.Fills.{WhereTold};
 ghost use Rattle.range_survey.specs.Reports.{right_below};
 
 use crate::fault::ExtractFault;
-use crate::passes::settle_all;
-use crate::work::{Wants, Work};
+use crate::run::{Ended, run_surveyed};
+use crate::work::Wants;
 use cache_store::shelf::CacheShelf;
 use caibx_codec::index::Index;
 use chunk_sources::kit::Kit;
@@ -33,15 +33,6 @@ use range_ledger::run::RunName;
 use range_survey::report::Report;
 use std::alloc::{AllocError, Global};
 use std::marker::Brand;
-
-// What an assembly with one kit hands back.
-#[derive(Drop)]
-struct Ended<T: Target, S: Store, V: View, F: Folder> {
-    target: T,
-    kit: Kit<S, V>,
-    cache: Option<CacheShelf<F>>,
-    answer: Result<Report, ExtractFault>,
-}
 
 // The assembly with one kit, by a plan. `R` names the run.
 fn assemble_with<R: RunName, T: Target, S: Store, V: View, F: Folder>(
@@ -99,34 +90,18 @@ fn assemble_with<R: RunName, T: Target, S: Store, V: View, F: Folder>(
             }),
         },
         Ok(ledger) => {
-            // Only for its contract: what is settled is right.
-            ledger.rules();
             let Kit { chain, seeds, .. } = kit;
-            let mut work = Work {
-                ledger,
-                kit: Kit {
-                    chain,
-                    seeds,
-                    buffer,
-                },
-                cache,
+            let kit = Kit {
+                chain,
+                seeds,
+                buffer,
             };
             let wants = Wants {
                 index,
                 plan,
                 places,
             };
-            let answer = match settle_all(&wants, tried, &mut work) {
-                Ok(()) => Ok(work.ledger.report()),
-                Err(fault) => Err(fault),
-            };
-            let Work { ledger, kit, cache } = work;
-            Ended {
-                target: ledger.into_target(),
-                kit,
-                cache,
-                answer,
-            }
+            run_surveyed(&wants, tried, ledger, kit, cache)
         }
     }
 }

@@ -8,5 +8,6 @@ mod fill;
 mod passes;
 mod put;
 mod retry;
+mod run;
 mod settle;
 mod work;
