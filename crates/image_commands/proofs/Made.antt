@@ -1,5 +1,5 @@
 -- What storing an image makes of a folder that was taken.
-use Rattle.std.proofs.Common.{ap, arith, cond, inl, inr, sym, get_or, take, ◌≡◌, ◌⊎◌, ◌+◌, ◌≤◌, ℕ, [], ◌∷◌, List, Option, Some, None, IfSome, Result, unwrap_or}
+use Rattle.std.proofs.Common.{ap, arith, cond, inl, inr, subst, sym, get_or, take, ◌≡◌, ◌⊎◌, ◌+◌, ◌≤◌, ℕ, [], ◌∷◌, List, Option, Some, None, IfSome, Result, unwrap_or}
 use Rattle.std.proofs.lemmas.List.{take_all}
 use Rattle.std.proofs.lemmas.List.Elements.{All-cons, All-nil}
 use Rattle.std.proofs.lemmas.List.Sums.{get_or-le-sum_by}
@@ -8,20 +8,22 @@ use Rattle.std.specs.List.{sum_by}
 use Rattle.std.specs.Str.{bytes_eq}
 use Rattle.std.specs.Option.{option_map}
 use Rattle.caibx_codec.specs.Listing.{Listing, count_of, id_of}
-use Rattle.command_steps.proofs.Asking.{each_asked}
-use Rattle.command_steps.specs.AnyStores.{IsUnused, asked_in, location_in, with_those}
-use Rattle.command_steps.specs.Asking.{Asks, EachDialed}
+use Rattle.chunk_store.proofs.Sends.{sends_still}
+use Rattle.chunk_store.specs.Asks.{Ask, Sends}
+use Rattle.command_steps.proofs.AskedOnly.{each_asked_only}
+use Rattle.command_steps.specs.AnyStores.{IsUnused, asked_in, location_in, source_sent, with_those}
+use Rattle.command_steps.specs.Asking.{AsksOnly, EachDialed}
 use Rattle.command_steps.specs.declared.any_store.AnyStore.{AnyStore}
 use Rattle.command_words.specs.declared.command.Location.{Location}
 use Rattle.dsy_base.specs.Links.{DialState, Traffic}
 use Rattle.http_wire.specs.declared.reply.Method.TheVariants as method
 use Rattle.image_store.specs.Chopping.{times_listed}
-use Rattle.image_store.specs.PutChunks.{AsksEach, IsListedId}
+use Rattle.image_store.specs.PutChunks.{AsksEach, IsListedId, KeepsListed}
 use Rattle.buzhash_cut.specs.Sizes.{Sizes}
 use Rattle.chunk_store.specs.Folders.{chunks}
 use Rattle.image_commands.specs.Make.{MadeOf, once_listed}
 use Rattle.dsy_base.specs.Maps.{Map}
-use Rattle.image_store.specs.StoreImage.{AsksOf, Lists, PutsFilesOf, StoresImage}
+use Rattle.image_store.specs.StoreImage.{Lists, PutsFilesOf, SendsOf, StoresImage}
 use Rattle.image_store.specs.declared.put_chunks.MakeFault.{MakeFault}
 
 -- what storing made of the files of a folder
@@ -53,20 +55,27 @@ listed_once l q is =
     omega (arith, same, here, one)
 
 pub gets_image : {L D K : Type 0} (place : L → List ℕ) (state : D → DialState) (s : Sizes) (told : Option (List ℕ)) (old new : AnyStore L D K) (store : Location) (w v : Option (List Traffic)) → IsUnused state old → location_in place new ≡ store
-    → AsksOf s told (asked_in method.Get state old) (asked_in method.Get state new) → asked_in method.Head state new ≡ asked_in method.Head state old → v ≡ with_those state w new
-    → EachDialed (Asks (λ id. 0) (λ id. 0)) (store ∷ []) w v ⊎ ((l : Listing) × Lists s told l × EachDialed (Asks (once_listed l) (λ id. 0)) (store ∷ []) w v)
+    → SendsOf s told (asked_in method.Get state old) (asked_in method.Get state new) (source_sent state old) (source_sent state new) → asked_in method.Head state new ≡ asked_in method.Head state old → v ≡ with_those state w new
+    → EachDialed (AsksOnly (λ id. 0) (λ id. 0) (λ a. ⊥)) (store ∷ []) w v ⊎ ((l : Listing) × Lists s told l × EachDialed (AsksOnly (once_listed l) (λ id. 0) (KeepsListed l)) (store ∷ []) w v)
 gets_image {L} {D} {K} place state s told old new store w v unused located asked queried ended = go asked where
   heads : (q : List ℕ) → asked_in method.Head state new q ≤ asked_in method.Head state old q + 0
   heads q = let same : asked_in method.Head state new q ≡ asked_in method.Head state old q = ap (λ f. f q) queried in omega (arith, same)
 
-  by : (gets : List ℕ → ℕ) → ((q : List ℕ) → asked_in method.Get state new q ≤ asked_in method.Get state old q + gets q) → EachDialed (Asks gets (λ id. 0)) (store ∷ []) w v
-  by gets few = each_asked place state gets (λ id. 0) (old ∷ []) (new ∷ []) (store ∷ []) w v (All-cons (IsUnused state) old [] unused (All-nil (IsUnused state))) (few, tt) (heads, tt) (ap (λ s. s ∷ []) located) ended
+  by : (gets : List ℕ → ℕ) (P : Ask → Type 0) → ((q : List ℕ) → asked_in method.Get state new q ≤ asked_in method.Get state old q + gets q) → Sends P (source_sent state old) (source_sent state new)
+      → EachDialed (AsksOnly gets (λ id. 0) P) (store ∷ []) w v
+  by gets P few sends =
+      each_asked_only place state gets (λ id. 0) P (old ∷ []) (new ∷ []) (store ∷ []) w v (All-cons (IsUnused state) old [] unused (All-nil (IsUnused state)))
+      (few, tt) (heads, tt) (sends, tt) (ap (λ s. s ∷ []) located) ended
 
   once : (l : Listing) → AsksEach l (count_of l) (asked_in method.Get state old) (asked_in method.Get state new) → (q : List ℕ) → (asked_in method.Get state new q ≡ asked_in method.Get state old q) ⊎ IsListedId l (count_of l) q
       → asked_in method.Get state new q ≤ asked_in method.Get state old q + once_listed l q
   once l each q (inl same) = omega (arith, same)
   once l each q (inr is) = let most = each.once q in let some = listed_once l q is in omega (arith, most, some)
 
-  go : AsksOf s told (asked_in method.Get state old) (asked_in method.Get state new) → EachDialed (Asks (λ id. 0) (λ id. 0)) (store ∷ []) w v ⊎ ((l : Listing) × Lists s told l × EachDialed (Asks (once_listed l) (λ id. 0)) (store ∷ []) w v)
-  go (inl same) = inl (by (λ id. 0) (λ q. let here : asked_in method.Get state new q ≡ asked_in method.Get state old q = ap (λ f. f q) same in omega (arith, here)))
-  go (inr h) = inr (h.0, h.1, by (once_listed h.0) (λ q. once h.0 h.2 q (h.2.listed q)))
+  go : SendsOf s told (asked_in method.Get state old) (asked_in method.Get state new) (source_sent state old) (source_sent state new)
+      → EachDialed (AsksOnly (λ id. 0) (λ id. 0) (λ a. ⊥)) (store ∷ []) w v ⊎ ((l : Listing) × Lists s told l × EachDialed (AsksOnly (once_listed l) (λ id. 0) (KeepsListed l)) (store ∷ []) w v)
+  go (inl same) =
+      let still : Sends (λ a. ⊥) (source_sent state old) (source_sent state new) =
+      subst (λ t. Sends (λ a. ⊥) (source_sent state old) t) (sym same.1) (sends_still (λ a. ⊥) (source_sent state old)) in
+      inl (by (λ id. 0) (λ a. ⊥) (λ q. let here : asked_in method.Get state new q ≡ asked_in method.Get state old q = ap (λ f. f q) same.0 in omega (arith, here)) still)
+  go (inr h) = inr (h.0, h.1, by (once_listed h.0) (KeepsListed h.0) (λ q. once h.0 h.2 q (h.2.listed q)) h.3)

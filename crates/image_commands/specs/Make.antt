@@ -11,7 +11,7 @@ use Rattle.chunk_store.specs.Folders.{chunks}
 use Rattle.chunk_store.specs.Said.{Said}
 use Rattle.command_outcome.specs.declared.outcome.Outcome.{Outcome}
 use Rattle.command_outcome.specs.declared.outcome.Outcome.TheVariants as ends
-use Rattle.command_steps.specs.Asking.{Asks, EachDialed}
+use Rattle.command_steps.specs.Asking.{AsksOnly, EachDialed}
 use Rattle.command_steps.specs.InputFiles.{ImageOpened}
 use Rattle.command_steps.specs.Sources.{DialsStores, OnSources, Sources, StoreRose, said_at}
 use Rattle.command_worlds.specs.Steps.{◌>>=◌}
@@ -22,7 +22,7 @@ use Rattle.command_words.specs.declared.command.Location.{Location}
 use Rattle.command_words.specs.declared.command.Location.TheVariants as locations
 use Rattle.dsy_base.specs.Disk.{Disk}
 use Rattle.dsy_base.specs.Maps.{Map, at_name}
-use Rattle.image_store.specs.PutChunks.{HoldsAll, SaysAll}
+use Rattle.image_store.specs.PutChunks.{KeepsListed, HoldsAll, SaysAll}
 use Rattle.image_store.specs.Chopping.{times_listed}
 use Rattle.image_store.specs.StoreImage.{Lists, PutsFilesOf, SaysOf, StoresImage}
 use Rattle.image_store.specs.declared.put_chunks.MakeFault.{MakeFault}
@@ -79,11 +79,12 @@ abbrev pub once_listed : Listing → List ℕ → ℕ
 once_listed l id = min 1 (times_listed l (count_of l) id)
 
 -- a server is asked for the chunk of an id at most once, and only if the image's index lists it; and never whether it
--- has one
+-- has one. Each connection sent a front of such a request, or of one that puts, under a listed id, bytes that have this
+-- digest
 abbrev pub GetsImage : Sizes → Option (List ℕ) → Location → Sources → Sources → Type 0
-GetsImage s told store w v = EachDialed (Asks (λ id. 0) (λ id. 0)) (store ∷ []) w.dial.ended v.dial.ended
+GetsImage s told store w v = EachDialed (AsksOnly (λ id. 0) (λ id. 0) (λ a. ⊥)) (store ∷ []) w.dial.ended v.dial.ended
     ⊎ ((l : Listing) × Lists s told l
-    × EachDialed (Asks (once_listed l) (λ id. 0)) (store ∷ []) w.dial.ended v.dial.ended)
+    × EachDialed (AsksOnly (once_listed l) (λ id. 0) (KeepsListed l)) (store ∷ []) w.dial.ended v.dial.ended)
 
 module _ (s : Sizes) (image : List ℕ) (told : Option (List ℕ)) (store : Location) (held : Option (Map (List ℕ))) where
   abbrev pub NotStored : Sources → Sources → Outcome → Type 0

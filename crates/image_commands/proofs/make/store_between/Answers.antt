@@ -2,7 +2,7 @@ use Rattle.std.proofs.Common.{◌≡◌, ◌<◌, ◌∙◌, ℕ, List, Option, 
 use Rattle.std.specs.Option.{option_map}
 use Rattle.chunk_store.specs.Folders.{chunks}
 use Rattle.command_steps.proofs.Given.{stands_there}
-use Rattle.command_steps.specs.AnyStores.{asked_in, code_of, source_files, said_in}
+use Rattle.command_steps.specs.AnyStores.{asked_in, code_of, source_files, said_in, source_sent}
 use Rattle.command_steps.specs.Sources.{sources}
 use Rattle.image_commands.proofs.GivenStores.{back, rose, stored_more}
 use Rattle.image_commands.proofs.Made.{gets_image, if_some, made_of, unmade}
@@ -10,7 +10,7 @@ use Rattle.image_commands.proofs.Viewed.{all_kept, exactly_of, few_of, files_of,
 use Rattle.image_commands.specs.Make.{AnySaid, MadeOf}
 use Rattle.image_commands.specs.Views.{AreOf}
 use Rattle.image_commands.proofs.make.store_between.Goals as goal
-use Rattle.image_store.specs.StoreImage.{AsksOf, IsOfImage, SaysOf}
+use Rattle.image_store.specs.StoreImage.{SendsOf, IsOfImage, SaysOf}
 use Rattle.http_wire.specs.declared.reply.Method.TheVariants as method
 use Rattle.image_store.specs.declared.put_chunks.MakeFault.TheVariants as faults
 
@@ -51,7 +51,7 @@ returns-in-Ok g c =
     let few = λ (q : List ℕ) (told : Option (List ℕ)) (are : AreOf q told (map held xs)). few_of held xs q told some are s _ _ (λ (x : ⊥). x) (rw c.in-Ok.is at done.many) in
     let gets = λ (q : List ℕ) (told : Option (List ℕ)) (are : AreOf q told (map held xs)).
     gets_image place state s told old new c.args.store.now (state c.args.dial.now).ended (state c.give_store.new.dial).ended c.requires.unused (stands_there place old new done.place ∙ c.requires.located)
-    (of_first held xs q told some are (λ o. AsksOf s o (asked_in method.Get state old) (asked_in method.Get state new)) done.asks) done.queries gave.ended in
+    (of_first held xs q told some are (λ o. SendsOf s o (asked_in method.Get state old) (asked_in method.Get state new) (source_sent state old) (source_sent state new)) done.sends) done.queries gave.ended in
     record { ok = λ q told are. (few q told are, stored q told are, gave.kept, gets q told are); err = tt }
 
 pub returns-in-ImageFault : goal.returns-in-ImageFault
@@ -79,7 +79,7 @@ returns-in-ImageFault g c =
     back files place counts state w v c.args.store.now old new done.place c.requires.located gave.folders gave.given (MadeOf s told r) (AnySaid) (λ a b keeps says. tt) done.tells (holds) (tt) in
     let gets = λ (q : List ℕ) (told : Option (List ℕ)) (are : AreOf q told (map held xs)).
     gets_image place state s told old new c.args.store.now (state c.args.dial.now).ended (state c.give_store.new.dial).ended c.requires.unused (stands_there place old new done.place ∙ c.requires.located)
-    (of_first held xs q told some are (λ o. AsksOf s o (asked_in method.Get state old) (asked_in method.Get state new)) done.asks) done.queries gave.ended in
+    (of_first held xs q told some are (λ o. SendsOf s o (asked_in method.Get state old) (asked_in method.Get state new) (source_sent state old) (source_sent state new)) done.sends) done.queries gave.ended in
     record { ok = tt; err = λ q told are. ((first_rose held g.F.View.View.faults w.disk v.disk xs c.store_image-views.result.0.items q told some done.kept are c.requires.fresh.0 gave.added (done.image_faults.first.cause (search rules)), stored q told are), gave.kept, gets q told are) }
 
 pub returns-in-TooManyItems : goal.returns-in-TooManyItems
@@ -108,7 +108,7 @@ returns-in-TooManyItems g c =
     let many = λ (q : List ℕ) (told : Option (List ℕ)) (are : AreOf q told (map held xs)). of_first held xs q told some are (λ o. IsOfImage s o faults.TooManyItems) (rw (c.in-Err.is, c.in-TooManyItems.is) at done.cause) in
     let gets = λ (q : List ℕ) (told : Option (List ℕ)) (are : AreOf q told (map held xs)).
     gets_image place state s told old new c.args.store.now (state c.args.dial.now).ended (state c.give_store.new.dial).ended c.requires.unused (stands_there place old new done.place ∙ c.requires.located)
-    (of_first held xs q told some are (λ o. AsksOf s o (asked_in method.Get state old) (asked_in method.Get state new)) done.asks) done.queries gave.ended in
+    (of_first held xs q told some are (λ o. SendsOf s o (asked_in method.Get state old) (asked_in method.Get state new) (source_sent state old) (source_sent state new)) done.sends) done.queries gave.ended in
     record { ok = tt; err = λ q told are. ((many q told are, stored q told are), gave.kept, gets q told are) }
 
 pub returns-in-Changed : goal.returns-in-Changed
@@ -137,7 +137,7 @@ returns-in-Changed g c =
     let untold = λ (q : List ℕ) (told : Option (List ℕ)) (are : AreOf q told (map held xs)). of_first held xs q told some are (λ o. IsOfImage s o (faults.Changed c.in-Changed.entry c.in-Changed.was c.in-Changed.got)) (rw (c.in-Err.is, c.in-Changed.is) at done.cause) in
     let gets = λ (q : List ℕ) (told : Option (List ℕ)) (are : AreOf q told (map held xs)).
     gets_image place state s told old new c.args.store.now (state c.args.dial.now).ended (state c.give_store.new.dial).ended c.requires.unused (stands_there place old new done.place ∙ c.requires.located)
-    (of_first held xs q told some are (λ o. AsksOf s o (asked_in method.Get state old) (asked_in method.Get state new)) done.asks) done.queries gave.ended in
+    (of_first held xs q told some are (λ o. SendsOf s o (asked_in method.Get state old) (asked_in method.Get state new) (source_sent state old) (source_sent state new)) done.sends) done.queries gave.ended in
     record { ok = tt; err = λ q told are. (((untold q told are).0, (untold q told are).1, stored q told are), gave.kept, gets q told are) }
 
 pub returns-in-StoreFault : goal.returns-in-StoreFault
@@ -167,7 +167,7 @@ returns-in-StoreFault g c =
     let risen = rose files place counts state w v c.args.store.now old new done.place c.requires.located gave.folders gave.given c.requires.fresh.1 (done.store_faults.cause (search rules)) in
     let gets = λ (q : List ℕ) (told : Option (List ℕ)) (are : AreOf q told (map held xs)).
     gets_image place state s told old new c.args.store.now (state c.args.dial.now).ended (state c.give_store.new.dial).ended c.requires.unused (stands_there place old new done.place ∙ c.requires.located)
-    (of_first held xs q told some are (λ o. AsksOf s o (asked_in method.Get state old) (asked_in method.Get state new)) done.asks) done.queries gave.ended in
+    (of_first held xs q told some are (λ o. SendsOf s o (asked_in method.Get state old) (asked_in method.Get state new) (source_sent state old) (source_sent state new)) done.sends) done.queries gave.ended in
     record { ok = tt; err = λ q told are. ((refl, risen, few q told are, stored q told are), gave.kept, gets q told are) }
 
 pub returns-in-Memory : goal.returns-in-Memory
@@ -195,5 +195,5 @@ returns-in-Memory g c =
     back files place counts state w v c.args.store.now old new done.place c.requires.located gave.folders gave.given (MadeOf s told r) (AnySaid) (λ a b keeps says. tt) done.tells (holds) (tt) in
     let gets = λ (q : List ℕ) (told : Option (List ℕ)) (are : AreOf q told (map held xs)).
     gets_image place state s told old new c.args.store.now (state c.args.dial.now).ended (state c.give_store.new.dial).ended c.requires.unused (stands_there place old new done.place ∙ c.requires.located)
-    (of_first held xs q told some are (λ o. AsksOf s o (asked_in method.Get state old) (asked_in method.Get state new)) done.asks) done.queries gave.ended in
+    (of_first held xs q told some are (λ o. SendsOf s o (asked_in method.Get state old) (asked_in method.Get state new) (source_sent state old) (source_sent state new)) done.sends) done.queries gave.ended in
     record { ok = tt; err = λ q told are. (stored q told are, gave.kept, gets q told are) }
