@@ -1,7 +1,6 @@
 -- What an assembly over taken files and folders makes of the answer.
-use Rattle.std.proofs.Common.{ap, arith, ◌⊎◌, true, is_some, unwrap_or, ◌≡◌, ℕ, ◌+◌, ◌<◌, ◌≤◌, ◌-◌, List, ◌++◌, append-nil, length, map, replicate, take, Option, Some, None, IfSome, IfErr, refl, subst, ◌∙◌, sym, inl, inr, Result, Ok, Err}
+use Rattle.std.proofs.Common.{ap, arith, ◌⊎◌, true, is_some, unwrap_or, ◌≡◌, ℕ, ◌+◌, ◌<◌, ◌≤◌, ◌-◌, List, ◌++◌, append-nil, length, map, replicate, take, Option, Some, None, IfSome, IfErr, refl, subst, ◌∙◌, sym, inl, inr, [], length-append, Result, Ok, Err}
 use Rattle.assembler.specs.Assemblies.{After, Assembles, IsObtainable, KeepsBase, KeepsTorn, RightAlike, Verdict}
-use Rattle.assembler.specs.Fills.{WhereTold}
 use Rattle.assembler.specs.Obtainable.{OnlyObtainable}
 use Rattle.assembler.specs.Passes.{want_at}
 use Rattle.assembler.specs.declared.fault.ExtractFault.{ExtractFault}
@@ -9,6 +8,7 @@ use Rattle.assembler.specs.declared.fault.ExtractFault.TheVariants as faults
 use Rattle.range_survey.specs.declared.report.Report.{Report}
 use Rattle.caibx_codec.specs.Listing.{Listing, count_of, id_of, image_length, kind_of, size_of, slice_of}
 use Rattle.chunk_sources.specs.Losses.{chunk_of}
+use Rattle.chunk_sources.specs.Wants.{Task}
 use Rattle.chunk_store.specs.Folders.{chunks}
 use Rattle.chunk_store.specs.declared.id.ChunkId.{ChunkId}
 use Rattle.dsy_base.specs.Bytes.{Held, resized}
@@ -17,11 +17,13 @@ use Rattle.dsy_base.specs.Disk.{Disk}
 use Rattle.dsy_base.specs.Maps.{Map, at_name}
 use Rattle.dsy_base.specs.declared.fault.IoFault.{IoFault}
 use Rattle.dsy_base.specs.declared.fault.IoFault.TheVariants as io
-use Rattle.extract_plan.specs.Deal.{Deal}
-use Rattle.extract_plan.specs.Places.{IsSeedIndex, Placed, places_at}
-use Rattle.std.proofs.lemmas.List.{take_all}
+use Rattle.extract_plan.specs.Places.{IsSeedIndex, places_at}
+use Rattle.extract_plan.specs.declared.seed.SeedPlace.{SeedPlace}
+use Rattle.std.proofs.lemmas.List.{length-replicate, length-take, take_all}
 use Rattle.std.proofs.lemmas.Bool.{cases_lt}
 use Rattle.std.specs.List.{AllZip}
+use Rattle.range_ledger.specs.Fills.{WhereTold}
+use Rattle.range_survey.proofs.Excused.{excused_rose}
 use Rattle.range_survey.specs.Excuses.{Excuses}
 use Rattle.std.specs.Map.{count_at}
 use Rattle.std.specs.Option.{option_map}
@@ -32,7 +34,7 @@ use Rattle.image_commands.proofs.Seeded.{given_had, had_given}
 use Rattle.command_words.specs.declared.command.Location.{Location}
 use Rattle.command_steps.proofs.Taken.{at_name_twice}
 use Rattle.command_steps.specs.Sources.{HaveLacked, Sources, location_files}
-use Rattle.image_commands.specs.Extract.{Assembled, CacheLacksEntry, CanBeHad, Into, IsLacking, Leaves, NoneAsked, OnlyHad, SeedHas, Seeds, IsTorn, StopsFailed, StopsSomewhere, Told, Undisturbed, WhereFolders, answer_of_assembly, answer_of_taking, base_of, folder_of, old_of}
+use Rattle.image_commands.specs.Extract.{Assembled, CacheLacksEntry, CanBeHad, Into, IsLacking, Leaves, NoneAsked, OnlyHad, SeedHas, Seeds, IsTorn, NoneReached, StopsFailed, StopsSomewhere, Told, Undisturbed, WhereFolders, answer_of_assembly, answer_of_taking, base_of, folder_of, old_of}
 use Rattle.command_steps.specs.Seeds.{IsViewed}
 use Rattle.command_worlds.specs.Worlds.{DiskQuiet, FileRose}
 
@@ -44,16 +46,19 @@ over_told (Some a) (Some b) (Some c) P f = f a b c refl refl refl
 
 -- ---- what can be had
 
-module _ (d b e : Disk) (l : Listing) (p : Deal) (q : Placed) (x : Seeds) (views : List (Option Held)) (zip : AllZip (IsViewed d b) x.images views) (is : IsSeedIndex l p x.listings q)
-    (m : Map (List ℕ)) (told : d.files ≡ Some m) (base : List ℕ) (maps : List (Map (List ℕ))) (i : ℕ) (listed : i < count_of l) where
-  pub had_of : IsObtainable l p q base views maps i → CanBeHad l base m x maps i
+module _ (d b : Disk) (t : Task) (x : Seeds) (views : List (Option Held)) (zip : AllZip (IsViewed d b) x.images views) (is : IsSeedIndex t.listing t.plan x.listings t.places)
+    (m : Map (List ℕ)) (told : d.files ≡ Some m) (base : List ℕ) (maps : List (Map (List ℕ))) (i : ℕ) (listed : i < count_of t.listing) where
+  abbrev chunk_places : List SeedPlace
+  chunk_places = places_at t.places (want_at t.plan i)
+
+  pub had_of : IsObtainable t base views maps i → CanBeHad t.listing base m x maps i
   had_of (inl right) = inl right
-  had_of (inr (inl seed)) = inr (inl (given_had d b m told x views zip (id_of l i) (size_of l i) (places_at q (want_at p i)) (is.places i listed) seed))
+  had_of (inr (inl seed)) = inr (inl (given_had d b m told x views zip (id_of t.listing i) (size_of t.listing i) chunk_places (is.places i listed) seed))
   had_of (inr (inr store)) = inr (inr store)
 
-  pub obtainable_of : ((n : List ℕ) → FileRose d b n → ⊥) → CanBeHad l base m x maps i → IsObtainable l p q base views maps i
+  pub obtainable_of : ((n : List ℕ) → FileRose d b n → ⊥) → CanBeHad t.listing base m x maps i → IsObtainable t base views maps i
   obtainable_of none (inl right) = inl right
-  obtainable_of none (inr (inl seed)) = inr (inl (had_given d b m told x views zip (id_of l i) (size_of l i) (places_at q (want_at p i)) (is.places i listed) none seed.0 seed.1))
+  obtainable_of none (inr (inl seed)) = inr (inl (had_given d b m told x views zip (id_of t.listing i) (size_of t.listing i) chunk_places (is.places i listed) none seed.0 seed.1))
   obtainable_of none (inr (inr store)) = inr (inr store)
 
 -- ---- the same over other facts
@@ -98,13 +103,14 @@ torn_as l a b c d base t f h = record {
   is_torn = h.is_torn;
 }
 
-assembles_as : (l : Listing) (a b c d : ℕ) (r : Result Report ExtractFault) (o t : List ℕ) → ExcusesAs a b c d → Assembles l a b r o t → Assembles l c d r o t
-assembles_as l a b c d (Ok r) o t f h = (h.0, keeps_as l a b c d (resized o (image_length l)) t f h.1)
-assembles_as l a b c d (Err (faults.Missing k id)) o t f h = (keeps_as l a b c d (resized o (image_length l)) t f h.0, h.1)
-assembles_as l a b c d (Err (faults.Damaged k id s x)) o t f h = (keeps_as l a b c d (resized o (image_length l)) t f h.0, h.1)
-assembles_as l a b c d (Err (faults.StoreFault s)) o t f h = keeps_as l a b c d (resized o (image_length l)) t f h
-assembles_as l a b c d (Err faults.TargetFault) o t f h = or_as (torn_as l a b c d (resized o (image_length l)) t f) h
-assembles_as l a b c d (Err faults.Memory) o t f h = or_as (keeps_as l a b c d (resized o (image_length l)) t f) h
+assembles_as : (l : Listing) (U W : Type 0) (a b c d : ℕ) (r : Result Report ExtractFault) (o t : List ℕ) → (U → W) → ExcusesAs a b c d → Assembles l U a b r o t → Assembles l W c d r o t
+assembles_as l U W a b c d (Ok r) o t g f h = (h.0, keeps_as l a b c d (resized o (image_length l)) t f h.1)
+assembles_as l U W a b c d (Err (faults.Missing k id)) o t g f h = (keeps_as l a b c d (resized o (image_length l)) t f h.0, h.1)
+assembles_as l U W a b c d (Err (faults.Damaged k id s x)) o t g f h = (keeps_as l a b c d (resized o (image_length l)) t f h.0, h.1)
+assembles_as l U W a b c d (Err (faults.StoreFault s)) o t g f h = keeps_as l a b c d (resized o (image_length l)) t f h
+assembles_as l U W a b c d (Err faults.TargetFault) o t g f (inl h) = inl (g h.0, h.1)
+assembles_as l U W a b c d (Err faults.TargetFault) o t g f (inr h) = inr (torn_as l a b c d (resized o (image_length l)) t f h)
+assembles_as l U W a b c d (Err faults.Memory) o t g f h = or_as (keeps_as l a b c d (resized o (image_length l)) t f) h
 
 verdict_as : (l : Listing) (P Q : ℕ → Type 0) → ((i : ℕ) → i < count_of l → P i → Q i) → ((i : ℕ) → i < count_of l → Q i → P i) → (r : Result Report ExtractFault) → IfErr r (LostAs (λ k id y. k < count_of l)) → Verdict l P r → Verdict l Q r
 verdict_as l P Q to from (Ok r) lt h = λ i less. to i less (h i less)
@@ -123,14 +129,21 @@ after_as l P Q base t to from (Err faults.TargetFault) h = λ i lt. (λ q. (h i 
 after_as l P Q base t to from (Err faults.Memory) h = tt
 
 -- what is made right can be had
-only_as : (l : Listing) (P Q : ℕ → Type 0) (F G : Type 0) → ((i : ℕ) → i < count_of l → P i → Q i) → (F → G) → (r : Result Report ExtractFault) (o t : List ℕ)
-    → OnlyObtainable l P F r o t → OnlyObtainable l Q G r o t
-only_as l P Q F G to rose (Ok r) o t h = λ i lt. to i lt (h i lt)
-only_as l P Q F G to rose (Err e) o t (inl same) = inl same
-only_as l P Q F G to rose (Err e) o t (inr each) = inr (λ i lt. elim (each i lt) [
-  | inl has ↦ inl (to i lt has)
-  | inr kept ↦ inr (or_as rose kept)
-])
+only_as : (l : Listing) (P Q : ℕ → Type 0) (a b c d : ℕ) → ((i : ℕ) → i < count_of l → P i → Q i) → ExcusesAs a b c d → (r : Result Report ExtractFault) (o t : List ℕ)
+    → OnlyObtainable l P a b r o t → OnlyObtainable l Q c d r o t
+only_as l P Q a b c d to f (Ok r) o t h = λ i lt. to i lt (h i lt)
+only_as l P Q a b c d to f (Err e) o t (inl same) = inl same
+only_as l P Q a b c d to f (Err e) o t (inr some) = inr (record {
+  failed = some.failed;
+  excused = f some.failed some.excused;
+  each = λ i lt. elim (some.each i lt) [
+    | inl has ↦ inl (to i lt has)
+    | inr kept ↦ inr kept
+  ];
+})
+
+length_resized : (o : List ℕ) (n : ℕ) → length (resized o n) ≡ n
+length_resized o n = rw (length-append, length-take, length-replicate) (omega arith)
 
 -- bytes of that length are their own base
 resized_same : (o : List ℕ) (n : ℕ) → length o ≡ n → resized o n ≡ o
@@ -139,12 +152,15 @@ resized_same o n size =
     let all : take n o ≡ o = take_all n o (omega (arith, size)) in
     ap (λ k. take n o ++ replicate k 0) none ∙ append-nil (take n o) ∙ all
 
-only_each : (l : Listing) (P : ℕ → Type 0) (F : Type 0) (e : ExtractFault) (o t : List ℕ) → length t ≡ image_length l → OnlyObtainable l P F (Err e) o t
-    → (i : ℕ) → i < count_of l → P i ⊎ ((slice_of l t i ≡ slice_of l (resized o (image_length l)) i) ⊎ F)
-only_each l P F e o t size (inl same) = λ i lt.
+only_each : (l : Listing) (P : ℕ → Type 0) (old new : ℕ) (e : ExtractFault) (o t : List ℕ) → length t ≡ image_length l → OnlyObtainable l P old new (Err e) o t
+    → (i : ℕ) → i < count_of l → P i ⊎ ((slice_of l t i ≡ slice_of l (resized o (image_length l)) i) ⊎ Rose old new)
+only_each l P old new e o t size (inl same) = λ i lt.
     let long : length o ≡ image_length l = ap (λ (y : List ℕ). length y) (sym same) ∙ size in
     inr (inl (ap (λ (y : List ℕ). slice_of l y i) (same ∙ sym (resized_same o (image_length l) long))))
-only_each l P F e o t size (inr each) = each
+only_each l P old new e o t size (inr some) = λ i lt. elim (some.each i lt) [
+  | inl has ↦ inl has
+  | inr kept ↦ inr (or_as (λ has. excused_rose some.failed i old new has some.excused) kept)
+]
 
 -- where another fact holds of it
 lost_on : (P R : ℕ → ChunkId → Refused → Type 0) → ((k : ℕ) (id : ChunkId) (y : Refused) → P k id y → R k id y) → (r : Result Report ExtractFault) → IfErr r (LostAs P) → IfErr r (LostAs R)
@@ -187,9 +203,9 @@ module _ (w v : Sources) (stores : List Location) (cache : Option (List ℕ)) (o
     pub cached : map n (folder_of cache) ≡ map Some cs
     pub t : List ℕ
     pub leaves : Leaves b a out t
-    pub assembles : Assembles l before_it after_it r (old_of b out) t
+    pub assembles : Assembles l (NoneReached w v stores) before_it after_it r (old_of b out) t
     pub lacks : IfErr r (LostAs (IsLacking w v b n cache out l x stores))
-    pub only : WhereFolders n stores (λ fs. OnlyObtainable l (CanBeHad l (base_of b out l) b x (map chunks cs ++ map chunks fs)) (FileRose d e out.name) r (old_of b out) t)
+    pub only : WhereFolders n stores (λ fs. OnlyObtainable l (CanBeHad l (base_of b out l) b x (map chunks cs ++ map chunks fs)) before_it after_it r (old_of b out) t)
     pub verdict : WhereFolders n stores (λ fs. Undisturbed d e cache l cs fs → Verdict l (CanBeHad l (base_of b out l) b x (map chunks cs ++ map chunks fs)) r)
     pub settled : WhereFolders n stores (λ fs. Undisturbed d e cache l cs fs → After l (CanBeHad l (base_of b out l) b x (map chunks cs ++ map chunks fs)) (base_of b out l) t r)
 
@@ -204,14 +220,28 @@ module _ (w v : Sources) (stores : List Location) (cache : Option (List ℕ)) (o
   somewhere b a P t leaves only (inl same) = inr (inl (subst (λ (s : List ℕ). Leaves b a out s) same leaves))
   somewhere b a P t leaves only (inr keeps) = inr (inr (t, (leaves, keeps), only keeps.size))
 
-  torn_there : (b a : Map (List ℕ)) (P : List ℕ → Type 0) (t : List ℕ) → Leaves b a out t → (length t ≡ image_length l → P t)
-      → (t ≡ old_of b out) ⊎ KeepsTorn l before_it after_it (base_of b out l) t → StopsSomewhere w v b a out l (λ t. P t × IsTorn d e b out l t)
-  torn_there b a P t leaves only (inl same) = inr (inl (subst (λ (s : List ℕ). Leaves b a out s) same leaves))
-  torn_there b a P t leaves only (inr torn) = inr (inr (t, (leaves, torn.keeps), (only torn.keeps.size, torn)))
+  -- the base is kept where nothing was written
+  base_kept : (b : Map (List ℕ)) (t : List ℕ) → FileRose d e out.name → t ≡ base_of b out l → KeepsBase l before_it after_it (base_of b out l) t
+  base_kept b t rose same = record {
+    failed = [];
+    excused = elim rose [ inl more ↦ inl (omega (arith, more)) | inr full ↦ inr full ];
+    size = ap (λ (y : List ℕ). length y) same ∙ length_resized (old_of b out) (image_length l);
+    each = λ i lt. inr (inl (ap (λ (y : List ℕ). slice_of l y i) same));
+    kept = λ i lt right. inl (ap (λ (y : List ℕ). slice_of l y i) same);
+  }
+
+  torn_there : (b a : Map (List ℕ)) (P : List ℕ → Type 0) (t : List ℕ) → Leaves b a out t → (length t ≡ image_length l → P t) → FileRose d e out.name
+      → (NoneReached w v stores × ((t ≡ old_of b out) ⊎ (t ≡ base_of b out l))) ⊎ KeepsTorn l before_it after_it (base_of b out l) t
+      → StopsSomewhere w v b a out l (λ t. P t × (IsTorn d e b out l t ⊎ ((t ≡ base_of b out l) × NoneReached w v stores)))
+  torn_there b a P t leaves only rose (inl (none, inl same)) = inr (inl (subst (λ (s : List ℕ). Leaves b a out s) same leaves))
+  torn_there b a P t leaves only rose (inl (none, inr same)) =
+      let keeps = base_kept b t rose same in
+      inr (inr (t, (leaves, keeps), (only keeps.size, inr (same, none))))
+  torn_there b a P t leaves only rose (inr torn) = inr (inr (t, (leaves, torn.keeps), (only torn.keeps.size, inl torn)))
 
   -- what a refusal tells of each entry
   only_had : (why : ExtractFault) (b : Map (List ℕ)) (n : Map (Map (List ℕ))) (a : Map (List ℕ)) (f : Facts (Err why) b n a) → length f.t ≡ image_length l → OnlyHad d e b n f.cs stores out l x f.t
-  only_had why b n a f size = λ fs there. only_each l (CanBeHad l (base_of b out l) b x (map chunks f.cs ++ map chunks fs)) (FileRose d e out.name) why (old_of b out) f.t size (f.only fs there)
+  only_had why b n a f size = λ fs there. only_each l (CanBeHad l (base_of b out l) b x (map chunks f.cs ++ map chunks fs)) before_it after_it why (old_of b out) f.t size (f.only fs there)
 
   pub assembled : (r : Result Report ExtractFault) → AllFacts r → IfErr r (TargetAs (FileRose d e out.name)) → IfErr r (StoreAs (StopsFailed w v stores l))
       → Assembled w v stores cache out l x (answer_of_assembly r)
@@ -219,7 +249,7 @@ module _ (w v : Sources) (stores : List Location) (cache : Option (List ℕ)) (o
   assembled (Err (faults.Missing k id)) facts target store = told _ _ facts (λ b n a f. ((f.t, (f.leaves, f.assembles.0), f.assembles.1, only_had (faults.Missing k id) b n a f f.assembles.0.size, f.settled), f.lacks, f.verdict))
   assembled (Err (faults.Damaged k id s y)) facts target store = told _ _ facts (λ b n a f. ((f.t, (f.leaves, f.assembles.0), f.assembles.1, only_had (faults.Damaged k id s y) b n a f f.assembles.0.size, f.settled), f.lacks, f.verdict))
   assembled (Err (faults.StoreFault s)) facts target store = (store, told _ _ facts (λ b n a f. ((f.t, (f.leaves, f.assembles), only_had (faults.StoreFault s) b n a f f.assembles.size), f.lacks.0, f.lacks.1, f.lacks.2)))
-  assembled (Err faults.TargetFault) facts target store = (target, told _ _ facts (λ b n a f. torn_there b a (OnlyHad d e b n f.cs stores out l x) f.t f.leaves (only_had faults.TargetFault b n a f) f.assembles))
+  assembled (Err faults.TargetFault) facts target store = (target, told _ _ facts (λ b n a f. torn_there b a (OnlyHad d e b n f.cs stores out l x) f.t f.leaves (only_had faults.TargetFault b n a f) target f.assembles))
   assembled (Err faults.Memory) facts target store = told _ _ facts (λ b n a f. somewhere b a (OnlyHad d e b n f.cs stores out l x) f.t f.leaves (only_had faults.Memory b n a f) f.assembles)
 
   -- where OUT wasn't taken all is as it was
@@ -245,7 +275,7 @@ module _ (w v : Sources) (stores : List Location) (cache : Option (List ℕ)) (o
   stopped_before C cached same unasked = told_as (λ b a n cs. OnlyHad d e b n cs stores out l x) (same_before C cached same unasked)
 
   pub not_taken_as : (fault : IoFault) → Told d e cache (λ b a n cs. (a ≡ b) × NoneAsked w v) → (fault ≡ io.Failed → FileRose d e out.name) → Assembled w v stores cache out l x (answer_of_taking fault)
-  not_taken_as io.Failed before rose = (rose refl, told_as (λ b a n cs t. OnlyHad d e b n cs stores out l x t × IsTorn d e b out l t) before)
+  not_taken_as io.Failed before rose = (rose refl, told_as (λ b a n cs t. OnlyHad d e b n cs stores out l x t × (IsTorn d e b out l t ⊎ ((t ≡ base_of b out l) × NoneReached w v stores))) before)
   not_taken_as io.Memory before rose = told_as (λ b a n cs. OnlyHad d e b n cs stores out l x) before
 
   -- the same as `IsLacking`, over the bytes that OUT had
@@ -267,20 +297,20 @@ module _ (w v : Sources) (stores : List Location) (cache : Option (List ℕ)) (o
 
   module _ (P : List (Map (List ℕ)) → List ℕ → ℕ → Type 0) (had : (b : Map (List ℕ)) → d.files ≡ Some b → (maps : List (Map (List ℕ))) (base : List ℕ) (i : ℕ) → i < count_of l → P maps base i → CanBeHad l base b x maps i)
       (back : (b : Map (List ℕ)) → d.files ≡ Some b → DiskQuiet d e → (maps : List (Map (List ℕ))) (base : List ℕ) (i : ℕ) → i < count_of l → CanBeHad l base b x maps i → P maps base i) where
-    pub facts_of : (r : Result Report ExtractFault) (looks : List (Option (Map (List ℕ)))) (C : List (Map (List ℕ)) → Type 0) (t0 t1 : Option (List ℕ)) (f0 f1 : ℕ) (M N : List (Map (List ℕ)) → List (Map (List ℕ)) → Type 0)
+    pub facts_of : (r : Result Report ExtractFault) (looks : List (Option (Map (List ℕ)))) (C : List (Map (List ℕ)) → Type 0) (t0 t1 : Option (List ℕ)) (U : Type 0) (f0 f1 : ℕ) (M N : List (Map (List ℕ)) → List (Map (List ℕ)) → Type 0)
         → IfSome d.folders (λ m. looks ≡ map (location_files m) stores)
         → IfSome d.folders (λ n. (cs : List (Map (List ℕ))) × (map n (folder_of cache) ≡ map Some cs) × C cs)
         → IfSome d.files (λ m. t0 ≡ Some (old_of m out)) → is_some t0 ≡ is_some t1
         → e.files ≡ option_map (λ m. at_name m out.name t1) (option_map (λ m. at_name m out.name None) d.files)
-        → (Rose f0 f1 → FileRose d e out.name) → ExcusesAs f0 f1 before_it after_it
-        → WhereTold t0 t1 (Assembles l f0 f1 r)
+        → ExcusesAs f0 f1 before_it after_it
+        → (U → NoneReached w v stores) → WhereTold t0 t1 (Assembles l U f0 f1 r)
         → ((b : Map (List ℕ)) → d.files ≡ Some b → (n : Map (Map (List ℕ))) → d.folders ≡ Some n → IfSome t0 (λ o. IfErr r (LostAs (AllLack b n o))))
-        → ((cached maps : List (Map (List ℕ))) → M cached maps → WhereTold t0 t1 (λ o t. OnlyObtainable l (P (cached ++ maps) (resized o (image_length l))) (Rose f0 f1) r o t))
+        → ((cached maps : List (Map (List ℕ))) → M cached maps → WhereTold t0 t1 (λ o t. OnlyObtainable l (P (cached ++ maps) (resized o (image_length l))) f0 f1 r o t))
         → ((cached maps : List (Map (List ℕ))) → N cached maps → IfSome t0 (λ o. Verdict l (P (cached ++ maps) (resized o (image_length l))) r))
         → ((cached maps : List (Map (List ℕ))) → N cached maps → WhereTold t0 t1 (λ o t. After l (P (cached ++ maps) (resized o (image_length l))) (resized o (image_length l)) t r))
         → ((b : Map (List ℕ)) → d.files ≡ Some b → (fs : List (Map (List ℕ))) → looks ≡ map Some fs → (cs : List (Map (List ℕ))) → C cs → M (map chunks cs) (map chunks fs))
         → ((b : Map (List ℕ)) → d.files ≡ Some b → (n : Map (Map (List ℕ))) (fs : List (Map (List ℕ))) → map (location_files n) stores ≡ map Some fs → looks ≡ map Some fs → (cs : List (Map (List ℕ))) → C cs → Undisturbed d e cache l cs fs → N (map chunks cs) (map chunks fs)) → AllFacts r
-    facts_of r looks C t0 t1 f0 f1 M N found cached took told left rose excused bytes lacks only exactly after shown quiet b n a is y z =
+    facts_of r looks C t0 t1 U f0 f1 M N found cached took told left excused none bytes lacks only exactly after shown quiet b n a is y z =
         let f : looks ≡ map (location_files n) stores = subst (λ o. IfSome o (λ m. looks ≡ map (location_files m) stores)) y found in
         let g : (cs : List (Map (List ℕ))) × (map n (folder_of cache) ≡ map Some cs) × C cs = subst (λ o. IfSome o (λ n. (cs : List (Map (List ℕ))) × (map n (folder_of cache) ≡ map Some cs) × C cs)) y cached in
         let o : t0 ≡ Some (old_of b out) = subst (λ o. IfSome o (λ m. t0 ≡ Some (old_of m out))) is took in
@@ -289,8 +319,8 @@ module _ (w v : Sources) (stores : List Location) (cache : Option (List ℕ)) (o
         go (old_of b out) t0 t1 o (subst (λ s. is_some s ≡ is_some t1) o told) (sym z ∙ lf) g.0 g.1 bytes (lacks b is n y) (λ fs there. only (map chunks g.0) (map chunks fs) (shown b is fs (f ∙ there) g.0 g.2)) (λ fs there k. exactly (map chunks g.0) (map chunks fs) (quiet b is n fs there (f ∙ there) g.0 g.2 k))
         (λ fs there k. after (map chunks g.0) (map chunks fs) (quiet b is n fs there (f ∙ there) g.0 g.2 k)) refl where
           go : (old : List ℕ) (s0 s1 : Option (List ℕ)) → s0 ≡ Some old → true ≡ is_some s1 → Some a ≡ Some (at_name (at_name b out.name None) out.name s1)
-              → (cs : List (Map (List ℕ))) → map n (folder_of cache) ≡ map Some cs → WhereTold s0 s1 (Assembles l f0 f1 r) → IfSome s0 (λ o. IfErr r (LostAs (AllLack b n o)))
-              → WhereFolders n stores (λ fs. WhereTold s0 s1 (λ o t. OnlyObtainable l (P (map chunks cs ++ map chunks fs) (resized o (image_length l))) (Rose f0 f1) r o t))
+              → (cs : List (Map (List ℕ))) → map n (folder_of cache) ≡ map Some cs → WhereTold s0 s1 (Assembles l U f0 f1 r) → IfSome s0 (λ o. IfErr r (LostAs (AllLack b n o)))
+              → WhereFolders n stores (λ fs. WhereTold s0 s1 (λ o t. OnlyObtainable l (P (map chunks cs ++ map chunks fs) (resized o (image_length l))) f0 f1 r o t))
               → WhereFolders n stores (λ fs. Undisturbed d e cache l cs fs → IfSome s0 (λ o. Verdict l (P (map chunks cs ++ map chunks fs) (resized o (image_length l))) r))
               → WhereFolders n stores (λ fs. Undisturbed d e cache l cs fs → WhereTold s0 s1 (λ o t. After l (P (map chunks cs ++ map chunks fs) (resized o (image_length l))) (resized o (image_length l)) t r))
               → old ≡ old_of b out → Facts r b n a
@@ -299,8 +329,8 @@ module _ (w v : Sources) (stores : List Location) (cache : Option (List ℕ)) (o
           go old (Some o) (Some t) same is_told are cs shelf bs ls only verdict settled at =
               let was : o ≡ old_of b out = cc in
               over o was bs ls only verdict settled where
-                over : (p : List ℕ) → p ≡ old_of b out → Assembles l f0 f1 r p t → IfErr r (LostAs (AllLack b n p))
-                    → WhereFolders n stores (λ fs. OnlyObtainable l (P (map chunks cs ++ map chunks fs) (resized p (image_length l))) (Rose f0 f1) r p t)
+                over : (p : List ℕ) → p ≡ old_of b out → Assembles l U f0 f1 r p t → IfErr r (LostAs (AllLack b n p))
+                    → WhereFolders n stores (λ fs. OnlyObtainable l (P (map chunks cs ++ map chunks fs) (resized p (image_length l))) f0 f1 r p t)
                     → WhereFolders n stores (λ fs. Undisturbed d e cache l cs fs → Verdict l (P (map chunks cs ++ map chunks fs) (resized p (image_length l))) r)
                     → WhereFolders n stores (λ fs. Undisturbed d e cache l cs fs → After l (P (map chunks cs ++ map chunks fs) (resized p (image_length l))) (resized p (image_length l)) t r) → Facts r b n a
                 over p was bs ls only verdict settled =
@@ -309,12 +339,12 @@ module _ (w v : Sources) (stores : List Location) (cache : Option (List ℕ)) (o
                       cached = shelf;
                       t = t;
                       leaves = ap (λ o. unwrap_or o a) are ∙ at_name_twice b out.name None (Some t);
-                      assembles = subst (λ (q : List ℕ). Assembles l before_it after_it r q t) was (assembles_as l f0 f1 before_it after_it r p t excused bs);
+                      assembles = subst (λ (q : List ℕ). Assembles l (NoneReached w v stores) before_it after_it r q t) was (assembles_as l U (NoneReached w v stores) f0 f1 before_it after_it r p t none excused bs);
                       lacks = lost_on (AllLack b n (old_of b out)) (IsLacking w v b n cache out l x stores) (lacking b n) r (subst (λ (q : List ℕ). IfErr r (LostAs (AllLack b n q))) was ls);
                       only = λ fs there.
                           let maps = map chunks cs ++ map chunks fs in
-                          subst (λ (q : List ℕ). OnlyObtainable l (CanBeHad l (resized q (image_length l)) b x maps) (FileRose d e out.name) r q t) was
-                          (only_as l (P maps (resized p (image_length l))) (CanBeHad l (resized p (image_length l)) b x maps) (Rose f0 f1) (FileRose d e out.name) (had b is maps (resized p (image_length l))) rose r p t
+                          subst (λ (q : List ℕ). OnlyObtainable l (CanBeHad l (resized q (image_length l)) b x maps) before_it after_it r q t) was
+                          (only_as l (P maps (resized p (image_length l))) (CanBeHad l (resized p (image_length l)) b x maps) f0 f1 before_it after_it (had b is maps (resized p (image_length l))) excused r p t
                           (only fs there));
                       verdict = λ fs there k.
                           let maps = map chunks cs ++ map chunks fs in

@@ -1,3 +1,4 @@
+pub mod AnyWords
 pub mod Assembled
 pub mod Chopped
 pub mod GivenStores
@@ -10,3 +11,4 @@ pub mod Shelved
 pub mod Viewed
 pub mod Wrote
 pub mod Spared
+pub mod Unused

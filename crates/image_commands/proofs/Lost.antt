@@ -10,14 +10,16 @@ use Rattle.assembler.specs.declared.fault.ExtractFault.{ExtractFault}
 use Rattle.assembler.specs.declared.fault.ExtractFault.TheVariants as faults
 use Rattle.assembler.specs.declared.fault.Lost.{Lost}
 use Rattle.range_survey.specs.declared.report.Report.{Report}
-use Rattle.cache_store.specs.Shelves.{Shelf}
+use Rattle.caibx_codec.specs.Asks.{IsListedGet}
 use Rattle.caibx_codec.specs.Listing.{Listing, id_of, image_length, kind_of, size_of}
 use Rattle.chunk_sources.specs.Caches.{CacheLacks}
-use Rattle.chunk_sources.specs.Sources.{SeedsFailed}
-use Rattle.chunk_sources.specs.declared.kit.Kit.{Kit}
+use Rattle.chunk_sources.specs.Sources as origins
+use Rattle.chunk_sources.specs.Sources.{SeedsFailed, counts_of, views_of}
+use Rattle.chunk_sources.specs.Wants.{Task}
 use Rattle.chunk_store.specs.Folders.{chunks}
 use Rattle.chunk_store.specs.Said.{KeepsOf, Said}
 use Rattle.chunk_store.specs.declared.id.ChunkId.{ChunkId}
+use Rattle.chunk_store.specs.declared.store.Store.{Ghosts as StoreWords}
 use Rattle.chunk_store.specs.declared.shows.Shows.{Shows}
 use Rattle.command_words.specs.declared.command.Location.{Location}
 use Rattle.command_steps.proofs.Given.{Stands}
@@ -34,10 +36,9 @@ use Rattle.dsy_base.specs.Bytes.{Held, resized}
 use Rattle.dsy_base.specs.Counts.{Rose}
 use Rattle.dsy_base.specs.Disk.{Disk}
 use Rattle.dsy_base.specs.Maps.{Map}
-use Rattle.extract_plan.specs.Deal.{Deal}
-use Rattle.extract_plan.specs.Places.{IsSeedIndex, Placed, places_at}
-use Rattle.extract_plan.specs.Seeds.{faults_in, seed_held}
-use Rattle.store_chain.specs.Chains.{KeepsHeld}
+use Rattle.dsy_base.specs.declared.view.View.{Ghosts as ViewWords}
+use Rattle.extract_plan.specs.Places.{IsSeedIndex, places_at}
+use Rattle.store_chain.specs.Chains.{KeepsStores}
 use Rattle.store_chain.specs.Faults.{NoneFalls}
 use Rattle.store_chain.specs.declared.refused.Refused.{Refused}
 use Rattle.store_chain.specs.declared.refused.Refused.TheVariants as refused
@@ -142,70 +143,80 @@ module _ {S : Type 0} (location : S → Location) (said : S → Said) (counted :
 
 -- ---- what a lost entry tells
 
-module _ {S V : Type 0} (holds folder : S → Option (Map (List ℕ))) (place : S → List ℕ) (location : S → Location) (said : S → Said) (counted : S → ℕ) (lacks_memory : Bool) (view : V → Held) (view_faults : V → ℕ) (l : Listing) (p : Deal) (x : Placed)
-    (w v : Sources) (stores : List Location) (cache : Option (List ℕ)) (out : Into) (seeds : Seeds) (t0 : Option (List ℕ)) (old new : ℕ) (k j : Kit S V) (e0 e1 : Option Shelf) where
+module _ {S V : Type 0} (store : StoreWords S) (location : S → Location) (view : ViewWords V) (t : Task) (w v : Sources) (stores : List Location) (cache : Option (List ℕ)) (out : Into) (seeds : Seeds) (t0 : Option (List ℕ)) (a b : origins.Sources S V) where
   abbrev d : Disk
   d = w.disk
 
   abbrev e : Disk
   e = v.disk
 
+  abbrev l : Listing
+  l = t.listing
+
+  abbrev views : List (Option Held)
+  views = views_of view a.seeds
+
+  abbrev old_counts : List ℕ
+  old_counts = counts_of view a.seeds
+
+  abbrev new_counts : List ℕ
+  new_counts = counts_of view b.seeds
+
   abbrev IsLostHere : Lost → Type 0
-  IsLostHere u = IsUnobtained holds folder place said counted lacks_memory view view_faults l p x t0 old new k j e0 e1 u
+  IsLostHere u = IsUnobtained store view t t0 a b u
 
   -- the seeds that have its chunk have failed, and the cache doesn't give it
-  module _ (mid : Disk) (b : Map (List ℕ)) (told : d.files ≡ Some b) (zip : AllZip (IsViewed d mid) seeds.images (map (seed_held view) k.seeds.items)) (is : IsSeedIndex l p seeds.listings x) (later : (q : List ℕ) → FileRose d mid q → FileRose d e q)
-      (rises : (n : ℕ) → Rose (slice_index (map (faults_in view_faults) k.seeds.items) n) (slice_index (map (faults_in view_faults) j.seeds.items) n) → FileRose d e (name_at (map label_of (map (seed_held view) k.seeds.items)) n))
-      (gone : (n : ℕ) → CacheLacks (kind_of l) (id_of l n) (size_of l n) e0 e1 → CacheLacksEntry d e cache l n) where
-    pub others_at : (u : Lost) → IsLostHere u → OthersLack w v stores cache out l seeds b u.entry u.id u.refused
+  module _ (mid : Disk) (files : Map (List ℕ)) (told : d.files ≡ Some files) (zip : AllZip (IsViewed d mid) seeds.images views) (is : IsSeedIndex l t.plan seeds.listings t.places) (later : (q : List ℕ) → FileRose d mid q → FileRose d e q)
+      (rises : (n : ℕ) → Rose (slice_index old_counts n) (slice_index new_counts n) → FileRose d e (name_at (map label_of views) n))
+      (gone : (n : ℕ) → CacheLacks (kind_of l) (id_of l n) (size_of l n) a.cache b.cache → CacheLacksEntry d e cache l n) where
+    pub others_at : (u : Lost) → IsLostHere u → OthersLack w v stores cache out l seeds files u.entry u.id u.refused
     others_at u h = (
-      had_failed d mid b told seeds (map (seed_held view) k.seeds.items) zip (id_of l u.entry) (size_of l u.entry) (places_at x (want_at p u.entry)) (is.places u.entry h.listed) e later
-          (map (faults_in view_faults) k.seeds.items) (map (faults_in view_faults) j.seeds.items) rises
-          (subst (λ (id : List ℕ). SeedsFailed (map (seed_held view) k.seeds.items) (places_at x (want_at p u.entry)) id (map (faults_in view_faults) k.seeds.items) (map (faults_in view_faults) j.seeds.items)) h.id_is h.seeds),
+      had_failed d mid files told seeds views zip (id_of l u.entry) (size_of l u.entry) (places_at t.places (want_at t.plan u.entry)) (is.places u.entry h.listed) e later old_counts new_counts rises
+          (subst (λ (id : List ℕ). SeedsFailed views (places_at t.places (want_at t.plan u.entry)) id old_counts new_counts) h.id_is h.seeds),
       gone u.entry h.cache,
     )
 
   -- over stores that were given back: these stand so
-  module _ (kept : KeepsHeld holds folder place said counted k.chain.stores j.chain.stores) (located : (ys : List S) → map place ys ≡ map place k.chain.stores → map location ys ≡ stores) (stand : All (Stands location said counted w v) j.chain.stores) where
+  module _ (kept : KeepsStores store (IsListedGet l) a.chain.stores b.chain.stores) (located : (ys : List S) → map store.place ys ≡ map store.place a.chain.stores → map location ys ≡ stores) (stand : All (Stands location store.said store.faults w v) b.chain.stores) where
     -- how the stores stood when the entry's chunk was asked for
     record StoodAt (u : Lost) (h : IsLostHere u) : Type 0 where
       many : length h.stores.before ≡ length h.stores.after
       at : map location h.stores.after ≡ stores
-      all : All (Stands location said counted w v) h.stores.after
+      all : All (Stands location store.said store.faults w v) h.stores.after
 
     stood_at : (u : Lost) (h : IsLostHere u) → StoodAt u h
     stood_at u h =
-        let a = h.stores in
-        let placed : map place a.after ≡ map place k.chain.stores = sym a.since.places ∙ kept.places in
-        let here : map location a.after ≡ stores = located a.after placed in
+        let r = h.stores in
+        let placed : map store.place r.after ≡ map store.place a.chain.stores = sym r.since.places ∙ kept.places in
+        let here : map location r.after ≡ stores = located r.after placed in
         record {
-          many = same_length place a.before a.after (a.until.places ∙ sym placed);
+          many = same_length store.place r.before r.after (r.until.places ∙ sym placed);
           at = here;
-          all = stood location said counted w v a.after j.chain.stores (located j.chain.stores kept.places ∙ sym here) a.since.says a.since.never_fall stand;
+          all = stood location store.said store.faults w v r.after b.chain.stores (located b.chain.stores kept.places ∙ sym here) r.since.says r.since.never_fall stand;
         }
 
-    module _ (n : Map (Map (List ℕ))) (held : (fs : List (Map (List ℕ))) → map (location_files n) stores ≡ map Some fs → map holds k.chain.stores ≡ map Some (map chunks fs)) (rose : Rose old new → FileRose d e out.name) where
-      lacks_over : (o : List ℕ) (u : Lost) (h : IsLostHere u) → (RightAlike l (resized o (image_length l)) u.entry → Rose old new) → LackingOver w v stores cache out l seeds n o u.entry u.id u.refused
+    module _ (n : Map (Map (List ℕ))) (held : (fs : List (Map (List ℕ))) → map (location_files n) stores ≡ map Some fs → map store.holds a.chain.stores ≡ map Some (map chunks fs)) (rose : Rose a.faults b.faults → FileRose d e out.name) where
+      lacks_over : (o : List ℕ) (u : Lost) (h : IsLostHere u) → (RightAlike l (resized o (image_length l)) u.entry → Rose a.faults b.faults) → LackingOver w v stores cache out l seeds n o u.entry u.id u.refused
       lacks_over o u h copies =
           let s = stood_at u h in (
             h.listed,
             h.id_is,
-            have_lacked location said counted lacks_memory w v stores (lost_want l u) u.refused h.stores.before h.stores.after s.many s.at s.all h.stores.refused.told,
+            have_lacked location store.said store.faults store.may_lack_memory w v stores (lost_want l u) u.refused h.stores.before h.stores.after s.many s.at s.all h.stores.refused.told,
             λ fs told. h.stores.refused.lacks (map chunks fs) (h.stores.until.held ∙ held fs told),
-            λ a. rose (copies a),
+            λ r. rose (copies r),
           )
 
-      module _ (b : Map (List ℕ)) (others : (u : Lost) → IsLostHere u → OthersLack w v stores cache out l seeds b u.entry u.id u.refused) where
-        pub lacks_told : (F : Type 0) (r : Result Report ExtractFault) → EndsBy IsLostHere F r → IfSome t0 (λ o. IfErr r (LostAs (AllLack w v stores cache out l seeds b n o)))
+      module _ (files : Map (List ℕ)) (others : (u : Lost) → IsLostHere u → OthersLack w v stores cache out l seeds files u.entry u.id u.refused) where
+        pub lacks_told : (F : Type 0) (r : Result Report ExtractFault) → EndsBy IsLostHere F r → IfSome t0 (λ o. IfErr r (LostAs (AllLack w v stores cache out l seeds files n o)))
         lacks_told F r h = go t0 (λ u z. z.copies) where
-          go : (t : Option (List ℕ)) → ((u : Lost) → IsLostHere u → IfSome t (λ o. RightAlike l (resized o (image_length l)) u.entry → Rose old new)) → IfSome t (λ o. IfErr r (LostAs (AllLack w v stores cache out l seeds b n o)))
+          go : (s : Option (List ℕ)) → ((u : Lost) → IsLostHere u → IfSome s (λ o. RightAlike l (resized o (image_length l)) u.entry → Rose a.faults b.faults)) → IfSome s (λ o. IfErr r (LostAs (AllLack w v stores cache out l seeds files n o)))
           go None copies = tt
-          go (Some o) copies = lost_as IsLostHere F (AllLack w v stores cache out l seeds b n o) (λ u z. (lacks_over o u z (copies u z), others u z)) r h
+          go (Some o) copies = lost_as IsLostHere F (AllLack w v stores cache out l seeds files n o) (λ u z. (lacks_over o u z (copies u z), others u z)) r h
 
     stopped_at : (u : Lost) (s : ℕ) → u.refused ≡ refused.StoreFault s → IsLostHere u → StopsFailed w v stores l s
     stopped_at u s is h =
-        let a = stood_at u h in
-        let said = have_lacked location said counted lacks_memory w v stores (lost_want l u) u.refused h.stores.before h.stores.after a.many a.at a.all h.stores.refused.told in
+        let r = stood_at u h in
+        let said = have_lacked location store.said store.faults store.may_lack_memory w v stores (lost_want l u) u.refused h.stores.before h.stores.after r.many r.at r.all h.stores.refused.told in
         (u.entry, u.id, h.listed, h.id_is, subst (λ (r : Refused). HaveLacked (lost_want l u) w v stores r) is said)
 
     pub store_told : (F : Type 0) (r : Result Report ExtractFault) → EndsBy IsLostHere F r → IfErr r (StoreAs (StopsFailed w v stores l))

@@ -10,6 +10,7 @@ use Rattle.chunk_sources.specs.Caches.{CacheLacks, HaveOneSize, IsListedAs, Stoc
 use Rattle.chunk_store.specs.Folders.{chunks}
 use Rattle.chunk_store.specs.Giving.{GivesChunk}
 use Rattle.chunk_store.specs.declared.id.DigestKind.{DigestKind}
+use Rattle.chunk_store.specs.declared.store.Store.{Ghosts as StoreWords}
 use Rattle.command_steps.proofs.Numbers.{given_quiet, given_rose, rose_longer}
 use Rattle.command_steps.specs.Cache.{CacheGiven, folders_with}
 use Rattle.command_steps.specs.Sources.{location_files}
@@ -22,6 +23,7 @@ use Rattle.dsy_base.proofs.Counts.{at_same}
 use Rattle.dsy_base.specs.Counts.{Quiet, Rose}
 use Rattle.dsy_base.specs.Disk.{Disk}
 use Rattle.dsy_base.specs.Maps.{Map, at_name}
+use Rattle.dsy_base.specs.declared.look.Look.{Ghosts as LookWords}
 
 -- the name that it was taken under
 abbrev pub name_in : Option Shelf → Option (List ℕ)
@@ -93,26 +95,26 @@ module _ (d e b c : Disk) (le : (q : List ℕ) → count_at d.folder_counts q �
       subst (λ (n : ℕ). Quiet n t.faults) (sym none) (given_quiet (count_at d.folder_counts t.place) (count_at b.folder_counts t.place) (count_at c.folder_counts t.place) t.faults (le t.place) given.1.folder_counts.added now)
 
 -- a fresh one has counted none
-pub fresh_faults : {F : Type 0} (files : F → Option (Map (List ℕ))) (place : F → List ℕ) (faults : F → ℕ) (kind : DigestKind) (o : Option (Shelved F)) → IfSome o (λ s. (faults s.folder ≡ 0) × (s.kind ≡ kind)) → cache_faults (seen files place faults o) ≡ 0
-fresh_faults files place faults kind None fresh = refl
-fresh_faults files place faults kind (Some s) fresh = fresh.0
+pub fresh_faults : {F : Type 0} (look : LookWords F) (kind : DigestKind) (o : Option (Shelved F)) → IfSome o (λ s. (look.faults s.folder ≡ 0) × (s.kind ≡ kind)) → cache_faults (seen look o) ≡ 0
+fresh_faults look kind None fresh = refl
+fresh_faults look kind (Some s) fresh = fresh.0
 
 -- ---- what is seen of it
 
 -- its digest names chunks as it did
-pub same_kind : {F : Type 0} (files : F → Option (Map (List ℕ))) (place : F → List ℕ) (faults : F → ℕ) (kind : DigestKind) (o : Option (Shelved F)) → IfSome o (λ s. (faults s.folder ≡ 0) × (s.kind ≡ kind)) → IfSome (seen files place faults o) (λ s. s.kind ≡ kind)
-same_kind files place faults kind None fresh = tt
-same_kind files place faults kind (Some s) fresh = fresh.1
+pub same_kind : {F : Type 0} (look : LookWords F) (kind : DigestKind) (o : Option (Shelved F)) → IfSome o (λ s. (look.faults s.folder ≡ 0) × (s.kind ≡ kind)) → IfSome (seen look o) (λ s. s.kind ≡ kind)
+same_kind look kind None fresh = tt
+same_kind look kind (Some s) fresh = fresh.1
 
-pub same_names : {F : Type 0} (files : F → Option (Map (List ℕ))) (place : F → List ℕ) (faults : F → ℕ) (o : Option (Shelved F)) → name_in (seen files place faults o) ≡ option_map (λ s. place s.folder) o
-same_names files place faults None = refl
-same_names files place faults (Some s) = refl
+pub same_names : {F : Type 0} (look : LookWords F) (o : Option (Shelved F)) → name_in (seen look o) ≡ option_map (λ s. look.place s.folder) o
+same_names look None = refl
+same_names look (Some s) = refl
 
 -- its files are told where its type tells
-pub told_files : {F : Type 0} (tells : Bool) (files : F → Option (Map (List ℕ))) (place : F → List ℕ) (faults : F → ℕ) → ((f : F) → is_some (files f) ≡ tells) → (folders : Option (Map (Map (List ℕ)))) → (IsTrue (is_some folders) → IsTrue tells)
-    → (o : Option (Shelved F)) → IsTold (seen files place faults o) folders
-told_files tells files place faults told folders all None = tt
-told_files tells files place faults told folders all (Some s) = λ m is. told s.folder ∙ all (subst (λ (y : Option (Map (Map (List ℕ)))). IsTrue (is_some y)) (sym is) refl)
+pub told_files : {F : Type 0} (look : LookWords F) → ((f : F) → is_some (look.files f) ≡ look.tells) → (folders : Option (Map (Map (List ℕ)))) → (IsTrue (is_some folders) → IsTrue look.tells)
+    → (o : Option (Shelved F)) → IsTold (seen look o) folders
+told_files look told folders all None = tt
+told_files look told folders all (Some s) = λ m is. told s.folder ∙ all (subst (λ (y : Option (Map (Map (List ℕ)))). IsTrue (is_some y)) (sym is) refl)
 
 -- its name is known still
 pub known_still : (o : Option (List ℕ)) (m n : Map ℕ) → ((q : List ℕ) → IsSome (m q) → IsSome (n q)) → IfSome o (λ q. IsSome (m q)) → IfSome o (λ q. IsSome (n q))
@@ -136,32 +138,32 @@ module _ (stores : List Location) (l : Listing) (c : List ℕ) where
       → Filled (Some (at_name m c x)) (Some (at_name m c y))
   filled_at m x y f g is now grows = (refl, (f, at_same m c x ∙ is, g, ap (at_name m c) now ∙ sym (at_name_twice m c x (Some g)), grows))
 
-module _ {S : Type 0} (holds : S → Option (Map (List ℕ))) (xs : List S) (l : Listing) (n : Map (Map (List ℕ))) (stores : List Location) (held : (fs : List (Map (List ℕ))) → map (location_files n) stores ≡ map Some fs → map holds xs ≡ map Some (map chunks fs)) where
-  for_cache : (q b : List ℕ) → TakesListed holds l xs q b → IsForCache l n stores q b
+module _ {S : Type 0} (store : StoreWords S) (xs : List S) (l : Listing) (n : Map (Map (List ℕ))) (stores : List Location) (held : (fs : List (Map (List ℕ))) → map (location_files n) stores ≡ map Some fs → map store.holds xs ≡ map Some (map chunks fs)) where
+  for_cache : (q b : List ℕ) → TakesListed store l xs q b → IsForCache l n stores q b
   for_cache q b h = (h.0, h.1, h.2.0, h.2.1, λ fs told. h.2.2 (map chunks fs) (held fs told))
 
-  grows : (s t : Shelf) (f g : Map (List ℕ)) → s.files ≡ Some f → t.files ≡ Some g → Stocked (TakesListed holds l xs) (Some s) (Some t) → CacheGrows l n stores f g
+  grows : (s t : Shelf) (f g : Map (List ℕ)) → s.files ≡ Some f → t.files ≡ Some g → Stocked (TakesListed store l xs) (Some s) (Some t) → CacheGrows l n stores f g
   grows s t f g is now stocked = record {
     held = λ q. elim (at q) [ inl same ↦ inl same | inr new ↦ inr (new.0, new.1, for_cache q new.0 new.2) ];
     strangers = subst (λ o. IfSome o (λ n. (q : List ℕ) → IsTrue (is_stranger q) → n q ≡ f q)) now
         (subst (λ o. IfSome o (λ m. IfSome t.files (λ n. (q : List ℕ) → IsTrue (is_stranger q) → n q ≡ m q))) is stocked.strangers);
   } where
-    at : (q : List ℕ) → (chunks g q ≡ chunks f q) ⊎ ((b : List ℕ) × (chunks g q ≡ Some b) × TakesListed holds l xs q b)
-    at = subst (λ o. IfSome o (λ n. (q : List ℕ) → (chunks n q ≡ chunks f q) ⊎ ((b : List ℕ) × (chunks n q ≡ Some b) × TakesListed holds l xs q b))) now
-        (subst (λ o. IfSome o (λ m. IfSome t.files (λ n. (q : List ℕ) → (chunks n q ≡ chunks m q) ⊎ ((b : List ℕ) × (chunks n q ≡ Some b) × TakesListed holds l xs q b)))) is stocked.chunks)
+    at : (q : List ℕ) → (chunks g q ≡ chunks f q) ⊎ ((b : List ℕ) × (chunks g q ≡ Some b) × TakesListed store l xs q b)
+    at = subst (λ o. IfSome o (λ n. (q : List ℕ) → (chunks n q ≡ chunks f q) ⊎ ((b : List ℕ) × (chunks n q ≡ Some b) × TakesListed store l xs q b))) now
+        (subst (λ o. IfSome o (λ m. IfSome t.files (λ n. (q : List ℕ) → (chunks n q ≡ chunks m q) ⊎ ((b : List ℕ) × (chunks n q ≡ Some b) × TakesListed store l xs q b)))) is stocked.chunks)
 
-pub cache_filled : {S : Type 0} (holds : S → Option (Map (List ℕ))) (xs : List S) (stores : List Location) (l : Listing) (e0 e1 : Option Shelf) (cache : Option (List ℕ)) (folders : Option (Map (Map (List ℕ)))) (d e : Disk)
-    → name_in e0 ≡ cache → d.folders ≡ folders_with e0 folders → e.folders ≡ folders_with e1 folders → IsTold e0 folders → Stocked (TakesListed holds l xs) e0 e1
-    → IfSome d.folders (λ m. (fs : List (Map (List ℕ))) → map (location_files m) stores ≡ map Some fs → map holds xs ≡ map Some (map chunks fs))
+pub cache_filled : {S : Type 0} (store : StoreWords S) (xs : List S) (stores : List Location) (l : Listing) (e0 e1 : Option Shelf) (cache : Option (List ℕ)) (folders : Option (Map (Map (List ℕ)))) (d e : Disk)
+    → name_in e0 ≡ cache → d.folders ≡ folders_with e0 folders → e.folders ≡ folders_with e1 folders → IsTold e0 folders → Stocked (TakesListed store l xs) e0 e1
+    → IfSome d.folders (λ m. (fs : List (Map (List ℕ))) → map (location_files m) stores ≡ map Some fs → map store.holds xs ≡ map Some (map chunks fs))
     → CacheFilled stores cache l d e
-cache_filled {S} holds xs stores l None None cache folders d e is was now told stocked there = subst (λ c. CacheFilled stores c l d e) is (now ∙ sym was)
-cache_filled {S} holds xs stores l None (Some t) cache folders d e is was now told stocked there = absurd stocked
-cache_filled {S} holds xs stores l (Some s) None cache folders d e is was now told stocked there = absurd stocked
-cache_filled {S} holds xs stores l (Some s) (Some t) cache folders d e is was now told stocked there =
+cache_filled {S} store xs stores l None None cache folders d e is was now told stocked there = subst (λ c. CacheFilled stores c l d e) is (now ∙ sym was)
+cache_filled {S} store xs stores l None (Some t) cache folders d e is was now told stocked there = absurd stocked
+cache_filled {S} store xs stores l (Some s) None cache folders d e is was now told stocked there = absurd stocked
+cache_filled {S} store xs stores l (Some s) (Some t) cache folders d e is was now told stocked there =
     subst (λ c. CacheFilled stores c l d e) is (subst (λ y. Filled stores l s.place y e.folders) (sym was) (subst (λ z. Filled stores l s.place (folders_with (Some s) folders) z) (sym now)
     (over folders told (subst (λ y. IfSome y There) was there)))) where
       There : Map (Map (List ℕ)) → Type 0
-      There m = (fs : List (Map (List ℕ))) → map (location_files m) stores ≡ map Some fs → map holds xs ≡ map Some (map chunks fs)
+      There m = (fs : List (Map (List ℕ))) → map (location_files m) stores ≡ map Some fs → map store.holds xs ≡ map Some (map chunks fs)
 
       over : (folders : Option (Map (Map (List ℕ)))) → IsTold (Some s) folders → IfSome (folders_with (Some s) folders) There → Filled stores l s.place (folders_with (Some s) folders) (folders_with (Some t) folders)
       over None told there = (refl, tt)
@@ -171,4 +173,4 @@ cache_filled {S} holds xs stores l (Some s) (Some t) cache folders d e is was no
         at (Some f) None x_is y_is some = absurd (true≢false (sym some ∙ sym stocked.told ∙ ap is_some y_is))
         at (Some f) (Some g) x_is y_is some =
             subst (λ (p : List ℕ). Filled stores l s.place (Some (at_name m s.place s.files)) (Some (at_name m p t.files))) (sym stocked.place)
-            (filled_at stores l s.place m s.files t.files f g x_is y_is (grows holds xs l (at_name m s.place s.files) stores there s t f g x_is y_is stocked))
+            (filled_at stores l s.place m s.files t.files f g x_is y_is (grows store xs l (at_name m s.place s.files) stores there s t f g x_is y_is stocked))

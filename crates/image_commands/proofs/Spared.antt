@@ -11,10 +11,12 @@ use Rattle.cache_store.specs.Shelves.{Shelf}
 use Rattle.caibx_codec.specs.Listing.{Listing, image_length, kind_of, size_of}
 use Rattle.caibx_codec.specs.Right.{IsRightAt}
 use Rattle.chunk_sources.specs.Caches.{CacheGives, cache_faults, cached_in}
-use Rattle.chunk_sources.specs.Sources.{HeldAt}
-use Rattle.chunk_sources.specs.Wants.{IsAmong}
+use Rattle.chunk_sources.specs.Sources as origins
+use Rattle.chunk_sources.specs.Sources.{HeldAt, counts_of, views_of}
+use Rattle.chunk_sources.specs.Wants.{Task}
 use Rattle.chunk_store.specs.Folders.{chunks}
 use Rattle.chunk_store.specs.Giving.{GivesChunk}
+use Rattle.chunk_store.specs.declared.store.Store.{Ghosts as StoreWords}
 use Rattle.command_steps.proofs.Numbers.{rose_not_quiet}
 use Rattle.command_steps.specs.Blames.{name_at}
 use Rattle.command_steps.specs.Seeds.{IsViewed}
@@ -23,10 +25,9 @@ use Rattle.dsy_base.specs.Bytes.{Held, resized}
 use Rattle.dsy_base.specs.Counts.{Quiet, Rose}
 use Rattle.dsy_base.specs.Disk.{Disk}
 use Rattle.dsy_base.specs.Maps.{Map}
-use Rattle.extract_plan.specs.Deal.{Deal, IsPlan, first_of, of_want, want_id}
-use Rattle.extract_plan.specs.Places.{ArePlaces, IsSeedIndex, Placed, nth_place, place, places_at}
-use Rattle.extract_plan.specs.Seeds.{faults_in, seed_held}
-use Rattle.extract_plan.specs.declared.seed.Seed.{Seed}
+use Rattle.dsy_base.specs.declared.view.View.{Ghosts as ViewWords}
+use Rattle.extract_plan.specs.Deal.{Deal, IsPlan, first_of, want_id}
+use Rattle.extract_plan.specs.Places.{ArePlaces, IsSeedIndex, nth_place, place, places_at}
 use Rattle.image_commands.proofs.Shelved.{name_in}
 use Rattle.image_commands.proofs.Seeded.{had_at, label_at, label_of}
 use Rattle.image_commands.specs.Extract.{CacheSpares, FileQuiet, Into, IsSparedOnDisk, folder_of, SeedHas, Seeds, old_of}
@@ -41,43 +42,56 @@ quiet_unless old new none = elim (cases_lt old new) [
   ]
 ]
 
-module _ {S V : Type 0} (holds : S → Option (Map (List ℕ))) (stores : List S) (e0 e1 : Option Shelf) (view : V → Held) (view_faults : V → ℕ) (d b e : Disk) (m : Map (List ℕ)) (told : d.files ≡ Some m) (l : Listing) (p : Deal) (plan : IsPlan l 1 p) (x : Placed) (o : Into) (z : Seeds) (s0 s1 : List (Seed V))
-    (zip : AllZip (IsViewed d b) z.images (map (seed_held view) s0)) (is : IsSeedIndex l p z.listings x) (later : (q : List ℕ) → FileRose d b q → FileRose d e q)
-    (rises : (n : ℕ) → Rose (slice_index (map (faults_in view_faults) s0) n) (slice_index (map (faults_in view_faults) s1) n) → FileRose d e (name_at (map label_of (map (seed_held view) s0)) n))
-    (t0 : Option (List ℕ)) (took : t0 ≡ Some (old_of m o)) (f0 f1 : ℕ) (rose : Rose f0 f1 → FileRose d e o.name) where
+module _ {S V : Type 0} (store : StoreWords S) (view : ViewWords V) (t : Task) (from to : origins.Sources S V) (d b e : Disk) (m : Map (List ℕ)) (told : d.files ≡ Some m) (plan : IsPlan t.listing 1 t.plan) (o : Into) (z : Seeds)
+    (zip : AllZip (IsViewed d b) z.images (views_of view from.seeds)) (is : IsSeedIndex t.listing t.plan z.listings t.places) (later : (q : List ℕ) → FileRose d b q → FileRose d e q)
+    (rises : (n : ℕ) → Rose (slice_index (counts_of view from.seeds) n) (slice_index (counts_of view to.seeds) n) → FileRose d e (name_at (map label_of (views_of view from.seeds)) n))
+    (t0 : Option (List ℕ)) (took : t0 ≡ Some (old_of m o)) (rose : Rose from.faults to.faults → FileRose d e o.name) where
+  abbrev l : Listing
+  l = t.listing
+
+  abbrev p : Deal
+  p = t.plan
+
+  abbrev views : List (Option Held)
+  views = views_of view from.seeds
+
   quiet_file : (q : List ℕ) → FileQuiet d e q → FileRose d e q → ⊥
   quiet_file q quiet rise = rose_not_quiet (count_at d.file_counts q) (count_at d.file_counts q) (count_at e.file_counts q) (omega arith) rise quiet
 
   -- the seed that has it gives it, and didn't fail
   seed_at : (w s : ℕ) (h : SeedHas m z (want_id l p w) (size_of l (first_of p w)) s) → FileQuiet d e h.image → w < p.wants
-      → Any (λ q. HeldAt (map (seed_held view) s0) q (want_id l p w) × Quiet (slice_index (map (faults_in view_faults) s0) q.seed) (slice_index (map (faults_in view_faults) s1) q.seed)) (places_at x w)
+      → Any (λ q. HeldAt views q (want_id l p w) × Quiet (slice_index (counts_of view from.seeds) q.seed) (slice_index (counts_of view to.seeds) q.seed)) (places_at t.places w)
   seed_at w s h quiet below =
       let i = first_of p w in
       let among = first_among l p w plan.wants below in
       let inside = listed_of l p w i plan.wants among in
       let at : slice_index p.want_of i ≡ w = (among_of p w i among).1 in
-      let are : ArePlaces z.listings (want_id l p w) (size_of l i) (places_at x w) = subst (λ n. ArePlaces z.listings (want_id l p w) (size_of l i) (places_at x n)) at (is.places i inside) in
-      elim (had_at d b m told z (map (seed_held view) s0) zip (want_id l p w) (size_of l i) (places_at x w) are s h) [
+      let are : ArePlaces z.listings (want_id l p w) (size_of l i) (places_at t.places w) = subst (λ n. ArePlaces z.listings (want_id l p w) (size_of l i) (places_at t.places n)) at (is.places i inside) in
+      elim (had_at d b m told z views zip (want_id l p w) (size_of l i) (places_at t.places w) are s h) [
         | inl rise ↦ absurd (quiet_file h.image quiet (later h.image rise))
         | inr u ↦
-            let here = nth_place (places_at x w) u.0 in
-            let named : name_at (map label_of (map (seed_held view) s0)) here.seed ≡ h.image = ap (name_at (map label_of (map (seed_held view) s0))) u.2 ∙ label_at (map (seed_held view) s0) s u.4 u.5 ∙ u.6 in (
+            let here = nth_place (places_at t.places w) u.0 in
+            let named : name_at (map label_of views) here.seed ≡ h.image = ap (name_at (map label_of views)) u.2 ∙ label_at views s u.4 u.5 ∙ u.6 in (
               u.0,
               here,
               u.1,
-              get_or_default (places_at x w) u.0 here (place 0 0 0) u.1,
+              get_or_default (places_at t.places w) u.0 here (place 0 0 0) u.1,
               (
                 u.3,
-                quiet_unless (slice_index (map (faults_in view_faults) s0) here.seed) (slice_index (map (faults_in view_faults) s1) here.seed)
+                quiet_unless (slice_index (counts_of view from.seeds) here.seed) (slice_index (counts_of view to.seeds) here.seed)
                     (λ rise. quiet_file h.image quiet (subst (λ q. FileRose d e q) named (rises here.seed rise))),
               ),
             )
       ]
 
-  pub spared_over : (cache : Option (List ℕ)) (w : ℕ) → w < p.wants → (IsSomeAnd cache (λ c. CacheSpares d e c l (want_id l p w) (size_of l (first_of p w))) → CacheGives holds l stores (want_id l p w) (size_of l (first_of p w)) e0 e1) → IsSparedOnDisk d e m cache o l z p w → SparedOver holds view view_faults l p x t0 f0 f1 s0 s1 e0 e1 stores w
+  pub spared_over : (cache : Option (List ℕ)) (w : ℕ) → w < p.wants → (IsSomeAnd cache (λ c. CacheSpares d e c l (want_id l p w) (size_of l (first_of p w))) → CacheGives store l from.chain.stores (want_id l p w) (size_of l (first_of p w)) from.cache to.cache) → IsSparedOnDisk d e m cache o l z p w → SparedOver store view t t0 from to w
   spared_over cache w below gives (inl right) = inl (
-    subst (λ t. IsSomeAnd t (λ b. (j : ℕ) × IsAmong (of_want p w) j × IsRightAt (resized b (image_length l)) l j)) (sym took) right.0,
-    quiet_unless f0 f1 (λ rise. quiet_file o.name right.1 (rose rise)),
+    (
+      right.0.0,
+      right.0.1,
+      subst (λ t. IsSomeAnd t (λ b. IsRightAt (resized b (image_length l)) l right.0.0)) (sym took) right.0.2,
+    ),
+    quiet_unless from.faults to.faults (λ rise. quiet_file o.name right.1 (rose rise)),
   )
   spared_over cache w below gives (inr (inl seed)) = inr (inl (seed_at w seed.0 seed.1 seed.2 below))
   spared_over cache w below gives (inr (inr spares)) = inr (inr (gives spares))
@@ -95,12 +109,12 @@ one_folder n c f [] is same = absurd (cc)
 one_folder n c f (g ∷ []) is same = let here : n c ≡ Some g = cc in let one : g ≡ f = cc in ap (λ (h : Map (List ℕ)). h ∷ []) one
 one_folder n c f (g ∷ h ∷ rest) is same = absurd (cc)
 
-module _ {S : Type 0} (holds : S → Option (Map (List ℕ))) (stores : List S) (d e : Disk) (l : Listing) (id : List ℕ) (size : ℕ) where
+module _ {S : Type 0} (store : StoreWords S) (stores : List S) (d e : Disk) (l : Listing) (id : List ℕ) (size : ℕ) where
   abbrev pub Gives : Option Shelf → Type 0
   Gives o = IsSomeAnd (cached_in o) (SomeGives (kind_of l) id size)
 
   pub cache_gives : (e0 e1 : Option Shelf) (cache : Option (List ℕ)) → name_in e1 ≡ cache → IfSome d.folders (λ n. (cs : List (Map (List ℕ))) × (map n (folder_of cache) ≡ map Some cs) × (cached_in e0 ≡ Some (map chunks cs)))
-      → IfSome e1 (λ t. Rose (cache_faults e0) t.faults → FolderRose d e t.place) → IsSomeAnd cache (λ c. CacheSpares d e c l id size) → CacheGives holds l stores id size e0 e1
+      → IfSome e1 (λ t. Rose (cache_faults e0) t.faults → FolderRose d e t.place) → IsSomeAnd cache (λ c. CacheSpares d e c l id size) → CacheGives store l stores id size e0 e1
   cache_gives e0 e1 None named there rise spares = absurd spares
   cache_gives e0 None (Some c) named there rise spares = absurd (cc)
   cache_gives e0 (Some t) (Some c) named there rise spares =

@@ -116,6 +116,11 @@ IsTorn d e before out l t =
 abbrev pub NoneAsked : Sources → Sources → Type 0
 NoneAsked w v = (v.dial ≡ w.dial) × (v.disk.folders ≡ w.disk.folders)
 
+-- no connection to a server has ended, and no folder has changed
+abbrev pub NoneReached : Sources → Sources → List Location → Type 0
+NoneReached w v stores = EachDialed (λ s ended. ended ≡ []) stores w.dial.ended v.dial.ended
+    × (v.disk.folders ≡ w.disk.folders)
+
 -- what stands there where no entry is named: it wasn't taken, before which no source is asked; or it has what it began
 -- with, or keeps the base and is so
 abbrev pub StopsSomewhere : Sources → Sources → Map (List ℕ) → Map (List ℕ) → Into → Listing → (List ℕ → Type 0)
@@ -206,7 +211,8 @@ Assembled w v stores cache out l x (Err (ends.StoreFault s)) = StopsFailed w v s
     × (k : ℕ) × (id : ChunkId) × IsLacking w v b n cache out l x stores k id (refused.StoreFault s))
 Assembled w v stores cache out l x (Err ends.TargetFault) = FileRose w.disk v.disk out.name
     × Told w.disk v.disk cache (λ b a n cs. StopsSomewhere w v b a out l
-    (λ t. OnlyHad w.disk v.disk b n cs stores out l x t × IsTorn w.disk v.disk b out l t))
+    (λ t. OnlyHad w.disk v.disk b n cs stores out l x t
+    × (IsTorn w.disk v.disk b out l t ⊎ ((t ≡ base_of b out l) × NoneReached w v stores))))
 Assembled w v stores cache out l x (Err ends.Memory) =
     Told w.disk v.disk cache (λ b a n cs. StopsSomewhere w v b a out l (OnlyHad w.disk v.disk b n cs stores out l x))
 Assembled w v stores cache out l x (Err other) = ⊥

@@ -32,7 +32,7 @@ stores_of look h = map (location_in look.place) h.stores.items
 
 -- the disk with the cache's folder in its place again
 abbrev pub disk_with : {L W V D K : Type 0} → LookWords W → Held L W V D K → Disk → Disk
-disk_with folder h d = with_cache (seen folder.files folder.place folder.faults h.shelf) d
+disk_with folder h d = with_cache (seen folder h.shelf) d
 
 -- all of it can be given back
 pub record CanBeGiven {L W V D K : Type 0} (look : LookWords L) (folder : LookWords W) (view : ViewWords V) (d : Disk)
@@ -58,7 +58,7 @@ pub record IsReached {L W V D K : Type 0} (look : LookWords L) (folder : LookWor
 pub record IsGivenBack {L W V D K : Type 0} (look : LookWords L) (folder : LookWords W) (view : ViewWords V)
     (state : D → DialState) (h : Held L W V D K) (w v : Sources) : Type 0 where
   pub cached : Disk
-  pub cache : CacheGiven (seen folder.files folder.place folder.faults h.shelf) w.disk cached
+  pub cache : CacheGiven (seen folder h.shelf) w.disk cached
   pub closed : Disk
   pub stores : ConsultsStores (stores_of look h) (sources cached w.dial) (sources closed v.dial)
   pub counts : closed.file_counts ≡ cached.file_counts

@@ -14,7 +14,7 @@ use Rattle.image_commands.specs.Extract.{ClearedAfter, ImageMade, Renamed, Seeds
 
 -- what is seen of the cache
 abbrev see : (g : Over) → Option (Shelved g.row.F-Folder.Denot) → Option Shelf
-see g = seen g.F.Folder.Look.files g.F.Folder.Look.place g.F.Folder.Look.faults
+see g = seen g.F.Folder.Look
 
 pub rename-renamed-requires : goal.rename-renamed-requires
 rename-renamed-requires g c = λ same. beside_apart c.args.target (sym same ∙ c.requires.named)

@@ -4,11 +4,13 @@ use Rattle.std.specs.List.{AllZip}
 use Rattle.std.specs.Map.{count_at}
 use Rattle.std.specs.Option.{option_map}
 use Rattle.assembler.proofs.OnePlan.{all_alone, alone}
-use Rattle.assembler.specs.Assemblies.{IsObtainable}
+use Rattle.assembler.specs.Assemblies.{IsObtainable, SparedOver}
+use Rattle.assembler.specs.OneKit.{AreUnused, lent, with_kit}
 use Rattle.chunk_sources.proofs.Cached.{stocked_none}
 use Rattle.chunk_sources.specs.Caches.{HaveOneSize, Stocked, TakesListed, cache_faults, cached_in, seen}
 use Rattle.chunk_sources.specs.Sources.{SourcesQuiet}
 use Rattle.chunk_store.specs.Folders.{chunks}
+use Rattle.chunk_store.specs.declared.store.Store.{Ghosts as StoreWords}
 use Rattle.command_steps.proofs.Cached.{given_adds, given_files, given_folders}
 use Rattle.command_steps.specs.Cache.{folders_with, with_cache}
 use Rattle.cache_store.specs.Shelves.{Shelf, Shelved}
@@ -27,6 +29,8 @@ use Rattle.command_worlds.specs.Worlds.{FileRose}
 use Rattle.image_commands.proofs.Assembled.{ExcusesAs, assembled, facts_of, given_excuses, had_of, not_taken_as, obtainable_of, same_before, stopped_before}
 use Rattle.command_steps.proofs.Found.{held_after, held_maps, held_where}
 use Rattle.image_commands.proofs.Kits.{pushed}
+use Rattle.image_commands.proofs.Unused.{none_reached}
+use Rattle.image_commands.proofs.AnyWords.{any_words, task}
 use Rattle.image_commands.proofs.Lost.{lacks_told, others_at, store_told, target_as}
 use Rattle.image_commands.proofs.Seeded.{all_known_later, label_of, labels_are, same_known, same_labels, zeros, zipped_many}
 use Rattle.image_commands.proofs.Shelved.{IsTold, cache_filled, cache_lacking, cache_quiet, cache_rose, cached_there, fresh_faults, known_still, name_after, name_in, one_size, same_kind, same_names, told_files}
@@ -37,7 +41,6 @@ use Rattle.dsy_base.specs.Counts.{Rose, raised}
 use Rattle.dsy_base.specs.Maps.{Map, at_name}
 use Rattle.extract_plan.specs.Places.{PlacesKnown}
 use Rattle.extract_plan.specs.Seeds as seeds
-use Rattle.assembler.specs.Assemblies.{SparedOver}
 use Rattle.command_steps.proofs.Asking.{each_got, few_each, none_dialed}
 use Rattle.command_steps.proofs.Lacked.{same_length}
 use Rattle.command_steps.specs.AnyStores.{IsUnused, asked_in}
@@ -50,14 +53,18 @@ use Rattle.image_commands.specs.Extract.{IsSparedOnDisk, twice_wanted}
 
 -- what is seen of the cache
 abbrev see : (g : Over) → Option (Shelved g.row.F-Folder.Denot) → Option Shelf
-see g = seen g.F.Folder.Look.files g.F.Folder.Look.place g.F.Folder.Look.faults
+see g = seen g.F.Folder.Look
+
+-- what is told of its stores
+abbrev words : (g : Over) → StoreWords (AnyStore g.row.F-Look.Denot g.row.D.Denot g.row.D-Link.Denot)
+words g = any_words g.F.Look.Look g.D.Dial.state
 
 cache_told : (g : Over) (f : g.row.F.Denot) (o : Option (Shelved g.row.F-Folder.Denot)) → IsTold (see g o) (g.F.Files.disk f).folders
-cache_told g f o = told_files g.F.Folder.Look.tells g.F.Folder.Look.files g.F.Folder.Look.place g.F.Folder.Look.faults (λ d. g.met.F.Folder.Look.told d) (g.F.Files.disk f).folders
+cache_told g f o = told_files g.F.Folder.Look (λ d. g.met.F.Folder.Look.told d) (g.F.Files.disk f).folders
     (λ some. (g.met.F.Files.alike.0 (subst (λ t. IsTrue t) (g.met.F.Files.told f).1 some)).3) o
 
 named : (g : Over) (cache : Option (List ℕ)) (o : Option (Shelved g.row.F-Folder.Denot)) → option_map (λ s. g.F.Folder.Look.place s.folder) o ≡ cache → name_in (see g o) ≡ cache
-named g cache o is = same_names g.F.Folder.Look.files g.F.Folder.Look.place g.F.Folder.Look.faults o ∙ is
+named g cache o is = same_names g.F.Folder.Look o ∙ is
 
 pub let_go-requires : goal.let_go-requires
 let_go-requires g c =
@@ -100,6 +107,7 @@ give_back-requires g c =
     let j = c.swap_remove-kit.result in
     let one = pushed c.args.held.kits.items c.push.new.self.items k c.push.result c.unwrap.result c.requires.held.room.0 c.unwrap.ensures c.push.ensures.items in
     let other = alone back.items j (sym back.ok.0 ∙ c.assemble-ended.ensures.size) c.swap_remove-kit.ensures.value in
+    let made = c.assemble-ended.ensures.assembled.so (task c.args.planned.now.index c.requires.plan.0 c.args.planned.now.places) k j refl refl c.requires.plan.1 one other in
     let at = g.F.Files.disk in
     let place = g.F.Look.Look.place in
     let location = location_in place in
@@ -111,20 +119,20 @@ give_back-requires g c =
     let folder_known : (q : List ℕ) → IsSome (d'.folder_counts q) → IsSome (b2.folder_counts q) = λ q is. subst (λ (m : Map ℕ). IsSome (m q)) (sym c.in-Ok-take.ensures.counts.folder_counts) (c.in-Ok.ensures.kept.folder_known q is) in
     let same : k.chain.stores ≡ xs = ap (λ k. k.stores) (c.new-kit.ensures.chain ∙ c.new.ensures.value) in
     let now = all_later d'.folder_counts b2.folder_counts folder_known (map location xs) c.requires.held.lent.stores in
-    let located = stand_still place k.chain.stores j.chain.stores (c.assemble-ended.ensures.stores.so k j one other).places ∙ ap (map location) same in
+    let located = stand_still place k.chain.stores j.chain.stores made.stores.places ∙ ap (map location) same in
     let e0 = see g c.args.held.shelf in
     let e1 = see g c.assemble-ended.result.cache in
     let cache = c.args.held.cache in
-    let name_now : name_in e1 ≡ cache = name_after _ e0 e1 cache (c.assemble-ended.ensures.stocked.so k j one other) (named g cache c.args.held.shelf c.requires.held.lent.named) in
+    let name_now : name_in e1 ≡ cache = name_after _ e0 e1 cache made.stocked (named g cache c.args.held.shelf c.requires.held.lent.named) in
     let later : (q : List ℕ) → IsSome (b.file_counts q) → IsSome (b2.file_counts q) = counted_known b.file_counts b2.file_counts _ c.in-Ok-take.ensures.counts.counts in
     let opened = all_known_later view b.file_counts b2.file_counts later c.in-Ok.seeds.items c.in-Ok.ensures.known in
     let seeded : map (seeds.seed_held view) k.seeds.items ≡ map (seeds.seed_held view) c.in-Ok.seeds.items = ap (λ v. map (seeds.seed_held view) v.items) c.new-kit.ensures.seeds in
     record {
       given = record {
         stores = rw c.into_stores-stores.ensures.value (subst (λ (q : List Location). All (IsKnown b2.folder_counts) q) (sym located) now);
-        named = sym (same_names g.F.Folder.Look.files g.F.Folder.Look.place g.F.Folder.Look.faults c.assemble-ended.result.cache) ∙ name_now;
+        named = sym (same_names g.F.Folder.Look c.assemble-ended.result.cache) ∙ name_now;
         cache = known_still cache d'.folder_counts b2.folder_counts folder_known c.requires.held.lent.cache;
-        seeds = same_known view b2.file_counts c.in-Ok.seeds.items j.seeds.items ((c.assemble-ended.ensures.seeds.so k j one other).held ∙ seeded) opened;
+        seeds = same_known view b2.file_counts c.in-Ok.seeds.items j.seeds.items (made.seeds.held ∙ seeded) opened;
       };
     }
 
@@ -161,8 +169,8 @@ returns-in_default-clause-kept g c =
     let names = map (location_in g.F.Look.Look.place) items in
     let l = c.args.planned.now.index in
     record {
-      folders = cache_filled (chunks_in g.F.Look.Look.files) items names l o o c.args.held.cache d'.folders d e (named g c.args.held.cache c.args.held.shelf c.requires.held.lent.named) refl
-          (gone.folders ∙ ap (folders_with o) read.folders) (cache_told g c.args.files.now c.args.held.shelf) (stocked_none (TakesListed (chunks_in g.F.Look.Look.files) l items) o)
+      folders = cache_filled (words g) items names l o o c.args.held.cache d'.folders d e (named g c.args.held.cache c.args.held.shelf c.requires.held.lent.named) refl
+          (gone.folders ∙ ap (folders_with o) read.folders) (cache_told g c.args.files.now c.args.held.shelf) (stocked_none (TakesListed (words g) l items) o)
           (held_where d.folders names files items c.requires.held.found);
       counts = λ q. omega (arith, read.counts q, gone.counts q);
       folder_counts = λ q. omega (arith, read.folder_counts q, gone.folder_counts q);
@@ -224,9 +232,9 @@ returns-in-Err-clause-kept g c =
     let names = map (location_in g.F.Look.Look.place) items in
     let l = c.args.planned.now.index in
     record {
-      folders = cache_filled (chunks_in g.F.Look.Look.files) items names l o o c.args.held.cache d'.folders d e (named g c.args.held.cache c.args.held.shelf c.requires.held.lent.named) refl
+      folders = cache_filled (words g) items names l o o c.args.held.cache d'.folders d e (named g c.args.held.cache c.args.held.shelf c.requires.held.lent.named) refl
           (gone.folders ∙ ap (folders_with o) (took.folders ∙ read.folders)) (cache_told g c.args.files.now c.args.held.shelf)
-          (stocked_none (TakesListed (chunks_in g.F.Look.Look.files) l items) o) (held_where d.folders names files items c.requires.held.found);
+          (stocked_none (TakesListed (words g) l items) o) (held_where d.folders names files items c.requires.held.found);
       counts = λ q. omega (arith, read.counts q, took.counts q, gone.counts q);
       folder_counts = λ q. omega (arith, read.folder_counts q, took.folder_counts q, gone.folder_counts q);
     }
@@ -241,6 +249,7 @@ returns-clause-kept g c =
     let j = c.swap_remove-kit.result in
     let one = pushed c.args.held.kits.items c.push.new.self.items k c.push.result c.unwrap.result c.requires.held.room.0 c.unwrap.ensures c.push.ensures.items in
     let other = alone back.items j (sym back.ok.0 ∙ c.assemble-ended.ensures.size) c.swap_remove-kit.ensures.value in
+    let made = c.assemble-ended.ensures.assembled.so (task c.args.planned.now.index c.requires.plan.0 c.args.planned.now.places) k j refl refl c.requires.plan.1 one other in
     let at = g.F.Files.disk in
     let s = see g c.args.held.shelf in
     let t = see g c.assemble-ended.result.cache in
@@ -259,14 +268,13 @@ returns-clause-kept g c =
     let ended = c.give_back.ensures.given.seeds in
     let back = wrote_back b5 e _ _ c.give.ensures.counts in
     let files = source_files g.F.Look.Look.files in
-    let holds = chunks_in g.F.Look.Look.files in
     let items = c.args.held.stores.items in
     let names = map (location_in g.F.Look.Look.place) items in
     let l = c.args.planned.now.index in
     let same : c.new-kit.result.chain.stores ≡ items = ap (λ k. k.stores) (c.new-kit.ensures.chain ∙ c.new.ensures.value) in
-    let stocked = subst (λ xs. Stocked (TakesListed holds l xs) s t) same (c.assemble-ended.ensures.stocked.so k j one other) in
+    let stocked = subst (λ xs. Stocked (TakesListed (words g) l xs) s t) same made.stocked in
     record {
-      folders = cache_filled holds items names l s t c.args.held.cache d'.folders d e (named g c.args.held.cache c.args.held.shelf c.requires.held.lent.named) refl
+      folders = cache_filled (words g) items names l s t c.args.held.cache d'.folders d e (named g c.args.held.cache c.args.held.shelf c.requires.held.lent.named) refl
           (back.folders ∙ ended.folders ∙ closed.folders ∙ given_folders t b2 b3 c.give_back.ensures.given.cache ∙ ap (folders_with t) (took.folders ∙ read.folders)) (cache_told g c.args.files.now c.args.held.shelf)
           stocked (held_where d.folders names files items c.requires.held.found);
       counts = λ q. omega (arith, read.counts q, took.counts q, gave.counts q, closed.counts q, ended.counts q, back.counts q);
@@ -294,7 +302,7 @@ assemble-ended-requires-clause-places g c =
     )
 
 pub assemble-ended-requires-clause-cache : goal.assemble-ended-requires-clause-cache
-assemble-ended-requires-clause-cache g c = same_kind g.F.Folder.Look.files g.F.Folder.Look.place g.F.Folder.Look.faults _ c.args.held.shelf c.requires.held.shelf
+assemble-ended-requires-clause-cache g c = same_kind g.F.Folder.Look _ c.args.held.shelf c.requires.held.shelf
 
 pub give-requires-clause-known : goal.give-requires-clause-known
 give-requires-clause-known g c =
@@ -330,11 +338,9 @@ returns-clause-assembled g c = λ p ls plan is.
     let place = place_in at_place in
     let location = location_in at_place in
     let state = g.D.Dial.state in
-    let said = said_in g.F.Look.Look.files state in
     let k0 = state c.args.dial.now in
     let k1 = state c.give_back.new.dial in
     let faults = source_faults g.F.Look.Look.faults g.D.Dial.state in
-    let holds = chunks_in g.F.Look.Look.files in
     let q = c.args.target.now in
     let o : Into = record { name = q; fresh = c.args.fresh } in
     let k = c.new-kit.result in
@@ -354,18 +360,17 @@ returns-clause-assembled g c = λ p ls plan is.
     let views = map (seeds.seed_held view) items in
     let labels = map label_of views in
     let r = c.assemble-ended.result.answer in
-    let over = c.assemble-ended.ensures in
-    let stores = over.stores.so k j one other in
-    let stocked = over.stocked.so k j one other in
-    let kept = over.seeds.so k j one other in
-    let lost = over.lost.so p k j plan one other in
-    let had = over.had.so p k j plan one other in
-    let exactly = over.exactly.so p k j plan one other in
-    let after_all = over.after.so p k j plan one other in
     let t0 = (held c.in-Ok-take.taken).bytes in
     let t1 = (held c.assemble-ended.result.target).bytes in
     let f0 = g.F.Target.View.faults c.in-Ok-take.taken in
     let f1 = g.F.Target.View.faults c.assemble-ended.result.target in
+    let t = task l p x in
+    let made = c.assemble-ended.ensures.assembled.so t k j refl refl plan one other in
+    let stores = made.stores in
+    let stocked = made.stocked in
+    let kept = made.seeds in
+    let from = with_kit (lent f0 c.push.new.self.items e0) k in
+    let to = with_kit (lent f1 back.items e1) j in
     let opens = c.in-Ok.ensures in
     let same : before ≡ c.args.held.stores.items = ap (λ k. k.stores) (c.new-kit.ensures.chain ∙ c.new.ensures.value) in
     let found = subst (λ xs. IfSome d.folders (λ m. map files xs ≡ map (location_files m) (map location xs))) (sym same) c.requires.held.found in
@@ -412,7 +417,7 @@ returns-clause-assembled g c = λ p ls plan is.
     let stand = all_stand g.F.Look.Look.files at_place g.F.Look.Look.faults state w v after names after_at (held_after d.folders names files before after found stores.files) given_stores in
     let name = named g cache c.args.held.shelf c.requires.held.lent.named in
     let name_now = name_after _ e0 e1 cache stocked name in
-    let none = fresh_faults g.F.Folder.Look.files g.F.Folder.Look.place g.F.Folder.Look.faults _ c.args.held.shelf c.requires.held.shelf in
+    let none = fresh_faults g.F.Folder.Look _ c.args.held.shelf c.requires.held.shelf in
     let shelf_rose = cache_rose d e b2 bc reached ended (cache_faults e0) e1 none c.give_back.ensures.given.cache in
     let shelf_now : e.folders ≡ folders_with e1 d'.folders = c.give.ensures.counts.folders ∙ c.give_back.ensures.given.seeds.folders ∙ c.give_back.ensures.given.stores.0.disk.folders ∙ given_folders e1 b2 bc c.give_back.ensures.given.cache
     ∙ ap (folders_with e1) (c.in-Ok-take.ensures.counts.folders ∙ opens.kept.folders) in
@@ -430,20 +435,23 @@ returns-clause-assembled g c = λ p ls plan is.
     let on : count_at b.file_counts y ≤ count_at e.file_counts y = omega (arith, next, last, more, end) in
     rose_longer (count_at d.file_counts y) (count_at b.file_counts y) (count_at e.file_counts y) on in
     let tells : (m : Map (List ℕ)) → d.files ≡ Some m → IsTrue g.F.View.View.tells = λ m y. (g.met.F.Files.alike.0 (subst (λ t. IsTrue t) ((g.met.F.Files.told c.args.files.now).0) (subst (λ (o : Option (Map (List ℕ))). IsTrue (is_some o)) (sym y) refl))).0 in
-    let made = assembled w v names cache o l z r
-    (facts_of w v names cache o l z (λ maps base. IsObtainable l p x base views maps)
-    (λ m told maps base i lt. had_of d b e l p x z views zip is m told base maps i lt)
-    (λ m told quiet maps base i lt. obtainable_of d b e l p x z views zip is m told base maps i lt (λ y rise. rose_not_quiet (count_at d.file_counts y) (count_at d.file_counts y) (count_at e.file_counts y) (omega arith) (later y rise) (quiet.files y)))
-    r (map files before) (λ cs. cached_in e0 ≡ Some (map chunks cs)) t0 t1 f0 f1
-    (λ cached maps. IsTrue g.F.View.View.tells × (cached_in e0 ≡ Some cached) × (map holds k.chain.stores ≡ map Some maps))
-    (λ cached maps. SourcesQuiet holds faults view view_faults g.F.View.View.tells f0 f1 k.seeds.items j.seeds.items e0 e1 k.chain.stores j.chain.stores cached maps × HaveOneSize l e0 cached maps)
+    let unused = subst (λ xs. All (IsUnused state) xs) (sym same) c.requires.held.unused in
+    let last_ended = rw c.into_stores-stores.ensures.value at c.give_back.ensures.given.ended in
+    let ends = assembled w v names cache o l z r
+    (facts_of w v names cache o l z (λ maps base. IsObtainable t base views maps)
+    (λ m told maps base i lt. had_of d b t z views zip is m told base maps i lt)
+    (λ m told quiet maps base i lt. obtainable_of d b t z views zip is m told base maps i lt (λ y rise. rose_not_quiet (count_at d.file_counts y) (count_at d.file_counts y) (count_at e.file_counts y) (omega arith) (later y rise) (quiet.files y)))
+    r (map files before) (λ cs. cached_in e0 ≡ Some (map chunks cs)) t0 t1 (AreUnused from to) f0 f1
+    (λ cached maps. IsTrue g.F.View.View.tells × (cached_in e0 ≡ Some cached) × (map (words g).holds before ≡ map Some maps))
+    (λ cached maps. SourcesQuiet (words g) g.F.View.View from to cached maps × HaveOneSize l e0 cached maps)
     found (cached_there e0 cache name d'.folders (cache_told g c.args.files.now c.args.held.shelf)) took
     (g.met.F.Target.View.told c.in-Ok-take.taken ∙ sym (g.met.F.Target.View.told c.assemble-ended.result.target))
-    left rose excused over.bytes
-    (λ m told n y. lacks_told holds files place location said faults _ view view_faults l p x w v names cache o z t0 f0 f1 k j e0 e1 stores located stand n
+    left excused
+    (λ none. (none_reached at_place state before after names k0.ended k1.ended unused (ap (λ c. c.stores) none.0) after_at last_ended, shelf_now ∙ ap (λ s. folders_with s d'.folders) none.1.1)) made.bytes
+    (λ m told n y. lacks_told (words g) location g.F.View.View t w v names cache o z t0 from to stores located stand n
     (λ fs told. held_maps files before fs (subst (λ o. IfSome o (λ m. map files before ≡ map (location_files m) names)) y found ∙ told)) rose m
-    (others_at holds files place location said faults _ view view_faults l p x w v names cache o z t0 f0 f1 k j e0 e1 b m told zip is later rises (cache_lacking d e e0 e1 cache l d'.folders name_now shelf_now shelf_rose)) (Rose f0 f1) r lost)
-    (λ cached maps n. had (λ _. n.0) cached maps n.1 n.2) (λ cached maps n. exactly cached maps n.0 n.1) (λ cached maps n. after_all cached maps n.0 n.1)
+    (others_at (words g) location g.F.View.View t w v names cache o z t0 from to b m told zip is later rises (cache_lacking d e e0 e1 cache l d'.folders name_now shelf_now shelf_rose)) (Rose f0 f1) r made.lost)
+    (λ cached maps n. made.had (λ _. n.0) cached maps n.1 n.2) (λ cached maps n. made.exactly cached maps n.0 n.1) (λ cached maps n. made.after cached maps n.0 n.1)
     (λ m y fs looks cs shelved. (tells m y, shelved, held_maps files before fs looks))
     (λ m y n fs told looks cs shelved quiet. (
       record {
@@ -457,9 +465,9 @@ returns-clause-assembled g c = λ p ls plan is.
       },
       one_size e0 cache l (map chunks cs) (map chunks fs) name quiet.1,
     )))
-    (target_as _ (Rose f0 f1) (FileRose d e q) rose r lost)
-    (store_told holds files place location said faults _ view view_faults l p x w v names cache o z t0 f0 f1 k j e0 e1 stores located stand (Rose f0 f1) r lost) in
-    rw c.answer_of.ensures (subst (λ xs. Assembled w v (map location xs) cache o l z (answer_of_assembly r)) same made)
+    (target_as _ (Rose f0 f1) (FileRose d e q) rose r made.lost)
+    (store_told (words g) location g.F.View.View t w v names cache o z t0 from to stores located stand (Rose f0 f1) r made.lost) in
+    rw c.answer_of.ensures (subst (λ xs. Assembled w v (map location xs) cache o l z (answer_of_assembly r)) same ends)
 
 pub returns-in_default-clause-dialed : goal.returns-in_default-clause-dialed
 returns-in_default-clause-dialed g c = (dials_none _, λ t. refl)
@@ -474,9 +482,10 @@ returns-clause-dialed g c =
     let j = c.swap_remove-kit.result in
     let one = pushed c.args.held.kits.items c.push.new.self.items k c.push.result c.unwrap.result c.requires.held.room.0 c.unwrap.ensures c.push.ensures.items in
     let other = alone back.items j (sym back.ok.0 ∙ c.assemble-ended.ensures.size) c.swap_remove-kit.ensures.value in
+    let made = c.assemble-ended.ensures.assembled.so (task c.args.planned.now.index c.requires.plan.0 c.args.planned.now.places) k j refl refl c.requires.plan.1 one other in
     let place = g.F.Look.Look.place in
     let same : c.new-kit.result.chain.stores ≡ c.args.held.stores.items = ap (λ k. k.stores) (c.new-kit.ensures.chain ∙ c.new.ensures.value) in
-    let located = stand_still place c.new-kit.result.chain.stores c.swap_remove-kit.result.chain.stores (c.assemble-ended.ensures.stores.so k j one other).places ∙ ap (map (location_in place)) same in
+    let located = stand_still place c.new-kit.result.chain.stores c.swap_remove-kit.result.chain.stores made.stores.places ∙ ap (map (location_in place)) same in
     let kept = rw c.into_stores-stores.ensures.value at c.give_back.ensures.given.stores in
     (kept.0.dial, λ t. kept.1 (subst (λ (l : List Location). IsTrue (are_folders l)) (sym located) t))
 
@@ -537,13 +546,15 @@ returns-clause-asks g c = λ p ls plan is.
     let items = k.seeds.items in
     let views = map (seeds.seed_held view) items in
     let labels = map label_of views in
-    let over = c.assemble-ended.ensures in
-    let stores = over.stores.so k j one other in
-    let kept = over.seeds.so k j one other in
     let t0 = (held c.in-Ok-take.taken).bytes in
-    let t1 = (held c.assemble-ended.result.target).bytes in
     let f0 = g.F.Target.View.faults c.in-Ok-take.taken in
     let f1 = g.F.Target.View.faults c.assemble-ended.result.target in
+    let t = task l p x in
+    let made = c.assemble-ended.ensures.assembled.so t k j refl refl plan one other in
+    let stores = made.stores in
+    let kept = made.seeds in
+    let from = with_kit (lent f0 c.push.new.self.items e0) k in
+    let to = with_kit (lent f1 back.items e1) j in
     let opens = c.in-Ok.ensures in
     let same : before ≡ c.args.held.stores.items = ap (λ k. k.stores) (c.new-kit.ensures.chain ∙ c.new.ensures.value) in
     let zip : AllZip (IsViewed d b) z.images views = subst (λ v. AllZip (IsViewed d b) z.images (map (seeds.seed_held view) v.items)) (sym c.new-kit.ensures.seeds) (rw c.as_slice.ensures at opens.found) in
@@ -576,9 +587,8 @@ returns-clause-asks g c = λ p ls plan is.
     let end = given y in
     let on : count_at b.file_counts y ≤ count_at e.file_counts y = omega (arith, next, last, more, end) in
     rose_longer (count_at d.file_counts y) (count_at b.file_counts y) (count_at e.file_counts y) on in
-    let holds = chunks_in g.F.Look.Look.files in
     let cache = c.args.held.cache in
-    let stocked = over.stocked.so k j one other in
+    let stocked = made.stocked in
     let reached : (y : List ℕ) → count_at d.folder_counts y ≤ count_at b2.folder_counts y = λ y.
     let first = opens.kept.folder_counts y in
     let last : count_at b2.folder_counts y ≡ count_at b.folder_counts y = ap (λ (m : Map ℕ). count_at m y) c.in-Ok-take.ensures.counts.folder_counts in
@@ -590,7 +600,7 @@ returns-clause-asks g c = λ p ls plan is.
     omega (arith, first, last) in
     let name = named g cache c.args.held.shelf c.requires.held.lent.named in
     let name_now = name_after _ e0 e1 cache stocked name in
-    let none = fresh_faults g.F.Folder.Look.files g.F.Folder.Look.place g.F.Folder.Look.faults _ c.args.held.shelf c.requires.held.shelf in
+    let none = fresh_faults g.F.Folder.Look _ c.args.held.shelf c.requires.held.shelf in
     let shelf_rose = cache_rose d e b2 bc reached ended (cache_faults e0) e1 none c.give_back.ensures.given.cache in
     let unused = subst (λ xs. All (IsUnused state) xs) (sym same) c.requires.held.unused in
     let last_ended = rw c.into_stores-stores.ensures.value at c.give_back.ensures.given.ended in
@@ -598,9 +608,9 @@ returns-clause-asks g c = λ p ls plan is.
       plan = p;
       planned = plan;
       gets = λ spared are.
-          let asked = over.asks.so p k j plan one other spared (λ i below yes. of_told d.files (λ m. IsSparedOnDisk d e m cache o l z p i) (SparedOver holds view view_faults l p x t0 f0 f1 items j.seeds.items e0 e1 before i)
-          (λ m told so. spared_over holds before e0 e1 view view_faults d b e m told l p plan x o z items j.seeds.items zip is later rises t0 (subst (λ f. IfSome f (λ m. t0 ≡ Some (old_of m o))) told took) f0 f1 rose cache i below
-          (cache_gives holds before d e l (want_id l p i) (size_of l (first_of p i)) e0 e1 cache name_now (cached_there e0 cache name d'.folders (cache_told g c.args.files.now c.args.held.shelf)) shelf_rose) so) (are i below yes)) in
+          let asked = made.asks spared (λ i below yes. of_told d.files (λ m. IsSparedOnDisk d e m cache o l z p i) (SparedOver (words g) g.F.View.View t t0 from to i)
+          (λ m told so. spared_over (words g) g.F.View.View t from to d b e m told plan o z zip is later rises t0 (subst (λ f. IfSome f (λ m. t0 ≡ Some (old_of m o))) told took) rose cache i below
+          (cache_gives (words g) before d e l (want_id l p i) (size_of l (first_of p i)) e0 e1 cache name_now (cached_there e0 cache name d'.folders (cache_told g c.args.files.now c.args.held.shelf)) shelf_rose) so) (are i below yes)) in
           let few = few_each (asked_in method.Get state) (twice_wanted l p spared) before after (same_length place before after (sym stores.places)) (λ q n. asked.most q n) in
           subst (λ xs. EachDialed (AsksFew method.Get (twice_wanted l p spared)) (map location xs) k0.ended k1.ended) same
           (each_got at_place state (twice_wanted l p spared) before after names k0.ended k1.ended unused few after_at last_ended);

@@ -9,14 +9,14 @@ use Rattle.image_commands.specs.Held.{stores_of}
 pub close_sources-requires : goal.close_sources-requires
 close_sources-requires g c =
     let at = g.F.Files.disk in
-    let o = seen g.F.Folder.Look.files g.F.Folder.Look.place g.F.Folder.Look.faults c.args.held.shelf in
+    let o = seen g.F.Folder.Look c.args.held.shelf in
     let gave = given_adds o (at c.args.files.now) (at c.give_cache.new.files) c.give_cache.ensures.given in
     record { known = all_later (at c.args.files.now).folder_counts (at c.give_cache.new.files).folder_counts gave.folder_known (stores_of g.F.Look.Look c.args.held) c.requires.given.stores }
 
 pub close_seeds-requires : goal.close_seeds-requires
 close_seeds-requires g c =
     let at = g.F.Files.disk in
-    let o = seen g.F.Folder.Look.files g.F.Folder.Look.place g.F.Folder.Look.faults c.args.held.shelf in
+    let o = seen g.F.Folder.Look c.args.held.shelf in
     let gave = given_adds o (at c.args.files.now) (at c.give_cache.new.files) c.give_cache.ensures.given in
     record { known = all_known_later g.F.View.View.held (at c.args.files.now).file_counts (at c.close_sources.new.files).file_counts (λ q is. c.close_sources.ensures.kept.0.disk.known q (gave.known q is)) c.args.held.seeds.items c.requires.given.seeds }
 

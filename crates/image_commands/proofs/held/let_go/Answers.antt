@@ -10,21 +10,21 @@ use Rattle.image_commands.specs.Held.{disk_with, stores_of}
 pub drop_sources-requires : goal.drop_sources-requires
 drop_sources-requires g c =
     let at = g.F.Files.disk in
-    let o = seen g.F.Folder.Look.files g.F.Folder.Look.place g.F.Folder.Look.faults c.args.held.shelf in
+    let o = seen g.F.Folder.Look c.args.held.shelf in
     let gave = given_adds o (at c.args.files.now) (at c.give_cache.new.files) c.give_cache.ensures.given in
     record { known = all_later (at c.args.files.now).folder_counts (at c.give_cache.new.files).folder_counts gave.folder_known (stores_of g.F.Look.Look c.args.held) c.requires.given.stores }
 
 pub close_seeds-requires : goal.close_seeds-requires
 close_seeds-requires g c =
     let at = g.F.Files.disk in
-    let o = seen g.F.Folder.Look.files g.F.Folder.Look.place g.F.Folder.Look.faults c.args.held.shelf in
+    let o = seen g.F.Folder.Look c.args.held.shelf in
     let gave = given_adds o (at c.args.files.now) (at c.give_cache.new.files) c.give_cache.ensures.given in
     record { known = all_known_later g.F.View.View.held (at c.args.files.now).file_counts (at c.drop_sources.new.files).file_counts (λ q is. c.drop_sources.ensures.kept.known q (gave.known q is)) c.args.held.seeds.items c.requires.given.seeds }
 
 pub returns : goal.returns
 returns g c =
     let at = g.F.Files.disk in
-    let o = seen g.F.Folder.Look.files g.F.Folder.Look.place g.F.Folder.Look.faults c.args.held.shelf in
+    let o = seen g.F.Folder.Look c.args.held.shelf in
     let d = disk_with g.F.Folder.Look c.args.held (at c.args.files.now) in
     let b = at c.give_cache.new.files in
     let e = at c.drop_sources.new.files in
