@@ -8,6 +8,7 @@ use Rattle.std.specs.Str.{bytes_eq}
 use Rattle.std.specs.Option.{option_map}
 use Rattle.caibx_codec.specs.Listing.{Listing, count_of, id_of, image_length}
 use Rattle.caibx_codec.specs.Right.{IsRight}
+use Rattle.chunk_store.specs.Asks.{Sends}
 use Rattle.chunk_store.specs.Folders.{chunks}
 use Rattle.chunk_store.specs.Said.{KeepsOf, Said}
 use Rattle.chunk_store.specs.declared.store.Store.{Ghosts as StoreWords}
@@ -18,15 +19,16 @@ use Rattle.command_words.specs.declared.command.Location.TheVariants as location
 use Rattle.image_commands.specs.Make.{AnySaid, StoreGiven, WritesStore}
 use Rattle.image_commands.specs.Chop.{ChoppedTo, GetsEntries, HasLength, ImageChopped, StopsAtServer, answer_of_chop}
 use Rattle.dsy_base.specs.Maps.{Map}
+use Rattle.command_steps.proofs.AskedOnly.{each_asked_only}
 use Rattle.command_steps.proofs.Asking.{each_asked}
-use Rattle.command_steps.specs.AnyStores.{IsUnused, asked_in, location_in, with_those}
-use Rattle.command_steps.specs.Asking.{Asks, EachDialed}
+use Rattle.command_steps.specs.AnyStores.{IsUnused, asked_in, location_in, source_sent, with_those}
+use Rattle.command_steps.specs.Asking.{Asks, AsksOnly, EachDialed}
 use Rattle.command_steps.specs.declared.any_store.AnyStore.{AnyStore}
 use Rattle.command_words.specs.declared.command.Location.{Location}
 use Rattle.dsy_base.specs.Links.{DialState, Traffic}
 use Rattle.http_wire.specs.declared.reply.Method.TheVariants as method
 use Rattle.image_store.specs.Chopping.{AsksListed, ChopStops, IsMismatch, SaysBefore, StopsInOrder, TellsLength, most_seen, seen_to, times_listed}
-use Rattle.image_store.specs.PutChunks.{HoldsAll, PutsFiles, SaysAll, Stands}
+use Rattle.image_store.specs.PutChunks.{HoldsAll, KeepsListed, PutsFiles, SaysAll, Stands}
 use Rattle.image_store.specs.declared.chop.ChopFault.{ChopFault}
 use Rattle.image_store.specs.declared.chop.ChopFault.TheVariants as faults
 
@@ -70,6 +72,16 @@ gets_to place state l k old new store w v unused located asked queried ended n l
     ((λ q. (let most = asked.most q in let few = le q in omega (arith, most, few))), tt)
     ((λ q. (let same : asked_in method.Head state new q ≡ asked_in method.Head state old q = ap (λ f. f q) queried in omega (arith, same))), tt)
     (ap (λ s. s ∷ []) located) ended
+
+-- and what it was sent
+pub gets_only : {L D K : Type 0} (place : L → List ℕ) (state : D → DialState) (l : Listing) (k : ℕ) (old new : AnyStore L D K) (store : Location) (w v : Option (List Traffic)) → IsUnused state old → location_in place new ≡ store
+    → AsksListed l k (asked_in method.Get state old) (asked_in method.Get state new) → asked_in method.Head state new ≡ asked_in method.Head state old → v ≡ with_those state w new
+    → Sends (KeepsListed l) (source_sent state old) (source_sent state new) → EachDialed (AsksOnly (times_listed l (count_of l)) (λ id. 0) (KeepsListed l)) (store ∷ []) w v
+gets_only place state l k old new store w v unused located asked queried ended sends =
+    each_asked_only place state (times_listed l (count_of l)) (λ id. 0) (KeepsListed l) (old ∷ []) (new ∷ []) (store ∷ []) w v (All-cons (IsUnused state) old [] unused (All-nil (IsUnused state)))
+    ((λ q. (let most = asked.most q in let few = few_listed l k q in omega (arith, most, few))), tt)
+    ((λ q. (let same : asked_in method.Head state new q ≡ asked_in method.Head state old q = ap (λ f. f q) queried in omega (arith, same))), tt)
+    (sends, tt) (ap (λ s. s ∷ []) located) ended
 
 -- what more is said shows what was said of the entries before one
 pub says_before : (l : Listing) (k : ℕ) (a b : Said) → ((id : List ℕ) → KeepsOf a b id) → SaysBefore l k a → SaysBefore l k b

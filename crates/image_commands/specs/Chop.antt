@@ -6,7 +6,7 @@ use Rattle.caibx_codec.specs.Right.{IsRight}
 use Rattle.chunk_store.specs.Folders.{chunks}
 use Rattle.command_outcome.specs.declared.outcome.Outcome.{Outcome}
 use Rattle.command_outcome.specs.declared.outcome.Outcome.TheVariants as ends
-use Rattle.command_steps.specs.Asking.{Asks, EachDialed}
+use Rattle.command_steps.specs.Asking.{Asks, AsksOnly, EachDialed}
 use Rattle.command_steps.specs.InputFiles.{ImageOpened, IndexRead, IsListed}
 use Rattle.command_steps.specs.Sources.{OnSources, Sources, StoreRose, said_at}
 use Rattle.command_steps.specs.Stores.{is_folder}
@@ -18,7 +18,7 @@ use Rattle.image_commands.specs.Make.{AnySaid, WritesStore, StoreGiven}
 use Rattle.dsy_base.specs.Maps.{Map}
 use Rattle.image_store.specs.Chopping.{AreRightTo, IsMismatch, SaysBefore, StopsInOrder, most_seen, seen_to}
 use Rattle.image_store.specs.Chopping.{times_listed}
-use Rattle.image_store.specs.PutChunks.{HoldsAll, PutsFiles, SaysAll, Stands}
+use Rattle.image_store.specs.PutChunks.{HoldsAll, KeepsListed, PutsFiles, SaysAll, Stands}
 use Rattle.image_store.specs.declared.chop.ChopFault.{ChopFault}
 use Rattle.image_store.specs.declared.chop.ChopFault.TheVariants as faults
 
@@ -55,10 +55,11 @@ module _ (l : Listing) (image : List ℕ) (told : Option (List ℕ)) (store : Lo
   NotChopped w v ends.Memory = HasLength l told × ChopGiven (Err faults.Memory) w v
   NotChopped w v other = ⊥
 
-  -- a server is asked for the chunk of an id at most once for each entry that lists it, and never whether it has one
+  -- a server is asked for the chunk of an id at most once for each entry that lists it, and never whether it has one;
+  -- and it is sent nothing but fronts of requests that get or put listed chunks
   abbrev pub GetsEntries : Sources → Sources → Type 0
-  GetsEntries w v =
-      EachDialed (Asks (times_listed l (count_of l)) (λ id. 0)) (store ∷ []) w.dial.ended v.dial.ended
+  GetsEntries w v = EachDialed (AsksOnly (times_listed l (count_of l)) (λ id. 0) (KeepsListed l)) (store ∷ [])
+      w.dial.ended v.dial.ended
 
   -- chopping into a server ended at this entry: those before it are right, and of their chunks the server has taken or
   -- shown bytes of the listed names; it was asked for these and for that of the entry alone

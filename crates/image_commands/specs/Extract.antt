@@ -10,6 +10,7 @@ use Rattle.assembler.specs.declared.fault.ExtractFault.{ExtractFault}
 use Rattle.assembler.specs.declared.fault.ExtractFault.TheVariants as faults
 use Rattle.range_survey.specs.declared.report.Report.{Report}
 use Rattle.cache_store.specs.Giving.{GiveOneSize, SomeGives}
+use Rattle.caibx_codec.specs.Asks.{IsListedGet}
 use Rattle.caibx_codec.specs.Listing.{Listing, count_of, id_of, kind_of, size_of, slice_of, start_of, image_length}
 use Rattle.caibx_codec.specs.Right.{IsRight, IsRightAt}
 use Rattle.chunk_sources.specs.Asks.{asks_below}
@@ -28,7 +29,7 @@ use Rattle.dsy_base.specs.Counts.{Quiet}
 use Rattle.dsy_base.specs.Maps.{Map, at_name}
 use Rattle.dsy_base.specs.declared.fault.IoFault.{IoFault}
 use Rattle.dsy_base.specs.declared.fault.IoFault.TheVariants as io
-use Rattle.command_steps.specs.Asking.{AsksFew, EachDialed}
+use Rattle.command_steps.specs.Asking.{AsksFew, EachDialed, SendsFronts}
 use Rattle.command_steps.specs.Cache.{CacheOpened}
 use Rattle.command_steps.specs.InputFiles.{IndexRead, IsListed}
 use Rattle.command_steps.specs.Seeds.{IndexesRead, image_name}
@@ -293,7 +294,8 @@ abbrev pub twice_wanted : Listing → Deal → (ℕ → Bool) → List ℕ → �
 twice_wanted l p spared id =
     asks_below (want_id l p) spared p.wants id + asks_below (want_id l p) spared p.wants id
 
--- each server is asked for the chunk of an id at most twice for each want of that id that isn't spared
+-- each server is asked for the chunk of an id at most twice for each want of that id that isn't spared, and is sent
+-- nothing but fronts of requests for chunks that the index lists
 pub record GetsWants (w v : Sources) (stores : List Location) (cache : Option (List ℕ)) (out : Into) (l : Listing)
     (x : Seeds) : Type 0 where
   pub plan : Deal
@@ -301,6 +303,7 @@ pub record GetsWants (w v : Sources) (stores : List Location) (cache : Option (L
   pub gets : (spared : ℕ → Bool) → ((i : ℕ) → i < plan.wants → spared i ≡ true →
       IsSomeAnd w.disk.files (λ b. IsSparedOnDisk w.disk v.disk b cache out l x plan i)) →
       EachDialed (AsksFew method.Get (twice_wanted l plan spared)) stores w.dial.ended v.dial.ended
+  pub sends : EachDialed (SendsFronts (IsListedGet l)) stores w.dial.ended v.dial.ended
 
 -- ---- making the image
 

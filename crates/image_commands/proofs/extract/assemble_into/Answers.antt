@@ -44,7 +44,9 @@ use Rattle.extract_plan.specs.Seeds as seeds
 use Rattle.command_steps.proofs.Asking.{each_got, few_each, none_dialed}
 use Rattle.command_steps.proofs.Lacked.{same_length}
 use Rattle.command_steps.specs.AnyStores.{IsUnused, asked_in}
-use Rattle.command_steps.specs.Asking.{AsksFew, EachDialed}
+use Rattle.command_steps.proofs.AskedOnly.{each_sent}
+use Rattle.command_steps.specs.Asking.{AsksFew, EachDialed, SendsFronts}
+use Rattle.caibx_codec.specs.Asks.{IsListedGet}
 use Rattle.caibx_codec.specs.Listing.{size_of}
 use Rattle.extract_plan.specs.Deal.{first_of, want_id}
 use Rattle.http_wire.specs.declared.reply.Method.TheVariants as method
@@ -497,6 +499,7 @@ returns-in_default-clause-asks g c = λ p ls plan is. record {
   plan = p;
   planned = plan;
   gets = λ spared are. none_dialed (AsksFew method.Get (twice_wanted c.args.planned.now.index p spared)) (λ s id. omega arith) (map (location_in g.F.Look.Look.place) c.args.held.stores.items) (g.D.Dial.state c.args.dial.now).ended;
+  sends = none_dialed (SendsFronts (IsListedGet c.args.planned.now.index)) (λ s n t lt. absurd (omega (arith, lt))) (map (location_in g.F.Look.Look.place) c.args.held.stores.items) (g.D.Dial.state c.args.dial.now).ended;
 }
 
 pub returns-in-Err-clause-asks : goal.returns-in-Err-clause-asks
@@ -504,6 +507,7 @@ returns-in-Err-clause-asks g c = λ p ls plan is. record {
   plan = p;
   planned = plan;
   gets = λ spared are. none_dialed (AsksFew method.Get (twice_wanted c.args.planned.now.index p spared)) (λ s id. omega arith) (map (location_in g.F.Look.Look.place) c.args.held.stores.items) (g.D.Dial.state c.args.dial.now).ended;
+  sends = none_dialed (SendsFronts (IsListedGet c.args.planned.now.index)) (λ s n t lt. absurd (omega (arith, lt))) (map (location_in g.F.Look.Look.place) c.args.held.stores.items) (g.D.Dial.state c.args.dial.now).ended;
 }
 
 pub returns-clause-asks : goal.returns-clause-asks
@@ -614,4 +618,5 @@ returns-clause-asks g c = λ p ls plan is.
           let few = few_each (asked_in method.Get state) (twice_wanted l p spared) before after (same_length place before after (sym stores.places)) (λ q n. asked.most q n) in
           subst (λ xs. EachDialed (AsksFew method.Get (twice_wanted l p spared)) (map location xs) k0.ended k1.ended) same
           (each_got at_place state (twice_wanted l p spared) before after names k0.ended k1.ended unused few after_at last_ended);
+      sends = subst (λ xs. EachDialed (SendsFronts (IsListedGet l)) (map location xs) k0.ended k1.ended) same (each_sent at_place state (IsListedGet l) before after names k0.ended k1.ended unused stores.sends after_at last_ended);
     }
