@@ -4,11 +4,14 @@
 One client asks for chunks of 64 KiB of random bytes on one connection, one after the other, each once a run. It is
 measured twice: as a client that checks each chunk against its digest before it asks for the next one, as `extract`
 does, and as one that only receives them; its bytes are checked after the timed part. nginx has one worker, and sends
-files as they are; ours reads and names each chunk before it is sent. Needs nginx, and the size under the temporary
-folder and in memory.
+files as they are; ours reads and names each chunk before it is sent. Then several clients at once, each a process with
+a connection of its own, ask for all chunks in an order of their own and check each; nginx has one worker a processor
+for them. Needs nginx, and the size under the temporary folder and in memory.
 """
 
+import multiprocessing
 import os
+import random
 import re
 import socket
 import statistics
@@ -70,13 +73,43 @@ def seconds_for(port, names, room, checks):
         return time.monotonic() - begun
 
 
+def ask_for_all(port, names, seed, together):
+    """A client of its own process: each chunk is checked as it comes."""
+    order = random.Random(seed).sample(names, len(names))
+    room = memoryview(bytearray(CHUNK))
+    with socket.create_connection(('127.0.0.1', port)) as peer:
+        peer.setsockopt(socket.IPPROTO_TCP, socket.TCP_NODELAY, 1)
+        together.wait()
+        for name in order:
+            peer.sendall(f'GET {formats.chunk_path("/", name)} HTTP/1.1\r\nHost: localhost\r\n\r\n'.encode())
+            receive(peer, room)
+            check(name, 0, room)
+
+
+def seconds_for_many(port, names, clients):
+    """The seconds that so many clients take at once, from when all are connected."""
+    together = multiprocessing.Barrier(clients + 1)
+    runs = [multiprocessing.Process(target=ask_for_all, args=(port, names, seed, together)) for seed in range(clients)]
+    for run in runs:
+        run.start()
+    together.wait()
+    begun = time.monotonic()
+    for run in runs:
+        run.join()
+        if run.exitcode != 0:
+            sys.exit('a client has failed')
+    return time.monotonic() - begun
+
+
 def check(name, place, room):
     if formats.name_of(room[place * CHUNK:(place + 1) * CHUNK]) != name:
         sys.exit(f'{name.hex()} has other bytes')
 
 
 def main():
-    options = side_by_side.arguments(__doc__, 256)
+    parser = side_by_side.options(__doc__, 256)
+    parser.add_argument('--clients', type=int, default=8, help='clients at once (default 8)')
+    options = parser.parse_args()
     if servers.nginx_program() is None:
         sys.exit('nginx isn\'t installed')
     count = options.size * side_by_side.MIB // CHUNK
@@ -93,13 +126,25 @@ def main():
                     for place, name in enumerate(names):
                         check(name, place, room)
                     room[:] = bytes(len(room))
+        many = {'nginx': [], 'chunk-server': []}
+        top = os.path.join(folder, 'nginx')
+        with servers.ChunkServer(folder) as ours, \
+                servers.nginx(os.path.join(folder, 'st'), top, STAY_OPEN, os.cpu_count()) as nginx:
+            ports = {'nginx': nginx, 'chunk-server': ours.port}
+            for _ in range(options.runs):
+                for what, each in many.items():
+                    each.append(seconds_for_many(ports[what], names, options.clients))
     rates = {run: count / statistics.median(each) for run, each in seconds.items()}
-    print(f'{count} chunks of {CHUNK} bytes, on one connection; medians of {options.runs} runs')
+    crowd = {what: options.clients * count / statistics.median(each) for what, each in many.items()}
+    print(f'{count} chunks of {CHUNK} bytes; medians of {options.runs} runs')
     print(f'{"":30} {"requests/s":>11} {"MB/s":>8} {"ratio":>7} {"at least":>9}')
     for (what, checks), rate in rates.items():
         shown = f'{what}, {"each checked" if checks else "taken alone"}'
         wanted = '0.50' if what == 'chunk-server' else ''
         print(f'{shown:30} {rate:11.0f} {rate * CHUNK / 1e6:8.1f} {rate / rates["nginx", checks]:7.2f} {wanted:>9}')
+    for what, rate in crowd.items():
+        shown = f'{what}, {options.clients} clients'
+        print(f'{shown:30} {rate:11.0f} {rate * CHUNK / 1e6:8.1f} {rate / crowd["nginx"]:7.2f} {"":>9}')
 
 
 if __name__ == '__main__':

@@ -173,8 +173,8 @@ def static(folder):
         process.communicate(timeout=SECONDS)
 
 
-# One process and one worker, and no file outside the folder `top`.
-NGINX = '''daemon off; master_process off; pid {top}/pid; error_log {top}/error;
+# No file outside the folder `top`.
+NGINX = '''daemon off; {processes} pid {top}/pid; error_log {top}/error;
 events {{}}
 http {{
     access_log off; sendfile on; tcp_nopush on;
@@ -202,19 +202,26 @@ def free_port():
 
 
 @contextlib.contextmanager
-def nginx(folder, top, lines=''):
+def nginx(folder, top, lines='', workers=1):
     """nginx over a folder's files; gives its port. It keeps its own files in the folder `top`."""
     port = free_port()
-    with nginx_of(SERVER.format(port=port, folder=folder, lines=lines), port, top):
+    with nginx_of(SERVER.format(port=port, folder=folder, lines=lines), port, top, workers):
         yield port
 
 
+def processes_of(workers):
+    """The lines by which nginx is one process, or has so many workers, which may read what we may."""
+    if workers == 1:
+        return 'master_process off;'
+    return f'worker_processes {workers};' + (' user root;' if os.geteuid() == 0 else '')
+
+
 @contextlib.contextmanager
-def nginx_of(server, port, top):
+def nginx_of(server, port, top, workers=1):
     """nginx with this block `server`, which listens at the port."""
     os.makedirs(top, exist_ok=True)
     with open(os.path.join(top, 'conf'), 'w', encoding='utf-8') as file:
-        file.write(NGINX.format(top=top, server=server))
+        file.write(NGINX.format(top=top, server=server, processes=processes_of(workers)))
     with open(os.path.join(top, 'error'), 'ab') as errors:
         process = subprocess.Popen([nginx_program(), '-c', os.path.join(top, 'conf')], stdin=subprocess.DEVNULL,
                                    stdout=errors, stderr=errors)

@@ -4,8 +4,9 @@
     tests/serving.py           all but the last case
     tests/serving.py --slow    also a peer that takes nothing of a reply, which takes some minutes
 
-The replies to single requests are those of tests/replies.py. The servers listen on the loopback interface at free
-ports, but for the cases of all addresses. Peers that hold up a server, for a minute, do so beside the other cases.
+The replies to single requests are those of tests/replies.py, many peers at once those of tests/at_once.py. The servers
+listen on the loopback interface at free ports, but for the cases of all addresses. Peers that hold up a server, for a
+minute, do so beside the other cases.
 """
 
 import concurrent.futures
@@ -19,6 +20,7 @@ import subprocess
 import sys
 import time
 
+import at_once
 import formats
 import program
 import replies
@@ -352,7 +354,7 @@ def answered_after(folder, hold):
     name = formats.name_of(bytes(64 * MIB))
     formats.write_chunk(store, name, b'')
     os.truncate(formats.chunk_path(store, name), 64 * MIB)
-    with ChunkServer(folder, '-w') as server, server.connect() as first:
+    with ChunkServer(folder, '-w', '-n', '1') as server, server.connect() as first:
         hold(first)
         begun = time.monotonic()
         with server.connect() as second:
@@ -362,8 +364,8 @@ def answered_after(folder, hold):
 
 
 class HoldingUp:
-    """Peers that hold up a server of their own, beside the other cases. `judge` compares when the next peer was
-    answered."""
+    """Peers that hold up a server of their own, of one worker, beside the other cases. `judge` compares when the next
+    peer was answered."""
 
     def __init__(self, cases, threads):
         self.cases = cases
@@ -378,7 +380,7 @@ class HoldingUp:
 
     def judge(self):
         for what, most, run in self.runs:
-            with self.cases.case(f'a peer that {what} holds up the next one, and not for longer than {most} seconds'):
+            with self.cases.case(f'with -n 1 a peer that {what} holds up the next one for at most {most} seconds'):
                 got, seconds = run.result()
                 expect_equal(got, Wanted(200, ABC, closes=True).bytes, 'the reply')
                 expect(55 < seconds < most, f'the next peer was answered after {seconds} seconds')
@@ -392,7 +394,7 @@ def main():
         holding_up.begin(HELD, 80)
         if sys.argv[1:] == ['--slow']:
             holding_up.begin(SLOWLY_HELD, 400)
-        for group in (*replies.GROUPS, memory, addresses, by_curl):
+        for group in (*replies.GROUPS, *at_once.GROUPS, memory, addresses, by_curl):
             folder = os.path.join(cases.top, group.__name__)
             os.mkdir(folder)
             group(cases, folder)

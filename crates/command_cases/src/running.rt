@@ -12,6 +12,7 @@ use dsy_sure::sure_files::SureFiles;
 use dsy_sure::sure_folder::SureFolder;
 use dsy_sure::sure_sink::SureSink;
 use std::alloc::Global;
+use std::sync::Wait;
 use std::test::Fail;
 use std::thread::Threads;
 
@@ -33,7 +34,7 @@ fn print_ended(
 }
 
 /// `run WORD..`
-pub fn run<R: Print + Threads + Sync>(
+pub fn run<R: Print + Threads + Wait + Sync>(
     rt: &R,
     world: &mut World,
     line: &str,
@@ -58,7 +59,7 @@ pub fn run<R: Print + Threads + Sync>(
 }
 
 /// `both WORD.. & WORD..`
-pub fn both<R: Print + Threads + Sync>(
+pub fn both<R: Print + Threads + Wait + Sync>(
     rt: &R,
     world: &mut World,
     line: &str,
@@ -98,7 +99,7 @@ fn sure_files_of(alloc: Global, piece: &str) -> Result<SureFiles, Fail> {
 }
 
 /// `surely PIECE WORD..`
-pub fn surely<R: Print + Threads + Sync>(
+pub fn surely<R: Print + Threads + Wait + Sync>(
     rt: &R,
     world: &mut World,
     line: &str,

@@ -11,6 +11,7 @@ use crate::showing::{
     sent_shown,
 };
 use crate::world::World;
+use std::sync::Wait;
 use std::test::Fail;
 use std::thread::Threads;
 
@@ -47,7 +48,7 @@ fn shown(world: &mut World, word: &str, rest: &str) -> Result<Option<Vec<u8>>, F
 }
 
 /// Does what a line says.
-pub fn perform<R: Print + Threads + Sync>(
+pub fn perform<R: Print + Threads + Wait + Sync>(
     rt: &R,
     world: &mut World,
     line: &str,

@@ -170,14 +170,14 @@ example: desync prune -s chunks -y disk.caibx
 pub const CHUNK_SERVER: &str = "\
 usage: desync chunk-server -s FOLDER -l HOST:PORT [-w] [-n WORKERS]
 
-Serves the chunks of the store over HTTP, one connection after the other, until
-it is killed. What doesn't have a chunk's digest is neither given nor taken.
+Serves the chunks of the store over HTTP, many connections at once, until it is
+killed. What doesn't have a chunk's digest is neither given nor taken.
 Nobody is asked who they are: listen at localhost, or put a proxy in front.
 
   -s, --store FOLDER            the store
   -l, --listen HOST:PORT        the address; no HOST means all addresses
   -w, --writeable               take chunks too
-  -n, --concurrency WORKERS     1 to 32 workers; for now one does all
+  -n, --concurrency WORKERS     1: in turn; 2 to 32: a thread a connection
 
 example: desync chunk-server -s chunks -l localhost:8080
 ";

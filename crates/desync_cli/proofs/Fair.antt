@@ -1,5 +1,5 @@
 -- What each command leaves, and what its refusals tell: a lemma for each step of its own, and a line a command.
-use Rattle.std.proofs.Common.{◌≡◌, ℕ, zero, suc, List, [], ◌∷◌, map, All, IfSome, IsSomeAnd, Bool, IsTrue, is_some, not, true, false, Option, Some, None, Result, Ok, Err, refl, sym, subst, inl, inr, arith, cond}
+use Rattle.std.proofs.Common.{◌≡◌, ◌==◌, ℕ, zero, suc, List, [], ◌∷◌, map, All, IfSome, IsSomeAnd, Bool, IsTrue, is_some, not, true, false, Option, Some, None, Result, Ok, Err, refl, sym, subst, inl, inr, arith, cond}
 use Rattle.std.specs.List.{Any}
 use Rattle.std.specs.Map.{count_at}
 use Rattle.buzhash_cut.specs.Sizes.{Sizes}
@@ -266,15 +266,15 @@ unheard_step f n o x p h q = record { fair = λ d e r t. (taken_step f n o x p q
   leaves d e (Ok held) t = (taken_step f n o x p q).leaves d e (Ok held) t
   leaves d e (Err r) t = (taken_step f n o x p q).leaves d e (Err r) t.0
 
-served_step : (f n o : Bool) (x : Parts) (p : Unread) (h : Heard) (writable : Bool) (q : List ℕ) (held : Option (Map (List ℕ))) → x.listener ≡ (h.old.faults, h.new.faults)
-    → IsStep (round p) (record { files = f; folders = false; dial = n; out = o }) x (FolderServed h writable q held)
-served_step f n o x p h writable q held same = record { fair = fair; leaves = leaves } where
-  fair : (d e : Disk) (r : Outcome) → FolderServed h writable q held d (Err r) e → IsFair x r (round p d) (round p e)
+served_step : (f n o : Bool) (x : Parts) (p : Unread) (in_turn : Bool) (h : Heard) (writable : Bool) (q : List ℕ) (held : Option (Map (List ℕ))) → x.listener ≡ (h.old.faults, h.new.faults)
+    → IsStep (round p) (record { files = f; folders = false; dial = n; out = o }) x (FolderServed in_turn h writable q held)
+served_step f n o x p in_turn h writable q held same = record { fair = fair; leaves = leaves } where
+  fair : (d e : Disk) (r : Outcome) → FolderServed in_turn h writable q held d (Err r) e → IsFair x r (round p d) (round p e)
   fair d e ends.ListenFault t = (tt, subst (λ (y : ℕ × ℕ). Rose y.0 y.1) (sym same) t.0.0)
   fair d e ends.Memory t = (tt, tt)
   fair d e other t = absurd t.0
 
-  leaves : (d e : Disk) (r : Result Unit Outcome) → FolderServed h writable q held d r e → IsLeft (record { files = f; folders = false; dial = n; out = o }) (round p d) (round p e)
+  leaves : (d e : Disk) (r : Result Unit Outcome) → FolderServed in_turn h writable q held d r e → IsLeft (record { files = f; folders = false; dial = n; out = o }) (round p d) (round p e)
   leaves d e (Ok u) t = adds p t.1
   leaves d e (Err r) t = adds p t.1
 
@@ -303,7 +303,7 @@ command_step h (commands.Demo number size workers) = bound (pure_step (Rehearsed
 command_step h commands.Help = on_out (λ d. printed_step _ _ _ _ d (help_text topics.All))
 command_step h commands.Version = on_out (λ d. printed_step _ _ _ _ d (help_text topics.Version))
 command_step h (commands.HelpOn kind) = on_out (λ d. printed_step _ _ _ _ d (help_text (topics.Command kind)))
-command_step h (commands.ChunkServer store host port writable workers) = bound (on_disk (λ p. unheard_step _ _ _ _ p h store)) (λ held. on_disk (λ p. served_step _ _ _ _ p h writable store held refl))
+command_step h (commands.ChunkServer store host port writable workers) = bound (on_disk (λ p. unheard_step _ _ _ _ p h store)) (λ held. on_disk (λ p. served_step _ _ _ _ p (workers == 1) h writable store held refl))
 
 -- a command that listens is none that doesn't
 pub none_such : {A : Type 0} → true ≡ false → A

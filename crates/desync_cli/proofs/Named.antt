@@ -226,13 +226,13 @@ module _ (n : ℕ) where
   pub verified : (q : List ℕ) (repair : Bool) (held : Option (Map (List ℕ))) → Shorts n (StoreVerified q repair held)
   verified q repair held = record { short = verified_tells q repair held }
 
-  served_tells : (h : Heard) (writable : Bool) (q : List ℕ) (held : Option (Map (List ℕ))) → Tells n (FolderServed h writable q held)
-  served_tells h writable q held d e ends.ListenFault t = omega arith
-  served_tells h writable q held d e ends.Memory t = omega arith
-  served_tells h writable q held d e other t = absurd t.0
+  served_tells : (in_turn : Bool) (h : Heard) (writable : Bool) (q : List ℕ) (held : Option (Map (List ℕ))) → Tells n (FolderServed in_turn h writable q held)
+  served_tells in_turn h writable q held d e ends.ListenFault t = omega arith
+  served_tells in_turn h writable q held d e ends.Memory t = omega arith
+  served_tells in_turn h writable q held d e other t = absurd t.0
 
-  pub served : (h : Heard) (writable : Bool) (q : List ℕ) (held : Option (Map (List ℕ))) → Shorts n (FolderServed h writable q held)
-  served h writable q held = record { short = served_tells h writable q held }
+  pub served : (in_turn : Bool) (h : Heard) (writable : Bool) (q : List ℕ) (held : Option (Map (List ℕ))) → Shorts n (FolderServed in_turn h writable q held)
+  served in_turn h writable q held = record { short = served_tells in_turn h writable q held }
 
   written_tells : (q bytes : List ℕ) → length q ≤ n → Tells n (IndexWritten q bytes)
   written_tells q bytes le d e o h = not_written q le d e o h.0

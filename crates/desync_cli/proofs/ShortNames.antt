@@ -70,7 +70,7 @@ command_short n h (commands.Demo number size workers) f = bound (rehearsed n num
 command_short n h commands.Help f = on_out (printed n _)
 command_short n h commands.Version f = on_out (printed n _)
 command_short n h (commands.HelpOn kind) f = on_out (printed n _)
-command_short n h (commands.ChunkServer store host port writable workers) f = bound (on_disk (unheard n h store f)) (λ held. on_disk (served n h writable store held))
+command_short n h (commands.ChunkServer store host port writable workers) f = bound (on_disk (unheard n h store f)) (λ held. on_disk (served n (workers == 1) h writable store held))
 
 -- ---- the words
 

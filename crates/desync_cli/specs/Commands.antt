@@ -54,7 +54,7 @@ CommandEnds h (commands.Demo number size workers) = DemoEnds number size
 CommandEnds h commands.Help = OnOut (Printed (help_text topics.All))
 CommandEnds h commands.Version = OnOut (Printed (help_text topics.Version))
 CommandEnds h (commands.HelpOn kind) = OnOut (Printed (help_text (topics.Command kind)))
-CommandEnds h (commands.ChunkServer store host port writable workers) = ChunkServerEnds h store writable
+CommandEnds h (commands.ChunkServer store host port writable workers) = ChunkServerEnds h store writable workers
 
 -- what no outcome of it changes
 abbrev pub spares : Command → Spares

@@ -1,5 +1,5 @@
 -- `make`, and then `extract` of the index that it wrote.
-use Rattle.std.specs.Prelude.{◌≡◌, ◌⊎◌, ℕ, List, Option, Some}
+use Rattle.std.specs.Prelude.{◌≡◌, ◌⊎◌, ℕ, false, List, Option, Some}
 use Rattle.buzhash_cut.specs.Right.{HasTwins}
 use Rattle.caibx_codec.specs.Listing.{Listing}
 use Rattle.command_outcome.specs.declared.outcome.Outcome.{Outcome}
@@ -33,5 +33,5 @@ abbrev pub InTurn : ListenState → ListenState → List (List ℕ) → List (Li
     → World → Outcome → Outcome → World → Type 0
 InTurn old new first then w one two v =
     (mid : ListenState) × (between : World)
-    × DesyncEnds (heard old mid) first w (answer_of one) between
-    × DesyncEnds (heard mid new) then between (answer_of two) v
+    × DesyncEnds (heard false old mid) first w (answer_of one) between
+    × DesyncEnds (heard false mid new) then between (answer_of two) v

@@ -1,6 +1,6 @@
 //! The top call over files, folders and sinks in memory, which tell all that they hold.
 
-ghost use Rattle.std.specs.Prelude.{◌≡◌, IfSome, Some, map, string_bytes};
+ghost use Rattle.std.specs.Prelude.{◌≡◌, IfSome, Some, false, map, string_bytes};
 ghost use Rattle.command_worlds.specs.Steps.{answer_of};
 ghost use Rattle.command_worlds.specs.Worlds.{world};
 ghost use Rattle.desync_cli.specs.Commands.{Achieves, DesyncEnds, command_of};
@@ -19,10 +19,11 @@ use dsy_base::listen::Listen;
 use dsy_forms::mem_files::MemFiles;
 use dsy_forms::mem_sink::MemSink;
 use std::alloc::Global;
+use std::sync::Wait;
 use std::thread::Threads;
 
 /// Does what the words say. Here each clause of `desync` speaks of what stands under the names, with nothing left open.
-pub fn desync_in_memory<R: Threads + Sync, D: Dial, L: Listen>(
+pub fn desync_in_memory<R: Threads + Wait + Sync, D: Dial, L: Listen>(
     rt: &R,
     alloc: Global,
     words: &[String],
@@ -32,11 +33,13 @@ pub fn desync_in_memory<R: Threads + Sync, D: Dial, L: Listen>(
     out: &mut MemSink,
     err: &mut MemSink,
 ) -> Ended
+where
+    L::Link: Send,
     ensures done { result.outcome ≡ Outcome.Done → IfSome (command_of (map string_bytes words.now))
-        (λ c. Achieves (heard (L.state listen.old) (L.state listen.new)) c
+        (λ c. Achieves (heard false (L.state listen.old) (L.state listen.new)) c
         (world (disk_of files.old) (D.state dial.old) (output_of out.old))
         (world (disk_of files.new) (D.state dial.new) (output_of out.new))) }
-    ensures ends { DesyncEnds (heard (L.state listen.old) (L.state listen.new)) (map string_bytes words.now)
+    ensures ends { DesyncEnds (heard false (L.state listen.old) (L.state listen.new)) (map string_bytes words.now)
         (world (disk_of files.old) (D.state dial.old) (output_of out.old))
         (answer_of result.outcome) (world (disk_of files.new) (D.state dial.new) (output_of out.new)) }
 {
@@ -45,7 +48,7 @@ pub fn desync_in_memory<R: Threads + Sync, D: Dial, L: Listen>(
 
 /// Does what the first words say and then what the second say. Where these are a `make` and an `extract` of its
 /// index, and both are done, the image has come back.
-pub fn make_then_extract<R: Threads + Sync, D: Dial, L: Listen>(
+pub fn make_then_extract<R: Threads + Wait + Sync, D: Dial, L: Listen>(
     rt: &R,
     alloc: Global,
     make: &[String],
@@ -56,6 +59,8 @@ pub fn make_then_extract<R: Threads + Sync, D: Dial, L: Listen>(
     out: &mut MemSink,
     err: &mut MemSink,
 ) -> (Ended, Ended)
+where
+    L::Link: Send,
     ensures ends { InTurn (L.state listen.old) (L.state listen.new)
         (map string_bytes make.now) (map string_bytes extract.now)
         (world (disk_of files.old) (D.state dial.old) (output_of out.old)) result.0.outcome result.1.outcome

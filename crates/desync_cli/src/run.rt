@@ -31,6 +31,7 @@ use image_commands::chop::chop_into_store;
 use image_commands::extract::{Extraction, extract};
 use image_commands::make::{Making, make};
 use std::alloc::Global;
+use std::sync::Wait;
 use std::thread::Threads;
 use store_commands::cache::fill_cache;
 use store_commands::demo::demo;
@@ -38,12 +39,12 @@ use store_commands::help::help;
 use store_commands::info::print_info;
 use store_commands::list_chunks::print_chunks;
 use store_commands::prune::prune_folder;
-use store_commands::server::chunk_server;
+use store_commands::server::{Service, chunk_server};
 use store_commands::verify::verify;
 use store_commands::verify_index::check_image;
 
 // Does the command.
-fn perform<R: Threads + Sync, F: ImageFiles, D: Dial, L: Listen, O: Sink>(
+fn perform<R: Threads + Wait + Sync, F: ImageFiles, D: Dial, L: Listen, O: Sink>(
     rt: &R,
     alloc: Global,
     command: Command,
@@ -55,9 +56,11 @@ fn perform<R: Threads + Sync, F: ImageFiles, D: Dial, L: Listen, O: Sink>(
 where
     F::View: Send,
     F::Inner: Sync,
+    F::Folder: Send,
+    L::Link: Send,
     requires { Fits command }
     ensures unheard { listens command ≡ false → listen.new ≡ listen.old }
-    ensures ends { CommandEnds (heard (L.state listen.old) (L.state listen.new)) command
+    ensures ends { CommandEnds (heard F.Folder.never_fails (L.state listen.old) (L.state listen.new)) command
         (world (F.disk files.old) (D.state dial.old) (O.output out.old)) result
         (world (F.disk files.new) (D.state dial.new) (O.output out.new)) }
 {
@@ -126,13 +129,21 @@ where
             host,
             port,
             writable,
-            ..
-        } => chunk_server(alloc, files, listen, store, host, port, writable),
+            workers,
+        } => {
+            let service = Service {
+                host,
+                port,
+                writable,
+                workers,
+            };
+            chunk_server(rt, alloc, files, listen, store, service)
+        }
     }
 }
 
 // Does what the words say.
-fn run<R: Threads + Sync, F: ImageFiles, D: Dial, L: Listen, O: Sink>(
+fn run<R: Threads + Wait + Sync, F: ImageFiles, D: Dial, L: Listen, O: Sink>(
     rt: &R,
     alloc: Global,
     words: &[String],
@@ -144,11 +155,14 @@ fn run<R: Threads + Sync, F: ImageFiles, D: Dial, L: Listen, O: Sink>(
 where
     F::View: Send,
     F::Inner: Sync,
+    F::Folder: Send,
+    L::Link: Send,
     ensures refused { command_of (map string_bytes words.now) ≡ None → (files.new ≡ files.old)
         × (dial.new ≡ dial.old) × (listen.new ≡ listen.old) × (out.new ≡ out.old) }
     ensures unheard { IfSome (command_of (map string_bytes words.now))
         (λ c. listens c ≡ false → listen.new ≡ listen.old) }
-    ensures ends { DesyncEnds (heard (L.state listen.old) (L.state listen.new)) (map string_bytes words.now)
+    ensures ends { DesyncEnds (heard F.Folder.never_fails (L.state listen.old) (L.state listen.new))
+        (map string_bytes words.now)
         (world (F.disk files.old) (D.state dial.old) (O.output out.old)) result
         (world (F.disk files.new) (D.state dial.new) (O.output out.new)) }
 {
@@ -168,7 +182,7 @@ fn outcome_of(answer: Result<(), Outcome>) -> Outcome
 
 /// Does what the words say, with servers that `dial` connects to and clients that connect to `listen`, prints to `out`,
 /// and tells `err` how it ended.
-pub fn desync<R: Threads + Sync, F: ImageFiles, D: Dial, L: Listen, O: Sink, E: Sink>(
+pub fn desync<R: Threads + Wait + Sync, F: ImageFiles, D: Dial, L: Listen, O: Sink, E: Sink>(
     rt: &R,
     alloc: Global,
     words: &[String],
@@ -181,6 +195,8 @@ pub fn desync<R: Threads + Sync, F: ImageFiles, D: Dial, L: Listen, O: Sink, E: 
 where
     F::View: Send,
     F::Inner: Sync,
+    F::Folder: Send,
+    L::Link: Send,
     ensures status { result.status ≡ status_of result.outcome }
 
     // The whole line is told, or a front of it by a sink that failed. Where no room for a line was had at the start the
@@ -196,12 +212,13 @@ where
 
     // What the command that is done has achieved.
     ensures done { result.outcome ≡ Outcome.Done → IfSome (command_of (map string_bytes words.now))
-        (λ c. Achieves (heard (L.state listen.old) (L.state listen.new)) c
+        (λ c. Achieves (heard F.Folder.never_fails (L.state listen.old) (L.state listen.new)) c
         (world (F.disk files.old) (D.state dial.old) (O.output out.old))
         (world (F.disk files.new) (D.state dial.new) (O.output out.new))) }
 
     // Each outcome comes only from a step whose refusal it is, where the steps before it have passed.
-    ensures ends { DesyncEnds (heard (L.state listen.old) (L.state listen.new)) (map string_bytes words.now)
+    ensures ends { DesyncEnds (heard F.Folder.never_fails (L.state listen.old) (L.state listen.new))
+        (map string_bytes words.now)
         (world (F.disk files.old) (D.state dial.old) (O.output out.old))
         (answer_of result.outcome)
         (world (F.disk files.new) (D.state dial.new) (O.output out.new)) }
@@ -225,7 +242,7 @@ where
 
     // A fault is named only where its count rose.
     ensures cause { IfSome (command_of (map string_bytes words.now)) (λ c. Blames
-        (parts (heard (L.state listen.old) (L.state listen.new)) c) result.outcome
+        (parts (heard F.Folder.never_fails (L.state listen.old) (L.state listen.new)) c) result.outcome
         (world (F.disk files.old) (D.state dial.old) (O.output out.old))
         (world (F.disk files.new) (D.state dial.new) (O.output out.new))) }
 
@@ -237,7 +254,7 @@ where
         → IfSome (command_of (map string_bytes words.now)) (λ c. All (RepliesTaken
         (world (F.disk files.old) (D.state dial.old) (O.output out.old))
         (world (F.disk files.new) (D.state dial.new) (O.output out.new)))
-        (parts (heard (L.state listen.old) (L.state listen.new)) c).stores)
+        (parts (heard F.Folder.never_fails (L.state listen.old) (L.state listen.new)) c).stores)
         → NothingFailed result.outcome }
 {
     let Ok(mut line) = take_line(alloc, longest(words), err) else {

@@ -1,5 +1,5 @@
 -- Connections in order: one more behind those that were served, and none.
-use Rattle.std.proofs.Common.{◌≡◌, ◌⊎◌, ℕ, List, [], ◌∷◌, ◌++◌, Bool, true, is_some, Option, Some, None, IfSome, Result, Ok, Err, OnOk, refl, sym, ap, subst, ◌∙◌, inl, inr, append_assoc}
+use Rattle.std.proofs.Common.{◌≡◌, ◌≢◌, ◌⊎◌, ℕ, List, [], ◌∷◌, ◌++◌, Bool, true, false, is_some, Option, Some, None, IfSome, Result, Ok, Err, OnOk, refl, sym, ap, subst, ◌∙◌, inl, inr, append_assoc}
 use Rattle.std.proofs.lemmas.List.{append-nil}
 use Rattle.std.specs.Option.{option_map}
 use Rattle.chunk_server.specs.Shelves.{ServedFolder, shelved}
@@ -10,11 +10,16 @@ use Rattle.chunk_store.specs.declared.id.DigestKind.{DigestKind}
 use Rattle.chunk_store.specs.declared.id.DigestKind.TheVariants as kinds
 use Rattle.command_outcome.specs.declared.outcome.Outcome.TheVariants as ends
 use Rattle.command_steps.proofs.Taken.{gives_adds}
-use Rattle.store_commands.specs.Serving.{AreServed, FolderServed, HasEnded, Heard, Hears, IsIdle, IsServed, LacksMemory, Listens, RunsOut, ServedBack, Serves, TakesFront, TakesOne, answer_of_serving, any_answer, fresh, heard}
+use Rattle.store_commands.specs.Serving.{AreServed, FolderServed, HasEnded, Heard, Hears, IsIdle, IsServed, LacksMemory, Listens, RunsOut, ServedBack, Serves, ServesAtOnce, TakesFront, TakesOne, answer_of_serving, answer_of_sharing, any_answer, fresh, heard}
 use Rattle.dsy_base.specs.Counts.{Rose}
 use Rattle.dsy_base.specs.Disk.{Disk, GivesFolder}
 use Rattle.dsy_base.specs.Links.{Accepts, IsFreshLink, LinkState, ListenState, Traffic}
 use Rattle.dsy_base.specs.Maps.{Map, at_name}
+use Rattle.locked_shelf.specs.Endings.{EndsOver}
+use Rattle.locked_shelf.specs.Keepings.{KeepsOpening}
+use Rattle.locked_shelf.specs.Listening.{ServesAll, ServesSome}
+use Rattle.locked_shelf.specs.declared.serve_all.AllServed.{AllServed}
+use Rattle.locked_shelf.specs.declared.serve_all.AllServed.TheVariants as shared
 use Rattle.dsy_base.specs.declared.fault.IoFault.{IoFault}
 use Rattle.dsy_base.specs.declared.fault.IoFault.TheVariants as io
 
@@ -207,14 +212,31 @@ module _ {F : Type 0} (files : F → Option (Map (List ℕ))) (faults : F → �
 
   pub serving_ends : (r : Result Unit IoFault) → OnOk r (h.new.coming ≡ Some []) → OnOk r (Listens s.writable h.old h.new (shelved files faults s.folder) (shelved files faults t.folder))
       → (r ≡ Err io.Failed → Rose h.old.faults h.new.faults × Listens s.writable h.old h.new (shelved files faults s.folder) (shelved files faults t.folder))
-      → (r ≡ Err io.Memory → RunsOut s.writable h.old h.new (shelved files faults s.folder) (shelved files faults t.folder)) → FolderServed h writable q (files taken) d (answer_of_serving r) e
+      → (r ≡ Err io.Memory → RunsOut s.writable h.old h.new (shelved files faults s.folder) (shelved files faults t.folder)) → FolderServed true h writable q (files taken) d (answer_of_serving r) e
   serving_ends (Ok u) over all failed lacking = ((over, back_as (λ w. Listens w h.old h.new) all), gives_adds d e q (faults t.folder) given)
   serving_ends (Err io.Failed) over all failed lacking = (((failed refl).0, back_as (λ w. Listens w h.old h.new) (failed refl).1), gives_adds d e q (faults t.folder) given)
   serving_ends (Err io.Memory) over all failed lacking = (back_as (λ w. RunsOut w h.old h.new) (lacking refl), gives_adds d e q (faults t.folder) given)
 
 -- the folder is given back as it was taken, and nobody was heard
-pub unserved : {F : Type 0} (files : F → Option (Map (List ℕ))) (faults : F → ℕ) (l : ListenState) (writable : Bool) (q : List ℕ) (taken folder : F) → folder ≡ taken → faults taken ≡ 0 → (d e : Disk) → GivesFolder d e q (faults folder)
-    → e.folders ≡ option_map (λ m. at_name m q (files folder)) d.folders → FolderServed (heard l l) writable q (files taken) d (Err ends.Memory) e
-unserved {F} files faults l writable q taken folder same unfailed d e given back =
+pub unserved : {F : Type 0} (files : F → Option (Map (List ℕ))) (faults : F → ℕ) (never_fails : Bool) (l : ListenState) (writable : Bool) (q : List ℕ) (taken folder : F) → folder ≡ taken → faults taken ≡ 0 → (d e : Disk) → GivesFolder d e q (faults folder)
+    → e.folders ≡ option_map (λ m. at_name m q (files folder)) d.folders → FolderServed true (heard never_fails l l) writable q (files taken) d (Err ends.Memory) e
+unserved {F} files faults never_fails l writable q taken folder same unfailed d e given back =
     let left : shelved files faults folder ≡ fresh (files taken) = ap (shelved files faults) same ∙ ap (λ (n : ℕ). record { files = files taken; faults = n }) unfailed in
     (record { left = shelved files faults folder; back = back; counted = given.folder_counts.added; serving = inl (listens_none writable l l (fresh (files taken)) (shelved files faults folder) (idle_self l) left) }, gives_adds d e q (faults folder) given)
+
+-- the folder is given back as threads have left it
+module _ {F : Type 0} (files : F → Option (Map (List ℕ))) (faults : F → ℕ) (h : Heard) (writable : Bool) (q : List ℕ) (held : Option (Map (List ℕ))) (folder : F) (d e : Disk) (given : GivesFolder d e q (faults folder))
+    (back : e.folders ≡ option_map (λ m. at_name m q (files folder)) d.folders) (tells : Bool) (told : is_some h.old.coming ≡ true → tells ≡ true) (kept : IfSome held (λ first. KeepsOpening kinds.Sha512T256 first (files folder))) where
+  shared_back : (serves : (Bool → LinkState → Type 0) → ListenState → ListenState → Type 0) → serves (EndsOver held h.never_fails writable tells) h.old h.new → ServedBack q held (ServesAtOnce h writable serves) d e
+  shared_back serves served = record {
+    left = shelved files faults folder;
+    back = back;
+    counted = given.folder_counts.added;
+    serving = record { tells = tells; told = told; kept = kept; served = served };
+  }
+
+  pub sharing_ends : (r : AllServed) → (r ≡ shared.Ended → h.new.coming ≡ Some []) → (r ≢ shared.Memory → ServesAll (EndsOver held h.never_fails writable tells) h.old h.new) → ServesSome (EndsOver held h.never_fails writable tells) h.old h.new
+      → (r ≡ shared.ListenFault → Rose h.old.faults h.new.faults) → FolderServed false h writable q held d (answer_of_sharing r) e
+  sharing_ends shared.Ended over all some cause = ((over refl, shared_back ServesAll (all (λ x. absurd (cc)))), gives_adds d e q (faults folder) given)
+  sharing_ends shared.ListenFault over all some cause = ((cause refl, shared_back ServesAll (all (λ x. absurd (cc)))), gives_adds d e q (faults folder) given)
+  sharing_ends shared.Memory over all some cause = (shared_back ServesSome some, gives_adds d e q (faults folder) given)

@@ -1,6 +1,7 @@
--- `chunk-server -s STORE -l HOST:PORT -w -n N`. Connections are taken in the order in which they come, and each is
--- served to its end before the next one is taken.
-use Rattle.std.specs.Prelude.{◌≡◌, ℕ, ◌⊎◌, Bool, List, [], ◌∷◌, ◌++◌, Option, Some, IfSome, Result, Ok, Err}
+-- `chunk-server -s STORE -l HOST:PORT -w -n N`. Connections are taken in the order in which they come. Where N is 1
+-- each is served to its end before the next one is taken, else each in a thread of its own.
+use Rattle.std.specs.Prelude.{◌≡◌, ◌==◌, ℕ, ◌⊎◌, Bool, true, false, is_some, List, [], ◌∷◌, ◌++◌}
+use Rattle.std.specs.Prelude.{Option, Some, IfSome, Result, Ok, Err}
 use Rattle.std.specs.Map.{count_at}
 use Rattle.std.specs.Option.{option_map}
 use Rattle.chunk_server.specs.Answers.{Answer}
@@ -16,17 +17,23 @@ use Rattle.dsy_base.specs.Counts.{Rose, raised}
 use Rattle.dsy_base.specs.Disk.{Disk}
 use Rattle.dsy_base.specs.Links.{LinkState, ListenState, Traffic}
 use Rattle.dsy_base.specs.Maps.{Map, at_name}
+use Rattle.locked_shelf.specs.Endings.{EndsOver}
+use Rattle.locked_shelf.specs.Keepings.{KeepsOpening}
+use Rattle.locked_shelf.specs.Listening.{ServesAll, ServesSome}
+use Rattle.locked_shelf.specs.declared.serve_all.AllServed.{AllServed}
+use Rattle.locked_shelf.specs.declared.serve_all.AllServed.TheVariants as shared
 use Rattle.dsy_base.specs.declared.fault.IoFault.{IoFault}
 use Rattle.dsy_base.specs.declared.fault.IoFault.TheVariants as faults
 use Rattle.http_wire.specs.declared.request.Act.{Act}
 
--- a listener before a command and after it
+-- a listener before a command and after it, and whether no call on a folder fails, by the folder's type
 pub record Heard : Type 0 where
+  pub never_fails : Bool
   pub old : ListenState
   pub new : ListenState
 
-abbrev pub heard : ListenState → ListenState → Heard
-heard old new = record { old = old; new = new }
+abbrev pub heard : Bool → ListenState → ListenState → Heard
+heard never_fails old new = record { never_fails = never_fails; old = old; new = new }
 
 -- ---- connections
 
@@ -110,6 +117,18 @@ RunsOut writable l m old new = Listens writable l m old new
     ⊎ ((k : ListenState) × (mid : ServedFolder)
     × Listens writable l k old mid × Hears (LacksMemory writable) k m mid new)
 
+-- ---- threads
+
+-- connections were served at the same time, each against the files of a folder that began with the first ones, and was
+-- given right chunks alone. Connections are told exactly where `tells` is true
+pub record ServesAtOnce
+    (h : Heard) (writable : Bool) (serves : (Bool → LinkState → Type 0) → ListenState → ListenState → Type 0)
+    (old new : ServedFolder) : Type 0 where
+  pub tells : Bool
+  pub told : is_some h.old.coming ≡ true → tells ≡ true
+  pub kept : IfSome old.files (λ first. KeepsOpening kinds.Sha512T256 first new.files)
+  pub served : serves (EndsOver old.files h.never_fails writable tells) h.old h.new
+
 -- ---- the command
 
 -- the answer after serving
@@ -117,6 +136,22 @@ abbrev pub answer_of_serving : Result Unit IoFault → Result Unit Outcome
 answer_of_serving (Ok u) = Ok u
 answer_of_serving (Err faults.Failed) = Err ends.ListenFault
 answer_of_serving (Err faults.Memory) = Err ends.Memory
+
+-- the answer after serving by threads
+abbrev pub answer_of_sharing : AllServed → Result Unit Outcome
+answer_of_sharing shared.Ended = Ok tt
+answer_of_sharing shared.ListenFault = Err ends.ListenFault
+answer_of_sharing shared.Memory = Err ends.Memory
+
+-- how the connections were served: one after the other where `in_turn` is true
+abbrev pub Serving : Bool → Heard → Bool → ServedFolder → ServedFolder → Type 0
+Serving true h writable old new = Listens writable h.old h.new old new
+Serving false h writable old new = ServesAtOnce h writable ServesAll old new
+
+-- and how, if there was no memory
+abbrev pub ServingShort : Bool → Heard → Bool → ServedFolder → ServedFolder → Type 0
+ServingShort true h writable old new = RunsOut writable h.old h.new old new
+ServingShort false h writable old new = ServesAtOnce h writable ServesSome old new
 
 -- a folder that was taken
 abbrev pub fresh : Option (Map (List ℕ)) → ServedFolder
@@ -131,17 +166,17 @@ pub record ServedBack (q : List ℕ) (held : Option (Map (List ℕ))) (Serving :
   pub counted : count_at e.folder_counts q ≡ raised (count_at d.folder_counts q) left.faults
   pub serving : Serving (fresh held) left
 
-module _ (h : Heard) (writable : Bool) (q : List ℕ) (held : Option (Map (List ℕ))) where
+module _ (in_turn : Bool) (h : Heard) (writable : Bool) (q : List ℕ) (held : Option (Map (List ℕ))) where
   abbrev pub NotServed : Disk → Disk → Outcome → Type 0
   NotServed d e ends.ListenFault =
-      Rose h.old.faults h.new.faults × ServedBack q held (Listens writable h.old h.new) d e
-  NotServed d e ends.Memory = ServedBack q held (RunsOut writable h.old h.new) d e
+      Rose h.old.faults h.new.faults × ServedBack q held (Serving in_turn h writable) d e
+  NotServed d e ends.Memory = ServedBack q held (ServingShort in_turn h writable) d e
   NotServed d e other = ⊥
 
   -- it is done where no more connections come
   abbrev pub FolderServed : Step Disk Unit
   FolderServed d (Ok u) e =
-      ((h.new.coming ≡ Some []) × ServedBack q held (Listens writable h.old h.new) d e) × Adds d e
+      ((h.new.coming ≡ Some []) × ServedBack q held (Serving in_turn h writable) d e) × Adds d e
   FolderServed d (Err o) e = NotServed d e o × Adds d e
 
 -- where the folder isn't reached, nobody is heard
@@ -149,7 +184,7 @@ abbrev pub TakenUnheard : Heard → List ℕ → Step Disk (Option (Map (List �
 TakenUnheard h q d (Ok held) e = StoreTaken q d (Ok held) e
 TakenUnheard h q d (Err o) e = StoreTaken q d (Err o) e × (h.new ≡ h.old)
 
-abbrev pub ChunkServerEnds : Heard → List ℕ → Bool → Step World Unit
-ChunkServerEnds h store writable = do
+abbrev pub ChunkServerEnds : Heard → List ℕ → Bool → ℕ → Step World Unit
+ChunkServerEnds h store writable workers = do
   held ← OnDisk (TakenUnheard h store)
-  OnDisk (FolderServed h writable store held)
+  OnDisk (FolderServed (workers == 1) h writable store held)

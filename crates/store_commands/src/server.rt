@@ -1,12 +1,12 @@
-//! `chunk-server -s STORE -l HOST:PORT -w -n N`: the chunks of STORE over connections, which are served one after the
-//! other.
+//! `chunk-server -s STORE -l HOST:PORT -w -n N`: the chunks of STORE over connections. Where N is 1 they are served one
+//! after the other, else each in a thread of its own.
 
-ghost use Rattle.std.specs.Prelude.{◌≡◌, ◌≤◌, ◌⊎◌, [], false, true, Ok, Err, IsSome, OnOk, Some};
+ghost use Rattle.std.specs.Prelude.{◌≡◌, ◌==◌, ◌≤◌, ◌⊎◌, [], false, true, Ok, Err, IsSome, OnOk, Some};
 ghost use Rattle.chunk_server.specs.Shelves.{shelved};
 ghost use Rattle.chunk_store.specs.declared.id.DigestKind.TheVariants as kinds;
 ghost use Rattle.command_worlds.specs.Worlds.{world};
 ghost use Rattle.store_commands.specs.Serving.{ChunkServerEnds, FolderServed, Hears, IsIdle, IsServed, LacksMemory};
-ghost use Rattle.store_commands.specs.Serving.{Listens, RunsOut, answer_of_serving, heard};
+ghost use Rattle.store_commands.specs.Serving.{Listens, RunsOut, answer_of_serving, answer_of_sharing, heard};
 ghost use Rattle.dsy_base.specs.Counts.{Rose};
 ghost use Rattle.dsy_base.specs.Disk.{Output};
 ghost use Rattle.dsy_base.specs.Links.{DialState};
@@ -22,13 +22,19 @@ use dsy_base::folder::Folder;
 use dsy_base::listen::Listen;
 use dsy_base::look::Look;
 use dsy_base::name::Name;
+use locked_shelf::serve_all::AllServed;
+use locked_shelf::serve_folder::serve_folder;
 use std::alloc::Global;
+use std::sync::Wait;
+use std::thread::Threads;
 
-// Where a listener listens.
+/// How a server serves: where it listens, whether chunks may be put, and by how many workers.
 #[derive(Drop)]
-struct Address {
-    host: Name,
-    port: u16,
+pub struct Service {
+    pub host: Name,
+    pub port: u16,
+    pub writable: bool,
+    pub workers: u32,
 }
 
 // Serves the connection that comes next, and answers whether one came. A call that fails on it ends it alone.
@@ -100,7 +106,7 @@ fn serve_each<L: Listen, F: Folder>(
 fn serve_at<L: Listen, F: Folder>(
     alloc: Global,
     listen: &mut L,
-    address: &Address,
+    service: &Service,
     shelf: &mut ShelfState<F>,
 ) -> Result<(), IoFault>
     requires kind { shelf.old.kind ≡ kinds.Sha512T256 }
@@ -114,7 +120,7 @@ fn serve_at<L: Listen, F: Folder>(
         (shelved F.files F.faults shelf.old.folder) (shelved F.files F.faults shelf.new.folder) }
     ensures place { F.place shelf.new.folder ≡ F.place shelf.old.folder }
 {
-    match listen.bind(address.host.as_str(), address.port) {
+    match listen.bind(service.host.as_str(), service.port) {
         Ok(()) => serve_each(alloc, listen, shelf),
         Err(fault) => Err(fault),
     }
@@ -131,58 +137,121 @@ fn ended(served: Result<(), IoFault>) -> Result<(), Outcome>
     }
 }
 
-// Serves the store whose folder was taken. The folder is given back, whatever the answer is.
+// Serves the store whose folder was taken, one connection after the other. The folder is given back, whatever the
+// answer is.
 fn serve_taken<F: Files, L: Listen>(
     alloc: Global,
     files: &mut F,
     listen: &mut L,
     store: &str,
     taken: DirStore<F::Folder>,
-    address: &Address,
-    writable: bool,
+    service: &Service,
 ) -> Result<(), Outcome>
     requires folder { IsSome ((F.disk files.old).folder_counts store.now) }
     requires named { F.Folder.place taken ≡ store.now }
     requires fresh { F.Folder.faults taken ≡ 0 }
-    ensures { FolderServed (heard (L.state listen.old) (L.state listen.new)) writable store.now (F.Folder.files taken)
-        (F.disk files.old) result (F.disk files.new) }
+    ensures { FolderServed true (heard F.Folder.never_fails (L.state listen.old) (L.state listen.new))
+        service.now.writable store.now (F.Folder.files taken) (F.disk files.old) result (F.disk files.new) }
 {
-    let mut shelf = match ShelfState::new(alloc, taken.into_inner(), writable) {
+    let mut shelf = match ShelfState::new(alloc, taken.into_inner(), service.writable) {
         Ok(shelf) => shelf,
         Err((folder, _)) => {
             give_folder(files, store, DirStore::new(folder));
             return Err(Outcome::Memory);
         }
     };
-    let served = serve_at(alloc, listen, address, &mut shelf);
+    let served = serve_at(alloc, listen, service, &mut shelf);
     give_folder(files, store, DirStore::new(shelf.into_inner()));
     ended(served)
 }
 
-/// Serves the chunks of STORE over the connections that come at an address, until no more come. Where `writable` is
-/// true chunks may be put.
-pub fn chunk_server<F: Files, L: Listen>(
+// How the command ends that serves by threads.
+fn all_ended(served: AllServed) -> Result<(), Outcome>
+    ensures { result ≡ answer_of_sharing served }
+{
+    match served {
+        AllServed::Ended => Ok(()),
+        AllServed::ListenFault => Err(Outcome::ListenFault),
+        AllServed::Memory => Err(Outcome::Memory),
+    }
+}
+
+// Serves the store whose folder was taken, each connection in a thread of its own. The folder is given back, whatever
+// the answer is.
+fn share_taken<R: Threads + Wait + Sync, F: Files, L: Listen>(
+    rt: &R,
+    alloc: Global,
+    files: &mut F,
+    listen: &mut L,
+    store: &str,
+    taken: DirStore<F::Folder>,
+    service: &Service,
+) -> Result<(), Outcome>
+where
+    F::Folder: Send,
+    L::Link: Send,
+    requires folder { IsSome ((F.disk files.old).folder_counts store.now) }
+    requires named { F.Folder.place taken ≡ store.now }
+    ensures { FolderServed false (heard F.Folder.never_fails (L.state listen.old) (L.state listen.new))
+        service.now.writable store.now (F.Folder.files taken) (F.disk files.old) result (F.disk files.new) }
+{
+    let (folder, served) = serve_folder(
+        rt,
+        alloc,
+        listen,
+        service.host.as_str(),
+        service.port,
+        taken.into_inner(),
+        service.writable,
+    );
+    give_folder(files, store, DirStore::new(folder));
+    all_ended(served)
+}
+
+// Serves the store whose folder was taken, by as many workers as the service has.
+fn serve_by<R: Threads + Wait + Sync, F: Files, L: Listen>(
+    rt: &R,
+    alloc: Global,
+    files: &mut F,
+    listen: &mut L,
+    store: &str,
+    taken: DirStore<F::Folder>,
+    service: &Service,
+) -> Result<(), Outcome>
+where
+    F::Folder: Send,
+    L::Link: Send,
+    requires folder { IsSome ((F.disk files.old).folder_counts store.now) }
+    requires named { F.Folder.place taken ≡ store.now }
+    requires fresh { F.Folder.faults taken ≡ 0 }
+    ensures { FolderServed (service.now.workers == 1)
+        (heard F.Folder.never_fails (L.state listen.old) (L.state listen.new)) service.now.writable store.now
+        (F.Folder.files taken) (F.disk files.old) result (F.disk files.new) }
+{
+    if service.workers == 1 {
+        serve_taken(alloc, files, listen, store, taken, service)
+    } else {
+        share_taken(rt, alloc, files, listen, store, taken, service)
+    }
+}
+
+/// Serves the chunks of STORE over the connections that come at an address, until no more come.
+pub fn chunk_server<R: Threads + Wait + Sync, F: Files, L: Listen>(
+    rt: &R,
     alloc: Global,
     files: &mut F,
     listen: &mut L,
     store: Name,
-    host: Name,
-    port: u16,
-    writable: bool,
+    service: Service,
 ) -> Result<(), Outcome>
-    ensures ends { (k : DialState) (p : Output) → ChunkServerEnds (heard (L.state listen.old) (L.state listen.new))
-        store writable (world (F.disk files.old) k p) result (world (F.disk files.new) k p) }
+where
+    F::Folder: Send,
+    L::Link: Send,
+    ensures ends { (k : DialState) (p : Output) →
+        ChunkServerEnds (heard F.Folder.never_fails (L.state listen.old) (L.state listen.new)) store service.writable
+        service.workers (world (F.disk files.old) k p) result (world (F.disk files.new) k p) }
 {
-    let address = Address { host, port };
     let taken = take_folder(alloc, files, store.as_str())?;
-    serve_taken(
-        alloc,
-        files,
-        listen,
-        store.as_str(),
-        taken,
-        &address,
-        writable,
-    )?;
+    serve_by(rt, alloc, files, listen, store.as_str(), taken, &service)?;
     Ok(())
 }

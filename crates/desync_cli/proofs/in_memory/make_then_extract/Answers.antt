@@ -1,4 +1,4 @@
-use Rattle.std.proofs.Common.{map, string_bytes}
+use Rattle.std.proofs.Common.{false, map, string_bytes}
 use Rattle.desync_cli.proofs.RoundTrip.{round_trip}
 use Rattle.desync_cli.proofs.in_memory.make_then_extract.Goals as goal
 use Rattle.desync_cli.specs.Commands.{command_of}
@@ -20,7 +20,7 @@ returns g c =
         c.desync_in_memory-extracted.ensures.ends,
       );
       done = λ made extracted. round_trip c.one_index.ensures.only c.cutting.ensures.value
-          (heard (g.L.Listen.state c.args.listen.now) (g.L.Listen.state c.desync_in_memory-made.new.listen)) (heard (g.L.Listen.state c.desync_in_memory-made.new.listen) (g.L.Listen.state c.desync_in_memory-extracted.new.listen))
+          (heard false (g.L.Listen.state c.args.listen.now) (g.L.Listen.state c.desync_in_memory-made.new.listen)) (heard false (g.L.Listen.state c.desync_in_memory-made.new.listen) (g.L.Listen.state c.desync_in_memory-extracted.new.listen))
           (command_of (map string_bytes c.args.make.now)) (command_of (map string_bytes c.args.extract.now))
           (files_of before) (files_of between) (files_of after) (folders_of before) (folders_of between) (folders_of after)
           (file_counts_of before) (folder_counts_of before) (file_counts_of between) (folder_counts_of between) (file_counts_of after) (folder_counts_of after)
