@@ -43,8 +43,8 @@ use Rattle.dsy_base.specs.Disk.{Disk}
 use Rattle.dsy_base.specs.Links.{DialState}
 use Rattle.dsy_base.specs.Maps.{Map, at_name}
 use Rattle.extract_plan.specs.Places.{seed_item_limit}
-use Rattle.image_commands.proofs.Wrote.{wrote_on}
-use Rattle.image_commands.specs.Extract.{Assembled, CacheFilled, CacheGrows, CacheLacksEntry, ExtractEnds, FillsCache, HadFrom, ImageMade, Into, IsLacking, KeepsIn, NotRenamed, OutMade, Renamed, Seeds, Told, WhereFolders, beside, folder_of, in_place, temporary_out}
+use Rattle.extract_command.proofs.Wrote.{wrote_on}
+use Rattle.extract_command.specs.Extract.{Assembled, CacheFilled, CacheGrows, CacheLacksEntry, ExtractEnds, FillsCache, HadFrom, ImageMade, Into, IsLacking, KeepsIn, NotRenamed, OutMade, Renamed, Seeds, Told, WhereFolders, beside, folder_of, in_place, temporary_out}
 use Rattle.store_chain.specs.Refusals.{HasShown, Lacks}
 use Rattle.store_chain.specs.Queries.{ShowsElse}
 use Rattle.store_chain.specs.declared.refused.Refused.{Refused}

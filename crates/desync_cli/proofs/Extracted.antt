@@ -7,8 +7,8 @@ use Rattle.command_steps.proofs.Cached.{cache_reads}
 use Rattle.command_steps.specs.InputFiles.{IsListed}
 use Rattle.command_steps.specs.Seeds.{image_name}
 use Rattle.command_worlds.specs.Worlds.{World}
-use Rattle.image_commands.specs.Extract.{ExtractEnds, HadFrom, Into, IsExtracted, KeepsIn, Seeds, WhereFolders, beside, folder_of, in_place, temporary_out}
-use Rattle.image_commands.proofs.Replaced.{beside_apart}
+use Rattle.extract_command.specs.Extract.{ExtractEnds, HadFrom, Into, IsExtracted, KeepsIn, Seeds, WhereFolders, beside, folder_of, in_place, temporary_out}
+use Rattle.extract_command.proofs.Replaced.{beside_apart}
 use Rattle.dsy_base.proofs.Counts.{at_other, at_same}
 use Rattle.dsy_base.specs.Disk.{Disk}
 use Rattle.dsy_base.specs.Maps.{Map, at_name}

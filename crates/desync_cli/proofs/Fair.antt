@@ -26,8 +26,8 @@ use Rattle.store_commands.specs.Caching.{FillTells, IndexesFilled, NotFilled, of
 use Rattle.image_commands.specs.Chop.{ImageChopped}
 use Rattle.desync_cli.specs.Commands.{DesyncEnds, CommandEnds, NoCommand, TellsRefusal, WordsRead, command_of, parts, refusal_in, usage_refusal, command_said, spares}
 use Rattle.store_commands.specs.Demo.{Rehearsed}
-use Rattle.image_commands.proofs.Wrote.{wrote_on}
-use Rattle.image_commands.specs.Extract.{CacheFilled, Clearing, FillsCache, ImageMade, Into, OutMade, Renamed, Seeds, beside, in_place, temporary_out}
+use Rattle.extract_command.proofs.Wrote.{wrote_on}
+use Rattle.extract_command.specs.Extract.{CacheFilled, Clearing, FillsCache, ImageMade, Into, OutMade, Renamed, Seeds, beside, in_place, temporary_out}
 use Rattle.store_commands.specs.Info.{IdsCounted, NotAsked}
 use Rattle.image_commands.specs.Make.{ImageStored, IndexWritten, SizesJudged, WritesStore}
 use Rattle.store_commands.specs.Serving.{FolderServed, Heard, TakenUnheard}

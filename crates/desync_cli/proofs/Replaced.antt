@@ -16,7 +16,7 @@ use Rattle.command_worlds.specs.Worlds.{OnDisk, Reads, World, world}
 use Rattle.desync_cli.proofs.Fair.{begun, if_any, if_some}
 use Rattle.desync_cli.specs.Commands.{DesyncEnds, CommandEnds, LeavesBehind, command_of}
 use Rattle.store_commands.specs.Serving.{Heard}
-use Rattle.image_commands.specs.Extract.{Assembled, Cleared, ExtractEnds, Into, KeepsIn, OutMade, Seeds, StopsSomewhere, beside, folder_of, old_of, temporary_out}
+use Rattle.extract_command.specs.Extract.{Assembled, Cleared, ExtractEnds, Into, KeepsIn, OutMade, Seeds, StopsSomewhere, beside, folder_of, old_of, temporary_out}
 use Rattle.desync_cli.specs.Commands.{LeavesOut}
 use Rattle.dsy_base.proofs.Counts.{at_other}
 use Rattle.dsy_base.specs.Disk.{Disk}

@@ -10,7 +10,7 @@ use Rattle.command_worlds.specs.Worlds.{world}
 use Rattle.command_words.specs.declared.command.Command.{Command}
 use Rattle.command_words.specs.declared.command.Command.TheVariants as commands
 use Rattle.desync_cli.specs.Commands.{Achieves}
-use Rattle.image_commands.specs.Extract.{IsExtracted}
+use Rattle.extract_command.specs.Extract.{IsExtracted}
 use Rattle.image_commands.specs.Make.{IsMade}
 use Rattle.desync_cli.specs.RoundTrip.{ComesBack, RoundTrip}
 use Rattle.store_commands.specs.Serving.{Heard}

@@ -30,7 +30,7 @@ use Rattle.command_words.specs.declared.usage.WordsFault.{WordsFault}
 use Rattle.desync_cli.specs.Commands.{DesyncEnds, CommandEnds, NoCommand, command_of, command_said}
 use Rattle.desync_cli.proofs.Fair.{begun}
 use Rattle.desync_cli.proofs.Named.{AllShort, Shorts, bound, cache_opened, checked, chopped, counted, filled, image_opened, index_read, indexes_read, judged as sizes_judged, on_disk, on_out, on_sources, opened, out_made, printed, pruned, rehearsed, served, source_taken, stored, taken, unheard, verified, written}
-use Rattle.image_commands.specs.Extract.{temporary_out}
+use Rattle.extract_command.specs.Extract.{temporary_out}
 use Rattle.store_commands.specs.Serving.{Heard}
 
 -- the names that a command has

@@ -18,7 +18,7 @@ use Rattle.command_words.specs.declared.command.Location.TheVariants as location
 use Rattle.dsy_base.specs.Disk.{Disk}
 use Rattle.dsy_base.specs.Maps.{Map}
 use Rattle.extract_plan.specs.Places.{items_of, seed_item_limit}
-use Rattle.image_commands.specs.Extract.{Into, SeedHas, Seeds, base_of, beside, folder_of, in_place}
+use Rattle.extract_command.specs.Extract.{Into, SeedHas, Seeds, base_of, beside, folder_of, in_place}
 
 -- a folder gives the chunk of entry i; what a server has isn't at hand
 abbrev pub StoreGivesEntry : Map (Map (List ℕ)) → Listing → ℕ → Location → Type 0

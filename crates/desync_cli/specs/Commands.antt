@@ -15,7 +15,7 @@ use Rattle.command_words.specs.declared.usage.WordsFault.{WordsFault}
 use Rattle.command_words.specs.declared.usage.WordsFault.TheVariants as faults
 use Rattle.image_commands.specs.Chop.{ChopEnds, IsChopped}
 use Rattle.store_commands.specs.Demo.{DemoEnds}
-use Rattle.image_commands.specs.Extract.{ExtractEnds, IsExtracted, temporary_out}
+use Rattle.extract_command.specs.Extract.{ExtractEnds, IsExtracted, temporary_out}
 use Rattle.image_commands.specs.Make.{IsMade, MakeEnds, StoreHas}
 use Rattle.store_commands.specs.VerifyIndex.{IsVerified, VerifyIndexEnds}
 use Rattle.store_commands.specs.Caching.{CacheEnds, IsCached}

@@ -1,14 +1,4 @@
-pub mod AnyWords
-pub mod Assembled
 pub mod Chopped
 pub mod GivenStores
-pub mod Kits
-pub mod Lost
 pub mod Made
-pub mod Replaced
-pub mod Seeded
-pub mod Shelved
 pub mod Viewed
-pub mod Wrote
-pub mod Spared
-pub mod Unused

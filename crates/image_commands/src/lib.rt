@@ -1,9 +1,7 @@
-//! The commands on images, a file each: an image is indexed, stored, made of chunks, or held against an index.
+//! The commands that cut an image: it is indexed and stored, or its chunks are stored by an index that is there.
 #![tactic(auto)]
 
 pub mod chop;
-pub mod extract;
-mod held;
 pub mod make;
 mod store_with_image;
 mod views;

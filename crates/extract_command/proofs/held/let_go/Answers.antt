@@ -3,9 +3,9 @@ use Rattle.command_steps.proofs.Cached.{given_adds, given_reads}
 use Rattle.command_steps.proofs.Consulted.{reads_twice}
 use Rattle.command_steps.proofs.Given.{all_later}
 use Rattle.chunk_sources.specs.Caches.{seen}
-use Rattle.image_commands.proofs.Seeded.{all_known_later}
-use Rattle.image_commands.proofs.held.let_go.Goals as goal
-use Rattle.image_commands.specs.Held.{disk_with, stores_of}
+use Rattle.extract_command.proofs.Seeded.{all_known_later}
+use Rattle.extract_command.proofs.held.let_go.Goals as goal
+use Rattle.extract_command.specs.Held.{disk_with, stores_of}
 
 pub drop_sources-requires : goal.drop_sources-requires
 drop_sources-requires g c =

@@ -3,7 +3,7 @@
 ghost use Rattle.std.specs.Prelude.{◌≡◌, ℕ, IfErr, IfOk, Ok, Err};
 ghost use Rattle.command_steps.specs.Sources.{sources};
 ghost use Rattle.command_worlds.specs.Worlds.{Reads};
-ghost use Rattle.image_commands.specs.Held.{AllReached, CanBeGiven, IsGivenBack, IsReached, disk_with, stores_of};
+ghost use Rattle.extract_command.specs.Held.{AllReached, CanBeGiven, IsGivenBack, IsReached, disk_with, stores_of};
 
 use cache_store::shelf::CacheShelf;
 use chunk_sources::kit::Kit;

@@ -9,7 +9,7 @@ use Rattle.command_steps.specs.Cache.{with_cache}
 use Rattle.command_steps.specs.Seeds.{SeedsKnown}
 use Rattle.command_steps.specs.Uses.{Uses, folders_of}
 use Rattle.command_words.specs.declared.command.Location.{Location}
-use Rattle.image_commands.proofs.held.reach.Goals as goal
+use Rattle.extract_command.proofs.held.reach.Goals as goal
 
 pub returns-in-Err-take_cache-clause-err : goal.returns-in-Err-take_cache-clause-err
 returns-in-Err-take_cache-clause-err g c =

@@ -28,10 +28,10 @@ use Rattle.command_steps.specs.Blames.{name_at}
 use Rattle.command_steps.specs.Seeds.{IsViewed}
 use Rattle.command_steps.specs.Sources.{HaveLacked, Sources, StoreRose, said_at, location_files}
 use Rattle.command_worlds.specs.Worlds.{FileRose}
-use Rattle.image_commands.proofs.Assembled.{AllLack, LackingOver, LostAs, OthersLack, StoreAs, TargetAs}
+use Rattle.extract_command.proofs.Assembled.{AllLack, LackingOver, LostAs, OthersLack, StoreAs, TargetAs}
 use Rattle.command_steps.proofs.Lacked.{have_lacked, same_length}
-use Rattle.image_commands.proofs.Seeded.{had_failed, label_of}
-use Rattle.image_commands.specs.Extract.{CacheLacksEntry, Into, Seeds, StopsFailed}
+use Rattle.extract_command.proofs.Seeded.{had_failed, label_of}
+use Rattle.extract_command.specs.Extract.{CacheLacksEntry, Into, Seeds, StopsFailed}
 use Rattle.dsy_base.specs.Bytes.{Held, resized}
 use Rattle.dsy_base.specs.Counts.{Rose}
 use Rattle.dsy_base.specs.Disk.{Disk}

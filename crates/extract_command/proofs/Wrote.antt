@@ -8,7 +8,7 @@ use Rattle.dsy_base.specs.Counts.{Rose}
 use Rattle.dsy_base.specs.Maps.{Map}
 use Rattle.dsy_base.specs.declared.fault.IoFault.{IoFault}
 use Rattle.dsy_base.specs.declared.fault.IoFault.TheVariants as io
-use Rattle.image_commands.specs.Extract.{IsNumbered, answer_of_taking}
+use Rattle.extract_command.specs.Extract.{IsNumbered, answer_of_taking}
 
 pub wrote_then : (d b e : Disk) → Writes d b → Writes b e → Writes d e
 wrote_then d b e u v = record {

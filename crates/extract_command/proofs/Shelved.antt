@@ -17,7 +17,7 @@ use Rattle.command_steps.specs.Sources.{location_files}
 use Rattle.command_worlds.specs.Worlds.{DiskQuiet, FolderRose}
 use Rattle.command_words.specs.declared.command.Location.{Location}
 use Rattle.command_steps.proofs.Taken.{at_name_twice}
-use Rattle.image_commands.specs.Extract.{CacheFilled, CacheGrows, CacheLacksEntry, IsForCache, folder_of}
+use Rattle.extract_command.specs.Extract.{CacheFilled, CacheGrows, CacheLacksEntry, IsForCache, folder_of}
 use Rattle.dir_store.specs.Names.{is_stranger}
 use Rattle.dsy_base.proofs.Counts.{at_same}
 use Rattle.dsy_base.specs.Counts.{Quiet, Rose}

@@ -2,9 +2,9 @@ use Rattle.std.proofs.Common.{ℕ, List, IsSome}
 use Rattle.command_steps.proofs.Cached.{given_adds}
 use Rattle.command_steps.proofs.Given.{all_later}
 use Rattle.chunk_sources.specs.Caches.{seen}
-use Rattle.image_commands.proofs.Seeded.{all_known_later}
-use Rattle.image_commands.proofs.held.give_back.Goals as goal
-use Rattle.image_commands.specs.Held.{stores_of}
+use Rattle.extract_command.proofs.Seeded.{all_known_later}
+use Rattle.extract_command.proofs.held.give_back.Goals as goal
+use Rattle.extract_command.specs.Held.{stores_of}
 
 pub close_sources-requires : goal.close_sources-requires
 close_sources-requires g c =

@@ -3,14 +3,14 @@ use Rattle.std.proofs.lemmas.Result.{err_from_is_err_and}
 use Rattle.cache_store.specs.Shelves.{Shelf, Shelved}
 use Rattle.chunk_sources.specs.Caches.{seen}
 use Rattle.command_steps.specs.Cache.{with_cache}
-use Rattle.image_commands.proofs.extract.assemble_beside.Given.{Over}
+use Rattle.extract_command.proofs.extract.assemble_beside.Given.{Over}
 use Rattle.command_steps.specs.AnyStores.{location_in}
 use Rattle.command_steps.specs.Seeds.{image_name}
 use Rattle.command_steps.specs.Sources.{NotAsking, sources}
 use Rattle.command_worlds.specs.Worlds.{world}
-use Rattle.image_commands.proofs.Replaced.{beside_apart, clears, passed_any}
-use Rattle.image_commands.proofs.extract.assemble_beside.Goals as goal
-use Rattle.image_commands.specs.Extract.{ClearedAfter, ImageMade, Renamed, Seeds, beside}
+use Rattle.extract_command.proofs.Replaced.{beside_apart, clears, passed_any}
+use Rattle.extract_command.proofs.extract.assemble_beside.Goals as goal
+use Rattle.extract_command.specs.Extract.{ClearedAfter, ImageMade, Renamed, Seeds, beside}
 
 -- what is seen of the cache
 abbrev see : (g : Over) → Option (Shelved g.row.F-Folder.Denot) → Option Shelf

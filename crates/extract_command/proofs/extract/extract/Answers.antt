@@ -11,11 +11,11 @@ use Rattle.command_outcome.specs.declared.outcome.Outcome.TheVariants as ends
 use Rattle.command_worlds.specs.Worlds.{world}
 use Rattle.command_steps.proofs.Found.{opened_many}
 use Rattle.extract_plan.specs.Places.{PlacesKnown}
-use Rattle.image_commands.proofs.Replaced.{ends_unreached, ends_with, known_places_of}
-use Rattle.image_commands.proofs.Seeded.{zipped_many}
-use Rattle.image_commands.proofs.extract.extract.Goals as goal
-use Rattle.image_commands.specs.Extract.{ExtractEnds, OutMade}
-use Rattle.image_commands.specs.Held.{AllReached, disk_with, stores_of}
+use Rattle.extract_command.proofs.Replaced.{ends_unreached, ends_with, known_places_of}
+use Rattle.extract_command.proofs.Seeded.{zipped_many}
+use Rattle.extract_command.proofs.extract.extract.Goals as goal
+use Rattle.extract_command.specs.Extract.{ExtractEnds, OutMade}
+use Rattle.extract_command.specs.Held.{AllReached, disk_with, stores_of}
 
 pub plan_of-requires-clause-few : goal.plan_of-requires-clause-few
 plan_of-requires-clause-few g c =

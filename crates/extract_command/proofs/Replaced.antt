@@ -9,9 +9,9 @@ use Rattle.command_worlds.specs.Steps.{◌>>=◌, Passed}
 use Rattle.command_steps.specs.Sources.{Sources, sources}
 use Rattle.command_worlds.specs.Worlds.{Step, World, world}
 use Rattle.command_words.specs.declared.command.Location.{Location}
-use Rattle.image_commands.proofs.Seeded.{zipped_many}
-use Rattle.image_commands.specs.Held.{AllReached}
-use Rattle.image_commands.specs.Extract.{ClearedAfter, Clearing, ExtractEnds, OutMade, temporary_out}
+use Rattle.extract_command.proofs.Seeded.{zipped_many}
+use Rattle.extract_command.specs.Held.{AllReached}
+use Rattle.extract_command.specs.Extract.{ClearedAfter, Clearing, ExtractEnds, OutMade, temporary_out}
 use Rattle.dsy_base.specs.Disk.{Disk, Output}
 use Rattle.dsy_base.specs.Links.{DialState}
 use Rattle.extract_plan.specs.Deal.{Deal}

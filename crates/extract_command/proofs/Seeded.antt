@@ -12,7 +12,7 @@ use Rattle.command_steps.specs.Blames.{name_at}
 use Rattle.command_steps.specs.InputFiles.{Holds}
 use Rattle.command_steps.specs.Seeds.{IsViewed, SeedsKnown, label_in}
 use Rattle.command_worlds.specs.Worlds.{FileRose}
-use Rattle.image_commands.specs.Extract.{SeedHas, Seeds}
+use Rattle.extract_command.specs.Extract.{SeedHas, Seeds}
 use Rattle.dsy_base.specs.Bytes.{Held}
 use Rattle.dsy_base.specs.Counts.{Rose}
 use Rattle.dsy_base.specs.Disk.{Disk}

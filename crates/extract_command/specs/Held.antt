@@ -18,7 +18,7 @@ use Rattle.dsy_base.specs.Links.{DialState}
 use Rattle.dsy_base.specs.declared.look.Look.{Ghosts as LookWords}
 use Rattle.dsy_base.specs.declared.view.View.{Ghosts as ViewWords}
 use Rattle.extract_plan.specs.Seeds.{faults_in}
-use Rattle.image_commands.specs.declared.held.Held.{Held}
+use Rattle.extract_command.specs.declared.held.Held.{Held}
 
 -- the stores were opened, and then the cache's folder was reached
 abbrev pub AllReached : List Location → Option (List ℕ) → Step Disk Unit

@@ -30,11 +30,11 @@ use Rattle.std.specs.Option.{option_map}
 use Rattle.store_chain.specs.Giving.{LacksAll}
 use Rattle.store_chain.specs.declared.refused.Refused.{Refused}
 use Rattle.store_chain.specs.declared.refused.Refused.TheVariants as refused
-use Rattle.image_commands.proofs.Seeded.{given_had, had_given}
+use Rattle.extract_command.proofs.Seeded.{given_had, had_given}
 use Rattle.command_words.specs.declared.command.Location.{Location}
 use Rattle.command_steps.proofs.Taken.{at_name_twice}
 use Rattle.command_steps.specs.Sources.{HaveLacked, Sources, location_files}
-use Rattle.image_commands.specs.Extract.{Assembled, CacheLacksEntry, CanBeHad, Into, IsLacking, Leaves, NoneAsked, OnlyHad, SeedHas, Seeds, IsTorn, NoneReached, StopsFailed, StopsSomewhere, Told, Undisturbed, WhereFolders, answer_of_assembly, answer_of_taking, base_of, folder_of, old_of}
+use Rattle.extract_command.specs.Extract.{Assembled, CacheLacksEntry, CanBeHad, Into, IsLacking, Leaves, NoneAsked, OnlyHad, SeedHas, Seeds, IsTorn, NoneReached, StopsFailed, StopsSomewhere, Told, Undisturbed, WhereFolders, answer_of_assembly, answer_of_taking, base_of, folder_of, old_of}
 use Rattle.command_steps.specs.Seeds.{IsViewed}
 use Rattle.command_worlds.specs.Worlds.{DiskQuiet, FileRose}
 

@@ -14,7 +14,7 @@ use Rattle.chunk_store.specs.declared.store.Store.{Ghosts as StoreWords}
 use Rattle.command_steps.proofs.Cached.{given_adds, given_files, given_folders}
 use Rattle.command_steps.specs.Cache.{folders_with, with_cache}
 use Rattle.cache_store.specs.Shelves.{Shelf, Shelved}
-use Rattle.image_commands.proofs.extract.assemble_into.Given.{Over}
+use Rattle.extract_command.proofs.extract.assemble_into.Given.{Over}
 use Rattle.command_words.specs.declared.command.Location.{Location}
 use Rattle.command_steps.proofs.Dialed.{dials_none}
 use Rattle.command_steps.proofs.Given.{all_later, all_stand, folders_quiet, given_earlier, given_longer, stand_still}
@@ -26,17 +26,17 @@ use Rattle.command_steps.specs.Stores.{are_folders}
 use Rattle.command_steps.specs.declared.any_store.AnyStore.{AnyStore}
 use Rattle.command_steps.specs.Seeds.{IsViewed, image_name, label_in}
 use Rattle.command_worlds.specs.Worlds.{FileRose}
-use Rattle.image_commands.proofs.Assembled.{ExcusesAs, assembled, facts_of, given_excuses, had_of, not_taken_as, obtainable_of, same_before, stopped_before}
+use Rattle.extract_command.proofs.Assembled.{ExcusesAs, assembled, facts_of, given_excuses, had_of, not_taken_as, obtainable_of, same_before, stopped_before}
 use Rattle.command_steps.proofs.Found.{held_after, held_maps, held_where}
-use Rattle.image_commands.proofs.Kits.{pushed}
-use Rattle.image_commands.proofs.Unused.{none_reached}
-use Rattle.image_commands.proofs.AnyWords.{any_words, task}
-use Rattle.image_commands.proofs.Lost.{lacks_told, others_at, store_told, target_as}
-use Rattle.image_commands.proofs.Seeded.{all_known_later, label_of, labels_are, same_known, same_labels, zeros, zipped_many}
-use Rattle.image_commands.proofs.Shelved.{IsTold, cache_filled, cache_lacking, cache_quiet, cache_rose, cached_there, fresh_faults, known_still, name_after, name_in, one_size, same_kind, same_names, told_files}
-use Rattle.image_commands.proofs.Wrote.{untaken_numbered, wrote_back, wrote_on}
-use Rattle.image_commands.proofs.extract.assemble_into.Goals as goal
-use Rattle.image_commands.specs.Extract.{Assembled, Into, Seeds, answer_of_assembly, old_of}
+use Rattle.extract_command.proofs.Kits.{pushed}
+use Rattle.extract_command.proofs.Unused.{none_reached}
+use Rattle.extract_command.proofs.AnyWords.{any_words, task}
+use Rattle.extract_command.proofs.Lost.{lacks_told, others_at, store_told, target_as}
+use Rattle.extract_command.proofs.Seeded.{all_known_later, label_of, labels_are, same_known, same_labels, zeros, zipped_many}
+use Rattle.extract_command.proofs.Shelved.{IsTold, cache_filled, cache_lacking, cache_quiet, cache_rose, cached_there, fresh_faults, known_still, name_after, name_in, one_size, same_kind, same_names, told_files}
+use Rattle.extract_command.proofs.Wrote.{untaken_numbered, wrote_back, wrote_on}
+use Rattle.extract_command.proofs.extract.assemble_into.Goals as goal
+use Rattle.extract_command.specs.Extract.{Assembled, Into, Seeds, answer_of_assembly, old_of}
 use Rattle.dsy_base.specs.Counts.{Rose, raised}
 use Rattle.dsy_base.specs.Maps.{Map, at_name}
 use Rattle.extract_plan.specs.Places.{PlacesKnown}
@@ -50,8 +50,8 @@ use Rattle.caibx_codec.specs.Asks.{IsListedGet}
 use Rattle.caibx_codec.specs.Listing.{size_of}
 use Rattle.extract_plan.specs.Deal.{first_of, want_id}
 use Rattle.http_wire.specs.declared.reply.Method.TheVariants as method
-use Rattle.image_commands.proofs.Spared.{cache_gives, of_told, spared_over}
-use Rattle.image_commands.specs.Extract.{IsSparedOnDisk, twice_wanted}
+use Rattle.extract_command.proofs.Spared.{cache_gives, of_told, spared_over}
+use Rattle.extract_command.specs.Extract.{IsSparedOnDisk, twice_wanted}
 
 -- what is seen of the cache
 abbrev see : (g : Over) → Option (Shelved g.row.F-Folder.Denot) → Option Shelf

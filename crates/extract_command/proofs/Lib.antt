@@ -1,0 +1,10 @@
+pub mod Assembled
+pub mod Kits
+pub mod Lost
+pub mod Replaced
+pub mod Seeded
+pub mod Shelved
+pub mod Spared
+pub mod Wrote
+pub mod AnyWords
+pub mod Unused

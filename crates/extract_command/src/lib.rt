@@ -1,0 +1,5 @@
+//! The command that makes a file the image of an index.
+#![tactic(auto)]
+
+pub mod extract;
+mod held;
