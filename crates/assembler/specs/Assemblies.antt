@@ -42,8 +42,8 @@ IsObtainable t base views maps i = RightAlike t.listing base i
     ⊎ (SeedsGive views (places_at t.places (want_at t.plan i)) (id_of t.listing i)
     ⊎ SomeGives (kind_of t.listing) (id_of t.listing i) (size_of t.listing i) maps)
 
--- each range is right or the base's, unless a write to it failed; and a range that is right in the base was never
--- written, unless a read of it failed
+-- each range is right or the base's, and a range that is right in the base was never written, but for a list of entries
+-- that is no longer than the number of calls on the target that failed
 pub record KeepsBase (l : Listing) (old new : ℕ) (base t : List ℕ) : Type 0 where
   pub failed : List ℕ
   pub excused : Excuses failed old new

@@ -18,6 +18,7 @@ pub record Lent (S V : Type 0) : Type 0 where
   pub kits : List (Kit S V)
   pub cache : Option Shelf
 
+-- all of it as one value
 abbrev pub lent : {S V : Type 0} → ℕ → List (Kit S V) → Option Shelf → Lent S V
 lent faults kits cache = record { faults = faults; kits = kits; cache = cache }
 

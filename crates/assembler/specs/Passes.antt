@@ -58,10 +58,11 @@ abbrev pub source_at : {S V : Type 0} → ViewWords V → Task → Stage S V →
     → Fate
 source_at view t a cached maps w = source_over t (settled a.fates) (views_of view a.kit.seeds.items) cached maps w
 
--- once, and twice
+-- a number once
 abbrev pub once : ℕ → ℕ
 once n = n
 
+-- and twice
 abbrev pub twice : ℕ → ℕ
 twice n = n + n
 

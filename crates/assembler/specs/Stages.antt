@@ -32,6 +32,7 @@ pub record Stage (S V : Type 0) : Type 0 where
   pub kit : Kit S V
   pub cache : Option Shelf
 
+-- the stage that a run has come to
 abbrev pub stage : {E S V F : Type 0} → LedgerWords E → LookWords F → Work E S V F → Stage S V
 stage ledger look w = record {
   held = ledger.held w.ledger;

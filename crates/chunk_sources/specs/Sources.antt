@@ -35,10 +35,11 @@ abbrev pub SeedsFailed : List (Option Held) → List SeedPlace → List ℕ → 
 SeedsFailed views places id old new =
     All (λ p. HeldAt views p id → Rose (slice_index old p.seed) (slice_index new p.seed)) places
 
--- what the views of seeds hold, and how often each has failed
+-- what the views of seeds hold
 abbrev pub views_of : {V : Type 0} → ViewWords V → List (Seed V) → List (Option Held)
 views_of view seeds = map (seed_held view.held) seeds
 
+-- how often each has failed
 abbrev pub counts_of : {V : Type 0} → ViewWords V → List (Seed V) → List ℕ
 counts_of view seeds = map (faults_in view.faults) seeds
 
@@ -58,6 +59,7 @@ pub record Sources (S V : Type 0) : Type 0 where
   pub cache : Option Shelf
   pub chain : Chained S
 
+-- all of it as one value
 abbrev pub sources : {S V : Type 0} → ℕ → List (Seed V) → Option Shelf → Chained S → Sources S V
 sources faults seeds cache chain = record { faults = faults; seeds = seeds; cache = cache; chain = chain }
 
