@@ -25,7 +25,7 @@ use Rattle.command_steps.proofs.Numbers.{rose_not_quiet}
 use Rattle.store_commands.specs.Caching.{FillTells, IndexesFilled, NotFilled, of_command, outcome_of_fill}
 use Rattle.image_commands.specs.Chop.{ImageChopped}
 use Rattle.desync_cli.specs.Commands.{DesyncEnds, CommandEnds, NoCommand, TellsRefusal, WordsRead, command_of, parts, refusal_in, usage_refusal, command_said, spares}
-use Rattle.store_commands.specs.Demo.{Rehearsed}
+use Rattle.print_commands.specs.Demo.{Rehearsed}
 use Rattle.extract_command.proofs.Wrote.{wrote_on}
 use Rattle.extract_command.specs.Extract.{CacheFilled, Clearing, FillsCache, ImageMade, Into, OutMade, Renamed, Seeds, beside, in_place, temporary_out}
 use Rattle.store_commands.specs.Info.{IdsCounted, NotAsked}

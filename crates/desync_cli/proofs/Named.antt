@@ -20,7 +20,7 @@ use Rattle.command_words.specs.declared.command.Location.TheVariants as location
 use Rattle.dsy_base.specs.Disk.{Disk, Output}
 use Rattle.dsy_base.specs.Maps.{Map}
 use Rattle.image_commands.specs.Chop.{ImageChopped}
-use Rattle.store_commands.specs.Demo.{Rehearsed}
+use Rattle.print_commands.specs.Demo.{Rehearsed}
 use Rattle.extract_command.specs.Extract.{Clearing, ImageMade, Into, NotRenamed, OutMade, Renamed, Seeds, beside, in_place, temporary_out}
 use Rattle.image_commands.specs.Make.{ImageStored, IndexWritten, NotWritten, SizesJudged}
 use Rattle.store_commands.specs.VerifyIndex.{ImageChecked}

@@ -14,13 +14,13 @@ use Rattle.command_words.specs.declared.usage.UsageWhy.{UsageWhy}
 use Rattle.command_words.specs.declared.usage.WordsFault.{WordsFault}
 use Rattle.command_words.specs.declared.usage.WordsFault.TheVariants as faults
 use Rattle.image_commands.specs.Chop.{ChopEnds, IsChopped}
-use Rattle.store_commands.specs.Demo.{DemoEnds}
+use Rattle.print_commands.specs.Demo.{DemoEnds}
 use Rattle.extract_command.specs.Extract.{ExtractEnds, IsExtracted, temporary_out}
 use Rattle.image_commands.specs.Make.{IsMade, MakeEnds, StoreHas}
 use Rattle.store_commands.specs.VerifyIndex.{IsVerified, VerifyIndexEnds}
 use Rattle.store_commands.specs.Caching.{CacheEnds, IsCached}
 use Rattle.store_commands.specs.Info.{InfoEnds}
-use Rattle.store_commands.specs.ListChunks.{ListChunksEnds}
+use Rattle.print_commands.specs.ListChunks.{ListChunksEnds}
 use Rattle.store_commands.specs.Prune.{IsPruned, PruneEnds}
 use Rattle.store_commands.specs.Serving.{ChunkServerEnds, Heard}
 use Rattle.store_commands.specs.Verify.{IsVerifiedStore, VerifyEnds}

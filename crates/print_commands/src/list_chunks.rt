@@ -1,7 +1,7 @@
 //! `list-chunks INDEX`: the id of each chunk that INDEX lists.
 
 ghost use Rattle.command_worlds.specs.Worlds.{world};
-ghost use Rattle.store_commands.specs.ListChunks.{ListChunksEnds};
+ghost use Rattle.print_commands.specs.ListChunks.{ListChunksEnds};
 ghost use Rattle.dsy_base.specs.Links.{DialState};
 
 use command_outcome::outcome::Outcome;

@@ -3,7 +3,7 @@
 ghost use Rattle.std.specs.Prelude.{◌≤◌, ◌^◌};
 ghost use Rattle.command_worlds.specs.Printing.{Printed};
 ghost use Rattle.command_worlds.specs.Worlds.{world};
-ghost use Rattle.store_commands.specs.Demo.{DemoEnds, Rehearsed};
+ghost use Rattle.print_commands.specs.Demo.{DemoEnds, Rehearsed};
 ghost use Rattle.dsy_base.specs.Disk.{Disk};
 ghost use Rattle.dsy_base.specs.Links.{DialState};
 ghost use Rattle.image_demo.specs.Figures.{text_of_figures};
