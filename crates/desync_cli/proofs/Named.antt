@@ -115,8 +115,8 @@ module _ (n : ℕ) where
   none_listed (q ∷ names) all m d e o (inr (l, listed, inr h)) = none_listed names all.1 _ d e o h.1
 
   opened_tells : (stores : List Location) → AllShort n (map folder_name stores) → Tells n (SourcesOpened stores)
-  opened_tells stores all d e o (inl h, reads) = first_unreached stores all d e o h
-  opened_tells stores all d e o (inr h, reads) = omega (arith, ap (λ r. length (name_in r)) h)
+  opened_tells stores all d e o (inl h, reads, used) = first_unreached stores all d e o h
+  opened_tells stores all d e o (inr h, reads, used) = omega (arith, ap (λ r. length (name_in r)) h)
 
   pub opened : (stores : List Location) → AllShort n (map folder_name stores) → Shorts n (SourcesOpened stores)
   opened stores all = record { short = opened_tells stores all }
