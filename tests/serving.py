@@ -35,12 +35,13 @@ from servers import ChunkServer
 # Memory
 
 def memory(cases, folder):
-    """Memory and open files after 10,000 requests are what they were after the first ones, of which some were large."""
+    """Memory and open files of one worker after 10,000 requests are what they were after the first ones, of which some
+    were large. Those of threads, whose stacks come and go, are compared by tests/at_once.py."""
     large = random.Random(15).randbytes(MIB)
     lay_out(folder, large)
     several = [(GET_ABC, GIVES_ABC), (request('HEAD', PATH), Wanted(200, length=3)), (put(PATH, ABC), Wanted(200)),
                (put(PATH, b'abd'), Wanted(400)), (request('GET', '/'), NOTHING)]
-    with ChunkServer(folder, '-w') as server:
+    with ChunkServer(folder, '-w', '-n', '1') as server:
         def kept(count):
             for _ in range(count // 100):
                 got = said_to(server, b''.join(sent for sent, _ in several * 20))
