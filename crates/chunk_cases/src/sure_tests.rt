@@ -8,10 +8,10 @@ use dsy_base::folder::Folder;
 use dsy_base::look::Look;
 use dsy_base::sink::Sink;
 use dsy_base::view::{Target, View};
+use dsy_sure::sure_bytes::SureBytes;
 use dsy_sure::sure_files::SureFiles;
 use dsy_sure::sure_folder::SureFolder;
 use dsy_sure::sure_sink::SureSink;
-use dsy_sure::sure_bytes::SureBytes;
 use std::alloc::Global;
 use std::process::Abort;
 
