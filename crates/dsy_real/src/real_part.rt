@@ -38,8 +38,12 @@ impl Model for RealPart {
     ghost invariant = { λ p. p.from ≤ p.to };
 }
 
+// A file that may not be read is opened for writing alone: what is read of it then fails.
 fn open<R: Files<File = File>>(rt: &R, name: &str) -> io::Result<File> {
-    OpenOptions::new().read(true).write(true).open(rt, name)
+    match OpenOptions::new().read(true).write(true).open(rt, name) {
+        Ok(file) => Ok(file),
+        Err(_) => OpenOptions::new().write(true).open(rt, name),
+    }
 }
 
 /// The parts of the file between the cuts, each opened by itself.
