@@ -26,4 +26,3 @@ pub mod EconomyPasses
 pub mod EconomyReported
 pub mod OnePlan
 pub mod WholePasses
-pub mod Writes
