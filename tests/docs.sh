@@ -65,6 +65,7 @@ check 'labels of clauses that CONTRIBUTING.md does not list' "$(python3 tests/na
 check 'names in documents that are nowhere else' "$(python3 tests/names.py names 2>&1)"
 check 'definitions that docs/DEFINITIONS.md does not read aloud' "$(python3 tests/names.py reached 2>&1)"
 check 'definitions that have no sentence' "$(python3 tests/names.py comments 2>&1)"
+check 'names of specs/ that several modules define' "$(python3 tests/names.py twice 2>&1)"
 check 'calls that are imported by another name' "$(python3 tests/names.py aliases 2>&1)"
 check 'what docs/desync.1 says otherwise than docs/COMMANDS.md' "$(tests/manual.py 2>&1)"
 if type -P groff > /dev/null; then
@@ -73,8 +74,5 @@ else
     echo 'SKIPPED warnings of groff at docs/desync.1: groff is not installed'
 fi
 check 'edits that do not fit the code' "$(tests/further_edits.sh --apply 2>&1)"
-
-# Not yet a failure: a name of specs/ is wanted to mean one thing in the whole repository.
-echo "names of specs/ that several modules define, by tests/names.py twice: $(python3 tests/names.py twice | wc -l)"
 echo "docs: $passed passed, $failed failed"
 [ "$failed" -eq 0 ]

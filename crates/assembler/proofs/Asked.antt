@@ -8,7 +8,7 @@ use Rattle.assembler.proofs.CacheSpared.{cache_never, cache_part}
 use Rattle.assembler.proofs.Counted.{quiet_part}
 use Rattle.assembler.proofs.Filled.{settled_on}
 use Rattle.assembler.proofs.Stepped.{stretch_none}
-use Rattle.assembler.specs.Passes.{PassAsks, once}
+use Rattle.assembler.specs.Passes.{PassAsks, one_pass}
 use Rattle.assembler.specs.Stages.{Stage, Stretch, from}
 use Rattle.caibx_codec.specs.Listing.{size_of}
 use Rattle.chunk_sources.proofs.Cached.{stocked_falls}
@@ -240,7 +240,7 @@ module _ {S V : Type 0} (store : StoreWords S) (view : ViewWords V) (t : Task) w
       a.kit.chain c.kit.chain calls each
       (asks_on store (calls_below f n) (calls_for g w) (asks_below ids f n) (asks_for ids g w) a.kit.chain b.kit.chain c.kit.chain so_far one)
 
-  pub asks_done_all : (done : ℕ → Bool) (a b : Stage S V) → AsksDone done a b → PassAsks store view t once a b
+  pub asks_done_all : (done : ℕ → Bool) (a b : Stage S V) → AsksDone done a b → PassAsks store view t one_pass a b
   asks_done_all done a b asks = λ spared are.
       let n = t.plan.wants in
       let ids = want_id t.listing t.plan in

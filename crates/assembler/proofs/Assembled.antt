@@ -18,7 +18,7 @@ use Rattle.assembler.specs.Economy.{AsksExactly, AssembledBy, ReportsExactly, Un
 use Rattle.assembler.specs.Faults.{fault_of}
 use Rattle.assembler.specs.Obtainable.{OnlyObtainable}
 use Rattle.assembler.specs.OneKit.{AreUnused}
-use Rattle.assembler.specs.Passes.{Ends, EndsBy, HadAt, HasPassed, Loses, WhereQuiet, source_at, twice, want_at}
+use Rattle.assembler.specs.Passes.{Ends, EndsBy, HadAt, HasPassed, Loses, WhereQuiet, source_at, two_passes, want_at}
 use Rattle.assembler.specs.Stages.{Stage, from}
 use Rattle.assembler.specs.declared.fault.ExtractFault.{ExtractFault}
 use Rattle.assembler.specs.declared.fault.ExtractFault.TheVariants as faults
@@ -137,7 +137,7 @@ module _ {S V : Type 0} (store : StoreWords S) (view : ViewWords V) (t : Task) (
     pub base : a.held.bytes ≡ option_map over_base o
     pub over : IfSome o Found
     pub firsts : FirstFates a.fates (count_of t.listing)
-    pub passed : HasPassed store view t twice a b
+    pub passed : HasPassed store view t two_passes a b
     pub ends : Ends store view t a b r
     pub exactly : WhereQuiet store view t.listing (from a) (from b)
         (λ cached maps. UnlessMemory (AssembledBy (source_at view t a cached maps) t.plan.wants (count_of t.listing) a.fates b.fates a.kit.chain b.kit.chain) r)
@@ -419,7 +419,7 @@ module _ {S V : Type 0} (store : StoreWords S) (view : ViewWords V) (t : Task) (
     (index : Listing) (same : index ≡ t.listing) (wants : AreWants index t.plan.wants t.plan.want_of) (is : a.held ≡ held_resized old (image_length index)) (rises : f ≤ a.faults)
     (sized : IfSome a.held.bytes (λ y. length y ≡ a.held.size)) (right : IfSome a.held.bytes (λ y. SettledRight t.listing y a.fates (count_of t.listing)))
     (wrong : IfSome a.held.bytes (λ y. OpenWrong index y a.fates f a.faults (count_of index))) (firsts : FirstFates a.fates (count_of index))
-    (passed : HasPassed store view t twice a b) (ends : Ends store view t a b r)
+    (passed : HasPassed store view t two_passes a b) (ends : Ends store view t a b r)
     (exactly : WhereQuiet store view t.listing (from a) (from b)
     (λ cached maps. UnlessMemory (AssembledBy (source_at view t a cached maps) t.plan.wants (count_of t.listing) a.fates b.fates a.kit.chain b.kit.chain) r)) where
   resized_so : a.held ≡ held_resized old (image_length t.listing)
@@ -582,7 +582,7 @@ module _ {S V : Type 0} (store : StoreWords S) (view : ViewWords V) (t : Task) (
       | inr memory ↦ subst (λ (q : ExtractFault). AsksExactly (source_of t (resized y (image_length t.listing)) (views_of view seeds) cached maps) t.plan.wants chain chain (Err q)) (sym memory) tt
     ]);
     reported = λ cached maps nothing one. some_all old.bytes (λ y. Unit {0}) (λ y. tt);
-    asks = λ spared are. asks_none store (twice (calls_below spared t.plan.wants)) (λ q. twice (asks_below (want_id t.listing t.plan) spared t.plan.wants q)) chain;
+    asks = λ spared are. asks_none store (two_passes (calls_below spared t.plan.wants)) (λ q. two_passes (asks_below (want_id t.listing t.plan) spared t.plan.wants q)) chain;
     stores = kept_still store (IsListedGet t.listing) chain.stores;
     kind = refl;
     stocked = stocked_none (TakesListed store t.listing chain.stores) cache;

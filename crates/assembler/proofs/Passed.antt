@@ -4,7 +4,7 @@ use Rattle.std.proofs.lemmas.Bool.{true≢false}
 use Rattle.assembler.proofs.Asked.{AsksDone, asks_done_all, asks_done_more, asks_done_none}
 use Rattle.assembler.proofs.HadOn.{had_all_none, had_more}
 use Rattle.assembler.proofs.Stepped.{stretch_none, stretch_on, stretch_wider}
-use Rattle.assembler.specs.Passes.{HadAll, HasPassed, once}
+use Rattle.assembler.specs.Passes.{HadAll, HasPassed, one_pass}
 use Rattle.assembler.specs.Settling.{Settles}
 use Rattle.assembler.specs.Stages.{Stage, Stretch}
 use Rattle.chunk_sources.specs.Wants.{Task}
@@ -42,7 +42,7 @@ module _ {S V : Type 0} (store : StoreWords S) (view : ViewWords V) (t : Task) w
   }
 
   -- what it leaves in the end
-  pub done_all : (done : ℕ → Bool) (a b : Stage S V) → ((v : ℕ) → done v ≡ true → v < t.plan.wants) → WantsDone done a b → HasPassed store view t once a b
+  pub done_all : (done : ℕ → Bool) (a b : Stage S V) → ((v : ℕ) → done v ≡ true → v < t.plan.wants) → WantsDone done a b → HasPassed store view t one_pass a b
   done_all done a b within passed = record {
     had = passed.had;
     asks = asks_done_all store view t done a b passed.asks;

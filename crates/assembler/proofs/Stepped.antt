@@ -3,7 +3,7 @@ use Rattle.std.proofs.Common.{◌≡◌, ℕ, List, length, IfSome, refl, sym, a
 use Rattle.std.proofs.lemmas.List.{length-map}
 use Rattle.assembler.proofs.Filled.{grows_none, grows_on, told_none, told_on}
 use Rattle.assembler.proofs.Stocking.{stocking_on, stocking_wider}
-use Rattle.assembler.specs.Stages.{Ready, Stage, Step, Stretch}
+use Rattle.assembler.specs.Stages.{Ready, Stage, Progress, Stretch}
 use Rattle.caibx_codec.specs.Asks.{IsListedGet}
 use Rattle.caibx_codec.specs.Listing.{Listing}
 use Rattle.chunk_sources.proofs.Cached.{stocked_kind, stocked_none, stocked_some}
@@ -39,7 +39,7 @@ module _ {V : Type 0} (view : ViewWords V) where
 -- ---- steps
 
 module _ {S V : Type 0} (store : StoreWords S) (view : ViewWords V) where
-  pub step_none : (l : Listing) (a : Stage S V) → Step store view l a a
+  pub step_none : (l : Listing) (a : Stage S V) → Progress store view l a a
   step_none l a = record {
     grows = grows_none a.fates;
     bytes = told_none l a.fates a.faults a.faults (omega arith) a.held.bytes;
@@ -53,7 +53,7 @@ module _ {S V : Type 0} (store : StoreWords S) (view : ViewWords V) where
     room = refl;
   }
 
-  pub step_on : (l : Listing) (a b c : Stage S V) → Step store view l a b → Step store view l b c → Step store view l a c
+  pub step_on : (l : Listing) (a b c : Stage S V) → Progress store view l a b → Progress store view l b c → Progress store view l a c
   step_on l a b c first next = record {
     grows = grows_on a.fates b.fates c.fates first.grows next.grows;
     bytes = told_on l a.fates b.fates c.fates a.faults b.faults c.faults a.held.bytes b.held.bytes c.held.bytes (sym first.tells) (sym next.tells)

@@ -11,7 +11,7 @@ use Rattle.assembler.proofs.Stepped.{may_lack_before, stretch_on}
 use Rattle.assembler.proofs.Stocking.{give_before, one_size_on}
 use Rattle.assembler.proofs.TwoPasses.{ends_map, err_map}
 use Rattle.assembler.specs.Economy.{AssembledBy, PassedBy, UnlessMemory}
-use Rattle.assembler.specs.Passes.{Ends, HasPassed, WhereQuiet, once, source_at, twice, want_at}
+use Rattle.assembler.specs.Passes.{Ends, HasPassed, WhereQuiet, one_pass, source_at, two_passes, want_at}
 use Rattle.assembler.specs.Stages.{Stage, from}
 use Rattle.assembler.specs.declared.fault.ExtractFault.{ExtractFault}
 use Rattle.caibx_codec.specs.Listing.{count_of}
@@ -33,7 +33,7 @@ module _ {S V : Type 0} (store : StoreWords S) (view : ViewWords V) (t : Task) (
   All w = w < t.plan.wants
 
   -- a pass that was ended for want of memory
-  pub passed_once : (a b : Stage S V) → HasPassed store view t once a b → HasPassed store view t twice a b
+  pub passed_once : (a b : Stage S V) → HasPassed store view t one_pass a b → HasPassed store view t two_passes a b
   passed_once a b passed = record {
     had = passed.had;
     asks = λ spared are.
@@ -43,8 +43,8 @@ module _ {S V : Type 0} (store : StoreWords S) (view : ViewWords V) (t : Task) (
     stretch = passed.stretch;
   }
 
-  module _ (a b c : Stage S V) (first : HasPassed store view t once a b) (next : HasPassed store view t once b c) where
-    pub passed_both : HasPassed store view t twice a c
+  module _ (a b c : Stage S V) (first : HasPassed store view t one_pass a b) (next : HasPassed store view t one_pass b c) where
+    pub passed_both : HasPassed store view t two_passes a c
     passed_both = record {
       had = λ tells cached maps has told i inside is.
           let over = first.stretch in

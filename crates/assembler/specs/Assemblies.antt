@@ -6,7 +6,7 @@ use Rattle.std.specs.List.{Contains}
 use Rattle.assembler.specs.Economy.{AsksExactly, ReportsExactly}
 use Rattle.assembler.specs.Obtainable.{OnlyObtainable}
 use Rattle.assembler.specs.OneKit.{AreUnused}
-use Rattle.assembler.specs.Passes.{EndsBy, RefusedOnce, WhereQuiet, twice, want_at}
+use Rattle.assembler.specs.Passes.{EndsBy, RefusedOnce, WhereQuiet, two_passes, want_at}
 use Rattle.assembler.specs.declared.fault.ExtractFault.{ExtractFault}
 use Rattle.assembler.specs.declared.fault.ExtractFault.TheVariants as faults
 use Rattle.assembler.specs.declared.fault.Lost.{Lost}
@@ -121,8 +121,8 @@ module _ {S V : Type 0} (store : StoreWords S) (view : ViewWords V) (t : Task) w
   abbrev pub AssemblyAsks : Option (List ℕ) → Sources S V → Sources S V → Type 0
   AssemblyAsks o old new = (spared : ℕ → Bool)
       → ((w : ℕ) → w < t.plan.wants → spared w ≡ true → SparedOver o old new w)
-      → AsksAtMost store (twice (calls_below spared t.plan.wants))
-      (λ q. twice (asks_below (want_id t.listing t.plan) spared t.plan.wants q)) old.chain new.chain
+      → AsksAtMost store (two_passes (calls_below spared t.plan.wants))
+      (λ q. two_passes (asks_below (want_id t.listing t.plan) spared t.plan.wants q)) old.chain new.chain
 
   -- what an assembly has done, from these bytes and sources to those
   pub record IsAssembled (o p : Option (List ℕ)) (old new : Sources S V) (answer : Result Report ExtractFault)

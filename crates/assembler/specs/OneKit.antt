@@ -31,8 +31,8 @@ abbrev pub AreUnused : {S V : Type 0} → Sources S V → Sources S V → Type 0
 AreUnused old new = (new.chain ≡ old.chain) × ((new.seeds ≡ old.seeds) × (new.cache ≡ old.cache))
 
 -- so it is of what was lent
-abbrev pub IsUnused : {S V : Type 0} → Lent S V → Lent S V → Type 0
-IsUnused old new = OfKit old.kits new.kits (λ k j. AreUnused (with_kit old k) (with_kit new j))
+abbrev pub KitUnused : {S V : Type 0} → Lent S V → Lent S V → Type 0
+KitUnused old new = OfKit old.kits new.kits (λ k j. AreUnused (with_kit old k) (with_kit new j))
 
 -- it is so of the plan, and of what chunks are got from before and afterwards
 pub record ByPlan {S V : Type 0} (l : Listing) (x : Placed) (old new : Lent S V)

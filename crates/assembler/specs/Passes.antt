@@ -58,13 +58,13 @@ abbrev pub source_at : {S V : Type 0} → ViewWords V → Task → Stage S V →
     → Fate
 source_at view t a cached maps w = source_over t (settled a.fates) (views_of view a.kit.seeds.items) cached maps w
 
--- a number once
-abbrev pub once : ℕ → ℕ
-once n = n
+-- how often one pass asks at most for each want of this number
+abbrev pub one_pass : ℕ → ℕ
+one_pass n = n
 
--- and twice
-abbrev pub twice : ℕ → ℕ
-twice n = n + n
+-- and two passes
+abbrev pub two_passes : ℕ → ℕ
+two_passes n = n + n
 
 module _ {S V : Type 0} (store : StoreWords S) (view : ViewWords V) where
   -- what holds where nothing fails, of all that the cache and the stores hold, which have chunks of one size for each

@@ -57,7 +57,7 @@ pub record Ready {S V : Type 0} (t : Task) (a : Stage S V) : Type 0 where
 
 module _ {S V : Type 0} (store : StoreWords S) (view : ViewWords V) where
   -- entries were settled, and the rest was kept
-  pub record Step (l : Listing) (a b : Stage S V) : Type 0 where
+  pub record Progress (l : Listing) (a b : Stage S V) : Type 0 where
     pub grows : Grows a.fates b.fates
     pub bytes : WhereTold a.held.bytes b.held.bytes (Fills l a.fates b.fates a.faults b.faults)
     pub tells : is_some b.held.bytes ≡ is_some a.held.bytes
@@ -71,5 +71,5 @@ module _ {S V : Type 0} (store : StoreWords S) (view : ViewWords V) where
 
   -- and chunks of these wants were added to the cache
   pub record Stretch (t : Task) (Among : ℕ → Type 0) (a b : Stage S V) : Type 0 where
-    pub step : Step t.listing a b
+    pub step : Progress t.listing a b
     pub stocked : Stocked (TakesWants store t.listing t.plan Among a.kit.chain.stores) a.cache b.cache

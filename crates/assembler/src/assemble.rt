@@ -3,7 +3,7 @@
 ghost use Rattle.std.specs.Prelude.{◌≡◌, ℕ, ◌+◌, ◌≤◌, length, None, IfSome, IfOk, vec_len};
 ghost use Rattle.std.specs.List.{All};
 ghost use Rattle.assembler.specs.Assemblies.{Assembles, IsAssembled};
-ghost use Rattle.assembler.specs.OneKit.{ByPlan, IsUnused, lent};
+ghost use Rattle.assembler.specs.OneKit.{ByPlan, KitUnused, lent};
 ghost use Rattle.caibx_codec.specs.Listing.{count_of, image_length, kind_of};
 ghost use Rattle.chunk_sources.specs.Caches.{seen};
 ghost use Rattle.chunk_sources.specs.Sources.{sources};
@@ -11,7 +11,7 @@ ghost use Rattle.dsy_base.specs.Bytes.{resized};
 ghost use Rattle.dsy_base.specs.Counts.{Quiet};
 ghost use Rattle.extract_plan.specs.Deal.{AreWants, Deal, IsPlan};
 ghost use Rattle.extract_plan.specs.Places.{PlacesKnown};
-ghost use Rattle.owned_shards.specs.Wholes.{IsOver};
+ghost use Rattle.owned_shards.specs.Wholes.{IsRunOver};
 ghost use Rattle.range_ledger.specs.Fills.{WhereTold};
 ghost use Rattle.range_survey.specs.Reports.{right_below};
 
@@ -44,7 +44,7 @@ fn assemble_with<R: RunName, T: Target, S: Store, V: View, F: Folder>(
     kit: Kit<S, V>,
     cache: Option<CacheShelf<F>>,
 ) -> Ended<T, S, V, F>
-    requires over { IsOver R.run index.now plan.now T.tells (T.held target) }
+    requires over { IsRunOver R.run index.now plan.now T.tells (T.held target) }
     requires wants { AreWants index.now plan.now.wants plan.now.want_of }
     requires places { PlacesKnown index.now plan.now places.now (length kit.seeds.items) }
     requires kind { kit.chain.kind ≡ kind_of index.now }
@@ -136,7 +136,7 @@ pub fn assemble<T: Target, S: Store, V: View, F: Folder>(
     requires cache { IfSome (seen F.Look cache) (λ s. s.kind ≡ kind_of index.now) }
     requires unnamed { (F.pairs ≡ None) × (F.stores ≡ None) }
     ensures bytes { WhereTold (T.held target).bytes (T.held result.target).bytes (Assembles index.now
-        (IsUnused (lent (T.faults target) kits.items (seen F.Look cache))
+        (KitUnused (lent (T.faults target) kits.items (seen F.Look cache))
         (lent (T.faults result.target) result.kits.items (seen F.Look result.cache)))
         (T.faults target) (T.faults result.target) result.answer) }
     ensures assembled { ByPlan index.now places.now (lent (T.faults target) kits.items (seen F.Look cache))

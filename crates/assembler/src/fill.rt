@@ -2,7 +2,7 @@
 
 ghost use Rattle.std.specs.Prelude.{◌≡◌, ℕ, ◌<◌, None, OnOk, IfErr, false};
 ghost use Rattle.assembler.specs.Economy.{PassedBy};
-ghost use Rattle.assembler.specs.Passes.{HasPassed, WhereQuiet, once, source_at, want_at};
+ghost use Rattle.assembler.specs.Passes.{HasPassed, WhereQuiet, one_pass, source_at, want_at};
 ghost use Rattle.assembler.specs.Stages.{Ready, from, stage, task};
 ghost use Rattle.caibx_codec.specs.Listing.{count_of};
 ghost use Rattle.chunk_sources.specs.Caches.{seen};
@@ -26,7 +26,7 @@ pub(crate) fn fill<E: Ledger, S: Store, V: View, F: Folder>(
     requires listing { wants.now.index.now ≡ E.run.listing }
     requires ready { Ready (task E.run.listing wants.now) (stage E.Ledger F.Look work.old) }
     requires unnamed { (F.pairs ≡ None) × (F.stores ≡ None) }
-    ensures passes { HasPassed S.Store V.View (task E.run.listing wants.now) once (stage E.Ledger F.Look work.old)
+    ensures passes { HasPassed S.Store V.View (task E.run.listing wants.now) one_pass (stage E.Ledger F.Look work.old)
         (stage E.Ledger F.Look work.new) }
     ensures memory { IfErr result (λ _. MayLack S.Store (seen F.Look work.old.cache)) }
 

@@ -2,7 +2,7 @@
 
 ghost use Rattle.std.specs.Prelude.{◌≡◌, None, replicate, false};
 ghost use Rattle.assembler.specs.Economy.{PassedBy, UnlessMemory};
-ghost use Rattle.assembler.specs.Passes.{Ends, HasPassed, WhereQuiet, once, source_at};
+ghost use Rattle.assembler.specs.Passes.{Ends, HasPassed, WhereQuiet, one_pass, source_at};
 ghost use Rattle.assembler.specs.Stages.{Ready, from, stage, task};
 ghost use Rattle.caibx_codec.specs.Listing.{count_of};
 
@@ -26,7 +26,7 @@ pub(crate) fn retry<E: Ledger, S: Store, V: View, F: Folder>(
     requires fresh { tried.items ≡ replicate wants.now.plan.now.wants false }
     requires ready { Ready (task E.run.listing wants.now) (stage E.Ledger F.Look work.old) }
     requires unnamed { (F.pairs ≡ None) × (F.stores ≡ None) }
-    ensures passes { HasPassed S.Store V.View (task E.run.listing wants.now) once (stage E.Ledger F.Look work.old)
+    ensures passes { HasPassed S.Store V.View (task E.run.listing wants.now) one_pass (stage E.Ledger F.Look work.old)
         (stage E.Ledger F.Look work.new) }
     ensures ends { Ends S.Store V.View (task E.run.listing wants.now) (stage E.Ledger F.Look work.old)
         (stage E.Ledger F.Look work.new) result }

@@ -7,7 +7,7 @@ use Rattle.command_outcome.specs.declared.outcome.Outcome.TheVariants as ends
 use Rattle.command_steps.proofs.Numbers.{rose_longer}
 use Rattle.command_steps.proofs.Taken.{adds_none, gives_adds}
 use Rattle.command_steps.proofs.Used.{uses_twice, uses_within, within_first, within_rest, within_same}
-use Rattle.command_steps.specs.Uses.{Uses, folders_of}
+use Rattle.command_steps.specs.Uses.{Uses, folders_among}
 use Rattle.command_words.specs.declared.command.Location.{Location}
 use Rattle.command_steps.specs.Cache.{CacheGiven, CacheOpened, folders_with, with_cache}
 use Rattle.command_steps.specs.Stores.{NotReached}
@@ -40,14 +40,14 @@ reads_on d b e u v = record {
 }
 
 -- what was refused before more was given back
-pub cache_longer : (stores : List Location) (cache : Option (List ℕ)) (d e f : Disk) (o : Outcome) → CacheOpened [] cache d (Err o) e → Reads e f → Uses [] (folders_of stores) e f → CacheOpened stores cache d (Err o) f
+pub cache_longer : (stores : List Location) (cache : Option (List ℕ)) (d e f : Disk) (o : Outcome) → CacheOpened [] cache d (Err o) e → Reads e f → Uses [] (folders_among stores) e f → CacheOpened stores cache d (Err o) f
 cache_longer stores None d e f o h r u = absurd h
 cache_longer stores (Some q) d e f o h r u = (
   later o h.0,
   reads_on d e f h.1 r,
-  uses_twice [] (q ∷ folders_of stores) d e f
-      (uses_within [] (q ∷ []) [] (q ∷ folders_of stores) d e (within_same []) (within_first q (folders_of stores)) h.2)
-      (uses_within [] (folders_of stores) [] (q ∷ folders_of stores) e f (within_same []) (within_rest q (folders_of stores)) u),
+  uses_twice [] (q ∷ folders_among stores) d e f
+      (uses_within [] (q ∷ []) [] (q ∷ folders_among stores) d e (within_same []) (within_first q (folders_among stores)) h.2)
+      (uses_within [] (folders_among stores) [] (q ∷ folders_among stores) e f (within_same []) (within_rest q (folders_among stores)) u),
 ) where
   later : (o : Outcome) → NotReached d e q o → NotReached d f q o
   later (ends.NoFolder name) h = h

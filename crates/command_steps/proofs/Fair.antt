@@ -13,7 +13,7 @@ use Rattle.command_worlds.specs.Printing.{Printed}
 use Rattle.command_steps.specs.Seeds.{IndexesRead, NoneListed}
 use Rattle.command_worlds.specs.Steps.{◌>>=◌, Passed, each, nothing}
 use Rattle.command_steps.specs.Dials.{Dials}
-use Rattle.command_steps.specs.Sources.{ConsultsStores, FailsFirst as SourceFails, FirstUnreached, OnSources, Sources, SourcesOpened, StoreRose, Unreached, sources_of, store_at}
+use Rattle.command_steps.specs.Sources.{ConsultsStores, FailsFirst as SourceFails, FirstUnreached, OnStorage, Storage, SourcesOpened, StoreRose, Unreached, storage_of, store_at}
 use Rattle.command_steps.specs.Stores.{NotReached, StoreTaken, are_folders, is_folder}
 use Rattle.command_steps.specs.TakenStores.{SourceTaken}
 use Rattle.command_worlds.specs.Worlds.{Adds, FileRose, FolderRose, OnDisk, OnOut, Pure, Reads, Step, World, Writes, world}
@@ -60,7 +60,7 @@ left_twice {s} {w} {u} {v} a b = record {
 }
 
 -- the store that is named has failed
-pub source_failed : (lacks : Said → Type 0) (w v : World) (k : ℕ) (names : List Location) → SourceFails lacks (sources_of w) (sources_of v) k names → StoreRose (sources_of w) (sources_of v) (store_at names k)
+pub source_failed : (lacks : Said → Type 0) (w v : World) (k : ℕ) (names : List Location) → SourceFails lacks (storage_of w) (storage_of v) k names → StoreRose (storage_of w) (storage_of v) (store_at names k)
 source_failed lacks w v k [] h = absurd h
 source_failed lacks w v zero (q ∷ names) h = h.0
 source_failed lacks w v (suc k) (q ∷ names) h = source_failed lacks w v k names h.1
@@ -76,7 +76,7 @@ fair_earlier {s} {z} w u v x o a b h = (h.0, go o h.1) where
 
   go : (o : Outcome) → Blames x o u v → Blames x o w v
   go ends.ImageFault r = file x.image r
-  go (ends.StoreFault k) r = store_rose_later (sources_of w) (sources_of u) (sources_of v) a.folders a.dial b.dial (store_at x.stores k) r
+  go (ends.StoreFault k) r = store_rose_later (storage_of w) (storage_of u) (storage_of v) a.folders a.dial b.dial (store_at x.stores k) r
   go ends.TargetFault r = file x.target r
   go ends.CacheFault r = folder x.cache r
   go (ends.FileFault name) (inl r) = inl (file name r)
@@ -96,7 +96,7 @@ fair_longer {s} {z} w v u x o b a h = (h.0, go o h.1) where
 
   go : (o : Outcome) → Blames x o w v → Blames x o w u
   go ends.ImageFault r = file x.image r
-  go (ends.StoreFault k) r = store_rose_longer (sources_of w) (sources_of v) (sources_of u) a.folders b.dial a.dial (store_at x.stores k) r
+  go (ends.StoreFault k) r = store_rose_longer (storage_of w) (storage_of v) (storage_of u) a.folders b.dial a.dial (store_at x.stores k) r
   go ends.TargetFault r = file x.target r
   go ends.CacheFault r = folder x.cache r
   go (ends.FileFault name) (inl r) = inl (file name r)
@@ -182,16 +182,16 @@ adds p r = record { keeps = record { files = λ t. r.files; folders = λ t. absu
 pub writes : {f n o : Bool} {d e : Disk} (p : Unread) → Writes d e → IsLeft (record { files = false; folders = f; dial = n; out = o }) (round p d) (round p e)
 writes p r = record { keeps = record { files = λ t. absurd (cc); folders = λ t. r.folders; dial = λ t. refl; out = λ t. refl }; files = r.counts; folders = r.folder_counts; dial = dials_none _; out = omega arith }
 
-abbrev pub behind : Output → Sources → World
+abbrev pub behind : Output → Storage → World
 behind p w = world w.disk w.dial p
 
-pub on_sources : {A : Type 0} {s : Spares} {x : Parts} {step : Sources → Result A Outcome → Sources → Type 0} → ((p : Output) → IsStep (behind p) s x step) → IsStep whole s x (OnSources step)
+pub on_sources : {A : Type 0} {s : Spares} {x : Parts} {step : Storage → Result A Outcome → Storage → Type 0} → ((p : Output) → IsStep (behind p) s x step) → IsStep whole s x (OnStorage step)
 on_sources {A} {s} {x} {step} k = record {
-  fair = λ w v o h. subst (λ p. IsFair x o w (world v.disk v.dial p)) (sym h.1) ((k w.out).fair (sources_of w) (sources_of v) o h.0);
-  leaves = λ w v r h. subst (λ p. IsLeft s w (world v.disk v.dial p)) (sym h.1) ((k w.out).leaves (sources_of w) (sources_of v) r h.0);
+  fair = λ w v o h. subst (λ p. IsFair x o w (world v.disk v.dial p)) (sym h.1) ((k w.out).fair (storage_of w) (storage_of v) o h.0);
+  leaves = λ w v r h. subst (λ p. IsLeft s w (world v.disk v.dial p)) (sym h.1) ((k w.out).leaves (storage_of w) (storage_of v) r h.0);
 }
 
-pub consults : {s : Spares} {w v : Sources} (p : Output) (stores : List Location) → (IsTrue s.dial → IsTrue (are_folders stores)) → ConsultsStores stores w v → IsLeft s (behind p w) (behind p v)
+pub consults : {s : Spares} {w v : Storage} (p : Output) (stores : List Location) → (IsTrue s.dial → IsTrue (are_folders stores)) → ConsultsStores stores w v → IsLeft s (behind p w) (behind p v)
 consults p stores spared r = record {
   keeps = record { files = λ t. r.0.disk.files; folders = λ t. r.0.disk.folders; dial = λ t. r.1 (spared t); out = λ t. refl };
   files = r.0.disk.counts;
@@ -271,7 +271,7 @@ module _ (s : Spares) (x : Parts) (p : Unread) where
     leaves d e (Ok u) h = reads p h.1
     leaves d e (Err o) h = reads p h.1
 
-pub sources_fair : (s : Spares) (x : Parts) (p : Output) (w v : Sources) (names : List Location) (o : Outcome) → FirstUnreached w.disk v.disk names o → IsFair x o (behind p w) (behind p v)
+pub sources_fair : (s : Spares) (x : Parts) (p : Output) (w v : Storage) (names : List Location) (o : Outcome) → FirstUnreached w.disk v.disk names o → IsFair x o (behind p w) (behind p v)
 sources_fair s x p w v [] o h = absurd h
 sources_fair s x p w v (q ∷ names) o (inl h) = reached q o h where
   reached : (q : Location) (o : Outcome) → Unreached w.disk v.disk q o → IsFair x o (behind p w) (behind p v)

@@ -16,7 +16,7 @@ use Rattle.command_steps.proofs.Lent.{quiet_count, rose_count}
 use Rattle.command_steps.proofs.Numbers.{rose_later}
 use Rattle.command_steps.specs.AnyStores.{IsGiven, IsKnown, code_of, source_faults, source_files, location_in, place_in, said_in}
 use Rattle.command_steps.specs.Dials.{Dials, since}
-use Rattle.command_steps.specs.Sources.{Consults, FailsFirst, Sources, StoreRose, files_at, said_at, location_files}
+use Rattle.command_steps.specs.Sources.{Consults, FailsFirst, Storage, StoreRose, files_at, said_at, location_files}
 use Rattle.command_steps.specs.declared.any_store.AnyStore.{AnyStore}
 use Rattle.command_steps.specs.declared.any_store.AnyStore.TheVariants as stores
 use Rattle.dsy_base.specs.Counts.{AllQuiet, Quiet, Rose, raised}
@@ -83,7 +83,7 @@ dialed_rose a b f n le rose = elim (cases_lt 0 n) [
   ]
   go none (inr full) = inr (omega (arith, none, full))
 
-module _ {L D K : Type 0} (files : L → Option (Map (List ℕ))) (place : L → List ℕ) (faults : L → ℕ) (state : D → DialState) (w v : Sources) where
+module _ {L D K : Type 0} (files : L → Option (Map (List ℕ))) (place : L → List ℕ) (faults : L → ℕ) (state : D → DialState) (w v : Storage) where
   pub store_says : (s : AnyStore L D K) → IfSome w.disk.folders (λ m. source_files files s ≡ location_files m (location_in place s)) → IsGiven place faults state w v s → (id : List ℕ) → KeepsOf (said_in files state s) (said_at w v (location_in place s)) id
   store_says (stores.Folder l) held given id = folder_says files place w.disk.folders l held id
   store_says (stores.Http r) held given id =
@@ -105,7 +105,7 @@ module _ {L D K : Type 0} (files : L → Option (Map (List ℕ))) (place : L →
 
 -- what was added after more had been consulted, and before
 module _ {L D K : Type 0} (place : L → List ℕ) (faults : L → ℕ) (state : D → DialState) where
-  pub given_earlier : (w u v : Sources) → ((q : List ℕ) → count_at w.disk.folder_counts q ≤ count_at u.disk.folder_counts q) → Dials w.dial u.dial → Dials u.dial v.dial → (s : AnyStore L D K) → IsGiven place faults state u v s → IsGiven place faults state w v s
+  pub given_earlier : (w u v : Storage) → ((q : List ℕ) → count_at w.disk.folder_counts q ≤ count_at u.disk.folder_counts q) → Dials w.dial u.dial → Dials u.dial v.dial → (s : AnyStore L D K) → IsGiven place faults state u v s → IsGiven place faults state w v s
   given_earlier w u v le a b (stores.Folder l) given = omega (arith, le (place l), given)
   given_earlier w u v le a b (stores.Http r) given = record {
     faults = omega (arith, a.faults, given.faults);
@@ -113,7 +113,7 @@ module _ {L D K : Type 0} (place : L → List ℕ) (faults : L → ℕ) (state :
     cause = given.cause;
   }
 
-  pub given_longer : (w v u : Sources) → ((q : List ℕ) → count_at v.disk.folder_counts q ≤ count_at u.disk.folder_counts q) → Dials w.dial v.dial → Dials v.dial u.dial → (s : AnyStore L D K) → IsGiven place faults state w v s → IsGiven place faults state w u s
+  pub given_longer : (w v u : Storage) → ((q : List ℕ) → count_at v.disk.folder_counts q ≤ count_at u.disk.folder_counts q) → Dials w.dial v.dial → Dials v.dial u.dial → (s : AnyStore L D K) → IsGiven place faults state w v s → IsGiven place faults state w u s
   given_longer w v u le a b (stores.Folder l) given = omega (arith, le (place l), given)
   given_longer w v u le a b (stores.Http r) given = record {
     faults = omega (arith, b.faults, given.faults);
@@ -123,7 +123,7 @@ module _ {L D K : Type 0} (place : L → List ℕ) (faults : L → ℕ) (state :
 
 -- ---- stores in order
 
-module _ {S : Type 0} (location : S → Location) (said : S → Said) (counted : S → ℕ) (w v : Sources) where
+module _ {S : Type 0} (location : S → Location) (said : S → Said) (counted : S → ℕ) (w v : Storage) where
   -- what it has said is known of the words that name it, and what it has counted
   pub record Stands (s : S) : Type 0 where
     pub says : (id : List ℕ) → KeepsOf (said s) (said_at w v (location s)) id
@@ -180,7 +180,7 @@ module _ {S : Type 0} (location : S → Location) (said : S → Said) (counted :
         (λ s. lacks (said_at w v s)) (StoreRose w v) (λ s. lacks (said_at w v s) ⊎ StoreRose w v s) lacked failed either k before after names len same stands h
 
 -- the stores of a command stand so once they are given back
-pub all_stand : {L D K : Type 0} (files : L → Option (Map (List ℕ))) (place : L → List ℕ) (faults : L → ℕ) (state : D → DialState) (w v : Sources) (xs : List (AnyStore L D K)) (names : List Location)
+pub all_stand : {L D K : Type 0} (files : L → Option (Map (List ℕ))) (place : L → List ℕ) (faults : L → ℕ) (state : D → DialState) (w v : Storage) (xs : List (AnyStore L D K)) (names : List Location)
     → map (location_in place) xs ≡ names → IfSome w.disk.folders (λ m. map (source_files files) xs ≡ map (location_files m) names) → All (IsGiven place faults state w v) xs → All (Stands (location_in place) (said_in files state) (source_faults faults state) w v) xs
 all_stand {L} {D} {K} files place faults state w v [] names same held given = All-nil (Stands (location_in place) (said_in files state) (source_faults faults state) w v)
 all_stand {L} {D} {K} files place faults state w v (x ∷ xs) [] same held given = absurd (cc)
@@ -215,7 +215,7 @@ zeros_at [] k = refl
 zeros_at (x ∷ xs) zero = refl
 zeros_at (x ∷ xs) (suc k) = zeros_at xs k
 
-module _ {L D K : Type 0} (files : L → Option (Map (List ℕ))) (place : L → List ℕ) (faults : L → ℕ) (state : D → DialState) (w v : Sources) where
+module _ {L D K : Type 0} (files : L → Option (Map (List ℕ))) (place : L → List ℕ) (faults : L → ℕ) (state : D → DialState) (w v : Storage) where
   quiet_folder : (s : AnyStore L D K) (f : Map (List ℕ)) → source_files files s ≡ Some f → IsGiven place faults state w v s → AllQuiet w.disk.folder_counts v.disk.folder_counts → Quiet 0 (source_faults faults state s)
   quiet_folder (stores.Folder l) f told given quiet =
       quiet_count (count_at w.disk.folder_counts (place l)) (count_at w.disk.folder_counts (place l)) (count_at v.disk.folder_counts (place l)) (faults l) (omega arith) given (quiet (place l))
@@ -249,7 +249,7 @@ pub last_known : {S : Type 0} (location : S → Location) (counts : Map ℕ) (al
 last_known location counts all rest x is known = split_last (IsKnown counts) (map location rest) (location x) (subst (λ l. All (IsKnown counts) l) (last_at location all rest x is) known)
 
 -- the rest was given back, and then the last
-pub given_more : {L D K : Type 0} (place : L → List ℕ) (faults : L → ℕ) (state : D → DialState) (w u v : Sources) (all rest : List (AnyStore L D K)) (x : AnyStore L D K) → all ≡ rest ++ x ∷ [] → Consults w u → Consults u v
+pub given_more : {L D K : Type 0} (place : L → List ℕ) (faults : L → ℕ) (state : D → DialState) (w u v : Storage) (all rest : List (AnyStore L D K)) (x : AnyStore L D K) → all ≡ rest ++ x ∷ [] → Consults w u → Consults u v
     → All (IsGiven place faults state w u) rest → IsGiven place faults state u v x → All (IsGiven place faults state w v) all
 given_more place faults state w u v all rest x is a b before last = subst (λ l. All (IsGiven place faults state w v) l) (sym is) (All-push (IsGiven place faults state w v) rest x
     (λ k d lt. given_longer place faults state w u v b.disk.folder_counts a.dial b.dial (slice_index_or rest k d) (before k d lt))

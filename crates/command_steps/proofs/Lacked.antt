@@ -6,7 +6,7 @@ use Rattle.chunk_store.specs.declared.shows.Shows.{Shows}
 use Rattle.chunk_store.specs.declared.shows.Shows.TheVariants as shows
 use Rattle.command_words.specs.declared.command.Location.{Location}
 use Rattle.command_steps.proofs.Given.{Stands, each_as, fails_first, first_as}
-use Rattle.command_steps.specs.Sources.{Sources, said_at}
+use Rattle.command_steps.specs.Sources.{Storage, said_at}
 use Rattle.command_steps.specs.Sources.{HaveLacked}
 use Rattle.store_chain.specs.Refusals.{HasShown, Lacks, Refuses}
 use Rattle.store_chain.specs.declared.refused.Refused.{Refused}
@@ -26,7 +26,7 @@ lacks_still c a b keeps (inr (x, h)) = inr (x, shown_still c x a b keeps h)
 pub same_length : {S X : Type 0} (f : S → X) (a b : List S) → map f a ≡ map f b → length a ≡ length b
 same_length f a b same = sym (length-map a f) ∙ ap length same ∙ length-map b f
 
-module _ {S : Type 0} (location : S → Location) (said : S → Said) (counted : S → ℕ) (lacks_memory : Bool) (w v : Sources) (stores : List Location) where
+module _ {S : Type 0} (location : S → Location) (said : S → Said) (counted : S → ℕ) (lacks_memory : Bool) (w v : Storage) (stores : List Location) where
   pub have_lacked : (c : Query) (r : Refused) (before after : List S) → length before ≡ length after → map location after ≡ stores → All (Stands location said counted w v) after → Refuses said counted lacks_memory c before after r → HaveLacked c w v stores r
   have_lacked c refused.Missing before after many at all h = each_as location said counted w v (λ q. (said q.1).denied c.id.0) (λ s. (said_at w v s).denied c.id.0) (λ q s y. (s.says c.id.0).denied y) before after stores many at all h
   have_lacked c (refused.Damaged s x) before after many at all h = first_as location said counted w v (λ q. (said q.1).denied c.id.0) (λ q. HasShown c x (said q.1)) (λ q. Lacks c (said q.1))

@@ -3,7 +3,7 @@ use Rattle.std.proofs.Common.{◌≡◌, ◌∙◌, ◌++◌, ℕ, List, [], ◌
 use Rattle.std.proofs.lemmas.List.{map-append}
 use Rattle.std.proofs.lemmas.List.Elements.{All-append, All-cons, All-nil}
 use Rattle.command_steps.specs.AnyStores.{IsKnown}
-use Rattle.command_steps.specs.Uses.{IsNoneOf, OnlyOf, Uses, folders_of}
+use Rattle.command_steps.specs.Uses.{IsNoneOf, OnlyOf, Uses, folders_among}
 use Rattle.command_words.specs.declared.command.Location.{Location}
 use Rattle.command_words.specs.declared.command.Location.TheVariants as locations
 use Rattle.dsy_base.specs.Counts.{Counted}
@@ -59,37 +59,37 @@ pub within_rest : (name : List ℕ) (names : List (List ℕ)) → Within names (
 within_rest name names q none = none.1
 
 -- the folder of the first store, and those of the rest
-pub within_head : (s : Location) (stores : List Location) → Within (folders_of (s ∷ [])) (folders_of (s ∷ stores))
+pub within_head : (s : Location) (stores : List Location) → Within (folders_among (s ∷ [])) (folders_among (s ∷ stores))
 within_head (locations.Folder name) stores q none = (none.0, tt)
 within_head (locations.Http host port prefix) stores q none = tt
 
-pub within_tail : (s : Location) (stores : List Location) → Within (folders_of stores) (folders_of (s ∷ stores))
+pub within_tail : (s : Location) (stores : List Location) → Within (folders_among stores) (folders_among (s ∷ stores))
 within_tail (locations.Folder name) stores q none = none.1
 within_tail (locations.Http host port prefix) stores q none = none
 
-pub within_front : (front : List Location) (s : Location) → Within (folders_of front) (folders_of (front ++ s ∷ []))
+pub within_front : (front : List Location) (s : Location) → Within (folders_among front) (folders_among (front ++ s ∷ []))
 within_front [] s q none = tt
 within_front (locations.Folder name ∷ front) s q none = (none.0, within_front front s q none.1)
 within_front (locations.Http host port prefix ∷ front) s q none = within_front front s q none
 
-pub within_last : (front : List Location) (s : Location) → Within (folders_of (s ∷ [])) (folders_of (front ++ s ∷ []))
+pub within_last : (front : List Location) (s : Location) → Within (folders_among (s ∷ [])) (folders_among (front ++ s ∷ []))
 within_last [] s q none = none
 within_last (locations.Folder name ∷ front) s q none = within_last front s q none.1
 within_last (locations.Http host port prefix ∷ front) s q none = within_last front s q none
 
 -- none of those before, and not the one that was appended
-pub none_of_more : (front : List Location) (s : Location) (q : List ℕ) → IsNoneOf q (folders_of front) → IsNoneOf q (folders_of (s ∷ [])) → IsNoneOf q (folders_of (front ++ s ∷ []))
+pub none_of_more : (front : List Location) (s : Location) (q : List ℕ) → IsNoneOf q (folders_among front) → IsNoneOf q (folders_among (s ∷ [])) → IsNoneOf q (folders_among (front ++ s ∷ []))
 none_of_more [] s q none last = last
 none_of_more (locations.Folder name ∷ front) s q none last = (none.0, none_of_more front s q none.1 last)
 none_of_more (locations.Http host port prefix ∷ front) s q none last = none_of_more front s q none last
 
 -- the last was given back, and then those before it
-pub dropped_last : (all front : List Location) (s : Location) (d b e : Disk) → all ≡ front ++ s ∷ [] → Uses [] (folders_of (s ∷ [])) d b → Uses [] (folders_of front) b e → Uses [] (folders_of all) d e
+pub dropped_last : (all front : List Location) (s : Location) (d b e : Disk) → all ≡ front ++ s ∷ [] → Uses [] (folders_among (s ∷ [])) d b → Uses [] (folders_among front) b e → Uses [] (folders_among all) d e
 dropped_last all front s d b e is u v =
-    let both = folders_of (front ++ s ∷ []) in
-    let one = uses_within [] (folders_of (s ∷ [])) [] both d b (within_same []) (within_last front s) u in
-    let rest = uses_within [] (folders_of front) [] both b e (within_same []) (within_front front s) v in
-    subst (λ (l : List Location). Uses [] (folders_of l) d e) (sym is) (uses_twice [] both d b e one rest)
+    let both = folders_among (front ++ s ∷ []) in
+    let one = uses_within [] (folders_among (s ∷ [])) [] both d b (within_same []) (within_last front s) u in
+    let rest = uses_within [] (folders_among front) [] both b e (within_same []) (within_front front s) v in
+    subst (λ (l : List Location). Uses [] (folders_among l) d e) (sym is) (uses_twice [] both d b e one rest)
 
 -- ---- one that is appended
 
@@ -101,15 +101,15 @@ module _ {S : Type 0} (location : S → Location) where
 
   -- each folder of the new stores is one of the old, or one of these
   abbrev pub AllAmong : List S → List Location → List S → Type 0
-  AllAmong old names new = (q : List ℕ) → IsNoneOf q (folders_of (map location old)) → IsNoneOf q (folders_of names) → IsNoneOf q (folders_of (map location new))
+  AllAmong old names new = (q : List ℕ) → IsNoneOf q (folders_among (map location old)) → IsNoneOf q (folders_among names) → IsNoneOf q (folders_among (map location new))
 
   pub among_next : (old mid new : List S) (s : S) (first : Location) (rest names : List Location) → names ≡ first ∷ rest → location s ≡ first → mid ≡ old ++ s ∷ [] → AllAmong mid rest new → AllAmong old names new
   among_next old mid new s first rest names is at same next = λ q a b.
-      let of_all : IsNoneOf q (folders_of (first ∷ rest)) = subst (λ (l : List Location). IsNoneOf q (folders_of l)) is b in
-      let here : IsNoneOf q (folders_of (location s ∷ [])) = subst (λ (f : Location). IsNoneOf q (folders_of (f ∷ []))) (sym at) (within_head first rest q of_all) in
+      let of_all : IsNoneOf q (folders_among (first ∷ rest)) = subst (λ (l : List Location). IsNoneOf q (folders_among l)) is b in
+      let here : IsNoneOf q (folders_among (location s ∷ [])) = subst (λ (f : Location). IsNoneOf q (folders_among (f ∷ []))) (sym at) (within_head first rest q of_all) in
       let both = none_of_more (map location old) (location s) q a here in
-      let so : IsNoneOf q (folders_of (map location mid)) =
-      subst (λ (l : List S). IsNoneOf q (folders_of (map location l))) (sym same) (subst (λ (l : List Location). IsNoneOf q (folders_of l)) (sym (map-append location old (s ∷ []))) both) in
+      let so : IsNoneOf q (folders_among (map location mid)) =
+      subst (λ (l : List S). IsNoneOf q (folders_among (map location l))) (sym same) (subst (λ (l : List Location). IsNoneOf q (folders_among l)) (sym (map-append location old (s ∷ []))) both) in
       next q so (within_tail first rest q of_all)
 
 pub all_more : {X : Type 0} (P : X → Type 0) (old new : List X) (x : X) → new ≡ old ++ x ∷ [] → All P old → P x → All P new

@@ -7,7 +7,7 @@ use Rattle.chunk_store.specs.Asks.{Sent, sends_nothing}
 use Rattle.chunk_store.specs.Folders.{chunks}
 use Rattle.chunk_store.specs.Said.{Said, SaysMap, said_by, says_map}
 use Rattle.command_steps.specs.Dials.{AreAmong, since}
-use Rattle.command_steps.specs.Sources.{Sources}
+use Rattle.command_steps.specs.Sources.{Storage}
 use Rattle.command_steps.specs.declared.any_store.AnyStore.{AnyStore}
 use Rattle.command_steps.specs.declared.any_store.AnyStore.TheVariants as stores
 use Rattle.command_words.specs.declared.command.Location.{Location}
@@ -90,7 +90,7 @@ pub record IsJoined (k j : DialState) (server : Server) (dial : DialState) (refu
 
 -- what it has counted was added to the number of its folder, at the least, or to what was dialed
 abbrev pub IsGiven : {L D K : Type 0} → (L → List ℕ) → (L → ℕ) → (D → DialState)
-    → Sources → Sources → AnyStore L D K → Type 0
+    → Storage → Storage → AnyStore L D K → Type 0
 IsGiven place faults state w v (stores.Folder l) =
     raised (count_at w.disk.folder_counts (place l)) (faults l) ≤ count_at v.disk.folder_counts (place l)
 IsGiven place faults state w v (stores.Http r) = IsJoined w.dial v.dial r.server (state r.dial) r.refused

@@ -2,7 +2,7 @@
 use Rattle.std.specs.Prelude.{◌≡◌, ◌⊎◌, ℕ, Bool, IsTrue, List, slice_index_or, []}
 use Rattle.command_outcome.specs.declared.outcome.Outcome.{Outcome}
 use Rattle.command_outcome.specs.declared.outcome.Outcome.TheVariants as ends
-use Rattle.command_steps.specs.Sources.{StoreRose, sources_of, store_at}
+use Rattle.command_steps.specs.Sources.{StoreRose, storage_of, store_at}
 use Rattle.command_worlds.specs.Worlds.{FileRose, FolderRose, World}
 use Rattle.command_words.specs.declared.command.Location.{Location}
 use Rattle.dsy_base.specs.Counts.{Rose}
@@ -40,7 +40,7 @@ name_at names k = slice_index_or names k []
 -- the fault that is told has raised its count
 abbrev pub Blames : Parts → Outcome → World → World → Type 0
 Blames x ends.ImageFault w v = FileRose w.disk v.disk x.image
-Blames x (ends.StoreFault s) w v = StoreRose (sources_of w) (sources_of v) (store_at x.stores s)
+Blames x (ends.StoreFault s) w v = StoreRose (storage_of w) (storage_of v) (store_at x.stores s)
 Blames x ends.TargetFault w v = FileRose w.disk v.disk x.target
 Blames x ends.CacheFault w v = FolderRose w.disk v.disk x.cache
 Blames x (ends.FileFault name) w v = FileRose w.disk v.disk name ⊎ FolderRose w.disk v.disk name

@@ -3,7 +3,7 @@ use Rattle.std.specs.Prelude.{◌≡◌, ℕ, List, [], ◌∷◌, Option, Some,
 use Rattle.std.specs.Option.{option_map}
 use Rattle.cache_store.specs.Shelves.{Shelf}
 use Rattle.command_steps.specs.Stores.{NotReached}
-use Rattle.command_steps.specs.Uses.{Uses, folders_of}
+use Rattle.command_steps.specs.Uses.{Uses, folders_among}
 use Rattle.command_worlds.specs.Worlds.{Reads, Step}
 use Rattle.command_words.specs.declared.command.Location.{Location}
 use Rattle.dsy_base.specs.Disk.{Disk, GivesFolder}
@@ -29,7 +29,7 @@ abbrev pub CacheOpened : List Location → Option (List ℕ) → Step Disk Unit
 CacheOpened stores None d (Ok u) e = e ≡ d
 CacheOpened stores None d (Err o) e = ⊥
 CacheOpened stores (Some q) d (Ok u) e = IfSome d.folders (λ m. IsSome (m q)) × Reads d e × Uses [] (q ∷ []) d e
-CacheOpened stores (Some q) d (Err o) e = NotReached d e q o × Reads d e × Uses [] (q ∷ folders_of stores) d e
+CacheOpened stores (Some q) d (Err o) e = NotReached d e q o × Reads d e × Uses [] (q ∷ folders_among stores) d e
 
 -- it was given back, with the faults that it has counted
 abbrev pub CacheGiven : Option Shelf → Disk → Disk → Type 0

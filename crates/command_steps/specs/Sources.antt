@@ -10,7 +10,7 @@ use Rattle.command_outcome.specs.declared.outcome.Outcome.{Outcome}
 use Rattle.command_outcome.specs.declared.outcome.Outcome.TheVariants as ends
 use Rattle.command_steps.specs.Dials.{Dials, since}
 use Rattle.command_steps.specs.Stores.{NotReached, are_folders}
-use Rattle.command_steps.specs.Uses.{Uses, folders_of}
+use Rattle.command_steps.specs.Uses.{Uses, folders_among}
 use Rattle.command_worlds.specs.Worlds.{FolderRose, Reads, Step, World}
 use Rattle.command_words.specs.declared.command.Location.{Location}
 use Rattle.command_words.specs.declared.command.Location.TheVariants as locations
@@ -27,27 +27,30 @@ use Rattle.store_chain.specs.declared.refused.Refused.{Refused}
 use Rattle.store_chain.specs.declared.refused.Refused.TheVariants as refused
 use Rattle.store_chain.specs.declared.query.Query.{Query}
 
-pub record Sources : Type 0 where
+-- what stores are opened in and asked through: files, folders and the dialer
+pub record Storage : Type 0 where
   pub disk : Disk
   pub dial : DialState
 
-abbrev pub sources : Disk → DialState → Sources
-sources d k = record { disk = d; dial = k }
+-- the two together
+abbrev pub storage : Disk → DialState → Storage
+storage d k = record { disk = d; dial = k }
 
-abbrev pub sources_of : World → Sources
-sources_of w = sources w.disk w.dial
+-- the part of the world that stores use
+abbrev pub storage_of : World → Storage
+storage_of w = storage w.disk w.dial
 
 -- a step over these, which leaves what was printed
-abbrev pub OnSources : {A : Type 0} → Step Sources A → Step World A
-OnSources step w r v = step (sources_of w) r (sources_of v) × (v.out ≡ w.out)
+abbrev pub OnStorage : {A : Type 0} → Step Storage A → Step World A
+OnStorage step w r v = step (storage_of w) r (storage_of v) × (v.out ≡ w.out)
 
 -- stores were opened, asked, or given back: files and folders were read, and servers asked
-pub record Consults (w v : Sources) : Type 0 where
+pub record Consults (w v : Storage) : Type 0 where
   pub disk : Reads w.disk v.disk
   pub dial : Dials w.dial v.dial
 
 -- a step over files and folders alone, in which no server is asked
-abbrev pub NotAsking : {A : Type 0} → Step Disk A → Step Sources A
+abbrev pub NotAsking : {A : Type 0} → Step Disk A → Step Storage A
 NotAsking step w r v = step w.disk r v.disk × (v.dial ≡ w.dial)
 
 -- the servers among these stores were asked. Where all are folders, none was
@@ -55,7 +58,7 @@ abbrev pub DialsStores : List Location → DialState → DialState → Type 0
 DialsStores stores k j = Dials k j × (IsTrue (are_folders stores) → j ≡ k)
 
 -- so it was with these stores. Where all are folders, no server was asked
-abbrev pub ConsultsStores : List Location → Sources → Sources → Type 0
+abbrev pub ConsultsStores : List Location → Storage → Storage → Type 0
 ConsultsStores stores w v = Consults w v × (IsTrue (are_folders stores) → v.dial ≡ w.dial)
 
 -- ---- what words name
@@ -88,25 +91,25 @@ files_at None q = None
 files_at (Some m) q = m q
 
 -- what a folder says by its chunks, and what a server has said on the connections that have ended since
-abbrev pub said_at : Sources → Sources → Location → Said
+abbrev pub said_at : Storage → Storage → Location → Said
 said_at w v (locations.Folder q) = said_by (option_map chunks (files_at w.disk.folders q))
 said_at w v (locations.Http host port prefix) = said_on (server_at host port prefix) (since w.dial.ended v.dial.ended)
 
 -- calls on the folder have failed; or some on connections have, or a reply of the server wasn't taken
-abbrev pub StoreRose : Sources → Sources → Location → Type 0
+abbrev pub StoreRose : Storage → Storage → Location → Type 0
 StoreRose w v (locations.Folder q) = FolderRose w.disk v.disk q
 StoreRose w v (locations.Http host port prefix) = Rose w.dial.faults v.dial.faults
     ⊎ IfSome (since w.dial.ended v.dial.ended) (Any (IsUnacceptable (server_at host port prefix)))
 
 -- when the stores were asked for something, that of this number failed, each before it lacks it, and each after it
 -- lacks it or failed too
-abbrev pub FailsFirst : (Said → Type 0) → Sources → Sources → ℕ → List Location → Type 0
+abbrev pub FailsFirst : (Said → Type 0) → Storage → Storage → ℕ → List Location → Type 0
 FailsFirst lacks w v =
     FirstAt (λ s. lacks (said_at w v s)) (StoreRose w v) (λ s. lacks (said_at w v s) ⊎ StoreRose w v s)
 
 -- what stores have said that lack a chunk: all have denied it; or this is the first that has shown something else
 -- under its id, and all lack it; or this is the first that failed, and all others lack it or failed too
-abbrev pub HaveLacked : Query → Sources → Sources → List Location → Refused → Type 0
+abbrev pub HaveLacked : Query → Storage → Storage → List Location → Refused → Type 0
 HaveLacked c w v stores refused.Missing = All (λ s. (said_at w v s).denied c.id.0) stores
 HaveLacked c w v stores (refused.Damaged s x) = FirstAt (λ s. (said_at w v s).denied c.id.0)
     (λ s. HasShown c x (said_at w v s)) (λ s. Lacks c (said_at w v s)) s stores
@@ -129,9 +132,9 @@ FirstUnreached d e (s ∷ stores) o =
 
 -- the stores were opened, and there was room for what is to be read from them
 abbrev pub SourcesOpened : List Location → Step Disk Unit
-SourcesOpened stores d (Ok u) e = AllThere d stores × Reads d e × Uses [] (folders_of stores) d e
+SourcesOpened stores d (Ok u) e = AllThere d stores × Reads d e × Uses [] (folders_among stores) d e
 SourcesOpened stores d (Err o) e =
-    (FirstUnreached d e stores o ⊎ (o ≡ ends.Memory)) × Reads d e × Uses [] (folders_of stores) d e
+    (FirstUnreached d e stores o ⊎ (o ≡ ends.Memory)) × Reads d e × Uses [] (folders_among stores) d e
 
 -- ---- the stores that were opened
 

@@ -20,7 +20,7 @@ pub record Uses (file_names folder_names : List (List ℕ)) (d e : Disk) : Type 
   pub folders : OnlyOf folder_names d.folder_counts e.folder_counts
 
 -- the names of the folders among these stores
-abbrev pub folders_of : List Location → List (List ℕ)
-folders_of [] = []
-folders_of (locations.Folder q ∷ stores) = q ∷ folders_of stores
-folders_of (locations.Http host port prefix ∷ stores) = folders_of stores
+abbrev pub folders_among : List Location → List (List ℕ)
+folders_among [] = []
+folders_among (locations.Folder q ∷ stores) = q ∷ folders_among stores
+folders_among (locations.Http host port prefix ∷ stores) = folders_among stores

@@ -5,8 +5,8 @@ ghost use Rattle.std.specs.List.{fold};
 ghost use Rattle.command_steps.specs.AnyStores.{IsGiven, IsKnown, IsUnused, source_faults, source_files, location_in};
 ghost use Rattle.command_steps.specs.AnyStores.{with_those};
 ghost use Rattle.command_steps.specs.Sources.{AllThere, ConsultsStores, FirstUnreached, IsSourceAt, OpensSources};
-ghost use Rattle.command_steps.specs.Sources.{Unreached, server_at, sources, location_files};
-ghost use Rattle.command_steps.specs.Uses.{IsNoneOf, Uses, folders_of};
+ghost use Rattle.command_steps.specs.Sources.{Unreached, server_at, storage, location_files};
+ghost use Rattle.command_steps.specs.Uses.{IsNoneOf, Uses, folders_among};
 ghost use Rattle.command_worlds.specs.Worlds.{Reads};
 ghost use Rattle.dsy_base.specs.Counts.{raised};
 
@@ -57,7 +57,7 @@ fn open<F: Files, D: Dial>(
     ensures known { IfOk result (λ s. IsKnown (F.disk files.new).folder_counts (location_in F.Look.place s)) }
     ensures err { IfErr result (Unreached (F.disk files.old) (F.disk files.new) store.now) }
     ensures kept { Reads (F.disk files.old) (F.disk files.new) }
-    ensures used { Uses [] (folders_of (store.now ∷ [])) (F.disk files.old) (F.disk files.new) }
+    ensures used { Uses [] (folders_among (store.now ∷ [])) (F.disk files.old) (F.disk files.new) }
 {
     match store {
         Location::Folder(name) => match files.look(name.as_str()) {
@@ -75,11 +75,11 @@ fn open<F: Files, D: Dial>(
 fn close<F: Files, D: Dial>(files: &mut F, dial: &mut D, store: AnyStore<F::Look, D>)
     requires known { IsKnown (F.disk files.old).folder_counts (location_in F.Look.place store) }
     ensures kept { ConsultsStores (location_in F.Look.place store ∷ [])
-        (sources (F.disk files.old) (D.state dial.old)) (sources (F.disk files.new) (D.state dial.new)) }
+        (storage (F.disk files.old) (D.state dial.old)) (storage (F.disk files.new) (D.state dial.new)) }
     ensures ended { (D.state dial.new).ended ≡ with_those D.state (D.state dial.old).ended store }
     ensures counts { (F.disk files.new).file_counts ≡ (F.disk files.old).file_counts }
     ensures given { IsGiven F.Look.place F.Look.faults D.state
-        (sources (F.disk files.old) (D.state dial.old)) (sources (F.disk files.new) (D.state dial.new)) store }
+        (storage (F.disk files.old) (D.state dial.old)) (storage (F.disk files.new) (D.state dial.new)) store }
 {
     match store {
         AnyStore::Folder(store) => files.end_look(store.into_inner()),
@@ -91,7 +91,7 @@ fn close<F: Files, D: Dial>(files: &mut F, dial: &mut D, store: AnyStore<F::Look
 fn drop_unasked<F: Files, D: Dial>(files: &mut F, store: AnyStore<F::Look, D>)
     requires known { IsKnown (F.disk files.old).folder_counts (location_in F.Look.place store) }
     ensures kept { Reads (F.disk files.old) (F.disk files.new) }
-    ensures used { Uses [] (folders_of (location_in F.Look.place store ∷ [])) (F.disk files.old) (F.disk files.new) }
+    ensures used { Uses [] (folders_among (location_in F.Look.place store ∷ [])) (F.disk files.old) (F.disk files.new) }
 {
     match store {
         AnyStore::Folder(store) => files.end_look(store.into_inner()),
@@ -103,7 +103,7 @@ fn drop_unasked<F: Files, D: Dial>(files: &mut F, store: AnyStore<F::Look, D>)
 pub fn drop_sources<F: Files, D: Dial>(files: &mut F, mut stores: Vec<AnyStore<F::Look, D>>)
     requires known { All (IsKnown (F.disk files.old).folder_counts) (map (location_in F.Look.place) stores.items) }
     ensures kept { Reads (F.disk files.old) (F.disk files.new) }
-    ensures used { Uses [] (folders_of (map (location_in F.Look.place) stores.items)) (F.disk files.old)
+    ensures used { Uses [] (folders_among (map (location_in F.Look.place) stores.items)) (F.disk files.old)
         (F.disk files.new) }
 {
     match stores.pop() {
@@ -126,7 +126,7 @@ fn keep<F: Files, D: Dial>(
     ensures err { OnErr result (stores.new.items ≡ stores.old.items) }
     ensures only { IfErr result (λ o. o ≡ Outcome.Memory) }
     ensures kept { Reads (F.disk files.old) (F.disk files.new) }
-    ensures used { Uses [] (folders_of (location_in F.Look.place store ∷ [])) (F.disk files.old) (F.disk files.new) }
+    ensures used { Uses [] (folders_among (location_in F.Look.place store ∷ [])) (F.disk files.old) (F.disk files.new) }
 {
     match stores.push(store) {
         Ok(()) => Ok(()),
@@ -155,10 +155,10 @@ fn open_each<F: Files, D: Dial>(
         (map (location_in F.Look.place) stores.new.items) }
     ensures unused { All (IsUnused D.state) stores.new.items }
     ensures kept { Reads (F.disk files.old) (F.disk files.new) }
-    ensures used { Uses [] (folders_of (names.now)) (F.disk files.old) (F.disk files.new) }
-    ensures among { (q : List ℕ) → IsNoneOf q (folders_of (map (location_in F.Look.place) stores.old.items)) →
-        IsNoneOf q (folders_of names.now) →
-        IsNoneOf q (folders_of (map (location_in F.Look.place) stores.new.items)) }
+    ensures used { Uses [] (folders_among (names.now)) (F.disk files.old) (F.disk files.new) }
+    ensures among { (q : List ℕ) → IsNoneOf q (folders_among (map (location_in F.Look.place) stores.old.items)) →
+        IsNoneOf q (folders_among names.now) →
+        IsNoneOf q (folders_among (map (location_in F.Look.place) stores.new.items)) }
 {
     let Some((first, rest)) = names.split_first() else {
         return Ok(());
@@ -186,7 +186,7 @@ pub fn open_sources<F: Files, D: Dial>(
     ensures known { OnOk result (All (IsKnown (F.disk files.new).folder_counts) names.now) }
     ensures err { IfErr result (FirstUnreached (F.disk files.old) (F.disk files.new) names.now) }
     ensures kept { Reads (F.disk files.old) (F.disk files.new) }
-    ensures used { Uses [] (folders_of (names.now)) (F.disk files.old) (F.disk files.new) }
+    ensures used { Uses [] (folders_among (names.now)) (F.disk files.old) (F.disk files.new) }
 {
     let mut stores = Vec::new(alloc);
     match open_each(alloc, files, dial, names, &mut stores) {
@@ -206,12 +206,12 @@ pub fn close_sources<F: Files, D: Dial>(
 )
     requires known { All (IsKnown (F.disk files.old).folder_counts) (map (location_in F.Look.place) stores.items) }
     ensures kept { ConsultsStores (map (location_in F.Look.place) stores.items)
-        (sources (F.disk files.old) (D.state dial.old)) (sources (F.disk files.new) (D.state dial.new)) }
+        (storage (F.disk files.old) (D.state dial.old)) (storage (F.disk files.new) (D.state dial.new)) }
     ensures ended { (D.state dial.new).ended
         ≡ fold (with_those D.state) (D.state dial.old).ended stores.items }
     ensures counts { (F.disk files.new).file_counts ≡ (F.disk files.old).file_counts }
     ensures given { All (IsGiven F.Look.place F.Look.faults D.state
-        (sources (F.disk files.old) (D.state dial.old)) (sources (F.disk files.new) (D.state dial.new))) stores.items }
+        (storage (F.disk files.old) (D.state dial.old)) (storage (F.disk files.new) (D.state dial.new))) stores.items }
 {
     match stores.pop() {
         Some(store) => {

@@ -4,7 +4,7 @@ ghost use Rattle.std.specs.Prelude.{◌≡◌, ◌∷◌, [], Ok, Err, IfOk, IfE
 ghost use Rattle.std.specs.Option.{option_map};
 ghost use Rattle.command_steps.specs.AnyStores.{IsGiven, IsKnown, IsUnused, source_faults, source_files, location_in};
 ghost use Rattle.command_steps.specs.AnyStores.{with_those};
-ghost use Rattle.command_steps.specs.Sources.{DialsStores, sources};
+ghost use Rattle.command_steps.specs.Sources.{DialsStores, storage};
 ghost use Rattle.command_steps.specs.Stores.{IsStoreAt, IsTaken, NotReached};
 ghost use Rattle.command_steps.specs.TakenStores.{SourceTaken, given_to};
 ghost use Rattle.command_worlds.specs.Worlds.{Adds, Reads};
@@ -97,7 +97,7 @@ pub fn give_source<F: Files, D: Dial>(
     ensures dialed { DialsStores (store.now ∷ []) (D.state dial.old) (D.state dial.new) }
     ensures ended { (D.state dial.new).ended ≡ with_those D.state (D.state dial.old).ended taken }
     ensures given { IsGiven F.Folder.place F.Folder.faults D.state
-        (sources (F.disk files.old) (D.state dial.old)) (sources (F.disk files.new) (D.state dial.new)) taken }
+        (storage (F.disk files.old) (D.state dial.old)) (storage (F.disk files.new) (D.state dial.new)) taken }
 {
     match taken {
         AnyStore::Folder(folder) => give_folder(files, name_of(store), folder),

@@ -25,7 +25,7 @@ use Rattle.command_steps.proofs.Numbers.{rose_longer, rose_not_quiet}
 use Rattle.command_steps.specs.Cache.{CacheOpened}
 use Rattle.command_steps.specs.InputFiles.{IsBad, IsListed, Listed, NotRead}
 use Rattle.command_steps.specs.Seeds.{IndexesRead, NoneListed, image_name, items_with}
-use Rattle.command_steps.specs.Sources.{FirstUnreached, HaveLacked, IsThere, Sources, SourcesOpened, StoreRose, Unreached, files_at, said_at, sources}
+use Rattle.command_steps.specs.Sources.{FirstUnreached, HaveLacked, IsThere, Storage, SourcesOpened, StoreRose, Unreached, files_at, said_at, storage}
 use Rattle.command_worlds.specs.Steps.{◌>>=◌, outcome_of}
 use Rattle.command_steps.specs.Stores.{NotReached}
 use Rattle.command_worlds.specs.Worlds.{DiskQuiet, FileRose, FolderRose, OnDisk, Reads, World, Writes, world}
@@ -186,7 +186,7 @@ from_told d e cache P b n is y tells h = go d.files d.folders e.files is y tells
       let two : m ≡ n = same_Some _ _ y in
       (a, sym at, h.0, subst (λ (x : Map (List ℕ)). P x a n h.0) one (subst (λ (x : Map (Map (List ℕ))). P c a x h.0) two h.2))
 
-module _ (w v : Sources) (none : NoneRose w.disk v.disk) (b : Map (List ℕ)) (n : Map (Map (List ℕ))) (files : w.disk.files ≡ Some b) (folders : w.disk.folders ≡ Some n) (tells : is_some v.disk.files ≡ is_some w.disk.files)
+module _ (w v : Storage) (none : NoneRose w.disk v.disk) (b : Map (List ℕ)) (n : Map (Map (List ℕ))) (files : w.disk.files ≡ Some b) (folders : w.disk.folders ≡ Some n) (tells : is_some v.disk.files ≡ is_some w.disk.files)
     (stores : List Location) (cache : Option (List ℕ)) (out : Into) (l : Listing) (x : Seeds) where
   module _ (k : ℕ) (listed : k < count_of l) (id : ChunkId) (id_is : id.0 ≡ id_of l k) where
     abbrev Gives : Location → Type 0
@@ -290,11 +290,11 @@ self_climbs d = record { files = λ q. omega arith; folders = λ q. omega arith 
 
 module _ (stores : List Location) (cache : Option (List ℕ)) (out : List ℕ) (l : Listing) (x : Seeds) (w : Disk) (v : World) (quiet : DiskQuiet w v.disk) (b : Map (List ℕ)) (n : Map (Map (List ℕ))) (one : IsSome cache → ListsOneSize l)
     (u : World) (files : u.disk.files ≡ Some b) (folders : u.disk.folders ≡ Some n) (so_far : Climbs w u.disk) where
-  image_at_hand : (i : Into) (c : Disk) → Climbs c v.disk → ((k : ℕ) → k < count_of l → IsAtHand b n i l x (near cache stores) k) → (o : Outcome) → ImageMade stores cache i l x (sources u.disk u.dial) (Err o) (sources c v.dial) → o ≡ ends.Memory
+  image_at_hand : (i : Into) (c : Disk) → Climbs c v.disk → ((k : ℕ) → k < count_of l → IsAtHand b n i l x (near cache stores) k) → (o : Outcome) → ImageMade stores cache i l x (storage u.disk u.dial) (Err o) (storage c v.dial) → o ≡ ends.Memory
   image_at_hand i c later hand o h =
-      assembled_at_hand (sources u.disk u.dial) (sources c v.dial) (none_rose w u.disk c v.disk quiet so_far later) b n files folders h.2 stores cache i l x h.1.folders one hand o h.0
+      assembled_at_hand (storage u.disk u.dial) (storage c v.dial) (none_rose w u.disk c v.disk quiet so_far later) b n files folders h.2 stores cache i l x h.1.folders one hand o h.0
 
-  renamed_at_hand : (m c : Disk) (k : DialState) → Climbs m v.disk → Climbs c v.disk → ImageMade stores cache (beside out) l x (sources u.disk u.dial) (Ok tt) (sources m k) → (o : Outcome) → Renamed (temporary_out out) out m (Err o) c → o ≡ ends.Memory
+  renamed_at_hand : (m c : Disk) (k : DialState) → Climbs m v.disk → Climbs c v.disk → ImageMade stores cache (beside out) l x (storage u.disk u.dial) (Ok tt) (storage m k) → (o : Outcome) → Renamed (temporary_out out) out m (Err o) c → o ≡ ends.Memory
   renamed_at_hand m c k mid later made o h = go o h.0 where
     made_so : (a : Map (List ℕ)) × (m.files ≡ Some a) × (cs : List (Map (List ℕ))) × (((t : List ℕ) × KeepsIn u.disk m b a (beside out) l t × IsRight t l)
         × WhereFolders n stores (λ fs. (i : ℕ) → i < count_of l → HadFrom b (beside out) l x cs fs i))

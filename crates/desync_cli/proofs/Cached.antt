@@ -6,7 +6,7 @@ use Rattle.std.specs.Option.{option_map}
 use Rattle.caibx_codec.specs.Listing.{Listing, count_of, id_of, kind_of}
 use Rattle.chunk_store.specs.Folders.{chunks}
 use Rattle.command_steps.specs.InputFiles.{IsListed}
-use Rattle.command_steps.specs.Sources.{sources, sources_of}
+use Rattle.command_steps.specs.Sources.{storage, storage_of}
 use Rattle.command_worlds.specs.Worlds.{World}
 use Rattle.command_words.specs.declared.command.Location.{Location}
 use Rattle.store_commands.specs.Caching.{AddsListed, AllFilled, CacheEnds, Evidence, IsCached, IsHeldListed, of_command}
@@ -95,7 +95,7 @@ cached stores cache indexes w v h =
     let opened = h.did.0.1 in
     let looked = reached.did.0.1 in
     let folders = looked.folders ∙ opened.folders in
-    let over = of_command (sources reached.disk reached.dial) (sources_of v) stores cache in
+    let over = of_command (storage reached.disk reached.dial) (storage_of v) stores cache in
     over_all over reached.disk v.disk cache indexes w.disk.files w.disk.folders v.disk.folders filled.held filled.now
     (looked.files ∙ opened.files)
     (was_there w.disk.folders cache filled.held (subst (λ (y : Option (Map (Map (List ℕ)))). IfSome y (λ m. IsSome (m cache))) opened.folders reached.did.0.0)

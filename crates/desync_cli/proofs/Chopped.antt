@@ -5,7 +5,7 @@ use Rattle.caibx_codec.specs.Listing.{Listing, count_of}
 use Rattle.caibx_codec.specs.Right.{IsRight}
 use Rattle.chunk_store.specs.Folders.{chunks}
 use Rattle.command_steps.specs.InputFiles.{IsListed}
-use Rattle.command_steps.specs.Sources.{said_at, sources, sources_of}
+use Rattle.command_steps.specs.Sources.{said_at, storage, storage_of}
 use Rattle.command_worlds.specs.Worlds.{World}
 use Rattle.command_words.specs.declared.command.Location.{Location}
 use Rattle.command_words.specs.declared.command.Location.TheVariants as locations
@@ -43,9 +43,9 @@ over_image index image l has (Some b) told listed there right store =
     (l, record { listed = listed; bytes = there.0; there = there.1; right = subst (λ o. IfSome o (λ t. IsRight t l)) there.2 right }, store there.0 there.2)
 
 pub chopped : (store : Location) (index image : List ℕ) (w v : World) → ChopEnds store index image w (Ok tt) v
-    → IfSome w.disk.files (λ b. (l : Listing) × IsChopped b index image l × StoreHas (sources_of w) (sources_of v) store l)
+    → IfSome w.disk.files (λ b. (l : Listing) × IsChopped b index image l × StoreHas (storage_of w) (storage_of v) store l)
 chopped store index image w v h = go store h where
-  go : (store : Location) → ChopEnds store index image w (Ok tt) v → IfSome w.disk.files (λ b. (l : Listing) × IsChopped b index image l × StoreHas (sources_of w) (sources_of v) store l)
+  go : (store : Location) → ChopEnds store index image w (Ok tt) v → IfSome w.disk.files (λ b. (l : Listing) × IsChopped b index image l × StoreHas (storage_of w) (storage_of v) store l)
   go (locations.Folder q) h =
       let l = h.gave in
       let opened = h.then in
@@ -54,7 +54,7 @@ chopped store index image w v h = go store h where
       let held = taken.gave in
       let folders = opened.did.0.1.folders ∙ h.did.0.1.folders in
       let among = subst (λ y. Given q index image l told held y v.disk.folders) (taken.did.0.1.0 ∙ ap (option_map (λ m. at_name m q None)) folders) taken.then.0.1 in
-      over_image index image l (λ m. StoreHas (sources_of w) (sources_of v) (locations.Folder q) m) w.disk.files told h.did.0.0
+      over_image index image l (λ m. StoreHas (storage_of w) (storage_of v) (locations.Folder q) m) w.disk.files told h.did.0.0
       (subst (λ x. IfSome x (λ m. (t : List ℕ) × (m image ≡ Some t) × (told ≡ Some t))) h.did.0.1.files opened.did.0.0)
       taken.then.0.0
       (λ t is. in_folder q index image l t w.disk.folders held v.disk.folders (subst (λ y. IfSome y (λ m. (f : Map (List ℕ)) × (m q ≡ Some f) × (held ≡ Some f))) folders taken.did.0.0)
@@ -66,8 +66,8 @@ chopped store index image w v h = go store h where
       let taken = opened.then in
       let s : Location = locations.Http host port prefix in
       let dial = taken.did.1 ∙ opened.did.1 ∙ h.did.1 in
-      let says = subst (λ k. SaysAll l (count_of l) (said_at (sources w.disk k) (sources v.disk v.dial) s)) dial taken.then.0.1 in
-      over_image index image l (λ m. StoreHas (sources_of w) (sources_of v) s m) w.disk.files told h.did.0.0
+      let says = subst (λ k. SaysAll l (count_of l) (said_at (storage w.disk k) (storage v.disk v.dial) s)) dial taken.then.0.1 in
+      over_image index image l (λ m. StoreHas (storage_of w) (storage_of v) s m) w.disk.files told h.did.0.0
       (subst (λ x. IfSome x (λ m. (t : List ℕ) × (m image ≡ Some t) × (told ≡ Some t))) h.did.0.1.files opened.did.0.0)
       taken.then.0.0
       (λ t is. says)

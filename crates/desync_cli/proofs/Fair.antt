@@ -37,7 +37,7 @@ use Rattle.store_commands.specs.Prune.{StorePruned}
 use Rattle.store_commands.specs.Verify.{KeepsCounts, StoreVerified}
 use Rattle.command_steps.specs.Seeds.{image_name}
 use Rattle.command_steps.specs.Dials.{since}
-use Rattle.command_steps.specs.Sources.{DialsStores, NotAsking, Sources, StoreRose, server_at, sources, sources_of, store_at}
+use Rattle.command_steps.specs.Sources.{DialsStores, NotAsking, Storage, StoreRose, server_at, storage, storage_of, store_at}
 use Rattle.command_steps.specs.Stores.{are_folders, is_folder}
 use Rattle.dsy_base.specs.Counts.{Quiet, Rose}
 use Rattle.dsy_base.specs.Disk.{Disk, Output}
@@ -54,14 +54,14 @@ use Rattle.verify_tool.specs.declared.fill.FillFault.TheVariants as fills
 -- ---- the steps of one command
 
 module _ (s : Spares) (x : Parts) (p : Output) (spared : IsTrue s.dial → IsTrue (are_folders x.stores)) where
-  asked_fair : (l : Listing) (w v : Sources) (o : Outcome) → NotAsked w v x.stores l o → IsFair x o (behind p w) (behind p v)
+  asked_fair : (l : Listing) (w v : Storage) (o : Outcome) → NotAsked w v x.stores l o → IsFair x o (behind p w) (behind p v)
   asked_fair l w v (ends.StoreFault k) h = (tt, source_failed (λ y. y.denied (id_of l h.1.0)) (behind p w) (behind p v) k x.stores h.1.2)
   asked_fair l w v ends.Memory h = (tt, tt)
   asked_fair l w v other h = absurd h
 
   counted_step : (l : Listing) → IsStep (behind p) s x (IdsCounted x.stores l)
   counted_step l = record { fair = go; leaves = λ w v r h. consults p x.stores spared h.1 } where
-    go : (w v : Sources) (o : Outcome) → IdsCounted x.stores l w (Err o) v → IsFair x o (behind p w) (behind p v)
+    go : (w v : Storage) (o : Outcome) → IdsCounted x.stores l w (Err o) v → IsFair x o (behind p w) (behind p v)
     go w v o h = elim h.0 [
       | inl k ↦ sources_fair s x p w v x.stores o k
       | inr k ↦ asked_fair l w v o k
@@ -83,7 +83,7 @@ module _ (s : Spares) (x : Parts) (p : Unread) where
   written_fair q bytes d e other h = absurd h.0
 
 -- what a step leaves that writes files, and the folder of a cache, and asks servers
-filled : {o : Bool} {stores : List Location} {cache : Option (List ℕ)} {l : Listing} {w v : Sources} (p : Output) → FillsCache stores cache l w.disk v.disk → DialsStores stores w.dial v.dial
+filled : {o : Bool} {stores : List Location} {cache : Option (List ℕ)} {l : Listing} {w v : Storage} (p : Output) → FillsCache stores cache l w.disk v.disk → DialsStores stores w.dial v.dial
     → IsLeft (record { files = false; folders = not (is_some cache); dial = are_folders stores; out = o }) (behind p w) (behind p v)
 filled {o} {stores} {cache} {l} {w} {v} p r dials = record {
   keeps = record { files = λ t. absurd (cc); folders = go cache r.folders; dial = dials.1; out = λ t. refl };
@@ -99,7 +99,7 @@ filled {o} {stores} {cache} {l} {w} {v} p r dials = record {
 assembled_step : (o : Bool) (x : Parts) (p : Output) (cache : Option (List ℕ)) (l : Listing) (z : Seeds) (i : Into) → i.name ≡ x.target
     → IsStep (behind p) (record { files = false; folders = not (is_some cache); dial = are_folders x.stores; out = o }) x (ImageMade x.stores cache i l z)
 assembled_step o x p cache l z i is = record { fair = fair; leaves = λ w v r h. filled p h.1 h.3 } where
-  fair : (w v : Sources) (o : Outcome) → ImageMade x.stores cache i l z w (Err o) v → IsFair x o (behind p w) (behind p v)
+  fair : (w v : Storage) (o : Outcome) → ImageMade x.stores cache i l z w (Err o) v → IsFair x o (behind p w) (behind p v)
   fair w v (ends.Missing k id) h = (tt, tt)
   fair w v (ends.Damaged k id store shows) h = (tt, tt)
   fair w v (ends.StoreFault k) h = (tt, source_failed (Lacks (chunk_of (kind_of l) h.0.0.1 (size_of l h.0.0.0))) (behind p w) (behind p v) k x.stores h.0.0.4)
@@ -109,7 +109,7 @@ assembled_step o x p cache l z i is = record { fair = fair; leaves = λ w v r h.
 
 -- ---- the steps of `cache`
 
-module _ (x : Parts) (p : Output) (w v : Sources) where
+module _ (x : Parts) (p : Output) (w v : Storage) where
   fill_fair : (l : Listing) (y : Option (Map (List ℕ))) (fault : FillFault) → FillTells (of_command w v x.stores x.cache) l y (Err fault) → IsFair x (outcome_of_fill fault) (behind p w) (behind p v)
   fill_fair l y (fills.Missing k id) h = (tt, tt)
   fill_fair l y (fills.Damaged k id store shows) h = (tt, tt)
@@ -136,17 +136,17 @@ filled_step f o x p indexes = record {
 }
 
 -- after whose refusal a file is cleared
-cleared_step : (f n o : Bool) (x : Parts) (p : Output) (q : List ℕ) (step : Step Sources Unit) → IsStep (behind p) (record { files = false; folders = f; dial = n; out = o }) x step → IsStep (behind p) (record { files = false; folders = f; dial = n; out = o }) x (Clearing q step)
+cleared_step : (f n o : Bool) (x : Parts) (p : Output) (q : List ℕ) (step : Step Storage Unit) → IsStep (behind p) (record { files = false; folders = f; dial = n; out = o }) x step → IsStep (behind p) (record { files = false; folders = f; dial = n; out = o }) x (Clearing q step)
 cleared_step f n o x p q step is = record { fair = fair; leaves = leaves } where
-  rest : (c : Disk) (v : Sources) → Writes c v.disk → IsLeft (record { files = false; folders = f; dial = n; out = o }) (behind p (sources c v.dial)) (behind p v)
+  rest : (c : Disk) (v : Storage) → Writes c v.disk → IsLeft (record { files = false; folders = f; dial = n; out = o }) (behind p (storage c v.dial)) (behind p v)
   rest c v r = writes {f = f} {n = n} {o = o} (record { dial = v.dial; out = p }) r
 
-  fair : (w v : Sources) (r : Outcome) → Clearing q step w (Err r) v → IsFair x r (behind p w) (behind p v)
-  fair w v r (c, did, cleared) = fair_longer (behind p w) (behind p (sources c v.dial)) (behind p v) x r (is.leaves w (sources c v.dial) (Err r) did) (rest c v (wrote_on c v.disk q cleared.1)) (is.fair w (sources c v.dial) r did)
+  fair : (w v : Storage) (r : Outcome) → Clearing q step w (Err r) v → IsFair x r (behind p w) (behind p v)
+  fair w v r (c, did, cleared) = fair_longer (behind p w) (behind p (storage c v.dial)) (behind p v) x r (is.leaves w (storage c v.dial) (Err r) did) (rest c v (wrote_on c v.disk q cleared.1)) (is.fair w (storage c v.dial) r did)
 
-  leaves : (w v : Sources) (r : Result Unit Outcome) → Clearing q step w r v → IsLeft (record { files = false; folders = f; dial = n; out = o }) (behind p w) (behind p v)
+  leaves : (w v : Storage) (r : Result Unit Outcome) → Clearing q step w r v → IsLeft (record { files = false; folders = f; dial = n; out = o }) (behind p w) (behind p v)
   leaves w v (Ok t) h = is.leaves w v (Ok t) h
-  leaves w v (Err r) (c, did, cleared) = left_twice (is.leaves w (sources c v.dial) (Err r) did) (rest c v (wrote_on c v.disk q cleared.1))
+  leaves w v (Err r) (c, did, cleared) = left_twice (is.leaves w (storage c v.dial) (Err r) did) (rest c v (wrote_on c v.disk q cleared.1))
 
 -- a step over files and folders alone
 unasked_step : {A : Type 0} {s : Spares} {x : Parts} (p : Output) (step : Step Disk A) → ((q : Unread) → IsStep (round q) s x step) → IsStep (behind p) s x (NotAsking step)
@@ -179,7 +179,7 @@ one_folder (locations.Folder q) t = refl
 one_folder (locations.Http host port prefix) t = absurd (cc)
 
 -- what a step leaves that writes a store
-stocked : {o : Bool} {w v : Sources} (f : Bool) (p : Output) (store : Location) → WritesStore store w v → IsLeft (record { files = f; folders = not (is_folder store); dial = is_folder store; out = o }) (behind p w) (behind p v)
+stocked : {o : Bool} {w v : Storage} (f : Bool) (p : Output) (store : Location) → WritesStore store w v → IsLeft (record { files = f; folders = not (is_folder store); dial = is_folder store; out = o }) (behind p w) (behind p v)
 stocked f p store r = record {
   keeps = record { files = λ t. r.adds.files; folders = r.folders; dial = λ t. r.dials.1 (one_folder store t); out = λ t. refl };
   files = r.adds.counts;
@@ -189,13 +189,13 @@ stocked f p store r = record {
 }
 
 module _ (x : Parts) (p : Output) (store : Location) (same : store_at x.stores 0 ≡ store) where
-  first_rose : (w v : Sources) (k : ℕ) → k ≡ 0 → StoreRose w v store → StoreRose w v (store_at x.stores k)
+  first_rose : (w v : Storage) (k : ℕ) → k ≡ 0 → StoreRose w v store → StoreRose w v (store_at x.stores k)
   first_rose w v k is rose = subst (λ n. StoreRose w v (store_at x.stores n)) (sym is) (subst (λ s. StoreRose w v s) (sym same) rose)
 
   stored_step : (f o : Bool) (z : Sizes) (told : Option (List ℕ)) (held : Option (Map (List ℕ)))
       → IsStep (behind p) (record { files = f; folders = not (is_folder store); dial = is_folder store; out = o }) x (ImageStored z x.image told store held)
   stored_step f o z told held = record { fair = fair; leaves = leaves } where
-    fair : (w v : Sources) (r : Outcome) → ImageStored z x.image told store held w (Err r) v → IsFair x r (behind p w) (behind p v)
+    fair : (w v : Storage) (r : Outcome) → ImageStored z x.image told store held w (Err r) v → IsFair x r (behind p w) (behind p v)
     fair w v ends.TooManyItems h = (tt, tt)
     fair w v ends.ImageFault h = (tt, h.0.0)
     fair w v (ends.Changed k was got) h = (tt, tt)
@@ -203,14 +203,14 @@ module _ (x : Parts) (p : Output) (store : Location) (same : store_at x.stores 0
     fair w v ends.Memory h = (tt, tt)
     fair w v other h = absurd h.0
 
-    leaves : (w v : Sources) (r : Result (List ℕ) Outcome) → ImageStored z x.image told store held w r v → IsLeft (record { files = f; folders = not (is_folder store); dial = is_folder store; out = o }) (behind p w) (behind p v)
+    leaves : (w v : Storage) (r : Result (List ℕ) Outcome) → ImageStored z x.image told store held w r v → IsLeft (record { files = f; folders = not (is_folder store); dial = is_folder store; out = o }) (behind p w) (behind p v)
     leaves w v (Ok bytes) h = stocked f p store h.2
     leaves w v (Err r) h = stocked f p store h.1
 
   chopped_step : (f o : Bool) (l : Listing) (told : Option (List ℕ)) (held : Option (Map (List ℕ)))
       → IsStep (behind p) (record { files = f; folders = not (is_folder store); dial = is_folder store; out = o }) x (ImageChopped l x.image told store held)
   chopped_step f o l told held = record { fair = fair; leaves = leaves } where
-    fair : (w v : Sources) (r : Outcome) → ImageChopped l x.image told store held w (Err r) v → IsFair x r (behind p w) (behind p v)
+    fair : (w v : Storage) (r : Outcome) → ImageChopped l x.image told store held w (Err r) v → IsFair x r (behind p w) (behind p v)
     fair w v (ends.Length n) h = (tt, tt)
     fair w v (ends.Mismatch k got) h = (tt, tt)
     fair w v ends.ImageFault h = (tt, h.0.1)
@@ -218,7 +218,7 @@ module _ (x : Parts) (p : Output) (store : Location) (same : store_at x.stores 0
     fair w v ends.Memory h = (tt, tt)
     fair w v other h = absurd h.0
 
-    leaves : (w v : Sources) (r : Result Unit Outcome) → ImageChopped l x.image told store held w r v → IsLeft (record { files = f; folders = not (is_folder store); dial = is_folder store; out = o }) (behind p w) (behind p v)
+    leaves : (w v : Storage) (r : Result Unit Outcome) → ImageChopped l x.image told store held w r v → IsLeft (record { files = f; folders = not (is_folder store); dial = is_folder store; out = o }) (behind p w) (behind p v)
     leaves w v (Ok u) h = stocked f p store h.2
     leaves w v (Err r) h = stocked f p store h.1
 
@@ -237,7 +237,7 @@ verified_step n x q repair held same = record { fair = fair; leaves = leaves } w
 
   fair : (w v : World) (o : Outcome) → StoreVerified q repair held w (Err o) v → IsFair x o w v
   fair w v (ends.DamagedLeft n) h = (tt, tt)
-  fair w v (ends.StoreFault k) h = (tt, subst (λ n. StoreRose (sources_of w) (sources_of v) (store_at x.stores n)) (sym h.0.0) (subst (λ s. StoreRose (sources_of w) (sources_of v) s) (sym same) h.0.1))
+  fair w v (ends.StoreFault k) h = (tt, subst (λ n. StoreRose (storage_of w) (storage_of v) (store_at x.stores n)) (sym h.0.0) (subst (λ s. StoreRose (storage_of w) (storage_of v) s) (sym same) h.0.1))
   fair w v ends.OutFault h = (tt, h.0.0)
   fair w v ends.Memory h = (tt, tt)
   fair w v other h = absurd h.0
@@ -250,7 +250,7 @@ pruned_step : (f n o : Bool) (x : Parts) (p : Unread) (keeps : List ℕ → Bool
     → IsStep (round p) (record { files = f; folders = false; dial = n; out = o }) x (StorePruned keeps q held)
 pruned_step f n o x p keeps q held same = record { fair = fair; leaves = leaves } where
   fair : (d e : Disk) (r : Outcome) → StorePruned keeps q held d (Err r) e → IsFair x r (round p d) (round p e)
-  fair d e (ends.StoreFault k) h = (tt, subst (λ n. StoreRose (sources_of (round p d)) (sources_of (round p e)) (store_at x.stores n)) (sym h.0.0) (subst (λ s. StoreRose (sources_of (round p d)) (sources_of (round p e)) s) (sym same) h.0.1))
+  fair d e (ends.StoreFault k) h = (tt, subst (λ n. StoreRose (storage_of (round p d)) (storage_of (round p e)) (store_at x.stores n)) (sym h.0.0) (subst (λ s. StoreRose (storage_of (round p d)) (storage_of (round p e)) s) (sym same) h.0.1))
   fair d e ends.Memory h = (tt, tt)
   fair d e other h = absurd h.0
 
@@ -355,7 +355,7 @@ blamed k words w v (Err o) (inl h) = if_any (command_of words) _ (λ c. words_bl
 blamed k words w v (Err o) (inr h) = let b = begun k words w v (Err o) h in if_some (command_of words) _ b.0 b.1 ((command_step k b.0).fair w v o b.2).1
 
 -- a store hasn't failed where no count rose and its replies were taken
-store_quiet : (w v : World) → NoFault w v → (s : Location) → RepliesTaken w v s → StoreRose (sources_of w) (sources_of v) s → ⊥
+store_quiet : (w v : World) → NoFault w v → (s : Location) → RepliesTaken w v s → StoreRose (storage_of w) (storage_of v) s → ⊥
 store_quiet w v n (locations.Folder q) taken rose = rose_not_quiet (count_at w.disk.folder_counts q) (count_at w.disk.folder_counts q) (count_at v.disk.folder_counts q) (omega arith) rose (n.disk.folders q)
 store_quiet w v n (locations.Http host port prefix) taken (inl rose) = rose_not_quiet w.dial.faults w.dial.faults v.dial.faults (omega arith) rose n.dial
 store_quiet w v n (locations.Http host port prefix) taken (inr bad) = over (since w.dial.ended v.dial.ended) taken bad where

@@ -6,7 +6,7 @@ use Rattle.buzhash_cut.specs.Sizes.{Sizes}
 use Rattle.caibx_codec.specs.Listing.{Listing, count_of, id_of}
 use Rattle.chunk_store.specs.Folders.{chunks}
 use Rattle.chunk_store.specs.Said.{Said}
-use Rattle.command_steps.specs.Sources.{said_at, sources, sources_of}
+use Rattle.command_steps.specs.Sources.{said_at, storage, storage_of}
 use Rattle.command_worlds.specs.Worlds.{World}
 use Rattle.command_words.specs.declared.command.Location.{Location}
 use Rattle.command_words.specs.declared.command.Location.TheVariants as locations
@@ -81,9 +81,9 @@ module _ (sizes index image : List ℕ) (bytes : List ℕ) (said : Said) where
       )
 
 pub made : (store : Location) (sizes index image : List ℕ) (w v : World) → is_some w.disk.files ≡ is_some w.disk.folders → MakeEnds store sizes index image w (Ok tt) v
-    → IfSome w.disk.files (λ b. IfSome v.disk.files (λ a. (l : Listing) × IsMade b a sizes index image l × StoreHas (sources_of w) (sources_of v) store l))
+    → IfSome w.disk.files (λ b. IfSome v.disk.files (λ a. (l : Listing) × IsMade b a sizes index image l × StoreHas (storage_of w) (storage_of v) store l))
 made store sizes index image w v told h = go store h where
-  go : (store : Location) → MakeEnds store sizes index image w (Ok tt) v → IfSome w.disk.files (λ b. IfSome v.disk.files (λ a. (l : Listing) × IsMade b a sizes index image l × StoreHas (sources_of w) (sources_of v) store l))
+  go : (store : Location) → MakeEnds store sizes index image w (Ok tt) v → IfSome w.disk.files (λ b. IfSome v.disk.files (λ a. (l : Listing) × IsMade b a sizes index image l × StoreHas (storage_of w) (storage_of v) store l))
   go (locations.Folder q) h =
       let opened = h.then in
       let taken = opened.then in
@@ -112,10 +112,10 @@ made store sizes index image w v told h = go store h where
       let same_files = ap (λ (u : World). u.disk.files) h.did.1 in
       let files = stored.did.0.2.adds.files ∙ ap (λ (d : Disk). d.files) taken.did.0.1 ∙ opened.did.0.1.files ∙ same_files in
       let dial = taken.did.1 ∙ opened.did.1 ∙ ap (λ (u : World). u.dial) h.did.1 in
-      let of_sizes = subst (λ (z : Sizes). SaysOf z told_image bytes (said_at (sources taken.disk taken.dial) (sources stored.disk stored.dial) s)) h.did.0.0 stored.did.0.1 in
-      let first = subst (λ k. SaysOf (cut_sizes_of sizes) told_image bytes (said_at (sources w.disk k) (sources v.disk stored.dial) s)) dial of_sizes in
-      let says = subst (λ k. SaysOf (cut_sizes_of sizes) told_image bytes (said_at (sources w.disk w.dial) (sources v.disk k) s)) (sym stored.then.1) first in
-      on_server sizes index image bytes (said_at (sources_of w) (sources_of v) s) w.disk.files told_image v.disk.files
+      let of_sizes = subst (λ (z : Sizes). SaysOf z told_image bytes (said_at (storage taken.disk taken.dial) (storage stored.disk stored.dial) s)) h.did.0.0 stored.did.0.1 in
+      let first = subst (λ k. SaysOf (cut_sizes_of sizes) told_image bytes (said_at (storage w.disk k) (storage v.disk stored.dial) s)) dial of_sizes in
+      let says = subst (λ k. SaysOf (cut_sizes_of sizes) told_image bytes (said_at (storage w.disk w.dial) (storage v.disk k) s)) (sym stored.then.1) first in
+      on_server sizes index image bytes (said_at (storage_of w) (storage_of v) s) w.disk.files told_image v.disk.files
       (subst (λ x. IfSome x (λ m. (t : List ℕ) × (m image ≡ Some t) × (told_image ≡ Some t))) same_files opened.did.0.0)
       (stored.then.0.0 ∙ ap (option_map (λ m. at_name m index (Some bytes))) files)
       says

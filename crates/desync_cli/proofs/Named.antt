@@ -10,7 +10,7 @@ use Rattle.command_steps.specs.Cache.{CacheOpened}
 use Rattle.command_steps.specs.InputFiles.{ImageOpened, IndexRead, NotOpened, NotRead}
 use Rattle.command_worlds.specs.Printing.{Printed}
 use Rattle.command_steps.specs.Seeds.{IndexesRead, NoneListed}
-use Rattle.command_steps.specs.Sources.{FirstUnreached, NotAsking, OnSources, Sources, SourcesOpened, Unreached, sources, sources_of}
+use Rattle.command_steps.specs.Sources.{FirstUnreached, NotAsking, OnStorage, Storage, SourcesOpened, Unreached, storage, storage_of}
 use Rattle.command_worlds.specs.Steps.{◌>>=◌, Passed}
 use Rattle.command_steps.specs.Stores.{NotReached, StoreTaken, folder_name}
 use Rattle.command_steps.specs.TakenStores.{SourceTaken}
@@ -61,8 +61,8 @@ on_disk k = record { short = λ w v o h. k.short w.disk v.disk o h.0 }
 pub on_out : {A : Type 0} {n : ℕ} {step : Step Output A} → Shorts n step → Shorts n (OnOut step)
 on_out k = record { short = λ w v o h. k.short w.out v.out o h.0 }
 
-pub on_sources : {A : Type 0} {n : ℕ} {step : Step Sources A} → Shorts n step → Shorts n (OnSources step)
-on_sources k = record { short = λ w v o h. k.short (sources_of w) (sources_of v) o h.0 }
+pub on_sources : {A : Type 0} {n : ℕ} {step : Step Storage A} → Shorts n step → Shorts n (OnStorage step)
+on_sources k = record { short = λ w v o h. k.short (storage_of w) (storage_of v) o h.0 }
 
 -- ---- each step
 
@@ -196,7 +196,7 @@ module _ (n : ℕ) where
   pub checked : (image : List ℕ) (l : Listing) (told : Option (List ℕ)) → Shorts n (ImageChecked image l told)
   checked image l told = record { short = checked_tells image l told }
 
-  not_asked : (stores : List Location) (l : Listing) (w v : Sources) (o : Outcome) → NotAsked w v stores l o → length (name_in o) ≤ n
+  not_asked : (stores : List Location) (l : Listing) (w v : Storage) (o : Outcome) → NotAsked w v stores l o → length (name_in o) ≤ n
   not_asked stores l w v (ends.StoreFault k) h = omega arith
   not_asked stores l w v ends.Memory h = omega arith
   not_asked stores l w v other h = absurd h
@@ -270,10 +270,10 @@ module _ (n : ℕ) where
   pub made : (stores : List Location) (cache : Option (List ℕ)) (i : Into) (l : Listing) (x : Seeds) → Shorts n (ImageMade stores cache i l x)
   made stores cache i l x = record { short = made_tells stores cache i l x }
 
-  clearing_tells : (q : List ℕ) (step : Step Sources Unit) → Shorts n step → Tells n (Clearing q step)
-  clearing_tells q step k w v o (c, did, cleared) = k.short w (sources c v.dial) o did
+  clearing_tells : (q : List ℕ) (step : Step Storage Unit) → Shorts n step → Tells n (Clearing q step)
+  clearing_tells q step k w v o (c, did, cleared) = k.short w (storage c v.dial) o did
 
-  pub clearing : (q : List ℕ) (step : Step Sources Unit) → Shorts n step → Shorts n (Clearing q step)
+  pub clearing : (q : List ℕ) (step : Step Storage Unit) → Shorts n step → Shorts n (Clearing q step)
   clearing q step k = record { short = clearing_tells q step k }
 
   renamed_tells : (p q : List ℕ) → length p ≤ n → length q ≤ n → Tells n (NotAsking (Renamed p q))

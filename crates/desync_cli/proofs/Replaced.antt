@@ -11,7 +11,7 @@ use Rattle.command_steps.proofs.Cached.{cache_reads}
 use Rattle.command_steps.specs.Cache.{CacheOpened}
 use Rattle.command_steps.specs.Seeds.{IndexesRead, image_name}
 use Rattle.command_worlds.specs.Steps.{◌>>=◌, outcome_of}
-use Rattle.command_steps.specs.Sources.{Sources, SourcesOpened, sources}
+use Rattle.command_steps.specs.Sources.{Storage, SourcesOpened, storage}
 use Rattle.command_worlds.specs.Worlds.{OnDisk, Reads, World, world}
 use Rattle.desync_cli.proofs.Fair.{begun, if_any, if_some}
 use Rattle.desync_cli.specs.Commands.{DesyncEnds, CommandEnds, LeavesBehind, command_of}
@@ -72,7 +72,7 @@ module _ (tmp : List ℕ) where
         | inr set ↦ only_at (Some b) (Some a) at.0 (ap Some set)
       ]
 
-module _ (stores : List Location) (cache : Option (List ℕ)) (i : Into) (l : Listing) (x : Seeds) (w v : Sources) (told : is_some w.disk.files ≡ is_some w.disk.folders) (tells : is_some v.disk.files ≡ is_some w.disk.files) where
+module _ (stores : List Location) (cache : Option (List ℕ)) (i : Into) (l : Listing) (x : Seeds) (w v : Storage) (told : is_some w.disk.files ≡ is_some w.disk.folders) (tells : is_some v.disk.files ≡ is_some w.disk.files) where
   abbrev d : Disk
   d = w.disk
 
@@ -157,10 +157,10 @@ left_out stores cache seeds false index out w v o told (inr h) = go h.then where
 
         made : OutMade false stores cache out h.gave x (world m.disk m.dial m.out) (Err o) v → LeavesOut false out w v
         made (inl ((c, did, cleared), rest_same)) =
-            left_over out w v (from v.disk.files (only_then tmp m.disk.files c.files v.disk.files (only_assembled stores cache (beside out) h.gave x (sources m.disk m.dial) (sources c v.dial) tells did.2 o did.0) (only_cleared tmp c v.disk cleared)))
+            left_over out w v (from v.disk.files (only_then tmp m.disk.files c.files v.disk.files (only_assembled stores cache (beside out) h.gave x (storage m.disk m.dial) (storage c v.dial) tells did.2 o did.0) (only_cleared tmp c v.disk cleared)))
         made (inr n) =
             let did = n.did.0 in
-            let first_only = only_made stores cache (beside out) h.gave x (sources m.disk m.dial) (sources n.disk n.dial) tells did.2 did.0 in
+            let first_only = only_made stores cache (beside out) h.gave x (storage m.disk m.dial) (storage n.disk n.dial) tells did.2 did.0 in
             let c = n.then.0 in
             let second : Only tmp n.disk.files v.disk.files = only_then tmp n.disk.files c.0.files v.disk.files (only_same tmp n.disk.files c.0.files c.1.0.1) (only_cleared tmp c.0 v.disk c.2) in
             left_over out w v (from v.disk.files (only_then tmp m.disk.files n.disk.files v.disk.files first_only second))

@@ -26,7 +26,7 @@ use Rattle.store_commands.specs.Serving.{ChunkServerEnds, Heard}
 use Rattle.store_commands.specs.Verify.{IsVerifiedStore, VerifyEnds}
 use Rattle.command_steps.specs.Blames.{Parts, Spares, unheard}
 use Rattle.command_worlds.specs.Printing.{Printed}
-use Rattle.command_steps.specs.Sources.{sources_of}
+use Rattle.command_steps.specs.Sources.{storage_of}
 use Rattle.command_worlds.specs.Steps.{◌>>=◌}
 use Rattle.command_steps.specs.Stores.{are_folders, is_folder}
 use Rattle.command_worlds.specs.Worlds.{OnOut, Step, World}
@@ -105,10 +105,10 @@ parts h other = record { image = []; stores = []; target = []; cache = []; liste
 abbrev pub Achieves : Heard → Command → World → World → Type 0
 Achieves h (commands.Make store sizes workers index image) w v =
     IfSome w.disk.files (λ b. IfSome v.disk.files (λ a. (l : Listing)
-    × IsMade b a sizes index image l × StoreHas (sources_of w) (sources_of v) store l))
+    × IsMade b a sizes index image l × StoreHas (storage_of w) (storage_of v) store l))
 Achieves h (commands.VerifyIndex index image) w v = IfSome w.disk.files (λ m. IsVerified m index image)
 Achieves h (commands.Chop store index image) w v = IfSome w.disk.files (λ b. (l : Listing)
-    × IsChopped b index image l × StoreHas (sources_of w) (sources_of v) store l)
+    × IsChopped b index image l × StoreHas (storage_of w) (storage_of v) store l)
 Achieves h (commands.Cache stores cache indexes) w v =
     IfSome w.disk.files (λ b. IfSome w.disk.folders (λ f. IfSome v.disk.folders (λ g.
     IsCached b f g cache indexes)))

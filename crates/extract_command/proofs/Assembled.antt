@@ -33,7 +33,7 @@ use Rattle.store_chain.specs.declared.refused.Refused.TheVariants as refused
 use Rattle.extract_command.proofs.Seeded.{given_had, had_given}
 use Rattle.command_words.specs.declared.command.Location.{Location}
 use Rattle.command_steps.proofs.Taken.{at_name_twice}
-use Rattle.command_steps.specs.Sources.{HaveLacked, Sources, location_files}
+use Rattle.command_steps.specs.Sources.{HaveLacked, Storage, location_files}
 use Rattle.extract_command.specs.Extract.{Assembled, CacheLacksEntry, CanBeHad, Into, IsLacking, Leaves, NoneAsked, OnlyHad, SeedHas, Seeds, IsTorn, NoneReached, StopsFailed, StopsSomewhere, Told, Undisturbed, WhereFolders, answer_of_assembly, answer_of_taking, base_of, folder_of, old_of}
 use Rattle.command_steps.specs.Seeds.{IsViewed}
 use Rattle.command_worlds.specs.Worlds.{DiskQuiet, FileRose}
@@ -183,7 +183,7 @@ abbrev pub TargetAs : Type 0 → ExtractFault → Type 0
 TargetAs P faults.TargetFault = P
 TargetAs P other = Unit {0}
 
-module _ (w v : Sources) (stores : List Location) (cache : Option (List ℕ)) (out : Into) (l : Listing) (x : Seeds) where
+module _ (w v : Storage) (stores : List Location) (cache : Option (List ℕ)) (out : Into) (l : Listing) (x : Seeds) where
   abbrev d : Disk
   d = w.disk
 

@@ -26,7 +26,7 @@ use Rattle.command_steps.proofs.Given.{Stands}
 use Rattle.command_steps.proofs.Numbers.{rose_longer}
 use Rattle.command_steps.specs.Blames.{name_at}
 use Rattle.command_steps.specs.Seeds.{IsViewed}
-use Rattle.command_steps.specs.Sources.{HaveLacked, Sources, StoreRose, said_at, location_files}
+use Rattle.command_steps.specs.Sources.{HaveLacked, Storage, StoreRose, said_at, location_files}
 use Rattle.command_worlds.specs.Worlds.{FileRose}
 use Rattle.extract_command.proofs.Assembled.{AllLack, LackingOver, LostAs, OthersLack, StoreAs, TargetAs}
 use Rattle.command_steps.proofs.Lacked.{have_lacked, same_length}
@@ -125,7 +125,7 @@ keeps_twice : (a b c : Said) (id : List ℕ) → KeepsOf a b id → KeepsOf b c 
 keeps_twice a b c id u w = record { denied = λ h. w.denied (u.denied h); shown = λ x h. w.shown x (u.shown x h); longer = λ n h. w.longer n (u.longer n h); taken = λ x h. w.taken x (u.taken x h) }
 
 -- stores that stand so later stood so before
-module _ {S : Type 0} (location : S → Location) (said : S → Said) (counted : S → ℕ) (w v : Sources) where
+module _ {S : Type 0} (location : S → Location) (said : S → Said) (counted : S → ℕ) (w v : Storage) where
   stood : (a b : List S) → map location b ≡ map location a → AllZip (λ x y. (q : List ℕ) → KeepsOf (said x) (said y) q) a b → NoneFalls (map counted a) (map counted b) → All (Stands location said counted w v) b → All (Stands location said counted w v) a
   stood [] b same says le stand = All-nil (Stands location said counted w v)
   stood (x ∷ a) [] same says le stand = absurd (cc)
@@ -143,7 +143,7 @@ module _ {S : Type 0} (location : S → Location) (said : S → Said) (counted :
 
 -- ---- what a lost entry tells
 
-module _ {S V : Type 0} (store : StoreWords S) (location : S → Location) (view : ViewWords V) (t : Task) (w v : Sources) (stores : List Location) (cache : Option (List ℕ)) (out : Into) (seeds : Seeds) (t0 : Option (List ℕ)) (a b : origins.Sources S V) where
+module _ {S V : Type 0} (store : StoreWords S) (location : S → Location) (view : ViewWords V) (t : Task) (w v : Storage) (stores : List Location) (cache : Option (List ℕ)) (out : Into) (seeds : Seeds) (t0 : Option (List ℕ)) (a b : origins.Sources S V) where
   abbrev d : Disk
   d = w.disk
 

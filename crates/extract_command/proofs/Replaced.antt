@@ -6,7 +6,7 @@ use Rattle.command_outcome.specs.declared.outcome.Outcome.{Outcome}
 use Rattle.command_steps.specs.InputFiles.{IndexRead, Listed}
 use Rattle.command_steps.specs.Seeds.{AllListed, IndexesRead, image_name}
 use Rattle.command_worlds.specs.Steps.{◌>>=◌, Passed}
-use Rattle.command_steps.specs.Sources.{Sources, sources}
+use Rattle.command_steps.specs.Sources.{Storage, storage}
 use Rattle.command_worlds.specs.Worlds.{Step, World, world}
 use Rattle.command_words.specs.declared.command.Location.{Location}
 use Rattle.extract_command.proofs.Seeded.{zipped_many}
@@ -27,11 +27,11 @@ beside_apart out same =
 -- ---- the steps in order
 
 -- a step that answered so, and was then cleared
-pub clears : (tmp : List ℕ) (step : Step Sources Unit) (w : Sources) (c e : Disk) (k : DialState) (r a : Result Unit Outcome) → step w r (sources c k) → ClearedAfter tmp c r a e → Clearing tmp step w a (sources e k)
-clears tmp step w c e k (Ok u) (Ok v) did same = subst (λ x. step w (Ok v) (sources x k)) (sym same) did
+pub clears : (tmp : List ℕ) (step : Step Storage Unit) (w : Storage) (c e : Disk) (k : DialState) (r a : Result Unit Outcome) → step w r (storage c k) → ClearedAfter tmp c r a e → Clearing tmp step w a (storage e k)
+clears tmp step w c e k (Ok u) (Ok v) did same = subst (λ x. step w (Ok v) (storage x k)) (sym same) did
 clears tmp step w c e k (Ok u) (Err o) did h = absurd h
 clears tmp step w c e k (Err p) (Ok v) did h = absurd h
-clears tmp step w c e k (Err p) (Err o) did h = (c, subst (λ (q : Outcome). step w (Err q) (sources c k)) (sym h.0) did, h.1)
+clears tmp step w c e k (Err p) (Err o) did h = (c, subst (λ (q : Outcome). step w (Err q) (storage c k)) (sym h.0) did, h.1)
 
 -- what follows on a step that passed
 pub passed_any : {A B : Type 0} (step : Step World A) (next : A → Step World B) (w : World) (r : Result B Outcome) (v : World) → Passed step next w r v → (step >>= next) w r v

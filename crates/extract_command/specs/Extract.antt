@@ -34,8 +34,8 @@ use Rattle.command_steps.specs.Cache.{CacheOpened}
 use Rattle.command_steps.specs.InputFiles.{IndexRead, IsListed}
 use Rattle.command_steps.specs.Seeds.{IndexesRead, image_name}
 use Rattle.command_worlds.specs.Steps.{◌>>=◌}
-use Rattle.command_steps.specs.Sources.{DialsStores, HaveLacked, NotAsking, OnSources, Sources}
-use Rattle.command_steps.specs.Sources.{SourcesOpened, sources, location_files}
+use Rattle.command_steps.specs.Sources.{DialsStores, HaveLacked, NotAsking, OnStorage, Storage}
+use Rattle.command_steps.specs.Sources.{SourcesOpened, storage, location_files}
 use Rattle.command_worlds.specs.Worlds.{DiskQuiet, FileRose, FolderRose, OnDisk, Step, World}
 use Rattle.dsy_base.specs.Disk.{Disk, OnFile}
 use Rattle.extract_plan.specs.Deal.{Deal, IsPlan, first_of, of_want, want_id}
@@ -114,17 +114,17 @@ IsTorn d e before out l t =
     KeepsTorn l (count_at d.file_counts out.name) (count_at e.file_counts out.name) (base_of before out l) t
 
 -- no server was asked, and no folder has changed
-abbrev pub NoneAsked : Sources → Sources → Type 0
+abbrev pub NoneAsked : Storage → Storage → Type 0
 NoneAsked w v = (v.dial ≡ w.dial) × (v.disk.folders ≡ w.disk.folders)
 
 -- no connection to a server has ended, and no folder has changed
-abbrev pub NoneReached : Sources → Sources → List Location → Type 0
+abbrev pub NoneReached : Storage → Storage → List Location → Type 0
 NoneReached w v stores = EachDialed (λ s ended. ended ≡ []) stores w.dial.ended v.dial.ended
     × (v.disk.folders ≡ w.disk.folders)
 
 -- what stands there where no entry is named: it wasn't taken, before which no source is asked; or it has what it began
 -- with, or keeps the base and is so
-abbrev pub StopsSomewhere : Sources → Sources → Map (List ℕ) → Map (List ℕ) → Into → Listing → (List ℕ → Type 0)
+abbrev pub StopsSomewhere : Storage → Storage → Map (List ℕ) → Map (List ℕ) → Into → Listing → (List ℕ → Type 0)
     → Type 0
 StopsSomewhere w v before after out l P = ((after ≡ before) × NoneAsked w v)
     ⊎ (Leaves before after out (old_of before out) ⊎ ((t : List ℕ) × KeepsIn w.disk v.disk before after out l t × P t))
@@ -149,7 +149,7 @@ OnlyHad d e before n cs stores out l x t = WhereFolders n stores (λ fs. (i : �
 
 -- the chunk of entry k can't be had from the stores, for this reason; an alike entry that is right in the base
 -- couldn't be read, and no seed that has the chunk; and the cache doesn't give it. n are the folders
-pub record IsLacking (w v : Sources) (before : Map (List ℕ)) (n : Map (Map (List ℕ))) (cache : Option (List ℕ))
+pub record IsLacking (w v : Storage) (before : Map (List ℕ)) (n : Map (Map (List ℕ))) (cache : Option (List ℕ))
     (out : Into) (l : Listing) (x : Seeds) (stores : List Location) (k : ℕ) (id : ChunkId) (r : Refused) : Type 0 where
   pub listed : k < count_of l
   pub id_is : id.0 ≡ id_of l k
@@ -178,7 +178,7 @@ Undisturbed d e cache l cs fs = DiskQuiet d e
 
 -- entry k is named, for this reason, each before it is right, and what isn't the base's can be had. Where stores are
 -- folders, undisturbed, k is the least that can't be had, and each that can be had was made right
-abbrev pub StopsLacking : Sources → Sources → List Location → Option (List ℕ) → Into → Listing → Seeds → ℕ → ChunkId
+abbrev pub StopsLacking : Storage → Storage → List Location → Option (List ℕ) → Into → Listing → Seeds → ℕ → ChunkId
     → Refused → Type 0
 StopsLacking w v stores cache out l x k id r = Told w.disk v.disk cache (λ b a n cs.
     ((t : List ℕ) × KeepsIn w.disk v.disk b a out l t × ((i : ℕ) → i < k → IsRightAt t l i)
@@ -189,7 +189,7 @@ StopsLacking w v stores cache out l x k id r = Told w.disk v.disk cache (λ b a 
     × WhereFolders n stores (λ fs. Undisturbed w.disk v.disk cache l cs fs → IsLeast (HadFrom b out l x cs fs) k))
 
 -- the first store that failed is named, where no store gave the chunk of some entry
-abbrev pub StopsFailed : Sources → Sources → List Location → Listing → ℕ → Type 0
+abbrev pub StopsFailed : Storage → Storage → List Location → Listing → ℕ → Type 0
 StopsFailed w v stores l s = (k : ℕ) × (id : ChunkId) × (k < count_of l) × (id.0 ≡ id_of l k)
     × HaveLacked (chunk_of (kind_of l) id (size_of l k)) w v stores (refused.StoreFault s)
 
@@ -197,7 +197,7 @@ StopsFailed w v stores l s = (k : ℕ) × (id : ChunkId) × (k < count_of l) × 
 -- stores are folders, it does so only where each entry can be had, and undisturbed exactly there; else the first that
 -- can't be had is named. A store that failed is named only where some entry can't be had from the seeds or the cache
 -- either
-abbrev pub Assembled : Sources → Sources → List Location → Option (List ℕ) → Into → Listing → Seeds
+abbrev pub Assembled : Storage → Storage → List Location → Option (List ℕ) → Into → Listing → Seeds
     → Result Unit Outcome → Type 0
 Assembled w v stores cache out l x (Ok u) = Told w.disk v.disk cache (λ b a n cs.
     ((t : List ℕ) × KeepsIn w.disk v.disk b a out l t × IsRight t l)
@@ -296,7 +296,7 @@ twice_wanted l p spared id =
 
 -- each server is asked for the chunk of an id at most twice for each want of that id that isn't spared, and is sent
 -- nothing but fronts of requests for chunks that the index lists
-pub record GetsWants (w v : Sources) (stores : List Location) (cache : Option (List ℕ)) (out : Into) (l : Listing)
+pub record GetsWants (w v : Storage) (stores : List Location) (cache : Option (List ℕ)) (out : Into) (l : Listing)
     (x : Seeds) : Type 0 where
   pub plan : Deal
   pub planned : IsPlan l 1 plan
@@ -312,7 +312,7 @@ abbrev pub IsNumbered : List ℕ → Disk → Result Unit Outcome → Disk → T
 IsNumbered name d r e = IsSome (e.file_counts name) ⊎ ((r ≡ Err ends.Memory) × (e.files ≡ d.files))
 
 -- files tell afterwards where they told before
-abbrev pub ImageMade : List Location → Option (List ℕ) → Into → Listing → Seeds → Step Sources Unit
+abbrev pub ImageMade : List Location → Option (List ℕ) → Into → Listing → Seeds → Step Storage Unit
 ImageMade stores cache out l x w r v = Assembled w v stores cache out l x r × FillsCache stores cache l w.disk v.disk
     × (is_some v.disk.files ≡ is_some w.disk.files) × DialsStores stores w.dial v.dial
     × IsNumbered out.name w.disk r v.disk
@@ -336,9 +336,9 @@ Cleared name d e = ((e.files ≡ option_map (λ m. at_name m name None) d.files)
     × OnFile d e name
 
 -- the step, after whose refusal the file of this name is cleared
-abbrev pub Clearing : List ℕ → Step Sources Unit → Step Sources Unit
+abbrev pub Clearing : List ℕ → Step Storage Unit → Step Storage Unit
 Clearing name step w (Ok u) v = step w (Ok u) v
-Clearing name step w (Err o) v = (c : Disk) × step w (Err o) (sources c v.dial) × Cleared name c v.disk
+Clearing name step w (Err o) v = (c : Disk) × step w (Err o) (storage c v.dial) × Cleared name c v.disk
 
 -- so it is with the refusal of a step that answered so
 abbrev pub ClearedAfter : List ℕ → Disk → Result Unit Outcome → Result Unit Outcome → Disk → Type 0
@@ -367,10 +367,10 @@ Renamed from to d (Err o) e = NotRenamed from to d o e × (e.files ≡ d.files) 
 
 -- OUT becomes the image: it is made it in its place; or the temporary file is, and takes OUT's name
 abbrev pub OutMade : Bool → List Location → Option (List ℕ) → List ℕ → Listing → Seeds → Step World Unit
-OutMade true stores cache out l x = OnSources (ImageMade stores cache (in_place out) l x)
+OutMade true stores cache out l x = OnStorage (ImageMade stores cache (in_place out) l x)
 OutMade false stores cache out l x = do
-  _ ← OnSources (Clearing (temporary_out out) (ImageMade stores cache (beside out) l x))
-  OnSources (Clearing (temporary_out out) (NotAsking (Renamed (temporary_out out) out)))
+  _ ← OnStorage (Clearing (temporary_out out) (ImageMade stores cache (beside out) l x))
+  OnStorage (Clearing (temporary_out out) (NotAsking (Renamed (temporary_out out) out)))
 
 -- while the cache is used its folder counts as there
 abbrev pub ExtractEnds : List Location → Option (List ℕ) → List (List ℕ) → Bool → List ℕ → List ℕ → Step World Unit

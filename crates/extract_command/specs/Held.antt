@@ -9,7 +9,7 @@ use Rattle.command_steps.specs.AnyStores.{IsGiven, IsKnown, IsUnused, source_fau
 use Rattle.command_steps.specs.AnyStores.{with_those}
 use Rattle.command_steps.specs.Cache.{CacheGiven, CacheOpened, with_cache}
 use Rattle.command_steps.specs.Seeds.{SeedsKnown, label_in}
-use Rattle.command_steps.specs.Sources.{ConsultsStores, Sources, SourcesOpened, sources, location_files}
+use Rattle.command_steps.specs.Sources.{ConsultsStores, Storage, SourcesOpened, storage, location_files}
 use Rattle.command_words.specs.declared.command.Location.{Location}
 use Rattle.command_worlds.specs.Worlds.{Reads, Step}
 use Rattle.dsy_base.specs.Counts.{raised}
@@ -43,7 +43,7 @@ pub record CanBeGiven {L W V D K : Type 0} (look : LookWords L) (folder : LookWo
   pub seeds : SeedsKnown view.held d.file_counts h.seeds.items
 
 -- it was just reached: nothing was asked and nothing failed yet, no seed is open, and there is room for a kit
-pub record IsReached {L W V D K : Type 0} (look : LookWords L) (folder : LookWords W) (view : ViewWords V)
+pub record JustReached {L W V D K : Type 0} (look : LookWords L) (folder : LookWords W) (view : ViewWords V)
     (state : D → DialState) (d : Disk) (h : Held L W V D K) : Type 0 where
   pub lent : CanBeGiven look folder view d h
   pub unused : All (IsUnused state) h.stores.items
@@ -56,13 +56,13 @@ pub record IsReached {L W V D K : Type 0} (look : LookWords L) (folder : LookWor
 
 -- the cache's folder was given back, then the stores, and then the images of the seeds
 pub record IsGivenBack {L W V D K : Type 0} (look : LookWords L) (folder : LookWords W) (view : ViewWords V)
-    (state : D → DialState) (h : Held L W V D K) (w v : Sources) : Type 0 where
+    (state : D → DialState) (h : Held L W V D K) (w v : Storage) : Type 0 where
   pub cached : Disk
   pub cache : CacheGiven (seen folder h.shelf) w.disk cached
   pub closed : Disk
-  pub stores : ConsultsStores (stores_of look h) (sources cached w.dial) (sources closed v.dial)
+  pub stores : ConsultsStores (stores_of look h) (storage cached w.dial) (storage closed v.dial)
   pub counts : closed.file_counts ≡ cached.file_counts
-  pub given : All (IsGiven look.place look.faults state (sources cached w.dial) (sources closed v.dial)) h.stores.items
+  pub given : All (IsGiven look.place look.faults state (storage cached w.dial) (storage closed v.dial)) h.stores.items
   pub ended : v.dial.ended ≡ fold (with_those state) w.dial.ended h.stores.items
   pub seeds : Reads closed v.disk
   pub folder_counts : v.disk.folder_counts ≡ closed.folder_counts

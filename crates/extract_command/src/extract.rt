@@ -5,12 +5,12 @@ ghost use Rattle.std.specs.Prelude.{◌≡◌, ◌≢◌, ℕ, List, ◌<◌, �
 ghost use Rattle.std.specs.Prelude.{string_bytes, true, false};
 ghost use Rattle.caibx_codec.specs.Listing.{Listing};
 ghost use Rattle.command_steps.specs.Seeds.{image_name};
-ghost use Rattle.command_steps.specs.Sources.{DialsStores, sources};
+ghost use Rattle.command_steps.specs.Sources.{DialsStores, storage};
 ghost use Rattle.command_worlds.specs.Worlds.{world};
 ghost use Rattle.extract_command.specs.Extract.{Assembled, ClearedAfter, ExtractEnds, FillsCache, IsNoFile};
 ghost use Rattle.extract_command.specs.Extract.{IsNumbered, OutMade, Renamed, answer_of_assembly, answer_of_taking};
 ghost use Rattle.extract_command.specs.Extract.{GetsWants, temporary_out};
-ghost use Rattle.extract_command.specs.Held.{IsReached, disk_with, stores_of};
+ghost use Rattle.extract_command.specs.Held.{JustReached, disk_with, stores_of};
 ghost use Rattle.dsy_base.specs.Disk.{Output};
 ghost use Rattle.extract_plan.specs.Deal.{Deal, IsPlan};
 ghost use Rattle.extract_plan.specs.Places.{IsSeedIndex, PlacesKnown, items_of, seed_item_limit};
@@ -133,11 +133,11 @@ fn assemble_into<F: Files, D: Dial>(
     requires plan { (d : Deal) × IsPlan planned.now.index 1 d
         × PlacesKnown planned.now.index d planned.now.places (length planned.now.seeds) }
     requires size { (1 ≤ length held.stores.items) × (length held.stores.items ≤ 16) }
-    requires held { IsReached F.Look.Look F.Folder.Look F.View.View D.state (F.disk files.old) held }
+    requires held { JustReached F.Look.Look F.Folder.Look F.View.View D.state (F.disk files.old) held }
     ensures assembled { (d : Deal) (ls : List Listing) → IsPlan planned.now.index 1 d →
         IsSeedIndex planned.now.index d ls planned.now.places →
-        Assembled (sources (disk_with F.Folder.Look held (F.disk files.old)) (D.state dial.old))
-        (sources (F.disk files.new) (D.state dial.new)) (stores_of F.Look.Look held) held.cache
+        Assembled (storage (disk_with F.Folder.Look held (F.disk files.old)) (D.state dial.old))
+        (storage (F.disk files.new) (D.state dial.new)) (stores_of F.Look.Look held) held.cache
         (record { name = target.now; fresh = fresh }) planned.now.index
         (record { images = map image_name planned.now.seeds; listings = ls }) result }
     ensures kept { FillsCache (stores_of F.Look.Look held) held.cache planned.now.index
@@ -147,8 +147,8 @@ fn assemble_into<F: Files, D: Dial>(
     ensures numbered { IsNumbered target.now (F.disk files.old) result (F.disk files.new) }
     ensures asks { (d : Deal) (ls : List Listing) → IsPlan planned.now.index 1 d →
         IsSeedIndex planned.now.index d ls planned.now.places →
-        GetsWants (sources (disk_with F.Folder.Look held (F.disk files.old)) (D.state dial.old))
-        (sources (F.disk files.new) (D.state dial.new)) (stores_of F.Look.Look held) held.cache
+        GetsWants (storage (disk_with F.Folder.Look held (F.disk files.old)) (D.state dial.old))
+        (storage (F.disk files.new) (D.state dial.new)) (stores_of F.Look.Look held) held.cache
         (record { name = target.now; fresh = fresh }) planned.now.index
         (record { images = map image_name planned.now.seeds; listings = ls }) }
 {
@@ -247,7 +247,7 @@ fn assemble_beside<F: Files, D: Dial>(
     requires plan { (d : Deal) × IsPlan planned.now.index 1 d
         × PlacesKnown planned.now.index d planned.now.places (length planned.now.seeds) }
     requires size { (1 ≤ length held.stores.items) × (length held.stores.items ≤ 16) }
-    requires held { IsReached F.Look.Look F.Folder.Look F.View.View D.state (F.disk files.old) held }
+    requires held { JustReached F.Look.Look F.Folder.Look F.View.View D.state (F.disk files.old) held }
     requires named { temporary.now ≡ temporary_out target }
     ensures made { (d : Deal) (ls : List Listing) (p : Output) → IsPlan planned.now.index 1 d →
         IsSeedIndex planned.now.index d ls planned.now.places → OutMade false

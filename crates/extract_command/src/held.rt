@@ -1,9 +1,9 @@
 //! What an extraction holds while it runs: its stores in order, the folder of its cache, and the images of its seeds.
 
 ghost use Rattle.std.specs.Prelude.{◌≡◌, ℕ, IfErr, IfOk, Ok, Err};
-ghost use Rattle.command_steps.specs.Sources.{sources};
+ghost use Rattle.command_steps.specs.Sources.{storage};
 ghost use Rattle.command_worlds.specs.Worlds.{Reads};
-ghost use Rattle.extract_command.specs.Held.{AllReached, CanBeGiven, IsGivenBack, IsReached, disk_with, stores_of};
+ghost use Rattle.extract_command.specs.Held.{AllReached, CanBeGiven, IsGivenBack, JustReached, disk_with, stores_of};
 
 use cache_store::shelf::CacheShelf;
 use chunk_sources::kit::Kit;
@@ -45,7 +45,7 @@ pub fn reach<F: Files, D: Dial>(
         (disk_with F.Folder.Look h (F.disk files.new))) }
     ensures located { IfOk result (λ h. stores_of F.Look.Look h ≡ stores.now) }
     ensures named { IfOk result (λ h. h.cache ≡ cache) }
-    ensures fresh { IfOk result (IsReached F.Look.Look F.Folder.Look F.View.View D.state (F.disk files.new)) }
+    ensures fresh { IfOk result (JustReached F.Look.Look F.Folder.Look F.View.View D.state (F.disk files.new)) }
     ensures err { IfErr result (λ o. AllReached stores.now cache (F.disk files.old) (Err o) (F.disk files.new)) }
 {
     let Ok(kits) = Vec::with_capacity(alloc, 1) else {
@@ -95,7 +95,7 @@ pub fn give_back<F: Files, D: Dial>(
 )
     requires given { CanBeGiven F.Look.Look F.Folder.Look F.View.View (F.disk files.old) held }
     ensures given { IsGivenBack F.Look.Look F.Folder.Look F.View.View D.state held
-        (sources (F.disk files.old) (D.state dial.old)) (sources (F.disk files.new) (D.state dial.new)) }
+        (storage (F.disk files.old) (D.state dial.old)) (storage (F.disk files.new) (D.state dial.new)) }
 {
     let Held {
         stores,

@@ -12,7 +12,7 @@ use Rattle.chunk_store.specs.Asks.{Sends}
 use Rattle.chunk_store.specs.Folders.{chunks}
 use Rattle.chunk_store.specs.Said.{KeepsOf, Said}
 use Rattle.chunk_store.specs.declared.store.Store.{Ghosts as StoreWords}
-use Rattle.command_steps.specs.Sources.{Sources, StoreRose, said_at}
+use Rattle.command_steps.specs.Sources.{Storage, StoreRose, said_at}
 use Rattle.command_steps.specs.Stores.{is_folder}
 use Rattle.command_worlds.specs.Worlds.{FileRose}
 use Rattle.command_words.specs.declared.command.Location.TheVariants as locations
@@ -90,7 +90,7 @@ says_before l k a b keeps says = λ i below other.
     (s.0, s.1, elim s.2 [ inl shown ↦ inl ((keeps (id_of l i)).shown s.0 shown) | inr taken ↦ inr ((keeps (id_of l i)).taken s.0 taken) ])
 
 -- what is so of a server that was given back
-pub server_given : (store : Location) (held : Option (Map (List ℕ))) (P : Map (List ℕ) → Map (List ℕ) → Type 0) (Q : Said → Type 0) (w v : Sources) → IsTrue (not (is_folder store)) → StoreGiven store held P Q w v → Q (said_at w v store)
+pub server_given : (store : Location) (held : Option (Map (List ℕ))) (P : Map (List ℕ) → Map (List ℕ) → Type 0) (Q : Said → Type 0) (w v : Storage) → IsTrue (not (is_folder store)) → StoreGiven store held P Q w v → Q (said_at w v store)
 server_given (locations.Folder q) held P Q w v server h = absurd (cc)
 server_given (locations.Http host port prefix) held P Q w v server h = h
 
@@ -99,7 +99,7 @@ order_of store l told old new (Ok u) h = tt
 order_of store l told old new (Err fault) h = h.stops
 
 -- how chopping ended that answered so
-pub chop_ended : (l : Listing) (image : List ℕ) (told : Option (List ℕ)) (store : Location) (held : Option (Map (List ℕ))) (w v : Sources) (size : ℕ) (r : Result Unit ChopFault)
+pub chop_ended : (l : Listing) (image : List ℕ) (told : Option (List ℕ)) (store : Location) (held : Option (Map (List ℕ))) (w v : Storage) (size : ℕ) (r : Result Unit ChopFault)
     → IfSome told (λ t. length t ≡ size) → TellsLength l size r → OnOk r (IfSome told (λ t. IsRight t l)) → IfErr r (IsMismatch l told)
     → StoreGiven store held (ChoppedTo l told r) (SaysAll l (seen_to l r)) w v → ((n : ℕ) → r ≡ Err (faults.Length n) → StoreGiven store held (λ f g. g ≡ f) AnySaid w v)
     → (r ≡ Err faults.ImageFault → FileRose w.disk v.disk image) → (r ≡ Err faults.StoreFault → StoreRose w v store)
@@ -120,7 +120,7 @@ if_told (Some f) None = tt
 if_told (Some f) (Some g) = refl
 
 -- at which entry it ended over a server
-pub stops_server : {S : Type 0} (words : StoreWords S) (l : Listing) (image : List ℕ) (told : Option (List ℕ)) (store : Location) (held : Option (Map (List ℕ))) (w v : Sources) (old new : S) (r : Result Unit ChopFault)
+pub stops_server : {S : Type 0} (words : StoreWords S) (l : Listing) (image : List ℕ) (told : Option (List ℕ)) (store : Location) (held : Option (Map (List ℕ))) (w v : Storage) (old new : S) (r : Result Unit ChopFault)
     → OnErr r (ChopStops words l told old new)
     → ((k : ℕ) → SaysBefore l k (words.said new) → StoreGiven store held (λ f g. f ≡ f) (SaysBefore l k) w v)
     → ((k : ℕ) → AsksListed l (k + 1) (words.asked old) (words.asked new) → EachDialed (Asks (times_listed l (k + 1)) (λ id. 0)) (store ∷ []) w.dial.ended v.dial.ended)

@@ -15,7 +15,7 @@ use Rattle.command_steps.proofs.Given.{given_earlier, stands_there, store_rises,
 use Rattle.command_steps.proofs.Numbers.{counted_known, counted_le, given_rose}
 use Rattle.command_steps.proofs.Opened.{given_back}
 use Rattle.command_steps.specs.AnyStores.{IsGiven, source_faults, source_files, location_in, place_in, said_in}
-use Rattle.command_steps.specs.Sources.{DialsStores, Sources, StoreRose, said_at, sources}
+use Rattle.command_steps.specs.Sources.{DialsStores, Storage, StoreRose, said_at, storage}
 use Rattle.command_steps.specs.Stores.{is_folder}
 use Rattle.command_steps.specs.TakenStores.{SourceTaken, given_to}
 use Rattle.command_worlds.specs.Worlds.{Adds, FileRose, Reads}
@@ -62,11 +62,11 @@ server_stays (locations.Http host port prefix) files folders t = refl
 pub folders_back : (d b e : Disk) (store : Location) (files : Option (Map (List ℕ))) → Reads d b → e.folders ≡ given_to store files b.folders → e.folders ≡ given_to store files d.folders
 folders_back d b e store files read is = is ∙ ap (given_to store files) read.folders
 
-pub wrote : (d b e : Disk) (k j : DialState) (store : Location) (files : Option (Map (List ℕ))) → Reads d b → e.folders ≡ given_to store files b.folders → Adds b e → DialsStores (store ∷ []) k j → WritesStore store (sources d k) (sources e j)
+pub wrote : (d b e : Disk) (k j : DialState) (store : Location) (files : Option (Map (List ℕ))) → Reads d b → e.folders ≡ given_to store files b.folders → Adds b e → DialsStores (store ∷ []) k j → WritesStore store (storage d k) (storage e j)
 wrote d b e k j store files read is adds dials = record { adds = read_adds d b e read adds; folders = λ t. is ∙ server_stays store files b.folders t ∙ read.folders; dials = dials }
 
-pub given_since : {L D K : Type 0} (place : L → List ℕ) (faults : L → ℕ) (state : D → DialState) (d b e : Disk) (k j : DialState) (store : Location) (s : AnyStore L D K) → Reads d b → DialsStores (store ∷ []) k j → IsGiven place faults state (sources b k) (sources e j) s → IsGiven place faults state (sources d k) (sources e j) s
-given_since place faults state d b e k j store s read dials given = given_earlier place faults state (sources d k) (sources b k) (sources e j) read.folder_counts (dials_none k) dials.0 s given
+pub given_since : {L D K : Type 0} (place : L → List ℕ) (faults : L → ℕ) (state : D → DialState) (d b e : Disk) (k j : DialState) (store : Location) (s : AnyStore L D K) → Reads d b → DialsStores (store ∷ []) k j → IsGiven place faults state (storage b k) (storage e j) s → IsGiven place faults state (storage d k) (storage e j) s
+given_since place faults state d b e k j store s read dials given = given_earlier place faults state (storage d k) (storage b k) (storage e j) read.folder_counts (dials_none k) dials.0 s given
 
 -- a fault of a view that had counted none is one of its name
 pub view_rose : (d e : Disk) (q : List ℕ) (m n : ℕ) → count_at e.file_counts q ≡ raised (count_at d.file_counts q) n → m ≡ 0 → Rose m n → FileRose d e q
@@ -89,7 +89,7 @@ same_there o None = tt
 same_there o (Some m) = refl
 
 module _ {L D K : Type 0} (files : L → Option (Map (List ℕ))) (place : L → List ℕ) (faults : L → ℕ) (state : D → DialState) where
-  store_back : (w v : Sources) (s : AnyStore L D K) (held : Option (Map (List ℕ))) (P : Map (List ℕ) → Map (List ℕ) → Type 0) (Q : Said → Type 0) → ((a b : Said) → ((id : List ℕ) → KeepsOf a b id) → Q a → Q b)
+  store_back : (w v : Storage) (s : AnyStore L D K) (held : Option (Map (List ℕ))) (P : Map (List ℕ) → Map (List ℕ) → Type 0) (Q : Said → Type 0) → ((a b : Said) → ((id : List ℕ) → KeepsOf a b id) → Q a → Q b)
       → v.disk.folders ≡ given_to (location_in place s) (source_files files s) w.disk.folders → IsGiven place faults state w v s → is_some (option_map chunks (source_files files s)) ≡ is_some (option_map chunks held)
       → IfSome held (λ f. IfSome (source_files files s) (P f)) → Q (said_in files state s) → StoreGiven (location_in place s) held P Q w v
   store_back w v (stores.Folder l) held P Q grows is given tells stands says = go w.disk.folders held (files l) is tells stands where
@@ -103,7 +103,7 @@ module _ {L D K : Type 0} (files : L → Option (Map (List ℕ))) (place : L →
       let keeps = store_says {L = L} {D = D} {K = K} files place faults state w v (stores.Http r) (same_there (source_files {L = L} {D = D} {K = K} files (stores.Http r)) w.disk.folders) given in
       grows (said_in {L = L} {D = D} {K = K} files state (stores.Http r)) (said_at w v (location_in {L = L} {D = D} {K = K} place (stores.Http r))) keeps says
 
-  module _ (w v : Sources) (store : Location) (old new : AnyStore L D K) (same : place_in place new ≡ place_in place old) (located : location_in place old ≡ store) (folders : v.disk.folders ≡ given_to store (source_files files new) w.disk.folders)
+  module _ (w v : Storage) (store : Location) (old new : AnyStore L D K) (same : place_in place new ≡ place_in place old) (located : location_in place old ≡ store) (folders : v.disk.folders ≡ given_to store (source_files files new) w.disk.folders)
       (given : IsGiven place faults state w v new) where
     there : location_in place new ≡ store
     there = stands_there place old new same ∙ located

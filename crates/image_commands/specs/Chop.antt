@@ -8,7 +8,7 @@ use Rattle.command_outcome.specs.declared.outcome.Outcome.{Outcome}
 use Rattle.command_outcome.specs.declared.outcome.Outcome.TheVariants as ends
 use Rattle.command_steps.specs.Asking.{Asks, AsksOnly, EachDialed}
 use Rattle.command_steps.specs.InputFiles.{ImageOpened, IndexRead, IsListed}
-use Rattle.command_steps.specs.Sources.{OnSources, Sources, StoreRose, said_at}
+use Rattle.command_steps.specs.Sources.{OnStorage, Storage, StoreRose, said_at}
 use Rattle.command_steps.specs.Stores.{is_folder}
 use Rattle.command_worlds.specs.Steps.{◌>>=◌}
 use Rattle.command_steps.specs.TakenStores.{SourceTaken}
@@ -40,10 +40,10 @@ HasLength l told = IfSome told (λ t. length t ≡ image_length l)
 module _ (l : Listing) (image : List ℕ) (told : Option (List ℕ)) (store : Location) (held : Option (Map (List ℕ))) where
   -- the store was given back after chopping that ended so. Of each entry that was seen to, a server has taken or shown
   -- bytes of the listed name
-  abbrev pub ChopGiven : Result Unit ChopFault → Sources → Sources → Type 0
+  abbrev pub ChopGiven : Result Unit ChopFault → Storage → Storage → Type 0
   ChopGiven r w v = StoreGiven store held (ChoppedTo l told r) (SaysAll l (seen_to l r)) w v
 
-  abbrev pub NotChopped : Sources → Sources → Outcome → Type 0
+  abbrev pub NotChopped : Storage → Storage → Outcome → Type 0
   NotChopped w v (ends.Length n) =
       (n ≢ image_length l) × IfSome told (λ t. n ≡ length t) × StoreGiven store held (λ f g. g ≡ f) AnySaid w v
   NotChopped w v (ends.Mismatch k got) = HasLength l told × IsMismatch l told (faults.Mismatch k got)
@@ -57,19 +57,19 @@ module _ (l : Listing) (image : List ℕ) (told : Option (List ℕ)) (store : Lo
 
   -- a server is asked for the chunk of an id at most once for each entry that lists it, and never whether it has one;
   -- and it is sent nothing but fronts of requests that get or put listed chunks
-  abbrev pub GetsEntries : Sources → Sources → Type 0
+  abbrev pub GetsEntries : Storage → Storage → Type 0
   GetsEntries w v = EachDialed (AsksOnly (times_listed l (count_of l)) (λ id. 0) (KeepsListed l)) (store ∷ [])
       w.dial.ended v.dial.ended
 
   -- chopping into a server ended at this entry: those before it are right, and of their chunks the server has taken or
   -- shown bytes of the listed names; it was asked for these and for that of the entry alone
-  pub record StopsAtServer (w v : Sources) : Type 0 where
+  pub record StopsAtServer (w v : Storage) : Type 0 where
     pub entry : ℕ
     pub right : AreRightTo l entry told
     pub says : SaysBefore l entry (said_at w v store)
     pub gets : EachDialed (Asks (times_listed l (entry + 1)) (λ id. 0)) (store ∷ []) w.dial.ended v.dial.ended
 
-  abbrev pub ImageChopped : Step Sources Unit
+  abbrev pub ImageChopped : Step Storage Unit
   ImageChopped w (Ok u) v = IfSome told (λ t. IsRight t l) × ChopGiven (Ok u) w v × WritesStore store w v
       × GetsEntries w v
   ImageChopped w (Err o) v = NotChopped w v o × WritesStore store w v × GetsEntries w v
@@ -91,7 +91,7 @@ ChopEnds store index image = do
   l ← OnDisk (IndexRead index)
   told ← OnDisk (ImageOpened image)
   held ← OnDisk (SourceTaken store)
-  OnSources (ImageChopped l image told store held)
+  OnStorage (ImageChopped l image told store held)
 
 -- INDEX is the index file of this index, and IMAGE the image that it lists
 pub record IsChopped (files : Map (List ℕ)) (index image : List ℕ) (l : Listing) : Type 0 where

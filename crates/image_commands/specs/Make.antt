@@ -13,7 +13,7 @@ use Rattle.command_outcome.specs.declared.outcome.Outcome.{Outcome}
 use Rattle.command_outcome.specs.declared.outcome.Outcome.TheVariants as ends
 use Rattle.command_steps.specs.Asking.{AsksOnly, EachDialed}
 use Rattle.command_steps.specs.InputFiles.{ImageOpened}
-use Rattle.command_steps.specs.Sources.{DialsStores, OnSources, Sources, StoreRose, said_at}
+use Rattle.command_steps.specs.Sources.{DialsStores, OnStorage, Storage, StoreRose, said_at}
 use Rattle.command_worlds.specs.Steps.{◌>>=◌}
 use Rattle.command_steps.specs.Stores.{is_folder}
 use Rattle.command_steps.specs.TakenStores.{SourceTaken}
@@ -49,7 +49,7 @@ FolderGivenBack d e q held P =
 
 -- so it was with the folder of a store. Where it is a server, Q is so of what that has said since
 abbrev pub StoreGiven : Location → Option (Map (List ℕ)) → (Map (List ℕ) → Map (List ℕ) → Type 0) → (Said → Type 0)
-    → Sources → Sources → Type 0
+    → Storage → Storage → Type 0
 StoreGiven (locations.Folder q) held P Q w v = FolderGivenBack w.disk v.disk q held P
 StoreGiven (locations.Http host port prefix) held P Q w v = Q (said_at w v (locations.Http host port prefix))
 
@@ -59,7 +59,7 @@ AnySaid said = Unit {0}
 
 -- what a step leaves that writes a store: files stay, and no number falls. Where it is a server, folders stay too;
 -- where it is a folder, no server was asked
-pub record WritesStore (store : Location) (w v : Sources) : Type 0 where
+pub record WritesStore (store : Location) (w v : Storage) : Type 0 where
   pub adds : Adds w.disk v.disk
   pub folders : IsTrue (not (is_folder store)) → v.disk.folders ≡ w.disk.folders
   pub dials : DialsStores (store ∷ []) w.dial v.dial
@@ -81,13 +81,13 @@ once_listed l id = min 1 (times_listed l (count_of l) id)
 -- a server is asked for the chunk of an id at most once, and only if the image's index lists it; and never whether it
 -- has one. Each connection sent a front of such a request, or of one that puts, under a listed id, bytes that have this
 -- digest
-abbrev pub GetsImage : Sizes → Option (List ℕ) → Location → Sources → Sources → Type 0
+abbrev pub GetsImage : Sizes → Option (List ℕ) → Location → Storage → Storage → Type 0
 GetsImage s told store w v = EachDialed (AsksOnly (λ id. 0) (λ id. 0) (λ a. ⊥)) (store ∷ []) w.dial.ended v.dial.ended
     ⊎ ((l : Listing) × Lists s told l
     × EachDialed (AsksOnly (once_listed l) (λ id. 0) (KeepsListed l)) (store ∷ []) w.dial.ended v.dial.ended)
 
 module _ (s : Sizes) (image : List ℕ) (told : Option (List ℕ)) (store : Location) (held : Option (Map (List ℕ))) where
-  abbrev pub NotStored : Sources → Sources → Outcome → Type 0
+  abbrev pub NotStored : Storage → Storage → Outcome → Type 0
   NotStored w v ends.TooManyItems = IfSome told (λ t. HasTooManyCuts s t)
       × StoreGiven store held (λ f g. (g ≡ f) × MadeOf s told (Err faults.TooManyItems) f g) AnySaid w v
   NotStored w v ends.ImageFault = FileRose w.disk v.disk image
@@ -99,7 +99,7 @@ module _ (s : Sizes) (image : List ℕ) (told : Option (List ℕ)) (store : Loca
   NotStored w v ends.Memory = StoreGiven store held (MadeOf s told (Err faults.Memory)) AnySaid w v
   NotStored w v other = ⊥
 
-  abbrev pub ImageStored : Step Sources (List ℕ)
+  abbrev pub ImageStored : Step Storage (List ℕ)
   ImageStored w (Ok bytes) v = HasFewCuts s told
       × StoreGiven store held (MadeOf s told (Ok bytes)) (SaysOf s told bytes) w v × WritesStore store w v
       × GetsImage s told store w v
@@ -123,7 +123,7 @@ MakeEnds store sizes index image = do
   s ← Pure (SizesJudged sizes)
   told ← OnDisk (ImageOpened image)
   held ← OnDisk (SourceTaken store)
-  bytes ← OnSources (ImageStored s image told store held)
+  bytes ← OnStorage (ImageStored s image told store held)
   OnDisk (IndexWritten index bytes)
 
 -- INDEX holds the index file of this index, which is that of the image that IMAGE held
@@ -146,7 +146,7 @@ pub record FolderHas (folders folders_after : Map (Map (List ℕ))) (folder : Li
   pub others : (id : List ℕ) → ((i : ℕ) → i < count_of l → id_of l i ≢ id) → chunks now id ≡ chunks held id
 
 -- so it is with the folder of a store. A server has taken or shown, under each listed id, bytes of that name
-abbrev pub StoreHas : Sources → Sources → Location → Listing → Type 0
+abbrev pub StoreHas : Storage → Storage → Location → Listing → Type 0
 StoreHas w v (locations.Folder q) l = IfSome w.disk.folders (λ f. IfSome v.disk.folders (λ g. FolderHas f g q l))
 StoreHas w v (locations.Http host port prefix) l =
     SaysAll l (count_of l) (said_at w v (locations.Http host port prefix))

@@ -2,7 +2,7 @@
 
 ghost use Rattle.std.specs.Prelude.{◌≡◌, IsSome};
 ghost use Rattle.command_steps.specs.AnyStores.{IsKnown, IsUnused, source_faults, source_files, location_in};
-ghost use Rattle.command_steps.specs.Sources.{sources};
+ghost use Rattle.command_steps.specs.Sources.{storage};
 ghost use Rattle.command_worlds.specs.Worlds.{world};
 ghost use Rattle.image_commands.specs.Chop.{ChopEnds, ImageChopped, answer_of_chop};
 ghost use Rattle.dsy_base.specs.Disk.{Output};
@@ -52,8 +52,8 @@ fn chop_between<F: Files, D: Dial>(
     requires unused { IsUnused D.state taken }
     requires fresh { (F.View.faults view ≡ 0) × (source_faults F.Folder.faults D.state taken ≡ 0) }
     ensures { ImageChopped index.now (F.View.held view).name (F.View.held view).bytes store.now
-        (source_files F.Folder.files taken) (sources (F.disk files.old) (D.state dial.old)) result
-        (sources (F.disk files.new) (D.state dial.new)) }
+        (source_files F.Folder.files taken) (storage (F.disk files.old) (D.state dial.old)) result
+        (storage (F.disk files.new) (D.state dial.new)) }
 {
     let chopped = chop(alloc, index, &mut view, &mut taken);
     give_with_image(files, dial, view, store, taken);

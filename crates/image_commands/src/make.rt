@@ -6,7 +6,7 @@ ghost use Rattle.std.specs.Map.{count_at};
 ghost use Rattle.buzhash_cut.specs.Image.{AreOfOneImage};
 ghost use Rattle.command_steps.specs.AnyStores.{IsGiven, IsKnown, IsUnused, source_faults, source_files, location_in};
 ghost use Rattle.command_steps.specs.AnyStores.{with_those};
-ghost use Rattle.command_steps.specs.Sources.{sources};
+ghost use Rattle.command_steps.specs.Sources.{storage};
 ghost use Rattle.command_steps.specs.TakenStores.{SourceTaken, given_to};
 ghost use Rattle.image_commands.specs.Views.{AreOf, IfFirst};
 ghost use Rattle.command_worlds.specs.Worlds.{Adds, world};
@@ -102,11 +102,11 @@ fn give_store<F: Files, D: Dial>(
     requires located { location_in F.Folder.place taken ≡ store.now }
     ensures folders { (F.disk files.new).folders
         ≡ given_to store.now (source_files F.Folder.files taken) (F.disk files.old).folders }
-    ensures kept { WritesStore store.now (sources (F.disk files.old) (D.state dial.old))
-        (sources (F.disk files.new) (D.state dial.new)) }
+    ensures kept { WritesStore store.now (storage (F.disk files.old) (D.state dial.old))
+        (storage (F.disk files.new) (D.state dial.new)) }
     ensures ended { (D.state dial.new).ended ≡ with_those D.state (D.state dial.old).ended taken }
     ensures given { IsGiven F.Folder.place F.Folder.faults D.state
-        (sources (F.disk files.old) (D.state dial.old)) (sources (F.disk files.new) (D.state dial.new)) taken }
+        (storage (F.disk files.old) (D.state dial.old)) (storage (F.disk files.new) (D.state dial.new)) taken }
     ensures added { IfFirst (λ v.
         raised (count_at (F.disk files.old).file_counts (F.View.held v).name) (F.View.faults v)
         ≤ count_at (F.disk files.new).file_counts (F.View.held v).name) views.items }
@@ -168,11 +168,11 @@ where
     ensures ok { IfOk result (λ b. (q : List ℕ) (told : Option (List ℕ)) →
         AreOf q told (map F.View.held opened.views.items) →
         ImageStored sizes.now q told store.now (source_files F.Folder.files opened.taken)
-        (sources (F.disk files.old) (D.state dial.old)) (Ok b.items) (sources (F.disk files.new) (D.state dial.new))) }
+        (storage (F.disk files.old) (D.state dial.old)) (Ok b.items) (storage (F.disk files.new) (D.state dial.new))) }
     ensures err { IfErr result (λ o. (q : List ℕ) (told : Option (List ℕ)) →
         AreOf q told (map F.View.held opened.views.items) →
         ImageStored sizes.now q told store.now (source_files F.Folder.files opened.taken)
-        (sources (F.disk files.old) (D.state dial.old)) (Err o) (sources (F.disk files.new) (D.state dial.new))) }
+        (storage (F.disk files.old) (D.state dial.old)) (Err o) (storage (F.disk files.new) (D.state dial.new))) }
 {
     let Stored { views, taken } = opened;
     let (views, taken, stored) = store_image(

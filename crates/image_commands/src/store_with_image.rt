@@ -4,7 +4,7 @@ ghost use Rattle.std.specs.Prelude.{◌≡◌, Ok, Err, IfErr, IfOk, IsSome, OnO
 ghost use Rattle.std.specs.Map.{count_at};
 ghost use Rattle.command_steps.specs.AnyStores.{IsGiven, IsKnown, IsUnused, source_faults, source_files, location_in};
 ghost use Rattle.command_steps.specs.AnyStores.{with_those};
-ghost use Rattle.command_steps.specs.Sources.{sources};
+ghost use Rattle.command_steps.specs.Sources.{storage};
 ghost use Rattle.command_steps.specs.TakenStores.{SourceTaken, given_to};
 ghost use Rattle.command_worlds.specs.Worlds.{Adds};
 ghost use Rattle.image_commands.specs.Make.{WritesStore};
@@ -62,11 +62,11 @@ pub fn give_with_image<F: Files, D: Dial>(
     requires located { location_in F.Folder.place taken ≡ store.now }
     ensures folders { (F.disk files.new).folders
         ≡ given_to store.now (source_files F.Folder.files taken) (F.disk files.old).folders }
-    ensures kept { WritesStore store.now (sources (F.disk files.old) (D.state dial.old))
-        (sources (F.disk files.new) (D.state dial.new)) }
+    ensures kept { WritesStore store.now (storage (F.disk files.old) (D.state dial.old))
+        (storage (F.disk files.new) (D.state dial.new)) }
     ensures ended { (D.state dial.new).ended ≡ with_those D.state (D.state dial.old).ended taken }
     ensures given { IsGiven F.Folder.place F.Folder.faults D.state
-        (sources (F.disk files.old) (D.state dial.old)) (sources (F.disk files.new) (D.state dial.new)) taken }
+        (storage (F.disk files.old) (D.state dial.old)) (storage (F.disk files.new) (D.state dial.new)) taken }
     ensures added { count_at (F.disk files.new).file_counts (F.View.held view).name
         ≡ raised (count_at (F.disk files.old).file_counts (F.View.held view).name) (F.View.faults view) }
 {

@@ -19,7 +19,7 @@ use Rattle.range_ledger.proofs.Surveys.{slice_base}
 use Rattle.owned_shards.proofs.Wholes.{extent_rises, first_of_all, past_all, told, told_is}
 use Rattle.range_ledger.specs.Extents.{IsValidExtent}
 use Rattle.range_ledger.specs.Runs.{Has, HasZerosFrom, HaveFailed, IsDealt, IsDealtShard, IsKept, IsOneOf, Run, Seen, base_in, extent_of, first_in, has_settled, slice_at}
-use Rattle.owned_shards.specs.Wholes.{AreShards, Begun, IsTold, ShardsWith, base_extent, base_told, bytes_of, extents_below, fates_of, faults_of}
+use Rattle.owned_shards.specs.Wholes.{AreShards, Begun, IsTold, ShardsWith, base_extent, base_told, joined_bytes, extents_below, fates_of, joined_faults}
 use Rattle.range_survey.specs.Excuses.{Excuses}
 use Rattle.range_survey.specs.Fates.{FirstFates, OpenWrong, is_settled, settled}
 use Rattle.range_survey.specs.Zeros.{ZerosFrom}
@@ -66,7 +66,7 @@ all_first r k (s ∷ ss) is n = first_on s.fates (fates_of ss) is.1.0.first (all
 -- ---- the bytes
 
 bytes_from : (r : Run) → r.tells ≡ true → (some : 0 < count_of r.listing → 0 < r.shards) → (k : ℕ) (ss : List Seen) → ShardsWith (Begun r) r k ss
-    → (bytes_of ss ≡ slice_range r.base (start_of r.listing (first_in r k)) (image_length r.listing)) × (start_of r.listing (first_in r k) ≤ image_length r.listing)
+    → (joined_bytes ss ≡ slice_range r.base (start_of r.listing (first_in r k)) (image_length r.listing)) × (start_of r.listing (first_in r k) ≤ image_length r.listing)
 bytes_from r tells some k [] is =
     let last : start_of r.listing (first_in r k) ≡ image_length r.listing = ap (start_of r.listing) (ap (first_in r) is ∙ past_all r some) in
     let nothing : image_length r.listing - start_of r.listing (first_in r k) ≡ 0 = omega (arith, last) in
@@ -77,13 +77,13 @@ bytes_from r tells some k (s ∷ ss) is =
     let here : told s ≡ base_in r k = subst (λ o. IfSome o (λ t. t ≡ base_in r s.number)) (told_is s.held.bytes (b.told.tells ∙ tells)) (b.base tells) ∙ ap (base_in r) is.0 in
     let rises : start_of r.listing (first_in r k) ≤ start_of r.listing (first_in r (k + 1)) =
     extent_rises r k (subst (λ n. IsValidExtent (extent_of r n)) is.0 b.told.kept.dealt.valid) in (
-      ap (λ t. t ++ bytes_of ss) here ∙ (ap (λ t. base_in r k ++ t) rest.0
+      ap (λ t. t ++ joined_bytes ss) here ∙ (ap (λ t. base_in r k ++ t) rest.0
           ∙ range_on r.base (start_of r.listing (first_in r k)) (start_of r.listing (first_in r (k + 1))) (image_length r.listing) rises rest.1),
       omega (arith, rises, rest.1),
     )
 
 pub all_base : (r : Run) → r.tells ≡ true → (0 < count_of r.listing → 0 < r.shards) → (ss : List Seen) → ShardsWith (Begun r) r 0 ss
-    → length r.base ≡ image_length r.listing → bytes_of ss ≡ r.base
+    → length r.base ≡ image_length r.listing → joined_bytes ss ≡ r.base
 all_base r tells some ss is long =
     let none : start_of r.listing (first_in r 0) ≡ 0 = ap (start_of r.listing) (first_of_all r) in
     let whole : image_length r.listing - 0 ≡ image_length r.listing = omega arith in
@@ -98,7 +98,7 @@ one_contained (f ∷ fs) e (inr rest) = Contains-append_right (f ∷ []) fs e (o
 
 record Missed (r : Run) (k : ℕ) (ss : List Seen) : Type 0 where
   pub failed : List ℕ
-  pub few : HaveFailed failed (faults_of ss)
+  pub few : HaveFailed failed (joined_faults ss)
   pub missed : (e : ℕ) → first_in r k ≤ e → e < count_of r.listing → settled (fates_of ss) (e - first_in r k) ≡ false → IsRightAt r.base r.listing e → Contains failed e
 
 few_on : (xs ys : List ℕ) (a b : ℕ) → HaveFailed xs a → HaveFailed ys b → HaveFailed (xs ++ ys) (a + b)
@@ -109,7 +109,7 @@ few_on xs ys a b (inl few) (inr full) = inr (omega (arith, full))
 missed_on : (r : Run) → r.tells ≡ true → (k : ℕ) (s : Seen) (ss : List Seen) → s.number ≡ k → IsTold r s → Missed r (k + 1) ss → Missed r k (s ∷ ss)
 missed_on r tells k s ss number good rest = record {
   failed = kept.failed ++ rest.failed;
-  few = subst (HaveFailed (kept.failed ++ rest.failed)) (sym (sum_by-cons (λ (s : Seen). s.faults) s ss)) (few_on kept.failed rest.failed s.faults (faults_of ss) kept.few rest.few);
+  few = subst (HaveFailed (kept.failed ++ rest.failed)) (sym (sum_by-cons (λ (s : Seen). s.faults) s ss)) (few_on kept.failed rest.failed s.faults (joined_faults ss) kept.few rest.few);
   missed = λ e from lt wasnt right. elim (cases_lt e (first_in r (k + 1))) [
     | inl below ↦
         let inside : e - first_in r k < length s.fates = omega (arith, below, from, count) in
@@ -146,12 +146,12 @@ excused xs old faults (inl few) = elim (cases_lt (old + faults) (2 ^ 64 - 1)) [ 
 excused xs old faults (inr full) = inr (omega (arith, full))
 
 pub all_missed : (r : Run) → r.tells ≡ true → (0 < count_of r.listing → 0 < r.shards) → (ss : List Seen) → AreShards r 0 ss → (old : ℕ)
-    → OpenWrong r.listing r.base (fates_of ss) old (raised old (faults_of ss)) (count_of r.listing)
+    → OpenWrong r.listing r.base (fates_of ss) old (raised old (joined_faults ss)) (count_of r.listing)
 all_missed r tells some ss is old =
     let all = missed_from r tells some 0 ss is in
     record {
       failed = all.failed;
-      excused = excused all.failed old (faults_of ss) all.few;
+      excused = excused all.failed old (joined_faults ss) all.few;
       missed = λ e lt wasnt right.
           let place : e - first_in r 0 ≡ e = omega (arith, first_of_all r) in
           all.missed e (omega (arith, first_of_all r)) lt (ap (settled (fates_of ss)) place ∙ wasnt) right;
@@ -278,8 +278,8 @@ pub base_size : (r : Run) (o : Option (List ℕ)) (n : ℕ) (tells : Bool) → r
 base_size r None n tells same is base told = absurd (true≢false (sym told ∙ (same ∙ sym is)))
 base_size r (Some b) n tells same is base told = ap length base ∙ length_resized b n
 
-pub joined_base : (r : Run) (ss : List Seen) (tells : Bool) → r.tells ≡ tells → (r.tells ≡ true → bytes_of ss ≡ r.base)
-    → (if tells then Some (bytes_of ss) else None) ≡ base_told r
+pub joined_base : (r : Run) (ss : List Seen) (tells : Bool) → r.tells ≡ tells → (r.tells ≡ true → joined_bytes ss ≡ r.base)
+    → (if tells then Some (joined_bytes ss) else None) ≡ base_told r
 joined_base r ss false same all = sym (ap (if_told r.base) same)
 joined_base r ss true same all = ap Some (all same) ∙ sym (ap (if_told r.base) same)
 
@@ -301,8 +301,8 @@ shards_rise r l d dealt rules n lt =
     let valid = valid_shard r n rules lt in
     omega (arith, rules.rises (first_in r n) (omega (arith, more, valid.within)), last_above (extent_of r n) valid (first_in r n) more)
 
-pub missed_told : (r : Run) (ss : List Seen) (tells : Bool) → r.tells ≡ tells → (r.tells ≡ true → bytes_of ss ≡ r.base) → (0 < count_of r.listing → 0 < r.shards) → AreShards r 0 ss
-    → (old : ℕ) → IfSome (if tells then Some (bytes_of ss) else None) (λ t. OpenWrong r.listing t (fates_of ss) old (raised old (faults_of ss)) (count_of r.listing))
+pub missed_told : (r : Run) (ss : List Seen) (tells : Bool) → r.tells ≡ tells → (r.tells ≡ true → joined_bytes ss ≡ r.base) → (0 < count_of r.listing → 0 < r.shards) → AreShards r 0 ss
+    → (old : ℕ) → IfSome (if tells then Some (joined_bytes ss) else None) (λ t. OpenWrong r.listing t (fates_of ss) old (raised old (joined_faults ss)) (count_of r.listing))
 missed_told r ss false same all some are old = tt
 missed_told r ss true same all some are old =
-    subst (λ t. OpenWrong r.listing t (fates_of ss) old (raised old (faults_of ss)) (count_of r.listing)) (sym (all same)) (all_missed r same some ss are old)
+    subst (λ t. OpenWrong r.listing t (fates_of ss) old (raised old (joined_faults ss)) (count_of r.listing)) (sym (all same)) (all_missed r same some ss are old)

@@ -16,7 +16,7 @@ use Rattle.owned_shards.proofs.Writes.{fills_none, grows_none, grows_set, told_t
 use Rattle.range_ledger.specs.Extents.{begin_in}
 use Rattle.range_ledger.specs.Fills.{Fills, FillsTorn, Grows, WhereTold}
 use Rattle.range_ledger.specs.Runs.{Has, IsDealt, IsKept, Run, Seen, extent_of, first_in, has_settled, slice_at}
-use Rattle.owned_shards.specs.Wholes.{AreShards, IsTold, IsWhole, Whole, bytes_of, faults_of, whole_of}
+use Rattle.owned_shards.specs.Wholes.{AreShards, IsTold, IsWhole, Whole, joined_bytes, joined_faults, whole_of}
 use Rattle.range_survey.specs.Fates.{SettledRight, fate_at, is_made, is_settled, settled}
 use Rattle.range_survey.specs.declared.fate.Fate.{Fate}
 use Rattle.range_survey.specs.declared.fate.Fate.TheVariants as fate
@@ -38,7 +38,7 @@ module _ (r : Run) (left : Left) (tells : Bool) (ss : List Seen) (is : IsWhole r
   -- where the bytes are told they are as many as the image has
   pub sized : IfSome all.held.bytes (λ t. length t ≡ all.held.size)
   sized = go tells is.tells where
-    go : (b : Bool) → r.tells ≡ b → IfSome (if b then Some (bytes_of ss) else None) (λ t. length t ≡ left.size)
+    go : (b : Bool) → r.tells ≡ b → IfSome (if b then Some (joined_bytes ss) else None) (λ t. length t ≡ left.size)
     go false told = tt
     go true told = all_bytes r ss is.shards is.some told ∙ sym is.size
 
@@ -47,7 +47,7 @@ module _ (r : Run) (left : Left) (tells : Bool) (ss : List Seen) (is : IsWhole r
 
   pub right : IfSome all.held.bytes (λ t. SettledRight r.listing t all.fates (count_of r.listing))
   right = go tells is.tells where
-    go : (b : Bool) → r.tells ≡ b → IfSome (if b then Some (bytes_of ss) else None) (λ t. SettledRight r.listing t all.fates (count_of r.listing))
+    go : (b : Bool) → r.tells ≡ b → IfSome (if b then Some (joined_bytes ss) else None) (λ t. SettledRight r.listing t all.fates (count_of r.listing))
     go false told = tt
     go true told = λ e lt is_set.
         let at = shard_with r ss is.shards is.some e lt in
@@ -78,20 +78,20 @@ module _ (r : Run) (left : Left) (tells : Bool) (ss : List Seen) (is : IsWhole r
     same_fates fates = fates_kept r ss is.shards i lt s here e has new fates
 
     -- the counts of the others
-    summed : (faults_of (set ss i new) + s.faults ≡ faults_of ss + new.faults)
-    summed = subst (λ v. faults_of (set ss i new) + v.faults ≡ faults_of ss + new.faults) (sym here) (sum_by-set (λ (s : Seen). s.faults) ss i new s lt)
+    summed : (joined_faults (set ss i new) + s.faults ≡ joined_faults ss + new.faults)
+    summed = subst (λ v. joined_faults (set ss i new) + v.faults ≡ joined_faults ss + new.faults) (sym here) (sum_by-set (λ (s : Seen). s.faults) ss i new s lt)
 
     others : ℕ
-    others = faults_of ss - s.faults
+    others = joined_faults ss - s.faults
 
-    among : s.faults ≤ faults_of ss
-    among = subst (λ (v : Seen). v.faults ≤ faults_of ss) (sym here) (get_or-le-sum_by (λ (s : Seen). s.faults) ss i s lt)
+    among : s.faults ≤ joined_faults ss
+    among = subst (λ (v : Seen). v.faults ≤ joined_faults ss) (sym here) (get_or-le-sum_by (λ (s : Seen). s.faults) ss i s lt)
 
-    before_sum : faults_of ss ≡ others + s.faults
+    before_sum : joined_faults ss ≡ others + s.faults
     unfolding others
     before_sum = omega (arith, among)
 
-    after_sum : faults_of (set ss i new) ≡ others + new.faults
+    after_sum : joined_faults (set ss i new) ≡ others + new.faults
     unfolding others
     after_sum = omega (arith, among, summed)
 
@@ -108,7 +108,7 @@ module _ (r : Run) (left : Left) (tells : Bool) (ss : List Seen) (is : IsWhole r
 
     pub read_as : (out : List ℕ) → IfSome s.held.bytes (λ t. out ≡ slice_at r s t e) → IfSome all.held.bytes (λ t. out ≡ slice_of r.listing t e)
     read_as out read = go tells is.tells where
-      go : (b : Bool) → r.tells ≡ b → IfSome (if b then Some (bytes_of ss) else None) (λ t. out ≡ slice_of r.listing t e)
+      go : (b : Bool) → r.tells ≡ b → IfSome (if b then Some (joined_bytes ss) else None) (λ t. out ≡ slice_of r.listing t e)
       go false told = tt
       go true told =
           let good = told_at r ss is.shards i lt s here in
@@ -118,7 +118,7 @@ module _ (r : Run) (left : Left) (tells : Bool) (ss : List Seen) (is : IsWhole r
     pub held_put : (y : List ℕ) → length y ≡ size_of r.listing e → new.held ≡ held_written s.held (begin_in (extent_of r s.number) e) y
         → then_all.held ≡ held_written all.held (start_of r.listing e) y
     held_put y size written = go tells is.tells where
-      go : (b : Bool) → r.tells ≡ b → held_joined left b (bytes_of (set ss i new)) ≡ held_written (held_joined left b (bytes_of ss)) (start_of r.listing e) y
+      go : (b : Bool) → r.tells ≡ b → held_joined left b (joined_bytes (set ss i new)) ≡ held_written (held_joined left b (joined_bytes ss)) (start_of r.listing e) y
       go false told = refl
       go true told = ap (held_joined left true) (bytes_written r ss is.shards i lt s here e has told new y size written)
 

@@ -14,7 +14,7 @@ use Rattle.range_ledger.proofs.Laid.{inside as inside_it}
 use Rattle.owned_shards.proofs.Pieces.{around, around_set, flat_map-map, get_within, set_within, slice_within, written_within}
 use Rattle.range_ledger.specs.Extents.{IsValidExtent, begin_in, end_in, length_in}
 use Rattle.range_ledger.specs.Runs.{Has, IsDealtShard, Run, Seen, extent_of, first_in, slice_at}
-use Rattle.owned_shards.specs.Wholes.{AreShards, IsTold, ShardsWith, bytes_of, fates_of, faults_of}
+use Rattle.owned_shards.specs.Wholes.{AreShards, IsTold, ShardsWith, joined_bytes, fates_of, joined_faults}
 use Rattle.range_survey.specs.Fates.{fate_at}
 use Rattle.range_survey.specs.declared.fate.Fate.{Fate}
 use Rattle.range_survey.specs.declared.fate.Fate.TheVariants as fate
@@ -95,7 +95,7 @@ told_is (Some t) is = refl
 
 -- how many bytes stand before those of the i-th shard
 pub bytes_before : (r : Run) → r.tells ≡ true → (k : ℕ) (ss : List Seen) (i : ℕ) → ShardsWith (IsTold r) r k ss → i ≤ length ss
-    → start_of r.listing (first_in r k) + length (bytes_of (take i ss)) ≡ start_of r.listing (first_in r (k + i))
+    → start_of r.listing (first_in r k) + length (joined_bytes (take i ss)) ≡ start_of r.listing (first_in r (k + i))
 bytes_before r tells k ss zero is le = let same : k + 0 ≡ k = omega arith in omega (arith, ap (λ n. start_of r.listing (first_in r n)) same)
 bytes_before r tells k [] (suc i) is le = absurd (omega (arith, le))
 bytes_before r tells k (s ∷ ss) (suc i) is le =
@@ -105,7 +105,7 @@ bytes_before r tells k (s ∷ ss) (suc i) is le =
     told_size s.held.bytes s.held.size (good.tells ∙ tells) good.sized ∙ (good.kept.dealt.size ∙ ap (λ n. length_in (extent_of r n)) is.0) in
     let rises = extent_rises r k (subst (λ n. IsValidExtent (extent_of r n)) is.0 good.kept.dealt.valid) in
     let same : (k + 1) + i ≡ k + suc i = omega arith in
-    omega (arith, rest, long, rises, ap (λ n. start_of r.listing (first_in r n)) same, length-append (told s) (bytes_of (take i ss)))
+    omega (arith, rest, long, rises, ap (λ n. start_of r.listing (first_in r n)) same, length-append (told s) (joined_bytes (take i ss)))
 
 -- ---- an entry of the i-th shard, among all
 
@@ -168,12 +168,12 @@ module _ (r : Run) (ss : List Seen) (are : AreShards r 0 ss) (i : ℕ) (lt : i <
   fates_kept new is = around_set (λ (s : Seen). s.fates) ss i lt new
       ∙ (ap (λ m. front ++ (m ++ behind)) is ∙ sym (around_this (λ (s : Seen). s.fates)))
 
-  pub bytes_kept : (new : Seen) → new.held ≡ s.held → bytes_of (set ss i new) ≡ bytes_of ss
+  pub bytes_kept : (new : Seen) → new.held ≡ s.held → joined_bytes (set ss i new) ≡ joined_bytes ss
   bytes_kept new is = around_set told ss i lt new
-      ∙ (ap (λ (h : Held). bytes_of (take i ss) ++ (unwrap_or h.bytes [] ++ bytes_of (drop (i + 1) ss))) is ∙ sym (around_this told))
+      ∙ (ap (λ (h : Held). joined_bytes (take i ss) ++ (unwrap_or h.bytes [] ++ joined_bytes (drop (i + 1) ss))) is ∙ sym (around_this told))
 
   module _ (tells : r.tells ≡ true) where
-    before_it : length (bytes_of (take i ss)) ≡ start_of r.listing (first_in r s.number)
+    before_it : length (joined_bytes (take i ss)) ≡ start_of r.listing (first_in r s.number)
     before_it =
         let all = bytes_before r tells 0 ss i are (omega (arith, lt)) in
         let none : start_of r.listing (first_in r 0) ≡ 0 = ap (start_of r.listing) (first_of_all r) in
@@ -187,29 +187,29 @@ module _ (r : Run) (ss : List Seen) (are : AreShards r 0 ss) (i : ℕ) (lt : i <
     fits : begin_in (extent_of r s.number) e + size_of r.listing e ≤ length (told s)
     fits = omega (arith, inside_it (extent_of r s.number) dealt.valid e has, long)
 
-    starts : start_of r.listing e ≡ length (bytes_of (take i ss)) + begin_in (extent_of r s.number) e
+    starts : start_of r.listing e ≡ length (joined_bytes (take i ss)) + begin_in (extent_of r s.number) e
     starts = omega (arith, before_it, first_below (extent_of r s.number) dealt.valid e has.from has.to)
 
-    ends : end_of r.listing e ≡ length (bytes_of (take i ss)) + end_in (extent_of r s.number) e
+    ends : end_of r.listing e ≡ length (joined_bytes (take i ss)) + end_in (extent_of r s.number) e
     ends = omega (arith, starts, sized (extent_of r s.number) dealt.valid e has, dealt.valid.valid.rises e (omega (arith, has.to, dealt.valid.within)))
 
-    pub slice_in_whole : slice_of r.listing (bytes_of ss) e ≡ slice_at r s (told s) e
+    pub slice_in_whole : slice_of r.listing (joined_bytes ss) e ≡ slice_at r s (told s) e
     slice_in_whole =
         ap (λ t. slice_range t (start_of r.listing e) (end_of r.listing e)) (around_this told)
-        ∙ (ap (λ a. slice_range (bytes_of (take i ss) ++ (told s ++ bytes_of (drop (i + 1) ss))) a (end_of r.listing e)) starts
-        ∙ (ap (λ z. slice_range (bytes_of (take i ss) ++ (told s ++ bytes_of (drop (i + 1) ss))) (length (bytes_of (take i ss)) + begin_in (extent_of r s.number) e) z) ends
-        ∙ slice_within (bytes_of (take i ss)) (told s) (bytes_of (drop (i + 1) ss)) (begin_in (extent_of r s.number) e) (end_in (extent_of r s.number) e)
+        ∙ (ap (λ a. slice_range (joined_bytes (take i ss) ++ (told s ++ joined_bytes (drop (i + 1) ss))) a (end_of r.listing e)) starts
+        ∙ (ap (λ z. slice_range (joined_bytes (take i ss) ++ (told s ++ joined_bytes (drop (i + 1) ss))) (length (joined_bytes (take i ss)) + begin_in (extent_of r s.number) e) z) ends
+        ∙ slice_within (joined_bytes (take i ss)) (told s) (joined_bytes (drop (i + 1) ss)) (begin_in (extent_of r s.number) e) (end_in (extent_of r s.number) e)
         (omega (arith, sized (extent_of r s.number) dealt.valid e has)) (omega (arith, fits, sized (extent_of r s.number) dealt.valid e has))))
 
     pub bytes_written : (new : Seen) (y : List ℕ) → length y ≡ size_of r.listing e → new.held ≡ held_written s.held (begin_in (extent_of r s.number) e) y
-        → bytes_of (set ss i new) ≡ written (bytes_of ss) (start_of r.listing e) y
+        → joined_bytes (set ss i new) ≡ written (joined_bytes ss) (start_of r.listing e) y
     bytes_written new y size is =
         let here : told new ≡ written (told s) (begin_in (extent_of r s.number) e) y =
         ap (λ (h : Held). unwrap_or h.bytes []) is ∙ over s.held.bytes (at.1.tells ∙ tells) in
         around_set told ss i lt new
-        ∙ (ap (λ t. bytes_of (take i ss) ++ (t ++ bytes_of (drop (i + 1) ss))) here
-        ∙ (sym (written_within (bytes_of (take i ss)) (told s) (bytes_of (drop (i + 1) ss)) y (begin_in (extent_of r s.number) e) (omega (arith, fits, size)))
-        ∙ (ap (λ a. written (bytes_of (take i ss) ++ (told s ++ bytes_of (drop (i + 1) ss))) a y) (sym starts)
+        ∙ (ap (λ t. joined_bytes (take i ss) ++ (t ++ joined_bytes (drop (i + 1) ss))) here
+        ∙ (sym (written_within (joined_bytes (take i ss)) (told s) (joined_bytes (drop (i + 1) ss)) y (begin_in (extent_of r s.number) e) (omega (arith, fits, size)))
+        ∙ (ap (λ a. written (joined_bytes (take i ss) ++ (told s ++ joined_bytes (drop (i + 1) ss))) a y) (sym starts)
         ∙ ap (λ t. written t (start_of r.listing e) y) (sym (around_this told))))) where
           over : (o : Option (List ℕ)) → is_some o ≡ true
               → unwrap_or (held_written (record { bytes = o; size = s.held.size; name = s.held.name }) (begin_in (extent_of r s.number) e) y).bytes [] ≡ written (unwrap_or o []) (begin_in (extent_of r s.number) e) y
@@ -228,14 +228,14 @@ all_fates r ss are some =
     let last : first_in r (0 + length ss) ≡ count_of r.listing = ap (first_in r) (with_length r (IsTold r) 0 ss are) ∙ past_all r some in
     omega (arith, before, first_of_all r, last, ap (λ xs. length (fates_of xs)) whole)
 
-pub all_bytes : (r : Run) (ss : List Seen) → AreShards r 0 ss → (0 < count_of r.listing → 0 < r.shards) → r.tells ≡ true → length (bytes_of ss) ≡ image_length r.listing
+pub all_bytes : (r : Run) (ss : List Seen) → AreShards r 0 ss → (0 < count_of r.listing → 0 < r.shards) → r.tells ≡ true → length (joined_bytes ss) ≡ image_length r.listing
 all_bytes r ss are some tells =
     let before = bytes_before r tells 0 ss (length ss) are (omega arith) in
     let whole : take (length ss) ss ≡ ss = take_all (length ss) ss (omega arith) in
     let last : start_of r.listing (first_in r (0 + length ss)) ≡ image_length r.listing =
     ap (start_of r.listing) (ap (first_in r) (with_length r (IsTold r) 0 ss are) ∙ past_all r some) in
     let none : start_of r.listing (first_in r 0) ≡ 0 = ap (start_of r.listing) (first_of_all r) in
-    omega (arith, before, none, last, ap (λ xs. length (bytes_of xs)) whole)
+    omega (arith, before, none, last, ap (λ xs. length (joined_bytes xs)) whole)
 
 -- the shard that has an entry
 pub record ShardOf (r : Run) (ss : List Seen) (e : ℕ) : Type 0 where
@@ -298,9 +298,9 @@ module _ {P : Type 0} (held : P → Held) (faults : P → ℕ) (parts : List P) 
   pub parts_size : sum_by (λ p. (held p).size) parts ≡ sum_by (λ (s : Seen). s.held.size) ss
   parts_size = sym (sum_by-map (λ (h : Held). h.size) held parts) ∙ (ap (sum_by (λ (h : Held). h.size)) same ∙ sum_by-map (λ (h : Held). h.size) (λ (s : Seen). s.held) ss)
 
-  pub parts_bytes : joined held parts ≡ bytes_of ss
+  pub parts_bytes : joined held parts ≡ joined_bytes ss
   parts_bytes = sym (flat_map-map (λ (h : Held). unwrap_or h.bytes []) held parts)
       ∙ (ap (flat_map (λ (h : Held). unwrap_or h.bytes [])) same ∙ flat_map-map (λ (h : Held). unwrap_or h.bytes []) (λ (s : Seen). s.held) ss)
 
-  pub parts_faults : sum_by faults parts ≡ faults_of ss
+  pub parts_faults : sum_by faults parts ≡ joined_faults ss
   parts_faults = sym (sum-map faults parts) ∙ (ap sum same_faults ∙ sum-map (λ (s : Seen). s.faults) ss)

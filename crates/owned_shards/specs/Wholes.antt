@@ -24,19 +24,19 @@ abbrev pub fates_of : List Seen → List Fate
 fates_of ss = flat_map (λ s. s.fates) ss
 
 -- the bytes of these shards
-abbrev pub bytes_of : List Seen → List ℕ
-bytes_of ss = joined (λ (s : Seen). s.held) ss
+abbrev pub joined_bytes : List Seen → List ℕ
+joined_bytes ss = joined (λ (s : Seen). s.held) ss
 
 -- how often a call on one of them has failed
-abbrev pub faults_of : List Seen → ℕ
-faults_of ss = sum_by (λ s. s.faults) ss
+abbrev pub joined_faults : List Seen → ℕ
+joined_faults ss = sum_by (λ s. s.faults) ss
 
 -- the target of which this is left beside these shards
 abbrev pub whole_of : Left → Bool → List Seen → Whole
 whole_of left tells ss = record {
-  held = held_joined left tells (bytes_of ss);
+  held = held_joined left tells (joined_bytes ss);
   fates = fates_of ss;
-  faults = raised left.faults (faults_of ss);
+  faults = raised left.faults (joined_faults ss);
 }
 
 -- a shard of a run, whose part tells its bytes where the run says so
@@ -56,7 +56,7 @@ AreShards r k ss = ShardsWith (IsTold r) r k ss
 
 -- the run is over this index by this plan, and over a target that holds this once it has the image's length; each entry
 -- may be filled
-pub record IsOver (r : Run) (l : Listing) (d : Deal) (told : Bool) (old : Held) : Type 0 where
+pub record IsRunOver (r : Run) (l : Listing) (d : Deal) (told : Bool) (old : Held) : Type 0 where
   pub dealt : IsDealt r l d
   pub workers : 0 < d.workers
   pub cuts : AreShardEnds l (deal_shards d) d.cuts

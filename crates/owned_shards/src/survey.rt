@@ -7,7 +7,7 @@ ghost use Rattle.dsy_base.specs.Bytes.{held_resized};
 ghost use Rattle.dsy_base.specs.Counts.{Rose};
 ghost use Rattle.dsy_base.specs.Splits.{extent};
 ghost use Rattle.range_ledger.specs.Runs.{IsDealt, open_in};
-ghost use Rattle.owned_shards.specs.Wholes.{Begun, IsOver, ShardsWith, base_extent, extents_below, open_below};
+ghost use Rattle.owned_shards.specs.Wholes.{Begun, IsRunOver, ShardsWith, base_extent, extents_below, open_below};
 ghost use Rattle.range_survey.specs.Fates.{FirstFates, OpenWrong, SettledRight};
 ghost use Rattle.range_survey.specs.Zeros.{ZerosFrom};
 
@@ -163,7 +163,7 @@ pub fn survey_shards<'a, R: RunName, T: Target>(
     buf: &mut [u8],
 ) -> Result<Shards<'a, R, T>, (T, IoFault)>
     requires room { (i : ℕ) → i < count_of index.now → size_of index.now i ≤ length buf.old }
-    requires over { IsOver R.run index.now plan.now T.tells (T.held target) }
+    requires over { IsRunOver R.run index.now plan.now T.tells (T.held target) }
     ensures ok { IfOk result (λ s. s.held ≡ held_resized (T.held target) (image_length index.now)) }
     ensures first { IfOk result (λ s. FirstFates s.fates (count_of index.now)) }
     ensures yes { IfOk result (λ s. IfSome s.held.bytes (λ t. SettledRight index.now t s.fates (count_of index.now))) }

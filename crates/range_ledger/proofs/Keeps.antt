@@ -11,7 +11,7 @@ use Rattle.range_survey.specs.Fates.{is_settled}
 use Rattle.range_survey.specs.declared.fate.Fate.{Fate}
 use Rattle.range_survey.specs.declared.fate.Fate.TheVariants as fate
 use Rattle.range_ledger.proofs.Laid.{put_here, put_other}
-use Rattle.range_ledger.specs.Extents.{IsRightIn, begin_in, length_in, put_in}
+use Rattle.range_ledger.specs.Extents.{IsRightIn, begin_in, length_in, put_in_extent}
 use Rattle.range_ledger.specs.Runs.{Run, Seen, Has, HaveFailed, IsDealtShard, IsKept, IsOneOf, IsShard, MayFill, WasSurveyed, extent_of, first_in, has_settled}
 
 pub same_seen : (a b : Seen) → a.number ≡ b.number → a.fates ≡ b.fates → a.faults ≡ b.faults → a.held ≡ b.held → a ≡ b
@@ -90,12 +90,12 @@ module _ (r : Run) (s : Seen) (is : IsShard r s) where
     -- after its chunk was put into entry e
     put_kept : (f : Fate) → is_settled f ≡ true → (b : List ℕ) → MayFill r e b → IsTrue r.tells → (count : ℕ) → s.faults ≤ count → (held : Held) (t : List ℕ)
         → length t ≡ length_in (extent_of r s.number) → IsKept r s t
-        → IsKept r (settling r s e f count held) (put_in (extent_of r s.number) e b t)
+        → IsKept r (settling r s e f count held) (put_in_extent (extent_of r s.number) e b t)
     put_kept f is_set b may tells count le held t long k = record {
       failed = k.failed;
       few = more k.failed s.faults count le k.few;
       right = λ j at set. elim (cases_eq j e) [
-        | inl same ↦ subst (λ i. IsRightIn (extent_of r s.number) (put_in (extent_of r s.number) e b t) i) (sym same)
+        | inl same ↦ subst (λ i. IsRightIn (extent_of r s.number) (put_in_extent (extent_of r s.number) e b t) i) (sym same)
             (ap (name_of (kind_of r.listing)) (put_here (extent_of r s.number) is.dealt.valid e has b may.size t long) ∙ may.named tells)
         | inr differ ↦ ap (name_of (kind_of r.listing)) (put_other (extent_of r s.number) is.dealt.valid e has b may.size t long j at differ)
             ∙ k.right j at (sym (set_other f count held j at differ) ∙ set)
@@ -121,14 +121,14 @@ module _ (r : Run) (s : Seen) (is : IsShard r s) where
     put_keeps f is_set b held count may written le =
         subst (λ h. IsShard r (settling r s e f count h)) (sym written) (record {
           dealt = record { valid = is.dealt.valid; count = ap (λ n. first_in r s.number + n) (length-set s.fates (e - first_in r s.number) f) ∙ is.dealt.count; size = is.dealt.size };
-          kept = λ tells. through (IsKept r _) (put_in (extent_of r s.number) e b) s.held.bytes (is.kept tells)
+          kept = λ tells. through (IsKept r _) (put_in_extent (extent_of r s.number) e b) s.held.bytes (is.kept tells)
               (λ t there k. put_kept f is_set b may tells count le _ t (some_long t there) k);
         })
 
     -- after a write to entry e failed
     torn_kept : (y : List ℕ) → length y ≡ size_of r.listing e → has_settled r s e ≡ false → (count : ℕ) → Rose s.faults count → s.faults ≤ count
         → (held : Held) (t : List ℕ) → length t ≡ length_in (extent_of r s.number) → IsKept r s t
-        → IsKept r (called s count held) (put_in (extent_of r s.number) e y t)
+        → IsKept r (called s count held) (put_in_extent (extent_of r s.number) e y t)
     torn_kept y size unset count rose le held t long k = record {
       failed = e ∷ k.failed;
       few = one_more k.failed e s.faults count rose le k.few;
@@ -155,7 +155,7 @@ module _ (r : Run) (s : Seen) (is : IsShard r s) where
     torn_keeps y held count size unset written rose le =
         subst (λ h. IsShard r (called s count h)) (sym written) (record {
           dealt = record { valid = is.dealt.valid; count = is.dealt.count; size = is.dealt.size };
-          kept = λ tells. through (IsKept r _) (put_in (extent_of r s.number) e y) s.held.bytes (is.kept tells)
+          kept = λ tells. through (IsKept r _) (put_in_extent (extent_of r s.number) e y) s.held.bytes (is.kept tells)
               (λ t there k. torn_kept y size unset count rose le _ t (some_long t there) k);
         })
 

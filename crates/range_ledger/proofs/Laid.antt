@@ -3,7 +3,7 @@ use Rattle.std.proofs.Common.{◌≡◌, ℕ, ◌+◌, ◌<◌, ◌≤◌, List,
 use Rattle.std.proofs.lemmas.Bool.{cases_lt, cases_eq}
 use Rattle.caibx_codec.specs.Listing.{count_of, end_of, size_of, start_of}
 use Rattle.range_ledger.proofs.Slices.{slice_below, slice_above, slice_at, length_written}
-use Rattle.range_ledger.specs.Extents.{Extent, IsIn, IsValidExtent, begin_in, end_in, length_in, put_in, slice_in}
+use Rattle.range_ledger.specs.Extents.{Extent, IsIn, IsValidExtent, begin_in, end_in, length_in, put_in_extent, slice_in}
 
 module _ (x : Extent) (laid : IsValidExtent x) where
   -- the extent begins no later than each of its entries, and ends no earlier
@@ -36,13 +36,13 @@ module _ (x : Extent) (laid : IsValidExtent x) where
     ends : begin_in x i + length b ≡ end_in x i
     ends = omega (arith, sized i is, size)
 
-    pub put_size : length (put_in x i b t) ≡ length_in x
+    pub put_size : length (put_in_extent x i b t) ≡ length_in x
     put_size = length_written t b (begin_in x i) fits ∙ long
 
-    pub put_here : slice_in x (put_in x i b t) i ≡ b
-    put_here = subst (λ z. slice_range (put_in x i b t) (begin_in x i) z ≡ b) ends (slice_at t b (begin_in x i) (omega (arith, fits)))
+    pub put_here : slice_in x (put_in_extent x i b t) i ≡ b
+    put_here = subst (λ z. slice_range (put_in_extent x i b t) (begin_in x i) z ≡ b) ends (slice_at t b (begin_in x i) (omega (arith, fits)))
 
-    pub put_other : (j : ℕ) → IsIn x j → (j ≡ i → ⊥) → slice_in x (put_in x i b t) j ≡ slice_in x t j
+    pub put_other : (j : ℕ) → IsIn x j → (j ≡ i → ⊥) → slice_in x (put_in_extent x i b t) j ≡ slice_in x t j
     put_other j at differ = elim (cases_lt j i) [
       | inl before ↦ slice_below t b (begin_in x i) (begin_in x j) (end_in x j)
           (omega (arith, sized j at))

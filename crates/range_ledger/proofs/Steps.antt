@@ -11,7 +11,7 @@ use Rattle.range_survey.specs.declared.fate.Fate.{Fate}
 use Rattle.range_ledger.proofs.Keeps.{settling, set_here, set_other}
 use Rattle.range_ledger.proofs.Laid.{sized}
 use Rattle.range_ledger.proofs.Runs.{with_here, with_other}
-use Rattle.range_ledger.specs.Extents.{begin_in, end_in, put_in}
+use Rattle.range_ledger.specs.Extents.{begin_in, end_in, put_in_extent}
 use Rattle.range_ledger.specs.Machine.{Put, Read, Skip, Torn, with_entry}
 use Rattle.range_ledger.specs.Runs.{Run, Seen, Has, IsShard, MayFill, WhereTells, extent_of, first_in, has_settled, slice_at}
 use Rattle.range_ledger.specs.Steps.{Leads}
@@ -80,7 +80,7 @@ module _ (r : Run) (old : Seen) (is : IsShard r old) (e : ℕ) (has : Has r old 
         → WhereTells r old (settling r old e f faults held) (Leads r (Put e b ∷ []) old (settling r old e f faults held))
     put_leads f is_set b may faults held long written tells =
         subst (λ (h : Held). IfSome old.held.bytes (λ t. IfSome h.bytes (Leads r (Put e b ∷ []) old (settling r old e f faults h) t))) (sym written)
-        (written_told (put_in (extent_of r old.number) e b) old.held.bytes _ (λ t. record {
+        (written_told (put_in_extent (extent_of r old.number) e b) old.held.bytes _ (λ t. record {
           allowed = λ torn. ((has, unset, record { size = may.size; named = may.named tells }), tt);
           bytes = λ torn. refl;
           settled = λ torn i at. elim (cases_eq i e) [
@@ -95,7 +95,7 @@ module _ (r : Run) (old : Seen) (is : IsShard r old) (e : ℕ) (has : Has r old 
         → WhereTells r old new (λ t u. (x : List ℕ) × Leads r (Torn e x ∷ []) old new t u)
     torn_leads y size new number same written tells =
         subst (λ (h : Held). IfSome old.held.bytes (λ t. IfSome h.bytes (λ u. (x : List ℕ) × Leads r (Torn e x ∷ []) old new t u))) (sym written)
-        (written_told (put_in (extent_of r old.number) e y) old.held.bytes _ (λ t. (
+        (written_told (put_in_extent (extent_of r old.number) e y) old.held.bytes _ (λ t. (
           y,
           record {
             allowed = λ torn. ((has, unset, size), tt);

@@ -46,8 +46,8 @@ abbrev pub IsRightIn : Extent → List ℕ → ℕ → Type 0
 IsRightIn x t i = name_of (kind_of x.listing) (slice_in x t i) ≡ id_of x.listing i
 
 -- t with b written over the range of entry i
-abbrev pub put_in : Extent → ℕ → List ℕ → List ℕ → List ℕ
-put_in x i b t = written t (begin_in x i) b
+abbrev pub put_in_extent : Extent → ℕ → List ℕ → List ℕ → List ℕ
+put_in_extent x i b t = written t (begin_in x i) b
 
 -- b is the chunk of entry i
 pub record IsChunkOf (x : Extent) (i : ℕ) (b : List ℕ) : Type 0 where

@@ -2,7 +2,7 @@
 -- makes each.
 use Rattle.std.specs.Prelude.{◌≡◌, ℕ, ◌==◌, ◌||◌, Bool, true, false, List, [], ◌∷◌, ◌++◌, length}
 use Rattle.caibx_codec.specs.Listing.{Listing, Rules, size_of}
-use Rattle.range_ledger.specs.Extents.{Extent, IsChunkOf, IsIn, IsRightIn, length_in, put_in, slice_in, whole}
+use Rattle.range_ledger.specs.Extents.{Extent, IsChunkOf, IsIn, IsRightIn, length_in, put_in_extent, slice_in, whole}
 
 -- the bytes, the settled entries, and the entries to which a write failed
 pub record State : Type 0 where
@@ -43,9 +43,9 @@ Allowed x s (Torn i b) = IsIn x i × (s.settled i ≡ false) × (length b ≡ si
 abbrev pub after : Extent → State → Event → State
 after x s (Settle i) = record { bytes = s.bytes; settled = with_entry s.settled i; torn = s.torn }
 after x s (Read i reply) = s
-after x s (Put i b) = record { bytes = put_in x i b s.bytes; settled = with_entry s.settled i; torn = s.torn }
+after x s (Put i b) = record { bytes = put_in_extent x i b s.bytes; settled = with_entry s.settled i; torn = s.torn }
 after x s (Skip i) = s
-after x s (Torn i b) = record { bytes = put_in x i b s.bytes; settled = s.settled; torn = with_entry s.torn i }
+after x s (Torn i b) = record { bytes = put_in_extent x i b s.bytes; settled = s.settled; torn = with_entry s.torn i }
 
 -- each event is allowed where it comes
 abbrev pub IsRun : Extent → State → List Event → Type 0

@@ -9,10 +9,10 @@ abbrev pub Leads : Run → List Event → Seen → Seen → List ℕ → List �
 Leads r es old new t u = LeadsTo (extent_of r old.number) es t (has_settled r old) u (has_settled r new)
 
 -- putting a chunk into an entry: one Skip where it is settled, else one Put, or after a refusal one Torn
-abbrev pub Puts : {A : Type 0} → Run → ℕ → List ℕ → Bool → Result A Failed → Seen → Seen → List ℕ → List ℕ → Type 0
-Puts r e b true result old new t u = Leads r (Skip e ∷ []) old new t u
-Puts r e b false (Ok x) old new t u = Leads r (Put e b ∷ []) old new t u
-Puts r e b false (Err x) old new t u = (y : List ℕ) × Leads r (Torn e y ∷ []) old new t u
+abbrev pub PutLeads : {A : Type 0} → Run → ℕ → List ℕ → Bool → Result A Failed → Seen → Seen → List ℕ → List ℕ → Type 0
+PutLeads r e b true result old new t u = Leads r (Skip e ∷ []) old new t u
+PutLeads r e b false (Ok x) old new t u = Leads r (Put e b ∷ []) old new t u
+PutLeads r e b false (Err x) old new t u = (y : List ℕ) × Leads r (Torn e y ∷ []) old new t u
 
 -- one Settle for each of the first k entries that is settled
 abbrev pub settle_if : Bool → ℕ → List Event

@@ -10,7 +10,7 @@ ghost use Rattle.range_ledger.specs.Extents.{begin_in};
 ghost use Rattle.range_ledger.specs.Machine.{Read};
 ghost use Rattle.range_ledger.specs.Runs.{Has, IsShard, MayFill, SettlesOne, WasSurveyed, WhereTells};
 ghost use Rattle.range_ledger.specs.Runs.{extent_of, first_in, has_settled, slice_at};
-ghost use Rattle.range_ledger.specs.Steps.{Leads, Puts};
+ghost use Rattle.range_ledger.specs.Steps.{Leads, PutLeads};
 ghost use Rattle.range_survey.specs.Fates.{fate_at, is_settled};
 
 use crate::entries::Entries;
@@ -135,7 +135,7 @@ impl<'a, P: Part, R: RunName> Shard<'a, P, R> {
         ensures err { OnErr result (self.new.fates ≡ self.old.fates) }
         ensures kept { has_settled R.run self.old entry ≡ true → self.new ≡ self.old }
         ensures exactly { WhereTells R.run self.old self.new
-            (Puts R.run entry b.now (has_settled R.run self.old entry) result self.old self.new) }
+            (PutLeads R.run entry b.now (has_settled R.run self.old entry) result self.old self.new) }
         ensures number { self.new.number ≡ self.old.number }
         ensures faults { CountsRefusals self.old.faults self.new.faults result }
     {

@@ -22,7 +22,7 @@ use Rattle.command_steps.proofs.Numbers.{given_quiet, given_rose, rose_later, ro
 use Rattle.command_steps.specs.AnyStores.{IsGiven, source_faults, source_files, location_in, said_in}
 use Rattle.command_steps.specs.Cache.{CacheGiven, CacheOpened, with_cache}
 use Rattle.command_steps.specs.InputFiles.{IsBad, IsListed, Listed, NotRead}
-use Rattle.command_steps.specs.Sources.{ConsultsStores, Sources, SourcesOpened, sources, location_files}
+use Rattle.command_steps.specs.Sources.{ConsultsStores, Storage, SourcesOpened, storage, location_files}
 use Rattle.command_worlds.specs.Steps.{outcome_of}
 use Rattle.command_worlds.specs.Worlds.{Adds, DiskQuiet, FileRose, FolderRose, Reads, world}
 use Rattle.command_steps.specs.declared.any_store.AnyStore.{AnyStore}
@@ -227,7 +227,7 @@ fill_passed over l x y (Err fault) u is filled = absurd (cc)
 -- ---- the command
 
 pub cache_ends : (stores : List Location) (cache : List ℕ) (indexes : List (List ℕ)) (k j : DialState) (p : Output) (b c d e : Disk) (r : Result Unit Outcome)
-    → SourcesOpened stores b (Ok tt) c → CacheOpened stores (Some cache) c (Ok tt) d → FilledBetween stores cache indexes (sources d k) (sources e j) r → CacheEnds stores cache indexes (world b k p) r (world e j p)
+    → SourcesOpened stores b (Ok tt) c → CacheOpened stores (Some cache) c (Ok tt) d → FilledBetween stores cache indexes (storage d k) (storage e j) r → CacheEnds stores cache indexes (world b k p) r (world e j p)
 cache_ends stores cache indexes k j p b c d e (Ok u) opened taken filled =
     record { disk = c; dial = k; out = p; gave = tt; did = (opened, refl, refl); then = record { disk = d; dial = k; out = p; gave = tt; did = (taken, refl, refl); then = (filled, refl) } }
 cache_ends stores cache indexes k j p b c d e (Err o) opened taken filled =
@@ -251,18 +251,18 @@ held_so (Some n) names xs fs found told = found ∙ told
 -- the disk was read while the cache was filled, which was s and became t; then its folder was given back, and the stores
 module _ {L D K : Type 0} (files : L → Option (Map (List ℕ))) (place : L → List ℕ) (faults : L → ℕ) (state : D → DialState) (cache : List ℕ) (s t : Shelf)
     (d0 b c e : Disk) (k j : DialState) (names : List Location) (before after : List (AnyStore L D K))
-    (s_is : s.place ≡ cache) (t_is : t.place ≡ cache) (reads : Reads d0 b) (gives : CacheGiven (Some t) b c) (closes : ConsultsStores names (sources c k) (sources e j))
+    (s_is : s.place ≡ cache) (t_is : t.place ≡ cache) (reads : Reads d0 b) (gives : CacheGiven (Some t) b c) (closes : ConsultsStores names (storage c k) (storage e j))
     (fresh : map (source_faults faults state) before ≡ map (λ q. 0) names) (located : map (location_in place) after ≡ names) (same : map (source_files files) after ≡ map (source_files files) before)
     (found : IfSome (with_cache (Some s) d0).folders (λ m. map (source_files files) before ≡ map (location_files m) names))
-    (gained : All (IsGiven place faults state (sources c k) (sources e j)) after) where
+    (gained : All (IsGiven place faults state (storage c k) (storage e j)) after) where
   abbrev d : Disk
   d = with_cache (Some s) d0
 
-  abbrev w : Sources
-  w = sources d k
+  abbrev w : Storage
+  w = storage d k
 
-  abbrev v : Sources
-  v = sources e j
+  abbrev v : Storage
+  v = storage e j
 
   gave : Adds b c
   gave = given_adds (Some t) b c gives
@@ -280,7 +280,7 @@ module _ {L D K : Type 0} (files : L → Option (Map (List ℕ))) (place : L →
   }
 
   given_all : All (IsGiven place faults state w v) after
-  given_all = λ n q lt. given_earlier place faults state w (sources c k) v opened (dials_none k) closes.0.dial (slice_index_or after n q) (gained n q lt)
+  given_all = λ n q lt. given_earlier place faults state w (storage c k) v opened (dials_none k) closes.0.dial (slice_index_or after n q) (gained n q lt)
 
   stand : All (Stands (location_in place) (said_in files state) (source_faults faults state) w v) after
   stand = all_stand files place faults state w v after names located (held_after d.folders names (source_files files) before after found same) given_all

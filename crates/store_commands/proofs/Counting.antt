@@ -14,7 +14,7 @@ use Rattle.verify_tool.specs.Counts.{AsksBefore, DeniesOthers, FailsAtEntry, hel
 use Rattle.command_words.specs.declared.command.Location.{Location}
 use Rattle.command_steps.proofs.Found.{held_maps}
 use Rattle.command_steps.proofs.Given.{Stands}
-use Rattle.command_steps.specs.Sources.{Sources, said_at, location_files}
+use Rattle.command_steps.specs.Sources.{Storage, said_at, location_files}
 use Rattle.store_commands.specs.Info.{asks_once}
 
 -- the count is exact where the stores are folders that tell
@@ -47,7 +47,7 @@ ended_by {S} holds said queried faults l old after fault s is many h = record {
 }
 
 -- what all stores have said that were given back, and how often they were asked
-module _ {S : Type 0} (location : S → Location) (said : S → Said) (counted : S → ℕ) (w v : Sources) where
+module _ {S : Type 0} (location : S → Location) (said : S → Said) (counted : S → ℕ) (w v : Storage) where
   all_denied : (id : List ℕ) (xs : List S) (names : List Location) → map location xs ≡ names → All (Stands location said counted w v) xs → All (λ s. (said s).denied id) xs → All (λ q. (said_at w v q).denied id) names
   all_denied id [] [] same stand all = All-nil (λ q. (said_at w v q).denied id)
   all_denied id [] (q ∷ names) same stand all = absurd (cc)

@@ -10,7 +10,7 @@ use Rattle.chunk_store.specs.declared.id.DigestKind.{DigestKind}
 use Rattle.chunk_store.specs.declared.id.DigestKind.TheVariants as kinds
 use Rattle.command_outcome.specs.declared.outcome.Outcome.TheVariants as ends
 use Rattle.command_steps.proofs.Taken.{gives_adds}
-use Rattle.store_commands.specs.Serving.{AreServed, FolderServed, HasEnded, Heard, Hears, IsIdle, IsServed, LacksMemory, Listens, RunsOut, ServedBack, Serves, ServesAtOnce, TakesFront, TakesOne, answer_of_serving, answer_of_sharing, any_answer, fresh, heard}
+use Rattle.store_commands.specs.Serving.{AreServed, FolderServed, ConnectionEnded, Heard, Hears, IsIdle, IsServed, LacksMemory, Listens, RunsOut, ServedBack, Serves, ServesAtOnce, TakesFront, TakesOne, answer_of_serving, answer_of_sharing, any_answer, fresh, heard}
 use Rattle.dsy_base.specs.Counts.{Rose}
 use Rattle.dsy_base.specs.Disk.{Disk, GivesFolder}
 use Rattle.dsy_base.specs.Links.{Accepts, IsFreshLink, LinkState, ListenState, Traffic}
@@ -136,7 +136,7 @@ given_some : (x y : Traffic) → given_in (Some y) ≡ given_in (Some x) → y.r
 given_some x y h = cc
 
 -- a connection that came new has ended so, where it is told
-ended_so : (t : Option Traffic) (u : LinkState) (so : Traffic → Traffic → ℕ → Type 0) (P : Traffic → Type 0) → ((x : Traffic) → HasEnded (so x) x u → P x) → IfSome t (λ x. x.received ≡ []) → IfSome t (λ x. x.sent ≡ []) → given_in u.traffic ≡ given_in t → IfSome t (λ x. IfSome u.traffic (λ y. so x y u.faults))
+ended_so : (t : Option Traffic) (u : LinkState) (so : Traffic → Traffic → ℕ → Type 0) (P : Traffic → Type 0) → ((x : Traffic) → ConnectionEnded (so x) x u → P x) → IfSome t (λ x. x.received ≡ []) → IfSome t (λ x. x.sent ≡ []) → given_in u.traffic ≡ given_in t → IfSome t (λ x. IfSome u.traffic (λ y. so x y u.faults))
     → IfSome t (λ x. IfSome u.traffic (λ y. u.traffic ≡ Some y → P x))
 ended_so None u so P f unread unsent given h = tt
 ended_so (Some x) u so P f unread unsent given h = go u.traffic given h where
@@ -152,7 +152,7 @@ if_both (Some x) (Some y) P Q f h = f x y h
 -- so it is with each end of serving
 module _ (writable : Bool) (kind : DigestKind) (named : kind ≡ kinds.Sha512T256) (l k m : ListenState) (t u : LinkState) (old new : ServedFolder) (accepted : Accepts (Some t.traffic) l.coming k.coming) (kept : k.ended ≡ l.ended) (coming : m.coming ≡ k.coming)
     (ended : m.ended ≡ option_map (λ done. done ++ u ∷ []) k.ended) (told : is_some l.coming ≡ true → is_some u.traffic ≡ true) (is_fresh : IsFreshLink t) (given : given_in u.traffic ≡ given_in t.traffic) where
-  ends_as : (serves : DigestKind → Traffic → ServedFolder → Traffic → ServedFolder → Type 0) (so : Traffic → Traffic → ℕ → Type 0) (P : Serves) → ((x : Traffic) → HasEnded (so x) x u → P x old u new) → ((x y : Traffic) → serves kinds.Sha512T256 x old y new → so x y u.faults)
+  ends_as : (serves : DigestKind → Traffic → ServedFolder → Traffic → ServedFolder → Type 0) (so : Traffic → Traffic → ℕ → Type 0) (P : Serves) → ((x : Traffic) → ConnectionEnded (so x) x u → P x old u new) → ((x y : Traffic) → serves kinds.Sha512T256 x old y new → so x y u.faults)
       → IfSome t.traffic (λ x. IfSome u.traffic (λ y. serves kind x old y new)) → Hears P l m old new
   ends_as serves so P pack f h =
       let right = subst (λ (d : DigestKind). IfSome t.traffic (λ x. IfSome u.traffic (λ y. serves d x old y new))) named h in

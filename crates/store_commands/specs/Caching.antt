@@ -16,7 +16,7 @@ use Rattle.command_outcome.specs.declared.outcome.Outcome.TheVariants as ends
 use Rattle.command_steps.specs.Asking.{AsksOnly, EachDialed}
 use Rattle.command_steps.specs.Cache.{CacheOpened}
 use Rattle.command_steps.specs.InputFiles.{IsListed, Listed, NotRead}
-use Rattle.command_steps.specs.Sources.{DialsStores, OnSources, Sources, SourcesOpened, location_files}
+use Rattle.command_steps.specs.Sources.{DialsStores, OnStorage, Storage, SourcesOpened, location_files}
 use Rattle.command_worlds.specs.Steps.{◌>>=◌}
 use Rattle.command_worlds.specs.Worlds.{Adds, DiskQuiet, FolderRose, OnDisk, Step, World}
 use Rattle.command_steps.specs.Sources.{HaveLacked}
@@ -50,7 +50,7 @@ pub record Evidence : Type 1 where
   pub unfailed : Type 0
 
 -- over a command, from w to v, whose stores and cache these are
-abbrev pub of_command : Sources → Sources → List Location → List ℕ → Evidence
+abbrev pub of_command : Storage → Storage → List Location → List ℕ → Evidence
 of_command w v stores cache = record {
   holds = λ fs. IsSomeAnd w.disk.folders (λ n. map (location_files n) stores ≡ map Some fs);
   refused = λ c r. HaveLacked c w v stores r;
@@ -186,7 +186,7 @@ pub record GetsListed (d : Disk) (indexes : List (List ℕ)) (stores : List Loca
 -- ---- the command
 
 -- the cache's folder was filled by each index, and given back with other files; no other folder has changed
-pub record FilledBetween (stores : List Location) (cache : List ℕ) (indexes : List (List ℕ)) (w v : Sources)
+pub record FilledBetween (stores : List Location) (cache : List ℕ) (indexes : List (List ℕ)) (w v : Storage)
     (r : Result Unit Outcome) : Type 0 where
   pub held : Option (Map (List ℕ))
   pub was : IfSome w.disk.folders (λ m. m cache ≡ held)
@@ -197,7 +197,7 @@ pub record FilledBetween (stores : List Location) (cache : List ℕ) (indexes : 
   pub dials : DialsStores stores w.dial v.dial
   pub asks : GetsListed w.disk indexes stores w.dial v.dial
 
-abbrev pub IndexesFilled : List Location → List ℕ → List (List ℕ) → Step Sources Unit
+abbrev pub IndexesFilled : List Location → List ℕ → List (List ℕ) → Step Storage Unit
 IndexesFilled stores cache indexes w r v = FilledBetween stores cache indexes w v r
 
 -- while the cache is used its folder counts as there
@@ -205,7 +205,7 @@ abbrev pub CacheEnds : List Location → List ℕ → List (List ℕ) → Step W
 CacheEnds stores cache indexes = do
   _ ← OnDisk (SourcesOpened stores)
   _ ← OnDisk (CacheOpened stores (Some cache))
-  OnSources (IndexesFilled stores cache indexes)
+  OnStorage (IndexesFilled stores cache indexes)
 
 -- each INDEX is an index file, and the cache's folder, which was there, holds bytes with the name of each chunk that it
 -- lists. No other folder has changed

@@ -46,7 +46,7 @@ abbrev pub any_answer : Act → List ℕ → Answer → Type 0
 any_answer a body r = Unit {0}
 
 -- a connection that came new, and on which the peer gave no other bytes than it had to give, has ended so
-pub record HasEnded (so : Traffic → ℕ → Type 0) (t : Traffic) (u : LinkState) : Type 0 where
+pub record ConnectionEnded (so : Traffic → ℕ → Type 0) (t : Traffic) (u : LinkState) : Type 0 where
   pub unread : t.received ≡ []
   pub unsent : t.sent ≡ []
   pub ended : Traffic
@@ -56,13 +56,13 @@ pub record HasEnded (so : Traffic → ℕ → Type 0) (t : Traffic) (u : LinkSta
 
 -- it was served to its end, or its count of faults rose and it was broken off
 abbrev pub IsServed : Bool → Serves
-IsServed writable t old u new = HasEnded (λ x failed. Served kinds.Sha512T256 any_answer writable t old x new
+IsServed writable t old u new = ConnectionEnded (λ x failed. Served kinds.Sha512T256 any_answer writable t old x new
     ⊎ (Rose 0 failed × Cut kinds.Sha512T256 any_answer writable t old x new)) t u
 
 -- there was no memory for it
 abbrev pub LacksMemory : Bool → Serves
 LacksMemory writable t old u new =
-    HasEnded (λ x failed. Lacking kinds.Sha512T256 any_answer writable t old x new) t u
+    ConnectionEnded (λ x failed. Lacking kinds.Sha512T256 any_answer writable t old x new) t u
 
 -- these connections came and ended so, each served over the files that the one before it left
 unfoldable pub AreServed : Bool → List Traffic → ServedFolder → List LinkState → ServedFolder → Type 0

@@ -8,7 +8,7 @@ ghost use Rattle.chunk_store.specs.declared.id.DigestKind.TheVariants as kinds;
 ghost use Rattle.command_steps.specs.AnyStores.{IsKnown, IsUnused, asked_in, source_faults, source_files};
 ghost use Rattle.command_steps.specs.AnyStores.{location_in, said_in};
 ghost use Rattle.command_steps.specs.Cache.{with_cache};
-ghost use Rattle.command_steps.specs.Sources.{sources, location_files};
+ghost use Rattle.command_steps.specs.Sources.{storage, location_files};
 ghost use Rattle.command_worlds.specs.Worlds.{Reads, world};
 ghost use Rattle.store_commands.specs.Caching.{CacheEnds, FillsEach, FrontListed, IndexesFilled};
 ghost use Rattle.store_commands.specs.Caching.{IsGetAmong, answer_of_fill, listed_times, of_calls};
@@ -118,8 +118,8 @@ fn fill_between<F: Files, D: Dial>(
         (F.disk files.old)).folders (λ m. map (source_files F.Look.files) stores.items
         ≡ map (location_files m) (map (location_in F.Look.place) stores.items)) }
     ensures filled { IndexesFilled (map (location_in F.Look.place) stores.items) cache.now indexes.now
-        (sources (with_cache (Some (shelf_of F.Folder.files F.Folder.place F.Folder.faults shelf)) (F.disk files.old))
-        (D.state dial.old)) result (sources (F.disk files.new) (D.state dial.new)) }
+        (storage (with_cache (Some (shelf_of F.Folder.files F.Folder.place F.Folder.faults shelf)) (F.disk files.old))
+        (D.state dial.old)) result (storage (F.disk files.new) (D.state dial.new)) }
 {
     let mut cached = Cached::new(shelf, Chain::new(stores));
     let filled = fill_each(alloc, files, indexes, &mut cached);

@@ -5,7 +5,7 @@ ghost use Rattle.caibx_codec.specs.Asks.{IsListedHas};
 ghost use Rattle.store_commands.specs.Info.{CountedInStores, InfoEnds, asks_once};
 ghost use Rattle.command_steps.specs.Asking.{AsksOnly, EachDialed};
 ghost use Rattle.command_worlds.specs.Printing.{Printed};
-ghost use Rattle.command_steps.specs.Sources.{ConsultsStores, sources};
+ghost use Rattle.command_steps.specs.Sources.{ConsultsStores, storage};
 ghost use Rattle.command_worlds.specs.Worlds.{world};
 ghost use Rattle.verify_tool.specs.Texts.{text_of_info};
 
@@ -34,10 +34,10 @@ fn count<F: Files, D: Dial>(
     stores: &[Location],
 ) -> Result<Option<u64>, Outcome>
     requires { length stores.now ≤ 16 }
-    ensures counted { CountedInStores (sources (F.disk files.old) (D.state dial.old))
-        (sources (F.disk files.new) (D.state dial.new)) stores.now index.now result }
-    ensures kept { ConsultsStores stores.now (sources (F.disk files.old) (D.state dial.old))
-        (sources (F.disk files.new) (D.state dial.new)) }
+    ensures counted { CountedInStores (storage (F.disk files.old) (D.state dial.old))
+        (storage (F.disk files.new) (D.state dial.new)) stores.now index.now result }
+    ensures kept { ConsultsStores stores.now (storage (F.disk files.old) (D.state dial.old))
+        (storage (F.disk files.new) (D.state dial.new)) }
     ensures asks { EachDialed (AsksOnly (λ id. 0) (asks_once index.now) (IsListedHas index.now)) stores.now
         (D.state dial.old).ended (D.state dial.new).ended }
 {

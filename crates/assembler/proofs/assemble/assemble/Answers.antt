@@ -2,7 +2,7 @@ use Rattle.std.proofs.Common.{◌≡◌, ◌∙◌, ◌++◌, ◌∷◌, ℕ, []
 use Rattle.assembler.proofs.Assembled.{assembled_none, assembles_none, told_as}
 use Rattle.assembler.proofs.OnePlan.{by_one, by_only, head_same, last_alone, none_left, of_alone, of_only, of_same, same_plan}
 use Rattle.assembler.specs.Assemblies.{IsAssembled}
-use Rattle.assembler.specs.OneKit.{AreUnused, IsUnused, Lent, lent, with_kit}
+use Rattle.assembler.specs.OneKit.{AreUnused, KitUnused, Lent, lent, with_kit}
 use Rattle.assembler.specs.declared.fault.ExtractFault.TheVariants as faults
 use Rattle.assembler.proofs.assemble.assemble.Invariants.{base_of}
 use Rattle.caibx_codec.specs.Listing.{image_length, kind_of}
@@ -88,7 +88,7 @@ returns-in_default-clause-bytes g c =
     let held = g.T.View.held c.args.target in
     let f = g.T.View.faults c.args.target in
     let first : Lent g.row.S.Denot g.row.V.Denot = lent f c.args.kits.items (seen g.F.Look c.args.cache) in
-    assembles_none c.args.index.now (IsUnused first first) (of_same c.args.kits.items {So = λ k j. AreUnused (with_kit first k) (with_kit first j)} (λ k. (refl, (refl, refl)))) held held f f (omega arith) _ (inr refl) (inl refl)
+    assembles_none c.args.index.now (KitUnused first first) (of_same c.args.kits.items {So = λ k j. AreUnused (with_kit first k) (with_kit first j)} (λ k. (refl, (refl, refl)))) held held f f (omega arith) _ (inr refl) (inl refl)
 
 pub returns-clause-assembled : goal.returns-clause-assembled
 returns-clause-assembled g c =

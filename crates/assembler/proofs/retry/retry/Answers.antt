@@ -10,7 +10,7 @@ use Rattle.assembler.proofs.Stepped.{may_lack_before, ready_on}
 use Rattle.assembler.proofs.Tried.{IsFirst, SettledBelow, first_later, is_tried, lost_here, lost_of as left_lost, tried_is, tries_lost, tries_none, tries_passed, tries_settled, untried as untried_at}
 use Rattle.assembler.proofs.TwoPasses.{err_same, fault_apart, memory_apart, memory_never, target_apart}
 use Rattle.assembler.specs.Losses.{IsFirstOpen}
-use Rattle.assembler.specs.Passes.{EndsTorn, HasPassed, once}
+use Rattle.assembler.specs.Passes.{EndsTorn, HasPassed, one_pass}
 use Rattle.assembler.specs.Stages.{Stage, stage, task}
 use Rattle.assembler.specs.declared.fault.Lost.{Lost}
 use Rattle.assembler.specs.declared.fault.Unsettled.{Unsettled}
@@ -110,7 +110,7 @@ more g c =
     done_more g.S.Store g.V.View (task g.E.Ledger.run.listing c.args.wants.now) c.requires.ready.wants (is_tried c.loop-entry.tried.items) (is_tried (now_tried g c))
     c.want_of-want.result (one_more g c) (before g c) (between g c) (after g c) c.loop-entry.invariant.done c.settle.ensures.settles
 
-passed : (g : Over) (c : After-settle g) → HasPassed g.S.Store g.V.View (task g.E.Ledger.run.listing c.args.wants.now) once (before g c) (after g c)
+passed : (g : Over) (c : After-settle g) → HasPassed g.S.Store g.V.View (task g.E.Ledger.run.listing c.args.wants.now) one_pass (before g c) (after g c)
 passed g c =
     let tried = c.loop-entry.tried.items in
     done_all g.S.Store g.V.View (task g.E.Ledger.run.listing c.args.wants.now) (is_tried (now_tried g c)) (before g c) (after g c)

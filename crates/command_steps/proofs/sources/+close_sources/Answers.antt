@@ -2,7 +2,7 @@ use Rattle.std.proofs.Common.{map, rules}
 use Rattle.command_steps.proofs.Consulted.{consults_more}
 use Rattle.command_steps.proofs.Given.{given_more, known_later, last_at, last_known}
 use Rattle.command_steps.specs.AnyStores.{location_in}
-use Rattle.command_steps.specs.Sources.{sources}
+use Rattle.command_steps.specs.Sources.{storage}
 use Rattle.command_steps.proofs.sources.+close_sources.Goals as goal
 use Rattle.std.proofs.Common.{◌∙◌, ap, sym}
 use Rattle.std.proofs.lemmas.List.Sums.{fold_push}
@@ -28,14 +28,14 @@ returns-in-Some-clause-kept g t c =
     let state = g.D.Dial.state in
     let location = location_in g.F.Look.Look.place in
     let rest = c.pop.new.self.items in
-    consults_more (sources (at c.args.files.now) (state c.args.dial.now)) (sources (at c.close_sources.new.files) (state c.close_sources.new.dial)) (sources (at c.close.new.files) (state c.close.new.dial)) (map location rest) (map location c.args.stores.items) (location c.in-Some.store)
+    consults_more (storage (at c.args.files.now) (state c.args.dial.now)) (storage (at c.close_sources.new.files) (state c.close_sources.new.dial)) (storage (at c.close.new.files) (state c.close.new.dial)) (map location rest) (map location c.args.stores.items) (location c.in-Some.store)
     (last_at location c.args.stores.items rest c.in-Some.store c.in-Some.ensures.items) c.close_sources.ensures.kept c.close.ensures.kept
 
 pub returns-in-Some-clause-given : goal.returns-in-Some-clause-given
 returns-in-Some-clause-given g t c =
     let at = g.F.Files.disk in
     let state = g.D.Dial.state in
-    given_more g.F.Look.Look.place g.F.Look.Look.faults state (sources (at c.args.files.now) (state c.args.dial.now)) (sources (at c.close_sources.new.files) (state c.close_sources.new.dial)) (sources (at c.close.new.files) (state c.close.new.dial)) c.args.stores.items c.pop.new.self.items c.in-Some.store c.in-Some.ensures.items
+    given_more g.F.Look.Look.place g.F.Look.Look.faults state (storage (at c.args.files.now) (state c.args.dial.now)) (storage (at c.close_sources.new.files) (state c.close_sources.new.dial)) (storage (at c.close.new.files) (state c.close.new.dial)) c.args.stores.items c.pop.new.self.items c.in-Some.store c.in-Some.ensures.items
     c.close_sources.ensures.kept.0 c.close.ensures.kept.0 c.close_sources.ensures.given c.close.ensures.given
 
 pub returns-in-Some-clause-ended : goal.returns-in-Some-clause-ended

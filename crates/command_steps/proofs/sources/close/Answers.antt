@@ -2,7 +2,7 @@ use Rattle.std.proofs.Common.{◌&&◌, ◌∙◌, ap, false, subst, sym, true, 
 use Rattle.command_steps.proofs.Consulted.{reads_none}
 use Rattle.command_steps.proofs.Dialed.{joined, joined_dials}
 use Rattle.command_steps.specs.AnyStores.{IsGiven, location_in}
-use Rattle.command_steps.specs.Sources.{sources}
+use Rattle.command_steps.specs.Sources.{storage}
 use Rattle.command_steps.specs.Stores.{is_folder}
 use Rattle.command_steps.proofs.sources.close.Goals as goal
 use Rattle.dsy_base.specs.Counts.{raised}
@@ -30,7 +30,7 @@ returns-in-Http-clause-given g c =
     let d = g.F.Files.disk c.args.files.now in
     let ended = c.join.ensures.ended ∙ ap (λ x. with_all k.ended (state x).ended) c.into_dial.ensures.value in
     let faults = c.join.ensures.faults ∙ ap (λ x. raised k.faults (state x).faults) c.into_dial.ensures.value in
-    subst (λ s. IsGiven g.F.Look.Look.place g.F.Look.Look.faults state (sources d k) (sources d j) s) (sym c.in-Http.is) (joined k j (state r.dial) r.server r.refused ended faults c.into_dial.ensures.cause)
+    subst (λ s. IsGiven g.F.Look.Look.place g.F.Look.Look.faults state (storage d k) (storage d j) s) (sym c.in-Http.is) (joined k j (state r.dial) r.server r.refused ended faults c.into_dial.ensures.cause)
 
 pub returns-in-Http-clause-ended : goal.returns-in-Http-clause-ended
 returns-in-Http-clause-ended g c =

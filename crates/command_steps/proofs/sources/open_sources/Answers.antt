@@ -3,7 +3,7 @@ use Rattle.command_steps.specs.AnyStores.{IsKnown, source_faults, source_files, 
 use Rattle.command_words.specs.declared.command.Location.{Location}
 use Rattle.command_steps.proofs.OpenedSources.{first_longer, found_all, fresh_all, located_all, there_all}
 use Rattle.command_steps.proofs.Used.{uses_twice, uses_within, within_same}
-use Rattle.command_steps.specs.Uses.{IsNoneOf, folders_of}
+use Rattle.command_steps.specs.Uses.{IsNoneOf, folders_among}
 use Rattle.command_steps.proofs.sources.open_sources.Goals as goal
 
 pub returns-in-Ok-clause-there : goal.returns-in-Ok-clause-there
@@ -39,7 +39,7 @@ returns-in-Err-clause-used g c =
     let d = at c.args.files.now in
     let b = at c.open_each.new.files in
     let e = at c.drop_sources.new.files in
-    let names = folders_of c.args.names.now in
-    let given = uses_within [] (folders_of (map location c.open_each.new.stores.items)) [] names b e (within_same [])
-    (λ q none. c.in-Err.ensures.among q (subst (λ l. IsNoneOf q (folders_of (map location l))) (sym c.new-stores.ensures.items) tt) none) c.drop_sources.ensures.used in
+    let names = folders_among c.args.names.now in
+    let given = uses_within [] (folders_among (map location c.open_each.new.stores.items)) [] names b e (within_same [])
+    (λ q none. c.in-Err.ensures.among q (subst (λ l. IsNoneOf q (folders_among (map location l))) (sym c.new-stores.ensures.items) tt) none) c.drop_sources.ensures.used in
     uses_twice [] names d b e c.in-Err.ensures.used given

@@ -1,7 +1,7 @@
 use Rattle.std.proofs.Common.{◌∙◌, ap, subst, sym}
 use Rattle.command_steps.proofs.Dialed.{joined}
 use Rattle.command_steps.specs.AnyStores.{IsGiven}
-use Rattle.command_steps.specs.Sources.{sources}
+use Rattle.command_steps.specs.Sources.{storage}
 use Rattle.command_steps.proofs.taken_stores.give_source.Goals as goal
 use Rattle.dsy_base.specs.Counts.{raised}
 use Rattle.dsy_base.specs.Links.{with_all}
@@ -17,7 +17,7 @@ returns-in-Http-clause-given g c =
     let d = g.F.Files.disk c.args.files.now in
     let ended = c.join.ensures.ended ∙ ap (λ x. with_all k.ended (state x).ended) c.into_dial.ensures.value in
     let faults = c.join.ensures.faults ∙ ap (λ x. raised k.faults (state x).faults) c.into_dial.ensures.value in
-    subst (λ s. IsGiven g.F.Folder.Look.place g.F.Folder.Look.faults state (sources d k) (sources d j) s) (sym c.in-Http.is) (joined k j (state r.dial) r.server r.refused ended faults c.into_dial.ensures.cause)
+    subst (λ s. IsGiven g.F.Folder.Look.place g.F.Folder.Look.faults state (storage d k) (storage d j) s) (sym c.in-Http.is) (joined k j (state r.dial) r.server r.refused ended faults c.into_dial.ensures.cause)
 
 pub returns-in-Http-clause-ended : goal.returns-in-Http-clause-ended
 returns-in-Http-clause-ended g c =

@@ -6,7 +6,7 @@ use Rattle.command_steps.specs.Cache.{with_cache}
 use Rattle.extract_command.proofs.extract.assemble_beside.Given.{Over}
 use Rattle.command_steps.specs.AnyStores.{location_in}
 use Rattle.command_steps.specs.Seeds.{image_name}
-use Rattle.command_steps.specs.Sources.{NotAsking, sources}
+use Rattle.command_steps.specs.Sources.{NotAsking, storage}
 use Rattle.command_worlds.specs.Worlds.{world}
 use Rattle.extract_command.proofs.Replaced.{beside_apart, clears, passed_any}
 use Rattle.extract_command.proofs.extract.assemble_beside.Goals as goal
@@ -27,14 +27,14 @@ returns-in_err-clear g c =
     let b = at c.assemble_into-made.new.files in
     let k0 = g.D.Dial.state c.args.dial.now in
     let k1 = g.D.Dial.state c.assemble_into-made.new.dial in
-    let w = sources d k0 in
+    let w = storage d k0 in
     let names = map (location_in g.F.Look.Look.place) c.args.held.stores.items in
     let l = c.args.planned.now.index in
     record {
       made = λ deal ls p plan is.
           let z : Seeds = record { images = map image_name c.args.planned.now.seeds; listings = ls } in
           let made = c.assemble_into-made.ensures in
-          let image = subst (λ (n : List ℕ). ImageMade names c.args.held.cache (record { name = n; fresh = true }) l z w c.assemble_into-made.result (sources b k1)) c.requires.named (made.assembled deal ls plan is, made.kept, made.tells, made.dialed, made.numbered, made.asks deal ls plan is) in
+          let image = subst (λ (n : List ℕ). ImageMade names c.args.held.cache (record { name = n; fresh = true }) l z w c.assemble_into-made.result (storage b k1)) c.requires.named (made.assembled deal ls plan is, made.kept, made.tells, made.dialed, made.numbered, made.asks deal ls plan is) in
           let cleared = subst (λ (n : List ℕ). ClearedAfter n b c.assemble_into-made.result (Err c.in_err-clear.field-0.0) (at c.clear.new.files)) c.requires.named c.in_err-clear.ensures in
           rw (e.1, e.2) (inl (clears _ (ImageMade names c.args.held.cache (beside c.args.target) l z) w b (at c.clear.new.files) k1 c.assemble_into-made.result (Err c.in_err-clear.field-0.0) image cleared, refl));
     }
@@ -46,7 +46,7 @@ returns g c =
     let b = at c.assemble_into-made.new.files in
     let k0 = g.D.Dial.state c.args.dial.now in
     let k1 = g.D.Dial.state c.assemble_into-made.new.dial in
-    let w = sources d k0 in
+    let w = storage d k0 in
     let m = at c.clear.new.files in
     let n = at c.rename-renamed.new.files in
     let f = at c.clear-2.new.files in
@@ -56,7 +56,7 @@ returns g c =
       made = λ deal ls p plan is.
           let z : Seeds = record { images = map image_name c.args.planned.now.seeds; listings = ls } in
           let made = c.assemble_into-made.ensures in
-          let image = subst (λ (n : List ℕ). ImageMade names c.args.held.cache (record { name = n; fresh = true }) l z w c.assemble_into-made.result (sources b k1)) c.requires.named (made.assembled deal ls plan is, made.kept, made.tells, made.dialed, made.numbered, made.asks deal ls plan is) in
+          let image = subst (λ (n : List ℕ). ImageMade names c.args.held.cache (record { name = n; fresh = true }) l z w c.assemble_into-made.result (storage b k1)) c.requires.named (made.assembled deal ls plan is, made.kept, made.tells, made.dialed, made.numbered, made.asks deal ls plan is) in
           let cleared = subst (λ (n : List ℕ). ClearedAfter n b c.assemble_into-made.result (Ok tt) m) c.requires.named c.in_ok-clear.ensures in
           let renamed = subst (λ (q : List ℕ). Renamed q c.args.target m c.rename-renamed.result n) c.requires.named c.rename-renamed.ensures in
           let last = subst (λ (q : List ℕ). ClearedAfter q n c.rename-renamed.result c.clear-2.result f) c.requires.named c.clear-2.ensures in
@@ -66,6 +66,6 @@ returns g c =
             out = p;
             gave = tt;
             did = (clears _ (ImageMade names c.args.held.cache (beside c.args.target) l z) w b m k1 c.assemble_into-made.result (Ok tt) image cleared, refl);
-            then = (clears _ (NotAsking (Renamed _ c.args.target)) (sources m k1) n f k1 c.rename-renamed.result c.clear-2.result (renamed, refl) last, refl);
+            then = (clears _ (NotAsking (Renamed _ c.args.target)) (storage m k1) n f k1 c.rename-renamed.result c.clear-2.result (renamed, refl) last, refl);
           });
     }

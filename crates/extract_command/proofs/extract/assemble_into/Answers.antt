@@ -21,7 +21,7 @@ use Rattle.command_steps.proofs.Given.{all_later, all_stand, folders_quiet, give
 use Rattle.command_steps.proofs.Lent.{each_quiet, store_rose}
 use Rattle.command_steps.proofs.Numbers.{counted_known, counted_le, given_quiet, given_rose, rose_later, rose_longer, rose_not_quiet}
 use Rattle.command_steps.specs.AnyStores.{IsGiven, IsKnown, chunks_in, source_faults, source_files, location_in, place_in, said_in}
-use Rattle.command_steps.specs.Sources.{sources, location_files}
+use Rattle.command_steps.specs.Sources.{storage, location_files}
 use Rattle.command_steps.specs.Stores.{are_folders}
 use Rattle.command_steps.specs.declared.any_store.AnyStore.{AnyStore}
 use Rattle.command_steps.specs.Seeds.{IsViewed, image_name, label_in}
@@ -147,7 +147,7 @@ returns-in_default-clause-assembled g c = λ p ls plan is.
     let gone = c.let_go.ensures.kept in
     let name = named g c.args.held.cache c.args.held.shelf c.requires.held.lent.named in
     let k = g.D.Dial.state c.args.dial.now in
-    stopped_before (sources d k) (sources (at c.let_go.new.files) k) (map (location_in g.F.Look.Look.place) c.args.held.stores.items) c.args.held.cache (record { name = c.args.target.now; fresh = c.args.fresh }) c.args.planned.now.index
+    stopped_before (storage d k) (storage (at c.let_go.new.files) k) (map (location_in g.F.Look.Look.place) c.args.held.stores.items) c.args.held.cache (record { name = c.args.target.now; fresh = c.args.fresh }) c.args.planned.now.index
     (record { images = map image_name c.args.planned.now.seeds; listings = ls })
     (λ cs. cached_in o ≡ Some (map chunks cs)) (cached_there o c.args.held.cache name d'.folders (cache_told g c.args.files.now c.args.held.shelf))
     (gone.files ∙ c.in_default.ensures.kept.files)
@@ -197,11 +197,11 @@ returns-in-Err-clause-assembled g c = λ p ls plan is.
     let name = named g c.args.held.cache c.args.held.shelf c.requires.held.lent.named in
     let le : count_at b2.file_counts q ≤ count_at e.file_counts q = gone.counts q in
     let k = g.D.Dial.state c.args.dial.now in
-    let before = same_before (sources d k) (sources e k) names c.args.held.cache o l x (λ cs. cached_in s ≡ Some (map chunks cs))
+    let before = same_before (storage d k) (storage e k) names c.args.held.cache o l x (λ cs. cached_in s ≡ Some (map chunks cs))
     (cached_there s c.args.held.cache name d'.folders (cache_told g c.args.files.now c.args.held.shelf))
     (gone.files ∙ c.in-Err.ensures.err ∙ c.in-Ok.ensures.kept.files)
     (refl, gone.folders ∙ ap (folders_with s) ((wrote_on b b2 _ c.in-Err.ensures.counts).folders ∙ c.in-Ok.ensures.kept.folders)) in
-    rw c.not_taken.ensures (not_taken_as (sources d k) (sources e k) names c.args.held.cache o l x c.in-Err.fault before
+    rw c.not_taken.ensures (not_taken_as (storage d k) (storage e k) names c.args.held.cache o l x c.in-Err.fault before
     (λ failed. rose_longer (count_at d.file_counts q) (count_at b2.file_counts q) (count_at e.file_counts q) le
     (rose_later (count_at d.file_counts q) (count_at b.file_counts q) (count_at b2.file_counts q) (c.in-Ok.ensures.kept.counts q) (took.cause (ap Err failed)))))
 
@@ -353,8 +353,8 @@ returns-clause-assembled g c = λ p ls plan is.
     let before = k.chain.stores in
     let after = j.chain.stores in
     let names = map location before in
-    let w = sources d k0 in
-    let v = sources e k1 in
+    let w = storage d k0 in
+    let v = storage e k1 in
     let l = c.args.planned.now.index in
     let x = c.args.planned.now.places in
     let z : Seeds = record { images = map image_name c.args.planned.now.seeds; listings = ls } in
@@ -412,8 +412,8 @@ returns-clause-assembled g c = λ p ls plan is.
     let last : count_at e.folder_counts y ≡ count_at b3.folder_counts y = ap (λ (m : Map ℕ). count_at m y) stays in
     omega (arith, last) in
     let given_stores : All (IsGiven at_place g.F.Look.Look.faults state w v) after = λ n s lt.
-    given_longer at_place g.F.Look.Look.faults state w (sources b3 k1) v counted_on dialed (dials_none k1) (slice_index_or after n s)
-    (given_earlier at_place g.F.Look.Look.faults state w (sources bc k0) (sources b3 k1) opened (dials_none k0) dialed (slice_index_or after n s) (closed n s lt)) in
+    given_longer at_place g.F.Look.Look.faults state w (storage b3 k1) v counted_on dialed (dials_none k1) (slice_index_or after n s)
+    (given_earlier at_place g.F.Look.Look.faults state w (storage bc k0) (storage b3 k1) opened (dials_none k0) dialed (slice_index_or after n s) (closed n s lt)) in
     let located : (ys : List (AnyStore g.row.F-Look.Denot g.row.D.Denot g.row.D-Link.Denot)) → map place ys ≡ map place before → map location ys ≡ names = λ ys placed. stand_still at_place before ys placed in
     let after_at = located after stores.places in
     let stand = all_stand g.F.Look.Look.files at_place g.F.Look.Look.faults state w v after names after_at (held_after d.folders names files before after found stores.files) given_stores in
@@ -542,8 +542,8 @@ returns-clause-asks g c = λ p ls plan is.
     let before = k.chain.stores in
     let after = j.chain.stores in
     let names = map location before in
-    let w = sources d k0 in
-    let v = sources e k1 in
+    let w = storage d k0 in
+    let v = storage e k1 in
     let l = c.args.planned.now.index in
     let x = c.args.planned.now.places in
     let z : Seeds = record { images = map image_name c.args.planned.now.seeds; listings = ls } in

@@ -4,7 +4,7 @@ use Rattle.command_words.specs.declared.command.Location.{Location}
 use Rattle.command_steps.specs.AnyStores.{location_in}
 use Rattle.command_steps.specs.InputFiles.{Listed}
 use Rattle.command_steps.specs.Seeds.{image_name}
-use Rattle.command_steps.specs.Uses.{folders_of}
+use Rattle.command_steps.specs.Uses.{folders_among}
 use Rattle.command_steps.proofs.Consulted.{reads_none}
 use Rattle.command_steps.proofs.Used.{uses_none}
 use Rattle.command_outcome.specs.declared.outcome.Outcome.TheVariants as ends
@@ -64,7 +64,7 @@ returns-in_default g c =
     let e = at c.read_indexes.new.files in
     record {
       ends = λ p. ends_unreached words.stores words.cache words.seeds words.in_place words.index words.target c.in_ok-listed.listed c.in_ok-indexes.indexes.items (at c.args.files.now) (at c.load_index.new.files) e e (g.D.Dial.state c.args.dial.now) p ends.Memory
-          (listed.ok, listed.kept, listed.used) ((rw c.as_slice.ensures at read.ok, read.few), read.kept, rw c.as_slice.ensures at read.used) (inl (inr refl, reads_none e, uses_none [] (folders_of words.stores) e));
+          (listed.ok, listed.kept, listed.used) ((rw c.as_slice.ensures at read.ok, read.few), read.kept, rw c.as_slice.ensures at read.used) (inl (inr refl, reads_none e, uses_none [] (folders_among words.stores) e));
     }
 
 pub returns-in_default-temporary_out : goal.returns-in_default-temporary_out
@@ -76,7 +76,7 @@ returns-in_default-temporary_out g c =
     let e = at c.read_indexes.new.files in
     record {
       ends = λ p. ends_unreached words.stores words.cache words.seeds words.in_place words.index words.target c.in_ok-listed.listed c.in_ok-indexes.indexes.items (at c.args.files.now) (at c.load_index.new.files) e e (g.D.Dial.state c.args.dial.now) p ends.Memory
-          (listed.ok, listed.kept, listed.used) ((rw c.as_slice.ensures at read.ok, read.few), read.kept, rw c.as_slice.ensures at read.used) (inl (inr refl, reads_none e, uses_none [] (folders_of words.stores) e));
+          (listed.ok, listed.kept, listed.used) ((rw c.as_slice.ensures at read.ok, read.few), read.kept, rw c.as_slice.ensures at read.used) (inl (inr refl, reads_none e, uses_none [] (folders_among words.stores) e));
     }
 
 pub returns-in-Err : goal.returns-in-Err

@@ -7,7 +7,7 @@ use Rattle.command_steps.proofs.Given.{all_later}
 use Rattle.command_steps.specs.AnyStores.{IsKnown, location_in, source_faults, source_files}
 use Rattle.command_steps.specs.Cache.{with_cache}
 use Rattle.command_steps.specs.Seeds.{SeedsKnown}
-use Rattle.command_steps.specs.Uses.{Uses, folders_of}
+use Rattle.command_steps.specs.Uses.{Uses, folders_among}
 use Rattle.command_words.specs.declared.command.Location.{Location}
 use Rattle.extract_command.proofs.held.reach.Goals as goal
 
@@ -19,7 +19,7 @@ returns-in-Err-take_cache-clause-err g c =
     let e = at c.drop_sources.new.files in
     let names = c.args.stores.now in
     let opened = c.in-Ok-open_sources.ensures in
-    let dropped = subst (λ (l : List Location). Uses [] (folders_of l) b e) opened.located c.drop_sources.ensures.used in
+    let dropped = subst (λ (l : List Location). Uses [] (folders_among l) b e) opened.located c.drop_sources.ensures.used in
     let refused = cache_longer names c.args.cache f b e c.in-Err-take_cache.outcome c.in-Err-take_cache.ensures.err c.drop_sources.ensures.kept dropped in
     inr (f, (opened.there, opened.kept, opened.used), refused)
 

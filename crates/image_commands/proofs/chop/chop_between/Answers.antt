@@ -1,7 +1,7 @@
 use Rattle.std.proofs.Common.{◌≡◌, ◌∙◌, ◌+◌, ap, arith, refl, rules}
 use Rattle.command_steps.proofs.Given.{stands_there}
 use Rattle.command_steps.specs.AnyStores.{source_files}
-use Rattle.command_steps.specs.Sources.{sources}
+use Rattle.command_steps.specs.Sources.{storage}
 use Rattle.image_commands.proofs.Chopped.{chop_ended, chopped_to, gets_only, gets_to, if_told, order_of, says_before, server_given, stops_server, unchanged}
 use Rattle.image_commands.proofs.GivenStores.{back, rose, says_more, view_rose}
 use Rattle.image_commands.specs.Chop.{ChoppedTo}
@@ -27,8 +27,8 @@ returns g c =
     let old = c.args.taken in
     let new = c.chop-chopped.new.store in
     let store = c.args.store.now in
-    let w = sources (at c.args.files.now) (state c.args.dial.now) in
-    let v = sources (at c.give_with_image.new.files) (state c.give_with_image.new.dial) in
+    let w = storage (at c.args.files.now) (state c.args.dial.now) in
+    let v = storage (at c.give_with_image.new.files) (state c.give_with_image.new.dial) in
     let gave = c.give_with_image.ensures in
     let done = c.chop-chopped.ensures in
     let r = c.chop-chopped.result in

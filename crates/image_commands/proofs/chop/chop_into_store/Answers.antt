@@ -1,7 +1,7 @@
 use Rattle.std.proofs.Common.{ℕ, List, Ok, Err, inr, refl, subst}
 use Rattle.std.proofs.lemmas.Result.{err_from_is_err_and}
 use Rattle.command_steps.specs.AnyStores.{source_files}
-use Rattle.command_steps.specs.Sources.{sources}
+use Rattle.command_steps.specs.Sources.{storage}
 use Rattle.image_commands.specs.Chop.{ImageChopped}
 use Rattle.image_commands.proofs.chop.chop_into_store.Goals as goal
 
@@ -16,8 +16,8 @@ returns-in_err-chop_between g c =
     let took = c.in_ok-view-2.ensures in
     let l = c.in_ok-listed.listed in
     let files = source_files g.F.Folder.Look.files c.in_ok-view-2.taken in
-    let w = sources (at c.take_with_image.new.files) (state c.args.dial.now) in
-    let v = sources (at c.chop_between.new.files) (state c.chop_between.new.dial) in
+    let w = storage (at c.take_with_image.new.files) (state c.args.dial.now) in
+    let v = storage (at c.chop_between.new.files) (state c.chop_between.new.dial) in
     let of_view = subst (λ y. ImageChopped l (held y).name (held y).bytes c.args.store files w (Err c.in_err-chop_between.field-0.0) v) took.kept c.in_err-chop_between.ensures in
     let chopped = subst (λ (n : List ℕ). ImageChopped l n (held c.in_ok-view.view).bytes c.args.store files w (Err c.in_err-chop_between.field-0.0) v) view.fresh.1 of_view in
     record { ends = λ o. rw (p.1, p.2) (inr (record { disk = _; dial = _; out = _; gave = l; did = ((listed.ok, listed.kept, listed.used), refl, refl); then = inr (record { disk = _; dial = _; out = _; gave = _; did = ((view.ok, view.kept, view.used), refl, refl); then = inr (record { disk = _; dial = _; out = _; gave = files; did = (took.ok, refl, refl); then = (chopped, refl) }) }) })) }
@@ -32,8 +32,8 @@ returns g c =
     let took = c.in_ok-view-2.ensures in
     let l = c.in_ok-listed.listed in
     let files = source_files g.F.Folder.Look.files c.in_ok-view-2.taken in
-    let w = sources (at c.take_with_image.new.files) (state c.args.dial.now) in
-    let v = sources (at c.chop_between.new.files) (state c.chop_between.new.dial) in
+    let w = storage (at c.take_with_image.new.files) (state c.args.dial.now) in
+    let v = storage (at c.chop_between.new.files) (state c.chop_between.new.dial) in
     let of_view = subst (λ y. ImageChopped l (held y).name (held y).bytes c.args.store files w (Ok tt) v) took.kept c.in_ok-chop_between.ensures in
     let chopped = subst (λ (n : List ℕ). ImageChopped l n (held c.in_ok-view.view).bytes c.args.store files w (Ok tt) v) view.fresh.1 of_view in
     record { ends = λ o. record { disk = _; dial = _; out = _; gave = l; did = ((listed.ok, listed.kept, listed.used), refl, refl); then = record { disk = _; dial = _; out = _; gave = _; did = ((view.ok, view.kept, view.used), refl, refl); then = record { disk = _; dial = _; out = _; gave = files; did = (took.ok, refl, refl); then = (chopped, refl) } } } }

@@ -1,7 +1,7 @@
 use Rattle.std.proofs.Common.{All, IsSome, map, slice_index_or, inl, inr, refl, subst, sym}
 use Rattle.std.proofs.lemmas.Result.{err_from_is_err_and}
 use Rattle.command_steps.specs.AnyStores.{source_files}
-use Rattle.command_steps.specs.Sources.{sources}
+use Rattle.command_steps.specs.Sources.{storage}
 use Rattle.image_commands.specs.Views.{AreOf}
 use Rattle.image_commands.proofs.make.make.Goals as goal
 
@@ -23,8 +23,8 @@ returns-in_err-bytes g c =
     let opened = views.bytes in
     let took = c.in_ok-opened.ensures in
     let files = source_files g.F.Folder.Look.files c.in_ok-opened.opened.taken in
-    let w = sources (at c.take_store.new.files) (state c.args.dial.now) in
-    let v = sources (at c.store_between.new.files) (state c.store_between.new.dial) in
+    let w = storage (at c.take_store.new.files) (state c.args.dial.now) in
+    let v = storage (at c.store_between.new.files) (state c.store_between.new.dial) in
     let are = subst (λ vs. AreOf c.args.words.image opened.0 (map held vs.items)) (sym took.kept) opened.2 in
     let stored = c.in_err-bytes.ensures.err c.args.words.image opened.0 are in
     record { ends = λ o. rw (p.1, p.2) (inr (record { disk = _; dial = _; out = _; gave = c.in_ok-sizes.sizes; did = (c.in_ok-sizes.ensures, refl); then = inr (record { disk = _; dial = _; out = _; gave = opened.0; did = ((opened.1, views.kept, views.used), refl, refl); then = inr (record { disk = _; dial = _; out = _; gave = files; did = (took.ok, refl, refl); then = inl (stored, refl) }) }) })) }
@@ -39,8 +39,8 @@ returns-in_err-write_index g c =
     let opened = views.bytes in
     let took = c.in_ok-opened.ensures in
     let files = source_files g.F.Folder.Look.files c.in_ok-opened.opened.taken in
-    let w = sources (at c.take_store.new.files) (state c.args.dial.now) in
-    let v = sources (at c.store_between.new.files) (state c.store_between.new.dial) in
+    let w = storage (at c.take_store.new.files) (state c.args.dial.now) in
+    let v = storage (at c.store_between.new.files) (state c.store_between.new.dial) in
     let are = subst (λ vs. AreOf c.args.words.image opened.0 (map held vs.items)) (sym took.kept) opened.2 in
     let stored = c.in_ok-bytes.ensures.ok c.args.words.image opened.0 are in
     record { ends = λ o. rw (p.1, p.2) (inr (record { disk = _; dial = _; out = _; gave = c.in_ok-sizes.sizes; did = (c.in_ok-sizes.ensures, refl); then = inr (record { disk = _; dial = _; out = _; gave = opened.0; did = ((opened.1, views.kept, views.used), refl, refl); then = inr (record { disk = _; dial = _; out = _; gave = files; did = (took.ok, refl, refl); then = inr (record { disk = _; dial = _; out = _; gave = c.in_ok-bytes.bytes.items; did = (stored, refl); then = (c.in_err-write_index.ensures, refl, refl) }) }) }) })) }
@@ -54,8 +54,8 @@ returns g c =
     let opened = views.bytes in
     let took = c.in_ok-opened.ensures in
     let files = source_files g.F.Folder.Look.files c.in_ok-opened.opened.taken in
-    let w = sources (at c.take_store.new.files) (state c.args.dial.now) in
-    let v = sources (at c.store_between.new.files) (state c.store_between.new.dial) in
+    let w = storage (at c.take_store.new.files) (state c.args.dial.now) in
+    let v = storage (at c.store_between.new.files) (state c.store_between.new.dial) in
     let are = subst (λ vs. AreOf c.args.words.image opened.0 (map held vs.items)) (sym took.kept) opened.2 in
     let stored = c.in_ok-bytes.ensures.ok c.args.words.image opened.0 are in
     record { ends = λ o. record { disk = _; dial = _; out = _; gave = c.in_ok-sizes.sizes; did = (c.in_ok-sizes.ensures, refl); then = record { disk = _; dial = _; out = _; gave = opened.0; did = ((opened.1, views.kept, views.used), refl, refl); then = record { disk = _; dial = _; out = _; gave = files; did = (took.ok, refl, refl); then = record { disk = _; dial = _; out = _; gave = c.in_ok-bytes.bytes.items; did = (stored, refl); then = (rw c.deref.ensures.value at c.in_ok-write_index.ensures, refl, refl) } } } } }

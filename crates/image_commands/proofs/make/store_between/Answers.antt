@@ -3,7 +3,7 @@ use Rattle.std.specs.Option.{option_map}
 use Rattle.chunk_store.specs.Folders.{chunks}
 use Rattle.command_steps.proofs.Given.{stands_there}
 use Rattle.command_steps.specs.AnyStores.{asked_in, code_of, source_files, said_in, source_sent}
-use Rattle.command_steps.specs.Sources.{sources}
+use Rattle.command_steps.specs.Sources.{storage}
 use Rattle.image_commands.proofs.GivenStores.{back, rose, stored_more}
 use Rattle.image_commands.proofs.Made.{gets_image, if_some, made_of, unmade}
 use Rattle.image_commands.proofs.Viewed.{all_kept, exactly_of, few_of, files_of, first_rose, of_first, said_of}
@@ -40,8 +40,8 @@ returns-in-Ok g c =
     let new = c.store_image-views.result.1 in
     let before = option_map chunks (source_files files old) in
     let after = option_map chunks (source_files files new) in
-    let w = sources (at c.args.files.now) (state c.args.dial.now) in
-    let v = sources (at c.give_store.new.files) (state c.give_store.new.dial) in
+    let w = storage (at c.args.files.now) (state c.args.dial.now) in
+    let v = storage (at c.give_store.new.files) (state c.give_store.new.dial) in
     let gave = c.give_store.ensures in
     let done = c.store_image-views.ensures in
     let r = Ok c.in-Ok.bytes.items in
@@ -69,8 +69,8 @@ returns-in-ImageFault g c =
     let new = c.store_image-views.result.1 in
     let before = option_map chunks (source_files files old) in
     let after = option_map chunks (source_files files new) in
-    let w = sources (at c.args.files.now) (state c.args.dial.now) in
-    let v = sources (at c.give_store.new.files) (state c.give_store.new.dial) in
+    let w = storage (at c.args.files.now) (state c.args.dial.now) in
+    let v = storage (at c.give_store.new.files) (state c.give_store.new.dial) in
     let gave = c.give_store.ensures in
     let done = c.store_image-views.ensures in
     let r = Err faults.ImageFault in
@@ -97,8 +97,8 @@ returns-in-TooManyItems g c =
     let new = c.store_image-views.result.1 in
     let before = option_map chunks (source_files files old) in
     let after = option_map chunks (source_files files new) in
-    let w = sources (at c.args.files.now) (state c.args.dial.now) in
-    let v = sources (at c.give_store.new.files) (state c.give_store.new.dial) in
+    let w = storage (at c.args.files.now) (state c.args.dial.now) in
+    let v = storage (at c.give_store.new.files) (state c.give_store.new.dial) in
     let gave = c.give_store.ensures in
     let done = c.store_image-views.ensures in
     let r = Err faults.TooManyItems in
@@ -126,8 +126,8 @@ returns-in-Changed g c =
     let new = c.store_image-views.result.1 in
     let before = option_map chunks (source_files files old) in
     let after = option_map chunks (source_files files new) in
-    let w = sources (at c.args.files.now) (state c.args.dial.now) in
-    let v = sources (at c.give_store.new.files) (state c.give_store.new.dial) in
+    let w = storage (at c.args.files.now) (state c.args.dial.now) in
+    let v = storage (at c.give_store.new.files) (state c.give_store.new.dial) in
     let gave = c.give_store.ensures in
     let done = c.store_image-views.ensures in
     let r = Err (faults.Changed c.in-Changed.entry c.in-Changed.was c.in-Changed.got) in
@@ -155,8 +155,8 @@ returns-in-StoreFault g c =
     let new = c.store_image-views.result.1 in
     let before = option_map chunks (source_files files old) in
     let after = option_map chunks (source_files files new) in
-    let w = sources (at c.args.files.now) (state c.args.dial.now) in
-    let v = sources (at c.give_store.new.files) (state c.give_store.new.dial) in
+    let w = storage (at c.args.files.now) (state c.args.dial.now) in
+    let v = storage (at c.give_store.new.files) (state c.give_store.new.dial) in
     let gave = c.give_store.ensures in
     let done = c.store_image-views.ensures in
     let r = Err faults.StoreFault in
@@ -185,8 +185,8 @@ returns-in-Memory g c =
     let new = c.store_image-views.result.1 in
     let before = option_map chunks (source_files files old) in
     let after = option_map chunks (source_files files new) in
-    let w = sources (at c.args.files.now) (state c.args.dial.now) in
-    let v = sources (at c.give_store.new.files) (state c.give_store.new.dial) in
+    let w = storage (at c.args.files.now) (state c.args.dial.now) in
+    let v = storage (at c.give_store.new.files) (state c.give_store.new.dial) in
     let gave = c.give_store.ensures in
     let done = c.store_image-views.ensures in
     let r = Err faults.Memory in

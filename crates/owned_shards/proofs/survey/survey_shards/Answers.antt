@@ -8,7 +8,7 @@ use Rattle.owned_shards.proofs.Begun.{all_base, all_first, base_known, base_size
 use Rattle.owned_shards.proofs.Putting.{right}
 use Rattle.owned_shards.proofs.Wholes.{with_map}
 use Rattle.range_ledger.specs.Runs.{Seen}
-use Rattle.owned_shards.specs.Wholes.{Begun, IsTold, IsWhole, Whole, base_told, bytes_of, faults_of, fates_of, whole_of}
+use Rattle.owned_shards.specs.Wholes.{Begun, IsTold, IsWhole, Whole, base_told, joined_bytes, joined_faults, fates_of, whole_of}
 use Rattle.range_survey.specs.Fates.{FirstFates, OpenWrong, SettledRight}
 use Rattle.owned_shards.proofs.survey.survey_shards.Goals as goal
 
@@ -131,9 +131,9 @@ returns-in-Ok-split-clause-ok g c =
       may = over.may;
       tells = over.tells;
     } in
-    let based : r.tells ≡ true → bytes_of ss ≡ r.base = λ told. all_base r told some ss begun (base_size r old.bytes (image_length l) g.T.View.tells over.tells is over.base told ∙ length_same) in
+    let based : r.tells ≡ true → joined_bytes ss ≡ r.base = λ told. all_base r told some ss begun (base_size r old.bytes (image_length l) g.T.View.tells over.tells is over.base told ∙ length_same) in
     ap (λ (w : Whole). w.held) c.new.ensures
-    ∙ (same_held (held_joined left g.T.View.tells (bytes_of ss)) now (joined_base r ss g.T.View.tells over.tells based ∙ sym known) (ap (λ (x : Left). x.size) rest) (ap (λ (x : Left). x.name) rest)
+    ∙ (same_held (held_joined left g.T.View.tells (joined_bytes ss)) now (joined_base r ss g.T.View.tells over.tells based ∙ sym known) (ap (λ (x : Left). x.size) rest) (ap (λ (x : Left). x.name) rest)
     ∙ resized_to)
 
 pub returns-in-Ok-split-clause-first : goal.returns-in-Ok-split-clause-first
@@ -213,9 +213,9 @@ returns-in-Ok-split-clause-no g c =
       may = over.may;
       tells = over.tells;
     } in
-    let based : r.tells ≡ true → bytes_of ss ≡ r.base = λ told. all_base r told some ss begun (base_size r old.bytes (image_length l) g.T.View.tells over.tells is over.base told ∙ length_same) in
+    let based : r.tells ≡ true → joined_bytes ss ≡ r.base = λ told. all_base r told some ss begun (base_size r old.bytes (image_length l) g.T.View.tells over.tells is over.base told ∙ length_same) in
     let first : left.faults ≡ g.T.View.faults c.args.target = ap (λ (x : Left). x.faults) rest ∙ c.in-Ok-set_len.ensures.faults.done in
     subst (λ (w : Whole). IfSome w.held.bytes (λ t. OpenWrong l t w.fates (g.T.View.faults c.args.target) w.faults (count_of l))) (sym c.new.ensures)
-    (subst (λ (n : ℕ). IfSome (whole_of left g.T.View.tells ss).held.bytes (λ t. OpenWrong l t (fates_of ss) n (raised left.faults (faults_of ss)) (count_of l))) first
-    (subst (λ (m : Listing). IfSome (whole_of left g.T.View.tells ss).held.bytes (λ t. OpenWrong m t (fates_of ss) left.faults (raised left.faults (faults_of ss)) (count_of m))) (sym same)
+    (subst (λ (n : ℕ). IfSome (whole_of left g.T.View.tells ss).held.bytes (λ t. OpenWrong l t (fates_of ss) n (raised left.faults (joined_faults ss)) (count_of l))) first
+    (subst (λ (m : Listing). IfSome (whole_of left g.T.View.tells ss).held.bytes (λ t. OpenWrong m t (fates_of ss) left.faults (raised left.faults (joined_faults ss)) (count_of m))) (sym same)
     (missed_told r ss g.T.View.tells over.tells based some whole.shards left.faults)))

@@ -9,7 +9,7 @@ use Rattle.command_steps.proofs.AskedOnly.{each_asked_only}
 use Rattle.command_steps.proofs.Asking.{none_more}
 use Rattle.http_wire.specs.declared.reply.Method.TheVariants as method
 use Rattle.command_steps.specs.Cache.{CacheGiven, with_cache}
-use Rattle.command_steps.specs.Sources.{ConsultsStores, sources, location_files}
+use Rattle.command_steps.specs.Sources.{ConsultsStores, storage, location_files}
 use Rattle.store_commands.proofs.CacheFilled.{filled_between}
 use Rattle.store_commands.proofs.cache.fill_between.Goals as goal
 use Rattle.store_commands.specs.Caching.{FillsEach, IsGetAmong, listed_times, of_calls}
@@ -77,9 +77,9 @@ returns g c =
     let fresh = subst (λ ys. map counted ys ≡ map {B = ℕ} (λ q. 0) names) (sym first) c.requires.fresh in
     let found = subst (λ ys. IfSome (with_cache (Some s) d0).folders (λ n. map told ys ≡ map (location_files n) names)) (sym first) c.requires.found in
     let gives = subst (λ f. CacheGiven (Some (shelf_of D.files D.place D.faults f)) b m) given c.give_shelf.ensures.given in
-    let closes = subst (λ ys. ConsultsStores (map (location_in place) ys) (sources m k) (sources e j)) last c.close_sources.ensures.kept in
-    let closed = subst (λ ns. ConsultsStores ns (sources m k) (sources e j)) located closes in
-    let gained = subst (λ ys. All (IsGiven place faults state (sources m k) (sources e j)) ys) last c.close_sources.ensures.given in
+    let closes = subst (λ ys. ConsultsStores (map (location_in place) ys) (storage m k) (storage e j)) last c.close_sources.ensures.kept in
+    let closed = subst (λ ns. ConsultsStores ns (storage m k) (storage e j)) located closes in
+    let gained = subst (λ ys. All (IsGiven place faults state (storage m k) (storage e j)) ys) last c.close_sources.ensures.given in
     let from = subst (λ f. FillsEach (of_calls told said counted before after (D.faults f.folder) t.faults) d0 b indexes (D.files f.folder) t.files c.fill_each-filled.result) began over.filled in
     let at_zero = subst (λ (n : ℕ). FillsEach (of_calls told said counted before after n t.faults) d0 b indexes s.files t.files c.fill_each-filled.result) c.requires.cache_fresh.0 from in
     let asked = over.asks in

@@ -6,8 +6,8 @@ use Rattle.command_steps.proofs.Cached.{cache_longer, cache_reads}
 use Rattle.command_steps.proofs.Given.{all_later}
 use Rattle.command_steps.specs.AnyStores.{IsKnown, source_files, location_in}
 use Rattle.command_steps.specs.Cache.{CacheOpened, with_cache}
-use Rattle.command_steps.specs.Sources.{sources}
-use Rattle.command_steps.specs.Uses.{Uses, folders_of}
+use Rattle.command_steps.specs.Sources.{storage}
+use Rattle.command_steps.specs.Uses.{Uses, folders_among}
 use Rattle.store_commands.proofs.CacheFilled.{cache_ends}
 use Rattle.command_steps.proofs.Found.{found_still}
 use Rattle.command_steps.proofs.Found.{opened_many}
@@ -34,7 +34,7 @@ returns-in-Err g c =
     let opened = c.in_ok-opened.ensures in
     let there = rw c.as_slice.ensures at opened.there in
     let located = opened.located ∙ c.as_slice.ensures in
-    let dropped = subst (λ (l : List Location). Uses [] (folders_of l) (at c.take_shelf.new.files) (at c.drop_sources.new.files)) located c.drop_sources.ensures.used in
+    let dropped = subst (λ (l : List Location). Uses [] (folders_among l) (at c.take_shelf.new.files) (at c.drop_sources.new.files)) located c.drop_sources.ensures.used in
     let refused = cache_longer c.args.stores (Some c.as_str.result.now) (at c.open_sources.new.files) (at c.take_shelf.new.files) (at c.drop_sources.new.files) c.in-Err.outcome c.in-Err.ensures.err c.drop_sources.ensures.kept dropped in
     let named = subst (λ q. CacheOpened c.args.stores (Some q) (at c.open_sources.new.files) (Err c.in-Err.outcome) (at c.drop_sources.new.files)) c.as_str.ensures refused in
     record { ends = λ o. inr (record { disk = _; dial = _; out = _; gave = tt; did = ((there, opened.kept, rw c.as_slice.ensures at opened.used), refl, refl); then = inl (named, refl, refl) }) }
@@ -78,7 +78,7 @@ returns g c =
     let d = with_cache (Some (shelf_of D.files D.place D.faults c.in-Ok.shelf)) (at c.take_shelf.new.files) in
     let e = at c.fill_between.new.files in
     let taken = subst (λ q. CacheOpened c.args.stores (Some q) f (Ok tt) d) c.as_str.ensures c.in-Ok.ensures.ok in
-    let at_stores = subst (λ ns. FilledBetween ns c.as_str-2.result.now c.as_slice-2.result.now (sources d k) (sources e j) c.fill_between.result) located c.fill_between.ensures.filled in
-    let at_cache = subst (λ q. FilledBetween c.args.stores q c.as_slice-2.result.now (sources d k) (sources e j) c.fill_between.result) c.as_str-2.ensures at_stores in
-    let between = subst (λ qs. FilledBetween c.args.stores c.args.cache qs (sources d k) (sources e j) c.fill_between.result) c.as_slice-2.ensures at_cache in
+    let at_stores = subst (λ ns. FilledBetween ns c.as_str-2.result.now c.as_slice-2.result.now (storage d k) (storage e j) c.fill_between.result) located c.fill_between.ensures.filled in
+    let at_cache = subst (λ q. FilledBetween c.args.stores q c.as_slice-2.result.now (storage d k) (storage e j) c.fill_between.result) c.as_str-2.ensures at_stores in
+    let between = subst (λ qs. FilledBetween c.args.stores c.args.cache qs (storage d k) (storage e j) c.fill_between.result) c.as_slice-2.ensures at_cache in
     record { ends = λ p. cache_ends c.args.stores c.args.cache c.args.indexes k j p b f d e c.fill_between.result (there, opened.kept, rw c.as_slice.ensures at opened.used) taken between }

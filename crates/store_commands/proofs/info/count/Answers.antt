@@ -8,7 +8,7 @@ use Rattle.command_steps.proofs.Consulted.{only_read, reads_consult}
 use Rattle.command_steps.proofs.Dialed.{dials_none}
 use Rattle.command_steps.proofs.Given.{all_stand, fails_first, given_earlier, stand_still}
 use Rattle.command_steps.specs.AnyStores.{IsGiven, IsKnown, asked_in, chunks_in, source_faults, source_files, location_in, said_in}
-use Rattle.command_steps.specs.Sources.{ConsultsStores, sources}
+use Rattle.command_steps.specs.Sources.{ConsultsStores, storage}
 use Rattle.command_steps.specs.declared.any_store.AnyStore.{AnyStore}
 use Rattle.command_words.specs.declared.command.Location.{Location}
 use Rattle.command_steps.proofs.Asking.{none_dialed, none_more}
@@ -52,9 +52,9 @@ returns-in-Ok-clause-counted g c =
     let stores = c.args.stores.now in
     let d = at c.args.files.now in
     let k = state c.args.dial.now in
-    let mid = sources (at c.open_sources.new.files) k in
-    let w = sources d k in
-    let v = sources (at c.close_sources.new.files) (state c.close_sources.new.dial) in
+    let mid = storage (at c.open_sources.new.files) k in
+    let w = storage d k in
+    let v = storage (at c.close_sources.new.files) (state c.close_sources.new.dial) in
     let dialed = c.close_sources.ensures.kept.0.dial in
     let closed = rw c.into_stores.ensures.value at c.close_sources.ensures.given in
     let given : All (IsGiven place g.F.Look.Look.faults state w v) after = λ n s lt. given_earlier place g.F.Look.Look.faults state w mid v opened.kept.folder_counts (dials_none k) dialed (slice_index_or after n s) (closed n s lt) in
@@ -78,9 +78,9 @@ returns-in-Ok-clause-kept g c =
     let kept = rw c.new-chain.ensures.value at c.count_in_store-counted.ensures.kept in
     let located = stand_still place before after kept.places ∙ opened.located in
     let closed = rw c.into_stores.ensures.value at c.close_sources.ensures.kept in
-    let now = sources (at c.close_sources.new.files) (g.D.Dial.state c.close_sources.new.dial) in
+    let now = storage (at c.close_sources.new.files) (g.D.Dial.state c.close_sources.new.dial) in
     reads_consult (at c.args.files.now) (at c.open_sources.new.files) (g.D.Dial.state c.args.dial.now) now c.args.stores.now opened.kept
-    (subst (λ (l : List Location). ConsultsStores l (sources (at c.open_sources.new.files) (g.D.Dial.state c.args.dial.now)) now) located closed)
+    (subst (λ (l : List Location). ConsultsStores l (storage (at c.open_sources.new.files) (g.D.Dial.state c.args.dial.now)) now) located closed)
 
 pub returns-in-StoreFault-clause-kept : goal.returns-in-StoreFault-clause-kept
 returns-in-StoreFault-clause-kept g c =
@@ -92,9 +92,9 @@ returns-in-StoreFault-clause-kept g c =
     let kept = rw c.new-chain.ensures.value at c.count_in_store-counted.ensures.kept in
     let located = stand_still place before after kept.places ∙ opened.located in
     let closed = rw c.into_stores.ensures.value at c.close_sources.ensures.kept in
-    let now = sources (at c.close_sources.new.files) (g.D.Dial.state c.close_sources.new.dial) in
+    let now = storage (at c.close_sources.new.files) (g.D.Dial.state c.close_sources.new.dial) in
     reads_consult (at c.args.files.now) (at c.open_sources.new.files) (g.D.Dial.state c.args.dial.now) now c.args.stores.now opened.kept
-    (subst (λ (l : List Location). ConsultsStores l (sources (at c.open_sources.new.files) (g.D.Dial.state c.args.dial.now)) now) located closed)
+    (subst (λ (l : List Location). ConsultsStores l (storage (at c.open_sources.new.files) (g.D.Dial.state c.args.dial.now)) now) located closed)
 
 pub returns-in-Memory-clause-kept : goal.returns-in-Memory-clause-kept
 returns-in-Memory-clause-kept g c =
@@ -106,9 +106,9 @@ returns-in-Memory-clause-kept g c =
     let kept = rw c.new-chain.ensures.value at c.count_in_store-counted.ensures.kept in
     let located = stand_still place before after kept.places ∙ opened.located in
     let closed = rw c.into_stores.ensures.value at c.close_sources.ensures.kept in
-    let now = sources (at c.close_sources.new.files) (g.D.Dial.state c.close_sources.new.dial) in
+    let now = storage (at c.close_sources.new.files) (g.D.Dial.state c.close_sources.new.dial) in
     reads_consult (at c.args.files.now) (at c.open_sources.new.files) (g.D.Dial.state c.args.dial.now) now c.args.stores.now opened.kept
-    (subst (λ (l : List Location). ConsultsStores l (sources (at c.open_sources.new.files) (g.D.Dial.state c.args.dial.now)) now) located closed)
+    (subst (λ (l : List Location). ConsultsStores l (storage (at c.open_sources.new.files) (g.D.Dial.state c.args.dial.now)) now) located closed)
 
 pub returns-in-StoreFault-clause-counted : goal.returns-in-StoreFault-clause-counted
 returns-in-StoreFault-clause-counted g c =
@@ -126,9 +126,9 @@ returns-in-StoreFault-clause-counted g c =
     let stores = c.args.stores.now in
     let d = at c.args.files.now in
     let k = state c.args.dial.now in
-    let mid = sources (at c.open_sources.new.files) k in
-    let w = sources d k in
-    let v = sources (at c.close_sources.new.files) (state c.close_sources.new.dial) in
+    let mid = storage (at c.open_sources.new.files) k in
+    let w = storage d k in
+    let v = storage (at c.close_sources.new.files) (state c.close_sources.new.dial) in
     let dialed = c.close_sources.ensures.kept.0.dial in
     let closed = rw c.into_stores.ensures.value at c.close_sources.ensures.given in
     let given : All (IsGiven place g.F.Look.Look.faults state w v) after = λ n s lt. given_earlier place g.F.Look.Look.faults state w mid v opened.kept.folder_counts (dials_none k) dialed (slice_index_or after n s) (closed n s lt) in

@@ -2,7 +2,7 @@ use Rattle.std.proofs.Common.{◌≡◌, true, false, Ok, sym, subst, ◌∙◌}
 use Rattle.range_ledger.proofs.Keeps.{put_surveyed, settled_in, settling, torn_surveyed}
 use Rattle.range_ledger.proofs.Steps.{put_leads}
 use Rattle.range_ledger.specs.Runs.{Has, Seen, WhereTells, has_settled}
-use Rattle.range_ledger.specs.Steps.{Puts}
+use Rattle.range_ledger.specs.Steps.{PutLeads}
 use Rattle.range_ledger.proofs.shard.Shard.put.Goals as goal
 
 pub invariant_of-self : goal.invariant_of-self
@@ -41,7 +41,7 @@ returns-in-Ok-clause-exactly g c =
     let same : settling r old c.args.entry c.args.fate new.faults new.held ≡ new =
     settled_in r old c.write.new.self new w.inside c.self.invariant c.args.entry has c.args.fate c.requires.fate c.args.b.now c.requires.may w.sized w.number w.kept w.ok
     w.faults.never_falls m.number m.fates m.held m.faults in
-    let all : WhereTells r old new (Puts r c.args.entry c.args.b.now (has_settled r old c.args.entry) (Ok true) old new) =
-    subst (λ k. WhereTells r old new (Puts r c.args.entry c.args.b.now k (Ok true) old new)) (sym unset)
-    (subst (λ (v : Seen). WhereTells r old v (Puts r c.args.entry c.args.b.now false (Ok true) old v)) same leads) in
-    subst (λ (v : Seen). WhereTells r v new (Puts r c.args.entry c.args.b.now (has_settled r v c.args.entry) (Ok true) v new)) c.self.view_is all
+    let all : WhereTells r old new (PutLeads r c.args.entry c.args.b.now (has_settled r old c.args.entry) (Ok true) old new) =
+    subst (λ k. WhereTells r old new (PutLeads r c.args.entry c.args.b.now k (Ok true) old new)) (sym unset)
+    (subst (λ (v : Seen). WhereTells r old v (PutLeads r c.args.entry c.args.b.now false (Ok true) old v)) same leads) in
+    subst (λ (v : Seen). WhereTells r v new (PutLeads r c.args.entry c.args.b.now (has_settled r v c.args.entry) (Ok true) v new)) c.self.view_is all
