@@ -1,6 +1,7 @@
 //! Each connection that comes is served by a thread of its own.
 
-ghost use Rattle.std.specs.Prelude.{◌≡◌, ◌≢◌, ◌<◌, ◌≤◌, [], false, Some};
+ghost use Rattle.std.specs.Prelude.{◌≡◌, ◌≢◌, ◌<◌, ◌≤◌, ◌++◌, [], ◌∷◌, false, Some};
+ghost use Rattle.std.specs.Option.{option_map};
 ghost use Rattle.dsy_base.specs.Counts.{Rose};
 ghost use Rattle.dsy_base.specs.Links.{IsFreshLink, ListenState};
 ghost use Rattle.locked_shelf.specs.Endings.{EndsOver};
@@ -56,6 +57,8 @@ fn give_one<L: Listen, F: Folder, M: Mode>(
     ended: EndedLink<L::Link, F, M>,
     tally: &mut Tally,
 )
+    ensures given { (L.state listen.new).ended
+        ≡ option_map (λ done. done ++ L.Link.state ended.link ∷ []) (L.state listen.old).ended }
     ensures back { (first : ListenState) →
         IsServing (EndsOver F.opening F.never_fails M.writable L.Link.tells) first
         (L.state listen.old) tally.old.pending tally.old.lacking
