@@ -16,6 +16,7 @@ import os
 import random
 import resource
 import shutil
+import signal
 import subprocess
 import sys
 import time
@@ -56,6 +57,10 @@ class Shim:
         built = subprocess.run(words, stdout=subprocess.PIPE, stderr=subprocess.STDOUT)
         if built.returncode != 0:
             raise Skip(f'cc can\'t compile {SOURCE}: {built.stdout.decode()}')
+        told = os.path.join(folder, 'told')
+        program.run(['list-chunks', 'a.caibx'], folder, self.environment('stat', 0, errno.EIO, False, told))
+        if not file_bytes(told):
+            raise Skip('the program makes no call of the C library that is seen here')
 
     def environment(self, call, at, error, more, told):
         given = {'LD_PRELOAD': self.path, 'FAIL_CALL': call, 'FAIL_AT': str(at), 'FAIL_ERROR': str(error),
@@ -92,6 +97,7 @@ def lay_out(folder):
     put_file(path('image'), b''.join(IMAGE))
     put_file(path('cut'), CUT)
     put_file(path('o'), OLD)
+    put_file(path('new.caibx'), b'an older index')
     formats.write_index(path('s.caibx'), formats.index_of_pieces(PIECES))
     put_file(path('s'), b'x' + b''.join(PIECES)[1:])
     os.mkdir(path('to'))
@@ -498,15 +504,61 @@ def accepting_fails(cases, shim):
             expect_ended(ended, 'the listener failed')
 
 
+# Real signals
+
+def stopped_and_continued(process, seconds=0.02):
+    """Stops the process and lets it go on, again and again, until it has ended."""
+    while process.poll() is None:
+        for number in (signal.SIGSTOP, signal.SIGCONT):
+            with contextlib.suppress(ProcessLookupError):
+                process.send_signal(number)
+            time.sleep(seconds)
+    return program.ended(process)
+
+
+def is_stopped(cases):
+    """The system ends a call that waits at a socket with EINTR where the process is stopped and goes on."""
+    def drip(peer, *_):
+        sent = servers.reply(200, ABC)
+        for at in range(0, len(sent), 2):
+            peer.sendall(sent[at:at + 2])
+            time.sleep(0.03)
+    for what, words in (('extract', ['extract', '-s', None, 'b.caibx', 'p']),
+                        ('cache', ['cache', '-c', '.', '-s', None, 'b.caibx'])):
+        with cases.case(f'{what} is stopped and goes on while a reply comes slowly') as folder:
+            formats.write_index(os.path.join(folder, 'b.caibx'), formats.index_of_pieces([ABC]))
+            with servers.Server(drip) as server:
+                words = [word or server.url() for word in words]
+                expect_ended(stopped_and_continued(program.start(words, folder)))
+                expect_equal(len(server.asked), 1, 'how often the server was asked')
+    for workers in ('1', '8'):
+        with cases.case(f'chunk-server -n {workers} is stopped and goes on while a request comes slowly') as folder:
+            formats.write_chunk(os.path.join(folder, 'st'), formats.name_of(ABC), ABC)
+            with ChunkServer(folder, '-w', '-n', workers) as server:
+                for sent, wanted in ASKED:
+                    expect_equal(said_while_stopped(server, sent), wanted.bytes, 'the reply')
+
+
+def said_while_stopped(server, sent):
+    with server.connect() as peer:
+        for at in range(0, len(sent), len(sent) // 8):
+            for number in (signal.SIGSTOP, signal.SIGCONT):
+                server.process.send_signal(number)
+                time.sleep(0.01)
+            peer.sendall(sent[at:at + len(sent) // 8])
+        peer.shutdown(1)
+        return to_the_end(peer)
+
+
 # Want of memory
 
 def refused_memory(cases, shim):
-    """Each time that memory is taken it is refused once; or from there on."""
+    """Each time that memory is taken it is refused once; and from every third time on."""
     for what in SCENES:
         for more in (False, True):
-            with cases.case(f'{what}: memory is refused {"from each time on" if more else "each time once"}') as folder:
+            with cases.case(f'{what}: memory is refused {"from a time on" if more else "each time once"}') as folder:
                 scene = scene_of(folder, what)
-                for at in range(MOST):
+                for at in range(0, MOST, 3 if more else 1):
                     scene.anew()
                     ended, paths = shim.run(scene, 'memory', at, errno.ENOMEM, more)
                     try:
@@ -552,10 +604,11 @@ def main():
     cases = Cases('failing')
     each = sys.argv[1:] == ['--all']
     little_space(cases)
+    is_stopped(cases)
     try:
         shim = Shim(cases.top)
     except Skip as why:
-        cases.skip('all cases but those of little address space', why)
+        cases.skip('all cases but those of little address space and of signals', why)
         return cases.end()
     one_call_fails(cases, shim, each)
     disk_is_full(cases, shim)

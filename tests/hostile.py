@@ -1,5 +1,5 @@
 #!/usr/bin/env python3
-"""Random bytes at the program: indexes, requests, replies and words that were right and then changed.
+"""Random bytes at the program: indexes, requests, replies, words and locations that were right and then changed.
 
     tests/hostile.py                        as many rounds as take a minute or two
     tests/hostile.py --rounds N [--seed S]  N rounds of each kind, from a seed
@@ -31,7 +31,7 @@ from replies import (LIMIT, RandomRequest, expect_serves, lay_out, path_of, put,
                      said_to)
 from servers import ChunkServer, in_chunks, reply, to_the_end
 
-ROUNDS = {'indexes': 1_000, 'requests': 3_000, 'replies': 800, 'words': 600}
+ROUNDS = {'indexes': 1_000, 'requests': 3_000, 'replies': 800, 'words': 600, 'locations': 200}
 MIB = 1 << 20
 SPACE = 64 * MIB
 # The most peak memory in KiB of a run whose index lists little.
@@ -345,6 +345,34 @@ def said_words(chance, folder):
     expect_equal(os.listdir(folder), [], f'the folder after {broken}')
 
 
+# Locations
+
+PIECES_OF_PATHS = [' ', '\t', '\r\n', '\n', '%0d%0a', '%00', '\\', '..', '.', '/', '//', ';', 'é', '\x01', '\x7f',
+                   '<', '"', '`', '{', '|', '^', '%', '%zz', '?', '#', '@', ':', '[', '+', '&', 'HTTP/1.1', '%20',
+                   'a', '\u2028']
+ASK = re.compile(rb'HEAD (/[\x21-\x7e]*) HTTP/1\.1\r\nHost: 127\.0\.0\.1:[0-9]+\r\nAccept-Encoding: identity\r\n'
+                 rb'Connection: close')
+
+
+def locations(rounds):
+    """Whatever the path of a location is, the request is of one line, and asks for a chunk without `..` before it."""
+    with servers.Server(lambda peer, *_: peer.sendall(reply(404))) as server:
+        def one(chance, folder):
+            put_file(os.path.join(folder, 'a.caibx'), formats.ABC_INDEX)
+            path = ''.join(chance.choice(PIECES_OF_PATHS) for _ in range(chance.randint(0, 8)))
+            before = len(server.heads)
+            ended = program.run(['info', '-s', f'http://127.0.0.1:{server.port}/{path}', 'a.caibx'], folder)
+            if len(server.heads) == before:
+                expect_ended(ended, 'word 2: BadLocation', what=repr(path))
+            else:
+                expect_ended(ended, '', formats.figures(formats.read_index(formats.ABC_INDEX), 0), repr(path))
+                asked = ASK.fullmatch(server.heads[-1])
+                expect(asked and b'..' not in asked[1].split(b'/') and asked[1].endswith(path_of(b'abc').encode()),
+                       f'the request for {path!r} is {server.heads[-1]}')
+
+        rounds.run('locations', one)
+
+
 # Memory and time
 
 def sizes(cases):
@@ -385,6 +413,7 @@ ENDLESS = {
     'the extension of a chunk without an end': (CHUNKED + b'1;', b'x', 'failed'),
     'chunks of one byte with extensions': (CHUNKED, b'1;' + b'x' * 200 + b'\r\na\r\n', 'damaged'),
     'a chunk of 2^64 - 1 bytes': (CHUNKED + b'ffffffffffffffff\r\n', b'x', 'damaged'),
+    'chunks whose sizes add up to 2^64': (CHUNKED + b'1\r\na\r\nffffffffffffffff\r\n', b'x', 'damaged'),
     'a size of 17 digits': (CHUNKED + b'00000000000000001\r\n', b'x', 'failed'),
     'a trailer without an end': (CHUNKED + b'0\r\n', b'A: b\r\n', 'failed'),
     'digits without an end': (CHUNKED, b'0', 'failed'),
@@ -485,6 +514,7 @@ def main():
     requests(cases, rounds)
     replies(rounds)
     rounds.run('words', said_words)
+    locations(rounds)
     sizes(cases)
     endless_replies(cases)
     endless_requests(cases)
