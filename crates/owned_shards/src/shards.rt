@@ -1,7 +1,7 @@
 //! A target in shards, all of which one worker owns. Offsets are bytes from 0; entries and shards count from 0.
 
 ghost use Rattle.std.specs.Prelude.{◌≡◌, ◌+◌, ◌++◌, ◌<◌, ◌≤◌, ◌∷◌, [], ℕ, length};
-ghost use Rattle.std.specs.Prelude.{map, true, vec_capacity, vec_len};
+ghost use Rattle.std.specs.Prelude.{false, map, true, vec_capacity, vec_len};
 ghost use Rattle.caibx_codec.specs.Listing.{count_of};
 ghost use Rattle.range_ledger.specs.Runs.{IsDealt};
 ghost use Rattle.owned_shards.specs.Wholes.{IsWhole, whole_of};
@@ -130,6 +130,10 @@ impl<'a, R: RunName, T: Target> Ledger for Shards<'a, R, T> {
     ghost fates = { λ s. s.fates };
 
     ghost faults = { λ s. s.faults };
+
+    ghost tells = { T.tells };
+
+    ghost never_fails = { false };
 
     fn rules(&self) {
         let _ = &self.shards;
