@@ -1,6 +1,6 @@
 -- What the shards of a target make up together. Entries and shards count from 0.
 use Rattle.std.specs.Prelude.{◌≡◌, ℕ, ◌+◌, ◌<◌, List, [], ◌∷◌, ◌++◌, length, zero, suc}
-use Rattle.std.specs.Prelude.{true, Bool, Option, Some, None, IfSome, IsTrue}
+use Rattle.std.specs.Prelude.{Bool, Option, Some, None, IfSome, IsTrue}
 use Rattle.std.specs.Prelude.{if◌then◌else◌, is_some}
 use Rattle.std.specs.List.{flat_map, sum_by}
 use Rattle.caibx_codec.specs.Listing.{Listing, count_of, image_length, start_of}
@@ -54,14 +54,12 @@ ShardsWith P r k (s ∷ ss) = (s.number ≡ k) × (P s × ShardsWith P r (k + 1)
 abbrev pub AreShards : Run → ℕ → List Seen → Type 0
 AreShards r k ss = ShardsWith (IsTold r) r k ss
 
--- the run is over this index by this plan, and over a target that holds this once it has the image's length; each entry
--- may be filled
+-- the run is over this index by this plan, and over a target that holds this once it has the image's length
 pub record IsRunOver (r : Run) (l : Listing) (d : Deal) (told : Bool) (old : Held) : Type 0 where
   pub dealt : IsDealt r l d
   pub workers : 0 < d.workers
   pub cuts : AreShardEnds l (deal_shards d) d.cuts
   pub base : IfSome old.bytes (λ o. r.base ≡ resized o (image_length l))
-  pub may : (e : ℕ) → r.may e ≡ true
   pub tells : r.tells ≡ told
 
 -- what a target in shards keeps
@@ -69,7 +67,6 @@ pub record IsWhole (r : Run) (told : Bool) (left : Left) (ss : List Seen) : Type
   pub shards : AreShards r 0 ss
   pub some : 0 < count_of r.listing → 0 < r.shards
   pub size : left.size ≡ image_length r.listing
-  pub may : (e : ℕ) → r.may e ≡ true
   pub tells : r.tells ≡ told
 
 -- the fates of the first n shards, of which none is settled

@@ -102,7 +102,6 @@ new-requires-clause-whole g c =
       shards = with_map r (Begun r) (IsTold r) (λ s b. b.told) 0 ss begun;
       some = some;
       size = ap (λ (x : Left). x.size) rest ∙ (ap (λ (h : Held). h.size) resized_to ∙ length_same);
-      may = over.may;
       tells = over.tells;
     } in
     whole
@@ -128,7 +127,6 @@ returns-in-Ok-split-clause-ok g c =
       shards = with_map r (Begun r) (IsTold r) (λ s b. b.told) 0 ss begun;
       some = some;
       size = ap (λ (x : Left). x.size) rest ∙ (ap (λ (h : Held). h.size) resized_to ∙ length_same);
-      may = over.may;
       tells = over.tells;
     } in
     let based : r.tells ≡ true → joined_bytes ss ≡ r.base = λ told. all_base r told some ss begun (base_size r old.bytes (image_length l) g.T.View.tells over.tells is over.base told ∙ length_same) in
@@ -157,7 +155,6 @@ returns-in-Ok-split-clause-first g c =
       shards = with_map r (Begun r) (IsTold r) (λ s b. b.told) 0 ss begun;
       some = some;
       size = ap (λ (x : Left). x.size) rest ∙ (ap (λ (h : Held). h.size) resized_to ∙ length_same);
-      may = over.may;
       tells = over.tells;
     } in
     subst (λ (w : Whole). FirstFates w.fates (count_of l)) (sym c.new.ensures) (all_first r 0 ss begun (count_of l))
@@ -183,7 +180,6 @@ returns-in-Ok-split-clause-yes g c =
       shards = with_map r (Begun r) (IsTold r) (λ s b. b.told) 0 ss begun;
       some = some;
       size = ap (λ (x : Left). x.size) rest ∙ (ap (λ (h : Held). h.size) resized_to ∙ length_same);
-      may = over.may;
       tells = over.tells;
     } in
     subst (λ (w : Whole). IfSome w.held.bytes (λ t. SettledRight l t w.fates (count_of l))) (sym c.new.ensures)
@@ -210,7 +206,6 @@ returns-in-Ok-split-clause-no g c =
       shards = with_map r (Begun r) (IsTold r) (λ s b. b.told) 0 ss begun;
       some = some;
       size = ap (λ (x : Left). x.size) rest ∙ (ap (λ (h : Held). h.size) resized_to ∙ length_same);
-      may = over.may;
       tells = over.tells;
     } in
     let based : r.tells ≡ true → joined_bytes ss ≡ r.base = λ told. all_base r told some ss begun (base_size r old.bytes (image_length l) g.T.View.tells over.tells is over.base told ∙ length_same) in

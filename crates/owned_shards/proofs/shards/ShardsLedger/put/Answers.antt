@@ -2,7 +2,7 @@ use Rattle.std.proofs.Common.{◌≡◌, length, set, vec_len, IfSome, sym, subs
 use Rattle.std.proofs.lemmas.List.{get_or-set_same}
 use Rattle.caibx_codec.specs.Listing.{id_of, kind_of}
 use Rattle.chunk_store.specs.Names.{name_of}
-use Rattle.owned_shards.proofs.Putting.{Found, PutEnds, found, put_ends, stays_whole}
+use Rattle.owned_shards.proofs.Putting.{Found, PutEnds, found, put_ends, stays_whole, where_told}
 use Rattle.owned_shards.proofs.Wholes.{has_it}
 use Rattle.range_ledger.specs.Runs.{Has, Seen}
 use Rattle.owned_shards.specs.Wholes.{IsTold, Whole, whole_of}
@@ -28,6 +28,13 @@ put-put-requires-clause-inside g c =
     let at : Found r ss k c.args.entry = found r c.self.inside.index.now c.self.inside.plan.now c.self.invariant.0 ss is.shards k c.args.entry
     c.shard_of-k.ensures.from c.shard_of-k.ensures.to c.shard_of-k.ensures.inside in
     has_it r ss is.shards k at.lt c.index_mut.result.now c.index_mut.ensures.value c.args.entry at.from at.to
+
+pub put-put-requires-clause-may : goal.put-put-requires-clause-may
+put-put-requires-clause-may g c = record {
+  size = c.requires.chunk;
+  named = λ told. c.requires.right (sym c.self.invariant.1.tells ∙ told);
+  may = c.requires.may;
+}
 
 pub index-requires : goal.index-requires
 index-requires g c =
@@ -83,7 +90,7 @@ returns-clause-ok g c =
     let tells = g.T.View.tells in
     let has : Has r s c.args.entry = has_it r ss is.shards k at.lt s here c.args.entry at.from at.to in
     let right : IfSome (whole_of left tells ss).held.bytes (λ t. name_of (kind_of r.listing) c.args.chunk.now ≡ id_of r.listing c.args.entry) =
-    subst (λ (w : Whole). IfSome w.held.bytes (λ t. name_of (kind_of r.listing) c.args.chunk.now ≡ id_of r.listing c.args.entry)) (sym c.self.view_is) c.requires.right in
+    where_told left tells ss c.requires.right in
     let ends = put_ends r left tells ss is k at.lt s here c.args.entry c.requires.listed has new c.args.fate c.requires.fate c.requires.made c.args.chunk.now c.requires.chunk right c.put-put.result
     n.changed n.bytes n.left n.kept n.failed n.only n.err n.faults in
     (subst (λ (w : Whole). PutEnds r.listing c.args.entry c.args.fate w (whole_of left tells (set ss k new)) c.put-put.result) c.self.view_is ends).ok
@@ -104,7 +111,7 @@ returns-clause-origin g c =
     let tells = g.T.View.tells in
     let has : Has r s c.args.entry = has_it r ss is.shards k at.lt s here c.args.entry at.from at.to in
     let right : IfSome (whole_of left tells ss).held.bytes (λ t. name_of (kind_of r.listing) c.args.chunk.now ≡ id_of r.listing c.args.entry) =
-    subst (λ (w : Whole). IfSome w.held.bytes (λ t. name_of (kind_of r.listing) c.args.chunk.now ≡ id_of r.listing c.args.entry)) (sym c.self.view_is) c.requires.right in
+    where_told left tells ss c.requires.right in
     let ends = put_ends r left tells ss is k at.lt s here c.args.entry c.requires.listed has new c.args.fate c.requires.fate c.requires.made c.args.chunk.now c.requires.chunk right c.put-put.result
     n.changed n.bytes n.left n.kept n.failed n.only n.err n.faults in
     (subst (λ (w : Whole). PutEnds r.listing c.args.entry c.args.fate w (whole_of left tells (set ss k new)) c.put-put.result) c.self.view_is ends).origin
@@ -125,7 +132,7 @@ returns-clause-changed g c =
     let tells = g.T.View.tells in
     let has : Has r s c.args.entry = has_it r ss is.shards k at.lt s here c.args.entry at.from at.to in
     let right : IfSome (whole_of left tells ss).held.bytes (λ t. name_of (kind_of r.listing) c.args.chunk.now ≡ id_of r.listing c.args.entry) =
-    subst (λ (w : Whole). IfSome w.held.bytes (λ t. name_of (kind_of r.listing) c.args.chunk.now ≡ id_of r.listing c.args.entry)) (sym c.self.view_is) c.requires.right in
+    where_told left tells ss c.requires.right in
     let ends = put_ends r left tells ss is k at.lt s here c.args.entry c.requires.listed has new c.args.fate c.requires.fate c.requires.made c.args.chunk.now c.requires.chunk right c.put-put.result
     n.changed n.bytes n.left n.kept n.failed n.only n.err n.faults in
     (subst (λ (w : Whole). PutEnds r.listing c.args.entry c.args.fate w (whole_of left tells (set ss k new)) c.put-put.result) c.self.view_is ends).changed
@@ -146,7 +153,7 @@ returns-clause-err g c =
     let tells = g.T.View.tells in
     let has : Has r s c.args.entry = has_it r ss is.shards k at.lt s here c.args.entry at.from at.to in
     let right : IfSome (whole_of left tells ss).held.bytes (λ t. name_of (kind_of r.listing) c.args.chunk.now ≡ id_of r.listing c.args.entry) =
-    subst (λ (w : Whole). IfSome w.held.bytes (λ t. name_of (kind_of r.listing) c.args.chunk.now ≡ id_of r.listing c.args.entry)) (sym c.self.view_is) c.requires.right in
+    where_told left tells ss c.requires.right in
     let ends = put_ends r left tells ss is k at.lt s here c.args.entry c.requires.listed has new c.args.fate c.requires.fate c.requires.made c.args.chunk.now c.requires.chunk right c.put-put.result
     n.changed n.bytes n.left n.kept n.failed n.only n.err n.faults in
     (subst (λ (w : Whole). PutEnds r.listing c.args.entry c.args.fate w (whole_of left tells (set ss k new)) c.put-put.result) c.self.view_is ends).err
@@ -167,7 +174,7 @@ returns-clause-kept g c =
     let tells = g.T.View.tells in
     let has : Has r s c.args.entry = has_it r ss is.shards k at.lt s here c.args.entry at.from at.to in
     let right : IfSome (whole_of left tells ss).held.bytes (λ t. name_of (kind_of r.listing) c.args.chunk.now ≡ id_of r.listing c.args.entry) =
-    subst (λ (w : Whole). IfSome w.held.bytes (λ t. name_of (kind_of r.listing) c.args.chunk.now ≡ id_of r.listing c.args.entry)) (sym c.self.view_is) c.requires.right in
+    where_told left tells ss c.requires.right in
     let ends = put_ends r left tells ss is k at.lt s here c.args.entry c.requires.listed has new c.args.fate c.requires.fate c.requires.made c.args.chunk.now c.requires.chunk right c.put-put.result
     n.changed n.bytes n.left n.kept n.failed n.only n.err n.faults in
     (subst (λ (w : Whole). PutEnds r.listing c.args.entry c.args.fate w (whole_of left tells (set ss k new)) c.put-put.result) c.self.view_is ends).kept
@@ -188,7 +195,7 @@ returns-clause-others g c =
     let tells = g.T.View.tells in
     let has : Has r s c.args.entry = has_it r ss is.shards k at.lt s here c.args.entry at.from at.to in
     let right : IfSome (whole_of left tells ss).held.bytes (λ t. name_of (kind_of r.listing) c.args.chunk.now ≡ id_of r.listing c.args.entry) =
-    subst (λ (w : Whole). IfSome w.held.bytes (λ t. name_of (kind_of r.listing) c.args.chunk.now ≡ id_of r.listing c.args.entry)) (sym c.self.view_is) c.requires.right in
+    where_told left tells ss c.requires.right in
     let ends = put_ends r left tells ss is k at.lt s here c.args.entry c.requires.listed has new c.args.fate c.requires.fate c.requires.made c.args.chunk.now c.requires.chunk right c.put-put.result
     n.changed n.bytes n.left n.kept n.failed n.only n.err n.faults in
     (subst (λ (w : Whole). PutEnds r.listing c.args.entry c.args.fate w (whole_of left tells (set ss k new)) c.put-put.result) c.self.view_is ends).others
@@ -209,7 +216,7 @@ returns-clause-grows g c =
     let tells = g.T.View.tells in
     let has : Has r s c.args.entry = has_it r ss is.shards k at.lt s here c.args.entry at.from at.to in
     let right : IfSome (whole_of left tells ss).held.bytes (λ t. name_of (kind_of r.listing) c.args.chunk.now ≡ id_of r.listing c.args.entry) =
-    subst (λ (w : Whole). IfSome w.held.bytes (λ t. name_of (kind_of r.listing) c.args.chunk.now ≡ id_of r.listing c.args.entry)) (sym c.self.view_is) c.requires.right in
+    where_told left tells ss c.requires.right in
     let ends = put_ends r left tells ss is k at.lt s here c.args.entry c.requires.listed has new c.args.fate c.requires.fate c.requires.made c.args.chunk.now c.requires.chunk right c.put-put.result
     n.changed n.bytes n.left n.kept n.failed n.only n.err n.faults in
     (subst (λ (w : Whole). PutEnds r.listing c.args.entry c.args.fate w (whole_of left tells (set ss k new)) c.put-put.result) c.self.view_is ends).grows
@@ -230,7 +237,7 @@ returns-clause-bytes g c =
     let tells = g.T.View.tells in
     let has : Has r s c.args.entry = has_it r ss is.shards k at.lt s here c.args.entry at.from at.to in
     let right : IfSome (whole_of left tells ss).held.bytes (λ t. name_of (kind_of r.listing) c.args.chunk.now ≡ id_of r.listing c.args.entry) =
-    subst (λ (w : Whole). IfSome w.held.bytes (λ t. name_of (kind_of r.listing) c.args.chunk.now ≡ id_of r.listing c.args.entry)) (sym c.self.view_is) c.requires.right in
+    where_told left tells ss c.requires.right in
     let ends = put_ends r left tells ss is k at.lt s here c.args.entry c.requires.listed has new c.args.fate c.requires.fate c.requires.made c.args.chunk.now c.requires.chunk right c.put-put.result
     n.changed n.bytes n.left n.kept n.failed n.only n.err n.faults in
     (subst (λ (w : Whole). PutEnds r.listing c.args.entry c.args.fate w (whole_of left tells (set ss k new)) c.put-put.result) c.self.view_is ends).bytes
@@ -251,7 +258,7 @@ returns-clause-faults g c =
     let tells = g.T.View.tells in
     let has : Has r s c.args.entry = has_it r ss is.shards k at.lt s here c.args.entry at.from at.to in
     let right : IfSome (whole_of left tells ss).held.bytes (λ t. name_of (kind_of r.listing) c.args.chunk.now ≡ id_of r.listing c.args.entry) =
-    subst (λ (w : Whole). IfSome w.held.bytes (λ t. name_of (kind_of r.listing) c.args.chunk.now ≡ id_of r.listing c.args.entry)) (sym c.self.view_is) c.requires.right in
+    where_told left tells ss c.requires.right in
     let ends = put_ends r left tells ss is k at.lt s here c.args.entry c.requires.listed has new c.args.fate c.requires.fate c.requires.made c.args.chunk.now c.requires.chunk right c.put-put.result
     n.changed n.bytes n.left n.kept n.failed n.only n.err n.faults in
     (subst (λ (w : Whole). PutEnds r.listing c.args.entry c.args.fate w (whole_of left tells (set ss k new)) c.put-put.result) c.self.view_is ends).faults
@@ -272,7 +279,7 @@ returns-clause-cause g c =
     let tells = g.T.View.tells in
     let has : Has r s c.args.entry = has_it r ss is.shards k at.lt s here c.args.entry at.from at.to in
     let right : IfSome (whole_of left tells ss).held.bytes (λ t. name_of (kind_of r.listing) c.args.chunk.now ≡ id_of r.listing c.args.entry) =
-    subst (λ (w : Whole). IfSome w.held.bytes (λ t. name_of (kind_of r.listing) c.args.chunk.now ≡ id_of r.listing c.args.entry)) (sym c.self.view_is) c.requires.right in
+    where_told left tells ss c.requires.right in
     let ends = put_ends r left tells ss is k at.lt s here c.args.entry c.requires.listed has new c.args.fate c.requires.fate c.requires.made c.args.chunk.now c.requires.chunk right c.put-put.result
     n.changed n.bytes n.left n.kept n.failed n.only n.err n.faults in
     (subst (λ (w : Whole). PutEnds r.listing c.args.entry c.args.fate w (whole_of left tells (set ss k new)) c.put-put.result) c.self.view_is ends).cause
@@ -293,7 +300,7 @@ returns-clause-failed g c =
     let tells = g.T.View.tells in
     let has : Has r s c.args.entry = has_it r ss is.shards k at.lt s here c.args.entry at.from at.to in
     let right : IfSome (whole_of left tells ss).held.bytes (λ t. name_of (kind_of r.listing) c.args.chunk.now ≡ id_of r.listing c.args.entry) =
-    subst (λ (w : Whole). IfSome w.held.bytes (λ t. name_of (kind_of r.listing) c.args.chunk.now ≡ id_of r.listing c.args.entry)) (sym c.self.view_is) c.requires.right in
+    where_told left tells ss c.requires.right in
     let ends = put_ends r left tells ss is k at.lt s here c.args.entry c.requires.listed has new c.args.fate c.requires.fate c.requires.made c.args.chunk.now c.requires.chunk right c.put-put.result
     n.changed n.bytes n.left n.kept n.failed n.only n.err n.faults in
     (subst (λ (w : Whole). PutEnds r.listing c.args.entry c.args.fate w (whole_of left tells (set ss k new)) c.put-put.result) c.self.view_is ends).failed
