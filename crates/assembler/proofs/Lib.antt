@@ -26,3 +26,4 @@ pub mod EconomyPasses
 pub mod EconomyReported
 pub mod OnePlan
 pub mod WholePasses
+pub mod OneWorker

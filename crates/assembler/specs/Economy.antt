@@ -1,5 +1,5 @@
 -- What the chunks of all wants cost where nothing fails, by where each comes from.
-use Rattle.std.specs.Prelude.{◌≡◌, ◌≢◌, ◌⊎◌, ℕ, zero, suc, ◌+◌, List, Result, Ok, Err}
+use Rattle.std.specs.Prelude.{◌≡◌, ◌≢◌, ◌⊎◌, ℕ, zero, suc, ◌+◌, List, Bool, if◌then◌else◌, Result, Ok, Err}
 use Rattle.range_survey.specs.Reports.{one_if, tally}
 use Rattle.assembler.specs.declared.fault.ExtractFault.{ExtractFault}
 use Rattle.assembler.specs.declared.fault.ExtractFault.TheVariants as faults
@@ -18,6 +18,10 @@ use Rattle.store_chain.specs.declared.refused.Refused.TheVariants as refused
 abbrev pub sum_below : (ℕ → ℕ) → ℕ → ℕ
 sum_below f zero = 0
 sum_below f (suc k) = sum_below f k + f k
+
+-- the source of one of these wants, and else one that costs nothing
+abbrev pub source_if : (ℕ → Bool) → (ℕ → Fate) → ℕ → Fate
+source_if these source w = if these w then source w else fate.Kept
 
 -- how often both passes ask the stores for a chunk with this source: the second asks where the first found none
 abbrev pub all_asks : Fate → ℕ

@@ -1,5 +1,6 @@
 -- What a pass over the wants of an index leaves.
 use Rattle.std.specs.Prelude.{◌≡◌, ◌≢◌, ◌⊎◌, ◌++◌, ℕ, ◌+◌, ◌<◌, List, map, slice_index, Bool, true, false, Option, Some}
+use Rattle.std.specs.Prelude.{if◌then◌else◌}
 use Rattle.std.specs.Prelude.{Result, Ok, Err, IfErr, OnOk}
 use Rattle.assembler.specs.Faults.{fault_of}
 use Rattle.assembler.specs.Losses.{lost_want}
@@ -9,7 +10,7 @@ use Rattle.assembler.specs.declared.fault.ExtractFault.TheVariants as faults
 use Rattle.assembler.specs.declared.fault.Lost.{Lost}
 use Rattle.caibx_codec.specs.Asks.{IsListedGet}
 use Rattle.caibx_codec.specs.Listing.{Listing, count_of, id_of, kind_of, size_of}
-use Rattle.chunk_sources.specs.Asks.{AreSpared, AsksAtMost, asks_below, calls_below}
+use Rattle.chunk_sources.specs.Asks.{AreSpared, AsksAtMost, IsSpared, asks_below, calls_below}
 use Rattle.chunk_sources.specs.Caches.{CacheLacks, HaveOneSize, cached_in}
 use Rattle.chunk_sources.specs.Economy.{source_over}
 use Rattle.chunk_sources.specs.Losses.{CopiesFailed, Had, MayLack, RefusedBy}
@@ -66,6 +67,10 @@ one_pass n = n
 abbrev pub two_passes : ℕ → ℕ
 two_passes n = n + n
 
+-- of these wants those that are spared, and all others
+abbrev pub others_spared : (ℕ → Bool) → (ℕ → Bool) → ℕ → Bool
+others_spared these spared w = if these w then spared w else true
+
 module _ {S V : Type 0} (store : StoreWords S) (view : ViewWords V) where
   -- what holds where nothing fails, of all that the cache and the stores hold, which have chunks of one size for each
   -- id
@@ -118,6 +123,20 @@ module _ {S V : Type 0} (store : StoreWords S) (view : ViewWords V) where
       pub had : HadAll a b.fates
       pub asks : PassAsks times a b
       pub stretch : Stretch store view t (λ w. w < t.plan.wants) a b
+
+    -- how often one pass over these wants asks: once for each of them at most, not for a spared one, and for no other
+    abbrev pub ShareAsks : (ℕ → Bool) → Stage S V → Stage S V → Type 0
+    ShareAsks these a b = (spared : ℕ → Bool)
+        → ((w : ℕ) → w < t.plan.wants → these w ≡ true → spared w ≡ true
+        → IsSpared store view t (λ j. settled a.fates j ≡ true) (from a) (from b) w)
+        → AsksAtMost store (calls_below (others_spared these spared) t.plan.wants)
+        (λ q. asks_below (want_id t.listing t.plan) (others_spared these spared) t.plan.wants q) a.kit.chain b.kit.chain
+
+    -- what one pass over these wants leaves
+    pub record HasPassedShare (these : ℕ → Bool) (a b : Stage S V) : Type 0 where
+      pub had : HadAll a b.fates
+      pub asks : ShareAsks these a b
+      pub stretch : Stretch store view t (λ w. (w < t.plan.wants) × (these w ≡ true)) a b
 
     -- how the second pass ends. Its first lost entry is named, before which all are settled; no entry before the one
     -- whose write ended it was lost; each entry that is left open is lost, unless a write that failed or want of memory

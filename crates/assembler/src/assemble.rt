@@ -1,6 +1,6 @@
 //! The assembly of an image: the length, the survey, and two passes over what isn't right.
 
-ghost use Rattle.std.specs.Prelude.{◌≡◌, ℕ, ◌+◌, ◌≤◌, length, None, IfSome, IfOk, vec_len};
+ghost use Rattle.std.specs.Prelude.{◌≡◌, ℕ, ◌+◌, ◌≤◌, length, true, None, IfSome, IfOk, vec_len};
 ghost use Rattle.std.specs.List.{All};
 ghost use Rattle.assembler.specs.Assemblies.{Assembles, IsAssembled};
 ghost use Rattle.assembler.specs.OneKit.{ByPlan, KitUnused, lent};
@@ -50,6 +50,8 @@ fn assemble_with<R: RunName, T: Target, S: Store, V: View, F: Folder>(
     requires kind { kit.chain.kind ≡ kind_of index.now }
     requires cache { IfSome (seen F.Look cache) (λ s. s.kind ≡ kit.chain.kind) }
     requires unnamed { (F.pairs ≡ None) × (F.stores ≡ None) }
+    requires may { (e : ℕ) → R.run.may e ≡ true }
+    requires workers { plan.now.workers ≡ 1 }
     ensures assembled { IsAssembled S.Store V.View
         (record { listing = R.run.listing; plan = plan.now; places = places.now }) (T.held target).bytes
         (T.held result.target).bytes (sources (T.faults target) kit.seeds.items (seen F.Look cache) kit.chain)

@@ -1,6 +1,6 @@
 //! An assembly after its survey. It takes no memory of its own.
 
-ghost use Rattle.std.specs.Prelude.{◌≡◌, ℕ, ◌+◌, ◌≤◌, None, replicate, false, Err, IfOk, IfSome};
+ghost use Rattle.std.specs.Prelude.{◌≡◌, ℕ, ◌+◌, ◌≤◌, None, replicate, true, false, Err, IfOk, IfSome};
 ghost use Rattle.assembler.specs.Assemblies.{IsAssembled};
 ghost use Rattle.assembler.specs.Begun.{HasBegun};
 ghost use Rattle.assembler.specs.Stages.{Ready, task};
@@ -52,6 +52,8 @@ pub(crate) fn run_surveyed<R: RunName, T: Target, S: Store, V: View, F: Folder>(
       cache = seen F.Look cache;
     }) }
     requires unnamed { (F.pairs ≡ None) × (F.stores ≡ None) }
+    requires may { (e : ℕ) → R.run.may e ≡ true }
+    requires workers { wants.now.plan.now.workers ≡ 1 }
     ensures assembled { (old : Held) (f : ℕ) → HasBegun R.run.listing old f ledger.entry →
         IsAssembled S.Store V.View (task R.run.listing wants.now) old.bytes (T.held result.target).bytes
         (sources f kit.seeds.items (seen F.Look cache) kit.chain)

@@ -69,9 +69,14 @@ assemble_with-target-requires-clause-over g c =
       workers = omega (arith, workers);
       cuts = plan.cuts;
       base = based (g.T.View.held c.args.target).bytes (image_length c.args.index.now);
-      may = λ e. refl;
       tells = refl;
     }
+
+pub assemble_with-target-requires-clause-may : goal.assemble_with-target-requires-clause-may
+assemble_with-target-requires-clause-may g c = λ e. refl
+
+pub assemble_with-target-requires-clause-workers : goal.assemble_with-target-requires-clause-workers
+assemble_with-target-requires-clause-workers g c = (by_one c.args.index.now c.len.result c.in-Ok.plan (c.len.ensures ∙ c.requires.size) c.in-Ok.ensures).workers
 
 pub returns-clause-bytes : goal.returns-clause-bytes
 returns-clause-bytes g c =

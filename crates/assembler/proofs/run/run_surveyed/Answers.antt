@@ -28,6 +28,9 @@ err_apart is = absurd (cc)
 err_same : {d e : ExtractFault} → (◌≡◌ {A = Result Report ExtractFault} (Err d) (Err e)) → d ≡ e
 err_same is = cc
 
+pub settle_all-requires-clause-may : goal.settle_all-requires-clause-may
+settle_all-requires-clause-may g c = λ w less any has i among. c.requires.may i
+
 pub returns-clause-assembled : goal.returns-clause-assembled
 returns-clause-assembled g c = λ old f begun.
     let t : Task = record { listing = g.R.RunName.run.listing; plan = c.args.wants.now.plan.now; places = c.args.wants.now.places.now } in
