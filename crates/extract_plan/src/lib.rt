@@ -7,4 +7,4 @@ mod link;
 pub mod plan;
 pub mod seed;
 pub mod seeds;
-mod shard;
+pub mod shard;

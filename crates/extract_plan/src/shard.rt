@@ -32,10 +32,10 @@ pub(crate) fn start(n: usize, shards: usize, k: usize) -> usize
     k * n / shards
 }
 
-/// The shard that has this entry.
-pub(crate) fn shard_of(n: usize, shards: usize, entry: usize) -> usize
+/// The shard that has this entry, of n entries that are cut into so many shards.
+pub fn shard_of(n: usize, shards: usize, entry: usize) -> usize
     requires entries { n ≤ item_limit }
-    requires few { shards ≤ 128 }
+    requires few { shards ≤ n }
     requires some { 0 < shards }
     requires inside { entry < n }
     ensures from { shard_start n shards result ≤ entry }

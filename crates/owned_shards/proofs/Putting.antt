@@ -10,12 +10,11 @@ use Rattle.dsy_base.specs.Bytes.{Held, held_written}
 use Rattle.dsy_base.specs.Counts.{CountsRefusals, Rose, raised}
 use Rattle.dsy_base.specs.Splits.{Left, held_joined}
 use Rattle.dsy_base.specs.declared.fault.Failed.{Failed}
-use Rattle.extract_plan.specs.Deal.{Deal, deal_shards, shard_start}
 use Rattle.owned_shards.proofs.Wholes.{all_bytes, all_fates, bytes_kept, bytes_written, fate_in, fates_kept, fates_set, has_it, number_at, shard_with, slice_in_whole, told as told_bytes, told_at, told_is, with_length, with_set}
 use Rattle.owned_shards.proofs.Writes.{fills_none, grows_none, grows_set, told_torn, told_written, torn_fills}
 use Rattle.range_ledger.specs.Extents.{begin_in}
 use Rattle.range_ledger.specs.Fills.{Fills, FillsTorn, Grows, WhereTold}
-use Rattle.range_ledger.specs.Runs.{Has, IsDealt, IsKept, Run, Seen, extent_of, first_in, has_settled, slice_at}
+use Rattle.range_ledger.specs.Runs.{Has, IsKept, Run, Seen, extent_of, first_in, has_settled, slice_at}
 use Rattle.owned_shards.specs.Wholes.{AreShards, IsTold, IsWhole, Whole, joined_bytes, joined_faults, whole_of}
 use Rattle.range_survey.specs.Fates.{SettledRight, fate_at, is_made, is_settled, settled}
 use Rattle.range_survey.specs.declared.fate.Fate.{Fate}
@@ -75,6 +74,7 @@ module _ (r : Run) (left : Left) (tells : Bool) (ss : List Seen) (is : IsWhole r
     stays_whole number good = record {
       shards = with_set r (IsTold r) 0 ss i new is.shards (omega (arith, number, number_at r ss is.shards i lt s here)) good;
       some = is.some;
+      few = is.few;
       size = is.size;
       tells = is.tells;
     }
@@ -264,13 +264,9 @@ pub record Found (r : Run) (ss : List Seen) (k e : ℕ) : Type 0 where
   pub from : first_in r k ≤ e
   pub to : e < first_in r (k + 1)
 
-pub found : (r : Run) (l : Listing) (d : Deal) → IsDealt r l d → (ss : List Seen) → AreShards r 0 ss → (k e : ℕ)
-    → shard_start (length d.want_of) (deal_shards d) k ≤ e → e < shard_start (length d.want_of) (deal_shards d) (k + 1) → k < deal_shards d → Found r ss k e
-found r l d dealt ss are k e from to lt =
-    let start : (n : ℕ) → shard_start (length d.want_of) (deal_shards d) n ≡ first_in r n = λ n.
-    ap (λ m. shard_start m (deal_shards d) n) dealt.entries ∙ ap (λ m. shard_start (count_of r.listing) m n) dealt.shards in
-    record {
-      lt = omega (arith, lt, dealt.shards, with_length r (IsTold r) 0 ss are);
-      from = omega (arith, from, start k);
-      to = omega (arith, to, start (k + 1));
-    }
+pub found : (r : Run) (ss : List Seen) → AreShards r 0 ss → (k e : ℕ) → first_in r k ≤ e → e < first_in r (k + 1) → k < r.shards → Found r ss k e
+found r ss are k e from to lt = record {
+  lt = omega (arith, lt, with_length r (IsTold r) 0 ss are);
+  from = from;
+  to = to;
+}

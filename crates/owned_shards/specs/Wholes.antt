@@ -1,5 +1,5 @@
 -- What the shards of a target make up together. Entries and shards count from 0.
-use Rattle.std.specs.Prelude.{◌≡◌, ℕ, ◌+◌, ◌<◌, List, [], ◌∷◌, ◌++◌, length, zero, suc}
+use Rattle.std.specs.Prelude.{◌≡◌, ℕ, ◌+◌, ◌<◌, ◌≤◌, List, [], ◌∷◌, ◌++◌, length, zero, suc}
 use Rattle.std.specs.Prelude.{Bool, Option, Some, None, IfSome, IsTrue}
 use Rattle.std.specs.Prelude.{if◌then◌else◌, is_some}
 use Rattle.std.specs.List.{flat_map, sum_by}
@@ -66,6 +66,7 @@ pub record IsRunOver (r : Run) (l : Listing) (d : Deal) (told : Bool) (old : Hel
 pub record IsWhole (r : Run) (told : Bool) (left : Left) (ss : List Seen) : Type 0 where
   pub shards : AreShards r 0 ss
   pub some : 0 < count_of r.listing → 0 < r.shards
+  pub few : r.shards ≤ count_of r.listing
   pub size : left.size ≡ image_length r.listing
   pub tells : r.tells ≡ told
 

@@ -3,7 +3,7 @@
 ghost use Rattle.std.specs.Prelude.{◌≡◌, ◌+◌, ◌++◌, ◌<◌, ◌≤◌, ◌∷◌, [], ℕ, length};
 ghost use Rattle.std.specs.Prelude.{false, map, true, vec_capacity, vec_len};
 ghost use Rattle.caibx_codec.specs.Listing.{count_of};
-ghost use Rattle.range_ledger.specs.Runs.{IsDealt};
+ghost use Rattle.range_ledger.specs.Runs.{first_in};
 ghost use Rattle.owned_shards.specs.Wholes.{IsWhole, whole_of};
 ghost use Rattle.range_survey.specs.Fates.{settled};
 ghost use Rattle.range_survey.specs.Reports.{tally};
@@ -12,7 +12,7 @@ ghost use Rattle.range_survey.specs.declared.fate.Fate.TheVariants as fate;
 use caibx_codec::index::Index;
 use dsy_base::fault::Failed;
 use dsy_base::view::{Part, Target, View};
-use extract_plan::plan::Plan;
+use extract_plan::shard::shard_of;
 use range_ledger::ledger::Ledger;
 use range_ledger::run::RunName;
 use range_ledger::shard::Shard;
@@ -24,7 +24,6 @@ use std::marker::Model;
 #[derive(Drop)]
 pub struct Shards<'a, R: RunName, T: Target> {
     index: &'a Index,
-    plan: &'a Plan,
     rest: T::Rest,
     shards: Vec<Shard<'a, T::Piece, R>>,
     parts: Vec<T::Piece>,
@@ -32,14 +31,13 @@ pub struct Shards<'a, R: RunName, T: Target> {
 
 impl<'a, R: RunName, T: Target> Model for Shards<'a, R, T> {
     ghost use Rattle.std.specs.Prelude.{◌≡◌, ◌≤◌, [], vec_capacity, vec_len};
-    ghost use Rattle.range_ledger.specs.Runs.{IsDealt};
     ghost use Rattle.owned_shards.specs.Wholes.{IsWhole, Whole, whole_of};
 
     ghost Value = { Whole };
 
     ghost view = { λ s. whole_of (T.left s.rest) T.tells s.shards.items };
 
-    ghost invariant = { λ s. IsDealt R.run s.index.now s.plan.now × IsWhole R.run T.tells (T.left s.rest) s.shards.items
+    ghost invariant = { λ s. (s.index.now ≡ R.run.listing) × IsWhole R.run T.tells (T.left s.rest) s.shards.items
         × (s.parts.items ≡ []) × (vec_len s.shards ≤ vec_capacity s.parts) };
 }
 
@@ -51,6 +49,21 @@ pub(crate) fn put_back<X: Drop>(values: &mut Vec<X>, value: X)
     ensures kept { vec_capacity values.old ≤ vec_capacity values.new }
 {
     let _ = values.push(value);
+}
+
+// Which of the shards of a run has an entry.
+fn shard_with<R: RunName>(index: &Index, shards: usize, entry: usize) -> usize
+    requires dealt { index.now ≡ R.run.listing }
+    requires size { shards ≡ R.run.shards }
+    requires few { R.run.shards ≤ count_of R.run.listing }
+    requires some { 0 < R.run.shards }
+    requires listed { entry < count_of R.run.listing }
+    ensures from { first_in R.run result ≤ entry }
+    ensures to { entry < first_in R.run (result + 1) }
+    ensures inside { result < R.run.shards }
+{
+    index.rules();
+    shard_of(index.count(), shards, entry)
 }
 
 // The parts of the shards, in their order. `parts` has the room for them.
@@ -73,12 +86,11 @@ impl<'a, R: RunName, T: Target> Shards<'a, R, T> {
     /// The target that is left so beside these shards. `parts` has the room that joining them takes.
     pub(crate) fn new(
         index: &'a Index,
-        plan: &'a Plan,
         rest: T::Rest,
         shards: Vec<Shard<'a, T::Piece, R>>,
         parts: Vec<T::Piece>,
     ) -> Shards<'a, R, T>
-        requires dealt { IsDealt R.run index.now plan.now }
+        requires dealt { index.now ≡ R.run.listing }
         requires whole { IsWhole R.run T.tells (T.left rest) shards.items }
         requires none { parts.items ≡ [] }
         requires room { vec_len shards ≤ vec_capacity parts }
@@ -86,7 +98,6 @@ impl<'a, R: RunName, T: Target> Shards<'a, R, T> {
     {
         Shards {
             index,
-            plan,
             rest,
             shards,
             parts,
@@ -140,19 +151,19 @@ impl<'a, R: RunName, T: Target> Ledger for Shards<'a, R, T> {
     }
 
     fn fate(&self, entry: usize) -> Fate {
-        let k = self.plan.shard_of(entry);
+        let k = shard_with::<R>(self.index, self.shards.len(), entry);
         self.shards[k].fate(entry)
     }
 
     fn read(&mut self, entry: usize, out: &mut [u8]) -> bool {
-        let k = self.plan.shard_of(entry);
+        let k = shard_with::<R>(self.index, self.shards.len(), entry);
         let read = self.shards[k].read(entry, out);
         self.shards[k].rules();
         read
     }
 
     fn put(&mut self, entry: usize, chunk: &[u8], fate: Fate) -> Result<bool, Failed> {
-        let k = self.plan.shard_of(entry);
+        let k = shard_with::<R>(self.index, self.shards.len(), entry);
         let put = self.shards[k].put(entry, chunk, fate);
         self.shards[k].rules();
         put

@@ -85,15 +85,14 @@ fn surveyed<'a, P: Part, R: RunName>(
 #[derive(Drop)]
 struct Room<'a, P: Part, R: RunName> {
     index: &'a Index,
-    plan: &'a Plan,
     fates: Vec<Vec<Fate>>,
     shards: Vec<Shard<'a, P, R>>,
 }
 
 impl<'a, P: Part, R: RunName> Room<'a, P, R> {
-    fn of(alloc: Global, index: &'a Index, plan: &'a Plan) -> Result<Room<'a, P, R>, AllocError>
+    fn of(alloc: Global, index: &'a Index, plan: &Plan) -> Result<Room<'a, P, R>, AllocError>
         requires dealt { IsDealt R.run index.now plan.now }
-        ensures index { IfOk result (λ r. (r.index.now ≡ index.now) × (r.plan.now ≡ plan.now)) }
+        ensures index { IfOk result (λ r. r.index.now ≡ index.now) }
         ensures open { IfOk result (λ r. map (λ f. f.items) r.fates.items ≡ open_below R.run R.run.shards) }
         ensures none { IfOk result (λ r. r.shards.items ≡ []) }
         ensures room { IfOk result (λ r. R.run.shards ≤ vec_capacity r.shards) }
@@ -102,7 +101,6 @@ impl<'a, P: Part, R: RunName> Room<'a, P, R> {
         let shards = Vec::with_capacity(alloc, plan.shards())?;
         Ok(Room {
             index,
-            plan,
             fates,
             shards,
         })
@@ -111,11 +109,12 @@ impl<'a, P: Part, R: RunName> Room<'a, P, R> {
     // The shards of these parts, after their survey, and the room of the parts.
     fn survey(
         self,
+        plan: &Plan,
         parts: Vec<P>,
         zeros: &(ZeroNames, u64),
         buf: &mut [u8],
     ) -> (Vec<Shard<'a, P, R>>, Vec<P>)
-        requires dealt { IsDealt R.run self.index.now self.plan.now }
+        requires dealt { IsDealt R.run self.index.now plan.now }
         requires open { map (λ f. f.items) self.fates.items ≡ open_below R.run R.run.shards }
         requires none { self.shards.items ≡ [] }
         requires capacity { R.run.shards ≤ vec_capacity self.shards }
@@ -134,7 +133,7 @@ impl<'a, P: Part, R: RunName> Room<'a, P, R> {
         while let Some(part) = parts.pop() {
             let open = pop_fates(&mut fates);
             let number = parts.len();
-            let shard = surveyed(self.index, self.plan, number, part, open, zeros, buf);
+            let shard = surveyed(self.index, plan, number, part, open, zeros, buf);
             put_back(&mut shards, shard);
         }
         shards.reverse();
@@ -158,7 +157,7 @@ fn io_fault(fault: SplitFault) -> IoFault
 pub fn survey_shards<'a, R: RunName, T: Target>(
     alloc: Global,
     index: &'a Index,
-    plan: &'a Plan,
+    plan: &Plan,
     target: T,
     buf: &mut [u8],
 ) -> Result<Shards<'a, R, T>, (T, IoFault)>
@@ -190,8 +189,8 @@ pub fn survey_shards<'a, R: RunName, T: Target>(
     };
     match target.split(plan.cuts()) {
         Ok((rest, parts)) => {
-            let (shards, parts) = room.survey(parts, &(names, old), buf);
-            Ok(Shards::new(index, plan, rest, shards, parts))
+            let (shards, parts) = room.survey(plan, parts, &(names, old), buf);
+            Ok(Shards::new(index, rest, shards, parts))
         }
         Err((target, fault)) => Err((target, io_fault(fault))),
     }

@@ -101,6 +101,7 @@ new-requires-clause-whole g c =
     let whole : IsWhole r g.T.View.tells left ss = record {
       shards = with_map r (Begun r) (IsTold r) (λ s b. b.told) 0 ss begun;
       some = some;
+      few = omega (arith, over.dealt.shards, over.dealt.entries);
       size = ap (λ (x : Left). x.size) rest ∙ (ap (λ (h : Held). h.size) resized_to ∙ length_same);
       tells = over.tells;
     } in
@@ -126,6 +127,7 @@ returns-in-Ok-split-clause-ok g c =
     let whole : IsWhole r g.T.View.tells left ss = record {
       shards = with_map r (Begun r) (IsTold r) (λ s b. b.told) 0 ss begun;
       some = some;
+      few = omega (arith, over.dealt.shards, over.dealt.entries);
       size = ap (λ (x : Left). x.size) rest ∙ (ap (λ (h : Held). h.size) resized_to ∙ length_same);
       tells = over.tells;
     } in
@@ -154,6 +156,7 @@ returns-in-Ok-split-clause-first g c =
     let whole : IsWhole r g.T.View.tells left ss = record {
       shards = with_map r (Begun r) (IsTold r) (λ s b. b.told) 0 ss begun;
       some = some;
+      few = omega (arith, over.dealt.shards, over.dealt.entries);
       size = ap (λ (x : Left). x.size) rest ∙ (ap (λ (h : Held). h.size) resized_to ∙ length_same);
       tells = over.tells;
     } in
@@ -179,6 +182,7 @@ returns-in-Ok-split-clause-yes g c =
     let whole : IsWhole r g.T.View.tells left ss = record {
       shards = with_map r (Begun r) (IsTold r) (λ s b. b.told) 0 ss begun;
       some = some;
+      few = omega (arith, over.dealt.shards, over.dealt.entries);
       size = ap (λ (x : Left). x.size) rest ∙ (ap (λ (h : Held). h.size) resized_to ∙ length_same);
       tells = over.tells;
     } in
@@ -205,6 +209,7 @@ returns-in-Ok-split-clause-no g c =
     let whole : IsWhole r g.T.View.tells left ss = record {
       shards = with_map r (Begun r) (IsTold r) (λ s b. b.told) 0 ss begun;
       some = some;
+      few = omega (arith, over.dealt.shards, over.dealt.entries);
       size = ap (λ (x : Left). x.size) rest ∙ (ap (λ (h : Held). h.size) resized_to ∙ length_same);
       tells = over.tells;
     } in

@@ -37,6 +37,6 @@ returns-clause-all g c = λ all.
     let m = c.args.self.now.fates in
     let i = c.loop-entry.entry in
     let inv = c.loop-entry.invariant in
-    let counted : c.count-entry-end.result ≡ length m = c.count-entry-end.ensures ∙ (ap count_of c.self.invariant.0.listing ∙ sym c.rules.ensures.counted) in
+    let counted : c.count-entry-end.result ≡ length m = c.count-entry-end.ensures ∙ (ap count_of c.self.invariant.0 ∙ sym c.rules.ensures.counted) in
     let end : i ≡ length m = omega (arith, c.loop-entry-test.false, c.loop-entry.auto.entry-end, counted) in
     omega (arith, inv.kept, inv.copied, inv.seeded, inv.cached, inv.fetched, sum_of m i, none_open m i (λ j less. all j (omega (arith, end, less))), end)

@@ -3,19 +3,26 @@ use Rattle.std.proofs.lemmas.List.{get_or-set_same}
 use Rattle.caibx_codec.specs.Listing.{id_of, kind_of}
 use Rattle.chunk_store.specs.Names.{name_of}
 use Rattle.owned_shards.proofs.Putting.{Found, PutEnds, found, put_ends, stays_whole, where_told}
-use Rattle.owned_shards.proofs.Wholes.{has_it}
+use Rattle.owned_shards.proofs.Wholes.{has_it, with_length}
 use Rattle.range_ledger.specs.Runs.{Has, Seen}
 use Rattle.owned_shards.specs.Wholes.{IsTold, Whole, whole_of}
 use Rattle.owned_shards.proofs.shards.ShardsLedger.put.Goals as goal
+
+pub shard_with-k-requires-clause-size : goal.shard_with-k-requires-clause-size
+shard_with-k-requires-clause-size g c =
+    let r = g.R.RunName.run in
+    let all = with_length r (IsTold r) 0 c.self.inside.shards.items c.self.invariant.1.shards in
+    let size : c.len.result ≡ length c.self.inside.shards.items = search rules in
+    omega (arith, all, size)
 
 pub index_mut-requires : goal.index_mut-requires
 index_mut-requires g c =
     let r = g.R.RunName.run in
     let ss = c.self.inside.shards.items in
     let is = c.self.invariant.1 in
-    let k = c.shard_of-k.result in
-    let at : Found r ss k c.args.entry = found r c.self.inside.index.now c.self.inside.plan.now c.self.invariant.0 ss is.shards k c.args.entry
-    c.shard_of-k.ensures.from c.shard_of-k.ensures.to c.shard_of-k.ensures.inside in
+    let k = c.shard_with-k.result in
+    let at : Found r ss k c.args.entry = found r ss is.shards k c.args.entry
+    c.shard_with-k.ensures.from c.shard_with-k.ensures.to c.shard_with-k.ensures.inside in
     let size : length ss ≡ vec_len c.self.inside.shards = search rules in
     omega (arith, at.lt, size)
 
@@ -24,9 +31,9 @@ put-put-requires-clause-inside g c =
     let r = g.R.RunName.run in
     let ss = c.self.inside.shards.items in
     let is = c.self.invariant.1 in
-    let k = c.shard_of-k.result in
-    let at : Found r ss k c.args.entry = found r c.self.inside.index.now c.self.inside.plan.now c.self.invariant.0 ss is.shards k c.args.entry
-    c.shard_of-k.ensures.from c.shard_of-k.ensures.to c.shard_of-k.ensures.inside in
+    let k = c.shard_with-k.result in
+    let at : Found r ss k c.args.entry = found r ss is.shards k c.args.entry
+    c.shard_with-k.ensures.from c.shard_with-k.ensures.to c.shard_with-k.ensures.inside in
     has_it r ss is.shards k at.lt c.index_mut.result.now c.index_mut.ensures.value c.args.entry at.from at.to
 
 pub put-put-requires-clause-may : goal.put-put-requires-clause-may
@@ -41,9 +48,9 @@ index-requires g c =
     let r = g.R.RunName.run in
     let ss = c.self.inside.shards.items in
     let is = c.self.invariant.1 in
-    let k = c.shard_of-k.result in
-    let at : Found r ss k c.args.entry = found r c.self.inside.index.now c.self.inside.plan.now c.self.invariant.0 ss is.shards k c.args.entry
-    c.shard_of-k.ensures.from c.shard_of-k.ensures.to c.shard_of-k.ensures.inside in
+    let k = c.shard_with-k.result in
+    let at : Found r ss k c.args.entry = found r ss is.shards k c.args.entry
+    c.shard_with-k.ensures.from c.shard_with-k.ensures.to c.shard_with-k.ensures.inside in
     let size : length ss ≡ vec_len c.self.inside.shards = search rules in
     omega (arith, at.lt, size)
 
@@ -52,9 +59,9 @@ invariant_of-self g c =
     let r = g.R.RunName.run in
     let ss = c.self.inside.shards.items in
     let is = c.self.invariant.1 in
-    let k = c.shard_of-k.result in
-    let at : Found r ss k c.args.entry = found r c.self.inside.index.now c.self.inside.plan.now c.self.invariant.0 ss is.shards k c.args.entry
-    c.shard_of-k.ensures.from c.shard_of-k.ensures.to c.shard_of-k.ensures.inside in
+    let k = c.shard_with-k.result in
+    let at : Found r ss k c.args.entry = found r ss is.shards k c.args.entry
+    c.shard_with-k.ensures.from c.shard_with-k.ensures.to c.shard_with-k.ensures.inside in
     let s : Seen = c.index_mut.result.now in
     let here = c.index_mut.ensures.value in
     let new : Seen = c.put-put.new.self in
@@ -79,9 +86,9 @@ returns-clause-ok g c =
     let r = g.R.RunName.run in
     let ss = c.self.inside.shards.items in
     let is = c.self.invariant.1 in
-    let k = c.shard_of-k.result in
-    let at : Found r ss k c.args.entry = found r c.self.inside.index.now c.self.inside.plan.now c.self.invariant.0 ss is.shards k c.args.entry
-    c.shard_of-k.ensures.from c.shard_of-k.ensures.to c.shard_of-k.ensures.inside in
+    let k = c.shard_with-k.result in
+    let at : Found r ss k c.args.entry = found r ss is.shards k c.args.entry
+    c.shard_with-k.ensures.from c.shard_with-k.ensures.to c.shard_with-k.ensures.inside in
     let s : Seen = c.index_mut.result.now in
     let here = c.index_mut.ensures.value in
     let new : Seen = c.put-put.new.self in
@@ -100,9 +107,9 @@ returns-clause-origin g c =
     let r = g.R.RunName.run in
     let ss = c.self.inside.shards.items in
     let is = c.self.invariant.1 in
-    let k = c.shard_of-k.result in
-    let at : Found r ss k c.args.entry = found r c.self.inside.index.now c.self.inside.plan.now c.self.invariant.0 ss is.shards k c.args.entry
-    c.shard_of-k.ensures.from c.shard_of-k.ensures.to c.shard_of-k.ensures.inside in
+    let k = c.shard_with-k.result in
+    let at : Found r ss k c.args.entry = found r ss is.shards k c.args.entry
+    c.shard_with-k.ensures.from c.shard_with-k.ensures.to c.shard_with-k.ensures.inside in
     let s : Seen = c.index_mut.result.now in
     let here = c.index_mut.ensures.value in
     let new : Seen = c.put-put.new.self in
@@ -121,9 +128,9 @@ returns-clause-changed g c =
     let r = g.R.RunName.run in
     let ss = c.self.inside.shards.items in
     let is = c.self.invariant.1 in
-    let k = c.shard_of-k.result in
-    let at : Found r ss k c.args.entry = found r c.self.inside.index.now c.self.inside.plan.now c.self.invariant.0 ss is.shards k c.args.entry
-    c.shard_of-k.ensures.from c.shard_of-k.ensures.to c.shard_of-k.ensures.inside in
+    let k = c.shard_with-k.result in
+    let at : Found r ss k c.args.entry = found r ss is.shards k c.args.entry
+    c.shard_with-k.ensures.from c.shard_with-k.ensures.to c.shard_with-k.ensures.inside in
     let s : Seen = c.index_mut.result.now in
     let here = c.index_mut.ensures.value in
     let new : Seen = c.put-put.new.self in
@@ -142,9 +149,9 @@ returns-clause-err g c =
     let r = g.R.RunName.run in
     let ss = c.self.inside.shards.items in
     let is = c.self.invariant.1 in
-    let k = c.shard_of-k.result in
-    let at : Found r ss k c.args.entry = found r c.self.inside.index.now c.self.inside.plan.now c.self.invariant.0 ss is.shards k c.args.entry
-    c.shard_of-k.ensures.from c.shard_of-k.ensures.to c.shard_of-k.ensures.inside in
+    let k = c.shard_with-k.result in
+    let at : Found r ss k c.args.entry = found r ss is.shards k c.args.entry
+    c.shard_with-k.ensures.from c.shard_with-k.ensures.to c.shard_with-k.ensures.inside in
     let s : Seen = c.index_mut.result.now in
     let here = c.index_mut.ensures.value in
     let new : Seen = c.put-put.new.self in
@@ -163,9 +170,9 @@ returns-clause-kept g c =
     let r = g.R.RunName.run in
     let ss = c.self.inside.shards.items in
     let is = c.self.invariant.1 in
-    let k = c.shard_of-k.result in
-    let at : Found r ss k c.args.entry = found r c.self.inside.index.now c.self.inside.plan.now c.self.invariant.0 ss is.shards k c.args.entry
-    c.shard_of-k.ensures.from c.shard_of-k.ensures.to c.shard_of-k.ensures.inside in
+    let k = c.shard_with-k.result in
+    let at : Found r ss k c.args.entry = found r ss is.shards k c.args.entry
+    c.shard_with-k.ensures.from c.shard_with-k.ensures.to c.shard_with-k.ensures.inside in
     let s : Seen = c.index_mut.result.now in
     let here = c.index_mut.ensures.value in
     let new : Seen = c.put-put.new.self in
@@ -184,9 +191,9 @@ returns-clause-others g c =
     let r = g.R.RunName.run in
     let ss = c.self.inside.shards.items in
     let is = c.self.invariant.1 in
-    let k = c.shard_of-k.result in
-    let at : Found r ss k c.args.entry = found r c.self.inside.index.now c.self.inside.plan.now c.self.invariant.0 ss is.shards k c.args.entry
-    c.shard_of-k.ensures.from c.shard_of-k.ensures.to c.shard_of-k.ensures.inside in
+    let k = c.shard_with-k.result in
+    let at : Found r ss k c.args.entry = found r ss is.shards k c.args.entry
+    c.shard_with-k.ensures.from c.shard_with-k.ensures.to c.shard_with-k.ensures.inside in
     let s : Seen = c.index_mut.result.now in
     let here = c.index_mut.ensures.value in
     let new : Seen = c.put-put.new.self in
@@ -205,9 +212,9 @@ returns-clause-grows g c =
     let r = g.R.RunName.run in
     let ss = c.self.inside.shards.items in
     let is = c.self.invariant.1 in
-    let k = c.shard_of-k.result in
-    let at : Found r ss k c.args.entry = found r c.self.inside.index.now c.self.inside.plan.now c.self.invariant.0 ss is.shards k c.args.entry
-    c.shard_of-k.ensures.from c.shard_of-k.ensures.to c.shard_of-k.ensures.inside in
+    let k = c.shard_with-k.result in
+    let at : Found r ss k c.args.entry = found r ss is.shards k c.args.entry
+    c.shard_with-k.ensures.from c.shard_with-k.ensures.to c.shard_with-k.ensures.inside in
     let s : Seen = c.index_mut.result.now in
     let here = c.index_mut.ensures.value in
     let new : Seen = c.put-put.new.self in
@@ -226,9 +233,9 @@ returns-clause-bytes g c =
     let r = g.R.RunName.run in
     let ss = c.self.inside.shards.items in
     let is = c.self.invariant.1 in
-    let k = c.shard_of-k.result in
-    let at : Found r ss k c.args.entry = found r c.self.inside.index.now c.self.inside.plan.now c.self.invariant.0 ss is.shards k c.args.entry
-    c.shard_of-k.ensures.from c.shard_of-k.ensures.to c.shard_of-k.ensures.inside in
+    let k = c.shard_with-k.result in
+    let at : Found r ss k c.args.entry = found r ss is.shards k c.args.entry
+    c.shard_with-k.ensures.from c.shard_with-k.ensures.to c.shard_with-k.ensures.inside in
     let s : Seen = c.index_mut.result.now in
     let here = c.index_mut.ensures.value in
     let new : Seen = c.put-put.new.self in
@@ -247,9 +254,9 @@ returns-clause-faults g c =
     let r = g.R.RunName.run in
     let ss = c.self.inside.shards.items in
     let is = c.self.invariant.1 in
-    let k = c.shard_of-k.result in
-    let at : Found r ss k c.args.entry = found r c.self.inside.index.now c.self.inside.plan.now c.self.invariant.0 ss is.shards k c.args.entry
-    c.shard_of-k.ensures.from c.shard_of-k.ensures.to c.shard_of-k.ensures.inside in
+    let k = c.shard_with-k.result in
+    let at : Found r ss k c.args.entry = found r ss is.shards k c.args.entry
+    c.shard_with-k.ensures.from c.shard_with-k.ensures.to c.shard_with-k.ensures.inside in
     let s : Seen = c.index_mut.result.now in
     let here = c.index_mut.ensures.value in
     let new : Seen = c.put-put.new.self in
@@ -268,9 +275,9 @@ returns-clause-cause g c =
     let r = g.R.RunName.run in
     let ss = c.self.inside.shards.items in
     let is = c.self.invariant.1 in
-    let k = c.shard_of-k.result in
-    let at : Found r ss k c.args.entry = found r c.self.inside.index.now c.self.inside.plan.now c.self.invariant.0 ss is.shards k c.args.entry
-    c.shard_of-k.ensures.from c.shard_of-k.ensures.to c.shard_of-k.ensures.inside in
+    let k = c.shard_with-k.result in
+    let at : Found r ss k c.args.entry = found r ss is.shards k c.args.entry
+    c.shard_with-k.ensures.from c.shard_with-k.ensures.to c.shard_with-k.ensures.inside in
     let s : Seen = c.index_mut.result.now in
     let here = c.index_mut.ensures.value in
     let new : Seen = c.put-put.new.self in
@@ -289,9 +296,9 @@ returns-clause-failed g c =
     let r = g.R.RunName.run in
     let ss = c.self.inside.shards.items in
     let is = c.self.invariant.1 in
-    let k = c.shard_of-k.result in
-    let at : Found r ss k c.args.entry = found r c.self.inside.index.now c.self.inside.plan.now c.self.invariant.0 ss is.shards k c.args.entry
-    c.shard_of-k.ensures.from c.shard_of-k.ensures.to c.shard_of-k.ensures.inside in
+    let k = c.shard_with-k.result in
+    let at : Found r ss k c.args.entry = found r ss is.shards k c.args.entry
+    c.shard_with-k.ensures.from c.shard_with-k.ensures.to c.shard_with-k.ensures.inside in
     let s : Seen = c.index_mut.result.now in
     let here = c.index_mut.ensures.value in
     let new : Seen = c.put-put.new.self in

@@ -3,20 +3,27 @@ use Rattle.std.proofs.lemmas.List.{get_or-set_same}
 use Rattle.caibx_codec.specs.Listing.{slice_of}
 use Rattle.dsy_base.specs.Counts.{Rose}
 use Rattle.owned_shards.proofs.Putting.{Found, found, later, read_as, read_named, rises, same_fates, same_held, settled_as, stays_whole}
-use Rattle.owned_shards.proofs.Wholes.{has_it}
+use Rattle.owned_shards.proofs.Wholes.{has_it, with_length}
 use Rattle.range_ledger.specs.Runs.{Has, Seen}
 use Rattle.owned_shards.specs.Wholes.{IsTold, Whole, whole_of}
 use Rattle.range_survey.specs.Fates.{settled}
 use Rattle.owned_shards.proofs.shards.ShardsLedger.read.Goals as goal
+
+pub shard_with-k-requires-clause-size : goal.shard_with-k-requires-clause-size
+shard_with-k-requires-clause-size g c =
+    let r = g.R.RunName.run in
+    let all = with_length r (IsTold r) 0 c.self.inside.shards.items c.self.invariant.1.shards in
+    let size : c.len.result ≡ length c.self.inside.shards.items = search rules in
+    omega (arith, all, size)
 
 pub index_mut-requires : goal.index_mut-requires
 index_mut-requires g c =
     let r = g.R.RunName.run in
     let ss = c.self.inside.shards.items in
     let is = c.self.invariant.1 in
-    let k = c.shard_of-k.result in
-    let at : Found r ss k c.args.entry = found r c.self.inside.index.now c.self.inside.plan.now c.self.invariant.0 ss is.shards k c.args.entry
-    c.shard_of-k.ensures.from c.shard_of-k.ensures.to c.shard_of-k.ensures.inside in
+    let k = c.shard_with-k.result in
+    let at : Found r ss k c.args.entry = found r ss is.shards k c.args.entry
+    c.shard_with-k.ensures.from c.shard_with-k.ensures.to c.shard_with-k.ensures.inside in
     let size : length ss ≡ vec_len c.self.inside.shards = search rules in
     omega (arith, at.lt, size)
 
@@ -25,9 +32,9 @@ read-read-requires-clause-inside g c =
     let r = g.R.RunName.run in
     let ss = c.self.inside.shards.items in
     let is = c.self.invariant.1 in
-    let k = c.shard_of-k.result in
-    let at : Found r ss k c.args.entry = found r c.self.inside.index.now c.self.inside.plan.now c.self.invariant.0 ss is.shards k c.args.entry
-    c.shard_of-k.ensures.from c.shard_of-k.ensures.to c.shard_of-k.ensures.inside in
+    let k = c.shard_with-k.result in
+    let at : Found r ss k c.args.entry = found r ss is.shards k c.args.entry
+    c.shard_with-k.ensures.from c.shard_with-k.ensures.to c.shard_with-k.ensures.inside in
     has_it r ss is.shards k at.lt c.index_mut.result.now c.index_mut.ensures.value c.args.entry at.from at.to
 
 pub index-requires : goal.index-requires
@@ -35,9 +42,9 @@ index-requires g c =
     let r = g.R.RunName.run in
     let ss = c.self.inside.shards.items in
     let is = c.self.invariant.1 in
-    let k = c.shard_of-k.result in
-    let at : Found r ss k c.args.entry = found r c.self.inside.index.now c.self.inside.plan.now c.self.invariant.0 ss is.shards k c.args.entry
-    c.shard_of-k.ensures.from c.shard_of-k.ensures.to c.shard_of-k.ensures.inside in
+    let k = c.shard_with-k.result in
+    let at : Found r ss k c.args.entry = found r ss is.shards k c.args.entry
+    c.shard_with-k.ensures.from c.shard_with-k.ensures.to c.shard_with-k.ensures.inside in
     let size : length ss ≡ vec_len c.self.inside.shards = search rules in
     omega (arith, at.lt, size)
 
@@ -46,9 +53,9 @@ invariant_of-self g c =
     let r = g.R.RunName.run in
     let ss = c.self.inside.shards.items in
     let is = c.self.invariant.1 in
-    let k = c.shard_of-k.result in
-    let at : Found r ss k c.args.entry = found r c.self.inside.index.now c.self.inside.plan.now c.self.invariant.0 ss is.shards k c.args.entry
-    c.shard_of-k.ensures.from c.shard_of-k.ensures.to c.shard_of-k.ensures.inside in
+    let k = c.shard_with-k.result in
+    let at : Found r ss k c.args.entry = found r ss is.shards k c.args.entry
+    c.shard_with-k.ensures.from c.shard_with-k.ensures.to c.shard_with-k.ensures.inside in
     let s : Seen = c.index_mut.result.now in
     let here = c.index_mut.ensures.value in
     let new : Seen = c.read-read.new.self in
@@ -73,9 +80,9 @@ returns-clause-found g c =
     let r = g.R.RunName.run in
     let ss = c.self.inside.shards.items in
     let is = c.self.invariant.1 in
-    let k = c.shard_of-k.result in
-    let at : Found r ss k c.args.entry = found r c.self.inside.index.now c.self.inside.plan.now c.self.invariant.0 ss is.shards k c.args.entry
-    c.shard_of-k.ensures.from c.shard_of-k.ensures.to c.shard_of-k.ensures.inside in
+    let k = c.shard_with-k.result in
+    let at : Found r ss k c.args.entry = found r ss is.shards k c.args.entry
+    c.shard_with-k.ensures.from c.shard_with-k.ensures.to c.shard_with-k.ensures.inside in
     let s : Seen = c.index_mut.result.now in
     let here = c.index_mut.ensures.value in
     let new : Seen = c.read-read.new.self in
@@ -91,9 +98,9 @@ returns-clause-named g c =
     let r = g.R.RunName.run in
     let ss = c.self.inside.shards.items in
     let is = c.self.invariant.1 in
-    let k = c.shard_of-k.result in
-    let at : Found r ss k c.args.entry = found r c.self.inside.index.now c.self.inside.plan.now c.self.invariant.0 ss is.shards k c.args.entry
-    c.shard_of-k.ensures.from c.shard_of-k.ensures.to c.shard_of-k.ensures.inside in
+    let k = c.shard_with-k.result in
+    let at : Found r ss k c.args.entry = found r ss is.shards k c.args.entry
+    c.shard_with-k.ensures.from c.shard_with-k.ensures.to c.shard_with-k.ensures.inside in
     let s : Seen = c.index_mut.result.now in
     let here = c.index_mut.ensures.value in
     let new : Seen = c.read-read.new.self in
@@ -110,9 +117,9 @@ returns-clause-absent g c =
     let r = g.R.RunName.run in
     let ss = c.self.inside.shards.items in
     let is = c.self.invariant.1 in
-    let k = c.shard_of-k.result in
-    let at : Found r ss k c.args.entry = found r c.self.inside.index.now c.self.inside.plan.now c.self.invariant.0 ss is.shards k c.args.entry
-    c.shard_of-k.ensures.from c.shard_of-k.ensures.to c.shard_of-k.ensures.inside in
+    let k = c.shard_with-k.result in
+    let at : Found r ss k c.args.entry = found r ss is.shards k c.args.entry
+    c.shard_with-k.ensures.from c.shard_with-k.ensures.to c.shard_with-k.ensures.inside in
     let s : Seen = c.index_mut.result.now in
     let here = c.index_mut.ensures.value in
     let new : Seen = c.read-read.new.self in
@@ -128,9 +135,9 @@ returns-clause-kept g c =
     let r = g.R.RunName.run in
     let ss = c.self.inside.shards.items in
     let is = c.self.invariant.1 in
-    let k = c.shard_of-k.result in
-    let at : Found r ss k c.args.entry = found r c.self.inside.index.now c.self.inside.plan.now c.self.invariant.0 ss is.shards k c.args.entry
-    c.shard_of-k.ensures.from c.shard_of-k.ensures.to c.shard_of-k.ensures.inside in
+    let k = c.shard_with-k.result in
+    let at : Found r ss k c.args.entry = found r ss is.shards k c.args.entry
+    c.shard_with-k.ensures.from c.shard_with-k.ensures.to c.shard_with-k.ensures.inside in
     let s : Seen = c.index_mut.result.now in
     let here = c.index_mut.ensures.value in
     let new : Seen = c.read-read.new.self in
@@ -145,9 +152,9 @@ returns-clause-fates g c =
     let r = g.R.RunName.run in
     let ss = c.self.inside.shards.items in
     let is = c.self.invariant.1 in
-    let k = c.shard_of-k.result in
-    let at : Found r ss k c.args.entry = found r c.self.inside.index.now c.self.inside.plan.now c.self.invariant.0 ss is.shards k c.args.entry
-    c.shard_of-k.ensures.from c.shard_of-k.ensures.to c.shard_of-k.ensures.inside in
+    let k = c.shard_with-k.result in
+    let at : Found r ss k c.args.entry = found r ss is.shards k c.args.entry
+    c.shard_with-k.ensures.from c.shard_with-k.ensures.to c.shard_with-k.ensures.inside in
     let s : Seen = c.index_mut.result.now in
     let here = c.index_mut.ensures.value in
     let new : Seen = c.read-read.new.self in
@@ -162,9 +169,9 @@ returns-clause-faults g c =
     let r = g.R.RunName.run in
     let ss = c.self.inside.shards.items in
     let is = c.self.invariant.1 in
-    let k = c.shard_of-k.result in
-    let at : Found r ss k c.args.entry = found r c.self.inside.index.now c.self.inside.plan.now c.self.invariant.0 ss is.shards k c.args.entry
-    c.shard_of-k.ensures.from c.shard_of-k.ensures.to c.shard_of-k.ensures.inside in
+    let k = c.shard_with-k.result in
+    let at : Found r ss k c.args.entry = found r ss is.shards k c.args.entry
+    c.shard_with-k.ensures.from c.shard_with-k.ensures.to c.shard_with-k.ensures.inside in
     let s : Seen = c.index_mut.result.now in
     let here = c.index_mut.ensures.value in
     let new : Seen = c.read-read.new.self in
