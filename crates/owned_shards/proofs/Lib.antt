@@ -3,3 +3,4 @@ pub mod Writes
 pub mod Wholes
 pub mod Putting
 pub mod Begun
+pub mod Kept

@@ -76,6 +76,7 @@ module _ (r : Run) (left : Left) (tells : Bool) (ss : List Seen) (is : IsWhole r
       some = is.some;
       few = is.few;
       size = is.size;
+      counted = is.counted;
       tells = is.tells;
     }
 
