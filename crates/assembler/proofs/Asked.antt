@@ -8,12 +8,12 @@ use Rattle.assembler.proofs.CacheSpared.{cache_never, cache_part}
 use Rattle.assembler.proofs.Counted.{quiet_part}
 use Rattle.assembler.proofs.Filled.{settled_on}
 use Rattle.assembler.proofs.Stepped.{stretch_none}
-use Rattle.assembler.specs.Passes.{PassAsks, ShareAsks, one_pass, others_spared}
+use Rattle.assembler.specs.Passes.{PassAsks, ShareAsks, one_pass}
 use Rattle.assembler.specs.Stages.{Stage, Stretch, from}
 use Rattle.caibx_codec.specs.Listing.{size_of}
 use Rattle.chunk_sources.proofs.Cached.{stocked_falls}
 use Rattle.chunk_sources.proofs.Lacking.{quiet_never}
-use Rattle.chunk_sources.specs.Asks.{AreSpared, AsksAtMost, IsSpared, asked_at, asks_below, asks_for, calls_below, calls_for}
+use Rattle.chunk_sources.specs.Asks.{AreSpared, AsksAtMost, IsSpared, asked_at, asks_below, asks_for, calls_below, calls_for, others_spared}
 use Rattle.chunk_sources.specs.Caches.{TakesWants}
 use Rattle.chunk_sources.specs.Losses.{AskedLast}
 use Rattle.chunk_sources.specs.Sources.{HeldAt, counts_of, views_of}

@@ -9,7 +9,7 @@ use Rattle.assembler.proofs.Filled.{open_before, settled_on}
 use Rattle.assembler.proofs.Passed.{OneMore}
 use Rattle.assembler.proofs.Stocking.{give_same}
 use Rattle.assembler.proofs.Tallies.{tallied_none, tallied_on}
-use Rattle.assembler.specs.Economy.{HadMemory, PassedBy, SettledBy, SettlesBy, Tallied, source_if, sum_below}
+use Rattle.assembler.specs.Economy.{HadMemory, PassedBy, SettledBy, SettlesBy, Tallied}
 use Rattle.assembler.specs.Passes.{WhereQuiet, source_at, want_at}
 use Rattle.assembler.specs.Settling.{Settles}
 use Rattle.assembler.specs.Stages.{Stage, Stretch, from}
@@ -19,7 +19,7 @@ use Rattle.caibx_codec.specs.Listing.{count_of}
 use Rattle.chunk_sources.proofs.Cached.{stocked_told}
 use Rattle.chunk_sources.proofs.Origins.{same_raised}
 use Rattle.chunk_sources.specs.Caches.{HaveOneSize, TakesWants, cached_in}
-use Rattle.chunk_sources.specs.Economy.{pass_asks, source_over}
+use Rattle.chunk_sources.specs.Economy.{pass_asks, source_if, source_over, sum_below}
 use Rattle.chunk_sources.specs.Sources.{SourcesQuiet, views_of}
 use Rattle.chunk_sources.specs.Wants.{IsAmong, Task}
 use Rattle.chunk_store.specs.declared.store.Store.{Ghosts as StoreWords}

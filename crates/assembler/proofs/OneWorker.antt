@@ -3,7 +3,8 @@ use Rattle.std.proofs.Common.{◌≡◌, ◌%◌, ◌==◌, ℕ, ◌<◌, true, 
 use Rattle.std.proofs.lemmas.Bool.{eq-eqb}
 use Rattle.assembler.proofs.EconomyPaid.{passed_as}
 use Rattle.assembler.proofs.Passed.{share_all}
-use Rattle.assembler.specs.Economy.{PassedBy, source_if}
+use Rattle.assembler.specs.Economy.{PassedBy}
+use Rattle.chunk_sources.specs.Economy.{source_if}
 use Rattle.assembler.specs.Passes.{HasPassed, HasPassedShare, WhereQuiet, one_pass, source_at, want_at}
 use Rattle.assembler.specs.Permits.{deals_to}
 use Rattle.assembler.specs.Stages.{Stage, from}

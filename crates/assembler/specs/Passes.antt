@@ -1,6 +1,5 @@
 -- What a pass over the wants of an index leaves.
 use Rattle.std.specs.Prelude.{◌≡◌, ◌≢◌, ◌⊎◌, ◌++◌, ℕ, ◌+◌, ◌<◌, List, map, slice_index, Bool, true, false, Option, Some}
-use Rattle.std.specs.Prelude.{if◌then◌else◌}
 use Rattle.std.specs.Prelude.{Result, Ok, Err, IfErr, OnOk}
 use Rattle.assembler.specs.Faults.{fault_of}
 use Rattle.assembler.specs.Losses.{lost_want}
@@ -10,7 +9,7 @@ use Rattle.assembler.specs.declared.fault.ExtractFault.TheVariants as faults
 use Rattle.assembler.specs.declared.fault.Lost.{Lost}
 use Rattle.caibx_codec.specs.Asks.{IsListedGet}
 use Rattle.caibx_codec.specs.Listing.{Listing, count_of, id_of, kind_of, size_of}
-use Rattle.chunk_sources.specs.Asks.{AreSpared, AsksAtMost, IsSpared, asks_below, calls_below}
+use Rattle.chunk_sources.specs.Asks.{AreSpared, AsksAtMost, IsSpared, asks_below, calls_below, others_spared}
 use Rattle.chunk_sources.specs.Caches.{CacheLacks, HaveOneSize, cached_in}
 use Rattle.chunk_sources.specs.Economy.{source_over}
 use Rattle.chunk_sources.specs.Losses.{CopiesFailed, Had, MayLack, RefusedBy}
@@ -66,10 +65,6 @@ one_pass n = n
 -- and two passes
 abbrev pub two_passes : ℕ → ℕ
 two_passes n = n + n
-
--- of these wants those that are spared, and all others
-abbrev pub others_spared : (ℕ → Bool) → (ℕ → Bool) → ℕ → Bool
-others_spared these spared w = if these w then spared w else true
 
 module _ {S V : Type 0} (store : StoreWords S) (view : ViewWords V) where
   -- what holds where nothing fails, of all that the cache and the stores hold, which have chunks of one size for each

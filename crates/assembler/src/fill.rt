@@ -1,7 +1,8 @@
 //! The first pass of an assembly: each want that is dealt to a worker once, in rising order. Workers count from 0.
 
 ghost use Rattle.std.specs.Prelude.{◌≡◌, ℕ, ◌<◌, None, OnOk, IfErr, true, false};
-ghost use Rattle.assembler.specs.Economy.{PassedBy, source_if};
+ghost use Rattle.assembler.specs.Economy.{PassedBy};
+ghost use Rattle.chunk_sources.specs.Economy.{source_if};
 ghost use Rattle.assembler.specs.Passes.{HasPassedShare, WhereQuiet, source_at, want_at};
 ghost use Rattle.assembler.specs.Permits.{MayFillHad, deals_to};
 ghost use Rattle.assembler.specs.Stages.{Ready, from, stage, task};

@@ -5,14 +5,14 @@ ghost use Rattle.std.specs.Prelude.{true, false, None, Some, IfSome, IsSome, IsT
 ghost use Rattle.assembler.specs.Economy.{SettlesBy};
 ghost use Rattle.assembler.specs.Losses.{Where};
 ghost use Rattle.assembler.specs.Passes.{source_at};
-ghost use Rattle.assembler.specs.Permits.{HadOver, MayFillWant};
+ghost use Rattle.assembler.specs.Permits.{MayFillWant};
 ghost use Rattle.assembler.specs.Settling.{HasEnded, Settles};
 ghost use Rattle.assembler.specs.Stages.{Ready, from, stage, task};
 ghost use Rattle.assembler.specs.declared.fault.Lost.{Lost};
 ghost use Rattle.caibx_codec.specs.Listing.{count_of, kind_of};
 ghost use Rattle.chunk_sources.specs.Caches.{CacheLacks, Stocked, TakesChunk, cached_in, seen};
 ghost use Rattle.chunk_sources.specs.Economy.{source_among};
-ghost use Rattle.chunk_sources.specs.Losses.{AskedLast, Had, MayLack, RefusedBy, chunk_of};
+ghost use Rattle.chunk_sources.specs.Losses.{AskedLast, Had, HadOver, MayLack, RefusedBy, chunk_of};
 ghost use Rattle.chunk_sources.specs.Sources.{KeepsSeeds, SourcesQuiet, Telling, sources, views_of};
 ghost use Rattle.chunk_sources.specs.Wants.{AllOf, IsAmong, sought_chunk};
 ghost use Rattle.chunk_store.specs.Asks.{Get};

@@ -44,6 +44,10 @@ abbrev pub asks_below : (ℕ → List ℕ) → (ℕ → Bool) → ℕ → List �
 asks_below ids spared zero q = 0
 asks_below ids spared (suc k) q = asks_below ids spared k q + asks_for ids spared k q
 
+-- of these wants those that are spared, and all others
+abbrev pub others_spared : (ℕ → Bool) → (ℕ → Bool) → ℕ → Bool
+others_spared these spared w = if these w then spared w else true
+
 module _ {S V : Type 0} (store : StoreWords S) (view : ViewWords V) (t : Task) where
   -- want w is had without the stores: an entry of it is such, and the target didn't fail; or a seed gives it that
   -- didn't fail; or the cache does, which didn't fail
