@@ -8,12 +8,12 @@ use Rattle.assembler.proofs.CacheSpared.{cache_never, cache_part}
 use Rattle.assembler.proofs.Counted.{quiet_part}
 use Rattle.assembler.proofs.Filled.{settled_on}
 use Rattle.assembler.proofs.Stepped.{stretch_none}
-use Rattle.assembler.specs.Passes.{PassAsks, ShareAsks, one_pass}
+use Rattle.assembler.specs.Passes.{PassAsks, one_pass}
 use Rattle.assembler.specs.Stages.{Stage, Stretch, from}
 use Rattle.caibx_codec.specs.Listing.{size_of}
 use Rattle.chunk_sources.proofs.Cached.{stocked_falls}
 use Rattle.chunk_sources.proofs.Lacking.{quiet_never}
-use Rattle.chunk_sources.specs.Asks.{AreSpared, AsksAtMost, IsSpared, asked_at, asks_below, asks_for, calls_below, calls_for, others_spared}
+use Rattle.chunk_sources.specs.Asks.{AreSpared, AsksAtMost, IsSpared, ShareAsks, asked_at, asks_below, asks_for, calls_below, calls_for, others_spared}
 use Rattle.chunk_sources.specs.Caches.{TakesWants}
 use Rattle.chunk_sources.specs.Losses.{AskedLast}
 use Rattle.chunk_sources.specs.Sources.{HeldAt, counts_of, views_of}
@@ -256,7 +256,7 @@ module _ {S V : Type 0} (store : StoreWords S) (view : ViewWords V) (t : Task) w
       (asks_on store (calls_below f n) (calls_for g w) (asks_below ids f n) (asks_for ids g w) a.kit.chain b.kit.chain c.kit.chain so_far one)
 
   -- all that are done are among these wants
-  pub asks_done_share : (done these : ℕ → Bool) → ((v : ℕ) → done v ≡ true → these v ≡ true) → (a b : Stage S V) → AsksDone done a b → ShareAsks store view t these a b
+  pub asks_done_share : (done these : ℕ → Bool) → ((v : ℕ) → done v ≡ true → these v ≡ true) → (a b : Stage S V) → AsksDone done a b → ShareAsks store view t a.fates (from a) (from b) these
   asks_done_share done these within a b asks = λ spared are.
       let both : ℕ → Bool = λ v. if these v then spared v else false in
       let more : (v : ℕ) → others_spared these spared v ≡ true → others_spared done both v ≡ true = λ v is. elim (cases_Bool (done v)) [
@@ -267,7 +267,7 @@ module _ {S V : Type 0} (store : StoreWords S) (view : ViewWords V) (t : Task) w
       (asks both (λ w less so. are w less (both_of (these w) (spared w) so).0 (both_of (these w) (spared w) so).1))
 
   -- these are all wants
-  pub asks_share_all : (these : ℕ → Bool) → ((v : ℕ) → these v ≡ true) → (a b : Stage S V) → ShareAsks store view t these a b → PassAsks store view t one_pass a b
+  pub asks_share_all : (these : ℕ → Bool) → ((v : ℕ) → these v ≡ true) → (a b : Stage S V) → ShareAsks store view t a.fates (from a) (from b) these → PassAsks store view t one_pass a b
   asks_share_all these all a b asks = λ spared are.
       asks_fewer (others_spared these spared) spared (λ v is. as_done these spared v (all v) ∙ is) a b (asks spared (λ w less is so. are w less so))
 

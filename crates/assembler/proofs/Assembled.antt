@@ -4,7 +4,7 @@ use Rattle.std.proofs.Common.{◌≡◌, ◌⊎◌, ◌++◌, ℕ, ◌≤◌, Li
 use Rattle.std.proofs.lemmas.Bool.{cases_Bool}
 use Rattle.std.proofs.lemmas.List.{length-append, length-replicate, length-take}
 use Rattle.std.specs.Option.{option_map}
-use Rattle.assembler.proofs.Based.{KeptWhole, Surveyed, kept_whole, missed_at, only_first, over_of, some_map}
+use Rattle.assembler.proofs.Based.{StandsOver, Surveyed, stands_surveyed, missed_at, only_first, over_of, some_map}
 use Rattle.assembler.proofs.Asked.{asks_none}
 use Rattle.assembler.proofs.Counted.{quiet_part}
 use Rattle.assembler.proofs.EconomyReported.{asks_err, assembled_as, reports_all, settled_right}
@@ -81,11 +81,11 @@ module _ {S V : Type 0} (store : StoreWords S) (view : ViewWords V) (t : Task) (
     rises_on = ran.passed.stretch.step.never_falls
 
     abbrev Whole : List ℕ → List ℕ → Type 0
-    Whole y t0 = KeptWhole t.listing (λ i. ⊥) a.fates f a.faults (over_base y) t0
+    Whole y t0 = StandsOver t.listing (λ i. ⊥) a.fates f a.faults (over_base y) t0
 
     is_whole : (p : Option (List ℕ)) → IfSome p Found → WhereTold p (option_map over_base p) Whole
     is_whole None over = tt
-    is_whole (Some y) over = kept_whole t.listing a.fates f a.faults (over_base y) over
+    is_whole (Some y) over = stands_surveyed t.listing a.fates f a.faults (over_base y) over
 
     as_told : (p : Option (List ℕ)) → is_some (option_map over_base p) ≡ is_some p
     as_told None = refl
@@ -112,7 +112,7 @@ module _ {S V : Type 0} (store : StoreWords S) (view : ViewWords V) (t : Task) (
       go (Some y) over has = elim (cases_Bool (settled a.fates j)) [
         | inl is ↦ inl ((j, other, is), quiet_part f a.faults b.faults b.faults ran.rises (omega arith) quiet)
         | inr isnt ↦ absurd (quiet_never f b.faults quiet (missed_at t.listing (λ i. ⊥) a.fates f a.faults b.faults rises_on (over_base y) (over_base y)
-            (kept_whole t.listing a.fates f a.faults (over_base y) over) j
+            (stands_surveyed t.listing a.fates f a.faults (over_base y) over) j
             (listed_of t.listing t.plan w j ran.wants other) isnt has))
       ]
     spared_over w (inr rest) = inr rest

@@ -60,7 +60,7 @@ surveyed l m a b (Some t) size right wrong = record { size = size; yes = right; 
 -- what stands before a pass, where the base was `base` and the bytes are t0: a settled entry is right, and was so in the
 -- base unless it is such; any other has the base's bytes; and one that is right in the base is settled and was never
 -- written; but for entries on which calls have failed
-pub record KeptWhole (l : Listing) (Such : ℕ → Type 0) (m : List Fate) (a b : ℕ) (base t0 : List ℕ) : Type 0 where
+pub record StandsOver (l : Listing) (Such : ℕ → Type 0) (m : List Fate) (a b : ℕ) (base t0 : List ℕ) : Type 0 where
   pub failed : List ℕ
   pub excused : Excuses failed a b
   pub size : length t0 ≡ image_length l
@@ -71,8 +71,8 @@ pub record KeptWhole (l : Listing) (Such : ℕ → Type 0) (m : List Fate) (a b 
   pub base_kept : (i : ℕ) → i < count_of l → IsRightAt base l i → (slice_of l t0 i ≡ slice_of l base i) ⊎ Contains failed i
 
 -- so it is after the survey
-pub kept_whole : (l : Listing) (m : List Fate) (a b : ℕ) (base : List ℕ) → Surveyed l m a b base → KeptWhole l (λ i. ⊥) m a b base base
-kept_whole l m a b base over = record {
+pub stands_surveyed : (l : Listing) (m : List Fate) (a b : ℕ) (base : List ℕ) → Surveyed l m a b base → StandsOver l (λ i. ⊥) m a b base base
+stands_surveyed l m a b base over = record {
   failed = over.no.failed;
   excused = over.no.excused;
   size = over.size;
@@ -87,14 +87,14 @@ kept_whole l m a b base over = record {
 }
 
 -- an entry that is right in the base and isn't settled has failed
-pub missed_at : (l : Listing) (Such : ℕ → Type 0) (m : List Fate) (a b c : ℕ) → b ≤ c → (base t0 : List ℕ) → KeptWhole l Such m a b base t0 → (i : ℕ) → i < count_of l
+pub missed_at : (l : Listing) (Such : ℕ → Type 0) (m : List Fate) (a b c : ℕ) → b ≤ c → (base t0 : List ℕ) → StandsOver l Such m a b base t0 → (i : ℕ) → i < count_of l
     → settled m i ≡ false → IsRightAt base l i → Rose a c
 missed_at l Such m a b c bc base t0 over i inside isnt right = elim (over.base_right i inside right) [
   | inl is ↦ absurd (true≢false (sym is ∙ isnt))
   | inr missed ↦ rose_still a b c bc (excused_rose over.failed i a b missed over.excused)
 ]
 
-module _ (l : Listing) (Such : ℕ → Type 0) (m n : List Fate) (a b c : ℕ) (ab : a ≤ b) (bc : b ≤ c) (grows : Grows m n) (base t0 t : List ℕ) (over : KeptWhole l Such m a b base t0)
+module _ (l : Listing) (Such : ℕ → Type 0) (m n : List Fate) (a b c : ℕ) (ab : a ≤ b) (bc : b ≤ c) (grows : Grows m n) (base t0 t : List ℕ) (over : StandsOver l Such m a b base t0)
     (fills : Fills l m n b c t0 t) where
   pub right_at : (i : ℕ) → i < count_of l → settled n i ≡ true → IsRightAt t l i
   right_at = right_on l m n b c (Some t0) (Some t) refl fills over.right

@@ -2,7 +2,7 @@
 -- b at the end. At first chunks were got from `old`, and the target's bytes were `o`.
 use Rattle.std.proofs.Common.{◌≡◌, ◌⊎◌, ◌++◌, ℕ, ◌<◌, ◌≤◌, List, length, map, slice_index, Option, Some, None, IfErr, IfSome, Result, OnOk, Ok, Err, is_some, true, false, refl, sym, ap, ◌∙◌, subst, inl, inr, arith}
 use Rattle.std.proofs.lemmas.Bool.{cases_Bool, true≢false}
-use Rattle.assembler.proofs.Based.{KeptWhole, assembles_err, ends_map, leaves, leaves_torn, left_at, missed_at, only_such, right_all, right_at, some_map, told_map}
+use Rattle.assembler.proofs.Based.{StandsOver, assembles_err, ends_map, leaves, leaves_torn, left_at, missed_at, only_such, right_all, right_at, some_map, told_map}
 use Rattle.assembler.proofs.Counted.{quiet_part}
 use Rattle.assembler.proofs.Entries.{among, among_of, first_among, ids_same, listed_of}
 use Rattle.assembler.proofs.HadOn.{had_from}
@@ -37,7 +37,10 @@ use Rattle.dsy_base.specs.Maps.{Map}
 use Rattle.dsy_base.specs.declared.view.View.{Ghosts as ViewWords}
 use Rattle.extract_plan.specs.Deal.{AreWants, first_of, of_want}
 use Rattle.extract_plan.specs.Places.{places_at}
+use Rattle.owned_shards.specs.Wholes.{KeptWhole, Whole}
 use Rattle.range_ledger.specs.Fills.{Fills, FillsTorn, WhereTold}
+use Rattle.range_ledger.specs.Runs.{Run}
+use Rattle.range_survey.proofs.Excused.{excuses_since}
 use Rattle.range_survey.specs.Fates.{settled}
 use Rattle.range_survey.specs.declared.fate.Fate.{Fate}
 use Rattle.range_survey.specs.declared.report.Report.{Report}
@@ -64,6 +67,36 @@ told_between (Some y) None t A B same one other = absurd (true≢false (sym same
 told_between (Some y) (Some u) None A B same one other = tt
 told_between (Some y) (Some u) (Some z) A B same one other = (u, one, other)
 
+-- ---- shards that several workers had
+
+module _ (r : Run) (w : Whole) (f : ℕ) (before : f ≤ w.faults_before) where
+  abbrev over_run : List ℕ → List ℕ
+  over_run y = resized y (image_length r.listing)
+
+  abbrev Stands : List ℕ → List ℕ → Type 0
+  Stands y t0 = StandsOver r.listing (λ e. r.may e ≡ true) w.fates f w.faults (over_run y) t0
+
+  stands_kept : (y t0 : List ℕ) → r.base ≡ over_run y → length t0 ≡ image_length r.listing → KeptWhole r w t0 → Stands y t0
+  stands_kept y t0 base size kept = subst (λ b. StandsOver r.listing (λ e. r.may e ≡ true) w.fates f w.faults b t0) base (record {
+    failed = kept.failed;
+    excused = excuses_since kept.failed f w.faults_before w.faults before kept.excused;
+    size = size;
+    right = kept.right;
+    filled = kept.filled;
+    untouched = kept.untouched;
+    base_right = kept.base_right;
+    base_kept = kept.base_kept;
+  })
+
+  -- what they keep over the target's first bytes, where these are told
+  pub stands_joined : (o : Option (List ℕ)) → IfSome o (λ y. r.base ≡ over_run y) → IfSome w.held.bytes (λ t. length t ≡ image_length r.listing)
+      → IfSome w.held.bytes (KeptWhole r w) → WhereTold o w.held.bytes Stands
+  stands_joined o base size kept = go o w.held.bytes base size kept where
+    go : (o mid : Option (List ℕ)) → IfSome o (λ y. r.base ≡ over_run y) → IfSome mid (λ t. length t ≡ image_length r.listing) → IfSome mid (KeptWhole r w) → WhereTold o mid Stands
+    go None mid base size kept = tt
+    go (Some y) None base size kept = tt
+    go (Some y) (Some t0) base size kept = stands_kept y t0 base size kept
+
 -- ---- one entry
 
 module _ (t : Task) (wants : AreWants t.listing t.plan.wants t.plan.want_of) where
@@ -83,7 +116,7 @@ module _ (t : Task) (wants : AreWants t.listing t.plan.wants t.plan.want_of) whe
       (subst (λ n. SeedsGive views (places_at t.places (want_at t.plan i)) (id_of l j) ⊎ SomeGives (kind_of l) (id_of l j) n maps) like.1
       (subst (λ q. SeedsGive views (places_at t.places (want_at t.plan i)) q ⊎ SomeGives (kind_of l) q (size_of l i) maps) like.0 source)))
 
-  module _ (Such : ℕ → Type 0) (m : List Fate) (f b c : ℕ) (ab : f ≤ b) (bc : b ≤ c) (base t0 : List ℕ) (over : KeptWhole t.listing Such m f b base t0) where
+  module _ (Such : ℕ → Type 0) (m : List Fate) (f b c : ℕ) (ab : f ≤ b) (bc : b ≤ c) (base t0 : List ℕ) (over : StandsOver t.listing Such m f b base t0) where
     -- where a settled entry was had, it can be had
     obtainable : (views : List (Option Held)) (maps : List (Map (List ℕ))) → ((j : ℕ) → j < count_of t.listing → Such j → IsObtainable t base views maps j)
         → (i : ℕ) → i < count_of t.listing → HadAt t m views maps i → IsObtainable t base views maps i
@@ -172,28 +205,28 @@ module _ {S V : Type 0} (store : StoreWords S) (view : ViewWords V) (t : Task) (
   abbrev over_base : List ℕ → List ℕ
   over_base y = resized y (image_length t.listing)
 
-  abbrev Whole : List ℕ → List ℕ → Type 0
-  Whole y t0 = KeptWhole t.listing Such a.fates old.faults a.faults (over_base y) t0
+  abbrev Kept : List ℕ → List ℕ → Type 0
+  Kept y t0 = StandsOver t.listing Such a.fates old.faults a.faults (over_base y) t0
 
   abbrev Found : List ℕ → Type 0
-  Found y = (t0 : List ℕ) × Whole y t0
+  Found y = (t0 : List ℕ) × Kept y t0
 
   abbrev Filled : List ℕ → List ℕ → Type 0
-  Filled y z = (t0 : List ℕ) × Whole y t0 × Fills t.listing a.fates b.fates a.faults b.faults t0 z
+  Filled y z = (t0 : List ℕ) × Kept y t0 × Fills t.listing a.fates b.fates a.faults b.faults t0 z
 
   -- what they leave over the base of o, and what stood before them
   pub record Finished (r : Result Unit ExtractFault) : Type 0 where
     pub wants : AreWants t.listing t.plan.wants t.plan.want_of
     pub since : Since store view t old (from a)
     pub tells : is_some a.held.bytes ≡ is_some o
-    pub whole : WhereTold o a.held.bytes Whole
+    pub whole : WhereTold o a.held.bytes Kept
     pub had : HadAll store view t a b.fates
     pub stretch : Stretch store view t (λ w. w < t.plan.wants) a b
     pub ends : Ends store view t a b r
 
   -- so it is after the second pass alone, whatever the passes before it were, if what they settled is known so
   pub finished_retry : (r : Result Unit ExtractFault) → AreWants t.listing t.plan.wants t.plan.want_of → Since store view t old (from a) → is_some a.held.bytes ≡ is_some o
-      → WhereTold o a.held.bytes Whole → HasPassed store view t one_pass a b → Ends store view t a b r → Finished r
+      → WhereTold o a.held.bytes Kept → HasPassed store view t one_pass a b → Ends store view t a b r → Finished r
   finished_retry r wants since tells whole passed ends = record {
     wants = wants;
     since = since;
@@ -217,10 +250,10 @@ module _ {S V : Type 0} (store : StoreWords S) (view : ViewWords V) (t : Task) (
     })
 
     founds : IfSome o Found
-    founds = some_between o a.held.bytes Whole done.tells done.whole
+    founds = some_between o a.held.bytes Kept done.tells done.whole
 
     filled : WhereTold o b.held.bytes Filled
-    filled = told_between o a.held.bytes b.held.bytes Whole (Fills t.listing a.fates b.fates a.faults b.faults) done.tells done.whole done.stretch.step.bytes
+    filled = told_between o a.held.bytes b.held.bytes Kept (Fills t.listing a.fates b.fates a.faults b.faults) done.tells done.whole done.stretch.step.bytes
 
     -- ---- bytes
 
@@ -245,11 +278,11 @@ module _ {S V : Type 0} (store : StoreWords S) (view : ViewWords V) (t : Task) (
         let w = want_at t.plan h.entry in
         let Torn : List ℕ → List ℕ → Type 0 = FillsTorn t.listing a.fates b.fates a.faults b.faults h.torn in
         subst (λ y. WhereTold o b.held.bytes (Assembles t.listing Unused old.faults b.faults (Err y))) (sym is)
-        (told_map o b.held.bytes Found (λ y z. (t0 : List ℕ) × Whole y t0 × Torn t0 z) (Assembles t.listing Unused old.faults b.faults (Err faults.TargetFault))
+        (told_map o b.held.bytes Found (λ y z. (t0 : List ℕ) × Kept y t0 × Torn t0 z) (Assembles t.listing Unused old.faults b.faults (Err faults.TargetFault))
         (λ y z found s. inr (leaves_torn t.listing Such a.fates b.fates old.faults a.faults b.faults done.since.rises rises_on done.stretch.step.grows (over_base y) s.0 z s.1 s.2.0
         h.entry h.torn h.listed h.was_open h.before
         (listed_of t.listing t.plan w h.torn done.wants h.among) (ids_same t.listing t.plan w h.torn h.entry done.wants h.among (here t done.wants h.entry h.listed)) s.2.1))
-        founds (told_between o a.held.bytes b.held.bytes Whole Torn done.tells done.whole h.is_torn))
+        founds (told_between o a.held.bytes b.held.bytes Kept Torn done.tells done.whole h.is_torn))
     bytes_by Unused why so (inr (inr is)) = subst (λ y. WhereTold o b.held.bytes (Assembles t.listing Unused old.faults b.faults (Err y))) (sym is)
         (told_map o b.held.bytes Found Filled (Assembles t.listing Unused old.faults b.faults (Err faults.Memory)) (λ y z found s. inr (leaving y z s)) founds filled)
 
@@ -381,8 +414,8 @@ module _ {S V : Type 0} (store : StoreWords S) (view : ViewWords V) (t : Task) (
           exactly_ok u so report = some_map o (λ y. Found y × SuchCan y) (λ y. Verdict t.listing (Can y) (Ok report))
               (λ y is i inside. had y is.0 is.1 i inside (all_settled u so i inside)) both
 
-          abbrev Stands : List ℕ → List ℕ → Type 0
-          Stands y z = (i : ℕ) → i < count_of t.listing → (Can y i → IsRightAt z t.listing i) × ((Can y i → ⊥) → slice_of t.listing z i ≡ slice_of t.listing (over_base y) i)
+          abbrev StandsAfter : List ℕ → List ℕ → Type 0
+          StandsAfter y z = (i : ℕ) → i < count_of t.listing → (Can y i → IsRightAt z t.listing i) × ((Can y i → ⊥) → slice_of t.listing z i ≡ slice_of t.listing (over_base y) i)
 
           -- an entry that can't be had was never written
           untouched : (y z : List ℕ) → SuchCan y → Filled y z → (i : ℕ) → i < count_of t.listing → (Can y i → ⊥) → slice_of t.listing z i ≡ slice_of t.listing (over_base y) i
@@ -401,7 +434,7 @@ module _ {S V : Type 0} (store : StoreWords S) (view : ViewWords V) (t : Task) (
           after_lost : (why : ExtractFault) (y z : List ℕ) → SuchCan y → Filled y z
               → (why ≡ faults.Memory) ⊎ (Rose a.faults b.faults ⊎ ((i : ℕ) → i < count_of t.listing → settled b.fates i ≡ false → (lost : Lost)
               × (want_at t.plan lost.entry ≡ want_at t.plan i) × Loses store view t a b lost))
-              → HadMemory why → Stands y z
+              → HadMemory why → StandsAfter y z
           after_lost why y z has s (inl is) memory = absurd (subst HadMemory is memory)
           after_lost why y z has s (inr (inl rose)) memory = absurd (quiet_never old.faults b.faults nothing.target (rose_later old.faults a.faults b.faults done.since.rises rose))
           after_lost why y z has s (inr (inr left)) memory = λ i inside. (

@@ -9,7 +9,7 @@ use Rattle.assembler.specs.declared.fault.ExtractFault.TheVariants as faults
 use Rattle.assembler.specs.declared.fault.Lost.{Lost}
 use Rattle.caibx_codec.specs.Asks.{IsListedGet}
 use Rattle.caibx_codec.specs.Listing.{Listing, count_of, id_of, kind_of, size_of}
-use Rattle.chunk_sources.specs.Asks.{AreSpared, AsksAtMost, IsSpared, asks_below, calls_below, others_spared}
+use Rattle.chunk_sources.specs.Asks.{AreSpared, AsksAtMost, ShareAsks, asks_below, calls_below}
 use Rattle.chunk_sources.specs.Caches.{CacheLacks, HaveOneSize, cached_in}
 use Rattle.chunk_sources.specs.Economy.{source_over}
 use Rattle.chunk_sources.specs.Losses.{CopiesFailed, Had, MayLack, RefusedBy}
@@ -119,18 +119,10 @@ module _ {S V : Type 0} (store : StoreWords S) (view : ViewWords V) where
       pub asks : PassAsks times a b
       pub stretch : Stretch store view t (λ w. w < t.plan.wants) a b
 
-    -- how often one pass over these wants asks: once for each of them at most, not for a spared one, and for no other
-    abbrev pub ShareAsks : (ℕ → Bool) → Stage S V → Stage S V → Type 0
-    ShareAsks these a b = (spared : ℕ → Bool)
-        → ((w : ℕ) → w < t.plan.wants → these w ≡ true → spared w ≡ true
-        → IsSpared store view t (λ j. settled a.fates j ≡ true) (from a) (from b) w)
-        → AsksAtMost store (calls_below (others_spared these spared) t.plan.wants)
-        (λ q. asks_below (want_id t.listing t.plan) (others_spared these spared) t.plan.wants q) a.kit.chain b.kit.chain
-
     -- what one pass over these wants leaves
     pub record HasPassedShare (these : ℕ → Bool) (a b : Stage S V) : Type 0 where
       pub had : HadAll a b.fates
-      pub asks : ShareAsks these a b
+      pub asks : ShareAsks store view t a.fates (from a) (from b) these
       pub stretch : Stretch store view t (λ w. (w < t.plan.wants) × (these w ≡ true)) a b
 
     -- how the second pass ends. Its first lost entry is named, before which all are settled; no entry before the one
