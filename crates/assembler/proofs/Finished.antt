@@ -1,18 +1,19 @@
 -- What the last passes of an assembly leave over the base, whatever was done before them: it stood at a before them and at
 -- b at the end. At first chunks were got from `old`, and the target's bytes were `o`.
-use Rattle.std.proofs.Common.{◌≡◌, ◌⊎◌, ◌++◌, ℕ, ◌<◌, ◌≤◌, List, length, map, slice_index, Option, Some, None, IfErr, IfSome, Result, OnOk, Ok, Err, is_some, true, false, refl, sym, ap, ◌∙◌, subst, inl, inr, arith}
+use Rattle.std.proofs.Common.{◌≡◌, ◌⊎◌, ◌++◌, ℕ, ◌<◌, ◌≤◌, Bool, List, length, map, slice_index, Option, Some, None, IfErr, IfSome, Result, OnOk, Ok, Err, is_some, true, false, refl, sym, ap, ◌∙◌, subst, inl, inr, arith}
 use Rattle.std.proofs.lemmas.Bool.{cases_Bool, true≢false}
 use Rattle.assembler.proofs.Based.{StandsOver, assembles_err, ends_map, leaves, leaves_torn, left_at, missed_at, only_such, right_all, right_at, some_map, told_map}
 use Rattle.assembler.proofs.Counted.{quiet_part}
 use Rattle.assembler.proofs.Entries.{among, among_of, first_among, ids_same, listed_of}
-use Rattle.assembler.proofs.HadOn.{had_from}
+use Rattle.assembler.proofs.HadOn.{had_entry, had_from}
 use Rattle.assembler.proofs.Lost.{lacks_since, refused_since, seeds_since}
 use Rattle.assembler.proofs.Stepped.{seeds_none, seeds_on}
-use Rattle.assembler.proofs.Stocking.{gives_on, stocking_on}
+use Rattle.assembler.proofs.Stocking.{gives_on, stocking_on, stocking_wider}
 use Rattle.assembler.specs.Assemblies.{After, Assembles, IsObtainable, IsUnobtained, KeepsBase, RightAlike, Verdict}
 use Rattle.assembler.specs.Faults.{fault_of}
 use Rattle.assembler.specs.Obtainable.{OnlyObtainable}
-use Rattle.assembler.specs.Passes.{Ends, EndsBy, HadAll, HadAt, HasPassed, Loses, RefusedOnce, one_pass, want_at}
+use Rattle.assembler.specs.Passes.{Ends, EndsBy, HadAll, HadAt, HasPassed, HasPassedShare, Loses, RefusedOnce, one_pass, want_at}
+use Rattle.assembler.specs.Permits.{MayFillHad}
 use Rattle.assembler.specs.Stages.{Stage, Stretch, from}
 use Rattle.assembler.specs.declared.fault.ExtractFault.{ExtractFault}
 use Rattle.assembler.specs.declared.fault.ExtractFault.TheVariants as faults
@@ -26,7 +27,7 @@ use Rattle.chunk_sources.proofs.Lacking.{Tells, quiet_never, seeds_never, stores
 use Rattle.chunk_sources.proofs.SeedAnswers.{telling_on}
 use Rattle.chunk_sources.specs.Caches.{CacheLacks, HaveOneSize, Stocked, TakesWants, cache_faults, cached_in}
 use Rattle.chunk_sources.specs.Losses.{CopiesFailed}
-use Rattle.chunk_sources.specs.Sources.{KeepsSeeds, SeedsFailed, SeedsGive, Sources, SourcesQuiet, Telling, counts_of, views_of}
+use Rattle.chunk_sources.specs.Sources.{KeepsSeeds, SeedsFailed, SeedsGive, Sources, SourcesQuiet, Telling, counts_of, sources, views_of}
 use Rattle.chunk_sources.specs.Wants.{IsAmong, Task}
 use Rattle.chunk_store.specs.declared.id.ChunkId.{ChunkId}
 use Rattle.chunk_store.specs.declared.store.Store.{Ghosts as StoreWords}
@@ -116,14 +117,15 @@ module _ (t : Task) (wants : AreWants t.listing t.plan.wants t.plan.want_of) whe
       (subst (λ n. SeedsGive views (places_at t.places (want_at t.plan i)) (id_of l j) ⊎ SomeGives (kind_of l) (id_of l j) n maps) like.1
       (subst (λ q. SeedsGive views (places_at t.places (want_at t.plan i)) q ⊎ SomeGives (kind_of l) q (size_of l i) maps) like.0 source)))
 
-  module _ (Such : ℕ → Type 0) (m : List Fate) (f b c : ℕ) (ab : f ≤ b) (bc : b ≤ c) (base t0 : List ℕ) (over : StandsOver t.listing Such m f b base t0) where
+  module _ (Such : ℕ → Type 0) (m : List Fate) (base : List ℕ)
+      (filled : (j : ℕ) → j < count_of t.listing → settled m j ≡ true → IsRightAt base t.listing j ⊎ Such j) where
     -- where a settled entry was had, it can be had
     obtainable : (views : List (Option Held)) (maps : List (Map (List ℕ))) → ((j : ℕ) → j < count_of t.listing → Such j → IsObtainable t base views maps j)
         → (i : ℕ) → i < count_of t.listing → HadAt t m views maps i → IsObtainable t base views maps i
     obtainable views maps can i inside (inl (j, other, is)) =
         let w = want_at t.plan i in
         let listed = listed_of t.listing t.plan w j wants other in
-        elim (over.filled j listed is) [
+        elim (filled j listed is) [
           | inl right ↦ inl (j, listed, ids_same t.listing t.plan w j i wants other (here i inside), right)
           | inr such ↦ obtainable_as base views maps j i listed inside (sym (among_of t.plan w j other).1) (can j listed such)
         ]
@@ -134,6 +136,7 @@ module _ (t : Task) (wants : AreWants t.listing t.plan.wants t.plan.want_of) whe
         inr (subst (λ n. SeedsGive views (places_at t.places w) (id_of l i) ⊎ SomeGives (kind_of l) (id_of l i) n maps) like.1
         (subst (λ q. SeedsGive views (places_at t.places w) q ⊎ SomeGives (kind_of l) q (size_of l (first_of t.plan w)) maps) like.0 source))
 
+  module _ (Such : ℕ → Type 0) (m : List Fate) (f b c : ℕ) (ab : f ≤ b) (bc : b ≤ c) (base t0 : List ℕ) (over : StandsOver t.listing Such m f b base t0) where
     -- an entry that is right in the base couldn't be read, by the survey or later
     copies : (i : ℕ) → i < count_of t.listing → CopiesFailed m (of_want t.plan (want_at t.plan i)) b c → RightAlike t.listing base i → Rose f c
     copies i inside failed (j, listed, alike, right) = elim (cases_Bool (settled m j)) [
@@ -195,6 +198,39 @@ module _ {S V : Type 0} (store : StoreWords S) (view : ViewWords V) (t : Task) w
     stores = kept_still store (IsListedGet t.listing) s.chain.stores;
     stocked = stocked_none (TakesWants store t.listing t.plan All s.chain.stores) s.cache;
   }
+
+  -- what one worker's pass leaves of its own sources, whatever the target's counts are
+  pub since_fill : (these : ℕ → Bool) (f c : ℕ) → f ≤ c → (s0 s1 : Stage S V) → HasPassedShare store view t these s0 s1
+      → Since (sources f s0.kit.seeds.items s0.cache s0.kit.chain) (sources c s1.kit.seeds.items s1.cache s1.kit.chain)
+  since_fill these f c rises s0 s1 passed = record {
+    rises = rises;
+    seeds = passed.stretch.step.seeds;
+    stores = passed.stretch.step.stores;
+    stocked = stocking_wider store t.listing t.plan (λ w. (w < t.plan.wants) × (these w ≡ true)) All (λ w both. both.0) s0.kit.chain.stores s0.cache s1.cache passed.stretch.stocked;
+  }
+
+-- ---- which entries a pass may fill
+
+module _ {S V : Type 0} (store : StoreWords S) (view : ViewWords V) (t : Task) (wants : AreWants t.listing t.plan.wants t.plan.want_of) (old : Sources S V) (a : Stage S V)
+    (since : Since store view t old (from a)) (Such : ℕ → Type 0) (base : List ℕ)
+    (filled : (i : ℕ) → i < count_of t.listing → settled a.fates i ≡ true → IsRightAt base t.listing i ⊎ Such i)
+    (cached maps : List (Map (List ℕ))) (telling : Telling view.tells (views_of view old.seeds)) (told_cache : cached_in old.cache ≡ Some cached)
+    (told : map store.holds old.chain.stores ≡ map Some maps) where
+  abbrev CanBeHad : ℕ → Type 0
+  CanBeHad i = IsObtainable t base (views_of view old.seeds) (cached ++ maps) i
+
+  -- where what is settled was right in the base or can be had, and what can be had may be filled. At the first pass of a
+  -- worker, where the survey has settled what is settled, nothing is such
+  pub permits_from : (may : ℕ → Bool) → ((i : ℕ) → i < count_of t.listing → Such i → CanBeHad i) → ((i : ℕ) → i < count_of t.listing → CanBeHad i → may i ≡ true)
+      → (Among : ℕ → Type 0) → MayFillHad store view t may a Among
+  permits_from may such can_may Among w less any has i among_w =
+      let views = views_of view old.seeds in
+      let inside = listed_of t.listing t.plan w i wants among_w in
+      let later = stocked_told (TakesWants store t.listing t.plan (λ v. v < t.plan.wants) old.chain.stores) old.cache a.cache cached since.stocked told_cache in
+      let had = had_from t wants store view (λ v. v < t.plan.wants) old (from a) since.seeds.held since.stocked cached later.0 maps told_cache later.1 told a.fates w
+      (has (telling_on view.tells views (views_of view a.kit.seeds.items) since.seeds.held telling) later.0 maps later.1 (since.stores.held ∙ told)) in
+      can_may i inside (obtainable t wants Such a.fates base filled views (cached ++ maps) such i inside
+      (had_entry t wants a.fates views (cached ++ maps) w i among_w had))
 
 -- ---- the last passes
 
@@ -346,7 +382,7 @@ module _ {S V : Type 0} (store : StoreWords S) (view : ViewWords V) (t : Task) (
         -- what is settled can be had
         can : (y : List ℕ) → Found y → SuchCan y → (i : ℕ) → i < count_of t.listing → settled b.fates i ≡ true → Can y i
         can y found such i inside is =
-            obtainable t done.wants Such a.fates old.faults a.faults b.faults done.since.rises rises_on (over_base y) found.0 found.1 views (cached ++ maps) such i inside (had_at i inside is)
+            obtainable t done.wants Such a.fates (over_base y) found.1.filled views (cached ++ maps) such i inside (had_at i inside is)
 
         pub only_ok : (u : Unit {0}) → r ≡ Ok u → (report : Report) → IfSome o SuchCan → WhereTold o b.held.bytes (λ y z. OnlyObtainable t.listing (Can y) old.faults b.faults (Ok report) y z)
         only_ok u so report such = told_map o b.held.bytes SuchCan Filled

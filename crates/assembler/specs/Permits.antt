@@ -14,7 +14,8 @@ deals_to d k w = w % d.workers == k
 module _ {S V : Type 0} (store : StoreWords S) (view : ViewWords V) (t : Task) (may : ℕ → Bool) (a : Stage S V) where
   -- if the chunk of want w is had over a stage, its entries may be filled
   abbrev pub MayFillWant : ℕ → Type 0
-  MayFillWant w = HadOver store view a.fates (want_chunk t w) (from a) → (i : ℕ) → IsAmong (of_want t.plan w) i → may i ≡ true
+  MayFillWant w = HadOver store view a.fates (want_chunk t w) (from a)
+      → (i : ℕ) → IsAmong (of_want t.plan w) i → may i ≡ true
 
   -- so it is of each of these wants
   abbrev pub MayFillHad : (ℕ → Type 0) → Type 0
