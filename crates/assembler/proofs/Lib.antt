@@ -24,5 +24,4 @@ pub mod EconomyFilled
 pub mod EconomyRetried
 pub mod EconomyPasses
 pub mod EconomyReported
-pub mod OnePlan
 pub mod WholePasses

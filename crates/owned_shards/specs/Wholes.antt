@@ -1,6 +1,6 @@
 -- What the shards of a target make up together. Entries and shards count from 0.
-use Rattle.std.specs.Prelude.{◌≡◌, ℕ, ◌+◌, ◌<◌, ◌≤◌, List, [], ◌∷◌, ◌++◌, length, zero, suc}
-use Rattle.std.specs.Prelude.{true, Bool, Option, Some, None, IfSome, IsTrue}
+use Rattle.std.specs.Prelude.{◌≡◌, ℕ, ◌+◌, ◌-◌, ◌<◌, ◌≤◌, List, [], ◌∷◌, ◌++◌, length, zero, suc}
+use Rattle.std.specs.Prelude.{replicate, slice_range, true, Bool, Option, Some, None, IfSome, IsTrue}
 use Rattle.std.specs.Prelude.{if◌then◌else◌, is_some}
 use Rattle.std.specs.List.{flat_map, sum_by}
 use Rattle.caibx_codec.specs.Listing.{Listing, count_of, image_length, start_of}
@@ -11,6 +11,10 @@ use Rattle.extract_plan.specs.Deal.{AreShardEnds, Deal, deal_shards}
 use Rattle.range_ledger.specs.Runs.{IsDealt, IsShard, Run, Seen, base_in, first_in, open_in}
 use Rattle.range_survey.specs.Fates.{FirstFates}
 use Rattle.range_survey.specs.declared.fate.Fate.{Fate}
+
+-- all bytes from offset `old` on are zeros
+abbrev pub ZerosFrom : ℕ → List ℕ → Type 0
+ZerosFrom old t = (a z : ℕ) → old ≤ a → a ≤ z → z ≤ length t → slice_range t a z ≡ replicate (z - a) 0
 
 -- what contracts see of a target in shards: what it holds, what became of its entries, and how often a call on it has
 -- failed
@@ -54,6 +58,10 @@ ShardsWith P r k (s ∷ ss) = (s.number ≡ k) × (P s × ShardsWith P r (k + 1)
 abbrev pub AreShards : Run → ℕ → List Seen → Type 0
 AreShards r k ss = ShardsWith (IsTold r) r k ss
 
+-- each entry may be filled
+abbrev pub MayFillAll : Run → Type 0
+MayFillAll r = (e : ℕ) → r.may e ≡ true
+
 -- the run is over this index by this plan, and over a target that holds this once it has the image's length; each entry
 -- may be filled
 pub record IsRunOver (r : Run) (l : Listing) (d : Deal) (told : Bool) (old : Held) : Type 0 where
@@ -61,7 +69,7 @@ pub record IsRunOver (r : Run) (l : Listing) (d : Deal) (told : Bool) (old : Hel
   pub workers : 0 < d.workers
   pub cuts : AreShardEnds l (deal_shards d) d.cuts
   pub base : IfSome old.bytes (λ o. r.base ≡ resized o (image_length l))
-  pub may : (e : ℕ) → r.may e ≡ true
+  pub may : MayFillAll r
   pub tells : r.tells ≡ told
 
 -- what a target in shards keeps
@@ -70,7 +78,7 @@ pub record IsWhole (r : Run) (told : Bool) (left : Left) (ss : List Seen) : Type
   pub some : 0 < count_of r.listing → 0 < r.shards
   pub few : r.shards ≤ count_of r.listing
   pub size : left.size ≡ image_length r.listing
-  pub may : (e : ℕ) → r.may e ≡ true
+  pub may : MayFillAll r
   pub tells : r.tells ≡ told
 
 -- the fates of the first n shards, of which none is settled
