@@ -53,7 +53,7 @@ check 'paths of one machine' "$(lines '(^|[^A-Za-z0-9_.~-])/(opt|work|root)[/]')
 check 'files of more than 800 lines' "$(files | xargs -0 -r wc -l 2> /dev/null |
     awk '$2 ~ /^(\.\/)?crates\// && $1 > 800')"
 check 'crates of more than 1,500 lines' "$(python3 tests/names.py long 2>&1)"
-echo "bodies of 40 lines and more, by tests/names.py bodies: $(python3 tests/names.py bodies | wc -l)"
+check 'bodies of 40 lines and more' "$(python3 tests/names.py bodies 2>&1)"
 check 'lines of more than 120 columns' "$(wide 2>&1)"
 check 'files that are built' "$(files | tr '\0' '\n' | grep -E '(^|/)(out|bin|__pycache__)/')"
 check 'crates that crates.txt leaves out' "$(comm -23 <(crates | sort) <(listed | sort))"

@@ -25,6 +25,5 @@ pub mod EconomyFilled
 pub mod EconomyRetried
 pub mod EconomyPasses
 pub mod EconomyReported
-pub mod OnePlan
 pub mod WholePasses
 pub mod OneWorker

@@ -1,7 +1,7 @@
 //! An assembly after its survey. It takes no memory of its own.
 
-ghost use Rattle.std.specs.Prelude.{◌≡◌, ℕ, ◌+◌, ◌≤◌, None, replicate, true, false, Err, IfOk, IfSome};
-ghost use Rattle.assembler.specs.Assemblies.{IsAssembled};
+ghost use Rattle.std.specs.Prelude.{◌≡◌, ℕ, ◌+◌, ◌≤◌, None, replicate, false, Err, IfOk, IfSome};
+ghost use Rattle.assembler.specs.Assemblies.{Assembles, IsAssembled};
 ghost use Rattle.assembler.specs.Begun.{HasBegun};
 ghost use Rattle.assembler.specs.Stages.{Ready, task};
 ghost use Rattle.caibx_codec.specs.Listing.{count_of, image_length};
@@ -10,6 +10,8 @@ ghost use Rattle.chunk_sources.specs.Losses.{MayLack};
 ghost use Rattle.chunk_sources.specs.Sources.{sources};
 ghost use Rattle.dsy_base.specs.Bytes.{Held, resized};
 ghost use Rattle.dsy_base.specs.Counts.{Quiet};
+ghost use Rattle.owned_shards.specs.Wholes.{MayFillAll};
+ghost use Rattle.range_ledger.specs.Fills.{WhereTold};
 ghost use Rattle.range_survey.specs.Reports.{right_below};
 
 use crate::fault::ExtractFault;
@@ -27,7 +29,7 @@ use range_survey::report::Report;
 
 /// What an assembly with one kit hands back.
 #[derive(Drop)]
-pub(crate) struct Ended<T: Target, S: Store, V: View, F: Folder> {
+pub struct Ended<T: Target, S: Store, V: View, F: Folder> {
     pub target: T,
     pub kit: Kit<S, V>,
     pub cache: Option<CacheShelf<F>>,
@@ -35,14 +37,14 @@ pub(crate) struct Ended<T: Target, S: Store, V: View, F: Folder> {
 }
 
 /// Makes all entries right that the survey left open, and joins the target. `tried` has a mark for each want.
-pub(crate) fn run_surveyed<R: RunName, T: Target, S: Store, V: View, F: Folder>(
+pub fn run_surveyed<R: RunName, T: Target, S: Store, V: View, F: Folder>(
     wants: &Wants<'_>,
     tried: Vec<bool>,
     ledger: Shards<'_, R, T>,
     kit: Kit<S, V>,
     cache: Option<CacheShelf<F>>,
 ) -> Ended<T, S, V, F>
-    requires listing { wants.now.index.now ≡ R.run.listing }
+    requires dealt { wants.now.index.now ≡ R.run.listing }
     requires fresh { tried.items ≡ replicate wants.now.plan.now.wants false }
     requires ready { Ready (task R.run.listing wants.now) (record {
       held = ledger.held;
@@ -52,8 +54,10 @@ pub(crate) fn run_surveyed<R: RunName, T: Target, S: Store, V: View, F: Folder>(
       cache = seen F.Look cache;
     }) }
     requires unnamed { (F.pairs ≡ None) × (F.stores ≡ None) }
-    requires may { (e : ℕ) → R.run.may e ≡ true }
+    requires may { MayFillAll R.run }
     requires workers { wants.now.plan.now.workers ≡ 1 }
+    ensures bytes { (old : Held) (f : ℕ) → HasBegun R.run.listing old f ledger.entry → WhereTold old.bytes
+        (T.held result.target).bytes (Assembles R.run.listing ⊥ f (T.faults result.target) result.answer) }
     ensures assembled { (old : Held) (f : ℕ) → HasBegun R.run.listing old f ledger.entry →
         IsAssembled S.Store V.View (task R.run.listing wants.now) old.bytes (T.held result.target).bytes
         (sources f kit.seeds.items (seen F.Look cache) kit.chain)
@@ -65,6 +69,7 @@ pub(crate) fn run_surveyed<R: RunName, T: Target, S: Store, V: View, F: Folder>(
         IfOk result.answer (λ r. Quiet f (T.faults result.target) → IfSome old.bytes (λ o. r.kept ≡
         right_below R.run.listing (resized o (image_length R.run.listing)) (count_of R.run.listing))) }
     ensures memory { result.answer ≡ Err ExtractFault.Memory → MayLack S.Store (seen F.Look cache) }
+    ensures size { (T.held result.target).size ≡ image_length R.run.listing }
     ensures name { (T.held result.target).name ≡ ledger.entry.held.name }
     ensures faults { ledger.entry.faults ≤ T.faults result.target }
 {

@@ -15,7 +15,7 @@ use range_ledger::ledger::Ledger;
 
 /// The wants of an index, and where seeds list their chunks.
 #[derive(Clone, Copy)]
-pub(crate) struct Wants<'a> {
+pub struct Wants<'a> {
     pub index: &'a Index,
     pub plan: &'a Plan,
     pub places: &'a SeedIndex,

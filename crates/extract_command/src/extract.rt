@@ -16,7 +16,6 @@ ghost use Rattle.extract_plan.specs.Deal.{Deal, IsPlan};
 ghost use Rattle.extract_plan.specs.Places.{IsSeedIndex, PlacesKnown, items_of, seed_item_limit};
 
 use crate::held::{Held, give_back, let_go, reach};
-use assembler::assemble::assemble;
 use assembler::fault::ExtractFault;
 use caibx_codec::index::Index;
 use chunk_sources::kit::Kit;
@@ -32,6 +31,7 @@ use dsy_base::look::Look;
 use dsy_base::name::Name;
 use extract_plan::plan::Plan;
 use extract_plan::seeds::SeedIndex;
+use image_assembly::assemble::assemble;
 use range_survey::report::Report;
 use std::alloc::{AllocError, Global};
 use store_chain::chain::Chain;

@@ -5,7 +5,6 @@ ghost use Rattle.chunk_store.specs.declared.id.DigestKind.TheVariants as kinds;
 
 use crate::compare::{ok, same};
 use crate::indexes::{id_of_piece, index_of_pieces};
-use assembler::assemble::{Assembled, assemble};
 use assembler::fault::ExtractFault;
 use byte_forms::mem_target::MemTarget;
 use byte_forms::mem_view::MemView;
@@ -20,6 +19,8 @@ use dsy_forms::mem_folder::MemFolder;
 use extract_plan::plan::Plan;
 use extract_plan::seed::Seed;
 use extract_plan::seeds::SeedIndex;
+use image_assembly::assemble::assemble;
+use image_assembly::prepare::Assembled;
 use range_survey::report::Report;
 use std::alloc::Global;
 use std::process::Abort;
@@ -47,7 +48,7 @@ fn seed_of(rt: &impl Abort, alloc: Global, bytes: Option<&[u8]>) -> Seed<MemView
 }
 
 // A kit of a seed and of two stores, in which each pair's second lies under the id of the first.
-fn kit_of(
+pub(crate) fn kit_of(
     rt: &impl Abort,
     alloc: Global,
     seed: Option<&[u8]>,
@@ -100,7 +101,12 @@ fn assembles_with(
 }
 
 // A target that holds these bytes.
-fn target_of(rt: &impl Abort, alloc: Global, bytes: &[u8], fails: RangeFails) -> MemTarget {
+pub(crate) fn target_of(
+    rt: &impl Abort,
+    alloc: Global,
+    bytes: &[u8],
+    fails: RangeFails,
+) -> MemTarget {
     MemTarget::new(alloc, ok(rt, Vec::from_slice(alloc, bytes)), fails)
 }
 
@@ -122,7 +128,12 @@ fn assembles(
     assembles_with(rt, alloc, pieces, old, kit, None, ended, new, asks);
 }
 
-fn counts(kept: u64, copied: u64, seeded: u64, fetched: u64) -> Result<Report, ExtractFault> {
+pub(crate) fn counts(
+    kept: u64,
+    copied: u64,
+    seeded: u64,
+    fetched: u64,
+) -> Result<Report, ExtractFault> {
     Ok(Report {
         kept,
         copied,

@@ -26,6 +26,8 @@ mod indexes;
 #[cfg(test)]
 mod ledger_tests;
 #[cfg(test)]
+mod prepare_tests;
+#[cfg(test)]
 mod store_tests;
 #[cfg(test)]
 mod storing_tests;

@@ -1,15 +1,23 @@
 //! Targets in memory that are surveyed. Offsets are bytes from 0.
 
+ghost use Rattle.std.specs.Prelude.{◌≡◌, length};
+ghost use Rattle.owned_shards.specs.Wholes.{IsRunOver};
+
 use crate::compare::{ok, same};
 use crate::indexes::{id_of, index_of_pieces};
 use byte_forms::mem_target::MemTarget;
 use byte_forms::ranges::RangeFails;
 use caibx_codec::index::Index;
-use dsy_base::fault::IoFault;
+use dsy_base::view::{Part, Target, View};
+use extract_plan::plan::Plan;
+use owned_shards::shards::Shards;
+use owned_shards::survey::survey_shards;
+use range_ledger::ledger::Ledger;
+use range_ledger::run::RunName;
 use range_survey::fate::Fate;
-use range_survey::survey::survey_resized;
 use range_survey::zeros::ZeroNames;
 use std::alloc::Global;
+use std::marker::Brand;
 use std::process::Abort;
 
 // The index of an image in four pieces, of which two are one.
@@ -17,33 +25,53 @@ fn index(rt: &impl Abort, alloc: Global) -> Index {
     index_of_pieces(rt, alloc, &[b"abc", b"\0\0\0\0", b"gh", b"abc"])
 }
 
-// Surveys a target, and compares how that ended. Answers the fates of the four entries.
-fn surveys(
+// These of the four entries are kept, and the others are open.
+fn has_kept<R: RunName, T: Target>(
+    rt: &impl Abort,
+    index: &Index,
+    shards: &Shards<R, T>,
+    kept: [bool; 4],
+)
+    requires dealt { R.run.listing ≡ index.now }
+{
+    for entry in 0..4 {
+        assert!(rt; entry < index.count());
+        let fate = if kept[entry] { Fate::Kept } else { Fate::Open };
+        same(rt, shards.fate(entry), fate);
+    }
+}
+
+// Surveys the shards of a target, and compares which of its four entries were kept.
+fn surveys<R: RunName, T: Target>(
     rt: &impl Abort,
     alloc: Global,
-    target: &mut MemTarget,
-    ended: Result<(), IoFault>,
-) -> Vec<Fate> {
-    let index = index(rt, alloc);
-    let mut buf = ok(rt, index.room(alloc));
-    let mut fates = ok(rt, vec![in alloc; Fate::Fetched; index.count()]);
-    let surveyed = survey_resized(alloc, &index, target, &mut buf, &mut fates);
-    same(rt, surveyed, ended);
-    fates
+    index: &Index,
+    plan: &Plan,
+    target: T,
+    kept: [bool; 4],
+) -> T
+    requires over { IsRunOver R.run index.now plan.now T.tells (T.held target) }
+{
+    let Ok(mut buf) = index.room(alloc) else {
+        panic!(rt; "no memory");
+    };
+    let Ok(shards) = survey_shards::<R, T>(alloc, index, plan, target, &mut buf) else {
+        panic!(rt; "not surveyed");
+    };
+    has_kept(rt, index, &shards, kept);
+    shards.into_target()
 }
 
 // Surveys these bytes, of which the read of this offset fails once, and compares which entries were kept. The others
-// are open.
+// are open. Each entry is a shard.
 fn keeps(rt: &impl Abort, alloc: Global, old: &[u8], fails_at: u64, kept: [bool; 4]) {
+    let index = index(rt, alloc);
+    let plan = ok(rt, Plan::of(alloc, &index, 1));
     let mut fails = RangeFails::none(alloc);
     ok(rt, fails.reads.push((fails_at, 1)));
-    let mut target = MemTarget::new(alloc, ok(rt, Vec::from_slice(alloc, old)), fails);
-    let fates = surveys(rt, alloc, &mut target, Ok(()));
+    let target = MemTarget::new(alloc, ok(rt, Vec::from_slice(alloc, old)), fails);
+    let target = surveys::<Brand, MemTarget>(rt, alloc, &index, &plan, target, kept);
     same(rt, target.bytes().len(), 12);
-    same(rt, fates.len(), 4);
-    for (fate, kept) in fates.iter().zip(kept) {
-        same(rt, *fate, if kept { Fate::Kept } else { Fate::Open });
-    }
 }
 
 #[test]
@@ -62,16 +90,6 @@ fn ranges_past_the_old_length_are_not_read(rt: HostRuntime) {
         100,
         [true, true, true, true],
     );
-}
-
-#[test]
-fn a_length_that_cannot_be_set_is_told(rt: HostRuntime) {
-    let alloc = rt.alloc();
-    let mut fails = RangeFails::none(alloc);
-    fails.set_len = 1;
-    let mut target = MemTarget::new(alloc, ok(&rt, Vec::from_slice(alloc, b"abc")), fails);
-    surveys(&rt, alloc, &mut target, Err(IoFault::Failed));
-    same(&rt, target.bytes(), b"abc".as_slice());
 }
 
 // The table for a target of the old length has this name, in digits, for so many zeros.

@@ -22,7 +22,6 @@ use crate::cut::Indexed;
 use crate::fault::DemoFault;
 use crate::figures::Figures;
 use crate::plan::{Planned, kit_of};
-use assembler::assemble::assemble;
 use assembler::fault::ExtractFault;
 use cache_store::shelf::CacheShelf;
 use caibx_codec::index::Index;
@@ -30,6 +29,7 @@ use chunk_sources::kit::Kit;
 use chunk_store::store::Store;
 use dsy_base::view::{Target, View};
 use dsy_sure::sure_folder::SureFolder;
+use image_assembly::assemble::assemble;
 use range_survey::report::Report;
 use std::alloc::Global;
 

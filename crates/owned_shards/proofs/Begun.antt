@@ -12,17 +12,16 @@ use Rattle.dsy_base.specs.Bytes.{Held, resized}
 use Rattle.dsy_base.specs.Counts.{raised}
 use Rattle.dsy_base.specs.Splits.{IsCuts, extent_at, extents}
 use Rattle.extract_plan.specs.Deal.{AreShardEnds, Deal}
-use Rattle.range_survey.proofs.Resized.{zeros_from}
+use Rattle.owned_shards.proofs.Resized.{length_resized, zeros_from}
 use Rattle.range_ledger.proofs.Dealt.{start_more, valid_shard}
 use Rattle.range_ledger.proofs.Laid.{last_above}
 use Rattle.range_ledger.proofs.Surveys.{slice_base}
 use Rattle.owned_shards.proofs.Wholes.{extent_rises, first_of_all, past_all, told, told_is}
 use Rattle.range_ledger.specs.Extents.{IsValidExtent}
 use Rattle.range_ledger.specs.Runs.{Has, HasZerosFrom, HaveFailed, IsDealt, IsDealtShard, IsKept, IsOneOf, Run, Seen, base_in, extent_of, first_in, has_settled, slice_at}
-use Rattle.owned_shards.specs.Wholes.{AreShards, Begun, IsTold, ShardsWith, base_extent, base_told, joined_bytes, extents_below, fates_of, joined_faults}
+use Rattle.owned_shards.specs.Wholes.{AreShards, Begun, IsTold, ShardsWith, ZerosFrom, base_extent, base_told, joined_bytes, extents_below, fates_of, joined_faults}
 use Rattle.range_survey.specs.Excuses.{Excuses}
 use Rattle.range_survey.specs.Fates.{FirstFates, OpenWrong, is_settled, settled}
-use Rattle.range_survey.specs.Zeros.{ZerosFrom}
 use Rattle.range_survey.specs.declared.fate.Fate.{Fate}
 use Rattle.range_survey.specs.declared.fate.Fate.TheVariants as fate
 
@@ -269,9 +268,6 @@ pub base_zeros : (r : Run) (o : Option (List ℕ)) (n size : ℕ) (tells : Bool)
     → IfSome o (λ t. length t ≡ size) → IsTrue r.tells → ZerosFrom size r.base
 base_zeros r None n size tells same is base sized told = absurd (true≢false (sym told ∙ (same ∙ sym is)))
 base_zeros r (Some b) n size tells same is base sized told = subst (ZerosFrom size) (sym base) (subst (λ k. ZerosFrom k (resized b n)) sized (zeros_from b n))
-
-length_resized : (o : List ℕ) (n : ℕ) → length (resized o n) ≡ n
-length_resized o n = rw (length-append, length-take, length-replicate) (omega arith)
 
 pub base_size : (r : Run) (o : Option (List ℕ)) (n : ℕ) (tells : Bool) → r.tells ≡ tells → is_some o ≡ tells → IfSome o (λ b. r.base ≡ resized b n)
     → IsTrue r.tells → length r.base ≡ n

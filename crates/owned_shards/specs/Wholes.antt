@@ -1,6 +1,6 @@
 -- What the shards of a target make up together. Entries and shards count from 0.
-use Rattle.std.specs.Prelude.{◌≡◌, ◌⊎◌, ℕ, ◌+◌, ◌^◌, ◌<◌, ◌≤◌, List, [], ◌∷◌, ◌++◌, length, zero, suc}
-use Rattle.std.specs.Prelude.{Bool, true, false, Option, Some, None, IfSome, IsTrue}
+use Rattle.std.specs.Prelude.{◌≡◌, ◌⊎◌, ℕ, ◌+◌, ◌-◌, ◌^◌, ◌<◌, ◌≤◌, List, [], ◌∷◌, ◌++◌, length, zero, suc}
+use Rattle.std.specs.Prelude.{replicate, slice_range, Bool, true, false, Option, Some, None, IfSome, IsTrue}
 use Rattle.std.specs.Prelude.{if◌then◌else◌, is_some}
 use Rattle.std.specs.List.{Contains, flat_map, sum_by}
 use Rattle.caibx_codec.specs.Listing.{Listing, count_of, image_length, slice_of, start_of}
@@ -13,6 +13,10 @@ use Rattle.range_ledger.specs.Runs.{IsDealt, IsShard, Run, Seen, base_in, first_
 use Rattle.range_survey.specs.Excuses.{Excuses}
 use Rattle.range_survey.specs.Fates.{FirstFates, SettledRight, settled}
 use Rattle.range_survey.specs.declared.fate.Fate.{Fate}
+
+-- all bytes from offset `old` on are zeros
+abbrev pub ZerosFrom : ℕ → List ℕ → Type 0
+ZerosFrom old t = (a z : ℕ) → old ≤ a → a ≤ z → z ≤ length t → slice_range t a z ≡ replicate (z - a) 0
 
 -- what contracts see of a target in shards: what it holds, what became of its entries, how often a call on it has
 -- failed, and how often one had when it was split
@@ -57,6 +61,10 @@ ShardsWith P r k (s ∷ ss) = (s.number ≡ k) × (P s × ShardsWith P r (k + 1)
 -- the shards of a run from the k-th on
 abbrev pub AreShards : Run → ℕ → List Seen → Type 0
 AreShards r k ss = ShardsWith (IsTold r) r k ss
+
+-- each entry may be filled
+abbrev pub MayFillAll : Run → Type 0
+MayFillAll r = (e : ℕ) → r.may e ≡ true
 
 -- the run is over this index by this plan, and over a target that holds this once it has the image's length
 pub record IsRunOver (r : Run) (l : Listing) (d : Deal) (told : Bool) (old : Held) : Type 0 where

@@ -7,9 +7,9 @@ ghost use Rattle.dsy_base.specs.Bytes.{held_resized};
 ghost use Rattle.dsy_base.specs.Counts.{Rose};
 ghost use Rattle.dsy_base.specs.Splits.{extent};
 ghost use Rattle.range_ledger.specs.Runs.{IsDealt, open_in};
-ghost use Rattle.owned_shards.specs.Wholes.{Begun, IsRunOver, ShardsWith, base_extent, extents_below, open_below};
+ghost use Rattle.owned_shards.specs.Wholes.{Begun, IsRunOver, ShardsWith, ZerosFrom, base_extent, extents_below};
+ghost use Rattle.owned_shards.specs.Wholes.{open_below};
 ghost use Rattle.range_survey.specs.Fates.{FirstFates, OpenWrong, SettledRight};
-ghost use Rattle.range_survey.specs.Zeros.{ZerosFrom};
 
 use crate::shards::{Shards, put_back};
 use caibx_codec::index::Index;

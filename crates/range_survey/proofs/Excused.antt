@@ -1,24 +1,10 @@
--- Entries that failed calls excuse, over one call after another: for this crate and those above. The counts of faults
+-- Entries that failed calls excuse, over one call after another: for the crates above. The counts of faults
 -- are a, b and c.
-use Rattle.std.proofs.Common.{◌⊎◌, ℕ, ◌+◌, ◌^◌, ◌≤◌, List, [], ◌∷◌, ◌++◌, inl, inr, arith}
-use Rattle.std.proofs.lemmas.Bool.{cases_lt}
+use Rattle.std.proofs.Common.{ℕ, ◌≤◌, List, [], ◌∷◌, ◌++◌, inl, inr, arith}
 use Rattle.std.proofs.lemmas.List.{length-append}
 use Rattle.std.specs.List.{Contains}
 use Rattle.dsy_base.specs.Counts.{Rose}
 use Rattle.range_survey.specs.Excuses.{Excuses}
-
--- whether a count rose
-pub rose_or_not : (a b : ℕ) → Rose a b ⊎ (Rose a b → ⊥)
-rose_or_not a b = elim (cases_lt a b) [
-  | inl more ↦ inl (inl more)
-  | inr least ↦ elim (cases_lt (b + 1) (2 ^ 64)) [
-    | inl below ↦ inr (λ rose. elim rose [
-      | inl more ↦ omega (arith, least, more)
-      | inr full ↦ omega (arith, below, full)
-    ])
-    | inr full ↦ inl (inr full)
-  ]
-]
 
 pub excuses_none : (a b : ℕ) → a ≤ b → Excuses [] a b
 excuses_none a b le = inl (omega arith)
@@ -26,10 +12,6 @@ excuses_none a b le = inl (omega arith)
 pub excuses_one : (i a b : ℕ) → Rose a b → Excuses (i ∷ []) a b
 excuses_one i a b (inl more) = inl (omega arith)
 excuses_one i a b (inr full) = inr full
-
-pub excuses_later : (xs : List ℕ) (a b c : ℕ) → b ≤ c → Excuses xs a b → Excuses xs a c
-excuses_later xs a b c le (inl few) = inl (omega arith)
-excuses_later xs a b c le (inr full) = inr (omega arith)
 
 pub excuses_since : (xs : List ℕ) (a b c : ℕ) → a ≤ b → Excuses xs b c → Excuses xs a c
 excuses_since xs a b c le (inl few) = inl (omega arith)

@@ -1,4 +1,4 @@
--- Fates that are read, and after one of them was set: for this crate and those above.
+-- Fates that are read, and after one of them was set: for the crates above.
 use Rattle.std.proofs.Common.{◌≡◌, ◌≢◌, ℕ, ◌<◌, List, length, get_or, set, arith}
 use Rattle.std.proofs.lemmas.Grind.{common_steps}
 use Rattle.range_survey.specs.Fates.{fate_at}

@@ -1,5 +1,3 @@
 pub mod Excused
 pub mod Fated
-pub mod Surveyed
-pub mod Resized
 pub mod Reported

@@ -1,5 +1,5 @@
 -- Names of runs of zeros. Sizes are in bytes, offsets are bytes from 0.
-use Rattle.std.specs.Prelude.{◌≡◌, ℕ, ◌-◌, ◌<◌, ◌≤◌, List, length, replicate, slice_range, Option, IsSome, IfSome}
+use Rattle.std.specs.Prelude.{◌≡◌, ℕ, ◌<◌, ◌≤◌, List, replicate, Option, IsSome, IfSome}
 use Rattle.std.specs.Map.{lookup}
 use Rattle.std.specs.BTreeMap.{is_at}
 use Rattle.std.specs.Ordering.{nat_cmp}
@@ -15,10 +15,6 @@ zeros_at table n = lookup (is_at (nat_cmp n)) table
 -- each name in the table is that of so many zeros
 abbrev pub AllNamed : List (ℕ × ChunkId) → Type 0
 AllNamed table = (n : ℕ) → IfSome (zeros_at table n) (λ id. id.0 ≡ name_of kinds.Sha512T256 (replicate n 0))
-
--- all bytes from offset `old` on are zeros
-abbrev pub ZerosFrom : ℕ → List ℕ → Type 0
-ZerosFrom old t = (a z : ℕ) → old ≤ a → a ≤ z → z ≤ length t → slice_range t a z ≡ replicate (z - a) 0
 
 -- n is the size of an entry that begins at or past `old`
 abbrev pub IsPastSize : Listing → ℕ → ℕ → Type 0

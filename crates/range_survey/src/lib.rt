@@ -5,5 +5,4 @@ pub mod fate;
 mod fed_zeros;
 pub mod look;
 pub mod report;
-pub mod survey;
 pub mod zeros;

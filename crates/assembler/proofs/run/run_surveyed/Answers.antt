@@ -1,14 +1,16 @@
 use Rattle.std.proofs.Common.{◌≡◌, ◌∙◌, ◌<◌, ◌≤◌, ℕ, List, length, Result, Ok, Err, OnOk, IfSome, refl, sym, ap, subst, arith}
-use Rattle.assembler.proofs.Assembled.{assembled_err, assembled_ok, ran_of}
+use Rattle.assembler.proofs.Assembled.{assembled_err, assembled_ok, finished, first_sources, ran_of}
 use Rattle.assembler.proofs.Based.{Surveyed, over_of, some_map}
 use Rattle.assembler.proofs.Counted.{quiet_part}
+use Rattle.assembler.proofs.Finished.{bytes_err, bytes_ok}
 use Rattle.assembler.proofs.KeptCount.{kept_count}
-use Rattle.assembler.specs.Assemblies.{IsAssembled}
+use Rattle.assembler.specs.Assemblies.{Assembles, IsAssembled}
 use Rattle.assembler.specs.Stages.{Stage}
 use Rattle.assembler.specs.declared.fault.ExtractFault.{ExtractFault}
 use Rattle.chunk_sources.specs.Sources.{sources}
 use Rattle.dsy_base.specs.Bytes.{Held, held_resized, resized}
 use Rattle.dsy_base.specs.Counts.{Quiet}
+use Rattle.range_ledger.specs.Fills.{WhereTold}
 use Rattle.range_survey.specs.Fates.{FirstFates, OpenWrong}
 use Rattle.range_survey.specs.Reports.{right_below, tally}
 use Rattle.range_survey.specs.declared.fate.Fate.TheVariants as fate
@@ -51,6 +53,24 @@ returns-clause-assembled g c = λ old f begun.
           (w.report.ensures.seeded ∙ ap (tally fate.Seeded b.fates) whole) (w.report.ensures.cached ∙ ap (tally fate.Cached b.fates) whole)
           (w.report.ensures.fetched ∙ ap (tally fate.Fetched b.fates) whole))
       | in-Err w ↦ rw w.answer-is (assembled_err g.S.Store g.V.View t old.bytes f a b r ran w.in-Err.fault w.in-Err.is)
+    ]))
+
+pub returns-clause-bytes : goal.returns-clause-bytes
+returns-clause-bytes g c = λ old f begun.
+    let l = g.R.RunName.run.listing in
+    let t : Task = record { listing = l; plan = c.args.wants.now.plan.now; places = c.args.wants.now.places.now } in
+    let work = c.settle_all.new.work in
+    let a : Stage g.row.S.Denot g.row.V.Denot = record { held = c.args.ledger.held; faults = c.args.ledger.faults; fates = c.args.ledger.fates; kit = c.args.kit; cache = seen g.F.Look c.args.cache } in
+    let b : Stage g.row.S.Denot g.row.V.Denot = record { held = work.ledger.held; faults = work.ledger.faults; fates = work.ledger.fates; kit = work.kit; cache = seen g.F.Look work.cache } in
+    let r = c.settle_all.result in
+    let ran = ran_of g.S.Store g.V.View t old f a b r l refl c.requires.ready.wants begun.held begun.rises c.rules.ensures.bytes c.rules.ensures.right begun.wrong begun.first
+    c.settle_all.ensures.passes c.settle_all.ensures.ends c.settle_all.ensures.exactly in
+    let done = finished g.S.Store g.V.View t old.bytes f a b r ran in
+    subst (λ (h : Held). WhereTold old.bytes h.bytes (Assembles l ⊥ f (g.T.View.faults c.into_target.result) c.match-settle_all.answer)) (sym c.into_target.ensures.held)
+    (subst (λ (n : ℕ). WhereTold old.bytes b.held.bytes (Assembles l ⊥ f n c.match-settle_all.answer)) (sym c.into_target.ensures.faults)
+    (elim c.match-settle_all.branch [
+      | in-Ok w ↦ rw w.answer-is (bytes_ok g.S.Store g.V.View t old.bytes (first_sources g.S.Store g.V.View t old.bytes f a b) (λ i. ⊥) a b r done ⊥ w.in-Ok.field-0 w.in-Ok.is w.report.result)
+      | in-Err w ↦ rw w.answer-is (bytes_err g.S.Store g.V.View t old.bytes (first_sources g.S.Store g.V.View t old.bytes f a b) (λ i. ⊥) a b r done ⊥ w.in-Err.fault w.in-Err.is)
     ]))
 
 pub returns-clause-report : goal.returns-clause-report

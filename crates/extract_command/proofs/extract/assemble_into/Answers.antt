@@ -3,7 +3,7 @@ use Rattle.std.proofs.lemmas.List.{length-map}
 use Rattle.std.specs.List.{AllZip}
 use Rattle.std.specs.Map.{count_at}
 use Rattle.std.specs.Option.{option_map}
-use Rattle.assembler.proofs.OnePlan.{all_alone, alone}
+use Rattle.image_assembly.proofs.OnePlan.{all_alone, alone}
 use Rattle.assembler.specs.Assemblies.{IsObtainable, SparedOver}
 use Rattle.assembler.specs.OneKit.{AreUnused, lent, with_kit}
 use Rattle.chunk_sources.proofs.Cached.{stocked_none}

@@ -1,5 +1,5 @@
 use Rattle.std.proofs.Common.{◌≡◌, ◌∙◌, ℕ, List, refl, sym}
-use Rattle.assembler.proofs.OnePlan.{one_of}
+use Rattle.image_assembly.proofs.OnePlan.{one_of}
 use Rattle.range_survey.specs.Reports.{right_below}
 use Rattle.range_survey.specs.declared.report.Report.{Report}
 use Rattle.caibx_codec.specs.Listing.{count_of, image_length}

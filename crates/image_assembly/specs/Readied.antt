@@ -1,0 +1,59 @@
+-- What stands once an assembly is prepared.
+use Rattle.std.specs.Prelude.{◌≡◌, ℕ, ◌<◌, ◌≤◌, List, length, replicate, Bool, false, IfSome}
+use Rattle.std.specs.List.{All}
+use Rattle.assembler.specs.Begun.{HasBegun}
+use Rattle.assembler.specs.declared.fault.ExtractFault.{ExtractFault}
+use Rattle.assembler.specs.declared.fault.ExtractFault.TheVariants as faults
+use Rattle.image_assembly.specs.declared.fault.PrepareFault.{PrepareFault}
+use Rattle.image_assembly.specs.declared.fault.PrepareFault.TheVariants as refusals
+use Rattle.caibx_codec.specs.Listing.{IsListedSize, Listing, count_of, image_length, kind_of, size_of}
+use Rattle.chunk_sources.specs.Wants.{Task}
+use Rattle.chunk_sources.specs.declared.kit.Kit.{Kit}
+use Rattle.dsy_base.specs.Bytes.{Held, resized}
+use Rattle.extract_plan.specs.Deal.{IsPlan, shards_of}
+use Rattle.extract_plan.specs.Places.{PlacesKnown}
+use Rattle.owned_shards.specs.Wholes.{MayFillAll, Whole}
+use Rattle.range_ledger.specs.Runs.{Run}
+
+-- the run is over this index, cut for so many workers, and over a target that holds this once it has the image's length
+pub record IsRunFor (r : Run) (l : Listing) (workers : ℕ) (told : Bool) (old : Held) : Type 0 where
+  pub listing : r.listing ≡ l
+  pub shards : r.shards ≡ shards_of workers (count_of l)
+  pub base : IfSome old.bytes (λ o. r.base ≡ resized o (image_length l))
+  pub tells : r.tells ≡ told
+
+-- so much room is that of the largest chunk of an index
+pub record IsRoomOf (l : Listing) (room : ℕ) : Type 0 where
+  pub enough : (i : ℕ) → i < count_of l → size_of l i ≤ room
+  pub exactly : IsListedSize l room
+
+-- what contracts see of an assembly that is prepared: what is to be made right by which plan, the target in shards with
+-- what became of each entry, and the kits
+pub record Readied (S V : Type 0) : Type 0 where
+  pub task : Task
+  pub whole : Whole
+  pub kits : List (Kit S V)
+
+-- all of it as one value
+abbrev pub readied : {S V : Type 0} → Task → Whole → List (Kit S V) → Readied S V
+readied task whole kits = record { task = task; whole = whole; kits = kits }
+
+-- what it keeps: each entry may be filled, the plan is that of the run's index for as many workers as there are kits,
+-- no want is marked as tried, and the places and each kit are of this index
+pub record IsReadied {S V : Type 0} (r : Run) (tried : List Bool) (x : Readied S V) : Type 0 where
+  pub listing : x.task.listing ≡ r.listing
+  pub may : MayFillAll r
+  pub plan : IsPlan x.task.listing (length x.kits) x.task.plan
+  pub fresh : tried ≡ replicate x.task.plan.wants false
+  pub places : All (λ k. PlacesKnown x.task.listing x.task.plan x.task.places (length k.seeds.items)) x.kits
+  pub kind : All (λ k. k.chain.kind ≡ kind_of x.task.listing) x.kits
+  pub room : All (λ k. IsRoomOf x.task.listing (length k.buffer.items)) x.kits
+
+-- it is so of each target of which these shards were made: of what it held, and of how often it had failed
+abbrev pub OfTarget : Listing → Whole → (Held → ℕ → Type 0) → Type 0
+OfTarget l x So = (old : Held) (f : ℕ) → HasBegun l old f x → So old f
+
+-- the answer of an assembly that couldn't be prepared
+abbrev pub unprepared : PrepareFault → ExtractFault
+unprepared refusals.TargetFault = faults.TargetFault
+unprepared refusals.Memory = faults.Memory
