@@ -416,6 +416,49 @@ def refusal(entry, name, why, store=None):
     return f'chunk {name.hex()} of entry {entry} is {state}'
 
 
+# Reading
+
+def read_text(index_bytes, index_name):
+    """The index that the bytes spell and no text, or none and the text that says why not."""
+    try:
+        return read_index(index_bytes), ''
+    except BadIndex as bad:
+        return None, bad.text(index_name)
+
+
+def fault_of(data):
+    """The name of the first fault of an index file, or None."""
+    try:
+        read_index(data)
+    except BadIndex as bad:
+        return bad.fault
+    return None
+
+
+def listed(index):
+    """What `list-chunks` prints."""
+    return ''.join(f'{name.hex()}\n' for _, name in index.entries)
+
+
+def figures(index, held=None):
+    """What `info` prints; `held` is the number of chunks that stores have, if any is asked."""
+    least, average, greatest = index.sizes
+    in_store = '' if held is None else f'"in-store":{held},'
+    return (f'{{"chunk-size-avg":{average},"chunk-size-max":{greatest},"chunk-size-min":{least},{in_store}'
+            f'"size":{index.length()},"total":{len(index.entries)},"unique":{len(index.names())}}}\n')
+
+
+def checked(index, image):
+    """The text of `verify-index` of an image."""
+    if len(image) != index.length():
+        return f'the file has {len(image)} bytes'
+    for entry, (start, end, name) in enumerate(index.slices()):
+        got = name_of(image[start:end])
+        if got != name:
+            return f'entry {entry} has the name {got.hex()}'
+    return ''
+
+
 def main(words):
     if len(words) != 3:
         sys.exit('usage: formats.py STORE INDEX IMAGE')

@@ -32,14 +32,14 @@ def is_built():
     return os.access(DESYNC, os.X_OK)
 
 
-def run(words, folder):
-    """Runs the program in a folder."""
-    return _ended(subprocess.Popen([DESYNC, *words], cwd=folder, **_streams()))
+def run(words, folder, environment=None, lower=None):
+    """Runs the program in a folder, with the caller's environment where none is given. `lower` is called before."""
+    return _ended(subprocess.Popen([DESYNC, *words], cwd=folder, env=environment, preexec_fn=lower, **_streams()))
 
 
-def start(words, folder):
+def start(words, folder, environment=None):
     """Starts the program in a folder; `ended` waits for it."""
-    return subprocess.Popen([DESYNC, *words], cwd=folder, **_streams())
+    return subprocess.Popen([DESYNC, *words], cwd=folder, env=environment, **_streams())
 
 
 def ended(process):

@@ -500,6 +500,158 @@ def values(lines, name):
     return [value for each, value in lines if each.lower() == name]
 
 
+# Any bytes, by the same reading
+
+TOKEN = rb"[!#$%&'*+\-.^_`|~0-9A-Za-z]+"
+TEXT = rb'[\t\x20-\x7e\x80-\xff]*'
+HEADER = re.compile(rb'(%s):(%s)\r?\n' % (TOKEN, TEXT))
+REQUEST = re.compile(rb'(?:\r?\n)*(%s) ([\x21-\x7e\x80-\xff]+) HTTP/1\.([01])\r?\n((?:%s:%s\r?\n)*)\r?\n'
+                     % (TOKEN, TOKEN, TEXT))
+STATUS = re.compile(rb'(?:\r?\n)*HTTP/1\.[01] ([0-9]{3})(?: %s)?\r?\n((?:%s:%s\r?\n)*)\r?\n' % (TEXT, TOKEN, TEXT))
+HEAD_ENDS = re.compile(rb'\n\r?\n')
+MOST_LINES = 64
+
+
+def head_of(data):
+    """Where the head ends with which bytes begin, or None where 16,384 bytes have no end."""
+    end = HEAD_ENDS.search(data, 0, LIMIT)
+    return end.end() if end else None
+
+
+def header_lines(spelled):
+    """The names and values of header lines, or None where they are too many."""
+    lines = [(name.decode('latin1'), value.strip(b' \t').decode('latin1')) for name, value in HEADER.findall(spelled)]
+    return lines if len(lines) <= MOST_LINES else None
+
+
+def read_head(head):
+    """Method, target, whether the version is 1.0, and header lines of a request's head; None where it isn't right."""
+    read = REQUEST.fullmatch(head)
+    lines = header_lines(read[4]) if read else None
+    if lines is None:
+        return None
+    try:
+        return read[1].decode(), read[2].decode('utf-8'), read[3] == b'0', lines
+    except UnicodeDecodeError:
+        return None
+
+
+def reply_to(head, rest, held, takes):
+    """The reply to a request, and how many bytes its body has; None where the body isn't whole."""
+    read = read_head(head)
+    if read is None:
+        return refused(400), 0
+    method, target, is_old, lines = read
+    status = RandomRequest.refusal(method, lines, takes)
+    if status is not None:
+        return refused(status), 0
+    closes = is_old or any(word.strip(' \t').lower() == 'close' for value in values(lines, 'connection')
+                           for word in value.split(','))
+    size = int(values(lines, 'content-length')[0]) if method == 'PUT' else 0
+    if len(rest) < size:
+        return None, 0
+    path, body = target.lower(), rest[:size]
+    is_path = re.fullmatch('/([0-9a-fA-F]{4})/([0-9a-fA-F]{64})', target) and path[1:5] == path[6:10]
+    if not is_path or method != 'PUT' and path not in held:
+        return Wanted(404, closes=closes), size
+    if method == 'PUT':
+        is_right = formats.name_of(body).hex() == path[6:]
+        if is_right:
+            held[path] = body
+        return Wanted(200 if is_right else 400, closes=closes), size
+    return Wanted(200, held[path] if method == 'GET' else b'', len(held[path]), closes), size
+
+
+def replies_to(data, held, takes):
+    """All that is said on a connection to which these bytes come, and then its end. `held` are the chunks by path."""
+    said = b''
+    while True:
+        end = head_of(data)
+        if end is None:
+            return said + (refused(431).bytes if len(data) >= LIMIT else b'')
+        wanted, size = reply_to(data[:end], data[end:], held, takes)
+        if wanted is None:
+            return said
+        said += wanted.bytes
+        if wanted.closes:
+            return said
+        data = data[end + size:]
+
+
+# Replies that are read
+
+SIZE_LINE = re.compile(rb'([0-9a-fA-F]{1,16})[ \t]*(?:;[^\r\n]*)?\r\n')
+FAILED, MISSING, LONGER, TAKEN = 'failed', 'missing', 'longer', 'taken'
+
+
+def reply_given(data, method, room):
+    """What a store gives where these bytes come in reply to a method, and then the end: the body of a GET; or that it
+    is missing, longer than the room, taken, or that the reply is none."""
+    end = head_of(data)
+    read = STATUS.fullmatch(data[:end]) if end else None
+    lines = header_lines(read[2]) if read else None
+    if lines is None:
+        return FAILED
+    status = int(read[1])
+    codings = [value.lower() for value in values(lines, 'transfer-encoding')]
+    lengths = values(lines, 'content-length')
+    has_body = method != 'HEAD' and status >= 200 and status not in (204, 304)
+    if has_body and codings and codings != ['chunked']:
+        return FAILED
+    if has_body and not codings and lengths and not are_right(lengths):
+        return FAILED
+    if method == 'PUT':
+        return TAKEN if 200 <= status < 300 else FAILED
+    if status != 200:
+        return MISSING if status == 404 else FAILED
+    if method == 'HEAD':
+        return TAKEN
+    return body_given(data[end:], codings, lengths, room)
+
+
+def are_right(lengths):
+    return all(re.fullmatch('[0-9]{1,18}', length) for length in lengths) and len(set(map(int, lengths))) == 1
+
+
+def body_given(data, codings, lengths, room):
+    if codings:
+        return chunks_given(data, room)
+    if not lengths:
+        return data if len(data) <= room else LONGER
+    length = int(lengths[0])
+    if length > room and data:
+        return LONGER
+    return data[:length] if len(data) >= length else FAILED
+
+
+def chunks_given(data, room):
+    body = b''
+    while True:
+        line = SIZE_LINE.match(data, 0, 256)
+        if line is None:
+            return FAILED
+        size, data = int(line[1], 16), data[line.end():]
+        if size == 0:
+            return body if trailer_ends(data) else FAILED
+        if len(body) + size > room:
+            return LONGER
+        if data[size:size + 2] != b'\r\n':
+            return FAILED
+        body, data = body + data[:size], data[size + 2:]
+
+
+def trailer_ends(data):
+    """Whether the lines up to an empty one are there, within 16,384 bytes."""
+    at = 0
+    while True:
+        end = data.find(b'\n', at, LIMIT)
+        if end < 0:
+            return False
+        if data[at:end] in (b'', b'\r'):
+            return True
+        at = end + 1
+
+
 def at_random(cases, folder):
     chance = random.Random(14)
     for takes in (True, False):

@@ -1,10 +1,9 @@
 -- The steps of a shelf, by what was found and put.
-use Rattle.std.proofs.Common.{◌≡◌, ◌≢◌, ℕ, ◌≤◌, List, [], length, take, Result, Ok, Err, Bool, true, false, cond, Option, Some, None, inl, refl, sym, ap, subst, ◌∙◌, arith}
+use Rattle.std.proofs.Common.{◌≡◌, ◌≢◌, ℕ, ◌≤◌, List, Result, Ok, Err, Bool, true, false, cond, Option, Some, None, inl, refl, sym, ap, subst, ◌∙◌, arith}
 use Rattle.std.specs.Prelude.{IfOk, IfSome}
 use Rattle.std.specs.Option.{option_map}
 use Rattle.std.specs.Str.{bytes_eq}
 use Rattle.std.proofs.lemmas.Bool.{false_from_ne_true}
-use Rattle.std.proofs.lemmas.Grind.{common_steps}
 use Rattle.std.proofs.lemmas.Slice.Eq.{bytes_eq-Decides}
 use Rattle.chunk_store.specs.Folders.{chunks}
 use Rattle.chunk_store.specs.Names.{name_of}
@@ -17,7 +16,10 @@ use Rattle.dsy_base.specs.Maps.{Map}
 use Rattle.http_wire.specs.declared.request.Act.{Act}
 use Rattle.http_wire.specs.declared.request.Act.TheVariants as act
 use Rattle.chunk_server.specs.Answers.{Answer, answer_to, bare, chunk_held, files_after, with_chunk, with_length}
+use Rattle.chunk_server.specs.Reads.{answer_by, asked_by}
 use Rattle.chunk_server.specs.Shelves.{ServedFolder, ServesOrFails}
+use Rattle.chunk_server.specs.declared.chunk_file.ReadMethod.{ReadMethod}
+use Rattle.chunk_server.specs.declared.chunk_file.ReadMethod.TheVariants as method
 
 told_more : {P Q : Map (List ℕ) → Type 0} (o : Option (Map (List ℕ))) → ((m : Map (List ℕ)) → P m → Q m) → IfSome o P → IfSome o Q
 told_more None f p = tt
@@ -35,20 +37,26 @@ unmapped : (f : Map (List ℕ) → Map (List ℕ)) (o : Option (Map (List ℕ)))
 unmapped f None same = refl
 unmapped f (Some m) same = ap Some (sym (same m))
 
+-- what holds whatever is held holds of what the files hold
+pub found_in : {P Q : Option (List ℕ) → Type 0} (id : List ℕ) (o : Option (Map (List ℕ))) → ((held : Option (List ℕ)) → P held → Q held) → IfSome o (λ m. P (chunks m id)) → IfSome o (λ m. Q (chunks m id))
+found_in id o f p = told_more o (λ m h. f (chunks m id) h) p
+
+-- where nothing is held, the method doesn't matter
+pub none_by : (m : ReadMethod) → bare 404 ≡ answer_by m None
+none_by method.Get = refl
+none_by method.Head = refl
+
 module _ (kind : DigestKind) (old new : ServedFolder) (id : ChunkId) (body : List ℕ) (r : Answer) where
   -- ---- what was found
 
-  pub get_goes : (found : Option (List ℕ)) → IfSome old.files (λ m. chunk_held kind id.0 (chunks m id.0) ≡ found) → r ≡ with_chunk found → new.files ≡ old.files → old.faults ≤ new.faults → ServesOrFails kind old (act.Get id) body r new
+  pub read_goes : (m : ReadMethod) (found : Option (List ℕ)) → IfSome old.files (λ m. chunk_held kind id.0 (chunks m id.0) ≡ found) → r ≡ answer_by m found → new.files ≡ old.files → old.faults ≤ new.faults → ServesOrFails kind old (asked_by m id) body r new
   unfolding answer_to files_after
-  get_goes found held is kept faults = inl (record {
+  read_goes method.Get found held is kept faults = inl (record {
     answer = told_more old.files (λ m h. is ∙ ap with_chunk (sym h)) held;
     files = kept ∙ unmapped (λ m. m) old.files (λ m. refl);
     faults = faults;
   })
-
-  pub head_goes : (found : Option (List ℕ)) → IfSome old.files (λ m. chunk_held kind id.0 (chunks m id.0) ≡ found) → r ≡ with_length found → new.files ≡ old.files → old.faults ≤ new.faults → ServesOrFails kind old (act.Head id) body r new
-  unfolding answer_to files_after
-  head_goes found held is kept faults = inl (record {
+  read_goes method.Head found held is kept faults = inl (record {
     answer = told_more old.files (λ m h. is ∙ ap with_length (sym h)) held;
     files = kept ∙ unmapped (λ m. m) old.files (λ m. refl);
     faults = faults;
@@ -87,32 +95,20 @@ lost_goes kind old new body r is kept faults = inl (record {
   faults = faults;
 })
 
--- a reply with the length alone
-abbrev told : ℕ → List ℕ → Answer
-told n body = record { status = 200; size = n; body = body }
-
-pub length_told : (n : ℕ) (b body : List ℕ) → n ≤ length b → body ≡ [] → told n body ≡ with_length (Some (take n b))
-length_told n b body inside none =
-    let size : n ≡ length (take n b) = grind (arith, common_steps) in
-    (λ i. told (size i) (none i))
-
 pub ok_more : {A E : Type 0} {P Q : A → Type 0} (r : Result A E) → ((x : A) → P x → Q x) → IfOk r P → IfOk r Q
 ok_more (Ok x) f p = f x p
 ok_more (Err e) f p = tt
 
 -- ---- what is refused
 
-abbrev refusal : ℕ → List ℕ → Answer
-refusal status body = record { status = status; size = 0; body = body }
-
-refused_step : (kind : DigestKind) (old : ServedFolder) (status : ℕ) (body none : List ℕ) → none ≡ [] → ServesOrFails kind old (act.Refuse status) body (refusal status none) old
+refused_step : (kind : DigestKind) (old : ServedFolder) (status : ℕ) (body : List ℕ) (r : Answer) → r ≡ bare status → ServesOrFails kind old (act.Refuse status) body r old
 unfolding answer_to files_after
-refused_step kind old status body none is = inl (record {
-  answer = always old.files (λ m. ap (refusal status) is);
+refused_step kind old status body r is = inl (record {
+  answer = always old.files (λ m. is);
   files = unmapped (λ m. m) old.files (λ m. refl);
   faults = omega arith;
 })
 
-pub refuse_goes : (kind : DigestKind) (old : ServedFolder) (a : Act) (status : ℕ) (body none : List ℕ) → a ≡ act.Refuse status → none ≡ [] → IfSome old.files (λ m. ServesOrFails kind old a body (refusal status none) old)
-refuse_goes kind old a status body none is empty =
-    subst (λ (x : Act). IfSome old.files (λ m. ServesOrFails kind old x body (refusal status none) old)) (sym is) (always old.files (λ m. refused_step kind old status body none empty))
+pub refuse_goes : (kind : DigestKind) (old : ServedFolder) (a : Act) (status : ℕ) (body : List ℕ) (r : Answer) → a ≡ act.Refuse status → r ≡ bare status → IfSome old.files (λ m. ServesOrFails kind old a body r old)
+refuse_goes kind old a status body r is reply =
+    subst (λ (x : Act). IfSome old.files (λ m. ServesOrFails kind old x body r old)) (sym is) (always old.files (λ m. refused_step kind old status body r reply))

@@ -4,3 +4,5 @@ pub mod Shelves
 pub mod Turns
 pub mod Streams
 pub mod States
+pub mod FileReads
+pub mod Reads

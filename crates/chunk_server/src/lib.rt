@@ -2,6 +2,7 @@
 //! is served to its end. Everything is counted in bytes.
 #![tactic(auto)]
 
+pub mod chunk_file;
 pub mod laws;
 mod receiving;
 mod replying;

@@ -47,11 +47,7 @@ fn answer<H: Shelf>(alloc: Global, shelf: &mut H, received: &Received) -> Result
     ensures faults { (H.state shelf.old).faults ≤ (H.state shelf.new).faults }
 {
     match received.request.act {
-        Act::Refuse(status) => Ok(Reply {
-            status,
-            length: 0,
-            body: Vec::new(alloc),
-        }),
+        Act::Refuse(status) => Ok(Reply::bare(alloc, status)),
         act => shelf.answer(&act, received.body.as_slice()),
     }
 }

@@ -22,7 +22,7 @@ use Rattle.command_worlds.specs.Worlds.{FileRose, FolderRose, NoFault, Step, Wor
 use Rattle.command_steps.proofs.Dialed.{dials_same}
 use Rattle.command_steps.proofs.Fair.{IsFair, IsLeft, IsRefusal, IsStep, Unread, adds, behind, between, bound, consults, cache_step, fair_longer, image_step, index_step, indexes_step, left_twice, on_disk, on_out, on_sources, printed_step, pure_step, reads, round, source_failed, source_taken_step, sources_fair, sources_step, taken_step, whole, writes, unread_fair}
 use Rattle.command_steps.proofs.Numbers.{rose_not_quiet}
-use Rattle.store_commands.specs.Caching.{FillTells, IndexesFilled, NotFilled, of_command, outcome_of_fill}
+use Rattle.store_commands.specs.Caching.{EndsFilling, FillTells, IndexesFilled, NotFilled, of_command, outcome_of_fill}
 use Rattle.image_commands.specs.Chop.{ImageChopped}
 use Rattle.desync_cli.specs.Commands.{DesyncEnds, CommandEnds, NoCommand, TellsRefusal, WordsRead, command_of, parts, refusal_in, usage_refusal, command_said, spares}
 use Rattle.print_commands.specs.Demo.{Rehearsed}
@@ -110,17 +110,21 @@ assembled_step o x p cache l z i is = record { fair = fair; leaves = λ w v r h.
 -- ---- the steps of `cache`
 
 module _ (x : Parts) (p : Output) (w v : Storage) where
-  fill_fair : (l : Listing) (y : Option (Map (List ℕ))) (fault : FillFault) → FillTells (of_command w v x.stores x.cache) l y (Err fault) → IsFair x (outcome_of_fill fault) (behind p w) (behind p v)
-  fill_fair l y (fills.Missing k id) h = (tt, tt)
-  fill_fair l y (fills.Damaged k id store shows) h = (tt, tt)
-  fill_fair l y (fills.StoreFault k) h = (tt, source_failed (Lacks (entry_want l h.0 h.1)) (behind p w) (behind p v) k x.stores h.2.said)
-  fill_fair l y fills.CacheFault h = (tt, h)
-  fill_fair l y fills.Memory h = (tt, tt)
+  fill_fair : (l : Listing) (y : Option (Map (List ℕ))) (n : ℕ) (fault : FillFault) → FillTells (of_command w v x.stores x.cache) l y n fault → IsFair x (outcome_of_fill fault) (behind p w) (behind p v)
+  fill_fair l y n (fills.Missing k id) h = (tt, tt)
+  fill_fair l y n (fills.Damaged k id store shows) h = (tt, tt)
+  fill_fair l y n (fills.StoreFault k) h = (tt, source_failed (Lacks (entry_want l n h.0)) (behind p w) (behind p v) k x.stores h.1.said)
+  fill_fair l y n fills.CacheFault h = (tt, h.0)
+  fill_fair l y n fills.Memory h = (tt, tt)
+
+  ends_fair : (l : Listing) (held files : Option (Map (List ℕ))) (fault : FillFault) → EndsFilling (of_command w v x.stores x.cache) l fault held files → IsFair x (outcome_of_fill fault) (behind p w) (behind p v)
+  ends_fair l held files fault (inl none) = subst (λ f. IsFair x (outcome_of_fill f) (behind p w) (behind p v)) (sym none.0) (tt, tt)
+  ends_fair l held files fault (inr h) = fill_fair l files h.entry fault h.tells
 
   each_fair : (indexes : List (List ℕ)) (held files : Option (Map (List ℕ))) (o : Outcome) → NotFilled (of_command w v x.stores x.cache) w.disk v.disk indexes held files o → IsFair x o (behind p w) (behind p v)
   each_fair [] held files o h = absurd h
   each_fair (q ∷ indexes) held files o (inl h) = unread_fair x (behind p w) (behind p v) q o h.0
-  each_fair (q ∷ indexes) held files o (inr (l, listed, inl (fault, is, filled))) = subst (λ r. IsFair x r (behind p w) (behind p v)) (sym is) (fill_fair l files fault filled.tells)
+  each_fair (q ∷ indexes) held files o (inr (l, listed, inl (fault, is, filled))) = subst (λ r. IsFair x r (behind p w) (behind p v)) (sym is) (ends_fair l held files fault filled.order)
   each_fair (q ∷ indexes) held files o (inr (l, listed, inr (z, filled, rest))) = each_fair indexes z files o rest
 
 filled_step : (f o : Bool) (x : Parts) (p : Output) (indexes : List (List ℕ)) → IsStep (behind p) (record { files = f; folders = false; dial = are_folders x.stores; out = o }) x (IndexesFilled x.stores x.cache indexes)

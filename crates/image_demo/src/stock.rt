@@ -24,13 +24,7 @@ pub fn stock<V: View, S: StoreWrite>(
     ensures err { IfErr result (λ e. e ≡ DemoFault.Memory) }
     ensures kept { V.held image.new ≡ V.held image.old }
 {
-    let Ok(mut chunk) = index.room(alloc) else {
-        return Err(DemoFault::Memory);
-    };
-    let Ok(mut room) = index.room(alloc) else {
-        return Err(DemoFault::Memory);
-    };
-    match put_chunks(alloc, index, image, store, &mut chunk, &mut room) {
+    match put_chunks(alloc, index, image, store) {
         Ok(()) => Ok(()),
         // The image is read again as it was, and neither it nor the store fails, so it is for want of memory.
         Err(_) => Err(DemoFault::Memory),

@@ -1,10 +1,10 @@
 -- What seeing to the entries in order has come to, and what it has come to where one of them ended early.
-use Rattle.std.proofs.Common.{◌≡◌, ℕ, ◌+◌, ◌-◌, ◌<◌, ◌≤◌, List, [], Bool, true, false, Option, Some, None, IfSome, Err, refl, sym, subst, ◌⊎◌, inl, inr, arith, below_more, zero, suc}
+use Rattle.std.proofs.Common.{◌≡◌, ℕ, ◌+◌, ◌-◌, ◌<◌, ◌≤◌, List, [], Bool, true, false, Option, Some, None, IfSome, Err, refl, sym, subst, ◌⊎◌, inl, inr, arith, length, ◌∙◌, below_more, zero, suc}
 use Rattle.std.proofs.lemmas.List.Sums.{count_by_more_no, count_by_more_yes}
 use Rattle.std.proofs.lemmas.Slice.Eq.{bytes_eq-Decides}
 use Rattle.std.specs.Str.{bytes_eq}
 use Rattle.caibx_codec.specs.Listing.{Listing, count_of, id_of, image_length}
-use Rattle.caibx_codec.specs.Right.{IsRightAt}
+use Rattle.caibx_codec.specs.Right.{IsRight, IsRightAt}
 use Rattle.chunk_store.specs.Said.{AskedOnce}
 use Rattle.chunk_store.specs.declared.id.ChunkId.{ChunkId}
 use Rattle.chunk_store.specs.declared.store.Store.{Ghosts as StoreWords}
@@ -58,6 +58,10 @@ module _ (l : Listing) where
   pub right_more : (told : Option (List ℕ)) (i : ℕ) → IfSome told (λ t. IsRightAt t l i) → AreRightTo l i told → AreRightTo l (i + 1) told
   right_more None i here before = tt
   right_more (Some t) i here before = below_more _ _ before here
+
+  pub right_whole : (told : Option (List ℕ)) (i size : ℕ) → count_of l ≤ i → size ≡ image_length l → IfSome told (λ t. length t ≡ size) → AreRightTo l i told → IfSome told (λ t. IsRight t l)
+  right_whole None i size all is sized before = tt
+  right_whole (Some t) i size all is sized before = record { size = sized ∙ is; entries = λ j less. before j (omega (arith, less, all)) }
 
   -- ---- how often each id was asked for
 

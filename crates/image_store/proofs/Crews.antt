@@ -100,9 +100,9 @@ module _ {V S : Type 0} (view : ViewWords V) (store : StoreWords S) (l : Listing
       by_crew (λ (x : V). x) (v ∷ vs) ws vs vs old new (ap (λ (x : V). x ∷ vs) (sym at) ∙ ap (λ (xs : List V). old ∷ xs) rest) (set ∙ ap (λ (xs : List V). new ∷ xs) rest)
       alike stored kept refl counts (record { never_falls = λ i. omega arith })
 
-pub stored_on : {V S : Type 0} (view : ViewWords V) (store : StoreWords S) (l : Listing) (a b : Storing V S) (r : Result Unit MakeFault) (first : S) → GoesOn view store l a b r → OnOk r (b.at ≡ count_of l)
-    → b.first.value ≡ first → HasStored store l (view.held a.image).bytes first b.store r
+pub stored_on : {V S : Type 0} (view : ViewWords V) (store : StoreWords S) (l : Listing) (a b : Storing V S) (r : Result Unit MakeFault) (first : S) → GoesOn view store l a b r → OnOk r (b.progress.at ≡ count_of l)
+    → b.progress.first.value ≡ first → HasStored store l (view.held a.image).bytes first b.store r
 stored_on {V} {S} view store l a b r first on all is = subst (λ (f : S). HasStored store l (view.held a.image).bytes f b.store r) is
-    (stored_first view store l b.first.value a.image b.image b.store b.seen r on.ends (on_ok r (IsStoring view store l b) (b.at ≡ count_of l) _ (λ s at.
-    subst (λ (h : Held). HasPut store l h.bytes (count_of l) b.first.value b.store b.seen) on.ends.kept
-    (subst (λ (k : ℕ). HasPut store l (view.held b.image).bytes k b.first.value b.store b.seen) at s.put)) on.next all))
+    (stored_first view store l b.progress.first.value a.image b.image b.store b.progress.seen r on.ends (on_ok r (IsStoring view store l b) (b.progress.at ≡ count_of l) _ (λ s at.
+    subst (λ (h : Held). HasPut store l h.bytes (count_of l) b.progress.first.value b.store b.progress.seen) on.ends.kept
+    (subst (λ (k : ℕ). HasPut store l (view.held b.image).bytes k b.progress.first.value b.store b.progress.seen) at s.put)) on.next all))

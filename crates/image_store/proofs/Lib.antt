@@ -1,4 +1,5 @@
 pub mod Names
+pub mod Rooms
 pub mod Seen
 pub mod Stored
 pub mod Putting

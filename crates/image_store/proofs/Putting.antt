@@ -185,10 +185,3 @@ ends_on view store l first a b c now then result one two = record {
   image_faults = subst (λ (n : ℕ). CountsFaults faults.ImageFault faults.Memory n (view.faults c) result) one.image_faults.done two.image_faults;
   store_faults = two.store_faults;
 }
-
-pub sees_on : {V S : Type 0} (view : ViewWords V) (store : StoreWords S) (l : Listing) (j k : ℕ) (first : S) (a b c : V) (now then : S) (seen more : BTreeSet (List ℕ)) (result : Result Unit MakeFault)
-    → SeesTo view store l j first a b now seen (Ok tt) → SeesTo view store l k first b c then more result → SeesTo view store l k first a c then more result
-sees_on view store l j k first a b c now then seen more result one two = record {
-  put = subst (λ (h : Held). OnOk result (HasPut store l h.bytes k first then more)) one.ends.kept two.put;
-  ends = ends_on view store l first a b c now then result one.ends two.ends;
-}

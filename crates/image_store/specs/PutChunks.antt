@@ -5,12 +5,13 @@ use Rattle.std.specs.Option.{option_map}
 use Rattle.caibx_codec.specs.Asks.{IsListedGet, IsListedPut}
 use Rattle.caibx_codec.specs.Listing.{Listing, count_of, id_of, kind_of, slice_of}
 use Rattle.caibx_codec.specs.Right.{IsRightAt}
-use Rattle.chunk_store.specs.Asks.{Ask, Get, Put}
+use Rattle.chunk_store.specs.Asks.{Ask, Get, Put, Sends}
 use Rattle.chunk_store.specs.Folders.{KeepsOthers}
 use Rattle.chunk_store.specs.Names.{name_of}
 use Rattle.chunk_store.specs.Paths.{path_of}
-use Rattle.chunk_store.specs.Said.{Said}
+use Rattle.chunk_store.specs.Said.{AskedOnce, KeepsOf, Said}
 use Rattle.chunk_store.specs.declared.id.DigestKind.{DigestKind}
+use Rattle.chunk_store.specs.declared.store.Store.{Ghosts as StoreWords}
 use Rattle.dsy_base.specs.Folders.{temporary_of}
 use Rattle.dsy_base.specs.Maps.{Map, at_name}
 use Rattle.image_store.specs.declared.put_chunks.MakeFault.{MakeFault}
@@ -73,7 +74,23 @@ RereadsTo kind k id told faults.Memory = ⊥
 abbrev pub KeepsNamed : DigestKind → List ℕ → Ask → Type 0
 KeepsNamed kind id a = (a ≡ Get id) ⊎ ((b : List ℕ) × (a ≡ Put id b) × (name_of kind b ≡ id))
 
--- so it is with a chunk of the index
+module _ {S : Type 0} (store : StoreWords S) (kind : DigestKind) (id : List ℕ) where
+  -- the store holds bytes of this name under the id, and has shown or taken some
+  pub record HasChunk (now : S) : Type 0 where
+    pub holds : IfSome (store.holds now) (λ m. HoldsNamed kind id (m id))
+    pub says : SaysNamed kind id (store.said now)
+
+  -- it was asked for the chunk once at most, and at most bytes of this name were put under the id: those that are told
+  pub record TouchesChunk (told : Option (List ℕ)) (old new : S) : Type 0 where
+    pub puts : PutsRight kind id told (store.holds old) (store.holds new)
+    pub files : PutsLacked id told (store.holds old) (store.folder old) (store.folder new)
+    pub place : store.place new ≡ store.place old
+    pub said : (q : List ℕ) → q ≢ id → KeepsOf (store.said old) (store.said new) q
+    pub sends : Sends (KeepsNamed kind id) (store.sent old) (store.sent new)
+    pub asks : AskedOnce (store.asked old) (store.asked new) id
+    pub queries : store.queried new ≡ store.queried old
+
+-- the chunk of an entry is asked for, or put
 abbrev pub KeepsListed : Listing → Ask → Type 0
 KeepsListed l a = IsListedGet l a ⊎ IsListedPut l a
 

@@ -11,22 +11,32 @@ use Rattle.image_store.specs.PutChunks.{HoldsAll, PutsEnd, SaysAll}
 use Rattle.image_store.specs.Putting.{PuttingEnds, HasPut, HasTouched}
 use Rattle.image_store.specs.declared.put_chunks.MakeFault.{MakeFault}
 use Rattle.image_store.specs.declared.put_chunks.MakeFault.TheVariants as faults
+use Rattle.image_store.specs.declared.storing.Rooms.{Rooms}
+use Rattle.image_store.specs.declared.storing.StoreProgress.{StoreProgress}
 use Rattle.image_store.specs.declared.storing.Storing.{Storing}
+
+-- room for the slice of each entry, and for as many bytes of the store
+pub record HasRoomFor (l : Listing) (rooms : Rooms) : Type 0 where
+  pub chunk : (i : ℕ) → i < count_of l → size_of l i ≤ length rooms.chunk.items
+  pub room : (i : ℕ) → i < count_of l → size_of l i ≤ length rooms.room.items
+
+-- the storing that these are the parts of
+abbrev pub storing_of : {V S : Type 0} → V → S → StoreProgress S → Rooms → Storing V S
+storing_of image store progress rooms = record { image = image; store = store; progress = progress; rooms = rooms }
 
 module _ {V S : Type 0} (view : ViewWords V) (store : StoreWords S) (l : Listing) where
   -- the entries before `at` were seen to, and it can go on
   pub record IsStoring (w : Storing V S) : Type 0 where
     pub size : image_length l ≡ (view.held w.image).size
-    pub at : w.at ≤ count_of l
-    pub chunk : (i : ℕ) → i < count_of l → size_of l i ≤ length w.chunk.items
-    pub room : (i : ℕ) → i < count_of l → size_of l i ≤ length w.room.items
-    pub put : HasPut store l (view.held w.image).bytes w.at w.first.value w.store w.seen
+    pub at : w.progress.at ≤ count_of l
+    pub room : HasRoomFor l w.rooms
+    pub put : HasPut store l (view.held w.image).bytes w.progress.at w.progress.first.value w.store w.progress.seen
 
   -- it went on, and ended so
   pub record GoesOn (old new : Storing V S) (result : Result Unit MakeFault) : Type 0 where
     pub next : OnOk result (IsStoring new)
-    pub first : new.first.value ≡ old.first.value
-    pub ends : PuttingEnds view store l new.first.value old.image new.image new.store result
+    pub first : new.progress.first.value ≡ old.progress.first.value
+    pub ends : PuttingEnds view store l new.progress.first.value old.image new.image new.store result
 
 -- what a view holds is the image that another one holds
 abbrev pub IsAlike : Held → Held → Type 0

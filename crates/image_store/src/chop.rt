@@ -1,19 +1,20 @@
 //! Chopping an image: each chunk that an index lists is named in the image and put into a store. Offsets are bytes from
 //! 0, entries are numbered from 0.
 
-ghost use Rattle.std.specs.Prelude.{◌≡◌, ℕ, List, ◌<◌, ◌≤◌, ◌≢◌, Err, IfErr, IfSome, OnErr, OnOk, is_some, length};
-ghost use Rattle.caibx_codec.specs.Listing.{count_of, id_of, image_length, kind_of, size_of};
+ghost use Rattle.std.specs.Prelude.{◌≡◌, ℕ, ◌<◌, Err, IfErr, IfSome, OnErr, OnOk, is_some};
+ghost use Rattle.caibx_codec.specs.Listing.{count_of, id_of, image_length, kind_of};
 ghost use Rattle.caibx_codec.specs.Right.{IsRight, IsRightAt};
 ghost use Rattle.chunk_store.specs.Asks.{Sends};
 ghost use Rattle.chunk_store.specs.Causes.{CountsCause};
-ghost use Rattle.chunk_store.specs.Said.{AskedOnce, KeepsOf};
 ghost use Rattle.dsy_base.specs.Counts.{CountsFaults};
 ghost use Rattle.image_store.specs.Chopping.{AsksListed, ChopStops, IsMismatch, StopsAt, TellsLength};
 ghost use Rattle.image_store.specs.Chopping.{most_seen, seen_to};
-ghost use Rattle.image_store.specs.PutChunks.{HoldsAll, HoldsNamed, PutsFiles, PutsLacked, PutsRight};
-ghost use Rattle.image_store.specs.PutChunks.{KeepsListed, KeepsNamed, SaysAll, SaysNamed, Stands, told_slice};
+ghost use Rattle.image_store.specs.PutChunks.{HoldsAll, PutsFiles};
+ghost use Rattle.image_store.specs.PutChunks.{HasChunk, KeepsListed, SaysAll, Stands, TouchesChunk, told_slice};
+ghost use Rattle.image_store.specs.Storing.{HasRoomFor};
 
 use crate::put_chunks::{MakeFault, put_entry};
+use crate::storing::Rooms;
 use caibx_codec::index::Index;
 use chunk_store::id::ChunkId;
 use chunk_store::store::{Store, StoreWrite};
@@ -39,33 +40,24 @@ fn chop_entry<V: View, S: StoreWrite>(
     i: usize,
     image: &mut V,
     store: &mut S,
-    chunk: &mut [u8],
-    room: &mut [u8],
+    rooms: &mut Rooms,
 ) -> Result<(), ChopFault>
     requires listed { i < count_of index.now }
     requires size { image_length index.now ≡ (V.held image.old).size }
-    requires inside { size_of index.now i ≤ length chunk.old }
-    requires room { size_of index.now i ≤ length room.old }
-    ensures ok { OnOk result (IfSome (S.holds store.new)
-        (λ m. HoldsNamed (kind_of index.now) (id_of index.now i) (m (id_of index.now i)))) }
-    ensures told { OnOk result (SaysNamed (kind_of index.now) (id_of index.now i) (S.said store.new)) }
+    requires room { HasRoomFor index.now rooms.old }
+    ensures ok { OnOk result (HasChunk S.Store (kind_of index.now) (id_of index.now i) store.new) }
     ensures right { OnOk result (IfSome (V.held image.old).bytes (λ t. IsRightAt t index.now i)) }
-    ensures changed { PutsRight (kind_of index.now) (id_of index.now i)
-        (told_slice index.now i (V.held image.old).bytes) (S.holds store.old) (S.holds store.new) }
-    ensures files { PutsLacked (id_of index.now i) (told_slice index.now i (V.held image.old).bytes)
-        (S.holds store.old) (S.folder store.old) (S.folder store.new) }
+    ensures changed { TouchesChunk S.Store (kind_of index.now) (id_of index.now i)
+        (told_slice index.now i (V.held image.old).bytes) store.old store.new }
     ensures err { IfErr result (StopsAt index.now i (V.held image.old).bytes) }
     ensures untouched { (k : ℕ) → (got : ChunkId) → result ≡ Err (ChopFault.Mismatch k got) → store.new ≡ store.old }
     ensures kept { V.held image.new ≡ V.held image.old }
-    ensures place { S.place store.new ≡ S.place store.old }
-    ensures said { (q : List ℕ) → q ≢ id_of index.now i → KeepsOf (S.said store.old) (S.said store.new) q }
-    ensures sends { Sends (KeepsNamed (kind_of index.now) (id_of index.now i)) (S.sent store.old) (S.sent store.new) }
-    ensures asks { AskedOnce (S.asked store.old) (S.asked store.new) (id_of index.now i) }
-    ensures queries { S.queried store.new ≡ S.queried store.old }
+    ensures room { HasRoomFor index.now rooms.new }
     ensures image_faults { CountsFaults ChopFault.ImageFault ChopFault.Memory
         (V.faults image.old) (V.faults image.new) result }
     ensures store_faults { CountsCause ChopFault.StoreFault (S.faults store.old) (S.faults store.new) result }
 {
+    let (chunk, room) = (&mut rooms.chunk, &mut rooms.room);
     match put_entry(index, i, image, store, chunk, room, None) {
         Ok(()) => Ok(()),
         Err(fault) => match fault {
@@ -76,43 +68,6 @@ fn chop_entry<V: View, S: StoreWrite>(
             MakeFault::TooManyItems => unreachable!(),
         },
     }
-}
-
-// Sees to the entries in order, up to the first refusal. `chunk` and `room` have room for the largest.
-fn chop_entries<V: View, S: StoreWrite>(
-    index: &Index,
-    image: &mut V,
-    store: &mut S,
-    chunk: &mut [u8],
-    room: &mut [u8],
-) -> Result<(), ChopFault>
-    requires size { image_length index.now ≡ (V.held image.old).size }
-    requires inside { (i : ℕ) → i < count_of index.now → size_of index.now i ≤ length chunk.old }
-    requires room { (i : ℕ) → i < count_of index.now → size_of index.now i ≤ length room.old }
-    ensures right { OnOk result (IfSome (V.held image.old).bytes (λ t. IsRight t index.now)) }
-    ensures size { TellsLength index.now (V.held image.old).size result }
-    ensures first { IfErr result (IsMismatch index.now (V.held image.old).bytes) }
-    ensures holds { IfSome (S.holds store.new) (λ m. HoldsAll index.now (seen_to index.now result) m) }
-    ensures told { SaysAll index.now (seen_to index.now result) (S.said store.new) }
-    ensures changed { IfSome (V.held image.old).bytes (λ t. IfSome (S.holds store.old) (λ old.
-        IfSome (S.holds store.new) (λ new. Stands index.now t (most_seen index.now result) old new))) }
-    ensures files { PutsFiles index.now (V.held image.old).bytes (S.holds store.old) (most_seen index.now result)
-        (S.folder store.old) (S.folder store.new) }
-    ensures order { OnErr result (ChopStops S.Store index.now (V.held image.old).bytes store.old store.new) }
-    ensures tells { is_some (S.holds store.new) ≡ is_some (S.holds store.old) }
-    ensures kept { V.held image.new ≡ V.held image.old }
-    ensures place { S.place store.new ≡ S.place store.old }
-    ensures sends { Sends (KeepsListed index.now) (S.sent store.old) (S.sent store.new) }
-    ensures asks { AsksListed index.now (most_seen index.now result) (S.asked store.old) (S.asked store.new) }
-    ensures queries { S.queried store.new ≡ S.queried store.old }
-    ensures image_faults { CountsFaults ChopFault.ImageFault ChopFault.Memory
-        (V.faults image.old) (V.faults image.new) result }
-    ensures store_faults { CountsCause ChopFault.StoreFault (S.faults store.old) (S.faults store.new) result }
-{
-    for i in 0..index.count() {
-        chop_entry(index, i, image, store, chunk, room)?;
-    }
-    Ok(())
 }
 
 /// Sees to it that the store holds each chunk that the index lists, entry by entry up to the first refusal: the image's
@@ -152,11 +107,11 @@ pub fn chop<V: View, S: StoreWrite>(
     if size != index.length() {
         return Err(ChopFault::Length { size });
     }
-    let Ok(mut chunk) = index.room(alloc) else {
+    let Ok(mut rooms) = Rooms::new(alloc, index) else {
         return Err(ChopFault::Memory);
     };
-    let Ok(mut room) = index.room(alloc) else {
-        return Err(ChopFault::Memory);
-    };
-    chop_entries(index, image, store, &mut chunk, &mut room)
+    for i in 0..index.count() {
+        chop_entry(index, i, image, store, &mut rooms)?;
+    }
+    Ok(())
 }

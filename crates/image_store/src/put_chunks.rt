@@ -14,11 +14,11 @@ ghost use Rattle.chunk_store.specs.Names.{name_of};
 ghost use Rattle.chunk_store.specs.Said.{KeepsOf, AskedOnce};
 ghost use Rattle.dsy_base.specs.Counts.{CountsFaults};
 ghost use Rattle.read_ahead.specs.Ahead.{IsSlice};
-ghost use Rattle.image_store.specs.PutChunks.{told_range, told_slice, PutsUnder, PutsRight, PutsLacked};
-ghost use Rattle.image_store.specs.PutChunks.{HoldsNamed, SaysNamed, HoldsAll, SaysAll, Stands, PutsFiles, AsksEach};
-ghost use Rattle.image_store.specs.PutChunks.{EndsAt, KeepsListed, KeepsNamed, RereadsTo, PutsEnd};
-ghost use Rattle.image_store.specs.Putting.{HasPut, SeesTo};
+ghost use Rattle.image_store.specs.PutChunks.{told_range, told_slice, PutsUnder, PutsLacked};
+ghost use Rattle.image_store.specs.PutChunks.{HasChunk, TouchesChunk, HoldsAll, SaysAll, Stands, PutsFiles, AsksEach};
+ghost use Rattle.image_store.specs.PutChunks.{EndsAt, KeepsListed, RereadsTo, PutsEnd};
 
+use crate::storing::{Rooms, put_all};
 use caibx_codec::index::Index;
 use chunk_store::id::{ChunkId, DigestKind};
 use chunk_store::range::name_range;
@@ -27,7 +27,6 @@ use dsy_base::fault::{Failed, IoFault};
 use dsy_base::view::View;
 use std::alloc::Global;
 use std::collections::BTreeSet;
-use std::snapshot::Snapshot;
 
 /// Why an image wasn't stored.
 #[derive(Clone, Copy, Debug, PartialEq, Eq)]
@@ -47,7 +46,7 @@ pub enum MakeFault {
 }
 
 // Whether the id is new. Now it is seen.
-fn is_new(seen: &mut BTreeSet<[u8; 32]>, id: &ChunkId) -> Result<bool, MakeFault>
+pub(crate) fn is_new(seen: &mut BTreeSet<[u8; 32]>, id: &ChunkId) -> Result<bool, MakeFault>
     ensures found { IfOk result (λ new. new ≡ not (contains (slice_cmp nat_cmp) seen.old id.now.0)) }
     ensures changed { OnOk result ((q : List ℕ) → contains (slice_cmp nat_cmp) seen.new q
         ≡ (bytes_eq id.now.0 q || contains (slice_cmp nat_cmp) seen.old q)) }
@@ -161,16 +160,9 @@ fn put_named<S: StoreWrite>(
 ) -> Result<(), MakeFault>
     requires named { name_of kind chunk.now ≡ id.now.0 }
     requires room { length room.old ≡ length chunk.now }
-    ensures ok { OnOk result (IfSome (S.holds store.new) (λ m. HoldsNamed kind id.now.0 (m id.now.0))) }
-    ensures told { OnOk result (SaysNamed kind id.now.0 (S.said store.new)) }
-    ensures changed { PutsRight kind id.now.0 (Some chunk.now) (S.holds store.old) (S.holds store.new) }
-    ensures files { PutsLacked id.now.0 (Some chunk.now) (S.holds store.old) (S.folder store.old) (S.folder store.new) }
+    ensures ok { OnOk result (HasChunk S.Store kind id.now.0 store.new) }
+    ensures changed { TouchesChunk S.Store kind id.now.0 (Some chunk.now) store.old store.new }
     ensures only { IfErr result (λ e. (e ≡ MakeFault.StoreFault) ⊎ (e ≡ MakeFault.Memory)) }
-    ensures place { S.place store.new ≡ S.place store.old }
-    ensures said { (q : List ℕ) → q ≢ id.now.0 → KeepsOf (S.said store.old) (S.said store.new) q }
-    ensures sends { Sends (KeepsNamed kind id.now.0) (S.sent store.old) (S.sent store.new) }
-    ensures asks { AskedOnce (S.asked store.old) (S.asked store.new) id.now.0 }
-    ensures queries { S.queried store.new ≡ S.queried store.old }
     ensures faults { CountsCause MakeFault.StoreFault (S.faults store.old) (S.faults store.new) result }
 {
     match keep(store, id, chunk, room) {
@@ -195,24 +187,15 @@ pub(crate) fn put_entry<V: View, S: StoreWrite>(
     requires inside { size_of index.now i ≤ length chunk.old }
     requires room { size_of index.now i ≤ length room.old }
     requires read { IfSome read (λ b. IsSlice index.now (V.held image.old).bytes i b.now) }
-    ensures ok { OnOk result (IfSome (S.holds store.new)
-        (λ m. HoldsNamed (kind_of index.now) (id_of index.now i) (m (id_of index.now i)))) }
-    ensures told { OnOk result (SaysNamed (kind_of index.now) (id_of index.now i) (S.said store.new)) }
+    ensures ok { OnOk result (HasChunk S.Store (kind_of index.now) (id_of index.now i) store.new) }
     ensures right { OnOk result (IfSome (V.held image.old).bytes (λ t. IsRightAt t index.now i)) }
-    ensures changed { PutsRight (kind_of index.now) (id_of index.now i)
-        (told_slice index.now i (V.held image.old).bytes) (S.holds store.old) (S.holds store.new) }
-    ensures files { PutsLacked (id_of index.now i) (told_slice index.now i (V.held image.old).bytes)
-        (S.holds store.old) (S.folder store.old) (S.folder store.new) }
+    ensures changed { TouchesChunk S.Store (kind_of index.now) (id_of index.now i)
+        (told_slice index.now i (V.held image.old).bytes) store.old store.new }
     ensures err { IfErr result (EndsAt (kind_of index.now) i (id_of index.now i)
         (told_slice index.now i (V.held image.old).bytes)) }
     ensures untouched { (k : ℕ) → (was got : ChunkId) → result ≡ Err (MakeFault.Changed k was got) →
         store.new ≡ store.old }
     ensures kept { V.held image.new ≡ V.held image.old }
-    ensures place { S.place store.new ≡ S.place store.old }
-    ensures said { (q : List ℕ) → q ≢ id_of index.now i → KeepsOf (S.said store.old) (S.said store.new) q }
-    ensures sends { Sends (KeepsNamed (kind_of index.now) (id_of index.now i)) (S.sent store.old) (S.sent store.new) }
-    ensures asks { AskedOnce (S.asked store.old) (S.asked store.new) (id_of index.now i) }
-    ensures queries { S.queried store.new ≡ S.queried store.old }
     ensures image_faults { CountsFaults MakeFault.ImageFault MakeFault.Memory
         (V.faults image.old) (V.faults image.new) result }
     ensures store_faults { CountsCause MakeFault.StoreFault (S.faults store.old) (S.faults store.new) result }
@@ -228,46 +211,15 @@ pub(crate) fn put_entry<V: View, S: StoreWrite>(
     put_named(store, kind, &listed.id, bytes, held)
 }
 
-// Sees to entry i, unless its id was seen to.
-pub(crate) fn see_next<V: View, S: StoreWrite>(
-    index: &Index,
-    i: usize,
-    first: &Snapshot<S>,
-    seen: &mut BTreeSet<[u8; 32]>,
-    image: &mut V,
-    store: &mut S,
-    chunk: &mut [u8],
-    room: &mut [u8],
-    read: Option<&[u8]>,
-) -> Result<(), MakeFault>
-    requires listed { i < count_of index.now }
-    requires size { image_length index.now ≡ (V.held image.old).size }
-    requires inside { size_of index.now i ≤ length chunk.old }
-    requires room { size_of index.now i ≤ length room.old }
-    requires read { IfSome read (λ b. IsSlice index.now (V.held image.old).bytes i b.now) }
-    requires put { HasPut S.Store index.now (V.held image.old).bytes i first.now.value store.old seen.old }
-    ensures { SeesTo V.View S.Store index.now (i + 1) first.now.value image.old image.new store.new seen.new result }
-{
-    let id = index.id(i);
-    if is_new(seen, &id)? {
-        return put_entry(index, i, image, store, chunk, room, read);
-    }
-    Ok(())
-}
-
 /// Sees to it that the store holds each chunk that the index lists, in order, each id once. What is held already isn't
-/// put. `chunk` and `room` have room for the largest.
+/// put.
 pub fn put_chunks<V: View, S: StoreWrite>(
     alloc: Global,
     index: &Index,
     image: &mut V,
     store: &mut S,
-    chunk: &mut [u8],
-    room: &mut [u8],
 ) -> Result<(), MakeFault>
     requires size { image_length index.now ≡ (V.held image.old).size }
-    requires inside { (i : ℕ) → i < count_of index.now → size_of index.now i ≤ length chunk.old }
-    requires room { (i : ℕ) → i < count_of index.now → size_of index.now i ≤ length room.old }
 
     // What the store then holds, and what it has said.
     ensures ok { OnOk result (IfSome (S.holds store.new) (λ m. HoldsAll index.now (count_of index.now) m)) }
@@ -288,10 +240,8 @@ pub fn put_chunks<V: View, S: StoreWrite>(
         (V.faults image.old) (V.faults image.new) result }
     ensures store_faults { CountsCause MakeFault.StoreFault (S.faults store.old) (S.faults store.new) result }
 {
-    let first = Snapshot::of(store);
-    let mut seen = BTreeSet::new(alloc);
-    for i in 0..index.count() {
-        see_next(index, i, &first, &mut seen, image, store, chunk, room, None)?;
-    }
-    Ok(())
+    let Ok(mut rooms) = Rooms::new(alloc, index) else {
+        return Err(MakeFault::Memory);
+    };
+    put_all(alloc, index, image, store, &mut rooms)
 }

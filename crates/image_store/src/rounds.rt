@@ -3,12 +3,12 @@
 ghost use Rattle.std.specs.Prelude.{◌≡◌, ℕ, ◌+◌, ◌<◌, ◌≤◌, [], All, IfSome, List, OnOk, Option, length, map};
 ghost use Rattle.std.specs.Prelude.{vec_capacity, vec_len};
 ghost use Rattle.buzhash_cut.specs.Image.{AreOfOneImage};
-ghost use Rattle.caibx_codec.specs.Listing.{Listing, count_of, image_length, size_of};
-ghost use Rattle.image_store.specs.Storing.{GoesOn, IsAlike, IsStoredBy, IsStoring, NoFaultCountFalls};
+ghost use Rattle.caibx_codec.specs.Listing.{Listing, count_of, image_length};
+ghost use Rattle.image_store.specs.Storing.{GoesOn, HasRoomFor, IsAlike, IsStoredBy, IsStoring, NoFaultCountFalls};
 ghost use Rattle.read_ahead.specs.Ahead.{IsAhead};
 
-use crate::put_chunks::{MakeFault, put_chunks};
-use crate::storing::{Rooms, Storing};
+use crate::put_chunks::MakeFault;
+use crate::storing::{Rooms, Storing, put_all};
 use caibx_codec::index::Index;
 use chunk_store::store::{Store, StoreWrite};
 use dsy_base::inner_folders::InnerFolders;
@@ -83,14 +83,14 @@ fn put_by_rounds<R: Threads + Sync, V: View + Send, S: StoreWrite, I: InnerFolde
     requires ready { All (IsAhead index.now (V.held storing.old.image).bytes) ready.old }
     requires alike { All (IsAlike (V.held storing.old.image)) (map (λ r. V.held r.view) readers.old) }
     ensures on { GoesOn V.View S.Store index.now storing.old storing.new result }
-    ensures all { OnOk result (storing.new.at ≡ count_of index.now) }
+    ensures all { OnOk result (storing.new.progress.at ≡ count_of index.now) }
     ensures kept { map (λ r. V.held r.view) readers.new ≡ map (λ r. V.held r.view) readers.old }
     ensures faults { NoFaultCountFalls (map (λ r. V.faults r.view) readers.old)
         (map (λ r. V.faults r.view) readers.new) }
 {
     let mut at = 0;
     while at < index.count() {
-        let end = round_end(index, at, readers.len(), storing.chunk.len());
+        let end = round_end(index, at, readers.len(), storing.rooms.chunk.len());
         let claims = Claims::new(at, end);
         round(rt, index, storing, readers, &claims, ready, inner)?;
         change_all(readers, ready);
@@ -110,19 +110,11 @@ fn store_alone<V: View, S: StoreWrite>(
     requires some { 0 < vec_len views }
     requires alike { AreOfOneImage (map V.held views.items) }
     requires size { All (λ v. image_length index.now ≡ (V.held v).size) views.items }
-    requires chunk { (i : ℕ) → i < count_of index.now → size_of index.now i ≤ length rooms.chunk.items }
-    requires room { (i : ℕ) → i < count_of index.now → size_of index.now i ≤ length rooms.room.items }
+    requires room { HasRoomFor index.now rooms }
     ensures { IsStoredBy V.View S.Store index.now views.items result.0.items store result.1 result.2 }
 {
     let (mut views, mut store, mut rooms) = (views, store, rooms);
-    let put = put_chunks(
-        alloc,
-        index,
-        &mut views[0],
-        &mut store,
-        &mut rooms.chunk,
-        &mut rooms.room,
-    );
+    let put = put_all(alloc, index, &mut views[0], &mut store, &mut rooms);
     (views, store, put)
 }
 
@@ -142,8 +134,7 @@ fn store_ahead<R: Threads + Sync, V: View + Send, S: StoreWrite, I: InnerFolders
     requires ready { (l : Listing) (told : Option (List ℕ)) → All (IsAhead l told) crew.ready.items }
     requires alike { AreOfOneImage (map V.held views.items) }
     requires size { All (λ v. image_length index.now ≡ (V.held v).size) views.items }
-    requires chunk { (i : ℕ) → i < count_of index.now → size_of index.now i ≤ length rooms.chunk.items }
-    requires room { (i : ℕ) → i < count_of index.now → size_of index.now i ≤ length rooms.room.items }
+    requires room { HasRoomFor index.now rooms }
     ensures { IsStoredBy V.View S.Store index.now views.items result.0.items store result.1 result.2 }
 {
     let (mut views, mut crew) = (views, crew);
@@ -185,13 +176,9 @@ pub(crate) fn store_entries<
     requires place { IfSome inner.now (λ i. I.place i ≡ S.place store) }
     ensures { IsStoredBy V.View S.Store index.now views.items result.0.items store result.1 result.2 }
 {
-    let Ok(chunk) = index.room(alloc) else {
+    let Ok(rooms) = Rooms::new(alloc, index) else {
         return (views, store, Err(MakeFault::Memory));
     };
-    let Ok(room) = index.room(alloc) else {
-        return (views, store, Err(MakeFault::Memory));
-    };
-    let rooms = Rooms { chunk, room };
     let others = views.len() - 1;
     if others == 0 {
         return store_alone(alloc, index, views, store, rooms);

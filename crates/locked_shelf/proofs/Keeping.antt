@@ -5,11 +5,14 @@ use Rattle.std.specs.Option.{option_map}
 use Rattle.std.specs.Str.{bytes_eq}
 use Rattle.std.proofs.lemmas.Slice.Eq.{bytes_eq-Decides}
 use Rattle.chunk_server.specs.Answers.{Answer, files_after}
+use Rattle.chunk_server.specs.FileReads.{FileRead}
+use Rattle.chunk_server.specs.Reads.{ReadsFile}
 use Rattle.chunk_server.specs.Shelves.{AreAlikeButTemporaries, ServedFolder, ServesOrFails, answer_in}
 use Rattle.chunk_server.specs.declared.shelf.Reply.{Reply}
 use Rattle.chunk_store.specs.Folders.{chunks}
 use Rattle.chunk_store.specs.Names.{IsId, name_of}
 use Rattle.chunk_store.specs.Paths.{path_of}
+use Rattle.chunk_store.specs.declared.id.ChunkId.{ChunkId}
 use Rattle.chunk_store.specs.declared.id.DigestKind.{DigestKind}
 use Rattle.dir_store.specs.Names.{id_at_path, is_temporary}
 use Rattle.dsy_base.proofs.Counts.{at_other}
@@ -17,9 +20,9 @@ use Rattle.dsy_base.specs.Folders.{put_in, temporary_of}
 use Rattle.dsy_base.specs.Maps.{Map, at_name}
 use Rattle.dsy_base.specs.declared.fault.Memory.{Memory}
 use Rattle.caibx_fields.specs.Limits.{size_limit}
-use Rattle.http_wire.specs.declared.request.Act.{Act}
 use Rattle.http_wire.specs.declared.request.Act.TheVariants as act
-use Rattle.locked_shelf.specs.Keepings.{HasId, KeepsOpening, IsPuttable, KeepsChunks, HoldsFor}
+use Rattle.locked_shelf.specs.Keepings.{KeepsOpening, IsPuttable, KeepsChunks, HoldsFor}
+use Rattle.locked_shelf.specs.Replies.{ReadsKept}
 
 pub kept_first : (kind : DigestKind) (opening files : Option (Map (List ℕ))) → IfSome opening (λ first. files ≡ Some first) → IfSome opening (λ first. KeepsOpening kind first files)
 kept_first kind None files h = tt
@@ -79,31 +82,47 @@ module _ (kind : DigestKind) (first : Map (List ℕ)) (no_temporary : (id : List
     put_if id b is few true e m k = kept_put id b is (record { named = (bytes_eq-Decides (name_of kind b) id).0 e; few = few }) m k
     put_if id b is few false e m k = k
 
-    -- a step of the shelf
-    kept_step : (a : Act) (body : List ℕ) (r : Answer) (old new : ServedFolder) → HasId a → length body ≤ size_limit → ServesOrFails kind old a body r new → KeepsOpening kind first old.files → KeepsOpening kind first new.files
+    -- a put
+    kept_step : (id : ChunkId) (body : List ℕ) (r : Answer) (old new : ServedFolder) → IsId id.0 → length body ≤ size_limit → ServesOrFails kind old (act.Put id) body r new → KeepsOpening kind first old.files → KeepsOpening kind first new.files
     unfolding files_after
-    kept_step a body r old new is few (inr fails) k = kept_alike old.files new.files fails.files k
-    kept_step (act.Get id) body r old new is few (inl step) k = subst (KeepsOpening kind first) (sym step.files) (kept_map (λ m. m) (λ m h. h) old.files k)
-    kept_step (act.Head id) body r old new is few (inl step) k = subst (KeepsOpening kind first) (sym step.files) (kept_map (λ m. m) (λ m h. h) old.files k)
-    kept_step (act.Put id) body r old new is few (inl step) k = subst (KeepsOpening kind first) (sym step.files) (kept_map (λ m. cond (bytes_eq (name_of kind body) id.0) (put_in m (path_of id.0) body) m) (put_if id.0 body is few (bytes_eq (name_of kind body) id.0) refl) old.files k)
-    kept_step act.Lost body r old new is few (inl step) k = subst (KeepsOpening kind first) (sym step.files) (kept_map (λ m. m) (λ m h. h) old.files k)
-    kept_step (act.Refuse status) body r old new is few (inl step) k = subst (KeepsOpening kind first) (sym step.files) (kept_map (λ m. m) (λ m h. h) old.files k)
+    kept_step id body r old new is few (inr fails) k = kept_alike old.files new.files fails.files k
+    kept_step id body r old new is few (inl step) k = subst (KeepsOpening kind first) (sym step.files) (kept_map (λ m. cond (bytes_eq (name_of kind body) id.0) (put_in m (path_of id.0) body) m) (put_if id.0 body is few (bytes_eq (name_of kind body) id.0) refl) old.files k)
 
 if_some : {P Q : Map (List ℕ) → Type 0} (o : Option (Map (List ℕ))) → ((m : Map (List ℕ)) → P m → Q m) → IfSome o P → IfSome o Q
 if_some None f p = tt
 if_some (Some m) f p = f m p
 
--- what holds behind the lock after a request
-pub kept_after : (kind k : DigestKind) (opening : Option (Map (List ℕ))) (a : Act) (body : List ℕ) (res : Result Reply Memory) (old new : ServedFolder)
+-- what holds behind the lock after a put
+pub kept_after : (kind k : DigestKind) (opening : Option (Map (List ℕ))) (id : ChunkId) (body : List ℕ) (res : Result Reply Memory) (old new : ServedFolder)
     → ((id : List ℕ) → is_temporary (path_of id) ≡ false)
     → ((q id : List ℕ) → (id_at_path q ≡ Some id) ↔ (IsId id × (path_of id ≡ q)))
     → ((q : List ℕ) → IsTrue (is_temporary (temporary_of q)))
     → ((id b : List ℕ) (m : Map (List ℕ)) → IsId id → chunks (put_in m (path_of id) b) ≡ at_name (chunks m) id (Some b))
-    → HasId a → length body ≤ size_limit → k ≡ kind
-    → IfOk res (λ r. ServesOrFails k old a body (answer_in r) new) → OnErr res (AreAlikeButTemporaries old.files new.files)
+    → IsId id.0 → length body ≤ size_limit → k ≡ kind
+    → IfOk res (λ r. ServesOrFails k old (act.Put id) body (answer_in r) new) → OnErr res (AreAlikeButTemporaries old.files new.files)
     → IfSome opening (λ first. KeepsOpening kind first old.files) → IfSome opening (λ first. KeepsOpening kind first new.files)
-kept_after kind k opening a body (Ok r) old new none names temporary holds is few same ok err =
-    let step = subst (λ (j : DigestKind). ServesOrFails j old a body (answer_in r) new) same ok in
-    if_some opening (λ first h. kept_step kind first none (λ q id i p. (names q id).1 (i, p)) temporary holds a body (answer_in r) old new is few step h)
-kept_after kind k opening a body (Err e) old new none names temporary holds is few same ok err =
+kept_after kind k opening id body (Ok r) old new none names temporary holds is few same ok err =
+    let step = subst (λ (j : DigestKind). ServesOrFails j old (act.Put id) body (answer_in r) new) same ok in
+    if_some opening (λ first h. kept_step kind first none (λ q id i p. (names q id).1 (i, p)) temporary holds id body (answer_in r) old new is few step h)
+kept_after kind k opening id body (Err e) old new none names temporary holds is few same ok err =
     if_some opening (λ first h. kept_alike kind first none old.files new.files err h)
+
+-- and after a file was read
+pub kept_read : (kind : DigestKind) (opening : Option (Map (List ℕ))) (id : List ℕ) (old new : ServedFolder) (file : FileRead) → ReadsFile id old file new
+    → IfSome opening (λ first. KeepsOpening kind first old.files) → IfSome opening (λ first. KeepsOpening kind first new.files)
+kept_read kind opening id old new file read kept =
+    if_some opening (λ first h. subst (KeepsOpening kind first) (sym read.kept) h) kept
+
+-- what was read then
+pub reads_kept : (kind : DigestKind) (opening : Option (Map (List ℕ))) (never_fails : Bool) (id : List ℕ) (old new : ServedFolder) (file : FileRead)
+    → (IsTrue never_fails → old.faults ≡ 0) → (IsTrue never_fails → new.faults ≡ 0) → ReadsFile id old file new
+    → IfSome opening (λ first. KeepsOpening kind first old.files) → IfSome opening (λ first. ReadsKept kind first never_fails id file)
+reads_kept kind opening never_fails id old new file old_sure new_sure read kept =
+    if_some opening (λ first h. record {
+      old = old;
+      new = new;
+      kept = h;
+      read = read;
+      old_sure = old_sure;
+      new_sure = new_sure;
+    }) kept

@@ -4,10 +4,15 @@ use Rattle.std.specs.Str.{bytes_eq}
 use Rattle.std.proofs.lemmas.Bool.Decides.{nat_tests}
 use Rattle.std.proofs.lemmas.Slice.Eq.{bytes_eq-Decides}
 use Rattle.chunk_server.specs.Answers.{Answer, answer_to, bare, chunk_held, with_chunk, with_length}
+use Rattle.chunk_server.specs.FileReads.{FileRead}
+use Rattle.chunk_server.specs.Reads.{ReadsFile, asked_by}
 use Rattle.chunk_server.specs.Shelves.{RefusesOtherDigest, ServedFolder, ServesOrFails, answer_in}
+use Rattle.chunk_server.specs.declared.chunk_file.ReadMethod.{ReadMethod}
+use Rattle.chunk_server.specs.declared.chunk_file.ReadMethod.TheVariants as method
 use Rattle.chunk_server.specs.declared.shelf.Reply.{Reply}
 use Rattle.chunk_store.specs.Folders.{chunks}
 use Rattle.chunk_store.specs.Names.{name_of}
+use Rattle.chunk_store.specs.declared.id.ChunkId.{ChunkId}
 use Rattle.chunk_store.specs.declared.id.DigestKind.{DigestKind}
 use Rattle.dsy_base.specs.Counts.{Rose}
 use Rattle.dsy_base.specs.Maps.{Map}
@@ -17,7 +22,7 @@ use Rattle.http_wire.specs.Request.{is_refusal}
 use Rattle.http_wire.specs.declared.request.Act.{Act}
 use Rattle.http_wire.specs.declared.request.Act.TheVariants as act
 use Rattle.locked_shelf.specs.Keepings.{KeepsOpening, KeepsChunks, HoldsFor}
-use Rattle.locked_shelf.specs.Replies.{MayReply, RepliesOver}
+use Rattle.locked_shelf.specs.Replies.{MayReply, ReadsKept, RepliesOver}
 
 below : (n m : ℕ) → n ≤ m → nat_le n m ≡ true
 below n m h = grind (arith, nat_tests)
@@ -118,3 +123,28 @@ may_reply kind k opening never_fails a body (Ok r) old new first_none none taken
       over = if_some opening (λ first h. over kind first body (answer_in r) old new h a bad step) kept;
       sure = λ never. if_some opening (λ first h. sure kind first body (answer_in r) old new h a (unrefused a taken) (first_none never) (none never) step) kept;
     }
+
+-- a body under its digest isn't refused
+pub taken_if_named : (kind k : DigestKind) (id : ChunkId) (body : List ℕ) (res : Result Reply Memory) → name_of kind body ≡ id.0 → k ≡ kind → IfOk res (λ r. RefusesOtherDigest k (act.Put id) body (answer_in r))
+taken_if_named kind k id body (Err e) named same = tt
+taken_if_named kind k id body (Ok r) named same =
+    subst (λ (j : DigestKind). RefusesOtherDigest j (act.Put id) body (answer_in r)) (sym same) (λ other. absurd (other named))
+
+asks : (m : ReadMethod) (id : ChunkId) → is_refusal (asked_by m id) ≡ false
+asks method.Get id = refl
+asks method.Head id = refl
+
+puts_nothing : (kind : DigestKind) (m : ReadMethod) (id : ChunkId) (body : List ℕ) (r : Answer) → RefusesOtherDigest kind (asked_by m id) body r
+puts_nothing kind method.Get id body r = tt
+puts_nothing kind method.Head id body r = tt
+
+-- what is replied by a file that was read
+pub may_read : (kind : DigestKind) (opening : Option (Map (List ℕ))) (never_fails : Bool) (m : ReadMethod) (id : ChunkId) (file : FileRead) (res : Result Reply Memory)
+    → IfSome opening (λ first. ReadsKept kind first never_fails id.0 file)
+    → IfOk res (λ r. (old new : ServedFolder) (body : List ℕ) → ReadsFile id.0 old file new → ServesOrFails kind old (asked_by m id) body (answer_in r) new)
+    → IfOk res (λ r. (body : List ℕ) → MayReply kind opening never_fails (asked_by m id) body (answer_in r))
+may_read kind opening never_fails m id file (Err e) reads ok = tt
+may_read kind opening never_fails m id file (Ok r) reads ok = λ body. record {
+  over = if_some opening (λ first h. over kind first body (answer_in r) h.old h.new h.kept (asked_by m id) (puts_nothing kind m id body (answer_in r)) (ok h.old h.new body h.read)) reads;
+  sure = λ never. if_some opening (λ first h. sure kind first body (answer_in r) h.old h.new h.kept (asked_by m id) (unrefused (asked_by m id) (asks m id)) (h.old_sure never) (h.new_sure never) (ok h.old h.new body h.read)) reads;
+}

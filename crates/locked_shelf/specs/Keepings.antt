@@ -1,13 +1,11 @@
 -- What a folder holds that began with named files, and into which only right chunks were put.
 use Rattle.std.specs.Prelude.{◌≡◌, ℕ, ◌≤◌, ◌⊎◌, List, length, Option, Some, None, IsTrue}
 use Rattle.chunk_store.specs.Folders.{chunks}
-use Rattle.chunk_store.specs.Names.{IsId, name_of}
+use Rattle.chunk_store.specs.Names.{name_of}
 use Rattle.chunk_store.specs.declared.id.DigestKind.{DigestKind}
 use Rattle.dir_store.specs.Names.{is_stranger}
 use Rattle.dsy_base.specs.Maps.{Map}
 use Rattle.caibx_fields.specs.Limits.{size_limit}
-use Rattle.http_wire.specs.declared.request.Act.{Act}
-use Rattle.http_wire.specs.declared.request.Act.TheVariants as act
 
 -- bytes that may be put under the id
 pub record IsPuttable (kind : DigestKind) (id b : List ℕ) : Type 0 where
@@ -27,11 +25,3 @@ pub record KeepsChunks (kind : DigestKind) (first now : Map (List ℕ)) : Type 0
 abbrev pub KeepsOpening : DigestKind → Map (List ℕ) → Option (Map (List ℕ)) → Type 0
 KeepsOpening kind first None = ⊥
 KeepsOpening kind first (Some now) = KeepsChunks kind first now
-
--- an act by which a chunk is put has an id
-abbrev pub HasId : Act → Type 0
-HasId (act.Put id) = IsId id.0
-HasId (act.Get id) = Unit {0}
-HasId (act.Head id) = Unit {0}
-HasId act.Lost = Unit {0}
-HasId (act.Refuse status) = Unit {0}

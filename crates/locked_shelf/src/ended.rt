@@ -43,6 +43,7 @@ impl<K: Link, F: Folder, M: Mode> Model for EndedLink<K, F, M> {
 impl<K: Link, F: Folder, M: Mode> EndedLink<K, F, M> {
     /// The connection, and whether there was no memory for it.
     pub fn into_parts(self) -> (K, bool)
+        ensures value { result ≡ (self.link, self.lacking) }
         ensures ended { EndsOver F.opening F.never_fails M.writable K.tells result.1 (K.state result.0) }
     {
         (self.link, self.lacking)

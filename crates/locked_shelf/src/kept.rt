@@ -1,22 +1,24 @@
 //! What stands behind a shelf's lock: a folder of chunks that has kept what its type names.
 
-ghost use Rattle.std.specs.Prelude.{◌≡◌, ◌≤◌, length, false, IfOk, IfSome, Some};
+ghost use Rattle.std.specs.Prelude.{◌≡◌, ◌≤◌, length, IfOk, IfSome, Some};
 ghost use Rattle.chunk_server.specs.Shelves.{IsAnswer, answer_in};
+ghost use Rattle.chunk_store.specs.Names.{name_of};
 ghost use Rattle.chunk_store.specs.declared.id.DigestKind.TheVariants as kinds;
 ghost use Rattle.caibx_fields.specs.Limits.{size_limit};
-ghost use Rattle.http_wire.specs.Request.{is_refusal};
-ghost use Rattle.locked_shelf.specs.Keepings.{HasId, KeepsOpening};
-ghost use Rattle.locked_shelf.specs.Replies.{MayReply};
+ghost use Rattle.http_wire.specs.declared.request.Act.TheVariants as act;
+ghost use Rattle.locked_shelf.specs.Keepings.{KeepsOpening};
+ghost use Rattle.locked_shelf.specs.Replies.{MayReply, ReadsKept};
 
+use chunk_server::chunk_file::ChunkFile;
 use chunk_server::shelf::Reply;
 use chunk_server::state::ShelfState;
+use chunk_store::id::ChunkId;
 use chunk_store::laws::id_has_32_bytes;
 use dir_store::laws::{
     chunk_is_no_temporary, chunk_names, put_changes_one_chunk, put_leaves_a_temporary,
 };
 use dsy_base::fault::Memory;
 use dsy_base::folder::Folder;
-use http_wire::request::Act;
 use std::marker::Model;
 
 /// A folder of chunks that began with the files that its type names. Only right chunks were put into it.
@@ -39,16 +41,6 @@ impl<F: Folder> Model for Kept<F> {
         × IfSome F.opening (λ first. KeepsOpening kinds.Sha512T256 first (F.files s.state.folder)) };
 }
 
-// The id of an act has 32 bytes.
-fn act_has_id(act: &Act)
-    ensures { HasId act.now }
-{
-    match act {
-        Act::Put(id) => id_has_32_bytes(id),
-        _ => {}
-    }
-}
-
 impl<F: Folder> Kept<F> {
     pub fn new(state: ShelfState<F>) -> Kept<F>
         requires kind { state.kind ≡ kinds.Sha512T256 }
@@ -65,19 +57,26 @@ impl<F: Folder> Kept<F> {
         self.state
     }
 
-    /// Answers a request.
-    pub fn answer(&mut self, act: &Act, body: &[u8]) -> Result<Reply, Memory>
-        requires taken { is_refusal act.now ≡ false }
+    /// Reads the file of this id. No digest is computed, since others wait for the lock meanwhile.
+    pub fn read(&mut self, id: &ChunkId, file: &mut ChunkFile)
+        ensures bytes { IfSome F.opening (λ first. ReadsKept kinds.Sha512T256 first F.never_fails id.now.0 file.new) }
+    {
+        self.state.read(id, file);
+    }
+
+    /// Puts a body under its digest.
+    pub fn put(&mut self, id: &ChunkId, body: &[u8]) -> Result<Reply, Memory>
+        requires named { name_of kinds.Sha512T256 body.now ≡ id.now.0 }
         requires size { length body.now ≤ size_limit }
-        ensures only { IfOk result (λ r. IsAnswer kinds.Sha512T256 act.now (answer_in r)) }
-        ensures may { IfOk result (λ r. MayReply kinds.Sha512T256 F.opening F.never_fails act.now body.now
+        ensures only { IfOk result (λ r. IsAnswer kinds.Sha512T256 (act.Put id.now) (answer_in r)) }
+        ensures may { IfOk result (λ r. MayReply kinds.Sha512T256 F.opening F.never_fails (act.Put id.now) body.now
             (answer_in r)) }
     {
-        act_has_id(act);
+        id_has_32_bytes(id);
         chunk_names();
         chunk_is_no_temporary();
         put_leaves_a_temporary();
         put_changes_one_chunk();
-        self.state.apply(act, body)
+        self.state.put(id, body)
     }
 }

@@ -1,10 +1,11 @@
 //! Each connection that comes is served by a thread of its own.
 
-ghost use Rattle.std.specs.Prelude.{◌≡◌, ◌≢◌, ◌<◌, ◌≤◌, [], false, Some};
+ghost use Rattle.std.specs.Prelude.{◌≡◌, ◌≢◌, ◌<◌, ◌≤◌, ◌++◌, [], ◌∷◌, false, Some};
+ghost use Rattle.std.specs.Option.{option_map};
 ghost use Rattle.dsy_base.specs.Counts.{Rose};
-ghost use Rattle.dsy_base.specs.Links.{IsFreshLink, ListenState};
+ghost use Rattle.dsy_base.specs.Links.{IsFreshLink};
 ghost use Rattle.locked_shelf.specs.Endings.{EndsOver};
-ghost use Rattle.locked_shelf.specs.Listening.{IsServing, ServesAll, ServesSome};
+ghost use Rattle.locked_shelf.specs.Listening.{GivesBack, HasHeard, ServesAll, ServesSome};
 
 use crate::door::LockedShelf;
 use crate::ended::{EndedLink, Mode, serve_link};
@@ -56,14 +57,10 @@ fn give_one<L: Listen, F: Folder, M: Mode>(
     ended: EndedLink<L::Link, F, M>,
     tally: &mut Tally,
 )
-    ensures back { (first : ListenState) →
-        IsServing (EndsOver F.opening F.never_fails M.writable L.Link.tells) first
-        (L.state listen.old) tally.old.pending tally.old.lacking
-        → IsServing (EndsOver F.opening F.never_fails M.writable L.Link.tells) first
-        (L.state listen.new) tally.new.pending tally.new.lacking }
-    ensures coming { (L.state listen.new).coming ≡ (L.state listen.old).coming }
-    ensures faults { (L.state listen.new).faults ≡ (L.state listen.old).faults }
-    ensures few { tally.new.pending ≤ tally.old.pending }
+    ensures given { (L.state listen.new).ended
+        ≡ option_map (λ done. done ++ L.Link.state ended.link ∷ []) (L.state listen.old).ended }
+    ensures ended { GivesBack (EndsOver F.opening F.never_fails M.writable L.Link.tells)
+        (L.state listen.old) (L.state listen.new) tally.old tally.new }
 {
     let (link, lacking) = ended.into_parts();
     tally.settle(lacking);
@@ -76,14 +73,8 @@ fn give_back<L: Listen, F: Folder, M: Mode>(
     gathered: Gathered<L::Link, F, M>,
     tally: &mut Tally,
 )
-    ensures back { (first : ListenState) →
-        IsServing (EndsOver F.opening F.never_fails M.writable L.Link.tells) first
-        (L.state listen.old) tally.old.pending tally.old.lacking
-        → IsServing (EndsOver F.opening F.never_fails M.writable L.Link.tells) first
-        (L.state listen.new) tally.new.pending tally.new.lacking }
-    ensures coming { (L.state listen.new).coming ≡ (L.state listen.old).coming }
-    ensures faults { (L.state listen.new).faults ≡ (L.state listen.old).faults }
-    ensures few { tally.new.pending ≤ tally.old.pending }
+    ensures ended { GivesBack (EndsOver F.opening F.never_fails M.writable L.Link.tells)
+        (L.state listen.old) (L.state listen.new) tally.old tally.new }
 {
     tally.lose(gathered.lost);
     for ended in gathered.links {
@@ -100,13 +91,8 @@ fn make_room<L: Listen, F: Folder, M: Mode, R: Wait>(
     tally: &mut Tally,
 )
     ensures room { tally.new.pending < MOST }
-    ensures back { (first : ListenState) →
-        IsServing (EndsOver F.opening F.never_fails M.writable L.Link.tells) first
-        (L.state listen.old) tally.old.pending tally.old.lacking
-        → IsServing (EndsOver F.opening F.never_fails M.writable L.Link.tells) first
-        (L.state listen.new) tally.new.pending tally.new.lacking }
-    ensures coming { (L.state listen.new).coming ≡ (L.state listen.old).coming }
-    ensures faults { (L.state listen.new).faults ≡ (L.state listen.old).faults }
+    ensures ended { GivesBack (EndsOver F.opening F.never_fails M.writable L.Link.tells)
+        (L.state listen.old) (L.state listen.new) tally.old tally.new }
 {
     give_back(listen, gathering.take(rt, alloc), tally);
     'rounds: for _ in rt.forever() {
@@ -133,10 +119,8 @@ fn hear<'s, E, L: Listen, F: Folder + Send, M: Mode + Send, R: Threads + Wait + 
 where
     L::Link: Send,
     requires mode { shelf.now.writable ≡ M.writable }
-    ensures heard { IsServing (EndsOver F.opening F.never_fails M.writable L.Link.tells)
-        (L.state listen.old) (L.state listen.new) result.1.pending result.1.lacking }
-    ensures end { result.0 ≡ AllServed.Ended → (L.state listen.new).coming ≡ Some [] }
-    ensures cause { result.0 ≡ AllServed.ListenFault → Rose (L.state listen.old).faults (L.state listen.new).faults }
+    ensures served { HasHeard (EndsOver F.opening F.never_fails M.writable L.Link.tells)
+        (L.state listen.old) (L.state listen.new) result.0 result.1 }
 {
     let mut tally = Tally {
         pending: 0,
@@ -177,10 +161,8 @@ fn serve_scoped<'x, L: Listen, F: Folder + Send, M: Mode + Send, R: Threads + Wa
 where
     L::Link: Send,
     requires mode { shelf.now.writable ≡ M.writable }
-    ensures heard { IsServing (EndsOver F.opening F.never_fails M.writable L.Link.tells)
-        (L.state listen.old) (L.state listen.new) result.1.pending result.1.lacking }
-    ensures end { result.0 ≡ AllServed.Ended → (L.state listen.new).coming ≡ Some [] }
-    ensures cause { result.0 ≡ AllServed.ListenFault → Rose (L.state listen.old).faults (L.state listen.new).faults }
+    ensures served { HasHeard (EndsOver F.opening F.never_fails M.writable L.Link.tells)
+        (L.state listen.old) (L.state listen.new) result.0 result.1 }
 {
     let lent = &mut *listen;
     let (back, served, mut tally) = thread::scope(
@@ -189,11 +171,8 @@ where
         move |scope| -> (&mut L, AllServed, Tally)
             requires { shelf.now.writable ≡ M.writable }
             ensures same { result.0.ghost_name ≡ lent.entry.ghost_name }
-            ensures heard { IsServing (EndsOver F.opening F.never_fails M.writable L.Link.tells)
-                (L.state lent.entry.now) (L.state result.0.now) result.2.pending result.2.lacking }
-            ensures end { result.1 ≡ AllServed.Ended → (L.state result.0.now).coming ≡ Some [] }
-            ensures cause { result.1 ≡ AllServed.ListenFault
-                → Rose (L.state lent.entry.now).faults (L.state result.0.now).faults }
+            ensures served { HasHeard (EndsOver F.opening F.never_fails M.writable L.Link.tells)
+                (L.state lent.entry.now) (L.state result.0.now) result.1 result.2 }
         {
             let (served, tally) = hear(rt, alloc, scope, lent, shelf, gathering, one_by_one);
             (lent, served, tally)

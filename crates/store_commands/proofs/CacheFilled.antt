@@ -29,7 +29,7 @@ use Rattle.command_steps.specs.declared.any_store.AnyStore.{AnyStore}
 use Rattle.command_steps.proofs.Taken.{at_name_twice}
 use Rattle.command_steps.proofs.Found.{held_after}
 use Rattle.command_steps.proofs.Lacked.{have_lacked, same_length}
-use Rattle.store_commands.specs.Caching.{AddsListed, AllFilled, CacheEnds, Evidence, FillExactly, FillTells, FilledBetween, FillsEach, IndexFilled, IsHeldListed, IsNotHad, NotFilled, StopsFilling, answer_of_fill, of_calls, of_command, outcome_of_fill, FrontListed, GetsListed, listed_times}
+use Rattle.store_commands.specs.Caching.{AddsListed, AllFilled, CacheEnds, EndsFilling, Evidence, FillExactly, FillTells, FilledBetween, FillsEach, IndexFilled, IsHeldListed, IsNotHad, NotFilled, StopsFilling, answer_of_fill, of_calls, of_command, outcome_of_fill, FrontListed, GetsListed, listed_times}
 use Rattle.dsy_base.proofs.Counts.{at_same}
 use Rattle.dsy_base.specs.Counts.{Quiet, Rose}
 use Rattle.dsy_base.specs.Disk.{Disk, Output}
@@ -45,7 +45,7 @@ use Rattle.store_chain.specs.declared.refused.Refused.TheVariants as refused
 use Rattle.store_chain.specs.declared.query.Query.{Query}
 use Rattle.verify_tool.proofs.Asked.{each_then, each_weaker}
 use Rattle.verify_tool.proofs.Holding.{each_within, quiet_within}
-use Rattle.verify_tool.specs.Filling.{FillEnds, FillStops, FillsBy, GivesEntry, HoldsTo, FillUnfailed, RefusesEntry, MayFillCache, entry_want, filled_to}
+use Rattle.verify_tool.specs.Filling.{EntryFails, FillEnds, FillStops, FillsBy, GivesEntry, HoldsTo, FillUnfailed, RefusesEntry, MayFillCache, entry_want, filled_to}
 use Rattle.verify_tool.specs.declared.fill.FillFault.{FillFault}
 use Rattle.verify_tool.specs.declared.fill.FillFault.TheVariants as faults
 
@@ -58,58 +58,67 @@ of_told o P x is h = subst (λ r. IfSome r P) is h
 
 -- ---- by one index
 
-module _ {S : Type 0} (store : StoreWords S) (files : S → Option (Map (List ℕ))) (l : Listing) (s0 s1 : Shelf) (c0 c1 : List S)
-    (kept : KeepsStores store (IsListedGet l) c0 c1) (maps_of : (fs : List (Map (List ℕ))) → map files c0 ≡ map Some fs → map store.holds c0 ≡ map Some (map chunks fs)) (lacks : store.may_lack_memory ≡ true) where
+module _ {S : Type 0} (store : StoreWords S) (files : S → Option (Map (List ℕ))) (l : Listing) (s0 s1 : Shelf) (c0 c1 : Chained S)
+    (kept : KeepsStores store (IsListedGet l) c0.stores c1.stores) (maps_of : (fs : List (Map (List ℕ))) → map files c0.stores ≡ map Some fs → map store.holds c0.stores ≡ map Some (map chunks fs)) (lacks : store.may_lack_memory ≡ true) where
   abbrev Calls : Evidence
-  Calls = of_calls files store.said store.faults c0 c1 s0.faults s1.faults
+  Calls = of_calls files store.said store.faults c0.stores c1.stores s0.faults s1.faults
 
-  held_listed : (q b : List ℕ) → MayFillCache store.holds l c0 q b → IsHeldListed Calls l q b
+  held_listed : (q b : List ℕ) → MayFillCache store.holds l c0.stores q b → IsHeldListed Calls l q b
   held_listed q b (listed, some) = (listed, λ fs told. some (map chunks fs) (maps_of fs told))
 
-  added : Stocks (MayFillCache store.holds l c0) s0 s1 → AddsListed Calls l s0.files s1.files
+  added : Stocks (MayFillCache store.holds l c0.stores) s0 s1 → AddsListed Calls l s0.files s1.files
   added h =
-      let weaker = stocks_weaker (MayFillCache store.holds l c0) (IsHeldListed Calls l) held_listed s0 s1 h in
+      let weaker = stocks_weaker (MayFillCache store.holds l c0.stores) (IsHeldListed Calls l) held_listed s0 s1 h in
       record { tells = weaker.told; chunks_are = weaker.chunks; strangers = weaker.strangers }
 
-  lost : (k : ℕ) (id : ChunkId) (r : Refused) → RefusesEntry store l k id r s0 s1 c0 c1 → IsNotHad Calls l s1.files k id r
-  lost k id r h = record {
-    listed = h.listed;
-    id_is = h.id_is;
-    cache = if_told (option_map chunks s1.files) (λ m. GivesEntry l k m → Rose s0.faults s1.faults)
-        (λ m is gives. rose_later s0.faults h.shelf.faults s1.faults h.filled.never_falls (of_told (held_on h.shelf) (λ m. GivesEntry l k m → Rose h.shelf.faults s1.faults) m (ap (option_map chunks) (sym h.kept) ∙ is) h.unfound gives));
-    said = (h.before, same_length store.place h.before c1 (h.until.places ∙ sym kept.places), subst (λ b. Refuses store.said store.faults b (entry_want l k id) h.before c1 r) lacks h.refused);
-    lacks = λ fs told. h.lacks (map chunks fs) (maps_of fs told);
-  }
-
-  tells : (r : Result Unit FillFault) → FillEnds store l s0 s1 c0 c1 r → FillTells Calls l s1.files r
-  tells (Ok u) h = tt
-  tells (Err (faults.Missing k id)) h = lost k id refused.Missing h
-  tells (Err (faults.Damaged k id s x)) h = lost k id (refused.Damaged s x) h
-  tells (Err (faults.StoreFault s)) h = (h.0, h.1, lost h.0 h.1 (refused.StoreFault s) h.2)
-  tells (Err faults.CacheFault) h = h
-  tells (Err faults.Memory) h = tt
-
-  exact : (r : Result Unit FillFault) → ((m : Map (List ℕ)) (maps : List (Map (List ℕ))) → FillUnfailed store.holds store.faults l m maps s0 s1 c0 c1 → FillsBy l m maps r) → FillExactly Calls l s0.files r
+  exact : (r : Result Unit FillFault) → ((m : Map (List ℕ)) (maps : List (Map (List ℕ))) → FillUnfailed store.holds store.faults l m maps s0 s1 c0.stores c1.stores → FillsBy l m maps r) → FillExactly Calls l s0.files r
   exact r h = λ fs told unfailed. if_told (option_map chunks s0.files) _ (λ m held_is sizes.
       h m (map chunks fs) (record { held = held_is; told = maps_of fs told; shelf = unfailed.0; stores = unfailed.1; sizes = sizes }))
 
   -- where it ended early
-  stopped_files : (k : ℕ) (x y : Option (Map (List ℕ))) → IfSome x (λ m. IfSome y (λ n. (q : List ℕ) → (chunks n q ≡ chunks m q) ⊎ ((b : List ℕ) × (chunks n q ≡ Some b) × IsAmong l k q)))
-      → IfSome x (λ f. IfSome y (λ g. (q : List ℕ) → (chunks g q ≡ chunks f q) ⊎ IsAmong l k q))
-  stopped_files k None y h = tt
-  stopped_files k (Some f) None h = tt
-  stopped_files k (Some f) (Some g) h = λ q. elim (h q) [
-    | inl same ↦ inl same
-    | inr new ↦ inr new.2
-  ]
+  module _ (fault : FillFault) (h : FillStops store l fault s0 s1 c0 c1) where
+    lost : (id : ChunkId) (r : Refused) → RefusesEntry store l h.entry id r h.shelf s1 h.chain.stores c1.stores → IsNotHad Calls l s1.files h.entry id r
+    lost id r e = record {
+      id_is = e.id_is;
+      cache = if_told (option_map chunks s1.files) (λ m. GivesEntry l h.entry m → Rose s0.faults s1.faults)
+          (λ m is gives. rose_later s0.faults h.shelf.faults s1.faults h.before.stocks.never_falls (of_told (held_on h.shelf) (λ m. GivesEntry l h.entry m → Rose h.shelf.faults s1.faults) m (ap (option_map chunks) (sym e.kept) ∙ is) e.unfound gives));
+      said = (h.chain.stores, same_length store.place h.chain.stores c1.stores (h.before.stores.places ∙ sym kept.places), subst (λ b. Refuses store.said store.faults b (entry_want l h.entry id) h.chain.stores c1.stores r) lacks e.refused);
+      lacks = λ fs told. e.lacks (map chunks fs) (h.before.stores.held ∙ maps_of fs told);
+    }
 
-  pub stops : {A : Type 0} (asked queried : A → List ℕ → ℕ) (d0 d1 : Chained A) (r : Result Unit FillFault) → IfErr r (λ e. FillStops asked queried l e s0 s1 d0 d1) → IfErr r (λ fault. StopsFilling l fault s0.files s1.files)
-  stops asked queried d0 d1 (Ok u) h = tt
-  stops asked queried d0 d1 (Err fault) h = record { entry = h.entry; names = h.names; holds = h.holds; others = stopped_files (h.entry + 1) s0.files s1.files h.stocks.chunks }
+    tells : (f : FillFault) → EntryFails store l h.entry h.shelf s1 h.chain c1 f → FillTells Calls l s1.files h.entry f
+    tells (faults.Missing k id) e = (e.0, lost id refused.Missing e.1)
+    tells (faults.Damaged k id s x) e = (e.0, lost id (refused.Damaged s x) e.1)
+    tells (faults.StoreFault s) e = (e.0, lost e.0 (refused.StoreFault s) e.1)
+    tells faults.CacheFault e = (rose_later s0.faults h.shelf.faults s1.faults h.before.stocks.never_falls e.1, λ fs told. e.0.gives (map chunks fs) (h.before.stores.held ∙ maps_of fs told))
+    tells faults.Memory e = tt
 
-  pub index_filled : (r : Result Unit FillFault) → IfErr r (λ fault. StopsFilling l fault s0.files s1.files) → Stocks (MayFillCache store.holds l c0) s0 s1 → HoldsTo l (filled_to l r) s1 → FillEnds store l s0 s1 c0 c1 r
-      → ((m : Map (List ℕ)) (maps : List (Map (List ℕ))) → FillUnfailed store.holds store.faults l m maps s0 s1 c0 c1 → FillsBy l m maps r) → IndexFilled Calls l s0.files s1.files r
-  index_filled r order stocks all fill_ends exactly = record { added = added stocks; holds = all; tells = tells r fill_ends; exactly = exact r exactly; order = order }
+    others : (x y : Option (Map (List ℕ))) → IfSome x (λ m. IfSome y (λ n. (q : List ℕ) → (chunks n q ≡ chunks m q) ⊎ ((b : List ℕ) × (chunks n q ≡ Some b) × IsAmong l h.entry q)))
+        → IfSome x (λ f. IfSome y (λ g. (q : List ℕ) → (chunks g q ≡ chunks f q) ⊎ IsAmong l h.entry q))
+    others None y h = tt
+    others (Some f) None h = tt
+    others (Some f) (Some g) h = λ q. elim (h q) [
+      | inl same ↦ inl same
+      | inr new ↦ inr new.2
+    ]
+
+    stops : StopsFilling Calls l fault s0.files s1.files
+    stops = record {
+      entry = h.entry;
+      listed = h.listed;
+      holds = h.holds;
+      others = others s0.files s1.files h.stocks.chunks;
+      tells = tells fault h.fails;
+    }
+
+  ended : (r : Result Unit FillFault) → FillEnds store l s0 s1 c0 c1 r → IfErr r (λ fault. EndsFilling Calls l fault s0.files s1.files)
+  ended (Ok u) h = tt
+  ended (Err fault) (inl none) = inl (none.0, ap (λ (s : Shelf). s.files) none.1)
+  ended (Err fault) (inr h) = inr (stops fault h)
+
+  pub index_filled : (r : Result Unit FillFault) → FillEnds store l s0 s1 c0 c1 r → Stocks (MayFillCache store.holds l c0.stores) s0 s1 → HoldsTo l (filled_to l r) s1
+      → ((m : Map (List ℕ)) (maps : List (Map (List ℕ))) → FillUnfailed store.holds store.faults l m maps s0 s1 c0.stores c1.stores → FillsBy l m maps r) → IndexFilled Calls l s0.files s1.files r
+  index_filled r ends stocks all exactly = record { added = added stocks; holds = all; exactly = exact r exactly; order = ended r ends }
 
 -- ---- seen over more calls
 
@@ -130,28 +139,31 @@ module _ (a b : Evidence) (held : (fs : List (Map (List ℕ))) → b.holds fs �
   exactly_wider l x r h = λ fs told still. h fs (held fs told) (quiet fs told still)
 
   pub done_wider : (l : Listing) (x y : Option (Map (List ℕ))) → IndexFilled a l x y (Ok tt) → IndexFilled b l x y (Ok tt)
-  done_wider l x y h = record { added = added_wider l x y h.added; holds = h.holds; tells = tt; exactly = exactly_wider l x (Ok tt) h.exactly; order = tt }
+  done_wider l x y h = record { added = added_wider l x y h.added; holds = h.holds; exactly = exactly_wider l x (Ok tt) h.exactly; order = tt }
 
   module _ (refuse : (c : Query) (r : Refused) → a.refused c r → b.refused c r) (cache : a.cache_failed → b.cache_failed) where
     lost_wider : (l : Listing) (y : Option (Map (List ℕ))) (k : ℕ) (id : ChunkId) (r : Refused) → IsNotHad a l y k id r → IsNotHad b l y k id r
     lost_wider l y k id r h = record {
-      listed = h.listed;
       id_is = h.id_is;
       cache = if_told (option_map chunks y) (λ m. GivesEntry l k m → b.cache_failed) (λ m is gives. cache (of_told (option_map chunks y) (λ m. GivesEntry l k m → a.cache_failed) m is h.cache gives));
       said = refuse _ r h.said;
       lacks = λ fs told. h.lacks fs (held fs told);
     }
 
-    tells_wider : (l : Listing) (y : Option (Map (List ℕ))) (r : Result Unit FillFault) → FillTells a l y r → FillTells b l y r
-    tells_wider l y (Ok u) h = tt
-    tells_wider l y (Err (faults.Missing k id)) h = lost_wider l y k id refused.Missing h
-    tells_wider l y (Err (faults.Damaged k id s x)) h = lost_wider l y k id (refused.Damaged s x) h
-    tells_wider l y (Err (faults.StoreFault s)) h = (h.0, h.1, lost_wider l y h.0 h.1 (refused.StoreFault s) h.2)
-    tells_wider l y (Err faults.CacheFault) h = cache h
-    tells_wider l y (Err faults.Memory) h = tt
+    tells_wider : (l : Listing) (y : Option (Map (List ℕ))) (k : ℕ) (fault : FillFault) → FillTells a l y k fault → FillTells b l y k fault
+    tells_wider l y k (faults.Missing e id) h = (h.0, lost_wider l y k id refused.Missing h.1)
+    tells_wider l y k (faults.Damaged e id s x) h = (h.0, lost_wider l y k id (refused.Damaged s x) h.1)
+    tells_wider l y k (faults.StoreFault s) h = (h.0, lost_wider l y k h.0 (refused.StoreFault s) h.1)
+    tells_wider l y k faults.CacheFault h = (cache h.0, λ fs told. h.1 fs (held fs told))
+    tells_wider l y k faults.Memory h = tt
+
+    order_wider : (l : Listing) (x y : Option (Map (List ℕ))) (r : Result Unit FillFault) → IfErr r (λ fault. EndsFilling a l fault x y) → IfErr r (λ fault. EndsFilling b l fault x y)
+    order_wider l x y (Ok u) h = tt
+    order_wider l x y (Err fault) (inl none) = inl none
+    order_wider l x y (Err fault) (inr h) = inr (record { entry = h.entry; listed = h.listed; holds = h.holds; others = h.others; tells = tells_wider l y h.entry fault h.tells })
 
     index_wider : (l : Listing) (x y : Option (Map (List ℕ))) (r : Result Unit FillFault) → IndexFilled a l x y r → IndexFilled b l x y r
-    index_wider l x y r h = record { added = added_wider l x y h.added; holds = h.holds; tells = tells_wider l y r h.tells; exactly = exactly_wider l x r h.exactly; order = h.order }
+    index_wider l x y r h = record { added = added_wider l x y h.added; holds = h.holds; exactly = exactly_wider l x r h.exactly; order = order_wider l x y r h.order }
 
     -- between disks that lie within others
     module _ (d0 e0 d e : Disk) (same : d0.files ≡ d.files) (file : (q : List ℕ) → FileRose d0 e0 q → FileRose d e q) where

@@ -3,9 +3,9 @@ use Rattle.std.specs.Prelude.{◌≡◌, ◌⊎◌, ℕ, ◌+◌, ◌<◌, List,
 use Rattle.std.specs.Prelude.{Option, Some, IfSome, IfErr, IsSomeAnd, IsTrue, true, is_some, Result, Ok, Err}
 use Rattle.std.specs.List.{All, AllZip, Any}
 use Rattle.std.specs.Option.{option_map}
-use Rattle.cache_store.specs.Giving.{GiveOneSize}
+use Rattle.cache_store.specs.Giving.{GiveOneSize, SomeGives}
 use Rattle.caibx_codec.specs.Asks.{IsListedGet}
-use Rattle.caibx_codec.specs.Listing.{Listing, count_of, id_of, kind_of}
+use Rattle.caibx_codec.specs.Listing.{Listing, count_of, id_of, kind_of, size_of}
 use Rattle.chunk_store.specs.Asks.{Ask}
 use Rattle.chunk_store.specs.Folders.{chunks}
 use Rattle.chunk_store.specs.Giving.{IsChunk}
@@ -34,7 +34,7 @@ use Rattle.store_chain.specs.Refusals.{Refuses}
 use Rattle.store_chain.specs.declared.refused.Refused.{Refused}
 use Rattle.store_chain.specs.declared.refused.Refused.TheVariants as refused
 use Rattle.store_chain.specs.declared.query.Query.{Query}
-use Rattle.verify_tool.specs.Filling.{EndsAtEntry, FillsBy, GivesEntry, HoldsEntry, ListsSize, entry_want, filled_to}
+use Rattle.verify_tool.specs.Filling.{FillsBy, GivesEntry, HoldsEntry, ListsSize, entry_want, filled_to}
 use Rattle.verify_tool.specs.declared.fill.FillFault.{FillFault}
 use Rattle.verify_tool.specs.declared.fill.FillFault.TheVariants as faults
 
@@ -85,14 +85,6 @@ abbrev pub answer_of_fill : Result Unit FillFault → Result Unit Outcome
 answer_of_fill (Ok u) = Ok u
 answer_of_fill (Err fault) = Err (outcome_of_fill fault)
 
--- filling ended early at one of the entries: each before it is among the files then, and each id that neither those nor
--- this one list holds what it held. A refusal that names an entry names this one
-pub record StopsFilling (l : Listing) (fault : FillFault) (x y : Option (Map (List ℕ))) : Type 0 where
-  pub entry : ℕ
-  pub names : EndsAtEntry entry (Err fault)
-  pub holds : HoldsFirst l entry y
-  pub others : IfSome x (λ f. IfSome y (λ g. (q : List ℕ) → (chunks g q ≡ chunks f q) ⊎ IsAmong l (entry + 1) q))
-
 module _ (over : Evidence) where
   -- ---- filling the cache by one index, from files x to files y
 
@@ -112,19 +104,32 @@ module _ (over : Evidence) where
 
   -- the stores refused the chunk of entry k for this reason, and the cache doesn't give it, or failed
   pub record IsNotHad (l : Listing) (y : Option (Map (List ℕ))) (k : ℕ) (id : ChunkId) (r : Refused) : Type 0 where
-    pub listed : k < count_of l
     pub id_is : id.0 ≡ id_of l k
     pub cache : IfSome (option_map chunks y) (λ m. GivesEntry l k m → over.cache_failed)
     pub said : over.refused (entry_want l k id) r
     pub lacks : (fs : List (Map (List ℕ))) → over.holds fs → LacksAll (entry_want l k id) (map chunks fs) r
 
-  abbrev pub FillTells : Listing → Option (Map (List ℕ)) → Result Unit FillFault → Type 0
-  FillTells l y (Ok u) = Unit {0}
-  FillTells l y (Err (faults.Missing k id)) = IsNotHad l y k id refused.Missing
-  FillTells l y (Err (faults.Damaged k id s x)) = IsNotHad l y k id (refused.Damaged s x)
-  FillTells l y (Err (faults.StoreFault s)) = (k : ℕ) × (id : ChunkId) × IsNotHad l y k id (refused.StoreFault s)
-  FillTells l y (Err faults.CacheFault) = over.cache_failed
-  FillTells l y (Err faults.Memory) = Unit {0}
+  -- what the answer says of the entry at which filling ended. Where the cache failed, the stores gave the chunk
+  abbrev pub FillTells : Listing → Option (Map (List ℕ)) → ℕ → FillFault → Type 0
+  FillTells l y k (faults.Missing e id) = (e ≡ k) × IsNotHad l y k id refused.Missing
+  FillTells l y k (faults.Damaged e id s x) = (e ≡ k) × IsNotHad l y k id (refused.Damaged s x)
+  FillTells l y k (faults.StoreFault s) = (id : ChunkId) × IsNotHad l y k id (refused.StoreFault s)
+  FillTells l y k faults.CacheFault = over.cache_failed
+      × ((fs : List (Map (List ℕ))) → over.holds fs → SomeGives (kind_of l) (id_of l k) (size_of l k) (map chunks fs))
+  FillTells l y k faults.Memory = Unit {0}
+
+  -- filling ended early at one of the entries, of which the answer tells: each before it is among the files then, and
+  -- each id that none of those lists holds what it held
+  pub record StopsFilling (l : Listing) (fault : FillFault) (x y : Option (Map (List ℕ))) : Type 0 where
+    pub entry : ℕ
+    pub listed : entry < count_of l
+    pub holds : HoldsFirst l entry y
+    pub others : IfSome x (λ f. IfSome y (λ g. (q : List ℕ) → (chunks g q ≡ chunks f q) ⊎ IsAmong l entry q))
+    pub tells : FillTells l y entry fault
+
+  -- so it is, or there was no memory to begin
+  abbrev pub EndsFilling : Listing → FillFault → Option (Map (List ℕ)) → Option (Map (List ℕ)) → Type 0
+  EndsFilling l fault x y = ((fault ≡ faults.Memory) × (y ≡ x)) ⊎ StopsFilling l fault x y
 
   -- what is answered where all stores are folders that tell, nothing has failed, and cache and stores give one size for
   -- each listed id
@@ -135,9 +140,8 @@ module _ (over : Evidence) where
   pub record IndexFilled (l : Listing) (x y : Option (Map (List ℕ))) (r : Result Unit FillFault) : Type 0 where
     pub added : AddsListed l x y
     pub holds : HoldsFirst l (filled_to l r) y
-    pub tells : FillTells l y r
     pub exactly : FillExactly l x r
-    pub order : IfErr r (λ fault. StopsFilling l fault x y)
+    pub order : IfErr r (λ fault. EndsFilling l fault x y)
 
   -- ---- and by each in order, between these disks
 

@@ -1,12 +1,13 @@
 //! `prune -s STORE -y INDEX..`: STORE keeps no chunk but those that the indexes list.
 
-ghost use Rattle.std.specs.Prelude.{◌≡◌, IsSome};
+ghost use Rattle.std.specs.Prelude.{◌≡◌, ℕ, List, IfErr, IfOk, IsSome};
 ghost use Rattle.command_worlds.specs.Worlds.{world};
 ghost use Rattle.store_commands.specs.Prune.{PruneEnds, StorePruned};
 ghost use Rattle.dsy_base.specs.Disk.{Output};
 ghost use Rattle.dsy_base.specs.Links.{DialState};
-ghost use Rattle.verify_tool.specs.Pruning.{has_id};
+ghost use Rattle.verify_tool.specs.Pruning.{has_id, is_listed_in};
 
+use caibx_codec::index::Index;
 use chunk_store::id::ChunkId;
 use command_outcome::outcome::Outcome;
 use command_steps::seeds::read_indexes;
@@ -21,6 +22,17 @@ use dsy_base::name::Name;
 use std::alloc::Global;
 use std::collections::BTreeSet;
 use verify_tool::prune::{listed_ids, prune};
+
+// The ids that the indexes list, which stay.
+fn kept_ids(alloc: Global, listed: &[Index]) -> Result<BTreeSet<ChunkId>, Outcome>
+    ensures ok { IfOk result (λ s. (q : List ℕ) → has_id s q ≡ is_listed_in listed.now q) }
+    ensures err { IfErr result (λ o. o ≡ Outcome.Memory) }
+{
+    match listed_ids(alloc, listed) {
+        Ok(keep) => Ok(keep),
+        Err(_) => Err(Outcome::Memory),
+    }
+}
 
 // Prunes the store whose folder was taken. The folder is given back, whatever the answer is.
 fn prune_taken<F: Files>(
@@ -56,9 +68,7 @@ pub fn prune_folder<F: Files>(
         (world (F.disk files.new) k p) }
 {
     let listed = read_indexes(alloc, files, indexes.as_slice())?;
-    let Ok(keep) = listed_ids(alloc, &listed) else {
-        return Err(Outcome::Memory);
-    };
+    let keep = kept_ids(alloc, &listed)?;
     let taken = take_folder(alloc, files, store.as_str())?;
     prune_taken(files, store.as_str(), taken, &keep)?;
     Ok(())

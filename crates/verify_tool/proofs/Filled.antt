@@ -1,11 +1,12 @@
 -- Filling a cache entry by entry: what the calls for the first entries have come to, and how a refusal ends them.
-use Rattle.std.proofs.Common.{◌≡◌, ◌⊎◌, ℕ, zero, suc, ◌+◌, ◌<◌, ◌≤◌, List, [], ◌∷◌, map, slice_index, Bool, Option, Some, None, IfSome, Err, refl, sym, subst, ◌∙◌, inl, inr, arith, below_more}
+use Rattle.std.proofs.Common.{◌≡◌, ◌⊎◌, ℕ, zero, suc, ◌+◌, ◌<◌, ◌≤◌, List, [], ◌∷◌, map, slice_index, Bool, Option, Some, None, IfSome, Err, refl, sym, subst, ap, ◌∙◌, inl, inr, arith, below_more}
 use Rattle.std.specs.List.{AllZip}
 use Rattle.cache_store.proofs.Stocked.{stocks_on, stocks_same, stocks_weaker}
 use Rattle.cache_store.specs.Giving.{SomeGives}
 use Rattle.cache_store.specs.Shelves.{Shelf, Stocks, held_on}
 use Rattle.caibx_codec.specs.Asks.{IsListedGet}
 use Rattle.caibx_codec.specs.Listing.{Listing, count_of, id_of, kind_of, size_of}
+use Rattle.chunk_store.specs.Asks.{Get}
 use Rattle.chunk_store.specs.Said.{AskedOnce, Said}
 use Rattle.chunk_store.specs.declared.id.ChunkId.{ChunkId}
 use Rattle.chunk_store.specs.declared.store.Store.{Ghosts as StoreWords}
@@ -14,7 +15,7 @@ use Rattle.dsy_base.specs.Maps.{Map}
 use Rattle.image_store.proofs.Chopped.{asks_entry, asks_none, asks_whole}
 use Rattle.image_store.specs.Chopping.{AsksListed}
 use Rattle.image_store.specs.PutChunks.{IsListedId}
-use Rattle.store_chain.proofs.Kept.{kept_on, kept_still, none_more}
+use Rattle.store_chain.proofs.Kept.{kept_on, kept_still, kept_weaker, none_more}
 use Rattle.store_chain.proofs.Pairs.{all_zip_same}
 use Rattle.store_chain.specs.Chains.{AsksOnce, Chained, EachOnce, KeepsStores}
 use Rattle.store_chain.specs.Faults.{EachQuiet}
@@ -25,14 +26,9 @@ use Rattle.store_chain.specs.declared.refused.Refused.TheVariants as refused
 use Rattle.store_chain.specs.declared.query.Query.{Query}
 use Rattle.verify_tool.proofs.Asked.{each_then, each_weaker}
 use Rattle.verify_tool.proofs.Holding.{damaged_never, each_within, gave_entry, holds_more, holds_none, holds_still, missing_never, not_at_first, quiet_within, rose_never, takes_earlier, told_still}
-use Rattle.verify_tool.specs.Filling.{AsksEntries, EntryUnfound, FillEnds, FillsBy, GivesEntry, HoldsTo, IsGivenBy, EndsAtEntry, FillStops, FillUnfailed, RefusesEntry, SparesStores, MayFillCache, entry_want, filled_to}
+use Rattle.verify_tool.specs.Filling.{AsksEntries, AsksEntry, EntryFails, EntryUnfound, FillStops, FillUnfailed, FillsBy, FillsFirst, GivesEntry, HoldsTo, IsFirstLost, IsGetBefore, IsGivenBy, MayFillCache, RefusesEntry, SparesStores, entry_want, filled_to}
 use Rattle.verify_tool.specs.declared.fill.FillFault.{FillFault}
 use Rattle.verify_tool.specs.declared.fill.FillFault.TheVariants as faults
-
--- a rise of a count, seen from before and after
-rose_wide : (a b c e : ℕ) → a ≤ b → c ≤ e → Rose b c → Rose a e
-rose_wide a b c e ab ce (inl up) = inl (omega (arith, up))
-rose_wide a b c e ab ce (inr top) = inr (omega (arith, top))
 
 -- the first store that failed has counted it
 first_rose : {S : Type 0} (said : S → Said) (faults : S → ℕ) (lacks_memory : Bool) (w : Query) (k : ℕ) (old new : List S) → Refuses said faults lacks_memory w old new (refused.StoreFault k) → Rose (slice_index (map faults old) k) (slice_index (map faults new) k)
@@ -89,6 +85,11 @@ module _ {S : Type 0} (asked queried : S → List ℕ → ℕ) (l : Listing) whe
     kind = before.kind;
   }
 
+-- the chunks of the first k entries are listed
+pub gets_listed : {S : Type 0} (store : StoreWords S) (l : Listing) (k : ℕ) → k ≤ count_of l → (xs ys : List S) → KeepsStores store (IsGetBefore l k) xs ys → KeepsStores store (IsListedGet l) xs ys
+gets_listed store l k le xs ys kept =
+    kept_weaker store (IsGetBefore l k) (IsListedGet l) (λ a h. record { entry = h.1.entry; listed = omega (arith, h.1.below, le); asked = h.2 ∙ ap Get h.1.id }) xs ys kept
+
 -- ---- from one entry to the next
 
 module _ {S : Type 0} (store : StoreWords S) (l : Listing) where
@@ -102,16 +103,14 @@ module _ {S : Type 0} (store : StoreWords S) (l : Listing) where
     pub given : (m : Map (List ℕ)) (maps : List (Map (List ℕ))) → FillUnfailed store.holds store.faults l m maps s0 s c0.stores c.stores → (j : ℕ) → j < i → IsGivenBy l m maps j
     pub asks : AsksEntries store.asked store.queried l i c0 c
     pub spared : Spared s0 s c0 c
-    pub stocks : Stocks (MayFillCache store.holds l c0.stores) s0 s
-    pub order : Stocks (λ q b. IsListedId l i q) s0 s
-    pub stores : KeepsStores store (IsListedGet l) c0.stores c.stores
+    pub stocks : Stocks (λ q b. IsListedId l i q × MayFillCache store.holds l c0.stores q b) s0 s
+    pub stores : KeepsStores store (IsGetBefore l i) c0.stores c.stores
 
   -- the call for entry i, which ended so
   pub record Turns (i : ℕ) (s t : Shelf) (c d : Chained S) : Type 0 where
-    pub asks : ((d ≡ c) × (t.files ≡ s.files)) ⊎ (EntryUnfound l i s t × AsksOnce store.asked store.queried (id_of l i) c d)
-    pub stocks : Stocks (MayFillCache store.holds l c.stores) s t
-    pub changed : Stocks (λ q b. q ≡ id_of l i) s t
-    pub stores : KeepsStores store (IsListedGet l) c.stores d.stores
+    pub asks : AsksEntry store l i s t c d
+    pub stocks : Stocks (λ q b. (q ≡ id_of l i) × MayFillCache store.holds l c.stores q b) s t
+    pub stores : KeepsStores store (λ a. a ≡ Get (id_of l i)) c.stores d.stores
 
   spared_none : (s : Shelf) (c : Chained S) → Spared s s c c
   spared_none s c = go (held_on s) where
@@ -119,31 +118,43 @@ module _ {S : Type 0} (store : StoreWords S) (l : Listing) where
     go None = tt
     go (Some m) = λ all quiet. (refl, refl)
 
+  pub filled_stocks : (i : ℕ) (s0 s : Shelf) (c0 c : Chained S) → Filled i s0 s c0 c → Stocks (MayFillCache store.holds l c0.stores) s0 s
+  filled_stocks i s0 s c0 c h = stocks_weaker (λ q b. IsListedId l i q × MayFillCache store.holds l c0.stores q b) (MayFillCache store.holds l c0.stores) (λ q b h. h.1) s0 s h.stocks
+
   pub filled_none : (s : Shelf) (c : Chained S) → Filled 0 s s c c
   filled_none s c = record {
     holds_all = holds_none l s;
     given = λ m maps nothing j less. absurd (omega arith);
     asks = none_asked store.asked store.queried l c;
     spared = spared_none s c;
-    stocks = stocks_same (MayFillCache store.holds l c.stores) s;
-    order = stocks_same (λ q b. IsListedId l 0 q) s;
-    stores = kept_still store (IsListedGet l) c.stores;
+    stocks = stocks_same (λ q b. IsListedId l 0 q × MayFillCache store.holds l c.stores q b) s;
+    stores = kept_still store (IsGetBefore l 0) c.stores;
   }
 
   module _ (i : ℕ) (inside : i < count_of l) (s0 s t : Shelf) (c0 c d : Chained S) (before : Filled i s0 s c0 c) (turn : Turns i s t c d) where
-    pub stocks_now : Stocks (MayFillCache store.holds l c0.stores) s t
-    stocks_now = stocks_weaker (MayFillCache store.holds l c.stores) (MayFillCache store.holds l c0.stores) (takes_earlier store.holds l c0.stores c.stores before.stores.held) s t turn.stocks
+    stocks_now : Stocks (MayFillCache store.holds l c0.stores) s t
+    stocks_now = stocks_weaker (λ q b. (q ≡ id_of l i) × MayFillCache store.holds l c.stores q b) (MayFillCache store.holds l c0.stores) (λ q b h. takes_earlier store.holds l c0.stores c.stores before.stores.held q b h.1) s t turn.stocks
+
+    stocks_before : Stocks (MayFillCache store.holds l c0.stores) s0 s
+    stocks_before = stocks_weaker (λ q b. IsListedId l i q × MayFillCache store.holds l c0.stores q b) (MayFillCache store.holds l c0.stores) (λ q b h. h.1) s0 s before.stocks
 
     pub turn_stocks : Stocks (MayFillCache store.holds l c0.stores) s0 t
-    turn_stocks = stocks_on (MayFillCache store.holds l c0.stores) s0 s t before.stocks stocks_now
+    turn_stocks = stocks_on (MayFillCache store.holds l c0.stores) s0 s t stocks_before stocks_now
 
-    turn_order : Stocks (λ q b. IsListedId l (i + 1) q) s0 t
-    turn_order = stocks_on (λ q b. IsListedId l (i + 1) q) s0 s t
-        (stocks_weaker (λ q b. IsListedId l i q) (λ q b. IsListedId l (i + 1) q) (λ q b h. record { entry = h.entry; below = omega (arith, h.below); id = h.id }) s0 s before.order)
-        (stocks_weaker (λ q b. q ≡ id_of l i) (λ q b. IsListedId l (i + 1) q) (λ q b is. record { entry = i; below = omega arith; id = is }) s t turn.changed)
+    turn_order : Stocks (λ q b. IsListedId l (i + 1) q × MayFillCache store.holds l c0.stores q b) s0 t
+    turn_order = stocks_on (λ q b. IsListedId l (i + 1) q × MayFillCache store.holds l c0.stores q b) s0 s t
+        (stocks_weaker (λ q b. IsListedId l i q × MayFillCache store.holds l c0.stores q b) (λ q b. IsListedId l (i + 1) q × MayFillCache store.holds l c0.stores q b)
+        (λ q b h. (record { entry = h.0.entry; below = omega (arith, h.0.below); id = h.0.id }, h.1)) s0 s before.stocks)
+        (stocks_weaker (λ q b. (q ≡ id_of l i) × MayFillCache store.holds l c.stores q b) (λ q b. IsListedId l (i + 1) q × MayFillCache store.holds l c0.stores q b)
+        (λ q b h. (record { entry = i; below = omega arith; id = h.0 }, takes_earlier store.holds l c0.stores c.stores before.stores.held q b h.1)) s t turn.stocks)
+
+    turn_gets : KeepsStores store (IsGetBefore l (i + 1)) c0.stores d.stores
+    turn_gets = kept_on store (IsGetBefore l (i + 1)) c0.stores c.stores d.stores
+        (kept_weaker store (IsGetBefore l i) (IsGetBefore l (i + 1)) (λ a h. (h.0, record { entry = h.1.entry; below = omega (arith, h.1.below); id = h.1.id }, h.2)) c0.stores c.stores before.stores)
+        (kept_weaker store (λ a. a ≡ Get (id_of l i)) (IsGetBefore l (i + 1)) (λ a is. (id_of l i, record { entry = i; below = omega arith; id = refl }, is)) c.stores d.stores turn.stores)
 
     pub turn_stores : KeepsStores store (IsListedGet l) c0.stores d.stores
-    turn_stores = kept_on store (IsListedGet l) c0.stores c.stores d.stores before.stores turn.stores
+    turn_stores = gets_listed store l (i + 1) (omega (arith, inside)) c0.stores d.stores turn_gets
 
     once_of : ((d ≡ c) × (t.files ≡ s.files)) ⊎ (EntryUnfound l i s t × AsksOnce store.asked store.queried (id_of l i) c d) → (d ≡ c) ⊎ AsksOnce store.asked store.queried (id_of l i) c d
     once_of (inl same) = inl same.0
@@ -203,7 +214,7 @@ module _ {S : Type 0} (store : StoreWords S) (l : Listing) where
       given_here gives =
           let now = told_still s0 s m nothing.held before.stocks.told in
           let P : Option (Map (List ℕ)) → Type 0 = λ o. IfSome o (λ n. GivesEntry l i n → IsGivenBy l m maps i) in
-          let gave : GivesEntry l i now.0 → IsGivenBy l m maps i = subst P now.1 (gave_entry store.holds l c0.stores m maps nothing.told i s0 s nothing.held before.stocks) in
+          let gave : GivesEntry l i now.0 → IsGivenBy l m maps i = subst P now.1 (gave_entry store.holds l c0.stores m maps nothing.told i s0 s nothing.held stocks_before) in
           elim (gives now.0 now.1 (before.stores.held ∙ nothing.told) stores_quiet) [
             | inl there ↦ gave there
             | inr store ↦ inr store
@@ -217,82 +228,63 @@ module _ {S : Type 0} (store : StoreWords S) (l : Listing) where
       given = λ m maps nothing. below_more _ _ (given_before m maps nothing) (given_here m maps nothing (λ n held told quiet. gives n maps held told quiet));
       asks = turn_asks;
       spared = turn_spared;
-      stocks = turn_stocks;
-      order = turn_order;
-      stores = turn_stores;
+      stocks = turn_order;
+      stores = turn_gets;
     }
 
     -- ---- where entry i ended early
 
-    refuses : (k : ℕ) (id : ChunkId) (r : Refused) → RefusesEntry store l k id r s t c.stores d.stores
-        → RefusesEntry store l k id r s0 t c0.stores d.stores
-    refuses k id r h = record {
-      listed = h.listed;
-      id_is = h.id_is;
-      shelf = h.shelf;
-      before = h.before;
-      filled = stocks_on (MayFillCache store.holds l c0.stores) s0 s h.shelf before.stocks (stocks_weaker (MayFillCache store.holds l c.stores) (MayFillCache store.holds l c0.stores) (takes_earlier store.holds l c0.stores c.stores before.stores.held) s h.shelf h.filled);
-      until = kept_on store (IsListedGet l) c0.stores c.stores h.before before.stores h.until;
-      unfound = h.unfound;
-      kept = h.kept;
-      refused = h.refused;
-      lacks = λ maps told. h.lacks maps (before.stores.held ∙ told);
-    }
+    filled_before : FillsFirst store l i s0 s c0 c
+    filled_before = record { holds = before.holds_all; stocks = before.stocks; asks = before.asks; stores = before.stores }
 
-    pub turn_ends : (fault : FillFault) → FillEnds store l s t c.stores d.stores (Err fault)
-        → FillEnds store l s0 t c0.stores d.stores (Err fault)
-    turn_ends (faults.Missing k id) h = refuses k id refused.Missing h
-    turn_ends (faults.Damaged k id s x) h = refuses k id (refused.Damaged s x) h
-    turn_ends (faults.StoreFault k) h = (h.0, h.1, refuses h.0 h.1 (refused.StoreFault k) h.2)
-    turn_ends faults.CacheFault h = rose_wide s0.faults s.faults t.faults t.faults before.stocks.never_falls (omega arith) h
-    turn_ends faults.Memory h = tt
+    held_before : HoldsTo l i t
+    held_before = holds_still store.holds l c0.stores i s t stocks_now before.holds_all
 
-    pub turn_holds : (fault : FillFault) → EndsAtEntry i (Err fault) → HoldsTo l (filled_to l (Err fault)) t
-    turn_holds (faults.Missing k id) at = subst (λ (n : ℕ). HoldsTo l n t) (sym at) (holds_still store.holds l c0.stores i s t stocks_now before.holds_all)
-    turn_holds (faults.Damaged k id x y) at = subst (λ (n : ℕ). HoldsTo l n t) (sym at) (holds_still store.holds l c0.stores i s t stocks_now before.holds_all)
-    turn_holds (faults.StoreFault k) at = holds_none l t
-    turn_holds faults.CacheFault at = holds_none l t
-    turn_holds faults.Memory at = holds_none l t
-
-    pub turn_stops : (fault : FillFault) → EndsAtEntry i (Err fault) → FillStops store.asked store.queried l fault s0 t c0 d
-    turn_stops fault at = record {
+    pub turn_stops : (fault : FillFault) → EntryFails store l i s t c d fault → Stocks (λ q b. ⊥) s t → FillStops store l fault s0 t c0 d
+    turn_stops fault fails kept = record {
       entry = i;
-      names = at;
-      holds = holds_still store.holds l c0.stores i s t stocks_now before.holds_all;
-      stocks = turn_order;
-      asks = turn_asks;
+      listed = inside;
+      shelf = s;
+      chain = c;
+      before = filled_before;
+      fails = fails;
+      kept = kept;
+      asks = turn.asks;
+      stores = turn.stores;
+      holds = held_before;
+      stocks = stocks_on (λ q b. IsListedId l i q) s0 s t
+          (stocks_weaker (λ q b. IsListedId l i q × MayFillCache store.holds l c0.stores q b) (λ q b. IsListedId l i q) (λ q b h. h.0) s0 s before.stocks)
+          (stocks_weaker (λ q b. ⊥) (λ q b. IsListedId l i q) (λ q b none. absurd none) s t kept);
     }
+
+    pub turn_holds : (fault : FillFault) → EntryFails store l i s t c d fault → HoldsTo l (filled_to l (Err fault)) t
+    turn_holds (faults.Missing k id) h = subst (λ (n : ℕ). HoldsTo l n t) (sym h.0) held_before
+    turn_holds (faults.Damaged k id x y) h = subst (λ (n : ℕ). HoldsTo l n t) (sym h.0) held_before
+    turn_holds (faults.StoreFault k) h = holds_none l t
+    turn_holds faults.CacheFault h = holds_none l t
+    turn_holds faults.Memory h = holds_none l t
 
     -- the cache at first didn't give a chunk that was refused, and no store does
-    lost_here : (m : Map (List ℕ)) (maps : List (Map (List ℕ))) → FillUnfailed store.holds store.faults l m maps s0 t c0.stores d.stores → (k : ℕ) (id : ChunkId) (r : Refused) → k ≡ i
-        → RefusesEntry store l k id r s0 t c0.stores d.stores
-        → (LacksAll (entry_want l k id) maps r → SomeGives (kind_of l) (id_of l k) (size_of l k) maps → ⊥)
-        → IsGivenBy l m maps k → ⊥
-    lost_here m maps nothing k id r at h never (inl first) =
-        not_at_first store.holds l c0.stores m maps nothing.told nothing.sizes k s0 h.shelf t h.listed nothing.held h.filled h.unfound
-        (quiet_within s0.faults h.shelf.faults t.faults t.faults h.filled.never_falls (omega arith) nothing.shelf) first
-    lost_here m maps nothing k id r at h never (inr store) = never (h.lacks maps nothing.told) store
+    lost_here : (m : Map (List ℕ)) (maps : List (Map (List ℕ))) → FillUnfailed store.holds store.faults l m maps s0 t c0.stores d.stores → (id : ChunkId) (r : Refused)
+        → RefusesEntry store l i id r s t c.stores d.stores
+        → (LacksAll (entry_want l i id) maps r → SomeGives (kind_of l) (id_of l i) (size_of l i) maps → ⊥)
+        → IsGivenBy l m maps i → ⊥
+    lost_here m maps nothing id r h never (inl first) =
+        not_at_first store.holds l c0.stores m maps nothing.told nothing.sizes i s0 s t inside nothing.held stocks_before h.unfound
+        (shelf_quiet m maps nothing) first
+    lost_here m maps nothing id r h never (inr store) = never (h.lacks maps (before.stores.held ∙ nothing.told)) store
 
-    pub turn_exactly : (fault : FillFault) → EndsAtEntry i (Err fault) → FillEnds store l s0 t c0.stores d.stores (Err fault)
+    first_lost : (m : Map (List ℕ)) (maps : List (Map (List ℕ))) → FillUnfailed store.holds store.faults l m maps s0 t c0.stores d.stores → (k : ℕ) → k ≡ i → (IsGivenBy l m maps i → ⊥) → IsFirstLost l m maps k
+    first_lost m maps nothing k at lost = subst (λ (n : ℕ). IsFirstLost l m maps n) (sym at) (lost, given_before m maps nothing)
+
+    pub turn_exactly : (fault : FillFault) → EntryFails store l i s t c d fault
         → (m : Map (List ℕ)) (maps : List (Map (List ℕ))) → FillUnfailed store.holds store.faults l m maps s0 t c0.stores d.stores → FillsBy l m maps (Err fault)
-    turn_exactly (faults.Missing k id) at h m maps nothing =
-        (lost_here m maps nothing k id refused.Missing at h (missing_never l k id h.id_is maps), subst (λ (n : ℕ). (j : ℕ) → j < n → IsGivenBy l m maps j) (sym at) (given_before m maps nothing))
-    turn_exactly (faults.Damaged k id x y) at h m maps nothing =
-        (lost_here m maps nothing k id (refused.Damaged x y) at h (damaged_never l k id h.id_is x y maps), subst (λ (n : ℕ). (j : ℕ) → j < n → IsGivenBy l m maps j) (sym at) (given_before m maps nothing))
-    turn_exactly (faults.StoreFault k) at h m maps nothing =
-        let first = h.2 in
-        rose_never (slice_index (map store.faults c0.stores) k) (slice_index (map store.faults d.stores) k) (nothing.stores k)
-        (rose_wide (slice_index (map store.faults c0.stores) k) (slice_index (map store.faults first.before) k) (slice_index (map store.faults d.stores) k) (slice_index (map store.faults d.stores) k)
-        (first.until.never_fall k) (omega arith) (first_rose store.said store.faults store.may_lack_memory (entry_want l h.0 h.1) k first.before d.stores first.refused))
-    turn_exactly faults.CacheFault at h m maps nothing = rose_never s0.faults t.faults nothing.shelf h
-    turn_exactly faults.Memory at h m maps nothing = tt
-
--- nothing was seen to for want of memory
-pub stops_none : {S : Type 0} (asked queried : S → List ℕ → ℕ) (l : Listing) (s : Shelf) (c : Chained S) → FillStops asked queried l faults.Memory s s c c
-stops_none asked queried l s c = record {
-  entry = 0;
-  names = tt;
-  holds = holds_none l s;
-  stocks = stocks_same (λ q b. IsListedId l 1 q) s;
-  asks = none_asked_to asked queried l 1 c;
-}
+    turn_exactly (faults.Missing k id) h m maps nothing =
+        first_lost m maps nothing k h.0 (lost_here m maps nothing id refused.Missing h.1 (missing_never l i id h.1.id_is maps))
+    turn_exactly (faults.Damaged k id x y) h m maps nothing =
+        first_lost m maps nothing k h.0 (lost_here m maps nothing id (refused.Damaged x y) h.1 (damaged_never l i id h.1.id_is x y maps))
+    turn_exactly (faults.StoreFault k) h m maps nothing =
+        rose_never (slice_index (map store.faults c.stores) k) (slice_index (map store.faults d.stores) k) (stores_quiet m maps nothing k)
+        (first_rose store.said store.faults store.may_lack_memory (entry_want l i h.0) k c.stores d.stores h.1.refused)
+    turn_exactly faults.CacheFault h m maps nothing = rose_never s.faults t.faults (shelf_quiet m maps nothing) h.1
+    turn_exactly faults.Memory h m maps nothing = tt

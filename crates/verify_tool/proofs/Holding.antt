@@ -153,16 +153,17 @@ module _ (l : Listing) (i : ℕ) (id : ChunkId) (is_id : id.0 ≡ id_of l i) whe
 
 -- ---- what the cache gives where nothing fails
 
-module _ {S : Type 0} (holds : S → Option (Map (List ℕ))) (l : Listing) (stores : List S) (m : Map (List ℕ)) (maps : List (Map (List ℕ))) (told : map holds stores ≡ map Some maps) where
-  -- bytes that may be added are given by a store
-  given_by : (q b : List ℕ) (n : ℕ) → SomeHolds holds stores q b → IsChunk (kind_of l) q n b → SomeGives (kind_of l) q n maps
-  given_by q b n some is = any_so (λ (x : Map (List ℕ)). x q ≡ Some b) (λ x. GivesChunk (kind_of l) q n (x q)) (λ x held. (b, held, is)) maps (some maps told)
+-- bytes that may be added are given by a store
+pub given_by : {S : Type 0} (holds : S → Option (Map (List ℕ))) (l : Listing) (stores : List S) (maps : List (Map (List ℕ))) → map holds stores ≡ map Some maps
+    → (q b : List ℕ) (n : ℕ) → SomeHolds holds stores q b → IsChunk (kind_of l) q n b → SomeGives (kind_of l) q n maps
+given_by holds l stores maps told q b n some is = any_so (λ (x : Map (List ℕ)). x q ≡ Some b) (λ x. GivesChunk (kind_of l) q n (x q)) (λ x held. (b, held, is)) maps (some maps told)
 
+module _ {S : Type 0} (holds : S → Option (Map (List ℕ))) (l : Listing) (stores : List S) (m : Map (List ℕ)) (maps : List (Map (List ℕ))) (told : map holds stores ≡ map Some maps) where
   gave_one : (i : ℕ) (x y : Option (List ℕ)) → m (id_of l i) ≡ x → (y ≡ x) ⊎ ((b : List ℕ) × (y ≡ Some b) × MayFillCache holds l stores (id_of l i) b)
       → GivesChunk (kind_of l) (id_of l i) (size_of l i) y → IsGivenBy l m maps i
   gave_one i x y at (inl same) (b, held, is) = inl (b, at ∙ sym same ∙ held, is)
   gave_one i x y at (inr (b, new, (listed, some))) (c, held, is) =
-      inr (given_by (id_of l i) b (size_of l i) some (subst (IsChunk (kind_of l) (id_of l i) (size_of l i)) (same_Some c b (sym held ∙ new)) is))
+      inr (given_by holds l stores maps told (id_of l i) b (size_of l i) some (subst (IsChunk (kind_of l) (id_of l i) (size_of l i)) (same_Some c b (sym held ∙ new)) is))
 
   -- what the cache gives that began with m, either it gave then or a store gives
   pub gave_entry : (i : ℕ) (s t : Shelf) → held_on s ≡ Some m → Stocks (MayFillCache holds l stores) s t → IfSome (held_on t) (λ n. GivesEntry l i n → IsGivenBy l m maps i)
@@ -180,7 +181,7 @@ module _ {S : Type 0} (holds : S → Option (Map (List ℕ))) (l : Listing) (sto
     still_one i x y inside at (inl same) (b, held, is) = (b, same ∙ sym at ∙ held, is)
     still_one i x y inside at (inr (b, new, ((n, listed, is), some))) gives =
         let same : n ≡ size_of l i = sizes (id_of l i) n (size_of l i) listed (i, inside, refl, refl)
-        (any_tail (λ x. GivesChunk (kind_of l) (id_of l i) n (x (id_of l i))) m maps (given_by (id_of l i) b n some is))
+        (any_tail (λ x. GivesChunk (kind_of l) (id_of l i) n (x (id_of l i))) m maps (given_by holds l stores maps told (id_of l i) b n some is))
         (any_head (λ x. GivesChunk (kind_of l) (id_of l i) (size_of l i) (x (id_of l i))) m maps gives) in
         (b, new, record { named = is.named; sized = is.sized ∙ same })
 

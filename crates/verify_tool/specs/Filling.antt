@@ -5,8 +5,8 @@ use Rattle.std.specs.Prelude.{Option, Some, IfSome, Result, Ok, Err}
 use Rattle.std.specs.List.{AllZip}
 use Rattle.cache_store.specs.Giving.{GiveOneSize, SomeGives}
 use Rattle.cache_store.specs.Shelves.{Shelf, Stocks, held_on}
-use Rattle.caibx_codec.specs.Asks.{IsListedGet}
 use Rattle.caibx_codec.specs.Listing.{Listing, count_of, id_of, kind_of, size_of}
+use Rattle.chunk_store.specs.Asks.{Ask, Get}
 use Rattle.chunk_store.specs.Giving.{GivesChunk, IsChunk}
 use Rattle.chunk_store.specs.Names.{name_of}
 use Rattle.chunk_store.specs.declared.id.ChunkId.{ChunkId}
@@ -15,11 +15,11 @@ use Rattle.dsy_base.specs.Counts.{Quiet, Rose}
 use Rattle.dsy_base.specs.Maps.{Map}
 use Rattle.image_store.specs.Chopping.{AsksListed}
 use Rattle.image_store.specs.PutChunks.{IsListedId}
-use Rattle.store_chain.specs.Chains.{Chained, KeepsStores}
+use Rattle.store_chain.specs.Chains.{AsksOnce, Chained, KeepsStores}
 use Rattle.store_chain.specs.Faults.{EachQuiet}
 use Rattle.store_chain.specs.Giving.{LacksAll, SomeHolds}
-use Rattle.store_chain.specs.Refusals.{Refuses}
-use Rattle.store_chain.specs.Queries.{query_of}
+use Rattle.store_chain.specs.Refusals.{GivenBy, Refuses}
+use Rattle.store_chain.specs.Queries.{IsWanted, query_of}
 use Rattle.store_chain.specs.declared.refused.Refused.{Refused}
 use Rattle.store_chain.specs.declared.refused.Refused.TheVariants as refused
 use Rattle.store_chain.specs.declared.query.Query.{Query}
@@ -108,39 +108,6 @@ fill_fault_of entry id (refused.Damaged s x) = faults.Damaged entry id s x
 fill_fault_of entry id (refused.StoreFault s) = faults.StoreFault s
 fill_fault_of entry id refused.Memory = faults.Memory
 
-module _ {S : Type 0} (store : StoreWords S) (l : Listing) where
-  -- in the last call the cache, as it was then, didn't give the chunk of entry k or failed, and the stores refused it
-  pub record RefusesEntry (k : ℕ) (id : ChunkId) (r : Refused) (s0 s1 : Shelf) (c0 c1 : List S) : Type 0 where
-    pub listed : k < count_of l
-    pub id_is : id.0 ≡ id_of l k
-    pub shelf : Shelf
-    pub before : List S
-    pub filled : Stocks (MayFillCache store.holds l c0) s0 shelf
-    pub until : KeepsStores store (IsListedGet l) c0 before
-    pub unfound : EntryUnfound l k shelf s1
-    pub kept : s1.files ≡ shelf.files
-    pub refused : Refuses store.said store.faults store.may_lack_memory (entry_want l k id) before c1 r
-    pub lacks : (maps : List (Map (List ℕ))) → map store.holds c0 ≡ map Some maps → LacksAll (entry_want l k id) maps r
-
-  -- how filling may end: the chunk of an entry was refused, or the cache failed
-  abbrev pub FillEnds : Shelf → Shelf → List S → List S → Result Unit FillFault → Type 0
-  FillEnds s0 s1 c0 c1 (Ok u) = Unit {0}
-  FillEnds s0 s1 c0 c1 (Err (faults.Missing k id)) = RefusesEntry k id refused.Missing s0 s1 c0 c1
-  FillEnds s0 s1 c0 c1 (Err (faults.Damaged k id s x)) = RefusesEntry k id (refused.Damaged s x) s0 s1 c0 c1
-  FillEnds s0 s1 c0 c1 (Err (faults.StoreFault s)) =
-      (k : ℕ) × (id : ChunkId) × RefusesEntry k id (refused.StoreFault s) s0 s1 c0 c1
-  FillEnds s0 s1 c0 c1 (Err faults.CacheFault) = Rose s0.faults s1.faults
-  FillEnds s0 s1 c0 c1 (Err faults.Memory) = Unit {0}
-
--- a refusal that names an entry names this one
-abbrev pub EndsAtEntry : ℕ → Result Unit FillFault → Type 0
-EndsAtEntry i (Ok u) = Unit {0}
-EndsAtEntry i (Err (faults.Missing k id)) = k ≡ i
-EndsAtEntry i (Err (faults.Damaged k id s x)) = k ≡ i
-EndsAtEntry i (Err (faults.StoreFault s)) = Unit {0}
-EndsAtEntry i (Err faults.CacheFault) = Unit {0}
-EndsAtEntry i (Err faults.Memory) = Unit {0}
-
 -- ---- how often the stores are asked
 
 -- each store was asked for each id at most once for each of the first k entries that list it, and none whether it has
@@ -158,15 +125,78 @@ abbrev pub SparesStores : {S : Type 0} → Listing → Shelf → Shelf → Chain
 SparesStores l s0 s1 c0 c1 = IfSome (held_on s0) (λ m. ((i : ℕ) → i < count_of l → GivesEntry l i m)
     → Quiet s0.faults s1.faults → c1 ≡ c0)
 
--- ---- in which order
+-- ---- what the call for one entry answers
 
--- filling ended early at one of the entries: each before it is in the cache, under each id that none of those and not
--- this one lists stands what stood there, and the stores were asked for these alone. A refusal that names an entry
--- names this one
-pub record FillStops {S : Type 0} (asked queried : S → List ℕ → ℕ) (l : Listing) (fault : FillFault) (s0 s1 : Shelf)
-    (c0 c1 : Chained S) : Type 0 where
-  pub entry : ℕ
-  pub names : EndsAtEntry entry (Err fault)
-  pub holds : HoldsTo l entry s1
-  pub stocks : Stocks (λ q b. IsListedId l (entry + 1) q) s0 s1
-  pub asks : AsksEntries asked queried l (entry + 1) c0 c1
+-- the chunk of one of the first k entries is asked for
+abbrev pub IsGetBefore : Listing → ℕ → Ask → Type 0
+IsGetBefore l k a = (q : List ℕ) × IsListedId l k q × (a ≡ Get q)
+
+module _ {S : Type 0} (store : StoreWords S) (l : Listing) where
+  -- the stores weren't asked, and the files stayed; or the cache didn't give the chunk of entry k, or failed, and they
+  -- were asked for it once
+  abbrev pub AsksEntry : ℕ → Shelf → Shelf → Chained S → Chained S → Type 0
+  AsksEntry k s t c d = ((d ≡ c) × (t.files ≡ s.files))
+      ⊎ (EntryUnfound l k s t × AsksOnce store.asked store.queried (id_of l k) c d)
+
+  -- the cache didn't give the chunk of entry k, or failed, and the stores refused it for this reason
+  pub record RefusesEntry (k : ℕ) (id : ChunkId) (r : Refused) (s t : Shelf) (c d : List S) : Type 0 where
+    pub id_is : id.0 ≡ id_of l k
+    pub unfound : EntryUnfound l k s t
+    pub kept : t.files ≡ s.files
+    pub refused : Refuses store.said store.faults store.may_lack_memory (entry_want l k id) c d r
+    pub lacks : (maps : List (Map (List ℕ))) → map store.holds c ≡ map Some maps → LacksAll (entry_want l k id) maps r
+
+  -- the cache didn't give it, or failed, and a store gave it, but it wasn't put into the cache
+  pub record LosesEntry (k : ℕ) (s t : Shelf) (c d : List S) : Type 0 where
+    pub id : ChunkId
+    pub id_is : id.0 ≡ id_of l k
+    pub unfound : EntryUnfound l k s t
+    pub bytes : List ℕ
+    pub wanted : IsWanted (entry_want l k id) bytes
+    pub given : GivenBy store.said store.faults store.may_lack_memory (entry_want l k id) bytes c d
+    pub gives : (maps : List (Map (List ℕ))) → map store.holds c ≡ map Some maps
+        → SomeGives (kind_of l) (id_of l k) (size_of l k) maps
+
+  -- the call for the chunk of entry k was refused so
+  abbrev pub EntryFails : ℕ → Shelf → Shelf → Chained S → Chained S → FillFault → Type 0
+  EntryFails k s t c d (faults.Missing e id) = (e ≡ k) × RefusesEntry k id refused.Missing s t c.stores d.stores
+  EntryFails k s t c d (faults.Damaged e id m x) =
+      (e ≡ k) × RefusesEntry k id (refused.Damaged m x) s t c.stores d.stores
+  EntryFails k s t c d (faults.StoreFault m) =
+      (id : ChunkId) × RefusesEntry k id (refused.StoreFault m) s t c.stores d.stores
+  EntryFails k s t c d faults.CacheFault = LosesEntry k s t c.stores d.stores × Rose s.faults t.faults
+  EntryFails k s t c d faults.Memory = (d ≡ c)
+      ⊎ (((id : ChunkId) × RefusesEntry k id refused.Memory s t c.stores d.stores)
+      ⊎ LosesEntry k s t c.stores d.stores)
+
+  -- ---- and how filling ends
+
+  -- the first k entries were seen to: each is in the cache, into which only chunks of theirs were put that some store
+  -- holds, and the stores were asked for these alone
+  pub record FillsFirst (k : ℕ) (s0 s : Shelf) (c0 c : Chained S) : Type 0 where
+    pub holds : HoldsTo l k s
+    pub stocks : Stocks (λ q b. IsListedId l k q × MayFillCache store.holds l c0.stores q b) s0 s
+    pub asks : AsksEntries store.asked store.queried l k c0 c
+    pub stores : KeepsStores store (IsGetBefore l k) c0.stores c.stores
+
+  -- filling ended early at one of the entries. Those before it were seen to, which led to this cache and these stores,
+  -- and the refusal is that of the last call, which was for this entry, from there on. It added nothing to the cache,
+  -- which holds the chunks before it, and no others were added
+  pub record FillStops (fault : FillFault) (s0 s1 : Shelf) (c0 c1 : Chained S) : Type 0 where
+    pub entry : ℕ
+    pub listed : entry < count_of l
+    pub shelf : Shelf
+    pub chain : Chained S
+    pub before : FillsFirst entry s0 shelf c0 chain
+    pub fails : EntryFails entry shelf s1 chain c1 fault
+    pub kept : Stocks (λ q b. ⊥) shelf s1
+    pub asks : AsksEntry entry shelf s1 chain c1
+    pub stores : KeepsStores store (λ a. a ≡ Get (id_of l entry)) chain.stores c1.stores
+    pub holds : HoldsTo l entry s1
+    pub stocks : Stocks (λ q b. IsListedId l entry q) s0 s1
+
+  -- all entries were seen to; or there was no memory to begin, and nothing was done; or filling ended early at one
+  abbrev pub FillEnds : Shelf → Shelf → Chained S → Chained S → Result Unit FillFault → Type 0
+  FillEnds s0 s1 c0 c1 (Ok u) = FillsFirst (count_of l) s0 s1 c0 c1
+  FillEnds s0 s1 c0 c1 (Err fault) =
+      ((fault ≡ faults.Memory) × (s1 ≡ s0) × (c1 ≡ c0)) ⊎ FillStops fault s0 s1 c0 c1

@@ -1,16 +1,16 @@
 //! Filling a cache: each chunk that an index lists is had through it, and stands in it then.
 //! Entries are numbered from 0.
 
-ghost use Rattle.std.specs.Prelude.{◌≡◌, ◌⊎◌, ℕ, List, ◌<◌, ◌≤◌, Some, None, IfSome, IfErr, OnOk, length, map};
+ghost use Rattle.std.specs.Prelude.{◌≡◌, ℕ, List, ◌<◌, ◌≤◌, Some, None, IfSome, IfErr, OnOk, length, map};
 ghost use Rattle.cache_store.specs.Shelves.{Stocks, held_on, shelf_of};
 ghost use Rattle.caibx_codec.specs.Asks.{IsListedGet};
 ghost use Rattle.caibx_codec.specs.Listing.{count_of, kind_of, id_of, size_of};
+ghost use Rattle.chunk_store.specs.Asks.{Get};
 ghost use Rattle.dsy_base.specs.Maps.{Map};
-ghost use Rattle.store_chain.specs.Chains.{AsksOnce, KeepsStores};
+ghost use Rattle.store_chain.specs.Chains.{KeepsStores};
 ghost use Rattle.store_chain.specs.Faults.{EachQuiet};
-ghost use Rattle.verify_tool.specs.Filling.{AsksEntries, EntryUnfound, FillEnds, FillsBy, GivesEntry, HoldsTo};
-ghost use Rattle.verify_tool.specs.Filling.{IsGivenBy, EndsAtEntry, FillStops, FillUnfailed, SparesStores};
-ghost use Rattle.verify_tool.specs.Filling.{MayFillCache};
+ghost use Rattle.verify_tool.specs.Filling.{AsksEntries, AsksEntry, EntryFails, FillEnds, FillsBy, GivesEntry, HoldsTo};
+ghost use Rattle.verify_tool.specs.Filling.{IsGivenBy, FillUnfailed, MayFillCache, SparesStores};
 ghost use Rattle.verify_tool.specs.Filling.{fill_fault_of, filled_to};
 
 use cache_store::cached::{Cached, Kept};
@@ -84,21 +84,20 @@ fn fill_entry<F: Folder, S: Store>(
         map S.holds cached.old.chain.stores ≡ map Some maps →
         EachQuiet (map S.faults cached.old.chain.stores) (map S.faults cached.new.chain.stores) →
         OnOk result (IsGivenBy index.now m maps i) }
-    ensures names { EndsAtEntry i result }
-    ensures err { FillEnds S.Store index.now
+    ensures err { IfErr result (EntryFails S.Store index.now i
         (shelf_of F.files F.place F.faults cached.old.shelf) (shelf_of F.files F.place F.faults cached.new.shelf)
-        cached.old.chain.stores cached.new.chain.stores result }
+        cached.old.chain cached.new.chain) }
+    ensures kept { IfErr result (λ e. Stocks (λ q b. ⊥)
+        (shelf_of F.files F.place F.faults cached.old.shelf) (shelf_of F.files F.place F.faults cached.new.shelf)) }
 
-    ensures asks { ((cached.new.chain ≡ cached.old.chain)
-        × (F.files cached.new.shelf.folder ≡ F.files cached.old.shelf.folder))
-        ⊎ (EntryUnfound index.now i (shelf_of F.files F.place F.faults cached.old.shelf)
-        (shelf_of F.files F.place F.faults cached.new.shelf)
-        × AsksOnce S.asked S.queried (id_of index.now i) cached.old.chain cached.new.chain) }
-    ensures stocks { Stocks (MayFillCache S.holds index.now cached.old.chain.stores)
+    ensures asks { AsksEntry S.Store index.now i
+        (shelf_of F.files F.place F.faults cached.old.shelf) (shelf_of F.files F.place F.faults cached.new.shelf)
+        cached.old.chain cached.new.chain }
+    ensures stocks { Stocks (λ q b. (q ≡ id_of index.now i)
+        × MayFillCache S.holds index.now cached.old.chain.stores q b)
         (shelf_of F.files F.place F.faults cached.old.shelf) (shelf_of F.files F.place F.faults cached.new.shelf) }
-    ensures changed { Stocks (λ q b. q ≡ id_of index.now i)
-        (shelf_of F.files F.place F.faults cached.old.shelf) (shelf_of F.files F.place F.faults cached.new.shelf) }
-    ensures stores { KeepsStores S.Store (IsListedGet index.now) cached.old.chain.stores cached.new.chain.stores }
+    ensures stores { KeepsStores S.Store (λ a. a ≡ Get (id_of index.now i))
+        cached.old.chain.stores cached.new.chain.stores }
     ensures same { cached.new.chain.kind ≡ cached.old.chain.kind }
 {
     put_changes_one_chunk();
@@ -125,15 +124,12 @@ fn fill_entries<F: Folder, S: Store>(
     requires unnamed { (F.pairs ≡ None) × (F.stores ≡ None) }
     ensures holds { HoldsTo index.now (filled_to index.now result)
         (shelf_of F.files F.place F.faults cached.new.shelf) }
-    ensures err { FillEnds S.Store index.now
+    ensures order { FillEnds S.Store index.now
         (shelf_of F.files F.place F.faults cached.old.shelf) (shelf_of F.files F.place F.faults cached.new.shelf)
-        cached.old.chain.stores cached.new.chain.stores result }
+        cached.old.chain cached.new.chain result }
     ensures exactly { (m : Map (List ℕ)) → (maps : List (Map (List ℕ))) → FillUnfailed S.holds S.faults index.now m maps
         (shelf_of F.files F.place F.faults cached.old.shelf) (shelf_of F.files F.place F.faults cached.new.shelf)
         cached.old.chain.stores cached.new.chain.stores → FillsBy index.now m maps result }
-    ensures order { IfErr result (λ e. FillStops S.asked S.queried index.now e
-        (shelf_of F.files F.place F.faults cached.old.shelf) (shelf_of F.files F.place F.faults cached.new.shelf)
-        cached.old.chain cached.new.chain) }
 
     ensures asks { AsksEntries S.asked S.queried index.now (count_of index.now) cached.old.chain cached.new.chain }
     ensures spared { SparesStores index.now (shelf_of F.files F.place F.faults cached.old.shelf)
@@ -159,16 +155,13 @@ pub fn fill<F: Folder, S: Store>(
     requires unnamed { (F.pairs ≡ None) × (F.stores ≡ None) }
     ensures holds { HoldsTo index.now (filled_to index.now result)
         (shelf_of F.files F.place F.faults cached.new.shelf) }
-    ensures err { FillEnds S.Store index.now
+    ensures order { FillEnds S.Store index.now
         (shelf_of F.files F.place F.faults cached.old.shelf) (shelf_of F.files F.place F.faults cached.new.shelf)
-        cached.old.chain.stores cached.new.chain.stores result }
+        cached.old.chain cached.new.chain result }
     // Where nothing fails.
     ensures exactly { (m : Map (List ℕ)) → (maps : List (Map (List ℕ))) → FillUnfailed S.holds S.faults index.now m maps
         (shelf_of F.files F.place F.faults cached.old.shelf) (shelf_of F.files F.place F.faults cached.new.shelf)
         cached.old.chain.stores cached.new.chain.stores → FillsBy index.now m maps result }
-    ensures order { IfErr result (λ e. FillStops S.asked S.queried index.now e
-        (shelf_of F.files F.place F.faults cached.old.shelf) (shelf_of F.files F.place F.faults cached.new.shelf)
-        cached.old.chain cached.new.chain) }
 
     // How often the stores are asked, what the cache holds then, and what the stores keep.
     ensures asks { AsksEntries S.asked S.queried index.now (count_of index.now) cached.old.chain cached.new.chain }

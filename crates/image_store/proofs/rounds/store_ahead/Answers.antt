@@ -11,7 +11,7 @@ pub put_by_rounds-put-requires-clause-storing : goal.put_by_rounds-put-requires-
 put_by_rounds-put-requires-clause-storing g c = λ lifetimes bounds.
     let l = c.args.index.now in
     let size = (subst (All (λ v. image_length l ≡ (g.V.View.held v).size)) c.hire-image.ensures.kept c.requires.size) 0 c.hire-image.result (omega arith) in
-    c.new-storing.ensures.storing l size c.requires.chunk c.requires.room
+    c.new-storing.ensures.storing l size c.requires.room
 
 pub put_by_rounds-put-requires-clause-ready : goal.put_by_rounds-put-requires-clause-ready
 put_by_rounds-put-requires-clause-ready g c = λ lifetimes bounds. subst (All (IsAhead c.args.index.now _)) (sym c.deref_mut-2.ensures.value) (c.requires.ready c.args.index.now _)

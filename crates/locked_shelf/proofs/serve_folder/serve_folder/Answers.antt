@@ -1,4 +1,3 @@
-use Rattle.std.proofs.Common.{refl}
 use Rattle.chunk_store.specs.declared.id.DigestKind.TheVariants as kinds
 use Rattle.locked_shelf.specs.Endings.{EndsOver}
 use Rattle.locked_shelf.proofs.Counting.{serves_all_later, serves_all_still, serves_some_later, serves_some_still}

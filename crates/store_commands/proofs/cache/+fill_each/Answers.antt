@@ -7,7 +7,7 @@ use Rattle.caibx_codec.specs.Asks.{IsListedGet}
 use Rattle.caibx_codec.specs.Listing.{Listing}
 use Rattle.command_steps.specs.AnyStores.{asked_in, source_faults, source_files, said_in}
 use Rattle.command_steps.specs.InputFiles.{Listed}
-use Rattle.store_commands.proofs.CacheFilled.{fill_passed, fill_stopped, fills_on, index_filled, stops, few_first, few_then, front_more}
+use Rattle.store_commands.proofs.CacheFilled.{fill_passed, fill_stopped, fills_on, index_filled, few_first, few_then, front_more}
 use Rattle.store_commands.proofs.cache.+fill_each.Goals as goal
 use Rattle.store_commands.specs.Caching.{IsGetAmong, of_calls}
 use Rattle.store_chain.proofs.Kept.{kept_on, kept_still, kept_weaker}
@@ -25,10 +25,8 @@ returns-in_err-answer_of-clause-filled g t c =
     let new = c.fill-filled.new.cached in
     let over = c.fill-filled.ensures in
     let listed = subst (λ (q : List ℕ). Listed (g.F.Files.disk c.args.files.now) q l) (c.in-Ok.ensures ∙ c.as_str.ensures) c.in_ok-index.ensures.ok in
-    let order = stops _ (source_files files) l (shelf_of D.files D.place D.faults old.shelf) (shelf_of D.files D.place D.faults new.shelf) old.chain.stores new.chain.stores
-    over.stores (λ fs told. held_maps (source_files files) old.chain.stores fs told) refl (asked_in method.Get g.D.Dial.state) (asked_in method.Head g.D.Dial.state) old.chain new.chain c.fill-filled.result over.order in
-    let filled = index_filled _ (source_files files) l (shelf_of D.files D.place D.faults old.shelf) (shelf_of D.files D.place D.faults new.shelf) old.chain.stores new.chain.stores
-    over.stores (λ fs told. held_maps (source_files files) old.chain.stores fs told) refl c.fill-filled.result order over.stocks over.holds over.err over.exactly in
+    let filled = index_filled _ (source_files files) l (shelf_of D.files D.place D.faults old.shelf) (shelf_of D.files D.place D.faults new.shelf) old.chain new.chain
+    over.stores (λ fs told. held_maps (source_files files) old.chain.stores fs told) refl c.fill-filled.result over.order over.stocks over.holds over.exactly in
     let stopped = fill_stopped (of_calls (source_files files) said counted old.chain.stores new.chain.stores (D.faults old.shelf.folder) (D.faults new.shelf.folder)) l (D.files old.shelf.folder) (D.files new.shelf.folder)
     c.fill-filled.result c.in_err-answer_of.field-0.0 (sym c.answer_of.ensures ∙ c.in_err-answer_of.was) filled in
     rw (p.1, p.2) (rw c.in-Some.ensures.cases.0 (inr (l, listed, inl stopped)))
@@ -46,10 +44,8 @@ returns-clause-filled g t c =
     let new = c.fill_each.new.cached in
     let over = c.fill-filled.ensures in
     let listed = subst (λ (q : List ℕ). Listed (at c.args.files.now) q l) (c.in-Ok.ensures ∙ c.as_str.ensures) c.in_ok-index.ensures.ok in
-    let order = stops _ (source_files files) l (shelf_of D.files D.place D.faults old.shelf) (shelf_of D.files D.place D.faults mid.shelf) old.chain.stores mid.chain.stores
-    over.stores (λ fs told. held_maps (source_files files) old.chain.stores fs told) refl (asked_in method.Get g.D.Dial.state) (asked_in method.Head g.D.Dial.state) old.chain mid.chain c.fill-filled.result over.order in
-    let filled = index_filled _ (source_files files) l (shelf_of D.files D.place D.faults old.shelf) (shelf_of D.files D.place D.faults mid.shelf) old.chain.stores mid.chain.stores
-    over.stores (λ fs told. held_maps (source_files files) old.chain.stores fs told) refl c.fill-filled.result order over.stocks over.holds over.err over.exactly in
+    let filled = index_filled _ (source_files files) l (shelf_of D.files D.place D.faults old.shelf) (shelf_of D.files D.place D.faults mid.shelf) old.chain mid.chain
+    over.stores (λ fs told. held_maps (source_files files) old.chain.stores fs told) refl c.fill-filled.result over.order over.stocks over.holds over.exactly in
     let passed = fill_passed (of_calls (source_files files) said counted old.chain.stores mid.chain.stores (D.faults old.shelf.folder) (D.faults mid.shelf.folder)) l (D.files old.shelf.folder) (D.files mid.shelf.folder)
     c.fill-filled.result _ (sym c.answer_of.ensures ∙ c.in_ok-answer_of.was) filled in
     rw c.in-Some.ensures.cases.0 (fills_on (source_files files) said counted (D.faults old.shelf.folder) (D.faults mid.shelf.folder) (D.faults new.shelf.folder) old.chain.stores mid.chain.stores new.chain.stores

@@ -1,4 +1,4 @@
-use Rattle.std.proofs.Common.{◌≡◌, List, ℕ, Bool, Ok, Err, inl, inr, refl, subst, ap, ◌∙◌}
+use Rattle.std.proofs.Common.{◌≡◌, List, ℕ, Bool, Ok, Err, inl, inr, refl, sym, subst, ap, ◌∙◌}
 use Rattle.std.proofs.lemmas.Result.{err_from_is_err_and}
 use Rattle.command_steps.specs.Seeds.{IndexesRead}
 use Rattle.command_steps.specs.Stores.{NotReached, StoreTaken}
@@ -15,12 +15,14 @@ returns-in_err-listed g c =
     let refused = subst (λ (qs : List (List ℕ)). IndexesRead qs (at c.args.files.now) (Err c.in_err-listed.field-0.0) (at c.read_indexes.new.files)) c.as_slice.ensures (unread.err, unread.kept, unread.used) in
     record { ends = λ k o. rw (p.1, p.2) (inl (refused, refl, refl)) }
 
-pub returns-in_default : goal.returns-in_default
-returns-in_default g c =
+pub returns-in_err-keep : goal.returns-in_err-keep
+returns-in_err-keep g c =
+    let p = err_from_is_err_and c.from_residual-in_err-keep.result c.from_residual-in_err-keep.ensures.1 in
     let at = g.F.Files.disk in
     let listed = c.in_ok-listed.ensures in
     let read = subst (λ (qs : List (List ℕ)). IndexesRead qs (at c.args.files.now) (Ok c.in_ok-listed.listed.items) (at c.read_indexes.new.files)) c.as_slice.ensures ((listed.ok, listed.few), listed.kept, listed.used) in
-    record { ends = λ k o. inr (record { disk = _; dial = _; out = _; gave = c.in_ok-listed.listed.items; did = (read, refl, refl); then = inl ((tt, reads_still (at c.read_indexes.new.files)), refl, refl) }) }
+    let lacking = sym c.in_err-keep.ensures.err in
+    record { ends = λ k o. rw (p.1, p.2) (inr (record { disk = _; dial = _; out = _; gave = c.in_ok-listed.listed.items; did = (read, refl, refl); then = inl (subst (λ e. StoreTaken c.args.store (at c.read_indexes.new.files) (Err e) (at c.read_indexes.new.files)) lacking (tt, reads_still (at c.read_indexes.new.files)), refl, refl) })) }
 
 pub returns-in_err-taken : goal.returns-in_err-taken
 returns-in_err-taken g c =
@@ -41,9 +43,9 @@ returns-in_err-prune_taken g c =
     let read = subst (λ (qs : List (List ℕ)). IndexesRead qs (at c.args.files.now) (Ok ls) (at c.read_indexes.new.files)) c.as_slice.ensures ((listed.ok, listed.few), listed.kept, listed.used) in
     let took = c.in_ok-taken.ensures in
     let held = g.F.Folder.Look.files c.in_ok-taken.taken in
-    let told : has_id c.in-Ok.keep ≡ is_listed_in c.deref.result.now = (λ i q. (c.in-Ok.ensures.value q) i) in
-    let same : has_id c.in-Ok.keep ≡ is_listed_in ls = told ∙ ap is_listed_in c.deref.ensures.value in
-    let there = subst (λ (q : List ℕ). StorePruned (has_id c.in-Ok.keep) q held (at c.take_folder.new.files) (Err c.in_err-prune_taken.field-0.0) (at c.prune_taken.new.files)) c.as_str-2.ensures c.in_err-prune_taken.ensures in
+    let told : has_id c.in_ok-keep.keep ≡ is_listed_in c.deref.result.now = (λ i q. (c.in_ok-keep.ensures.ok q) i) in
+    let same : has_id c.in_ok-keep.keep ≡ is_listed_in ls = told ∙ ap is_listed_in c.deref.ensures.value in
+    let there = subst (λ (q : List ℕ). StorePruned (has_id c.in_ok-keep.keep) q held (at c.take_folder.new.files) (Err c.in_err-prune_taken.field-0.0) (at c.prune_taken.new.files)) c.as_str-2.ensures c.in_err-prune_taken.ensures in
     let pruned = subst (λ (k : List ℕ → Bool). StorePruned k c.args.store held (at c.take_folder.new.files) (Err c.in_err-prune_taken.field-0.0) (at c.prune_taken.new.files)) same there in
     let taken = subst (λ (q : List ℕ). StoreTaken q (at c.read_indexes.new.files) (Ok held) (at c.take_folder.new.files)) c.as_str.ensures (took.ok.found, took.changed) in
     record {
@@ -58,9 +60,9 @@ returns g c =
     let read = subst (λ (qs : List (List ℕ)). IndexesRead qs (at c.args.files.now) (Ok ls) (at c.read_indexes.new.files)) c.as_slice.ensures ((listed.ok, listed.few), listed.kept, listed.used) in
     let took = c.in_ok-taken.ensures in
     let held = g.F.Folder.Look.files c.in_ok-taken.taken in
-    let told : has_id c.in-Ok.keep ≡ is_listed_in c.deref.result.now = (λ i q. (c.in-Ok.ensures.value q) i) in
-    let same : has_id c.in-Ok.keep ≡ is_listed_in ls = told ∙ ap is_listed_in c.deref.ensures.value in
-    let there = subst (λ (q : List ℕ). StorePruned (has_id c.in-Ok.keep) q held (at c.take_folder.new.files) (Ok tt) (at c.prune_taken.new.files)) c.as_str-2.ensures c.in_ok-prune_taken.ensures in
+    let told : has_id c.in_ok-keep.keep ≡ is_listed_in c.deref.result.now = (λ i q. (c.in_ok-keep.ensures.ok q) i) in
+    let same : has_id c.in_ok-keep.keep ≡ is_listed_in ls = told ∙ ap is_listed_in c.deref.ensures.value in
+    let there = subst (λ (q : List ℕ). StorePruned (has_id c.in_ok-keep.keep) q held (at c.take_folder.new.files) (Ok tt) (at c.prune_taken.new.files)) c.as_str-2.ensures c.in_ok-prune_taken.ensures in
     let pruned = subst (λ (k : List ℕ → Bool). StorePruned k c.args.store held (at c.take_folder.new.files) (Ok tt) (at c.prune_taken.new.files)) same there in
     let taken = subst (λ (q : List ℕ). StoreTaken q (at c.read_indexes.new.files) (Ok held) (at c.take_folder.new.files)) c.as_str.ensures (took.ok.found, took.changed) in
     record {

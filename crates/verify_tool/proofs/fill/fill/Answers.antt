@@ -1,8 +1,7 @@
 use Rattle.std.proofs.Common.{arith}
-use Rattle.cache_store.specs.Shelves.{shelf_of}
 use Rattle.caibx_codec.specs.Asks.{IsListedGet}
 use Rattle.store_chain.proofs.Kept.{kept_still}
-use Rattle.verify_tool.proofs.Filled.{asked_all, none_asked, stops_none}
+use Rattle.verify_tool.proofs.Filled.{asked_all, none_asked}
 use Rattle.verify_tool.proofs.fill.fill.Goals as goal
 
 pub returns-in_default-clause-asks : goal.returns-in_default-clause-asks
@@ -15,9 +14,3 @@ pub returns-in_default-clause-stores : goal.returns-in_default-clause-stores
 returns-in_default-clause-stores g c =
     let S = g.S.Store in
     kept_still S (IsListedGet c.args.index.now) c.args.cached.now.chain.stores
-
-pub returns-in_default-clause-order : goal.returns-in_default-clause-order
-returns-in_default-clause-order g c =
-    let F = g.F.Look in
-    let S = g.S.Store in
-    stops_none S.asked S.queried c.args.index.now (shelf_of F.files F.place F.faults c.args.cached.now.shelf) c.args.cached.now.chain

@@ -1,9 +1,9 @@
-use Rattle.std.proofs.Common.{◌≡◌, ◌<◌, List, ℕ, Result, Err, IfErr, sym, subst, arith, rules}
+use Rattle.std.proofs.Common.{◌≡◌, ◌<◌, List, ℕ, Result, Err, sym, subst, inr, arith, rules}
 use Rattle.cache_store.specs.Shelves.{Shelf, shelf_of}
 use Rattle.caibx_codec.specs.Listing.{Listing, count_of}
 use Rattle.dsy_base.specs.Maps.{Map}
-use Rattle.verify_tool.proofs.Filled.{Turns, filled_more, filled_none, turn_asks_all, turn_ends, turn_exactly, turn_holds, turn_spares, turn_stocks, turn_stops, turn_stores}
-use Rattle.verify_tool.specs.Filling.{FillEnds, FillStops, FillsBy, HoldsTo, FillUnfailed, filled_to}
+use Rattle.verify_tool.proofs.Filled.{Turns, filled_more, filled_none, filled_stocks, gets_listed, turn_asks_all, turn_exactly, turn_holds, turn_spares, turn_stocks, turn_stops, turn_stores}
+use Rattle.verify_tool.specs.Filling.{FillEnds, FillsBy, HoldsTo, FillUnfailed, filled_to}
 use Rattle.verify_tool.specs.declared.fill.FillFault.{FillFault}
 use Rattle.verify_tool.proofs.fill.fill_entries.Goals as goal
 
@@ -27,19 +27,17 @@ returns-in_err-fill_entry g c =
     let d = c.fill_entry.new.cached.chain in
     let inside : i < count_of l = omega (arith, c.loop-i-test.true, c.count-i-end.ensures) in
     let before = c.loop-i.invariant in
-    let turn : Turns S l i s t c.loop-i.cached.chain d = record { asks = c.fill_entry.ensures.asks; stocks = c.fill_entry.ensures.stocks; changed = c.fill_entry.ensures.changed; stores = c.fill_entry.ensures.stores } in
+    let turn : Turns S l i s t c.loop-i.cached.chain d = record { asks = c.fill_entry.ensures.asks; stocks = c.fill_entry.ensures.stocks; stores = c.fill_entry.ensures.stores } in
     let fault = c.in_err-fill_entry.field-0.0 in
+    let fails = c.in_err-fill_entry.ensures.err in
     let answer : c.from_residual.result ≡ Err fault = search rules in
     let Had : Result Unit FillFault → Type 0 = λ r. HoldsTo l (filled_to l r) t in
-    let Ended : Result Unit FillFault → Type 0 = λ r. FillEnds S l s0 t c0.stores d.stores r in
+    let Ended : Result Unit FillFault → Type 0 = λ r. FillEnds S l s0 t c0 d r in
     let Exact : Result Unit FillFault → Type 0 = λ r. (m : Map (List ℕ)) → (maps : List (Map (List ℕ))) → FillUnfailed S.holds S.faults l m maps s0 t c0.stores d.stores → FillsBy l m maps r in
-    let Stopped : Result Unit FillFault → Type 0 = λ r. IfErr r (λ e. FillStops S.asked S.queried l e s0 t c0 d) in
-    let ended = turn_ends S l i inside s0 s t c0 c.loop-i.cached.chain d before turn fault c.in_err-fill_entry.ensures.err in
     record {
-      holds = subst Had (sym answer) (turn_holds S l i inside s0 s t c0 c.loop-i.cached.chain d before turn fault c.in_err-fill_entry.ensures.names);
-      err = subst Ended (sym answer) ended;
-      exactly = subst Exact (sym answer) (turn_exactly S l i inside s0 s t c0 c.loop-i.cached.chain d before turn fault c.in_err-fill_entry.ensures.names ended);
-      order = subst Stopped (sym answer) (turn_stops S l i inside s0 s t c0 c.loop-i.cached.chain d before turn fault c.in_err-fill_entry.ensures.names);
+      holds = subst Had (sym answer) (turn_holds S l i inside s0 s t c0 c.loop-i.cached.chain d before turn fault fails);
+      order = subst Ended (sym answer) (inr (turn_stops S l i inside s0 s t c0 c.loop-i.cached.chain d before turn fault fails c.in_err-fill_entry.ensures.kept));
+      exactly = subst Exact (sym answer) (turn_exactly S l i inside s0 s t c0 c.loop-i.cached.chain d before turn fault fails);
       asks = turn_asks_all S l i inside s0 s t c0 c.loop-i.cached.chain d before turn;
       spared = turn_spares S l i inside s0 s t c0 c.loop-i.cached.chain d before turn;
       stocks = turn_stocks S l i inside s0 s t c0 c.loop-i.cached.chain d before turn;
@@ -57,7 +55,17 @@ loop-i-preserved g c =
     let t : Shelf = shelf_of F.files F.place F.faults c.fill_entry.new.cached.shelf in
     let inside : i < count_of l = omega (arith, c.loop-i-test.true, c.count-i-end.ensures) in
     filled_more S l i inside s0 s t c.args.cached.now.chain c.loop-i.cached.chain c.fill_entry.new.cached.chain c.loop-i.invariant
-    (record { asks = c.fill_entry.ensures.asks; stocks = c.fill_entry.ensures.stocks; changed = c.fill_entry.ensures.changed; stores = c.fill_entry.ensures.stores }) c.in_ok-fill_entry.ensures.ok c.in_ok-fill_entry.ensures.given
+    (record { asks = c.fill_entry.ensures.asks; stocks = c.fill_entry.ensures.stocks; stores = c.fill_entry.ensures.stores }) c.in_ok-fill_entry.ensures.ok c.in_ok-fill_entry.ensures.given
 
 pub returns-clause-exactly : goal.returns-clause-exactly
 returns-clause-exactly g c = λ m maps nothing j less. c.loop-i.invariant.given m maps nothing j (omega (arith, less, c.loop-i-test.false, c.count-i-end.ensures))
+
+pub returns-clause-stocks : goal.returns-clause-stocks
+returns-clause-stocks g c =
+    let F = g.F.Look in
+    filled_stocks g.S.Store c.args.index.now c.loop-i.i (shelf_of F.files F.place F.faults c.args.cached.now.shelf) (shelf_of F.files F.place F.faults c.loop-i.cached.shelf)
+    c.args.cached.now.chain c.loop-i.cached.chain c.loop-i.invariant
+
+pub returns-clause-stores : goal.returns-clause-stores
+returns-clause-stores g c =
+    gets_listed g.S.Store c.args.index.now c.loop-i.i (omega (arith, c.loop-i.auto.i-end, c.count-i-end.ensures)) c.args.cached.now.chain.stores c.loop-i.cached.chain.stores c.loop-i.invariant.stores

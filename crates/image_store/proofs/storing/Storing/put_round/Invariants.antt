@@ -7,4 +7,4 @@ abbrev pub invariant-loop-self : goal.invariant-loop-self
 invariant-loop-self g l = GoesOn g.V.View g.S.Store l.index l.fn.self l.self (Ok tt)
 
 abbrev pub decreases-loop-self : goal.decreases-loop-self
-decreases-loop-self g l = count_of l.index - l.self.at
+decreases-loop-self g l = count_of l.index - l.self.progress.at

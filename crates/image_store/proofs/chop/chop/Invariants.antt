@@ -2,7 +2,8 @@ use Rattle.std.proofs.Common.{◌≡◌, ◌≤◌, IfSome, is_some}
 use Rattle.chunk_store.specs.Asks.{Sends}
 use Rattle.image_store.specs.Chopping.{AreRightTo, AsksListed}
 use Rattle.image_store.specs.PutChunks.{HoldsAll, KeepsListed, SaysAll, Stands, PutsFiles}
-use Rattle.image_store.proofs.chop.chop_entries.Given as goal
+use Rattle.image_store.specs.Storing.{HasRoomFor}
+use Rattle.image_store.proofs.chop.chop.Given as goal
 
 -- the first i entries were seen to
 abbrev pub invariant-loop-i : goal.invariant-loop-i
@@ -20,6 +21,7 @@ invariant-loop-i g l =
       sends : Sends (KeepsListed l.index) (g.S.Store.sent l.fn.store) (g.S.Store.sent l.store);
       queries : g.S.Store.queried l.store ≡ g.S.Store.queried l.fn.store;
       image : g.V.View.held l.image ≡ g.V.View.held l.fn.image;
+      room : HasRoomFor l.index l.rooms;
       place : g.S.Store.place l.store ≡ g.S.Store.place l.fn.store;
       image_faults : g.V.View.faults l.image ≡ g.V.View.faults l.fn.image;
       store_faults : g.S.Store.faults l.fn.store ≤ g.S.Store.faults l.store;

@@ -1,0 +1,625 @@
+#!/usr/bin/env python3
+"""Commands over real files and connections of which one call fails, or which get no memory.
+
+    tests/failing.py          each call of a run fails once, the errors in turn
+    tests/failing.py --all    each call fails with each error
+
+tests/failing_calls.c is compiled with `cc` and stands before the C library, so a call that the program makes is refused
+before the system sees it. The first call fails in one run, the second in the next, until a run has no failure. A run is
+done, or ends with the line of the file that the call was about; no other file is lost, and a second run ends as if
+nothing had happened. A call that a signal interrupts is made again. A run that gets no memory is done or says so.
+"""
+
+import contextlib
+import errno
+import os
+import random
+import resource
+import shutil
+import signal
+import subprocess
+import sys
+import time
+
+import formats
+import program
+import servers
+from checks import Cases, Skip, expect, expect_ended, expect_equal, file_bytes, files_of, needs_program, put_file
+from replies import Wanted, path_of, put, request, to_the_end
+from servers import ChunkServer
+
+SOURCE = os.path.join(program.TOP, 'tests', 'failing_calls.c')
+# The errors of each call, in turn. With 0 the call does nothing and answers 0: a file ends early, or takes nothing.
+HARD = {
+    'open': (errno.EIO, errno.EMFILE, errno.ENOSPC), 'stat': (errno.EIO, errno.EACCES), 'list': (errno.EIO,),
+    'pread': (errno.EIO, 0), 'pwrite': (errno.ENOSPC, errno.EIO, 0), 'write': (errno.ENOSPC, errno.EIO, errno.EPIPE, 0),
+    'rename': (errno.ENOSPC, errno.EIO), 'truncate': (errno.ENOSPC, errno.EIO), 'mkdir': (errno.ENOSPC, errno.EIO),
+    'unlink': (errno.EIO,), 'mode': (errno.EIO,), 'socket': (errno.EMFILE,), 'connect': (errno.ECONNRESET, errno.EIO),
+    'poll': (errno.ENOMEM,),
+    'send': (errno.ECONNRESET, errno.EIO, 0), 'recv': (errno.ECONNRESET, errno.EIO),
+}
+# The calls that a signal may interrupt; one that connects doesn't wait.
+INTERRUPTED = ('open', 'pread', 'pwrite', 'write', 'truncate', 'poll', 'send', 'recv')
+NETWORK = ('socket', 'connect', 'poll', 'send', 'recv')
+# No run makes so many calls of one kind.
+MOST = 2_000
+NO_MEMORY = b'desync: no memory\n'
+
+
+class Shim:
+    """The library that makes calls fail, compiled."""
+
+    def __init__(self, folder):
+        self.path = os.path.join(folder, 'failing_calls.so')
+        words = ['cc', '-O1', '-shared', '-fPIC', '-o', self.path, SOURCE, '-ldl']
+        if shutil.which('cc') is None:
+            raise Skip('cc isn\'t installed')
+        built = subprocess.run(words, stdout=subprocess.PIPE, stderr=subprocess.STDOUT)
+        if built.returncode != 0:
+            raise Skip(f'cc can\'t compile {SOURCE}: {built.stdout.decode()}')
+        told = os.path.join(folder, 'told')
+        program.run(['list-chunks', 'a.caibx'], folder, self.environment('stat', 0, errno.EIO, False, told))
+        if not file_bytes(told):
+            raise Skip('the program makes no call of the C library that is seen here')
+
+    def environment(self, call, at, error, more, told):
+        given = {'LD_PRELOAD': self.path, 'FAIL_CALL': call, 'FAIL_AT': str(at), 'FAIL_ERROR': str(error),
+                 'FAIL_TOLD': told, **({'FAIL_MORE': '1'} if more else {})}
+        return {**os.environ, **given}
+
+    def run(self, scene, call, at, error, more=False):
+        """How a run ended, and the paths that its failed calls were about."""
+        told = os.path.join(scene.top, 'told')
+        with contextlib.suppress(FileNotFoundError):
+            os.remove(told)
+        ended = program.run(scene.words, scene.folder, self.environment(call, at, error, more, told))
+        lines = (file_bytes(told) or b'').decode().splitlines()
+        return ended, [os.path.relpath(os.path.join(scene.folder, path), scene.folder) for path in lines]
+
+
+# Layouts
+
+CHANCE = random.Random(37)
+PIECES = [CHANCE.randbytes(size) for size in (300, 1, 700)]
+IMAGE = [*PIECES, PIECES[0]]
+OLD = PIECES[0] + b'x' * 500
+CUT = CHANCE.randbytes(9_000)
+
+
+def lay_out(folder):
+    """An index of four entries, two of which are alike; stores, caches and seeds that have a part of the chunks."""
+    def path(name):
+        return os.path.join(folder, name)
+
+    index = formats.index_of_pieces(IMAGE)
+    formats.write_index(path('a.caibx'), index)
+    formats.write_chunks(path('st'), index, b''.join(IMAGE))
+    put_file(path('image'), b''.join(IMAGE))
+    put_file(path('cut'), CUT)
+    put_file(path('o'), OLD)
+    put_file(path('new.caibx'), b'an older index')
+    formats.write_index(path('s.caibx'), formats.index_of_pieces(PIECES))
+    put_file(path('s'), b'x' + b''.join(PIECES)[1:])
+    os.mkdir(path('to'))
+    formats.write_chunk(path('to'), formats.name_of(PIECES[1]), b'wrong')
+    formats.write_chunk(path('near'), formats.name_of(PIECES[2]), b'wrong')
+    for name, held in ((b'one', b'one'), (b'two', b'other'), (b'three', b'')):
+        formats.write_chunk(path('full'), formats.name_of(name), held)
+    formats.write_chunk(path('full'), formats.name_of(PIECES[0]), PIECES[0])
+    put_file(path('full/notes.txt'), b'notes')
+    put_file(path('full/.tmp-cacnkx'), b'left')
+
+
+def is_right_chunk(path, data):
+    return path.count(os.sep) == 2 and os.path.basename(path) == formats.name_of(data).hex()
+
+
+class Scene:
+    """A command in a folder. `changes` says which files of the folder it may change, as a function of the path and the
+    bytes that are new there, or None where the file has gone."""
+
+    # Want of memory as INDEX is replaced is told as a fault of INDEX.
+    told_otherwise = (b'desync: new.caibx: failed\n',)
+
+    def __init__(self, top, words, changes, done_but=()):
+        self.top = top
+        self.words = words
+        self.changes = changes
+        self.done_but = done_but
+        self.folder = os.path.join(top, 'at')
+        self.anew()
+        self.before = files_of(self.folder)
+        ended = program.run(words, self.folder)
+        expect_equal((ended.status, ended.err), (0, b''), 'how the command ends')
+        self.out = ended.out
+        self.after = files_of(self.folder)
+
+    def anew(self):
+        shutil.rmtree(self.folder, ignore_errors=True)
+        os.mkdir(self.folder)
+        lay_out(self.folder)
+
+    def judge(self, call, ended, paths):
+        """What the run has left is what one failed call excuses, and a second run is done."""
+        self.judge_end(ended, paths)
+        now = files_of(self.folder)
+        if ended.status == 0:
+            for path in {*now, *self.after}:
+                if path not in self.excused(paths) and now.get(path) != self.after.get(path):
+                    expect(False, f'the run is done, and {path} is another')
+        self.judge_left(call)
+
+    def judge_left(self, call):
+        """The files are as before, but for what the command may change; and a second run is done."""
+        now = files_of(self.folder)
+        for path in {*now, *self.before}:
+            data = now.get(path)
+            if data == self.before.get(path):
+                continue
+            if call == 'unlink' and os.path.basename(path).startswith('.tmp-') or path.endswith('.tmp-desync'):
+                expect(call == 'unlink', f'{path} is left')
+                continue
+            expect(self.changes(path, data), f'{path} is changed')
+        again = program.run(self.words, self.folder)
+        expect_equal((again.status, again.err), (0, b''), 'how the second run ends')
+        now = files_of(self.folder)
+        for path in {*now, *self.after}:
+            temporary = os.path.basename(path).startswith('.tmp-') and call == 'unlink'
+            expect(temporary or now.get(path) == self.after.get(path), f'{path} is another after the second run')
+
+    def judge_whole(self, ended):
+        """The run is done, as if nothing had failed."""
+        expect_equal((ended.status, ended.err, ended.out), (0, b'', self.out), 'how it ends')
+        expect(files_of(self.folder) == self.after, 'the files are others')
+
+    def judge_memory(self, ended):
+        """The run is done or tells that there is no memory, and a second run is done."""
+        if ended.status == 0:
+            self.judge('memory', ended, [next(iter(self.done_but), 'memory')])
+        else:
+            expect_equal(ended.status, 1, 'the status')
+            expect(ended.err in (b'', NO_MEMORY, *self.told_otherwise), f'the error line is {ended.err}')
+            if ended.err == b'':
+                expect(files_of(self.folder) == self.before, 'the files are others, and nothing is told')
+            self.judge_left('memory')
+
+    def excused(self, paths):
+        """What may differ after a run that is done: files in a cache that has failed."""
+        if any(path.split(os.sep)[0] in self.done_but for path in paths):
+            return [path for path in {**self.before, **self.after} if path.split(os.sep)[0] in self.done_but]
+        return []
+
+    def judge_end(self, ended, paths):
+        err = ended.err.decode()
+        if ended.status == 0:
+            expect_equal(err, '', 'standard error')
+            expect_equal(ended.out, self.out, 'standard output')
+            return
+        expect_equal(ended.status, 1, f'the status ({err!r})')
+        if any('pipe:' in path for path in paths) and err == '':
+            return
+        wanted = [f'desync: {text}\n' for path in paths for text in self.texts(path)]
+        expect(err in wanted, f'the error line is {err!r}, and none of {wanted}')
+
+    def texts(self, path):
+        """The lines that say that a call on the path has failed."""
+        first, *rest = path.split(os.sep)
+        if 'pipe:' in path:
+            return ['the output failed']
+        if path in ('socket', 'thread'):
+            return ['store 0 failed']
+        if path.startswith('..'):
+            return [f'{word}: failed' for word in self.words] + ['store 0 failed', 'the image failed']
+        if first in ('st', 'to', 'full'):
+            return ['store 0 failed'] if rest else ['store 0 failed', f'{first}: failed']
+        if first == 'near':
+            return ['the cache failed'] if rest else ['the cache failed', 'near: failed']
+        if first in ('image', 'cut'):
+            return ['the image failed']
+        if first in ('o', 'o.tmp-desync'):
+            return ['the target failed', 'o: failed']
+        if first == '.tmp-desync':
+            return ['new.caibx: failed']
+        return [f'{first}: failed']
+
+
+def in_place(path, data):
+    """OUT has the image's length, and each entry is right or what the base has; or it is as it was."""
+    if path != 'o' or data is None:
+        return False
+    start, base = 0, formats.resized(OLD, len(b''.join(IMAGE)))
+    for piece in IMAGE:
+        end = start + len(piece)
+        if data[start:end] not in (piece, base[start:end]):
+            return False
+        start = end
+    return len(data) == start
+
+
+def replaced(path, data):
+    return path == 'o' and data == b''.join(IMAGE)
+
+
+def fills(folder):
+    return lambda path, data: path.split(os.sep)[0] == folder and data is not None and is_right_chunk(path, data)
+
+
+VICTIMS = [os.path.join('full', formats.path_in_store(formats.name_of(name))) for name in (b'one', b'two', b'three')]
+DAMAGED = VICTIMS[1:]
+
+
+def made(path, data):
+    index = formats.spell_index(formats.index_of(CUT, (1024, 2048, 4096)))
+    return path == 'new.caibx' and data == index or fills('to')(path, data)
+
+
+def no_change(path, data):
+    return False
+
+
+EXTRACT = ['extract', '-s', 'st', 'a.caibx', 'o']
+SCENES = {
+    'extract': (EXTRACT, replaced),
+    'extract -k': ([*EXTRACT, '-k'], in_place),
+    'extract -c': ([*EXTRACT, '-c', 'near'], lambda path, data: replaced(path, data) or fills('near')(path, data)),
+    'extract -k --seed': ([*EXTRACT, '-k', '--seed', 's.caibx'], in_place),
+    'make -n 1': (['make', '-n', '1', '-m', '1:2:4', '-s', 'to', 'new.caibx', 'cut'], made),
+    'make -n 3': (['make', '-n', '3', '-m', '1:2:4', '-s', 'to', 'new.caibx', 'cut'], made),
+    'chop': (['chop', '-s', 'to', 'a.caibx', 'image'], fills('to')),
+    'cache': (['cache', '-s', 'st', '-c', 'near', 'a.caibx'], fills('near')),
+    'prune': (['prune', '-y', '-s', 'full', 'a.caibx'],
+              lambda path, data: data is None and path in [*VICTIMS, 'full/.tmp-cacnkx']),
+    'list-chunks': (['list-chunks', 'a.caibx'], no_change),
+    'info': (['info', '-s', 'st', 'a.caibx'], no_change),
+    'verify-index': (['verify-index', 'a.caibx', 'image'], no_change),
+    'demo': (['demo', '-n', '3', '7', '300000'], no_change),
+    'verify -r': (['verify', '-r', '-s', 'full'], lambda path, data: data is None and path in DAMAGED),
+}
+
+
+def scene_of(folder, what, words=None):
+    default, changes = SCENES[what]
+    return Scene(folder, words or default, changes, ['near'] if what == 'extract -c' else [])
+
+
+# One failing call
+
+def errors_of(call, at, each):
+    hard = HARD[call]
+    return hard if each else [hard[at % len(hard)]]
+
+
+def one_call_fails(cases, shim, each):
+    for what in SCENES:
+        for call in HARD:
+            if call not in NETWORK:
+                with cases.case(f'{what}: each {call} fails once') as folder:
+                    fail_each(shim, scene_of(folder, what), call, each)
+
+
+def is_interrupted(scene, error, paths):
+    """Whether a signal has interrupted the calls. The system interrupts no opening of a folder."""
+    return error == errno.EINTR and not any(os.path.isdir(os.path.join(scene.folder, path)) for path in paths)
+
+
+def fail_each(shim, scene, call, each):
+    """One call fails a run, the next in the next run, until a run meets no failure."""
+    for at in range(MOST):
+        for error in [*errors_of(call, at, each), *[errno.EINTR] * (call in INTERRUPTED)]:
+            scene.anew()
+            ended, paths = shim.run(scene, call, at, error)
+            try:
+                if is_interrupted(scene, error, paths) or not paths:
+                    scene.judge_whole(ended)
+                else:
+                    scene.judge(call, ended, paths)
+            except AssertionError as why:
+                name = errno.errorcode.get(error, 'no error')
+                raise AssertionError(f'{call} {at}, of {paths}, with {name}: {why}') from why
+            if not paths:
+                return
+    raise AssertionError(f'each of {MOST} runs has failed')
+
+
+def disk_is_full(cases, shim):
+    """From one call on nothing more is written, and then there is room again."""
+    for what in ('extract', 'extract -k', 'extract -c', 'make -n 1', 'chop', 'cache'):
+        for call in ('pwrite', 'mkdir', 'truncate', 'rename'):
+            with cases.case(f'{what}: each {call} from one on finds no room') as folder:
+                scene = scene_of(folder, what)
+                for at in range(MOST):
+                    scene.anew()
+                    ended, paths = shim.run(scene, call, at, errno.ENOSPC, more=True)
+                    scene.judge(call, ended, paths)
+                    if not paths:
+                        break
+
+
+def no_threads(cases, shim):
+    """Where no thread, or only some can be started the work is done all the same."""
+    scenes = {'make -n 3': ['make', '-n', '10', '-m', '1:2:4', '-s', 'to', 'new.caibx', 'cut'],
+              'extract': ['extract', '-n', '10', '-s', 'st', 'a.caibx', 'o'],
+              'extract -k': ['extract', '-k', '-n', '10', '-s', 'st', 'a.caibx', 'o'],
+              'demo': ['demo', '-n', '10', '7', '300000']}
+    for what, words in scenes.items():
+        for more in (False, True):
+            with cases.case(f'{what}: a thread can\'t be started{", nor later ones" * more}') as folder:
+                scene = scene_of(folder, what, words)
+                for at in range(MOST):
+                    scene.anew()
+                    ended, paths = shim.run(scene, 'thread', at, errno.EAGAIN, more)
+                    scene.judge_whole(ended)
+                    if not paths:
+                        break
+
+
+# Servers
+
+class FromServer(Scene):
+    """A command that reads from, or writes to `desync chunk-server` over the store `served`."""
+
+    def anew(self):
+        super().anew()
+        served = os.path.join(self.top, 'served')
+        for name in os.listdir(served):
+            shutil.rmtree(os.path.join(served, name))
+        if self.words[0] != 'chop':
+            formats.write_chunks(served, formats.index_of_pieces(PIECES), b''.join(PIECES))
+
+    def judge(self, call, ended, paths):
+        super().judge(call, ended, paths)
+        held = files_of(os.path.join(self.top, 'served'))
+        wanted = {formats.path_in_store(formats.name_of(piece)): piece for piece in PIECES}
+        expect_equal(held, wanted, 'what the server holds after the second run')
+
+
+def server_is_asked(cases, shim, each):
+    for what, words, changes in (('extract', ['extract', 'a.caibx', 'o', '-s'], replaced),
+                                 ('extract -k', ['extract', '-k', 'a.caibx', 'o', '-s'], in_place),
+                                 ('chop', ['chop', 'a.caibx', 'image', '-s'], no_change)):
+        for call in NETWORK:
+            with cases.case(f'{what} with a server: each {call} fails once') as folder:
+                os.mkdir(os.path.join(folder, 'served'))
+                with ChunkServer(folder, '-w', store='served') as server:
+                    scene = FromServer(folder, [*words, server.url()], changes)
+                    fail_each(shim, scene, call, each)
+
+
+ABC = b'abc'
+ASKED = [(put(path_of(b'new'), b'new'), Wanted(200)), (request('GET', path_of(ABC)), Wanted(200, ABC)),
+         (request('HEAD', path_of(ABC)), Wanted(200, length=3)), (request('GET', path_of(b'none')), Wanted(404))]
+
+
+def talk(server):
+    """What the server says to the requests, however the connection ends."""
+    got = b''
+    with contextlib.suppress(OSError), server.connect() as peer:
+        for sent, _ in ASKED:
+            peer.sendall(sent)
+            got += peer.recv(65536)
+        peer.shutdown(1)
+        got += to_the_end(peer)
+    return got
+
+
+def could_be(got):
+    """Whether these bytes are a front of the replies, each of which may be 500 instead, too."""
+    fronts = {b''}
+    for _, wanted in ASKED:
+        fronts = {front + said for front in fronts for said in (wanted.bytes, Wanted(500).bytes)}
+    return any(front.startswith(got) for front in fronts)
+
+
+def server_fails(cases, shim):
+    for workers in ('1', '8'):
+        for call in ('recv', 'send', 'pread', 'pwrite', 'open', 'stat', 'mkdir', 'rename', 'thread'):
+            what = f'chunk-server -n {workers}: each {call} fails once, and the next peer is served'
+            with cases.case(what) as folder:
+                # The first look is at the folder itself, before it is served.
+                for at in range(1 if call == 'stat' else 0, 12):
+                    if not served(folder, shim, workers, call, at):
+                        break
+
+
+def served(folder, shim, workers, call, at):
+    """Whether the call has failed. However that is, the next peer is served, and what stands in the store is right."""
+    told = os.path.join(folder, 'told')
+    shutil.rmtree(os.path.join(folder, 'st'), ignore_errors=True)
+    formats.write_chunk(os.path.join(folder, 'st'), formats.name_of(ABC), ABC)
+    put_file(told, b'')
+    error = errno.EAGAIN if call == 'thread' else HARD[call][at % len(HARD[call])]
+    environment = shim.environment(call, at, error, False, told)
+    whole = b''.join(wanted.bytes for _, wanted in ASKED)
+    with ChunkServer(folder, '-w', '-n', workers, environment=environment) as server:
+        got = talk(server)
+        expect(could_be(got), f'{call} {at}: the replies are {got}')
+        while call != 'thread' and file_bytes(told) and got != whole:
+            got = talk(server)
+            expect_equal(got, whole, f'{call} {at}: the next replies')
+    for path, data in files_of(os.path.join(folder, 'st')).items():
+        expect(os.path.basename(path) == formats.name_of(data).hex(), f'{call} {at}: the store has {path}')
+    return file_bytes(told)
+
+
+def server_without_memory(cases, shim):
+    """A server that gets no memory once answers rightly as far as it does; it ends and says why, or serves on."""
+    for workers in ('1', '8'):
+        with cases.case(f'chunk-server -n {workers}: memory is refused each time once') as folder:
+            for at in range(MOST):
+                if not served_without_memory(folder, shim, workers, at):
+                    break
+
+
+def served_without_memory(folder, shim, workers, at):
+    told, port = os.path.join(folder, 'told'), servers.free_port()
+    shutil.rmtree(os.path.join(folder, 'st'), ignore_errors=True)
+    formats.write_chunk(os.path.join(folder, 'st'), formats.name_of(ABC), ABC)
+    put_file(told, b'')
+    server = ChunkServer(folder, port=port)
+    words = ['chunk-server', '-w', '-n', workers, '-s', 'st', '-l', f'127.0.0.1:{port}']
+    process = program.start(words, folder, shim.environment('memory', at, errno.ENOMEM, False, told))
+    try:
+        got = first_said(server, process)
+        expect(b''.join(wanted.bytes for _, wanted in ASKED).startswith(got), f'{at}: the replies are {got}')
+        for _ in range(2):
+            talk(server)
+    finally:
+        has_ended = process.poll() is not None
+        process.terminate()
+        ended = program.ended(process)
+    if has_ended:
+        expect_equal(ended.status, 1, f'{at}: the status')
+        expect(ended.err in (b'', NO_MEMORY), f'{at}: the error line is {ended.err}')
+    for path, data in files_of(os.path.join(folder, 'st')).items():
+        name = formats.name_of(data).hex()
+        expect(os.path.basename(path) == name, f'{at}: the store has {path}')
+    return file_bytes(told)
+
+
+def first_said(server, process):
+    """What is said to the first peer; nothing, if the process has ended before."""
+    for _ in range(20 * servers.SECONDS):
+        got = talk(server)
+        if got or process.poll() is not None:
+            return got
+        time.sleep(0.01)
+    return b''
+
+
+def accepting_fails(cases, shim):
+    for error in (errno.EINTR, errno.ECONNABORTED, errno.ECONNRESET):
+        with cases.case(f'chunk-server goes on where accepting fails with {errno.errorcode[error]}') as top:
+            os.mkdir(os.path.join(top, 'st'))
+            environment = shim.environment('accept', 0, error, False, os.path.join(top, 'told'))
+            with ChunkServer(top, environment=environment) as server:
+                got = talk(server)
+                expect(got.startswith(b'HTTP/1.1 405'), f'the reply is {got}')
+            expect(file_bytes(os.path.join(top, 'told')), 'no call has failed')
+    for workers in ('1', '8'):
+        with cases.case(f'chunk-server -n {workers} ends where no connection can be taken') as top:
+            os.mkdir(os.path.join(top, 'st'))
+            told = os.path.join(top, 'told')
+            words = ['chunk-server', '-s', 'st', '-n', workers, '-l', f'127.0.0.1:{servers.free_port()}']
+            ended = program.run(words, top, shim.environment('accept', 0, errno.EMFILE, False, told))
+            expect_ended(ended, 'the listener failed')
+
+
+# Real signals
+
+def stopped_and_continued(process, seconds=0.02):
+    """Stops the process and lets it go on, again and again, until it has ended."""
+    while process.poll() is None:
+        for number in (signal.SIGSTOP, signal.SIGCONT):
+            with contextlib.suppress(ProcessLookupError):
+                process.send_signal(number)
+            time.sleep(seconds)
+    return program.ended(process)
+
+
+def is_stopped(cases):
+    """The system ends a call that waits at a socket with EINTR where the process is stopped and goes on."""
+    def drip(peer, *_):
+        sent = servers.reply(200, ABC)
+        for at in range(0, len(sent), 2):
+            peer.sendall(sent[at:at + 2])
+            time.sleep(0.03)
+    for what, words in (('extract', ['extract', '-s', None, 'b.caibx', 'p']),
+                        ('cache', ['cache', '-c', '.', '-s', None, 'b.caibx'])):
+        with cases.case(f'{what} is stopped and goes on while a reply comes slowly') as folder:
+            formats.write_index(os.path.join(folder, 'b.caibx'), formats.index_of_pieces([ABC]))
+            with servers.Server(drip) as server:
+                words = [word or server.url() for word in words]
+                expect_ended(stopped_and_continued(program.start(words, folder)))
+                expect_equal(len(server.asked), 1, 'how often the server was asked')
+    for workers in ('1', '8'):
+        with cases.case(f'chunk-server -n {workers} is stopped and goes on while a request comes slowly') as folder:
+            formats.write_chunk(os.path.join(folder, 'st'), formats.name_of(ABC), ABC)
+            with ChunkServer(folder, '-w', '-n', workers) as server:
+                for sent, wanted in ASKED:
+                    expect_equal(said_while_stopped(server, sent), wanted.bytes, 'the reply')
+
+
+def said_while_stopped(server, sent):
+    with server.connect() as peer:
+        for at in range(0, len(sent), len(sent) // 8):
+            for number in (signal.SIGSTOP, signal.SIGCONT):
+                server.process.send_signal(number)
+                time.sleep(0.01)
+            peer.sendall(sent[at:at + len(sent) // 8])
+        peer.shutdown(1)
+        return to_the_end(peer)
+
+
+# Want of memory
+
+def refused_memory(cases, shim):
+    """Each time that memory is taken it is refused once; and from every third time on."""
+    for what in SCENES:
+        for more in (False, True):
+            with cases.case(f'{what}: memory is refused {"from a time on" if more else "each time once"}') as folder:
+                scene = scene_of(folder, what)
+                for at in range(0, MOST, 3 if more else 1):
+                    scene.anew()
+                    ended, paths = shim.run(scene, 'memory', at, errno.ENOMEM, more)
+                    try:
+                        scene.judge_memory(ended)
+                    except AssertionError as why:
+                        raise AssertionError(f'{at}: {why}') from why
+                    if not paths:
+                        break
+
+
+def least_space(folder):
+    """The least address space, in MiB, in which the program can print its version."""
+    for space in range(1, 200):
+        if run_in(space << 20, ['--version'], folder).status == 0:
+            return space
+    raise Skip('the program doesn\'t start in 200 MiB of address space')
+
+
+def run_in(space, words, folder):
+    """Runs the program with a bound on its address space, in bytes."""
+    def lower():
+        resource.setrlimit(resource.RLIMIT_AS, (space, space))
+    return program.run(words, folder, lower=lower)
+
+
+def little_space(cases):
+    for what, words in (('make -n 1', None), ('make -n 3', ['make', '-n', '10', *SCENES['make -n 3'][0][3:]]),
+                        ('extract', None), ('extract -k', None), ('chop', None), ('cache', None), ('prune', None)):
+        with cases.case(f'{what} in little address space') as folder:
+            scene = scene_of(folder, what, words)
+            least = least_space(folder)
+            for space in range(least, least + 24):
+                scene.anew()
+                ended = run_in(space << 20, scene.words, scene.folder)
+                try:
+                    scene.judge_memory(ended)
+                except AssertionError as why:
+                    raise AssertionError(f'in {space} MiB: {why}') from why
+
+
+def main():
+    needs_program('failing')
+    cases = Cases('failing')
+    each = sys.argv[1:] == ['--all']
+    little_space(cases)
+    is_stopped(cases)
+    try:
+        shim = Shim(cases.top)
+    except Skip as why:
+        cases.skip('all cases but those of little address space and of signals', why)
+        return cases.end()
+    one_call_fails(cases, shim, each)
+    disk_is_full(cases, shim)
+    no_threads(cases, shim)
+    server_is_asked(cases, shim, each)
+    server_fails(cases, shim)
+    server_without_memory(cases, shim)
+    accepting_fails(cases, shim)
+    refused_memory(cases, shim)
+    return cases.end()
+
+
+if __name__ == '__main__':
+    sys.exit(main())
