@@ -13,7 +13,7 @@ use Rattle.assembler.specs.Stages.{Stage, Stretch, from}
 use Rattle.caibx_codec.specs.Listing.{size_of}
 use Rattle.chunk_sources.proofs.Cached.{stocked_falls}
 use Rattle.chunk_sources.proofs.Lacking.{quiet_never}
-use Rattle.chunk_sources.specs.Asks.{AreSpared, AsksAtMost, IsSpared, asked_at, asks_below, asks_for, calls_below, calls_for}
+use Rattle.chunk_sources.specs.Asks.{AreSpared, AsksAtMost, IsSpared, ShareAsks, asked_at, asks_below, asks_for, calls_below, calls_for, others_spared}
 use Rattle.chunk_sources.specs.Caches.{TakesWants}
 use Rattle.chunk_sources.specs.Losses.{AskedLast}
 use Rattle.chunk_sources.specs.Sources.{HeldAt, counts_of, views_of}
@@ -131,14 +131,15 @@ asks_last store ids spared w old new isnt once =
     }
 
 -- a want that isn't done takes no call
-abbrev pub unless : (ℕ → Bool) → (ℕ → Bool) → ℕ → Bool
-unless done spared w = if done w then spared w else true
-
-undone : (done spared : ℕ → Bool) (w : ℕ) → done w ≡ false → unless done spared w ≡ true
+undone : (done spared : ℕ → Bool) (w : ℕ) → done w ≡ false → others_spared done spared w ≡ true
 undone done spared w isnt = ap (λ b. if b then spared w else true) isnt
 
-as_done : (done spared : ℕ → Bool) (w : ℕ) → done w ≡ true → unless done spared w ≡ spared w
+as_done : (done spared : ℕ → Bool) (w : ℕ) → done w ≡ true → others_spared done spared w ≡ spared w
 as_done done spared w is = ap (λ b. if b then spared w else true) is
+
+pub both_of : (x y : Bool) → (if x then y else false) ≡ true → (x ≡ true) × (y ≡ true)
+both_of true y is = (refl, is)
+both_of false y is = absurd (true≢false (sym is))
 
 -- ---- wants that are had without the stores
 
@@ -210,11 +211,25 @@ module _ {S V : Type 0} (store : StoreWords S) (view : ViewWords V) (t : Task) w
   -- each was asked for at most once
   abbrev pub AsksDone : (ℕ → Bool) → Stage S V → Stage S V → Type 0
   AsksDone done a b = (spared : ℕ → Bool) → AreSpared store view t a.fates (from a) (from b) spared
-      → AsksAtMost store (calls_below (unless done spared) t.plan.wants) (asks_below (want_id t.listing t.plan) (unless done spared) t.plan.wants) a.kit.chain b.kit.chain
+      → AsksAtMost store (calls_below (others_spared done spared) t.plan.wants) (asks_below (want_id t.listing t.plan) (others_spared done spared) t.plan.wants) a.kit.chain b.kit.chain
 
   pub asks_done_none : (done : ℕ → Bool) (a : Stage S V) → AsksDone done a a
   asks_done_none done a = λ spared are.
-      asks_none store (calls_below (unless done spared) t.plan.wants) (asks_below (want_id t.listing t.plan) (unless done spared) t.plan.wants) a.kit.chain
+      asks_none store (calls_below (others_spared done spared) t.plan.wants) (asks_below (want_id t.listing t.plan) (others_spared done spared) t.plan.wants) a.kit.chain
+
+  -- more wants are spared
+  asks_fewer : (f g : ℕ → Bool) → ((v : ℕ) → g v ≡ true → f v ≡ true) → (a b : Stage S V)
+      → AsksAtMost store (calls_below f t.plan.wants) (asks_below (want_id t.listing t.plan) f t.plan.wants) a.kit.chain b.kit.chain
+      → AsksAtMost store (calls_below g t.plan.wants) (asks_below (want_id t.listing t.plan) g t.plan.wants) a.kit.chain b.kit.chain
+  asks_fewer f g more a b asks =
+      let n = t.plan.wants in
+      let ids = want_id t.listing t.plan in
+      let calls : calls_below f n ≤ calls_below g n =
+      omega (arith, calls_are f n, calls_are g n, sums_fewer (calls_for g) (calls_for f) (λ v. fewer_for (g v) (f v) 1 (more v)) n) in
+      let each : (q : List ℕ) → asks_below ids f n q ≤ asks_below ids g n q = λ q.
+      let fewer = sums_fewer (λ v. asks_for ids g v q) (λ v. asks_for ids f v q) (λ v. fewer_for (g v) (f v) (if bytes_eq (ids v) q then 1 else 0) (more v)) n in
+      omega (arith, asks_are ids f q n, asks_are ids g q n, fewer) in
+      asks_up store (calls_below f n) (calls_below g n) (asks_below ids f n) (asks_below ids g n) a.kit.chain b.kit.chain calls each asks
 
   -- one want more
   pub asks_done_more : (done later : ℕ → Bool) (B : ℕ → Type 0) (a b c : Stage S V) (w : ℕ) → AreWants t.listing t.plan.wants t.plan.want_of
@@ -222,8 +237,8 @@ module _ {S V : Type 0} (store : StoreWords S) (view : ViewWords V) (t : Task) w
       → Over (λ v. done v ≡ true) a b → Over B b c → (c.kit.chain ≡ b.kit.chain) ⊎ Last b c w → AsksDone done a b → AsksDone later a c
   asks_done_more done later B a b c w wants within below wasnt is others first next asks before = λ spared are.
       let n = t.plan.wants in
-      let f = unless done spared in
-      let g = unless later spared in
+      let f = others_spared done spared in
+      let g = others_spared later spared in
       let ids = want_id t.listing t.plan in
       let elsewhere : (v : ℕ) → v ≢ w → g v ≡ f v = λ v apart. ap (λ b. if b then spared v else true) (others v apart) in
       let was : f w ≡ true = undone done spared w wasnt in
@@ -240,18 +255,21 @@ module _ {S V : Type 0} (store : StoreWords S) (view : ViewWords V) (t : Task) w
       a.kit.chain c.kit.chain calls each
       (asks_on store (calls_below f n) (calls_for g w) (asks_below ids f n) (asks_for ids g w) a.kit.chain b.kit.chain c.kit.chain so_far one)
 
-  pub asks_done_all : (done : ℕ → Bool) (a b : Stage S V) → AsksDone done a b → PassAsks store view t one_pass a b
-  asks_done_all done a b asks = λ spared are.
-      let n = t.plan.wants in
-      let ids = want_id t.listing t.plan in
-      let f = unless done spared in
-      let more : (v : ℕ) → spared v ≡ true → f v ≡ true = λ v is. elim (cases_Bool (done v)) [
-        | inl was ↦ as_done done spared v was ∙ is
-        | inr wasnt ↦ undone done spared v wasnt
+  -- all that are done are among these wants
+  pub asks_done_share : (done these : ℕ → Bool) → ((v : ℕ) → done v ≡ true → these v ≡ true) → (a b : Stage S V) → AsksDone done a b → ShareAsks store view t a.fates (from a) (from b) these
+  asks_done_share done these within a b asks = λ spared are.
+      let both : ℕ → Bool = λ v. if these v then spared v else false in
+      let more : (v : ℕ) → others_spared these spared v ≡ true → others_spared done both v ≡ true = λ v is. elim (cases_Bool (done v)) [
+        | inl was ↦ as_done done both v was ∙ (ap (λ b. if b then spared v else false) (within v was) ∙ (sym (as_done these spared v (within v was)) ∙ is))
+        | inr wasnt ↦ undone done both v wasnt
       ] in
-      let calls : calls_below f n ≤ calls_below spared n =
-      omega (arith, calls_are f n, calls_are spared n, sums_fewer (calls_for spared) (calls_for f) (λ v. fewer_for (spared v) (f v) 1 (more v)) n) in
-      let each : (q : List ℕ) → asks_below ids f n q ≤ asks_below ids spared n q = λ q.
-      let fewer = sums_fewer (λ v. asks_for ids spared v q) (λ v. asks_for ids f v q) (λ v. fewer_for (spared v) (f v) (if bytes_eq (ids v) q then 1 else 0) (more v)) n in
-      omega (arith, asks_are ids f q n, asks_are ids spared q n, fewer) in
-      asks_up store (calls_below f n) (calls_below spared n) (asks_below ids f n) (asks_below ids spared n) a.kit.chain b.kit.chain calls each (asks spared are)
+      asks_fewer (others_spared done both) (others_spared these spared) more a b
+      (asks both (λ w less so. are w less (both_of (these w) (spared w) so).0 (both_of (these w) (spared w) so).1))
+
+  -- these are all wants
+  pub asks_share_all : (these : ℕ → Bool) → ((v : ℕ) → these v ≡ true) → (a b : Stage S V) → ShareAsks store view t a.fates (from a) (from b) these → PassAsks store view t one_pass a b
+  asks_share_all these all a b asks = λ spared are.
+      asks_fewer (others_spared these spared) spared (λ v is. as_done these spared v (all v) ∙ is) a b (asks spared (λ w less is so. are w less so))
+
+  pub asks_done_all : (done : ℕ → Bool) (a b : Stage S V) → AsksDone done a b → PassAsks store view t one_pass a b
+  asks_done_all done a b asks = asks_share_all (λ v. true) (λ v. refl) a b (asks_done_share done (λ v. true) (λ v is. refl) a b asks)

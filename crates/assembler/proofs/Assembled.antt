@@ -1,52 +1,46 @@
 -- What an assembly says of its sources, over the base: it stood at a after the survey and at b at the end. At first the
 -- count of the target's faults was f, and its bytes were `o`.
-use Rattle.std.proofs.Common.{◌≡◌, ◌⊎◌, ◌++◌, ℕ, ◌<◌, ◌≤◌, List, [], length, map, slice_index, Option, Some, None, IfErr, IfOk, IfSome, IsSomeAnd, Result, OnOk, Ok, Err, true, false, refl, sym, ap, ◌∙◌, subst, inl, inr, arith}
+use Rattle.std.proofs.Common.{◌≡◌, ◌⊎◌, ◌++◌, ℕ, ◌≤◌, List, [], length, map, Option, Some, None, IfOk, IfSome, IsSomeAnd, Result, Ok, Err, true, refl, sym, ap, ◌∙◌, subst, inl, inr, arith, is_some}
 use Rattle.std.proofs.lemmas.Bool.{cases_Bool}
 use Rattle.std.proofs.lemmas.List.{length-append, length-replicate, length-take}
 use Rattle.std.specs.Option.{option_map}
-use Rattle.assembler.proofs.Based.{Surveyed, assembles_err, ends_map, leaves, leaves_torn, left_at, missed_at, only_first, over_of, right_all, right_at, some_map, told_map, told_of}
+use Rattle.assembler.proofs.Based.{StandsOver, Surveyed, stands_surveyed, missed_at, only_first, over_of, some_map}
 use Rattle.assembler.proofs.Asked.{asks_none}
 use Rattle.assembler.proofs.Counted.{quiet_part}
 use Rattle.assembler.proofs.EconomyReported.{asks_err, assembled_as, reports_all, settled_right}
 use Rattle.assembler.proofs.EconomyRetried.{unless_map}
 use Rattle.assembler.proofs.EconomySources.{source_same}
-use Rattle.assembler.proofs.Entries.{among, first_among, ids_same, listed_of}
+use Rattle.assembler.proofs.Entries.{listed_of}
+use Rattle.assembler.proofs.Finished.{Finished, SuchCan, after_fault, after_ok, bytes_err, bytes_ok, exactly_err, exactly_ok, lost_err, only_err, only_ok, since_survey}
 use Rattle.assembler.proofs.Stepped.{seeds_none}
-use Rattle.assembler.proofs.Stocking.{gives_on, listed_takes}
-use Rattle.assembler.specs.Assemblies.{After, Assembles, AssemblyAsks, KeepsBase, IsAssembled, IsObtainable, IsUnobtained, RightAlike, SparedOver, Verdict}
+use Rattle.assembler.proofs.Stocking.{listed_takes}
+use Rattle.assembler.specs.Assemblies.{After, Assembles, AssemblyAsks, KeepsBase, IsAssembled, IsObtainable, IsUnobtained, SparedOver, Verdict}
 use Rattle.assembler.specs.Economy.{AsksExactly, AssembledBy, ReportsExactly, UnlessMemory}
-use Rattle.assembler.specs.Faults.{fault_of}
 use Rattle.assembler.specs.Obtainable.{OnlyObtainable}
 use Rattle.assembler.specs.OneKit.{AreUnused}
-use Rattle.assembler.specs.Passes.{Ends, EndsBy, HadAt, HasPassed, Loses, WhereQuiet, source_at, two_passes, want_at}
+use Rattle.assembler.specs.Passes.{Ends, EndsBy, HasPassed, WhereQuiet, source_at, two_passes}
 use Rattle.assembler.specs.Stages.{Stage, from}
 use Rattle.assembler.specs.declared.fault.ExtractFault.{ExtractFault}
 use Rattle.assembler.specs.declared.fault.ExtractFault.TheVariants as faults
-use Rattle.assembler.specs.declared.fault.Lost.{Lost}
-use Rattle.cache_store.specs.Giving.{SomeGives}
 use Rattle.cache_store.specs.Shelves.{Shelf}
 use Rattle.caibx_codec.specs.Asks.{IsListedGet}
-use Rattle.caibx_codec.specs.Listing.{Listing, count_of, id_of, image_length, kind_of, size_of, slice_of}
+use Rattle.caibx_codec.specs.Listing.{Listing, count_of, image_length}
 use Rattle.caibx_codec.specs.Right.{IsRightAt}
-use Rattle.chunk_sources.proofs.Cached.{gives_part, stocked_none, stocked_told}
-use Rattle.chunk_sources.proofs.Lacking.{Tells, quiet_never, seeds_never, stores_never, tells_of}
+use Rattle.chunk_sources.proofs.Cached.{stocked_none}
+use Rattle.chunk_sources.proofs.Lacking.{quiet_never}
 use Rattle.chunk_sources.specs.Asks.{IsSpared, asks_below, calls_below}
-use Rattle.chunk_sources.specs.Caches.{HaveOneSize, TakesListed, TakesWants, cache_faults, cached_in}
+use Rattle.chunk_sources.specs.Caches.{HaveOneSize, TakesListed, cached_in}
 use Rattle.chunk_sources.specs.Economy.{source_of}
-use Rattle.chunk_sources.specs.Losses.{CopiesFailed}
-use Rattle.chunk_sources.specs.Sources.{SeedsGive, Sources, SourcesQuiet, Telling, counts_of, sources, views_of}
-use Rattle.chunk_sources.specs.Wants.{IsAmong, Task}
-use Rattle.chunk_store.specs.declared.id.ChunkId.{ChunkId}
+use Rattle.chunk_sources.specs.Sources.{Sources, SourcesQuiet, Telling, sources, views_of}
+use Rattle.chunk_sources.specs.Wants.{Task}
 use Rattle.chunk_store.specs.declared.store.Store.{Ghosts as StoreWords}
-use Rattle.dsy_base.proofs.Counts.{rose_later}
 use Rattle.dsy_base.specs.Bytes.{Held, held_resized, resized}
 use Rattle.dsy_base.specs.Counts.{Rose}
 use Rattle.dsy_base.specs.Maps.{Map}
 use Rattle.dsy_base.specs.declared.view.View.{Ghosts as ViewWords}
-use Rattle.extract_plan.specs.Deal.{AreWants, first_of, of_want, want_id}
-use Rattle.extract_plan.specs.Places.{places_at}
-use Rattle.range_ledger.specs.Fills.{Fills, FillsTorn, WhereTold}
-use Rattle.range_survey.proofs.Excused.{excuses_none, excuses_since}
+use Rattle.extract_plan.specs.Deal.{AreWants, want_id}
+use Rattle.range_ledger.specs.Fills.{WhereTold}
+use Rattle.range_survey.proofs.Excused.{excuses_none}
 use Rattle.range_survey.specs.Fates.{FirstFates, OpenWrong, SettledRight, is_right_at, settled}
 use Rattle.range_survey.specs.Reports.{tally}
 use Rattle.range_survey.specs.declared.fate.Fate.{Fate}
@@ -55,71 +49,7 @@ use Rattle.range_survey.specs.declared.report.Report.{Report}
 use Rattle.extract_plan.specs.declared.seed.Seed.{Seed}
 use Rattle.store_chain.proofs.Kept.{kept_still}
 use Rattle.store_chain.specs.Chains.{Chained}
-use Rattle.store_chain.specs.declared.refused.Refused.{Refused}
 use Rattle.store_chain.specs.declared.refused.Refused.TheVariants as refused
-
--- ---- one entry
-
-module _ (t : Task) (wants : AreWants t.listing t.plan.wants t.plan.want_of) where
-  here : (i : ℕ) → i < count_of t.listing → IsAmong (of_want t.plan (want_at t.plan i)) i
-  here i inside = let size : length t.plan.want_of ≡ count_of t.listing = wants.size in among t.plan (want_at t.plan i) i (omega (arith, inside)) refl
-
-  -- alike entries can be had alike
-  obtainable_as : (base : List ℕ) (views : List (Option Held)) (maps : List (Map (List ℕ))) (i j : ℕ) → i < count_of t.listing → j < count_of t.listing → want_at t.plan j ≡ want_at t.plan i
-      → IsObtainable t base views maps i → IsObtainable t base views maps j
-  obtainable_as base views maps i j one other same (inl (k, listed, alike, right)) =
-      let like = (wants.alike i j one other).0 (sym same) in
-      inl (k, listed, (alike.0 ∙ like.0, alike.1 ∙ like.1), right)
-  obtainable_as base views maps i j one other same (inr source) =
-      let l = t.listing in
-      let like = (wants.alike i j one other).0 (sym same) in
-      inr (subst (λ w. SeedsGive views (places_at t.places w) (id_of l j) ⊎ SomeGives (kind_of l) (id_of l j) (size_of l j) maps) (sym same)
-      (subst (λ n. SeedsGive views (places_at t.places (want_at t.plan i)) (id_of l j) ⊎ SomeGives (kind_of l) (id_of l j) n maps) like.1
-      (subst (λ q. SeedsGive views (places_at t.places (want_at t.plan i)) q ⊎ SomeGives (kind_of l) q (size_of l i) maps) like.0 source)))
-
-  module _ (m : List Fate) (f b c : ℕ) (ab : f ≤ b) (bc : b ≤ c) (base : List ℕ) (over : Surveyed t.listing m f b base) where
-    -- where a settled entry was had, it can be had
-    obtainable : (views : List (Option Held)) (maps : List (Map (List ℕ))) (i : ℕ) → i < count_of t.listing → HadAt t m views maps i → IsObtainable t base views maps i
-    obtainable views maps i inside (inl (j, other, is)) =
-        let listed = listed_of t.listing t.plan (want_at t.plan i) j wants other in
-        inl (j, listed, ids_same t.listing t.plan (want_at t.plan i) j i wants other (here i inside), over.yes j listed is)
-    obtainable views maps i inside (inr source) =
-        let l = t.listing in
-        let w = want_at t.plan i in
-        let like = ids_same l t.plan w (first_of t.plan w) i wants (first_among l t.plan w wants (wants.within i inside)) (here i inside) in
-        inr (subst (λ n. SeedsGive views (places_at t.places w) (id_of l i) ⊎ SomeGives (kind_of l) (id_of l i) n maps) like.1
-        (subst (λ q. SeedsGive views (places_at t.places w) q ⊎ SomeGives (kind_of l) q (size_of l (first_of t.plan w)) maps) like.0 source))
-
-    -- an entry that is right in the base couldn't be read, by the survey or later
-    copies : (i : ℕ) → i < count_of t.listing → CopiesFailed m (of_want t.plan (want_at t.plan i)) b c → RightAlike t.listing base i → Rose f c
-    copies i inside failed (j, listed, alike, right) = elim (cases_Bool (settled m j)) [
-      | inl is ↦
-          let size : length t.plan.want_of ≡ count_of t.listing = wants.size in
-          rose_later f b c ab (failed j (among t.plan (want_at t.plan i) j (omega (arith, listed)) ((wants.alike j i listed inside).1 alike)) is)
-      | inr isnt ↦ missed_at t.listing m f b c bc base over j listed isnt right
-    ]
-
--- ---- the answer
-
-verdict_named : (l : Listing) (P : ℕ → Type 0) (k : ℕ) (id : ChunkId) (r : Refused) → ((i : ℕ) → i < k → P i) → (P k → Tells r → ⊥)
-    → ((s : ℕ) → r ≡ refused.StoreFault s → ⊥) → Verdict l P (Err (fault_of k id r))
-verdict_named l P k id refused.Missing below never sound = (below, λ has. never has tt)
-verdict_named l P k id (refused.Damaged s x) below never sound = (below, λ has. never has tt)
-verdict_named l P k id (refused.StoreFault s) below never sound = sound s refl
-verdict_named l P k id refused.Memory below never sound = tt
-
--- the assembly wasn't ended for want of memory
-abbrev HadMemory : ExtractFault → Type 0
-HadMemory faults.Memory = ⊥
-HadMemory _ = Unit {0}
-
-after_err : (l : Listing) (P : ℕ → Type 0) (base t : List ℕ) (e : ExtractFault)
-    → (HadMemory e → (i : ℕ) → i < count_of l → (P i → IsRightAt t l i) × ((P i → ⊥) → slice_of l t i ≡ slice_of l base i)) → After l P base t (Err e)
-after_err l P base t (faults.Missing k id) stands = stands tt
-after_err l P base t (faults.Damaged k id s shows) stands = stands tt
-after_err l P base t (faults.StoreFault s) stands = stands tt
-after_err l P base t faults.TargetFault stands = stands tt
-after_err l P base t faults.Memory stands = tt
 
 -- ---- both passes
 
@@ -147,73 +77,31 @@ module _ {S V : Type 0} (store : StoreWords S) (view : ViewWords V) (t : Task) (
   first_sources = sources f a.kit.seeds.items a.cache a.kit.chain
 
   module _ (r : Result Unit ExtractFault) (ran : Ran r) where
-    abbrev Filled : List ℕ → List ℕ → Type 0
-    Filled y = Fills t.listing a.fates b.fates a.faults b.faults (over_base y)
-
     rises_on : a.faults ≤ b.faults
     rises_on = ran.passed.stretch.step.never_falls
 
-    filled : WhereTold o b.held.bytes Filled
-    filled = told_of t.listing o a.held.bytes b.held.bytes (Fills t.listing a.fates b.fates a.faults b.faults) ran.base ran.passed.stretch.step.bytes
+    abbrev Whole : List ℕ → List ℕ → Type 0
+    Whole y t0 = StandsOver t.listing (λ i. ⊥) a.fates f a.faults (over_base y) t0
 
-    -- ---- bytes
+    is_whole : (p : Option (List ℕ)) → IfSome p Found → WhereTold p (option_map over_base p) Whole
+    is_whole None over = tt
+    is_whole (Some y) over = stands_surveyed t.listing a.fates f a.faults (over_base y) over
 
-    bytes_by : (Unused : Type 0) (why : ExtractFault) → r ≡ Err why
-        → EndsBy {A = Unit {0}} (λ lost. Loses store view t a b lost × ((i : ℕ) → i < lost.entry → settled b.fates i ≡ true)) (Rose a.faults b.faults) (Err why)
-        → WhereTold o b.held.bytes (Assembles t.listing Unused f b.faults (Err why))
-    bytes_by Unused why so (inl lost) = told_map o b.held.bytes Found Filled (Assembles t.listing Unused f b.faults (Err why))
-        (λ y z over fills.
-        assembles_err t.listing Unused f b.faults y z (leaves t.listing a.fates b.fates f a.faults b.faults ran.rises rises_on (over_base y) z over fills)
-        (λ x. Loses store view t a b x × ((i : ℕ) → i < x.entry → settled b.fates i ≡ true)) why
-        (λ x is i less. right_at t.listing a.fates b.fates f a.faults b.faults ran.rises rises_on (over_base y) z over fills i (omega (arith, less, is.0.listed)) (is.1 i less))
-        lost)
-        ran.over filled
-    bytes_by Unused why so (inr (inl (is, rose))) =
-        let h = ran.ends.failed (so ∙ ap (λ (y : ExtractFault). Err y) is) in
-        let w = want_at t.plan h.entry in
-        subst (λ y. WhereTold o b.held.bytes (Assembles t.listing Unused f b.faults (Err y))) (sym is)
-        (told_map o b.held.bytes Found (λ y. FillsTorn t.listing a.fates b.fates a.faults b.faults h.torn (over_base y)) (Assembles t.listing Unused f b.faults (Err faults.TargetFault))
-        (λ y z over fills. inr (leaves_torn t.listing a.fates b.fates f a.faults b.faults ran.rises rises_on (over_base y) z over fills.0 h.entry h.torn h.listed h.was_open h.before
-        (listed_of t.listing t.plan w h.torn ran.wants h.among) (ids_same t.listing t.plan w h.torn h.entry ran.wants h.among (here t ran.wants h.entry h.listed)) fills.1))
-        ran.over (told_of t.listing o a.held.bytes b.held.bytes (FillsTorn t.listing a.fates b.fates a.faults b.faults h.torn) ran.base h.is_torn))
-    bytes_by Unused why so (inr (inr is)) = subst (λ y. WhereTold o b.held.bytes (Assembles t.listing Unused f b.faults (Err y))) (sym is)
-        (told_map o b.held.bytes Found Filled (Assembles t.listing Unused f b.faults (Err faults.Memory))
-        (λ y z over fills. inr (leaves t.listing a.fates b.fates f a.faults b.faults ran.rises rises_on (over_base y) z over fills))
-        ran.over filled)
+    as_told : (p : Option (List ℕ)) → is_some (option_map over_base p) ≡ is_some p
+    as_told None = refl
+    as_told (Some y) = refl
 
-    pub bytes_err : (Unused : Type 0) (why : ExtractFault) → r ≡ Err why → WhereTold o b.held.bytes (Assembles t.listing Unused f b.faults (Err why))
-    bytes_err Unused why so = bytes_by Unused why so (subst (EndsBy _ _) so ran.ends.first)
-
-    all_settled : (u : Unit {0}) → r ≡ Ok u → (i : ℕ) → i < count_of t.listing → settled b.fates i ≡ true
-    all_settled u so = subst (λ q. OnOk q ((i : ℕ) → i < count_of t.listing → settled b.fates i ≡ true)) so ran.ends.ok
-
-    pub bytes_ok : (Unused : Type 0) (u : Unit {0}) → r ≡ Ok u → (report : Report) → WhereTold o b.held.bytes (Assembles t.listing Unused f b.faults (Ok report))
-    bytes_ok Unused u so report = told_map o b.held.bytes Found Filled (Assembles t.listing Unused f b.faults (Ok report))
-        (λ y z over fills. (
-          right_all t.listing a.fates b.fates f a.faults b.faults ran.rises rises_on (over_base y) z over fills (all_settled u so),
-          leaves t.listing a.fates b.fates f a.faults b.faults ran.rises rises_on (over_base y) z over fills,
-        ))
-        ran.over filled
-
-    -- ---- lost entries
-
-    abbrev Unobtained : Lost → Type 0
-    Unobtained lost = IsUnobtained store view t o first_sources (from b) lost
-
-    unobtained : (lost : Lost) → Loses store view t a b lost → Unobtained lost
-    unobtained lost is = record {
-      listed = is.listed;
-      id_is = is.id_is;
-      copies = some_map o Found (λ y. RightAlike t.listing (over_base y) lost.entry → Rose f b.faults)
-          (λ y over. copies t ran.wants a.fates f a.faults b.faults ran.rises rises_on (over_base y) over lost.entry is.listed is.copies) ran.over;
-      seeds = is.seeds;
-      cache = is.cache;
-      stores = is.stores;
+    -- both passes are the last ones, before which no entry was made right
+    pub finished : Finished store view t o first_sources (λ i. ⊥) a b r
+    finished = record {
+      wants = ran.wants;
+      since = since_survey store view t f (from a) ran.rises;
+      tells = ap (λ (p : Option (List ℕ)). is_some p) ran.base ∙ as_told o;
+      whole = subst (λ (p : Option (List ℕ)). WhereTold o p Whole) (sym ran.base) (is_whole o ran.over);
+      had = ran.passed.had;
+      stretch = ran.passed.stretch;
+      ends = ran.ends;
     }
-
-    pub lost_err : (why : ExtractFault) → r ≡ Err why → EndsBy {A = Unit {0}} Unobtained (Rose f b.faults) (Err why)
-    lost_err why so = ends_map _ Unobtained (Rose a.faults b.faults) (Rose f b.faults) why (λ lost is. unobtained lost is.0) (rose_later f a.faults b.faults ran.rises)
-        (subst (EndsBy _ _) so ran.ends.first)
 
     -- ---- how often stores were asked
 
@@ -223,7 +111,8 @@ module _ {S V : Type 0} (store : StoreWords S) (view : ViewWords V) (t : Task) (
       go None over has = absurd has
       go (Some y) over has = elim (cases_Bool (settled a.fates j)) [
         | inl is ↦ inl ((j, other, is), quiet_part f a.faults b.faults b.faults ran.rises (omega arith) quiet)
-        | inr isnt ↦ absurd (quiet_never f b.faults quiet (missed_at t.listing a.fates f a.faults b.faults rises_on (over_base y) over j
+        | inr isnt ↦ absurd (quiet_never f b.faults quiet (missed_at t.listing (λ i. ⊥) a.fates f a.faults b.faults rises_on (over_base y) (over_base y)
+            (stands_surveyed t.listing a.fates f a.faults (over_base y) over) j
             (listed_of t.listing t.plan w j ran.wants other) isnt has))
       ]
     spared_over w (inr rest) = inr rest
@@ -233,136 +122,10 @@ module _ {S V : Type 0} (store : StoreWords S) (view : ViewWords V) (t : Task) (
         let asks = ran.passed.asks spared (λ w below is. spared_over w (are w below is)) in
         record { no_fewer = asks.no_fewer; calls = asks.calls; no_less = asks.no_less; most = asks.most }
 
-    -- ---- whatever fails
-
     abbrev views : List (Option Held)
     views = views_of view a.kit.seeds.items
 
-    module _ (cached maps : List (Map (List ℕ))) (telling : Telling view.tells views) (told_cache : cached_in a.cache ≡ Some cached) (told : map store.holds a.kit.chain.stores ≡ map Some maps) where
-      abbrev Can : List ℕ → ℕ → Type 0
-      Can y i = IsObtainable t (over_base y) views (cached ++ maps) i
-
-      -- what is settled can be had
-      can : (y : List ℕ) → Found y → (i : ℕ) → i < count_of t.listing → settled b.fates i ≡ true → Can y i
-      can y over i inside is = obtainable t ran.wants a.fates f a.faults b.faults ran.rises rises_on (over_base y) over views (cached ++ maps) i inside
-          (ran.passed.had telling cached maps told_cache told i inside is)
-
-      pub only_ok : (u : Unit {0}) → r ≡ Ok u → (report : Report) → WhereTold o b.held.bytes (λ y z. OnlyObtainable t.listing (Can y) f b.faults (Ok report) y z)
-      only_ok u so report = told_map o b.held.bytes Found Filled
-          (λ y z. OnlyObtainable t.listing (Can y) f b.faults (Ok report) y z) (λ y z over fills i inside. can y over i inside (all_settled u so i inside)) ran.over filled
-
-      pub only_err : (why : ExtractFault) → WhereTold o b.held.bytes (λ y z. OnlyObtainable t.listing (Can y) f b.faults (Err why) y z)
-      only_err why = told_map o b.held.bytes Found Filled (λ y z. OnlyObtainable t.listing (Can y) f b.faults (Err why) y z)
-          (λ y z over fills. inr (record {
-            failed = fills.failed;
-            excused = excuses_since fills.failed f a.faults b.faults ran.rises fills.excused;
-            each = λ i inside. elim (cases_Bool (settled b.fates i)) [
-              | inl is ↦ inl (can y over i inside is)
-              | inr isnt ↦ inr (fills.left i inside isnt)
-            ];
-          }))
-          ran.over filled
-
-    -- ---- where nothing fails
-
     module _ (cached maps : List (Map (List ℕ))) (nothing : SourcesQuiet store view first_sources (from b) cached maps) (one : HaveOneSize t.listing a.cache cached maps) where
-      abbrev Has : List ℕ → ℕ → Type 0
-      Has y i = IsObtainable t (over_base y) views (cached ++ maps) i
-
-      -- the stores didn't fail in the call that refused
-      sound : (lost : Lost) → Loses store view t a b lost → (s : ℕ) → lost.refused ≡ refused.StoreFault s → ⊥
-      sound lost is s failed =
-          let at : List S → ℕ = λ stores. slice_index (map store.faults stores) s in
-          let part = quiet_part (at a.kit.chain.stores) (at is.stores.before) (at is.stores.after) (at b.kit.chain.stores) (is.stores.until.never_fall s) (is.stores.since.never_fall s)
-          (nothing.stores s) in
-          quiet_never (at is.stores.before) (at is.stores.after) part (is.stores.refused.cause s failed)
-
-      -- what was lost can't be had
-      never : (y : List ℕ) → Found y → (lost : Lost) → Loses store view t a b lost → Has y lost.entry → Tells lost.refused → ⊥
-      never y over lost is (inl alike) tells =
-          quiet_never f b.faults nothing.target (copies t ran.wants a.fates f a.faults b.faults ran.rises rises_on (over_base y) over lost.entry is.listed is.copies alike)
-      never y over lost is (inr (inl seeds)) tells =
-          let places = places_at t.places (want_at t.plan lost.entry) in
-          seeds_never views places lost.id.0 (counts_of view a.kit.seeds.items) (counts_of view b.kit.seeds.items) nothing.seeds is.seeds
-          (subst (λ q. SeedsGive views places q) (sym is.id_is) seeds)
-      never y over lost is (inr (inr given)) tells = elim (gives_part (kind_of t.listing) (id_of t.listing lost.entry) (size_of t.listing lost.entry) cached maps given) [
-        | inl cache ↦
-            let T = TakesWants store t.listing t.plan (λ w. w < t.plan.wants) a.kit.chain.stores in
-            let later = stocked_told T a.cache b.cache cached ran.passed.stretch.stocked nothing.told_cache in
-            let gives = gives_on store t.listing t.plan (λ w. w < t.plan.wants) a.kit.chain.stores a.cache b.cache cached later.0 maps ran.passed.stretch.stocked nothing.told_cache later.1
-            nothing.told ran.wants (λ w below. below) one (id_of t.listing lost.entry) (size_of t.listing lost.entry) (lost.entry, is.listed, refl, refl) cache in
-            quiet_never (cache_faults a.cache) (cache_faults b.cache) nothing.cache (is.cache later.0 later.1 gives)
-        | inr stores ↦
-            stores_never (kind_of t.listing) lost.id (size_of t.listing lost.entry) maps lost.refused tells (sound lost is)
-            (is.stores.refused.lacks maps (is.stores.until.held ∙ nothing.told))
-            (subst (λ q. SomeGives (kind_of t.listing) q (size_of t.listing lost.entry) maps) (sym is.id_is) stores)
-      ]
-
-      -- what is settled can be had
-      had : (y : List ℕ) → Found y → (i : ℕ) → i < count_of t.listing → settled b.fates i ≡ true → Has y i
-      had = can cached maps nothing.telling nothing.told_cache nothing.told
-
-      verdict_err : (why : ExtractFault) (y : List ℕ) → Found y
-          → EndsBy {A = Unit {0}} (λ lost. Loses store view t a b lost × ((i : ℕ) → i < lost.entry → settled b.fates i ≡ true)) (Rose a.faults b.faults) (Err why)
-          → Verdict t.listing (Has y) (Err why)
-      verdict_err why y over (inl (lost, is, was)) = subst (λ e. Verdict t.listing (Has y) (Err e)) (sym is)
-          (verdict_named t.listing (Has y) lost.entry lost.id lost.refused
-          (λ i less. had y over i (omega (arith, less, was.0.listed)) (was.1 i less))
-          (never y over lost was.0) (sound lost was.0))
-      verdict_err why y over (inr (inl (is, rose))) = absurd (quiet_never f b.faults nothing.target (rose_later f a.faults b.faults ran.rises rose))
-      verdict_err why y over (inr (inr is)) = subst (λ e. Verdict t.listing (Has y) (Err e)) (sym is) tt
-
-      pub exactly_err : (why : ExtractFault) → r ≡ Err why → IfSome o (λ y. Verdict t.listing (Has y) (Err why))
-      exactly_err why so = some_map o Found (λ y. Verdict t.listing (Has y) (Err why)) (λ y over. verdict_err why y over (subst (EndsBy _ _) so ran.ends.first)) ran.over
-
-      pub exactly_ok : (u : Unit {0}) → r ≡ Ok u → (report : Report) → IfSome o (λ y. Verdict t.listing (Has y) (Ok report))
-      exactly_ok u so report = some_map o Found (λ y. Verdict t.listing (Has y) (Ok report)) (λ y over i inside. had y over i inside (all_settled u so i inside)) ran.over
-
-      abbrev Stands : List ℕ → List ℕ → Type 0
-      Stands y z = (i : ℕ) → i < count_of t.listing → (Has y i → IsRightAt z t.listing i) × ((Has y i → ⊥) → slice_of t.listing z i ≡ slice_of t.listing (over_base y) i)
-
-      -- an entry that can't be had was never written
-      untouched : (y z : List ℕ) → Found y → Filled y z → (i : ℕ) → i < count_of t.listing → (Has y i → ⊥) → slice_of t.listing z i ≡ slice_of t.listing (over_base y) i
-      untouched y z over fills i inside hasnt = elim (cases_Bool (settled b.fates i)) [
-        | inl is ↦ absurd (hasnt (had y over i inside is))
-        | inr isnt ↦ elim (left_at t.listing a.fates b.fates f a.faults b.faults ran.rises rises_on (over_base y) z over fills i inside isnt) [
-          | inl same ↦ same
-          | inr rose ↦ absurd (quiet_never f b.faults nothing.target rose)
-        ]
-      ]
-
-      pub after_ok : (u : Unit {0}) → r ≡ Ok u → (report : Report) → WhereTold o b.held.bytes (λ y z. After t.listing (Has y) (over_base y) z (Ok report))
-      after_ok u so report = told_map o b.held.bytes Found Filled (λ y z. After t.listing (Has y) (over_base y) z (Ok report))
-          (λ y z over fills i inside. (
-            λ has. right_at t.listing a.fates b.fates f a.faults b.faults ran.rises rises_on (over_base y) z over fills i inside (all_settled u so i inside),
-            untouched y z over fills i inside,
-          ))
-          ran.over filled
-
-      after_lost : (why : ExtractFault) (y z : List ℕ) → Found y → Filled y z
-          → (why ≡ faults.Memory) ⊎ (Rose a.faults b.faults ⊎ ((i : ℕ) → i < count_of t.listing → settled b.fates i ≡ false → (lost : Lost)
-          × (want_at t.plan lost.entry ≡ want_at t.plan i) × Loses store view t a b lost))
-          → HadMemory why → Stands y z
-      after_lost why y z over fills (inl is) memory = absurd (subst HadMemory is memory)
-      after_lost why y z over fills (inr (inl rose)) memory = absurd (quiet_never f b.faults nothing.target (rose_later f a.faults b.faults ran.rises rose))
-      after_lost why y z over fills (inr (inr left)) memory = λ i inside. (
-        λ has. elim (cases_Bool (settled b.fates i)) [
-          | inl is ↦ right_at t.listing a.fates b.fates f a.faults b.faults ran.rises rises_on (over_base y) z over fills i inside is
-          | inr isnt ↦
-              let lost = left i inside isnt in
-              absurd (never y over lost.0 lost.2
-              (obtainable_as t ran.wants (over_base y) views (cached ++ maps) i lost.0.entry inside lost.2.listed lost.1 has)
-              (tells_of lost.0.refused lost.2.had_memory))
-        ],
-        untouched y z over fills i inside,
-      )
-
-      pub after_fault : (why : ExtractFault) → r ≡ Err why → WhereTold o b.held.bytes (λ y z. After t.listing (Has y) (over_base y) z (Err why))
-      after_fault why so = told_map o b.held.bytes Found Filled (λ y z. After t.listing (Has y) (over_base y) z (Err why))
-          (λ y z over fills. after_err t.listing (Has y) (over_base y) z why (after_lost why y z over fills (subst (λ q. IfErr q (λ e. (e ≡ faults.Memory) ⊎ (Rose a.faults b.faults ⊎ ((i : ℕ) → i < count_of t.listing → settled b.fates i ≡ false → (lost : Lost)
-          × (want_at t.plan lost.entry ≡ want_at t.plan i) × Loses store view t a b lost)))) so ran.ends.left)))
-          ran.over filled
-
       -- ---- what it cost
 
       abbrev source : List ℕ → ℕ → Fate
@@ -469,21 +232,30 @@ module _ {S V : Type 0} (store : StoreWords S) (view : ViewWords V) (t : Task) (
     seeds = ran.passed.stretch.step.seeds;
   }
 
-  pub assembled_err : (why : ExtractFault) → r ≡ Err why → IsAssembled store view t o b.held.bytes (first_sources store view t o f a b) (from b) (Err why)
-  assembled_err why so = did (Err why) (bytes_err store view t o f a b r ran (AreUnused (first_sources store view t o f a b) (from b)) why so) (lost_err store view t o f a b r ran why so)
-      (λ telling cached maps has told. only_err store view t o f a b r ran cached maps telling has told why)
-      (λ cached maps nothing one. exactly_err store view t o f a b r ran cached maps nothing one why so)
-      (λ cached maps nothing one. after_fault store view t o f a b r ran cached maps nothing one why so)
+  abbrev first : Sources S V
+  first = first_sources store view t o f a b
+
+  done : Finished store view t o first (λ i. ⊥) a b r
+  done = finished store view t o f a b r ran
+
+  none_such : (cached maps : List (Map (List ℕ))) → IfSome o (SuchCan store view t o first (λ i. ⊥) a b r done cached maps)
+  none_such cached maps = some_all o (SuchCan store view t o first (λ i. ⊥) a b r done cached maps) (λ y i inside none. absurd none)
+
+  pub assembled_err : (why : ExtractFault) → r ≡ Err why → IsAssembled store view t o b.held.bytes first (from b) (Err why)
+  assembled_err why so = did (Err why) (bytes_err store view t o first (λ i. ⊥) a b r done (AreUnused first (from b)) why so) (lost_err store view t o first (λ i. ⊥) a b r done why so)
+      (λ telling cached maps has told. only_err store view t o first (λ i. ⊥) a b r done cached maps telling has told why (none_such cached maps))
+      (λ cached maps nothing one. exactly_err store view t o first (λ i. ⊥) a b r done cached maps nothing one (none_such cached maps) why so)
+      (λ cached maps nothing one. after_fault store view t o first (λ i. ⊥) a b r done cached maps nothing one (none_such cached maps) why so)
       (λ cached maps nothing one. economy_err store view t o f a b r ran cached maps nothing one why so)
       (λ cached maps nothing one. some_all o (λ y. Unit {0}) (λ y. tt))
 
   pub assembled_ok : (u : Unit {0}) → r ≡ Ok u → (report : Report)
       → report.seeded ≡ tally fate.Seeded b.fates (count_of t.listing) → report.cached ≡ tally fate.Cached b.fates (count_of t.listing) → report.fetched ≡ tally fate.Fetched b.fates (count_of t.listing)
-      → IsAssembled store view t o b.held.bytes (first_sources store view t o f a b) (from b) (Ok report)
-  assembled_ok u so report seeded cached_is fetched = did (Ok report) (bytes_ok store view t o f a b r ran (AreUnused (first_sources store view t o f a b) (from b)) u so report) tt
-      (λ telling cached maps has told. only_ok store view t o f a b r ran cached maps telling has told u so report)
-      (λ cached maps nothing one. exactly_ok store view t o f a b r ran cached maps nothing one u so report)
-      (λ cached maps nothing one. after_ok store view t o f a b r ran cached maps nothing one u so report)
+      → IsAssembled store view t o b.held.bytes first (from b) (Ok report)
+  assembled_ok u so report seeded cached_is fetched = did (Ok report) (bytes_ok store view t o first (λ i. ⊥) a b r done (AreUnused first (from b)) u so report) tt
+      (λ telling cached maps has told. only_ok store view t o first (λ i. ⊥) a b r done cached maps telling has told u so report (none_such cached maps))
+      (λ cached maps nothing one. exactly_ok store view t o first (λ i. ⊥) a b r done cached maps nothing one (none_such cached maps) u so report)
+      (λ cached maps nothing one. after_ok store view t o first (λ i. ⊥) a b r done cached maps nothing one (none_such cached maps) u so report)
       (λ cached maps nothing one. economy_ok store view t o f a b r ran cached maps nothing one u so report)
       (λ cached maps nothing one. reported_ok store view t o f a b r ran cached maps nothing one u so report seeded cached_is fetched)
 

@@ -1,27 +1,27 @@
--- What an assembly leaves of the base, which are the target's bytes with the image's length. The fates are m after the
--- survey and n at the end, and the counts of the target's faults a at first, b after the survey and c at the end.
+-- What an assembly leaves of the base, which are the target's bytes with the image's length. Before its last passes the
+-- bytes are t0, the fates m and the count of the target's faults b; at the end they are t, n and c, and at first the
+-- count was a. Where there are no passes before, t0 is the base.
 use Rattle.std.proofs.Common.{◌≡◌, ◌⊎◌, ℕ, ◌<◌, ◌≤◌, List, [], ◌++◌, length, Option, Some, None, IfSome, Err, true, false, refl, sym, ap, ◌∙◌, subst, inl, inr, arith}
-use Rattle.std.proofs.Math.Logic.{⊎_map}
-use Rattle.std.proofs.lemmas.Bool.{cases_Bool}
+use Rattle.std.proofs.lemmas.Bool.{cases_Bool, true≢false}
 use Rattle.std.proofs.lemmas.List.Elements.{Contains-append_left, Contains-append_right}
 use Rattle.std.specs.Option.{option_map}
-use Rattle.assembler.proofs.Filled.{right_on, rose_still}
+use Rattle.assembler.proofs.Filled.{open_before, right_on, rose_still}
 use Rattle.assembler.specs.Assemblies.{Assembles, KeepsBase, KeepsTorn}
 use Rattle.assembler.specs.Faults.{fault_of}
-use Rattle.range_ledger.specs.Fills.{Fills, WhereTold}
-use Rattle.assembler.specs.Obtainable.{OnlyObtainable}
+use Rattle.range_ledger.specs.Fills.{Fills, Grows, WhereTold}
+use Rattle.assembler.specs.Obtainable.{IsObtainableOrBase, OnlyObtainable}
 use Rattle.assembler.specs.Passes.{EndsBy}
 use Rattle.assembler.specs.declared.fault.ExtractFault.{ExtractFault}
 use Rattle.assembler.specs.declared.fault.Lost.{Lost}
 use Rattle.caibx_codec.specs.Listing.{Listing, count_of, image_length, slice_of}
 use Rattle.caibx_codec.specs.Right.{IsRight, IsRightAt}
 use Rattle.chunk_store.specs.declared.id.ChunkId.{ChunkId}
-use Rattle.dsy_base.proofs.Counts.{rose_later}
 use Rattle.dsy_base.specs.Bytes.{Held, held_resized, resized}
 use Rattle.dsy_base.specs.Counts.{Rose}
 use Rattle.extract_plan.specs.Deal.{AreAlike}
 use Rattle.std.specs.List.{Contains}
 use Rattle.range_survey.proofs.Excused.{excused_rose, excuses_none, excuses_on}
+use Rattle.range_survey.specs.Excuses.{Excuses}
 use Rattle.range_survey.specs.Fates.{OpenWrong, SettledRight, settled}
 use Rattle.range_survey.specs.declared.fate.Fate.{Fate}
 use Rattle.store_chain.specs.declared.refused.Refused.{Refused}
@@ -57,35 +57,94 @@ pub surveyed : (l : Listing) (m : List Fate) (a b : ℕ) (mid : Option (List ℕ
 surveyed l m a b None size right wrong = tt
 surveyed l m a b (Some t) size right wrong = record { size = size; yes = right; no = wrong }
 
--- an entry that is right in the base and was left open has failed
-pub missed_at : (l : Listing) (m : List Fate) (a b c : ℕ) → b ≤ c → (base : List ℕ) → Surveyed l m a b base → (i : ℕ) → i < count_of l → settled m i ≡ false
-    → IsRightAt base l i → Rose a c
-missed_at l m a b c bc base over i inside isnt right =
-    rose_still a b c bc (excused_rose over.no.failed i a b (over.no.missed i inside isnt right) over.no.excused)
+-- what stands before a pass, where the base was `base` and the bytes are t0: a settled entry is right, and was so in the
+-- base unless it is such; any other has the base's bytes; and one that is right in the base is settled and was never
+-- written; but for entries on which calls have failed
+pub record StandsOver (l : Listing) (Such : ℕ → Type 0) (m : List Fate) (a b : ℕ) (base t0 : List ℕ) : Type 0 where
+  pub failed : List ℕ
+  pub excused : Excuses failed a b
+  pub size : length t0 ≡ image_length l
+  pub right : SettledRight l t0 m (count_of l)
+  pub filled : (i : ℕ) → i < count_of l → settled m i ≡ true → IsRightAt base l i ⊎ Such i
+  pub untouched : (i : ℕ) → i < count_of l → settled m i ≡ false → (slice_of l t0 i ≡ slice_of l base i) ⊎ Contains failed i
+  pub base_right : (i : ℕ) → i < count_of l → IsRightAt base l i → (settled m i ≡ true) ⊎ Contains failed i
+  pub base_kept : (i : ℕ) → i < count_of l → IsRightAt base l i → (slice_of l t0 i ≡ slice_of l base i) ⊎ Contains failed i
 
-module _ (l : Listing) (m n : List Fate) (a b c : ℕ) (ab : a ≤ b) (bc : b ≤ c) (base t : List ℕ) (over : Surveyed l m a b base) (fills : Fills l m n b c base t) where
+-- so it is after the survey
+pub stands_surveyed : (l : Listing) (m : List Fate) (a b : ℕ) (base : List ℕ) → Surveyed l m a b base → StandsOver l (λ i. ⊥) m a b base base
+stands_surveyed l m a b base over = record {
+  failed = over.no.failed;
+  excused = over.no.excused;
+  size = over.size;
+  right = over.yes;
+  filled = λ i inside is. inl (over.yes i inside is);
+  untouched = λ i inside isnt. inl refl;
+  base_right = λ i inside right. elim (cases_Bool (settled m i)) [
+    | inl is ↦ inl is
+    | inr isnt ↦ inr (over.no.missed i inside isnt right)
+  ];
+  base_kept = λ i inside right. inl refl;
+}
+
+-- an entry that is right in the base and isn't settled has failed
+pub missed_at : (l : Listing) (Such : ℕ → Type 0) (m : List Fate) (a b c : ℕ) → b ≤ c → (base t0 : List ℕ) → StandsOver l Such m a b base t0 → (i : ℕ) → i < count_of l
+    → settled m i ≡ false → IsRightAt base l i → Rose a c
+missed_at l Such m a b c bc base t0 over i inside isnt right = elim (over.base_right i inside right) [
+  | inl is ↦ absurd (true≢false (sym is ∙ isnt))
+  | inr missed ↦ rose_still a b c bc (excused_rose over.failed i a b missed over.excused)
+]
+
+module _ (l : Listing) (Such : ℕ → Type 0) (m n : List Fate) (a b c : ℕ) (ab : a ≤ b) (bc : b ≤ c) (grows : Grows m n) (base t0 t : List ℕ) (over : StandsOver l Such m a b base t0)
+    (fills : Fills l m n b c t0 t) where
   pub right_at : (i : ℕ) → i < count_of l → settled n i ≡ true → IsRightAt t l i
-  right_at = right_on l m n b c (Some base) (Some t) refl fills over.yes
+  right_at = right_on l m n b c (Some t0) (Some t) refl fills over.right
 
-  pub left_at : (i : ℕ) → i < count_of l → settled n i ≡ false → (slice_of l t i ≡ slice_of l base i) ⊎ Rose a c
-  left_at i inside isnt = elim (fills.left i inside isnt) [
-    | inl same ↦ inl same
-    | inr torn ↦ inr (rose_later a b c ab (excused_rose fills.failed i b c torn fills.excused))
+  -- an entry that isn't settled has the base's bytes, or a call on it failed
+  open_at : (i : ℕ) → i < count_of l → settled n i ≡ false → (slice_of l t i ≡ slice_of l base i) ⊎ Contains (over.failed ++ fills.failed) i
+  open_at i inside isnt = elim (fills.left i inside isnt) [
+    | inl same ↦ elim (over.untouched i inside (open_before m n grows i isnt)) [
+      | inl as_base ↦ inl (same ∙ as_base)
+      | inr failed ↦ inr (Contains-append_left over.failed fills.failed i failed)
+    ]
+    | inr torn ↦ inr (Contains-append_right over.failed fills.failed i torn)
   ]
 
-  -- the entries that the survey couldn't read, and those that couldn't be written
+  excused_both : Excuses (over.failed ++ fills.failed) a c
+  excused_both = excuses_on over.failed fills.failed a b c bc over.excused fills.excused
+
+  pub left_at : (i : ℕ) → i < count_of l → settled n i ≡ false → (slice_of l t i ≡ slice_of l base i) ⊎ Rose a c
+  left_at i inside isnt = elim (open_at i inside isnt) [
+    | inl same ↦ inl same
+    | inr failed ↦ inr (excused_rose (over.failed ++ fills.failed) i a c failed excused_both)
+  ]
+
+  -- the entries that couldn't be read, and those that couldn't be written
   pub leaves : KeepsBase l a c base t
   leaves = record {
-    failed = over.no.failed ++ fills.failed;
-    excused = excuses_on over.no.failed fills.failed a b c bc over.no.excused fills.excused;
+    failed = over.failed ++ fills.failed;
+    excused = excused_both;
     size = fills.size ∙ over.size;
     each = λ i inside. elim (cases_Bool (settled n i)) [
       | inl is ↦ inl (right_at i inside is)
-      | inr isnt ↦ inr (⊎_map (λ same. same) (Contains-append_right over.no.failed fills.failed i) (fills.left i inside isnt))
+      | inr isnt ↦ inr (open_at i inside isnt)
     ];
-    kept = λ i inside right. elim (cases_Bool (settled m i)) [
-      | inl is ↦ inl (fills.kept i inside is)
-      | inr isnt ↦ inr (Contains-append_left over.no.failed fills.failed i (over.no.missed i inside isnt right))
+    kept = λ i inside right. elim (over.base_right i inside right) [
+      | inl is ↦ elim (over.base_kept i inside right) [
+        | inl same ↦ inl (fills.kept i inside is ∙ same)
+        | inr failed ↦ inr (Contains-append_left over.failed fills.failed i failed)
+      ]
+      | inr failed ↦ inr (Contains-append_left over.failed fills.failed i failed)
+    ];
+  }
+
+  -- an entry that is settled is such as the caller says
+  pub only_such : (P : ℕ → Type 0) → ((i : ℕ) → i < count_of l → settled n i ≡ true → P i) → IsObtainableOrBase l P a c base t
+  only_such P all = record {
+    failed = over.failed ++ fills.failed;
+    excused = excused_both;
+    each = λ i inside. elim (cases_Bool (settled n i)) [
+      | inl is ↦ inl (all i inside is)
+      | inr isnt ↦ inr (open_at i inside isnt)
     ];
   }
 
@@ -97,12 +156,15 @@ module _ (l : Listing) (m n : List Fate) (a b c : ℕ) (ab : a ≤ b) (bc : b �
     keeps = leaves;
     entry = k;
     listed = listed;
-    wrong = λ right. Contains-append_left over.no.failed fills.failed k (over.no.missed k listed was_open right);
+    wrong = λ right. elim (over.base_right k listed right) [
+      | inl is ↦ absurd (true≢false (sym is ∙ was_open))
+      | inr failed ↦ Contains-append_left over.failed fills.failed k failed
+    ];
     before = λ j less. right_at j (omega (arith, less, listed)) (before j less);
     torn = i;
     inside = inside;
     alike = alike;
-    is_torn = Contains-append_right over.no.failed fills.failed i torn;
+    is_torn = Contains-append_right over.failed fills.failed i torn;
   }
 
   pub right_all : ((i : ℕ) → i < count_of l → settled n i ≡ true) → IsRight t l

@@ -9,7 +9,7 @@ use Rattle.assembler.proofs.Filled.{open_before, settled_on}
 use Rattle.assembler.proofs.Passed.{OneMore}
 use Rattle.assembler.proofs.Stocking.{give_same}
 use Rattle.assembler.proofs.Tallies.{tallied_none, tallied_on}
-use Rattle.assembler.specs.Economy.{HadMemory, PassedBy, SettledBy, SettlesBy, Tallied, sum_below}
+use Rattle.assembler.specs.Economy.{HadMemory, PassedBy, SettledBy, SettlesBy, Tallied}
 use Rattle.assembler.specs.Passes.{WhereQuiet, source_at, want_at}
 use Rattle.assembler.specs.Settling.{Settles}
 use Rattle.assembler.specs.Stages.{Stage, Stretch, from}
@@ -19,7 +19,7 @@ use Rattle.caibx_codec.specs.Listing.{count_of}
 use Rattle.chunk_sources.proofs.Cached.{stocked_told}
 use Rattle.chunk_sources.proofs.Origins.{same_raised}
 use Rattle.chunk_sources.specs.Caches.{HaveOneSize, TakesWants, cached_in}
-use Rattle.chunk_sources.specs.Economy.{pass_asks, source_over}
+use Rattle.chunk_sources.specs.Economy.{pass_asks, source_if, source_over, sum_below}
 use Rattle.chunk_sources.specs.Sources.{SourcesQuiet, views_of}
 use Rattle.chunk_sources.specs.Wants.{IsAmong, Task}
 use Rattle.chunk_store.specs.declared.store.Store.{Ghosts as StoreWords}
@@ -34,26 +34,22 @@ use Rattle.range_survey.specs.declared.fate.Fate.{Fate}
 use Rattle.range_survey.specs.declared.fate.Fate.TheVariants as fate
 use Rattle.store_chain.specs.Chains.{Chained}
 
--- the source of a want that is done, and else one that costs nothing
-abbrev pub so_far : (ℕ → Bool) → (ℕ → Fate) → ℕ → Fate
-so_far done source w = if done w then source w else fate.Kept
-
 -- ---- sums over the wants that are done
 
 module _ (done later : ℕ → Bool) (w n : ℕ) (below : w < n) (wasnt : done w ≡ false) (is : later w ≡ true) (others : (v : ℕ) → v ≢ w → later v ≡ done v) where
   -- where w is done too
-  sum_more : (f : Fate → ℕ) (source : ℕ → Fate) → f fate.Kept ≡ 0 → sum_below (λ v. f (so_far done source v)) n + f (source w) ≡ sum_below (λ v. f (so_far later source v)) n
+  sum_more : (f : Fate → ℕ) (source : ℕ → Fate) → f fate.Kept ≡ 0 → sum_below (λ v. f (source_if done source v)) n + f (source w) ≡ sum_below (λ v. f (source_if later source v)) n
   sum_more f source none =
-      let here : f (so_far later source w) ≡ f (source w) = ap (λ b. f (if b then source w else fate.Kept)) is in
-      let was : f (so_far done source w) ≡ 0 = ap (λ b. f (if b then source w else fate.Kept)) wasnt ∙ none in
-      let one = sum_one (λ v. f (so_far done source v)) (λ v. f (so_far later source v)) w n (λ v apart. ap (λ b. f (if b then source v else fate.Kept)) (others v apart)) was below in
+      let here : f (source_if later source w) ≡ f (source w) = ap (λ b. f (if b then source w else fate.Kept)) is in
+      let was : f (source_if done source w) ≡ 0 = ap (λ b. f (if b then source w else fate.Kept)) wasnt ∙ none in
+      let one = sum_one (λ v. f (source_if done source v)) (λ v. f (source_if later source v)) w n (λ v apart. ap (λ b. f (if b then source v else fate.Kept)) (others v apart)) was below in
       omega (arith, here, one)
 
-  passed_on : {S : Type 0} (source : ℕ → Fate) (count : ℕ) (m0 m1 m2 : List Fate) (c0 c1 c2 : Chained S) → PassedBy (so_far done source) n count m0 m1 c0 c1
+  passed_on : {S : Type 0} (source : ℕ → Fate) (count : ℕ) (m0 m1 m2 : List Fate) (c0 c1 c2 : Chained S) → PassedBy (source_if done source) n count m0 m1 c0 c1
       → c2.asks ≡ raised c1.asks (pass_asks (source w)) → Tallied (one_if fate.Seeded (source w)) (one_if fate.Cached (source w)) (one_if fate.Fetched (source w)) count m1 m2
-      → PassedBy (so_far later source) n count m0 m2 c0 c2
+      → PassedBy (source_if later source) n count m0 m2 c0 c2
   passed_on source count m0 m1 m2 c0 c1 c2 before calls tallied =
-      let was = so_far done source in
+      let was = source_if done source in
       let both = tallied_on (sum_below (λ v. one_if fate.Seeded (was v)) n) (sum_below (λ v. one_if fate.Cached (was v)) n) (sum_below (λ v. one_if fate.Fetched (was v)) n)
       (one_if fate.Seeded (source w)) (one_if fate.Cached (source w)) (one_if fate.Fetched (source w)) count m0 m1 m2 before.tallied tallied in
       record {
@@ -68,10 +64,10 @@ module _ (done later : ℕ → Bool) (w n : ℕ) (below : w < n) (wasnt : done w
       }
 
 passed_nothing : {S : Type 0} (done : ℕ → Bool) (source : ℕ → Fate) (n count : ℕ) (m : List Fate) (c : Chained S) → ((w : ℕ) → done w ≡ false) → c.asks < 2 ^ 64
-    → PassedBy (so_far done source) n count m m c c
+    → PassedBy (source_if done source) n count m m c c
 passed_nothing done source n count m c none below =
-    let zero_of : (f : Fate → ℕ) → f fate.Kept ≡ 0 → sum_below (λ w. f (so_far done source w)) n ≡ 0 = λ f is.
-    sum_none (λ w. f (so_far done source w)) n (λ w less. ap (λ b. f (if b then source w else fate.Kept)) (none w) ∙ is) in
+    let zero_of : (f : Fate → ℕ) → f fate.Kept ≡ 0 → sum_below (λ w. f (source_if done source w)) n ≡ 0 = λ f is.
+    sum_none (λ w. f (source_if done source w)) n (λ w less. ap (λ b. f (if b then source w else fate.Kept)) (none w) ∙ is) in
     record {
       calls = same_raised c.asks below ∙ ap (raised c.asks) (sym (zero_of pass_asks refl));
       tallied = record {
@@ -81,19 +77,12 @@ passed_nothing done source n count m c none below =
       };
     }
 
--- all that cost anything are done
-passed_all : {S : Type 0} (done : ℕ → Bool) (source : ℕ → Fate) (n count : ℕ) (m0 m1 : List Fate) (c0 c1 : Chained S)
-    → ((w : ℕ) → w < n → (done w ≡ true) ⊎ (source w ≡ fate.Kept)) → PassedBy (so_far done source) n count m0 m1 c0 c1 → PassedBy source n count m0 m1 c0 c1
-passed_all done source n count m0 m1 c0 c1 all passed =
-    let here : (w : ℕ) → w < n → so_far done source w ≡ source w = λ w less. elim (all w less) [
-      | inl is ↦ ap (λ b. if b then source w else fate.Kept) is
-      | inr kept ↦ elim (cases_Bool (done w)) [
-        | inl is ↦ ap (λ b. if b then source w else fate.Kept) is
-        | inr isnt ↦ ap (λ b. if b then source w else fate.Kept) isnt ∙ sym kept
-      ]
-    ] in
-    let same : (f : Fate → ℕ) → sum_below (λ w. f (so_far done source w)) n ≡ sum_below (λ w. f (source w)) n = λ f.
-    sum_same (λ w. f (so_far done source w)) (λ w. f (source w)) n (λ w less. ap f (here w less)) in
+-- sources that are the same below n cost the same
+pub passed_as : {S : Type 0} (source other : ℕ → Fate) (n count : ℕ) (m0 m1 : List Fate) (c0 c1 : Chained S) → ((w : ℕ) → w < n → source w ≡ other w)
+    → PassedBy source n count m0 m1 c0 c1 → PassedBy other n count m0 m1 c0 c1
+passed_as source other n count m0 m1 c0 c1 here passed =
+    let same : (f : Fate → ℕ) → sum_below (λ w. f (source w)) n ≡ sum_below (λ w. f (other w)) n = λ f.
+    sum_same (λ w. f (source w)) (λ w. f (other w)) n (λ w less. ap f (here w less)) in
     record {
       calls = passed.calls ∙ ap (raised c0.asks) (same pass_asks);
       tallied = record {
@@ -102,6 +91,14 @@ passed_all done source n count m0 m1 c0 c1 all passed =
         from_stores = passed.tallied.from_stores ∙ ap (λ k. tally fate.Fetched m0 count + k) (same (one_if fate.Fetched));
       };
     }
+
+-- all that cost anything are done
+all_done : (done : ℕ → Bool) (source : ℕ → Fate) (w : ℕ) → (done w ≡ true) ⊎ (source w ≡ fate.Kept) → source_if done source w ≡ source w
+all_done done source w (inl is) = ap (λ b. if b then source w else fate.Kept) is
+all_done done source w (inr kept) = elim (cases_Bool (done w)) [
+  | inl is ↦ ap (λ b. if b then source w else fate.Kept) is
+  | inr isnt ↦ ap (λ b. if b then source w else fate.Kept) isnt ∙ sym kept
+]
 
 -- ---- one want
 
@@ -131,7 +128,7 @@ module _ {S V : Type 0} (store : StoreWords S) (view : ViewWords V) (t : Task) w
   pub record Paid (done : ℕ → Bool) (a b : Stage S V) : Type 0 where
     pub untouched : (i : ℕ) → done (want_at t.plan i) ≡ false → settled b.fates i ≡ settled a.fates i
     pub passed : WhereQuiet store view t.listing (from a) (from b) (λ cached maps.
-        PassedBy (so_far done (source_at view t a cached maps)) t.plan.wants (count_of t.listing) a.fates b.fates a.kit.chain b.kit.chain)
+        PassedBy (source_if done (source_at view t a cached maps)) t.plan.wants (count_of t.listing) a.fates b.fates a.kit.chain b.kit.chain)
     pub left : WhereQuiet store view t.listing (from a) (from b) (λ cached maps. (i : ℕ) → i < count_of t.listing → done (want_at t.plan i) ≡ true
         → settled b.fates i ≡ false → source_at view t a cached maps (want_at t.plan i) ≡ fate.Open)
 
@@ -167,7 +164,7 @@ module _ {S V : Type 0} (store : StoreWords S) (view : ViewWords V) (t : Task) w
         (give_same store t.listing t.plan (λ v. done v ≡ true) a.kit.chain.stores a.cache b.cache was now maps first.stocked told tells held wants more.within one w more.below
         (λ so. true≢false (sym so ∙ more.wasnt)))
 
-    untouched_more : (y : ℕ) → later (want_at t.plan y) ≡ false → settled c.fates y ≡ settled a.fates y
+    pub untouched_more : (y : ℕ) → later (want_at t.plan y) ≡ false → settled c.fates y ≡ settled a.fates y
     untouched_more y isnt =
         let apart = apart_from (want_at t.plan y) isnt in
         others_stay y apart ∙ before.untouched y (sym (more.others (want_at t.plan y) apart) ∙ isnt)
@@ -188,7 +185,7 @@ module _ {S V : Type 0} (store : StoreWords S) (view : ViewWords V) (t : Task) w
           (source_still cached later_on.0 maps nothing.told_cache later_on.1 nothing.told one) (by.0 memory, by.1)
 
       passed_more : (cached maps : List (Map (List ℕ))) → Nothing a c cached maps → HaveOneSize t.listing a.cache cached maps
-          → PassedBy (so_far later (source_at view t a cached maps)) t.plan.wants (count_of t.listing) a.fates c.fates a.kit.chain c.kit.chain
+          → PassedBy (source_if later (source_at view t a cached maps)) t.plan.wants (count_of t.listing) a.fates c.fates a.kit.chain c.kit.chain
       passed_more cached maps nothing one =
           let call = now_by cached maps nothing one in
           let source = source_at view t a cached maps in
@@ -216,9 +213,19 @@ module _ {S V : Type 0} (store : StoreWords S) (view : ViewWords V) (t : Task) w
       → WhereQuiet store view t.listing (from a) (from b) (λ cached maps.
       PassedBy (source_at view t a cached maps) t.plan.wants (count_of t.listing) a.fates b.fates a.kit.chain b.kit.chain)
   paid_all done a b all paid cached maps nothing one =
-      passed_all done (source_at view t a cached maps) t.plan.wants (count_of t.listing) a.fates b.fates a.kit.chain b.kit.chain
-      (λ w less. elim (all w less) [
+      let source = source_at view t a cached maps in
+      passed_as (source_if done source) source t.plan.wants (count_of t.listing) a.fates b.fates a.kit.chain b.kit.chain
+      (λ w less. all_done done source w (elim (all w less) [
         | inl is ↦ inl is
         | inr other ↦ inr (source_kept t (views_of view a.kit.seeds.items) maps w cached (settled a.fates) other.0 other.1 other.2)
-      ])
+      ]))
       (paid.passed cached maps nothing one)
+
+  -- these wants are done
+  pub paid_share : (done these : ℕ → Bool) (a b : Stage S V) → ((w : ℕ) → w < t.plan.wants → done w ≡ these w) → Paid done a b
+      → WhereQuiet store view t.listing (from a) (from b) (λ cached maps.
+      PassedBy (source_if these (source_at view t a cached maps)) t.plan.wants (count_of t.listing) a.fates b.fates a.kit.chain b.kit.chain)
+  paid_share done these a b same paid cached maps nothing one =
+      let source = source_at view t a cached maps in
+      passed_as (source_if done source) (source_if these source) t.plan.wants (count_of t.listing) a.fates b.fates a.kit.chain b.kit.chain
+      (λ w less. ap (λ b. if b then source w else fate.Kept) (same w less)) (paid.passed cached maps nothing one)

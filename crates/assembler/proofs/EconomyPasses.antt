@@ -6,11 +6,11 @@ use Rattle.assembler.proofs.EconomySums.{raised_on, sum_both}
 use Rattle.assembler.proofs.Tallies.{tallied_on}
 use Rattle.assembler.proofs.Entries.{among_of, first_among, listed_of}
 use Rattle.assembler.proofs.HadOn.{had_want}
-use Rattle.assembler.specs.Economy.{AssembledBy, PassedBy, all_asks, sum_below}
+use Rattle.assembler.specs.Economy.{AssembledBy, PassedBy}
 use Rattle.assembler.specs.Passes.{HadAt, want_at}
 use Rattle.range_survey.specs.Reports.{one_if, tally}
 use Rattle.caibx_codec.specs.Listing.{count_of, kind_of, size_of}
-use Rattle.chunk_sources.specs.Economy.{pass_asks, source_over, stores_give}
+use Rattle.chunk_sources.specs.Economy.{all_asks, pass_asks, source_over, stores_give, sum_below}
 use Rattle.chunk_sources.specs.Wants.{IsAmong, Task}
 use Rattle.dsy_base.specs.Bytes.{Held}
 use Rattle.dsy_base.specs.Counts.{raised}

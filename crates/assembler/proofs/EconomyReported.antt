@@ -3,9 +3,10 @@
 use Rattle.std.proofs.Common.{◌≡◌, ℕ, zero, suc, ◌+◌, ◌<◌, ◌≤◌, List, Err, refl, sym, ap, ◌∙◌, inl, inr, arith}
 use Rattle.std.proofs.lemmas.Bool.{cases_Bool}
 use Rattle.std.proofs.lemmas.Slice.Eq.{bytes_eq-Decides}
-use Rattle.assembler.proofs.Based.{Surveyed, missed_at}
+use Rattle.assembler.proofs.Based.{Surveyed, stands_surveyed, missed_at}
 use Rattle.assembler.proofs.EconomySums.{sum_same}
-use Rattle.assembler.specs.Economy.{AsksExactly, AssembledBy, ReportsExactly, UnlessMemory, all_asks, sum_below}
+use Rattle.assembler.specs.Economy.{AsksExactly, AssembledBy, ReportsExactly, UnlessMemory}
+use Rattle.chunk_sources.specs.Economy.{all_asks, sum_below}
 use Rattle.range_survey.specs.Reports.{one_if, tally}
 use Rattle.assembler.specs.declared.fault.ExtractFault.{ExtractFault}
 use Rattle.assembler.specs.declared.fault.ExtractFault.TheVariants as faults
@@ -27,7 +28,7 @@ settled_right l m a b quiet base over i inside =
     elim (cases_Bool (settled m i)) [
       | inl is ↦ is ∙ sym (decides.1 (over.yes i inside is))
       | inr isnt ↦ elim (cases_Bool (is_right_at l base i)) [
-        | inl right ↦ absurd (quiet_never a b quiet (missed_at l m a b b (omega arith) base over i inside isnt (decides.0 right)))
+        | inl right ↦ absurd (quiet_never a b quiet (missed_at l (λ i. ⊥) m a b b (omega arith) base base (stands_surveyed l m a b base over) i inside isnt (decides.0 right)))
         | inr wrong ↦ isnt ∙ sym wrong
       ]
     ]

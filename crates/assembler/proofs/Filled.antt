@@ -13,6 +13,7 @@ use Rattle.range_survey.proofs.Excused.{excuses_none, excuses_on, excuses_since}
 use Rattle.range_survey.proofs.Fated.{set_apart, set_here}
 use Rattle.range_survey.specs.Fates.{SettledRight, fate_at, is_made, is_settled, settled}
 use Rattle.range_survey.specs.declared.fate.Fate.{Fate}
+use Rattle.range_survey.specs.declared.fate.Fate.TheVariants as fate
 use Rattle.range_ledger.specs.Fills.{Fills, FillsTorn, Grows, WhereTold}
 
 -- a count that rose before it rose further or stayed
@@ -29,6 +30,21 @@ settled_on m0 m1 g i is = ap is_settled (g.kept i is) ∙ is
 
 pub open_before : (m0 m1 : List Fate) → Grows m0 m1 → (i : ℕ) → settled m1 i ≡ false → settled m0 i ≡ false
 open_before m0 m1 g i isnt = false_from_ne_true (settled m0 i) (λ is. true≢false (sym (settled_on m0 m1 g i is) ∙ isnt))
+
+open_is : (f : Fate) → is_settled f ≡ false → f ≡ fate.Open
+open_is fate.Open isnt = refl
+open_is fate.Kept isnt = absurd (true≢false isnt)
+open_is fate.Copied isnt = absurd (true≢false isnt)
+open_is fate.Seeded isnt = absurd (true≢false isnt)
+open_is fate.Cached isnt = absurd (true≢false isnt)
+open_is fate.Fetched isnt = absurd (true≢false isnt)
+
+-- an entry that was settled before or is still open stays as it is
+pub fate_stays : (m0 m1 : List Fate) → Grows m0 m1 → (i : ℕ) → settled m1 i ≡ settled m0 i → fate_at m1 i ≡ fate_at m0 i
+fate_stays m0 m1 g i same = elim (cases_Bool (settled m0 i)) [
+  | inl is ↦ g.kept i is
+  | inr isnt ↦ open_is (fate_at m1 i) (same ∙ isnt) ∙ sym (open_is (fate_at m0 i) isnt)
+]
 
 pub grows_on : (m0 m1 m2 : List Fate) → Grows m0 m1 → Grows m1 m2 → Grows m0 m2
 grows_on m0 m1 m2 g h = record {

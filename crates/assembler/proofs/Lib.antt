@@ -17,6 +17,7 @@ pub mod EconomySums
 pub mod EconomySettled
 pub mod EconomyQuiet
 pub mod Based
+pub mod Finished
 pub mod Assembled
 pub mod EconomySources
 pub mod EconomyPaid
@@ -25,3 +26,4 @@ pub mod EconomyRetried
 pub mod EconomyPasses
 pub mod EconomyReported
 pub mod WholePasses
+pub mod OneWorker

@@ -9,7 +9,7 @@ use Rattle.assembler.proofs.Passed.{OneMore}
 use Rattle.assembler.proofs.Tried.{is_tried}
 use Rattle.range_ledger.specs.Fills.{Grows}
 use Rattle.assembler.specs.Losses.{IsFirstOpen, Where, lost_want}
-use Rattle.assembler.specs.Passes.{Loses, want_at}
+use Rattle.assembler.specs.Passes.{Loses, RefusedOnce, want_at}
 use Rattle.assembler.specs.Settling.{HasEnded}
 use Rattle.assembler.specs.Stages.{Stage, Stretch, from}
 use Rattle.assembler.specs.declared.fault.Lost.{Lost}
@@ -20,7 +20,7 @@ use Rattle.caibx_codec.specs.Listing.{count_of, id_of, kind_of, size_of}
 use Rattle.chunk_sources.proofs.Cached.{stocked_falls, stocked_gave, stocked_was}
 use Rattle.chunk_sources.specs.Caches.{CacheLacks, Stocked, TakesWants, cache_faults}
 use Rattle.chunk_sources.specs.Losses.{AskedLast, CopiesFailed, RefusedBy}
-use Rattle.chunk_sources.specs.Sources.{HeldAt, SeedsFailed, counts_of, views_of}
+use Rattle.chunk_sources.specs.Sources.{HeldAt, KeepsSeeds, SeedsFailed, counts_of, views_of}
 use Rattle.chunk_sources.specs.Wants.{Task, want_chunk}
 use Rattle.chunk_store.specs.declared.store.Store.{Ghosts as StoreWords}
 use Rattle.dsy_base.proofs.Counts.{rose_later}
@@ -29,9 +29,11 @@ use Rattle.dsy_base.specs.Counts.{Rose}
 use Rattle.dsy_base.specs.declared.view.View.{Ghosts as ViewWords}
 use Rattle.extract_plan.specs.Deal.{AreWants, first_of, of_want, want_id}
 use Rattle.extract_plan.specs.Places.{places_at}
+use Rattle.extract_plan.specs.declared.seed.Seed.{Seed}
 use Rattle.extract_plan.specs.declared.seed.SeedPlace.{SeedPlace}
 use Rattle.range_survey.specs.declared.fate.Fate.{Fate}
 use Rattle.store_chain.proofs.Kept.{kept_on, kept_still}
+use Rattle.store_chain.specs.Chains.{KeepsStores}
 use Rattle.store_chain.specs.Faults.{NoneFalls}
 use Rattle.store_chain.specs.declared.refused.Refused.TheVariants as refused
 
@@ -52,6 +54,13 @@ failed_wider views places id f0 f1 f2 f3 before after failed =
     (λ p rose has. rose_later (slice_index f0 p.seed) (slice_index f1 p.seed) (slice_index f3 p.seed) (before p.seed)
     (rose_still (slice_index f1 p.seed) (slice_index f2 p.seed) (slice_index f3 p.seed) (after p.seed) (rose has)))
     places failed
+
+-- seeds that failed have failed over all that went before too
+pub seeds_since : {V : Type 0} (view : ViewWords V) (s0 s1 s2 : List (Seed V)) (places : List SeedPlace) (id : List ℕ) → KeepsSeeds view s0 s1
+    → SeedsFailed (views_of view s1) places id (counts_of view s1) (counts_of view s2) → SeedsFailed (views_of view s0) places id (counts_of view s0) (counts_of view s2)
+seeds_since view s0 s1 s2 places id kept failed =
+    subst (λ v. SeedsFailed v places id (counts_of view s0) (counts_of view s2)) kept.held
+    (failed_wider (views_of view s1) places id (counts_of view s0) (counts_of view s1) (counts_of view s2) (counts_of view s2) kept.never_fall (λ s. omega arith) failed)
 
 copies_wider : (m0 m1 : List Fate) (es : List ℕ) (a b c e : ℕ) → Grows m0 m1 → a ≤ b → c ≤ e → CopiesFailed m1 es b c → CopiesFailed m0 es a e
 copies_wider m0 m1 es a b c e grows before after failed = λ i among is.
@@ -85,7 +94,7 @@ module _ {S V : Type 0} (store : StoreWords S) (view : ViewWords V) (t : Task) w
       ]
 
   -- it lacks it over all that went before too
-  lacks_since : (A : ℕ → Type 0) (stores : List S) (id : List ℕ) (size : ℕ) (e f h : Option Shelf) → Stocked (TakesWants store t.listing t.plan A stores) e f
+  pub lacks_since : (A : ℕ → Type 0) (stores : List S) (id : List ℕ) (size : ℕ) (e f h : Option Shelf) → Stocked (TakesWants store t.listing t.plan A stores) e f
       → CacheLacks (kind_of t.listing) id size f h → CacheLacks (kind_of t.listing) id size e h
   lacks_since A stores id size e f h stocked lacks = λ now tells gives.
       rose_later (cache_faults e) (cache_faults f) (cache_faults h) (stocked_falls (TakesWants store t.listing t.plan A stores) e f stocked) (lacks now tells gives)
@@ -111,30 +120,28 @@ module _ {S V : Type 0} (store : StoreWords S) (view : ViewWords V) (t : Task) w
     had_memory = was.had_memory;
   }
 
+  -- the stores refused it over all that went before too
+  pub refused_since : (lost : Lost) (s0 s1 s2 : List S) → KeepsStores store (IsListedGet t.listing) s0 s1 → RefusedOnce store view t lost s1 s2 → RefusedOnce store view t lost s0 s2
+  refused_since lost s0 s1 s2 kept was = record {
+    before = was.before;
+    after = was.after;
+    until = kept_on store (IsListedGet t.listing) s0 s1 was.before kept was.until;
+    refused = was.refused;
+    since = was.since;
+  }
+
   -- what is lost is lost over all that went before too
   pub lost_since : (A : ℕ → Type 0) (a b c : Stage S V) (lost : Lost) → Over A a b → AreLost b c lost → AreLost a c lost
-  lost_since A a b c lost over was =
-      let places = places_at t.places (want_at t.plan lost.entry) in
-      let f0 = counts_of view a.kit.seeds.items in
-      let f1 = counts_of view b.kit.seeds.items in
-      let f2 = counts_of view c.kit.seeds.items in
-      record {
-        listed = was.listed;
-        id_is = was.id_is;
-        copies = copies_wider a.fates b.fates (of_want t.plan (want_at t.plan lost.entry)) a.faults b.faults c.faults c.faults over.step.grows over.step.never_falls
-            (omega arith) was.copies;
-        cache = lacks_since A a.kit.chain.stores (id_of t.listing lost.entry) (size_of t.listing lost.entry) a.cache b.cache c.cache over.stocked was.cache;
-        seeds = subst (λ v. SeedsFailed v places lost.id.0 f0 f2) over.step.seeds.held
-            (failed_wider (views_of view b.kit.seeds.items) places lost.id.0 f0 f1 f2 f2 over.step.seeds.never_fall (λ s. omega arith) was.seeds);
-        stores = record {
-          before = was.stores.before;
-          after = was.stores.after;
-          until = kept_on store (IsListedGet t.listing) a.kit.chain.stores b.kit.chain.stores was.stores.before over.step.stores was.stores.until;
-          refused = was.stores.refused;
-          since = was.stores.since;
-        };
-        had_memory = was.had_memory;
-      }
+  lost_since A a b c lost over was = record {
+    listed = was.listed;
+    id_is = was.id_is;
+    copies = copies_wider a.fates b.fates (of_want t.plan (want_at t.plan lost.entry)) a.faults b.faults c.faults c.faults over.step.grows over.step.never_falls
+        (omega arith) was.copies;
+    cache = lacks_since A a.kit.chain.stores (id_of t.listing lost.entry) (size_of t.listing lost.entry) a.cache b.cache c.cache over.stocked was.cache;
+    seeds = seeds_since view a.kit.seeds.items b.kit.seeds.items c.kit.seeds.items (places_at t.places (want_at t.plan lost.entry)) lost.id.0 over.step.seeds was.seeds;
+    stores = refused_since lost a.kit.chain.stores b.kit.chain.stores c.kit.chain.stores over.step.stores was.stores;
+    had_memory = was.had_memory;
+  }
 
   -- the first open entry of a want that the stores refused is lost
   pub lost_now : (a b : Stage S V) (w : ℕ) (lost : Lost) → AreWants t.listing t.plan.wants t.plan.want_of → w < t.plan.wants → Over (λ v. v ≡ w) a b

@@ -1,10 +1,10 @@
 -- What a pass has done when these wants are done, and what one more call leaves.
 use Rattle.std.proofs.Common.{◌≡◌, ◌≢◌, ℕ, ◌<◌, Bool, true, false, sym, ap, ◌∙◌}
 use Rattle.std.proofs.lemmas.Bool.{true≢false}
-use Rattle.assembler.proofs.Asked.{AsksDone, asks_done_all, asks_done_more, asks_done_none}
+use Rattle.assembler.proofs.Asked.{AsksDone, asks_done_all, asks_done_more, asks_done_none, asks_done_share, asks_share_all}
 use Rattle.assembler.proofs.HadOn.{had_all_none, had_more}
 use Rattle.assembler.proofs.Stepped.{stretch_none, stretch_on, stretch_wider}
-use Rattle.assembler.specs.Passes.{HadAll, HasPassed, one_pass}
+use Rattle.assembler.specs.Passes.{HadAll, HasPassed, HasPassedShare, one_pass}
 use Rattle.assembler.specs.Settling.{Settles}
 use Rattle.assembler.specs.Stages.{Stage, Stretch}
 use Rattle.chunk_sources.specs.Wants.{Task}
@@ -47,4 +47,20 @@ module _ {S V : Type 0} (store : StoreWords S) (view : ViewWords V) (t : Task) w
     had = passed.had;
     asks = asks_done_all store view t done a b passed.asks;
     stretch = stretch_wider store view t (λ v. done v ≡ true) (λ v. v < t.plan.wants) within a b passed.stretch;
+  }
+
+  -- and what it leaves of these wants, which are all or not
+  pub done_share : (done these : ℕ → Bool) (a b : Stage S V) → ((v : ℕ) → done v ≡ true → (v < t.plan.wants) × (these v ≡ true)) → WantsDone done a b
+      → HasPassedShare store view t these a b
+  done_share done these a b within passed = record {
+    had = passed.had;
+    asks = asks_done_share store view t done these (λ v is. (within v is).1) a b passed.asks;
+    stretch = stretch_wider store view t (λ v. done v ≡ true) (λ v. (v < t.plan.wants) × (these v ≡ true)) within a b passed.stretch;
+  }
+
+  pub share_all : (these : ℕ → Bool) (a b : Stage S V) → ((v : ℕ) → these v ≡ true) → HasPassedShare store view t these a b → HasPassed store view t one_pass a b
+  share_all these a b all passed = record {
+    had = passed.had;
+    asks = asks_share_all store view t these all a b passed.asks;
+    stretch = stretch_wider store view t (λ v. (v < t.plan.wants) × (these v ≡ true)) (λ v. v < t.plan.wants) (λ v both. both.0) a b passed.stretch;
   }

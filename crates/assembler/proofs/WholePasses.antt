@@ -52,7 +52,7 @@ module _ {S V : Type 0} (store : StoreWords S) (view : ViewWords V) (t : Task) (
           let later = stocked_told (TakesWants store t.listing t.plan All a.kit.chain.stores) a.cache b.cache cached over.stocked has in
           let had = next.had (telling_on view.tells (views a) (views b) over.step.seeds.held tells) later.0 maps later.1 (over.step.stores.held ∙ told) i inside is in
           had_through t wants a.fates b.fates (views a) (cached ++ maps) i inside (first.had tells cached maps has told)
-          (had_from t wants store view All a b over cached later.0 maps has later.1 told b.fates (want_at t.plan i) had);
+          (had_from t wants store view All (from a) (from b) over.step.seeds.held over.stocked cached later.0 maps has later.1 told b.fates (want_at t.plan i) had);
       asks = λ spared are.
           let n = calls_below spared t.plan.wants in
           let q = asks_below (want_id t.listing t.plan) spared t.plan.wants in

@@ -1,5 +1,5 @@
 -- What the chunks of all wants cost where nothing fails, by where each comes from.
-use Rattle.std.specs.Prelude.{◌≡◌, ◌≢◌, ◌⊎◌, ℕ, zero, suc, ◌+◌, List, Result, Ok, Err}
+use Rattle.std.specs.Prelude.{◌≡◌, ◌≢◌, ◌⊎◌, ℕ, ◌+◌, List, Result, Ok, Err}
 use Rattle.range_survey.specs.Reports.{one_if, tally}
 use Rattle.assembler.specs.declared.fault.ExtractFault.{ExtractFault}
 use Rattle.assembler.specs.declared.fault.ExtractFault.TheVariants as faults
@@ -7,26 +7,12 @@ use Rattle.assembler.specs.declared.fault.Lost.{Lost}
 use Rattle.assembler.specs.declared.fault.Unsettled.{Unsettled}
 use Rattle.assembler.specs.declared.fault.Unsettled.TheVariants as unsettled
 use Rattle.range_survey.specs.declared.report.Report.{Report}
-use Rattle.chunk_sources.specs.Economy.{pass_asks}
+use Rattle.chunk_sources.specs.Economy.{all_asks, pass_asks, sum_below}
 use Rattle.dsy_base.specs.Counts.{raised}
 use Rattle.range_survey.specs.declared.fate.Fate.{Fate}
 use Rattle.range_survey.specs.declared.fate.Fate.TheVariants as fate
 use Rattle.store_chain.specs.Chains.{Chained}
 use Rattle.store_chain.specs.declared.refused.Refused.TheVariants as refused
-
--- the sum of f over the numbers below k
-abbrev pub sum_below : (ℕ → ℕ) → ℕ → ℕ
-sum_below f zero = 0
-sum_below f (suc k) = sum_below f k + f k
-
--- how often both passes ask the stores for a chunk with this source: the second asks where the first found none
-abbrev pub all_asks : Fate → ℕ
-all_asks fate.Open = 2
-all_asks fate.Kept = 0
-all_asks fate.Copied = 0
-all_asks fate.Seeded = 0
-all_asks fate.Cached = 0
-all_asks fate.Fetched = 1
 
 -- so many entries more have a fate that says that a chunk was got
 pub record Tallied (seeded cached fetched n : ℕ) (m0 m1 : List Fate) : Type 0 where

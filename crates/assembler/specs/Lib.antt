@@ -3,6 +3,7 @@ pub mod Stages
 pub mod Losses
 pub mod OneKit
 pub mod Passes
+pub mod Permits
 pub mod Settling
 pub mod Assemblies
 pub mod Obtainable

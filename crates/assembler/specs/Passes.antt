@@ -9,7 +9,7 @@ use Rattle.assembler.specs.declared.fault.ExtractFault.TheVariants as faults
 use Rattle.assembler.specs.declared.fault.Lost.{Lost}
 use Rattle.caibx_codec.specs.Asks.{IsListedGet}
 use Rattle.caibx_codec.specs.Listing.{Listing, count_of, id_of, kind_of, size_of}
-use Rattle.chunk_sources.specs.Asks.{AreSpared, AsksAtMost, asks_below, calls_below}
+use Rattle.chunk_sources.specs.Asks.{AreSpared, AsksAtMost, ShareAsks, asks_below, calls_below}
 use Rattle.chunk_sources.specs.Caches.{CacheLacks, HaveOneSize, cached_in}
 use Rattle.chunk_sources.specs.Economy.{source_over}
 use Rattle.chunk_sources.specs.Losses.{CopiesFailed, Had, MayLack, RefusedBy}
@@ -118,6 +118,12 @@ module _ {S V : Type 0} (store : StoreWords S) (view : ViewWords V) where
       pub had : HadAll a b.fates
       pub asks : PassAsks times a b
       pub stretch : Stretch store view t (λ w. w < t.plan.wants) a b
+
+    -- what one pass over these wants leaves
+    pub record HasPassedShare (these : ℕ → Bool) (a b : Stage S V) : Type 0 where
+      pub had : HadAll a b.fates
+      pub asks : ShareAsks store view t a.fates (from a) (from b) these
+      pub stretch : Stretch store view t (λ w. (w < t.plan.wants) × (these w ≡ true)) a b
 
     -- how the second pass ends. Its first lost entry is named, before which all are settled; no entry before the one
     -- whose write ended it was lost; each entry that is left open is lost, unless a write that failed or want of memory

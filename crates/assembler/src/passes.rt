@@ -3,6 +3,7 @@
 ghost use Rattle.std.specs.Prelude.{◌≡◌, None, replicate, false};
 ghost use Rattle.assembler.specs.Economy.{AssembledBy, UnlessMemory};
 ghost use Rattle.assembler.specs.Passes.{Ends, HasPassed, WhereQuiet, source_at, two_passes};
+ghost use Rattle.assembler.specs.Permits.{MayFillHad};
 ghost use Rattle.assembler.specs.Stages.{Ready, from, stage, task};
 ghost use Rattle.caibx_codec.specs.Listing.{count_of};
 
@@ -26,6 +27,9 @@ pub(crate) fn settle_all<E: Ledger, S: Store, V: View, F: Folder>(
     requires fresh { tried.items ≡ replicate wants.now.plan.now.wants false }
     requires ready { Ready (task E.run.listing wants.now) (stage E.Ledger F.Look work.old) }
     requires unnamed { (F.pairs ≡ None) × (F.stores ≡ None) }
+    requires may { MayFillHad S.Store V.View (task E.run.listing wants.now) E.run.may (stage E.Ledger F.Look work.old)
+        (λ _. Unit {0}) }
+    requires workers { wants.now.plan.now.workers ≡ 1 }
     ensures passes { HasPassed S.Store V.View (task E.run.listing wants.now) two_passes (stage E.Ledger F.Look work.old)
         (stage E.Ledger F.Look work.new) }
     ensures ends { Ends S.Store V.View (task E.run.listing wants.now) (stage E.Ledger F.Look work.old)
@@ -38,7 +42,7 @@ pub(crate) fn settle_all<E: Ledger, S: Store, V: View, F: Folder>(
         wants.now.plan.now.wants (count_of E.run.listing) (E.fates work.old.ledger) (E.fates work.new.ledger)
         work.old.kit.chain work.new.kit.chain) result) }
 {
-    match fill(wants, work) {
+    match fill(wants, 0, work) {
         Ok(()) => retry(wants, tried, work),
         Err(Memory) => Err(ExtractFault::Memory),
     }

@@ -1,7 +1,7 @@
 //! Writing a chunk into the ranges of a want's entries.
 
 ghost use Rattle.std.specs.Prelude.{◌≡◌, ◌⊎◌, ℕ, ◌<◌, ◌≤◌, length, slice_index};
-ghost use Rattle.std.specs.Prelude.{true, false, IfSome, OnOk, OnErr, is_some};
+ghost use Rattle.std.specs.Prelude.{true, false, IsTrue, OnOk, OnErr, is_some};
 ghost use Rattle.assembler.specs.Economy.{Tallied};
 ghost use Rattle.caibx_codec.specs.Listing.{count_of, id_of, kind_of, size_of};
 ghost use Rattle.chunk_sources.specs.Wants.{IsAmong};
@@ -28,8 +28,9 @@ pub(crate) fn put<E: Ledger>(
         size_of E.run.listing (slice_index entries.now k) ≡ length chunk.now }
     requires fate { is_settled origin ≡ true }
     requires made { is_made origin ≡ true }
-    requires right { IfSome (E.held ledger.old).bytes (λ t. (k : ℕ) → k < length entries.now →
-        name_of (kind_of E.run.listing) chunk.now ≡ id_of E.run.listing (slice_index entries.now k)) }
+    requires may { (k : ℕ) → k < length entries.now → E.run.may (slice_index entries.now k) ≡ true }
+    requires right { IsTrue E.tells → (k : ℕ) → k < length entries.now →
+        name_of (kind_of E.run.listing) chunk.now ≡ id_of E.run.listing (slice_index entries.now k) }
     ensures ok { OnOk result ((i : ℕ) → IsAmong entries.now i → settled (E.fates ledger.new) i ≡ true) }
     ensures origin { (i : ℕ) → settled (E.fates ledger.old) i ≡ false → settled (E.fates ledger.new) i ≡ true →
         (fate_at (E.fates ledger.new) i ≡ origin) ⊎ (fate_at (E.fates ledger.new) i ≡ Fate.Copied) }

@@ -3,6 +3,7 @@
 ghost use Rattle.std.specs.Prelude.{◌≡◌, None, replicate, false};
 ghost use Rattle.assembler.specs.Economy.{PassedBy, UnlessMemory};
 ghost use Rattle.assembler.specs.Passes.{Ends, HasPassed, WhereQuiet, one_pass, source_at};
+ghost use Rattle.assembler.specs.Permits.{MayFillHad};
 ghost use Rattle.assembler.specs.Stages.{Ready, from, stage, task};
 ghost use Rattle.caibx_codec.specs.Listing.{count_of};
 
@@ -26,6 +27,8 @@ pub(crate) fn retry<E: Ledger, S: Store, V: View, F: Folder>(
     requires fresh { tried.items ≡ replicate wants.now.plan.now.wants false }
     requires ready { Ready (task E.run.listing wants.now) (stage E.Ledger F.Look work.old) }
     requires unnamed { (F.pairs ≡ None) × (F.stores ≡ None) }
+    requires may { MayFillHad S.Store V.View (task E.run.listing wants.now) E.run.may (stage E.Ledger F.Look work.old)
+        (λ _. Unit {0}) }
     ensures passes { HasPassed S.Store V.View (task E.run.listing wants.now) one_pass (stage E.Ledger F.Look work.old)
         (stage E.Ledger F.Look work.new) }
     ensures ends { Ends S.Store V.View (task E.run.listing wants.now) (stage E.Ledger F.Look work.old)

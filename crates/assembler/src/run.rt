@@ -10,6 +10,7 @@ ghost use Rattle.chunk_sources.specs.Losses.{MayLack};
 ghost use Rattle.chunk_sources.specs.Sources.{sources};
 ghost use Rattle.dsy_base.specs.Bytes.{Held, resized};
 ghost use Rattle.dsy_base.specs.Counts.{Quiet};
+ghost use Rattle.owned_shards.specs.Wholes.{MayFillAll};
 ghost use Rattle.range_ledger.specs.Fills.{WhereTold};
 ghost use Rattle.range_survey.specs.Reports.{right_below};
 
@@ -53,6 +54,8 @@ pub fn run_surveyed<R: RunName, T: Target, S: Store, V: View, F: Folder>(
       cache = seen F.Look cache;
     }) }
     requires unnamed { (F.pairs ≡ None) × (F.stores ≡ None) }
+    requires may { MayFillAll R.run }
+    requires workers { wants.now.plan.now.workers ≡ 1 }
     ensures bytes { (old : Held) (f : ℕ) → HasBegun R.run.listing old f ledger.entry → WhereTold old.bytes
         (T.held result.target).bytes (Assembles R.run.listing ⊥ f (T.faults result.target) result.answer) }
     ensures assembled { (old : Held) (f : ℕ) → HasBegun R.run.listing old f ledger.entry →

@@ -5,13 +5,14 @@ ghost use Rattle.std.specs.Prelude.{true, false, None, Some, IfSome, IsSome, IsT
 ghost use Rattle.assembler.specs.Economy.{SettlesBy};
 ghost use Rattle.assembler.specs.Losses.{Where};
 ghost use Rattle.assembler.specs.Passes.{source_at};
+ghost use Rattle.assembler.specs.Permits.{MayFillWant};
 ghost use Rattle.assembler.specs.Settling.{HasEnded, Settles};
 ghost use Rattle.assembler.specs.Stages.{Ready, from, stage, task};
 ghost use Rattle.assembler.specs.declared.fault.Lost.{Lost};
 ghost use Rattle.caibx_codec.specs.Listing.{count_of, kind_of};
 ghost use Rattle.chunk_sources.specs.Caches.{CacheLacks, Stocked, TakesChunk, cached_in, seen};
 ghost use Rattle.chunk_sources.specs.Economy.{source_among};
-ghost use Rattle.chunk_sources.specs.Losses.{AskedLast, Had, MayLack, RefusedBy, chunk_of};
+ghost use Rattle.chunk_sources.specs.Losses.{AskedLast, Had, HadOver, MayLack, RefusedBy, chunk_of};
 ghost use Rattle.chunk_sources.specs.Sources.{KeepsSeeds, SourcesQuiet, Telling, sources, views_of};
 ghost use Rattle.chunk_sources.specs.Wants.{AllOf, IsAmong, sought_chunk};
 ghost use Rattle.chunk_store.specs.Asks.{Get};
@@ -79,6 +80,10 @@ fn settle_open<E: Ledger, S: Store, V: View, F: Folder>(
     requires kind { chain.old.kind ≡ kind_of E.run.listing }
     requires unnamed { (F.pairs ≡ None) × (F.stores ≡ None) }
     requires cache { IfSome (seen F.Look cache.old) (λ s. s.kind ≡ chain.old.kind) }
+    requires may { HadOver S.Store V.View (E.fates ledger.old)
+        (sought_chunk (kind_of E.run.listing) opened.now.sought opened.now.size)
+        (sources (E.faults ledger.old) seeds.old (seen F.Look cache.old) chain.old) →
+        (i : ℕ) → IsAmong opened.now.sought.entries.now i → E.run.may i ≡ true }
     ensures ok { OnOk result ((i : ℕ) → IsAmong opened.now.sought.entries.now i →
         settled (E.fates ledger.new) i ≡ true) }
     ensures only { (i : ℕ) → settled (E.fates ledger.old) i ≡ false → settled (E.fates ledger.new) i ≡ true →
@@ -155,6 +160,8 @@ pub(crate) fn settle<E: Ledger, S: Store, V: View, F: Folder>(
     requires ready { Ready (task E.run.listing wants.now) (stage E.Ledger F.Look work.old) }
     requires want { want < wants.now.plan.now.wants }
     requires unnamed { (F.pairs ≡ None) × (F.stores ≡ None) }
+    requires may { MayFillWant S.Store V.View (task E.run.listing wants.now) E.run.may
+        (stage E.Ledger F.Look work.old) want }
     ensures settles { Settles S.Store V.View (task E.run.listing wants.now) want (stage E.Ledger F.Look work.old)
         (stage E.Ledger F.Look work.new) }
     ensures ends { HasEnded S.Store V.View (task E.run.listing wants.now) want (stage E.Ledger F.Look work.old)

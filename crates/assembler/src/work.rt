@@ -1,5 +1,8 @@
 //! What one worker settles entries with.
 
+ghost use Rattle.std.specs.Prelude.{◌≡◌};
+ghost use Rattle.assembler.specs.Permits.{deals_to};
+
 use cache_store::shelf::CacheShelf;
 use caibx_codec::index::Index;
 use chunk_sources::kit::Kit;
@@ -16,6 +19,15 @@ pub struct Wants<'a> {
     pub index: &'a Index,
     pub plan: &'a Plan,
     pub places: &'a SeedIndex,
+}
+
+impl<'a> Wants<'a> {
+    /// Whether this worker settles the want in the first pass.
+    pub(crate) fn deals_to(&self, worker: usize, want: usize) -> bool
+        ensures value { result ≡ deals_to self.now.plan.now worker want }
+    {
+        self.plan.worker_of(want) == worker
+    }
 }
 
 /// The entries, where their chunks come from, and the cache, if there is one.

@@ -1,8 +1,10 @@
 -- What a chain gives, as what the assembly asks of it.
-use Rattle.std.proofs.Common.{◌≡◌, ℕ, List, length, take, Option, Some, None, IfSome, IfErr, OnOk, Result, Ok, Err, sym, ap, ◌∙◌, subst, arith}
+use Rattle.std.proofs.Common.{◌≡◌, ℕ, List, length, take, Some, IfErr, OnOk, Result, Ok, Err, sym, ap, ◌∙◌, subst, arith}
 use Rattle.std.proofs.lemmas.List.{length-take, take_all}
 use Rattle.std.specs.List.{Any}
+use Rattle.caibx_codec.specs.Listing.{Listing, id_of, kind_of}
 use Rattle.chunk_sources.specs.Losses.{chunk_of}
+use Rattle.chunk_sources.specs.Wants.{AllOf, IsAmong}
 use Rattle.chunk_store.specs.Names.{name_of}
 use Rattle.chunk_store.specs.declared.id.ChunkId.{ChunkId}
 use Rattle.chunk_store.specs.declared.id.DigestKind.{DigestKind}
@@ -23,9 +25,10 @@ given_whole kind named id n size out same whole given =
     let all : take n out ≡ out = take_all n out (omega (arith, sized, whole, length-take n out)) in
     ap (λ k. name_of k out) (sym same) ∙ ap (name_of kind) (sym all) ∙ given.wanted.named
 
-pub always : {X : Type 0} (x : Option X) (P : Type 0) → P → IfSome x (λ t. P)
-always None P holds = tt
-always (Some t) P holds = holds
+-- bytes that have the digest of one of these entries have that of the chunk
+pub among_named : (l : Listing) (id : List ℕ) (size : ℕ) (entries : List ℕ) → AllOf l id size entries → (b : List ℕ) (i : ℕ) → IsAmong entries i → name_of (kind_of l) b ≡ id_of l i
+    → name_of (kind_of l) b ≡ id
+among_named l id size entries are b i among named = named ∙ (ap (id_of l) (sym among.2) ∙ (are among.0 among.1).id_is)
 
 -- what is known of the kind and size that were asked for is known of those that are sought
 pub sized_as : (P : DigestKind → ℕ → Type 0) (kind named : DigestKind) (n size : ℕ) → kind ≡ named → n ≡ size → P kind n → P named size

@@ -44,6 +44,10 @@ abbrev pub asks_below : (ℕ → List ℕ) → (ℕ → Bool) → ℕ → List �
 asks_below ids spared zero q = 0
 asks_below ids spared (suc k) q = asks_below ids spared k q + asks_for ids spared k q
 
+-- of these wants those that are spared, and all others
+abbrev pub others_spared : (ℕ → Bool) → (ℕ → Bool) → ℕ → Bool
+others_spared these spared w = if these w then spared w else true
+
 module _ {S V : Type 0} (store : StoreWords S) (view : ViewWords V) (t : Task) where
   -- want w is had without the stores: an entry of it is such, and the target didn't fail; or a seed gives it that
   -- didn't fail; or the cache does, which didn't fail
@@ -58,3 +62,11 @@ module _ {S V : Type 0} (store : StoreWords S) (view : ViewWords V) (t : Task) w
   abbrev pub AreSpared : List Fate → Sources S V → Sources S V → (ℕ → Bool) → Type 0
   AreSpared m old new spared =
       (w : ℕ) → w < t.plan.wants → spared w ≡ true → IsSpared (λ j. settled m j ≡ true) old new w
+
+  -- one pass over these wants asks at most once for each of them, not for a spared one, and for no other
+  abbrev pub ShareAsks : List Fate → Sources S V → Sources S V → (ℕ → Bool) → Type 0
+  ShareAsks m old new these = (spared : ℕ → Bool)
+      → ((w : ℕ) → w < t.plan.wants → these w ≡ true → spared w ≡ true
+      → IsSpared (λ j. settled m j ≡ true) old new w)
+      → AsksAtMost store (calls_below (others_spared these spared) t.plan.wants)
+      (λ q. asks_below (want_id t.listing t.plan) (others_spared these spared) t.plan.wants q) old.chain new.chain

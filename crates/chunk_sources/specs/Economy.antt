@@ -1,5 +1,6 @@
 -- Where a chunk comes from where nothing fails, and what that costs.
 use Rattle.std.specs.Prelude.{◌≡◌, ◌≢◌, ◌⊎◌, ◌&&◌, ◌==◌, ℕ, List, length, nat_le, slice_index_or, Bool}
+use Rattle.std.specs.Prelude.{zero, suc, ◌+◌}
 use Rattle.std.specs.Prelude.{false, if◌then◌else◌, Option, Some, None, Result, Ok, Err}
 use Rattle.std.specs.List.{list_any}
 use Rattle.std.specs.Str.{bytes_eq}
@@ -69,6 +70,15 @@ source_of t base views cached maps w = source_over t (is_right_at t.listing base
 
 -- ---- what that costs
 
+-- the sum of f over the numbers below k
+abbrev pub sum_below : (ℕ → ℕ) → ℕ → ℕ
+sum_below f zero = 0
+sum_below f (suc k) = sum_below f k + f k
+
+-- the source of one of these wants, and else one that costs nothing
+abbrev pub source_if : (ℕ → Bool) → (ℕ → Fate) → ℕ → Fate
+source_if these source w = if these w then source w else fate.Kept
+
 -- how often one pass asks the stores for a chunk with this source
 abbrev pub pass_asks : Fate → ℕ
 pass_asks fate.Open = 1
@@ -77,6 +87,15 @@ pass_asks fate.Copied = 0
 pass_asks fate.Seeded = 0
 pass_asks fate.Cached = 0
 pass_asks fate.Fetched = 1
+
+-- and how often two passes ask for a chunk with this source: the second asks where the first found none
+abbrev pub all_asks : Fate → ℕ
+all_asks fate.Open = 2
+all_asks fate.Kept = 0
+all_asks fate.Copied = 0
+all_asks fate.Seeded = 0
+all_asks fate.Cached = 0
+all_asks fate.Fetched = 1
 
 -- the fate of an entry that a chunk with this source makes right: what is right already is copied
 abbrev pub origin_of : Fate → Fate

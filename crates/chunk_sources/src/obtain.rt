@@ -1,7 +1,7 @@
 //! Getting the chunk of a want: from an entry of the target that has it, from a seed, from the cache, or from a store.
 
 ghost use Rattle.std.specs.Prelude.{◌≡◌, ◌≢◌, ◌⊎◌, ◌++◌, ℕ, List, ◌≤◌, length, map, true, None, Some};
-ghost use Rattle.std.specs.Prelude.{IfSome, IfOk, IfErr, OnOk};
+ghost use Rattle.std.specs.Prelude.{IfSome, IfOk, IfErr, IsTrue, OnOk};
 ghost use Rattle.caibx_codec.specs.Listing.{kind_of};
 ghost use Rattle.chunk_sources.specs.Caches.{CacheLacks, Stocked, TakesChunk, cached_in, seen};
 ghost use Rattle.chunk_sources.specs.Economy.{ObtainedBy, source_among};
@@ -52,8 +52,7 @@ pub fn obtain<E: Ledger, S: Store, V: View, F: Folder>(
     requires kind { chain.old.kind ≡ kind_of E.run.listing }
     requires unnamed { (F.pairs ≡ None) × (F.stores ≡ None) }
     requires cache { IfSome (seen F.Look cache.old) (λ s. s.kind ≡ chain.old.kind) }
-    ensures ok { OnOk result (IfSome (E.held ledger.old).bytes
-        (λ t. name_of (kind_of E.run.listing) chunk.new ≡ sought.now.id.0)) }
+    ensures ok { OnOk result (IsTrue E.tells → name_of (kind_of E.run.listing) chunk.new ≡ sought.now.id.0) }
     ensures origin { IfOk result (λ f. is_settled f ≡ true) }
     ensures made { IfOk result (λ f. is_made f ≡ true) }
     ensures had { Telling V.tells (views_of V.View seeds.old) → (cached maps : List (Map (List ℕ))) →
@@ -92,7 +91,6 @@ pub fn obtain<E: Ledger, S: Store, V: View, F: Folder>(
     ensures stores { KeepsStores S.Store (λ a. a ≡ Get sought.now.id.0) chain.old.stores chain.new.stores }
     ensures same_kind { chain.new.kind ≡ chain.old.kind }
 {
-    ledger.rules();
     // Only for its contract: the count of calls fits its type.
     chain.asks();
     if copy(sought.entries, ledger, chunk) {

@@ -12,7 +12,7 @@ use Rattle.chunk_sources.specs.declared.kit.Kit.{Kit}
 use Rattle.dsy_base.specs.Bytes.{Held, resized}
 use Rattle.extract_plan.specs.Deal.{IsPlan, shards_of}
 use Rattle.extract_plan.specs.Places.{PlacesKnown}
-use Rattle.owned_shards.specs.Wholes.{Whole}
+use Rattle.owned_shards.specs.Wholes.{MayFillAll, Whole}
 use Rattle.range_ledger.specs.Runs.{Run}
 
 -- the run is over this index, cut for so many workers, and over a target that holds this once it has the image's length
@@ -38,10 +38,11 @@ pub record Readied (S V : Type 0) : Type 0 where
 abbrev pub readied : {S V : Type 0} → Task → Whole → List (Kit S V) → Readied S V
 readied task whole kits = record { task = task; whole = whole; kits = kits }
 
--- what it keeps: the plan is that of the run's index for as many workers as there are kits, no want is marked as tried,
--- and the places and each kit are of this index
+-- what it keeps: each entry may be filled, the plan is that of the run's index for as many workers as there are kits,
+-- no want is marked as tried, and the places and each kit are of this index
 pub record IsReadied {S V : Type 0} (r : Run) (tried : List Bool) (x : Readied S V) : Type 0 where
   pub listing : x.task.listing ≡ r.listing
+  pub may : MayFillAll r
   pub plan : IsPlan x.task.listing (length x.kits) x.task.plan
   pub fresh : tried ≡ replicate x.task.plan.wants false
   pub places : All (λ k. PlacesKnown x.task.listing x.task.plan x.task.places (length k.seeds.items)) x.kits

@@ -6,7 +6,7 @@ use Rattle.std.proofs.lemmas.Bool.Decides.{Decides-eqb}
 use Rattle.std.proofs.lemmas.Slice.Eq.{bytes_eq-Decides}
 use Rattle.std.specs.Bool.{one_answer}
 use Rattle.std.specs.List.{filter, list_any, range_with_len}
-use Rattle.assembler.specs.Economy.{sum_below}
+use Rattle.chunk_sources.specs.Economy.{sum_below}
 use Rattle.caibx_codec.specs.Listing.{Listing, count_of, id_of, size_of}
 use Rattle.image_demo.specs.Figures.{alike_in, firsts, firsts_below, is_alike, is_first}
 use Rattle.extract_plan.specs.Deal.{AreWants, Deal, of_want}

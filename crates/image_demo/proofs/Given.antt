@@ -2,7 +2,7 @@
 use Rattle.std.proofs.Common.{◌≡◌, ◌≢◌, ◌⊎◌, ℕ, zero, suc, ◌+◌, ◌-◌, ◌<◌, ◌≤◌, ◌&&◌, not, List, [], ◌∷◌, true, length, drop, replicate, Option, Some, None, Result, Ok, Err, refl, sym, ap, subst, ◌∙◌, inl, inr, arith, map, IfSome, IfOk, is_some}
 use Rattle.std.proofs.lemmas.List.{length-take-le, length-drop}
 use Rattle.assembler.specs.Assemblies.{IsObtainable, Verdict}
-use Rattle.assembler.specs.Economy.{ReportsExactly, sum_below}
+use Rattle.assembler.specs.Economy.{ReportsExactly}
 use Rattle.range_survey.specs.Reports.{right_below}
 use Rattle.assembler.specs.declared.fault.ExtractFault.{ExtractFault}
 use Rattle.assembler.specs.declared.fault.ExtractFault.TheVariants as faults
@@ -11,7 +11,7 @@ use Rattle.buzhash_cut.specs.Image.{IsIndexOfImage}
 use Rattle.buzhash_cut.specs.Sizes.{Sizes}
 use Rattle.caibx_codec.specs.Listing.{Listing, Rules, count_of, end_of, id_of, image_length, size_of, slice_of, start_of}
 use Rattle.caibx_codec.specs.Right.{IsRight, IsRightAt}
-use Rattle.chunk_sources.specs.Economy.{source_of}
+use Rattle.chunk_sources.specs.Economy.{source_of, sum_below}
 use Rattle.chunk_sources.specs.Sources.{views_of}
 use Rattle.chunk_store.specs.declared.id.ChunkId.{ChunkId}
 use Rattle.chunk_store.specs.declared.id.DigestKind.TheVariants as kinds

@@ -90,7 +90,7 @@ all_base r tells some ss is long =
 
 -- ---- what is open and right all the same
 
-one_contained : (fs : List ℕ) (e : ℕ) → IsOneOf fs e → Contains fs e
+pub one_contained : (fs : List ℕ) (e : ℕ) → IsOneOf fs e → Contains fs e
 one_contained [] e is = absurd is
 one_contained (f ∷ fs) e (inl same) = Contains-append_left (f ∷ []) fs e (subst (Contains (f ∷ [])) (sym same) (Contains-push [] f))
 one_contained (f ∷ fs) e (inr rest) = Contains-append_right (f ∷ []) fs e (one_contained fs e rest)
@@ -100,7 +100,7 @@ record Missed (r : Run) (k : ℕ) (ss : List Seen) : Type 0 where
   pub few : HaveFailed failed (joined_faults ss)
   pub missed : (e : ℕ) → first_in r k ≤ e → e < count_of r.listing → settled (fates_of ss) (e - first_in r k) ≡ false → IsRightAt r.base r.listing e → Contains failed e
 
-few_on : (xs ys : List ℕ) (a b : ℕ) → HaveFailed xs a → HaveFailed ys b → HaveFailed (xs ++ ys) (a + b)
+pub few_on : (xs ys : List ℕ) (a b : ℕ) → HaveFailed xs a → HaveFailed ys b → HaveFailed (xs ++ ys) (a + b)
 few_on xs ys a b (inl few) (inl more) = inl (omega (arith, few, more, length-append xs ys))
 few_on xs ys a b (inr full) more = inr (omega (arith, full))
 few_on xs ys a b (inl few) (inr full) = inr (omega (arith, full))
@@ -140,7 +140,7 @@ missed_from r tells some k [] is = record {
 }
 missed_from r tells some k (s ∷ ss) is = missed_on r tells k s ss is.0 is.1.0 (missed_from r tells some (k + 1) ss is.1.1)
 
-excused : (xs : List ℕ) (old faults : ℕ) → HaveFailed xs faults → Excuses xs old (raised old faults)
+pub excused : (xs : List ℕ) (old faults : ℕ) → HaveFailed xs faults → Excuses xs old (raised old faults)
 excused xs old faults (inl few) = elim (cases_lt (old + faults) (2 ^ 64 - 1)) [ inl below ↦ inl (omega (arith, few, below)) | inr full ↦ inr (omega (arith, full)) ]
 excused xs old faults (inr full) = inr (omega (arith, full))
 

@@ -4,3 +4,4 @@ pub mod Wholes
 pub mod Putting
 pub mod Resized
 pub mod Begun
+pub mod Kept

@@ -57,6 +57,15 @@ module _ (r : Run) (left : Left) (tells : Bool) (ss : List Seen) (is : IsWhole r
         ap (name_of (kind_of r.listing)) (slice_in_whole r ss is.shards at.i at.lt at.s at.here e has told)
         ∙ kept.right e has (ap is_settled (sym (fate_in r ss is.shards at.i at.lt at.s at.here e has)) ∙ is_set)
 
+  -- what was read of a settled entry has its digest
+  pub read_named : (e : ℕ) → e < count_of r.listing → (out : List ℕ) → settled all.fates e ≡ true → IfSome all.held.bytes (λ t. out ≡ slice_of r.listing t e)
+      → tells ≡ true → name_of (kind_of r.listing) out ≡ id_of r.listing e
+  read_named e listed out was read told = go tells told right read where
+    go : (b : Bool) → b ≡ true → IfSome (if b then Some (joined_bytes ss) else None) (λ t. SettledRight r.listing t all.fates (count_of r.listing))
+        → IfSome (if b then Some (joined_bytes ss) else None) (λ t. out ≡ slice_of r.listing t e) → name_of (kind_of r.listing) out ≡ id_of r.listing e
+    go false isnt rights here = absurd (true≢false (sym isnt))
+    go true is rights here = ap (name_of (kind_of r.listing)) here ∙ rights e listed was
+
   module _ (i : ℕ) (lt : i < length ss) (s : Seen) (here : s ≡ get_or ss i s) (e : ℕ) (listed : e < count_of r.listing) (has : Has r s e) (new : Seen) where
     abbrev pub then_all : Whole
     then_all = whole_of left tells (set ss i new)
@@ -67,7 +76,7 @@ module _ (r : Run) (left : Left) (tells : Bool) (ss : List Seen) (is : IsWhole r
       some = is.some;
       few = is.few;
       size = is.size;
-      may = is.may;
+      counted = is.counted;
       tells = is.tells;
     }
 
@@ -121,6 +130,11 @@ module _ (r : Run) (left : Left) (tells : Bool) (ss : List Seen) (is : IsWhole r
       go : (b : Bool) → r.tells ≡ b → held_joined left b (joined_bytes (set ss i new)) ≡ held_written (held_joined left b (joined_bytes ss)) (start_of r.listing e) y
       go false told = refl
       go true told = ap (held_joined left true) (bytes_written r ss is.shards i lt s here e has told new y size written)
+
+-- what holds where the type tells holds of the bytes that are told
+pub where_told : {P : Type 0} (left : Left) (tells : Bool) (ss : List Seen) → (tells ≡ true → P) → IfSome (whole_of left tells ss).held.bytes (λ t. P)
+where_told left false ss holds = tt
+where_told left true ss holds = holds refl
 
 -- how a put ends, of a whole target before and afterwards
 pub record PutEnds (l : Listing) (e : ℕ) (f : Fate) (w v : Whole) (res : Result Bool Failed) : Type 0 where

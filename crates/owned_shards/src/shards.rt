@@ -1,10 +1,10 @@
 //! A target in shards, all of which one worker owns. Offsets are bytes from 0; entries and shards count from 0.
 
 ghost use Rattle.std.specs.Prelude.{◌≡◌, ◌+◌, ◌++◌, ◌<◌, ◌≤◌, ◌∷◌, [], ℕ, length};
-ghost use Rattle.std.specs.Prelude.{map, true, vec_capacity, vec_len};
+ghost use Rattle.std.specs.Prelude.{IfSome, false, map, true, vec_capacity, vec_len};
 ghost use Rattle.caibx_codec.specs.Listing.{count_of};
 ghost use Rattle.range_ledger.specs.Runs.{first_in};
-ghost use Rattle.owned_shards.specs.Wholes.{IsWhole, whole_of};
+ghost use Rattle.owned_shards.specs.Wholes.{IsWhole, KeptWhole, whole_of};
 ghost use Rattle.range_survey.specs.Fates.{settled};
 ghost use Rattle.range_survey.specs.Reports.{tally};
 ghost use Rattle.range_survey.specs.declared.fate.Fate.TheVariants as fate;
@@ -23,10 +23,10 @@ use std::marker::Model;
 /// A target in shards. `parts` has the room that joining them takes.
 #[derive(Drop)]
 pub struct Shards<'a, R: RunName, T: Target> {
-    index: &'a Index,
-    rest: T::Rest,
-    shards: Vec<Shard<'a, T::Piece, R>>,
-    parts: Vec<T::Piece>,
+    pub(crate) index: &'a Index,
+    pub(crate) rest: T::Rest,
+    pub(crate) shards: Vec<Shard<'a, T::Piece, R>>,
+    pub(crate) parts: Vec<T::Piece>,
 }
 
 impl<'a, R: RunName, T: Target> Model for Shards<'a, R, T> {
@@ -51,8 +51,8 @@ pub(crate) fn put_back<X: Drop>(values: &mut Vec<X>, value: X)
     let _ = values.push(value);
 }
 
-// Which of the shards of a run has an entry.
-fn shard_with<R: RunName>(index: &Index, shards: usize, entry: usize) -> usize
+/// Which of the shards of a run has an entry.
+pub fn shard_with<R: RunName>(index: &Index, shards: usize, entry: usize) -> usize
     requires dealt { index.now ≡ R.run.listing }
     requires size { shards ≡ R.run.shards }
     requires few { R.run.shards ≤ count_of R.run.listing }
@@ -113,6 +113,14 @@ impl<'a, R: RunName, T: Target> Shards<'a, R, T> {
         T::rejoin(self.rest, parts)
     }
 
+    /// What a target in shards keeps, whichever workers had them. Nothing is done.
+    pub fn keeps(&self)
+        ensures kept { IfSome self.now.held.bytes (KeptWhole R.run self.now) }
+        ensures faults { self.now.faults_before ≤ self.now.faults }
+    {
+        let _ = &self.shards;
+    }
+
     /// The numbers of entries with each fate.
     pub fn report(&self) -> Report
         ensures kept { result.kept ≡ tally fate.Kept self.now.fates (length self.now.fates) }
@@ -141,6 +149,10 @@ impl<'a, R: RunName, T: Target> Ledger for Shards<'a, R, T> {
     ghost fates = { λ s. s.fates };
 
     ghost faults = { λ s. s.faults };
+
+    ghost tells = { T.tells };
+
+    ghost never_fails = { false };
 
     fn rules(&self) {
         let _ = &self.shards;

@@ -169,6 +169,7 @@ pub fn survey_shards<'a, R: RunName, T: Target>(
     ensures no { IfOk result (λ s. IfSome s.held.bytes (λ t.
         OpenWrong index.now t s.fates (T.faults target) s.faults (count_of index.now))) }
     ensures faults { IfOk result (λ s. T.faults target ≤ s.faults) }
+    ensures before { IfOk result (λ s. s.faults_before ≡ T.faults target) }
     ensures err { IfErr result (λ e. (T.held e.0 ≡ T.held target)
         ⊎ (T.held e.0 ≡ held_resized (T.held target) (image_length index.now))) }
     ensures refused { IfErr result (λ e. T.faults target ≤ T.faults e.0) }

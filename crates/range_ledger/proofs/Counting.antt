@@ -218,6 +218,7 @@ module _ (r : Run) (old : Seen) (dealt : IsDealtShard r old) (marks : List Fate)
       filled = λ e has set. inl (ap (name_of (kind_of r.listing)) (sym (slices e has)) ∙ right e has set);
       untouched = λ e has unset. inl (slices e has);
       base_right = λ e has named. decide e has (ap (name_of (kind_of r.listing)) (slices e has) ∙ named);
+      base_kept = λ e has named. inl (slices e has);
     } where
       slices : (e : ℕ) → Has r old e → slice_at r old t e ≡ slice_of r.listing r.base e
       slices e has = ap (λ u. slice_at r old u e) b ∙ slice_base r old dealt e has

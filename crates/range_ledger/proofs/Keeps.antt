@@ -64,6 +64,7 @@ module _ (r : Run) (s : Seen) where
     filled = k.filled;
     untouched = k.untouched;
     base_right = k.base_right;
+    base_kept = k.base_kept;
   }
 
   some_kept : (count : ℕ) → s.faults ≤ count → (o : Option (List ℕ)) → IfSome o (IsKept r s) → IfSome o (IsKept r (called s count s.held))
@@ -88,10 +89,10 @@ module _ (r : Run) (s : Seen) (is : IsShard r s) where
     some_long t there = subst (λ o. IfSome o (λ u. length u ≡ s.held.size)) there sized ∙ is.dealt.size
 
     -- after its chunk was put into entry e
-    put_kept : (f : Fate) → is_settled f ≡ true → (b : List ℕ) → MayFill r e b → IsTrue r.tells → (count : ℕ) → s.faults ≤ count → (held : Held) (t : List ℕ)
+    put_kept : has_settled r s e ≡ false → (f : Fate) → is_settled f ≡ true → (b : List ℕ) → MayFill r e b → IsTrue r.tells → (count : ℕ) → s.faults ≤ count → (held : Held) (t : List ℕ)
         → length t ≡ length_in (extent_of r s.number) → IsKept r s t
         → IsKept r (settling r s e f count held) (put_in_extent (extent_of r s.number) e b t)
-    put_kept f is_set b may tells count le held t long k = record {
+    put_kept unset f is_set b may tells count le held t long k = record {
       failed = k.failed;
       few = more k.failed s.faults count le k.few;
       right = λ j at set. elim (cases_eq j e) [
@@ -104,25 +105,34 @@ module _ (r : Run) (s : Seen) (is : IsShard r s) where
         | inl same ↦ inr (ap r.may same ∙ may.may)
         | inr differ ↦ k.filled j at (sym (set_other f count held j at differ) ∙ set)
       ];
-      untouched = λ j at unset. elim (cases_eq j e) [
-        | inl same ↦ clash (has_settled r (settling r s e f count held) e) (set_here f is_set count held) (subst (λ i. has_settled r (settling r s e f count held) i ≡ false) same unset)
+      untouched = λ j at left. elim (cases_eq j e) [
+        | inl same ↦ clash (has_settled r (settling r s e f count held) e) (set_here f is_set count held) (subst (λ i. has_settled r (settling r s e f count held) i ≡ false) same left)
         | inr differ ↦ subst (λ b'. (b' ≡ slice_of r.listing r.base j) ⊎ IsOneOf k.failed j)
             (sym (put_other (extent_of r s.number) is.dealt.valid e has b may.size t long j at differ))
-            (k.untouched j at (sym (set_other f count held j at differ) ∙ unset))
+            (k.untouched j at (sym (set_other f count held j at differ) ∙ left))
       ];
       base_right = λ j at right. elim (cases_eq j e) [
         | inl same ↦ inl (subst (λ i. has_settled r (settling r s e f count held) i ≡ true) (sym same) (set_here f is_set count held))
         | inr differ ↦ subst (λ m. (m ≡ true) ⊎ IsOneOf k.failed j) (sym (set_other f count held j at differ)) (k.base_right j at right)
       ];
+      base_kept = λ j at right. elim (cases_eq j e) [
+        | inl same ↦ elim (k.base_right j at right) [
+          | inl set ↦ clash (has_settled r s e) (subst (λ i. has_settled r s i ≡ true) same set) unset
+          | inr failed ↦ inr failed
+        ]
+        | inr differ ↦ subst (λ b'. (b' ≡ slice_of r.listing r.base j) ⊎ IsOneOf k.failed j)
+            (sym (put_other (extent_of r s.number) is.dealt.valid e has b may.size t long j at differ))
+            (k.base_kept j at right)
+      ];
     }
 
-    put_keeps : (f : Fate) → is_settled f ≡ true → (b : List ℕ) (held : Held) (count : ℕ) → MayFill r e b → held ≡ held_written s.held (begin_in (extent_of r s.number) e) b
+    put_keeps : has_settled r s e ≡ false → (f : Fate) → is_settled f ≡ true → (b : List ℕ) (held : Held) (count : ℕ) → MayFill r e b → held ≡ held_written s.held (begin_in (extent_of r s.number) e) b
         → s.faults ≤ count → IsShard r (settling r s e f count held)
-    put_keeps f is_set b held count may written le =
+    put_keeps unset f is_set b held count may written le =
         subst (λ h. IsShard r (settling r s e f count h)) (sym written) (record {
           dealt = record { valid = is.dealt.valid; count = ap (λ n. first_in r s.number + n) (length-set s.fates (e - first_in r s.number) f) ∙ is.dealt.count; size = is.dealt.size };
           kept = λ tells. through (IsKept r _) (put_in_extent (extent_of r s.number) e b) s.held.bytes (is.kept tells)
-              (λ t there k. put_kept f is_set b may tells count le _ t (some_long t there) k);
+              (λ t there k. put_kept unset f is_set b may tells count le _ t (some_long t there) k);
         })
 
     -- after a write to entry e failed
@@ -147,6 +157,13 @@ module _ (r : Run) (s : Seen) (is : IsShard r s) where
       base_right = λ j at right. elim (k.base_right j at right) [
         | inl set ↦ inl set
         | inr failed ↦ inr (inr failed)
+      ];
+      base_kept = λ j at right. elim (cases_eq j e) [
+        | inl same ↦ inr (inl same)
+        | inr differ ↦ elim (k.base_kept j at right) [
+          | inl kept ↦ inl (put_other (extent_of r s.number) is.dealt.valid e has y size t long j at differ ∙ kept)
+          | inr failed ↦ inr (inr failed)
+        ]
       ];
     }
 
@@ -176,14 +193,14 @@ settled_in r old mid new dealt kept e has f is_set b may long number settled hel
     same_seen (settling r old e f new.faults new.held) new (sym number ∙ sym number')
     (ap (λ xs. set xs (e - first_in r old.number) f) (sym settled) ∙ (ap (λ n. set mid.fates (e - first_in r n) f) (sym number) ∙ sym settled')) refl refl
 
-pub put_surveyed : (r : Run) (old mid new : Seen) → IsDealtShard r old → WasSurveyed r old → (e : ℕ) → Has r old e → (f : Fate) → is_settled f ≡ true → (b : List ℕ) → MayFill r e b
+pub put_surveyed : (r : Run) (old mid new : Seen) → IsDealtShard r old → WasSurveyed r old → (e : ℕ) → Has r old e → has_settled r old e ≡ false → (f : Fate) → is_settled f ≡ true → (b : List ℕ) → MayFill r e b
     → IfSome old.held.bytes (λ t. length t ≡ old.held.size)
     → mid.number ≡ old.number → mid.fates ≡ old.fates → mid.held ≡ held_written old.held (begin_in (extent_of r old.number) e) b → old.faults ≤ mid.faults
     → new.number ≡ mid.number → new.fates ≡ set mid.fates (e - first_in r mid.number) f → new.held ≡ mid.held → new.faults ≡ mid.faults
     → WasSurveyed r new
-put_surveyed r old mid new dealt kept e has f is_set b may long number settled held le number' settled' held' faults' =
+put_surveyed r old mid new dealt kept e has unset f is_set b may long number settled held le number' settled' held' faults' =
     subst (WasSurveyed r) (settled_in r old mid new dealt kept e has f is_set b may long number settled held le number' settled' held' faults')
-    (put_keeps r old (record { dealt = dealt; kept = kept }) long e has f is_set b new.held new.faults may (held' ∙ held) (omega (arith, le, faults'))).kept
+    (put_keeps r old (record { dealt = dealt; kept = kept }) long e has unset f is_set b new.held new.faults may (held' ∙ held) (omega (arith, le, faults'))).kept
 
 pub torn_surveyed : (r : Run) (old new : Seen) → IsDealtShard r old → WasSurveyed r old → (e : ℕ) → Has r old e → has_settled r old e ≡ false
     → IfSome old.held.bytes (λ t. length t ≡ old.held.size) → (y : List ℕ) → length y ≡ size_of r.listing e

@@ -83,7 +83,7 @@ IsOneOf (f ∷ fs) e = (e ≡ f) ⊎ IsOneOf fs e
 
 -- what is so of the bytes t of a shard's part: a settled entry is right, and is so in the base too or may be filled; an
 -- entry that isn't settled has the base's bytes, or a call on it has failed; and an entry that is right in the base is
--- settled, or a call on it has failed
+-- settled and has the base's bytes, or a call on it has failed
 pub record IsKept (r : Run) (s : Seen) (t : List ℕ) : Type 0 where
   pub failed : List ℕ
   pub few : HaveFailed failed s.faults
@@ -93,6 +93,8 @@ pub record IsKept (r : Run) (s : Seen) (t : List ℕ) : Type 0 where
       → (slice_at r s t e ≡ slice_of r.listing r.base e) ⊎ IsOneOf failed e
   pub base_right : (e : ℕ) → Has r s e → IsRightAt r.base r.listing e
       → (has_settled r s e ≡ true) ⊎ IsOneOf failed e
+  pub base_kept : (e : ℕ) → Has r s e → IsRightAt r.base r.listing e
+      → (slice_at r s t e ≡ slice_of r.listing r.base e) ⊎ IsOneOf failed e
 
 -- what is so of each shard, whether its part tells or not
 pub record IsDealtShard (r : Run) (s : Seen) : Type 0 where

@@ -1,7 +1,7 @@
 //! A part of a target with the entries that lie in it, and what became of each. Entries and shards count from 0.
 
-ghost use Rattle.std.specs.Prelude.{◌≡◌, ◌+◌, ◌-◌, ◌<◌, ◌≤◌, ℕ, List, IfOk, IfSome, OnErr, OnOk, Ok, false, is_some};
-ghost use Rattle.std.specs.Prelude.{length, set, true};
+ghost use Rattle.std.specs.Prelude.{◌≡◌, ◌+◌, ◌-◌, ◌<◌, ◌≤◌, ℕ, List, IfOk, IfSome, IsTrue, OnErr, OnOk, Ok, false};
+ghost use Rattle.std.specs.Prelude.{is_some, length, set, true};
 ghost use Rattle.caibx_codec.specs.Listing.{count_of, size_of};
 ghost use Rattle.caibx_fields.specs.Limits.{item_limit};
 ghost use Rattle.dsy_base.specs.Bytes.{held_written};
@@ -93,6 +93,7 @@ impl<'a, P: Part, R: RunName> Entries<'a, P, R> {
         ensures inside { IsDealtShard R.run self.now }
         ensures tells { is_some self.now.held.bytes ≡ P.tells }
         ensures sized { IfSome self.now.held.bytes (λ t. length t ≡ self.now.held.size) }
+        ensures sure { IsTrue P.never_fails → self.now.faults ≡ 0 }
     {
         let _ = &self.fates;
     }

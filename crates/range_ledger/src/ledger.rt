@@ -1,7 +1,7 @@
 //! The entries of an index in a target, as one worker sees them. Entries count from 0.
 
 ghost use Rattle.std.specs.Prelude.{◌≡◌, ◌≢◌, ℕ, List, ◌<◌, ◌≤◌, length, set, true, false, Ok, IfSome, OnOk, OnErr};
-ghost use Rattle.std.specs.Prelude.{is_some};
+ghost use Rattle.std.specs.Prelude.{Bool, IsTrue, is_some};
 ghost use Rattle.caibx_codec.specs.Listing.{count_of, id_of, image_length, kind_of, size_of, slice_of};
 ghost use Rattle.chunk_store.specs.Names.{name_of};
 ghost use Rattle.dsy_base.specs.Bytes.{Held};
@@ -28,13 +28,20 @@ pub trait Ledger: Drop {
     /// How often a call on the target has failed.
     ghost faults: { Self → ℕ };
 
+    /// Whether the type tells that what is settled is right.
+    ghost tells: { Bool };
+
+    /// Whether the type never counts a failed call.
+    ghost never_fails: { Bool };
+
     /// What every ledger keeps. Nothing is done.
     fn rules(&self)
         ensures counted { length (fates self.now) ≡ count_of run.listing }
         ensures size { (held self.now).size ≡ image_length run.listing }
         ensures bytes { IfSome (held self.now).bytes (λ t. length t ≡ (held self.now).size) }
         ensures right { IfSome (held self.now).bytes
-            (λ t. SettledRight run.listing t (fates self.now) (count_of run.listing)) };
+            (λ t. SettledRight run.listing t (fates self.now) (count_of run.listing)) }
+        ensures sure { IsTrue never_fails → faults self.now ≡ 0 };
 
     /// What became of an entry.
     fn fate(&self, entry: usize) -> Fate
@@ -48,6 +55,7 @@ pub trait Ledger: Drop {
         requires size { length out.old ≡ size_of run.listing entry }
         ensures found { result ≡ true → (settled (fates self.old) entry ≡ true)
             × IfSome (held self.old).bytes (λ t. out.new ≡ slice_of run.listing t entry) }
+        ensures named { result ≡ true → IsTrue tells → name_of (kind_of run.listing) out.new ≡ id_of run.listing entry }
         ensures absent { result ≡ false → settled (fates self.old) entry ≡ true →
             Rose (faults self.old) (faults self.new) }
         ensures kept { held self.new ≡ held self.old }
@@ -61,8 +69,8 @@ pub trait Ledger: Drop {
         requires chunk { length chunk.now ≡ size_of run.listing entry }
         requires fate { is_settled fate ≡ true }
         requires made { is_made fate ≡ true }
-        requires right { IfSome (held self.old).bytes
-            (λ t. name_of (kind_of run.listing) chunk.now ≡ id_of run.listing entry) }
+        requires may { run.may entry ≡ true }
+        requires right { IsTrue tells → name_of (kind_of run.listing) chunk.now ≡ id_of run.listing entry }
         ensures ok { OnOk result (settled (fates self.new) entry ≡ true) }
         ensures origin { settled (fates self.old) entry ≡ false → settled (fates self.new) entry ≡ true →
             fate_at (fates self.new) entry ≡ fate }

@@ -1,7 +1,7 @@
 //! Shards: parts of a target that know what became of their entries. Entries and shards count from 0.
 
 ghost use Rattle.std.specs.Prelude.{◌≡◌, ◌∷◌, ◌-◌, ◌≤◌, ℕ, List, [], length, set, true, false};
-ghost use Rattle.std.specs.Prelude.{is_some, IfSome, Ok, OnErr, OnOk};
+ghost use Rattle.std.specs.Prelude.{is_some, IfSome, IsTrue, Ok, OnErr, OnOk};
 ghost use Rattle.caibx_codec.specs.Listing.{id_of, kind_of, size_of};
 ghost use Rattle.chunk_store.specs.Names.{name_of};
 ghost use Rattle.dsy_base.specs.Bytes.{held_written};
@@ -50,6 +50,7 @@ impl<'a, P: Part, R: RunName> Shard<'a, P, R> {
         ensures kept { IsShard R.run self.now }
         ensures tells { is_some self.now.held.bytes ≡ P.tells }
         ensures sized { IfSome self.now.held.bytes (λ t. length t ≡ self.now.held.size) }
+        ensures sure { IsTrue P.never_fails → self.now.faults ≡ 0 }
     {
         self.entries.rules();
     }

@@ -4,6 +4,7 @@ use Rattle.std.proofs.lemmas.Option.{MatchOption-at_none, MatchOption-at_some}
 use Rattle.assembler.proofs.EconomyPaid.{paid_all, paid_more, paid_none}
 use Rattle.assembler.proofs.EconomyRetried.{memory_lost, memory_ok, tried_all, tried_as, tried_now, tried_within, unless_any}
 use Rattle.assembler.proofs.Filled.{open_before, settled_on, torn_on}
+use Rattle.assembler.proofs.HadOn.{permits_on}
 use Rattle.assembler.proofs.Lost.{LostTried, lost_of, newly_lost, still_lost, torn_of}
 use Rattle.assembler.proofs.Passed.{OneMore, WantsDone, done_all, done_more, done_none}
 use Rattle.assembler.proofs.Stepped.{may_lack_before, ready_on}
@@ -66,6 +67,15 @@ pub settle-requires-clause-ready : goal.settle-requires-clause-ready
 settle-requires-clause-ready g c =
     ready_on g.S.Store g.V.View (task g.E.Ledger.run.listing c.args.wants.now) (λ v. is_tried c.loop-entry.tried.items v ≡ true) (stage g.E.Ledger g.F.Look c.args.work.now)
     (stage g.E.Ledger g.F.Look c.loop-entry.work) c.loop-entry.invariant.done.stretch c.requires.ready
+
+pub settle-requires-clause-may : goal.settle-requires-clause-may
+settle-requires-clause-may g c =
+    let t = task g.E.Ledger.run.listing c.args.wants.now in
+    let listed = c.requires.ready.wants in
+    let inside : c.loop-entry.entry < length t.plan.want_of = omega (arith, c.loop-entry-test.true, c.count-entry-end.ensures, ap count_of c.requires.listing, listed.size) in
+    let below : c.want_of-want.result < t.plan.wants = omega (arith, listed.within c.loop-entry.entry (omega (arith, inside, listed.size)), c.want_of-want.ensures) in
+    permits_on t listed g.S.Store g.V.View (λ v. is_tried c.loop-entry.tried.items v ≡ true) (λ _. Unit {0}) g.E.Ledger.run.may (stage g.E.Ledger g.F.Look c.args.work.now)
+    (stage g.E.Ledger g.F.Look c.loop-entry.work) c.loop-entry.invariant.done.stretch c.loop-entry.invariant.done.had c.requires.may c.want_of-want.result below tt
 
 -- the stages before the pass, before the call and after it
 abbrev before : (g : Over) → After-settle g → Stage g.row.S.Denot g.row.V.Denot

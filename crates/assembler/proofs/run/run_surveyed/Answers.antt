@@ -1,7 +1,8 @@
 use Rattle.std.proofs.Common.{◌≡◌, ◌∙◌, ◌<◌, ◌≤◌, ℕ, List, length, Result, Ok, Err, OnOk, IfSome, refl, sym, ap, subst, arith}
-use Rattle.assembler.proofs.Assembled.{assembled_err, assembled_ok, bytes_err, bytes_ok, ran_of}
+use Rattle.assembler.proofs.Assembled.{assembled_err, assembled_ok, finished, first_sources, ran_of}
 use Rattle.assembler.proofs.Based.{Surveyed, over_of, some_map}
 use Rattle.assembler.proofs.Counted.{quiet_part}
+use Rattle.assembler.proofs.Finished.{bytes_err, bytes_ok}
 use Rattle.assembler.proofs.KeptCount.{kept_count}
 use Rattle.assembler.specs.Assemblies.{Assembles, IsAssembled}
 use Rattle.assembler.specs.Stages.{Stage}
@@ -28,6 +29,9 @@ err_apart is = absurd (cc)
 
 err_same : {d e : ExtractFault} → (◌≡◌ {A = Result Report ExtractFault} (Err d) (Err e)) → d ≡ e
 err_same is = cc
+
+pub settle_all-requires-clause-may : goal.settle_all-requires-clause-may
+settle_all-requires-clause-may g c = λ w less any has i among. c.requires.may i
 
 pub returns-clause-assembled : goal.returns-clause-assembled
 returns-clause-assembled g c = λ old f begun.
@@ -61,11 +65,12 @@ returns-clause-bytes g c = λ old f begun.
     let r = c.settle_all.result in
     let ran = ran_of g.S.Store g.V.View t old f a b r l refl c.requires.ready.wants begun.held begun.rises c.rules.ensures.bytes c.rules.ensures.right begun.wrong begun.first
     c.settle_all.ensures.passes c.settle_all.ensures.ends c.settle_all.ensures.exactly in
+    let done = finished g.S.Store g.V.View t old.bytes f a b r ran in
     subst (λ (h : Held). WhereTold old.bytes h.bytes (Assembles l ⊥ f (g.T.View.faults c.into_target.result) c.match-settle_all.answer)) (sym c.into_target.ensures.held)
     (subst (λ (n : ℕ). WhereTold old.bytes b.held.bytes (Assembles l ⊥ f n c.match-settle_all.answer)) (sym c.into_target.ensures.faults)
     (elim c.match-settle_all.branch [
-      | in-Ok w ↦ rw w.answer-is (bytes_ok g.S.Store g.V.View t old.bytes f a b r ran ⊥ w.in-Ok.field-0 w.in-Ok.is w.report.result)
-      | in-Err w ↦ rw w.answer-is (bytes_err g.S.Store g.V.View t old.bytes f a b r ran ⊥ w.in-Err.fault w.in-Err.is)
+      | in-Ok w ↦ rw w.answer-is (bytes_ok g.S.Store g.V.View t old.bytes (first_sources g.S.Store g.V.View t old.bytes f a b) (λ i. ⊥) a b r done ⊥ w.in-Ok.field-0 w.in-Ok.is w.report.result)
+      | in-Err w ↦ rw w.answer-is (bytes_err g.S.Store g.V.View t old.bytes (first_sources g.S.Store g.V.View t old.bytes f a b) (λ i. ⊥) a b r done ⊥ w.in-Err.fault w.in-Err.is)
     ]))
 
 pub returns-clause-report : goal.returns-clause-report

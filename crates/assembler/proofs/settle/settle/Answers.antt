@@ -94,6 +94,28 @@ settle_open-requires-clause-room g c =
     let at = goal.at.settle_open-requires-clause-room g c in
     omega (arith, sized g at.After-entry, c.requires.ready.room c.in-Some.entry (is_listed g at.In-Some), ap (λ (xs : List ℕ). length xs) c.deref_mut-2.ensures.value)
 
+pub settle_open-requires-clause-may : goal.settle_open-requires-clause-may
+settle_open-requires-clause-may g c = λ had j inside.
+    let at = goal.at.settle_open-requires-clause-may g c in
+    let t = task g.E.Ledger.run.listing c.args.wants.now in
+    let w = c.args.want in
+    let es = c.entries-entries.result.now in
+    let old = g.E.Ledger.fates c.args.work.now.ledger in
+    let seeds = c.args.work.now.kit.seeds in
+    let views = views_of g.V.View seeds.items in
+    let first = c.deref_mut.ensures.value in
+    let is = c.entries-entries.ensures in
+    let n = c.entry.result.size in
+    let id = c.id-id.result.0 in
+    let same = same_chunk t w c.requires.ready.wants c.requires.want es is c.in-Some.entry (among g at.In-Some) id (named g at.After-entry) n (sized g at.After-entry)
+    c.places-places.result.now c.places-places.ensures in
+    c.requires.may
+    (λ tells cached maps has told. subst (λ (q : Wanted). Had old q views (cached ++ maps)) same
+    (subst (λ (xs : List (Seed g.row.V.Denot)). Had old (record { kind = kind_of t.listing; id = id; size = n; entries = es; places = c.places-places.result.now }) (views_of g.V.View xs) (cached ++ maps)) first
+    (had (subst (λ (xs : List (Seed g.row.V.Denot)). Telling g.V.View.tells (views_of g.V.View xs)) (sym first) tells) cached maps
+    has told)))
+    j (subst (λ (xs : List ℕ). IsAmong xs j) is inside)
+
 pub returns-clause-settles : goal.returns-clause-settles
 returns-clause-settles g c =
     let at = goal.at.returns-clause-settles g c in

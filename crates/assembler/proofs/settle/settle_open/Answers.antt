@@ -1,4 +1,4 @@
-use Rattle.std.proofs.Common.{◌≡◌, ◌⊎◌, ◌∙◌, ◌++◌, ℕ, List, length, Option, Ok, Err, ap, sym, subst}
+use Rattle.std.proofs.Common.{◌≡◌, ◌⊎◌, ◌∙◌, ◌++◌, ℕ, List, length, slice_index, Option, Ok, Err, refl, ap, sym, subst}
 use Rattle.assembler.proofs.EconomyQuiet.{quiet_before}
 use Rattle.assembler.proofs.Filled.{told_none, told_since, torn_since}
 use Rattle.assembler.proofs.Settled.{asks_still}
@@ -31,6 +31,13 @@ see g = seen g.F.Look
 module _ (kind : DigestKind) (q : Sought) (n size : ℕ) (same : n ≡ size) (P : Wanted → Type 0) where
   as_sought : P (sought_chunk kind q n) → P (sought_chunk kind q size)
   as_sought = subst (λ (k : ℕ). P (sought_chunk kind q k)) same
+
+pub put-requires-clause-may : goal.put-requires-clause-may
+put-requires-clause-may g c = λ k less. c.requires.may
+    (λ tells cached maps has told.
+    as_sought (kind_of g.E.Ledger.run.listing) c.args.opened.now.sought (length c.split_at_mut-chunk.result.0.now) c.args.opened.now.size c.split_at_mut-chunk.ensures.front_len
+    (λ q. Had (g.E.Ledger.fates c.args.ledger.now) q (views_of g.V.View c.args.seeds.now) (cached ++ maps)) (c.in-Ok.ensures.had tells cached maps has told))
+    (slice_index c.args.opened.now.sought.entries.now k) (k, less, refl)
 
 pub returns-in-Ok-put-clause-had : goal.returns-in-Ok-put-clause-had
 returns-in-Ok-put-clause-had g c = λ tells cached maps has told i was now.

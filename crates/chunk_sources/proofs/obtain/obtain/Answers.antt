@@ -4,7 +4,7 @@ use Rattle.cache_store.specs.Shelves.{Shelf, Shelved}
 use Rattle.caibx_codec.specs.Listing.{kind_of}
 use Rattle.chunk_sources.proofs.Cached.{stocked_none}
 use Rattle.chunk_sources.proofs.Lacking.{quiet_never, seeds_never}
-use Rattle.chunk_sources.proofs.Obtained.{always, err_more, ok_more, sized_as}
+use Rattle.chunk_sources.proofs.Obtained.{among_named, err_more, ok_more, sized_as}
 use Rattle.chunk_sources.proofs.Origins.{by_copy, by_rest, by_seed}
 use Rattle.chunk_sources.specs.Caches.{CacheFailed, CacheLacks, Stocked, TakesChunk, seen}
 use Rattle.chunk_sources.specs.Economy.{ObtainedBy, source_behind}
@@ -52,10 +52,15 @@ returns-then-from_seeds-clause-exactly g c = λ cached maps quiet.
     (λ i among is. quiet_never (faults c.args.ledger.now) (faults c.copy.new.ledger) quiet.target (c.copy.ensures.absent c.if-copy.false i among is))
     c.asks.ensures.below refl (c.from_seeds.ensures.found c.if-from_seeds.true quiet.telling)
 
+pub returns-then-copy-clause-ok : goal.returns-then-copy-clause-ok
+returns-then-copy-clause-ok g c = λ told.
+    let found = c.copy.ensures.named c.if-copy.true told in
+    among_named g.E.Ledger.run.listing c.args.sought.now.id.0 (length c.args.chunk.now) c.args.sought.now.entries.now c.requires.entries c.copy.new.chunk found.0 found.1 found.2
+
 pub returns-clause-ok : goal.returns-clause-ok
 returns-clause-ok g c =
-    ok_more c.from_upstream.result (λ named. always (g.E.Ledger.held c.args.ledger.now).bytes _
-    (sized_as (λ k n. name_of k c.from_upstream.new.chunk ≡ c.args.sought.now.id.0) c.args.chain.now.kind (kind_of g.E.Ledger.run.listing) 0 0 c.requires.kind refl named))
+    ok_more c.from_upstream.result (λ named told.
+    sized_as (λ k n. name_of k c.from_upstream.new.chunk ≡ c.args.sought.now.id.0) c.args.chain.now.kind (kind_of g.E.Ledger.run.listing) 0 0 c.requires.kind refl named)
     c.from_upstream.ensures.ok
 
 -- what is known of what was asked for is known of what is sought

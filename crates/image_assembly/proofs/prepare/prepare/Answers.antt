@@ -43,6 +43,7 @@ invariant_of-result g c =
     let same : at.0 ≡ d = same_plan l c.len.result at.0 d (subst (λ n. IsPlan l n at.0) (sym c.len.ensures) at.1) c.in-Ok.ensures.plan in
     record {
       listing = sym c.requires.over.listing;
+      may = c.requires.may;
       plan = plan;
       fresh = c.in-Ok.ensures.fresh;
       places = all_alone (λ q. PlacesKnown l d x (length q.seeds.items)) (slice_set c.args.kits.items 0 k) k after

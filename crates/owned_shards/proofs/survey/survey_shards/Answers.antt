@@ -103,7 +103,7 @@ new-requires-clause-whole g c =
       some = some;
       few = omega (arith, over.dealt.shards, over.dealt.entries);
       size = ap (λ (x : Left). x.size) rest ∙ (ap (λ (h : Held). h.size) resized_to ∙ length_same);
-      may = over.may;
+      counted = c.in-Ok-split.ensures.counted;
       tells = over.tells;
     } in
     whole
@@ -130,7 +130,7 @@ returns-in-Ok-split-clause-ok g c =
       some = some;
       few = omega (arith, over.dealt.shards, over.dealt.entries);
       size = ap (λ (x : Left). x.size) rest ∙ (ap (λ (h : Held). h.size) resized_to ∙ length_same);
-      may = over.may;
+      counted = c.in-Ok-split.ensures.counted;
       tells = over.tells;
     } in
     let based : r.tells ≡ true → joined_bytes ss ≡ r.base = λ told. all_base r told some ss begun (base_size r old.bytes (image_length l) g.T.View.tells over.tells is over.base told ∙ length_same) in
@@ -160,7 +160,7 @@ returns-in-Ok-split-clause-first g c =
       some = some;
       few = omega (arith, over.dealt.shards, over.dealt.entries);
       size = ap (λ (x : Left). x.size) rest ∙ (ap (λ (h : Held). h.size) resized_to ∙ length_same);
-      may = over.may;
+      counted = c.in-Ok-split.ensures.counted;
       tells = over.tells;
     } in
     subst (λ (w : Whole). FirstFates w.fates (count_of l)) (sym c.new.ensures) (all_first r 0 ss begun (count_of l))
@@ -187,7 +187,7 @@ returns-in-Ok-split-clause-yes g c =
       some = some;
       few = omega (arith, over.dealt.shards, over.dealt.entries);
       size = ap (λ (x : Left). x.size) rest ∙ (ap (λ (h : Held). h.size) resized_to ∙ length_same);
-      may = over.may;
+      counted = c.in-Ok-split.ensures.counted;
       tells = over.tells;
     } in
     subst (λ (w : Whole). IfSome w.held.bytes (λ t. SettledRight l t w.fates (count_of l))) (sym c.new.ensures)
@@ -215,7 +215,7 @@ returns-in-Ok-split-clause-no g c =
       some = some;
       few = omega (arith, over.dealt.shards, over.dealt.entries);
       size = ap (λ (x : Left). x.size) rest ∙ (ap (λ (h : Held). h.size) resized_to ∙ length_same);
-      may = over.may;
+      counted = c.in-Ok-split.ensures.counted;
       tells = over.tells;
     } in
     let based : r.tells ≡ true → joined_bytes ss ≡ r.base = λ told. all_base r told some ss begun (base_size r old.bytes (image_length l) g.T.View.tells over.tells is over.base told ∙ length_same) in

@@ -46,6 +46,12 @@ run_surveyed-target-requires-clause-ready g c =
       cache = subst (λ (n : DigestKind). IfSome (seen g.F.Look c.args.cache) (λ s. s.kind ≡ n)) (sym kind) c.requires.cache;
     }
 
+pub run_surveyed-target-requires-clause-may : goal.run_surveyed-target-requires-clause-may
+run_surveyed-target-requires-clause-may g c = c.self.invariant.may
+
+pub run_surveyed-target-requires-clause-workers : goal.run_surveyed-target-requires-clause-workers
+run_surveyed-target-requires-clause-workers g c = c.self.invariant.plan.workers ∙ one g (goal.at.run_surveyed-target-requires-clause-workers g c).In-Some
+
 pub returns-clause-bytes : goal.returns-clause-bytes
 returns-clause-bytes g c =
     let r = c.run_surveyed-target.result in

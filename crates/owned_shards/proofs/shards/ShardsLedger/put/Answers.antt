@@ -2,7 +2,7 @@ use Rattle.std.proofs.Common.{◌≡◌, length, set, vec_len, IfSome, sym, subs
 use Rattle.std.proofs.lemmas.List.{get_or-set_same}
 use Rattle.caibx_codec.specs.Listing.{id_of, kind_of}
 use Rattle.chunk_store.specs.Names.{name_of}
-use Rattle.owned_shards.proofs.Putting.{Found, PutEnds, found, put_ends, stays_whole}
+use Rattle.owned_shards.proofs.Putting.{Found, PutEnds, found, put_ends, stays_whole, where_told}
 use Rattle.owned_shards.proofs.Wholes.{has_it, with_length}
 use Rattle.range_ledger.specs.Runs.{Has, Seen}
 use Rattle.owned_shards.specs.Wholes.{IsTold, Whole, whole_of}
@@ -35,6 +35,13 @@ put-put-requires-clause-inside g c =
     let at : Found r ss k c.args.entry = found r ss is.shards k c.args.entry
     c.shard_with-k.ensures.from c.shard_with-k.ensures.to c.shard_with-k.ensures.inside in
     has_it r ss is.shards k at.lt c.index_mut.result.now c.index_mut.ensures.value c.args.entry at.from at.to
+
+pub put-put-requires-clause-may : goal.put-put-requires-clause-may
+put-put-requires-clause-may g c = record {
+  size = c.requires.chunk;
+  named = λ told. c.requires.right (sym c.self.invariant.1.tells ∙ told);
+  may = c.requires.may;
+}
 
 pub index-requires : goal.index-requires
 index-requires g c =
@@ -90,7 +97,7 @@ returns-clause-ok g c =
     let tells = g.T.View.tells in
     let has : Has r s c.args.entry = has_it r ss is.shards k at.lt s here c.args.entry at.from at.to in
     let right : IfSome (whole_of left tells ss).held.bytes (λ t. name_of (kind_of r.listing) c.args.chunk.now ≡ id_of r.listing c.args.entry) =
-    subst (λ (w : Whole). IfSome w.held.bytes (λ t. name_of (kind_of r.listing) c.args.chunk.now ≡ id_of r.listing c.args.entry)) (sym c.self.view_is) c.requires.right in
+    where_told left tells ss c.requires.right in
     let ends = put_ends r left tells ss is k at.lt s here c.args.entry c.requires.listed has new c.args.fate c.requires.fate c.requires.made c.args.chunk.now c.requires.chunk right c.put-put.result
     n.changed n.bytes n.left n.kept n.failed n.only n.err n.faults in
     (subst (λ (w : Whole). PutEnds r.listing c.args.entry c.args.fate w (whole_of left tells (set ss k new)) c.put-put.result) c.self.view_is ends).ok
@@ -111,7 +118,7 @@ returns-clause-origin g c =
     let tells = g.T.View.tells in
     let has : Has r s c.args.entry = has_it r ss is.shards k at.lt s here c.args.entry at.from at.to in
     let right : IfSome (whole_of left tells ss).held.bytes (λ t. name_of (kind_of r.listing) c.args.chunk.now ≡ id_of r.listing c.args.entry) =
-    subst (λ (w : Whole). IfSome w.held.bytes (λ t. name_of (kind_of r.listing) c.args.chunk.now ≡ id_of r.listing c.args.entry)) (sym c.self.view_is) c.requires.right in
+    where_told left tells ss c.requires.right in
     let ends = put_ends r left tells ss is k at.lt s here c.args.entry c.requires.listed has new c.args.fate c.requires.fate c.requires.made c.args.chunk.now c.requires.chunk right c.put-put.result
     n.changed n.bytes n.left n.kept n.failed n.only n.err n.faults in
     (subst (λ (w : Whole). PutEnds r.listing c.args.entry c.args.fate w (whole_of left tells (set ss k new)) c.put-put.result) c.self.view_is ends).origin
@@ -132,7 +139,7 @@ returns-clause-changed g c =
     let tells = g.T.View.tells in
     let has : Has r s c.args.entry = has_it r ss is.shards k at.lt s here c.args.entry at.from at.to in
     let right : IfSome (whole_of left tells ss).held.bytes (λ t. name_of (kind_of r.listing) c.args.chunk.now ≡ id_of r.listing c.args.entry) =
-    subst (λ (w : Whole). IfSome w.held.bytes (λ t. name_of (kind_of r.listing) c.args.chunk.now ≡ id_of r.listing c.args.entry)) (sym c.self.view_is) c.requires.right in
+    where_told left tells ss c.requires.right in
     let ends = put_ends r left tells ss is k at.lt s here c.args.entry c.requires.listed has new c.args.fate c.requires.fate c.requires.made c.args.chunk.now c.requires.chunk right c.put-put.result
     n.changed n.bytes n.left n.kept n.failed n.only n.err n.faults in
     (subst (λ (w : Whole). PutEnds r.listing c.args.entry c.args.fate w (whole_of left tells (set ss k new)) c.put-put.result) c.self.view_is ends).changed
@@ -153,7 +160,7 @@ returns-clause-err g c =
     let tells = g.T.View.tells in
     let has : Has r s c.args.entry = has_it r ss is.shards k at.lt s here c.args.entry at.from at.to in
     let right : IfSome (whole_of left tells ss).held.bytes (λ t. name_of (kind_of r.listing) c.args.chunk.now ≡ id_of r.listing c.args.entry) =
-    subst (λ (w : Whole). IfSome w.held.bytes (λ t. name_of (kind_of r.listing) c.args.chunk.now ≡ id_of r.listing c.args.entry)) (sym c.self.view_is) c.requires.right in
+    where_told left tells ss c.requires.right in
     let ends = put_ends r left tells ss is k at.lt s here c.args.entry c.requires.listed has new c.args.fate c.requires.fate c.requires.made c.args.chunk.now c.requires.chunk right c.put-put.result
     n.changed n.bytes n.left n.kept n.failed n.only n.err n.faults in
     (subst (λ (w : Whole). PutEnds r.listing c.args.entry c.args.fate w (whole_of left tells (set ss k new)) c.put-put.result) c.self.view_is ends).err
@@ -174,7 +181,7 @@ returns-clause-kept g c =
     let tells = g.T.View.tells in
     let has : Has r s c.args.entry = has_it r ss is.shards k at.lt s here c.args.entry at.from at.to in
     let right : IfSome (whole_of left tells ss).held.bytes (λ t. name_of (kind_of r.listing) c.args.chunk.now ≡ id_of r.listing c.args.entry) =
-    subst (λ (w : Whole). IfSome w.held.bytes (λ t. name_of (kind_of r.listing) c.args.chunk.now ≡ id_of r.listing c.args.entry)) (sym c.self.view_is) c.requires.right in
+    where_told left tells ss c.requires.right in
     let ends = put_ends r left tells ss is k at.lt s here c.args.entry c.requires.listed has new c.args.fate c.requires.fate c.requires.made c.args.chunk.now c.requires.chunk right c.put-put.result
     n.changed n.bytes n.left n.kept n.failed n.only n.err n.faults in
     (subst (λ (w : Whole). PutEnds r.listing c.args.entry c.args.fate w (whole_of left tells (set ss k new)) c.put-put.result) c.self.view_is ends).kept
@@ -195,7 +202,7 @@ returns-clause-others g c =
     let tells = g.T.View.tells in
     let has : Has r s c.args.entry = has_it r ss is.shards k at.lt s here c.args.entry at.from at.to in
     let right : IfSome (whole_of left tells ss).held.bytes (λ t. name_of (kind_of r.listing) c.args.chunk.now ≡ id_of r.listing c.args.entry) =
-    subst (λ (w : Whole). IfSome w.held.bytes (λ t. name_of (kind_of r.listing) c.args.chunk.now ≡ id_of r.listing c.args.entry)) (sym c.self.view_is) c.requires.right in
+    where_told left tells ss c.requires.right in
     let ends = put_ends r left tells ss is k at.lt s here c.args.entry c.requires.listed has new c.args.fate c.requires.fate c.requires.made c.args.chunk.now c.requires.chunk right c.put-put.result
     n.changed n.bytes n.left n.kept n.failed n.only n.err n.faults in
     (subst (λ (w : Whole). PutEnds r.listing c.args.entry c.args.fate w (whole_of left tells (set ss k new)) c.put-put.result) c.self.view_is ends).others
@@ -216,7 +223,7 @@ returns-clause-grows g c =
     let tells = g.T.View.tells in
     let has : Has r s c.args.entry = has_it r ss is.shards k at.lt s here c.args.entry at.from at.to in
     let right : IfSome (whole_of left tells ss).held.bytes (λ t. name_of (kind_of r.listing) c.args.chunk.now ≡ id_of r.listing c.args.entry) =
-    subst (λ (w : Whole). IfSome w.held.bytes (λ t. name_of (kind_of r.listing) c.args.chunk.now ≡ id_of r.listing c.args.entry)) (sym c.self.view_is) c.requires.right in
+    where_told left tells ss c.requires.right in
     let ends = put_ends r left tells ss is k at.lt s here c.args.entry c.requires.listed has new c.args.fate c.requires.fate c.requires.made c.args.chunk.now c.requires.chunk right c.put-put.result
     n.changed n.bytes n.left n.kept n.failed n.only n.err n.faults in
     (subst (λ (w : Whole). PutEnds r.listing c.args.entry c.args.fate w (whole_of left tells (set ss k new)) c.put-put.result) c.self.view_is ends).grows
@@ -237,7 +244,7 @@ returns-clause-bytes g c =
     let tells = g.T.View.tells in
     let has : Has r s c.args.entry = has_it r ss is.shards k at.lt s here c.args.entry at.from at.to in
     let right : IfSome (whole_of left tells ss).held.bytes (λ t. name_of (kind_of r.listing) c.args.chunk.now ≡ id_of r.listing c.args.entry) =
-    subst (λ (w : Whole). IfSome w.held.bytes (λ t. name_of (kind_of r.listing) c.args.chunk.now ≡ id_of r.listing c.args.entry)) (sym c.self.view_is) c.requires.right in
+    where_told left tells ss c.requires.right in
     let ends = put_ends r left tells ss is k at.lt s here c.args.entry c.requires.listed has new c.args.fate c.requires.fate c.requires.made c.args.chunk.now c.requires.chunk right c.put-put.result
     n.changed n.bytes n.left n.kept n.failed n.only n.err n.faults in
     (subst (λ (w : Whole). PutEnds r.listing c.args.entry c.args.fate w (whole_of left tells (set ss k new)) c.put-put.result) c.self.view_is ends).bytes
@@ -258,7 +265,7 @@ returns-clause-faults g c =
     let tells = g.T.View.tells in
     let has : Has r s c.args.entry = has_it r ss is.shards k at.lt s here c.args.entry at.from at.to in
     let right : IfSome (whole_of left tells ss).held.bytes (λ t. name_of (kind_of r.listing) c.args.chunk.now ≡ id_of r.listing c.args.entry) =
-    subst (λ (w : Whole). IfSome w.held.bytes (λ t. name_of (kind_of r.listing) c.args.chunk.now ≡ id_of r.listing c.args.entry)) (sym c.self.view_is) c.requires.right in
+    where_told left tells ss c.requires.right in
     let ends = put_ends r left tells ss is k at.lt s here c.args.entry c.requires.listed has new c.args.fate c.requires.fate c.requires.made c.args.chunk.now c.requires.chunk right c.put-put.result
     n.changed n.bytes n.left n.kept n.failed n.only n.err n.faults in
     (subst (λ (w : Whole). PutEnds r.listing c.args.entry c.args.fate w (whole_of left tells (set ss k new)) c.put-put.result) c.self.view_is ends).faults
@@ -279,7 +286,7 @@ returns-clause-cause g c =
     let tells = g.T.View.tells in
     let has : Has r s c.args.entry = has_it r ss is.shards k at.lt s here c.args.entry at.from at.to in
     let right : IfSome (whole_of left tells ss).held.bytes (λ t. name_of (kind_of r.listing) c.args.chunk.now ≡ id_of r.listing c.args.entry) =
-    subst (λ (w : Whole). IfSome w.held.bytes (λ t. name_of (kind_of r.listing) c.args.chunk.now ≡ id_of r.listing c.args.entry)) (sym c.self.view_is) c.requires.right in
+    where_told left tells ss c.requires.right in
     let ends = put_ends r left tells ss is k at.lt s here c.args.entry c.requires.listed has new c.args.fate c.requires.fate c.requires.made c.args.chunk.now c.requires.chunk right c.put-put.result
     n.changed n.bytes n.left n.kept n.failed n.only n.err n.faults in
     (subst (λ (w : Whole). PutEnds r.listing c.args.entry c.args.fate w (whole_of left tells (set ss k new)) c.put-put.result) c.self.view_is ends).cause
@@ -300,7 +307,7 @@ returns-clause-failed g c =
     let tells = g.T.View.tells in
     let has : Has r s c.args.entry = has_it r ss is.shards k at.lt s here c.args.entry at.from at.to in
     let right : IfSome (whole_of left tells ss).held.bytes (λ t. name_of (kind_of r.listing) c.args.chunk.now ≡ id_of r.listing c.args.entry) =
-    subst (λ (w : Whole). IfSome w.held.bytes (λ t. name_of (kind_of r.listing) c.args.chunk.now ≡ id_of r.listing c.args.entry)) (sym c.self.view_is) c.requires.right in
+    where_told left tells ss c.requires.right in
     let ends = put_ends r left tells ss is k at.lt s here c.args.entry c.requires.listed has new c.args.fate c.requires.fate c.requires.made c.args.chunk.now c.requires.chunk right c.put-put.result
     n.changed n.bytes n.left n.kept n.failed n.only n.err n.faults in
     (subst (λ (w : Whole). PutEnds r.listing c.args.entry c.args.fate w (whole_of left tells (set ss k new)) c.put-put.result) c.self.view_is ends).failed

@@ -2,7 +2,7 @@ use Rattle.std.proofs.Common.{◌≡◌, ◌≤◌, length, set, vec_len, true, 
 use Rattle.std.proofs.lemmas.List.{get_or-set_same}
 use Rattle.caibx_codec.specs.Listing.{slice_of}
 use Rattle.dsy_base.specs.Counts.{Rose}
-use Rattle.owned_shards.proofs.Putting.{Found, found, later, read_as, rises, same_fates, same_held, settled_as, stays_whole}
+use Rattle.owned_shards.proofs.Putting.{Found, found, later, read_as, read_named, rises, same_fates, same_held, settled_as, stays_whole}
 use Rattle.owned_shards.proofs.Wholes.{has_it, with_length}
 use Rattle.range_ledger.specs.Runs.{Has, Seen}
 use Rattle.owned_shards.specs.Wholes.{IsTold, Whole, whole_of}
@@ -92,6 +92,25 @@ returns-clause-found g c =
     let has : Has r s c.args.entry = has_it r ss is.shards k at.lt s here c.args.entry at.from at.to in
     subst (λ (w : Whole). c.read-read.result ≡ true → (settled w.fates c.args.entry ≡ true) × IfSome w.held.bytes (λ t. c.read-read.new.out ≡ slice_of r.listing t c.args.entry)) c.self.view_is
     (λ yes. (settled_as r left tells ss is k at.lt s here c.args.entry c.requires.listed has new ∙ (n.found yes).0, read_as r left tells ss is k at.lt s here c.args.entry c.requires.listed has new c.read-read.new.out (n.found yes).1))
+
+pub returns-clause-named : goal.returns-clause-named
+returns-clause-named g c =
+    let r = g.R.RunName.run in
+    let ss = c.self.inside.shards.items in
+    let is = c.self.invariant.1 in
+    let k = c.shard_with-k.result in
+    let at : Found r ss k c.args.entry = found r ss is.shards k c.args.entry
+    c.shard_with-k.ensures.from c.shard_with-k.ensures.to c.shard_with-k.ensures.inside in
+    let s : Seen = c.index_mut.result.now in
+    let here = c.index_mut.ensures.value in
+    let new : Seen = c.read-read.new.self in
+    let n = c.read-read.ensures in
+    let left = g.T.Target.left c.self.inside.rest in
+    let tells = g.T.View.tells in
+    let has : Has r s c.args.entry = has_it r ss is.shards k at.lt s here c.args.entry at.from at.to in
+    λ yes told. read_named r left tells ss is c.args.entry c.requires.listed c.read-read.new.out
+    (settled_as r left tells ss is k at.lt s here c.args.entry c.requires.listed has new ∙ (n.found yes).0)
+    (read_as r left tells ss is k at.lt s here c.args.entry c.requires.listed has new c.read-read.new.out (n.found yes).1) told
 
 pub returns-clause-absent : goal.returns-clause-absent
 returns-clause-absent g c =

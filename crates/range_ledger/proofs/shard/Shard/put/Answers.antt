@@ -10,9 +10,11 @@ invariant_of-self g c =
     let r = g.R.RunName.run in
     let old : Seen = c.self.inside.entries in
     let has : Has r old c.args.entry = subst (λ (v : Seen). Has r v c.args.entry) (sym c.self.view_is) c.requires.inside in
+    let unset : has_settled r old c.args.entry ≡ false =
+    subst (λ (v : Seen). has_settled r v c.args.entry ≡ false) (sym c.self.view_is) (sym c.settled.ensures.value ∙ c.if-settled.false) in
     let w = c.in-Ok.ensures in
     let m = c.settle.ensures in
-    put_surveyed r old c.write.new.self c.settle.new.self w.inside c.self.invariant c.args.entry has c.args.fate c.requires.fate c.args.b.now c.requires.may
+    put_surveyed r old c.write.new.self c.settle.new.self w.inside c.self.invariant c.args.entry has unset c.args.fate c.requires.fate c.args.b.now c.requires.may
     w.sized w.number w.kept w.ok w.faults.never_falls m.number m.fates m.held m.faults
 
 pub invariant_of-self-in-Err : goal.invariant_of-self-in-Err
