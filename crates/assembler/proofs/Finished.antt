@@ -25,9 +25,9 @@ use Rattle.caibx_codec.specs.Right.{IsRightAt}
 use Rattle.chunk_sources.proofs.Cached.{gives_part, stocked_none, stocked_told}
 use Rattle.chunk_sources.proofs.Lacking.{Tells, quiet_never, seeds_never, stores_never, tells_of}
 use Rattle.chunk_sources.proofs.SeedAnswers.{telling_on}
-use Rattle.chunk_sources.specs.Caches.{CacheLacks, HaveOneSize, Stocked, TakesWants, cache_faults, cached_in}
+use Rattle.chunk_sources.specs.Caches.{HaveOneSize, Stocked, TakesWants, cache_faults, cached_in}
 use Rattle.chunk_sources.specs.Losses.{CopiesFailed}
-use Rattle.chunk_sources.specs.Sources.{KeepsSeeds, SeedsFailed, SeedsGive, Sources, SourcesQuiet, Telling, counts_of, sources, views_of}
+use Rattle.chunk_sources.specs.Sources.{KeepsSeeds, SeedsGive, Sources, SourcesQuiet, Telling, counts_of, sources, views_of}
 use Rattle.chunk_sources.specs.Wants.{IsAmong, Task}
 use Rattle.chunk_store.specs.declared.id.ChunkId.{ChunkId}
 use Rattle.chunk_store.specs.declared.store.Store.{Ghosts as StoreWords}

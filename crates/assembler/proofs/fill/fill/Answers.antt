@@ -1,4 +1,4 @@
-use Rattle.std.proofs.Common.{◌≡◌, ◌+◌, ◌<◌, ℕ, Bool, refl, sym, ◌∙◌, subst, arith, true, false}
+use Rattle.std.proofs.Common.{◌≡◌, ◌+◌, ℕ, Bool, refl, sym, ◌∙◌, subst, arith, true, false}
 use Rattle.assembler.proofs.EconomyFilled.{share_all_below, share_before, share_below, share_none, share_not_itself, share_now, share_of, share_others, share_past}
 use Rattle.assembler.proofs.EconomyPaid.{Paid, paid_more, paid_none, paid_share, untouched_more}
 use Rattle.assembler.proofs.Filled.{fate_stays}
@@ -8,9 +8,8 @@ use Rattle.assembler.proofs.Passed.{OneMore, WantsDone, done_more, done_none, do
 use Rattle.assembler.proofs.Stepped.{may_lack_before, ready_on}
 use Rattle.assembler.specs.Passes.{want_at}
 use Rattle.assembler.specs.Permits.{deals_to}
-use Rattle.assembler.specs.Stages.{Stage, stage, task}
+use Rattle.assembler.specs.Stages.{stage, task}
 use Rattle.assembler.specs.declared.fault.Unsettled.TheVariants as unsettled
-use Rattle.chunk_sources.specs.Wants.{Task}
 use Rattle.assembler.proofs.fill.fill.Given.{Over}
 use Rattle.assembler.proofs.fill.fill.Goals.{After-settle-ended}
 use Rattle.assembler.proofs.fill.fill.Goals as goal
