@@ -1,6 +1,6 @@
 //! A chunk's file as it was read, and the reply to the request that asks for it. Sizes are in bytes.
 
-ghost use Rattle.std.specs.Prelude.{◌≡◌, ℕ, ◌≤◌, List, length, Err, IfOk, IfSome, Option, Some};
+ghost use Rattle.std.specs.Prelude.{◌≡◌, ℕ, ◌<◌, List, [], length, Err, IfOk, IfSome, OnOk, Option, Some};
 ghost use Rattle.std.specs.Option.{option_map};
 ghost use Rattle.chunk_server.specs.Answers.{chunk_held};
 ghost use Rattle.chunk_server.specs.Reads.{ReadsFile, answer_by, asked_by};
@@ -80,7 +80,9 @@ impl Model for ChunkFile {
 
 impl ChunkFile {
     /// Nothing was read yet, and nothing was found.
-    pub fn new(alloc: Global) -> ChunkFile {
+    pub fn new(alloc: Global) -> ChunkFile
+        ensures none { result ≡ record { bytes = []; outcome = Err GetFault.Missing } }
+    {
         ChunkFile {
             buffer: Vec::new(alloc),
             outcome: Err(GetFault::Missing),
@@ -88,7 +90,10 @@ impl ChunkFile {
     }
 
     /// Takes room for most chunks, if there is none yet. Then most files are read by one call. Nothing is read by it.
-    pub fn make_room(&mut self) -> Result<(), Memory> {
+    pub fn make_room(&mut self) -> Result<(), Memory>
+        ensures room { OnOk result (0 < length self.new.bytes) }
+        ensures kept { 0 < length self.old.bytes → self.new ≡ self.old }
+    {
         if !self.buffer.is_empty() {
             return Ok(());
         }

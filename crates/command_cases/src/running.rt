@@ -4,10 +4,9 @@ use crate::index_files::index_of;
 use crate::notation::{bytes_of, parted, path_of, words_of};
 use crate::showing::{copied, print_bytes, print_found};
 use crate::world::World;
-use desync_cli::in_memory::{desync_in_memory, make_then_extract};
+use desync_cli::in_memory::{MemWorld, desync_in_memory, make_then_extract};
 use desync_cli::run::desync;
 use dsy_base::folder::Folder;
-use dsy_forms::mem_sink::MemSink;
 use dsy_sure::sure_files::SureFiles;
 use dsy_sure::sure_folder::SureFolder;
 use dsy_sure::sure_sink::SureSink;
@@ -26,7 +25,7 @@ fn print_ended(
     err: &[u8],
 ) -> Result<(), Fail> {
     println!(rt; "{line}: status {status}")?;
-    for place in world.listen.places.iter() {
+    for place in world.memory.listen.places.iter() {
         println!(rt; "listens: {place}")?;
     }
     print_bytes(rt, "printed", out)?;
@@ -42,19 +41,9 @@ pub fn run<R: Print + Threads + Wait + Sync>(
 ) -> Result<(), Fail> {
     let alloc = world.alloc;
     let words = words_of(alloc, words)?;
-    let mut out = MemSink::new(alloc, Vec::new(alloc));
-    let mut err = MemSink::new(alloc, Vec::new(alloc));
     world.connect()?;
-    let ended = desync_in_memory(
-        rt,
-        alloc,
-        &words,
-        &mut world.files,
-        &mut world.dial,
-        &mut world.listen,
-        &mut out,
-        &mut err,
-    );
+    let ended = desync_in_memory(rt, alloc, &words, &mut world.memory);
+    let MemWorld { out, err, .. } = &world.memory;
     print_ended(rt, world, line, ended.status, out.taken(), err.taken())
 }
 
@@ -69,21 +58,10 @@ pub fn both<R: Print + Threads + Wait + Sync>(
     let (make, extract) = words.split_once('&').ok_or("no second words")?;
     let make = words_of(alloc, make)?;
     let extract = words_of(alloc, extract)?;
-    let mut out = MemSink::new(alloc, Vec::new(alloc));
-    let mut err = MemSink::new(alloc, Vec::new(alloc));
     world.connect()?;
-    let (made, extracted) = make_then_extract(
-        rt,
-        alloc,
-        &make,
-        &extract,
-        &mut world.files,
-        &mut world.dial,
-        &mut world.listen,
-        &mut out,
-        &mut err,
-    );
+    let (made, extracted) = make_then_extract(rt, alloc, &make, &extract, &mut world.memory);
     println!(rt; "{line}: status {}", made.status)?;
+    let MemWorld { out, err, .. } = &world.memory;
     print_ended(rt, world, line, extracted.status, out.taken(), err.taken())
 }
 
@@ -117,8 +95,8 @@ pub fn surely<R: Print + Threads + Wait + Sync>(
         alloc,
         &words,
         &mut files,
-        &mut world.dial,
-        &mut world.listen,
+        &mut world.memory.dial,
+        &mut world.memory.listen,
         &mut out,
         &mut err,
     );

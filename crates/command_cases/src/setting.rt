@@ -38,9 +38,9 @@ fn offset_of(text: &str) -> Result<(u64, u32), Fail> {
 
 // Puts a file anew, with the calls on it that are to fail.
 fn put_again(world: &mut World, name: &str, fails: RangeFails) -> Result<(), Fail> {
-    let held = world.files.file(name).ok_or("no file")?;
+    let held = world.memory.files.file(name).ok_or("no file")?;
     let bytes = Vec::from_slice(world.alloc, held)?;
-    world.files.set_file(name, bytes, fails)?;
+    world.memory.files.set_file(name, bytes, fails)?;
     Ok(())
 }
 
@@ -62,7 +62,7 @@ pub fn failing_writes(world: &mut World, rest: &str) -> Result<(), Fail> {
 
 /// `failing-files CALL..`
 pub fn failing_files(world: &mut World, calls: &str) -> Result<(), Fail> {
-    world.files = MemFiles::new(world.alloc, calls_of(world.alloc, calls)?);
+    world.memory.files = MemFiles::new(world.alloc, calls_of(world.alloc, calls)?);
     Ok(())
 }
 
@@ -89,7 +89,7 @@ pub fn store(world: &mut World, rest: &str) -> Result<(), Fail> {
     for chunk in words_of(world.alloc, chunks)?.iter() {
         put_chunk(world.alloc, &mut folder, chunk.as_str())?;
     }
-    world.files.set_folder(name, folder)?;
+    world.memory.files.set_folder(name, folder)?;
     Ok(())
 }
 
@@ -97,7 +97,7 @@ pub fn store(world: &mut World, rest: &str) -> Result<(), Fail> {
 pub fn failing_store(world: &mut World, rest: &str) -> Result<(), Fail> {
     let (name, calls) = parted(rest);
     let folder = MemFolder::new(world.alloc, calls_of(world.alloc, calls)?);
-    world.files.set_folder(name, folder)?;
+    world.memory.files.set_folder(name, folder)?;
     Ok(())
 }
 

@@ -45,20 +45,20 @@ fn sent_on(alloc: Global, link: Option<&MemLink>) -> Result<Option<Vec<u8>>, All
 
 /// `show NAME`: the bytes of a file.
 pub fn file_shown(world: &World, name: &str) -> Result<Option<Vec<u8>>, Fail> {
-    Ok(copied(world.alloc, world.files.file(name))?)
+    Ok(copied(world.alloc, world.memory.files.file(name))?)
 }
 
 /// `hex NAME`: the same in hexadecimal digits.
 pub fn digits_shown(world: &World, name: &str) -> Result<Option<Vec<u8>>, Fail> {
-    let bytes = world.files.file(name).ok_or("no file")?;
+    let bytes = world.memory.files.file(name).ok_or("no file")?;
     Ok(Some(hex::encode(world.alloc, bytes)?.into_bytes()))
 }
 
 /// `same NAME NAME`: whether two files hold the same bytes.
 pub fn sameness_shown(world: &World, names: &str) -> Result<Option<Vec<u8>>, Fail> {
     let (one, other) = parted(names);
-    let one = world.files.file(one).ok_or("no file")?;
-    let other = world.files.file(other).ok_or("no file")?;
+    let one = world.memory.files.file(one).ok_or("no file")?;
+    let other = world.memory.files.file(other).ok_or("no file")?;
     let answer = if one == other {
         b"yes".as_slice()
     } else {
@@ -72,7 +72,12 @@ pub fn chunk_shown(world: &mut World, rest: &str) -> Result<Option<Vec<u8>>, Fai
     let (folder, piece) = parted(rest);
     let path = path_of(world.alloc, piece)?;
     let mut room = [0; 16];
-    match world.files.look(folder)?.read(path.as_str(), &mut room) {
+    match world
+        .memory
+        .files
+        .look(folder)?
+        .read(path.as_str(), &mut room)
+    {
         Ok(n) => Ok(copied(world.alloc, Some(&room[..n]))?),
         Err(FileFault::Absent) => Ok(None),
         Err(fault) => Err(Fail::from(fault)),
@@ -82,7 +87,7 @@ pub fn chunk_shown(world: &mut World, rest: &str) -> Result<Option<Vec<u8>>, Fai
 /// `names FOLDER`: the names of its files, one a line.
 pub fn names_shown(world: &mut World, folder: &str) -> Result<Option<Vec<u8>>, Fail> {
     let mut shown = Vec::new(world.alloc);
-    for name in world.files.look(folder)?.names()?.iter() {
+    for name in world.memory.files.look(folder)?.names()?.iter() {
         shown.extend_from_slice(name.as_str().as_bytes())?;
         shown.push(b'\n')?;
     }
@@ -91,13 +96,16 @@ pub fn names_shown(world: &mut World, folder: &str) -> Result<Option<Vec<u8>>, F
 
 /// `sent NUMBER`: what was sent to a server on the connection that ended after so many others.
 pub fn sent_shown(world: &World, number: &str) -> Result<Option<Vec<u8>>, Fail> {
-    Ok(sent_on(world.alloc, world.dial.ended(number_of(number)? as usize))?)
+    Ok(sent_on(
+        world.alloc,
+        world.memory.dial.ended(number_of(number)? as usize),
+    )?)
 }
 
 /// `replied NUMBER`: the same of a client.
 pub fn replies_shown(world: &World, number: &str) -> Result<Option<Vec<u8>>, Fail> {
     Ok(sent_on(
         world.alloc,
-        world.listen.inner.ended(number_of(number)? as usize),
+        world.memory.listen.inner.ended(number_of(number)? as usize),
     )?)
 }

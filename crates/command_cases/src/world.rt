@@ -5,7 +5,9 @@ ghost use Rattle.dsy_base.specs.Links.{IsFreshLink};
 ghost use Rattle.link_forms.specs.MemLinks.{link_of};
 
 use crate::listening::Noting;
+use desync_cli::in_memory::MemWorld;
 use dsy_forms::mem_files::MemFiles;
+use dsy_forms::mem_sink::MemSink;
 use link_forms::mem_dial::MemDial;
 use link_forms::mem_link::MemLink;
 use link_forms::mem_listen::MemListen;
@@ -15,17 +17,14 @@ use std::alloc::{AllocError, Global};
 #[derive(Drop)]
 pub struct World {
     pub alloc: Global,
-    pub files: MemFiles,
+    /// The files, and the dialer, the listener and the sinks of the last run.
+    pub memory: MemWorld<MemDial, Noting>,
     /// What comes on each connection to a server.
     pub servers: Vec<Vec<u8>>,
     /// What each client sends.
     pub clients: Vec<Vec<u8>>,
     /// The numbers of the calls of the listener that fail.
     pub listener_fails: Vec<u64>,
-    /// The dialer of the last run.
-    pub dial: MemDial,
-    /// The listener of the last run.
-    pub listen: Noting,
 }
 
 impl World {
@@ -33,29 +32,35 @@ impl World {
     pub fn new(alloc: Global) -> World {
         World {
             alloc,
-            files: MemFiles::new(alloc, Vec::new(alloc)),
+            memory: MemWorld {
+                files: MemFiles::new(alloc, Vec::new(alloc)),
+                dial: MemDial::new(alloc, Vec::new(alloc), Vec::new(alloc)),
+                listen: Noting {
+                    alloc,
+                    inner: MemListen::new(alloc, Vec::new(alloc), Vec::new(alloc)),
+                    places: Vec::new(alloc),
+                },
+                out: MemSink::new(alloc, Vec::new(alloc)),
+                err: MemSink::new(alloc, Vec::new(alloc)),
+            },
             servers: Vec::new(alloc),
             clients: Vec::new(alloc),
             listener_fails: Vec::new(alloc),
-            dial: MemDial::new(alloc, Vec::new(alloc), Vec::new(alloc)),
-            listen: Noting {
-                alloc,
-                inner: MemListen::new(alloc, Vec::new(alloc), Vec::new(alloc)),
-                places: Vec::new(alloc),
-            },
         }
     }
 
-    /// Makes the dialer and the listener anew, with all connections that are stated.
+    /// Makes the dialer, with all connections that are stated, the listener and the sinks anew.
     pub fn connect(&mut self) -> Result<(), AllocError> {
         let alloc = self.alloc;
-        self.dial = MemDial::new(alloc, links_of(alloc, &self.servers)?, Vec::new(alloc));
+        self.memory.dial = MemDial::new(alloc, links_of(alloc, &self.servers)?, Vec::new(alloc));
         let fails = Vec::from_slice(alloc, &self.listener_fails)?;
-        self.listen = Noting {
+        self.memory.listen = Noting {
             alloc,
             inner: MemListen::new(alloc, links_of(alloc, &self.clients)?, fails),
             places: Vec::new(alloc),
         };
+        self.memory.out = MemSink::new(alloc, Vec::new(alloc));
+        self.memory.err = MemSink::new(alloc, Vec::new(alloc));
         Ok(())
     }
 }

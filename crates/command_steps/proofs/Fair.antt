@@ -289,20 +289,20 @@ cache_step s x p stores cache = record { fair = λ d e o h. go cache d e o h; le
   go None d e o h = absurd h
   go (Some q) d e o h = reached_fair s x p d e q o h.0
 
-pub taken_step : (f n o : Bool) (x : Parts) (p : Unread) (q : List ℕ) → IsStep (round p) (record { files = f; folders = false; dial = n; out = o }) x (StoreTaken q)
-taken_step f n o x p q = record { fair = λ d e r h. reached_fair (record { files = f; folders = false; dial = n; out = o }) x p d e q r h.0; leaves = leaves } where
-  leaves : (d e : Disk) (r : Result (Option (Map (List ℕ))) Outcome) → StoreTaken q d r e → IsLeft (record { files = f; folders = false; dial = n; out = o }) (round p d) (round p e)
+pub taken_step : (f n o : Bool) (x : Parts) (p : Unread) (images : List (List ℕ)) (q : List ℕ) → IsStep (round p) (record { files = f; folders = false; dial = n; out = o }) x (StoreTaken images q)
+taken_step f n o x p images q = record { fair = λ d e r h. reached_fair (record { files = f; folders = false; dial = n; out = o }) x p d e q r h.0; leaves = leaves } where
+  leaves : (d e : Disk) (r : Result (Option (Map (List ℕ))) Outcome) → StoreTaken images q d r e → IsLeft (record { files = f; folders = false; dial = n; out = o }) (round p d) (round p e)
   leaves d e (Ok held) h = adds p h.1.1
   leaves d e (Err r) h = reads p h.1
 
 -- a store that is taken to be written
-pub source_taken_step : (f n o : Bool) (x : Parts) (p : Unread) (store : Location) → IsStep (round p) (record { files = f; folders = not (is_folder store); dial = n; out = o }) x (SourceTaken store)
-source_taken_step f n o x p (locations.Folder q) = taken_step f n o x p q
-source_taken_step f n o x p (locations.Http host port prefix) = record { fair = fair; leaves = leaves } where
-  fair : (d e : Disk) (r : Outcome) → SourceTaken (locations.Http host port prefix) d (Err r) e → IsFair x r (round p d) (round p e)
+pub source_taken_step : (f n o : Bool) (x : Parts) (p : Unread) (images : List (List ℕ)) (store : Location) → IsStep (round p) (record { files = f; folders = not (is_folder store); dial = n; out = o }) x (SourceTaken images store)
+source_taken_step f n o x p images (locations.Folder q) = taken_step f n o x p images q
+source_taken_step f n o x p images (locations.Http host port prefix) = record { fair = fair; leaves = leaves } where
+  fair : (d e : Disk) (r : Outcome) → SourceTaken images (locations.Http host port prefix) d (Err r) e → IsFair x r (round p d) (round p e)
   fair d e r h = subst (λ r. IsFair x r (round p d) (round p e)) (sym h.0) (tt, tt)
 
-  leaves : (d e : Disk) (r : Result (Option (Map (List ℕ))) Outcome) → SourceTaken (locations.Http host port prefix) d r e → IsLeft (record { files = f; folders = true; dial = n; out = o }) (round p d) (round p e)
+  leaves : (d e : Disk) (r : Result (Option (Map (List ℕ))) Outcome) → SourceTaken images (locations.Http host port prefix) d r e → IsLeft (record { files = f; folders = true; dial = n; out = o }) (round p d) (round p e)
   leaves d e (Ok held) h = subst (λ y. IsLeft (record { files = f; folders = true; dial = n; out = o }) (round p d) (round p y)) (sym h.1) (still (record { files = f; folders = true; dial = n; out = o }) (round p d))
   leaves d e (Err r) h = reads p h.1
 

@@ -242,8 +242,8 @@ split_last P xs x h =
     let many : length (xs ++ x ∷ []) ≡ length xs + 1 = length-append xs (x ∷ []) in
     (λ k d lt. subst P (get_or_append_left xs (x ∷ []) d k lt) (h k d (omega (arith, lt, many))), subst P (get_or-append_seam xs x [] x) (h (length xs) x (omega (arith, many))))
 
-pub last_at : {S : Type 0} (location : S → Location) (all rest : List S) (x : S) → all ≡ rest ++ x ∷ [] → map location all ≡ map location rest ++ location x ∷ []
-last_at location all rest x is = ap (map location) is ∙ map-append location rest (x ∷ [])
+pub last_at : {S X : Type 0} (of : S → X) (all rest : List S) (x : S) → all ≡ rest ++ x ∷ [] → map of all ≡ map of rest ++ of x ∷ []
+last_at of all rest x is = ap (map of) is ∙ map-append of rest (x ∷ [])
 
 pub last_known : {S : Type 0} (location : S → Location) (counts : Map ℕ) (all rest : List S) (x : S) → all ≡ rest ++ x ∷ [] → All (IsKnown counts) (map location all) → All (IsKnown counts) (map location rest) × IsKnown counts (location x)
 last_known location counts all rest x is known = split_last (IsKnown counts) (map location rest) (location x) (subst (λ l. All (IsKnown counts) l) (last_at location all rest x is) known)

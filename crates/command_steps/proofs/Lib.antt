@@ -11,6 +11,7 @@ pub mod Cached
 pub mod Texts
 pub mod Fair
 pub mod SeedsOpened
+pub mod SeedsUsed
 pub mod SeedsRead
 pub mod Found
 pub mod Lacked

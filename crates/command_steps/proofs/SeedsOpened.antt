@@ -1,11 +1,13 @@
 -- Images of seeds that are opened in order.
-use Rattle.std.proofs.Common.{◌≡◌, ℕ, List, [], ◌∷◌, ◌++◌, map, Option, Some, None, IfSome, refl, sym, ap, subst, ◌∙◌, inl, inr, arith}
+use Rattle.std.proofs.Common.{◌≡◌, ℕ, List, [], ◌∷◌, ◌++◌, map, Option, Some, None, IfSome, IsSome, slice_index_or, refl, sym, ap, subst, ◌∙◌, inl, inr, arith}
 use Rattle.std.proofs.lemmas.List.{append-nil, append_assoc, map-append}
 use Rattle.std.specs.List.{AllZip}
 use Rattle.std.specs.Map.{count_at}
 use Rattle.std.specs.Option.{option_map}
 use Rattle.command_steps.proofs.Numbers.{rose_later, rose_longer}
-use Rattle.command_steps.specs.Seeds.{IsSeedAt, IsViewed, OpensSeeds}
+use Rattle.command_steps.proofs.Used.{all_more}
+use Rattle.command_steps.specs.Seeds.{IsSeedAt, IsViewed, OpensSeeds, SeedsKnown}
+use Rattle.dsy_base.specs.Maps.{Map}
 use Rattle.command_worlds.specs.Worlds.{Reads}
 use Rattle.dsy_base.specs.Bytes.{Held}
 use Rattle.dsy_base.specs.Disk.{Disk}
@@ -83,3 +85,16 @@ module _ {V : Type 0} (held : V → Held) (faults : V → ℕ) where
 
   pub fresh_all : (d e : Disk) (names : List (List ℕ)) (old new : List (Seed V)) → old ≡ [] → OpensSeeds held faults d e names old new → map (faults_in faults) new ≡ map {B = ℕ} (λ s. 0) new
   fresh_all d e names old new none h = fresh_in d e names [] new refl (subst (λ (l : List (Seed V)). OpensSeeds held faults d e names l new) none h)
+
+-- ---- which have a number
+
+-- over later numbers, which have what was known
+pub one_known : {V : Type 0} (held : V → Held) (counts now : Map ℕ) → ((q : List ℕ) → IsSome (counts q) → IsSome (now q)) → (o : Option V) → IfSome o (λ v. IsSome (counts (held v).name)) → IfSome o (λ v. IsSome (now (held v).name))
+one_known held counts now on None known = tt
+one_known held counts now on (Some v) known = on (held v).name known
+
+pub all_known_later : {V : Type 0} (held : V → Held) (counts now : Map ℕ) → ((q : List ℕ) → IsSome (counts q) → IsSome (now q)) → (xs : List (Seed V)) → SeedsKnown held counts xs → SeedsKnown held now xs
+all_known_later held counts now on xs known = λ k d lt. one_known held counts now on (slice_index_or xs k d).view (known k d lt)
+
+pub known_more : {V : Type 0} (held : V → Held) (counts : Map ℕ) (old new : List (Seed V)) (s : Seed V) → new ≡ old ++ s ∷ [] → SeedsKnown held counts old → IfSome s.view (λ v. IsSome (counts (held v).name)) → SeedsKnown held counts new
+known_more held counts old new s is known one = all_more (λ s. IfSome s.view (λ v. IsSome (counts (held v).name))) old new s is known one

@@ -1,11 +1,12 @@
 -- Which names a step has used, over several steps.
-use Rattle.std.proofs.Common.{◌≡◌, ◌∙◌, ◌++◌, ℕ, List, [], ◌∷◌, All, map, refl, ap, subst, sym}
+use Rattle.std.proofs.Common.{◌≡◌, ◌∙◌, ◌++◌, ℕ, List, [], ◌∷◌, All, Option, Some, None, map, refl, ap, subst, sym}
 use Rattle.std.proofs.lemmas.List.{map-append}
 use Rattle.std.proofs.lemmas.List.Elements.{All-append, All-cons, All-nil}
 use Rattle.command_steps.specs.AnyStores.{IsKnown}
-use Rattle.command_steps.specs.Uses.{IsNoneOf, OnlyOf, Uses, folders_among}
+use Rattle.command_steps.specs.Uses.{IsNoneOf, OnlyOf, Uses, folders_among, names_among}
 use Rattle.command_words.specs.declared.command.Location.{Location}
 use Rattle.command_words.specs.declared.command.Location.TheVariants as locations
+use Rattle.dsy_base.specs.Bytes.{Held}
 use Rattle.dsy_base.specs.Counts.{Counted}
 use Rattle.dsy_base.specs.Disk.{Disk, GivesFile, GivesFolder, OnFile, OnFolder}
 use Rattle.dsy_base.specs.Maps.{Map}
@@ -33,6 +34,10 @@ uses_twice files folders d b e u v = record { files = λ q none. v.files q none 
 pub uses_within : (files folders files' folders' : List (List ℕ)) (d e : Disk) → Within files files' → Within folders folders' → Uses files folders d e → Uses files' folders' d e
 uses_within files folders files' folders' d e fs gs u = record { files = λ q none. u.files q (fs q none); folders = λ q none. u.folders q (gs q none) }
 
+-- names of which each stands in the one or in the other step's
+pub uses_then : (files folders files' folders' all all' : List (List ℕ)) (d b e : Disk) → Within files all → Within folders all' → Within files' all → Within folders' all' → Uses files folders d b → Uses files' folders' b e → Uses all all' d e
+uses_then files folders files' folders' all all' d b e fs gs fs' gs' u v = uses_twice all all' d b e (uses_within files folders all all' d b fs gs u) (uses_within files' folders' all all' b e fs' gs' v)
+
 -- ---- one call
 
 pub file_used : (name : List ℕ) (d e : Disk) → OnFile d e name → Uses (name ∷ []) [] d e
@@ -52,46 +57,107 @@ folder_given name d e n h = record { files = only_same [] d.file_counts e.file_c
 pub within_same : (names : List (List ℕ)) → Within names names
 within_same names q none = none
 
+pub within_none : (names : List (List ℕ)) → Within [] names
+within_none names q none = tt
+
 pub within_first : (name : List ℕ) (names : List (List ℕ)) → Within (name ∷ []) (name ∷ names)
 within_first name names q none = (none.0, tt)
 
 pub within_rest : (name : List ℕ) (names : List (List ℕ)) → Within names (name ∷ names)
 within_rest name names q none = none.1
 
--- the folder of the first store, and those of the rest
-pub within_head : (s : Location) (stores : List Location) → Within (folders_among (s ∷ [])) (folders_among (s ∷ stores))
-within_head (locations.Folder name) stores q none = (none.0, tt)
-within_head (locations.Http host port prefix) stores q none = tt
+pub within_left : (some more : List (List ℕ)) → Within some (some ++ more)
+within_left [] more q none = tt
+within_left (name ∷ some) more q none = (none.0, within_left some more q none.1)
 
-pub within_tail : (s : Location) (stores : List Location) → Within (folders_among stores) (folders_among (s ∷ stores))
-within_tail (locations.Folder name) stores q none = none.1
-within_tail (locations.Http host port prefix) stores q none = none
+pub within_right : (some more : List (List ℕ)) → Within more (some ++ more)
+within_right [] more q none = none
+within_right (name ∷ some) more q none = within_right some more q none.1
 
-pub within_front : (front : List Location) (s : Location) → Within (folders_among front) (folders_among (front ++ s ∷ []))
-within_front [] s q none = tt
-within_front (locations.Folder name ∷ front) s q none = (none.0, within_front front s q none.1)
-within_front (locations.Http host port prefix ∷ front) s q none = within_front front s q none
+-- ---- the names of the elements of a list
 
-pub within_last : (front : List Location) (s : Location) → Within (folders_among (s ∷ [])) (folders_among (front ++ s ∷ []))
-within_last [] s q none = none
-within_last (locations.Folder name ∷ front) s q none = within_last front s q none.1
-within_last (locations.Http host port prefix ∷ front) s q none = within_last front s q none
+-- they are those of the first one and those of the rest
+pub record AreJoined {X : Type 0} (names : List X → List (List ℕ)) : Type 0 where
+  pub none : (q : List ℕ) → IsNoneOf q (names [])
+  pub first : (x : X) (xs : List X) → Within (names (x ∷ [])) (names (x ∷ xs))
+  pub rest : (x : X) (xs : List X) → Within (names xs) (names (x ∷ xs))
+  pub both : (x : X) (xs : List X) (q : List ℕ) → IsNoneOf q (names (x ∷ [])) → IsNoneOf q (names xs) → IsNoneOf q (names (x ∷ xs))
 
--- none of those before, and not the one that was appended
-pub none_of_more : (front : List Location) (s : Location) (q : List ℕ) → IsNoneOf q (folders_among front) → IsNoneOf q (folders_among (s ∷ [])) → IsNoneOf q (folders_among (front ++ s ∷ []))
-none_of_more [] s q none last = last
-none_of_more (locations.Folder name ∷ front) s q none last = (none.0, none_of_more front s q none.1 last)
-none_of_more (locations.Http host port prefix ∷ front) s q none last = none_of_more front s q none last
+pub folders_joined : AreJoined folders_among
+folders_joined = record { none = λ q. tt; first = first; rest = rest; both = both } where
+  first : (s : Location) (stores : List Location) → Within (folders_among (s ∷ [])) (folders_among (s ∷ stores))
+  first (locations.Folder name) stores q none = (none.0, tt)
+  first (locations.Http host port prefix) stores q none = tt
 
--- the last was given back, and then those before it
+  rest : (s : Location) (stores : List Location) → Within (folders_among stores) (folders_among (s ∷ stores))
+  rest (locations.Folder name) stores q none = none.1
+  rest (locations.Http host port prefix) stores q none = none
+
+  both : (s : Location) (stores : List Location) (q : List ℕ) → IsNoneOf q (folders_among (s ∷ [])) → IsNoneOf q (folders_among stores) → IsNoneOf q (folders_among (s ∷ stores))
+  both (locations.Folder name) stores q one none = (one.0, none)
+  both (locations.Http host port prefix) stores q one none = none
+
+pub views_joined : AreJoined names_among
+views_joined = record { none = λ q. tt; first = first; rest = rest; both = both } where
+  first : (o : Option Held) (views : List (Option Held)) → Within (names_among (o ∷ [])) (names_among (o ∷ views))
+  first None views q none = tt
+  first (Some h) views q none = (none.0, tt)
+
+  rest : (o : Option Held) (views : List (Option Held)) → Within (names_among views) (names_among (o ∷ views))
+  rest None views q none = none
+  rest (Some h) views q none = none.1
+
+  both : (o : Option Held) (views : List (Option Held)) (q : List ℕ) → IsNoneOf q (names_among (o ∷ [])) → IsNoneOf q (names_among views) → IsNoneOf q (names_among (o ∷ views))
+  both None views q one none = none
+  both (Some h) views q one none = (one.0, none)
+
+module _ {X : Type 0} (names : List X → List (List ℕ)) (j : AreJoined names) where
+  within_front : (front : List X) (x : X) → Within (names front) (names (front ++ x ∷ []))
+  within_front [] x q none = j.none q
+  within_front (y ∷ front) x q none = j.both y front q (j.first y (front ++ x ∷ []) q none) (within_front front x q (j.rest y (front ++ x ∷ []) q none))
+
+  within_last : (front : List X) (x : X) → Within (names (x ∷ [])) (names (front ++ x ∷ []))
+  within_last [] x q none = none
+  within_last (y ∷ front) x q none = within_last front x q (j.rest y (front ++ x ∷ []) q none)
+
+  -- none of those before, and not the one that was appended
+  pub none_of_more : (front : List X) (x : X) (q : List ℕ) → IsNoneOf q (names front) → IsNoneOf q (names (x ∷ [])) → IsNoneOf q (names (front ++ x ∷ []))
+  none_of_more [] x q none last = last
+  none_of_more (y ∷ front) x q none last = j.both y (front ++ x ∷ []) q (j.first y front q none) (none_of_more front x q (j.rest y front q none) last)
+
+  pub front_of : (all front : List X) (x : X) → all ≡ front ++ x ∷ [] → Within (names front) (names all)
+  front_of all front x is = subst (λ (l : List X). Within (names front) (names l)) (sym is) (within_front front x)
+
+  pub last_of : (all front : List X) (x : X) → all ≡ front ++ x ∷ [] → Within (names (x ∷ [])) (names all)
+  last_of all front x is = subst (λ (l : List X). Within (names (x ∷ [])) (names l)) (sym is) (within_last front x)
+
+-- the last folder was given back, and then those before it
 pub dropped_last : (all front : List Location) (s : Location) (d b e : Disk) → all ≡ front ++ s ∷ [] → Uses [] (folders_among (s ∷ [])) d b → Uses [] (folders_among front) b e → Uses [] (folders_among all) d e
-dropped_last all front s d b e is u v =
-    let both = folders_among (front ++ s ∷ []) in
-    let one = uses_within [] (folders_among (s ∷ [])) [] both d b (within_same []) (within_last front s) u in
-    let rest = uses_within [] (folders_among front) [] both b e (within_same []) (within_front front s) v in
-    subst (λ (l : List Location). Uses [] (folders_among l) d e) (sym is) (uses_twice [] both d b e one rest)
+dropped_last all front s d b e is =
+    uses_then [] (folders_among (s ∷ [])) [] (folders_among front) [] (folders_among all) d b e (within_same []) (last_of folders_among folders_joined all front s is) (within_same []) (front_of folders_among folders_joined all front s is)
+
+-- or those before it, and then the last
+pub closed_last : (all front : List Location) (s : Location) (d b e : Disk) → all ≡ front ++ s ∷ [] → Uses [] (folders_among front) d b → Uses [] (folders_among (s ∷ [])) b e → Uses [] (folders_among all) d e
+closed_last all front s d b e is =
+    uses_then [] (folders_among front) [] (folders_among (s ∷ [])) [] (folders_among all) d b e (within_same []) (front_of folders_among folders_joined all front s is) (within_same []) (last_of folders_among folders_joined all front s is)
+
+-- the last file, and then those before it
+pub ended_last : (all front : List (Option Held)) (o : Option Held) (d b e : Disk) → all ≡ front ++ o ∷ [] → Uses (names_among (o ∷ [])) [] d b → Uses (names_among front) [] b e → Uses (names_among all) [] d e
+ended_last all front o d b e is =
+    uses_then (names_among (o ∷ [])) [] (names_among front) [] (names_among all) [] d b e (last_of names_among views_joined all front o is) (within_same []) (front_of names_among views_joined all front o is) (within_same [])
 
 -- ---- one that is appended
+
+-- each name of the new ones is one of the old, or one of these
+abbrev pub AllAmong : {X Y : Type 0} → (List X → List (List ℕ)) → (Y → X) → List Y → List (List ℕ) → List Y → Type 0
+AllAmong names of old others new = (q : List ℕ) → IsNoneOf q (names (map of old)) → IsNoneOf q others → IsNoneOf q (names (map of new))
+
+pub joined_next : {X Y : Type 0} (names : List X → List (List ℕ)) (j : AreJoined names) (of : Y → X) (old mid new : List Y) (y : Y) (first rest all : List (List ℕ)) → Within first all → Within rest all → Within (names (of y ∷ [])) first → mid ≡ old ++ y ∷ []
+    → AllAmong names of mid rest new → AllAmong names of old all new
+joined_next {X} {Y} names j of old mid new y first rest all fs rs one same next = λ q a b.
+    let both = none_of_more names j (map of old) (of y) q a (one q (fs q b)) in
+    let so : IsNoneOf q (names (map of mid)) = subst (λ (l : List Y). IsNoneOf q (names (map of l))) (sym same) (subst (λ (l : List X). IsNoneOf q (names l)) (sym (map-append of old (y ∷ []))) both) in
+    next q so (rs q b)
 
 module _ {S : Type 0} (location : S → Location) where
   pub known_more : (counts : Map ℕ) (old new : List S) (s : S) → new ≡ old ++ s ∷ [] → All (IsKnown counts) (map location old) → IsKnown counts (location s) → All (IsKnown counts) (map location new)
@@ -100,17 +166,13 @@ module _ {S : Type 0} (location : S → Location) where
       subst (λ (l : List S). All (IsKnown counts) (map location l)) (sym is) (subst (λ (l : List Location). All (IsKnown counts) l) (sym (map-append location old (s ∷ []))) both)
 
   -- each folder of the new stores is one of the old, or one of these
-  abbrev pub AllAmong : List S → List Location → List S → Type 0
-  AllAmong old names new = (q : List ℕ) → IsNoneOf q (folders_among (map location old)) → IsNoneOf q (folders_among names) → IsNoneOf q (folders_among (map location new))
-
-  pub among_next : (old mid new : List S) (s : S) (first : Location) (rest names : List Location) → names ≡ first ∷ rest → location s ≡ first → mid ≡ old ++ s ∷ [] → AllAmong mid rest new → AllAmong old names new
-  among_next old mid new s first rest names is at same next = λ q a b.
-      let of_all : IsNoneOf q (folders_among (first ∷ rest)) = subst (λ (l : List Location). IsNoneOf q (folders_among l)) is b in
-      let here : IsNoneOf q (folders_among (location s ∷ [])) = subst (λ (f : Location). IsNoneOf q (folders_among (f ∷ []))) (sym at) (within_head first rest q of_all) in
-      let both = none_of_more (map location old) (location s) q a here in
-      let so : IsNoneOf q (folders_among (map location mid)) =
-      subst (λ (l : List S). IsNoneOf q (folders_among (map location l))) (sym same) (subst (λ (l : List Location). IsNoneOf q (folders_among l)) (sym (map-append location old (s ∷ []))) both) in
-      next q so (within_tail first rest q of_all)
+  pub among_next : (old mid new : List S) (s : S) (first : Location) (rest names : List Location) → names ≡ first ∷ rest → location s ≡ first → mid ≡ old ++ s ∷ []
+      → AllAmong folders_among location mid (folders_among rest) new → AllAmong folders_among location old (folders_among names) new
+  among_next old mid new s first rest names is at same =
+      let one : Within (folders_among (location s ∷ [])) (folders_among (first ∷ [])) = subst (λ (f : Location). Within (folders_among (location s ∷ [])) (folders_among (f ∷ []))) at (within_same (folders_among (location s ∷ []))) in
+      joined_next folders_among folders_joined location old mid new s (folders_among (first ∷ [])) (folders_among rest) (folders_among names)
+      (subst (λ (l : List Location). Within (folders_among (first ∷ [])) (folders_among l)) (sym is) (folders_joined.first first rest))
+      (subst (λ (l : List Location). Within (folders_among rest) (folders_among l)) (sym is) (folders_joined.rest first rest)) one same
 
 pub all_more : {X : Type 0} (P : X → Type 0) (old new : List X) (x : X) → new ≡ old ++ x ∷ [] → All P old → P x → All P new
 all_more P old new x is all one = subst (λ l. All P l) (sym is) (All-append P old (x ∷ []) all (All-cons P x [] one (All-nil P)))

@@ -4,6 +4,7 @@ use Rattle.std.specs.Prelude.{◌≡◌, ℕ, ◌&&◌, Bool, true, false, List,
 use Rattle.std.specs.Option.{option_map}
 use Rattle.command_outcome.specs.declared.outcome.Outcome.{Outcome}
 use Rattle.command_outcome.specs.declared.outcome.Outcome.TheVariants as ends
+use Rattle.command_steps.specs.Uses.{Uses}
 use Rattle.command_worlds.specs.Worlds.{Adds, FolderRose, Reads, Step}
 use Rattle.command_words.specs.declared.command.Location.{Location}
 use Rattle.command_words.specs.declared.command.Location.TheVariants as locations
@@ -47,10 +48,11 @@ RefusesOpening q fault other = ⊥
 abbrev pub IsTaken : Disk → Disk → List ℕ → Type 0
 IsTaken d e q = (e.folders ≡ option_map (λ m. at_name m q None) d.folders) × Adds d e
 
-abbrev pub StoreTaken : List ℕ → Step Disk (Option (Map (List ℕ)))
-StoreTaken q d (Ok held) e = IfSome d.folders (λ m. (f : Map (List ℕ)) × (m q ≡ Some f) × (held ≡ Some f))
-    × IsTaken d e q
-StoreTaken q d (Err o) e = NotReached d e q o × Reads d e
+-- the folder of this name was. Where it isn't reached, these images, which were open, are given back
+abbrev pub StoreTaken : List (List ℕ) → List ℕ → Step Disk (Option (Map (List ℕ)))
+StoreTaken images q d (Ok held) e = IfSome d.folders (λ m. (f : Map (List ℕ)) × (m q ≡ Some f) × (held ≡ Some f))
+    × IsTaken d e q × Uses [] (q ∷ []) d e
+StoreTaken images q d (Err o) e = NotReached d e q o × Reads d e × Uses images (q ∷ []) d e
 
 -- ---- a store over a folder
 

@@ -1,7 +1,8 @@
 -- Which names a step has used: the numbers of no others have changed.
-use Rattle.std.specs.Prelude.{◌≡◌, ◌≢◌, ℕ, List, [], ◌∷◌}
+use Rattle.std.specs.Prelude.{◌≡◌, ◌≢◌, ℕ, List, [], ◌∷◌, Option, Some, None}
 use Rattle.command_words.specs.declared.command.Location.{Location}
 use Rattle.command_words.specs.declared.command.Location.TheVariants as locations
+use Rattle.dsy_base.specs.Bytes.{Held}
 use Rattle.dsy_base.specs.Disk.{Disk}
 use Rattle.dsy_base.specs.Maps.{Map}
 
@@ -24,3 +25,9 @@ abbrev pub folders_among : List Location → List (List ℕ)
 folders_among [] = []
 folders_among (locations.Folder q ∷ stores) = q ∷ folders_among stores
 folders_among (locations.Http host port prefix ∷ stores) = folders_among stores
+
+-- the names of the files among these views
+abbrev pub names_among : List (Option Held) → List (List ℕ)
+names_among [] = []
+names_among (None ∷ views) = names_among views
+names_among (Some h ∷ views) = h.name ∷ names_among views

@@ -8,7 +8,7 @@ ghost use Rattle.caibx_codec.specs.Listing.{Listing, count_of};
 ghost use Rattle.command_steps.specs.InputFiles.{Listed};
 ghost use Rattle.command_steps.specs.Seeds.{AllListed, IsSeedAt, IsViewed, NoneListed, OpensSeeds, SeedsKnown};
 ghost use Rattle.command_steps.specs.Seeds.{image_name, items_with, label_in};
-ghost use Rattle.command_steps.specs.Uses.{Uses};
+ghost use Rattle.command_steps.specs.Uses.{IsNoneOf, Uses, names_among};
 ghost use Rattle.command_worlds.specs.Worlds.{Reads};
 ghost use Rattle.dsy_base.specs.Counts.{raised};
 ghost use Rattle.extract_plan.specs.Places.{items_of, seed_item_limit};
@@ -92,6 +92,7 @@ fn open<F: Files>(files: &mut F, image: &str) -> Result<Seed<F::View>, Memory>
     ensures known { IfOk result
         (λ s. IfSome s.view (λ v. IsSome ((F.disk files.new).file_counts (F.View.held v).name))) }
     ensures kept { Reads (F.disk files.old) (F.disk files.new) }
+    ensures used { Uses (image.now ∷ []) [] (F.disk files.old) (F.disk files.new) }
 {
     match files.view(image) {
         Ok(view) => Ok(Seed { view: Some(view) }),
@@ -104,6 +105,7 @@ fn open<F: Files>(files: &mut F, image: &str) -> Result<Seed<F::View>, Memory>
 fn close<F: Files>(files: &mut F, seed: Seed<F::View>)
     requires known { IfSome seed.view (λ v. IsSome ((F.disk files.old).file_counts (F.View.held v).name)) }
     ensures kept { Reads (F.disk files.old) (F.disk files.new) }
+    ensures used { Uses (names_among (seed_held F.View.held seed ∷ [])) [] (F.disk files.old) (F.disk files.new) }
     ensures counts { (F.disk files.new).folder_counts ≡ (F.disk files.old).folder_counts }
     ensures added { raised (count_at (F.disk files.old).file_counts (label_in F.View.held seed))
         (faults_in F.View.faults seed) ≤ count_at (F.disk files.new).file_counts (label_in F.View.held seed) }
@@ -124,6 +126,7 @@ fn keep<F: Files>(
     ensures ok { OnOk result (seeds.new.items ≡ seeds.old.items ++ seed ∷ []) }
     ensures err { OnErr result (seeds.new.items ≡ seeds.old.items) }
     ensures kept { Reads (F.disk files.old) (F.disk files.new) }
+    ensures used { Uses (names_among (seed_held F.View.held seed ∷ [])) [] (F.disk files.old) (F.disk files.new) }
 {
     match seeds.push(seed) {
         Ok(()) => Ok(()),
@@ -145,6 +148,10 @@ fn open_each<F: Files>(
         (map image_name indexes.now) seeds.old.items seeds.new.items) }
     ensures known { SeedsKnown F.View.held (F.disk files.new).file_counts seeds.new.items }
     ensures kept { Reads (F.disk files.old) (F.disk files.new) }
+    ensures used { Uses (map image_name indexes.now) [] (F.disk files.old) (F.disk files.new) }
+    ensures among { (q : List ℕ) → IsNoneOf q (names_among (map (seed_held F.View.held) seeds.old.items)) →
+        IsNoneOf q (map image_name indexes.now) →
+        IsNoneOf q (names_among (map (seed_held F.View.held) seeds.new.items)) }
 {
     let Some((first, rest)) = indexes.split_first() else {
         return Ok(());
@@ -166,6 +173,7 @@ pub fn open_seeds<F: Files>(
     ensures fresh { IfOk result (λ v. map (faults_in F.View.faults) v.items ≡ map (λ s. 0) v.items) }
     ensures known { IfOk result (λ v. SeedsKnown F.View.held (F.disk files.new).file_counts v.items) }
     ensures kept { Reads (F.disk files.old) (F.disk files.new) }
+    ensures used { Uses (map image_name indexes.now) [] (F.disk files.old) (F.disk files.new) }
 {
     let mut seeds = Vec::new(alloc);
     match open_each(files, indexes, &mut seeds) {
@@ -181,6 +189,8 @@ pub fn open_seeds<F: Files>(
 pub fn close_seeds<F: Files>(files: &mut F, mut seeds: Vec<Seed<F::View>>)
     requires known { SeedsKnown F.View.held (F.disk files.old).file_counts seeds.items }
     ensures kept { Reads (F.disk files.old) (F.disk files.new) }
+    ensures used { Uses (names_among (map (seed_held F.View.held) seeds.items)) [] (F.disk files.old)
+        (F.disk files.new) }
     ensures counts { (F.disk files.new).folder_counts ≡ (F.disk files.old).folder_counts }
     // What each has counted is added to the number of its name, at the least.
     ensures added { All (λ s. raised (count_at (F.disk files.old).file_counts (label_in F.View.held s))

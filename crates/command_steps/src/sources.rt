@@ -78,6 +78,7 @@ fn close<F: Files, D: Dial>(files: &mut F, dial: &mut D, store: AnyStore<F::Look
         (storage (F.disk files.old) (D.state dial.old)) (storage (F.disk files.new) (D.state dial.new)) }
     ensures ended { (D.state dial.new).ended ≡ with_those D.state (D.state dial.old).ended store }
     ensures counts { (F.disk files.new).file_counts ≡ (F.disk files.old).file_counts }
+    ensures used { Uses [] (folders_among (location_in F.Look.place store ∷ [])) (F.disk files.old) (F.disk files.new) }
     ensures given { IsGiven F.Look.place F.Look.faults D.state
         (storage (F.disk files.old) (D.state dial.old)) (storage (F.disk files.new) (D.state dial.new)) store }
 {
@@ -210,6 +211,8 @@ pub fn close_sources<F: Files, D: Dial>(
     ensures ended { (D.state dial.new).ended
         ≡ fold (with_those D.state) (D.state dial.old).ended stores.items }
     ensures counts { (F.disk files.new).file_counts ≡ (F.disk files.old).file_counts }
+    ensures used { Uses [] (folders_among (map (location_in F.Look.place) stores.items)) (F.disk files.old)
+        (F.disk files.new) }
     ensures given { All (IsGiven F.Look.place F.Look.faults D.state
         (storage (F.disk files.old) (D.state dial.old)) (storage (F.disk files.new) (D.state dial.new))) stores.items }
 {

@@ -7,6 +7,7 @@ ghost use Rattle.command_steps.specs.AnyStores.{with_those};
 ghost use Rattle.command_steps.specs.Sources.{DialsStores, storage};
 ghost use Rattle.command_steps.specs.Stores.{IsStoreAt, IsTaken, NotReached};
 ghost use Rattle.command_steps.specs.TakenStores.{SourceTaken, given_to};
+ghost use Rattle.command_steps.specs.Uses.{Uses, folders_among};
 ghost use Rattle.command_worlds.specs.Worlds.{Adds, Reads};
 ghost use Rattle.dsy_base.specs.Disk.{GivesFolder};
 ghost use Rattle.dsy_base.specs.Maps.{at_name};
@@ -35,6 +36,7 @@ pub fn take_folder<F: Files>(
     ensures changed { OnOk result (IsTaken (F.disk files.old) (F.disk files.new) name.now) }
     ensures err { IfErr result (NotReached (F.disk files.old) (F.disk files.new) name.now) }
     ensures kept { OnErr result (Reads (F.disk files.old) (F.disk files.new)) }
+    ensures used { Uses [] (name.now ∷ []) (F.disk files.old) (F.disk files.new) }
 {
     match files.take_folder(name) {
         Ok(folder) => Ok(DirStore::new(folder)),
@@ -60,14 +62,14 @@ pub fn take_source<F: Files, D: Dial>(
     dial: &D,
     store: &Location,
 ) -> Result<AnyStore<F::Folder, D>, Outcome>
-    ensures ok { IfOk result (λ s. SourceTaken store.now (F.disk files.old) (Ok (source_files F.Folder.files s))
+    ensures ok { IfOk result (λ s. SourceTaken [] store.now (F.disk files.old) (Ok (source_files F.Folder.files s))
         (F.disk files.new)) }
     ensures changed { OnOk result (Adds (F.disk files.old) (F.disk files.new)) }
     ensures located { IfOk result (λ s. location_in F.Folder.place s ≡ store.now) }
     ensures fresh { IfOk result (λ s. source_faults F.Folder.faults D.state s ≡ 0) }
     ensures unused { IfOk result (IsUnused D.state) }
     ensures known { OnOk result (IsKnown (F.disk files.new).folder_counts store.now) }
-    ensures err { IfErr result (λ o. SourceTaken store.now (F.disk files.old) (Err o) (F.disk files.new)) }
+    ensures err { IfErr result (λ o. SourceTaken [] store.now (F.disk files.old) (Err o) (F.disk files.new)) }
 {
     match store {
         Location::Folder(name) => {
@@ -94,6 +96,7 @@ pub fn give_source<F: Files, D: Dial>(
         ≡ given_to store.now (source_files F.Folder.files taken) (F.disk files.old).folders }
     ensures changed { Adds (F.disk files.old) (F.disk files.new) }
     ensures counts { (F.disk files.new).file_counts ≡ (F.disk files.old).file_counts }
+    ensures used { Uses [] (folders_among (store.now ∷ [])) (F.disk files.old) (F.disk files.new) }
     ensures dialed { DialsStores (store.now ∷ []) (D.state dial.old) (D.state dial.new) }
     ensures ended { (D.state dial.new).ended ≡ with_those D.state (D.state dial.old).ended taken }
     ensures given { IsGiven F.Folder.place F.Folder.faults D.state

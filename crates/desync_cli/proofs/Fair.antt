@@ -183,7 +183,7 @@ one_folder (locations.Folder q) t = refl
 one_folder (locations.Http host port prefix) t = absurd (cc)
 
 -- what a step leaves that writes a store
-stocked : {o : Bool} {w v : Storage} (f : Bool) (p : Output) (store : Location) → WritesStore store w v → IsLeft (record { files = f; folders = not (is_folder store); dial = is_folder store; out = o }) (behind p w) (behind p v)
+stocked : {o : Bool} {w v : Storage} {images : List (List ℕ)} (f : Bool) (p : Output) (store : Location) → WritesStore images store w v → IsLeft (record { files = f; folders = not (is_folder store); dial = is_folder store; out = o }) (behind p w) (behind p v)
 stocked f p store r = record {
   keeps = record { files = λ t. r.adds.files; folders = r.folders; dial = λ t. r.dials.1 (one_folder store t); out = λ t. refl };
   files = r.adds.counts;
@@ -265,10 +265,10 @@ pruned_step f n o x p keeps q held same = record { fair = fair; leaves = leaves 
 -- ---- the steps of `chunk-server`
 
 unheard_step : (f n o : Bool) (x : Parts) (p : Unread) (h : Heard) (q : List ℕ) → IsStep (round p) (record { files = f; folders = false; dial = n; out = o }) x (TakenUnheard h q)
-unheard_step f n o x p h q = record { fair = λ d e r t. (taken_step f n o x p q).fair d e r t.0; leaves = leaves } where
+unheard_step f n o x p h q = record { fair = λ d e r t. (taken_step f n o x p [] q).fair d e r t.0; leaves = leaves } where
   leaves : (d e : Disk) (r : Result (Option (Map (List ℕ))) Outcome) → TakenUnheard h q d r e → IsLeft (record { files = f; folders = false; dial = n; out = o }) (round p d) (round p e)
-  leaves d e (Ok held) t = (taken_step f n o x p q).leaves d e (Ok held) t
-  leaves d e (Err r) t = (taken_step f n o x p q).leaves d e (Err r) t.0
+  leaves d e (Ok held) t = (taken_step f n o x p [] q).leaves d e (Ok held) t
+  leaves d e (Err r) t = (taken_step f n o x p [] q).leaves d e (Err r) t.0
 
 served_step : (f n o : Bool) (x : Parts) (p : Unread) (in_turn : Bool) (h : Heard) (writable : Bool) (q : List ℕ) (held : Option (Map (List ℕ))) → x.listener ≡ (h.old.faults, h.new.faults)
     → IsStep (round p) (record { files = f; folders = false; dial = n; out = o }) x (FolderServed in_turn h writable q held)
@@ -294,15 +294,15 @@ rehearsed_fair x number size other w v h = absurd h
 -- ---- the commands
 
 command_step : (h : Heard) (c : Command) → IsStep whole (spares c) (parts h c) (CommandEnds h c)
-command_step h (commands.Make store sizes workers index image) = bound (pure_step (SizesJudged sizes) (judged_fair (parts h (commands.Make store sizes workers index image)) sizes)) (λ z. bound (on_disk (λ p. image_step _ _ p)) (λ told. bound (on_disk (λ p. source_taken_step _ _ _ _ p store)) (λ held. bound (on_sources (λ p. stored_step _ p store refl _ _ z told held)) (λ bytes. on_disk (λ p. written_step _ _ _ _ p index bytes)))))
+command_step h (commands.Make store sizes workers index image) = bound (pure_step (SizesJudged sizes) (judged_fair (parts h (commands.Make store sizes workers index image)) sizes)) (λ z. bound (on_disk (λ p. image_step _ _ p)) (λ told. bound (on_disk (λ p. source_taken_step _ _ _ _ p _ store)) (λ held. bound (on_sources (λ p. stored_step _ p store refl _ _ z told held)) (λ bytes. on_disk (λ p. written_step _ _ _ _ p index bytes)))))
 command_step h (commands.VerifyIndex index image) = bound (on_disk (λ p. index_step _ _ p index)) (λ l. bound (on_disk (λ p. image_step _ _ p)) (λ told. on_disk (λ p. checked_step _ _ p l told)))
-command_step h (commands.Chop store index image) = bound (on_disk (λ p. index_step _ _ p index)) (λ l. bound (on_disk (λ p. image_step _ _ p)) (λ told. bound (on_disk (λ p. source_taken_step _ _ _ _ p store)) (λ held. on_sources (λ p. chopped_step _ p store refl _ _ l told held))))
+command_step h (commands.Chop store index image) = bound (on_disk (λ p. index_step _ _ p index)) (λ l. bound (on_disk (λ p. image_step _ _ p)) (λ told. bound (on_disk (λ p. source_taken_step _ _ _ _ p _ store)) (λ held. on_sources (λ p. chopped_step _ p store refl _ _ l told held))))
 command_step h (commands.Cache stores cache indexes) = bound (on_disk (λ p. sources_step _ _ p stores)) (λ u. bound (on_disk (λ p. cache_step _ _ p stores (Some cache))) (λ u. on_sources (λ p. filled_step _ _ (parts h (commands.Cache stores cache indexes)) p indexes)))
 command_step h (commands.ListChunks index) = bound (on_disk (λ p. index_step _ _ p index)) (λ l. on_out (λ d. printed_step _ _ _ _ d (text_of_chunks l)))
 command_step h (commands.Extract stores seeds cache in_place workers index target) = bound (on_disk (λ p. index_step _ _ p index)) (λ l. bound (on_disk (λ p. indexes_step _ _ p seeds)) (λ ls. bound (on_disk (λ p. sources_step _ _ p stores)) (λ u. bound (on_disk (λ p. cache_step _ _ p stores cache)) (λ u. out_step _ (parts h (commands.Extract stores seeds cache in_place workers index target)) cache l (record { images = map image_name seeds; listings = ls }) in_place target refl))))
 command_step h (commands.Info stores index) = bound (on_disk (λ p. index_step _ _ p index)) (λ l. bound (on_sources (λ p. counted_step _ _ p (λ t. t) l)) (λ n. on_out (λ d. printed_step _ _ _ _ d (text_of_info l n))))
-command_step h (commands.Verify store repair) = bound (on_disk (λ p. taken_step _ _ _ _ p store)) (λ held. verified_step _ _ store repair held refl)
-command_step h (commands.Prune store indexes) = bound (on_disk (λ p. indexes_step _ _ p indexes)) (λ ls. bound (on_disk (λ p. taken_step _ _ _ _ p store)) (λ held. on_disk (λ p. pruned_step _ _ _ _ p (is_listed_in ls) store held refl)))
+command_step h (commands.Verify store repair) = bound (on_disk (λ p. taken_step _ _ _ _ p [] store)) (λ held. verified_step _ _ store repair held refl)
+command_step h (commands.Prune store indexes) = bound (on_disk (λ p. indexes_step _ _ p indexes)) (λ ls. bound (on_disk (λ p. taken_step _ _ _ _ p [] store)) (λ held. on_disk (λ p. pruned_step _ _ _ _ p (is_listed_in ls) store held refl)))
 command_step h (commands.Demo number size workers) = bound (pure_step (Rehearsed number size) (rehearsed_fair (parts h (commands.Demo number size workers)) number size)) (λ f. on_out (λ d. printed_step _ _ _ _ d (text_of_figures f)))
 command_step h commands.Help = on_out (λ d. printed_step _ _ _ _ d (help_text topics.All))
 command_step h commands.Version = on_out (λ d. printed_step _ _ _ _ d (help_text topics.Version))

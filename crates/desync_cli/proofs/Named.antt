@@ -121,18 +121,18 @@ module _ (n : ℕ) where
   pub opened : (stores : List Location) → AllShort n (map folder_name stores) → Shorts n (SourcesOpened stores)
   opened stores all = record { short = opened_tells stores all }
 
-  taken_tells : (q : List ℕ) → length q ≤ n → Tells n (StoreTaken q)
-  taken_tells q le d e o h = not_reached q le d e o h.0
+  taken_tells : (images : List (List ℕ)) (q : List ℕ) → length q ≤ n → Tells n (StoreTaken images q)
+  taken_tells images q le d e o h = not_reached q le d e o h.0
 
-  pub taken : (q : List ℕ) → length q ≤ n → Shorts n (StoreTaken q)
-  taken q le = record { short = taken_tells q le }
+  pub taken : (q : List ℕ) → length q ≤ n → Shorts n (StoreTaken [] q)
+  taken q le = record { short = taken_tells [] q le }
 
-  source_taken_tells : (s : Location) → length (folder_name s) ≤ n → Tells n (SourceTaken s)
-  source_taken_tells (locations.Folder q) le d e o h = not_reached q le d e o h.0
-  source_taken_tells (locations.Http host port prefix) le d e o h = omega (arith, ap (λ r. length (name_in r)) h.0)
+  source_taken_tells : (images : List (List ℕ)) (s : Location) → length (folder_name s) ≤ n → Tells n (SourceTaken images s)
+  source_taken_tells images (locations.Folder q) le d e o h = not_reached q le d e o h.0
+  source_taken_tells images (locations.Http host port prefix) le d e o h = omega (arith, ap (λ r. length (name_in r)) h.0)
 
-  pub source_taken : (s : Location) → length (folder_name s) ≤ n → Shorts n (SourceTaken s)
-  source_taken x0 le = record { short = source_taken_tells x0 le }
+  pub source_taken : (images : List (List ℕ)) (s : Location) → length (folder_name s) ≤ n → Shorts n (SourceTaken images s)
+  source_taken images s le = record { short = source_taken_tells images s le }
 
   cache_opened_tells : (stores : List Location) (cache : Option (List ℕ)) → AllShort n (elim cache [ None ↦ [] | Some q ↦ q ∷ [] ]) → Tells n (CacheOpened stores cache)
   cache_opened_tells stores None all d e o h = absurd h
@@ -296,4 +296,4 @@ module _ (n : ℕ) where
   image_opened q le = record { short = λ d e o h. not_opened q le d e o h.0 }
 
   pub unheard : (h : Heard) (q : List ℕ) → length q ≤ n → Shorts n (TakenUnheard h q)
-  unheard h q le = record { short = λ d e o t. taken_tells q le d e o t.0 }
+  unheard h q le = record { short = λ d e o t. taken_tells [] q le d e o t.0 }

@@ -22,28 +22,45 @@ use std::alloc::Global;
 use std::sync::Wait;
 use std::thread::Threads;
 
+/// Files and folders in memory, the servers and the clients of a command, and where it prints and tells.
+#[derive(Drop)]
+pub struct MemWorld<D, L> {
+    pub files: MemFiles,
+    pub dial: D,
+    pub listen: L,
+    pub out: MemSink,
+    pub err: MemSink,
+}
+
 /// Does what the words say. Here each clause of `desync` speaks of what stands under the names, with nothing left open.
 pub fn desync_in_memory<R: Threads + Wait + Sync, D: Dial, L: Listen>(
     rt: &R,
     alloc: Global,
     words: &[String],
-    files: &mut MemFiles,
-    dial: &mut D,
-    listen: &mut L,
-    out: &mut MemSink,
-    err: &mut MemSink,
+    memory: &mut MemWorld<D, L>,
 ) -> Ended
 where
     L::Link: Send,
     ensures done { result.outcome ≡ Outcome.Done → IfSome (command_of (map string_bytes words.now))
-        (λ c. Achieves (heard false (L.state listen.old) (L.state listen.new)) c
-        (world (disk_of files.old) (D.state dial.old) (output_of out.old))
-        (world (disk_of files.new) (D.state dial.new) (output_of out.new))) }
-    ensures ends { DesyncEnds (heard false (L.state listen.old) (L.state listen.new)) (map string_bytes words.now)
-        (world (disk_of files.old) (D.state dial.old) (output_of out.old))
-        (answer_of result.outcome) (world (disk_of files.new) (D.state dial.new) (output_of out.new)) }
+        (λ c. Achieves (heard false (L.state memory.old.listen) (L.state memory.new.listen)) c
+        (world (disk_of memory.old.files) (D.state memory.old.dial) (output_of memory.old.out))
+        (world (disk_of memory.new.files) (D.state memory.new.dial) (output_of memory.new.out))) }
+    ensures ends { DesyncEnds (heard false (L.state memory.old.listen) (L.state memory.new.listen))
+        (map string_bytes words.now)
+        (world (disk_of memory.old.files) (D.state memory.old.dial) (output_of memory.old.out))
+        (answer_of result.outcome)
+        (world (disk_of memory.new.files) (D.state memory.new.dial) (output_of memory.new.out)) }
 {
-    desync(rt, alloc, words, files, dial, listen, out, err)
+    desync(
+        rt,
+        alloc,
+        words,
+        &mut memory.files,
+        &mut memory.dial,
+        &mut memory.listen,
+        &mut memory.out,
+        &mut memory.err,
+    )
 }
 
 /// Does what the first words say and then what the second say. Where these are a `make` and an `extract` of its
@@ -53,25 +70,22 @@ pub fn make_then_extract<R: Threads + Wait + Sync, D: Dial, L: Listen>(
     alloc: Global,
     make: &[String],
     extract: &[String],
-    files: &mut MemFiles,
-    dial: &mut D,
-    listen: &mut L,
-    out: &mut MemSink,
-    err: &mut MemSink,
+    memory: &mut MemWorld<D, L>,
 ) -> (Ended, Ended)
 where
     L::Link: Send,
-    ensures ends { InTurn (L.state listen.old) (L.state listen.new)
+    ensures ends { InTurn (L.state memory.old.listen) (L.state memory.new.listen)
         (map string_bytes make.now) (map string_bytes extract.now)
-        (world (disk_of files.old) (D.state dial.old) (output_of out.old)) result.0.outcome result.1.outcome
-        (world (disk_of files.new) (D.state dial.new) (output_of out.new)) }
+        (world (disk_of memory.old.files) (D.state memory.old.dial) (output_of memory.old.out))
+        result.0.outcome result.1.outcome
+        (world (disk_of memory.new.files) (D.state memory.new.dial) (output_of memory.new.out)) }
     ensures done { result.0.outcome ≡ Outcome.Done → result.1.outcome ≡ Outcome.Done →
         RoundTrip (command_of (map string_bytes make.now)) (command_of (map string_bytes extract.now))
-        (files_of files.old) (files_of files.new) }
+        (files_of memory.old.files) (files_of memory.new.files) }
 {
     one_index();
     cutting();
-    let made = desync_in_memory(rt, alloc, make, files, dial, listen, out, err);
-    let extracted = desync_in_memory(rt, alloc, extract, files, dial, listen, out, err);
+    let made = desync_in_memory(rt, alloc, make, memory);
+    let extracted = desync_in_memory(rt, alloc, extract, memory);
     (made, extracted)
 }

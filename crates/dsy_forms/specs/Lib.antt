@@ -1,3 +1,4 @@
 pub mod Trees
 pub mod MemFiles
 pub mod MemSinks
+pub mod SlotFiles

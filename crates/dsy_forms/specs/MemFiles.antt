@@ -1,22 +1,22 @@
 -- What files and folders in memory tell.
 use Rattle.std.specs.Prelude.{ℕ, List, Some, String}
 use Rattle.std.specs.BTreeMap.{BTreeMap}
-use Rattle.std.specs.Option.{option_map}
 use Rattle.dsy_forms.specs.declared.mem_files.MemFiles.{MemFiles}
 use Rattle.dsy_forms.specs.declared.mem_folder.MemFolder.{MemFolder}
 use Rattle.byte_forms.specs.declared.mem_target.MemFile.{MemFile}
 use Rattle.dsy_base.specs.declared.slots.Slot.{Slot}
 use Rattle.dsy_base.specs.Disk.{Disk}
 use Rattle.dsy_base.specs.Maps.{Map}
-use Rattle.dsy_base.specs.Slots.{held_in, counts_in}
+use Rattle.dsy_base.specs.Slots.{counts_in}
+use Rattle.dsy_forms.specs.SlotFiles.{shown_in}
 use Rattle.dsy_forms.specs.Trees.{map_of}
 
 -- the bytes of the files in slots, and the files of the folders in slots
 abbrev pub files_in : {Y : Type 0} → BTreeMap (String Y) (Slot MemFile) → Map (List ℕ)
-files_in slots q = option_map (λ f. f.bytes.items) (held_in slots q)
+files_in slots = shown_in (λ f. f.bytes.items) slots
 
 abbrev pub folders_in : {Y : Type 0} → BTreeMap (String Y) (Slot MemFolder) → Map (Map (List ℕ))
-folders_in slots q = option_map (λ f. map_of f.files) (held_in slots q)
+folders_in slots = shown_in (λ f. map_of f.files) slots
 
 -- the bytes of each file by its name
 abbrev pub files_of : MemFiles → Map (List ℕ)

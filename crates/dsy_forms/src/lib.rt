@@ -6,3 +6,4 @@ pub mod mem_folder;
 pub mod mem_sink;
 pub mod named_files;
 pub mod no_folders;
+pub mod slot_files;

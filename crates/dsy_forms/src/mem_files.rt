@@ -14,6 +14,9 @@ ghost use Rattle.dsy_base.specs.Slots.{counts_in, held_in};
 ghost use Rattle.dsy_forms.specs.Trees.{map_of};
 
 use crate::mem_folder::MemFolder;
+use crate::slot_files::{
+    SlotFolder, put_file, put_folder, remove_file, rename_file, take_folder_out,
+};
 use byte_forms::calls::{Calls, Fails};
 use byte_forms::mem_target::{MemFile, MemTarget};
 use byte_forms::mem_view::MemView;
@@ -21,7 +24,7 @@ use byte_forms::ranges::RangeFails;
 use dsy_base::fault::{IoFault, Memory, OpenFault};
 use dsy_base::files::Files;
 use dsy_base::name::Name;
-use dsy_base::slots::{Slots, claim, count, put_back, take_out};
+use dsy_base::slots::{Slots, claim, count, take_out};
 use std::alloc::{AllocError, Global};
 use std::collections::BTreeMap;
 
@@ -131,6 +134,12 @@ impl MemFiles {
             None => None,
         }
     }
+}
+
+impl SlotFolder for MemFolder {
+    ghost use Rattle.dsy_forms.specs.Trees.{map_of};
+
+    ghost map = { λ f. map_of f.files };
 }
 
 impl Files for MemFiles {
@@ -292,16 +301,6 @@ fn take_file(
     }
 }
 
-// Puts a file under the name.
-fn put_file(files: &mut Slots<MemFile>, name: &str, file: MemFile)
-    requires { IsSome (counts_in files.old name.now) }
-    ensures files { (q : List ℕ) → files_in files.new q
-        ≡ at_name (files_in files.old) name.now (Some file.bytes.items) q }
-    ensures counts { (q : List ℕ) → counts_in files.new q ≡ counts_in files.old q }
-{
-    put_back(files, name, file);
-}
-
 // Puts bytes in the place of what the name holds. The calls that are to fail stay.
 fn replace_file(
     alloc: Global,
@@ -317,73 +316,6 @@ fn replace_file(
 {
     let fails = take_file(alloc, files, coming, name).fails;
     put_file(files, name, MemFile { bytes, fails });
-}
-
-// Takes out the file under the name, with the calls on it that are to fail.
-fn take_file_out(files: &mut Slots<MemFile>, name: &str) -> Option<MemFile>
-    ensures value { option_map (λ f. f.bytes.items) result ≡ files_in files.old name.now }
-    ensures files { (q : List ℕ) → files_in files.new q
-        ≡ at_name (files_in files.old) name.now None q }
-    ensures counts { (q : List ℕ) → counts_in files.new q ≡ counts_in files.old q }
-{
-    take_out(files, name)
-}
-
-// Puts the file that stands under `from` under `to`.
-#[tactic(auto, using(crate::proofs::Updates::at_absent, crate::proofs::Updates::at_renamed))]
-fn rename_file(files: &mut Slots<MemFile>, from: &str, to: &str) -> Result<(), OpenFault>
-    requires apart { from.now ≢ to.now }
-    requires known { IsSome (counts_in files.old to.now) }
-    ensures found { FoundThere (files_in files.old from.now) result }
-    ensures ok { OnOk result ((q : List ℕ) → files_in files.new q
-        ≡ at_name (at_name (files_in files.old) to.now (files_in files.old from.now)) from.now None q) }
-    ensures err { OnErr result ((q : List ℕ) → files_in files.new q ≡ files_in files.old q) }
-    ensures counts { (q : List ℕ) → counts_in files.new q ≡ counts_in files.old q }
-    ensures only { OnErr result (result ≡ Err OpenFault.Absent) }
-{
-    match take_file_out(files, from) {
-        Some(file) => {
-            put_file(files, to, file);
-            Ok(())
-        }
-        None => Err(OpenFault::Absent),
-    }
-}
-
-// Takes out the file under the name, for good.
-#[tactic(auto, using(crate::proofs::Updates::at_absent))]
-fn remove_file(files: &mut Slots<MemFile>, name: &str) -> Result<(), OpenFault>
-    ensures found { FoundThere (files_in files.old name.now) result }
-    ensures ok { OnOk result ((q : List ℕ) → files_in files.new q
-        ≡ at_name (files_in files.old) name.now None q) }
-    ensures err { OnErr result ((q : List ℕ) → files_in files.new q ≡ files_in files.old q) }
-    ensures counts { (q : List ℕ) → counts_in files.new q ≡ counts_in files.old q }
-    ensures only { OnErr result (result ≡ Err OpenFault.Absent) }
-{
-    match take_file_out(files, name) {
-        Some(_) => Ok(()),
-        None => Err(OpenFault::Absent),
-    }
-}
-
-// Puts a folder under the name.
-fn put_folder(folders: &mut Slots<MemFolder>, name: &str, folder: MemFolder)
-    requires { IsSome (counts_in folders.old name.now) }
-    ensures folders { (q : List ℕ) → folders_in folders.new q
-        ≡ at_name (folders_in folders.old) name.now (Some (map_of folder.files)) q }
-    ensures counts { (q : List ℕ) → counts_in folders.new q ≡ counts_in folders.old q }
-{
-    put_back(folders, name, folder);
-}
-
-// Takes out the folder under the name.
-fn take_folder_out(folders: &mut Slots<MemFolder>, name: &str) -> Option<MemFolder>
-    ensures value { option_map (λ f. map_of f.files) result ≡ folders_in folders.old name.now }
-    ensures folders { (q : List ℕ) → folders_in folders.new q
-        ≡ at_name (folders_in folders.old) name.now None q }
-    ensures counts { (q : List ℕ) → counts_in folders.new q ≡ counts_in folders.old q }
-{
-    take_out(folders, name)
 }
 
 // The file with no bytes.

@@ -4,19 +4,20 @@ use Rattle.std.specs.BTreeMap.{BTreeMap}
 use Rattle.std.specs.Option.{option_map}
 use Rattle.dsy_base.specs.Disk.{Disk}
 use Rattle.dsy_base.specs.Maps.{Map}
-use Rattle.dsy_base.specs.Slots.{held_in, counts_in}
+use Rattle.dsy_base.specs.Slots.{counts_in}
 use Rattle.dsy_base.specs.declared.slots.Slot.{Slot}
+use Rattle.dsy_forms.specs.SlotFiles.{shown_in}
 use Rattle.dsy_forms.specs.Trees.{map_of}
 use Rattle.dsy_sure.specs.declared.sure_files.SureFiles.{SureFiles}
 use Rattle.dsy_sure.specs.declared.sure_folder.SureFolder.{SureFolder}
 
 -- the bytes of the files in slots, and the files of the folders in slots
 abbrev pub files_in : {Y Z : Type 0} → BTreeMap (String Y) (Slot (Vec ℕ Z)) → Map (List ℕ)
-files_in slots q = option_map (λ f. f.items) (held_in slots q)
+files_in slots = shown_in (λ f. f.items) slots
 
 -- the files of each folder among these slots
 abbrev pub folders_in : {Y : Type 0} → BTreeMap (String Y) (Slot SureFolder) → Map (Map (List ℕ))
-folders_in slots q = option_map (λ f. map_of f.files) (held_in slots q)
+folders_in slots = shown_in (λ f. map_of f.files) slots
 
 -- the bytes of each file by its name
 abbrev pub files_of : SureFiles → Map (List ℕ)

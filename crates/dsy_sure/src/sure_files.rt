@@ -15,8 +15,11 @@ use dsy_base::fault::{IoFault, Memory, OpenFault};
 use dsy_base::files::Files;
 use dsy_base::image_files::ImageFiles;
 use dsy_base::name::Name;
-use dsy_base::slots::{Slots, claim, put_back, take_out};
+use dsy_base::slots::{Slots, claim, take_out};
 use dsy_forms::no_folders::NoFolders;
+use dsy_forms::slot_files::{
+    SlotFolder, put_file, put_folder, remove_file, rename_file, take_folder_out,
+};
 use std::alloc::{AllocError, Global};
 use std::collections::BTreeMap;
 
@@ -93,6 +96,12 @@ impl SureFiles {
             None => None,
         }
     }
+}
+
+impl SlotFolder for SureFolder {
+    ghost use Rattle.dsy_forms.specs.Trees.{map_of};
+
+    ghost map = { λ f. map_of f.files };
 }
 
 impl Files for SureFiles {
@@ -232,82 +241,6 @@ impl ImageFiles for SureFiles {
     }
 
     ghost untold = { λ t. t };
-}
-
-// Puts a file under the name.
-fn put_file(files: &mut Slots<Vec<u8>>, name: &str, bytes: Vec<u8>)
-    requires { IsSome (zeros_in files.old name.now) }
-    ensures files { (q : List ℕ) → files_in files.new q
-        ≡ at_name (files_in files.old) name.now (Some bytes.items) q }
-    ensures counts { (q : List ℕ) → zeros_in files.new q ≡ zeros_in files.old q }
-{
-    put_back(files, name, bytes);
-}
-
-// Takes out the file under the name.
-fn take_file_out(files: &mut Slots<Vec<u8>>, name: &str) -> Option<Vec<u8>>
-    ensures value { option_map (λ f. f.items) result ≡ files_in files.old name.now }
-    ensures files { (q : List ℕ) → files_in files.new q ≡ at_name (files_in files.old) name.now None q }
-    ensures counts { (q : List ℕ) → zeros_in files.new q ≡ zeros_in files.old q }
-{
-    take_out(files, name)
-}
-
-// Puts the file that stands under `from` under `to`.
-#[tactic(auto, using(dsy_forms::proofs::Updates::at_absent, dsy_forms::proofs::Updates::at_renamed))]
-fn rename_file(files: &mut Slots<Vec<u8>>, from: &str, to: &str) -> Result<(), OpenFault>
-    requires apart { from.now ≢ to.now }
-    requires known { IsSome (zeros_in files.old to.now) }
-    ensures found { FoundThere (files_in files.old from.now) result }
-    ensures ok { OnOk result ((q : List ℕ) → files_in files.new q
-        ≡ at_name (at_name (files_in files.old) to.now (files_in files.old from.now)) from.now None q) }
-    ensures err { OnErr result ((q : List ℕ) → files_in files.new q ≡ files_in files.old q) }
-    ensures counts { (q : List ℕ) → zeros_in files.new q ≡ zeros_in files.old q }
-    ensures only { OnErr result (result ≡ Err OpenFault.Absent) }
-{
-    match take_file_out(files, from) {
-        Some(bytes) => {
-            put_file(files, to, bytes);
-            Ok(())
-        }
-        None => Err(OpenFault::Absent),
-    }
-}
-
-// Takes out the file under the name, for good.
-#[tactic(auto, using(dsy_forms::proofs::Updates::at_absent))]
-fn remove_file(files: &mut Slots<Vec<u8>>, name: &str) -> Result<(), OpenFault>
-    ensures found { FoundThere (files_in files.old name.now) result }
-    ensures ok { OnOk result ((q : List ℕ) → files_in files.new q
-        ≡ at_name (files_in files.old) name.now None q) }
-    ensures err { OnErr result ((q : List ℕ) → files_in files.new q ≡ files_in files.old q) }
-    ensures counts { (q : List ℕ) → zeros_in files.new q ≡ zeros_in files.old q }
-    ensures only { OnErr result (result ≡ Err OpenFault.Absent) }
-{
-    match take_file_out(files, name) {
-        Some(_) => Ok(()),
-        None => Err(OpenFault::Absent),
-    }
-}
-
-// Puts a folder under the name.
-fn put_folder(folders: &mut Slots<SureFolder>, name: &str, folder: SureFolder)
-    requires { IsSome (zeros_in folders.old name.now) }
-    ensures folders { (q : List ℕ) → folders_in folders.new q
-        ≡ at_name (folders_in folders.old) name.now (Some (map_of folder.files)) q }
-    ensures counts { (q : List ℕ) → zeros_in folders.new q ≡ zeros_in folders.old q }
-{
-    put_back(folders, name, folder);
-}
-
-// Takes out the folder under the name.
-fn take_folder_out(folders: &mut Slots<SureFolder>, name: &str) -> Option<SureFolder>
-    ensures value { option_map (λ f. map_of f.files) result ≡ folders_in folders.old name.now }
-    ensures folders { (q : List ℕ) → folders_in folders.new q
-        ≡ at_name (folders_in folders.old) name.now None q }
-    ensures counts { (q : List ℕ) → zeros_in folders.new q ≡ zeros_in folders.old q }
-{
-    take_out(folders, name)
 }
 
 // A copy of a file's bytes.

@@ -1,7 +1,7 @@
 -- What an assembly over taken files and folders makes of the answer.
 use Rattle.std.proofs.Common.{ap, arith, ◌⊎◌, true, is_some, unwrap_or, ◌≡◌, ℕ, ◌+◌, ◌<◌, ◌≤◌, ◌-◌, List, ◌++◌, append-nil, length, map, replicate, take, Option, Some, None, IfSome, IfErr, refl, subst, ◌∙◌, sym, inl, inr, [], length-append, Result, Ok, Err}
 use Rattle.assembler.specs.Assemblies.{After, Assembles, IsObtainable, KeepsBase, KeepsTorn, RightAlike, Verdict}
-use Rattle.assembler.specs.Obtainable.{OnlyObtainable}
+use Rattle.assembler.specs.Obtainable.{IsObtainableOrBase, OnlyObtainable}
 use Rattle.assembler.specs.Passes.{want_at}
 use Rattle.assembler.specs.declared.fault.ExtractFault.{ExtractFault}
 use Rattle.assembler.specs.declared.fault.ExtractFault.TheVariants as faults
@@ -23,7 +23,6 @@ use Rattle.std.proofs.lemmas.List.{length-replicate, length-take, take_all}
 use Rattle.std.proofs.lemmas.Bool.{cases_lt}
 use Rattle.std.specs.List.{AllZip}
 use Rattle.range_ledger.specs.Fills.{WhereTold}
-use Rattle.range_survey.proofs.Excused.{excused_rose}
 use Rattle.range_survey.specs.Excuses.{Excuses}
 use Rattle.std.specs.Map.{count_at}
 use Rattle.std.specs.Option.{option_map}
@@ -152,15 +151,22 @@ resized_same o n size =
     let all : take n o ≡ o = take_all n o (omega (arith, size)) in
     ap (λ k. take n o ++ replicate k 0) none ∙ append-nil (take n o) ∙ all
 
-only_each : (l : Listing) (P : ℕ → Type 0) (old new : ℕ) (e : ExtractFault) (o t : List ℕ) → length t ≡ image_length l → OnlyObtainable l P old new (Err e) o t
-    → (i : ℕ) → i < count_of l → P i ⊎ ((slice_of l t i ≡ slice_of l (resized o (image_length l)) i) ⊎ Rose old new)
-only_each l P old new e o t size (inl same) = λ i lt.
-    let long : length o ≡ image_length l = ap (λ (y : List ℕ). length y) (sym same) ∙ size in
-    inr (inl (ap (λ (y : List ℕ). slice_of l y i) (same ∙ sym (resized_same o (image_length l) long))))
-only_each l P old new e o t size (inr some) = λ i lt. elim (some.each i lt) [
-  | inl has ↦ inl has
-  | inr kept ↦ inr (or_as (λ has. excused_rose some.failed i old new has some.excused) kept)
-]
+-- fewer entries are excused too
+none_excused : (xs : List ℕ) (old new : ℕ) → Excuses xs old new → Excuses [] old new
+none_excused xs old new (inl few) = inl (omega (arith, few))
+none_excused xs old new (inr full) = inr full
+
+-- where the base is kept its length is that of the image
+only_base : (l : Listing) (P : ℕ → Type 0) (old new : ℕ) (e : ExtractFault) (o t : List ℕ) → KeepsBase l old new (resized o (image_length l)) t → OnlyObtainable l P old new (Err e) o t
+    → IsObtainableOrBase l P old new (resized o (image_length l)) t
+only_base l P old new e o t keeps (inl same) =
+    let long : length o ≡ image_length l = ap (λ (y : List ℕ). length y) (sym same) ∙ keeps.size in
+    record {
+      failed = [];
+      excused = none_excused keeps.failed old new keeps.excused;
+      each = λ i lt. inr (inl (ap (λ (y : List ℕ). slice_of l y i) (same ∙ sym (resized_same o (image_length l) long))));
+    }
+only_base l P old new e o t keeps (inr some) = some
 
 -- where another fact holds of it
 lost_on : (P R : ℕ → ChunkId → Refused → Type 0) → ((k : ℕ) (id : ChunkId) (y : Refused) → P k id y → R k id y) → (r : Result Report ExtractFault) → IfErr r (LostAs P) → IfErr r (LostAs R)
@@ -215,10 +221,10 @@ module _ (w v : Storage) (stores : List Location) (cache : Option (List ℕ)) (o
   told : (r : Result Report ExtractFault) (P : Map (List ℕ) → Map (List ℕ) → Map (Map (List ℕ)) → List (Map (List ℕ)) → Type 0) → AllFacts r → ((b : Map (List ℕ)) (n : Map (Map (List ℕ))) (a : Map (List ℕ)) (f : Facts r b n a) → P b a n f.cs) → Told d e cache P
   told r P facts p = over_told d.files d.folders e.files _ (λ b n a x y z. let f = facts b n a x y z in (f.cs, f.cached, p b n a f))
 
-  somewhere : (b a : Map (List ℕ)) (P : List ℕ → Type 0) (t : List ℕ) → Leaves b a out t → (length t ≡ image_length l → P t)
+  somewhere : (b a : Map (List ℕ)) (P : List ℕ → Type 0) (t : List ℕ) → Leaves b a out t → (KeepsBase l before_it after_it (base_of b out l) t → P t)
       → (t ≡ old_of b out) ⊎ KeepsBase l before_it after_it (base_of b out l) t → StopsSomewhere w v b a out l P
   somewhere b a P t leaves only (inl same) = inr (inl (subst (λ (s : List ℕ). Leaves b a out s) same leaves))
-  somewhere b a P t leaves only (inr keeps) = inr (inr (t, (leaves, keeps), only keeps.size))
+  somewhere b a P t leaves only (inr keeps) = inr (inr (t, (leaves, keeps), only keeps))
 
   -- the base is kept where nothing was written
   base_kept : (b : Map (List ℕ)) (t : List ℕ) → FileRose d e out.name → t ≡ base_of b out l → KeepsBase l before_it after_it (base_of b out l) t
@@ -230,25 +236,25 @@ module _ (w v : Storage) (stores : List Location) (cache : Option (List ℕ)) (o
     kept = λ i lt right. inl (ap (λ (y : List ℕ). slice_of l y i) same);
   }
 
-  torn_there : (b a : Map (List ℕ)) (P : List ℕ → Type 0) (t : List ℕ) → Leaves b a out t → (length t ≡ image_length l → P t) → FileRose d e out.name
+  torn_there : (b a : Map (List ℕ)) (P : List ℕ → Type 0) (t : List ℕ) → Leaves b a out t → (KeepsBase l before_it after_it (base_of b out l) t → P t) → FileRose d e out.name
       → (NoneReached w v stores × ((t ≡ old_of b out) ⊎ (t ≡ base_of b out l))) ⊎ KeepsTorn l before_it after_it (base_of b out l) t
       → StopsSomewhere w v b a out l (λ t. P t × (IsTorn d e b out l t ⊎ ((t ≡ base_of b out l) × NoneReached w v stores)))
   torn_there b a P t leaves only rose (inl (none, inl same)) = inr (inl (subst (λ (s : List ℕ). Leaves b a out s) same leaves))
   torn_there b a P t leaves only rose (inl (none, inr same)) =
       let keeps = base_kept b t rose same in
-      inr (inr (t, (leaves, keeps), (only keeps.size, inr (same, none))))
-  torn_there b a P t leaves only rose (inr torn) = inr (inr (t, (leaves, torn.keeps), (only torn.keeps.size, inl torn)))
+      inr (inr (t, (leaves, keeps), (only keeps, inr (same, none))))
+  torn_there b a P t leaves only rose (inr torn) = inr (inr (t, (leaves, torn.keeps), (only torn.keeps, inl torn)))
 
   -- what a refusal tells of each entry
-  only_had : (why : ExtractFault) (b : Map (List ℕ)) (n : Map (Map (List ℕ))) (a : Map (List ℕ)) (f : Facts (Err why) b n a) → length f.t ≡ image_length l → OnlyHad d e b n f.cs stores out l x f.t
-  only_had why b n a f size = λ fs there. only_each l (CanBeHad l (base_of b out l) b x (map chunks f.cs ++ map chunks fs)) before_it after_it why (old_of b out) f.t size (f.only fs there)
+  only_had : (why : ExtractFault) (b : Map (List ℕ)) (n : Map (Map (List ℕ))) (a : Map (List ℕ)) (f : Facts (Err why) b n a) → KeepsBase l before_it after_it (base_of b out l) f.t → OnlyHad d e b n f.cs stores out l x f.t
+  only_had why b n a f keeps = λ fs there. only_base l (CanBeHad l (base_of b out l) b x (map chunks f.cs ++ map chunks fs)) before_it after_it why (old_of b out) f.t keeps (f.only fs there)
 
   pub assembled : (r : Result Report ExtractFault) → AllFacts r → IfErr r (TargetAs (FileRose d e out.name)) → IfErr r (StoreAs (StopsFailed w v stores l))
       → Assembled w v stores cache out l x (answer_of_assembly r)
   assembled (Ok r) facts target store = told _ _ facts (λ b n a f. ((f.t, (f.leaves, f.assembles.1), f.assembles.0), f.only))
-  assembled (Err (faults.Missing k id)) facts target store = told _ _ facts (λ b n a f. ((f.t, (f.leaves, f.assembles.0), f.assembles.1, only_had (faults.Missing k id) b n a f f.assembles.0.size, f.settled), f.lacks, f.verdict))
-  assembled (Err (faults.Damaged k id s y)) facts target store = told _ _ facts (λ b n a f. ((f.t, (f.leaves, f.assembles.0), f.assembles.1, only_had (faults.Damaged k id s y) b n a f f.assembles.0.size, f.settled), f.lacks, f.verdict))
-  assembled (Err (faults.StoreFault s)) facts target store = (store, told _ _ facts (λ b n a f. ((f.t, (f.leaves, f.assembles), only_had (faults.StoreFault s) b n a f f.assembles.size), f.lacks.0, f.lacks.1, f.lacks.2)))
+  assembled (Err (faults.Missing k id)) facts target store = told _ _ facts (λ b n a f. ((f.t, (f.leaves, f.assembles.0), f.assembles.1, only_had (faults.Missing k id) b n a f f.assembles.0, f.settled), f.lacks, f.verdict))
+  assembled (Err (faults.Damaged k id s y)) facts target store = told _ _ facts (λ b n a f. ((f.t, (f.leaves, f.assembles.0), f.assembles.1, only_had (faults.Damaged k id s y) b n a f f.assembles.0, f.settled), f.lacks, f.verdict))
+  assembled (Err (faults.StoreFault s)) facts target store = (store, told _ _ facts (λ b n a f. ((f.t, (f.leaves, f.assembles), only_had (faults.StoreFault s) b n a f f.assembles), f.lacks.0, f.lacks.1, f.lacks.2)))
   assembled (Err faults.TargetFault) facts target store = (target, told _ _ facts (λ b n a f. torn_there b a (OnlyHad d e b n f.cs stores out l x) f.t f.leaves (only_had faults.TargetFault b n a f) target f.assembles))
   assembled (Err faults.Memory) facts target store = told _ _ facts (λ b n a f. somewhere b a (OnlyHad d e b n f.cs stores out l x) f.t f.leaves (only_had faults.Memory b n a f) f.assembles)
 

@@ -8,3 +8,4 @@ pub mod Spared
 pub mod Wrote
 pub mod AnyWords
 pub mod Unused
+pub mod Using

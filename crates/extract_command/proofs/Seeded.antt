@@ -72,14 +72,6 @@ same_known held counts (x ∷ xs) (y ∷ ys) same known =
     All-cons (λ s. IfSome s.view (λ v. IsSome (counts (held v).name))) y ys (known_same held counts x y here (known 0 x (omega arith)))
     (same_known held counts xs ys rest (λ j e less. known (suc j) e (omega (arith, less))))
 
--- over later numbers, which have what was known
-known_later : {V : Type 0} (held : V → Held) (counts now : Map ℕ) → ((q : List ℕ) → IsSome (counts q) → IsSome (now q)) → (o : Option V) → IfSome o (λ v. IsSome (counts (held v).name)) → IfSome o (λ v. IsSome (now (held v).name))
-known_later held counts now on None known = tt
-known_later held counts now on (Some v) known = on (held v).name known
-
-pub all_known_later : {V : Type 0} (held : V → Held) (counts now : Map ℕ) → ((q : List ℕ) → IsSome (counts q) → IsSome (now q)) → (xs : List (Seed V)) → SeedsKnown held counts xs → SeedsKnown held now xs
-all_known_later held counts now on xs known = λ k d lt. known_later held counts now on (slice_index_or xs k d).view (known k d lt)
-
 -- ---- the views of seeds
 
 module _ (d b : Disk) where

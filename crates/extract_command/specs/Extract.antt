@@ -6,6 +6,7 @@ use Rattle.std.specs.List.{Any, slice_get}
 use Rattle.std.specs.Map.{count_at}
 use Rattle.std.specs.Option.{option_map, unwrap_or}
 use Rattle.assembler.specs.Assemblies.{IsLeast, KeepsBase, KeepsTorn, RightAlike}
+use Rattle.assembler.specs.Obtainable.{IsObtainableOrBase}
 use Rattle.assembler.specs.declared.fault.ExtractFault.{ExtractFault}
 use Rattle.assembler.specs.declared.fault.ExtractFault.TheVariants as faults
 use Rattle.range_survey.specs.declared.report.Report.{Report}
@@ -36,6 +37,7 @@ use Rattle.command_steps.specs.Seeds.{IndexesRead, image_name}
 use Rattle.command_worlds.specs.Steps.{◌>>=◌}
 use Rattle.command_steps.specs.Sources.{DialsStores, HaveLacked, NotAsking, OnStorage, Storage}
 use Rattle.command_steps.specs.Sources.{SourcesOpened, storage, location_files}
+use Rattle.command_steps.specs.Uses.{Uses, folders_among}
 use Rattle.command_worlds.specs.Worlds.{DiskQuiet, FileRose, FolderRose, OnDisk, Step, World}
 use Rattle.dsy_base.specs.Disk.{Disk, OnFile}
 use Rattle.extract_plan.specs.Deal.{Deal, IsPlan, first_of, of_want, want_id}
@@ -139,13 +141,13 @@ CacheLacksEntry d e (Some c) l k = IfSome e.folders (λ n. IfSome (n c) (λ g.
 abbrev pub WhereFolders : Map (Map (List ℕ)) → List Location → (List (Map (List ℕ)) → Type 0) → Type 0
 WhereFolders n stores P = (fs : List (Map (List ℕ))) → map (location_files n) stores ≡ map Some fs → P fs
 
--- where stores are folders, each entry can be had, or has the base's bytes in t, unless the file failed; whatever else
--- fails
+-- where stores are folders, each entry can be had, or has the base's bytes in t, unless a write to it failed; whatever
+-- else fails
 abbrev pub OnlyHad : Disk → Disk → Map (List ℕ) → Map (Map (List ℕ)) → List (Map (List ℕ)) → List Location → Into
     → Listing → Seeds → List ℕ → Type 0
-OnlyHad d e before n cs stores out l x t = WhereFolders n stores (λ fs. (i : ℕ) → i < count_of l
-    → HadFrom before out l x cs fs i
-    ⊎ ((slice_of l t i ≡ slice_of l (base_of before out l) i) ⊎ FileRose d e out.name))
+OnlyHad d e before n cs stores out l x t = WhereFolders n stores (λ fs.
+    IsObtainableOrBase l (HadFrom before out l x cs fs) (count_at d.file_counts out.name)
+    (count_at e.file_counts out.name) (base_of before out l) t)
 
 -- the chunk of entry k can't be had from the stores, for this reason; an alike entry that is right in the base
 -- couldn't be read, and no seed that has the chunk; and the cache doesn't give it. n are the folders
@@ -163,6 +165,10 @@ pub record IsLacking (w v : Storage) (before : Map (List ℕ)) (n : Map (Map (Li
 abbrev pub folder_of : Option (List ℕ) → List (List ℕ)
 folder_of None = []
 folder_of (Some name) = name ∷ []
+
+-- with those of stores
+abbrev pub folders_reached : Option (List ℕ) → List Location → List (List ℕ)
+folders_reached cache stores = folder_of cache ++ folders_among stores
 
 -- so it is where files and folders are told; these are the folders, and the files of the cache's
 abbrev pub Told : Disk → Disk → Option (List ℕ)
@@ -311,12 +317,14 @@ pub record GetsWants (w v : Storage) (stores : List Location) (cache : Option (L
 abbrev pub IsNumbered : List ℕ → Disk → Result Unit Outcome → Disk → Type 0
 IsNumbered name d r e = IsSome (e.file_counts name) ⊎ ((r ≡ Err ends.Memory) × (e.files ≡ d.files))
 
--- files tell afterwards where they told before
+-- files tell afterwards where they told before. The file, the images of seeds, the cache's folder and those of stores
+-- alone were used
 abbrev pub ImageMade : List Location → Option (List ℕ) → Into → Listing → Seeds → Step Storage Unit
 ImageMade stores cache out l x w r v = Assembled w v stores cache out l x r × FillsCache stores cache l w.disk v.disk
     × (is_some v.disk.files ≡ is_some w.disk.files) × DialsStores stores w.dial v.dial
     × IsNumbered out.name w.disk r v.disk
     × GetsWants w v stores cache out l x
+    × Uses (out.name ∷ x.images) (folders_reached cache stores) w.disk v.disk
 
 -- ---- by way of a temporary file
 

@@ -10,6 +10,7 @@ use Rattle.command_steps.specs.AnyStores.{with_those}
 use Rattle.command_steps.specs.Cache.{CacheGiven, CacheOpened, with_cache}
 use Rattle.command_steps.specs.Seeds.{SeedsKnown, label_in}
 use Rattle.command_steps.specs.Sources.{ConsultsStores, Storage, SourcesOpened, storage, location_files}
+use Rattle.command_steps.specs.Uses.{Uses, names_among}
 use Rattle.command_words.specs.declared.command.Location.{Location}
 use Rattle.command_worlds.specs.Worlds.{Reads, Step}
 use Rattle.dsy_base.specs.Counts.{raised}
@@ -17,7 +18,8 @@ use Rattle.dsy_base.specs.Disk.{Disk}
 use Rattle.dsy_base.specs.Links.{DialState}
 use Rattle.dsy_base.specs.declared.look.Look.{Ghosts as LookWords}
 use Rattle.dsy_base.specs.declared.view.View.{Ghosts as ViewWords}
-use Rattle.extract_plan.specs.Seeds.{faults_in}
+use Rattle.extract_plan.specs.Seeds.{faults_in, seed_held}
+use Rattle.extract_command.specs.Extract.{folders_reached}
 use Rattle.extract_command.specs.declared.held.Held.{Held}
 
 -- the stores were opened, and then the cache's folder was reached
@@ -65,6 +67,8 @@ pub record IsGivenBack {L W V D K : Type 0} (look : LookWords L) (folder : LookW
   pub given : All (IsGiven look.place look.faults state (storage cached w.dial) (storage closed v.dial)) h.stores.items
   pub ended : v.dial.ended ≡ fold (with_those state) w.dial.ended h.stores.items
   pub seeds : Reads closed v.disk
+  pub used : Uses (names_among (map (seed_held view.held) h.seeds.items)) (folders_reached h.cache (stores_of look h))
+      w.disk v.disk
   pub folder_counts : v.disk.folder_counts ≡ closed.folder_counts
   pub added : All (λ s. raised (count_at closed.file_counts (label_in view.held s)) (faults_in view.faults s)
       ≤ count_at v.disk.file_counts (label_in view.held s)) h.seeds.items

@@ -1,15 +1,16 @@
 //! `extract [-k] -s STORE.. -c FOLDER --seed INDEX.. INDEX OUT`: OUT becomes the image that INDEX lists, with chunks
 //! from up to 64 seeds, from a cache and from 1 to 16 stores.
 
-ghost use Rattle.std.specs.Prelude.{◌≡◌, ◌≢◌, ℕ, List, ◌<◌, ◌≤◌, ◌^◌, map, IfOk, length, is_some};
+ghost use Rattle.std.specs.Prelude.{◌≡◌, ◌≢◌, ℕ, List, ◌∷◌, ◌<◌, ◌≤◌, ◌^◌, map, IfOk, length, is_some};
 ghost use Rattle.std.specs.Prelude.{string_bytes, true, false};
 ghost use Rattle.caibx_codec.specs.Listing.{Listing};
 ghost use Rattle.command_steps.specs.Seeds.{image_name};
 ghost use Rattle.command_steps.specs.Sources.{DialsStores, storage};
+ghost use Rattle.command_steps.specs.Uses.{Uses};
 ghost use Rattle.command_worlds.specs.Worlds.{world};
 ghost use Rattle.extract_command.specs.Extract.{Assembled, ClearedAfter, ExtractEnds, FillsCache, IsNoFile};
 ghost use Rattle.extract_command.specs.Extract.{IsNumbered, OutMade, Renamed, answer_of_assembly, answer_of_taking};
-ghost use Rattle.extract_command.specs.Extract.{GetsWants, temporary_out};
+ghost use Rattle.extract_command.specs.Extract.{GetsWants, folders_reached, temporary_out};
 ghost use Rattle.extract_command.specs.Held.{JustReached, disk_with, stores_of};
 ghost use Rattle.dsy_base.specs.Disk.{Output};
 ghost use Rattle.extract_plan.specs.Deal.{Deal, IsPlan};
@@ -19,6 +20,7 @@ use crate::held::{Held, give_back, let_go, reach};
 use assembler::fault::ExtractFault;
 use caibx_codec::index::Index;
 use chunk_sources::kit::Kit;
+use chunk_store::store::Store;
 use command_outcome::outcome::Outcome;
 use command_steps::input_files::load_index;
 use command_steps::seeds::{open_seeds, read_indexes};
@@ -29,7 +31,9 @@ use dsy_base::files::Files;
 use dsy_base::folder::Folder;
 use dsy_base::look::Look;
 use dsy_base::name::Name;
+use dsy_base::view::View;
 use extract_plan::plan::Plan;
+use extract_plan::seed::Seed;
 use extract_plan::seeds::SeedIndex;
 use image_assembly::assemble::assemble;
 use range_survey::report::Report;
@@ -119,6 +123,15 @@ fn plan_of(
     }
 }
 
+// The stores and the seeds of a kit, as the run left them.
+fn sources_of<S: Store, V: View>(kit: Kit<S, V>) -> (Vec<S>, Vec<Seed<V>>)
+    ensures stores { result.0.items ≡ kit.chain.stores }
+    ensures seeds { result.1 ≡ kit.seeds }
+{
+    let Kit { chain, seeds, .. } = kit;
+    (chain.into_stores(), seeds)
+}
+
 // Makes the file the image, and gives back what is held whatever the answer is. It begins with no bytes where `fresh`
 // is true.
 fn assemble_into<F: Files, D: Dial>(
@@ -144,6 +157,9 @@ fn assemble_into<F: Files, D: Dial>(
         (disk_with F.Folder.Look held (F.disk files.old)) (F.disk files.new) }
     ensures tells { is_some (F.disk files.new).files ≡ is_some (F.disk files.old).files }
     ensures dialed { DialsStores (stores_of F.Look.Look held) (D.state dial.old) (D.state dial.new) }
+    ensures used { Uses (target.now ∷ map image_name planned.now.seeds)
+        (folders_reached held.cache (stores_of F.Look.Look held)) (disk_with F.Folder.Look held (F.disk files.old))
+        (F.disk files.new) }
     ensures numbered { IsNumbered target.now (F.disk files.old) result (F.disk files.new) }
     ensures asks { (d : Deal) (ls : List Listing) → IsPlan planned.now.index 1 d →
         IsSeedIndex planned.now.index d ls planned.now.places →
@@ -176,8 +192,7 @@ fn assemble_into<F: Files, D: Dial>(
     let ended = assemble(alloc, &planned.index, &planned.places, taken, kits, shelf);
     let mut kits = ended.kits;
     let kit = kits.swap_remove(0);
-    let Kit { chain, seeds, .. } = kit;
-    let stores = chain.into_stores();
+    let (stores, seeds) = sources_of(kit);
     let held = Held {
         stores,
         cache,

@@ -1,8 +1,11 @@
 //! What an extraction holds while it runs: its stores in order, the folder of its cache, and the images of its seeds.
 
-ghost use Rattle.std.specs.Prelude.{◌≡◌, ℕ, IfErr, IfOk, Ok, Err};
+ghost use Rattle.std.specs.Prelude.{◌≡◌, ℕ, IfErr, IfOk, Ok, Err, map};
 ghost use Rattle.command_steps.specs.Sources.{storage};
+ghost use Rattle.command_steps.specs.Uses.{Uses, names_among};
 ghost use Rattle.command_worlds.specs.Worlds.{Reads};
+ghost use Rattle.extract_command.specs.Extract.{folders_reached};
+ghost use Rattle.extract_plan.specs.Seeds.{seed_held};
 ghost use Rattle.extract_command.specs.Held.{AllReached, CanBeGiven, IsGivenBack, JustReached, disk_with, stores_of};
 
 use cache_store::shelf::CacheShelf;
@@ -74,6 +77,8 @@ pub fn reach<F: Files, D: Dial>(
 pub fn let_go<F: Files, D: Dial>(files: &mut F, held: Held<F::Look, F::Folder, F::View, D>)
     requires given { CanBeGiven F.Look.Look F.Folder.Look F.View.View (F.disk files.old) held }
     ensures kept { Reads (disk_with F.Folder.Look held (F.disk files.old)) (F.disk files.new) }
+    ensures used { Uses (names_among (map (seed_held F.View.held) held.seeds.items))
+        (folders_reached held.cache (stores_of F.Look.Look held)) (F.disk files.old) (F.disk files.new) }
 {
     let Held {
         stores,

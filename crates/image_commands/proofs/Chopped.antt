@@ -103,7 +103,7 @@ pub chop_ended : (l : Listing) (image : List ℕ) (told : Option (List ℕ)) (st
     → IfSome told (λ t. length t ≡ size) → TellsLength l size r → OnOk r (IfSome told (λ t. IsRight t l)) → IfErr r (IsMismatch l told)
     → StoreGiven store held (ChoppedTo l told r) (SaysAll l (seen_to l r)) w v → ((n : ℕ) → r ≡ Err (faults.Length n) → StoreGiven store held (λ f g. g ≡ f) AnySaid w v)
     → (r ≡ Err faults.ImageFault → FileRose w.disk v.disk image) → (r ≡ Err faults.StoreFault → StoreRose w v store)
-    → WritesStore store w v → GetsEntries l image told store held w v → OnErr r (IsTrue (not (is_folder store)) → StopsAtServer l image told store held w v)
+    → WritesStore (image ∷ []) store w v → GetsEntries l image told store held w v → OnErr r (IsTrue (not (is_folder store)) → StopsAtServer l image told store held w v)
     → ImageChopped l image told store held w (answer_of_chop r) v
 chop_ended l image told store held w v size (Ok u) sized tells right first given same image_rose store_rose kept gets stops = (right, given, kept, gets)
 chop_ended l image told store held w v size (Err (faults.Length n)) sized tells right first given same image_rose store_rose kept gets stops =

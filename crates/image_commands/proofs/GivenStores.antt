@@ -1,5 +1,5 @@
 -- A store that was taken and written while an image was open, and both given back.
-use Rattle.std.proofs.Common.{◌≡◌, ◌∙◌, ℕ, List, [], ◌∷◌, Option, Some, None, IfSome, IsSome, IsTrue, is_some, not, Err, refl, sym, ap, subst, true≢false, arith, inl, inr}
+use Rattle.std.proofs.Common.{◌≡◌, ◌∙◌, ℕ, List, [], ◌∷◌, Option, Some, None, IfSome, IsSome, IsTrue, is_some, not, Result, Ok, Err, refl, sym, ap, subst, true≢false, arith, inl, inr}
 use Rattle.std.specs.Map.{count_at}
 use Rattle.std.specs.Option.{option_map}
 use Rattle.buzhash_cut.specs.Sizes.{Sizes}
@@ -14,10 +14,12 @@ use Rattle.command_steps.proofs.Dialed.{dials_none}
 use Rattle.command_steps.proofs.Given.{given_earlier, stands_there, store_rises, store_says}
 use Rattle.command_steps.proofs.Numbers.{counted_known, counted_le, given_rose}
 use Rattle.command_steps.proofs.Opened.{given_back}
+use Rattle.command_steps.proofs.Used.{Within, uses_then, uses_twice, uses_within, within_none, within_same}
 use Rattle.command_steps.specs.AnyStores.{IsGiven, source_faults, source_files, location_in, place_in, said_in}
 use Rattle.command_steps.specs.Sources.{DialsStores, Storage, StoreRose, said_at, storage}
 use Rattle.command_steps.specs.Stores.{is_folder}
 use Rattle.command_steps.specs.TakenStores.{SourceTaken, given_to}
+use Rattle.command_steps.specs.Uses.{Uses, folders_among}
 use Rattle.command_worlds.specs.Worlds.{Adds, FileRose, Reads}
 use Rattle.command_steps.specs.declared.any_store.AnyStore.{AnyStore}
 use Rattle.command_steps.specs.declared.any_store.AnyStore.TheVariants as stores
@@ -42,9 +44,24 @@ ends_read d b q n h g = record {
 }
 
 -- what was refused before the image was given back
-pub taken_longer : (store : Location) (d e f : Disk) (o : Outcome) → SourceTaken store d (Err o) e → Reads e f → SourceTaken store d (Err o) f
-taken_longer (locations.Folder name) d e f o taken read = (given_back d e f read name o taken.0, reads_twice d e f taken.1 read)
-taken_longer (locations.Http host port prefix) d e f o taken read = (taken.0, reads_twice d e f taken.1 read)
+pub taken_longer : (images : List (List ℕ)) (store : Location) (d e f : Disk) (o : Outcome) → SourceTaken [] store d (Err o) e → Reads e f → Uses images [] e f → SourceTaken images store d (Err o) f
+taken_longer images (locations.Folder name) d e f o taken read used = (
+  given_back d e f read name o taken.0,
+  reads_twice d e f taken.1 read,
+  uses_then [] (name ∷ []) images [] images (name ∷ []) d e f (within_none images) (within_same (name ∷ [])) (within_same images) (within_none (name ∷ [])) taken.2 used,
+)
+taken_longer images (locations.Http host port prefix) d e f o taken read used = (
+  taken.0,
+  reads_twice d e f taken.1 read,
+  uses_twice images [] d e f (uses_within [] [] images [] d e (within_none images) (within_same []) taken.2) used,
+)
+
+-- beside more images
+pub taken_beside : (some all : List (List ℕ)) (store : Location) (d e : Disk) (r : Result (Option (Map (List ℕ))) Outcome) → Within some all → SourceTaken some store d r e → SourceTaken all store d r e
+taken_beside some all (locations.Folder name) d e (Ok held) within taken = taken
+taken_beside some all (locations.Folder name) d e (Err o) within taken = (taken.0, taken.1, uses_within some (name ∷ []) all (name ∷ []) d e within (within_same (name ∷ [])) taken.2)
+taken_beside some all (locations.Http host port prefix) d e (Ok held) within taken = taken
+taken_beside some all (locations.Http host port prefix) d e (Err o) within taken = (taken.0, taken.1, uses_within some [] all [] d e within (within_same []) taken.2)
 
 read_adds : (d b e : Disk) → Reads d b → Adds b e → Adds d e
 read_adds d b e r a = record {
@@ -62,8 +79,20 @@ server_stays (locations.Http host port prefix) files folders t = refl
 pub folders_back : (d b e : Disk) (store : Location) (files : Option (Map (List ℕ))) → Reads d b → e.folders ≡ given_to store files b.folders → e.folders ≡ given_to store files d.folders
 folders_back d b e store files read is = is ∙ ap (given_to store files) read.folders
 
-pub wrote : (d b e : Disk) (k j : DialState) (store : Location) (files : Option (Map (List ℕ))) → Reads d b → e.folders ≡ given_to store files b.folders → Adds b e → DialsStores (store ∷ []) k j → WritesStore store (storage d k) (storage e j)
-wrote d b e k j store files read is adds dials = record { adds = read_adds d b e read adds; folders = λ t. is ∙ server_stays store files b.folders t ∙ read.folders; dials = dials }
+pub wrote : (images : List (List ℕ)) (d b e : Disk) (k j : DialState) (store : Location) (files : Option (Map (List ℕ))) → Reads d b → Uses images [] d b → e.folders ≡ given_to store files b.folders → Adds b e → Uses [] (folders_among (store ∷ [])) b e
+    → DialsStores (store ∷ []) k j → WritesStore images store (storage d k) (storage e j)
+wrote images d b e k j store files read used is adds given dials =
+    let folders = folders_among (store ∷ []) in
+    record {
+      adds = read_adds d b e read adds;
+      folders = λ t. is ∙ server_stays store files b.folders t ∙ read.folders;
+      dials = dials;
+      used = uses_then images [] [] folders images folders d b e (within_same images) (within_none folders) (within_none images) (within_same folders) used given;
+    }
+
+-- beside one image alone
+pub writes_beside : (some all : List (List ℕ)) (store : Location) (w v : Storage) → Within some all → WritesStore some store w v → WritesStore all store w v
+writes_beside some all store w v within h = record { adds = h.adds; folders = h.folders; dials = h.dials; used = uses_within some (folders_among (store ∷ [])) all (folders_among (store ∷ [])) w.disk v.disk within (within_same (folders_among (store ∷ []))) h.used }
 
 pub given_since : {L D K : Type 0} (place : L → List ℕ) (faults : L → ℕ) (state : D → DialState) (d b e : Disk) (k j : DialState) (store : Location) (s : AnyStore L D K) → Reads d b → DialsStores (store ∷ []) k j → IsGiven place faults state (storage b k) (storage e j) s → IsGiven place faults state (storage d k) (storage e j) s
 given_since place faults state d b e k j store s read dials given = given_earlier place faults state (storage d k) (storage b k) (storage e j) read.folder_counts (dials_none k) dials.0 s given

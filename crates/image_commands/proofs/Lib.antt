@@ -2,3 +2,4 @@ pub mod Chopped
 pub mod GivenStores
 pub mod Made
 pub mod Viewed
+pub mod Stored

@@ -21,7 +21,12 @@ use Rattle.image_store.specs.Chopping.{times_listed}
 use Rattle.image_store.specs.PutChunks.{AsksEach, IsListedId, KeepsListed}
 use Rattle.buzhash_cut.specs.Sizes.{Sizes}
 use Rattle.chunk_store.specs.Folders.{chunks}
-use Rattle.image_commands.specs.Make.{MadeOf, once_listed}
+use Rattle.image_commands.proofs.GivenStores.{writes_beside}
+use Rattle.image_commands.proofs.Viewed.{names_alone}
+use Rattle.image_commands.specs.Make.{MadeOf, WritesStore, once_listed}
+use Rattle.image_commands.specs.Views.{AreOf, names_of}
+use Rattle.command_steps.specs.Sources.{Storage}
+use Rattle.dsy_base.specs.Bytes.{Held}
 use Rattle.dsy_base.specs.Maps.{Map}
 use Rattle.image_store.specs.StoreImage.{Lists, PutsFilesOf, SendsOf, StoresImage}
 use Rattle.image_store.specs.declared.put_chunks.MakeFault.{MakeFault}
@@ -79,3 +84,9 @@ gets_image {L} {D} {K} place state s told old new store w v unused located asked
       subst (λ t. Sends (λ a. ⊥) (source_sent state old) t) (sym same.1) (sends_still (λ a. ⊥) (source_sent state old)) in
       inl (by (λ id. 0) (λ a. ⊥) (λ q. let here : asked_in method.Get state new q ≡ asked_in method.Get state old q = ap (λ f. f q) same.0 in omega (arith, here)) still)
   go (inr h) = inr (h.0, h.1, by (once_listed h.0) (KeepsListed h.0) (λ q. once h.0 h.2 q (h.2.listed q)) h.3)
+
+-- what a step has used over the views of one image
+pub wrote_alone : (store : Location) (w v : Storage) (q : List ℕ) (told : Option (List ℕ)) (hs ys : List Held) → ys ≡ hs → AreOf q told hs → WritesStore (names_of ys) store w v → WritesStore (q ∷ []) store w v
+wrote_alone store w v q told hs ys same are h =
+    let here = subst (λ (l : List Held). WritesStore (names_of l) store w v) same h in
+    writes_beside (names_of hs) (q ∷ []) store w v (names_alone q told hs are) here

@@ -1,5 +1,5 @@
 -- The views of one file.
-use Rattle.std.proofs.Common.{◌≡◌, ◌∙◌, ℕ, zero, suc, ◌+◌, ◌<◌, ◌≤◌, IsSome, Bool, true, false, IsTrue, List, [], ◌∷◌, ◌++◌, length, map, slice_index, slice_index_or, All, Option, Some, None, Result, IfSome, is_some, ap, arith, refl, sym, subst, true≢false, inl, inr, length-append}
+use Rattle.std.proofs.Common.{◌≡◌, ◌≢◌, ◌∙◌, ℕ, zero, suc, ◌+◌, ◌<◌, ◌≤◌, IsSome, Bool, true, false, IsTrue, List, [], ◌∷◌, ◌++◌, length, map, slice_index, slice_index_or, All, Option, Some, None, Result, IfSome, is_some, ap, arith, refl, sym, subst, true≢false, inl, inr, length-append}
 use Rattle.std.proofs.lemmas.List.{append_assoc, get_or-map, get_or_append_left, length-map}
 use Rattle.std.proofs.lemmas.List.Elements.{All-append, All-map}
 use Rattle.buzhash_cut.specs.Image.{AreOfOneImage, HasTooManyCuts}
@@ -7,8 +7,9 @@ use Rattle.buzhash_cut.specs.Sizes.{Sizes}
 use Rattle.chunk_store.specs.Said.{Said}
 use Rattle.command_steps.specs.InputFiles.{Holds}
 use Rattle.command_worlds.specs.Worlds.{FileRose, Reads}
+use Rattle.command_steps.proofs.Used.{Within}
 use Rattle.command_steps.proofs.Numbers.{counted_known, counted_le, given_rose, rose_longer}
-use Rattle.image_commands.specs.Views.{AreOf, GrowsBy, IfFirst, IsViewOf}
+use Rattle.image_commands.specs.Views.{AreOf, GrowsBy, IfFirst, IsViewOf, names_of}
 use Rattle.dsy_base.specs.Bytes.{Held}
 use Rattle.std.specs.Map.{count_at}
 use Rattle.dsy_base.specs.Counts.{Rose, raised}
@@ -47,6 +48,21 @@ module _ (d : Disk) (q : List ℕ) (n : ℕ) (tells : Bool) (told : is_some d.fi
   of_one (h ∷ hs) has some are =
       let first = are 0 h (omega arith) in
       (h.bytes, first.holds, λ i x lt. ((are i x lt).name, same_bytes _ _ (some 0 h (omega arith)) (some i x lt) first.holds (are i x lt).holds))
+
+-- ---- their names
+
+pub names_alone : (q : List ℕ) (told : Option (List ℕ)) (hs : List Held) → AreOf q told hs → Within (names_of hs) (q ∷ [])
+names_alone q told [] are p none = tt
+names_alone q told (h ∷ hs) are p none =
+    let rest : AreOf q told hs = λ k x lt. are (suc k) x (omega (arith, lt)) in
+    (subst (λ (n : List ℕ). p ≢ n) (sym (are 0 h (omega arith)).0) none.0, names_alone q told hs rest p none)
+
+name_there : {X : Type 0} (H : X → Held) (front rest : List X) (x : X) → Within ((H x).name ∷ []) (names_of (map H ((front ++ x ∷ []) ++ rest)))
+name_there H [] rest x q none = (none.0, tt)
+name_there H (y ∷ front) rest x q none = name_there H front rest x q none.1
+
+pub name_among : {X : Type 0} (H : X → Held) (all front rest : List X) (x : X) → (front ++ x ∷ []) ++ rest ≡ all → Within ((H x).name ∷ []) (names_of (map H all))
+name_among H all front rest x is = subst (λ l. Within ((H x).name ∷ []) (names_of (map H l))) is (name_there H front rest x)
 
 -- the first one is the last that is taken from the end
 pub first_of : {X : Type 0} (P : X → Type 0) (all rest done : List X) (x : X) → (rest ++ x ∷ []) ++ done ≡ all → P x → rest ≡ [] → IfFirst P all

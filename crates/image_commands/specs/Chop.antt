@@ -70,9 +70,9 @@ module _ (l : Listing) (image : List ℕ) (told : Option (List ℕ)) (store : Lo
     pub gets : EachDialed (Asks (times_listed l (entry + 1)) (λ id. 0)) (store ∷ []) w.dial.ended v.dial.ended
 
   abbrev pub ImageChopped : Step Storage Unit
-  ImageChopped w (Ok u) v = IfSome told (λ t. IsRight t l) × ChopGiven (Ok u) w v × WritesStore store w v
+  ImageChopped w (Ok u) v = IfSome told (λ t. IsRight t l) × ChopGiven (Ok u) w v × WritesStore (image ∷ []) store w v
       × GetsEntries w v
-  ImageChopped w (Err o) v = NotChopped w v o × WritesStore store w v × GetsEntries w v
+  ImageChopped w (Err o) v = NotChopped w v o × WritesStore (image ∷ []) store w v × GetsEntries w v
       × (IsTrue (not (is_folder store)) → StopsAtServer w v)
 
 -- the answer of a chop
@@ -90,7 +90,7 @@ abbrev pub ChopEnds : Location → List ℕ → List ℕ → Step World Unit
 ChopEnds store index image = do
   l ← OnDisk (IndexRead index)
   told ← OnDisk (ImageOpened image)
-  held ← OnDisk (SourceTaken store)
+  held ← OnDisk (SourceTaken (image ∷ []) store)
   OnStorage (ImageChopped l image told store held)
 
 -- INDEX is the index file of this index, and IMAGE the image that it lists

@@ -17,6 +17,7 @@ use Rattle.command_steps.specs.Sources.{DialsStores, OnStorage, Storage, StoreRo
 use Rattle.command_worlds.specs.Steps.{◌>>=◌}
 use Rattle.command_steps.specs.Stores.{is_folder}
 use Rattle.command_steps.specs.TakenStores.{SourceTaken}
+use Rattle.command_steps.specs.Uses.{Uses, folders_among}
 use Rattle.command_worlds.specs.Worlds.{Adds, FileRose, OnDisk, Pure, Step, World, Writes}
 use Rattle.command_words.specs.declared.command.Location.{Location}
 use Rattle.command_words.specs.declared.command.Location.TheVariants as locations
@@ -57,12 +58,13 @@ StoreGiven (locations.Http host port prefix) held P Q w v = Q (said_at w v (loca
 abbrev pub AnySaid : Said → Type 0
 AnySaid said = Unit {0}
 
--- what a step leaves that writes a store: files stay, and no number falls. Where it is a server, folders stay too;
--- where it is a folder, no server was asked
-pub record WritesStore (store : Location) (w v : Storage) : Type 0 where
+-- what a step leaves that writes a store while these images are open: files stay, and no number falls. Where it is a
+-- server, folders stay too; where it is a folder, no server was asked
+pub record WritesStore (images : List (List ℕ)) (store : Location) (w v : Storage) : Type 0 where
   pub adds : Adds w.disk v.disk
   pub folders : IsTrue (not (is_folder store)) → v.disk.folders ≡ w.disk.folders
   pub dials : DialsStores (store ∷ []) w.dial v.dial
+  pub used : Uses images (folders_among (store ∷ [])) w.disk v.disk
 
 -- what storing the image made of the folder's files f: g. `told` are the image's bytes, where they are told
 pub record MadeOf (s : Sizes) (told : Option (List ℕ)) (r : Result (List ℕ) MakeFault) (f g : Map (List ℕ)) : Type 0
@@ -101,9 +103,18 @@ module _ (s : Sizes) (image : List ℕ) (told : Option (List ℕ)) (store : Loca
 
   abbrev pub ImageStored : Step Storage (List ℕ)
   ImageStored w (Ok bytes) v = HasFewCuts s told
-      × StoreGiven store held (MadeOf s told (Ok bytes)) (SaysOf s told bytes) w v × WritesStore store w v
+      × StoreGiven store held (MadeOf s told (Ok bytes)) (SaysOf s told bytes) w v × WritesStore (image ∷ []) store w v
       × GetsImage s told store w v
-  ImageStored w (Err o) v = NotStored w v o × WritesStore store w v × GetsImage s told store w v
+  ImageStored w (Err o) v = NotStored w v o × WritesStore (image ∷ []) store w v × GetsImage s told store w v
+
+-- the answer of storing, where what it gives is seen as A
+abbrev pub answer_of_storing : {A : Type 0} → Result A MakeFault → Result A Outcome
+answer_of_storing (Ok bytes) = Ok bytes
+answer_of_storing (Err faults.ImageFault) = Err ends.ImageFault
+answer_of_storing (Err faults.TooManyItems) = Err ends.TooManyItems
+answer_of_storing (Err (faults.Changed k was got)) = Err (ends.Changed k was got)
+answer_of_storing (Err faults.StoreFault) = Err (ends.StoreFault 0)
+answer_of_storing (Err faults.Memory) = Err ends.Memory
 
 -- ---- writing the index
 
@@ -114,7 +125,8 @@ NotWritten d e q other = ⊥
 
 abbrev pub IndexWritten : List ℕ → List ℕ → Step Disk Unit
 IndexWritten q bytes d (Ok u) e = (e.files ≡ option_map (λ m. at_name m q (Some bytes)) d.files) × Writes d e
-IndexWritten q bytes d (Err o) e = NotWritten d e q o × (e.files ≡ d.files) × Writes d e
+    × Uses (q ∷ []) [] d e
+IndexWritten q bytes d (Err o) e = NotWritten d e q o × (e.files ≡ d.files) × Writes d e × Uses (q ∷ []) [] d e
 
 -- ---- the command
 
@@ -122,7 +134,7 @@ abbrev pub MakeEnds : Location → List ℕ → List ℕ → List ℕ → Step W
 MakeEnds store sizes index image = do
   s ← Pure (SizesJudged sizes)
   told ← OnDisk (ImageOpened image)
-  held ← OnDisk (SourceTaken store)
+  held ← OnDisk (SourceTaken (image ∷ []) store)
   bytes ← OnStorage (ImageStored s image told store held)
   OnDisk (IndexWritten index bytes)
 

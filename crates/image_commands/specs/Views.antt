@@ -1,5 +1,5 @@
 -- Several views of one file.
-use Rattle.std.specs.Prelude.{◌≡◌, ◌⊎◌, ℕ, List, [], ◌∷◌, ◌++◌, All, Option}
+use Rattle.std.specs.Prelude.{◌≡◌, ◌⊎◌, ℕ, List, [], ◌∷◌, ◌++◌, All, map, Option}
 use Rattle.command_steps.specs.InputFiles.{Holds}
 use Rattle.dsy_base.specs.Bytes.{Held}
 use Rattle.dsy_base.specs.Disk.{Disk}
@@ -13,6 +13,10 @@ pub record IsViewOf (d : Disk) (q : List ℕ) (n : ℕ) (h : Held) : Type 0 wher
 -- all are of this name and tell this
 abbrev pub AreOf : List ℕ → Option (List ℕ) → List Held → Type 0
 AreOf q told hs = All (λ h. (h.name ≡ q) × (h.bytes ≡ told)) hs
+
+-- their names
+abbrev pub names_of : List Held → List (List ℕ)
+names_of hs = map (λ h. h.name) hs
 
 -- ---- a list that grows, and its first element
 

@@ -8,9 +8,10 @@ ghost use Rattle.command_steps.specs.AnyStores.{IsGiven, IsKnown, IsUnused, sour
 ghost use Rattle.command_steps.specs.AnyStores.{with_those};
 ghost use Rattle.command_steps.specs.Sources.{storage};
 ghost use Rattle.command_steps.specs.TakenStores.{SourceTaken, given_to};
-ghost use Rattle.image_commands.specs.Views.{AreOf, IfFirst};
+ghost use Rattle.image_commands.specs.Views.{AreOf, IfFirst, names_of};
 ghost use Rattle.command_worlds.specs.Worlds.{Adds, world};
 ghost use Rattle.image_commands.specs.Make.{ImageStored, IndexWritten, MakeEnds, SizesJudged, WritesStore};
+ghost use Rattle.image_commands.specs.Make.{answer_of_storing};
 ghost use Rattle.dsy_base.specs.Counts.{raised};
 ghost use Rattle.dsy_base.specs.Disk.{Output};
 
@@ -71,14 +72,15 @@ fn take_store<F: Files, D: Dial>(
 ) -> Result<Stored<F::View, F::Folder, D>, Outcome>
     requires known { All (λ v. IsSome ((F.disk files.old).file_counts (F.View.held v).name)) views.items }
     ensures kept { IfOk result (λ r. r.views ≡ views) }
-    ensures ok { IfOk result (λ r. SourceTaken store.now (F.disk files.old) (Ok (source_files F.Folder.files r.taken))
-        (F.disk files.new)) }
+    ensures ok { IfOk result (λ r. SourceTaken (names_of (map F.View.held views.items)) store.now (F.disk files.old)
+        (Ok (source_files F.Folder.files r.taken)) (F.disk files.new)) }
     ensures changed { OnOk result (Adds (F.disk files.old) (F.disk files.new)) }
     ensures located { IfOk result (λ r. location_in F.Folder.place r.taken ≡ store.now) }
     ensures fresh { IfOk result (λ r. source_faults F.Folder.faults D.state r.taken ≡ 0) }
     ensures unused { IfOk result (λ r. IsUnused D.state r.taken) }
     ensures known { OnOk result (IsKnown (F.disk files.new).folder_counts store.now) }
-    ensures err { IfErr result (λ o. SourceTaken store.now (F.disk files.old) (Err o) (F.disk files.new)) }
+    ensures err { IfErr result (λ o. SourceTaken (names_of (map F.View.held views.items)) store.now (F.disk files.old)
+        (Err o) (F.disk files.new)) }
 {
     match take_source(alloc, files, dial, store) {
         Ok(taken) => Ok(Stored { views, taken }),
@@ -102,8 +104,8 @@ fn give_store<F: Files, D: Dial>(
     requires located { location_in F.Folder.place taken ≡ store.now }
     ensures folders { (F.disk files.new).folders
         ≡ given_to store.now (source_files F.Folder.files taken) (F.disk files.old).folders }
-    ensures kept { WritesStore store.now (storage (F.disk files.old) (D.state dial.old))
-        (storage (F.disk files.new) (D.state dial.new)) }
+    ensures kept { WritesStore (names_of (map F.View.held views.items)) store.now
+        (storage (F.disk files.old) (D.state dial.old)) (storage (F.disk files.new) (D.state dial.new)) }
     ensures ended { (D.state dial.new).ended ≡ with_those D.state (D.state dial.old).ended taken }
     ensures given { IsGiven F.Folder.place F.Folder.faults D.state
         (storage (F.disk files.old) (D.state dial.old)) (storage (F.disk files.new) (D.state dial.new)) taken }
@@ -141,6 +143,20 @@ fn inner_of<F: ImageFiles>(files: &F, store: &Location) -> Option<Subfolders<F::
     };
     let inner = files.inner(name.as_str())?;
     Some(Subfolders { inner })
+}
+
+// The answer of storing an image.
+fn answer_of(stored: Result<Vec<u8>, MakeFault>) -> Result<Vec<u8>, Outcome>
+    ensures { result ≡ answer_of_storing stored }
+{
+    match stored {
+        Ok(bytes) => Ok(bytes),
+        Err(MakeFault::ImageFault) => Err(Outcome::ImageFault),
+        Err(MakeFault::TooManyItems) => Err(Outcome::TooManyItems),
+        Err(MakeFault::Changed { entry, was, got }) => Err(Outcome::Changed { entry, was, got }),
+        Err(MakeFault::StoreFault) => Err(Outcome::StoreFault { store: 0 }),
+        Err(MakeFault::Memory) => Err(Outcome::Memory),
+    }
 }
 
 // Stores the image in the store that was taken, and gives the bytes of its index file. Views and store are given back,
@@ -184,16 +200,7 @@ where
         &inner_of(files, store),
     );
     give_store(files, dial, views, store, taken);
-    match stored {
-        Ok(bytes) => Ok(bytes),
-        Err(fault) => match fault {
-            MakeFault::ImageFault => Err(Outcome::ImageFault),
-            MakeFault::TooManyItems => Err(Outcome::TooManyItems),
-            MakeFault::Changed { entry, was, got } => Err(Outcome::Changed { entry, was, got }),
-            MakeFault::StoreFault => Err(Outcome::StoreFault { store: 0 }),
-            MakeFault::Memory => Err(Outcome::Memory),
-        },
-    }
+    answer_of(stored)
 }
 
 // Writes the index file of this name.

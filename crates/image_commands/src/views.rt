@@ -7,7 +7,7 @@ ghost use Rattle.buzhash_cut.specs.Image.{AreOfOneImage};
 ghost use Rattle.command_steps.specs.InputFiles.{Holds, NotOpened};
 ghost use Rattle.command_steps.specs.Uses.{Uses};
 ghost use Rattle.command_worlds.specs.Worlds.{Reads};
-ghost use Rattle.image_commands.specs.Views.{AreOf, GrowsBy, IfFirst, IsViewOf};
+ghost use Rattle.image_commands.specs.Views.{AreOf, GrowsBy, IfFirst, IsViewOf, names_of};
 ghost use Rattle.dsy_base.specs.Counts.{raised};
 
 use command_outcome::outcome::Outcome;
@@ -78,6 +78,7 @@ pub fn open_views<F: ImageFiles>(
 pub fn end_views<F: Files>(files: &mut F, views: Vec<F::View>)
     requires known { All (λ v. IsSome ((F.disk files.old).file_counts (F.View.held v).name)) views.items }
     ensures kept { Reads (F.disk files.old) (F.disk files.new) }
+    ensures used { Uses (names_of (map F.View.held views.items)) [] (F.disk files.old) (F.disk files.new) }
     ensures added { IfFirst (λ v.
         raised (count_at (F.disk files.old).file_counts (F.View.held v).name) (F.View.faults v)
         ≤ count_at (F.disk files.new).file_counts (F.View.held v).name) views.items }

@@ -77,7 +77,7 @@ module _ {S : Type 0} (store : StoreWords S) (files : S → Option (Map (List �
 
   -- where it ended early
   module _ (fault : FillFault) (h : FillStops store l fault s0 s1 c0 c1) where
-    lost : (id : ChunkId) (r : Refused) → RefusesEntry store l h.entry id r h.shelf s1 h.chain.stores c1.stores → IsNotHad Calls l s1.files h.entry id r
+    lost : (id : ChunkId) (r : Refused) → RefusesEntry store l h.entry id r h.shelf s1 h.chain c1 → IsNotHad Calls l s1.files h.entry id r
     lost id r e = record {
       id_is = e.id_is;
       cache = if_told (option_map chunks s1.files) (λ m. GivesEntry l h.entry m → Rose s0.faults s1.faults)

@@ -1,5 +1,5 @@
 -- `prune -s STORE -y INDEX..`. A name is its bytes; files are a folder's, where they are told.
-use Rattle.std.specs.Prelude.{◌≡◌, ℕ, Bool, List, Option, Some, Ok, Err}
+use Rattle.std.specs.Prelude.{◌≡◌, ℕ, Bool, List, [], Option, Some, Ok, Err}
 use Rattle.std.specs.List.{AllZip}
 use Rattle.std.specs.Option.{option_map}
 use Rattle.caibx_codec.specs.Listing.{Listing}
@@ -39,7 +39,7 @@ module _ (keeps : List ℕ → Bool) (q : List ℕ) (held : Option (Map (List �
 abbrev pub PruneEnds : List ℕ → List (List ℕ) → Step World Unit
 PruneEnds store indexes = do
   ls ← OnDisk (IndexesRead indexes)
-  held ← OnDisk (StoreTaken store)
+  held ← OnDisk (StoreTaken [] store)
   OnDisk (StorePruned (is_listed_in ls) store held)
 
 -- each INDEX is an index file, and the store's folder, which was there, holds its files without those that are no

@@ -181,8 +181,8 @@ module _ (in_turn : Bool) (h : Heard) (writable : Bool) (q : List ℕ) (held : O
 
 -- where the folder isn't reached, nobody is heard
 abbrev pub TakenUnheard : Heard → List ℕ → Step Disk (Option (Map (List ℕ)))
-TakenUnheard h q d (Ok held) e = StoreTaken q d (Ok held) e
-TakenUnheard h q d (Err o) e = StoreTaken q d (Err o) e × (h.new ≡ h.old)
+TakenUnheard h q d (Ok held) e = StoreTaken [] q d (Ok held) e
+TakenUnheard h q d (Err o) e = StoreTaken [] q d (Err o) e × (h.new ≡ h.old)
 
 abbrev pub ChunkServerEnds : Heard → List ℕ → Bool → ℕ → Step World Unit
 ChunkServerEnds h store writable workers = do

@@ -1,5 +1,6 @@
 -- `verify -s STORE -r`. A name is its bytes; files are a folder's, where they are told.
-use Rattle.std.specs.Prelude.{◌≡◌, ◌≢◌, ℕ, ◌≤◌, ◌==◌, if◌then◌else◌, Bool, List, ◌++◌, Option, Some, Result, Ok, Err}
+use Rattle.std.specs.Prelude.{◌≡◌, ◌≢◌, ℕ, ◌≤◌, ◌==◌, if◌then◌else◌, Bool, List, [], ◌++◌}
+use Rattle.std.specs.Prelude.{Option, Some, Result, Ok, Err}
 use Rattle.std.specs.Option.{option_map}
 use Rattle.command_outcome.specs.declared.outcome.Outcome.{Outcome}
 use Rattle.command_outcome.specs.declared.outcome.Outcome.TheVariants as ends
@@ -43,7 +44,7 @@ module _ (q : List ℕ) (repair : Bool) (held : Option (Map (List ℕ))) where
 
 abbrev pub VerifyEnds : List ℕ → Bool → Step World Unit
 VerifyEnds store repair = do
-  held ← OnDisk (StoreTaken store)
+  held ← OnDisk (StoreTaken [] store)
   StoreVerified store repair held
 
 -- the store's folder, which was there, holds its files, with `repair` without the damaged chunk files; these are

@@ -19,7 +19,7 @@ use Rattle.chunk_store.specs.declared.store.Store.{Ghosts as StoreWords}
 use Rattle.dsy_base.specs.Counts.{Rose}
 use Rattle.dsy_base.specs.Maps.{Map, at_name}
 use Rattle.store_chain.proofs.Kept.{kept_weaker}
-use Rattle.store_chain.specs.Chains.{KeepsStores}
+use Rattle.store_chain.specs.Chains.{AsksOnce, KeepsStores}
 use Rattle.store_chain.specs.Faults.{EachQuiet}
 use Rattle.store_chain.specs.Giving.{Gives, SomeHolds}
 use Rattle.store_chain.specs.Queries.{FillsQuery, query_of}
@@ -72,6 +72,9 @@ module _ {F S : Type 0} (files : F → Option (Map (List ℕ))) (place_of : F �
   unfound_of None h = tt
   unfound_of (Some m) h = λ gives. h (wanted_of l i id is_id m gives)
 
+  asked_once : AsksOnce store.asked store.queried id.0 old.chain new.chain → AsksOnce store.asked store.queried (id_of l i) old.chain new.chain
+  asked_once h = subst (λ (q : List ℕ). AsksOnce store.asked store.queried q old.chain new.chain) is_id h
+
   -- the cache gave it, or a store
   module _ (got : Got) (given : FillsQuery (entry_want l i id) got.size out) where
     abbrev b : List ℕ
@@ -91,13 +94,14 @@ module _ {F S : Type 0} (files : F → Option (Map (List ℕ))) (place_of : F �
 
     -- a store did, but it wasn't put
     lost : FromStores files place_of faults_of store.holds store.said store.faults store.may_lack_memory store.asked store.queried (entry_want l i id) old new (Ok got) out
-        → LosesEntry store l i s0 s1 old.chain.stores new.chain.stores
+        → LosesEntry store l i s0 s1 old.chain new.chain
     lost h = record {
       id = id;
       id_is = is_id;
       unfound = unfound_of (held_on s0) h.unfound;
       bytes = b;
       wanted = given.wanted;
+      asked = asked_once h.asks;
       given = h.found;
       gives = λ maps told.
           let Held : List ℕ → Type 0 = λ q. SomeHolds store.holds old.chain.stores q b in
@@ -123,11 +127,12 @@ module _ {F S : Type 0} (files : F → Option (Map (List ℕ))) (place_of : F �
   Told r = EntryFails store l i s0 s1 old.chain new.chain (fill_fault_of i id r)
 
   refused_at : (r : Refused) → FromStores files place_of faults_of store.holds store.said store.faults store.may_lack_memory store.asked store.queried (entry_want l i id) old new (Err r) out
-      → RefusesEntry store l i id r s0 s1 old.chain.stores new.chain.stores
+      → RefusesEntry store l i id r s0 s1 old.chain new.chain
   refused_at r h = record {
     id_is = is_id;
     unfound = unfound_of (held_on s0) h.unfound;
     kept = h.added;
+    asked = asked_once h.asks;
     refused = h.absent;
     lacks = h.first;
   }

@@ -266,7 +266,7 @@ module _ {S : Type 0} (store : StoreWords S) (l : Listing) where
 
     -- the cache at first didn't give a chunk that was refused, and no store does
     lost_here : (m : Map (List ℕ)) (maps : List (Map (List ℕ))) → FillUnfailed store.holds store.faults l m maps s0 t c0.stores d.stores → (id : ChunkId) (r : Refused)
-        → RefusesEntry store l i id r s t c.stores d.stores
+        → RefusesEntry store l i id r s t c d
         → (LacksAll (entry_want l i id) maps r → SomeGives (kind_of l) (id_of l i) (size_of l i) maps → ⊥)
         → IsGivenBy l m maps i → ⊥
     lost_here m maps nothing id r h never (inl first) =

@@ -138,36 +138,36 @@ module _ {S : Type 0} (store : StoreWords S) (l : Listing) where
   AsksEntry k s t c d = ((d ≡ c) × (t.files ≡ s.files))
       ⊎ (EntryUnfound l k s t × AsksOnce store.asked store.queried (id_of l k) c d)
 
-  -- the cache didn't give the chunk of entry k, or failed, and the stores refused it for this reason
-  pub record RefusesEntry (k : ℕ) (id : ChunkId) (r : Refused) (s t : Shelf) (c d : List S) : Type 0 where
+  -- the cache didn't give the chunk of entry k, or failed, and the stores, asked once, refused it for this reason
+  pub record RefusesEntry (k : ℕ) (id : ChunkId) (r : Refused) (s t : Shelf) (c d : Chained S) : Type 0 where
     pub id_is : id.0 ≡ id_of l k
     pub unfound : EntryUnfound l k s t
     pub kept : t.files ≡ s.files
-    pub refused : Refuses store.said store.faults store.may_lack_memory (entry_want l k id) c d r
-    pub lacks : (maps : List (Map (List ℕ))) → map store.holds c ≡ map Some maps → LacksAll (entry_want l k id) maps r
+    pub asked : AsksOnce store.asked store.queried (id_of l k) c d
+    pub refused : Refuses store.said store.faults store.may_lack_memory (entry_want l k id) c.stores d.stores r
+    pub lacks : (maps : List (Map (List ℕ))) → map store.holds c.stores ≡ map Some maps
+        → LacksAll (entry_want l k id) maps r
 
-  -- the cache didn't give it, or failed, and a store gave it, but it wasn't put into the cache
-  pub record LosesEntry (k : ℕ) (s t : Shelf) (c d : List S) : Type 0 where
+  -- the cache didn't give it, or failed, and a store, asked once, gave it, but it wasn't put into the cache
+  pub record LosesEntry (k : ℕ) (s t : Shelf) (c d : Chained S) : Type 0 where
     pub id : ChunkId
     pub id_is : id.0 ≡ id_of l k
     pub unfound : EntryUnfound l k s t
     pub bytes : List ℕ
     pub wanted : IsWanted (entry_want l k id) bytes
-    pub given : GivenBy store.said store.faults store.may_lack_memory (entry_want l k id) bytes c d
-    pub gives : (maps : List (Map (List ℕ))) → map store.holds c ≡ map Some maps
+    pub asked : AsksOnce store.asked store.queried (id_of l k) c d
+    pub given : GivenBy store.said store.faults store.may_lack_memory (entry_want l k id) bytes c.stores d.stores
+    pub gives : (maps : List (Map (List ℕ))) → map store.holds c.stores ≡ map Some maps
         → SomeGives (kind_of l) (id_of l k) (size_of l k) maps
 
   -- the call for the chunk of entry k was refused so
   abbrev pub EntryFails : ℕ → Shelf → Shelf → Chained S → Chained S → FillFault → Type 0
-  EntryFails k s t c d (faults.Missing e id) = (e ≡ k) × RefusesEntry k id refused.Missing s t c.stores d.stores
-  EntryFails k s t c d (faults.Damaged e id m x) =
-      (e ≡ k) × RefusesEntry k id (refused.Damaged m x) s t c.stores d.stores
-  EntryFails k s t c d (faults.StoreFault m) =
-      (id : ChunkId) × RefusesEntry k id (refused.StoreFault m) s t c.stores d.stores
-  EntryFails k s t c d faults.CacheFault = LosesEntry k s t c.stores d.stores × Rose s.faults t.faults
+  EntryFails k s t c d (faults.Missing e id) = (e ≡ k) × RefusesEntry k id refused.Missing s t c d
+  EntryFails k s t c d (faults.Damaged e id m x) = (e ≡ k) × RefusesEntry k id (refused.Damaged m x) s t c d
+  EntryFails k s t c d (faults.StoreFault m) = (id : ChunkId) × RefusesEntry k id (refused.StoreFault m) s t c d
+  EntryFails k s t c d faults.CacheFault = LosesEntry k s t c d × Rose s.faults t.faults
   EntryFails k s t c d faults.Memory = (d ≡ c)
-      ⊎ (((id : ChunkId) × RefusesEntry k id refused.Memory s t c.stores d.stores)
-      ⊎ LosesEntry k s t c.stores d.stores)
+      ⊎ (((id : ChunkId) × RefusesEntry k id refused.Memory s t c d) ⊎ LosesEntry k s t c d)
 
   -- ---- and how filling ends
 

@@ -1,6 +1,7 @@
 use Rattle.std.proofs.Common.{map, rules}
 use Rattle.command_steps.proofs.Consulted.{consults_more}
 use Rattle.command_steps.proofs.Given.{given_more, known_later, last_at, last_known}
+use Rattle.command_steps.proofs.Used.{closed_last}
 use Rattle.command_steps.specs.AnyStores.{location_in}
 use Rattle.command_steps.specs.Sources.{storage}
 use Rattle.command_steps.proofs.sources.+close_sources.Goals as goal
@@ -45,3 +46,11 @@ returns-in-Some-clause-ended g t c =
     let rest = c.pop.new.self.items in
     c.close.ensures.ended ∙ ap (λ o. with_those state o c.in-Some.store) c.close_sources.ensures.ended
     ∙ sym (ap (fold (with_those state) old) c.in-Some.ensures.items ∙ fold_push (with_those state) old rest c.in-Some.store)
+
+pub returns-in-Some-clause-used : goal.returns-in-Some-clause-used
+returns-in-Some-clause-used g t c =
+    let at = g.F.Files.disk in
+    let location = location_in g.F.Look.Look.place in
+    let rest = c.pop.new.self.items in
+    closed_last (map location c.args.stores.items) (map location rest) (location c.in-Some.store) (at c.args.files.now) (at c.close_sources.new.files) (at c.close.new.files) (last_at location c.args.stores.items rest c.in-Some.store c.in-Some.ensures.items)
+    c.close_sources.ensures.used c.close.ensures.used

@@ -9,22 +9,24 @@ use Rattle.dsy_forms.specs.MemSinks.{output_of}
 
 pub returns : goal.returns
 returns g c =
-    let before = c.args.files.now in
-    let between = c.desync_in_memory-made.new.files in
-    let after = c.desync_in_memory-extracted.new.files in
+    let dialed = g.D.Dial.state in
+    let heard_by = g.L.Listen.state in
+    let before = c.args.memory.now in
+    let between = c.desync_in_memory-made.new.memory in
+    let after = c.desync_in_memory-extracted.new.memory in
     record {
       ends = (
-        g.L.Listen.state c.desync_in_memory-made.new.listen,
-        world (disk_of between) (g.D.Dial.state c.desync_in_memory-made.new.dial) (output_of c.desync_in_memory-made.new.out),
+        heard_by between.listen,
+        world (disk_of between.files) (dialed between.dial) (output_of between.out),
         c.desync_in_memory-made.ensures.ends,
         c.desync_in_memory-extracted.ensures.ends,
       );
       done = λ made extracted. round_trip c.one_index.ensures.only c.cutting.ensures.value
-          (heard false (g.L.Listen.state c.args.listen.now) (g.L.Listen.state c.desync_in_memory-made.new.listen)) (heard false (g.L.Listen.state c.desync_in_memory-made.new.listen) (g.L.Listen.state c.desync_in_memory-extracted.new.listen))
+          (heard false (heard_by before.listen) (heard_by between.listen)) (heard false (heard_by between.listen) (heard_by after.listen))
           (command_of (map string_bytes c.args.make.now)) (command_of (map string_bytes c.args.extract.now))
-          (files_of before) (files_of between) (files_of after) (folders_of before) (folders_of between) (folders_of after)
-          (file_counts_of before) (folder_counts_of before) (file_counts_of between) (folder_counts_of between) (file_counts_of after) (folder_counts_of after)
-          (g.D.Dial.state c.args.dial.now) (g.D.Dial.state c.desync_in_memory-made.new.dial) (g.D.Dial.state c.desync_in_memory-extracted.new.dial)
-          (output_of c.args.out.now) (output_of c.desync_in_memory-made.new.out) (output_of c.desync_in_memory-extracted.new.out)
+          (files_of before.files) (files_of between.files) (files_of after.files) (folders_of before.files) (folders_of between.files) (folders_of after.files)
+          (file_counts_of before.files) (folder_counts_of before.files) (file_counts_of between.files) (folder_counts_of between.files) (file_counts_of after.files) (folder_counts_of after.files)
+          (dialed before.dial) (dialed between.dial) (dialed after.dial)
+          (output_of before.out) (output_of between.out) (output_of after.out)
           (c.desync_in_memory-made.ensures.done made) (c.desync_in_memory-extracted.ensures.done extracted);
     }

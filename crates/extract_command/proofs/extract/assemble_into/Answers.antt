@@ -25,6 +25,9 @@ use Rattle.command_steps.specs.Sources.{storage, location_files}
 use Rattle.command_steps.specs.Stores.{are_folders}
 use Rattle.command_steps.specs.declared.any_store.AnyStore.{AnyStore}
 use Rattle.command_steps.specs.Seeds.{IsViewed, image_name, label_in}
+use Rattle.command_steps.proofs.SeedsUsed.{viewed_names}
+use Rattle.command_steps.proofs.Used.{uses_within, within_same}
+use Rattle.command_steps.specs.Uses.{Uses, names_among}
 use Rattle.command_worlds.specs.Worlds.{FileRose}
 use Rattle.extract_command.proofs.Assembled.{ExcusesAs, assembled, facts_of, given_excuses, had_of, not_taken_as, obtainable_of, same_before, stopped_before}
 use Rattle.command_steps.proofs.Found.{held_after, held_maps, held_where}
@@ -32,11 +35,13 @@ use Rattle.extract_command.proofs.Kits.{pushed}
 use Rattle.extract_command.proofs.Unused.{none_reached}
 use Rattle.extract_command.proofs.AnyWords.{any_words, task}
 use Rattle.extract_command.proofs.Lost.{lacks_told, others_at, store_told, target_as}
-use Rattle.extract_command.proofs.Seeded.{all_known_later, label_of, labels_are, same_known, same_labels, zeros, zipped_many}
+use Rattle.command_steps.proofs.SeedsOpened.{all_known_later}
+use Rattle.extract_command.proofs.Seeded.{label_of, labels_are, same_known, same_labels, zeros, zipped_many}
 use Rattle.extract_command.proofs.Shelved.{IsTold, cache_filled, cache_lacking, cache_quiet, cache_rose, cached_there, fresh_faults, known_still, name_after, name_in, one_size, same_kind, same_names, told_files}
+use Rattle.extract_command.proofs.Using.{made_used, untaken_used, untouched_used}
 use Rattle.extract_command.proofs.Wrote.{untaken_numbered, wrote_back, wrote_on}
 use Rattle.extract_command.proofs.extract.assemble_into.Goals as goal
-use Rattle.extract_command.specs.Extract.{Assembled, Into, Seeds, answer_of_assembly, old_of}
+use Rattle.extract_command.specs.Extract.{Assembled, Into, Seeds, answer_of_assembly, folders_reached, old_of}
 use Rattle.dsy_base.specs.Counts.{Rose, raised}
 use Rattle.dsy_base.specs.Maps.{Map, at_name}
 use Rattle.extract_plan.specs.Places.{PlacesKnown}
@@ -131,10 +136,10 @@ give_back-requires g c =
     let seeded : map (seeds.seed_held view) k.seeds.items ≡ map (seeds.seed_held view) c.in-Ok.seeds.items = ap (λ v. map (seeds.seed_held view) v.items) c.new-kit.ensures.seeds in
     record {
       given = record {
-        stores = rw c.into_stores-stores.ensures.value (subst (λ (q : List Location). All (IsKnown b2.folder_counts) q) (sym located) now);
+        stores = rw c.sources_of-stores.ensures.stores (subst (λ (q : List Location). All (IsKnown b2.folder_counts) q) (sym located) now);
         named = sym (same_names g.F.Folder.Look c.assemble-ended.result.cache) ∙ name_now;
         cache = known_still cache d'.folder_counts b2.folder_counts folder_known c.requires.held.lent.cache;
-        seeds = same_known view b2.file_counts c.in-Ok.seeds.items j.seeds.items (made.seeds.held ∙ seeded) opened;
+        seeds = rw c.sources_of-stores.ensures.seeds (same_known view b2.file_counts c.in-Ok.seeds.items j.seeds.items (made.seeds.held ∙ seeded) opened);
       };
     }
 
@@ -401,7 +406,7 @@ returns-clause-assembled g c = λ p ls plan is.
     let opened : (y : List ℕ) → count_at d.folder_counts y ≤ count_at bc.folder_counts y = λ y. omega (arith, reached y, lent.folder_counts y) in
     let rose : Rose f0 f1 → FileRose d e q = λ y. given_rose _ _ _ _ le added (rw c.in-Ok-take.ensures.fresh.0 at y) in
     let excused : ExcusesAs f0 f1 (count_at d.file_counts q) (count_at e.file_counts q) = λ xs y. given_excuses xs _ _ _ _ le added (rw c.in-Ok-take.ensures.fresh.0 at y) in
-    let closed = rw c.into_stores-stores.ensures.value at c.give_back.ensures.given.given in
+    let closed = rw c.sources_of-stores.ensures.stores at c.give_back.ensures.given.given in
     let dialed = c.give_back.ensures.given.stores.0.dial in
     let stays : e.folder_counts ≡ b3.folder_counts = c.give.ensures.counts.folder_counts ∙ c.give_back.ensures.given.folder_counts in
     let ended : (y : List ℕ) → count_at bc.folder_counts y ≤ count_at e.folder_counts y = λ y.
@@ -424,7 +429,7 @@ returns-clause-assembled g c = λ p ls plan is.
     let shelf_now : e.folders ≡ folders_with e1 d'.folders = c.give.ensures.counts.folders ∙ c.give_back.ensures.given.seeds.folders ∙ c.give_back.ensures.given.stores.0.disk.folders ∙ given_folders e1 b2 bc c.give_back.ensures.given.cache
     ∙ ap (folders_with e1) (c.in-Ok-take.ensures.counts.folders ∙ opens.kept.folders) in
     let seeds_added : All (λ s. raised (count_at b3.file_counts (label_in view s)) (seeds.faults_in view_faults s) ≤ count_at e.file_counts (label_in view s)) j.seeds.items = λ n s lt.
-    let here = c.give_back.ensures.given.added n s lt in
+    let here = (rw c.sources_of-stores.ensures.seeds at c.give_back.ensures.given.added) n s lt in
     let on = given (label_in view (slice_index_or j.seeds.items n s)) in
     omega (arith, here, on) in
     let labelled : map (label_in view) j.seeds.items ≡ labels = same_labels view items j.seeds.items kept.held ∙ labels_are view items in
@@ -438,7 +443,7 @@ returns-clause-assembled g c = λ p ls plan is.
     rose_longer (count_at d.file_counts y) (count_at b.file_counts y) (count_at e.file_counts y) on in
     let tells : (m : Map (List ℕ)) → d.files ≡ Some m → IsTrue g.F.View.View.tells = λ m y. (g.met.F.Files.alike.0 (subst (λ t. IsTrue t) ((g.met.F.Files.told c.args.files.now).0) (subst (λ (o : Option (Map (List ℕ))). IsTrue (is_some o)) (sym y) refl))).0 in
     let unused = subst (λ xs. All (IsUnused state) xs) (sym same) c.requires.held.unused in
-    let last_ended = rw c.into_stores-stores.ensures.value at c.give_back.ensures.given.ended in
+    let last_ended = rw c.sources_of-stores.ensures.stores at c.give_back.ensures.given.ended in
     let ends = assembled w v names cache o l z r
     (facts_of w v names cache o l z (λ maps base. IsObtainable t base views maps)
     (λ m told maps base i lt. had_of d b t z views zip is m told base maps i lt)
@@ -488,7 +493,7 @@ returns-clause-dialed g c =
     let place = g.F.Look.Look.place in
     let same : c.new-kit.result.chain.stores ≡ c.args.held.stores.items = ap (λ k. k.stores) (c.new-kit.ensures.chain ∙ c.new.ensures.value) in
     let located = stand_still place c.new-kit.result.chain.stores c.swap_remove-kit.result.chain.stores made.stores.places ∙ ap (map (location_in place)) same in
-    let kept = rw c.into_stores-stores.ensures.value at c.give_back.ensures.given.stores in
+    let kept = rw c.sources_of-stores.ensures.stores at c.give_back.ensures.given.stores in
     (kept.0.dial, λ t. kept.1 (subst (λ (l : List Location). IsTrue (are_folders l)) (sym located) t))
 
 pub returns-clause-tells : goal.returns-clause-tells
@@ -579,7 +584,7 @@ returns-clause-asks g c = λ p ls plan is.
     let located : (ys : List (AnyStore g.row.F-Look.Denot g.row.D.Denot g.row.D-Link.Denot)) → map place ys ≡ map place before → map location ys ≡ names = λ ys placed. stand_still at_place before ys placed in
     let after_at = located after stores.places in
     let seeds_added : All (λ s. raised (count_at b3.file_counts (label_in view s)) (seeds.faults_in view_faults s) ≤ count_at e.file_counts (label_in view s)) j.seeds.items = λ n s lt.
-    let here = c.give_back.ensures.given.added n s lt in
+    let here = (rw c.sources_of-stores.ensures.seeds at c.give_back.ensures.given.added) n s lt in
     let on = given (label_in view (slice_index_or j.seeds.items n s)) in
     omega (arith, here, on) in
     let labelled : map (label_in view) j.seeds.items ≡ labels = same_labels view items j.seeds.items kept.held ∙ labels_are view items in
@@ -607,7 +612,7 @@ returns-clause-asks g c = λ p ls plan is.
     let none = fresh_faults g.F.Folder.Look _ c.args.held.shelf c.requires.held.shelf in
     let shelf_rose = cache_rose d e b2 bc reached ended (cache_faults e0) e1 none c.give_back.ensures.given.cache in
     let unused = subst (λ xs. All (IsUnused state) xs) (sym same) c.requires.held.unused in
-    let last_ended = rw c.into_stores-stores.ensures.value at c.give_back.ensures.given.ended in
+    let last_ended = rw c.sources_of-stores.ensures.stores at c.give_back.ensures.given.ended in
     record {
       plan = p;
       planned = plan;
@@ -620,3 +625,58 @@ returns-clause-asks g c = λ p ls plan is.
           (each_got at_place state (twice_wanted l p spared) before after names k0.ended k1.ended unused few after_at last_ended);
       sends = subst (λ xs. EachDialed (SendsFronts (IsListedGet l)) (map location xs) k0.ended k1.ended) same (each_sent at_place state (IsListedGet l) before after names k0.ended k1.ended unused stores.sends after_at last_ended);
     }
+
+pub returns-in_default-clause-used : goal.returns-in_default-clause-used
+returns-in_default-clause-used g c =
+    let at = g.F.Files.disk in
+    let b = at c.open_seeds.new.files in
+    let e = at c.let_go.new.files in
+    let view = g.F.View.View.held in
+    let folders = folders_reached c.args.held.cache (map (location_in g.F.Look.Look.place) c.args.held.stores.items) in
+    let gone = subst (λ l. Uses (names_among (map (seeds.seed_held view) l)) folders b e) c.requires.held.none c.let_go.ensures.used in
+    let used = untouched_used c.args.target.now (map image_name c.args.planned.now.seeds) folders (at c.args.files.now) b (rw c.as_slice.ensures at c.in_default.ensures.used) e gone in
+    record { files = used.files; folders = used.folders }
+
+pub returns-in-Err-clause-used : goal.returns-in-Err-clause-used
+returns-in-Err-clause-used g c =
+    let at = g.F.Files.disk in
+    let d = at c.args.files.now in
+    let b = at c.open_seeds.new.files in
+    let b2 = at c.take.new.self in
+    let e = at c.let_go-in-Err.new.files in
+    let images = map image_name c.args.planned.now.seeds in
+    let views = map (seeds.seed_held g.F.View.View.held) c.in-Ok.seeds.items in
+    let folders = folders_reached c.args.held.cache (map (location_in g.F.Look.Look.place) c.args.held.stores.items) in
+    let gone = uses_within (names_among views) folders images folders b2 e (viewed_names d b images views (rw c.as_slice.ensures at c.in-Ok.ensures.found)) (within_same folders) c.let_go-in-Err.ensures.used in
+    let used = untaken_used c.args.target.now images folders d b (rw c.as_slice.ensures at c.in-Ok.ensures.used) b2 e c.in-Err.ensures.counts gone in
+    record { files = used.files; folders = used.folders }
+
+pub returns-clause-used : goal.returns-clause-used
+returns-clause-used g c =
+    let k = c.new-kit.result in
+    let back = c.assemble-ended.result.kits in
+    let j = c.swap_remove-kit.result in
+    let one = pushed c.args.held.kits.items c.push.new.self.items k c.push.result c.unwrap.result c.requires.held.room.0 c.unwrap.ensures c.push.ensures.items in
+    let other = alone back.items j (sym back.ok.0 ∙ c.assemble-ended.ensures.size) c.swap_remove-kit.ensures.value in
+    let made = c.assemble-ended.ensures.assembled.so (task c.args.planned.now.index c.requires.plan.0 c.args.planned.now.places) k j refl refl c.requires.plan.1 one other in
+    let at = g.F.Files.disk in
+    let d = at c.args.files.now in
+    let b = at c.open_seeds.new.files in
+    let b2 = at c.take.new.self in
+    let b4 = at c.give_back.new.files in
+    let e = at c.give.new.self in
+    let view = g.F.View.View.held in
+    let place = g.F.Look.Look.place in
+    let images = map image_name c.args.planned.now.seeds in
+    let views = map (seeds.seed_held view) c.in-Ok.seeds.items in
+    let cache = c.args.held.cache in
+    let folders = folders_reached cache (map (location_in place) c.args.held.stores.items) in
+    let same : k.chain.stores ≡ c.args.held.stores.items = ap (λ k. k.stores) (c.new-kit.ensures.chain ∙ c.new.ensures.value) in
+    let located = stand_still place k.chain.stores j.chain.stores made.stores.places ∙ ap (map (location_in place)) same in
+    let seeded : map (seeds.seed_held view) k.seeds.items ≡ views = ap (λ v. map (seeds.seed_held view) v.items) c.new-kit.ensures.seeds in
+    let gave = rw (c.sources_of-stores.ensures.stores, c.sources_of-stores.ensures.seeds) at c.give_back.ensures.given.used in
+    let there = subst (λ (l : List Location). Uses (names_among (map (seeds.seed_held view) j.seeds.items)) (folders_reached cache l) b2 b4) located gave in
+    let opened = subst (λ l. Uses (names_among l) folders b2 b4) (made.seeds.held ∙ seeded) there in
+    let lent = uses_within (names_among views) folders images folders b2 b4 (viewed_names d b images views (rw c.as_slice.ensures at c.in-Ok.ensures.found)) (within_same folders) opened in
+    let used = made_used c.args.target.now images folders d b (rw c.as_slice.ensures at c.in-Ok.ensures.used) b2 b4 e _ c.in-Ok-take.ensures.counts lent c.give.ensures.counts in
+    record { files = used.files; folders = used.folders }

@@ -113,7 +113,7 @@ returns-then-in_place g c =
       ends = λ p.
           let ended : List Location → Option (List ℕ) → List (List ℕ) → List ℕ → Listing → Type 0 = λ n cache images q l. OutMade true n cache q l (record { images = map image_name images; listings = ls }) (world m k p) c.assemble_into.result (world e j p) in
           let made = c.assemble_into.ensures in
-          let first : ended (stores_of g.F.Look.Look held) held.cache c.in-Ok.planned.seeds c.as_str-then-in_place.result.now c.in-Ok.planned.index = ((made.assembled plan.0 ls (rw c.in-Ok.ensures.index plan.1) (rw c.in-Ok.ensures.index plan.2), made.kept, made.tells, made.dialed, made.numbered, made.asks plan.0 ls (rw c.in-Ok.ensures.index plan.1) (rw c.in-Ok.ensures.index plan.2)), refl) in
+          let first : ended (stores_of g.F.Look.Look held) held.cache c.in-Ok.planned.seeds c.as_str-then-in_place.result.now c.in-Ok.planned.index = ((made.assembled plan.0 ls (rw c.in-Ok.ensures.index plan.1) (rw c.in-Ok.ensures.index plan.2), made.kept, made.tells, made.dialed, made.numbered, made.asks plan.0 ls (rw c.in-Ok.ensures.index plan.1) (rw c.in-Ok.ensures.index plan.2), made.used), refl) in
           let named = subst (λ q. ended (stores_of g.F.Look.Look held) held.cache c.in-Ok.planned.seeds q c.in-Ok.planned.index) c.as_str-then-in_place.ensures first in
           let indexed = subst (λ l. ended (stores_of g.F.Look.Look held) held.cache c.in-Ok.planned.seeds words.target l) c.in-Ok.ensures.index named in
           let seeded = subst (λ ss. ended (stores_of g.F.Look.Look held) held.cache ss words.target l) c.in-Ok.ensures.seeds indexed in

@@ -1,8 +1,12 @@
-use Rattle.std.proofs.Common.{ℕ, List, IsSome}
+use Rattle.std.proofs.Common.{◌∙◌, ℕ, List, IsSome, map}
 use Rattle.command_steps.proofs.Cached.{given_adds}
 use Rattle.command_steps.proofs.Given.{all_later}
 use Rattle.chunk_sources.specs.Caches.{seen}
-use Rattle.extract_command.proofs.Seeded.{all_known_later}
+use Rattle.command_steps.specs.Uses.{names_among}
+use Rattle.command_steps.proofs.SeedsOpened.{all_known_later}
+use Rattle.extract_command.proofs.Shelved.{same_names}
+use Rattle.extract_command.proofs.Using.{back_used}
+use Rattle.extract_plan.specs.Seeds.{seed_held}
 use Rattle.extract_command.proofs.held.give_back.Goals as goal
 use Rattle.extract_command.specs.Held.{stores_of}
 
@@ -23,6 +27,7 @@ close_seeds-requires g c =
 pub returns : goal.returns
 returns g c =
     let at = g.F.Files.disk in
+    let o = seen g.F.Folder.Look c.args.held.shelf in
     record {
       given = record {
         cached = at c.give_cache.new.files;
@@ -33,6 +38,8 @@ returns g c =
         given = c.close_sources.ensures.given;
         ended = c.close_sources.ensures.ended;
         seeds = c.close_seeds.ensures.kept;
+        used = back_used o c.args.held.cache (stores_of g.F.Look.Look c.args.held) (names_among (map (seed_held g.F.View.View.held) c.args.held.seeds.items)) (at c.args.files.now) (at c.give_cache.new.files) (at c.close_sources.new.files) (at c.close_seeds.new.files)
+            (same_names g.F.Folder.Look c.args.held.shelf ∙ c.requires.given.named) c.give_cache.ensures.given c.close_sources.ensures.used c.close_seeds.ensures.used;
         folder_counts = c.close_seeds.ensures.counts;
         added = c.close_seeds.ensures.added;
       };

@@ -1,9 +1,13 @@
-use Rattle.std.proofs.Common.{ℕ, List, IsSome}
+use Rattle.std.proofs.Common.{◌∙◌, ℕ, List, IsSome, map}
 use Rattle.command_steps.proofs.Cached.{given_adds, given_reads}
 use Rattle.command_steps.proofs.Consulted.{reads_twice}
 use Rattle.command_steps.proofs.Given.{all_later}
 use Rattle.chunk_sources.specs.Caches.{seen}
-use Rattle.extract_command.proofs.Seeded.{all_known_later}
+use Rattle.command_steps.specs.Uses.{names_among}
+use Rattle.command_steps.proofs.SeedsOpened.{all_known_later}
+use Rattle.extract_command.proofs.Shelved.{same_names}
+use Rattle.extract_command.proofs.Using.{back_used}
+use Rattle.extract_plan.specs.Seeds.{seed_held}
 use Rattle.extract_command.proofs.held.let_go.Goals as goal
 use Rattle.extract_command.specs.Held.{disk_with, stores_of}
 
@@ -29,4 +33,8 @@ returns g c =
     let b = at c.give_cache.new.files in
     let e = at c.drop_sources.new.files in
     let gave = given_reads o (at c.args.files.now) b c.give_cache.ensures.given in
-    record { kept = reads_twice d e (at c.close_seeds.new.files) (reads_twice d b e gave c.drop_sources.ensures.kept) c.close_seeds.ensures.kept }
+    record {
+      kept = reads_twice d e (at c.close_seeds.new.files) (reads_twice d b e gave c.drop_sources.ensures.kept) c.close_seeds.ensures.kept;
+      used = back_used o c.args.held.cache (stores_of g.F.Look.Look c.args.held) (names_among (map (seed_held g.F.View.View.held) c.args.held.seeds.items)) (at c.args.files.now) b e (at c.close_seeds.new.files)
+          (same_names g.F.Folder.Look c.args.held.shelf ∙ c.requires.given.named) c.give_cache.ensures.given c.drop_sources.ensures.used c.close_seeds.ensures.used;
+    }

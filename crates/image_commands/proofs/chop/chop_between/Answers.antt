@@ -1,11 +1,12 @@
-use Rattle.std.proofs.Common.{◌≡◌, ◌∙◌, ◌+◌, ap, arith, refl, rules}
+use Rattle.std.proofs.Common.{◌≡◌, ◌∙◌, ◌+◌, [], ◌∷◌, ap, arith, rules, subst}
 use Rattle.command_steps.proofs.Given.{stands_there}
 use Rattle.command_steps.specs.AnyStores.{source_files}
 use Rattle.command_steps.specs.Sources.{storage}
-use Rattle.image_commands.proofs.Chopped.{chop_ended, chopped_to, gets_only, gets_to, if_told, order_of, says_before, server_given, stops_server, unchanged}
+use Rattle.image_commands.proofs.Chopped.{chop_ended, chopped_to, gets_only, gets_to, if_told, order_of, says_before, stops_server, unchanged}
 use Rattle.image_commands.proofs.GivenStores.{back, rose, says_more, view_rose}
 use Rattle.image_commands.specs.Chop.{ChoppedTo}
-use Rattle.image_commands.specs.Make.{AnySaid}
+use Rattle.dsy_base.specs.Bytes.{Held}
+use Rattle.image_commands.specs.Make.{AnySaid, WritesStore}
 use Rattle.image_commands.proofs.chop.chop_between.Goals as goal
 use Rattle.image_store.specs.Chopping.{SaysBefore, most_seen, seen_to}
 use Rattle.image_store.specs.PutChunks.{SaysAll}
@@ -41,7 +42,7 @@ returns g c =
     (unchanged (source_files files old) (source_files files new) (ap (source_files files) (done.untouched n is).1)) tt)
     (λ is. view_rose w.disk v.disk view.name (g.F.View.View.faults c.args.view) (g.F.View.View.faults c.chop-chopped.new.image) (search rules) c.requires.fresh.0 (done.image_faults.cause is))
     (λ is. rose files place faults state w v store old new done.place c.requires.located gave.folders gave.given c.requires.fresh.1 (done.store_faults.cause is))
-    gave.kept gets
+    (subst (λ (h : Held). WritesStore (h.name ∷ []) store w v) done.kept gave.kept) gets
     (stops_server _ l view.name view.bytes store (source_files files old) w v old new r done.order
     (λ k says. back files place faults state w v store old new done.place c.requires.located gave.folders gave.given (λ f g. f ≡ f) (SaysBefore l k) (says_before l k) done.tells (if_told (source_files files old) (source_files files new)) says)
     (λ k asks. gets_to place state l (k + 1) old new store w.dial.ended v.dial.ended c.requires.unused there asks done.queries gave.ended (k + 1) (λ q. omega arith))))

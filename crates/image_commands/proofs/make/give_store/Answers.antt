@@ -1,4 +1,6 @@
+use Rattle.std.proofs.Common.{map}
 use Rattle.command_steps.specs.AnyStores.{source_files}
+use Rattle.image_commands.specs.Views.{names_of}
 use Rattle.image_commands.proofs.GivenStores.{folders_back, given_since, wrote}
 use Rattle.image_commands.proofs.make.give_store.Goals as goal
 
@@ -12,8 +14,8 @@ pub returns-clause-kept : goal.returns-clause-kept
 returns-clause-kept g c =
     let at = g.F.Files.disk in
     let state = g.D.Dial.state in
-    wrote (at c.args.files.now) (at c.end_views.new.files) (at c.give_source.new.files) (state c.args.dial.now) (state c.give_source.new.dial) c.args.store.now (source_files g.F.Folder.Look.files c.args.taken)
-    c.end_views.ensures.kept c.give_source.ensures.folders c.give_source.ensures.changed c.give_source.ensures.dialed
+    wrote (names_of (map g.F.View.View.held c.args.views.items)) (at c.args.files.now) (at c.end_views.new.files) (at c.give_source.new.files) (state c.args.dial.now) (state c.give_source.new.dial) c.args.store.now (source_files g.F.Folder.Look.files c.args.taken)
+    c.end_views.ensures.kept c.end_views.ensures.used c.give_source.ensures.folders c.give_source.ensures.changed c.give_source.ensures.used c.give_source.ensures.dialed
 
 pub returns-clause-given : goal.returns-clause-given
 returns-clause-given g c =

@@ -1,8 +1,10 @@
-use Rattle.std.proofs.Common.{All, IsSome, map, slice_index_or, inl, inr, refl, subst, sym}
+use Rattle.std.proofs.Common.{All, [], ◌∷◌, IsSome, Ok, Err, map, slice_index_or, inl, inr, refl, subst, sym}
 use Rattle.std.proofs.lemmas.Result.{err_from_is_err_and}
 use Rattle.command_steps.specs.AnyStores.{source_files}
 use Rattle.command_steps.specs.Sources.{storage}
-use Rattle.image_commands.specs.Views.{AreOf}
+use Rattle.image_commands.proofs.GivenStores.{taken_beside}
+use Rattle.image_commands.proofs.Viewed.{names_alone}
+use Rattle.image_commands.specs.Views.{AreOf, names_of}
 use Rattle.image_commands.proofs.make.make.Goals as goal
 
 pub store_between-requires-clause-image : goal.store_between-requires-clause-image
@@ -12,6 +14,16 @@ store_between-requires-clause-image g c κs lives =
     let took = c.in_ok-opened.ensures in
     let known = c.in_ok-views.ensures.known in
     subst (λ vs. All (λ v. IsSome (d.file_counts (held v).name)) vs.items) (sym took.kept) (λ k e lt. took.changed.known (held (slice_index_or c.in_ok-views.views.items k e)).name (known k e lt))
+
+pub returns-in_err-opened : goal.returns-in_err-opened
+returns-in_err-opened g c =
+    let p = err_from_is_err_and c.from_residual-in_err-opened.result c.from_residual-in_err-opened.ensures.1 in
+    let at = g.F.Files.disk in
+    let views = c.in_ok-views.ensures in
+    let opened = views.bytes in
+    let hs = map g.F.View.View.held c.in_ok-views.views.items in
+    let taken = taken_beside (names_of hs) (c.args.words.image ∷ []) c.args.words.store (at c.open_views.new.files) (at c.take_store.new.files) (Err c.in_err-opened.field-0.0) (names_alone c.args.words.image opened.0 hs opened.2) c.in_err-opened.ensures.err in
+    record { ends = λ o. rw (p.1, p.2) (inr (record { disk = _; dial = _; out = _; gave = c.in_ok-sizes.sizes; did = (c.in_ok-sizes.ensures, refl); then = inr (record { disk = _; dial = _; out = _; gave = opened.0; did = ((opened.1, views.kept, views.used), refl, refl); then = inl (taken, refl, refl) }) })) }
 
 pub returns-in_err-bytes : goal.returns-in_err-bytes
 returns-in_err-bytes g c =
@@ -25,9 +37,11 @@ returns-in_err-bytes g c =
     let files = source_files g.F.Folder.Look.files c.in_ok-opened.opened.taken in
     let w = storage (at c.take_store.new.files) (state c.args.dial.now) in
     let v = storage (at c.store_between.new.files) (state c.store_between.new.dial) in
+    let hs = map held c.in_ok-views.views.items in
+    let taken = taken_beside (names_of hs) (c.args.words.image ∷ []) c.args.words.store (at c.open_views.new.files) (at c.take_store.new.files) (Ok files) (names_alone c.args.words.image opened.0 hs opened.2) took.ok in
     let are = subst (λ vs. AreOf c.args.words.image opened.0 (map held vs.items)) (sym took.kept) opened.2 in
     let stored = c.in_err-bytes.ensures.err c.args.words.image opened.0 are in
-    record { ends = λ o. rw (p.1, p.2) (inr (record { disk = _; dial = _; out = _; gave = c.in_ok-sizes.sizes; did = (c.in_ok-sizes.ensures, refl); then = inr (record { disk = _; dial = _; out = _; gave = opened.0; did = ((opened.1, views.kept, views.used), refl, refl); then = inr (record { disk = _; dial = _; out = _; gave = files; did = (took.ok, refl, refl); then = inl (stored, refl) }) }) })) }
+    record { ends = λ o. rw (p.1, p.2) (inr (record { disk = _; dial = _; out = _; gave = c.in_ok-sizes.sizes; did = (c.in_ok-sizes.ensures, refl); then = inr (record { disk = _; dial = _; out = _; gave = opened.0; did = ((opened.1, views.kept, views.used), refl, refl); then = inr (record { disk = _; dial = _; out = _; gave = files; did = (taken, refl, refl); then = inl (stored, refl) }) }) })) }
 
 pub returns-in_err-write_index : goal.returns-in_err-write_index
 returns-in_err-write_index g c =
@@ -41,9 +55,11 @@ returns-in_err-write_index g c =
     let files = source_files g.F.Folder.Look.files c.in_ok-opened.opened.taken in
     let w = storage (at c.take_store.new.files) (state c.args.dial.now) in
     let v = storage (at c.store_between.new.files) (state c.store_between.new.dial) in
+    let hs = map held c.in_ok-views.views.items in
+    let taken = taken_beside (names_of hs) (c.args.words.image ∷ []) c.args.words.store (at c.open_views.new.files) (at c.take_store.new.files) (Ok files) (names_alone c.args.words.image opened.0 hs opened.2) took.ok in
     let are = subst (λ vs. AreOf c.args.words.image opened.0 (map held vs.items)) (sym took.kept) opened.2 in
     let stored = c.in_ok-bytes.ensures.ok c.args.words.image opened.0 are in
-    record { ends = λ o. rw (p.1, p.2) (inr (record { disk = _; dial = _; out = _; gave = c.in_ok-sizes.sizes; did = (c.in_ok-sizes.ensures, refl); then = inr (record { disk = _; dial = _; out = _; gave = opened.0; did = ((opened.1, views.kept, views.used), refl, refl); then = inr (record { disk = _; dial = _; out = _; gave = files; did = (took.ok, refl, refl); then = inr (record { disk = _; dial = _; out = _; gave = c.in_ok-bytes.bytes.items; did = (stored, refl); then = (c.in_err-write_index.ensures, refl, refl) }) }) }) })) }
+    record { ends = λ o. rw (p.1, p.2) (inr (record { disk = _; dial = _; out = _; gave = c.in_ok-sizes.sizes; did = (c.in_ok-sizes.ensures, refl); then = inr (record { disk = _; dial = _; out = _; gave = opened.0; did = ((opened.1, views.kept, views.used), refl, refl); then = inr (record { disk = _; dial = _; out = _; gave = files; did = (taken, refl, refl); then = inr (record { disk = _; dial = _; out = _; gave = c.in_ok-bytes.bytes.items; did = (stored, refl); then = (c.in_err-write_index.ensures, refl, refl) }) }) }) })) }
 
 pub returns : goal.returns
 returns g c =
@@ -56,6 +72,8 @@ returns g c =
     let files = source_files g.F.Folder.Look.files c.in_ok-opened.opened.taken in
     let w = storage (at c.take_store.new.files) (state c.args.dial.now) in
     let v = storage (at c.store_between.new.files) (state c.store_between.new.dial) in
+    let hs = map held c.in_ok-views.views.items in
+    let taken = taken_beside (names_of hs) (c.args.words.image ∷ []) c.args.words.store (at c.open_views.new.files) (at c.take_store.new.files) (Ok files) (names_alone c.args.words.image opened.0 hs opened.2) took.ok in
     let are = subst (λ vs. AreOf c.args.words.image opened.0 (map held vs.items)) (sym took.kept) opened.2 in
     let stored = c.in_ok-bytes.ensures.ok c.args.words.image opened.0 are in
-    record { ends = λ o. record { disk = _; dial = _; out = _; gave = c.in_ok-sizes.sizes; did = (c.in_ok-sizes.ensures, refl); then = record { disk = _; dial = _; out = _; gave = opened.0; did = ((opened.1, views.kept, views.used), refl, refl); then = record { disk = _; dial = _; out = _; gave = files; did = (took.ok, refl, refl); then = record { disk = _; dial = _; out = _; gave = c.in_ok-bytes.bytes.items; did = (stored, refl); then = (rw c.deref.ensures.value at c.in_ok-write_index.ensures, refl, refl) } } } } }
+    record { ends = λ o. record { disk = _; dial = _; out = _; gave = c.in_ok-sizes.sizes; did = (c.in_ok-sizes.ensures, refl); then = record { disk = _; dial = _; out = _; gave = opened.0; did = ((opened.1, views.kept, views.used), refl, refl); then = record { disk = _; dial = _; out = _; gave = files; did = (taken, refl, refl); then = record { disk = _; dial = _; out = _; gave = c.in_ok-bytes.bytes.items; did = (stored, refl); then = (rw c.deref.ensures.value at c.in_ok-write_index.ensures, refl, refl) } } } } }

@@ -1,7 +1,8 @@
-use Rattle.std.proofs.Common.{◌≡◌, ◌≤◌, ◌++◌, List, [], All, IsSome}
+use Rattle.std.proofs.Common.{◌≡◌, ◌≤◌, ◌++◌, List, [], All, IsSome, map}
 use Rattle.std.specs.Map.{count_at}
 use Rattle.command_worlds.specs.Worlds.{Reads}
-use Rattle.image_commands.specs.Views.{IfFirst}
+use Rattle.command_steps.specs.Uses.{Uses}
+use Rattle.image_commands.specs.Views.{IfFirst, names_of}
 use Rattle.dsy_base.specs.Counts.{raised}
 use Rattle.image_commands.proofs.views.end_views.Given as goal
 
@@ -11,6 +12,7 @@ invariant-loop-view g l = record {
   front : (done : List _) × (l.views.items ++ done ≡ l.fn.views.items);
   known : All (λ v. IsSome ((g.F.Files.disk l.files).file_counts (g.F.View.View.held v).name)) l.views.items;
   reads : Reads (g.F.Files.disk l.fn.files) (g.F.Files.disk l.files);
+  used : Uses (names_of (map g.F.View.View.held l.fn.views.items)) [] (g.F.Files.disk l.fn.files) (g.F.Files.disk l.files);
   added : l.views.items ≡ [] → IfFirst (λ v. raised (count_at (g.F.Files.disk l.fn.files).file_counts (g.F.View.View.held v).name) (g.F.View.View.faults v)
       ≤ count_at (g.F.Files.disk l.files).file_counts (g.F.View.View.held v).name) l.fn.views.items;
 }

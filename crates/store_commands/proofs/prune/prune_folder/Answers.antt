@@ -1,7 +1,8 @@
-use Rattle.std.proofs.Common.{◌≡◌, List, ℕ, Bool, Ok, Err, inl, inr, refl, sym, subst, ap, ◌∙◌}
+use Rattle.std.proofs.Common.{◌≡◌, List, [], ◌∷◌, ℕ, Bool, Ok, Err, inl, inr, refl, sym, subst, ap, ◌∙◌}
 use Rattle.std.proofs.lemmas.Result.{err_from_is_err_and}
+use Rattle.command_steps.proofs.Used.{uses_none}
 use Rattle.command_steps.specs.Seeds.{IndexesRead}
-use Rattle.command_steps.specs.Stores.{NotReached, StoreTaken}
+use Rattle.command_steps.specs.Stores.{StoreTaken}
 use Rattle.store_commands.proofs.GivenFolders.{reads_still}
 use Rattle.store_commands.specs.Prune.{StorePruned}
 use Rattle.verify_tool.specs.Pruning.{has_id, is_listed_in}
@@ -22,7 +23,8 @@ returns-in_err-keep g c =
     let listed = c.in_ok-listed.ensures in
     let read = subst (λ (qs : List (List ℕ)). IndexesRead qs (at c.args.files.now) (Ok c.in_ok-listed.listed.items) (at c.read_indexes.new.files)) c.as_slice.ensures ((listed.ok, listed.few), listed.kept, listed.used) in
     let lacking = sym c.in_err-keep.ensures.err in
-    record { ends = λ k o. rw (p.1, p.2) (inr (record { disk = _; dial = _; out = _; gave = c.in_ok-listed.listed.items; did = (read, refl, refl); then = inl (subst (λ e. StoreTaken c.args.store (at c.read_indexes.new.files) (Err e) (at c.read_indexes.new.files)) lacking (tt, reads_still (at c.read_indexes.new.files)), refl, refl) })) }
+    let d = at c.read_indexes.new.files in
+    record { ends = λ k o. rw (p.1, p.2) (inr (record { disk = _; dial = _; out = _; gave = c.in_ok-listed.listed.items; did = (read, refl, refl); then = inl (subst (λ e. StoreTaken [] c.args.store d (Err e) d) lacking (tt, reads_still d, uses_none [] (c.args.store ∷ []) d), refl, refl) })) }
 
 pub returns-in_err-taken : goal.returns-in_err-taken
 returns-in_err-taken g c =
@@ -31,8 +33,8 @@ returns-in_err-taken g c =
     let listed = c.in_ok-listed.ensures in
     let read = subst (λ (qs : List (List ℕ)). IndexesRead qs (at c.args.files.now) (Ok c.in_ok-listed.listed.items) (at c.read_indexes.new.files)) c.as_slice.ensures ((listed.ok, listed.few), listed.kept, listed.used) in
     let took = c.in_err-taken.ensures in
-    let refused = subst (λ (q : List ℕ). NotReached (at c.read_indexes.new.files) (at c.take_folder.new.files) q c.in_err-taken.field-0.0) c.as_str.ensures took.err in
-    record { ends = λ k o. rw (p.1, p.2) (inr (record { disk = _; dial = _; out = _; gave = c.in_ok-listed.listed.items; did = (read, refl, refl); then = inl ((refused, took.kept), refl, refl) })) }
+    let refused = subst (λ (q : List ℕ). StoreTaken [] q (at c.read_indexes.new.files) (Err c.in_err-taken.field-0.0) (at c.take_folder.new.files)) c.as_str.ensures (took.err, took.kept, took.used) in
+    record { ends = λ k o. rw (p.1, p.2) (inr (record { disk = _; dial = _; out = _; gave = c.in_ok-listed.listed.items; did = (read, refl, refl); then = inl (refused, refl, refl) })) }
 
 pub returns-in_err-prune_taken : goal.returns-in_err-prune_taken
 returns-in_err-prune_taken g c =
@@ -47,7 +49,7 @@ returns-in_err-prune_taken g c =
     let same : has_id c.in_ok-keep.keep ≡ is_listed_in ls = told ∙ ap is_listed_in c.deref.ensures.value in
     let there = subst (λ (q : List ℕ). StorePruned (has_id c.in_ok-keep.keep) q held (at c.take_folder.new.files) (Err c.in_err-prune_taken.field-0.0) (at c.prune_taken.new.files)) c.as_str-2.ensures c.in_err-prune_taken.ensures in
     let pruned = subst (λ (k : List ℕ → Bool). StorePruned k c.args.store held (at c.take_folder.new.files) (Err c.in_err-prune_taken.field-0.0) (at c.prune_taken.new.files)) same there in
-    let taken = subst (λ (q : List ℕ). StoreTaken q (at c.read_indexes.new.files) (Ok held) (at c.take_folder.new.files)) c.as_str.ensures (took.ok.found, took.changed) in
+    let taken = subst (λ (q : List ℕ). StoreTaken [] q (at c.read_indexes.new.files) (Ok held) (at c.take_folder.new.files)) c.as_str.ensures (took.ok.found, took.changed, took.used) in
     record {
       ends = λ k o. rw (p.1, p.2) (inr (record { disk = _; dial = _; out = _; gave = ls; did = (read, refl, refl); then = inr (record { disk = _; dial = _; out = _; gave = held; did = (taken, refl, refl); then = (pruned, refl, refl) }) }));
     }
@@ -64,7 +66,7 @@ returns g c =
     let same : has_id c.in_ok-keep.keep ≡ is_listed_in ls = told ∙ ap is_listed_in c.deref.ensures.value in
     let there = subst (λ (q : List ℕ). StorePruned (has_id c.in_ok-keep.keep) q held (at c.take_folder.new.files) (Ok tt) (at c.prune_taken.new.files)) c.as_str-2.ensures c.in_ok-prune_taken.ensures in
     let pruned = subst (λ (k : List ℕ → Bool). StorePruned k c.args.store held (at c.take_folder.new.files) (Ok tt) (at c.prune_taken.new.files)) same there in
-    let taken = subst (λ (q : List ℕ). StoreTaken q (at c.read_indexes.new.files) (Ok held) (at c.take_folder.new.files)) c.as_str.ensures (took.ok.found, took.changed) in
+    let taken = subst (λ (q : List ℕ). StoreTaken [] q (at c.read_indexes.new.files) (Ok held) (at c.take_folder.new.files)) c.as_str.ensures (took.ok.found, took.changed, took.used) in
     record {
       ends = λ k o. record { disk = _; dial = _; out = _; gave = ls; did = (read, refl, refl); then = record { disk = _; dial = _; out = _; gave = held; did = (taken, refl, refl); then = (pruned, refl, refl) } };
     }

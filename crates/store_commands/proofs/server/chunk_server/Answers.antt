@@ -1,4 +1,4 @@
-use Rattle.std.proofs.Common.{◌==◌, List, ℕ, Ok, Err, inr, refl, subst}
+use Rattle.std.proofs.Common.{◌==◌, List, [], ℕ, Ok, Err, inr, refl, subst}
 use Rattle.std.proofs.lemmas.Result.{err_from_is_err_and}
 use Rattle.command_steps.specs.Stores.{StoreTaken}
 use Rattle.store_commands.specs.Serving.{FolderServed, heard}
@@ -12,6 +12,6 @@ returns-in_err-serve_by g c =
     let took = c.in_ok-taken.ensures in
     let held = g.F.Folder.Look.files c.in_ok-taken.taken in
     let h = heard g.F.Folder.Look.never_fails (state c.args.listen.now) (state c.serve_by.new.listen) in
-    let taken = subst (λ (q : List ℕ). StoreTaken q (at c.args.files.now) (Ok held) (at c.take_folder.new.files)) c.as_str.ensures (took.ok.found, took.changed) in
+    let taken = subst (λ (q : List ℕ). StoreTaken [] q (at c.args.files.now) (Ok held) (at c.take_folder.new.files)) c.as_str.ensures (took.ok.found, took.changed, took.used) in
     let served = subst (λ (q : List ℕ). FolderServed (c.args.service.workers == 1) h c.args.service.writable q held (at c.take_folder.new.files) (Err c.in_err-serve_by.field-0.0) (at c.serve_by.new.files)) c.as_str-2.ensures c.in_err-serve_by.ensures in
     record { ends = λ k o. rw (p.1, p.2) (inr (record { disk = _; dial = _; out = _; gave = held; did = (taken, refl, refl); then = (served, refl, refl) })) }
