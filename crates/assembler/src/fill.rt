@@ -21,12 +21,12 @@ use dsy_base::view::View;
 use range_ledger::ledger::Ledger;
 
 /// Settles the wants of this worker in rising order, past those whose chunk no source gives and past writes that fail.
-pub(crate) fn fill<E: Ledger, S: Store, V: View, F: Folder>(
+pub fn fill<E: Ledger, S: Store, V: View, F: Folder>(
     wants: &Wants<'_>,
     worker: usize,
     work: &mut Work<E, S, V, F>,
 ) -> Result<(), Memory>
-    requires listing { wants.now.index.now ≡ E.run.listing }
+    requires dealt { wants.now.index.now ≡ E.run.listing }
     requires ready { Ready (task E.run.listing wants.now) (stage E.Ledger F.Look work.old) }
     requires unnamed { (F.pairs ≡ None) × (F.stores ≡ None) }
     requires may { MayFillHad S.Store V.View (task E.run.listing wants.now) E.run.may (stage E.Ledger F.Look work.old)

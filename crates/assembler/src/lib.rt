@@ -3,10 +3,10 @@
 #![tactic(auto)]
 
 pub mod fault;
-mod fill;
+pub mod fill;
 mod passes;
 mod put;
-mod retry;
+pub mod retry;
 pub mod run;
 mod settle;
 pub mod work;

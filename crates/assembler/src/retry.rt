@@ -18,12 +18,12 @@ use range_ledger::ledger::Ledger;
 /// Settles the open entries in rising order, with each want once, which is then marked as tried. Goes on past a want
 /// whose chunk no source gives, and then answers for the first such entry. A write that fails and want of memory end
 /// it.
-pub(crate) fn retry<E: Ledger, S: Store, V: View, F: Folder>(
+pub fn retry<E: Ledger, S: Store, V: View, F: Folder>(
     wants: &Wants<'_>,
     mut tried: Vec<bool>,
     work: &mut Work<E, S, V, F>,
 ) -> Result<(), ExtractFault>
-    requires listing { wants.now.index.now ≡ E.run.listing }
+    requires dealt { wants.now.index.now ≡ E.run.listing }
     requires fresh { tried.items ≡ replicate wants.now.plan.now.wants false }
     requires ready { Ready (task E.run.listing wants.now) (stage E.Ledger F.Look work.old) }
     requires unnamed { (F.pairs ≡ None) × (F.stores ≡ None) }

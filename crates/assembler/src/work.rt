@@ -32,7 +32,7 @@ impl<'a> Wants<'a> {
 
 /// The entries, where their chunks come from, and the cache, if there is one.
 #[derive(Drop)]
-pub(crate) struct Work<E: Ledger, S: Store, V: View, F: Folder> {
+pub struct Work<E: Ledger, S: Store, V: View, F: Folder> {
     pub ledger: E,
     pub kit: Kit<S, V>,
     pub cache: Option<CacheShelf<F>>,

@@ -1,1 +1,5 @@
+pub mod Beside
+pub mod Moving
 pub mod OnePlan
+pub mod Permitting
+pub mod Working

@@ -1,1 +1,3 @@
+pub mod Beside
+pub mod Lanes
 pub mod Readied

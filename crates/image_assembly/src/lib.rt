@@ -4,4 +4,7 @@
 
 pub mod assemble;
 pub mod fault;
+mod finish;
+mod lanes;
 pub mod prepare;
+mod workers;

@@ -1,7 +1,7 @@
 -- A target right after the survey of its shards.
 use Rattle.std.proofs.Common.{◌≡◌, ◌⊎◌, ℕ, zero, suc, ◌+◌, ◌-◌, ◌^◌, ◌<◌, ◌≤◌, List, [], ◌∷◌, ◌++◌, length, map, take, drop, get_or, reverse, replicate, slice_range, Option, Some, None, IfSome, IsTrue, Bool, true, false, is_some, refl, sym, ap, subst, ◌∙◌, inl, inr, arith, length-append, if◌then◌else◌}
 use Rattle.std.proofs.lemmas.Bool.{cases_lt, true≢false}
-use Rattle.std.proofs.lemmas.List.{drop-drop, drop-take, get_or-append_right, get_or_append_left, length-replicate, length-take, map-append, reverse-append, reverse-reverse, take-append-drop, take-take, take_all, take_more}
+use Rattle.std.proofs.lemmas.List.{drop-drop, drop-take, get_or-append_right, get_or_append_left, map-append, reverse-append, reverse-reverse, take-append-drop, take-take, take_all, take_more}
 use Rattle.std.proofs.lemmas.List.Elements.{Contains-append_left, Contains-append_right, Contains-push}
 use Rattle.std.specs.List.{Contains}
 use Rattle.std.proofs.lemmas.List.Sums.{sum_by-cons}

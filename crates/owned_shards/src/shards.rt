@@ -1,7 +1,7 @@
 //! A target in shards, all of which one worker owns. Offsets are bytes from 0; entries and shards count from 0.
 
 ghost use Rattle.std.specs.Prelude.{◌≡◌, ◌+◌, ◌++◌, ◌<◌, ◌≤◌, ◌∷◌, [], ℕ, length};
-ghost use Rattle.std.specs.Prelude.{IfSome, false, map, true, vec_capacity, vec_len};
+ghost use Rattle.std.specs.Prelude.{IfSome, false, is_some, map, true, vec_capacity, vec_len};
 ghost use Rattle.caibx_codec.specs.Listing.{count_of};
 ghost use Rattle.range_ledger.specs.Runs.{first_in};
 ghost use Rattle.owned_shards.specs.Wholes.{IsWhole, KeptWhole, whole_of};
@@ -42,7 +42,7 @@ impl<'a, R: RunName, T: Target> Model for Shards<'a, R, T> {
 }
 
 /// Puts a value into a list that has room for it.
-pub(crate) fn put_back<X: Drop>(values: &mut Vec<X>, value: X)
+pub fn put_back<X: Drop>(values: &mut Vec<X>, value: X)
     requires room { vec_len values.old < vec_capacity values.old }
     ensures items { values.new.items ≡ values.old.items ++ value ∷ [] }
     ensures size { vec_len values.new ≡ vec_len values.old + 1 }
@@ -117,6 +117,7 @@ impl<'a, R: RunName, T: Target> Shards<'a, R, T> {
     pub fn keeps(&self)
         ensures kept { IfSome self.now.held.bytes (KeptWhole R.run self.now) }
         ensures faults { self.now.faults_before ≤ self.now.faults }
+        ensures tells { is_some self.now.held.bytes ≡ T.tells }
     {
         let _ = &self.shards;
     }

@@ -49,7 +49,7 @@ loop-entry-preserved-then-is_settled g c =
     let b = stage g.E.Ledger g.F.Look c.loop-entry.work in
     let tried = c.loop-entry.tried.items in
     let listed = c.requires.ready.wants in
-    let inside : c.loop-entry.entry < length t.plan.want_of = omega (arith, c.loop-entry-test.true, c.count-entry-end.ensures, ap count_of c.requires.listing, listed.size) in
+    let inside : c.loop-entry.entry < length t.plan.want_of = omega (arith, c.loop-entry-test.true, c.count-entry-end.ensures, ap count_of c.requires.dealt, listed.size) in
     let below : c.want_of-want.result < t.plan.wants = omega (arith, listed.within c.loop-entry.entry (omega (arith, inside, listed.size)), c.want_of-want.ensures) in
     record {
       done = c.loop-entry.invariant.done;
@@ -72,7 +72,7 @@ pub settle-requires-clause-may : goal.settle-requires-clause-may
 settle-requires-clause-may g c =
     let t = task g.E.Ledger.run.listing c.args.wants.now in
     let listed = c.requires.ready.wants in
-    let inside : c.loop-entry.entry < length t.plan.want_of = omega (arith, c.loop-entry-test.true, c.count-entry-end.ensures, ap count_of c.requires.listing, listed.size) in
+    let inside : c.loop-entry.entry < length t.plan.want_of = omega (arith, c.loop-entry-test.true, c.count-entry-end.ensures, ap count_of c.requires.dealt, listed.size) in
     let below : c.want_of-want.result < t.plan.wants = omega (arith, listed.within c.loop-entry.entry (omega (arith, inside, listed.size)), c.want_of-want.ensures) in
     permits_on t listed g.S.Store g.V.View (λ v. is_tried c.loop-entry.tried.items v ≡ true) (λ _. Unit {0}) g.E.Ledger.run.may (stage g.E.Ledger g.F.Look c.args.work.now)
     (stage g.E.Ledger g.F.Look c.loop-entry.work) c.loop-entry.invariant.done.stretch c.loop-entry.invariant.done.had c.requires.may c.want_of-want.result below tt
@@ -92,7 +92,7 @@ now_tried g c = set c.loop-entry.tried.items c.want_of-want.result true
 
 -- the entry at which the loop stands is listed and open, its want is one of the plan's, and it wasn't tried
 inside : (g : Over) (c : After-settle g) → c.loop-entry.entry < length c.args.wants.now.plan.now.want_of
-inside g c = omega (arith, c.loop-entry-test.true, c.count-entry-end.ensures, ap count_of c.requires.listing, c.requires.ready.wants.size)
+inside g c = omega (arith, c.loop-entry-test.true, c.count-entry-end.ensures, ap count_of c.requires.dealt, c.requires.ready.wants.size)
 
 below : (g : Over) (c : After-settle g) → c.want_of-want.result < c.args.wants.now.plan.now.wants
 below g c =
@@ -183,7 +183,7 @@ failed g c not_yet all_before =
     let f = c.settle.ensures.ends.failed (c.in-Err-TargetFault.is ∙ ap (λ y. Err y) c.in-Err-TargetFault.field-0-is) in
     record {
       entry = c.loop-entry.entry;
-      listed = omega (arith, c.loop-entry-test.true, c.count-entry-end.ensures, ap count_of c.requires.listing);
+      listed = omega (arith, c.loop-entry-test.true, c.count-entry-end.ensures, ap count_of c.requires.dealt);
       was_open = open_before a.fates b.fates first.grows c.loop-entry.entry not_yet;
       before = λ i less. settled_on b.fates h.fates next.grows i (all_before i less);
       torn = f.0;
@@ -287,7 +287,7 @@ returns-in-Some-first-clause-ends g c =
       failed = λ is. absurd (fault_apart lost.entry lost.id lost.refused (sym c.fault-in-Some-first.ensures ∙ err_same _ _ is));
       left = inr (inr (λ i inside isnt.
           let gone = left_lost t.plan (LostTried g.S.Store g.V.View t tried a b) b.fates tried c.loop-entry.first c.loop-entry.entry c.loop-entry.invariant.tries i
-          (omega (arith, inside, c.loop-entry-test.false, c.count-entry-end.ensures, ap count_of c.requires.listing)) (omega (arith, inside, c.requires.ready.wants.size)) isnt in
+          (omega (arith, inside, c.loop-entry-test.false, c.count-entry-end.ensures, ap count_of c.requires.dealt)) (omega (arith, inside, c.requires.ready.wants.size)) isnt in
           (gone.0, gone.1, gone.2.0)));
       memory = λ is. absurd (memory_never lost.entry lost.id lost.refused was.0.0.had_memory (sym c.fault-in-Some-first.ensures ∙ err_same _ _ is));
     }
@@ -301,7 +301,7 @@ returns-in-Some-first-clause-exactly g c =
     λ cached maps nothing one. unless_any {A = Unit {0}} _ (Err c.fault-in-Some-first.result)
     (paid_all g.S.Store g.V.View t (is_tried tried) a b
     (λ w. tried_all t.listing t.plan a.fates b.fates tried c.loop-entry.entry w c.requires.ready.wants
-    (omega (arith, c.loop-entry-test.false, c.count-entry-end.ensures, ap count_of c.requires.listing)) c.loop-entry.invariant.tries.cover c.loop-entry.invariant.paid.untouched)
+    (omega (arith, c.loop-entry-test.false, c.count-entry-end.ensures, ap count_of c.requires.dealt)) c.loop-entry.invariant.tries.cover c.loop-entry.invariant.paid.untouched)
     c.loop-entry.invariant.paid cached maps nothing one)
 
 pub returns-clause-passes : goal.returns-clause-passes
@@ -318,5 +318,5 @@ returns-clause-exactly g c =
     let tried = c.loop-entry.tried.items in
     paid_all g.S.Store g.V.View t (is_tried tried) a b
     (λ w. tried_all t.listing t.plan a.fates b.fates tried c.loop-entry.entry w c.requires.ready.wants
-    (omega (arith, c.loop-entry-test.false, c.count-entry-end.ensures, ap count_of c.requires.listing)) c.loop-entry.invariant.tries.cover c.loop-entry.invariant.paid.untouched)
+    (omega (arith, c.loop-entry-test.false, c.count-entry-end.ensures, ap count_of c.requires.dealt)) c.loop-entry.invariant.tries.cover c.loop-entry.invariant.paid.untouched)
     c.loop-entry.invariant.paid

@@ -1,4 +1,4 @@
-use Rattle.std.proofs.Common.{◌≡◌, ◌⊎◌, ◌∙◌, ◌∷◌, ◌≤◌, ℕ, [], List, length, Result, Err, IfOk, IfSome, refl, inl, inr, sym, ap, subst, rules}
+use Rattle.std.proofs.Common.{◌≡◌, ◌⊎◌, ◌∙◌, ℕ, Err, IfOk, IfSome, refl, inl, inr, sym, ap, subst}
 use Rattle.assembler.proofs.Assembled.{assembled_none, assembles_none, told_as}
 use Rattle.image_assembly.proofs.OnePlan.{by_kit, head_same, kits_unused}
 use Rattle.assembler.specs.Assemblies.{Assembles, IsAssembled}
@@ -13,9 +13,9 @@ use Rattle.caibx_codec.specs.Listing.{Listing, count_of, image_length}
 use Rattle.chunk_sources.specs.Caches.{seen}
 use Rattle.chunk_sources.specs.Sources.{sources}
 use Rattle.chunk_sources.specs.declared.kit.Kit.{Kit}
-use Rattle.dsy_base.specs.Bytes.{Held, held_resized, resized}
+use Rattle.dsy_base.specs.Bytes.{held_resized, resized}
 use Rattle.dsy_base.specs.Counts.{Quiet, Rose}
-use Rattle.extract_plan.specs.Deal.{Deal, IsPlan}
+use Rattle.extract_plan.specs.Deal.{IsPlan}
 use Rattle.range_ledger.specs.Fills.{WhereTold}
 use Rattle.range_survey.specs.Reports.{right_below}
 use Rattle.image_assembly.proofs.assemble.assemble_named.Given.{Over}

@@ -1,4 +1,4 @@
-use Rattle.std.proofs.Common.{◌≡◌, ◌∙◌, ◌∷◌, ℕ, [], All, List, length, slice_set, sym, ap, subst, arith, rules}
+use Rattle.std.proofs.Common.{◌≡◌, ◌∙◌, ◌∷◌, ℕ, [], List, length, slice_set, sym, ap, subst, arith, rules}
 use Rattle.std.proofs.lemmas.List.{with_items_is}
 use Rattle.std.specs.Vec.{with_items}
 use Rattle.image_assembly.proofs.OnePlan.{all_alone, alone, alone_set, of_alone, same_plan}
@@ -7,7 +7,6 @@ use Rattle.caibx_codec.specs.Listing.{kind_of}
 use Rattle.chunk_sources.specs.declared.kit.Kit.{Kit}
 use Rattle.extract_plan.specs.Deal.{Deal, IsPlan}
 use Rattle.extract_plan.specs.Places.{PlacesKnown}
-use Rattle.image_assembly.proofs.prepare.prepare.Given.{Over}
 use Rattle.image_assembly.proofs.prepare.prepare.Goals.{In-Ok-survey_shards}
 use Rattle.image_assembly.proofs.prepare.prepare.Goals as goal
 

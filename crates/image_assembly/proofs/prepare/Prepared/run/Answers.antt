@@ -1,4 +1,4 @@
-use Rattle.std.proofs.Common.{◌≡◌, ◌∙◌, ◌+◌, ◌++◌, ◌∷◌, ◌<◌, ◌≤◌, ℕ, [], List, length, IfOk, IfSome, sym, ap, subst, arith, rules}
+use Rattle.std.proofs.Common.{◌≡◌, ◌∙◌, ◌+◌, ◌++◌, ◌∷◌, ◌<◌, ◌≤◌, ℕ, [], List, length, IfOk, IfSome, sym, ap, subst}
 use Rattle.image_assembly.proofs.OnePlan.{last_alone, none_left, of_alone, of_only}
 use Rattle.assembler.specs.Assemblies.{Assembles, IsAssembled}
 use Rattle.assembler.specs.Begun.{HasBegun}
