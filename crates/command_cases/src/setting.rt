@@ -15,6 +15,7 @@ pub fn file(world: &mut World, rest: &str) -> Result<(), Fail> {
     let (name, text) = parted(rest);
     let bytes = bytes_of(world.alloc, text)?;
     world
+        .memory
         .files
         .set_file(name, bytes, RangeFails::none(world.alloc))?;
     Ok(())
@@ -25,6 +26,7 @@ pub fn index(world: &mut World, rest: &str) -> Result<(), Fail> {
     let (name, pieces) = parted(rest);
     let bytes = index_of(world.alloc, pieces)?;
     world
+        .memory
         .files
         .set_file(name, bytes, RangeFails::none(world.alloc))?;
     Ok(())
