@@ -1,4 +1,5 @@
 pub mod Beside
+pub mod Going
 pub mod Moving
 pub mod OnePlan
 pub mod Permitting

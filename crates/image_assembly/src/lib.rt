@@ -7,4 +7,5 @@ pub mod fault;
 mod finish;
 mod lanes;
 pub mod prepare;
+mod together;
 mod workers;

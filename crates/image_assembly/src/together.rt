@@ -1,0 +1,125 @@
+//! An assembly by several workers, after its survey: a pass by all of them side by side, and a second pass by the first
+//! one. It takes no memory of its own.
+
+ghost use Rattle.std.specs.Prelude.{◌≡◌, ◌+◌, ◌<◌, ◌≤◌, ℕ, IfOk, None, [], false, length, replicate};
+ghost use Rattle.std.specs.Prelude.{slice_index_or, vec_capacity, vec_len};
+ghost use Rattle.std.specs.List.{All};
+ghost use Rattle.assembler.specs.Stages.{task};
+ghost use Rattle.caibx_codec.specs.Listing.{count_of, image_length};
+ghost use Rattle.chunk_sources.specs.Caches.{seen};
+ghost use Rattle.chunk_sources.specs.Sources.{sources};
+ghost use Rattle.chunk_sources.specs.declared.kit.Kit.{Kit};
+ghost use Rattle.dsy_base.specs.Bytes.{Held};
+ghost use Rattle.image_assembly.specs.Beside.{AssembledBeside, BegunBeside, FirstBeside, PermitsKit, WorkedBeside};
+ghost use Rattle.image_assembly.specs.Lanes.{IsReadyFor};
+
+use crate::finish::finish;
+use crate::lanes::{Lane, some_lacked};
+use crate::prepare::Assembled;
+use crate::workers::{kits_of, lanes_of, pass_all};
+use assembler::run::Ended;
+use assembler::work::Wants;
+use caibx_codec::index::Index;
+use chunk_sources::kit::Kit;
+use chunk_store::store::Store;
+use dsy_base::folder::Folder;
+use dsy_base::view::{Part, Target, View};
+use owned_shards::shards::{Shards, put_back};
+use range_ledger::run::RunName;
+use range_ledger::shard::Shard;
+use range_survey::fate::Fate;
+use std::sync::{Mutex, Wait};
+use std::thread::Threads;
+
+/// Room for the workers: for the locks, and for a lane and a list of fates for each kit.
+#[derive(Drop)]
+pub(crate) struct Rooms<'a, P: Part, R: RunName, S: Store, V: View> {
+    pub locks: Vec<Mutex<Shard<'a, P, R>>>,
+    pub lanes: Vec<Lane<S, V>>,
+    pub known: Vec<Vec<Fate>>,
+}
+
+/// Both passes: all workers, each with its kit, and then the first one. The kits come back in their order.
+pub(crate) fn run_workers<
+    'a,
+    W: Threads + Wait + Sync,
+    R: RunName + Send + Sync,
+    T: Target,
+    S: Store + Send,
+    V: View + Send,
+    F: Folder + Send + Sync,
+>(
+    rt: &W,
+    index: &'a Index,
+    wants: &Wants<'_>,
+    tried: Vec<bool>,
+    shards: Shards<'a, R, T>,
+    kits: Vec<Kit<S, V>>,
+    rooms: Rooms<'a, T::Piece, R, S, V>,
+) -> Assembled<T, S, V, F>
+where
+    T::Piece: Send,
+    requires dealt { index.now ≡ R.run.listing }
+    requires listing { wants.now.index.now ≡ R.run.listing }
+    requires fresh { tried.items ≡ replicate wants.now.plan.now.wants false }
+    requires tells { T.tells ≡ R.run.tells }
+    requires few { R.run.shards ≤ count_of R.run.listing }
+    requires any { 0 < count_of R.run.listing → 0 < R.run.shards }
+    requires unnamed { (F.pairs ≡ None) × (F.stores ≡ None) }
+    requires some { 0 < vec_len kits }
+    requires ready { (k : ℕ) (q : Kit S V) → k < length kits.items → IsReadyFor S.Store V.View R.run
+        (task R.run.listing wants.now) k (slice_index_or kits.items k q) shards.fates }
+    requires permits { (q : Kit S V) → PermitsKit S.Store V.View R.run (task R.run.listing wants.now)
+        (slice_index_or kits.items 0 q) }
+    requires none { (rooms.locks.items ≡ []) × (rooms.lanes.items ≡ []) }
+    requires locks { R.run.shards ≤ vec_capacity rooms.locks }
+    requires lanes { vec_len kits ≤ vec_capacity rooms.lanes }
+    requires size { vec_len rooms.known ≡ vec_len kits }
+    requires known { All (λ v. (v.items ≡ []) × (count_of R.run.listing ≤ vec_capacity v)) rooms.known.items }
+    ensures assembled { (old : Held) (f : ℕ) → BegunBeside R.run old f shards.entry → (q p : Kit S V) →
+        AssembledBeside S.Store V.View R.run (task R.run.listing wants.now) old.bytes (T.held result.target).bytes
+        (sources f (slice_index_or kits.items 0 q).seeds.items None (slice_index_or kits.items 0 q).chain)
+        (sources (T.faults result.target) (slice_index_or result.kits.items 0 p).seeds.items (seen F.Look result.cache)
+        (slice_index_or result.kits.items 0 p).chain) result.answer }
+    ensures first { (q p : Kit S V) → FirstBeside S.Store V.View R.run (task R.run.listing wants.now) T.never_fails
+        (slice_index_or kits.items 0 q) shards.entry.fates (slice_index_or result.kits.items 0 p) result.answer }
+    ensures others { (k : ℕ) (q p : Kit S V) → 0 < k → k < length kits.items → WorkedBeside S.Store V.View R.run
+        (task R.run.listing wants.now) T.never_fails k (slice_index_or kits.items k q) shards.entry.fates
+        (slice_index_or result.kits.items k p) result.answer }
+    ensures report { IfOk result.answer
+        (λ r. r.kept + r.copied + r.seeded + r.cached + r.fetched ≡ count_of R.run.listing) }
+    ensures kits { length result.kits.items ≡ length kits.items }
+    ensures size { (T.held result.target).size ≡ image_length R.run.listing }
+    ensures name { (T.held result.target).name ≡ shards.entry.held.name }
+{
+    let count = index.count();
+    let Rooms {
+        locks,
+        lanes,
+        known,
+    } = rooms;
+    let (room, lanes) = lanes_of(&shards, count, kits, known, lanes);
+    let mut lanes = lanes;
+    let shards = pass_all::<W, R, T, S, V, F>(rt, index, wants, shards, &mut lanes, locks);
+    // Only for its contract: it tells its bytes where the target does.
+    shards.keeps();
+    let lacked = some_lacked(&lanes);
+    let mut kits = kits_of(lanes, room);
+    let Some(kit) = kits.pop() else {
+        unreachable!();
+    };
+    let Ended {
+        target,
+        kit,
+        cache,
+        answer,
+    } = finish(wants, tried, shards, kit, lacked);
+    put_back(&mut kits, kit);
+    kits.reverse();
+    Assembled {
+        target,
+        kits,
+        cache,
+        answer,
+    }
+}
