@@ -6,7 +6,7 @@ ghost use Rattle.std.specs.Map.{count_at};
 ghost use Rattle.dsy_base.specs.Counts.{Rose, Counted};
 ghost use Rattle.dsy_base.specs.Slots.{counts_in};
 
-use crate::real_bytes::RealBytes;
+use crate::real_bytes::{RealBytes, size_to_read};
 use crate::real_folder::{RealFolder, RealInner, is_want_of_memory, put_file, remove_file};
 use dsy_base::fault::{IoFault, OpenFault};
 use dsy_base::files::Files;
@@ -204,10 +204,14 @@ impl<'a, R: System<File = File> + AllocGlobal + Clone + Drop> Files for RealFile
         let Ok(label) = named(self.alloc, &mut self.files, name) else {
             return Err(OpenFault::Memory);
         };
-        match stat(self.rt, name) {
-            Found::File(size) => Ok(RealBytes::new(self.rt, self.alloc, label, size)),
-            Found::Nothing => Err(OpenFault::Absent),
-            Found::Folder | Found::Other => {
+        let size = match stat(self.rt, name) {
+            Found::File(told) => size_to_read(self.rt, name, told).ok(),
+            Found::Nothing => return Err(OpenFault::Absent),
+            Found::Folder | Found::Other => None,
+        };
+        match size {
+            Some(size) => Ok(RealBytes::new(self.rt, self.alloc, label, size)),
+            None => {
                 fail(&mut self.files, name);
                 Err(OpenFault::Failed)
             }

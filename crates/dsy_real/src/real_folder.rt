@@ -4,7 +4,7 @@ ghost use Rattle.std.specs.Prelude.{◌≡◌, ◌≤◌, ◌↔◌, length, IfO
 ghost use Rattle.std.specs.IoError.{error_kind};
 ghost use Rattle.dsy_base.specs.Counts.{Rose};
 
-use crate::real_bytes::read_at;
+use crate::real_bytes::{read_at, size_to_read};
 use dsy_base::fault::{FileFault, IoFault, raise};
 use dsy_base::folder::Folder;
 use dsy_base::inner_folders::InnerFolders;
@@ -43,7 +43,10 @@ fn is_absence(error: &io::Error) -> bool {
 // The size of the file of this path. What is no file is refused before it is opened, since a pipe would wait.
 fn size_of<R: Files<File = File>>(rt: &R, path: &str) -> Result<u64, FileFault> {
     match fs::metadata(rt, path) {
-        Ok(metadata) if metadata.is_file() => Ok(metadata.len()),
+        Ok(metadata) if metadata.is_file() => match size_to_read(rt, path, metadata.len()) {
+            Ok(size) => Ok(size),
+            Err(_) => Err(FileFault::Failed),
+        },
         Ok(_) => Err(FileFault::Failed),
         Err(error) if is_absence(&error) => Err(FileFault::Absent),
         Err(_) => Err(FileFault::Failed),
