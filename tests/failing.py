@@ -118,9 +118,6 @@ class Scene:
     """A command in a folder. `changes` says which files of the folder it may change, as a function of the path and the
     bytes that are new there, or None where the file has gone."""
 
-    # Want of memory as INDEX is replaced is told as a fault of INDEX.
-    told_otherwise = (b'desync: new.caibx: failed\n',)
-
     def __init__(self, top, words, changes, done_but=()):
         self.top = top
         self.words = words
@@ -178,7 +175,7 @@ class Scene:
             self.judge('memory', ended, [next(iter(self.done_but), 'memory')])
         else:
             expect_equal(ended.status, 1, 'the status')
-            expect(ended.err in (b'', NO_MEMORY, *self.told_otherwise), f'the error line is {ended.err}')
+            expect(ended.err in (b'', NO_MEMORY), f'the error line is {ended.err}')
             if ended.err == b'':
                 expect(files_of(self.folder) == self.before, 'the files are others, and nothing is told')
             self.judge_left('memory')

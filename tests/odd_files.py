@@ -13,8 +13,8 @@ import sys
 import formats
 import program
 import servers
-from checks import (Cases, expect, expect_ended, expect_equal, expect_untouched, file_bytes, files_of, needs_program,
-                    put_file, snapshot)
+from checks import (Cases, Skip, expect, expect_ended, expect_equal, expect_untouched, file_bytes, files_of,
+                    needs_program, put_file, snapshot)
 from formats import ABC_INDEX, EMPTY_INDEX
 from replies import ABC, PATH, Wanted, put, refused, request, said_to
 from servers import ChunkServer
@@ -141,6 +141,21 @@ def removed(cases):
                 os.remove(place.path(CHUNK))
         os.mkdir(place.path(CHUNK))
         place.ends('cache -s all -c st a.caibx', 'the cache failed')
+
+
+def no_size(cases):
+    """A file that has bytes, of which the system says that it has none."""
+    with cases.case('IMAGE, INDEX or a chunk is a file in /proc') as folder:
+        if not os.path.isfile('/proc/version') or os.path.getsize('/proc/version') != 0:
+            raise Skip('there is no /proc/version of size 0')
+        place = Place(folder)
+        place.link('/proc/version', 'version')
+        for words in ('make -s st b.caibx version', 'verify-index none.caibx version', 'chop -s st none.caibx version'):
+            place.leaves(words, 'the image failed')
+        place.leaves('list-chunks version', 'version: failed')
+        place.link('/proc/version', CHUNK)
+        for words in ('extract -s st a.caibx o', 'chop -s st a.caibx img', 'verify -s st'):
+            place.leaves(words, FAILED)
 
 
 # Links to folders
@@ -279,7 +294,7 @@ def asked_paths(cases):
 def main():
     needs_program('odd_files')
     cases = Cases('odd_files')
-    for group in (at_a_chunk, removed, folder_links, planted, listed_names, asked_paths):
+    for group in (at_a_chunk, removed, no_size, folder_links, planted, listed_names, asked_paths):
         group(cases)
     return cases.end()
 

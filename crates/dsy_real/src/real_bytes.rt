@@ -1,6 +1,7 @@
 //! Files of the operating system that are read and written by place. Offsets are bytes from 0.
 
-ghost use Rattle.std.specs.Prelude.{◌≡◌, None, false};
+ghost use Rattle.std.specs.Prelude.{◌≡◌, ◌↔◌, None, false, IfOk, IsErrAnd, IsTrue};
+ghost use Rattle.std.specs.IoError.{error_kind};
 ghost use Rattle.std.specs.List.{sum_by};
 ghost use Rattle.dsy_base.specs.Counts.{raised};
 ghost use Rattle.dsy_base.specs.Splits.{joined, held_joined};
@@ -11,6 +12,7 @@ use dsy_base::name::Name;
 use dsy_base::view::{Part, Target, View};
 use std::alloc::Global;
 use std::fs::{File, OpenOptions};
+use std::io::ErrorKind;
 use std::os::unix::fs::FileExt;
 use std::rt::Files;
 use std::{fs, io};
@@ -34,6 +36,28 @@ pub(crate) fn read_at<R: Files<File = File>>(
 ) -> io::Result<()> {
     let file = fs::open(rt, name)?;
     file.read_exact_at(out, at)
+}
+
+// Whether a read of the first byte has met the end of the file.
+fn is_at_end(read: io::Result<()>) -> bool
+    ensures exactly { IsTrue result ↔ IsErrAnd read (λ e. error_kind e ≡ ErrorKind.UnexpectedEof) }
+{
+    match read {
+        Ok(()) => false,
+        Err(error) => error.kind() == ErrorKind::UnexpectedEof,
+    }
+}
+
+/// The size of a file that is read, where the system says `told`. Many files in /proc have bytes and are said to have
+/// none. Their size isn't known, so a file of no bytes is read once, and refused if a byte comes.
+pub(crate) fn size_to_read<R: Files<File = File>>(rt: &R, name: &str, told: u64) -> io::Result<u64>
+    ensures value { IfOk result (λ n. n ≡ told) }
+{
+    let mut first = [0; 1];
+    if told > 0 || is_at_end(read_at(rt, name, 0, &mut first)) {
+        return Ok(told);
+    }
+    Err(io::Error::from(ErrorKind::Other))
 }
 
 fn write_at<R: Files<File = File>>(rt: &R, name: &str, at: u64, b: &[u8]) -> io::Result<()> {

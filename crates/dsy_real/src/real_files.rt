@@ -1,12 +1,13 @@
 //! Files and folders of the operating system by their names. They don't tell contracts what they hold.
 
-ghost use Rattle.std.specs.Prelude.{◌≡◌, IfOk, IsSome, OnOk};
+ghost use Rattle.std.specs.Prelude.{◌≡◌, ◌↔◌, IfOk, IsSome, OnOk};
+ghost use Rattle.std.specs.IoError.{error_kind};
 ghost use Rattle.std.specs.Map.{count_at};
 ghost use Rattle.dsy_base.specs.Counts.{Rose, Counted};
 ghost use Rattle.dsy_base.specs.Slots.{counts_in};
 
-use crate::real_bytes::RealBytes;
-use crate::real_folder::{RealFolder, RealInner, put_file, remove_file};
+use crate::real_bytes::{RealBytes, size_to_read};
+use crate::real_folder::{RealFolder, RealInner, is_want_of_memory, put_file, remove_file};
 use dsy_base::fault::{IoFault, OpenFault};
 use dsy_base::files::Files;
 use dsy_base::image_files::ImageFiles;
@@ -147,6 +148,23 @@ fn fail(slots: &mut Slots<()>, name: &str)
     count(slots, name, 1);
 }
 
+// What an error of the system is: want of memory, or a fault of the name, which is counted.
+fn fault_of(slots: &mut Slots<()>, name: &str, error: &io::Error) -> IoFault
+    requires { IsSome (counts_in slots.old name.now) }
+    ensures counts { Counted (counts_in slots.old) (counts_in slots.new) name.now }
+    ensures cause { result ≡ IoFault.Failed
+        → Rose (count_at (counts_in slots.old) name.now) (count_at (counts_in slots.new) name.now) }
+    ensures kept { result ≡ IoFault.Memory
+        → count_at (counts_in slots.new) name.now ≡ count_at (counts_in slots.old) name.now }
+    ensures exactly { (result ≡ IoFault.Memory) ↔ (error_kind error.now ≡ ErrorKind.OutOfMemory) }
+{
+    if is_want_of_memory(error) {
+        return IoFault::Memory;
+    }
+    fail(slots, name);
+    IoFault::Failed
+}
+
 impl<'a, R: System<File = File>> RealFiles<'a, R> {
     pub fn new(rt: &'a R, alloc: Global) -> RealFiles<'a, R> {
         RealFiles {
@@ -186,10 +204,14 @@ impl<'a, R: System<File = File> + AllocGlobal + Clone + Drop> Files for RealFile
         let Ok(label) = named(self.alloc, &mut self.files, name) else {
             return Err(OpenFault::Memory);
         };
-        match stat(self.rt, name) {
-            Found::File(size) => Ok(RealBytes::new(self.rt, self.alloc, label, size)),
-            Found::Nothing => Err(OpenFault::Absent),
-            Found::Folder | Found::Other => {
+        let size = match stat(self.rt, name) {
+            Found::File(told) => size_to_read(self.rt, name, told).ok(),
+            Found::Nothing => return Err(OpenFault::Absent),
+            Found::Folder | Found::Other => None,
+        };
+        match size {
+            Some(size) => Ok(RealBytes::new(self.rt, self.alloc, label, size)),
+            None => {
                 fail(&mut self.files, name);
                 Err(OpenFault::Failed)
             }
@@ -229,10 +251,7 @@ impl<'a, R: System<File = File> + AllocGlobal + Clone + Drop> Files for RealFile
         }
         match replace_file(self.rt, name, b) {
             Ok(()) => Ok(()),
-            Err(_) => {
-                fail(&mut self.files, name);
-                Err(IoFault::Failed)
-            }
+            Err(error) => Err(fault_of(&mut self.files, name, &error)),
         }
     }
 
@@ -241,15 +260,14 @@ impl<'a, R: System<File = File> + AllocGlobal + Clone + Drop> Files for RealFile
             return Err(OpenFault::Memory);
         }
         let renamed = match stat(self.rt, from) {
-            Found::File(_) => rename_file(self.rt, from, to).is_ok(),
+            Found::File(_) => rename_file(self.rt, from, to),
             Found::Nothing => return Err(OpenFault::Absent),
-            Found::Folder | Found::Other => false,
+            Found::Folder | Found::Other => Err(io::Error::from(ErrorKind::Other)),
         };
-        if !renamed {
-            fail(&mut self.files, to);
-            return Err(OpenFault::Failed);
+        match renamed {
+            Ok(()) => Ok(()),
+            Err(error) => Err(fault_of(&mut self.files, to, &error).into()),
         }
-        Ok(())
     }
 
     fn remove(&mut self, name: &str) -> Result<(), OpenFault> {

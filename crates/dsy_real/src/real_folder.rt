@@ -1,9 +1,10 @@
 //! Folders of the operating system. The files of a folder have names relative to it, with at most one `/`.
 
-ghost use Rattle.std.specs.Prelude.{◌≡◌, ◌≤◌, length, IfOk};
+ghost use Rattle.std.specs.Prelude.{◌≡◌, ◌≤◌, ◌↔◌, length, IfOk, IsTrue};
+ghost use Rattle.std.specs.IoError.{error_kind};
 ghost use Rattle.dsy_base.specs.Counts.{Rose};
 
-use crate::real_bytes::read_at;
+use crate::real_bytes::{read_at, size_to_read};
 use dsy_base::fault::{FileFault, IoFault, raise};
 use dsy_base::folder::Folder;
 use dsy_base::inner_folders::InnerFolders;
@@ -42,7 +43,10 @@ fn is_absence(error: &io::Error) -> bool {
 // The size of the file of this path. What is no file is refused before it is opened, since a pipe would wait.
 fn size_of<R: Files<File = File>>(rt: &R, path: &str) -> Result<u64, FileFault> {
     match fs::metadata(rt, path) {
-        Ok(metadata) if metadata.is_file() => Ok(metadata.len()),
+        Ok(metadata) if metadata.is_file() => match size_to_read(rt, path, metadata.len()) {
+            Ok(size) => Ok(size),
+            Err(_) => Err(FileFault::Failed),
+        },
         Ok(_) => Err(FileFault::Failed),
         Err(error) if is_absence(&error) => Err(FileFault::Absent),
         Err(_) => Err(FileFault::Failed),
@@ -239,13 +243,21 @@ pub(crate) fn remove_file<R: Files<File = File>>(rt: &R, path: &str) -> Result<b
     }
 }
 
+/// Whether the error is want of memory, which is no fault of the file.
+pub(crate) fn is_want_of_memory(error: &io::Error) -> bool
+    ensures exactly { IsTrue result ↔ (error_kind error.now ≡ ErrorKind.OutOfMemory) }
+{
+    error.kind() == ErrorKind::OutOfMemory
+}
+
 // What an error of the system is: want of memory, or a fault, which is counted.
 fn fault_of(error: &io::Error, faults: &mut u64) -> IoFault
     ensures faults { faults.old ≤ faults.new }
     ensures cause { result ≡ IoFault.Failed → Rose faults.old faults.new }
     ensures only { result ≡ IoFault.Memory → faults.new ≡ faults.old }
+    ensures exactly { (result ≡ IoFault.Memory) ↔ (error_kind error.now ≡ ErrorKind.OutOfMemory) }
 {
-    if error.kind() == ErrorKind::OutOfMemory {
+    if is_want_of_memory(error) {
         return IoFault::Memory;
     }
     *faults = raise(*faults, 1);

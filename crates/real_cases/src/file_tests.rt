@@ -2,7 +2,7 @@
 
 ghost use Rattle.std.specs.Prelude.{◌≡◌};
 
-use crate::fresh_folder::{fresh_folder, inside};
+use crate::fresh_folder::{SIZELESS, fresh_folder, inside, is_sizeless};
 use dsy_base::fault::{IoFault, OpenFault};
 use dsy_base::files::Files;
 use dsy_base::view::{Target, View};
@@ -61,6 +61,14 @@ fn remove(files: &mut RealFiles<HostRuntime>, name: &str) -> Result<(), OpenFaul
 // Why no view of the file is had.
 fn no_view(files: &mut RealFiles<HostRuntime>, name: &str) -> Option<OpenFault> {
     files.view(name).err()
+}
+
+// The size of the file, where a view of it is had.
+fn size_of(files: &mut RealFiles<HostRuntime>, name: &str) -> Option<u64> {
+    let view = files.view(name).ok()?;
+    let size = view.size();
+    files.end_view(view);
+    Some(size)
 }
 
 // Why no look at the folder is had.
@@ -160,6 +168,19 @@ fn what_stands_under_a_name_decides(rt: HostRuntime) {
     assert!(rt; remove(&mut files, folder.as_str()) == Err(OpenFault::Failed));
     assert!(rt; remove(&mut files, name.as_str()).is_ok());
     assert!(rt; remove(&mut files, name.as_str()) == Err(OpenFault::Absent));
+    assert!(rt; fs::remove_dir_all(&rt, folder.as_str()).is_ok());
+}
+
+#[test]
+fn an_empty_file_is_viewed_but_none_that_has_bytes_and_no_size(rt: HostRuntime) {
+    let folder = fresh_folder(&rt, "empty").expect(&rt, "no folder");
+    let name = inside(&rt, folder.as_str(), "file").expect(&rt, "no memory");
+    let mut files = RealFiles::new(&rt, rt.alloc());
+    assert!(rt; replace(&mut files, name.as_str(), b"").is_ok());
+    assert!(rt; size_of(&mut files, name.as_str()) == Some(0));
+    if is_sizeless(&rt, SIZELESS) {
+        assert!(rt; no_view(&mut files, SIZELESS) == Some(OpenFault::Failed));
+    }
     assert!(rt; fs::remove_dir_all(&rt, folder.as_str()).is_ok());
 }
 

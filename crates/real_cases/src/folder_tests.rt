@@ -2,9 +2,9 @@
 
 ghost use Rattle.std.specs.Prelude.{◌≡◌};
 
-use crate::fresh_folder::{fresh_folder, inside};
+use crate::fresh_folder::{SIZELESS, fresh_folder, inside, is_sizeless};
 use chunk_store::id::ChunkId;
-use dsy_base::fault::IoFault;
+use dsy_base::fault::{FileFault, IoFault};
 use dsy_base::files::Files;
 use dsy_base::folder::Folder;
 use dsy_base::image_files::ImageFiles;
@@ -12,6 +12,7 @@ use dsy_base::inner_folders::InnerFolders;
 use dsy_base::look::Look;
 use dsy_real::real_files::RealFiles;
 use std::fs;
+use std::os::unix::fs::symlink;
 use std::process::Abort;
 
 // What is put last under a name is read from there.
@@ -66,6 +67,41 @@ fn a_folder_holds_what_was_put(rt: HostRuntime) {
         .ok()
         .expect(&rt, "not taken");
     holds_what_is_put(&rt, &mut folder);
+    files.give_folder(path.as_str(), folder);
+    assert!(rt; fs::remove_dir_all(&rt, path.as_str()).is_ok());
+}
+
+fn reads_an_empty_file<D: Folder, R: Abort>(rt: &R, folder: &mut D)
+    ensures place { D.place folder.new ≡ D.place folder.old }
+{
+    let mut bytes = [0; 4];
+    assert!(rt; folder.put("ab/cd", b"").is_ok());
+    assert!(rt; folder.read("ab/cd", &mut bytes) == Ok(0));
+}
+
+// The file can't be read, though it is there.
+fn refuses_to_read<D: Folder, R: Abort>(rt: &R, folder: &mut D, name: &str)
+    ensures place { D.place folder.new ≡ D.place folder.old }
+{
+    let mut bytes = [0; 4];
+    assert!(rt; folder.has(name) == Ok(true));
+    assert!(rt; folder.read(name, &mut bytes) == Err(FileFault::Failed));
+}
+
+#[test]
+fn an_empty_file_is_read_but_none_that_has_bytes_and_no_size(rt: HostRuntime) {
+    let path = fresh_folder(&rt, "sizeless").expect(&rt, "no folder");
+    let link = inside(&rt, path.as_str(), "link").expect(&rt, "no memory");
+    assert!(rt; symlink(&rt, SIZELESS, link.as_str()).is_ok());
+    let mut files = RealFiles::new(&rt, rt.alloc());
+    let mut folder = files
+        .take_folder(path.as_str())
+        .ok()
+        .expect(&rt, "not taken");
+    reads_an_empty_file(&rt, &mut folder);
+    if is_sizeless(&rt, SIZELESS) {
+        refuses_to_read(&rt, &mut folder, "link");
+    }
     files.give_folder(path.as_str(), folder);
     assert!(rt; fs::remove_dir_all(&rt, path.as_str()).is_ok());
 }

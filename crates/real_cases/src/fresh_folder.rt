@@ -1,8 +1,20 @@
-//! A new folder for one test, under the system's temporary folder.
+//! The files and folders of tests: a new folder for one test, under the system's temporary folder, and a file of Linux
+//! that has bytes and no size.
 
 use std::alloc::AllocError;
 use std::io::ErrorKind;
 use std::{env, fs, io};
+
+/// A file that has bytes, of which Linux says that it has none.
+pub const SIZELESS: &str = "/proc/version";
+
+/// Whether the system says that such a file is there.
+pub fn is_sizeless(rt: &HostRuntime, path: &str) -> bool {
+    match fs::metadata(rt, path) {
+        Ok(metadata) => metadata.is_file() && metadata.len() == 0,
+        Err(_) => false,
+    }
+}
 
 /// The path of this name in the folder.
 pub fn inside(rt: &HostRuntime, folder: &str, name: &str) -> Result<String, AllocError> {
