@@ -28,6 +28,7 @@ use owned_shards::shards::{Shards, put_back};
 use range_ledger::run::RunName;
 use range_ledger::shard::Shard;
 use range_survey::fate::Fate;
+use std::alloc::{AllocError, Global};
 use std::sync::{Mutex, Wait};
 use std::thread::Threads;
 
@@ -37,6 +38,35 @@ pub(crate) struct Rooms<'a, P: Part, R: RunName, S: Store, V: View> {
     pub locks: Vec<Mutex<Shard<'a, P, R>>>,
     pub lanes: Vec<Lane<S, V>>,
     pub known: Vec<Vec<Fate>>,
+}
+
+impl<'a, P: Part, R: RunName, S: Store, V: View> Rooms<'a, P, R, S, V> {
+    /// Takes the room for so many shards, workers and entries.
+    pub(crate) fn of(
+        alloc: Global,
+        shards: usize,
+        workers: usize,
+        entries: usize,
+    ) -> Result<Rooms<'a, P, R, S, V>, AllocError>
+        ensures none { IfOk result (λ r. (r.locks.items ≡ []) × (r.lanes.items ≡ [])) }
+        ensures locks { IfOk result (λ r. shards ≤ vec_capacity r.locks) }
+        ensures lanes { IfOk result (λ r. workers ≤ vec_capacity r.lanes) }
+        ensures size { IfOk result (λ r. vec_len r.known ≡ workers) }
+        ensures known { IfOk result
+            (λ r. All (λ v. (v.items ≡ []) × (entries ≤ vec_capacity v)) r.known.items) }
+    {
+        let locks = Vec::with_capacity(alloc, shards)?;
+        let lanes = Vec::with_capacity(alloc, workers)?;
+        let mut known = Vec::new(alloc);
+        for _ in 0..workers {
+            known.push(Vec::with_capacity(alloc, entries)?)?;
+        }
+        Ok(Rooms {
+            locks,
+            lanes,
+            known,
+        })
+    }
 }
 
 /// Both passes: all workers, each with its kit, and then the first one. The kits come back in their order.
