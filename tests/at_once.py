@@ -233,7 +233,8 @@ def memory_at_once(cases, folder):
             runs = [threads.submit(ask_in_turns, server, seed, held, requests // 16) for seed in range(16)]
             all_of([*runs, *(threads.submit(come_and_go, server, connections // 16) for _ in range(16))])
 
-        turns(16_000, 1_600)
+        # The allocator keeps what the buffers of connections at once have taken, up to where this no longer grows.
+        turns(48_000, 5_000)
         before = taken_by(server.process.pid)
         turns(96_000, 10_000)
         after = taken_by(server.process.pid)
