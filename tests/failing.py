@@ -488,7 +488,8 @@ def first_said(server, process):
 
 
 def accepting_fails(cases, shim):
-    for error in (errno.EINTR, errno.ECONNABORTED, errno.ECONNRESET):
+    for error in (errno.EINTR, errno.ECONNABORTED, errno.ECONNRESET, errno.EMFILE, errno.ENFILE, errno.ENOBUFS,
+                  errno.ENOMEM):
         with cases.case(f'chunk-server goes on where accepting fails with {errno.errorcode[error]}') as top:
             os.mkdir(os.path.join(top, 'st'))
             environment = shim.environment('accept', 0, error, False, os.path.join(top, 'told'))
@@ -501,7 +502,7 @@ def accepting_fails(cases, shim):
             os.mkdir(os.path.join(top, 'st'))
             told = os.path.join(top, 'told')
             words = ['chunk-server', '-s', 'st', '-n', workers, '-l', f'127.0.0.1:{servers.free_port()}']
-            ended = program.run(words, top, shim.environment('accept', 0, errno.EMFILE, False, told))
+            ended = program.run(words, top, shim.environment('accept', 0, errno.EINVAL, False, told))
             expect_ended(ended, 'the listener failed')
 
 

@@ -37,9 +37,9 @@ def run(words, folder, environment=None, lower=None):
     return _ended(subprocess.Popen([DESYNC, *words], cwd=folder, env=environment, preexec_fn=lower, **_streams()))
 
 
-def start(words, folder, environment=None):
-    """Starts the program in a folder; `ended` waits for it."""
-    return subprocess.Popen([DESYNC, *words], cwd=folder, env=environment, **_streams())
+def start(words, folder, environment=None, lower=None):
+    """Starts the program in a folder; `ended` waits for it. `lower` is called before."""
+    return subprocess.Popen([DESYNC, *words], cwd=folder, env=environment, preexec_fn=lower, **_streams())
 
 
 def ended(process):

@@ -7,6 +7,7 @@ of the request's bytes; `static` and `nginx` serve a folder as files; `chunk_ser
 import contextlib
 import os
 import re
+import resource
 import shutil
 import socket
 import subprocess
@@ -242,11 +243,13 @@ def nginx_of(server, port, top, workers=1):
 class ChunkServer:
     """`desync chunk-server` over a store in a folder, with more words. It listens at a port of the host `host`, where
     it is reached at `address`, and ends with its `with`: up to then it is to run, and it is to say nothing. It has the
-    caller's environment where none is given."""
+    caller's environment where none is given, and may open so many files at once, if that is said."""
 
-    def __init__(self, folder, *words, store='st', host='127.0.0.1', address='127.0.0.1', port=None, environment=None):
+    def __init__(self, folder, *words, store='st', host='127.0.0.1', address='127.0.0.1', port=None, environment=None,
+                 files=None):
         self.folder = folder
         self.environment = environment
+        self.lower = files and (lambda: resource.setrlimit(resource.RLIMIT_NOFILE, (files, files)))
         self.address = address
         self.port = port or free_port()
         self.words = ['chunk-server', '-s', store, '-l', f'{host}:{self.port}', *words]
@@ -259,7 +262,7 @@ class ChunkServer:
         return socket.create_connection((self.address, self.port), SECONDS)
 
     def __enter__(self):
-        self.process = program.start(self.words, self.folder, self.environment)
+        self.process = program.start(self.words, self.folder, self.environment, self.lower)
         for _ in range(20 * SECONDS):
             if self.process.poll() is not None:
                 raise AssertionError(f'{self.words} has ended: {program.ended(self.process).err!r}')

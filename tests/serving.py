@@ -85,6 +85,21 @@ def taken_by(number):
         return len(os.listdir(f'/proc/{number}/fd')), int(re.search(r'^Rss: +(\d+) kB$', file.read(), re.MULTILINE)[1])
 
 
+# Few files
+
+def few_files(cases, folder):
+    """Connections for which the server may open no file wait until others have ended."""
+    lay_out(folder)
+    with cases.case('40 connections at once to a server that may open 12 files'), \
+            ChunkServer(folder, files=12) as server, contextlib.ExitStack() as kept:
+        peers = [kept.enter_context(server.connect()) for _ in range(40)]
+        for peer in peers:
+            peer.sendall(request('GET', '/', 'Connection: close'))
+            expect_equal(to_the_end(peer), Wanted(404, closes=True).bytes, 'the reply')
+            peer.close()
+        expect_equal(said_to(server, GET_ABC), GIVES_ABC.bytes, 'the reply when they have ended')
+
+
 # Addresses
 
 def addresses(cases, folder):
@@ -395,7 +410,7 @@ def main():
         holding_up.begin(HELD, 80)
         if sys.argv[1:] == ['--slow']:
             holding_up.begin(SLOWLY_HELD, 400)
-        for group in (*replies.GROUPS, *at_once.GROUPS, memory, addresses, by_curl):
+        for group in (*replies.GROUPS, *at_once.GROUPS, memory, few_files, addresses, by_curl):
             folder = os.path.join(cases.top, group.__name__)
             os.mkdir(folder)
             group(cases, folder)

@@ -7,9 +7,22 @@ use crate::real_link::RealLink;
 use dsy_base::fault::{IoFault, raise};
 use dsy_base::link::Link;
 use dsy_base::listen::Listen;
-use std::io;
 use std::io::ErrorKind;
 use std::net::{Net, OpenListener, TcpListener, ToSocketAddrs};
+use std::time::{Clock, Duration};
+use std::{io, thread};
+
+// Errors of accept(2) on Linux: no memory, no file for the system or for the program, no buffer.
+const ENOMEM: i32 = 12;
+
+const ENFILE: i32 = 23;
+
+const EMFILE: i32 = 24;
+
+const ENOBUFS: i32 = 105;
+
+// How many milliseconds pass until a connection is asked for again that there was no file or memory for.
+const MILLISECONDS_TO_PAUSE: u64 = 100;
 
 /// What clients connect to over TCP: nothing, until it listens at an address.
 #[derive(Drop)]
@@ -79,8 +92,17 @@ fn is_passing(error: &io::Error) -> bool {
     )
 }
 
+// Whether the system had no file or no memory for the connection, which waits in the listener's queue meanwhile: there
+// is some again once others have ended.
+fn is_want(error: &io::Error) -> bool {
+    matches!(
+        error.raw_os_error(),
+        Some(ENOMEM | ENFILE | EMFILE | ENOBUFS)
+    )
+}
+
 // The next connection that can be had.
-fn accept_next<R: Net>(listener: &R::Listener) -> io::Result<RealLink<R::Stream>>
+fn accept_next<R: Net + Clock>(rt: &R, listener: &R::Listener) -> io::Result<RealLink<R::Stream>>
     ensures faults { IfOk result (λ l. l.faults ≡ 0) }
 {
     for _ in 0..u64::MAX {
@@ -91,13 +113,16 @@ fn accept_next<R: Net>(listener: &R::Listener) -> io::Result<RealLink<R::Stream>
                 }
             }
             Err(error) if is_passing(&error) => {}
+            Err(error) if is_want(&error) => {
+                thread::sleep(rt, Duration::from_millis(MILLISECONDS_TO_PAUSE));
+            }
             Err(error) => return Err(error),
         }
     }
     Err(io::Error::from(ErrorKind::Interrupted))
 }
 
-impl<R: Net> Listen for RealListen<'_, R> {
+impl<R: Net + Clock> Listen for RealListen<'_, R> {
     ghost use Rattle.std.specs.Prelude.{None, false, refl};
 
     type Link = RealLink<R::Stream>;
@@ -121,7 +146,7 @@ impl<R: Net> Listen for RealListen<'_, R> {
 
     fn accept(&mut self) -> Result<Option<RealLink<R::Stream>>, IoFault> {
         let accepted = match &self.listener {
-            Some(listener) => accept_next::<R>(listener),
+            Some(listener) => accept_next(self.rt, listener),
             None => Err(io::Error::from(ErrorKind::NotConnected)),
         };
         match accepted {
