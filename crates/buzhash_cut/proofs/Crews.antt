@@ -1,10 +1,10 @@
 -- The workers of one image, by their places.
-use Rattle.std.proofs.Common.{◌≡◌, ℕ, ◌+◌, ◌-◌, ◌<◌, ◌≤◌, List, [], ◌∷◌, ◌++◌, length, map, reverse, take, slice_index, slice_index_or, All, sym, ap, subst, ◌∙◌, arith, inl, inr, length-append, Option, IfSome, Result, Ok, Err, IfOk, IfErr}
+use Rattle.std.proofs.Common.{◌≡◌, ℕ, ◌+◌, ◌-◌, ◌<◌, ◌≤◌, List, [], ◌∷◌, ◌++◌, length, map, reverse, take, slice_index, slice_index_or, All, sym, ap, subst, ◌∙◌, arith, inl, inr, length-append, Option, IfSome, Result, Ok, Err, IfOk, IfErr, OnOk}
 use Rattle.std.proofs.lemmas.Bool.{cases_lt}
 use Rattle.std.proofs.lemmas.List.{get_or-map, get_or-reverse, take-append-le, take_all, get_or_append_left, get_or-append-add, get_or_past, length-map, length-reverse, map-append, reverse-append}
 use Rattle.buzhash_cut.specs.Entries.{AreAll, AreEntries, AreTooMany, IsEntryRun}
 use Rattle.buzhash_cut.specs.Image.{AreOfOneImage, CountsViews, HasTooManyCuts}
-use Rattle.buzhash_cut.specs.Runs.{AreRuns, HasCut, HasCutFirst}
+use Rattle.buzhash_cut.specs.Runs.{AreRuns, HasCut, HasCutFirst, Slices}
 use Rattle.chunk_ends.specs.Sizes.{Sizes}
 use Rattle.buzhash_cut.specs.declared.image.CutFault.{CutFault}
 use Rattle.buzhash_cut.specs.declared.image.CutFault.TheVariants as faults
@@ -116,6 +116,10 @@ module _ {V : Type 0} (held : V → Held) (failed : V → ℕ) (s : Sizes) (olds
   pub first_many : ((d : W) → HasCutFirst held failed s (slice_index_or lent (length lent - 1) d) (slice_index_or mids (length lent - 1) d))
       → IfErr m.end (λ f. f ≡ faults.TooManyItems → AreTooMany s (H m))
   first_many cut = subst (λ (h : Held). IfErr m.end (λ f. f ≡ faults.TooManyItems → AreTooMany s h)) held_first (first_cut cut).many
+
+  pub first_slices : ((d : W) → HasCutFirst held failed s (slice_index_or lent (length lent - 1) d) (slice_index_or mids (length lent - 1) d))
+      → OnOk m.end (Slices s (H m).size m.slicer)
+  first_slices cut = subst (λ (h : Held). OnOk m.end (Slices s h.size m.slicer)) held_first (first_cut cut).slices
 
   -- and the others
   pub others_cut : ((k : ℕ) (d : W) → k < length lent → HasCut held failed s (slice_index_or lent k d) (slice_index_or mids k d)) → All (λ w. AreRuns s (H m) w.runs.items) rest

@@ -1,19 +1,26 @@
 -- What workers cut of an image, the first one from 0 on and each other one from other places on.
-use Rattle.std.specs.Prelude.{◌≡◌, ℕ, ◌≤◌, List, [], length, All, IfOk, IfErr}
+use Rattle.std.specs.Prelude.{◌≡◌, ℕ, ◌≤◌, List, Option, [], length, All, IfOk, IfErr, IfSome, OnOk}
 use Rattle.buzhash_cut.specs.Entries.{AreEntries, AreTooMany, IsEntryRun}
+use Rattle.buzhash_cut.specs.Slicing.{IsWithin}
 use Rattle.caibx_fields.specs.Limits.{item_limit}
 use Rattle.chunk_ends.specs.Sizes.{Sizes}
 use Rattle.buzhash_cut.specs.declared.image.CutFault.TheVariants as faults
 use Rattle.buzhash_cut.specs.declared.run.Run.{Run}
+use Rattle.buzhash_cut.specs.declared.slicer.Slicer.{Slicer}
 use Rattle.buzhash_cut.specs.declared.worker.Worker.{Worker}
 use Rattle.caibx_codec.specs.Seen.{pairs}
 use Rattle.dsy_base.specs.Bytes.{Held}
 use Rattle.dsy_base.specs.Counts.{CountsFaults}
 
--- it has cut nothing
-pub record IsReady {V : Type 0} (w : Worker V) : Type 0 where
+-- the slicer, if there is one, cuts by these sizes, and has room for the chunks of an image of so many bytes
+abbrev pub Slices : Sizes → ℕ → Option Slicer → Type 0
+Slices s size o = IfSome o (λ c. (c.cutter.sizes ≡ s) × IsWithin c size)
+
+-- it has cut nothing, and its slicer, if it has one, cuts what its view holds
+pub record IsReady {V : Type 0} (held : V → Held) (s : Sizes) (w : Worker V) : Type 0 where
   pub entries : w.entries.items ≡ []
   pub runs : w.runs.items ≡ []
+  pub slices : Slices s (held w.view).size w.slicer
 
 -- each of these was cut from its start on
 abbrev pub AreRuns : Sizes → Held → List Run → Type 0
@@ -33,4 +40,5 @@ module _ {V : Type 0} (held : V → Held) (failed : V → ℕ) (s : Sizes) (old 
         × AreEntries s (held old.view).bytes 0 (pairs new.entries.items) e)
     pub few : length (pairs new.entries.items) ≤ item_limit
     pub many : IfErr new.end (λ f. f ≡ faults.TooManyItems → AreTooMany s (held old.view))
+    pub slices : OnOk new.end (Slices s (held old.view).size new.slicer)
     pub counts : CountsFaults faults.ImageFault faults.Memory (failed old.view) (failed new.view) new.end

@@ -46,7 +46,7 @@ fn index_by<R: Threads + Sync, V: View + Send>(
 ) -> Result<Index, CutFault>
     requires some { 0 < vec_len workers.old }
     requires alike { AreOfOneImage (map (λ w. V.held w.view) workers.old.items) }
-    requires none { All IsReady workers.old.items }
+    requires none { All (IsReady V.held sizes.now) workers.old.items }
     ensures exactly { All (λ h. IfSome h.bytes (λ t. IndexGiven sizes.now t result))
         (map (λ w. V.held w.view) workers.old.items) }
     ensures size { IfOk result (λ l. All (λ h. image_length l ≡ h.size) (map (λ w. V.held w.view) workers.old.items)) }
@@ -91,7 +91,7 @@ pub fn index_view<R: Threads + Sync, V: View + Send>(
     let Ok(mut workers) = Vec::with_capacity(alloc, views.len()) else {
         return (views, Err(CutFault::Memory));
     };
-    hire(alloc, &mut views, &mut workers);
+    hire(alloc, sizes, &mut views, &mut workers);
     let made = index_by(rt, alloc, &mut workers, sizes);
     dismiss(&mut workers, &mut views);
     (views, made)

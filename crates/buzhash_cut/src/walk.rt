@@ -2,7 +2,7 @@
 
 ghost use Rattle.std.specs.Prelude.{◌≡◌, ℕ, ◌<◌, ◌≤◌, length, All, IfOk, IfErr, IfSome, OnOk};
 ghost use Rattle.buzhash_cut.specs.Entries.{AreAll, AreEntries, AreTooMany, IsEntryRun};
-ghost use Rattle.buzhash_cut.specs.Runs.{AreRuns};
+ghost use Rattle.buzhash_cut.specs.Runs.{AreRuns, Slices};
 ghost use Rattle.caibx_fields.specs.Limits.{item_limit};
 ghost use Rattle.chunk_ends.specs.Sizes.{Sizes};
 ghost use Rattle.buzhash_cut.specs.Slicing.{IsWithin};
@@ -114,32 +114,27 @@ fn walk_on<V: View>(
 
 // Goes on to the end of the image.
 fn walk<V: View>(
-    alloc: Global,
     view: &mut V,
-    sizes: &CutSizes,
+    slicer: &mut Slicer,
     others: &[Worker<V>],
     begun: u64,
     entries: &mut Vec<Entry>,
 ) -> Result<(), CutFault>
+    requires within { IsWithin slicer.old (V.held view.old).size }
     requires inside { begun ≤ (V.held view.old).size }
-    requires runs { All (λ w. AreRuns sizes.now (V.held view.old) w.runs.items) others.now }
+    requires runs { All (λ w. AreRuns slicer.old.cutter.sizes (V.held view.old) w.runs.items) others.now }
     requires few { length (pairs entries.old.items) ≤ item_limit }
-    requires chunks { AreEntries sizes.now (V.held view.old).bytes 0 (pairs entries.old.items) begun }
-    ensures all { OnOk result (AreAll sizes.now (V.held view.old) (pairs entries.new.items)) }
-    ensures many { IfErr result (λ f. f ≡ CutFault.TooManyItems → AreTooMany sizes.now (V.held view.old)) }
+    requires chunks { AreEntries slicer.old.cutter.sizes (V.held view.old).bytes 0 (pairs entries.old.items) begun }
+    ensures all { OnOk result (AreAll slicer.old.cutter.sizes (V.held view.old) (pairs entries.new.items)) }
+    ensures many { IfErr result (λ f. f ≡ CutFault.TooManyItems →
+        AreTooMany slicer.old.cutter.sizes (V.held view.old)) }
     ensures kept { V.held view.new ≡ V.held view.old }
     ensures faults { CountsFaults CutFault.ImageFault CutFault.Memory (V.faults view.old) (V.faults view.new) result }
 {
     let size = view.size();
-    if size <= begun {
-        return Ok(());
-    }
-    let Ok(mut slicer) = Slicer::new(alloc, sizes, size, begun) else {
-        return Err(CutFault::Memory);
-    };
     let mut at = begun;
     while at < size {
-        at = match walk_on(view, &mut slicer, others, at, entries) {
+        at = match walk_on(view, slicer, others, at, entries) {
             Ok(end) => end,
             Err(fault) => return Err(fault),
         };
@@ -156,6 +151,7 @@ pub(crate) fn joined<V: View>(
 ) -> Result<Vec<Entry>, CutFault>
     requires runs { All (λ w. AreRuns sizes.now (V.held first.old.view) w.runs.items) others.now }
     requires few { length (pairs first.old.entries.items) ≤ item_limit }
+    requires slices { OnOk first.old.end (Slices sizes.now (V.held first.old.view).size first.old.slicer) }
     requires end { IfOk first.old.end (λ e. (e ≤ (V.held first.old.view).size)
         × AreEntries sizes.now (V.held first.old.view).bytes 0 (pairs first.old.entries.items) e) }
     requires many { IfErr first.old.end (λ f. f ≡ CutFault.TooManyItems
@@ -172,8 +168,11 @@ pub(crate) fn joined<V: View>(
         Ok(begun) => begun,
         Err(fault) => return Err(fault),
     };
+    let Ok(mut slicer) = first.take_slicer(alloc, sizes) else {
+        return Err(CutFault::Memory);
+    };
     let mut entries = mem::replace(&mut first.entries, Vec::new(alloc));
-    match walk(alloc, &mut first.view, sizes, others, begun, &mut entries) {
+    match walk(&mut first.view, &mut slicer, others, begun, &mut entries) {
         Ok(()) => Ok(entries),
         Err(fault) => Err(fault),
     }

@@ -2,10 +2,11 @@
 
 ghost use Rattle.std.specs.Prelude.{◌≡◌, ◌<◌, ◌≤◌, [], length, IfOk, IfErr, IfSome, OnOk};
 ghost use Rattle.buzhash_cut.specs.Entries.{AreEntries, AreTooMany, IsEntryRun};
-ghost use Rattle.buzhash_cut.specs.Runs.{AreRuns, HasCut, HasCutFirst, IsReady};
+ghost use Rattle.buzhash_cut.specs.Runs.{AreRuns, HasCut, HasCutFirst, IsReady, Slices};
 ghost use Rattle.buzhash_cut.specs.Slicing.{IsWithin, HasRead, begun_by};
 ghost use Rattle.caibx_codec.specs.Seen.{pairs};
 ghost use Rattle.caibx_fields.specs.Limits.{item_limit};
+ghost use Rattle.chunk_ends.specs.Sizes.{Sizes};
 ghost use Rattle.dsy_base.specs.Counts.{CountsFaults};
 
 use crate::blocks::Blocks;
@@ -16,13 +17,15 @@ use crate::slicer::Slicer;
 use caibx_codec::index::Entry;
 use chunk_ends::sizes::CutSizes;
 use dsy_base::view::View;
-use std::alloc::Global;
+use std::alloc::{AllocError, Global};
 
 /// A view of the image, and what is cut with it: by the first worker the chunks from 0 on, of which the last one ends
-/// at `end`, and by each other one a run for each of its blocks.
+/// at `end`, and by each other one a run for each of its blocks. The first one has its slicer from the beginning, since
+/// the stacks of threads may leave no room for it; the others take theirs when they begin.
 #[derive(Drop)]
 pub(crate) struct Worker<V: View> {
     pub view: V,
+    pub slicer: Option<Slicer>,
     pub entries: Vec<Entry>,
     pub end: Result<u64, CutFault>,
     pub runs: Vec<Run>,
@@ -106,58 +109,85 @@ fn cut_run<V: View>(
 // Cuts from 0 up, a step at a time, until the first worker has met the others, and past that. Answers where the last
 // chunk ends.
 fn cut_steps<V: View>(
-    alloc: Global,
     view: &mut V,
-    sizes: &CutSizes,
+    slicer: &mut Slicer,
     blocks: &Blocks,
     entries: &mut Vec<Entry>,
 ) -> Result<u64, CutFault>
     requires alike { blocks.now.size ≡ (V.held view.old).size }
+    requires within { IsWithin slicer.old (V.held view.old).size }
     requires none { pairs entries.old.items ≡ [] }
+
     ensures end { IfOk result (λ e. (e ≤ (V.held view.old).size)
-        × AreEntries sizes.now (V.held view.old).bytes 0 (pairs entries.new.items) e) }
+        × AreEntries slicer.old.cutter.sizes (V.held view.old).bytes 0 (pairs entries.new.items) e) }
     ensures few { length (pairs entries.new.items) ≤ item_limit }
-    ensures many { IfErr result (λ f. f ≡ CutFault.TooManyItems → AreTooMany sizes.now (V.held view.old)) }
+    ensures many { IfErr result (λ f. f ≡ CutFault.TooManyItems
+        → AreTooMany slicer.old.cutter.sizes (V.held view.old)) }
+
+    ensures within { OnOk result (IsWithin slicer.new (V.held view.old).size) }
+    ensures sizes { slicer.new.cutter.sizes ≡ slicer.old.cutter.sizes }
     ensures kept { V.held view.new ≡ V.held view.old }
     ensures faults { CountsFaults CutFault.ImageFault CutFault.Memory (V.faults view.old) (V.faults view.new) result }
 {
-    let Ok(mut slicer) = Slicer::new(alloc, sizes, view.size(), 0) else {
-        return Err(CutFault::Memory);
-    };
+    slicer.restart(0);
     let mut at = 0;
     let mut stop = blocks.reach(at);
     while at < stop {
-        at = match cut_on(view, &mut slicer, at, stop, entries) {
+        at = match cut_on(view, slicer, at, stop, entries) {
             Ok(end) => end,
             Err(fault) => return Err(fault),
         };
         stop = blocks.reach(at);
     }
-    cut_past(view, &mut slicer, blocks, 0, at, entries)
+    cut_past(view, slicer, blocks, 0, at, entries)
 }
 
 impl<V: View> Worker<V> {
-    /// A worker that has cut nothing.
-    pub(crate) fn new(alloc: Global, view: V) -> Worker<V>
+    /// A worker that has cut nothing, and has this slicer.
+    pub(crate) fn new(alloc: Global, view: V, slicer: Option<Slicer>) -> Worker<V>
         ensures view { result.view ≡ view }
-        ensures none { IsReady result }
+        ensures none { (s : Sizes) → Slices s (V.held view).size slicer → IsReady V.held s result }
     {
         Worker {
             view,
+            slicer,
             entries: Vec::new(alloc),
             end: Ok(0),
             runs: Vec::new(alloc),
         }
     }
 
-    /// Cuts as the first worker does.
+    /// The slicer that it has, or else a new one.
+    pub(crate) fn take_slicer(
+        &mut self,
+        alloc: Global,
+        sizes: &CutSizes,
+    ) -> Result<Slicer, AllocError>
+        requires slices { Slices sizes.now (V.held self.old.view).size self.old.slicer }
+        ensures ok { IfOk result (λ c. (c.cutter.sizes ≡ sizes.now) × IsWithin c (V.held self.old.view).size) }
+        ensures kept { (self.new.view ≡ self.old.view) × (self.new.entries ≡ self.old.entries)
+            × (self.new.end ≡ self.old.end) × (self.new.runs ≡ self.old.runs) }
+    {
+        match self.slicer.take() {
+            Some(slicer) => Ok(slicer),
+            None => Slicer::new(alloc, sizes, self.view.size(), 0),
+        }
+    }
+
+    /// Cuts as the first worker does, and keeps its slicer.
     pub(crate) fn cut_first(&mut self, alloc: Global, sizes: &CutSizes, blocks: &Blocks)
         requires alike { blocks.now.size ≡ (V.held self.old.view).size }
-        requires none { IsReady self.old }
+        requires none { IsReady V.held sizes.now self.old }
         ensures cut { HasCut V.held V.faults sizes.now self.old self.new }
         ensures first { HasCutFirst V.held V.faults sizes.now self.old self.new }
     {
-        self.end = cut_steps(alloc, &mut self.view, sizes, blocks, &mut self.entries);
+        let Ok(mut slicer) = self.take_slicer(alloc, sizes) else {
+            self.end = Err(CutFault::Memory);
+            blocks.close();
+            return;
+        };
+        self.end = cut_steps(&mut self.view, &mut slicer, blocks, &mut self.entries);
+        self.slicer = Some(slicer);
         if self.end.is_err() {
             blocks.close();
         }
@@ -193,15 +223,14 @@ impl<V: View> Worker<V> {
     /// Cuts blocks as long as there are any, each to its end and past it.
     pub(crate) fn cut_blocks(&mut self, alloc: Global, sizes: &CutSizes, blocks: &Blocks)
         requires alike { blocks.now.size ≡ (V.held self.old.view).size }
-        requires none { IsReady self.old }
+        requires none { IsReady V.held sizes.now self.old }
         ensures cut { HasCut V.held V.faults sizes.now self.old self.new }
     {
-        let size = self.view.size();
-        let Ok(mut slicer) = Slicer::new(alloc, sizes, size, 0) else {
+        let Ok(mut slicer) = self.take_slicer(alloc, sizes) else {
             return;
         };
         // There are no more blocks than bytes.
-        for _ in 0..size {
+        for _ in 0..self.view.size() {
             let Some((start, stop)) = blocks.take() else {
                 return;
             };

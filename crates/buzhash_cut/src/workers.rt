@@ -4,11 +4,12 @@ ghost use Rattle.std.specs.Prelude.{◌≡◌, ℕ, ◌-◌, ◌<◌, ◌≤◌,
 ghost use Rattle.std.specs.Prelude.{vec_capacity, slice_index_or, All, IfOk, IfErr};
 ghost use Rattle.buzhash_cut.specs.Entries.{AreAll, AreTooMany};
 ghost use Rattle.buzhash_cut.specs.Image.{AreOfOneImage, CountsViews};
-ghost use Rattle.buzhash_cut.specs.Runs.{HasCut, HasCutFirst, IsReady};
+ghost use Rattle.buzhash_cut.specs.Runs.{HasCut, HasCutFirst, IsReady, Slices};
 ghost use Rattle.caibx_codec.specs.Seen.{pairs};
 
 use crate::blocks::Blocks;
 use crate::image::CutFault;
+use crate::slicer::Slicer;
 use crate::walk::joined;
 use crate::worker::Worker;
 use caibx_codec::index::Entry;
@@ -18,17 +19,33 @@ use std::alloc::Global;
 use std::thread;
 use std::thread::Threads;
 
+// The slicer of the first worker, if there is room for it; another worker gets none yet.
+fn slicer_ahead(alloc: Global, sizes: &CutSizes, size: u64, is_first: bool) -> Option<Slicer>
+    ensures { Slices sizes.now size result }
+{
+    if !is_first {
+        return None;
+    }
+    Slicer::new(alloc, sizes, size, 0).ok()
+}
+
 /// Gives each view to a worker. The first one comes last.
-pub(crate) fn hire<V: View>(alloc: Global, views: &mut Vec<V>, workers: &mut Vec<Worker<V>>)
+pub(crate) fn hire<V: View>(
+    alloc: Global,
+    sizes: &CutSizes,
+    views: &mut Vec<V>,
+    workers: &mut Vec<Worker<V>>,
+)
     requires none { workers.old.items ≡ [] }
     requires room { vec_len views.old ≤ vec_capacity workers.old }
     ensures views { views.old.items ≡ reverse (map (λ w. w.view) workers.new.items) }
-    ensures ready { All IsReady workers.new.items }
+    ensures ready { All (IsReady V.held sizes.now) workers.new.items }
     ensures none { views.new.items ≡ [] }
     ensures room { vec_len workers.new ≤ vec_capacity views.new }
 {
     while let Some(view) = views.pop() {
-        let Ok(()) = workers.push(Worker::new(alloc, view)) else {
+        let slicer = slicer_ahead(alloc, sizes, view.size(), views.is_empty());
+        let Ok(()) = workers.push(Worker::new(alloc, view, slicer)) else {
             unreachable!();
         };
     }
@@ -56,7 +73,7 @@ fn cut_all<R: Threads + Sync, V: View + Send>(
 )
     requires some { 0 < length workers.old }
     requires alike { AreOfOneImage (map (λ w. V.held w.view) workers.old) }
-    requires none { All IsReady workers.old }
+    requires none { All (IsReady V.held sizes.now) workers.old }
     ensures cut { (k : ℕ) (d : Worker V) → k < length workers.old →
         HasCut V.held V.faults sizes.now (slice_index_or workers.old k d) (slice_index_or workers.new k d) }
     ensures first { (d : Worker V) → HasCutFirst V.held V.faults sizes.now
@@ -74,7 +91,7 @@ fn cut_all<R: Threads + Sync, V: View + Send>(
         count,
         &|number, worker: &mut Worker<V>|
             requires alike { shared.now.size ≡ (V.held worker.old.view).size }
-            requires none { IsReady worker.old }
+            requires none { IsReady V.held sizes.now worker.old }
             ensures cut { HasCut V.held V.faults sizes.entry.now worker.old worker.new }
             ensures first { number ≡ last → HasCutFirst V.held V.faults sizes.entry.now worker.old worker.new }
         {
@@ -96,7 +113,7 @@ pub(crate) fn entries_by<R: Threads + Sync, V: View + Send>(
 ) -> Result<Vec<Entry>, CutFault>
     requires some { 0 < vec_len workers.old }
     requires alike { AreOfOneImage (map (λ w. V.held w.view) workers.old.items) }
-    requires none { All IsReady workers.old.items }
+    requires none { All (IsReady V.held sizes.now) workers.old.items }
     ensures all { IfOk result (λ v. All (λ h. AreAll sizes.now h (pairs v.items))
         (map (λ w. V.held w.view) workers.old.items)) }
     ensures many { IfErr result (λ f. f ≡ CutFault.TooManyItems →

@@ -1,5 +1,5 @@
 use Rattle.std.proofs.Common.{length, drop, map, reverse, sym, subst, All}
-use Rattle.buzhash_cut.proofs.Crews.{others_cut, first_cut, first_end, first_many, all_of, many_of, counts_of, if_ok, if_err}
+use Rattle.buzhash_cut.proofs.Crews.{others_cut, first_cut, first_end, first_many, first_slices, all_of, many_of, counts_of, if_ok, if_err}
 use Rattle.buzhash_cut.specs.declared.image.CutFault.TheVariants as faults
 use Rattle.buzhash_cut.specs.Image.{CountsViews}
 use Rattle.buzhash_cut.specs.Runs.{AreRuns}
@@ -19,6 +19,12 @@ joined-made-requires-clause-few g c = (first_cut g.V.View.held g.V.View.faults c
     (drop (length c.cut_all.new.workers) c.args.workers.now.items) c.pop.new.self.items c.in-Some.first c.args.workers.now.len c.deref_mut.ensures.value c.deref_mut.ensures.len
     c.in-Some.ensures.items c.cut_all.ensures.kept c.requires.alike
     c.cut_all.ensures.first).few
+
+pub joined-made-requires-clause-slices : goal.joined-made-requires-clause-slices
+joined-made-requires-clause-slices g c = first_slices g.V.View.held g.V.View.faults c.args.sizes.now c.args.workers.now.items c.deref_mut.result.now c.cut_all.new.workers
+    (drop (length c.cut_all.new.workers) c.args.workers.now.items) c.pop.new.self.items c.in-Some.first c.args.workers.now.len c.deref_mut.ensures.value c.deref_mut.ensures.len
+    c.in-Some.ensures.items c.cut_all.ensures.kept c.requires.alike
+    c.cut_all.ensures.first
 
 pub joined-made-requires-clause-end : goal.joined-made-requires-clause-end
 joined-made-requires-clause-end g c = first_end g.V.View.held g.V.View.faults c.args.sizes.now c.args.workers.now.items c.deref_mut.result.now c.cut_all.new.workers
