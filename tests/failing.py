@@ -294,11 +294,6 @@ def one_call_fails(cases, shim, each):
                     fail_each(shim, scene_of(folder, what), call, each)
 
 
-def is_interrupted(scene, error, paths):
-    """Whether a signal has interrupted the calls. The system interrupts no opening of a folder."""
-    return error == errno.EINTR and not any(os.path.isdir(os.path.join(scene.folder, path)) for path in paths)
-
-
 def fail_each(shim, scene, call, each):
     """One call fails a run, the next in the next run, until a run meets no failure."""
     for at in range(MOST):
@@ -306,7 +301,7 @@ def fail_each(shim, scene, call, each):
             scene.anew()
             ended, paths = shim.run(scene, call, at, error)
             try:
-                if is_interrupted(scene, error, paths) or not paths:
+                if error == errno.EINTR or not paths:
                     scene.judge_whole(ended)
                 else:
                     scene.judge(call, ended, paths)

@@ -12,7 +12,7 @@ use dsy_base::look::Look;
 use dsy_base::name::Name;
 use dsy_base::temporary::temporary_name;
 use std::alloc::{AllocError, Global};
-use std::fs::{File, OpenOptions};
+use std::fs::{File, OpenOptions, ReadDir};
 use std::io::ErrorKind;
 use std::os::unix::fs::FileExt;
 use std::rt::Files;
@@ -78,6 +78,20 @@ fn is_file<R: Files<File = File>>(rt: &R, path: &str) -> Result<bool, IoFault> {
     }
 }
 
+// Opens a folder to list it, where no signal comes between.
+fn list<R: Files<File = File> + AllocGlobal + Clone + Drop>(
+    rt: &R,
+    path: &str,
+) -> io::Result<ReadDir<R, Global>> {
+    for _ in 0..u64::MAX {
+        match fs::read_dir(rt, path) {
+            Err(error) if error.kind() == ErrorKind::Interrupted => {}
+            listed => return listed,
+        }
+    }
+    Err(io::Error::from(ErrorKind::Interrupted))
+}
+
 // The names in a folder, each after `prefix`, of files and, where `folders` is true, of folders alone.
 fn entries<R: Files<File = File> + AllocGlobal + Clone + Drop>(
     rt: &R,
@@ -86,7 +100,7 @@ fn entries<R: Files<File = File> + AllocGlobal + Clone + Drop>(
     folders: bool,
     names: &mut Vec<String>,
 ) -> io::Result<()> {
-    for entry in fs::read_dir(rt, path)? {
+    for entry in list(rt, path)? {
         let entry = entry?;
         let metadata = match fs::metadata(rt, entry.path()) {
             Ok(metadata) => metadata,
