@@ -30,13 +30,16 @@ PROGRAM = '''//! Makes the table of zeros of an index, or splits a target by its
 #![tactic(auto)]
 
 ghost use Rattle.extract_plan.specs.Deal.{IsPlan};
+ghost use Rattle.owned_shards.specs.Wholes.{IsRunOver};
 
 use caibx_codec::index::{Entry, Index};
 use chunk_store::id::ChunkId;
 use dsy_base::name::Name;
+use dsy_base::view::{Target, View};
 use dsy_real::real_bytes::RealBytes;
 use extract_plan::plan::Plan;
 use owned_shards::survey::survey_shards;
+use range_ledger::run::RunName;
 use range_survey::zeros::ZeroNames;
 use std::alloc::Global;
 use std::env;
@@ -72,15 +75,22 @@ fn zeros(alloc: Global, index: &Index) -> bool {
     }
 }
 
-// Whether the target of this name, which is empty, could be split and surveyed.
-fn split(rt: &HostRuntime, alloc: Global, index: &Index, plan: &Plan, name: Name) -> bool
-    requires plan { IsPlan index.now 32 plan.now }
+// Whether the target could be split and surveyed.
+fn surveyed<R: RunName, T: Target>(alloc: Global, index: &Index, plan: &Plan, target: T) -> bool
+    requires over { IsRunOver R.run index.now plan.now T.tells (T.held target) }
 {
     let Ok(mut buf) = index.room(alloc) else {
         return false;
     };
+    survey_shards::<R, T>(alloc, index, plan, target, &mut buf).is_ok()
+}
+
+// Whether the target of this name, which is empty, could be split and surveyed.
+fn split(rt: &HostRuntime, alloc: Global, index: &Index, plan: &Plan, name: Name) -> bool
+    requires plan { IsPlan index.now 32 plan.now }
+{
     let target = RealBytes::new(rt, alloc, name, 0);
-    survey_shards::<Brand, RealBytes<'_, HostRuntime>>(alloc, index, plan, target, &mut buf).is_ok()
+    surveyed::<Brand, RealBytes<HostRuntime>>(alloc, index, plan, target)
 }
 
 // What the step takes of the processor.
@@ -135,8 +145,8 @@ use Rattle.extract_plan.specs.Deal.{deal_shards}
 use Rattle.split_steps.proofs.split.Given as goal
 
 -- the run is over this index and its plan, and over a target that doesn't tell what it holds
-abbrev pub ghosts-survey_shards : goal.ghosts-survey_shards
-ghosts-survey_shards g a = record {
+abbrev pub ghosts-surveyed : goal.ghosts-surveyed
+ghosts-surveyed a = record {
   run = record {
     listing = a.index.now;
     base = [];
@@ -150,15 +160,17 @@ ghosts-survey_shards g a = record {
 ANSWER = '''use Rattle.std.proofs.Common.{refl, arith}
 use Rattle.split_steps.proofs.split.Goals as goal
 
-pub survey_shards-requires-clause-over : goal.survey_shards-requires-clause-over
-survey_shards-requires-clause-over g c = λ lifetimes within.
+pub surveyed-requires : goal.surveyed-requires
+surveyed-requires c =
     let plan = c.requires.plan in
     record {
-      dealt = record { listing = refl; entries = plan.wants.size; shards = refl };
-      workers = omega (arith, plan.workers);
-      cuts = plan.cuts;
-      base = tt;
-      tells = refl;
+      over = record {
+        dealt = record { listing = refl; entries = plan.wants.size; shards = refl };
+        workers = omega (arith, plan.workers);
+        cuts = plan.cuts;
+        base = tt;
+        tells = refl;
+      };
     }
 '''
 
