@@ -6,14 +6,14 @@ use crate::compare::{ok, same};
 use crate::digests::{ABC, NOTHING};
 use chunk_store::id::ChunkId;
 use chunk_store::shows::Shows;
-use chunk_store::store::{GetFault, Store};
-use dsy_base::fault::{IoFault, raise};
+use dsy_base::fault::IoFault;
 use std::alloc::Global;
 use std::process::Abort;
 use store_chain::chain::Chain;
 use store_chain::refused::{HasFault, Refused};
+use store_forms::scripted_store::{Refuses, ScriptedStore};
 
-// What a store answers.
+// What stands under the id of `abc` in a store that answers, or how it refuses each call.
 #[derive(Clone, Copy, Debug)]
 enum Held {
     Nothing,
@@ -22,87 +22,23 @@ enum Held {
     NoMemory,
 }
 
-#[derive(Drop)]
-struct Told {
-    held: Held,
-    faults: u64,
-    asks: u64,
+fn store_of(rt: &impl Abort, alloc: Global, held: Held) -> ScriptedStore {
+    let refuses = match held {
+        Held::Nothing | Held::Bytes(_) => Refuses::Nothing,
+        Held::Fault => Refuses::Everything(IoFault::Failed),
+        Held::NoMemory => Refuses::Everything(IoFault::Memory),
+    };
+    let mut store = ScriptedStore::new(alloc, refuses);
+    if let Held::Bytes(bytes) = held {
+        ok(rt, store.set_chunk(&ok(rt, ChunkId::from_hex(ABC)), bytes));
+    }
+    store
 }
 
-impl Store for Told {
-    ghost use Rattle.std.specs.Prelude.{None, [], true, false};
-    ghost use Rattle.std.proofs.Common.{rules};
-    ghost use Rattle.chunk_store.specs.Said.{said_by};
-
-    ghost holds = { λ _. None };
-
-    ghost said = { λ _. said_by None };
-
-    ghost asked = { λ _ _. 0 };
-
-    ghost queried = { λ _ _. 0 };
-
-    ghost faults = { λ s. s.faults };
-
-    ghost place = { λ _. [] };
-
-    ghost tells = { false };
-
-    ghost never_fails = { false };
-
-    ghost may_lack_memory = { true };
-
-    fn get(&mut self, _id: &ChunkId, out: &mut [u8]) -> Result<usize, GetFault> {
-        self.asks = raise(self.asks, 1);
-        match self.held {
-            Held::Nothing => Err(GetFault::Missing),
-            Held::Bytes(b) if b.len() <= out.len() => {
-                let (front, _) = out.split_at_mut(b.len());
-                front.copy_from_slice(b);
-                Ok(b.len())
-            }
-            Held::Bytes(_) => Err(GetFault::Longer),
-            Held::Fault => {
-                self.faults = raise(self.faults, 1);
-                Err(GetFault::Failed)
-            }
-            Held::NoMemory => Err(GetFault::Memory),
-        }
-    }
-
-    fn has(&mut self, _id: &ChunkId) -> Result<bool, IoFault> {
-        match self.held {
-            Held::Nothing => Ok(false),
-            Held::Bytes(_) => Ok(true),
-            Held::Fault => {
-                self.faults = raise(self.faults, 1);
-                Err(IoFault::Failed)
-            }
-            Held::NoMemory => Err(IoFault::Memory),
-        }
-    }
-
-    ghost says = { λ _. tt };
-
-    ghost lies = { λ _. tt };
-
-    ghost unasked = { λ _. tt };
-
-    ghost told = { λ _ t. t };
-
-    ghost sure = { Prim.search rules };
-}
-
-fn store_of(held: Held) -> Told {
-    Told {
-        held,
-        faults: 0,
-        asks: 0,
-    }
-}
-
-fn chain_of(rt: &impl Abort, alloc: Global, first: Held, second: Held) -> Chain<Told> {
-    Chain::new(ok(rt, vec![in alloc; store_of(first), store_of(second)]))
+fn chain_of(rt: &impl Abort, alloc: Global, first: Held, second: Held) -> Chain<ScriptedStore> {
+    let first = store_of(rt, alloc, first);
+    let second = store_of(rt, alloc, second);
+    Chain::new(ok(rt, vec![in alloc; first, second]))
 }
 
 const GOOD: Held = Held::Bytes(b"abc");
@@ -198,7 +134,7 @@ fn asks(rt: &impl Abort, alloc: Global, first: Held, second: Held, wanted: [u64;
     let _ = chain.obtain(&id, Some(3), &mut [0u8; 8]);
     let stores = chain.into_stores();
     for (store, asks) in stores.iter().zip(wanted) {
-        same(rt, store.asks, asks);
+        same(rt, store.calls(), asks);
     }
 }
 

@@ -7,14 +7,14 @@ use crate::indexes::{ABC, ABX, DEF, DEX, id_of, index_of};
 use byte_forms::mem_view::MemView;
 use caibx_codec::index::Index;
 use chunk_store::id::ChunkId;
-use chunk_store::store::{GetFault, Store};
-use dsy_base::fault::{Failed, IoFault, raise};
+use dsy_base::fault::{Failed, IoFault};
 use dsy_base::view::View;
 use dsy_forms::mem_sink::MemSink;
 use std::alloc::Global;
 use std::process::Abort;
 use store_chain::chain::Chain;
 use store_chain::refused::HasFault;
+use store_forms::scripted_store::{Refuses, ScriptedStore};
 use verify_tool::check::{CheckFault, verify_index};
 use verify_tool::count::count_in_store;
 use verify_tool::info::info;
@@ -160,102 +160,32 @@ fn figures_are_one_line(rt: HostRuntime) {
     );
 }
 
-// What a store has.
-#[derive(Clone, Copy)]
-enum Held {
-    Nothing,
-    One(ChunkId),
-    Fault,
-    FaultAt(ChunkId),
-}
-
-// A store that counts how often it was asked, and gives nothing.
-#[derive(Drop)]
-struct Told {
-    held: Held,
-    calls: u64,
-    faults: u64,
-}
-
-impl Store for Told {
-    ghost use Rattle.std.specs.Prelude.{None, [], true, false};
-    ghost use Rattle.std.proofs.Common.{rules};
-    ghost use Rattle.chunk_store.specs.Said.{said_by};
-
-    ghost holds = { λ _. None };
-
-    ghost said = { λ _. said_by None };
-
-    ghost asked = { λ _ _. 0 };
-
-    ghost queried = { λ _ _. 0 };
-
-    ghost faults = { λ s. s.faults };
-
-    ghost place = { λ _. [] };
-
-    ghost tells = { false };
-
-    ghost never_fails = { false };
-
-    ghost may_lack_memory = { true };
-
-    fn get(&mut self, _id: &ChunkId, _out: &mut [u8]) -> Result<usize, GetFault> {
-        Err(GetFault::Missing)
+// A store that has something under each of these names.
+fn having(rt: &impl Abort, alloc: Global, names: &[&str]) -> ScriptedStore {
+    let mut store = ScriptedStore::new(alloc, Refuses::Nothing);
+    for name in names {
+        ok(rt, store.set_chunk(&id_of(rt, name), b""));
     }
-
-    fn has(&mut self, id: &ChunkId) -> Result<bool, IoFault> {
-        self.calls = raise(self.calls, 1);
-        let fails = match self.held {
-            Held::Fault => true,
-            Held::FaultAt(at) => at == *id,
-            Held::Nothing | Held::One(_) => false,
-        };
-        if fails {
-            self.faults = raise(self.faults, 1);
-            return Err(IoFault::Failed);
-        }
-        match self.held {
-            Held::One(held) => Ok(held == *id),
-            _ => Ok(false),
-        }
-    }
-
-    ghost says = { λ _. tt };
-
-    ghost lies = { λ _. tt };
-
-    ghost unasked = { λ _. tt };
-
-    ghost told = { λ _ t. t };
-
-    ghost sure = { Prim.search rules };
+    store
 }
 
-fn store_of(held: Held) -> Told {
-    Told {
-        held,
-        calls: 0,
-        faults: 0,
-    }
+fn failing(alloc: Global) -> ScriptedStore {
+    ScriptedStore::new(alloc, Refuses::Everything(IoFault::Failed))
 }
 
-fn chain_of(rt: &impl Abort, alloc: Global, first: Held, second: Held) -> Chain<Told> {
-    Chain::new(ok(rt, vec![in alloc; store_of(first), store_of(second)]))
-}
-
-// So many listed ids are had by one of two such stores.
+// So many listed ids are had by one of the two stores, which are given back.
 fn are_had(
     rt: &impl Abort,
     alloc: Global,
     index: &Index,
-    first: Held,
-    second: Held,
+    first: ScriptedStore,
+    second: ScriptedStore,
     wanted: Result<u64, HasFault>,
-) {
-    let mut chain = chain_of(rt, alloc, first, second);
+) -> Vec<ScriptedStore> {
+    let mut chain = Chain::new(ok(rt, vec![in alloc; first, second]));
     same(rt, count_in_store(alloc, index, &mut chain), wanted);
     same(rt, chain.asks(), 0);
+    chain.into_stores()
 }
 
 fn fault(store: u32) -> Result<u64, HasFault> {
@@ -266,22 +196,68 @@ fn fault(store: u32) -> Result<u64, HasFault> {
 fn an_id_counts_once_where_some_store_has_it(rt: HostRuntime) {
     let alloc = rt.alloc();
     let index = index_of(&rt, alloc, &[ABC, DEF, ABC]);
-    let abc = Held::One(id_of(&rt, ABC));
-    let def = Held::One(id_of(&rt, DEF));
-    are_had(&rt, alloc, &index, abc, Held::Nothing, Ok(1));
-    are_had(&rt, alloc, &index, abc, abc, Ok(1));
-    are_had(&rt, alloc, &index, Held::Nothing, def, Ok(1));
-    are_had(&rt, alloc, &index, def, abc, Ok(2));
-    are_had(&rt, alloc, &index, Held::Nothing, Held::Nothing, Ok(0));
-    are_had(&rt, alloc, &index, Held::Nothing, Held::Fault, fault(1));
-    are_had(&rt, alloc, &index, Held::Fault, abc, fault(0));
+    are_had(
+        &rt,
+        alloc,
+        &index,
+        having(&rt, alloc, &[ABC]),
+        having(&rt, alloc, &[]),
+        Ok(1),
+    );
+    are_had(
+        &rt,
+        alloc,
+        &index,
+        having(&rt, alloc, &[ABC]),
+        having(&rt, alloc, &[ABC]),
+        Ok(1),
+    );
+    are_had(
+        &rt,
+        alloc,
+        &index,
+        having(&rt, alloc, &[]),
+        having(&rt, alloc, &[DEF]),
+        Ok(1),
+    );
+    are_had(
+        &rt,
+        alloc,
+        &index,
+        having(&rt, alloc, &[DEF]),
+        having(&rt, alloc, &[ABC]),
+        Ok(2),
+    );
+    are_had(
+        &rt,
+        alloc,
+        &index,
+        having(&rt, alloc, &[]),
+        having(&rt, alloc, &[]),
+        Ok(0),
+    );
+    are_had(
+        &rt,
+        alloc,
+        &index,
+        having(&rt, alloc, &[]),
+        failing(alloc),
+        fault(1),
+    );
+    are_had(
+        &rt,
+        alloc,
+        &index,
+        failing(alloc),
+        having(&rt, alloc, &[ABC]),
+        fault(0),
+    );
 }
 
 // Each store was asked twice.
-fn two_calls(rt: &impl Abort, chain: Chain<Told>) {
-    let stores = chain.into_stores();
-    for store in &stores {
-        same(rt, store.calls, 2);
+fn two_calls(rt: &impl Abort, stores: &[ScriptedStore]) {
+    for store in stores {
+        same(rt, store.calls(), 2);
     }
 }
 
@@ -289,17 +265,22 @@ fn two_calls(rt: &impl Abort, chain: Chain<Told>) {
 fn each_id_is_asked_for_once(rt: HostRuntime) {
     let alloc = rt.alloc();
     let index = index_of(&rt, alloc, &[ABC, DEF, ABC, DEF, ABC]);
-    let mut chain = chain_of(&rt, alloc, Held::Nothing, Held::Nothing);
-    same(&rt, count_in_store(alloc, &index, &mut chain), Ok(0));
-    two_calls(&rt, chain);
+    let stores = are_had(
+        &rt,
+        alloc,
+        &index,
+        having(&rt, alloc, &[]),
+        having(&rt, alloc, &[]),
+        Ok(0),
+    );
+    two_calls(&rt, &stores);
 }
 
 #[test]
 fn ids_are_asked_for_in_order_up_to_a_fault(rt: HostRuntime) {
     let alloc = rt.alloc();
     let index = index_of(&rt, alloc, &[ABC, ABC, DEF, DEX, ABX]);
-    let failing = Held::FaultAt(id_of(&rt, DEF));
-    let mut chain = chain_of(&rt, alloc, Held::Nothing, failing);
-    same(&rt, count_in_store(alloc, &index, &mut chain), fault(1));
-    two_calls(&rt, chain);
+    let fails = ScriptedStore::new(alloc, Refuses::Id(id_of(&rt, DEF)));
+    let stores = are_had(&rt, alloc, &index, having(&rt, alloc, &[]), fails, fault(1));
+    two_calls(&rt, &stores);
 }

@@ -8,9 +8,10 @@ use crate::indexes::index_of_pieces;
 use buzhash_cut::sizes::CutSizes;
 use byte_forms::mem_view::MemView;
 use caibx_codec::index::Index;
+use caibx_codec::reading::read_index;
 use chunk_store::id::{ChunkId, DigestKind};
-use chunk_store::store::{GetFault, Store, StoreWrite};
-use dsy_base::fault::{Failed, IoFault, raise};
+use chunk_store::store::{GetFault, Store};
+use dsy_base::fault::{Failed, raise};
 use dsy_base::name::Name;
 use dsy_base::view::View;
 use dsy_forms::no_folders::NoFolders;
@@ -20,126 +21,7 @@ use image_store::store_image::store_image;
 use std::alloc::Global;
 use std::process::Abort;
 use std::thread::Threads;
-
-// A store in memory. Its calls count from 0, and the one of this number fails.
-#[derive(Drop)]
-struct Counting {
-    chunks: Vec<(ChunkId, Vec<u8>)>,
-    fails: Option<u64>,
-    calls: u64,
-    puts: u64,
-    faults: u64,
-    alloc: Global,
-}
-
-impl Counting {
-    fn new(alloc: Global, fails: Option<u64>) -> Counting {
-        Counting {
-            chunks: Vec::new(alloc),
-            fails,
-            calls: 0,
-            puts: 0,
-            faults: 0,
-            alloc,
-        }
-    }
-
-    // What is held under the id.
-    fn held(&self, id: &ChunkId) -> Option<&[u8]> {
-        for chunk in self.chunks.iter() {
-            if chunk.0.is(id) {
-                return Some(chunk.1.as_slice());
-            }
-        }
-        None
-    }
-
-    // Counts a call, and says whether it is to fail.
-    fn fails_now(&mut self) -> bool
-        ensures { self.new.faults ≡ self.old.faults }
-    {
-        let fails = self.fails == Some(self.calls);
-        self.calls = raise(self.calls, 1);
-        fails
-    }
-}
-
-impl Store for Counting {
-    ghost use Rattle.std.specs.Prelude.{None, [], true, false};
-    ghost use Rattle.std.proofs.Common.{rules};
-    ghost use Rattle.chunk_store.specs.Said.{said_by};
-
-    ghost holds = { λ _. None };
-
-    ghost said = { λ _. said_by None };
-
-    ghost asked = { λ _ _. 0 };
-
-    ghost queried = { λ _ _. 0 };
-
-    ghost faults = { λ s. s.faults };
-
-    ghost place = { λ _. [] };
-
-    ghost tells = { false };
-
-    ghost never_fails = { false };
-
-    ghost may_lack_memory = { true };
-
-    fn get(&mut self, id: &ChunkId, out: &mut [u8]) -> Result<usize, GetFault> {
-        if self.fails_now() {
-            self.faults = raise(self.faults, 1);
-            return Err(GetFault::Failed);
-        }
-        match self.held(id) {
-            None => Err(GetFault::Missing),
-            Some(bytes) if bytes.len() <= out.len() => {
-                let (front, _) = out.split_at_mut(bytes.len());
-                front.copy_from_slice(bytes);
-                Ok(bytes.len())
-            }
-            Some(_) => Err(GetFault::Longer),
-        }
-    }
-
-    fn has(&mut self, id: &ChunkId) -> Result<bool, IoFault> {
-        Ok(self.held(id).is_some())
-    }
-
-    ghost says = { λ _. tt };
-
-    ghost lies = { λ _. tt };
-
-    ghost unasked = { λ _. tt };
-
-    ghost told = { λ _ t. t };
-
-    ghost sure = { Prim.search rules };
-}
-
-impl StoreWrite for Counting {
-    fn put(&mut self, id: &ChunkId, b: &[u8]) -> Result<(), IoFault> {
-        if self.fails_now() {
-            self.faults = raise(self.faults, 1);
-            return Err(IoFault::Failed);
-        }
-        self.puts = raise(self.puts, 1);
-        let Ok(bytes) = Vec::from_slice(self.alloc, b) else {
-            return Err(IoFault::Memory);
-        };
-        for chunk in self.chunks.iter_mut() {
-            if chunk.0.is(id) {
-                chunk.1 = bytes;
-                return Ok(());
-            }
-        }
-        match self.chunks.push((*id, bytes)) {
-            Ok(()) => Ok(()),
-            Err(_) => Err(IoFault::Memory),
-        }
-    }
-}
+use store_forms::scripted_store::{Refuses, ScriptedStore};
 
 fn view_of(rt: &impl Abort, alloc: Global, bytes: &[u8]) -> MemView {
     let bytes = ok(rt, Vec::from_slice(alloc, bytes));
@@ -162,8 +44,8 @@ fn stores<R: Abort + Threads + Sync>(
     rt: &R,
     alloc: Global,
     image: &[u8],
-    store: Counting,
-) -> (Counting, Result<usize, MakeFault>) {
+    store: ScriptedStore,
+) -> (ScriptedStore, Result<usize, MakeFault>) {
     let views = one_view(rt, alloc, view_of(rt, alloc, image));
     let sizes = sizes_of(rt, 48, 48, 48);
     let inner = NoFolders::of(alloc, "");
@@ -174,47 +56,59 @@ fn stores<R: Abort + Threads + Sync>(
     }
 }
 
-// How "abc" is stored where this call of the store fails, and what is then held of it.
+// The store gives these bytes of at most eight under the id, or this fault.
+fn gives(rt: &impl Abort, store: &mut ScriptedStore, id: &ChunkId, want: Result<&[u8], GetFault>) {
+    let mut out = [0; 8];
+    let got = match store.get(id, &mut out) {
+        Ok(size) => Ok(&out[..size]),
+        Err(fault) => Err(fault),
+    };
+    same(rt, got, want);
+}
+
+// How "abc" is stored where the store refuses this, and what it then gives.
 fn abc_is_stored<R: Abort + Threads + Sync>(
     rt: &R,
     alloc: Global,
-    fails: Option<u64>,
+    refuses: Refuses,
     want: Result<usize, MakeFault>,
-    held: Option<&[u8]>,
+    given: Result<&[u8], GetFault>,
 ) {
     let id = ChunkId::of(DigestKind::Sha512T256, b"abc");
-    let (store, made) = stores(rt, alloc, b"abc", Counting::new(alloc, fails));
+    let (mut store, made) = stores(rt, alloc, b"abc", ScriptedStore::new(alloc, refuses));
     same(rt, made, want);
-    same(rt, store.held(&id), held);
+    gives(rt, &mut store, &id, given);
 }
 
 // An index of one chunk has 144 bytes. The first call asks for the chunk, the second puts it.
 #[test]
 fn an_image_is_stored_or_its_store_is_at_fault(rt: HostRuntime) {
     let alloc = rt.alloc();
-    abc_is_stored(&rt, alloc, None, Ok(144), Some(b"abc"));
-    abc_is_stored(&rt, alloc, Some(0), Err(MakeFault::StoreFault), None);
-    abc_is_stored(&rt, alloc, Some(1), Err(MakeFault::StoreFault), None);
+    let missing = Err(GetFault::Missing);
+    let fault = Err(MakeFault::StoreFault);
+    abc_is_stored(&rt, alloc, Refuses::Nothing, Ok(144), Ok(b"abc"));
+    abc_is_stored(&rt, alloc, Refuses::Call(0), fault, missing);
+    abc_is_stored(&rt, alloc, Refuses::Call(1), fault, missing);
 }
 
 // Stores an image of three chunks, of which two are alike, by so many calls and puts.
 fn store_three<R: Abort + Threads + Sync>(
     rt: &R,
     alloc: Global,
-    store: Counting,
+    store: ScriptedStore,
     calls: u64,
     puts: u64,
-) -> Counting {
+) -> ScriptedStore {
     let mut image = [0; 99];
     image[96] = b'a';
     image[97] = b'b';
     image[98] = b'c';
-    let calls = store.calls.saturating_add(calls);
-    let puts = store.puts.saturating_add(puts);
+    let calls = store.calls().saturating_add(calls);
+    let puts = store.puts().saturating_add(puts);
     let (store, made) = stores(rt, alloc, &image, store);
     same(rt, made.is_ok(), true);
-    same(rt, store.calls, calls);
-    same(rt, store.puts, puts);
+    same(rt, store.calls(), calls);
+    same(rt, store.puts(), puts);
     store
 }
 
@@ -222,13 +116,13 @@ fn store_three<R: Abort + Threads + Sync>(
 fn is_put_again<R: Abort + Threads + Sync>(
     rt: &R,
     alloc: Global,
-    mut store: Counting,
+    mut store: ScriptedStore,
     spoiled: &[u8],
-) -> Counting {
+) -> ScriptedStore {
     let id = ChunkId::of(DigestKind::Sha512T256, b"abc");
-    ok(rt, store.put(&id, spoiled));
-    let store = store_three(rt, alloc, store, 3, 1);
-    same(rt, store.held(&id), Some(b"abc".as_slice()));
+    ok(rt, store.set_chunk(&id, spoiled));
+    let mut store = store_three(rt, alloc, store, 3, 1);
+    gives(rt, &mut store, &id, Ok(b"abc"));
     store
 }
 
@@ -236,7 +130,13 @@ fn is_put_again<R: Abort + Threads + Sync>(
 #[test]
 fn each_chunk_is_asked_for_once_and_put_where_it_is_lacked(rt: HostRuntime) {
     let alloc = rt.alloc();
-    let store = store_three(&rt, alloc, Counting::new(alloc, None), 4, 2);
+    let store = store_three(
+        &rt,
+        alloc,
+        ScriptedStore::new(alloc, Refuses::Nothing),
+        4,
+        2,
+    );
     let store = store_three(&rt, alloc, store, 2, 0);
     let store = is_put_again(&rt, alloc, store, b"abX");
     let store = is_put_again(&rt, alloc, store, b"ab");
@@ -354,12 +254,12 @@ fn stored_twice<R: Abort + Threads + Sync>(
 ) {
     let views = changing_views(rt, alloc, first, others, count);
     assert!(rt; 0 < views.len());
-    let store = Counting::new(alloc, None);
+    let store = ScriptedStore::new(alloc, Refuses::Nothing);
     let sizes = sizes_of(rt, 48, 48, 48);
     let inner = NoFolders::of(alloc, "");
     let (views, store, stored) = store_image(rt, alloc, &sizes, views, store, &inner);
     let (calls, reads, want) = told;
-    same(rt, store.calls, calls);
+    same(rt, store.calls(), calls);
     assert!(rt; 0 < views.len());
     same(rt, views[0].reads, reads);
     same(rt, stored.err(), want.err());
@@ -397,12 +297,12 @@ fn stored_by<R: Abort + Threads + Sync>(
     alloc: Global,
     image: &[u8],
     count: usize,
-) -> (Vec<u8>, Counting)
+) -> (Vec<u8>, ScriptedStore)
     requires { 0 < count }
 {
     let sizes = sizes_of(rt, 16_384, 65_536, 262_144);
     let views = views_of(rt, alloc, image, count);
-    let store = Counting::new(alloc, None);
+    let store = ScriptedStore::new(alloc, Refuses::Nothing);
     let inner = NoFolders::of(alloc, "");
     let (_views, store, stored) = store_image(rt, alloc, &sizes, views, store, &inner);
     (ok(rt, stored), store)
@@ -417,10 +317,14 @@ fn repeated(rt: &impl Abort, alloc: Global) -> Vec<u8> {
     image
 }
 
-fn each_has_its_name(rt: &impl Abort, chunks: &[(ChunkId, Vec<u8>)]) {
-    for chunk in chunks {
-        let bytes = chunk.1.as_slice();
-        same(rt, chunk.0.is_of(DigestKind::Sha512T256, bytes), true);
+// The store gives the chunk of each entry of the index file.
+fn each_is_given(rt: &impl Abort, alloc: Global, file: &[u8], store: &mut ScriptedStore) {
+    let index = ok(rt, read_index(alloc, &mut view_of(rt, alloc, file)));
+    let mut out = ok(rt, index.room(alloc));
+    for entry in 0..index.count() {
+        let id = index.id(entry);
+        let size = ok(rt, store.get(&id, &mut out));
+        same(rt, id.is_of(DigestKind::Sha512T256, &out[..size]), true);
     }
 }
 
@@ -431,11 +335,11 @@ fn the_same_is_stored_by_any_number_of_views(rt: HostRuntime) {
     let (bytes, store) = stored_by(&rt, alloc, &image, 1);
     for count in [2, 3, 32] {
         assert!(rt; 0 < count);
-        let (others, by) = stored_by(&rt, alloc, &image, count);
+        let (others, mut by) = stored_by(&rt, alloc, &image, count);
         same(&rt, others == bytes, true);
-        same(&rt, by.calls, store.calls);
-        same(&rt, by.puts, store.puts);
-        each_has_its_name(&rt, &by.chunks);
+        same(&rt, by.calls(), store.calls());
+        same(&rt, by.puts(), store.puts());
+        each_is_given(&rt, alloc, &bytes, &mut by);
     }
 }
 
@@ -451,13 +355,13 @@ fn chops(
     alloc: Global,
     index: &Index,
     image: &[u8],
-    store: &mut Counting,
+    store: &mut ScriptedStore,
     want: Result<(), ChopFault>,
     puts: u64,
 ) {
     let chopped = chop(alloc, index, &mut view_of(rt, alloc, image), store);
     same(rt, chopped, want);
-    same(rt, store.puts, puts);
+    same(rt, store.puts(), puts);
 }
 
 // Each chunk is asked for and put.
@@ -465,7 +369,7 @@ fn chops(
 fn an_image_is_chopped_up_to_the_first_refusal(rt: HostRuntime) {
     let alloc = rt.alloc();
     let index = index_of_pieces(&rt, alloc, &[b"abc", b"def"]);
-    let mut store = Counting::new(alloc, None);
+    let mut store = ScriptedStore::new(alloc, Refuses::Nothing);
     let length = Err(ChopFault::Length { size: 5 });
     chops(&rt, alloc, &index, b"abcde", &mut store, length, 0);
     chops(
@@ -486,7 +390,7 @@ fn an_image_is_chopped_up_to_the_first_refusal(rt: HostRuntime) {
         mismatch(1, b"deX"),
         1,
     );
-    let mut store = Counting::new(alloc, None);
+    let mut store = ScriptedStore::new(alloc, Refuses::Nothing);
     chops(&rt, alloc, &index, b"abcdef", &mut store, Ok(()), 2);
 }
 
@@ -495,9 +399,9 @@ fn a_store_that_fails_ends_the_chopping(rt: HostRuntime) {
     let alloc = rt.alloc();
     let index = index_of_pieces(&rt, alloc, &[b"abc", b"def"]);
     let fault = Err(ChopFault::StoreFault);
-    let mut store = Counting::new(alloc, Some(0));
+    let mut store = ScriptedStore::new(alloc, Refuses::Call(0));
     chops(&rt, alloc, &index, b"abcdef", &mut store, fault, 0);
-    let mut store = Counting::new(alloc, Some(3));
+    let mut store = ScriptedStore::new(alloc, Refuses::Call(3));
     chops(&rt, alloc, &index, b"abcdef", &mut store, fault, 1);
 }
 
@@ -505,7 +409,7 @@ fn a_store_that_fails_ends_the_chopping(rt: HostRuntime) {
 fn an_id_that_is_listed_twice_is_seen_to_twice(rt: HostRuntime) {
     let alloc = rt.alloc();
     let index = index_of_pieces(&rt, alloc, &[b"abc", b"abc"]);
-    let mut store = Counting::new(alloc, None);
+    let mut store = ScriptedStore::new(alloc, Refuses::Nothing);
     chops(
         &rt,
         alloc,
@@ -515,7 +419,7 @@ fn an_id_that_is_listed_twice_is_seen_to_twice(rt: HostRuntime) {
         mismatch(1, b"abX"),
         1,
     );
-    same(&rt, store.calls, 2);
+    same(&rt, store.calls(), 2);
     chops(&rt, alloc, &index, b"abcabc", &mut store, Ok(()), 1);
-    same(&rt, store.calls, 4);
+    same(&rt, store.calls(), 4);
 }

@@ -1,0 +1,4 @@
+//! Stores of chunks in memory whose calls are refused as a test states.
+#![tactic(auto)]
+
+pub mod scripted_store;
