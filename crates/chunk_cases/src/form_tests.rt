@@ -16,6 +16,7 @@ use dsy_base::view::{Target, View};
 use dsy_forms::mem_files::MemFiles;
 use dsy_forms::mem_folder::MemFolder;
 use dsy_forms::mem_sink::MemSink;
+use dsy_forms::memory_files::MemoryFiles;
 use std::alloc::Global;
 use std::process::Abort;
 

@@ -8,6 +8,7 @@ use dsy_base::folder::Folder;
 use dsy_base::look::Look;
 use dsy_base::sink::Sink;
 use dsy_base::view::{Target, View};
+use dsy_forms::memory_files::MemoryFiles;
 use dsy_sure::sure_bytes::SureBytes;
 use dsy_sure::sure_files::SureFiles;
 use dsy_sure::sure_folder::SureFolder;

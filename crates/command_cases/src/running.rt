@@ -7,6 +7,7 @@ use crate::world::World;
 use desync_cli::in_memory::{MemWorld, desync_in_memory, make_then_extract};
 use desync_cli::run::desync;
 use dsy_base::folder::Folder;
+use dsy_forms::memory_files::MemoryFiles;
 use dsy_sure::sure_files::SureFiles;
 use dsy_sure::sure_folder::SureFolder;
 use dsy_sure::sure_sink::SureSink;

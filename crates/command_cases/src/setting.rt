@@ -7,6 +7,7 @@ use byte_forms::ranges::RangeFails;
 use dsy_base::folder::Folder;
 use dsy_forms::mem_files::MemFiles;
 use dsy_forms::mem_folder::MemFolder;
+use dsy_forms::memory_files::MemoryFiles;
 use std::alloc::Global;
 use std::test::Fail;
 

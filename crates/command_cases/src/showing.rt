@@ -5,6 +5,7 @@ use crate::world::World;
 use dsy_base::fault::FileFault;
 use dsy_base::files::Files;
 use dsy_base::look::Look;
+use dsy_forms::memory_files::MemoryFiles;
 use link_forms::mem_link::MemLink;
 use std::alloc::{AllocError, Global};
 use std::test::Fail;

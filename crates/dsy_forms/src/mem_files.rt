@@ -14,8 +14,9 @@ ghost use Rattle.dsy_base.specs.Slots.{counts_in, held_in};
 ghost use Rattle.dsy_forms.specs.Trees.{map_of};
 
 use crate::mem_folder::MemFolder;
+use crate::memory_files::MemoryFiles;
 use crate::slot_files::{
-    SlotFolder, put_file, put_folder, remove_file, rename_file, take_folder_out,
+    get_named, look_at, put_named, remove_named, rename_named, set_named, take_folder,
 };
 use byte_forms::calls::{Calls, Fails};
 use byte_forms::mem_target::{MemFile, MemTarget};
@@ -67,33 +68,11 @@ impl MemFiles {
             ≡ count_at (file_counts_of self.old) name.now }
         ensures folder_counts { folder_counts_of self.new ≡ folder_counts_of self.old }
     {
-        if claim(self.alloc, &mut self.files, name).is_err() {
-            return Err(Memory);
-        }
-        put_file(&mut self.files, name, MemFile { bytes, fails });
-        Ok(())
+        set_named(self.alloc, &mut self.files, name, MemFile { bytes, fails })
     }
 
     pub(crate) fn alloc(&self) -> Global {
         self.alloc
-    }
-
-    /// Puts a folder under the name.
-    pub fn set_folder(&mut self, name: &str, f: MemFolder) -> Result<(), Memory>
-        ensures ok { OnOk result (folders_of self.new
-            ≡ at_name (folders_of self.old) name.now (Some (map_of f.files))) }
-        ensures err { OnErr result (folders_of self.new ≡ folders_of self.old) }
-        ensures files { files_of self.new ≡ files_of self.old }
-        ensures counts { file_counts_of self.new ≡ file_counts_of self.old }
-        ensures folder_counts { Counted (folder_counts_of self.old) (folder_counts_of self.new) name.now }
-        ensures kept { count_at (folder_counts_of self.new) name.now
-            ≡ count_at (folder_counts_of self.old) name.now }
-    {
-        if claim(self.alloc, &mut self.folders, name).is_err() {
-            return Err(Memory);
-        }
-        put_folder(&mut self.folders, name, f);
-        Ok(())
     }
 
     /// States which calls on a file fail that isn't there yet, once it is taken or replaced.
@@ -114,32 +93,23 @@ impl MemFiles {
             Err(_) => Err(Memory),
         }
     }
+}
 
-    /// The bytes of the file of this name.
-    pub fn file(&self, name: &str) -> Option<&[u8]>
-        ensures { option_map (λ b. b.now) result ≡ files_of self.now name.now }
-    {
-        match &self.files.get(name)?.held {
+impl MemoryFiles for MemFiles {
+    fn set_folder(&mut self, name: &str, f: MemFolder) -> Result<(), Memory> {
+        set_named(self.alloc, &mut self.folders, name, f)
+    }
+
+    fn file(&self, name: &str) -> Option<&[u8]> {
+        match get_named(&self.files, name) {
             Some(file) => Some(file.bytes.as_slice()),
             None => None,
         }
     }
 
-    /// The folder of this name.
-    pub fn folder(&self, name: &str) -> Option<&MemFolder>
-        ensures { option_map (λ f. map_of f.now.files) result ≡ folders_of self.now name.now }
-    {
-        match &self.folders.get(name)?.held {
-            Some(folder) => Some(folder),
-            None => None,
-        }
+    fn folder(&self, name: &str) -> Option<&MemFolder> {
+        get_named(&self.folders, name)
     }
-}
-
-impl SlotFolder for MemFolder {
-    ghost use Rattle.dsy_forms.specs.Trees.{map_of};
-
-    ghost map = { λ f. map_of f.files };
 }
 
 impl Files for MemFiles {
@@ -192,7 +162,7 @@ impl Files for MemFiles {
 
     fn give(&mut self, name: &str, t: MemTarget) {
         let (file, faults) = t.into_file();
-        put_file(&mut self.files, name, file);
+        put_named(&mut self.files, name, file);
         count(&mut self.files, name, faults);
     }
 
@@ -207,12 +177,12 @@ impl Files for MemFiles {
 
     fn rename(&mut self, from: &str, to: &str) -> Result<(), OpenFault> {
         call_on(self.alloc, &mut self.files, &mut self.calls, to)?;
-        rename_file(&mut self.files, from, to)
+        rename_named(&mut self.files, from, to)
     }
 
     fn remove(&mut self, name: &str) -> Result<(), OpenFault> {
         call_on(self.alloc, &mut self.files, &mut self.calls, name)?;
-        remove_file(&mut self.files, name)
+        remove_named(&mut self.files, name)
     }
 
     fn look(&mut self, name: &str) -> Result<MemFolder, OpenFault> {
@@ -233,15 +203,12 @@ impl Files for MemFiles {
         let Ok(place) = Name::of(self.alloc, name) else {
             return Err(OpenFault::Memory);
         };
-        match take_folder_out(&mut self.folders, name) {
-            Some(folder) => Ok(folder.taken(place)),
-            None => Err(OpenFault::Absent),
-        }
+        take_folder(&mut self.folders, name, place)
     }
 
     fn give_folder(&mut self, name: &str, d: MemFolder) {
         let faults = d.faults();
-        put_folder(&mut self.folders, name, d);
+        put_named(&mut self.folders, name, d);
         count(&mut self.folders, name, faults);
     }
 
@@ -315,7 +282,7 @@ fn replace_file(
     ensures counts { (q : List ℕ) → counts_in files.new q ≡ counts_in files.old q }
 {
     let fails = take_file(alloc, files, coming, name).fails;
-    put_file(files, name, MemFile { bytes, fails });
+    put_named(files, name, MemFile { bytes, fails });
 }
 
 // The file with no bytes.
@@ -334,34 +301,12 @@ type Copied = (Vec<u8>, Vec<(u64, u32)>);
 fn copy_of(alloc: Global, files: &Slots<MemFile>, name: &str) -> Result<Option<Copied>, AllocError>
     ensures { IfOk result (λ o. option_map (λ c. c.0.items) o ≡ files_in files.now name.now) }
 {
-    let Some(slot) = files.get(name) else {
-        return Ok(None);
-    };
-    match &slot.held {
+    match get_named(files, name) {
         Some(file) => {
             let bytes = Vec::from_slice(alloc, &file.bytes)?;
             let reads = Vec::from_slice(alloc, &file.fails.reads)?;
             Ok(Some((bytes, reads)))
         }
         None => Ok(None),
-    }
-}
-
-// A look at the folder under the name.
-fn look_at(folders: &Slots<MemFolder>, name: &str, place: Name) -> Result<MemFolder, OpenFault>
-    ensures found { OpenGives (folders_in folders.now name.now)
-        (λ l f. map_of l.files ≡ f) result }
-    ensures fresh { IfOk result (λ l. (l.faults ≡ 0) × (l.name ≡ place)) }
-    ensures only { result ≢ Err OpenFault.Failed }
-{
-    let Some(slot) = folders.get(name) else {
-        return Err(OpenFault::Absent);
-    };
-    match &slot.held {
-        Some(folder) => match folder.look(place) {
-            Ok(look) => Ok(look),
-            Err(_) => Err(OpenFault::Memory),
-        },
-        None => Err(OpenFault::Absent),
     }
 }

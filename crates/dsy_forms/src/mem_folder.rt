@@ -5,6 +5,7 @@ ghost use Rattle.dsy_base.specs.Counts.{Rose};
 ghost use Rattle.dsy_forms.specs.Trees.{map_of};
 
 use crate::named_files::{copied, listed_names, put_file, read_whole, remove_file};
+use crate::slot_files::{InSlot, SlotFolder};
 use byte_forms::calls::{Calls, Fails};
 use dsy_base::fault::{FileFault, IoFault, raise};
 use dsy_base::folder::Folder;
@@ -40,21 +41,6 @@ impl MemFolder {
         }
     }
 
-    /// The folder as it is taken under a name, with no fault yet.
-    pub(crate) fn taken(self, name: Name) -> MemFolder
-        ensures files { result.files ≡ self.files }
-        ensures faults { result.faults ≡ 0 }
-        ensures place { result.name ≡ name }
-    {
-        MemFolder {
-            alloc: self.alloc,
-            files: self.files,
-            calls: self.calls,
-            faults: 0,
-            name,
-        }
-    }
-
     /// How often a call on it has failed.
     pub(crate) fn faults(&self) -> u64
         ensures { result ≡ self.now.faults }
@@ -70,21 +56,6 @@ impl MemFolder {
         (self.name, self.faults)
     }
 
-    /// A copy of the folder under a name, which counts its own calls.
-    pub(crate) fn look(&self, name: Name) -> Result<MemFolder, AllocError>
-        ensures files { IfOk result (λ l. map_of l.files ≡ map_of self.now.files) }
-        ensures faults { IfOk result (λ l. l.faults ≡ 0) }
-        ensures place { IfOk result (λ l. l.name ≡ name) }
-    {
-        Ok(MemFolder {
-            alloc: self.alloc,
-            files: copied(&self.files)?,
-            calls: self.calls.again(self.alloc)?,
-            faults: 0,
-            name,
-        })
-    }
-
     // Whether the call that is made now fails. If so, it counts a fault.
     fn fails_now(&mut self) -> bool
         ensures kept { (self.new.files ≡ self.old.files) × (self.new.name ≡ self.old.name) }
@@ -97,6 +68,41 @@ impl MemFolder {
             true
         } else {
             false
+        }
+    }
+}
+
+impl InSlot for MemFolder {
+    ghost use Rattle.dsy_base.specs.Maps.{Map};
+    ghost use Rattle.dsy_forms.specs.Trees.{map_of};
+
+    ghost Shown = { Map (List ℕ) };
+
+    ghost shows = { λ f. map_of f.files };
+}
+
+impl SlotFolder for MemFolder {
+    ghost faults = { λ f. f.faults };
+
+    ghost place = { λ f. f.name };
+
+    fn look(&self, name: Name) -> Result<MemFolder, AllocError> {
+        Ok(MemFolder {
+            alloc: self.alloc,
+            files: copied(&self.files)?,
+            calls: self.calls.again(self.alloc)?,
+            faults: 0,
+            name,
+        })
+    }
+
+    fn taken(self, name: Name) -> MemFolder {
+        MemFolder {
+            alloc: self.alloc,
+            files: self.files,
+            calls: self.calls,
+            faults: 0,
+            name,
         }
     }
 }

@@ -16,9 +16,10 @@ use dsy_base::files::Files;
 use dsy_base::image_files::ImageFiles;
 use dsy_base::name::Name;
 use dsy_base::slots::{Slots, claim, take_out};
+use dsy_forms::memory_files::MemoryFiles;
 use dsy_forms::no_folders::NoFolders;
 use dsy_forms::slot_files::{
-    SlotFolder, put_file, put_folder, remove_file, rename_file, take_folder_out,
+    get_named, look_at, put_named, remove_named, rename_named, set_named, take_folder,
 };
 use std::alloc::{AllocError, Global};
 use std::collections::BTreeMap;
@@ -54,54 +55,25 @@ impl SureFiles {
         ensures counts { Counted (zeros_in self.old.files) (zeros_in self.new.files) name.now }
         ensures folder_counts { zeros_in self.new.folders ≡ zeros_in self.old.folders }
     {
-        if claim(self.alloc, &mut self.files, name).is_err() {
-            return Err(Memory);
-        }
-        put_file(&mut self.files, name, bytes);
-        Ok(())
+        set_named(self.alloc, &mut self.files, name, bytes)
+    }
+}
+
+impl MemoryFiles for SureFiles {
+    fn set_folder(&mut self, name: &str, f: SureFolder) -> Result<(), Memory> {
+        set_named(self.alloc, &mut self.folders, name, f)
     }
 
-    /// Puts a folder under the name.
-    pub fn set_folder(&mut self, name: &str, f: SureFolder) -> Result<(), Memory>
-        ensures ok { OnOk result (folders_of self.new
-            ≡ at_name (folders_of self.old) name.now (Some (map_of f.files))) }
-        ensures err { OnErr result (folders_of self.new ≡ folders_of self.old) }
-        ensures files { files_of self.new ≡ files_of self.old }
-        ensures counts { zeros_in self.new.files ≡ zeros_in self.old.files }
-        ensures folder_counts { Counted (zeros_in self.old.folders) (zeros_in self.new.folders) name.now }
-    {
-        if claim(self.alloc, &mut self.folders, name).is_err() {
-            return Err(Memory);
-        }
-        put_folder(&mut self.folders, name, f);
-        Ok(())
-    }
-
-    /// The bytes of the file of this name.
-    pub fn file(&self, name: &str) -> Option<&[u8]>
-        ensures { option_map (λ b. b.now) result ≡ files_of self.now name.now }
-    {
-        match &self.files.get(name)?.held {
+    fn file(&self, name: &str) -> Option<&[u8]> {
+        match get_named(&self.files, name) {
             Some(bytes) => Some(bytes.as_slice()),
             None => None,
         }
     }
 
-    /// The folder of this name.
-    pub fn folder(&self, name: &str) -> Option<&SureFolder>
-        ensures { option_map (λ f. map_of f.now.files) result ≡ folders_of self.now name.now }
-    {
-        match &self.folders.get(name)?.held {
-            Some(folder) => Some(folder),
-            None => None,
-        }
+    fn folder(&self, name: &str) -> Option<&SureFolder> {
+        get_named(&self.folders, name)
     }
-}
-
-impl SlotFolder for SureFolder {
-    ghost use Rattle.dsy_forms.specs.Trees.{map_of};
-
-    ghost map = { λ f. map_of f.files };
 }
 
 impl Files for SureFiles {
@@ -152,7 +124,7 @@ impl Files for SureFiles {
     }
 
     fn give(&mut self, name: &str, t: SureBytes) {
-        put_file(&mut self.files, name, t.into_bytes());
+        put_named(&mut self.files, name, t.into_bytes());
     }
 
     fn replace(&mut self, name: &str, b: &[u8]) -> Result<(), IoFault> {
@@ -160,18 +132,18 @@ impl Files for SureFiles {
         let Ok(bytes) = Vec::from_slice(self.alloc, b) else {
             return Err(IoFault::Memory);
         };
-        put_file(&mut self.files, name, bytes);
+        put_named(&mut self.files, name, bytes);
         Ok(())
     }
 
     fn rename(&mut self, from: &str, to: &str) -> Result<(), OpenFault> {
         make_room(self.alloc, &mut self.files, to)?;
-        rename_file(&mut self.files, from, to)
+        rename_named(&mut self.files, from, to)
     }
 
     fn remove(&mut self, name: &str) -> Result<(), OpenFault> {
         make_room(self.alloc, &mut self.files, name)?;
-        remove_file(&mut self.files, name)
+        remove_named(&mut self.files, name)
     }
 
     fn look(&mut self, name: &str) -> Result<SureFolder, OpenFault> {
@@ -191,14 +163,11 @@ impl Files for SureFiles {
         let Ok(place) = Name::of(self.alloc, name) else {
             return Err(OpenFault::Memory);
         };
-        match take_folder_out(&mut self.folders, name) {
-            Some(folder) => Ok(folder.taken(place)),
-            None => Err(OpenFault::Absent),
-        }
+        take_folder(&mut self.folders, name, place)
     }
 
     fn give_folder(&mut self, name: &str, d: SureFolder) {
-        put_folder(&mut self.folders, name, d);
+        put_named(&mut self.folders, name, d);
     }
 
     ghost told = { λ _. (refl, refl) };
@@ -247,30 +216,8 @@ impl ImageFiles for SureFiles {
 fn copy_of(alloc: Global, files: &Slots<Vec<u8>>, name: &str) -> Result<Option<Vec<u8>>, AllocError>
     ensures { IfOk result (λ o. option_map (λ b. b.items) o ≡ files_in files.now name.now) }
 {
-    let Some(slot) = files.get(name) else {
-        return Ok(None);
-    };
-    match &slot.held {
+    match get_named(files, name) {
         Some(bytes) => Ok(Some(Vec::from_slice(alloc, bytes)?)),
         None => Ok(None),
-    }
-}
-
-// A look at the folder under the name.
-fn look_at(folders: &Slots<SureFolder>, name: &str, place: Name) -> Result<SureFolder, OpenFault>
-    ensures found { OpenGives (folders_in folders.now name.now)
-        (λ l f. map_of l.files ≡ f) result }
-    ensures named { IfOk result (λ l. l.name ≡ place) }
-    ensures only { result ≢ Err OpenFault.Failed }
-{
-    let Some(slot) = folders.get(name) else {
-        return Err(OpenFault::Absent);
-    };
-    match &slot.held {
-        Some(folder) => match folder.look(place) {
-            Ok(look) => Ok(look),
-            Err(_) => Err(OpenFault::Memory),
-        },
-        None => Err(OpenFault::Absent),
     }
 }

@@ -9,6 +9,7 @@ use dsy_base::look::Look;
 use dsy_base::name::Name;
 use dsy_base::temporary::temporary_name;
 use dsy_forms::named_files::{copied, listed_names, put_file, read_whole, remove_file};
+use dsy_forms::slot_files::{InSlot, SlotFolder};
 use std::alloc::{AllocError, Global};
 use std::collections::BTreeMap;
 
@@ -32,29 +33,36 @@ impl SureFolder {
             name: Name::empty(alloc),
         }
     }
+}
 
-    /// The folder as it is taken under a name.
-    pub(crate) fn taken(self, name: Name) -> SureFolder
-        ensures files { result.files ≡ self.files }
-        ensures place { result.name ≡ name }
-    {
-        SureFolder {
-            alloc: self.alloc,
-            files: self.files,
-            name,
-        }
-    }
+impl InSlot for SureFolder {
+    ghost use Rattle.dsy_base.specs.Maps.{Map};
+    ghost use Rattle.dsy_forms.specs.Trees.{map_of};
 
-    /// A copy of the folder under a name.
-    pub(crate) fn look(&self, name: Name) -> Result<SureFolder, AllocError>
-        ensures files { IfOk result (λ l. map_of l.files ≡ map_of self.now.files) }
-        ensures place { IfOk result (λ l. l.name ≡ name) }
-    {
+    ghost Shown = { Map (List ℕ) };
+
+    ghost shows = { λ f. map_of f.files };
+}
+
+impl SlotFolder for SureFolder {
+    ghost faults = { λ _. 0 };
+
+    ghost place = { λ f. f.name };
+
+    fn look(&self, name: Name) -> Result<SureFolder, AllocError> {
         Ok(SureFolder {
             alloc: self.alloc,
             files: copied(&self.files)?,
             name,
         })
+    }
+
+    fn taken(self, name: Name) -> SureFolder {
+        SureFolder {
+            alloc: self.alloc,
+            files: self.files,
+            name,
+        }
     }
 }
 

@@ -9,9 +9,9 @@ use Rattle.dsy_sure.proofs.sure_files.SureFilesFiles.rename.Goals as goal
 pub returns-clause-found : goal.returns-clause-found
 returns-clause-found c =
     let before = ap (option_map (λ f. f.items)) (c.make_room.ensures.kept c.args.from.now) in
-    subst (λ there. FoundThere there c.rename_file.result) before c.rename_file.ensures.found
+    subst (λ there. FoundThere there c.rename_named.result) before c.rename_named.ensures.found
 
 -- so did all files
 pub returns-clause-ok : goal.returns-clause-ok
 returns-clause-ok c =
-    on_ok_weaker c.rename_file.result (λ h. ap Some (renamed_spelled _ _ _ c.args.from.now c.args.to.now (λ q. ap (option_map (λ f. f.items)) (c.make_room.ensures.kept q)) h)) c.rename_file.ensures.ok
+    on_ok_weaker c.rename_named.result (λ h. ap Some (renamed_spelled _ _ _ c.args.from.now c.args.to.now (λ q. ap (option_map (λ f. f.items)) (c.make_room.ensures.kept q)) h)) c.rename_named.ensures.ok

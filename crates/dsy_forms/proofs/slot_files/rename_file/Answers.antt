@@ -1,5 +1,0 @@
-use Rattle.std.proofs.Common.{sym}
-use Rattle.dsy_forms.proofs.slot_files.rename_file.Goals as goal
-
-pub returns-in-Some-clause-found : goal.returns-in-Some-clause-found
-returns-in-Some-clause-found g c = (g.V.SlotFile.bytes c.in-Some.file, sym c.in-Some.ensures.value, tt)
