@@ -113,37 +113,6 @@ fn fill_entry<F: Folder, S: Store>(
     }
 }
 
-// Sees to the entries in order, up to the first refusal. `chunk` has room for the largest.
-fn fill_entries<F: Folder, S: Store>(
-    index: &Index,
-    cached: &mut Cached<F, S>,
-    chunk: &mut [u8],
-) -> Result<(), FillFault>
-    requires inside { (i : ℕ) → i < count_of index.now → size_of index.now i ≤ length chunk.old }
-    requires kind { cached.old.chain.kind ≡ kind_of index.now }
-    requires unnamed { (F.pairs ≡ None) × (F.stores ≡ None) }
-    ensures holds { HoldsTo index.now (filled_to index.now result)
-        (shelf_of F.files F.place F.faults cached.new.shelf) }
-    ensures order { FillEnds S.Store index.now
-        (shelf_of F.files F.place F.faults cached.old.shelf) (shelf_of F.files F.place F.faults cached.new.shelf)
-        cached.old.chain cached.new.chain result }
-    ensures exactly { (m : Map (List ℕ)) → (maps : List (Map (List ℕ))) → FillUnfailed S.holds S.faults index.now m maps
-        (shelf_of F.files F.place F.faults cached.old.shelf) (shelf_of F.files F.place F.faults cached.new.shelf)
-        cached.old.chain.stores cached.new.chain.stores → FillsBy index.now m maps result }
-
-    ensures asks { AsksEntries S.asked S.queried index.now (count_of index.now) cached.old.chain cached.new.chain }
-    ensures spared { SparesStores index.now (shelf_of F.files F.place F.faults cached.old.shelf)
-        (shelf_of F.files F.place F.faults cached.new.shelf) cached.old.chain cached.new.chain }
-    ensures stocks { Stocks (MayFillCache S.holds index.now cached.old.chain.stores)
-        (shelf_of F.files F.place F.faults cached.old.shelf) (shelf_of F.files F.place F.faults cached.new.shelf) }
-    ensures stores { KeepsStores S.Store (IsListedGet index.now) cached.old.chain.stores cached.new.chain.stores }
-{
-    for i in 0..index.count() {
-        fill_entry(index, i, cached, chunk)?;
-    }
-    Ok(())
-}
-
 /// Sees to it that the cache holds each chunk that the index lists, entry by entry up to the first refusal: one that it
 /// doesn't give is had from the stores and put into it. An id that is listed twice is seen to twice.
 pub fn fill<F: Folder, S: Store>(
@@ -171,8 +140,12 @@ pub fn fill<F: Folder, S: Store>(
         (shelf_of F.files F.place F.faults cached.old.shelf) (shelf_of F.files F.place F.faults cached.new.shelf) }
     ensures stores { KeepsStores S.Store (IsListedGet index.now) cached.old.chain.stores cached.new.chain.stores }
 {
-    let Ok(mut chunk) = index.room(alloc) else {
+    let Ok(mut room) = index.room(alloc) else {
         return Err(FillFault::Memory);
     };
-    fill_entries(index, cached, &mut chunk)
+    let chunk = room.as_mut_slice();
+    for i in 0..index.count() {
+        fill_entry(index, i, cached, chunk)?;
+    }
+    Ok(())
 }

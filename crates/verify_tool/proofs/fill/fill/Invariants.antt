@@ -1,6 +1,6 @@
 use Rattle.cache_store.specs.Shelves.{shelf_of}
 use Rattle.verify_tool.proofs.Filled.{Filled}
-use Rattle.verify_tool.proofs.fill.fill_entries.Given as goal
+use Rattle.verify_tool.proofs.fill.fill.Given as goal
 
 -- the first i entries were seen to
 abbrev pub invariant-loop-i : goal.invariant-loop-i
