@@ -6,7 +6,6 @@ use crate::compare::{ok, same};
 use crate::indexes::{ABC, ABX, DEF, DEX, id_of, index_of};
 use byte_forms::mem_view::MemView;
 use caibx_codec::index::Index;
-use chunk_store::id::ChunkId;
 use dsy_base::fault::{Failed, IoFault};
 use dsy_base::view::View;
 use dsy_forms::mem_sink::MemSink;
