@@ -1,4 +1,5 @@
 pub mod Chopped
+pub mod Ended
 pub mod GivenStores
 pub mod Made
 pub mod Viewed

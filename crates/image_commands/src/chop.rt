@@ -77,6 +77,5 @@ pub fn chop_into_store<F: Files, D: Dial>(
     let listed = load_index(alloc, files, index)?;
     let view = open_image(files, image)?;
     let (view, taken) = take_with_image(alloc, files, dial, view, &store)?;
-    chop_between(alloc, files, dial, &listed, view, &store, taken)?;
-    Ok(())
+    chop_between(alloc, files, dial, &listed, view, &store, taken)
 }

@@ -241,6 +241,5 @@ where
     let views = open_views(alloc, files, image, workers)?;
     let opened = take_store(alloc, files, dial, views, &store)?;
     let bytes = store_between(rt, alloc, files, dial, &sizes, &store, opened)?;
-    write_index(files, index, &bytes)?;
-    Ok(())
+    write_index(files, index, &bytes)
 }

@@ -1,7 +1,7 @@
-use Rattle.std.proofs.Common.{All, [], ◌∷◌, IsSome, Ok, Err, map, slice_index_or, inl, inr, refl, subst, sym}
+use Rattle.std.proofs.Common.{All, [], ◌∷◌, IsSome, Err, map, slice_index_or, inl, inr, refl, subst, sym}
 use Rattle.std.proofs.lemmas.Result.{err_from_is_err_and}
 use Rattle.command_steps.specs.AnyStores.{source_files}
-use Rattle.command_steps.specs.Sources.{storage}
+use Rattle.image_commands.proofs.Ended.{make_ends, make_fails}
 use Rattle.image_commands.proofs.GivenStores.{taken_beside}
 use Rattle.image_commands.proofs.Viewed.{names_alone}
 use Rattle.image_commands.specs.Views.{AreOf, names_of}
@@ -34,32 +34,12 @@ returns-in_err-bytes g c =
     let views = c.in_ok-views.ensures in
     let opened = views.bytes in
     let took = c.in_ok-opened.ensures in
-    let files = source_files g.F.Folder.Look.files c.in_ok-opened.opened.taken in
-    let w = storage (at c.take_store.new.files) (state c.args.dial.now) in
-    let v = storage (at c.store_between.new.files) (state c.store_between.new.dial) in
-    let hs = map held c.in_ok-views.views.items in
-    let taken = taken_beside (names_of hs) (c.args.words.image ∷ []) c.args.words.store (at c.open_views.new.files) (at c.take_store.new.files) (Ok files) (names_alone c.args.words.image opened.0 hs opened.2) took.ok in
     let are = subst (λ vs. AreOf c.args.words.image opened.0 (map held vs.items)) (sym took.kept) opened.2 in
-    let stored = c.in_err-bytes.ensures.err c.args.words.image opened.0 are in
-    record { ends = λ o. rw (p.1, p.2) (inr (record { disk = _; dial = _; out = _; gave = c.in_ok-sizes.sizes; did = (c.in_ok-sizes.ensures, refl); then = inr (record { disk = _; dial = _; out = _; gave = opened.0; did = ((opened.1, views.kept, views.used), refl, refl); then = inr (record { disk = _; dial = _; out = _; gave = files; did = (taken, refl, refl); then = inl (stored, refl) }) }) })) }
-
-pub returns-in_err-write_index : goal.returns-in_err-write_index
-returns-in_err-write_index g c =
-    let p = err_from_is_err_and c.from_residual-in_err-write_index.result c.from_residual-in_err-write_index.ensures.1 in
-    let at = g.F.Files.disk in
-    let state = g.D.Dial.state in
-    let held = g.F.View.View.held in
-    let views = c.in_ok-views.ensures in
-    let opened = views.bytes in
-    let took = c.in_ok-opened.ensures in
-    let files = source_files g.F.Folder.Look.files c.in_ok-opened.opened.taken in
-    let w = storage (at c.take_store.new.files) (state c.args.dial.now) in
-    let v = storage (at c.store_between.new.files) (state c.store_between.new.dial) in
-    let hs = map held c.in_ok-views.views.items in
-    let taken = taken_beside (names_of hs) (c.args.words.image ∷ []) c.args.words.store (at c.open_views.new.files) (at c.take_store.new.files) (Ok files) (names_alone c.args.words.image opened.0 hs opened.2) took.ok in
-    let are = subst (λ vs. AreOf c.args.words.image opened.0 (map held vs.items)) (sym took.kept) opened.2 in
-    let stored = c.in_ok-bytes.ensures.ok c.args.words.image opened.0 are in
-    record { ends = λ o. rw (p.1, p.2) (inr (record { disk = _; dial = _; out = _; gave = c.in_ok-sizes.sizes; did = (c.in_ok-sizes.ensures, refl); then = inr (record { disk = _; dial = _; out = _; gave = opened.0; did = ((opened.1, views.kept, views.used), refl, refl); then = inr (record { disk = _; dial = _; out = _; gave = files; did = (taken, refl, refl); then = inr (record { disk = _; dial = _; out = _; gave = c.in_ok-bytes.bytes.items; did = (stored, refl); then = (c.in_err-write_index.ensures, refl, refl) }) }) }) })) }
+    record {
+      ends = λ o. rw (p.1, p.2) (make_fails c.args.words.store c.args.words.sizes c.args.words.index c.args.words.image c.in_ok-sizes.sizes opened.0 (source_files g.F.Folder.Look.files c.in_ok-opened.opened.taken) (state c.args.dial.now) (state c.store_between.new.dial) o
+          (at c.args.files.now) (at c.open_views.new.files) (at c.take_store.new.files) (at c.store_between.new.files) (at c.store_between.new.files) (map held c.in_ok-views.views.items) c.in_ok-sizes.ensures (opened.1, views.kept, views.used) opened.2 took.ok
+          c.in_err-bytes.field-0.0 (c.in_err-bytes.ensures.err c.args.words.image opened.0 are));
+    }
 
 pub returns : goal.returns
 returns g c =
@@ -69,11 +49,9 @@ returns g c =
     let views = c.in_ok-views.ensures in
     let opened = views.bytes in
     let took = c.in_ok-opened.ensures in
-    let files = source_files g.F.Folder.Look.files c.in_ok-opened.opened.taken in
-    let w = storage (at c.take_store.new.files) (state c.args.dial.now) in
-    let v = storage (at c.store_between.new.files) (state c.store_between.new.dial) in
-    let hs = map held c.in_ok-views.views.items in
-    let taken = taken_beside (names_of hs) (c.args.words.image ∷ []) c.args.words.store (at c.open_views.new.files) (at c.take_store.new.files) (Ok files) (names_alone c.args.words.image opened.0 hs opened.2) took.ok in
     let are = subst (λ vs. AreOf c.args.words.image opened.0 (map held vs.items)) (sym took.kept) opened.2 in
-    let stored = c.in_ok-bytes.ensures.ok c.args.words.image opened.0 are in
-    record { ends = λ o. record { disk = _; dial = _; out = _; gave = c.in_ok-sizes.sizes; did = (c.in_ok-sizes.ensures, refl); then = record { disk = _; dial = _; out = _; gave = opened.0; did = ((opened.1, views.kept, views.used), refl, refl); then = record { disk = _; dial = _; out = _; gave = files; did = (taken, refl, refl); then = record { disk = _; dial = _; out = _; gave = c.in_ok-bytes.bytes.items; did = (stored, refl); then = (rw c.deref.ensures.value at c.in_ok-write_index.ensures, refl, refl) } } } } }
+    record {
+      ends = λ o. make_ends c.args.words.store c.args.words.sizes c.args.words.index c.args.words.image c.in_ok-sizes.sizes opened.0 (source_files g.F.Folder.Look.files c.in_ok-opened.opened.taken) (state c.args.dial.now) (state c.store_between.new.dial) o
+          (at c.args.files.now) (at c.open_views.new.files) (at c.take_store.new.files) (at c.store_between.new.files) (at c.write_index.new.files) (map held c.in_ok-views.views.items) c.in_ok-sizes.ensures (opened.1, views.kept, views.used) opened.2 took.ok
+          c.in_ok-bytes.bytes.items c.write_index.result (c.in_ok-bytes.ensures.ok c.args.words.image opened.0 are) (rw c.deref.ensures.value at c.write_index.ensures);
+    }
