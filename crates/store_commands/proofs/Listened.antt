@@ -89,16 +89,6 @@ module _ (writable : Bool) (l : ListenState) where
       served = subst (λ (s : ServedFolder). AreServed writable h.came old h.gone s) (sym same) h.served;
     }
 
-  -- nothing came before
-  pub listens_later : (k m : ListenState) (old new : ServedFolder) → IsIdle l k → Listens writable k m old new → Listens writable l m old new
-  listens_later k m old new idle all =
-      let first = subst (λ (c : Option (List Traffic)). IfSome c (λ coming. IfSome k.ended (λ ended. TakesFront writable coming ended m old new))) idle.coming all in
-      subst (λ (e : Option (List LinkState)). IfSome l.coming (λ coming. IfSome e (λ ended. TakesFront writable coming ended m old new))) idle.ended first
-
-  pub runs_later : (k m : ListenState) (old new : ServedFolder) → IsIdle l k → RunsOut writable k m old new → RunsOut writable l m old new
-  runs_later k m old new idle (inl all) = inl (listens_later k m old new idle all)
-  runs_later k m old new idle (inr (n, mid, all, lacking)) = inr (n, mid, listens_later k n old mid idle all, lacking)
-
   -- there was no memory for the next one
   pub runs_out : (k m : ListenState) (old mid new : ServedFolder) → Listens writable l k old mid → (IsIdle k m × (new ≡ mid)) ⊎ Hears (LacksMemory writable) k m mid new → RunsOut writable l m old new
   runs_out k m old mid new all (inl (idle, same)) = inl (listens_still k m old mid new all idle same)

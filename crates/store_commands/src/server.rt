@@ -73,36 +73,7 @@ fn serve_next<L: Listen, F: Folder>(
     }
 }
 
-// Serves each connection that comes, until no more come.
-fn serve_each<L: Listen, F: Folder>(
-    alloc: Global,
-    listen: &mut L,
-    shelf: &mut ShelfState<F>,
-) -> Result<(), IoFault>
-    requires kind { shelf.old.kind ≡ kinds.Sha512T256 }
-    ensures end { OnOk result ((L.state listen.new).coming ≡ Some []) }
-    ensures served { OnOk result (Listens shelf.old.writable (L.state listen.old) (L.state listen.new)
-        (shelved F.files F.faults shelf.old.folder) (shelved F.files F.faults shelf.new.folder)) }
-    ensures failed { result ≡ Err IoFault.Failed → Rose (L.state listen.old).faults (L.state listen.new).faults
-        × Listens shelf.old.writable (L.state listen.old) (L.state listen.new)
-        (shelved F.files F.faults shelf.old.folder) (shelved F.files F.faults shelf.new.folder) }
-    ensures lacking { result ≡ Err IoFault.Memory → RunsOut shelf.old.writable (L.state listen.old) (L.state listen.new)
-        (shelved F.files F.faults shelf.old.folder) (shelved F.files F.faults shelf.new.folder) }
-    ensures place { F.place shelf.new.folder ≡ F.place shelf.old.folder }
-    ensures faults { (L.state listen.old).faults ≤ (L.state listen.new).faults }
-{
-    'links: for _ in 0..u64::MAX {
-        match serve_next(alloc, listen, shelf) {
-            Ok(true) => {}
-            Ok(false) => return Ok(()),
-            Err(fault) => return Err(fault),
-        }
-    }
-    // More connections than 64 bits count.
-    Err(IoFault::Memory)
-}
-
-// Listens at the address, and serves each connection that comes.
+// Listens at the address, and serves each connection that comes, until no more come.
 fn serve_at<L: Listen, F: Folder>(
     alloc: Global,
     listen: &mut L,
@@ -120,10 +91,16 @@ fn serve_at<L: Listen, F: Folder>(
         (shelved F.files F.faults shelf.old.folder) (shelved F.files F.faults shelf.new.folder) }
     ensures place { F.place shelf.new.folder ≡ F.place shelf.old.folder }
 {
-    match listen.bind(service.host.as_str(), service.port) {
-        Ok(()) => serve_each(alloc, listen, shelf),
-        Err(fault) => Err(fault),
+    listen.bind(service.host.as_str(), service.port)?;
+    'links: for _ in 0..u64::MAX {
+        match serve_next(alloc, listen, shelf) {
+            Ok(true) => {}
+            Ok(false) => return Ok(()),
+            Err(fault) => return Err(fault),
+        }
     }
+    // More connections than 64 bits count.
+    Err(IoFault::Memory)
 }
 
 // How the command ends.

@@ -2,7 +2,7 @@ use Rattle.std.proofs.Common.{◌≡◌, ◌≤◌}
 use Rattle.chunk_server.specs.Shelves.{shelved}
 use Rattle.chunk_store.specs.declared.id.DigestKind.TheVariants as kinds
 use Rattle.store_commands.specs.Serving.{Listens}
-use Rattle.store_commands.proofs.server.serve_each.Given as goal
+use Rattle.store_commands.proofs.server.serve_at.Given as goal
 
 -- connections were served
 abbrev pub invariant-links : goal.invariant-links
