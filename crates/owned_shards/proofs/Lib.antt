@@ -4,4 +4,6 @@ pub mod Wholes
 pub mod Putting
 pub mod Resized
 pub mod Begun
+pub mod Dealt
+pub mod Gathered
 pub mod Kept

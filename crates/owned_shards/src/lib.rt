@@ -1,6 +1,8 @@
-//! A target in shards, all of which one worker owns: how it is split and surveyed, read and written, and joined again.
+//! A target in shards: how several workers survey it, and how one who owns all shards reads, writes and joins them.
 #![tactic(auto)]
 
 pub mod frame;
+mod lanes;
 pub mod shards;
+mod share;
 pub mod survey;

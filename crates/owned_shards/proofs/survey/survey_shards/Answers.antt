@@ -1,5 +1,5 @@
-use Rattle.std.proofs.Common.{◌≡◌, ◌<◌, ◌≤◌, ℕ, List, length, IfSome, true, sym, subst, ap, ◌∙◌, arith}
-use Rattle.caibx_codec.specs.Listing.{Listing, Rules, count_of, image_length, size_of}
+use Rattle.std.proofs.Common.{◌≡◌, ◌<◌, ℕ, List, All, length, vec_len, IfSome, true, sym, subst, ap, ◌∙◌, arith}
+use Rattle.caibx_codec.specs.Listing.{Listing, Rules, count_of, image_length}
 use Rattle.dsy_base.specs.Bytes.{Held, held_resized}
 use Rattle.dsy_base.specs.Counts.{raised}
 use Rattle.dsy_base.specs.Splits.{IsCuts, Left, extents, held_joined}
@@ -8,6 +8,8 @@ use Rattle.owned_shards.proofs.Begun.{all_base, all_first, base_known, base_size
 use Rattle.owned_shards.proofs.Putting.{right}
 use Rattle.owned_shards.proofs.Wholes.{with_map}
 use Rattle.range_ledger.specs.Runs.{Seen}
+use Rattle.owned_shards.proofs.Dealt.{all_alike}
+use Rattle.owned_shards.specs.Shares.{TakesEach}
 use Rattle.owned_shards.specs.Wholes.{Begun, IsTold, IsWhole, Whole, base_told, joined_bytes, joined_faults, fates_of, whole_of}
 use Rattle.range_survey.specs.Fates.{FirstFates, OpenWrong, SettledRight}
 use Rattle.owned_shards.proofs.survey.survey_shards.Goals as goal
@@ -32,7 +34,7 @@ split-requires g c =
     (cuts_all r cuts are (shards_rise r l c.args.plan.now over.dealt rules) some))
 
 pub survey-shards-requires-clause-parts : goal.survey-shards-requires-clause-parts
-survey-shards-requires-clause-parts g c =
+survey-shards-requires-clause-parts g c κs within =
     let r = g.R.RunName.run in
     let l = c.args.index.now in
     let over = c.requires.over in
@@ -48,7 +50,7 @@ survey-shards-requires-clause-parts g c =
     c.in-Ok-split.ensures.parts ∙ (ap (λ t. extents t 0 c.cuts.result.now) known ∙ (ap (extents (base_told r) 0) c.cuts.ensures ∙ extents_all r cuts are))
 
 pub survey-shards-requires-clause-zeros : goal.survey-shards-requires-clause-zeros
-survey-shards-requires-clause-zeros g c =
+survey-shards-requires-clause-zeros g c κs within =
     let r = g.R.RunName.run in
     let l = c.args.index.now in
     let over = c.requires.over in
@@ -60,7 +62,7 @@ survey-shards-requires-clause-zeros g c =
     (subst (λ n. IfSome old.bytes (λ t. length t ≡ n)) (sym c.size-old.ensures) (g.met.T.View.sized c.args.target))
 
 pub survey-shards-requires-clause-size : goal.survey-shards-requires-clause-size
-survey-shards-requires-clause-size g c =
+survey-shards-requires-clause-size g c κs within =
     let r = g.R.RunName.run in
     let l = c.args.index.now in
     let over = c.requires.over in
@@ -71,7 +73,7 @@ survey-shards-requires-clause-size g c =
     λ told. base_size r old.bytes (image_length l) g.T.View.tells over.tells is over.base told ∙ length_same
 
 pub survey-shards-requires-clause-room : goal.survey-shards-requires-clause-room
-survey-shards-requires-clause-room g c =
+survey-shards-requires-clause-room g c κs within =
     let r = g.R.RunName.run in
     let l = c.args.index.now in
     let over = c.requires.over in
@@ -79,7 +81,8 @@ survey-shards-requires-clause-room g c =
     let length_same : image_length l ≡ image_length r.listing = ap image_length same in
     let old : Held = g.T.View.held c.args.target in
     let is = g.met.T.View.told c.args.target in
-    subst (λ (m : Listing). (i : ℕ) → i < count_of m → size_of m i ≤ length c.of-2.new.buf) same (λ i lt. omega (arith, c.requires.room i lt, c.of-2.auto.buf))
+    subst (λ (m : Listing). All (λ b. TakesEach m (vec_len b)) c.zero_names.new.buffers) same
+    (all_alike (λ b. vec_len b) (TakesEach l) c.args.buffers.now c.zero_names.new.buffers c.zero_names.ensures.room c.requires.room)
 
 pub new-requires-clause-whole : goal.new-requires-clause-whole
 new-requires-clause-whole g c =

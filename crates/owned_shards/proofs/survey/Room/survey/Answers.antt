@@ -1,93 +1,50 @@
-use Rattle.std.proofs.Common.{◌≡◌, ◌+◌, ◌≤◌, ◌++◌, ◌∷◌, [], ℕ, zero, suc, length, reverse, vec_capacity, vec_len, refl, sym, subst, ap, ◌∙◌, arith, rules}
-use Rattle.std.proofs.lemmas.List.{length-map, length_push, nil_from_length, reverse-append}
-use Rattle.dsy_base.specs.Splits.{extent}
-use Rattle.owned_shards.proofs.Begun.{length_below, popped}
-use Rattle.range_ledger.specs.Runs.{Run, Seen, open_in}
-use Rattle.owned_shards.specs.Wholes.{Begun, ShardsWith, base_extent, extents_below, open_below}
+use Rattle.std.proofs.Common.{◌≡◌, List, All, length, reverse, vec_len, subst, ap, sym, ◌∙◌, arith, rules}
+use Rattle.std.proofs.lemmas.List.{with_items_is}
+use Rattle.std.specs.List.{flat_map}
+use Rattle.std.specs.Vec.{with_items}
+use Rattle.owned_shards.proofs.Gathered.{all_ready, all_surveyed}
+use Rattle.owned_shards.proofs.Wholes.{with_length}
+use Rattle.owned_shards.specs.Shares.{AwaitsSurvey}
+use Rattle.owned_shards.specs.Wholes.{Begun, ShardsWith}
+use Rattle.owned_shards.specs.declared.lanes.Lane.{Lane}
 use Rattle.owned_shards.proofs.survey.Room.survey.Goals as goal
 
-pub loop-part-init : goal.loop-part-init
-loop-part-init g c =
+pub survey_all-requires-clause-ready : goal.survey_all-requires-clause-ready
+survey_all-requires-clause-ready g c κs within =
+    subst (λ xs. All (λ a. AwaitsSurvey g.R.RunName.run a.share) xs) (sym c.deref_mut.ensures.value)
+    (all_ready g.R.RunName.run c.deal-lanes.result.items (reverse c.unread_shards-unread.result.0.items) c.deal-lanes.ensures.unread c.unread_shards-unread.ensures.unread
+    c.deal-lanes.ensures.none c.deal-lanes.ensures.room)
+
+pub gather-requires-clause-room : goal.gather-requires-clause-room
+gather-requires-clause-room g c =
     let r = g.R.RunName.run in
-    let parts = c.args.parts.items in
-    let n : length parts ≡ r.shards = sym (length-map parts (λ p. extent (g.P.View.held p))) ∙ (ap length c.requires.parts ∙ length_below r r.shards) in
-    let cap : length parts ≤ vec_capacity c.args.parts = search rules in (
-      c.requires.parts ∙ ap (extents_below r) (sym n),
-      c.requires.open ∙ ap (open_below r) (sym n),
-      subst (λ xs. ShardsWith (Begun r) r (length parts) (reverse xs)) (sym c.requires.none) n,
-      omega (arith, ap length c.requires.none, n),
-      c.requires.capacity,
-      omega (arith, cap, n),
-      refl,
+    let after : List (Lane g.row.P.Denot g.row.R.Denot) = c.survey_all.new.lanes in
+    let kept : (with_items c.deal-lanes.result after).items ≡ after = with_items_is c.deal-lanes.result after (omega (arith, c.survey_all.auto.lanes, c.deref_mut.ensures.len)) in
+    let begun = all_surveyed r c.deal-lanes.result.items (reverse c.unread_shards-unread.result.0.items) c.deal-lanes.ensures.unread c.unread_shards-unread.ensures.unread c.deref_mut.result.now after
+    c.deref_mut.ensures.value (omega (arith, c.survey_all.auto.lanes)) c.survey_all.ensures.each in
+    omega (
+      arith,
+      with_length r (Begun r) 0 (flat_map (λ a. reverse a.share.shards.items) after) begun,
+      ap (λ (xs : List (Lane g.row.P.Denot g.row.R.Denot)). length (flat_map (λ a. reverse a.share.shards.items) xs)) kept,
+      c.requires.capacity.1,
     )
-
-pub pop_fates-open-requires : goal.pop_fates-open-requires
-pop_fates-open-requires g c =
-    let r = g.R.RunName.run in
-    let inv = c.loop-part.invariant in
-    let left = c.pop.new.self.items in
-    let all = c.loop-part.parts.items in
-    let pushed : all ≡ left ++ c.in-Some.part ∷ [] = c.in-Some.ensures.items in
-    let long : length all ≡ suc (length left) = let h = length_push left c.in-Some.part in omega (arith, h, ap length pushed) in
-    let same : length c.loop-part.fates.items ≡ length all = sym (length-map c.loop-part.fates.items (λ f. f.items)) ∙ (ap length inv.1 ∙ opens r (length all)) in
-    let size : length c.loop-part.fates.items ≡ vec_len c.loop-part.fates = search rules in
-    omega (arith, same, size, long) where
-      opens : (r : Run) (n : ℕ) → length (open_below r n) ≡ n
-      opens r zero = refl
-      opens r (suc n) = omega (arith, opens r n, length_push (open_below r n) (open_in r n))
-
-pub surveyed-shard-requires-clause-part : goal.surveyed-shard-requires-clause-part
-surveyed-shard-requires-clause-part g c =
-    let r = g.R.RunName.run in
-    let inv = c.loop-part.invariant in
-    let left = c.pop.new.self.items in
-    let all = c.loop-part.parts.items in
-    let pushed : all ≡ left ++ c.in-Some.part ∷ [] = c.in-Some.ensures.items in
-    let long : length all ≡ suc (length left) = let h = length_push left c.in-Some.part in omega (arith, h, ap length pushed) in
-    let num : c.len-number.result ≡ length left = search rules in
-    (popped (λ p. extent (g.P.View.held p)) (extents_below r) (base_extent r) (λ n. refl) left all c.in-Some.part (length left) pushed (inv.0 ∙ ap (extents_below r) long)).1 ∙ ap (base_extent r) (sym num)
-
-pub surveyed-shard-requires-clause-open : goal.surveyed-shard-requires-clause-open
-surveyed-shard-requires-clause-open g c =
-    let r = g.R.RunName.run in
-    let inv = c.loop-part.invariant in
-    let left = c.pop.new.self.items in
-    let all = c.loop-part.parts.items in
-    let pushed : all ≡ left ++ c.in-Some.part ∷ [] = c.in-Some.ensures.items in
-    let long : length all ≡ suc (length left) = let h = length_push left c.in-Some.part in omega (arith, h, ap length pushed) in
-    let num : c.len-number.result ≡ length left = search rules in
-    (popped (λ f. f.items) (open_below r) (open_in r) (λ n. refl) c.pop_fates-open.new.lists.items c.loop-part.fates.items c.pop_fates-open.result (length left) c.pop_fates-open.ensures
-    (inv.1 ∙ ap (open_below r) long)).1 ∙ ap (open_in r) (sym num)
-
-pub loop-part-preserved : goal.loop-part-preserved
-loop-part-preserved g c =
-    let r = g.R.RunName.run in
-    let inv = c.loop-part.invariant in
-    let left = c.pop.new.self.items in
-    let all = c.loop-part.parts.items in
-    let pushed : all ≡ left ++ c.in-Some.part ∷ [] = c.in-Some.ensures.items in
-    let long : length all ≡ suc (length left) = let h = length_push left c.in-Some.part in omega (arith, h, ap length pushed) in
-    let num : c.len-number.result ≡ length left = search rules in
-    let shard : Seen = c.surveyed-shard.result in
-    let turned : reverse c.put_back.new.values.items ≡ shard ∷ reverse c.loop-part.shards.items =
-    ap reverse c.put_back.ensures.items ∙ reverse-append c.loop-part.shards.items (shard ∷ []) in
-    let next : length all ≡ length left + 1 = omega (arith, long) in (
-      (popped (λ p. extent (g.P.View.held p)) (extents_below r) (base_extent r) (λ n. refl) left all c.in-Some.part (length left) pushed (inv.0 ∙ ap (extents_below r) long)).0,
-      (popped (λ f. f.items) (open_below r) (open_in r) (λ n. refl) c.pop_fates-open.new.lists.items c.loop-part.fates.items c.pop_fates-open.result (length left) c.pop_fates-open.ensures
-          (inv.1 ∙ ap (open_below r) long)).0,
-      subst (λ xs. ShardsWith (Begun r) r (length left) xs) (sym turned)
-          (c.surveyed-shard.ensures.number ∙ num, (c.surveyed-shard.ensures.begun, subst (λ k. ShardsWith (Begun r) r k (reverse c.loop-part.shards.items)) next inv.2)),
-      omega (arith, ap length c.put_back.ensures.items, length_push c.loop-part.shards.items shard, inv.3, next),
-      omega (arith, c.put_back.ensures.kept, inv.4),
-      omega (arith, c.in-Some.ensures.capacity, inv.5),
-      c.surveyed-shard.ensures.room ∙ inv.6,
-    )
-
-pub returns-clause-none : goal.returns-clause-none
-returns-clause-none g c = let none : length c.pop.new.self.items ≡ 0 = search rules in nil_from_length c.pop.new.self.items none
 
 pub returns-clause-begun : goal.returns-clause-begun
 returns-clause-begun g c =
     let r = g.R.RunName.run in
-    let none : length c.loop-part.parts.items ≡ 0 = search rules in
-    subst (λ xs. ShardsWith (Begun r) r 0 xs) (sym c.reverse.ensures.items) (subst (λ k. ShardsWith (Begun r) r k (reverse c.loop-part.shards.items)) none c.loop-part.invariant.2)
+    let after : List (Lane g.row.P.Denot g.row.R.Denot) = c.survey_all.new.lanes in
+    let kept : (with_items c.deal-lanes.result after).items ≡ after = with_items_is c.deal-lanes.result after (omega (arith, c.survey_all.auto.lanes, c.deref_mut.ensures.len)) in
+    let begun = all_surveyed r c.deal-lanes.result.items (reverse c.unread_shards-unread.result.0.items) c.deal-lanes.ensures.unread c.unread_shards-unread.ensures.unread c.deref_mut.result.now after
+    c.deref_mut.ensures.value (omega (arith, c.survey_all.auto.lanes)) c.survey_all.ensures.each in
+    subst (ShardsWith (Begun r) r 0) (sym (c.gather.ensures.items ∙ ap (flat_map (λ (a : Lane g.row.P.Denot g.row.R.Denot). reverse a.share.shards.items)) kept)) begun
+
+pub returns-clause-capacity : goal.returns-clause-capacity
+returns-clause-capacity g c =
+    let size : length c.gather.result.items ≡ vec_len c.gather.result = search rules in
+    omega (
+      arith,
+      size,
+      with_length g.R.RunName.run (Begun g.R.RunName.run) 0 c.gather.result.items (returns-clause-begun g c),
+      c.unread_shards-unread.ensures.capacity,
+      c.unread_shards-unread.ensures.size,
+    )
