@@ -19,6 +19,7 @@ use range_survey::zeros::ZeroNames;
 use std::alloc::Global;
 use std::marker::Brand;
 use std::process::Abort;
+use std::thread::Threads;
 
 // The index of an image in four pieces, of which two are one.
 fn index(rt: &impl Abort, alloc: Global) -> Index {
@@ -42,20 +43,24 @@ fn has_kept<R: RunName, T: Target>(
 }
 
 // Surveys the shards of a target, and compares which of its four entries were kept.
-fn surveys<R: RunName, T: Target>(
-    rt: &impl Abort,
+fn surveys<H: Abort + Threads + Sync, R: RunName + Send + Sync, T: Target>(
+    rt: &H,
     alloc: Global,
     index: &Index,
     plan: &Plan,
     target: T,
     kept: [bool; 4],
 ) -> T
+where
+    T::Piece: Send,
     requires over { IsRunOver R.run index.now plan.now T.tells (T.held target) }
 {
-    let Ok(mut buf) = index.room(alloc) else {
+    let Ok(buffer) = index.room(alloc) else {
         panic!(rt; "no memory");
     };
-    let Ok(shards) = survey_shards::<R, T>(alloc, index, plan, target, &mut buf) else {
+    let mut buffers = [buffer];
+    let surveyed = survey_shards::<H, R, T>(rt, alloc, index, plan, target, &mut buffers);
+    let Ok(shards) = surveyed else {
         panic!(rt; "not surveyed");
     };
     has_kept(rt, index, &shards, kept);
@@ -64,13 +69,19 @@ fn surveys<R: RunName, T: Target>(
 
 // Surveys these bytes, of which the read of this offset fails once, and compares which entries were kept. The others
 // are open. Each entry is a shard.
-fn keeps(rt: &impl Abort, alloc: Global, old: &[u8], fails_at: u64, kept: [bool; 4]) {
+fn keeps<H: Abort + Threads + Sync>(
+    rt: &H,
+    alloc: Global,
+    old: &[u8],
+    fails_at: u64,
+    kept: [bool; 4],
+) {
     let index = index(rt, alloc);
     let plan = ok(rt, Plan::of(alloc, &index, 1));
     let mut fails = RangeFails::none(alloc);
     ok(rt, fails.reads.push((fails_at, 1)));
     let target = MemTarget::new(alloc, ok(rt, Vec::from_slice(alloc, old)), fails);
-    let target = surveys::<Brand, MemTarget>(rt, alloc, &index, &plan, target, kept);
+    let target = surveys::<H, Brand, MemTarget>(rt, alloc, &index, &plan, target, kept);
     same(rt, target.bytes().len(), 12);
 }
 

@@ -129,8 +129,9 @@ where
     requires over { IsRunOver R.run index.now plan.now T.tells (T.held target) }
     requires may { (e : ℕ) → R.run.may e ≡ true }
 {
-    let mut buf = index.room(alloc).expect(rt, "memory");
-    let Ok(shards) = survey_shards::<R, T>(alloc, index, plan, target, &mut buf) else {
+    let mut buffers = [index.room(alloc).expect(rt, "memory")];
+    let surveyed = survey_shards::<H, R, T>(rt, alloc, index, plan, target, &mut buffers);
+    let Ok(shards) = surveyed else {
         panic!(rt; "the survey was refused");
     };
     shards.rules();
