@@ -1,7 +1,7 @@
 //! A target in shards while each shard stands behind a lock of its own. Shards count from 0.
 
-ghost use Rattle.std.specs.Prelude.{◌≡◌, ◌≤◌, [], IfSome, is_some, length, vec_capacity, vec_len};
-ghost use Rattle.owned_shards.specs.Wholes.{AreShards, KeptWhole};
+ghost use Rattle.std.specs.Prelude.{◌≡◌, ◌≤◌, [], IfSome, IsTrue, is_some, length, vec_capacity, vec_len};
+ghost use Rattle.owned_shards.specs.Wholes.{AreShards, KeptWhole, joined_faults};
 ghost use Rattle.range_ledger.specs.Runs.{IsShard};
 
 use crate::shards::{Shards, put_back};
@@ -48,10 +48,13 @@ fn lock_all<'a, P: Part, R: RunName>(
     ensures none { result.0.items ≡ [] }
     ensures room { vec_len shards.entry ≤ vec_capacity result.0 }
     ensures size { vec_len result.1 ≡ vec_len shards.entry }
+    ensures sure { IsTrue P.never_fails → joined_faults shards.entry.items ≡ 0 }
 {
     let mut shards = shards;
     let mut locks = room;
     while let Some(shard) = shards.pop() {
+        // Only for its contract: a part that never fails counts no fault.
+        shard.rules();
         put_back(&mut locks, Mutex::new(shard));
     }
     locks.reverse();
@@ -114,6 +117,7 @@ impl<'a, R: RunName, T: Target> Shards<'a, R, T> {
         ensures size { result.0.size ≡ self.entry.held.size }
         ensures name { result.0.name ≡ self.entry.held.name }
         ensures faults { result.0.faults ≡ self.entry.faults_before }
+        ensures sure { IsTrue T.never_fails → self.entry.faults ≡ self.entry.faults_before }
     {
         let Shards {
             index,

@@ -63,7 +63,9 @@ pub struct Met {
 }
 
 impl Met {
-    pub fn new(bytes: Vec<u8>, meeting: Arc<Meeting, Global>) -> Met {
+    pub fn new(bytes: Vec<u8>, meeting: Arc<Meeting, Global>) -> Met
+        ensures bytes { result.bytes ≡ bytes }
+    {
         Met {
             bytes,
             waits: true,
