@@ -56,12 +56,12 @@ pub some_both : (o : Option (List ℕ)) (A B : List ℕ → Type 0) → IfSome o
 some_both None A B one other = tt
 some_both (Some y) A B one other = (one, other)
 
-some_between : (o mid : Option (List ℕ)) (A : List ℕ → List ℕ → Type 0) → is_some mid ≡ is_some o → WhereTold o mid A → IfSome o (λ y. (u : List ℕ) × A y u)
+pub some_between : (o mid : Option (List ℕ)) (A : List ℕ → List ℕ → Type 0) → is_some mid ≡ is_some o → WhereTold o mid A → IfSome o (λ y. (u : List ℕ) × A y u)
 some_between None mid A same has = tt
 some_between (Some y) None A same has = absurd (true≢false (sym same))
 some_between (Some y) (Some u) A same has = (u, has)
 
-told_between : (o mid t : Option (List ℕ)) (A B : List ℕ → List ℕ → Type 0) → is_some mid ≡ is_some o → WhereTold o mid A → WhereTold mid t B
+pub told_between : (o mid t : Option (List ℕ)) (A B : List ℕ → List ℕ → Type 0) → is_some mid ≡ is_some o → WhereTold o mid A → WhereTold mid t B
     → WhereTold o t (λ y z. (u : List ℕ) × A y u × B u z)
 told_between None mid t A B same one other = tt
 told_between (Some y) None t A B same one other = absurd (true≢false (sym same))

@@ -1,14 +1,16 @@
 -- An index has one plan for so many workers, and a list of one kit has one kit.
-use Rattle.std.proofs.Common.{◌≡◌, ◌∙◌, ℕ, zero, suc, ◌<◌, List, [], ◌∷◌, ◌++◌, All, Option, length, map, slice_index, slice_index_or, slice_set, refl, sym, ap, subst, arith}
-use Rattle.std.proofs.lemmas.List.{ext_get_or, length-append}
-use Rattle.assembler.specs.OneKit.{AreUnused, ByPlan, KitUnused, OfKit, lent, with_kit}
+use Rattle.std.proofs.Common.{◌≡◌, ◌∙◌, ℕ, zero, suc, ◌<◌, ◌+◌, List, [], ◌∷◌, ◌++◌, All, Option, length, map, slice_index, slice_index_or, slice_set, refl, sym, ap, subst, arith}
+use Rattle.std.proofs.lemmas.List.{ext_get_or, length-append, length-map}
+use Rattle.std.proofs.lemmas.List.FromFn.{get_or-map-range_with_len, length-range_with_len}
+use Rattle.std.specs.List.{range_with_len}
+use Rattle.assembler.specs.OneKit.{ByPlan, OfKit, lent}
 use Rattle.cache_store.specs.Shelves.{Shelf}
 use Rattle.chunk_sources.specs.Sources.{Sources, sources}
 use Rattle.chunk_sources.specs.Wants.{Task}
 use Rattle.chunk_sources.specs.declared.kit.Kit.{Kit}
-use Rattle.extract_plan.specs.Places.{Placed}
-use Rattle.caibx_codec.specs.Listing.{Listing, count_of}
-use Rattle.extract_plan.specs.Deal.{AreShardEnds, AreWants, Deal, IsPlan, deal_shards, shards_of}
+use Rattle.extract_plan.specs.Places.{Placed, PlacesFit, PlacesKnown, places_at}
+use Rattle.caibx_codec.specs.Listing.{Listing, count_of, size_of, start_of}
+use Rattle.extract_plan.specs.Deal.{AreShardEnds, AreWants, Deal, IsPlan, deal_shards, entries_of, shard_start, shards_of}
 
 -- ---- the plan
 
@@ -62,6 +64,36 @@ module _ (l : Listing) where
       ∙ ap (λ (n : ℕ). record { workers = e.workers; wants = n; want_of = d.want_of; cuts = d.cuts }) wants
       ∙ ap (λ (xs : List ℕ). record { workers = e.workers; wants = e.wants; want_of = xs; cuts = d.cuts }) want_of
       ∙ ap (λ (xs : List ℕ). record { workers = e.workers; wants = e.wants; want_of = e.want_of; cuts = xs }) cuts
+
+  -- ---- plans for other numbers of workers
+
+  -- places by one plan are places by another
+  pub places_on : (n m : ℕ) (d e : Deal) → IsPlan l n d → IsPlan l m e → (x : Placed) (seeds : ℕ) → PlacesKnown l d x seeds → PlacesKnown l e x seeds
+  places_on n m d e p q x seeds is =
+      let want_of : d.want_of ≡ e.want_of = same_wants d.wants e.wants d.want_of e.want_of p.wants q.wants in
+      let less = no_more d.wants e.wants d.want_of e.want_of p.wants q.wants in
+      let more = no_more e.wants d.wants e.want_of d.want_of q.wants p.wants in
+      let wants : d.wants ≡ e.wants = omega (arith, less, more) in
+      record {
+        size = is.size ∙ ap (λ (k : ℕ). k + 1) wants;
+        fit = λ w inside. subst (λ (xs : List ℕ). PlacesFit seeds (size_of l (slice_index (entries_of xs w) 0)) (places_at x w)) want_of (is.fit w (omega (arith, inside, wants)));
+      }
+
+  -- where there is a plan for one number of workers there is one for another
+  pub plan_for : (n m : ℕ) (d : Deal) → IsPlan l n d → (e : Deal) × IsPlan l m e
+  plan_for n m d p =
+      let count = shards_of m (length d.want_of) in
+      let end : ℕ → ℕ = λ k. start_of l (shard_start (count_of l) count (k + 1)) in (
+        record { workers = m; wants = d.wants; want_of = d.want_of; cuts = map end (range_with_len 0 count) },
+        record {
+          workers = refl;
+          wants = p.wants;
+          cuts = record {
+            size = length-map (range_with_len 0 count) end ∙ length-range_with_len 0 count;
+            ends = λ k inside. get_or-map-range_with_len end 0 count k k 0 inside (omega arith);
+          };
+        },
+      )
 
 -- ---- the kit
 
@@ -120,23 +152,21 @@ module _ {K : Type 0} where
   of_same xs {So} is = record { so = λ k j first last. subst (λ r. So k r) (head_same k j (sym first ∙ last)) (is k) }
 
 -- what is so of the only kit, by the plan of the index, is so of the kit before it had room
-pub by_kit : {S V : Type 0} (l : Listing) (x : Placed) (s : Task) → s.listing ≡ l → IsPlan l 1 s.plan → s.places ≡ x → (a b : ℕ) (e f : Option Shelf) (xs ms ys : List (Kit S V))
-    → length ms ≡ 1 → map (λ k. k.chain) ms ≡ map (λ k. k.chain) xs → map (λ k. k.seeds) ms ≡ map (λ k. k.seeds) xs → {So : Task → Sources S V → Sources S V → Type 0}
+pub by_kit : {S V : Type 0} (l : Listing) (x : Placed) (s : Task) (a b : ℕ) (e f : Option Shelf) (xs ms ys : List (Kit S V)) → s.listing ≡ l → IsPlan l (length xs) s.plan → s.places ≡ x
+    → map (λ k. k.chain) ms ≡ map (λ k. k.chain) xs → map (λ k. k.seeds) ms ≡ map (λ k. k.seeds) xs → {So : Task → Sources S V → Sources S V → Type 0}
     → OfKit ms ys (λ k j. So s (sources a k.seeds.items e k.chain) (sources b j.seeds.items f j.chain)) → ByPlan l x (lent a xs e) (lent b ys f) So
-by_kit {S} {V} l x s listed plan placed a b e f xs ms ys one chains seeds {So} is = record {
+by_kit {S} {V} l x s a b e f xs ms ys listed plan placed chains seeds {So} is = record {
   so = λ t q p t_listed t_placed planned first last.
+      let alone_in : length xs ≡ 1 = ap (λ (zs : List (Kit S V)). length zs) first in
+      let one : length ms ≡ 1 = sym (length-map ms (λ (n : Kit S V). n.chain)) ∙ ap (λ zs. length zs) chains ∙ length-map xs (λ (n : Kit S V). n.chain) ∙ alone_in in
       let k = one_of ms one in
       let chain : k.0.chain ≡ q.chain = head_same k.0.chain q.chain (sym (ap (map (λ (n : Kit S V). n.chain)) k.1) ∙ (chains ∙ ap (map (λ (n : Kit S V). n.chain)) first)) in
       let seed : k.0.seeds ≡ q.seeds = head_same k.0.seeds q.seeds (sym (ap (map (λ (n : Kit S V). n.seeds)) k.1) ∙ (seeds ∙ ap (map (λ (n : Kit S V). n.seeds)) first)) in
       let task_is : (◌≡◌ {A = Task} s t) =
       ap (λ (n : Listing). record { listing = n; plan = s.plan; places = s.places }) (listed ∙ sym t_listed)
-      ∙ (ap (λ (n : Deal). record { listing = t.listing; plan = n; places = s.places }) (same_plan l 1 s.plan t.plan plan planned)
+      ∙ (ap (λ (n : Deal). record { listing = t.listing; plan = n; places = s.places }) (same_plan l 1 s.plan t.plan (subst (λ (n : ℕ). IsPlan l n s.plan) alone_in plan) planned)
       ∙ ap (λ (n : Placed). record { listing = t.listing; plan = t.plan; places = n }) (placed ∙ sym t_placed)) in
       subst (λ (n : Task). So n (sources a q.seeds.items e q.chain) (sources b p.seeds.items f p.chain)) task_is
       (subst (λ v. So s (sources a v.items e q.chain) (sources b p.seeds.items f p.chain)) seed
       (subst (λ v. So s (sources a k.0.seeds.items e v) (sources b p.seeds.items f p.chain)) chain (is.so k.0 p k.1 last)));
 }
-
--- no kit was used
-pub kits_unused : {S V : Type 0} (a b : ℕ) (xs ys : List (Kit S V)) (e : Option Shelf) → ys ≡ xs → KitUnused (lent a xs e) (lent b ys e)
-kits_unused a b xs ys e same = subst (λ zs. OfKit xs zs (λ k j. AreUnused (with_kit (lent a xs e) k) (with_kit (lent b ys e) j))) (sym same) (of_same xs (λ k. (refl, (refl, refl))))

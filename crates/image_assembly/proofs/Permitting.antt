@@ -4,7 +4,7 @@ use Rattle.assembler.proofs.Entries.{among_of, first_among, ids_same, listed_of}
 use Rattle.assembler.proofs.Finished.{here}
 use Rattle.assembler.proofs.HadOn.{had_entry}
 use Rattle.assembler.specs.Assemblies.{IsObtainable}
-use Rattle.assembler.specs.Passes.{HadAt, want_at}
+use Rattle.assembler.specs.Passes.{HadAll, HadAt, want_at}
 use Rattle.assembler.specs.Permits.{MayFillHad}
 use Rattle.assembler.specs.Stages.{Stage}
 use Rattle.cache_store.specs.Giving.{SomeGives}
@@ -57,3 +57,12 @@ module _ (r : Run) (d : Deal) (x : Placed) (wants : AreWants r.listing d.wants d
       permit i inside (λ tells telling maps is.
       let had : Had a.fates (want_chunk t w) (views_of view a.kit.seeds.items) maps = has (subst (Telling view.tells) (sym seen) telling) [] maps (ap cached_in none) (holds ∙ is) in
       had_so a.fates (filled tells) views maps i inside (had_entry t wants a.fates views maps w i among (subst (λ v. Had a.fates (want_chunk t w) v maps) seen had)))
+
+  -- what a pass has settled may be filled, if the run permits so with the kit that it began with
+  pub settled_may : {S V : Type 0} (store : StoreWords S) (view : ViewWords V) (views : List (Option Held)) (told : List (Option (Map (List ℕ)))) → PermitsWith view.tells r t views told
+      → (a : Stage S V) (now : List Fate) → a.cache ≡ None → views_of view a.kit.seeds.items ≡ views → map store.holds a.kit.chain.stores ≡ told → FilledBy a.fates → HadAll store view t a now
+      → (i : ℕ) → i < count_of r.listing → settled now i ≡ true → r.may i ≡ true
+  settled_may store view views told permit a now none seen holds filled had i inside is =
+      permit i inside (λ tells telling maps are.
+      had_so a.fates (filled tells) views maps i inside
+      (subst (λ v. HadAt t a.fates v maps i) seen (had (subst (Telling view.tells) (sym seen) telling) [] maps (ap cached_in none) (holds ∙ are) i inside is)))

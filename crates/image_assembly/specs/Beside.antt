@@ -4,13 +4,11 @@ use Rattle.std.specs.Prelude.{◌≡◌, ◌⊎◌, ℕ, ◌<◌, ◌≤◌, Lis
 use Rattle.std.specs.Prelude.{is_some, Result, Err}
 use Rattle.assembler.specs.Assemblies.{After, Assembles, IsObtainable, IsUnobtained, Verdict}
 use Rattle.assembler.specs.Obtainable.{OnlyObtainable}
-use Rattle.assembler.specs.Passes.{EndsBy, HasPassed, WhereQuiet, one_pass, want_at}
+use Rattle.assembler.specs.Passes.{EndsBy, WhereQuiet, want_at}
 use Rattle.assembler.specs.Stages.{Stage}
 use Rattle.assembler.specs.declared.fault.ExtractFault.{ExtractFault}
-use Rattle.assembler.specs.declared.fault.ExtractFault.TheVariants as faults
 use Rattle.caibx_codec.specs.Asks.{IsListedGet}
 use Rattle.caibx_codec.specs.Listing.{count_of, image_length}
-use Rattle.chunk_sources.specs.Caches.{cached_in}
 use Rattle.chunk_sources.specs.Sources.{KeepsSeeds, Sources, Telling, views_of}
 use Rattle.chunk_sources.specs.Wants.{Task}
 use Rattle.chunk_sources.specs.declared.kit.Kit.{Kit}
@@ -19,11 +17,9 @@ use Rattle.dsy_base.specs.Bytes.{Held, resized}
 use Rattle.dsy_base.specs.Counts.{Rose}
 use Rattle.dsy_base.specs.Maps.{Map}
 use Rattle.dsy_base.specs.declared.view.View.{Ghosts as ViewWords}
-use Rattle.image_assembly.specs.Lanes.{HasWorked}
 use Rattle.owned_shards.specs.Wholes.{Whole}
 use Rattle.range_ledger.specs.Fills.{WhereTold}
 use Rattle.range_ledger.specs.Runs.{Run}
-use Rattle.range_survey.specs.declared.fate.Fate.{Fate}
 use Rattle.range_survey.specs.declared.report.Report.{Report}
 use Rattle.store_chain.specs.Chains.{KeepsStores}
 
@@ -54,11 +50,14 @@ module _ {S V : Type 0} (store : StoreWords S) (view : ViewWords V) (r : Run) (t
   abbrev pub PermitsKit : Kit S V → Type 0
   PermitsKit k = PermitsWith view.tells r t (views_of view k.seeds.items) (map store.holds k.chain.stores)
 
-  -- the shards and the kit are those of a target that held these bytes, and of these sources, after the first pass
+  -- the shards and the kit are those of a target that held these bytes, and of these sources, after the first pass. The
+  -- run permits with the sources
   pub record ComesFrom (o : Option (List ℕ)) (old : Sources S V) (w : Whole) (kit : Kit S V) : Type 0 where
     pub before : old.faults ≤ w.faults_before
     pub base : IfSome o (λ y. r.base ≡ resized y (image_length t.listing))
-    pub tells : is_some w.held.bytes ≡ is_some o
+    pub told : is_some o ≡ r.tells
+    pub tells : is_some w.held.bytes ≡ r.tells
+    pub permits : PermitsWith view.tells r t (views_of view old.seeds) (map store.holds old.chain.stores)
     pub cache : old.cache ≡ None
     pub seeds : KeepsSeeds view old.seeds kit.seeds.items
     pub stores : KeepsStores store (IsListedGet t.listing) old.chain.stores kit.chain.stores
@@ -68,40 +67,17 @@ module _ {S V : Type 0} (store : StoreWords S) (view : ViewWords V) (r : Run) (t
   FillsObtainable old cached maps y = (i : ℕ) → i < count_of t.listing → r.may i ≡ true
       → IsObtainable t (resized y (image_length t.listing)) (views_of view old.seeds) (cached ++ maps) i
 
-  -- what such an assembly has done, from these sources of the first worker to those. What is said of what can be had is
-  -- so where what may be filled can be had from its sources
+  -- what such an assembly has done, from these sources of the first worker to those. Only what may be filled was made
+  -- right. What is said of what can be had where nothing fails is so where what may be filled can be had from its
+  -- sources
   pub record AssembledBeside (o p : Option (List ℕ)) (old new : Sources S V) (answer : Result Report ExtractFault)
       : Type 0 where
     pub bytes : WhereTold o p (Assembles t.listing ⊥ old.faults new.faults answer)
     pub lost : EndsBy (IsUnobtained store view t o old new) (Rose old.faults new.faults) answer
-    pub had : Telling view.tells (views_of view old.seeds) → (cached maps : List (Map (List ℕ)))
-        → cached_in old.cache ≡ Some cached → map store.holds old.chain.stores ≡ map Some maps
-        → IfSome o (FillsObtainable old cached maps)
-        → WhereTold o p (λ y z. OnlyObtainable t.listing (IsObtainable t (resized y (image_length t.listing))
-        (views_of view old.seeds) (cached ++ maps)) old.faults new.faults answer y z)
+    pub had : WhereTold o p (OnlyObtainable t.listing (λ i. r.may i ≡ true) old.faults new.faults answer)
     pub exactly : WhereQuiet store view t.listing old new (λ cached maps. IfSome o (FillsObtainable old cached maps)
         → IfSome o (λ y. Verdict t.listing (IsObtainable t (resized y (image_length t.listing))
         (views_of view old.seeds) (cached ++ maps)) answer))
     pub after : WhereQuiet store view t.listing old new (λ cached maps. IfSome o (FillsObtainable old cached maps)
         → WhereTold o p (λ y z. After t.listing (IsObtainable t (resized y (image_length t.listing))
         (views_of view old.seeds) (cached ++ maps)) (resized y (image_length t.listing)) z answer))
-    pub stores : KeepsStores store (IsListedGet t.listing) old.chain.stores new.chain.stores
-    pub seeds : KeepsSeeds view old.seeds new.seeds
-
-  -- worker k has gone its way with kit a, knowing m, and has kit b. It lacked memory only where the answer says so
-  pub record WorkedBeside (never_fails : Bool) (k : ℕ) (a : Kit S V) (m : List Fate) (b : Kit S V)
-      (answer : Result Report ExtractFault) : Type 0 where
-    pub known : List Fate
-    pub lacked : Bool
-    pub memory : lacked ≡ true → answer ≡ Err faults.Memory
-    pub worked : HasWorked store view r t never_fails k a m b known lacked
-
-  -- the first worker has, and then made the second pass, from a stage with the kit that it had by then
-  pub record FirstBeside (never_fails : Bool) (a : Kit S V) (m : List Fate) (b : Kit S V)
-      (answer : Result Report ExtractFault) : Type 0 where
-    pub between : Kit S V
-    pub worked : WorkedBeside never_fails 0 a m between answer
-    pub joined : Whole
-    pub later : Stage S V
-    pub kit : later.kit ≡ b
-    pub passed : HasPassed store view t one_pass (joined_stage joined between) later

@@ -1,5 +1,7 @@
 -- What stands once an assembly is prepared.
-use Rattle.std.specs.Prelude.{◌≡◌, ℕ, ◌<◌, ◌≤◌, List, length, replicate, Bool, false, IfSome}
+use Rattle.std.specs.Prelude.{◌≡◌, ◌⊎◌, ℕ, ◌<◌, ◌≤◌, List, [], length, replicate, Bool, false, IfSome}
+use Rattle.std.specs.Prelude.{vec_capacity, vec_len}
+use Rattle.std.specs.Global.{Vec}
 use Rattle.std.specs.List.{All}
 use Rattle.assembler.specs.Begun.{HasBegun}
 use Rattle.assembler.specs.declared.fault.ExtractFault.{ExtractFault}
@@ -9,10 +11,15 @@ use Rattle.image_assembly.specs.declared.fault.PrepareFault.TheVariants as refus
 use Rattle.caibx_codec.specs.Listing.{IsListedSize, Listing, count_of, image_length, kind_of, size_of}
 use Rattle.chunk_sources.specs.Wants.{Task}
 use Rattle.chunk_sources.specs.declared.kit.Kit.{Kit}
+use Rattle.chunk_store.specs.declared.store.Store.{Ghosts as StoreWords}
 use Rattle.dsy_base.specs.Bytes.{Held, resized}
+use Rattle.dsy_base.specs.declared.view.View.{Ghosts as ViewWords}
 use Rattle.extract_plan.specs.Deal.{IsPlan, shards_of}
 use Rattle.extract_plan.specs.Places.{PlacesKnown}
-use Rattle.owned_shards.specs.Wholes.{MayFillAll, Whole}
+use Rattle.image_assembly.specs.Beside.{PermitsKit}
+use Rattle.image_assembly.specs.Kits.{MayFillFrom}
+use Rattle.image_assembly.specs.Lanes.{AreFirst}
+use Rattle.owned_shards.specs.Wholes.{MayFillAll, Whole, base_told}
 use Rattle.range_ledger.specs.Runs.{Run}
 
 -- the run is over this index, cut for so many workers, and over a target that holds this once it has the image's length
@@ -21,6 +28,14 @@ pub record IsRunFor (r : Run) (l : Listing) (workers : ℕ) (told : Bool) (old :
   pub shards : r.shards ≡ shards_of workers (count_of l)
   pub base : IfSome old.bytes (λ o. r.base ≡ resized o (image_length l))
   pub tells : r.tells ≡ told
+
+-- what the run permits with these kits: with one each entry may be filled. With more an entry may be filled that can be
+-- had with one of them, and no other where all of them tell
+pub record Permits {S V : Type 0} (store : StoreWords S) (view : ViewWords V) (r : Run) (t : Task)
+    (kits : List (Kit S V)) : Type 0 where
+  pub one : length kits ≡ 1 → MayFillAll r
+  pub each : All (PermitsKit store view r t) kits
+  pub had : 2 ≤ length kits → MayFillFrom store view t r.may (base_told r) kits
 
 -- so much room is that of the largest chunk of an index
 pub record IsRoomOf (l : Listing) (room : ℕ) : Type 0 where
@@ -38,20 +53,39 @@ pub record Readied (S V : Type 0) : Type 0 where
 abbrev pub readied : {S V : Type 0} → Task → Whole → List (Kit S V) → Readied S V
 readied task whole kits = record { task = task; whole = whole; kits = kits }
 
--- what it keeps: each entry may be filled, the plan is that of the run's index for as many workers as there are kits,
--- no want is marked as tried, and the places and each kit are of this index
-pub record IsReadied {S V : Type 0} (r : Run) (tried : List Bool) (x : Readied S V) : Type 0 where
+-- what it keeps: the run permits with the kits, the plan is that of the run's index for as many workers as there are
+-- kits, no want is marked as tried, the places and each kit are of this index, and the survey is over
+pub record IsReadied {S V : Type 0} (store : StoreWords S) (view : ViewWords V) (r : Run) (told : Bool)
+    (tried : List Bool) (x : Readied S V) : Type 0 where
   pub listing : x.task.listing ≡ r.listing
-  pub may : MayFillAll r
+  pub permits : Permits store view r x.task x.kits
+  pub shards : r.shards ≡ shards_of (length x.kits) (count_of r.listing)
+  pub base : IfSome x.whole.held.bytes (λ t. r.base ≡ t)
+  pub tells : told ≡ r.tells
+  pub first : AreFirst r x.whole.fates
+  pub some : 0 < length x.kits
   pub plan : IsPlan x.task.listing (length x.kits) x.task.plan
   pub fresh : tried ≡ replicate x.task.plan.wants false
   pub places : All (λ k. PlacesKnown x.task.listing x.task.plan x.task.places (length k.seeds.items)) x.kits
   pub kind : All (λ k. k.chain.kind ≡ kind_of x.task.listing) x.kits
   pub room : All (λ k. IsRoomOf x.task.listing (length k.buffer.items)) x.kits
 
+-- this is room for so many workers of the run: for the locks, for the lanes, and for what each knows
+pub record AreRoomsFor {A B C : Type 0} (r : Run) (workers : ℕ) (for_locks : Vec A) (for_lanes : Vec B)
+    (for_known : Vec (Vec C)) : Type 0 where
+  pub none : (for_locks.items ≡ []) × (for_lanes.items ≡ [])
+  pub locks : r.shards ≤ vec_capacity for_locks
+  pub lanes : workers ≤ vec_capacity for_lanes
+  pub size : vec_len for_known ≡ workers
+  pub known : All (λ v. (v.items ≡ []) × (count_of r.listing ≤ vec_capacity v)) for_known.items
+
 -- it is so of each target of which these shards were made: of what it held, and of how often it had failed
 abbrev pub OfTarget : Listing → Whole → (Held → ℕ → Type 0) → Type 0
 OfTarget l x So = (old : Held) (f : ℕ) → HasBegun l old f x → So old f
+
+-- the same with so many kits: with more than one, of how often it had failed at most before it was split
+abbrev pub OfTargetWith : ℕ → Listing → Whole → (Held → ℕ → Type 0) → Type 0
+OfTargetWith kits l x So = OfTarget l x (λ old f. (kits ≡ 1) ⊎ (f ≤ x.faults_before) → So old f)
 
 -- the answer of an assembly that couldn't be prepared
 abbrev pub unprepared : PrepareFault → ExtractFault

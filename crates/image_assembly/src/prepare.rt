@@ -2,26 +2,27 @@
 //! shards count from 0.
 
 ghost use Rattle.std.specs.Prelude.{◌≡◌, ◌≢◌, ◌⊎◌, ◌+◌, ◌<◌, ◌≤◌, ℕ, length, map, replicate, vec_len, Err, None, false};
-ghost use Rattle.std.specs.Prelude.{IfErr, IfOk, IfSome};
+ghost use Rattle.std.specs.Prelude.{IfErr, IfOk, IfSome, IsSome};
 ghost use Rattle.std.specs.List.{All};
 ghost use Rattle.assembler.specs.Assemblies.{Assembles, IsAssembled};
 ghost use Rattle.assembler.specs.Begun.{HasBegun};
-ghost use Rattle.assembler.specs.OneKit.{OfKit};
-ghost use Rattle.image_assembly.specs.Readied.{IsRoomOf, IsRunFor, OfTarget};
-ghost use Rattle.caibx_codec.specs.Listing.{count_of, image_length, kind_of};
+ghost use Rattle.assembler.specs.OneKit.{OfKit, lent};
+ghost use Rattle.image_assembly.specs.Kits.{IsAssembledBy};
+ghost use Rattle.image_assembly.specs.Readied.{AreRoomsFor, IsRoomOf, IsRunFor, OfTarget, OfTargetWith, Permits};
+ghost use Rattle.caibx_codec.specs.Listing.{Listing, count_of, image_length, kind_of};
 ghost use Rattle.chunk_sources.specs.Caches.{seen};
 ghost use Rattle.chunk_sources.specs.Losses.{MayLack};
 ghost use Rattle.chunk_sources.specs.Sources.{sources};
 ghost use Rattle.dsy_base.specs.Bytes.{held_resized, resized};
 ghost use Rattle.dsy_base.specs.Counts.{Quiet, Rose};
-ghost use Rattle.extract_plan.specs.Deal.{Deal, IsPlan};
+ghost use Rattle.extract_plan.specs.Deal.{Deal, IsPlan, deal_shards};
 ghost use Rattle.extract_plan.specs.Places.{PlacesKnown};
-ghost use Rattle.owned_shards.specs.Wholes.{MayFillAll};
 ghost use Rattle.range_ledger.specs.Fills.{WhereTold};
 ghost use Rattle.range_survey.specs.Fates.{SettledRight};
 ghost use Rattle.range_survey.specs.Reports.{right_below};
 
 use crate::fault::{PrepareFault, refusal};
+use crate::together::{Rooms, run_workers};
 use assembler::fault::ExtractFault;
 use assembler::run::{Ended, run_surveyed};
 use assembler::work::Wants;
@@ -29,7 +30,6 @@ use cache_store::shelf::CacheShelf;
 use caibx_codec::index::Index;
 use chunk_sources::kit::Kit;
 use chunk_store::store::Store;
-use dsy_base::fault::Memory;
 use dsy_base::folder::Folder;
 use dsy_base::view::{Part, Target, View};
 use extract_plan::plan::Plan;
@@ -39,8 +39,10 @@ use owned_shards::survey::survey_shards;
 use range_ledger::ledger::Ledger;
 use range_ledger::run::RunName;
 use range_survey::report::Report;
-use std::alloc::Global;
+use std::alloc::{AllocError, Global};
 use std::marker::Model;
+use std::sync::Wait;
+use std::thread::Threads;
 
 /// An assembly with all the room that it takes, over a target that was surveyed. `tried` has a mark for each want.
 #[derive(Drop)]
@@ -51,21 +53,24 @@ pub struct Prepared<'a, R: RunName, T: Target, S: Store, V: View> {
     tried: Vec<bool>,
     shards: Shards<'a, R, T>,
     kits: Vec<Kit<S, V>>,
+    rooms: Option<Rooms<'a, T::Piece, R, S, V>>,
 }
 
 impl<'a, R: RunName, T: Target, S: Store, V: View> Model for Prepared<'a, R, T, S, V> {
-    ghost use Rattle.image_assembly.specs.Readied.{IsReadied, Readied, readied};
+    ghost use Rattle.std.specs.Prelude.{◌≡◌, ◌≤◌, None, IfSome, length};
+    ghost use Rattle.image_assembly.specs.Readied.{AreRoomsFor, IsReadied, Readied, readied};
 
     ghost Value = { Readied S V };
 
     ghost view = { λ p. readied (record { listing = p.index.now; plan = p.plan; places = p.places.now }) p.shards
         p.kits.items };
 
-    ghost invariant = { λ p. IsReadied R.run p.tried.items (readied (record {
+    ghost invariant = { λ p. IsReadied S.Store V.View R.run T.tells p.tried.items (readied (record {
       listing = p.index.now;
       plan = p.plan;
       places = p.places.now;
-    }) p.shards p.kits.items) };
+    }) p.shards p.kits.items) × (p.rooms ≡ None → length p.kits.items ≡ 1) × IfSome p.rooms (λ r.
+        (2 ≤ length p.kits.items) × AreRoomsFor R.run (length p.kits.items) r.locks r.lanes r.known) };
 }
 
 /// What an assembly hands back: what was handed over, the kits in their order, and the answer.
@@ -77,52 +82,125 @@ pub struct Assembled<T: Target, S: Store, V: View, F: Folder> {
     pub answer: Result<Report, ExtractFault>,
 }
 
-// The plan, and room for its marks and for the largest chunk.
+// Marks for the wants of a plan, a buffer of the size of the largest chunk for each kit, and room for several workers.
 #[derive(Drop)]
-struct Room {
-    plan: Plan,
+struct Room<'a, P: Part, R: RunName, S: Store, V: View> {
     tried: Vec<bool>,
-    buffer: Vec<u8>,
+    buffers: Vec<Vec<u8>>,
+    rooms: Option<Rooms<'a, P, R, S, V>>,
 }
 
-fn room_of(alloc: Global, index: &Index, workers: usize) -> Result<Room, Memory>
-    requires some { 0 < workers }
-    requires few { workers ≤ 32 }
-    ensures plan { IfOk result (λ r. IsPlan index.now workers r.plan) }
-    ensures fresh { IfOk result (λ r. r.tried.items ≡ replicate r.plan.wants false) }
-    ensures room { IfOk result (λ r. IsRoomOf index.now (length r.buffer.items)) }
+// So many buffers for the largest chunk.
+fn buffers_of(alloc: Global, index: &Index, count: usize) -> Result<Vec<Vec<u8>>, AllocError>
+    ensures size { IfOk result (λ v. vec_len v ≡ count) }
+    ensures room { IfOk result (λ v. All (λ b. IsRoomOf index.now (length b.items)) v.items) }
 {
-    let plan = Plan::of(alloc, index, workers)?;
-    let Ok(tried) = vec![in alloc; false; plan.wants()] else {
-        return Err(Memory);
-    };
-    let Ok(buffer) = index.room(alloc) else {
-        return Err(Memory);
-    };
-    Ok(Room {
-        plan,
-        tried,
-        buffer,
-    })
+    let mut buffers = Vec::new(alloc);
+    for _ in 0..count {
+        buffers.push(index.room(alloc)?)?;
+    }
+    Ok(buffers)
 }
 
-/// Takes all the room that an assembly with one kit needs, gives the target the image's length, and surveys its shards.
-/// The places are those in the kit's seeds, by the plan of this index for one worker. A refusal hands the target and
-/// the kits back.
-pub fn prepare<'a, R: RunName, T: Target, S: Store, V: View>(
+// Room for so many workers, unless there is one.
+fn rooms_of<'a, P: Part, R: RunName, S: Store, V: View>(
+    alloc: Global,
+    plan: &Plan,
+    workers: usize,
+    entries: usize,
+) -> Result<Option<Rooms<'a, P, R, S, V>>, AllocError>
+    requires some { 0 < workers }
+    requires shards { deal_shards plan.now ≡ R.run.shards }
+    requires entries { entries ≡ count_of R.run.listing }
+    ensures one { IfOk result (λ r. r ≡ None → workers ≡ 1) }
+    ensures many { IfOk result (λ r. IfSome r
+        (λ x. (2 ≤ workers) × AreRoomsFor R.run workers x.locks x.lanes x.known)) }
+{
+    if workers == 1 {
+        return Ok(None);
+    }
+    Ok(Some(Rooms::of(alloc, plan.shards(), workers, entries)?))
+}
+
+impl<'a, P: Part, R: RunName, S: Store, V: View> Room<'a, P, R, S, V> {
+    fn of(
+        alloc: Global,
+        index: &Index,
+        plan: &Plan,
+        workers: usize,
+    ) -> Result<Room<'a, P, R, S, V>, AllocError>
+        requires some { 0 < workers }
+        requires listing { index.now ≡ R.run.listing }
+        requires shards { deal_shards plan.now ≡ R.run.shards }
+        ensures fresh { IfOk result (λ r. r.tried.items ≡ replicate plan.now.wants false) }
+        ensures size { IfOk result (λ r. vec_len r.buffers ≡ workers) }
+        ensures room { IfOk result (λ r. All (λ b. IsRoomOf index.now (length b.items)) r.buffers.items) }
+        ensures one { IfOk result (λ r. r.rooms ≡ None → workers ≡ 1) }
+        ensures many { IfOk result (λ r. IfSome r.rooms
+            (λ x. (2 ≤ workers) × AreRoomsFor R.run workers x.locks x.lanes x.known)) }
+    {
+        let tried = vec![in alloc; false; plan.wants()]?;
+        let buffers = buffers_of(alloc, index, workers)?;
+        let rooms = rooms_of(alloc, plan, workers, index.count())?;
+        Ok(Room {
+            tried,
+            buffers,
+            rooms,
+        })
+    }
+}
+
+// The kits, each with one of these buffers.
+fn equipped<S: Store, V: View>(kits: Vec<Kit<S, V>>, buffers: Vec<Vec<u8>>) -> Vec<Kit<S, V>>
+    requires size { length buffers.items ≡ length kits.items }
+    ensures size { length result.items ≡ length kits.items }
+    ensures chain { map (λ k. k.chain) result.items ≡ map (λ k. k.chain) kits.items }
+    ensures seeds { map (λ k. k.seeds) result.items ≡ map (λ k. k.seeds) kits.items }
+    ensures room { (l : Listing) → All (λ b. IsRoomOf l (length b.items)) buffers.items →
+        All (λ k. IsRoomOf l (length k.buffer.items)) result.items }
+{
+    let mut kits = kits;
+    let mut buffers = buffers;
+    for k in 0..kits.len() {
+        let Some(buffer) = buffers.pop() else {
+            unreachable!();
+        };
+        kits[k].buffer = buffer;
+    }
+    kits
+}
+
+/// Takes all the room that an assembly with 1 to 32 kits needs beside its plan, gives the target the image's length,
+/// and surveys its shards. The places are those in the seeds of each kit, by the plan of this index for one worker. A
+/// refusal hands the target and the kits back.
+pub fn prepare<
+    'a,
+    W: Threads + Wait + Sync,
+    R: RunName + Send + Sync,
+    T: Target,
+    S: Store,
+    V: View,
+>(
+    rt: &W,
     alloc: Global,
     index: &'a Index,
     places: &'a SeedIndex,
+    plan: Plan,
     target: T,
-    mut kits: Vec<Kit<S, V>>,
+    kits: Vec<Kit<S, V>>,
 ) -> Result<Prepared<'a, R, T, S, V>, (T, Vec<Kit<S, V>>, PrepareFault)>
-    requires size { vec_len kits ≡ 1 }
+where
+    T::Piece: Send,
+    requires size { (1 ≤ vec_len kits) × (vec_len kits ≤ 32) }
+    requires plan { IsPlan index.now (vec_len kits) plan }
     requires over { IsRunFor R.run index.now (vec_len kits) T.tells (T.held target) }
-    requires may { MayFillAll R.run }
-    requires places { (d : Deal) × IsPlan index.now (vec_len kits) d
+    requires may { Permits S.Store V.View R.run
+        (record { listing = index.now; plan = plan; places = places.now }) kits.items }
+    requires places { (d : Deal) × IsPlan index.now 1 d
         × All (λ k. PlacesKnown index.now d places.now (length k.seeds.items)) kits.items }
     requires kind { All (λ k. k.chain.kind ≡ kind_of index.now) kits.items }
     ensures ok { IfOk result (λ p. HasBegun index.now (T.held target) (T.faults target) p.whole) }
+    ensures before { IfOk result (λ p. p.whole.faults_before ≡ T.faults target) }
     ensures yes { IfOk result (λ p. IfSome p.whole.held.bytes
         (λ t. SettledRight index.now t p.whole.fates (count_of index.now))) }
     ensures dealt { IfOk result (λ p. (p.task.listing ≡ index.now) × IsPlan index.now (vec_len kits) p.task.plan
@@ -137,18 +215,20 @@ pub fn prepare<'a, R: RunName, T: Target, S: Store, V: View>(
     ensures cause { IfErr result (λ e. e.2 ≡ PrepareFault.TargetFault → Rose (T.faults target) (T.faults e.0)) }
     ensures faults { IfErr result (λ e. T.faults target ≤ T.faults e.0) }
 {
-    let Ok(room) = room_of(alloc, index, kits.len()) else {
+    let Ok(room) = Room::<T::Piece, R, S, V>::of(alloc, index, &plan, kits.len()) else {
         return Err((target, kits, PrepareFault::Memory));
     };
     let Room {
-        plan,
         tried,
-        mut buffer,
+        mut buffers,
+        rooms,
     } = room;
-    match survey_shards::<R, T>(alloc, index, &plan, target, &mut buffer) {
+    match survey_shards::<W, R, T>(rt, alloc, index, &plan, target, &mut buffers) {
         Err((target, fault)) => Err((target, kits, refusal(fault))),
         Ok(shards) => {
-            kits[0].buffer = buffer;
+            // Only for its contract: what a ledger keeps.
+            shards.rules();
+            let kits = equipped(kits, buffers);
             Ok(Prepared {
                 index,
                 places,
@@ -156,39 +236,62 @@ pub fn prepare<'a, R: RunName, T: Target, S: Store, V: View>(
                 tried,
                 shards,
                 kits,
+                rooms,
             })
         }
     }
 }
 
-impl<'a, R: RunName, T: Target, S: Store, V: View> Prepared<'a, R, T, S, V> {
+impl<'a, R: RunName + Send + Sync, T: Target, S: Store + Send, V: View + Send> Prepared<
+    'a,
+    R,
+    T,
+    S,
+    V,
+> {
     /// Makes right all that the survey left open and that can be had. The chunk of each want comes from an alike entry
     /// that is right, or from a seed, or from the cache, or else from the stores; what a store gives is added to the
-    /// cache, whose faults are passed over. Goes on past wants whose chunk no source gives, and answers for the first
-    /// entry of them. What was handed over comes back whatever the answer is.
-    pub fn run<F: Folder>(self, cache: Option<CacheShelf<F>>) -> Assembled<T, S, V, F>
-        requires size { length self.kits ≡ 1 }
+    /// cache, whose faults are passed over. With several kits there are as many workers, and no cache. Goes on past
+    /// wants whose chunk no source gives, and answers for the first entry of them. What was handed over comes back
+    /// whatever the answer is.
+    pub fn run<W: Threads + Wait + Sync, F: Folder + Send + Sync>(
+        self,
+        rt: &W,
+        cache: Option<CacheShelf<F>>,
+    ) -> Assembled<T, S, V, F>
+    where
+        T::Piece: Send,
+        requires alone { IsSome (seen F.Look cache) → length self.kits ≡ 1 }
         requires cache { IfSome (seen F.Look cache) (λ s. s.kind ≡ kind_of self.task.listing) }
         requires unnamed { (F.pairs ≡ None) × (F.stores ≡ None) }
-        ensures bytes { OfTarget self.entry.task.listing self.entry.whole (λ old f. WhereTold old.bytes
-            (T.held result.target).bytes (Assembles self.entry.task.listing ⊥ f (T.faults result.target)
-            result.answer)) }
+        ensures bytes { OfTargetWith (length self.entry.kits) self.entry.task.listing self.entry.whole
+            (λ old f. WhereTold old.bytes (T.held result.target).bytes (Assembles self.entry.task.listing ⊥ f
+            (T.faults result.target) result.answer)) }
+
+        // With one kit.
         ensures assembled { OfTarget self.entry.task.listing self.entry.whole (λ old f. OfKit self.entry.kits
             result.kits.items (λ k j. IsAssembled S.Store V.View self.entry.task old.bytes (T.held result.target).bytes
             (sources f k.seeds.items (seen F.Look cache) k.chain)
             (sources (T.faults result.target) j.seeds.items (seen F.Look result.cache) j.chain) result.answer)) }
+        ensures kept { length self.entry.kits ≡ 1 → OfTarget self.entry.task.listing self.entry.whole
+            (λ old f. IfOk result.answer (λ r. Quiet f (T.faults result.target) → IfSome old.bytes (λ o. r.kept ≡
+            right_below self.entry.task.listing (resized o (image_length self.entry.task.listing))
+            (count_of self.entry.task.listing)))) }
+        ensures faults { length self.entry.kits ≡ 1 → self.entry.whole.faults ≤ T.faults result.target }
+
+        // With any number of kits.
+        ensures kits { OfTargetWith (length self.entry.kits) self.entry.task.listing self.entry.whole
+            (λ old f. IsAssembledBy S.Store V.View self.entry.task T.never_fails old.bytes (T.held result.target).bytes
+            (lent f self.entry.kits (seen F.Look cache))
+            (lent (T.faults result.target) result.kits.items (seen F.Look result.cache)) result.answer) }
         ensures report { IfOk result.answer
             (λ r. r.kept + r.copied + r.seeded + r.cached + r.fetched ≡ count_of self.entry.task.listing) }
-        ensures kept { OfTarget self.entry.task.listing self.entry.whole (λ old f. IfOk result.answer
-            (λ r. Quiet f (T.faults result.target) → IfSome old.bytes (λ o. r.kept ≡ right_below
-            self.entry.task.listing (resized o (image_length self.entry.task.listing))
-            (count_of self.entry.task.listing)))) }
         ensures memory { result.answer ≡ Err ExtractFault.Memory → MayLack S.Store (seen F.Look cache) }
         ensures only { S.may_lack_memory ≡ false → cache ≡ None → result.answer ≢ Err ExtractFault.Memory }
-        ensures size { (vec_len result.kits ≡ 1)
+        ensures size { (length result.kits.items ≡ length self.entry.kits)
             × ((T.held result.target).size ≡ image_length self.entry.task.listing) }
         ensures name { (T.held result.target).name ≡ self.entry.whole.held.name }
-        ensures faults { self.entry.whole.faults ≤ T.faults result.target }
+        ensures before { self.entry.whole.faults_before ≤ T.faults result.target }
     {
         let Prepared {
             index,
@@ -197,14 +300,20 @@ impl<'a, R: RunName, T: Target, S: Store, V: View> Prepared<'a, R, T, S, V> {
             tried,
             shards,
             mut kits,
+            rooms,
         } = self;
-        let Some(kit) = kits.pop() else {
-            unreachable!();
-        };
+        // Only for its contract: what the shards keep.
+        shards.keeps();
         let wants = Wants {
             index,
             plan: &plan,
             places,
+        };
+        if let Some(rooms) = rooms {
+            return run_workers(rt, index, &wants, tried, shards, kits, rooms);
+        }
+        let Some(kit) = kits.pop() else {
+            unreachable!();
         };
         let Ended {
             target,

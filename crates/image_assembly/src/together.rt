@@ -1,22 +1,26 @@
 //! An assembly by several workers, after its survey: a pass by all of them side by side, and a second pass by the first
 //! one. It takes no memory of its own.
 
-ghost use Rattle.std.specs.Prelude.{◌≡◌, ◌+◌, ◌<◌, ◌≤◌, ℕ, IfOk, None, [], false, length, replicate};
+ghost use Rattle.std.specs.Prelude.{◌≡◌, ◌+◌, ◌<◌, ◌≤◌, ℕ, Err, IfOk, IsTrue, None, [], false, length, replicate};
 ghost use Rattle.std.specs.Prelude.{slice_index_or, vec_capacity, vec_len};
 ghost use Rattle.std.specs.List.{All};
+ghost use Rattle.assembler.specs.Assemblies.{Assembles};
+ghost use Rattle.assembler.specs.OneKit.{lent};
 ghost use Rattle.assembler.specs.Stages.{task};
 ghost use Rattle.caibx_codec.specs.Listing.{count_of, image_length};
 ghost use Rattle.chunk_sources.specs.Caches.{seen};
-ghost use Rattle.chunk_sources.specs.Sources.{sources};
 ghost use Rattle.chunk_sources.specs.declared.kit.Kit.{Kit};
 ghost use Rattle.dsy_base.specs.Bytes.{Held};
-ghost use Rattle.image_assembly.specs.Beside.{AssembledBeside, BegunBeside, FirstBeside, PermitsKit, WorkedBeside};
+ghost use Rattle.image_assembly.specs.Beside.{BegunBeside, PermitsKit};
+ghost use Rattle.image_assembly.specs.Kits.{IsAssembledBy, MayFillFrom};
 ghost use Rattle.image_assembly.specs.Lanes.{IsReadyFor};
+ghost use Rattle.range_ledger.specs.Fills.{WhereTold};
 
 use crate::finish::finish;
 use crate::lanes::{Lane, some_lacked};
 use crate::prepare::Assembled;
 use crate::workers::{kits_of, lanes_of, pass_all};
+use assembler::fault::ExtractFault;
 use assembler::run::Ended;
 use assembler::work::Wants;
 use caibx_codec::index::Index;
@@ -96,7 +100,7 @@ where
     requires few { R.run.shards ≤ count_of R.run.listing }
     requires any { 0 < count_of R.run.listing → 0 < R.run.shards }
     requires unnamed { (F.pairs ≡ None) × (F.stores ≡ None) }
-    requires some { 0 < vec_len kits }
+    requires many { 2 ≤ vec_len kits }
     requires ready { (k : ℕ) (q : Kit S V) → k < length kits.items → IsReadyFor S.Store V.View R.run
         (task R.run.listing wants.now) k (slice_index_or kits.items k q) shards.fates }
     requires permits { (q : Kit S V) → PermitsKit S.Store V.View R.run (task R.run.listing wants.now)
@@ -106,21 +110,20 @@ where
     requires lanes { vec_len kits ≤ vec_capacity rooms.lanes }
     requires size { vec_len rooms.known ≡ vec_len kits }
     requires known { All (λ v. (v.items ≡ []) × (count_of R.run.listing ≤ vec_capacity v)) rooms.known.items }
-    ensures assembled { (old : Held) (f : ℕ) → BegunBeside R.run old f shards.entry → (q p : Kit S V) →
-        AssembledBeside S.Store V.View R.run (task R.run.listing wants.now) old.bytes (T.held result.target).bytes
-        (sources f (slice_index_or kits.items 0 q).seeds.items None (slice_index_or kits.items 0 q).chain)
-        (sources (T.faults result.target) (slice_index_or result.kits.items 0 p).seeds.items (seen F.Look result.cache)
-        (slice_index_or result.kits.items 0 p).chain) result.answer }
-    ensures first { (q p : Kit S V) → FirstBeside S.Store V.View R.run (task R.run.listing wants.now) T.never_fails
-        (slice_index_or kits.items 0 q) shards.entry.fates (slice_index_or result.kits.items 0 p) result.answer }
-    ensures others { (k : ℕ) (q p : Kit S V) → 0 < k → k < length kits.items → WorkedBeside S.Store V.View R.run
-        (task R.run.listing wants.now) T.never_fails k (slice_index_or kits.items k q) shards.entry.fates
-        (slice_index_or result.kits.items k p) result.answer }
+    ensures bytes { (old : Held) (f : ℕ) → BegunBeside R.run old f shards.entry → WhereTold old.bytes
+        (T.held result.target).bytes (Assembles R.run.listing ⊥ f (T.faults result.target) result.answer) }
+    ensures kits { (old : Held) (f : ℕ) → BegunBeside R.run old f shards.entry →
+        MayFillFrom S.Store V.View (task R.run.listing wants.now) R.run.may old.bytes kits.items →
+        IsAssembledBy S.Store V.View (task R.run.listing wants.now) T.never_fails old.bytes
+        (T.held result.target).bytes (lent f kits.items None)
+        (lent (T.faults result.target) result.kits.items (seen F.Look result.cache)) result.answer }
     ensures report { IfOk result.answer
         (λ r. r.kept + r.copied + r.seeded + r.cached + r.fetched ≡ count_of R.run.listing) }
-    ensures kits { length result.kits.items ≡ length kits.items }
-    ensures size { (T.held result.target).size ≡ image_length R.run.listing }
+    ensures memory { result.answer ≡ Err ExtractFault.Memory → IsTrue S.may_lack_memory }
+    ensures size { (length result.kits.items ≡ length kits.items)
+        × ((T.held result.target).size ≡ image_length R.run.listing) }
     ensures name { (T.held result.target).name ≡ shards.entry.held.name }
+    ensures faults { shards.entry.faults_before ≤ T.faults result.target }
 {
     let count = index.count();
     let Rooms {
@@ -130,8 +133,9 @@ where
     } = rooms;
     let (room, lanes) = lanes_of(&shards, count, kits, known, lanes);
     let mut lanes = lanes;
+    // Only for its contract, as below: what the survey left.
+    shards.keeps();
     let shards = pass_all::<W, R, T, S, V, F>(rt, index, wants, shards, &mut lanes, locks);
-    // Only for its contract: it tells its bytes where the target does.
     shards.keeps();
     let lacked = some_lacked(&lanes);
     let mut kits = kits_of(lanes, room);

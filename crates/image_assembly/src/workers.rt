@@ -1,6 +1,6 @@
 //! The first pass of an assembly by several workers, side by side, and how their kits go into lanes and come back.
 
-ghost use Rattle.std.specs.Prelude.{◌≡◌, ◌<◌, ◌≤◌, ℕ, IsSome, None, Some, [], length, map, reverse};
+ghost use Rattle.std.specs.Prelude.{◌≡◌, ◌<◌, ◌≤◌, ℕ, IsSome, IsTrue, None, Some, [], length, map, reverse};
 ghost use Rattle.std.specs.Prelude.{slice_index_or, vec_capacity, vec_len};
 ghost use Rattle.std.specs.List.{All};
 ghost use Rattle.assembler.specs.Stages.{task};
@@ -60,6 +60,7 @@ where
     ensures size { result.held.size ≡ shards.entry.held.size }
     ensures name { result.held.name ≡ shards.entry.held.name }
     ensures before { result.faults_before ≡ shards.entry.faults_before }
+    ensures sure { IsTrue T.never_fails → shards.entry.faults ≡ shards.entry.faults_before }
     ensures lanes { length lanes.new ≡ length lanes.old }
 {
     let (frame, locks) = shards.lock(room);

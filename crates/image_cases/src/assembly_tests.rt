@@ -24,6 +24,8 @@ use image_assembly::prepare::Assembled;
 use range_survey::report::Report;
 use std::alloc::Global;
 use std::process::Abort;
+use std::sync::Wait;
+use std::thread::Threads;
 use store_chain::chain::Chain;
 
 // A store that holds the second of each pair under the id of the first.
@@ -68,8 +70,8 @@ pub(crate) fn kit_of(
 
 // Assembles these pieces over these bytes, from a seed, a cache and two stores. Compares how it ended, what the target
 // then holds, and how often the stores were asked, and answers the cache.
-fn assembles_with(
-    rt: &impl Abort,
+fn assembles_with<H: Abort + Threads + Wait + Sync>(
+    rt: &H,
     alloc: Global,
     pieces: &[&[u8]],
     old: MemTarget,
@@ -93,7 +95,7 @@ fn assembles_with(
         kits,
         cache,
         answer,
-    } = assemble(alloc, &index, &places, old, kits, cache);
+    } = assemble(rt, alloc, &index, &places, old, kits, cache);
     same(rt, answer, ended);
     same(rt, target.bytes(), new);
     same(rt, kits[0].chain.asks(), asks);
@@ -111,8 +113,8 @@ pub(crate) fn target_of(
 }
 
 // The same without a cache, and over a target whose calls don't fail.
-fn assembles(
-    rt: &impl Abort,
+fn assembles<H: Abort + Threads + Wait + Sync>(
+    rt: &H,
     alloc: Global,
     pieces: &[&[u8]],
     old: &[u8],
@@ -234,8 +236,8 @@ fn a_seed_gives_its_chunks_where_they_are_right(rt: HostRuntime) {
 }
 
 // Assembles three pieces from a store over a target to which the write of the second fails so many times.
-fn assembles_after(
-    rt: &impl Abort,
+fn assembles_after<H: Abort + Threads + Wait + Sync>(
+    rt: &H,
     alloc: Global,
     times: u32,
     ended: Result<Report, ExtractFault>,
@@ -287,8 +289,8 @@ fn holds_abc(rt: &impl Abort, cache: CacheShelf<MemFolder>) {
 }
 
 // Assembles "abc" twice through a cache, in which it then stands.
-fn goes_through_the_cache(
-    rt: &impl Abort,
+fn goes_through_the_cache<H: Abort + Threads + Wait + Sync>(
+    rt: &H,
     alloc: Global,
     kit: Kit<DirStore<MemFolder>, MemView>,
     held: Option<&[u8]>,

@@ -17,6 +17,7 @@ use byte_forms::mem_view::MemView;
 use byte_forms::ranges::RangeFails;
 use caibx_codec::index::Index;
 use chunk_sources::kit::Kit;
+use chunk_store::store::Store;
 use dir_store::store::DirStore;
 use dsy_base::view::{Part, Target, View};
 use dsy_forms::mem_folder::MemFolder;
@@ -28,34 +29,44 @@ use range_ledger::run::RunName;
 use std::alloc::Global;
 use std::marker::Brand;
 use std::process::Abort;
+use std::sync::Wait;
+use std::thread::Threads;
 
-// Prepares an assembly, and runs it where that succeeded.
-fn prepared<R: RunName, T: Target>(
+// Prepares an assembly with one kit, and runs it where that succeeded.
+fn prepared<
+    H: Threads + Wait + Sync,
+    R: RunName + Send + Sync,
+    T: Target,
+    S: Store + Send,
+    V: View + Send,
+>(
+    rt: &H,
     alloc: Global,
     index: &Index,
     places: &SeedIndex,
+    plan: Plan,
     target: T,
-    kits: Vec<Kit<DirStore<MemFolder>, MemView>>,
-) -> Result<
-    Assembled<T, DirStore<MemFolder>, MemView, MemFolder>,
-    (T, Vec<Kit<DirStore<MemFolder>, MemView>>, PrepareFault),
->
+    kits: Vec<Kit<S, V>>,
+) -> Result<Assembled<T, S, V, MemFolder>, (T, Vec<Kit<S, V>>, PrepareFault)>
+where
+    T::Piece: Send,
     requires size { vec_len kits ≡ 1 }
+    requires plan { IsPlan index.now 1 plan }
     requires over { IsRunFor R.run index.now (vec_len kits) T.tells (T.held target) }
     requires may { MayFillAll R.run }
     requires places { (d : Deal) × IsPlan index.now 1 d
         × All (λ k. PlacesKnown index.now d places.now (length k.seeds.items)) kits.items }
     requires kind { All (λ k. k.chain.kind ≡ kind_of index.now) kits.items }
 {
-    match prepare::<R, T, DirStore<MemFolder>, MemView>(alloc, index, places, target, kits) {
-        Ok(prepared) => Ok(prepared.run(None)),
+    match prepare::<H, R, T, S, V>(rt, alloc, index, places, plan, target, kits) {
+        Ok(prepared) => Ok(prepared.run(rt, None)),
         Err(refused) => Err(refused),
     }
 }
 
 // Prepares the assembly of these pieces over this target, and runs it.
-fn prepares(
-    rt: &impl Abort,
+fn prepares<H: Abort + Threads + Wait + Sync>(
+    rt: &H,
     alloc: Global,
     pieces: &[&[u8]],
     target: MemTarget,
@@ -76,11 +87,13 @@ fn prepares(
     let seeds = [index_of_pieces(rt, alloc, &[b"abc"])];
     let places = ok(rt, SeedIndex::of(alloc, &plan, &index, &seeds));
     let kits = ok(rt, vec![in alloc; kit]);
-    prepared::<Brand, MemTarget>(alloc, &index, &places, target, kits)
+    prepared::<H, Brand, MemTarget, DirStore<MemFolder>, MemView>(
+        rt, alloc, &index, &places, plan, target, kits,
+    )
 }
 
 // Prepares the assembly of "abcdef" over "abc". The target refuses it, and then holds these bytes; the kit has no room.
-fn refuses(rt: &impl Abort, alloc: Global, fails: RangeFails, new: &[u8]) {
+fn refuses<H: Abort + Threads + Wait + Sync>(rt: &H, alloc: Global, fails: RangeFails, new: &[u8]) {
     let target = target_of(rt, alloc, b"abc", fails);
     let kit = kit_of(rt, alloc, None, &[], &[]);
     let Err((target, kits, fault)) = prepares(rt, alloc, &[b"abc", b"def"], target, kit) else {

@@ -14,11 +14,12 @@ use buzhash_cut::laws::image_is_right;
 use chunk_store::mem_store::MemStore;
 use dsy_sure::sure_bytes::SureBytes;
 use std::alloc::Global;
+use std::sync::Wait;
 use std::thread::Threads;
 
 /// The figures of the image that the number makes, of so many bytes. The seed is the same but for up to 2^20 bytes from
 /// the middle on, of which all bits are turned round.
-pub fn demo_figures<R: Threads + Sync>(
+pub fn demo_figures<R: Threads + Wait + Sync>(
     rt: &R,
     alloc: Global,
     number: u64,
@@ -43,7 +44,7 @@ pub fn demo_figures<R: Threads + Sync>(
     let mut store = MemStore::new(alloc);
     stock(alloc, &index, &mut view, &mut store)?;
     let target = SureBytes::new(alloc, Vec::new(alloc));
-    let made = make(alloc, &index, target, store, seed)?;
+    let made = make(rt, alloc, &index, target, store, seed)?;
     compare(&index, made.target.bytes(), &image)?;
     Ok(made.figures)
 }

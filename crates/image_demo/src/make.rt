@@ -27,11 +27,13 @@ use cache_store::shelf::CacheShelf;
 use caibx_codec::index::Index;
 use chunk_sources::kit::Kit;
 use chunk_store::store::Store;
-use dsy_base::view::{Target, View};
+use dsy_base::view::{Part, Target, View};
 use dsy_sure::sure_folder::SureFolder;
 use image_assembly::assemble::assemble;
 use range_survey::report::Report;
 use std::alloc::Global;
+use std::sync::Wait;
+use std::thread::Threads;
 
 // A target, and how its assembly ended.
 #[derive(Drop)]
@@ -41,13 +43,16 @@ struct Ended<T: Target> {
 }
 
 // Makes the target the image, without a cache, where nothing fails.
-fn assemble_quietly<T: Target, S: Store, V: View>(
+fn assemble_quietly<W: Threads + Wait + Sync, T: Target, S: Store + Send, V: View + Send>(
+    rt: &W,
     alloc: Global,
     index: &Index,
     planned: &Planned,
     target: T,
     kit: Kit<S, V>,
 ) -> Ended<T>
+where
+    T::Piece: Send,
     requires plan { IsPlan index.now 1 planned.now.plan }
     requires places { PlacesKnown index.now planned.now.plan planned.now.places (length kit.seeds.items) }
     requires kind { kit.chain.kind ≡ kind_of index.now }
@@ -76,7 +81,7 @@ fn assemble_quietly<T: Target, S: Store, V: View>(
         };
     };
     let cache: Option<CacheShelf<SureFolder>> = None;
-    let ended = assemble(alloc, index, &planned.places, target, kits, cache);
+    let ended = assemble(rt, alloc, index, &planned.places, target, kits, cache);
     Ended {
         target: ended.target,
         answer: ended.answer,
@@ -129,13 +134,16 @@ pub struct Made<T: Target> {
 
 /// Makes an empty target the image that the index lists, from zeros, from the seed, and from the store, which has each
 /// chunk of the image.
-pub fn make<T: Target, S: Store, V: View>(
+pub fn make<W: Threads + Wait + Sync, T: Target, S: Store + Send, V: View + Send>(
+    rt: &W,
     alloc: Global,
     index: &Index,
     target: T,
     store: S,
     seed: Indexed<V>,
 ) -> Result<Made<T>, DemoFault>
+where
+    T::Piece: Send,
     requires none { (T.held target).bytes ≡ Some [] }
     requires stocked { (t : List ℕ) × IsRight t index.now × IsStocked index.now t (S.holds store) }
     requires seeds { IfSome (V.held seed.view).bytes (λ t. IsRight t seed.index) }
@@ -155,7 +163,7 @@ pub fn make<T: Target, S: Store, V: View>(
     } = seed;
     let planned = Planned::of(alloc, index, listed)?;
     let kit = kit_of(alloc, store, view)?;
-    let Ended { target, answer } = assemble_quietly(alloc, index, &planned, target, kit);
+    let Ended { target, answer } = assemble_quietly(rt, alloc, index, &planned, target, kit);
     match answer {
         Ok(report) => Ok(Made {
             target,

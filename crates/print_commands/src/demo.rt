@@ -15,10 +15,11 @@ use image_demo::demo::demo_figures;
 use image_demo::fault::DemoFault;
 use image_demo::figures::Figures;
 use std::alloc::Global;
+use std::sync::Wait;
 use std::thread::Threads;
 
 // Makes, stores and extracts the image.
-fn rehearse<R: Threads + Sync>(
+fn rehearse<R: Threads + Wait + Sync>(
     rt: &R,
     alloc: Global,
     number: u64,
@@ -43,7 +44,7 @@ fn print<O: Sink>(alloc: Global, figures: &Figures, out: &mut O) -> Result<(), O
 }
 
 /// Prints what it takes to make the image of NUMBER and SIZE from a seed and a store in memory.
-pub fn demo<R: Threads + Sync, O: Sink>(
+pub fn demo<R: Threads + Wait + Sync, O: Sink>(
     rt: &R,
     alloc: Global,
     out: &mut O,

@@ -1,13 +1,15 @@
-use Rattle.std.proofs.Common.{◌≡◌, ◌∙◌, ℕ, Result, Ok, OnOk, length, sym, subst, arith}
+use Rattle.std.proofs.Common.{◌≡◌, ◌∙◌, ℕ, Result, Ok, Err, OnOk, length, sym, ap, subst, arith}
 use Rattle.assembler.specs.Passes.{HasPassed, one_pass}
 use Rattle.assembler.specs.Stages.{Stage, task}
 use Rattle.assembler.specs.declared.fault.ExtractFault.{ExtractFault}
+use Rattle.assembler.specs.declared.fault.ExtractFault.TheVariants as faults
 use Rattle.caibx_codec.specs.Listing.{count_of}
 use Rattle.chunk_sources.specs.Caches.{seen}
 use Rattle.chunk_sources.specs.Sources.{sources}
 use Rattle.chunk_sources.specs.Wants.{Task}
 use Rattle.dsy_base.specs.Bytes.{Held}
 use Rattle.image_assembly.proofs.Beside.{beside_err, beside_ok}
+use Rattle.image_assembly.proofs.Working.{without_cache}
 use Rattle.image_assembly.specs.Beside.{AssembledBeside, joined_stage}
 use Rattle.image_assembly.proofs.finish.finish.Goals.{in-Ok, in-Err}
 use Rattle.image_assembly.proofs.finish.finish.Goals as goal
@@ -53,4 +55,13 @@ returns-clause-report g c = elim c.match-retry_unless.branch [
       let whole : length c.retry_unless.new.work.ledger.fates ≡ count_of g.R.RunName.run.listing = c.retry_unless.ensures.passes.stretch.step.grows.size ∙ c.rules.ensures.counted in
       rw w.answer-is (w.report.ensures.all (λ i inside. all_of c.retry_unless.result w.in-Ok.field-0 w.in-Ok.is c.retry_unless.ensures.ends.ok i (omega (arith, inside, whole))) ∙ whole)
   | in-Err w ↦ rw w.answer-is tt
+]
+
+pub returns-clause-memory : goal.returns-clause-memory
+returns-clause-memory g c = λ is. elim c.match-retry_unless.branch [
+  | in-Ok w ↦ let never : Ok w.report.result ≡ Err faults.Memory = sym w.answer-is ∙ is in absurd (cc)
+  | in-Err w ↦
+      let why : Err w.in-Err.fault ≡ Err faults.Memory = sym w.answer-is ∙ is in
+      let same : w.in-Err.fault ≡ faults.Memory = cc in
+      without_cache g.S.Store (c.retry_unless.ensures.ends.memory (w.in-Err.is ∙ ap (λ (e : ExtractFault). Err e) same))
 ]

@@ -2,13 +2,18 @@ use Rattle.std.proofs.Common.{◌≡◌, ◌∙◌, inl, inr, ◌<◌, ◌∷◌
 use Rattle.std.proofs.lemmas.Bool.{cases_Bool, true≢false}
 use Rattle.std.proofs.lemmas.List.{length-map, length-reverse, reverse-append, with_items_is}
 use Rattle.std.specs.Vec.{with_items}
+use Rattle.assembler.specs.OneKit.{lent}
 use Rattle.assembler.specs.Stages.{task}
-use Rattle.chunk_sources.specs.Caches.{seen}
+use Rattle.chunk_sources.specs.Caches.{TakesWants, seen}
 use Rattle.chunk_sources.specs.Sources.{sources, views_of}
 use Rattle.chunk_sources.specs.declared.kit.Kit.{Kit}
 use Rattle.image_assembly.proofs.Going.{a_kit, all_there, as_many, filled_of, ready_again, ready_at, worked_at}
+use Rattle.image_assembly.proofs.Kits.{assembled_by}
 use Rattle.image_assembly.proofs.Permitting.{permits}
-use Rattle.image_assembly.specs.Beside.{AssembledBeside, WorkedBeside, joined_stage}
+use Rattle.image_assembly.proofs.Spared.{WasInShards, used_once, used_twice}
+use Rattle.image_assembly.proofs.Working.{stays_none}
+use Rattle.image_assembly.specs.Beside.{AssembledBeside, joined_stage}
+use Rattle.image_assembly.specs.Kits.{KitUsed, KnowsFaults, at_kit}
 use Rattle.image_assembly.specs.Lanes.{HasWorked, IsReadyFor, kit_of, tools_of}
 use Rattle.image_assembly.specs.declared.lanes.Lane.{Lane}
 use Rattle.range_survey.specs.declared.fate.Fate.{Fate}
@@ -27,8 +32,11 @@ pass_all-shards-requires-clause-ready g c κs within =
     let here = (goal.at.pass_all-shards-requires-clause-ready g c).After-deref_mut in
     ready_at c.args.kits.items c.args.shards.fates c.deref_mut.result.now (lanes_are g here) (IsReadyFor g.S.Store g.V.View g.R.RunName.run (task g.R.RunName.run.listing c.args.wants.now)) c.requires.ready
 
+many_kits : (g : Over) (c : After-deref_mut g) → 2 ≤ length c.args.kits.items
+many_kits g c = search rules
+
 some_kit : (g : Over) (c : After-deref_mut g) → 0 < length c.args.kits.items
-some_kit g c = search rules
+some_kit g c = omega (arith, many_kits g c)
 
 pub pass_all-shards-requires-clause-some : goal.pass_all-shards-requires-clause-some
 pass_all-shards-requires-clause-some g c κs within =
@@ -71,8 +79,11 @@ went : (g : Over) (c : In-Some g) (k : ℕ) (q p : Kit g.row.S.Denot g.row.V.Den
 went g c = worked_at c.args.kits.items c.args.shards.fates c.deref_mut.result.now (lanes_so g c) g.S.Store g.V.View g.R.RunName.run (task g.R.RunName.run.listing c.args.wants.now) g.T.View.never_fails
     c.pass_all-shards.new.lanes c.pass_all-shards.ensures.lanes c.pass_all-shards.ensures.each (reverse c.kits_of-kits.result.items) (kits_are g c)
 
+many_there : (g : Over) (c : In-Some g) → 2 ≤ length c.args.kits.items
+many_there g c = search rules
+
 some_one : (g : Over) (c : In-Some g) → 0 < length c.args.kits.items
-some_one g c = search rules
+some_one g c = omega (arith, many_there g c)
 
 first_kit : (g : Over) (c : In-Some g) → Kit g.row.S.Denot g.row.V.Denot
 first_kit g c = a_kit c.args.kits.items (some_one g c)
@@ -109,20 +120,12 @@ finish-target-requires-clause-may g c =
     let step = (first_went g here q).1.passed.stretch.step in
     let w = c.pass_all-shards.result in
     permits r d x wants g.S.Store g.V.View (views_of g.V.View first.seeds.items) (map g.S.Store.holds first.chain.stores) (c.requires.permits q) (joined_stage w c.in-Some.kit) refl step.seeds.held step.stores.held
-    (filled_of g.S.Store g.V.View r d x wants w w.held.bytes (c.keeps.ensures.tells ∙ c.requires.tells) c.keeps.ensures.kept) (λ _. Unit {0})
+    (filled_of g.S.Store g.V.View r d x wants w w.held.bytes (c.keeps-2.ensures.tells ∙ c.requires.tells) c.keeps-2.ensures.kept) (λ _. Unit {0})
 
 -- ---- memory
 
 lanes_seen : (g : Over) (c : After-some_lacked-lacked g) → c.deref.result.now ≡ c.pass_all-shards.new.lanes
 lanes_seen g c = c.deref.ensures.value ∙ after g c
-
-any_lacked : (g : Over) (c : After-some_lacked-lacked g) (k : ℕ) → k < length c.pass_all-shards.new.lanes → (slice_index_or c.pass_all-shards.new.lanes k (none_there g)).lacked ≡ true
-    → c.some_lacked-lacked.result ≡ true
-any_lacked g c k less is = elim (cases_Bool c.some_lacked-lacked.result) [
-  | inl so ↦ so
-  | inr isnt ↦ absurd (true≢false (sym is ∙ subst (λ (zs : List (Lane g.row.S.Denot g.row.V.Denot)). (slice_index_or zs k (none_there g)).lacked ≡ false) (lanes_seen g c)
-      (c.some_lacked-lacked.ensures.no isnt k (none_there g) (omega (arith, less, ap (λ (zs : List (Lane g.row.S.Denot g.row.V.Denot)). length zs) (lanes_seen g c))))))
-]
 
 pub finish-target-requires-clause-lacked : goal.finish-target-requires-clause-lacked
 finish-target-requires-clause-lacked g c = λ is.
@@ -143,78 +146,111 @@ same_later : {A : Type 0} (xs ys zs : List A) (x y : A) → xs ≡ x ∷ zs → 
 same_later xs ys zs x y one other zero p some = absurd (omega (arith, some))
 same_later xs ys zs x y one other (suc k) p some = ap (λ ws. slice_index_or ws (suc k) p) one ∙ sym (ap (λ ws. slice_index_or ws (suc k) p) other)
 
-pub returns-clause-others : goal.returns-clause-others
-returns-clause-others g c = λ k q p later less.
-    let here = (goal.at.returns-clause-others g c).In-Some in
-    let before = (goal.at.returns-clause-others g c).After-some_lacked-lacked in
-    let early = (goal.at.returns-clause-others g c).After-deref_mut in
-    let last = (goal.at.returns-clause-others g c).After-reverse in
-    let h = went g here k q p less in
-    let in_lanes : k < length c.pass_all-shards.new.lanes = omega (arith, less, many g early, c.pass_all-shards.ensures.lanes) in
-    subst (λ (b : Kit g.row.S.Denot g.row.V.Denot). WorkedBeside g.S.Store g.V.View g.R.RunName.run (task g.R.RunName.run.listing c.args.wants.now) g.T.View.never_fails k (slice_index_or c.args.kits.items k q)
-    c.args.shards.fates b c.finish-target.result.answer)
-    (same_later (reverse c.kits_of-kits.result.items) c.reverse.new.self.items (reverse c.pop.new.self.items) c.in-Some.kit c.finish-target.result.kit (outs_are g here) (kits_back g last) k p later)
-    (record {
-      known = h.0;
-      lacked = (slice_index_or c.pass_all-shards.new.lanes k (none_there g)).lacked;
-      memory = λ is. c.finish-target.ensures.memory (any_lacked g before k in_lanes is);
-      worked = h.1;
-    })
+as_many_kits : {A : Type 0} (xs ys zs : List A) (x y : A) → xs ≡ x ∷ zs → ys ≡ y ∷ zs → length ys ≡ length xs
+as_many_kits xs ys zs x y one other = ap length other ∙ sym (ap length one)
 
-pub returns-clause-first : goal.returns-clause-first
-returns-clause-first g c = λ q p.
-    let here = (goal.at.returns-clause-first g c).In-Some in
-    let before = (goal.at.returns-clause-first g c).After-some_lacked-lacked in
-    let early = (goal.at.returns-clause-first g c).After-deref_mut in
-    let last = (goal.at.returns-clause-first g c).After-reverse in
-    let h = first_went g here q in
-    let in_lanes : 0 < length c.pass_all-shards.new.lanes = omega (arith, some_one g here, many g early, c.pass_all-shards.ensures.lanes) in
-    let end = c.finish-target.result in
-    record {
-      between = c.in-Some.kit;
-      worked = record {
-        known = h.0;
-        lacked = (slice_index_or c.pass_all-shards.new.lanes 0 (none_there g)).lacked;
-        memory = λ is. c.finish-target.ensures.memory (any_lacked g before 0 in_lanes is);
-        worked = h.1;
-      };
-      joined = c.pass_all-shards.result;
-      later = record { held = g.T.View.held end.target; faults = g.T.View.faults end.target; fates = c.finish-target.ensures.passed.0; kit = end.kit; cache = seen g.F.Look end.cache };
-      kit = sym (ap (λ (zs : List (Kit g.row.S.Denot g.row.V.Denot)). slice_index_or zs 0 p) (kits_back g last));
-      passed = c.finish-target.ensures.passed.1;
-    }
-
-pub returns-clause-assembled : goal.returns-clause-assembled
-returns-clause-assembled g c = λ old f begun q p.
-    let here = (goal.at.returns-clause-assembled g c).In-Some in
-    let last = (goal.at.returns-clause-assembled g c).After-reverse in
-    let r = g.R.RunName.run in
-    let end = c.finish-target.result in
-    let first = slice_index_or c.args.kits.items 0 q in
-    let step = (first_went g here q).1.passed.stretch.step in
-    let from_first = sources f first.seeds.items None first.chain in
-    subst (λ (b : Kit g.row.S.Denot g.row.V.Denot). AssembledBeside g.S.Store g.V.View r (task r.listing c.args.wants.now) old.bytes (g.T.View.held end.target).bytes from_first
-    (sources (g.T.View.faults end.target) b.seeds.items (seen g.F.Look end.cache) b.chain) end.answer) (sym (ap (λ (zs : List (Kit g.row.S.Denot g.row.V.Denot)). slice_index_or zs 0 p) (kits_back g last)))
-    (c.finish-target.ensures.assembled old.bytes from_first (record {
-      before = subst (λ (n : ℕ). f ≤ n) (sym c.pass_all-shards.ensures.before) begun.before;
-      base = begun.base;
-      tells = c.keeps.ensures.tells ∙ c.requires.tells ∙ sym begun.told;
-      cache = refl;
-      seeds = step.seeds;
-      stores = step.stores;
-    }))
+by_worker : (P : ℕ → Type 0) → P 0 → ((k : ℕ) → 0 < k → P k) → (k : ℕ) → P k
+by_worker P first others zero = first
+by_worker P first others (suc k) = others (suc k) (omega arith)
 
 out_long : (g : Over) (c : In-Some g) → length (reverse c.kits_of-kits.result.items) ≡ length c.pass_all-shards.new.lanes
 out_long g c = sym (length-map (reverse c.kits_of-kits.result.items) (λ (q : Kit g.row.S.Denot g.row.V.Denot). Some q)) ∙ ap length (kits_are g c) ∙ length-map c.pass_all-shards.new.lanes kit_of
 
+pub returns-clause-size : goal.returns-clause-size
+returns-clause-size g c =
+    let here = (goal.at.returns-clause-size g c).In-Some in
+    let early = (goal.at.returns-clause-size g c).After-deref_mut in
+    let last = (goal.at.returns-clause-size g c).After-reverse in
+    let same = as_many_kits (reverse c.kits_of-kits.result.items) c.reverse.new.self.items (reverse c.pop.new.self.items) c.in-Some.kit c.finish-target.result.kit (outs_are g here) (kits_back g last) in
+    (omega (arith, same, out_long g here, c.pass_all-shards.ensures.lanes, many g early), c.finish-target.ensures.size)
+
+pub returns-clause-faults : goal.returns-clause-faults
+returns-clause-faults g c = omega (arith, c.pass_all-shards.ensures.before, c.keeps-2.ensures.faults, c.finish-target.ensures.faults)
+
+pub returns-clause-bytes : goal.returns-clause-bytes
+returns-clause-bytes g c = λ old f begun.
+    let here = (goal.at.returns-clause-bytes g c).In-Some in
+    let q = first_kit g here in
+    let first = slice_index_or c.args.kits.items 0 q in
+    let step = (first_went g here q).1.passed.stretch.step in
+    (c.finish-target.ensures.assembled old.bytes (sources f first.seeds.items None first.chain) (record {
+      before = subst (λ (n : ℕ). f ≤ n) (sym c.pass_all-shards.ensures.before) begun.before;
+      base = begun.base;
+      told = begun.told;
+      tells = c.keeps-2.ensures.tells ∙ c.requires.tells;
+      permits = c.requires.permits q;
+      cache = refl;
+      seeds = step.seeds;
+      stores = step.stores;
+    })).bytes
+
 pub returns-clause-kits : goal.returns-clause-kits
-returns-clause-kits g c =
+returns-clause-kits g c = λ old f begun fill.
     let here = (goal.at.returns-clause-kits g c).In-Some in
     let early = (goal.at.returns-clause-kits g c).After-deref_mut in
     let last = (goal.at.returns-clause-kits g c).After-reverse in
-    let one : length c.reverse.new.self.items ≡ suc (length (reverse c.pop.new.self.items)) = ap (λ (zs : List (Kit g.row.S.Denot g.row.V.Denot)). length zs) (kits_back g last) in
-    let two : length (reverse c.kits_of-kits.result.items) ≡ suc (length (reverse c.pop.new.self.items)) = ap (λ (zs : List (Kit g.row.S.Denot g.row.V.Denot)). length zs) (outs_are g here) in
-    omega (arith, one, two, out_long g here, c.pass_all-shards.ensures.lanes, many g early)
+    let r = g.R.RunName.run in
+    let d = c.args.wants.now.plan.now in
+    let x = c.args.wants.now.places.now in
+    let t = task r.listing c.args.wants.now in
+    let kits = c.args.kits.items in
+    let worked = reverse c.kits_of-kits.result.items in
+    let outs = c.reverse.new.self.items in
+    let never = g.T.View.never_fails in
+    let w0 = c.args.shards in
+    let w1 = c.pass_all-shards.result in
+    let end = c.finish-target.result in
+    let count = g.T.View.faults end.target in
+    let e = seen g.F.Look end.cache in
+    let from_first : Kit g.row.S.Denot g.row.V.Denot → _ = λ q. sources f (slice_index_or kits 0 q).seeds.items None (slice_index_or kits 0 q).chain in
+    let to_kit : Kit g.row.S.Denot g.row.V.Denot → _ = λ b. sources count b.seeds.items e b.chain in
+    let back : (j : Kit g.row.S.Denot g.row.V.Denot) → end.kit ≡ slice_index_or outs 0 j = λ j. sym (ap (λ (zs : List (Kit g.row.S.Denot g.row.V.Denot)). slice_index_or zs 0 j) (kits_back g last)) in
+    let wants = (c.requires.ready 0 (first_kit g here) (some_one g here)).ready.wants in
+    let passed = c.finish-target.ensures.passed.1 in
+    let was : WasInShards g.S.Store g.V.View r d x wants never old.bytes f count w0 w1 = record {
+      base = begun.base;
+      told = begun.told;
+      before = begun.before;
+      sure = c.pass_all-shards.ensures.sure;
+      same = c.pass_all-shards.ensures.before;
+      rises = c.keeps-2.ensures.faults;
+      ends = c.finish-target.ensures.faults;
+      tells = c.keeps.ensures.tells ∙ c.requires.tells;
+      kept = c.keeps.ensures.kept;
+      tells_then = c.keeps-2.ensures.tells ∙ c.requires.tells;
+      kept_then = c.keeps-2.ensures.kept;
+    } in
+    assembled_by g.S.Store g.V.View r t kits never old.bytes (g.T.View.held end.target).bytes f count outs e end.answer fill
+    (λ q j.
+    let step = (first_went g here q).1.passed.stretch.step in
+    subst (λ (b : Kit g.row.S.Denot g.row.V.Denot). AssembledBeside g.S.Store g.V.View r t old.bytes (g.T.View.held end.target).bytes (from_first q) (to_kit b) end.answer) (back j)
+    (c.finish-target.ensures.assembled old.bytes (from_first q) (record {
+      before = subst (λ (n : ℕ). f ≤ n) (sym was.same) was.before;
+      base = was.base;
+      told = was.told;
+      tells = was.tells_then;
+      permits = c.requires.permits q;
+      cache = refl;
+      seeds = step.seeds;
+      stores = step.stores;
+    })))
+    (first_kit g here)
+    (stays_none (TakesWants g.S.Store t.listing t.plan (λ v. v < t.plan.wants) c.in-Some.kit.chain.stores) e passed.stretch.stocked)
+    (omega (arith, as_many_kits worked outs (reverse c.pop.new.self.items) c.in-Some.kit end.kit (outs_are g here) (kits_back g last), out_long g here, c.pass_all-shards.ensures.lanes, many g early))
+    (λ k q j. by_worker (λ n. n < length kits → KitUsed g.S.Store g.V.View t (KnowsFaults never kits) old.bytes n (at_kit (lent f kits None) n q) (at_kit (lent count outs e) n j))
+    (λ less.
+    let h = first_went g here q in
+    subst (λ (b : Kit g.row.S.Denot g.row.V.Denot). KitUsed g.S.Store g.V.View t (KnowsFaults never kits) old.bytes 0 (from_first q) (to_kit b)) (back j)
+    (used_twice g.S.Store g.V.View r d x wants kits never old.bytes f count w0 w1 was (many_there g here) (slice_index_or kits 0 q) c.in-Some.kit h.0
+    (slice_index_or c.pass_all-shards.new.lanes 0 (none_there g)).lacked h.1
+    (record { held = g.T.View.held end.target; faults = count; fates = c.finish-target.ensures.passed.0; kit = end.kit; cache = e }) refl passed))
+    (λ n later less.
+    let h = went g here n q j less in
+    subst (λ (b : Kit g.row.S.Denot g.row.V.Denot). KitUsed g.S.Store g.V.View t (KnowsFaults never kits) old.bytes n (at_kit (lent f kits None) n q) (to_kit b))
+    (same_later worked outs (reverse c.pop.new.self.items) c.in-Some.kit end.kit (outs_are g here) (kits_back g last) n j later)
+    (used_once g.S.Store g.V.View r d x wants kits never old.bytes f count w0 w1 was (many_there g here) n (slice_index_or kits n q) (slice_index_or worked n j) h.0
+    (slice_index_or c.pass_all-shards.new.lanes n (none_there g)).lacked h.1 e))
+    k)
 
 pub unreachable-requires : goal.unreachable-requires
 unreachable-requires g c =

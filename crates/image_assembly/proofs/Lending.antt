@@ -1,0 +1,258 @@
+-- What is said of an assembly with any number of kits: what is so with one kit, what is so where nothing was used, and
+-- what is so of kits before they were given room.
+use Rattle.std.proofs.Common.{◌≡◌, ◌⊎◌, ◌<◌, ◌≤◌, ◌+◌, ◌++◌, ◌%◌, ◌==◌, ℕ, zero, suc, List, [], ◌∷◌, All, Any, Bool, true, if◌then◌else◌, Option, Some, None, IfSome, IsTrue, Result, Ok, Err, length, map, slice_index_or, refl, sym, ap, subst, ◌∙◌, inl, inr, arith}
+use Rattle.std.proofs.lemmas.Bool.{eq-eqb}
+use Rattle.std.proofs.lemmas.List.{get_or_default, length-map}
+use Rattle.std.specs.Str.{bytes_eq}
+use Rattle.assembler.proofs.Asked.{asks_none}
+use Rattle.assembler.proofs.Assembled.{assembled_none, assembles_none, told_as}
+use Rattle.assembler.proofs.Based.{only_first}
+use Rattle.assembler.proofs.Stepped.{seeds_none}
+use Rattle.assembler.specs.Assemblies.{After, Assembles, IsAssembled, IsObtainable, IsUnobtained, SparedOver, Verdict}
+use Rattle.assembler.specs.Obtainable.{OnlyObtainable}
+use Rattle.assembler.specs.OneKit.{Lent, lent}
+use Rattle.assembler.specs.Passes.{EndsBy, WhereQuiet}
+use Rattle.assembler.specs.Permits.{deals_to}
+use Rattle.assembler.specs.declared.fault.ExtractFault.{ExtractFault}
+use Rattle.assembler.specs.declared.fault.ExtractFault.TheVariants as faults
+use Rattle.cache_store.specs.Shelves.{Shelf}
+use Rattle.caibx_codec.specs.Asks.{IsListedGet}
+use Rattle.caibx_codec.specs.Listing.{Listing, count_of, image_length}
+use Rattle.chunk_sources.specs.Asks.{AsksAtMost, asks_below, asks_for, calls_below, calls_for, others_spared}
+use Rattle.chunk_sources.specs.Caches.{Stocked, TakesListed}
+use Rattle.chunk_sources.specs.Sources.{Sources, Telling, sources, views_of}
+use Rattle.chunk_sources.specs.Wants.{Task}
+use Rattle.chunk_sources.specs.declared.kit.Kit.{Kit}
+use Rattle.chunk_store.specs.declared.store.Store.{Ghosts as StoreWords}
+use Rattle.dsy_base.specs.Bytes.{Held, held_resized, resized}
+use Rattle.dsy_base.specs.Counts.{Rose}
+use Rattle.dsy_base.specs.Maps.{Map}
+use Rattle.dsy_base.specs.declared.view.View.{Ghosts as ViewWords}
+use Rattle.extract_plan.specs.Deal.{Deal, want_id}
+use Rattle.extract_plan.specs.declared.seed.Seed.{Seed}
+use Rattle.image_assembly.specs.Beside.{PermitsWith}
+use Rattle.image_assembly.specs.Kits.{AllKitsTell, AreKitsAlike, IsAssembledBy, IsSparedFor, KitUsed, KnowsFaults, NoneUsed, SomeKitHas, at_kit, worker_asks, worker_calls}
+use Rattle.image_assembly.specs.Readied.{Permits}
+use Rattle.owned_shards.specs.Wholes.{base_told}
+use Rattle.range_ledger.specs.Fills.{WhereTold}
+use Rattle.range_ledger.specs.Runs.{Run}
+use Rattle.range_survey.specs.declared.report.Report.{Report}
+use Rattle.store_chain.proofs.Kept.{kept_still}
+use Rattle.store_chain.specs.Chains.{Chained}
+
+-- ---- what can be had in other words
+
+told_map : (o p : Option (List ℕ)) {P Q : List ℕ → List ℕ → Type 0} → ((y z : List ℕ) → P y z → Q y z) → WhereTold o p P → WhereTold o p Q
+told_map None p each has = tt
+told_map (Some y) None each has = tt
+told_map (Some y) (Some z) each has = each y z has
+
+only_more : (l : Listing) (P Q : ℕ → Type 0) (a b : ℕ) (r : Result Report ExtractFault) (o t : List ℕ) → ((i : ℕ) → P i → Q i) → OnlyObtainable l P a b r o t → OnlyObtainable l Q a b r o t
+only_more l P Q a b (Ok r) o t more is = λ i inside. more i (is i inside)
+only_more l P Q a b (Err e) o t more (inl same) = inl same
+only_more l P Q a b (Err e) o t more (inr is) = inr (record {
+  failed = is.failed;
+  excused = is.excused;
+  each = λ i inside. elim (is.each i inside) [
+    | inl can ↦ inl (more i can)
+    | inr other ↦ inr other
+  ];
+})
+
+some_more : (o : Option (List ℕ)) {P Q : List ℕ → Type 0} → ((y : List ℕ) → P y → Q y) → IfSome o P → IfSome o Q
+some_more None each has = tt
+some_more (Some y) each has = each y has
+
+-- ---- the only worker
+
+-- it is dealt each want
+deals_all : (d : Deal) (w : ℕ) → d.workers ≡ 1 → deals_to d 0 w ≡ true
+deals_all d w one = ap (λ n. w % n == 0) one ∙ eq-eqb (w % 1) 0 (omega arith)
+
+abbrev asks_if : ℕ → Bool → ℕ
+asks_if m b = if b then 0 else m
+
+module _ (f g : ℕ → Bool) (same : (w : ℕ) → f w ≡ g w) where
+  calls_same : (n : ℕ) → calls_below f n ≡ calls_below g n
+  calls_same zero = refl
+  calls_same (suc n) = ap (λ (b : Bool). calls_below f n + (if b then 0 else 1)) (same n) ∙ ap (λ (k : ℕ). k + calls_for g n) (calls_same n)
+
+  asks_alike : (ids : ℕ → List ℕ) (q : List ℕ) (n : ℕ) → asks_below ids f n q ≡ asks_below ids g n q
+  asks_alike ids q zero = refl
+  asks_alike ids q (suc n) =
+      ap (λ (k : ℕ). k + asks_for ids f n q) (asks_alike ids q n)
+      ∙ ap (λ (b : Bool). asks_below ids g n q + asks_if (if bytes_eq (ids n) q then 1 else 0) b) (same n)
+
+module _ {S V : Type 0} (store : StoreWords S) (view : ViewWords V) (t : Task) (never : Bool) (o p : Option (List ℕ)) where
+  -- ---- one kit
+
+  asks_of_one : t.plan.workers ≡ 1 → (spared : ℕ → Bool) (a b : Chained S)
+      → AsksAtMost store (calls_below spared t.plan.wants + calls_below spared t.plan.wants)
+      (λ q. asks_below (want_id t.listing t.plan) spared t.plan.wants q + asks_below (want_id t.listing t.plan) spared t.plan.wants q) a b
+      → AsksAtMost store (worker_calls t.plan spared 0) (worker_asks t.listing t.plan spared 0) a b
+  asks_of_one one spared a b asks =
+      let n = t.plan.wants in
+      let ids = want_id t.listing t.plan in
+      let share = others_spared (deals_to t.plan 0) spared in
+      let same : (w : ℕ) → share w ≡ spared w = λ w. ap (λ (b : Bool). if b then spared w else true) (deals_all t.plan w one) in
+      let calls = calls_same share spared same n in
+      record {
+        no_fewer = asks.no_fewer;
+        calls = omega (arith, asks.calls, calls);
+        no_less = asks.no_less;
+        most = λ q k. omega (arith, asks.most q k, asks_alike share spared same ids q n);
+      }
+
+  pub by_one : t.plan.workers ≡ 1 → (f n : ℕ) (k j : Kit S V) (e c : Option Shelf) (answer : Result Report ExtractFault)
+      → WhereTold o p (Assembles t.listing ⊥ f n answer) → IsAssembled store view t o p (sources f k.seeds.items e k.chain) (sources n j.seeds.items c j.chain) answer
+      → IsAssembledBy store view t never o p (lent f (k ∷ []) e) (lent n (j ∷ []) c) answer
+  by_one one f n k j e c answer bytes is = record {
+    bytes = told_as t.listing f n answer o p (λ (no : ⊥). absurd no) bytes;
+    lost = λ q r. is.lost;
+    had = λ all cached has.
+        let at = all 0 k (omega arith) in
+        told_map o p (λ y z. only_more t.listing (IsObtainable t (resized y (image_length t.listing)) (views_of view k.seeds.items) (cached ++ at.1.0)) (SomeKitHas store view t (k ∷ []) cached y) f n answer y z
+        (λ i can. (0, k, omega arith, refl, (at.1.0, at.1.1, can)))) (is.had at.0 cached at.1.0 has at.1.1);
+    exactly = λ alike q r. is.exactly;
+    after = λ alike q r. is.after;
+    stocked = λ q. is.stocked;
+    kits = refl;
+    each = λ i q r less. used i q r less;
+  } where
+    used : (i : ℕ) (q r : Kit S V) → i < 1 → KitUsed store view t (KnowsFaults never (k ∷ [])) o i (at_kit (lent f (k ∷ []) e) i q) (at_kit (lent n (j ∷ []) c) i r)
+    used zero q r less = record {
+      asks = λ spared are. asks_of_one one spared k.chain j.chain (is.asks spared (λ w below so. spares w (are w below so)));
+      stores = is.stores;
+      seeds = is.seeds;
+      kind = is.kind;
+    } where
+      spares : (w : ℕ) → IsSparedFor store view t (KnowsFaults never (k ∷ [])) o (sources f k.seeds.items e k.chain) (sources n j.seeds.items c j.chain) w
+          → SparedOver store view t o (sources f k.seeds.items e k.chain) (sources n j.seeds.items c j.chain) w
+      spares w (inl ((i, among, right), quiet)) = inl ((i, among, right.0), quiet)
+      spares w (inr rest) = inr rest
+    used (suc i) q r less = absurd (omega (arith, less))
+
+-- ---- nothing was used
+
+module _ {S V : Type 0} (store : StoreWords S) (view : ViewWords V) (t : Task) (never : Bool) (old new : Held) (f n : ℕ) (fn : f ≤ n) (e : Option Shelf) (fault : ExtractFault)
+    (why : ((fault ≡ faults.TargetFault) × Rose f n) ⊎ (fault ≡ faults.Memory)) (stands : (new ≡ old) ⊎ (new ≡ held_resized old (image_length t.listing))) where
+  unused_by : (kits : List (Kit S V)) (k : ℕ) (q r : Kit S V) → k < length kits → KitUsed store view t (KnowsFaults never kits) old.bytes k (at_kit (lent f kits e) k q) (at_kit (lent n kits e) k r)
+  unused_by kits k q r less =
+      let j = slice_index_or kits k q in
+      subst (λ (z : Kit S V). KitUsed store view t (KnowsFaults never kits) old.bytes k (at_kit (lent f kits e) k q) (sources n z.seeds.items e z.chain)) (get_or_default kits k q r less)
+      (record {
+        asks = λ spared are. asks_none store (worker_calls t.plan spared k) (worker_asks t.listing t.plan spared k) j.chain;
+        stores = kept_still store (IsListedGet t.listing) j.chain.stores;
+        seeds = seeds_none view j.seeds.items;
+        kind = refl;
+      })
+
+  pub by_none : (kits : List (Kit S V)) → 0 < length kits → IsAssembledBy store view t never old.bytes new.bytes (lent f kits e) (lent n kits e) (Err fault)
+  by_none [] some = absurd (omega (arith, some))
+  by_none (k ∷ ks) some =
+      let is = assembled_none store view t old new f n fn k.seeds.items e k.chain fault why stands in
+      record {
+        bytes = assembles_none t.listing (NoneUsed (lent f (k ∷ ks) e) (lent n (k ∷ ks) e)) (refl, refl) old new f n fn fault why stands;
+        lost = λ q r. is.lost;
+        had = λ all cached has. only_first t.listing (SomeKitHas store view t (k ∷ ks) cached) f n fn fault old.bytes new.bytes (elim stands [
+          | inl same ↦ inl (ap (λ (h : Held). h.bytes) same)
+          | inr long ↦ inr (ap (λ (h : Held). h.bytes) long)
+        ]);
+        exactly = λ alike q r. is.exactly;
+        after = λ alike q r. is.after;
+        stocked = λ q. is.stocked;
+        kits = refl;
+        each = λ i q r less. unused_by (k ∷ ks) i q r less;
+      }
+
+-- ---- kits with other room
+
+pub at_map : {A B : Type 0} (h : A → B) (xs : List A) (n : ℕ) (d : A) → h (slice_index_or xs n d) ≡ slice_index_or (map h xs) n (h d)
+at_map h [] n d = refl
+at_map h (x ∷ xs) zero d = refl
+at_map h (x ∷ xs) (suc n) d = at_map h xs n d
+
+at_same : {A B : Type 0} (h : A → B) (ms xs : List A) → map h ms ≡ map h xs → (n : ℕ) (d : A) → h (slice_index_or ms n d) ≡ h (slice_index_or xs n d)
+at_same h ms xs same n d = at_map h ms n d ∙ ap (λ zs. slice_index_or zs n (h d)) same ∙ sym (at_map h xs n d)
+
+module _ {S V : Type 0} (ms xs : List (Kit S V)) (chains : map (λ k. k.chain) ms ≡ map (λ k. k.chain) xs) (seeds : map (λ k. k.seeds) ms ≡ map (λ k. k.seeds) xs) where
+  pub as_long : length ms ≡ length xs
+  as_long = sym (length-map ms (λ (k : Kit S V). k.chain)) ∙ ap length chains ∙ length-map xs (λ (k : Kit S V). k.chain)
+
+  pub chain_at : (n : ℕ) (d : Kit S V) → (slice_index_or ms n d).chain ≡ (slice_index_or xs n d).chain
+  chain_at = at_same (λ (k : Kit S V). k.chain) ms xs chains
+
+  pub seeds_at : (n : ℕ) (d : Kit S V) → (slice_index_or ms n d).seeds ≡ (slice_index_or xs n d).seeds
+  seeds_at = at_same (λ (k : Kit S V). k.seeds) ms xs seeds
+
+  sources_at : (f : ℕ) (e : Option Shelf) (n : ℕ) (d : Kit S V) → at_kit (lent f ms e) n d ≡ at_kit (lent f xs e) n d
+  sources_at f e n d =
+      ap (λ c. sources f (slice_index_or ms n d).seeds.items e c) (chain_at n d)
+      ∙ ap (λ s. sources f s.items e (slice_index_or xs n d).chain) (seeds_at n d)
+
+  -- what is so by chain and seeds
+  pub all_same : (P : Chained S → List (Seed V) → Type 0) → All (λ k. P k.chain k.seeds.items) xs → All (λ k. P k.chain k.seeds.items) ms
+  all_same P all n d less =
+      subst (λ c. P c (slice_index_or ms n d).seeds.items) (sym (chain_at n d))
+      (subst (λ s. P (slice_index_or xs n d).chain s.items) (sym (seeds_at n d)) (all n d (omega (arith, less, as_long))))
+
+  pub any_same : (P : Chained S → List (Seed V) → Type 0) → Any (λ k. P k.chain k.seeds.items) xs → Any (λ k. P k.chain k.seeds.items) ms
+  any_same P (n, k, less, is, so) =
+      let less_too : n < length ms = omega (arith, less, as_long) in
+      let here = slice_index_or ms n k in (
+        n,
+        here,
+        less_too,
+        get_or_default ms n here k less_too,
+        subst (λ c. P c here.seeds.items) (sym (chain_at n k ∙ ap (λ (z : Kit S V). z.chain) is))
+            (subst (λ s. P k.chain s.items) (sym (seeds_at n k ∙ ap (λ (z : Kit S V). z.seeds) is)) so),
+      )
+
+module _ {S V : Type 0} (store : StoreWords S) (view : ViewWords V) (ms xs : List (Kit S V)) (chains : map (λ k. k.chain) ms ≡ map (λ k. k.chain) xs) (seeds : map (λ k. k.seeds) ms ≡ map (λ k. k.seeds) xs) where
+  abbrev Tells : Chained S → List (Seed V) → Type 0
+  Tells c s = Telling view.tells (views_of view s) × ((maps : List (Map (List ℕ))) × (map store.holds c.stores ≡ map Some maps))
+
+  abbrev Has : Task → List (Map (List ℕ)) → List ℕ → ℕ → Chained S → List (Seed V) → Type 0
+  Has t cached y i c s = (maps : List (Map (List ℕ))) × (map store.holds c.stores ≡ map Some maps) × IsObtainable t (resized y (image_length t.listing)) (views_of view s) (cached ++ maps) i
+
+  -- the run permits with them as with those
+  pub permits_same : (r : Run) (t : Task) → Permits store view r t xs → Permits store view r t ms
+  permits_same r t is = record {
+    one = λ alone. is.one (sym (as_long ms xs chains seeds) ∙ alone);
+    each = all_same ms xs chains seeds (λ c s. PermitsWith view.tells r t (views_of view s) (map store.holds c.stores)) is.each;
+    had = λ many all. some_more (base_told r) (λ y has i inside may. any_same ms xs chains seeds (Has t [] y i) (has i inside may))
+        (is.had (subst (λ (n : ℕ). 2 ≤ n) (as_long ms xs chains seeds) many) (all_same xs ms (sym chains) (sym seeds) Tells all));
+  }
+
+  -- so has an assembly with them
+  module _ (t : Task) (never : Bool) (o p : Option (List ℕ)) (f : ℕ) (e : Option Shelf) (new : Lent S V) (answer : Result Report ExtractFault) where
+    pub by_same : WhereTold o p (Assembles t.listing (NoneUsed (lent f xs e) new) f new.faults answer) → IsAssembledBy store view t never o p (lent f ms e) new answer
+        → IsAssembledBy store view t never o p (lent f xs e) new answer
+    by_same bytes is = record {
+      bytes = bytes;
+      lost = λ q j. subst (λ (s : Sources S V). EndsBy (IsUnobtained store view t o s (at_kit new 0 j)) (Rose f new.faults) answer) (sources_at ms xs chains seeds f e 0 q) (is.lost q j);
+      had = λ all cached has. told_map o p (λ y z. only_more t.listing (SomeKitHas store view t ms cached y) (SomeKitHas store view t xs cached y) f new.faults answer y z
+          (λ i. any_same xs ms (sym chains) (sym seeds) (Has t cached y i))) (is.had (all_same ms xs chains seeds Tells all) cached has);
+      exactly = λ alike q j. subst (λ (s : Sources S V). WhereQuiet store view t.listing s (at_kit new 0 j) (λ cached maps. IfSome o (λ y. Verdict t.listing
+          (IsObtainable t (resized y (image_length t.listing)) (views_of view s.seeds) (cached ++ maps)) answer))) (sources_at ms xs chains seeds f e 0 q) (is.exactly (alike_too alike) q j);
+      after = λ alike q j. subst (λ (s : Sources S V). WhereQuiet store view t.listing s (at_kit new 0 j) (λ cached maps. WhereTold o p (λ y z. After t.listing
+          (IsObtainable t (resized y (image_length t.listing)) (views_of view s.seeds) (cached ++ maps)) (resized y (image_length t.listing)) z answer))) (sources_at ms xs chains seeds f e 0 q)
+          (is.after (alike_too alike) q j);
+      stocked = λ q. subst (λ (s : Sources S V). Stocked (TakesListed store t.listing s.chain.stores) e new.cache) (sources_at ms xs chains seeds f e 0 q) (is.stocked q);
+      kits = is.kits ∙ long;
+      each = λ k q j less. subst (λ (s : Sources S V). KitUsed store view t (KnowsFaults never xs) o k s (at_kit new k j)) (sources_at ms xs chains seeds f e k q)
+          (subst (λ (m : ℕ). KitUsed store view t ((m ≡ 1) ⊎ IsTrue never) o k (at_kit (lent f ms e) k q) (at_kit new k j)) long (is.each k q j (omega (arith, less, long))));
+    } where
+      long : length ms ≡ length xs
+      long = as_long ms xs chains seeds
+
+      holds_at : (k : ℕ) (q : Kit S V) → map store.holds (slice_index_or ms k q).chain.stores ≡ map store.holds (slice_index_or xs k q).chain.stores
+      holds_at k q = ap (λ (c : Chained S). map store.holds c.stores) (chain_at ms xs chains seeds k q)
+
+      views_at : (k : ℕ) (q : Kit S V) → views_of view (slice_index_or ms k q).seeds.items ≡ views_of view (slice_index_or xs k q).seeds.items
+      views_at k q = ap (λ s. views_of view s.items) (seeds_at ms xs chains seeds k q)
+
+      alike_too : AreKitsAlike store view t xs → AreKitsAlike store view t ms
+      alike_too alike k q less =
+          let so = alike k q (omega (arith, less, long)) in
+          (views_at k q ∙ so.0 ∙ sym (views_at 0 q), holds_at k q ∙ so.1 ∙ sym (holds_at 0 q))
