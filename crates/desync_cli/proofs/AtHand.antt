@@ -288,13 +288,13 @@ module _ (w v : Storage) (none : NoneRose w.disk v.disk) (b : Map (List ℕ)) (n
 self_climbs : (d : Disk) → Climbs d d
 self_climbs d = record { files = λ q. omega arith; folders = λ q. omega arith }
 
-module _ (stores : List Location) (cache : Option (List ℕ)) (out : List ℕ) (l : Listing) (x : Seeds) (w : Disk) (v : World) (quiet : DiskQuiet w v.disk) (b : Map (List ℕ)) (n : Map (Map (List ℕ))) (one : IsSome cache → ListsOneSize l)
+module _ (sure : Bool) (stores : List Location) (cache : Option (List ℕ)) (out : List ℕ) (l : Listing) (x : Seeds) (w : Disk) (v : World) (quiet : DiskQuiet w v.disk) (b : Map (List ℕ)) (n : Map (Map (List ℕ))) (one : IsSome cache → ListsOneSize l)
     (u : World) (files : u.disk.files ≡ Some b) (folders : u.disk.folders ≡ Some n) (so_far : Climbs w u.disk) where
-  image_at_hand : (i : Into) (c : Disk) → Climbs c v.disk → ((k : ℕ) → k < count_of l → IsAtHand b n i l x (near cache stores) k) → (o : Outcome) → ImageMade stores cache i l x (storage u.disk u.dial) (Err o) (storage c v.dial) → o ≡ ends.Memory
+  image_at_hand : (i : Into) (c : Disk) → Climbs c v.disk → ((k : ℕ) → k < count_of l → IsAtHand b n i l x (near cache stores) k) → (o : Outcome) → ImageMade sure stores cache i l x (storage u.disk u.dial) (Err o) (storage c v.dial) → o ≡ ends.Memory
   image_at_hand i c later hand o h =
       assembled_at_hand (storage u.disk u.dial) (storage c v.dial) (none_rose w u.disk c v.disk quiet so_far later) b n files folders h.2 stores cache i l x h.1.folders one hand o h.0
 
-  renamed_at_hand : (m c : Disk) (k : DialState) → Climbs m v.disk → Climbs c v.disk → ImageMade stores cache (beside out) l x (storage u.disk u.dial) (Ok tt) (storage m k) → (o : Outcome) → Renamed (temporary_out out) out m (Err o) c → o ≡ ends.Memory
+  renamed_at_hand : (m c : Disk) (k : DialState) → Climbs m v.disk → Climbs c v.disk → ImageMade sure stores cache (beside out) l x (storage u.disk u.dial) (Ok tt) (storage m k) → (o : Outcome) → Renamed (temporary_out out) out m (Err o) c → o ≡ ends.Memory
   renamed_at_hand m c k mid later made o h = go o h.0 where
     made_so : (a : Map (List ℕ)) × (m.files ≡ Some a) × (cs : List (Map (List ℕ))) × (((t : List ℕ) × KeepsIn u.disk m b a (beside out) l t × IsRight t l)
         × WhereFolders n stores (λ fs. (i : ℕ) → i < count_of l → HadFrom b (beside out) l x cs fs i))
@@ -314,7 +314,7 @@ module _ (stores : List Location) (cache : Option (List ℕ)) (out : List ℕ) (
     go ends.Memory r = refl
     go other r = absurd r
 
-  out_at_hand : (place : Bool) → ((k : ℕ) → k < count_of l → IsAtHand b n (into place out) l x (near cache stores) k) → (o : Outcome) → OutMade place stores cache out l x u (Err o) v → o ≡ ends.Memory
+  out_at_hand : (place : Bool) → ((k : ℕ) → k < count_of l → IsAtHand b n (into place out) l x (near cache stores) k) → (o : Outcome) → OutMade sure place stores cache out l x u (Err o) v → o ≡ ends.Memory
   out_at_hand true hand o h = image_at_hand (in_place out) v.disk (self_climbs v.disk) hand o h.0
   out_at_hand false hand o (inl h) = image_at_hand (beside out) h.0.0 (wrote_climbs h.0.0 v.disk (wrote_on h.0.0 v.disk (temporary_out out) h.0.2.1)) hand o h.0.1
   out_at_hand false hand o (inr h) =
@@ -325,7 +325,7 @@ module _ (stores : List Location) (cache : Option (List ℕ)) (out : List ℕ) (
 
 -- ---- the command
 
-module _ (stores : List Location) (cache : Option (List ℕ)) (seeds : List (List ℕ)) (place : Bool) (index out : List ℕ) (w v : World) (quiet : DiskQuiet w.disk v.disk) (b : Map (List ℕ)) (n : Map (Map (List ℕ))) (files : w.disk.files ≡ Some b) (folders : w.disk.folders ≡ Some n)
+module _ (sure : Bool) (stores : List Location) (cache : Option (List ℕ)) (seeds : List (List ℕ)) (place : Bool) (index out : List ℕ) (w v : World) (quiet : DiskQuiet w.disk v.disk) (b : Map (List ℕ)) (n : Map (Map (List ℕ))) (files : w.disk.files ≡ Some b) (folders : w.disk.folders ≡ Some n)
     (no : NeedsNoServer b n stores cache seeds (into place out) index) where
   abbrev seeds_of : List Listing → Seeds
   seeds_of ls = record { images = map image_name seeds; listings = ls }
@@ -349,7 +349,7 @@ module _ (stores : List Location) (cache : Option (List ℕ)) (seeds : List (Lis
   abbrev AllNear : Listing → List Listing → Type 0
   AllNear l ls = (i : ℕ) → i < count_of l → IsAtHand b n (into place out) l (seeds_of ls) (near cache stores) i
 
-  pub extracted_at_hand : (o : Outcome) → ExtractEnds stores cache seeds place index out w (Err o) v → o ≡ ends.Memory
+  pub extracted_at_hand : (o : Outcome) → ExtractEnds sure stores cache seeds place index out w (Err o) v → o ≡ ends.Memory
   extracted_at_hand o (inl h) = unread w.disk v.disk b files (still w.disk (self_climbs w.disk)) index no.listing o no.listed h.0.0
   extracted_at_hand o (inr h) = seeds_then h.then where
     read : Reads w.disk h.disk
@@ -364,7 +364,7 @@ module _ (stores : List Location) (cache : Option (List ℕ)) (seeds : List (Lis
     climbs1 : Climbs w.disk h.disk
     climbs1 = read_climbs w.disk h.disk read
 
-    seeds_then : (OnDisk (IndexesRead seeds) >>= (λ ls. OnDisk (SourcesOpened stores) >>= (λ u. OnDisk (CacheOpened stores cache) >>= (λ u. OutMade place stores cache out h.gave (seeds_of ls))))) (world h.disk h.dial h.out) (Err o) v → o ≡ ends.Memory
+    seeds_then : (OnDisk (IndexesRead seeds) >>= (λ ls. OnDisk (SourcesOpened stores) >>= (λ u. OnDisk (CacheOpened stores cache) >>= (λ u. OutMade sure place stores cache out h.gave (seeds_of ls))))) (world h.disk h.dial h.out) (Err o) v → o ≡ ends.Memory
     seeds_then (inl k) = seeds_unread h.disk v.disk b files1 (still h.disk climbs1) 0 seeds no.listings o no.seeds_listed no.few k.0.0
     seeds_then (inr k) = stores_then k.then where
       files2 : k.disk.files ≡ Some b
@@ -382,7 +382,7 @@ module _ (stores : List Location) (cache : Option (List ℕ)) (seeds : List (Lis
       hand : AllNear h.gave k.gave
       hand = subst (λ l. AllNear l k.gave) (sym is_listing) (subst (λ ls. AllNear no.listing ls) (sym are_listings) no.at_hand)
 
-      stores_then : (OnDisk (SourcesOpened stores) >>= (λ u. OnDisk (CacheOpened stores cache) >>= (λ u. OutMade place stores cache out h.gave (seeds_of k.gave)))) (world k.disk k.dial k.out) (Err o) v → o ≡ ends.Memory
+      stores_then : (OnDisk (SourcesOpened stores) >>= (λ u. OnDisk (CacheOpened stores cache) >>= (λ u. OutMade sure place stores cache out h.gave (seeds_of k.gave)))) (world k.disk k.dial k.out) (Err o) v → o ≡ ends.Memory
       stores_then (inl m) = elim m.0.0 [ inl first ↦ unreached k.disk v.disk n folders2 (still k.disk climbs2) stores o no.there first | inr memory ↦ memory ]
       stores_then (inr m) = cache_then m.then where
         folders3 : m.disk.folders ≡ Some n
@@ -391,11 +391,11 @@ module _ (stores : List Location) (cache : Option (List ℕ)) (seeds : List (Lis
         climbs3 : Climbs w.disk m.disk
         climbs3 = climbs_on w.disk k.disk m.disk climbs2 (read_climbs k.disk m.disk m.did.0.1)
 
-        cache_then : (OnDisk (CacheOpened stores cache) >>= (λ u. OutMade place stores cache out h.gave (seeds_of k.gave))) (world m.disk m.dial m.out) (Err o) v → o ≡ ends.Memory
+        cache_then : (OnDisk (CacheOpened stores cache) >>= (λ u. OutMade sure place stores cache out h.gave (seeds_of k.gave))) (world m.disk m.dial m.out) (Err o) v → o ≡ ends.Memory
         cache_then (inl g) = cache_unreached m.disk v.disk n folders3 (still m.disk climbs3) stores cache o no.cache_there g.0
         cache_then (inr g) =
             let reached = cache_reads stores cache m.disk g.disk (Ok tt) g.did.0 in
-            out_at_hand stores cache out h.gave (seeds_of k.gave) w.disk v quiet b n (λ c. subst ListsOneSize (sym is_listing) (no.one_size c)) (world g.disk g.dial g.out) (reached.files ∙ m.did.0.1.files ∙ files2) (reached.folders ∙ folders3)
+            out_at_hand sure stores cache out h.gave (seeds_of k.gave) w.disk v quiet b n (λ c. subst ListsOneSize (sym is_listing) (no.one_size c)) (world g.disk g.dial g.out) (reached.files ∙ m.did.0.1.files ∙ files2) (reached.folders ∙ folders3)
             (climbs_on w.disk m.disk g.disk climbs3 (read_climbs m.disk g.disk reached)) place hand o g.then
 
 -- ---- what the top call says
@@ -405,13 +405,13 @@ fine : (c : Command) (d : Disk) (o : Outcome) → (o ≡ ends.Done) ⊎ (o ≡ e
 fine (commands.Extract stores seeds cache place workers index target) d o is = if_any d.files _ (λ b. if_any d.folders _ (λ n. λ no. is))
 fine other d o is = tt
 
-refused_at_hand : (c : Command) (k : Heard) (w v : World) (o : Outcome) → DiskQuiet w.disk v.disk → CommandEnds k c w (Err o) v → EndsAtHand c w.disk o
-refused_at_hand (commands.Extract stores seeds cache place workers index target) k w v o quiet h = go w.disk.files w.disk.folders refl refl where
+refused_at_hand : (sure : Bool) (c : Command) (k : Heard) (w v : World) (o : Outcome) → DiskQuiet w.disk v.disk → CommandEnds sure k c w (Err o) v → EndsAtHand c w.disk o
+refused_at_hand sure (commands.Extract stores seeds cache place workers index target) k w v o quiet h = go w.disk.files w.disk.folders refl refl where
   go : (f : Option (Map (List ℕ))) (g : Option (Map (Map (List ℕ)))) → w.disk.files ≡ f → w.disk.folders ≡ g → IfSome f (λ b. IfSome g (λ n. NeedsNoServer b n stores cache seeds (into place target) index → (o ≡ ends.Done) ⊎ (o ≡ ends.Memory)))
   go None g is y = tt
   go (Some b) None is y = tt
-  go (Some b) (Some n) is y = λ no. inr (extracted_at_hand stores cache seeds place index target w v quiet b n is y no o h)
-refused_at_hand other k w v o quiet h = tt
+  go (Some b) (Some n) is y = λ no. inr (extracted_at_hand sure stores cache seeds place index target w v quiet b n is y no o h)
+refused_at_hand sure other k w v o quiet h = tt
 
 words_refused : (words : List (List ℕ)) (d : Disk) (o : Outcome) → NoCommand words o → IfSome (command_of words) (λ c. EndsAtHand c d o)
 words_refused words d (ends.Usage place why) h = go (command_line words) h where
@@ -421,7 +421,7 @@ words_refused words d (ends.Usage place why) h = go (command_line words) h where
 words_refused words d ends.Memory h = if_any (command_of words) _ (λ c. fine c d ends.Memory (inr refl))
 words_refused words d other h = absurd h
 
-pub ends_at_hand : (k : Heard) (words : List (List ℕ)) (w v : World) (r : Result Unit Outcome) → DesyncEnds k words w r v → DiskQuiet w.disk v.disk → IfSome (command_of words) (λ c. EndsAtHand c w.disk (outcome_of r))
-ends_at_hand k words w v (Ok u) h quiet = if_any (command_of words) _ (λ c. fine c w.disk ends.Done (inl refl))
-ends_at_hand k words w v (Err o) (inl h) quiet = words_refused words w.disk o h.0
-ends_at_hand k words w v (Err o) (inr h) quiet = let b = begun k words w v (Err o) h in if_some (command_of words) _ b.0 b.1 (refused_at_hand b.0 k w v o quiet b.2)
+pub ends_at_hand : (sure : Bool) (k : Heard) (words : List (List ℕ)) (w v : World) (r : Result Unit Outcome) → DesyncEnds sure k words w r v → DiskQuiet w.disk v.disk → IfSome (command_of words) (λ c. EndsAtHand c w.disk (outcome_of r))
+ends_at_hand sure k words w v (Ok u) h quiet = if_any (command_of words) _ (λ c. fine c w.disk ends.Done (inl refl))
+ends_at_hand sure k words w v (Err o) (inl h) quiet = words_refused words w.disk o h.0
+ends_at_hand sure k words w v (Err o) (inr h) quiet = let b = begun sure k words w v (Err o) h in if_some (command_of words) _ b.0 b.1 (refused_at_hand sure b.0 k w v o quiet b.2)

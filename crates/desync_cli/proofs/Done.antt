@@ -1,5 +1,5 @@
 -- What the outcome Done says: a line a command that has a headline.
-use Rattle.std.proofs.Common.{◌≡◌, ℕ, List, IfSome, is_some, Result, Ok, subst}
+use Rattle.std.proofs.Common.{◌≡◌, ℕ, List, IfSome, is_some, Result, Ok, subst, Bool}
 use Rattle.command_outcome.specs.declared.outcome.Outcome.{Outcome}
 use Rattle.command_outcome.specs.declared.outcome.Outcome.TheVariants as ends
 use Rattle.command_worlds.specs.Steps.{answer_of, outcome_of}
@@ -16,18 +16,18 @@ use Rattle.desync_cli.proofs.Made.{made}
 use Rattle.desync_cli.proofs.Pruned.{pruned_to, verified_store}
 use Rattle.desync_cli.proofs.Verified.{verified}
 
-achieves : (k : Heard) (c : Command) (w v : World) → is_some w.disk.files ≡ is_some w.disk.folders → CommandEnds k c w (Ok tt) v → Achieves k c w v
-achieves k (commands.Make store sizes workers index image) w v told h = made store sizes index image w v told h
-achieves k (commands.Extract stores seeds cache in_place workers index target) w v told h = extracted stores cache seeds in_place index target w v told h
-achieves k (commands.VerifyIndex index image) w v told h = verified index image w v h
-achieves k (commands.Chop store index image) w v told h = chopped store index image w v h
-achieves k (commands.Cache stores cache indexes) w v told h = cached stores cache indexes w v h
-achieves k (commands.Verify store repair) w v told h = verified_store store repair w v h
-achieves k (commands.Prune store indexes) w v told h = pruned_to store indexes w v h
-achieves k other w v told h = h
+achieves : (sure : Bool) (k : Heard) (c : Command) (w v : World) → is_some w.disk.files ≡ is_some w.disk.folders → CommandEnds sure k c w (Ok tt) v → Achieves sure k c w v
+achieves sure k (commands.Make store sizes workers index image) w v told h = made store sizes index image w v told h
+achieves sure k (commands.Extract stores seeds cache in_place workers index target) w v told h = extracted sure stores cache seeds in_place index target w v told h
+achieves sure k (commands.VerifyIndex index image) w v told h = verified index image w v h
+achieves sure k (commands.Chop store index image) w v told h = chopped store index image w v h
+achieves sure k (commands.Cache stores cache indexes) w v told h = cached stores cache indexes w v h
+achieves sure k (commands.Verify store repair) w v told h = verified_store store repair w v h
+achieves sure k (commands.Prune store indexes) w v told h = pruned_to store indexes w v h
+achieves sure k other w v told h = h
 
-pub achieved : (k : Heard) (words : List (List ℕ)) (w v : World) (r : Result Unit Outcome) → is_some w.disk.files ≡ is_some w.disk.folders → DesyncEnds k words w r v → outcome_of r ≡ ends.Done → IfSome (command_of words) (λ c. Achieves k c w v)
-achieved k words w v r told h done =
-    let a : DesyncEnds k words w (Ok tt) v = subst (λ o. DesyncEnds k words w (answer_of o) v) done (answered k words w v r h) in
-    let b = begun k words w v (Ok tt) a in
-    if_some (command_of words) (λ c. Achieves k c w v) b.0 b.1 (achieves k b.0 w v told b.2)
+pub achieved : (sure : Bool) (k : Heard) (words : List (List ℕ)) (w v : World) (r : Result Unit Outcome) → is_some w.disk.files ≡ is_some w.disk.folders → DesyncEnds sure k words w r v → outcome_of r ≡ ends.Done → IfSome (command_of words) (λ c. Achieves sure k c w v)
+achieved sure k words w v r told h done =
+    let a : DesyncEnds sure k words w (Ok tt) v = subst (λ o. DesyncEnds sure k words w (answer_of o) v) done (answered sure k words w v r h) in
+    let b = begun sure k words w v (Ok tt) a in
+    if_some (command_of words) (λ c. Achieves sure k c w v) b.0 b.1 (achieves sure k b.0 w v told b.2)

@@ -43,9 +43,9 @@ module _ (names : List Location) (cache : Option (List ℕ)) (index out : List �
       let made_so : IsExtracted b now index out = record { listing = l; listed = listed; image = t; holds = holds; right = made.2.0.2 } in
       subst (λ o. IfSome o (λ a. IsExtracted b a index out)) (sym is) made_so
 
-pub extracted : (stores : List Location) (cache : Option (List ℕ)) (seeds : List (List ℕ)) (place : Bool) (index out : List ℕ) (w v : World) → is_some w.disk.files ≡ is_some w.disk.folders → ExtractEnds stores cache seeds place index out w (Ok tt) v
+pub extracted : (sure : Bool) (stores : List Location) (cache : Option (List ℕ)) (seeds : List (List ℕ)) (place : Bool) (index out : List ℕ) (w v : World) → is_some w.disk.files ≡ is_some w.disk.folders → ExtractEnds sure stores cache seeds place index out w (Ok tt) v
     → IfSome w.disk.files (λ b. IfSome v.disk.files (λ a. IsExtracted b a index out))
-extracted stores cache seeds true index out w v told h =
+extracted sure stores cache seeds true index out w v told h =
     let reached = cache_reads stores cache h.then.then.disk h.then.then.then.disk (Ok tt) h.then.then.then.did.0 in
     let files = reached.files ∙ h.then.then.did.0.1.files ∙ h.then.did.0.1.files ∙ h.did.0.1.files in
     let folders = reached.folders ∙ h.then.then.did.0.1.folders ∙ h.then.did.0.1.folders ∙ h.did.0.1.folders in
@@ -55,7 +55,7 @@ extracted stores cache seeds true index out w v told h =
     let made = subst (λ f. MadeOver names cache (in_place out) h.gave x d v.disk f d.folders v.disk.files) files h.then.then.then.then.0.0 in
     over_files names cache index out h.gave x d v.disk w.disk.files w.disk.folders v.disk.files told h.did.0.0
     (subst (λ y. MadeOver names cache (in_place out) h.gave x d v.disk w.disk.files y v.disk.files) folders made)
-extracted stores cache seeds false index out w v told h =
+extracted sure stores cache seeds false index out w v told h =
     let reached = cache_reads stores cache h.then.then.disk h.then.then.then.disk (Ok tt) h.then.then.then.did.0 in
     let files = reached.files ∙ h.then.then.did.0.1.files ∙ h.then.did.0.1.files ∙ h.did.0.1.files in
     let folders = reached.folders ∙ h.then.then.did.0.1.folders ∙ h.then.did.0.1.folders ∙ h.did.0.1.folders in

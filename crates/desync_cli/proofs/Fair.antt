@@ -96,10 +96,10 @@ filled {o} {stores} {cache} {l} {w} {v} p r dials = record {
   go None same t = same
   go (Some c) h t = absurd (cc)
 
-assembled_step : (o : Bool) (x : Parts) (p : Output) (cache : Option (List ℕ)) (l : Listing) (z : Seeds) (i : Into) → i.name ≡ x.target
-    → IsStep (behind p) (record { files = false; folders = not (is_some cache); dial = are_folders x.stores; out = o }) x (ImageMade x.stores cache i l z)
-assembled_step o x p cache l z i is = record { fair = fair; leaves = λ w v r h. filled p h.1 h.3 } where
-  fair : (w v : Storage) (o : Outcome) → ImageMade x.stores cache i l z w (Err o) v → IsFair x o (behind p w) (behind p v)
+assembled_step : (sure o : Bool) (x : Parts) (p : Output) (cache : Option (List ℕ)) (l : Listing) (z : Seeds) (i : Into) → i.name ≡ x.target
+    → IsStep (behind p) (record { files = false; folders = not (is_some cache); dial = are_folders x.stores; out = o }) x (ImageMade sure x.stores cache i l z)
+assembled_step sure o x p cache l z i is = record { fair = fair; leaves = λ w v r h. filled p h.1 h.3 } where
+  fair : (w v : Storage) (o : Outcome) → ImageMade sure x.stores cache i l z w (Err o) v → IsFair x o (behind p w) (behind p v)
   fair w v (ends.Missing k id) h = (tt, tt)
   fair w v (ends.Damaged k id store shows) h = (tt, tt)
   fair w v (ends.StoreFault k) h = (tt, source_failed (Lacks (chunk_of (kind_of l) h.0.0.1 (size_of l h.0.0.0))) (behind p w) (behind p v) k x.stores h.0.0.4)
@@ -171,11 +171,11 @@ renamed_step f n o x p from to = record { fair = fair; leaves = leaves } where
   leaves d e (Ok t) h = writes p (wrote_on d e to h.1)
   leaves d e (Err r) h = writes p (wrote_on d e to h.2)
 
-out_step : (o : Bool) (x : Parts) (cache : Option (List ℕ)) (l : Listing) (z : Seeds) (place : Bool) (out : List ℕ) → x.target ≡ cond place out (temporary_out out)
-    → IsStep whole (record { files = false; folders = not (is_some cache); dial = are_folders x.stores; out = o }) x (OutMade place x.stores cache out l z)
-out_step o x cache l z true out is = on_sources (λ p. assembled_step o x p cache l z (in_place out) (sym is))
-out_step o x cache l z false out is =
-    bound (on_sources (λ p. cleared_step _ _ o x p (temporary_out out) _ (assembled_step o x p cache l z (beside out) (sym is))))
+out_step : (sure o : Bool) (x : Parts) (cache : Option (List ℕ)) (l : Listing) (z : Seeds) (place : Bool) (out : List ℕ) → x.target ≡ cond place out (temporary_out out)
+    → IsStep whole (record { files = false; folders = not (is_some cache); dial = are_folders x.stores; out = o }) x (OutMade sure place x.stores cache out l z)
+out_step sure o x cache l z true out is = on_sources (λ p. assembled_step sure o x p cache l z (in_place out) (sym is))
+out_step sure o x cache l z false out is =
+    bound (on_sources (λ p. cleared_step _ _ o x p (temporary_out out) _ (assembled_step sure o x p cache l z (beside out) (sym is))))
     (λ u. on_sources (λ p. cleared_step _ _ o x p (temporary_out out) _ (unasked_step p _ (λ q. renamed_step _ _ o x q (temporary_out out) out))))
 
 one_folder : (store : Location) → IsTrue (is_folder store) → IsTrue (are_folders (store ∷ []))
@@ -293,21 +293,21 @@ rehearsed_fair x number size other w v h = absurd h
 
 -- ---- the commands
 
-command_step : (h : Heard) (c : Command) → IsStep whole (spares c) (parts h c) (CommandEnds h c)
-command_step h (commands.Make store sizes workers index image) = bound (pure_step (SizesJudged sizes) (judged_fair (parts h (commands.Make store sizes workers index image)) sizes)) (λ z. bound (on_disk (λ p. image_step _ _ p)) (λ told. bound (on_disk (λ p. source_taken_step _ _ _ _ p _ store)) (λ held. bound (on_sources (λ p. stored_step _ p store refl _ _ z told held)) (λ bytes. on_disk (λ p. written_step _ _ _ _ p index bytes)))))
-command_step h (commands.VerifyIndex index image) = bound (on_disk (λ p. index_step _ _ p index)) (λ l. bound (on_disk (λ p. image_step _ _ p)) (λ told. on_disk (λ p. checked_step _ _ p l told)))
-command_step h (commands.Chop store index image) = bound (on_disk (λ p. index_step _ _ p index)) (λ l. bound (on_disk (λ p. image_step _ _ p)) (λ told. bound (on_disk (λ p. source_taken_step _ _ _ _ p _ store)) (λ held. on_sources (λ p. chopped_step _ p store refl _ _ l told held))))
-command_step h (commands.Cache stores cache indexes) = bound (on_disk (λ p. sources_step _ _ p stores)) (λ u. bound (on_disk (λ p. cache_step _ _ p stores (Some cache))) (λ u. on_sources (λ p. filled_step _ _ (parts h (commands.Cache stores cache indexes)) p indexes)))
-command_step h (commands.ListChunks index) = bound (on_disk (λ p. index_step _ _ p index)) (λ l. on_out (λ d. printed_step _ _ _ _ d (text_of_chunks l)))
-command_step h (commands.Extract stores seeds cache in_place workers index target) = bound (on_disk (λ p. index_step _ _ p index)) (λ l. bound (on_disk (λ p. indexes_step _ _ p seeds)) (λ ls. bound (on_disk (λ p. sources_step _ _ p stores)) (λ u. bound (on_disk (λ p. cache_step _ _ p stores cache)) (λ u. out_step _ (parts h (commands.Extract stores seeds cache in_place workers index target)) cache l (record { images = map image_name seeds; listings = ls }) in_place target refl))))
-command_step h (commands.Info stores index) = bound (on_disk (λ p. index_step _ _ p index)) (λ l. bound (on_sources (λ p. counted_step _ _ p (λ t. t) l)) (λ n. on_out (λ d. printed_step _ _ _ _ d (text_of_info l n))))
-command_step h (commands.Verify store repair) = bound (on_disk (λ p. taken_step _ _ _ _ p [] store)) (λ held. verified_step _ _ store repair held refl)
-command_step h (commands.Prune store indexes) = bound (on_disk (λ p. indexes_step _ _ p indexes)) (λ ls. bound (on_disk (λ p. taken_step _ _ _ _ p [] store)) (λ held. on_disk (λ p. pruned_step _ _ _ _ p (is_listed_in ls) store held refl)))
-command_step h (commands.Demo number size workers) = bound (pure_step (Rehearsed number size) (rehearsed_fair (parts h (commands.Demo number size workers)) number size)) (λ f. on_out (λ d. printed_step _ _ _ _ d (text_of_figures f)))
-command_step h commands.Help = on_out (λ d. printed_step _ _ _ _ d (help_text topics.All))
-command_step h commands.Version = on_out (λ d. printed_step _ _ _ _ d (help_text topics.Version))
-command_step h (commands.HelpOn kind) = on_out (λ d. printed_step _ _ _ _ d (help_text (topics.Command kind)))
-command_step h (commands.ChunkServer store host port writable workers) = bound (on_disk (λ p. unheard_step _ _ _ _ p h store)) (λ held. on_disk (λ p. served_step _ _ _ _ p (workers == 1) h writable store held refl))
+command_step : (sure : Bool) (h : Heard) (c : Command) → IsStep whole (spares c) (parts h c) (CommandEnds sure h c)
+command_step sure h (commands.Make store sizes workers index image) = bound (pure_step (SizesJudged sizes) (judged_fair (parts h (commands.Make store sizes workers index image)) sizes)) (λ z. bound (on_disk (λ p. image_step _ _ p)) (λ told. bound (on_disk (λ p. source_taken_step _ _ _ _ p _ store)) (λ held. bound (on_sources (λ p. stored_step _ p store refl _ _ z told held)) (λ bytes. on_disk (λ p. written_step _ _ _ _ p index bytes)))))
+command_step sure h (commands.VerifyIndex index image) = bound (on_disk (λ p. index_step _ _ p index)) (λ l. bound (on_disk (λ p. image_step _ _ p)) (λ told. on_disk (λ p. checked_step _ _ p l told)))
+command_step sure h (commands.Chop store index image) = bound (on_disk (λ p. index_step _ _ p index)) (λ l. bound (on_disk (λ p. image_step _ _ p)) (λ told. bound (on_disk (λ p. source_taken_step _ _ _ _ p _ store)) (λ held. on_sources (λ p. chopped_step _ p store refl _ _ l told held))))
+command_step sure h (commands.Cache stores cache indexes) = bound (on_disk (λ p. sources_step _ _ p stores)) (λ u. bound (on_disk (λ p. cache_step _ _ p stores (Some cache))) (λ u. on_sources (λ p. filled_step _ _ (parts h (commands.Cache stores cache indexes)) p indexes)))
+command_step sure h (commands.ListChunks index) = bound (on_disk (λ p. index_step _ _ p index)) (λ l. on_out (λ d. printed_step _ _ _ _ d (text_of_chunks l)))
+command_step sure h (commands.Extract stores seeds cache in_place workers index target) = bound (on_disk (λ p. index_step _ _ p index)) (λ l. bound (on_disk (λ p. indexes_step _ _ p seeds)) (λ ls. bound (on_disk (λ p. sources_step _ _ p stores)) (λ u. bound (on_disk (λ p. cache_step _ _ p stores cache)) (λ u. out_step sure _ (parts h (commands.Extract stores seeds cache in_place workers index target)) cache l (record { images = map image_name seeds; listings = ls }) in_place target refl))))
+command_step sure h (commands.Info stores index) = bound (on_disk (λ p. index_step _ _ p index)) (λ l. bound (on_sources (λ p. counted_step _ _ p (λ t. t) l)) (λ n. on_out (λ d. printed_step _ _ _ _ d (text_of_info l n))))
+command_step sure h (commands.Verify store repair) = bound (on_disk (λ p. taken_step _ _ _ _ p [] store)) (λ held. verified_step _ _ store repair held refl)
+command_step sure h (commands.Prune store indexes) = bound (on_disk (λ p. indexes_step _ _ p indexes)) (λ ls. bound (on_disk (λ p. taken_step _ _ _ _ p [] store)) (λ held. on_disk (λ p. pruned_step _ _ _ _ p (is_listed_in ls) store held refl)))
+command_step sure h (commands.Demo number size workers) = bound (pure_step (Rehearsed number size) (rehearsed_fair (parts h (commands.Demo number size workers)) number size)) (λ f. on_out (λ d. printed_step _ _ _ _ d (text_of_figures f)))
+command_step sure h commands.Help = on_out (λ d. printed_step _ _ _ _ d (help_text topics.All))
+command_step sure h commands.Version = on_out (λ d. printed_step _ _ _ _ d (help_text topics.Version))
+command_step sure h (commands.HelpOn kind) = on_out (λ d. printed_step _ _ _ _ d (help_text (topics.Command kind)))
+command_step sure h (commands.ChunkServer store host port writable workers) = bound (on_disk (λ p. unheard_step _ _ _ _ p h store)) (λ held. on_disk (λ p. served_step _ _ _ _ p (workers == 1) h writable store held refl))
 
 -- a command that listens is none that doesn't
 pub none_such : {A : Type 0} → true ≡ false → A
@@ -316,8 +316,8 @@ none_such h = absurd (cc)
 -- ---- what the top call says
 
 -- the command began where the words were read
-pub begun : (k : Heard) (words : List (List ℕ)) (w v : World) (r : Result Unit Outcome) → Passed (WordsRead words) (CommandEnds k) w r v → (c : Command) × (command_of words ≡ Some c) × CommandEnds k c w r v
-begun k words w v r h = (h.gave, h.did.0, subst (λ u. CommandEnds k h.gave u r v) h.did.1 h.then)
+pub begun : (sure : Bool) (k : Heard) (words : List (List ℕ)) (w v : World) (r : Result Unit Outcome) → Passed (WordsRead words) (CommandEnds sure k) w r v → (c : Command) × (command_of words ≡ Some c) × CommandEnds sure k c w r v
+begun sure k words w v r h = (h.gave, h.did.0, subst (λ u. CommandEnds sure k h.gave u r v) h.did.1 h.then)
 
 pub if_some : {X : Type 0} (o : Option X) (P : X → Type 0) (x : X) → o ≡ Some x → P x → IfSome o P
 if_some o P x is p = subst (λ r. IfSome r P) (sym is) p
@@ -335,28 +335,28 @@ words_answer : (words : List (List ℕ)) (o : Outcome) → NoCommand words o →
 words_answer words ends.Done h = absurd h
 words_answer words other h = refl
 
-answer_is : (k : Heard) (words : List (List ℕ)) (w v : World) (o : Outcome) → DesyncEnds k words w (Err o) v → answer_of o ≡ Err o
-answer_is k words w v o (inl h) = words_answer words o h.0
-answer_is k words w v o (inr h) = as_answer o ((command_step k h.gave).fair (between h) v o h.then).0
+answer_is : (sure : Bool) (k : Heard) (words : List (List ℕ)) (w v : World) (o : Outcome) → DesyncEnds sure k words w (Err o) v → answer_of o ≡ Err o
+answer_is sure k words w v o (inl h) = words_answer words o h.0
+answer_is sure k words w v o (inr h) = as_answer o ((command_step sure k h.gave).fair (between h) v o h.then).0
 
-pub answered : (k : Heard) (words : List (List ℕ)) (w v : World) (r : Result Unit Outcome) → DesyncEnds k words w r v → DesyncEnds k words w (answer_of (outcome_of r)) v
-answered k words w v (Ok u) h = h
-answered k words w v (Err o) h = subst (λ (r : Result Unit Outcome). DesyncEnds k words w r v) (sym (answer_is k words w v o h)) h
+pub answered : (sure : Bool) (k : Heard) (words : List (List ℕ)) (w v : World) (r : Result Unit Outcome) → DesyncEnds sure k words w r v → DesyncEnds sure k words w (answer_of (outcome_of r)) v
+answered sure k words w v (Ok u) h = h
+answered sure k words w v (Err o) h = subst (λ (r : Result Unit Outcome). DesyncEnds sure k words w r v) (sym (answer_is sure k words w v o h)) h
 
-pub kept : (k : Heard) (words : List (List ℕ)) (w v : World) (r : Result Unit Outcome) → DesyncEnds k words w r v → IfSome (command_of words) (λ c. Keeps (spares c) w v)
-kept k words w v (Ok u) h = let b = begun k words w v (Ok u) h in if_some (command_of words) _ b.0 b.1 ((command_step k b.0).leaves w v (Ok u) b.2).keeps
-kept k words w v (Err o) (inl h) = if_any (command_of words) _ (λ c. subst (λ u. Keeps (spares c) w u) (sym h.1) (record { files = λ t. refl; folders = λ t. refl; dial = λ t. refl; out = λ t. refl }))
-kept k words w v (Err o) (inr h) = let b = begun k words w v (Err o) h in if_some (command_of words) _ b.0 b.1 ((command_step k b.0).leaves w v (Err o) b.2).keeps
+pub kept : (sure : Bool) (k : Heard) (words : List (List ℕ)) (w v : World) (r : Result Unit Outcome) → DesyncEnds sure k words w r v → IfSome (command_of words) (λ c. Keeps (spares c) w v)
+kept sure k words w v (Ok u) h = let b = begun sure k words w v (Ok u) h in if_some (command_of words) _ b.0 b.1 ((command_step sure k b.0).leaves w v (Ok u) b.2).keeps
+kept sure k words w v (Err o) (inl h) = if_any (command_of words) _ (λ c. subst (λ u. Keeps (spares c) w u) (sym h.1) (record { files = λ t. refl; folders = λ t. refl; dial = λ t. refl; out = λ t. refl }))
+kept sure k words w v (Err o) (inr h) = let b = begun sure k words w v (Err o) h in if_some (command_of words) _ b.0 b.1 ((command_step sure k b.0).leaves w v (Err o) b.2).keeps
 
 words_blame : (words : List (List ℕ)) (x : Parts) (w v : World) (o : Outcome) → NoCommand words o → Blames x o w v
 words_blame words x w v (ends.Usage place why) h = tt
 words_blame words x w v ends.Memory h = tt
 words_blame words x w v other h = absurd h
 
-pub blamed : (k : Heard) (words : List (List ℕ)) (w v : World) (r : Result Unit Outcome) → DesyncEnds k words w r v → IfSome (command_of words) (λ c. Blames (parts k c) (outcome_of r) w v)
-blamed k words w v (Ok u) h = if_any (command_of words) _ (λ c. tt)
-blamed k words w v (Err o) (inl h) = if_any (command_of words) _ (λ c. words_blame words (parts k c) w v o h.0)
-blamed k words w v (Err o) (inr h) = let b = begun k words w v (Err o) h in if_some (command_of words) _ b.0 b.1 ((command_step k b.0).fair w v o b.2).1
+pub blamed : (sure : Bool) (k : Heard) (words : List (List ℕ)) (w v : World) (r : Result Unit Outcome) → DesyncEnds sure k words w r v → IfSome (command_of words) (λ c. Blames (parts k c) (outcome_of r) w v)
+blamed sure k words w v (Ok u) h = if_any (command_of words) _ (λ c. tt)
+blamed sure k words w v (Err o) (inl h) = if_any (command_of words) _ (λ c. words_blame words (parts k c) w v o h.0)
+blamed sure k words w v (Err o) (inr h) = let b = begun sure k words w v (Err o) h in if_some (command_of words) _ b.0 b.1 ((command_step sure k b.0).fair w v o b.2).1
 
 -- a store hasn't failed where no count rose and its replies were taken
 store_quiet : (w v : World) → NoFault w v → (s : Location) → RepliesTaken w v s → StoreRose (storage_of w) (storage_of v) s → ⊥
@@ -402,12 +402,12 @@ quiet_listener : (k : Heard) (c : Command) → Quiet k.old.faults k.new.faults �
 quiet_listener k (commands.ChunkServer store host port writable workers) h = h
 quiet_listener k other h = record { same = omega arith; below = omega arith }
 
-pub nothing_failed : (k : Heard) (words : List (List ℕ)) (w v : World) (r : Result Unit Outcome) → DesyncEnds k words w r v → NoFault w v → Quiet k.old.faults k.new.faults → IfSome (command_of words) (λ c. All (RepliesTaken w v) (parts k c).stores) → NothingFailed (outcome_of r)
-nothing_failed k words w v (Ok u) h n heard taken = tt
-nothing_failed k words w v (Err o) (inl h) n heard taken = words_quiet words o h.0
-nothing_failed k words w v (Err o) (inr h) n heard taken =
-    let b = begun k words w v (Err o) h in
-    quiet (parts k b.0) w v o n (quiet_listener k b.0 heard) (subst (λ c. IfSome c (λ c. All (RepliesTaken w v) (parts k c).stores)) b.1 taken) ((command_step k b.0).fair w v o b.2).1
+pub nothing_failed : (sure : Bool) (k : Heard) (words : List (List ℕ)) (w v : World) (r : Result Unit Outcome) → DesyncEnds sure k words w r v → NoFault w v → Quiet k.old.faults k.new.faults → IfSome (command_of words) (λ c. All (RepliesTaken w v) (parts k c).stores) → NothingFailed (outcome_of r)
+nothing_failed sure k words w v (Ok u) h n heard taken = tt
+nothing_failed sure k words w v (Err o) (inl h) n heard taken = words_quiet words o h.0
+nothing_failed sure k words w v (Err o) (inr h) n heard taken =
+    let b = begun sure k words w v (Err o) h in
+    quiet (parts k b.0) w v o n (quiet_listener k b.0 heard) (subst (λ c. IfSome c (λ c. All (RepliesTaken w v) (parts k c).stores)) b.1 taken) ((command_step sure k b.0).fair w v o b.2).1
 
 unrefused : (r : Result Command WordsFault) (c : Command) → command_said r ≡ Some c → refusal_in r ≡ None
 unrefused (Ok d) c h = refl
@@ -423,7 +423,7 @@ command_tells words (ends.Usage place why) r h = absurd r
 command_tells words ends.Memory r h = tt
 command_tells words other r h = h
 
-pub tells_refusal : (k : Heard) (words : List (List ℕ)) (w v : World) (r : Result Unit Outcome) → DesyncEnds k words w r v → TellsRefusal (usage_refusal words) (outcome_of r)
-tells_refusal k words w v (Ok u) h = unrefused (command_line words) h.gave h.did.0
-tells_refusal k words w v (Err o) (inl h) = words_tell words o h.0
-tells_refusal k words w v (Err o) (inr h) = command_tells words o ((command_step k h.gave).fair (between h) v o h.then).0 (unrefused (command_line words) h.gave h.did.0)
+pub tells_refusal : (sure : Bool) (k : Heard) (words : List (List ℕ)) (w v : World) (r : Result Unit Outcome) → DesyncEnds sure k words w r v → TellsRefusal (usage_refusal words) (outcome_of r)
+tells_refusal sure k words w v (Ok u) h = unrefused (command_line words) h.gave h.did.0
+tells_refusal sure k words w v (Err o) (inl h) = words_tell words o h.0
+tells_refusal sure k words w v (Err o) (inr h) = command_tells words o ((command_step sure k h.gave).fair (between h) v o h.then).0 (unrefused (command_line words) h.gave h.did.0)

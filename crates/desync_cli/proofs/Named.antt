@@ -259,16 +259,16 @@ module _ (n : ℕ) where
   pub filled : (stores : List Location) (cache : List ℕ) (indexes : List (List ℕ)) → AllShort n indexes → Shorts n (IndexesFilled stores cache indexes)
   filled stores cache indexes all = record { short = filled_tells stores cache indexes all }
 
-  made_tells : (stores : List Location) (cache : Option (List ℕ)) (i : Into) (l : Listing) (x : Seeds) → Tells n (ImageMade stores cache i l x)
-  made_tells stores cache i l x w v (ends.Missing k id) h = omega arith
-  made_tells stores cache i l x w v (ends.Damaged k id store shows) h = omega arith
-  made_tells stores cache i l x w v (ends.StoreFault k) h = omega arith
-  made_tells stores cache i l x w v ends.TargetFault h = omega arith
-  made_tells stores cache i l x w v ends.Memory h = omega arith
-  made_tells stores cache i l x w v other h = absurd h.0
+  made_tells : (sure : Bool) (stores : List Location) (cache : Option (List ℕ)) (i : Into) (l : Listing) (x : Seeds) → Tells n (ImageMade sure stores cache i l x)
+  made_tells sure stores cache i l x w v (ends.Missing k id) h = omega arith
+  made_tells sure stores cache i l x w v (ends.Damaged k id store shows) h = omega arith
+  made_tells sure stores cache i l x w v (ends.StoreFault k) h = omega arith
+  made_tells sure stores cache i l x w v ends.TargetFault h = omega arith
+  made_tells sure stores cache i l x w v ends.Memory h = omega arith
+  made_tells sure stores cache i l x w v other h = absurd h.0
 
-  pub made : (stores : List Location) (cache : Option (List ℕ)) (i : Into) (l : Listing) (x : Seeds) → Shorts n (ImageMade stores cache i l x)
-  made stores cache i l x = record { short = made_tells stores cache i l x }
+  pub made : (sure : Bool) (stores : List Location) (cache : Option (List ℕ)) (i : Into) (l : Listing) (x : Seeds) → Shorts n (ImageMade sure stores cache i l x)
+  made sure stores cache i l x = record { short = made_tells sure stores cache i l x }
 
   clearing_tells : (q : List ℕ) (step : Step Storage Unit) → Shorts n step → Tells n (Clearing q step)
   clearing_tells q step k w v o (c, did, cleared) = k.short w (storage c v.dial) o did
@@ -282,9 +282,9 @@ module _ (n : ℕ) where
   pub renamed : (p q : List ℕ) → length p ≤ n → length q ≤ n → Shorts n (NotAsking (Renamed p q))
   renamed p q from to = record { short = renamed_tells p q from to }
 
-  pub out_made : (place : Bool) (stores : List Location) (cache : Option (List ℕ)) (out : List ℕ) (l : Listing) (x : Seeds) → length (temporary_out out) ≤ n → length out ≤ n → Shorts n (OutMade place stores cache out l x)
-  out_made true stores cache out l x temporary le = on_sources (made stores cache (in_place out) l x)
-  out_made false stores cache out l x temporary le = bound (on_sources (clearing (temporary_out out) _ (made stores cache (beside out) l x))) (λ u. on_sources (clearing (temporary_out out) _ (renamed (temporary_out out) out temporary le)))
+  pub out_made : (sure place : Bool) (stores : List Location) (cache : Option (List ℕ)) (out : List ℕ) (l : Listing) (x : Seeds) → length (temporary_out out) ≤ n → length out ≤ n → Shorts n (OutMade sure place stores cache out l x)
+  out_made sure true stores cache out l x temporary le = on_sources (made sure stores cache (in_place out) l x)
+  out_made sure false stores cache out l x temporary le = bound (on_sources (clearing (temporary_out out) _ (made sure stores cache (beside out) l x))) (λ u. on_sources (clearing (temporary_out out) _ (renamed (temporary_out out) out temporary le)))
 
   pub index_read : (q : List ℕ) → length q ≤ n → Shorts n (IndexRead q)
   index_read q le = record { short = λ d e o h. not_read q le d e o h.0 }

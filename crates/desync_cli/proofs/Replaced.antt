@@ -112,17 +112,17 @@ left_same true out w v same = tt
 left_same false out w v same = left_over out w v (only_same (temporary_out out) w.disk.files v.disk.files same)
 
 -- what a refusal of the command leaves
-pub left_out : (stores : List Location) (cache : Option (List ℕ)) (seeds : List (List ℕ)) (place : Bool) (index out : List ℕ) (w v : World) (o : Outcome) → is_some w.disk.files ≡ is_some w.disk.folders → ExtractEnds stores cache seeds place index out w (Err o) v → LeavesOut place out w v
-left_out stores cache seeds true index out w v o told h = tt
-left_out stores cache seeds false index out w v o told (inl h) = left_same false out w v h.0.1.files
-left_out stores cache seeds false index out w v o told (inr h) = go h.then where
+pub left_out : (sure : Bool) (stores : List Location) (cache : Option (List ℕ)) (seeds : List (List ℕ)) (place : Bool) (index out : List ℕ) (w v : World) (o : Outcome) → is_some w.disk.files ≡ is_some w.disk.folders → ExtractEnds sure stores cache seeds place index out w (Err o) v → LeavesOut place out w v
+left_out sure stores cache seeds true index out w v o told h = tt
+left_out sure stores cache seeds false index out w v o told (inl h) = left_same false out w v h.0.1.files
+left_out sure stores cache seeds false index out w v o told (inr h) = go h.then where
   tmp : List ℕ
   tmp = temporary_out out
 
   first : h.disk.files ≡ w.disk.files
   first = h.did.0.1.files
 
-  go : (OnDisk (IndexesRead seeds) >>= (λ ls. OnDisk (SourcesOpened stores) >>= (λ u. OnDisk (CacheOpened stores cache) >>= (λ u. OutMade false stores cache out h.gave (record { images = map image_name seeds; listings = ls }))))) (world h.disk h.dial h.out) (Err o) v → LeavesOut false out w v
+  go : (OnDisk (IndexesRead seeds) >>= (λ ls. OnDisk (SourcesOpened stores) >>= (λ u. OnDisk (CacheOpened stores cache) >>= (λ u. OutMade sure false stores cache out h.gave (record { images = map image_name seeds; listings = ls }))))) (world h.disk h.dial h.out) (Err o) v → LeavesOut false out w v
   go (inl k) = left_same false out w v (k.0.1.files ∙ first)
   go (inr k) = opened k.then where
     read : k.disk.files ≡ w.disk.files
@@ -131,13 +131,13 @@ left_out stores cache seeds false index out w v o told (inr h) = go h.then where
     x : Seeds
     x = record { images = map image_name seeds; listings = k.gave }
 
-    opened : (OnDisk (SourcesOpened stores) >>= (λ u. OnDisk (CacheOpened stores cache) >>= (λ u. OutMade false stores cache out h.gave x))) (world k.disk k.dial k.out) (Err o) v → LeavesOut false out w v
+    opened : (OnDisk (SourcesOpened stores) >>= (λ u. OnDisk (CacheOpened stores cache) >>= (λ u. OutMade sure false stores cache out h.gave x))) (world k.disk k.dial k.out) (Err o) v → LeavesOut false out w v
     opened (inl m) = left_same false out w v (m.0.1.files ∙ read)
     opened (inr g) = shelved g.then where
       open_files : g.disk.files ≡ w.disk.files
       open_files = g.did.0.1.files ∙ read
 
-      shelved : (OnDisk (CacheOpened stores cache) >>= (λ u. OutMade false stores cache out h.gave x)) (world g.disk g.dial g.out) (Err o) v → LeavesOut false out w v
+      shelved : (OnDisk (CacheOpened stores cache) >>= (λ u. OutMade sure false stores cache out h.gave x)) (world g.disk g.dial g.out) (Err o) v → LeavesOut false out w v
       shelved (inl m) = left_same false out w v ((cache_reads stores cache g.disk v.disk (Err o) m.0).files ∙ open_files)
       shelved (inr m) = made m.then where
         reached : Reads g.disk m.disk
@@ -155,7 +155,7 @@ left_out stores cache seeds false index out w v o told (inr h) = go h.then where
         from : (u : Option (Map (List ℕ))) → Only tmp m.disk.files u → Only tmp w.disk.files u
         from u only = subst (λ f. Only tmp f u) files only
 
-        made : OutMade false stores cache out h.gave x (world m.disk m.dial m.out) (Err o) v → LeavesOut false out w v
+        made : OutMade sure false stores cache out h.gave x (world m.disk m.dial m.out) (Err o) v → LeavesOut false out w v
         made (inl ((c, did, cleared), rest_same)) =
             left_over out w v (from v.disk.files (only_then tmp m.disk.files c.files v.disk.files (only_assembled stores cache (beside out) h.gave x (storage m.disk m.dial) (storage c v.dial) tells did.2 o did.0) (only_cleared tmp c v.disk cleared)))
         made (inr n) =
@@ -167,15 +167,15 @@ left_out stores cache seeds false index out w v o told (inr h) = go h.then where
 
 -- ---- what the top call says
 
-left_of : (k : Heard) (c : Command) (w v : World) (o : Outcome) → is_some w.disk.files ≡ is_some w.disk.folders → CommandEnds k c w (Err o) v → LeavesBehind c w v
-left_of k (commands.Extract stores seeds cache place workers index target) w v o told h = left_out stores cache seeds place index target w v o told h
-left_of k other w v o told h = tt
+left_of : (sure : Bool) (k : Heard) (c : Command) (w v : World) (o : Outcome) → is_some w.disk.files ≡ is_some w.disk.folders → CommandEnds sure k c w (Err o) v → LeavesBehind c w v
+left_of sure k (commands.Extract stores seeds cache place workers index target) w v o told h = left_out sure stores cache seeds place index target w v o told h
+left_of sure k other w v o told h = tt
 
 left_none : (c : Command) (w v : World) → v ≡ w → LeavesBehind c w v
 left_none (commands.Extract stores seeds cache place workers index target) w v same = left_same place target w v (ap (λ u. u.disk.files) same)
 left_none other w v same = tt
 
-pub left_behind : (k : Heard) (words : List (List ℕ)) (w v : World) (r : Result Unit Outcome) → is_some w.disk.files ≡ is_some w.disk.folders → DesyncEnds k words w r v → outcome_of r ≢ ends.Done → IfSome (command_of words) (λ c. LeavesBehind c w v)
-left_behind k words w v (Ok u) told h refused = absurd (refused refl)
-left_behind k words w v (Err o) told (inl h) refused = if_any (command_of words) _ (λ c. left_none c w v h.1)
-left_behind k words w v (Err o) told (inr h) refused = let b = begun k words w v (Err o) h in if_some (command_of words) _ b.0 b.1 (left_of k b.0 w v o told b.2)
+pub left_behind : (sure : Bool) (k : Heard) (words : List (List ℕ)) (w v : World) (r : Result Unit Outcome) → is_some w.disk.files ≡ is_some w.disk.folders → DesyncEnds sure k words w r v → outcome_of r ≢ ends.Done → IfSome (command_of words) (λ c. LeavesBehind c w v)
+left_behind sure k words w v (Ok u) told h refused = absurd (refused refl)
+left_behind sure k words w v (Err o) told (inl h) refused = if_any (command_of words) _ (λ c. left_none c w v h.1)
+left_behind sure k words w v (Err o) told (inr h) refused = let b = begun sure k words w v (Err o) h in if_some (command_of words) _ b.0 b.1 (left_of sure k b.0 w v o told b.2)

@@ -1,5 +1,5 @@
 -- What comes back where `make` and then `extract` are done.
-use Rattle.std.proofs.Common.{◌≡◌, ◌⊎◌, ℕ, List, Option, Some, None, IfSome, subst, sym, ◌∙◌}
+use Rattle.std.proofs.Common.{◌≡◌, ◌⊎◌, ℕ, List, Option, Some, None, IfSome, subst, sym, ◌∙◌, false}
 use Rattle.buzhash_cut.specs.Image.{IsIndexOfImage}
 use Rattle.buzhash_cut.specs.Right.{HasTwins}
 use Rattle.buzhash_cut.specs.Sizes.{Sizes}
@@ -37,7 +37,7 @@ module _ (one : (b : List ℕ) (l m : Listing) → IsIndexFile b l → IsIndexFi
         same = law _ m.bytes x.image l m.of_image (subst (λ l. IsRight x.image l) same x.right);
       }
 
-  over : (x y : Heard) (first then : Command) (b m a : Map (List ℕ)) (f g h : Map (Map (List ℕ))) (bc fc mc gc ac hc : Map ℕ) (i j k : DialState) (p q r : Output) → Achieves x first (world (tells b f bc fc) i p) (world (tells m g mc gc) j q) → Achieves y then (world (tells m g mc gc) j q) (world (tells a h ac hc) k r)
+  over : (x y : Heard) (first then : Command) (b m a : Map (List ℕ)) (f g h : Map (Map (List ℕ))) (bc fc mc gc ac hc : Map ℕ) (i j k : DialState) (p q r : Output) → Achieves false x first (world (tells b f bc fc) i p) (world (tells m g mc gc) j q) → Achieves false y then (world (tells m g mc gc) j q) (world (tells a h ac hc) k r)
       → RoundTrip (Some first) (Some then) b a
   over x y (commands.Make store sizes workers index image) (commands.Extract stores seeds cache in_place n other out) b m a f g h bc fc mc gc ac hc i j k p q r made got = λ same. back b m a sizes index image out made.0 made.1 (subst (λ i. IsExtracted m a i out) same got)
   over x y first then b m a f g h bc fc mc gc ac hc i j k p q r made got = tt
@@ -46,7 +46,7 @@ module _ (one : (b : List ℕ) (l m : Listing) → IsIndexFile b l → IsIndexFi
   no_second (commands.Make store sizes workers index image) b a = tt
   no_second other b a = tt
 
-  pub round_trip : (x y : Heard) (first then : Option Command) (b m a : Map (List ℕ)) (f g h : Map (Map (List ℕ))) (bc fc mc gc ac hc : Map ℕ) (i j k : DialState) (p q r : Output) → IfSome first (λ c. Achieves x c (world (tells b f bc fc) i p) (world (tells m g mc gc) j q)) → IfSome then (λ c. Achieves y c (world (tells m g mc gc) j q) (world (tells a h ac hc) k r))
+  pub round_trip : (x y : Heard) (first then : Option Command) (b m a : Map (List ℕ)) (f g h : Map (Map (List ℕ))) (bc fc mc gc ac hc : Map ℕ) (i j k : DialState) (p q r : Output) → IfSome first (λ c. Achieves false x c (world (tells b f bc fc) i p) (world (tells m g mc gc) j q)) → IfSome then (λ c. Achieves false y c (world (tells m g mc gc) j q) (world (tells a h ac hc) k r))
       → RoundTrip first then b a
   round_trip x y None then b m a f g h bc fc mc gc ac hc i j k p q r made got = tt
   round_trip x y (Some first) None b m a f g h bc fc mc gc ac hc i j k p q r made got = no_second first b a

@@ -53,24 +53,24 @@ HasShort n (commands.ChunkServer store host port writable workers) = length stor
 HasShort n other = Unit {0}
 
 -- and so are those that its refusals tell
-command_short : (n : ℕ) (h : Heard) (c : Command) → HasShort n c → Shorts n (CommandEnds h c)
-command_short n h (commands.Make store sizes workers index image) f = bound (sizes_judged n sizes) (λ z. bound (on_disk (image_opened n image f.2)) (λ told. bound (on_disk (source_taken n _ store f.0)) (λ held. bound (on_sources (stored n z image told store held)) (λ bytes. on_disk (written n index bytes f.1)))))
-command_short n h (commands.VerifyIndex index image) f = bound (on_disk (index_read n index f.0)) (λ l. bound (on_disk (image_opened n image f.1)) (λ told. on_disk (checked n image l told)))
-command_short n h (commands.Chop store index image) f = bound (on_disk (index_read n index f.1)) (λ l. bound (on_disk (image_opened n image f.2)) (λ told. bound (on_disk (source_taken n _ store f.0)) (λ held. on_sources (chopped n l image told store held))))
-command_short n h (commands.Cache stores cache indexes) f = bound (on_disk (opened n stores f.0)) (λ u. bound (on_disk (cache_opened n stores (Some cache) (f.1, tt))) (λ u. on_sources (filled n stores cache indexes f.2)))
-command_short n h (commands.ListChunks index) f = bound (on_disk (index_read n index f)) (λ l. on_out (printed n _))
-command_short n h (commands.Extract stores seeds cache in_place workers index target) f = bound (on_disk (index_read n index f.3)) (λ l. bound (on_disk (indexes_read n seeds f.1)) (λ ls. bound (on_disk (opened n stores f.0)) (λ u. bound (on_disk (cache_opened n stores cache (cached cache f.2))) (λ u. out_made n in_place stores cache target l _ f.4 f.5)))) where
+command_short : (n : ℕ) (sure : Bool) (h : Heard) (c : Command) → HasShort n c → Shorts n (CommandEnds sure h c)
+command_short n sure h (commands.Make store sizes workers index image) f = bound (sizes_judged n sizes) (λ z. bound (on_disk (image_opened n image f.2)) (λ told. bound (on_disk (source_taken n _ store f.0)) (λ held. bound (on_sources (stored n z image told store held)) (λ bytes. on_disk (written n index bytes f.1)))))
+command_short n sure h (commands.VerifyIndex index image) f = bound (on_disk (index_read n index f.0)) (λ l. bound (on_disk (image_opened n image f.1)) (λ told. on_disk (checked n image l told)))
+command_short n sure h (commands.Chop store index image) f = bound (on_disk (index_read n index f.1)) (λ l. bound (on_disk (image_opened n image f.2)) (λ told. bound (on_disk (source_taken n _ store f.0)) (λ held. on_sources (chopped n l image told store held))))
+command_short n sure h (commands.Cache stores cache indexes) f = bound (on_disk (opened n stores f.0)) (λ u. bound (on_disk (cache_opened n stores (Some cache) (f.1, tt))) (λ u. on_sources (filled n stores cache indexes f.2)))
+command_short n sure h (commands.ListChunks index) f = bound (on_disk (index_read n index f)) (λ l. on_out (printed n _))
+command_short n sure h (commands.Extract stores seeds cache in_place workers index target) f = bound (on_disk (index_read n index f.3)) (λ l. bound (on_disk (indexes_read n seeds f.1)) (λ ls. bound (on_disk (opened n stores f.0)) (λ u. bound (on_disk (cache_opened n stores cache (cached cache f.2))) (λ u. out_made n sure in_place stores cache target l _ f.4 f.5)))) where
   cached : (cache : Option (List ℕ)) → AllShort n (named cache) → AllShort n (elim cache [ None ↦ [] | Some q ↦ q ∷ [] ])
   cached None all = all
   cached (Some q) all = all
-command_short n h (commands.Info stores index) f = bound (on_disk (index_read n index f.1)) (λ l. bound (on_sources (counted n stores f.0 l)) (λ k. on_out (printed n _)))
-command_short n h (commands.Verify store repair) f = bound (on_disk (taken n store f)) (λ held. verified n store repair held)
-command_short n h (commands.Prune store indexes) f = bound (on_disk (indexes_read n indexes f.1)) (λ ls. bound (on_disk (taken n store f.0)) (λ held. on_disk (pruned n _ store held)))
-command_short n h (commands.Demo number size workers) f = bound (rehearsed n number size) (λ g. on_out (printed n _))
-command_short n h commands.Help f = on_out (printed n _)
-command_short n h commands.Version f = on_out (printed n _)
-command_short n h (commands.HelpOn kind) f = on_out (printed n _)
-command_short n h (commands.ChunkServer store host port writable workers) f = bound (on_disk (unheard n h store f)) (λ held. on_disk (served n (workers == 1) h writable store held))
+command_short n sure h (commands.Info stores index) f = bound (on_disk (index_read n index f.1)) (λ l. bound (on_sources (counted n stores f.0 l)) (λ k. on_out (printed n _)))
+command_short n sure h (commands.Verify store repair) f = bound (on_disk (taken n store f)) (λ held. verified n store repair held)
+command_short n sure h (commands.Prune store indexes) f = bound (on_disk (indexes_read n indexes f.1)) (λ ls. bound (on_disk (taken n store f.0)) (λ held. on_disk (pruned n _ store held)))
+command_short n sure h (commands.Demo number size workers) f = bound (rehearsed n number size) (λ g. on_out (printed n _))
+command_short n sure h commands.Help f = on_out (printed n _)
+command_short n sure h commands.Version f = on_out (printed n _)
+command_short n sure h (commands.HelpOn kind) f = on_out (printed n _)
+command_short n sure h (commands.ChunkServer store host port writable workers) f = bound (on_disk (unheard n h store f)) (λ held. on_disk (served n (workers == 1) h writable store held))
 
 -- ---- the words
 
@@ -174,12 +174,12 @@ module _ (k : ℕ) where
   unread_short words other h = absurd h
 
   -- the name that the outcome tells
-  pub short_name : (h : Heard) (words : List (List ℕ)) (w v : World) (r : Result Unit Outcome) → AllShort k words → DesyncEnds h words w r v → length (name_in (outcome_of r)) ≤ k + 11
-  short_name h words w v (Ok u) all t = omega arith
-  short_name h words w v (Err o) all (inl t) = unread_short words o t.0
-  short_name h words w v (Err o) all (inr t) =
-      let b = begun h words w v (Err o) t in
-      (command_short (k + 11) h b.0 (said_short (command_line words) b.0 (line_short words all) b.1)).short w v o b.2
+  pub short_name : (sure : Bool) (h : Heard) (words : List (List ℕ)) (w v : World) (r : Result Unit Outcome) → AllShort k words → DesyncEnds sure h words w r v → length (name_in (outcome_of r)) ≤ k + 11
+  short_name sure h words w v (Ok u) all t = omega arith
+  short_name sure h words w v (Err o) all (inl t) = unread_short words o t.0
+  short_name sure h words w v (Err o) all (inr t) =
+      let b = begun sure h words w v (Err o) t in
+      (command_short (k + 11) sure h b.0 (said_short (command_line words) b.0 (line_short words all) b.1)).short w v o b.2
 
 -- words of which none is longer than k
 pub all_short : (k : ℕ) (words : List (List ℕ)) → ((i : ℕ) → i < length words → length (slice_index_or words i []) ≤ k) → AllShort k words

@@ -39,22 +39,22 @@ listens (commands.ChunkServer store host port writable workers) = true
 listens other = false
 
 -- how each ends, from the world before it to the world after it, where this was heard
-abbrev pub CommandEnds : Heard → Command → Step World Unit
-CommandEnds h (commands.Make store sizes workers index image) = MakeEnds store sizes index image
-CommandEnds h (commands.VerifyIndex index image) = VerifyIndexEnds index image
-CommandEnds h (commands.Chop store index image) = ChopEnds store index image
-CommandEnds h (commands.Cache stores cache indexes) = CacheEnds stores cache indexes
-CommandEnds h (commands.ListChunks index) = ListChunksEnds index
-CommandEnds h (commands.Extract stores seeds cache in_place workers index target) =
-    ExtractEnds stores cache seeds in_place index target
-CommandEnds h (commands.Info stores index) = InfoEnds stores index
-CommandEnds h (commands.Verify store repair) = VerifyEnds store repair
-CommandEnds h (commands.Prune store indexes) = PruneEnds store indexes
-CommandEnds h (commands.Demo number size workers) = DemoEnds number size
-CommandEnds h commands.Help = OnOut (Printed (help_text topics.All))
-CommandEnds h commands.Version = OnOut (Printed (help_text topics.Version))
-CommandEnds h (commands.HelpOn kind) = OnOut (Printed (help_text (topics.Command kind)))
-CommandEnds h (commands.ChunkServer store host port writable workers) = ChunkServerEnds h store writable workers
+abbrev pub CommandEnds : Bool → Heard → Command → Step World Unit
+CommandEnds sure h (commands.Make store sizes workers index image) = MakeEnds store sizes index image
+CommandEnds sure h (commands.VerifyIndex index image) = VerifyIndexEnds index image
+CommandEnds sure h (commands.Chop store index image) = ChopEnds store index image
+CommandEnds sure h (commands.Cache stores cache indexes) = CacheEnds stores cache indexes
+CommandEnds sure h (commands.ListChunks index) = ListChunksEnds index
+CommandEnds sure h (commands.Extract stores seeds cache in_place workers index target) =
+    ExtractEnds sure stores cache seeds in_place index target
+CommandEnds sure h (commands.Info stores index) = InfoEnds stores index
+CommandEnds sure h (commands.Verify store repair) = VerifyEnds store repair
+CommandEnds sure h (commands.Prune store indexes) = PruneEnds store indexes
+CommandEnds sure h (commands.Demo number size workers) = DemoEnds number size
+CommandEnds sure h commands.Help = OnOut (Printed (help_text topics.All))
+CommandEnds sure h commands.Version = OnOut (Printed (help_text topics.Version))
+CommandEnds sure h (commands.HelpOn kind) = OnOut (Printed (help_text (topics.Command kind)))
+CommandEnds sure h (commands.ChunkServer store host port writable workers) = ChunkServerEnds h store writable workers
 
 -- what no outcome of it changes
 abbrev pub spares : Command → Spares
@@ -102,25 +102,25 @@ parts h (commands.ChunkServer store host port writable workers) = record
 parts h other = record { image = []; stores = []; target = []; cache = []; listener = unheard }
 
 -- what Done says of it, beside how it ends
-abbrev pub Achieves : Heard → Command → World → World → Type 0
-Achieves h (commands.Make store sizes workers index image) w v =
+abbrev pub Achieves : Bool → Heard → Command → World → World → Type 0
+Achieves sure h (commands.Make store sizes workers index image) w v =
     IfSome w.disk.files (λ b. IfSome v.disk.files (λ a. (l : Listing)
     × IsMade b a sizes index image l × StoreHas (storage_of w) (storage_of v) store l))
-Achieves h (commands.VerifyIndex index image) w v = IfSome w.disk.files (λ m. IsVerified m index image)
-Achieves h (commands.Chop store index image) w v = IfSome w.disk.files (λ b. (l : Listing)
+Achieves sure h (commands.VerifyIndex index image) w v = IfSome w.disk.files (λ m. IsVerified m index image)
+Achieves sure h (commands.Chop store index image) w v = IfSome w.disk.files (λ b. (l : Listing)
     × IsChopped b index image l × StoreHas (storage_of w) (storage_of v) store l)
-Achieves h (commands.Cache stores cache indexes) w v =
+Achieves sure h (commands.Cache stores cache indexes) w v =
     IfSome w.disk.files (λ b. IfSome w.disk.folders (λ f. IfSome v.disk.folders (λ g.
     IsCached b f g cache indexes)))
-Achieves h (commands.Extract stores seeds cache in_place workers index target) w v =
+Achieves sure h (commands.Extract stores seeds cache in_place workers index target) w v =
     IfSome w.disk.files (λ b. IfSome v.disk.files (λ a. IsExtracted b a index target))
-Achieves h (commands.Verify store repair) w v =
+Achieves sure h (commands.Verify store repair) w v =
     IfSome w.disk.folders (λ f. IfSome v.disk.folders (λ g.
     IsVerifiedStore f g w.out.taken v.out.taken store repair))
-Achieves h (commands.Prune store indexes) w v =
+Achieves sure h (commands.Prune store indexes) w v =
     IfSome w.disk.files (λ b. IfSome w.disk.folders (λ f. IfSome v.disk.folders (λ g.
     IsPruned b f g store indexes)))
-Achieves h other w v = CommandEnds h other w (Ok tt) v
+Achieves sure h other w v = CommandEnds sure h other w (Ok tt) v
 
 -- a refusal leaves all files as they were, but for the temporary one
 abbrev pub LeavesOut : Bool → List ℕ → World → World → Type 0
@@ -167,7 +167,7 @@ WordsRead words w (Ok c) v = (command_of words ≡ Some c) × (v ≡ w)
 WordsRead words w (Err o) v = NoCommand words o × (v ≡ w)
 
 -- the words are read, and then the command does its steps
-abbrev pub DesyncEnds : Heard → List (List ℕ) → Step World Unit
-DesyncEnds h words = do
+abbrev pub DesyncEnds : Bool → Heard → List (List ℕ) → Step World Unit
+DesyncEnds sure h words = do
   c ← WordsRead words
-  CommandEnds h c
+  CommandEnds sure h c

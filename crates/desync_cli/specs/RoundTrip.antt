@@ -33,5 +33,5 @@ abbrev pub InTurn : ListenState → ListenState → List (List ℕ) → List (Li
     → World → Outcome → Outcome → World → Type 0
 InTurn old new first then w one two v =
     (mid : ListenState) × (between : World)
-    × DesyncEnds (heard false old mid) first w (answer_of one) between
-    × DesyncEnds (heard false mid new) then between (answer_of two) v
+    × DesyncEnds false (heard false old mid) first w (answer_of one) between
+    × DesyncEnds false (heard false mid new) then between (answer_of two) v

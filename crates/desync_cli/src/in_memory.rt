@@ -33,19 +33,20 @@ pub struct MemWorld<D, L> {
 }
 
 /// Does what the words say. Here each clause of `desync` speaks of what stands under the names, with nothing left open.
-pub fn desync_in_memory<R: Threads + Wait + Sync, D: Dial, L: Listen>(
+pub fn desync_in_memory<R: Threads + Wait + Sync, D: Dial + Send, L: Listen>(
     rt: &R,
     alloc: Global,
     words: &[String],
     memory: &mut MemWorld<D, L>,
 ) -> Ended
 where
+    D::Link: Send,
     L::Link: Send,
     ensures done { result.outcome ≡ Outcome.Done → IfSome (command_of (map string_bytes words.now))
-        (λ c. Achieves (heard false (L.state memory.old.listen) (L.state memory.new.listen)) c
+        (λ c. Achieves false (heard false (L.state memory.old.listen) (L.state memory.new.listen)) c
         (world (disk_of memory.old.files) (D.state memory.old.dial) (output_of memory.old.out))
         (world (disk_of memory.new.files) (D.state memory.new.dial) (output_of memory.new.out))) }
-    ensures ends { DesyncEnds (heard false (L.state memory.old.listen) (L.state memory.new.listen))
+    ensures ends { DesyncEnds false (heard false (L.state memory.old.listen) (L.state memory.new.listen))
         (map string_bytes words.now)
         (world (disk_of memory.old.files) (D.state memory.old.dial) (output_of memory.old.out))
         (answer_of result.outcome)
@@ -65,7 +66,7 @@ where
 
 /// Does what the first words say and then what the second say. Where these are a `make` and an `extract` of its
 /// index, and both are done, the image has come back.
-pub fn make_then_extract<R: Threads + Wait + Sync, D: Dial, L: Listen>(
+pub fn make_then_extract<R: Threads + Wait + Sync, D: Dial + Send, L: Listen>(
     rt: &R,
     alloc: Global,
     make: &[String],
@@ -73,6 +74,7 @@ pub fn make_then_extract<R: Threads + Wait + Sync, D: Dial, L: Listen>(
     memory: &mut MemWorld<D, L>,
 ) -> (Ended, Ended)
 where
+    D::Link: Send,
     L::Link: Send,
     ensures ends { InTurn (L.state memory.old.listen) (L.state memory.new.listen)
         (map string_bytes make.now) (map string_bytes extract.now)

@@ -27,6 +27,7 @@ use dsy_base::files::Files;
 use dsy_base::image_files::ImageFiles;
 use dsy_base::listen::Listen;
 use dsy_base::sink::Sink;
+use dsy_base::view::Target;
 use extract_command::extract::{Extraction, extract};
 use image_commands::chop::chop_into_store;
 use image_commands::make::{Making, make};
@@ -44,7 +45,7 @@ use store_commands::verify::verify;
 use store_commands::verify_index::check_image;
 
 // Does the command.
-fn perform<R: Threads + Wait + Sync, F: ImageFiles, D: Dial, L: Listen, O: Sink>(
+fn perform<R: Threads + Wait + Sync, F: ImageFiles, D: Dial + Send, L: Listen, O: Sink>(
     rt: &R,
     alloc: Global,
     command: Command,
@@ -55,12 +56,16 @@ fn perform<R: Threads + Wait + Sync, F: ImageFiles, D: Dial, L: Listen, O: Sink>
 ) -> Result<(), Outcome>
 where
     F::View: Send,
+    F::Look: Send,
     F::Inner: Sync,
-    F::Folder: Send,
+    F::Folder: Send + Sync,
+    <F::Target as Target>::Piece: Send,
+    D::Link: Send,
     L::Link: Send,
     requires { Fits command }
     ensures unheard { listens command ≡ false → listen.new ≡ listen.old }
-    ensures ends { CommandEnds (heard F.Folder.never_fails (L.state listen.old) (L.state listen.new)) command
+    ensures ends { CommandEnds F.Target.never_fails
+        (heard F.Folder.never_fails (L.state listen.old) (L.state listen.new)) command
         (world (F.disk files.old) (D.state dial.old) (O.output out.old)) result
         (world (F.disk files.new) (D.state dial.new) (O.output out.new)) }
 {
@@ -91,10 +96,11 @@ where
             seeds,
             cache,
             in_place,
+            workers,
             index,
             target,
-            ..
         } => extract(
+            rt,
             alloc,
             files,
             dial,
@@ -103,6 +109,7 @@ where
                 cache,
                 seeds,
                 in_place,
+                workers: workers as usize,
                 index,
                 target,
             },
@@ -143,7 +150,7 @@ where
 }
 
 // Does what the words say.
-fn run<R: Threads + Wait + Sync, F: ImageFiles, D: Dial, L: Listen, O: Sink>(
+fn run<R: Threads + Wait + Sync, F: ImageFiles, D: Dial + Send, L: Listen, O: Sink>(
     rt: &R,
     alloc: Global,
     words: &[String],
@@ -154,14 +161,18 @@ fn run<R: Threads + Wait + Sync, F: ImageFiles, D: Dial, L: Listen, O: Sink>(
 ) -> Result<(), Outcome>
 where
     F::View: Send,
+    F::Look: Send,
     F::Inner: Sync,
-    F::Folder: Send,
+    F::Folder: Send + Sync,
+    <F::Target as Target>::Piece: Send,
+    D::Link: Send,
     L::Link: Send,
     ensures refused { command_of (map string_bytes words.now) ≡ None → (files.new ≡ files.old)
         × (dial.new ≡ dial.old) × (listen.new ≡ listen.old) × (out.new ≡ out.old) }
     ensures unheard { IfSome (command_of (map string_bytes words.now))
         (λ c. listens c ≡ false → listen.new ≡ listen.old) }
-    ensures ends { DesyncEnds (heard F.Folder.never_fails (L.state listen.old) (L.state listen.new))
+    ensures ends { DesyncEnds F.Target.never_fails
+        (heard F.Folder.never_fails (L.state listen.old) (L.state listen.new))
         (map string_bytes words.now)
         (world (F.disk files.old) (D.state dial.old) (O.output out.old)) result
         (world (F.disk files.new) (D.state dial.new) (O.output out.new)) }
@@ -182,7 +193,7 @@ fn outcome_of(answer: Result<(), Outcome>) -> Outcome
 
 /// Does what the words say, with servers that `dial` connects to and clients that connect to `listen`, prints to `out`,
 /// and tells `err` how it ended.
-pub fn desync<R: Threads + Wait + Sync, F: ImageFiles, D: Dial, L: Listen, O: Sink, E: Sink>(
+pub fn desync<R: Threads + Wait + Sync, F: ImageFiles, D: Dial + Send, L: Listen, O: Sink, E: Sink>(
     rt: &R,
     alloc: Global,
     words: &[String],
@@ -194,8 +205,11 @@ pub fn desync<R: Threads + Wait + Sync, F: ImageFiles, D: Dial, L: Listen, O: Si
 ) -> Ended
 where
     F::View: Send,
+    F::Look: Send,
     F::Inner: Sync,
-    F::Folder: Send,
+    F::Folder: Send + Sync,
+    <F::Target as Target>::Piece: Send,
+    D::Link: Send,
     L::Link: Send,
     ensures status { result.status ≡ status_of result.outcome }
 
@@ -212,12 +226,13 @@ where
 
     // What the command that is done has achieved.
     ensures done { result.outcome ≡ Outcome.Done → IfSome (command_of (map string_bytes words.now))
-        (λ c. Achieves (heard F.Folder.never_fails (L.state listen.old) (L.state listen.new)) c
+        (λ c. Achieves F.Target.never_fails (heard F.Folder.never_fails (L.state listen.old) (L.state listen.new)) c
         (world (F.disk files.old) (D.state dial.old) (O.output out.old))
         (world (F.disk files.new) (D.state dial.new) (O.output out.new))) }
 
     // Each outcome comes only from a step whose refusal it is, where the steps before it have passed.
-    ensures ends { DesyncEnds (heard F.Folder.never_fails (L.state listen.old) (L.state listen.new))
+    ensures ends { DesyncEnds F.Target.never_fails
+        (heard F.Folder.never_fails (L.state listen.old) (L.state listen.new))
         (map string_bytes words.now)
         (world (F.disk files.old) (D.state dial.old) (O.output out.old))
         (answer_of result.outcome)

@@ -12,7 +12,7 @@ use Rattle.chunk_sources.specs.Wants.{Task}
 use Rattle.chunk_store.specs.Folders.{chunks}
 use Rattle.chunk_store.specs.declared.id.ChunkId.{ChunkId}
 use Rattle.dsy_base.specs.Bytes.{Held, resized}
-use Rattle.dsy_base.specs.Counts.{Rose, raised}
+use Rattle.dsy_base.specs.Counts.{raised}
 use Rattle.dsy_base.specs.Disk.{Disk}
 use Rattle.dsy_base.specs.Maps.{Map, at_name}
 use Rattle.dsy_base.specs.declared.fault.IoFault.{IoFault}
@@ -128,7 +128,7 @@ after_as l P Q base t to from (Err faults.TargetFault) h = λ i lt. (λ q. (h i 
 after_as l P Q base t to from (Err faults.Memory) h = tt
 
 -- what is made right can be had
-only_as : (l : Listing) (P Q : ℕ → Type 0) (a b c d : ℕ) → ((i : ℕ) → i < count_of l → P i → Q i) → ExcusesAs a b c d → (r : Result Report ExtractFault) (o t : List ℕ)
+pub only_as : (l : Listing) (P Q : ℕ → Type 0) (a b c d : ℕ) → ((i : ℕ) → i < count_of l → P i → Q i) → ExcusesAs a b c d → (r : Result Report ExtractFault) (o t : List ℕ)
     → OnlyObtainable l P a b r o t → OnlyObtainable l Q c d r o t
 only_as l P Q a b c d to f (Ok r) o t h = λ i lt. to i lt (h i lt)
 only_as l P Q a b c d to f (Err e) o t (inl same) = inl same
@@ -311,22 +311,22 @@ module _ (w v : Storage) (stores : List Location) (cache : Option (List ℕ)) (o
         → ExcusesAs f0 f1 before_it after_it
         → (U → NoneReached w v stores) → WhereTold t0 t1 (Assembles l U f0 f1 r)
         → ((b : Map (List ℕ)) → d.files ≡ Some b → (n : Map (Map (List ℕ))) → d.folders ≡ Some n → IfSome t0 (λ o. IfErr r (LostAs (AllLack b n o))))
-        → ((cached maps : List (Map (List ℕ))) → M cached maps → WhereTold t0 t1 (λ o t. OnlyObtainable l (P (cached ++ maps) (resized o (image_length l))) f0 f1 r o t))
+        → ((b : Map (List ℕ)) → d.files ≡ Some b → (cached maps : List (Map (List ℕ))) → M cached maps → WhereTold t0 t1 (λ o t. OnlyObtainable l (CanBeHad l (resized o (image_length l)) b x (cached ++ maps)) f0 f1 r o t))
         → ((cached maps : List (Map (List ℕ))) → N cached maps → IfSome t0 (λ o. Verdict l (P (cached ++ maps) (resized o (image_length l))) r))
         → ((cached maps : List (Map (List ℕ))) → N cached maps → WhereTold t0 t1 (λ o t. After l (P (cached ++ maps) (resized o (image_length l))) (resized o (image_length l)) t r))
-        → ((b : Map (List ℕ)) → d.files ≡ Some b → (fs : List (Map (List ℕ))) → looks ≡ map Some fs → (cs : List (Map (List ℕ))) → C cs → M (map chunks cs) (map chunks fs))
-        → ((b : Map (List ℕ)) → d.files ≡ Some b → (n : Map (Map (List ℕ))) (fs : List (Map (List ℕ))) → map (location_files n) stores ≡ map Some fs → looks ≡ map Some fs → (cs : List (Map (List ℕ))) → C cs → Undisturbed d e cache l cs fs → N (map chunks cs) (map chunks fs)) → AllFacts r
+        → ((b : Map (List ℕ)) → d.files ≡ Some b → (n : Map (Map (List ℕ))) → d.folders ≡ Some n → (fs : List (Map (List ℕ))) → map (location_files n) stores ≡ map Some fs → looks ≡ map Some fs → (cs : List (Map (List ℕ))) → C cs → M (map chunks cs) (map chunks fs))
+        → ((b : Map (List ℕ)) → d.files ≡ Some b → (n : Map (Map (List ℕ))) → d.folders ≡ Some n → (fs : List (Map (List ℕ))) → map (location_files n) stores ≡ map Some fs → looks ≡ map Some fs → (cs : List (Map (List ℕ))) → C cs → Undisturbed d e cache l cs fs → N (map chunks cs) (map chunks fs)) → AllFacts r
     facts_of r looks C t0 t1 U f0 f1 M N found cached took told left excused none bytes lacks only exactly after shown quiet b n a is y z =
         let f : looks ≡ map (location_files n) stores = subst (λ o. IfSome o (λ m. looks ≡ map (location_files m) stores)) y found in
         let g : (cs : List (Map (List ℕ))) × (map n (folder_of cache) ≡ map Some cs) × C cs = subst (λ o. IfSome o (λ n. (cs : List (Map (List ℕ))) × (map n (folder_of cache) ≡ map Some cs) × C cs)) y cached in
         let o : t0 ≡ Some (old_of b out) = subst (λ o. IfSome o (λ m. t0 ≡ Some (old_of m out))) is took in
         let lf : e.files ≡ option_map (λ m. at_name m out.name t1) (option_map (λ m. at_name m out.name None) (Some b)) =
         subst (λ s. e.files ≡ option_map (λ m. at_name m out.name t1) (option_map (λ m. at_name m out.name None) s)) is left in
-        go (old_of b out) t0 t1 o (subst (λ s. is_some s ≡ is_some t1) o told) (sym z ∙ lf) g.0 g.1 bytes (lacks b is n y) (λ fs there. only (map chunks g.0) (map chunks fs) (shown b is fs (f ∙ there) g.0 g.2)) (λ fs there k. exactly (map chunks g.0) (map chunks fs) (quiet b is n fs there (f ∙ there) g.0 g.2 k))
-        (λ fs there k. after (map chunks g.0) (map chunks fs) (quiet b is n fs there (f ∙ there) g.0 g.2 k)) refl where
+        go (old_of b out) t0 t1 o (subst (λ s. is_some s ≡ is_some t1) o told) (sym z ∙ lf) g.0 g.1 bytes (lacks b is n y) (λ fs there. only b is (map chunks g.0) (map chunks fs) (shown b is n y fs there (f ∙ there) g.0 g.2)) (λ fs there k. exactly (map chunks g.0) (map chunks fs) (quiet b is n y fs there (f ∙ there) g.0 g.2 k))
+        (λ fs there k. after (map chunks g.0) (map chunks fs) (quiet b is n y fs there (f ∙ there) g.0 g.2 k)) refl where
           go : (old : List ℕ) (s0 s1 : Option (List ℕ)) → s0 ≡ Some old → true ≡ is_some s1 → Some a ≡ Some (at_name (at_name b out.name None) out.name s1)
               → (cs : List (Map (List ℕ))) → map n (folder_of cache) ≡ map Some cs → WhereTold s0 s1 (Assembles l U f0 f1 r) → IfSome s0 (λ o. IfErr r (LostAs (AllLack b n o)))
-              → WhereFolders n stores (λ fs. WhereTold s0 s1 (λ o t. OnlyObtainable l (P (map chunks cs ++ map chunks fs) (resized o (image_length l))) f0 f1 r o t))
+              → WhereFolders n stores (λ fs. WhereTold s0 s1 (λ o t. OnlyObtainable l (CanBeHad l (resized o (image_length l)) b x (map chunks cs ++ map chunks fs)) f0 f1 r o t))
               → WhereFolders n stores (λ fs. Undisturbed d e cache l cs fs → IfSome s0 (λ o. Verdict l (P (map chunks cs ++ map chunks fs) (resized o (image_length l))) r))
               → WhereFolders n stores (λ fs. Undisturbed d e cache l cs fs → WhereTold s0 s1 (λ o t. After l (P (map chunks cs ++ map chunks fs) (resized o (image_length l))) (resized o (image_length l)) t r))
               → old ≡ old_of b out → Facts r b n a
@@ -336,7 +336,7 @@ module _ (w v : Storage) (stores : List Location) (cache : Option (List ℕ)) (o
               let was : o ≡ old_of b out = cc in
               over o was bs ls only verdict settled where
                 over : (p : List ℕ) → p ≡ old_of b out → Assembles l U f0 f1 r p t → IfErr r (LostAs (AllLack b n p))
-                    → WhereFolders n stores (λ fs. OnlyObtainable l (P (map chunks cs ++ map chunks fs) (resized p (image_length l))) f0 f1 r p t)
+                    → WhereFolders n stores (λ fs. OnlyObtainable l (CanBeHad l (resized p (image_length l)) b x (map chunks cs ++ map chunks fs)) f0 f1 r p t)
                     → WhereFolders n stores (λ fs. Undisturbed d e cache l cs fs → Verdict l (P (map chunks cs ++ map chunks fs) (resized p (image_length l))) r)
                     → WhereFolders n stores (λ fs. Undisturbed d e cache l cs fs → After l (P (map chunks cs ++ map chunks fs) (resized p (image_length l))) (resized p (image_length l)) t r) → Facts r b n a
                 over p was bs ls only verdict settled =
@@ -350,7 +350,7 @@ module _ (w v : Storage) (stores : List Location) (cache : Option (List ℕ)) (o
                       only = λ fs there.
                           let maps = map chunks cs ++ map chunks fs in
                           subst (λ (q : List ℕ). OnlyObtainable l (CanBeHad l (resized q (image_length l)) b x maps) before_it after_it r q t) was
-                          (only_as l (P maps (resized p (image_length l))) (CanBeHad l (resized p (image_length l)) b x maps) f0 f1 before_it after_it (had b is maps (resized p (image_length l))) excused r p t
+                          (only_as l (CanBeHad l (resized p (image_length l)) b x maps) (CanBeHad l (resized p (image_length l)) b x maps) f0 f1 before_it after_it (λ i lt h. h) excused r p t
                           (only fs there));
                       verdict = λ fs there k.
                           let maps = map chunks cs ++ map chunks fs in

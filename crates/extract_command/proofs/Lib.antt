@@ -1,7 +1,12 @@
+pub mod Asked
 pub mod Assembled
-pub mod Kits
+pub mod First
+pub mod Had
+pub mod LentKits
 pub mod Lost
+pub mod Plans
 pub mod Replaced
+pub mod Run
 pub mod Seeded
 pub mod Shelved
 pub mod Spared

@@ -1,5 +1,5 @@
 -- The entry, the store or the target that an assembly over lent folders names.
-use Rattle.std.proofs.Common.{ap, All, arith, ◌≤◌, ◌≡◌, ℕ, suc, List, [], ◌∷◌, length, map, slice_index, Bool, Option, Some, None, IfSome, IfErr, subst, ◌∙◌, sym, inl, inr, Result, Ok, Err}
+use Rattle.std.proofs.Common.{ap, All, arith, ◌≤◌, ◌≡◌, ℕ, suc, List, [], ◌∷◌, length, map, slice_index, Option, Some, None, IfSome, IfErr, subst, ◌∙◌, sym, inl, inr, Result, Ok, Err}
 use Rattle.std.proofs.lemmas.List.Elements.{All-cons, All-nil}
 use Rattle.std.specs.List.{AllZip}
 use Rattle.assembler.specs.Assemblies.{IsUnobtained, RightAlike}

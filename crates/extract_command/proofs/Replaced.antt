@@ -39,10 +39,10 @@ passed_any step next w (Ok b) v h = h
 passed_any step next w (Err o) v h = inr h
 
 -- OUT was made so after the steps before it
-pub ends_with : (stores : List Location) (cache : Option (List ℕ)) (seeds : List (List ℕ)) (place : Bool) (index out : List ℕ) (l : Listing) (ls : List Listing) (d b c m e : Disk) (k j : DialState) (p : Output) (r : Result Unit Outcome)
-    → IndexRead index d (Ok l) b → IndexesRead seeds b (Ok ls) c → AllReached stores cache c (Ok tt) m → OutMade place stores cache out l (record { images = map image_name seeds; listings = ls }) (world m k p) r (world e j p)
-    → ExtractEnds stores cache seeds place index out (world d k p) r (world e j p)
-ends_with stores cache seeds place index out l ls d b c m e k j p r listed read reached made =
+pub ends_with : (sure : Bool) (stores : List Location) (cache : Option (List ℕ)) (seeds : List (List ℕ)) (place : Bool) (index out : List ℕ) (l : Listing) (ls : List Listing) (d b c m e : Disk) (k j : DialState) (p : Output) (r : Result Unit Outcome)
+    → IndexRead index d (Ok l) b → IndexesRead seeds b (Ok ls) c → AllReached stores cache c (Ok tt) m → OutMade sure place stores cache out l (record { images = map image_name seeds; listings = ls }) (world m k p) r (world e j p)
+    → ExtractEnds sure stores cache seeds place index out (world d k p) r (world e j p)
+ends_with sure stores cache seeds place index out l ls d b c m e k j p r listed read reached made =
     passed_any _ _ (world d k p) r (world e j p) (record {
       disk = b;
       dial = k;
@@ -60,9 +60,9 @@ ends_with stores cache seeds place index out l ls d b c m e k j p r listed read 
     })
 
 -- the stores or the cache weren't reached after the indexes were read
-pub ends_unreached : (stores : List Location) (cache : Option (List ℕ)) (seeds : List (List ℕ)) (place : Bool) (index out : List ℕ) (l : Listing) (ls : List Listing) (d b c e : Disk) (k : DialState) (p : Output) (o : Outcome)
-    → IndexRead index d (Ok l) b → IndexesRead seeds b (Ok ls) c → AllReached stores cache c (Err o) e → ExtractEnds stores cache seeds place index out (world d k p) (Err o) (world e k p)
-ends_unreached stores cache seeds place index out l ls d b c e k p o listed read refused =
+pub ends_unreached : (sure : Bool) (stores : List Location) (cache : Option (List ℕ)) (seeds : List (List ℕ)) (place : Bool) (index out : List ℕ) (l : Listing) (ls : List Listing) (d b c e : Disk) (k : DialState) (p : Output) (o : Outcome)
+    → IndexRead index d (Ok l) b → IndexesRead seeds b (Ok ls) c → AllReached stores cache c (Err o) e → ExtractEnds sure stores cache seeds place index out (world d k p) (Err o) (world e k p)
+ends_unreached sure stores cache seeds place index out l ls d b c e k p o listed read refused =
     inr (record {
       disk = b;
       dial = k;

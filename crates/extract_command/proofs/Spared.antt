@@ -1,11 +1,10 @@
 -- How often servers were asked by an assembly over files that were taken.
-use Rattle.std.proofs.Common.{◌≡◌, ◌⊎◌, ℕ, ◌+◌, ◌<◌, ◌≤◌, ◌^◌, List, [], ◌∷◌, IfSome, map, slice_index, Option, None, Some, IsSomeAnd, refl, sym, ap, subst, ◌∙◌, inl, inr, arith}
+use Rattle.std.proofs.Common.{◌≡◌, ℕ, ◌+◌, ◌<◌, ◌^◌, List, [], ◌∷◌, IfSome, map, slice_index, Option, None, Some, IsSomeAnd, refl, sym, ap, subst, ◌∙◌, inl, inr, arith}
 use Rattle.std.proofs.lemmas.Bool.{cases_lt}
 use Rattle.std.proofs.lemmas.List.{get_or_default}
 use Rattle.std.specs.List.{AllZip, Any}
 use Rattle.std.specs.Map.{count_at}
 use Rattle.assembler.proofs.Entries.{among_of, first_among, listed_of}
-use Rattle.assembler.specs.Assemblies.{SparedOver}
 use Rattle.cache_store.specs.Giving.{SomeGives}
 use Rattle.cache_store.specs.Shelves.{Shelf}
 use Rattle.caibx_codec.specs.Listing.{Listing, image_length, kind_of, size_of}
@@ -28,6 +27,7 @@ use Rattle.dsy_base.specs.Maps.{Map}
 use Rattle.dsy_base.specs.declared.view.View.{Ghosts as ViewWords}
 use Rattle.extract_plan.specs.Deal.{Deal, IsPlan, first_of, want_id}
 use Rattle.extract_plan.specs.Places.{ArePlaces, IsSeedIndex, nth_place, place, places_at}
+use Rattle.image_assembly.specs.Kits.{IsSparedFor}
 use Rattle.extract_command.proofs.Shelved.{name_in}
 use Rattle.extract_command.proofs.Seeded.{had_at, label_at, label_of}
 use Rattle.extract_command.specs.Extract.{CacheSpares, FileQuiet, Into, IsSparedOnDisk, folder_of, SeedHas, Seeds, old_of}
@@ -42,7 +42,7 @@ quiet_unless old new none = elim (cases_lt old new) [
   ]
 ]
 
-module _ {S V : Type 0} (store : StoreWords S) (view : ViewWords V) (t : Task) (from to : origins.Sources S V) (d b e : Disk) (m : Map (List ℕ)) (told : d.files ≡ Some m) (plan : IsPlan t.listing 1 t.plan) (o : Into) (z : Seeds)
+module _ {S V : Type 0} (store : StoreWords S) (view : ViewWords V) (t : Task) (from to : origins.Sources S V) (d b e : Disk) (m : Map (List ℕ)) (told : d.files ≡ Some m) (count : ℕ) (plan : IsPlan t.listing count t.plan) (Known : Type 0) (o : Into) (z : Seeds)
     (zip : AllZip (IsViewed d b) z.images (views_of view from.seeds)) (is : IsSeedIndex t.listing t.plan z.listings t.places) (later : (q : List ℕ) → FileRose d b q → FileRose d e q)
     (rises : (n : ℕ) → Rose (slice_index (counts_of view from.seeds) n) (slice_index (counts_of view to.seeds) n) → FileRose d e (name_at (map label_of (views_of view from.seeds)) n))
     (t0 : Option (List ℕ)) (took : t0 ≡ Some (old_of m o)) (rose : Rose from.faults to.faults → FileRose d e o.name) where
@@ -84,12 +84,12 @@ module _ {S V : Type 0} (store : StoreWords S) (view : ViewWords V) (t : Task) (
             )
       ]
 
-  pub spared_over : (cache : Option (List ℕ)) (w : ℕ) → w < p.wants → (IsSomeAnd cache (λ c. CacheSpares d e c l (want_id l p w) (size_of l (first_of p w))) → CacheGives store l from.chain.stores (want_id l p w) (size_of l (first_of p w)) from.cache to.cache) → IsSparedOnDisk d e m cache o l z p w → SparedOver store view t t0 from to w
+  pub spared_over : (cache : Option (List ℕ)) (w : ℕ) → w < p.wants → (IsSomeAnd cache (λ c. CacheSpares d e c l (want_id l p w) (size_of l (first_of p w))) → CacheGives store l from.chain.stores (want_id l p w) (size_of l (first_of p w)) from.cache to.cache) → IsSparedOnDisk Known d e m cache o l z p w → IsSparedFor store view t Known t0 from to w
   spared_over cache w below gives (inl right) = inl (
     (
       right.0.0,
       right.0.1,
-      subst (λ t. IsSomeAnd t (λ b. IsRightAt (resized b (image_length l)) l right.0.0)) (sym took) right.0.2,
+      (subst (λ t. IsSomeAnd t (λ b. IsRightAt (resized b (image_length l)) l right.0.0)) (sym took) right.0.2, right.2),
     ),
     quiet_unless from.faults to.faults (λ rise. quiet_file o.name right.1 (rose rise)),
   )

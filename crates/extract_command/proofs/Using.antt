@@ -21,12 +21,19 @@ back_used o cache stores names d b c e named given closed ended =
     let sources = uses_then [] (folder_of cache) [] (folders_among stores) [] folders d b c (within_same []) (within_left (folder_of cache) (folders_among stores)) (within_same []) (within_right (folder_of cache) (folders_among stores)) shelf closed in
     uses_then [] folders names [] names folders d c e (within_none names) (within_same folders) (within_same names) (within_none folders) sources ended
 
-module _ (q : List ℕ) (images folders : List (List ℕ)) (d b : Disk) (opened : Uses images [] d b) where
+-- and before all of it the kits, whose names are among those
+pub kits_used : (images : List (List ℕ)) (cache : Option (List ℕ)) (stores : List Location) (names : List (List ℕ)) (d a e : Disk) → Within names images → Uses images (folders_among stores) d a → Uses names (folders_reached cache stores) a e
+    → Uses images (folders_reached cache stores) d e
+kits_used images cache stores names d a e among kits rest =
+    let folders = folders_reached cache stores in
+    uses_then images (folders_among stores) names folders images folders d a e (within_same images) (within_right (folder_of cache) (folders_among stores)) among (within_same folders) kits rest
+
+module _ (q : List ℕ) (images folders : List (List ℕ)) (d b : Disk) (opened : Uses images folders d b) where
   here : Within (q ∷ []) (q ∷ images)
   here = within_first q images
 
   seeds : Uses (q ∷ images) folders d b
-  seeds = uses_within images [] (q ∷ images) folders d b (within_rest q images) (within_none folders) opened
+  seeds = uses_within images folders (q ∷ images) folders d b (within_rest q images) (within_same folders) opened
 
   -- what is held was given back before the file was taken
   pub untouched_used : (e : Disk) → Uses [] folders b e → Uses (q ∷ images) folders d e

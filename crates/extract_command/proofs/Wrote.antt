@@ -1,7 +1,9 @@
 -- What calls on files leave of a disk, one after the other.
 use Rattle.std.proofs.Common.{◌≡◌, ◌∙◌, ℕ, ◌≤◌, List, Option, Some, None, IsSome, unwrap_or, ap, arith, inl, inr, refl}
 use Rattle.std.specs.Map.{count_at}
+use Rattle.cache_store.specs.Shelves.{Shelf}
 use Rattle.command_steps.proofs.Numbers.{counted_le}
+use Rattle.command_steps.specs.Cache.{folders_with, with_cache}
 use Rattle.command_worlds.specs.Worlds.{Reads, Writes}
 use Rattle.dsy_base.specs.Disk.{Disk, GivesFile, OnFile}
 use Rattle.dsy_base.specs.Counts.{Rose}
@@ -19,6 +21,10 @@ wrote_then d b e u v = record {
 
 pub wrote_read : (d e : Disk) → Reads d e → Writes d e
 wrote_read d e r = record { folders = r.folders; counts = r.counts; folder_counts = r.folder_counts }
+
+-- a disk that was only read, with the folder of a cache
+pub read_with : (o : Option Shelf) (d e : Disk) → Reads d e → Reads (with_cache o d) (with_cache o e)
+read_with o d e r = record { files = r.files; folders = ap (folders_with o) r.folders; counts = r.counts; folder_counts = r.folder_counts; known = r.known; folder_known = r.folder_known }
 
 same_count : (m n : Map ℕ) → n ≡ m → (q : List ℕ) → count_at m q ≤ count_at n q
 same_count m n same q = let at : count_at n q ≡ count_at m q = ap (λ (k : Map ℕ). count_at k q) same in omega (arith, at)

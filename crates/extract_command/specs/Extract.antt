@@ -1,5 +1,6 @@
 -- `extract [-k] -s STORE.. -c FOLDER --seed INDEX.. INDEX OUT`. A name is its bytes.
-use Rattle.std.specs.Prelude.{◌≡◌, ◌⊎◌, ◌++◌, codes, Bool, true, false, if◌then◌else◌, is_some, ℕ, ◌+◌, ◌<◌, ◌≤◌}
+use Rattle.std.specs.Prelude.{◌≡◌, ◌⊎◌, ◌++◌, codes, Bool, true, false, if◌then◌else◌, is_some, ℕ, zero, suc}
+use Rattle.std.specs.Prelude.{◌+◌, ◌<◌, ◌≤◌}
 use Rattle.std.specs.Prelude.{length, List, [], ◌∷◌, map, Option, Some, None, IfSome, IsSome, IsSomeAnd, IsTrue}
 use Rattle.std.specs.Prelude.{Result, Ok, Err}
 use Rattle.std.specs.List.{Any, slice_get}
@@ -14,7 +15,6 @@ use Rattle.cache_store.specs.Giving.{GiveOneSize, SomeGives}
 use Rattle.caibx_codec.specs.Asks.{IsListedGet}
 use Rattle.caibx_codec.specs.Listing.{Listing, count_of, id_of, kind_of, size_of, slice_of, start_of, image_length}
 use Rattle.caibx_codec.specs.Right.{IsRight, IsRightAt}
-use Rattle.chunk_sources.specs.Asks.{asks_below}
 use Rattle.chunk_sources.specs.Caches.{IsListedAs}
 use Rattle.chunk_sources.specs.Losses.{chunk_of}
 use Rattle.chunk_sources.specs.Wants.{IsAmong}
@@ -27,6 +27,7 @@ use Rattle.command_words.specs.declared.command.Location.{Location}
 use Rattle.dir_store.specs.Names.{is_stranger}
 use Rattle.dsy_base.specs.Bytes.{resized}
 use Rattle.dsy_base.specs.Counts.{Quiet}
+use Rattle.dsy_base.specs.Links.{Traffic}
 use Rattle.dsy_base.specs.Maps.{Map, at_name}
 use Rattle.dsy_base.specs.declared.fault.IoFault.{IoFault}
 use Rattle.dsy_base.specs.declared.fault.IoFault.TheVariants as io
@@ -41,7 +42,9 @@ use Rattle.command_steps.specs.Uses.{Uses, folders_among}
 use Rattle.command_worlds.specs.Worlds.{DiskQuiet, FileRose, FolderRose, OnDisk, Step, World}
 use Rattle.dsy_base.specs.Disk.{Disk, OnFile}
 use Rattle.extract_plan.specs.Deal.{Deal, IsPlan, first_of, of_want, want_id}
+use Rattle.http_read.specs.Asks.{Server}
 use Rattle.http_wire.specs.declared.reply.Method.TheVariants as method
+use Rattle.image_assembly.specs.Kits.{worker_asks}
 use Rattle.store_chain.specs.Giving.{LacksAll}
 use Rattle.store_chain.specs.declared.refused.Refused.{Refused}
 use Rattle.store_chain.specs.declared.refused.Refused.TheVariants as refused
@@ -287,29 +290,37 @@ pub record CacheSpares (d e : Disk) (cache : List ℕ) (l : Listing) (id : List 
   pub quiet : Quiet (count_at d.folder_counts cache) (count_at e.folder_counts cache)
   pub one_size : (n : ℕ) → IsListedAs l id n → n ≡ size
 
--- want w of the plan is had without the stores: an entry of it is right in the base, and no call on OUT failed; or a
--- seed has its chunk, and no call on the seed's image failed; or the cache gives it, as it was before
-abbrev pub IsSparedOnDisk : Disk → Disk → Map (List ℕ) → Option (List ℕ) → Into → Listing → Seeds → Deal → ℕ → Type 0
-IsSparedOnDisk d e before cache out l x p w =
-    (((j : ℕ) × IsAmong (of_want p w) j × IsRightAt (base_of before out l) l j) × FileQuiet d e out.name)
+-- want w of the plan is had without the stores: an entry of it is right in the base, no call on OUT failed, and all
+-- workers know of such faults; or a seed has its chunk, and no call on the seed's image failed; or the cache gives it,
+-- as it was before
+abbrev pub IsSparedOnDisk : Type 0 → Disk → Disk → Map (List ℕ) → Option (List ℕ) → Into → Listing → Seeds → Deal → ℕ
+    → Type 0
+IsSparedOnDisk Known d e before cache out l x p w =
+    (((j : ℕ) × IsAmong (of_want p w) j × IsRightAt (base_of before out l) l j) × FileQuiet d e out.name × Known)
     ⊎ (((s : ℕ) × (h : SeedHas before x (want_id l p w) (size_of l (first_of p w)) s) × FileQuiet d e h.image)
     ⊎ IsSomeAnd cache (λ c. CacheSpares d e c l (want_id l p w) (size_of l (first_of p w))))
 
--- so many of the wants have this id that aren't among the spared ones, each counted twice
-abbrev pub twice_wanted : Listing → Deal → (ℕ → Bool) → List ℕ → ℕ
-twice_wanted l p spared id =
-    asks_below (want_id l p) spared p.wants id + asks_below (want_id l p) spared p.wants id
+-- the connections of the workers' stores have ended one worker's after the other, those of the last first: P k is so of
+-- those of worker k
+abbrev pub WorkersDialed : (ℕ → Server → List Traffic → Type 0) → ℕ → List Location → Option (List Traffic)
+    → Option (List Traffic) → Type 0
+WorkersDialed P zero stores old new = new ≡ old
+WorkersDialed P (suc k) stores old new = (ended : Option (List Traffic)) × EachDialed (P k) stores old ended
+    × WorkersDialed P k stores ended new
 
--- each server is asked for the chunk of an id at most twice for each want of that id that isn't spared, and is sent
--- nothing but fronts of requests for chunks that the index lists
-pub record GetsWants (w v : Storage) (stores : List Location) (cache : Option (List ℕ)) (out : Into) (l : Listing)
-    (x : Seeds) : Type 0 where
+-- each worker asks each server for the chunk of an id at most once for each want of that id that it is dealt and that
+-- isn't spared, and the first worker once more for each want of that id that isn't spared; and each sends nothing but
+-- fronts of requests for chunks that the index lists. All workers know of a fault of OUT where there is one worker, or
+-- where no call on it ever fails, as `sure` says
+pub record GetsWants (sure : Bool) (w v : Storage) (stores : List Location) (cache : Option (List ℕ)) (out : Into)
+    (l : Listing) (x : Seeds) : Type 0 where
+  pub workers : ℕ
   pub plan : Deal
-  pub planned : IsPlan l 1 plan
-  pub gets : (spared : ℕ → Bool) → ((i : ℕ) → i < plan.wants → spared i ≡ true →
-      IsSomeAnd w.disk.files (λ b. IsSparedOnDisk w.disk v.disk b cache out l x plan i)) →
-      EachDialed (AsksFew method.Get (twice_wanted l plan spared)) stores w.dial.ended v.dial.ended
-  pub sends : EachDialed (SendsFronts (IsListedGet l)) stores w.dial.ended v.dial.ended
+  pub planned : IsPlan l workers plan
+  pub gets : (spared : ℕ → Bool) → ((i : ℕ) → i < plan.wants → spared i ≡ true → IsSomeAnd w.disk.files
+      (λ b. IsSparedOnDisk ((workers ≡ 1) ⊎ IsTrue sure) w.disk v.disk b cache out l x plan i)) →
+      WorkersDialed (λ k. AsksFew method.Get (worker_asks l plan spared k)) workers stores w.dial.ended v.dial.ended
+  pub sends : WorkersDialed (λ k. SendsFronts (IsListedGet l)) workers stores w.dial.ended v.dial.ended
 
 -- ---- making the image
 
@@ -319,11 +330,12 @@ IsNumbered name d r e = IsSome (e.file_counts name) ⊎ ((r ≡ Err ends.Memory)
 
 -- files tell afterwards where they told before. The file, the images of seeds, the cache's folder and those of stores
 -- alone were used
-abbrev pub ImageMade : List Location → Option (List ℕ) → Into → Listing → Seeds → Step Storage Unit
-ImageMade stores cache out l x w r v = Assembled w v stores cache out l x r × FillsCache stores cache l w.disk v.disk
+abbrev pub ImageMade : Bool → List Location → Option (List ℕ) → Into → Listing → Seeds → Step Storage Unit
+ImageMade sure stores cache out l x w r v = Assembled w v stores cache out l x r
+    × FillsCache stores cache l w.disk v.disk
     × (is_some v.disk.files ≡ is_some w.disk.files) × DialsStores stores w.dial v.dial
     × IsNumbered out.name w.disk r v.disk
-    × GetsWants w v stores cache out l x
+    × GetsWants sure w v stores cache out l x
     × Uses (out.name ∷ x.images) (folders_reached cache stores) w.disk v.disk
 
 -- ---- by way of a temporary file
@@ -374,17 +386,18 @@ Renamed from to d (Ok u) e =
 Renamed from to d (Err o) e = NotRenamed from to d o e × (e.files ≡ d.files) × OnFile d e to
 
 -- OUT becomes the image: it is made it in its place; or the temporary file is, and takes OUT's name
-abbrev pub OutMade : Bool → List Location → Option (List ℕ) → List ℕ → Listing → Seeds → Step World Unit
-OutMade true stores cache out l x = OnStorage (ImageMade stores cache (in_place out) l x)
-OutMade false stores cache out l x = do
-  _ ← OnStorage (Clearing (temporary_out out) (ImageMade stores cache (beside out) l x))
+abbrev pub OutMade : Bool → Bool → List Location → Option (List ℕ) → List ℕ → Listing → Seeds → Step World Unit
+OutMade sure true stores cache out l x = OnStorage (ImageMade sure stores cache (in_place out) l x)
+OutMade sure false stores cache out l x = do
+  _ ← OnStorage (Clearing (temporary_out out) (ImageMade sure stores cache (beside out) l x))
   OnStorage (Clearing (temporary_out out) (NotAsking (Renamed (temporary_out out) out)))
 
--- while the cache is used its folder counts as there
-abbrev pub ExtractEnds : List Location → Option (List ℕ) → List (List ℕ) → Bool → List ℕ → List ℕ → Step World Unit
-ExtractEnds stores cache seeds in_place index out = do
+-- while the cache is used its folder counts as there. Where `sure`, no call on OUT ever fails
+abbrev pub ExtractEnds : Bool → List Location → Option (List ℕ) → List (List ℕ) → Bool → List ℕ → List ℕ
+    → Step World Unit
+ExtractEnds sure stores cache seeds in_place index out = do
   l ← OnDisk (IndexRead index)
   ls ← OnDisk (IndexesRead seeds)
   _ ← OnDisk (SourcesOpened stores)
   _ ← OnDisk (CacheOpened stores cache)
-  OutMade in_place stores cache out l (record { images = map image_name seeds; listings = ls })
+  OutMade sure in_place stores cache out l (record { images = map image_name seeds; listings = ls })

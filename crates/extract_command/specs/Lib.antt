@@ -1,2 +1,3 @@
 pub mod Extract
 pub mod Held
+pub mod Kits

@@ -1,7 +1,7 @@
 //! `extract [-k] -s STORE.. -c FOLDER --seed INDEX.. INDEX OUT`: OUT becomes the image that INDEX lists, with chunks
 //! from up to 64 seeds, from a cache and from 1 to 16 stores.
 
-ghost use Rattle.std.specs.Prelude.{◌≡◌, ◌≢◌, ℕ, List, ◌∷◌, ◌<◌, ◌≤◌, ◌^◌, map, IfOk, length, is_some};
+ghost use Rattle.std.specs.Prelude.{◌≡◌, ◌≢◌, ℕ, List, ◌∷◌, ◌<◌, ◌≤◌, ◌^◌, map, IfOk, IsSome, length, is_some};
 ghost use Rattle.std.specs.Prelude.{string_bytes, true, false};
 ghost use Rattle.caibx_codec.specs.Listing.{Listing};
 ghost use Rattle.command_steps.specs.Seeds.{image_name};
@@ -16,11 +16,10 @@ ghost use Rattle.dsy_base.specs.Disk.{Output};
 ghost use Rattle.extract_plan.specs.Deal.{Deal, IsPlan};
 ghost use Rattle.extract_plan.specs.Places.{IsSeedIndex, PlacesKnown, items_of, seed_item_limit};
 
-use crate::held::{Held, give_back, let_go, reach};
+use crate::held::{Held, give_back, into_kits, let_go, of_kits, reach};
+use crate::kits::open_kits;
 use assembler::fault::ExtractFault;
 use caibx_codec::index::Index;
-use chunk_sources::kit::Kit;
-use chunk_store::store::Store;
 use command_outcome::outcome::Outcome;
 use command_steps::input_files::load_index;
 use command_steps::seeds::{open_seeds, read_indexes};
@@ -31,14 +30,14 @@ use dsy_base::files::Files;
 use dsy_base::folder::Folder;
 use dsy_base::look::Look;
 use dsy_base::name::Name;
-use dsy_base::view::View;
+use dsy_base::view::Target;
 use extract_plan::plan::Plan;
-use extract_plan::seed::Seed;
 use extract_plan::seeds::SeedIndex;
 use image_assembly::assemble::assemble;
 use range_survey::report::Report;
 use std::alloc::{AllocError, Global};
-use store_chain::chain::Chain;
+use std::sync::Wait;
+use std::thread::Threads;
 
 /// The words of an `extract`. The cache and the seeds may be absent.
 #[derive(Drop)]
@@ -48,17 +47,37 @@ pub struct Extraction {
     /// The names of the seeds' indexes.
     pub seeds: Names,
     pub in_place: bool,
+    /// How many workers fill OUT: 1 to 32, and what is beyond that counts as the nearer of the two. With a cache it is
+    /// one for now, whatever stands here.
+    pub workers: usize,
     pub index: Name,
     pub target: Name,
 }
 
-// What is to be assembled: an index, the names of the seeds' indexes, and where these list its chunks, by its plan for
-// one worker.
+// The greatest number of workers that an index is dealt to.
+const MOST_WORKERS: usize = 32;
+
+// What is to be assembled: an index, the names of the seeds' indexes, where these list its chunks, by its plan for one
+// worker, and by how many workers, with which stores.
 #[derive(Drop)]
 struct Planned {
+    alloc: Global,
     index: Index,
     seeds: Names,
     places: SeedIndex,
+    stores: Locations,
+    workers: usize,
+}
+
+// How many workers go. The cache isn't shared by several.
+fn workers_for(workers: usize, cache: &Option<Name>) -> usize
+    ensures size { (1 ≤ result) × (result ≤ 32) }
+    ensures alone { IsSome cache.now → result ≡ 1 }
+{
+    match cache {
+        Some(_) => 1,
+        None => workers.clamp(1, MOST_WORKERS),
+    }
 }
 
 // The answer of an assembly.
@@ -103,39 +122,37 @@ fn plan_of(
     index: Index,
     seeds: Names,
     indexes: Vec<Index>,
+    stores: Locations,
+    workers: usize,
 ) -> Result<Planned, Memory>
     requires few { length indexes.items < 2 ^ 32 }
     requires items { items_of indexes.items ≤ seed_item_limit }
     ensures index { IfOk result (λ p. p.index ≡ index) }
     ensures seeds { IfOk result (λ p. p.seeds ≡ seeds) }
+    ensures stores { IfOk result (λ p. p.stores ≡ stores) }
+    ensures size { IfOk result (λ p. p.workers ≡ workers) }
     ensures plan { IfOk result (λ p. (d : Deal) × IsPlan index 1 d × IsSeedIndex index d indexes.items p.places
         × PlacesKnown index d p.places (length indexes.items)) }
 {
     let plan = Plan::of(alloc, &index, 1)?;
     match SeedIndex::of(alloc, &plan, &index, &indexes) {
         Ok(places) => Ok(Planned {
+            alloc,
             index,
             seeds,
             places,
+            stores,
+            workers,
         }),
         // The seeds list no more items than they may, so it is for want of memory.
         Err(_) => Err(Memory),
     }
 }
 
-// The stores and the seeds of a kit, as the run left them.
-fn sources_of<S: Store, V: View>(kit: Kit<S, V>) -> (Vec<S>, Vec<Seed<V>>)
-    ensures stores { result.0.items ≡ kit.chain.stores }
-    ensures seeds { result.1 ≡ kit.seeds }
-{
-    let Kit { chain, seeds, .. } = kit;
-    (chain.into_stores(), seeds)
-}
-
 // Makes the file the image, and gives back what is held whatever the answer is. It begins with no bytes where `fresh`
 // is true.
-fn assemble_into<F: Files, D: Dial>(
-    alloc: Global,
+fn assemble_into<R: Threads + Wait + Sync, F: Files, D: Dial + Send>(
+    rt: &R,
     files: &mut F,
     dial: &mut D,
     planned: &Planned,
@@ -143,10 +160,20 @@ fn assemble_into<F: Files, D: Dial>(
     target: &str,
     fresh: bool,
 ) -> Result<(), Outcome>
+where
+    F::View: Send,
+    F::Look: Send,
+    F::Folder: Send + Sync,
+    <F::Target as Target>::Piece: Send,
+    D::Link: Send,
     requires plan { (d : Deal) × IsPlan planned.now.index 1 d
         × PlacesKnown planned.now.index d planned.now.places (length planned.now.seeds) }
     requires size { (1 ≤ length held.stores.items) × (length held.stores.items ≤ 16) }
-    requires held { JustReached F.Look.Look F.Folder.Look F.View.View D.state (F.disk files.old) held }
+    requires located { stores_of F.Look.Look held ≡ planned.now.stores }
+    requires workers { (1 ≤ planned.now.workers) × (planned.now.workers ≤ 32) }
+    requires alone { IsSome held.cache → planned.now.workers ≡ 1 }
+    requires held { JustReached F.Look.Look F.Folder.Look F.View.View D.state (F.disk files.old) planned.now.workers
+        held }
     ensures assembled { (d : Deal) (ls : List Listing) → IsPlan planned.now.index 1 d →
         IsSeedIndex planned.now.index d ls planned.now.places →
         Assembled (storage (disk_with F.Folder.Look held (F.disk files.old)) (D.state dial.old))
@@ -163,16 +190,21 @@ fn assemble_into<F: Files, D: Dial>(
     ensures numbered { IsNumbered target.now (F.disk files.old) result (F.disk files.new) }
     ensures asks { (d : Deal) (ls : List Listing) → IsPlan planned.now.index 1 d →
         IsSeedIndex planned.now.index d ls planned.now.places →
-        GetsWants (storage (disk_with F.Folder.Look held (F.disk files.old)) (D.state dial.old))
+        GetsWants F.Target.never_fails (storage (disk_with F.Folder.Look held (F.disk files.old)) (D.state dial.old))
         (storage (F.disk files.new) (D.state dial.new)) (stores_of F.Look.Look held) held.cache
         (record { name = target.now; fresh = fresh }) planned.now.index
         (record { images = map image_name planned.now.seeds; listings = ls }) }
 {
-    let Ok(seeds) = open_seeds(alloc, files, planned.seeds.as_slice()) else {
+    let alloc = planned.alloc;
+    let names = planned.seeds.as_slice();
+    let Ok(seeds) = open_seeds(alloc, files, names) else {
         let_go(files, held);
         return Err(Outcome::Memory);
     };
     held.seeds = seeds;
+    let stores = planned.stores.as_slice();
+    let kits = &mut held.kits;
+    open_kits(alloc, files, dial, stores, names, planned.workers, kits);
     let taken = match files.take(target, fresh) {
         Ok(taken) => taken,
         Err(fault) => {
@@ -180,26 +212,10 @@ fn assemble_into<F: Files, D: Dial>(
             return not_taken(fault);
         }
     };
-    let Held {
-        stores,
-        cache,
-        shelf,
-        seeds,
-        mut kits,
-    } = held;
-    let kit = Kit::new(alloc, Chain::new(stores), seeds);
-    kits.push(kit).unwrap();
-    let ended = assemble(alloc, &planned.index, &planned.places, taken, kits, shelf);
-    let mut kits = ended.kits;
-    let kit = kits.swap_remove(0);
-    let (stores, seeds) = sources_of(kit);
-    let held = Held {
-        stores,
-        cache,
-        shelf: ended.cache,
-        seeds,
-        kits,
-    };
+    let (kits, cache, shelf) = into_kits(alloc, held);
+    let index = &planned.index;
+    let ended = assemble(rt, alloc, index, &planned.places, taken, kits, shelf);
+    let held = of_kits(ended.kits, cache, ended.cache);
     give_back(files, dial, held);
     files.give(target, ended.target);
     answer_of(ended.answer)
@@ -250,8 +266,8 @@ fn rename<F: Files>(alloc: Global, files: &mut F, from: &str, to: Name) -> Resul
 }
 
 // Makes the temporary file the image, which then takes OUT's name.
-fn assemble_beside<F: Files, D: Dial>(
-    alloc: Global,
+fn assemble_beside<R: Threads + Wait + Sync, F: Files, D: Dial + Send>(
+    rt: &R,
     files: &mut F,
     dial: &mut D,
     planned: &Planned,
@@ -259,37 +275,55 @@ fn assemble_beside<F: Files, D: Dial>(
     temporary: &str,
     target: Name,
 ) -> Result<(), Outcome>
+where
+    F::View: Send,
+    F::Look: Send,
+    F::Folder: Send + Sync,
+    <F::Target as Target>::Piece: Send,
+    D::Link: Send,
     requires plan { (d : Deal) × IsPlan planned.now.index 1 d
         × PlacesKnown planned.now.index d planned.now.places (length planned.now.seeds) }
     requires size { (1 ≤ length held.stores.items) × (length held.stores.items ≤ 16) }
-    requires held { JustReached F.Look.Look F.Folder.Look F.View.View D.state (F.disk files.old) held }
+    requires located { stores_of F.Look.Look held ≡ planned.now.stores }
+    requires workers { (1 ≤ planned.now.workers) × (planned.now.workers ≤ 32) }
+    requires alone { IsSome held.cache → planned.now.workers ≡ 1 }
+    requires held { JustReached F.Look.Look F.Folder.Look F.View.View D.state (F.disk files.old) planned.now.workers
+        held }
     requires named { temporary.now ≡ temporary_out target }
     ensures made { (d : Deal) (ls : List Listing) (p : Output) → IsPlan planned.now.index 1 d →
-        IsSeedIndex planned.now.index d ls planned.now.places → OutMade false
+        IsSeedIndex planned.now.index d ls planned.now.places → OutMade F.Target.never_fails false
         (stores_of F.Look.Look held) held.cache target planned.now.index
         (record { images = map image_name planned.now.seeds; listings = ls })
         (world (disk_with F.Folder.Look held (F.disk files.old)) (D.state dial.old) p) result
         (world (F.disk files.new) (D.state dial.new) p) }
 {
-    let made = assemble_into(alloc, files, dial, planned, held, temporary, true);
+    let made = assemble_into(rt, files, dial, planned, held, temporary, true);
     clear(files, temporary, made)?;
-    let renamed = rename(alloc, files, temporary, target);
+    let renamed = rename(planned.alloc, files, temporary, target);
     clear(files, temporary, renamed)
 }
 
 /// Makes OUT the image that INDEX lists: in its place, where what it holds already is kept where it is right; or by way
 /// of a temporary file, which takes OUT's name when it is the image. Chunks come from the images of the seeds, else
-/// from the cache, and else from the stores, which are asked in order. What a store gave is added to the cache.
-pub fn extract<F: Files, D: Dial>(
+/// from the cache, and else from the stores, which are asked in order. What a store gave is added to the cache. Each
+/// worker has stores and seeds of its own; where they can't be opened again there are fewer workers.
+pub fn extract<R: Threads + Wait + Sync, F: Files, D: Dial + Send>(
+    rt: &R,
     alloc: Global,
     files: &mut F,
     dial: &mut D,
     words: Extraction,
 ) -> Result<(), Outcome>
+where
+    F::View: Send,
+    F::Look: Send,
+    F::Folder: Send + Sync,
+    <F::Target as Target>::Piece: Send,
+    D::Link: Send,
     requires stores { (1 ≤ length words.stores) × (length words.stores ≤ 16) }
     requires seeds { length words.seeds ≤ 64 }
-    ensures ends { (p : Output) → ExtractEnds words.stores words.cache words.seeds words.in_place words.index
-        words.target (world (F.disk files.old) (D.state dial.old) p) result
+    ensures ends { (p : Output) → ExtractEnds F.Target.never_fails words.stores words.cache words.seeds
+        words.in_place words.index words.target (world (F.disk files.old) (D.state dial.old) p) result
         (world (F.disk files.new) (D.state dial.new) p) }
 {
     let Extraction {
@@ -297,24 +331,27 @@ pub fn extract<F: Files, D: Dial>(
         cache,
         seeds,
         in_place,
+        workers,
         index,
         target,
     } = words;
+    let workers = workers_for(workers, &cache);
     let listed = load_index(alloc, files, index)?;
     let indexes = read_indexes(alloc, files, seeds.as_slice())?;
-    let Ok(planned) = plan_of(alloc, listed, seeds, indexes) else {
+    let Ok(planned) = plan_of(alloc, listed, seeds, indexes, stores, workers) else {
         return Err(Outcome::Memory);
     };
     let Ok(temporary) = temporary_out(alloc, target.as_str()) else {
         return Err(Outcome::Memory);
     };
-    let held = match reach(alloc, files, dial, stores.as_slice(), cache) {
+    let stores = planned.stores.as_slice();
+    let held = match reach(alloc, files, dial, stores, cache, workers) {
         Ok(held) => held,
         Err(outcome) => return Err(outcome),
     };
     if in_place {
-        assemble_into(alloc, files, dial, &planned, held, target.as_str(), false)
+        assemble_into(rt, files, dial, &planned, held, target.as_str(), false)
     } else {
-        assemble_beside(alloc, files, dial, &planned, held, &temporary, target)
+        assemble_beside(rt, files, dial, &planned, held, &temporary, target)
     }
 }

@@ -1,13 +1,17 @@
-//! What an extraction holds while it runs: its stores in order, the folder of its cache, and the images of its seeds.
+//! What an extraction holds while it runs: its stores in order, the folder of its cache, the images of its seeds, and
+//! the kits of its further workers.
 
-ghost use Rattle.std.specs.Prelude.{◌≡◌, ℕ, IfErr, IfOk, Ok, Err, map};
+ghost use Rattle.std.specs.Prelude.{◌≡◌, ℕ, List, ◌<◌, ◌≤◌, IfErr, IfOk, Ok, Err, length, vec_capacity, vec_len};
+ghost use Rattle.chunk_store.specs.declared.id.DigestKind.TheVariants as kinds;
 ghost use Rattle.command_steps.specs.Sources.{storage};
-ghost use Rattle.command_steps.specs.Uses.{Uses, names_among};
+ghost use Rattle.command_steps.specs.Uses.{Uses};
 ghost use Rattle.command_worlds.specs.Worlds.{Reads};
 ghost use Rattle.extract_command.specs.Extract.{folders_reached};
-ghost use Rattle.extract_plan.specs.Seeds.{seed_held};
-ghost use Rattle.extract_command.specs.Held.{AllReached, CanBeGiven, IsGivenBack, JustReached, disk_with, stores_of};
+ghost use Rattle.extract_command.specs.Held.{AllReached, CanBeGiven, HasNames, IsGivenBack, JustReached, disk_with};
+ghost use Rattle.extract_command.specs.Held.{stores_of};
+ghost use Rattle.extract_command.specs.Kits.{StandsFirst};
 
+use crate::kits::{close_kits, drop_kits};
 use cache_store::shelf::CacheShelf;
 use chunk_sources::kit::Kit;
 use command_outcome::outcome::Outcome;
@@ -24,9 +28,10 @@ use dsy_base::name::Name;
 use dsy_base::view::View;
 use extract_plan::seed::Seed;
 use std::alloc::Global;
+use store_chain::chain::Chain;
 
-/// What an extraction holds, and the room for the kit of its worker. The cache is named by its folder, where there is
-/// one.
+/// What an extraction holds. The cache is named by its folder, where there is one. Stores and seeds are those of the
+/// first worker, which aren't among the kits: these are the further workers', with room for the first one's.
 #[derive(Drop)]
 pub struct Held<L: Look, W: Folder, V: View, D: Dial> {
     pub stores: Vec<AnyStore<L, D>>,
@@ -36,22 +41,25 @@ pub struct Held<L: Look, W: Folder, V: View, D: Dial> {
     pub kits: Vec<Kit<AnyStore<L, D>, V>>,
 }
 
-/// Opens the stores in their order, and takes the folder of the cache, where there is one. No seed is open yet.
+/// Opens the stores in their order, and takes the folder of the cache, where there is one. No seed is open yet, and no
+/// kit. There is room for the kits of so many workers.
 pub fn reach<F: Files, D: Dial>(
     alloc: Global,
     files: &mut F,
     dial: &D,
     stores: &[Location],
     cache: Option<Name>,
+    workers: usize,
 ) -> Result<Held<F::Look, F::Folder, F::View, D>, Outcome>
     ensures ok { IfOk result (λ h. AllReached stores.now cache (F.disk files.old) (Ok tt)
         (disk_with F.Folder.Look h (F.disk files.new))) }
     ensures located { IfOk result (λ h. stores_of F.Look.Look h ≡ stores.now) }
     ensures named { IfOk result (λ h. h.cache ≡ cache) }
-    ensures fresh { IfOk result (JustReached F.Look.Look F.Folder.Look F.View.View D.state (F.disk files.new)) }
+    ensures fresh { IfOk result (JustReached F.Look.Look F.Folder.Look F.View.View D.state (F.disk files.new)
+        workers) }
     ensures err { IfErr result (λ o. AllReached stores.now cache (F.disk files.old) (Err o) (F.disk files.new)) }
 {
-    let Ok(kits) = Vec::with_capacity(alloc, 1) else {
+    let Ok(kits) = Vec::with_capacity(alloc, workers) else {
         return Err(Outcome::Memory);
     };
     let stores = match open_sources(alloc, files, dial, stores) {
@@ -73,20 +81,70 @@ pub fn reach<F: Files, D: Dial>(
     }
 }
 
-/// Gives all of it back where no store was asked.
-pub fn let_go<F: Files, D: Dial>(files: &mut F, held: Held<F::Look, F::Folder, F::View, D>)
-    requires given { CanBeGiven F.Look.Look F.Folder.Look F.View.View (F.disk files.old) held }
-    ensures kept { Reads (disk_with F.Folder.Look held (F.disk files.old)) (F.disk files.new) }
-    ensures used { Uses (names_among (map (seed_held F.View.held) held.seeds.items))
-        (folders_reached held.cache (stores_of F.Look.Look held)) (F.disk files.old) (F.disk files.new) }
+/// The kits of all workers, the first one's first, and the shelf of the cache with its name.
+pub fn into_kits<L: Look, W: Folder, V: View, D: Dial>(
+    alloc: Global,
+    held: Held<L, W, V, D>,
+) -> (
+    Vec<Kit<AnyStore<L, D>, V>>,
+    Option<Name>,
+    Option<CacheShelf<W>>,
+)
+    requires size { (1 ≤ length held.stores.items) × (length held.stores.items ≤ 16) }
+    requires room { vec_len held.kits < vec_capacity held.kits }
+    ensures kits { (f : StandsFirst held.stores.items held.seeds.items result.0.items held.kits.items)
+        × (f.kit.chain.kind ≡ kinds.Sha512T256) }
+    ensures cache { result.1 ≡ held.cache }
+    ensures shelf { result.2 ≡ held.shelf }
 {
     let Held {
         stores,
         cache,
         shelf,
         seeds,
-        ..
+        mut kits,
     } = held;
+    let kit = Kit::new(alloc, Chain::new(stores), seeds);
+    kits.insert(0, kit).unwrap();
+    (kits, cache, shelf)
+}
+
+/// What is held of them again.
+pub fn of_kits<L: Look, W: Folder, V: View, D: Dial>(
+    mut kits: Vec<Kit<AnyStore<L, D>, V>>,
+    cache: Option<Name>,
+    shelf: Option<CacheShelf<W>>,
+) -> Held<L, W, V, D>
+    requires some { 1 ≤ vec_len kits }
+    ensures kits { StandsFirst result.stores.items result.seeds.items kits.items result.kits.items }
+    ensures cache { result.cache ≡ cache }
+    ensures shelf { result.shelf ≡ shelf }
+{
+    let Kit { chain, seeds, .. } = kits.remove(0);
+    Held {
+        stores: chain.into_stores(),
+        cache,
+        shelf,
+        seeds,
+        kits,
+    }
+}
+
+/// Gives all of it back where no store was asked.
+pub fn let_go<F: Files, D: Dial>(files: &mut F, held: Held<F::Look, F::Folder, F::View, D>)
+    requires given { CanBeGiven F.Look.Look F.Folder.Look F.View.View (F.disk files.old) held }
+    ensures kept { Reads (disk_with F.Folder.Look held (F.disk files.old)) (F.disk files.new) }
+    ensures used { (images : List (List ℕ)) → HasNames F.Look.Look F.View.View images held →
+        Uses images (folders_reached held.cache (stores_of F.Look.Look held)) (F.disk files.old) (F.disk files.new) }
+{
+    let Held {
+        stores,
+        cache,
+        shelf,
+        seeds,
+        kits,
+    } = held;
+    drop_kits(files, kits);
     give_cache(files, &cache, shelf);
     drop_sources(files, stores);
     close_seeds(files, seeds)
@@ -107,8 +165,9 @@ pub fn give_back<F: Files, D: Dial>(
         cache,
         shelf,
         seeds,
-        ..
+        kits,
     } = held;
+    close_kits(files, dial, kits);
     give_cache(files, &cache, shelf);
     close_sources(files, dial, stores);
     close_seeds(files, seeds)

@@ -3,3 +3,4 @@
 
 pub mod extract;
 mod held;
+mod kits;

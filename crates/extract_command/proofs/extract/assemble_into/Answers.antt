@@ -1,62 +1,55 @@
-use Rattle.std.proofs.Common.{◌≡◌, ◌≤◌, ◌∙◌, ℕ, All, List, Err, length, Option, Some, IfSome, IsTrue, is_some, map, slice_index_or, None, refl, sym, ap, subst, arith, inl, inr, IsSome}
-use Rattle.std.proofs.lemmas.List.{length-map}
-use Rattle.std.specs.List.{AllZip}
+use Rattle.std.proofs.Common.{◌≡◌, ◌∙◌, ℕ, suc, ◌<◌, ◌≤◌, All, List, [], ◌∷◌, Err, length, vec_len, Option, Some, IsTrue, is_some, map, slice_index_or, refl, sym, ap, subst, arith, inl, inr, IsSome}
+use Rattle.std.proofs.lemmas.List.Elements.{All-cons, All-nil, All-tail}
+use Rattle.std.specs.List.{AllZip, fold}
 use Rattle.std.specs.Map.{count_at}
 use Rattle.std.specs.Option.{option_map}
-use Rattle.image_assembly.proofs.OnePlan.{all_alone, alone}
-use Rattle.assembler.specs.Assemblies.{IsObtainable, SparedOver}
-use Rattle.assembler.specs.OneKit.{AreUnused, lent, with_kit}
+use Rattle.assembler.specs.OneKit.{lent}
 use Rattle.chunk_sources.proofs.Cached.{stocked_none}
-use Rattle.chunk_sources.specs.Caches.{HaveOneSize, Stocked, TakesListed, cache_faults, cached_in, seen}
-use Rattle.chunk_sources.specs.Sources.{SourcesQuiet}
+use Rattle.chunk_sources.specs.Caches.{Stocked, TakesListed, cached_in, seen}
 use Rattle.chunk_store.specs.Folders.{chunks}
 use Rattle.chunk_store.specs.declared.store.Store.{Ghosts as StoreWords}
-use Rattle.command_steps.proofs.Cached.{given_adds, given_files, given_folders}
+use Rattle.command_steps.proofs.Cached.{given_adds, given_folders}
 use Rattle.command_steps.specs.Cache.{folders_with, with_cache}
 use Rattle.cache_store.specs.Shelves.{Shelf, Shelved}
 use Rattle.extract_command.proofs.extract.assemble_into.Given.{Over}
 use Rattle.command_words.specs.declared.command.Location.{Location}
-use Rattle.command_steps.proofs.Dialed.{dials_none}
-use Rattle.command_steps.proofs.Given.{all_later, all_stand, folders_quiet, given_earlier, given_longer, stand_still}
-use Rattle.command_steps.proofs.Lent.{each_quiet, store_rose}
-use Rattle.command_steps.proofs.Numbers.{counted_known, counted_le, given_quiet, given_rose, rose_later, rose_longer, rose_not_quiet}
-use Rattle.command_steps.specs.AnyStores.{IsGiven, IsKnown, chunks_in, source_faults, source_files, location_in, place_in, said_in}
-use Rattle.command_steps.specs.Sources.{storage, location_files}
+use Rattle.command_steps.proofs.Dialed.{dials_none, dials_twice}
+use Rattle.command_steps.proofs.Given.{all_later}
+use Rattle.command_steps.proofs.Numbers.{counted_known, rose_later, rose_longer}
+use Rattle.command_steps.specs.AnyStores.{IsGiven, IsKnown, location_in, source_files, with_those}
+use Rattle.command_steps.specs.Sources.{storage}
 use Rattle.command_steps.specs.Stores.{are_folders}
 use Rattle.command_steps.specs.declared.any_store.AnyStore.{AnyStore}
-use Rattle.command_steps.specs.Seeds.{IsViewed, image_name, label_in}
+use Rattle.command_steps.specs.Seeds.{IsViewed, SeedsKnown, image_name, label_in}
 use Rattle.command_steps.proofs.SeedsUsed.{viewed_names}
-use Rattle.command_steps.proofs.Used.{uses_within, within_same}
-use Rattle.command_steps.specs.Uses.{Uses, names_among}
-use Rattle.command_worlds.specs.Worlds.{FileRose}
-use Rattle.extract_command.proofs.Assembled.{ExcusesAs, assembled, facts_of, given_excuses, had_of, not_taken_as, obtainable_of, same_before, stopped_before}
-use Rattle.command_steps.proofs.Found.{held_after, held_maps, held_where}
-use Rattle.extract_command.proofs.Kits.{pushed}
-use Rattle.extract_command.proofs.Unused.{none_reached}
+use Rattle.command_steps.proofs.Used.{uses_twice, uses_within, within_none, within_rest, within_right, within_same}
+use Rattle.command_steps.specs.Uses.{IsNoneOf, Uses, folders_among, names_among}
+use Rattle.extract_command.proofs.Assembled.{not_taken_as, same_before, stopped_before}
+use Rattle.command_steps.proofs.Found.{held_where}
+use Rattle.extract_command.proofs.Asked.{kit_can, kit_named, kit_still}
+use Rattle.extract_command.proofs.First.{as_many, by_first, many_named, none_further}
+use Rattle.extract_command.proofs.LentKits.{all_give_later, all_given_back, give_later, given_folders as kits_folders, opened_kits, opened_names}
+use Rattle.extract_command.proofs.Run.{IsRun, run_asks, run_assembled}
 use Rattle.extract_command.proofs.AnyWords.{any_words, task}
-use Rattle.extract_command.proofs.Lost.{lacks_told, others_at, store_told, target_as}
 use Rattle.command_steps.proofs.SeedsOpened.{all_known_later}
-use Rattle.extract_command.proofs.Seeded.{label_of, labels_are, same_known, same_labels, zeros, zipped_many}
-use Rattle.extract_command.proofs.Shelved.{IsTold, cache_filled, cache_lacking, cache_quiet, cache_rose, cached_there, fresh_faults, known_still, name_after, name_in, one_size, same_kind, same_names, told_files}
-use Rattle.extract_command.proofs.Using.{made_used, untaken_used, untouched_used}
+use Rattle.extract_command.proofs.Shelved.{IsTold, cache_filled, cached_there, fresh_faults, known_still, name_after, name_in, same_kind, same_names, told_files}
+use Rattle.extract_command.proofs.Using.{made_used, untaken_used}
 use Rattle.extract_command.proofs.Wrote.{untaken_numbered, wrote_back, wrote_on}
 use Rattle.extract_command.proofs.extract.assemble_into.Goals as goal
-use Rattle.extract_command.specs.Extract.{Assembled, Into, Seeds, answer_of_assembly, folders_reached, old_of}
-use Rattle.dsy_base.specs.Counts.{Rose, raised}
-use Rattle.dsy_base.specs.Maps.{Map, at_name}
+use Rattle.extract_command.specs.Extract.{Into, Seeds, folder_of, folders_reached}
+use Rattle.extract_command.specs.Held.{HasNames}
+use Rattle.extract_command.specs.Kits.{AreNamesOf, AreOpened, CanGiveKit, UsesNames, kit_stores}
+use Rattle.dsy_base.specs.Counts.{raised}
+use Rattle.dsy_base.specs.Maps.{Map}
 use Rattle.extract_plan.specs.Places.{PlacesKnown}
 use Rattle.extract_plan.specs.Seeds as seeds
-use Rattle.command_steps.proofs.Asking.{each_got, few_each, none_dialed}
-use Rattle.command_steps.proofs.Lacked.{same_length}
-use Rattle.command_steps.specs.AnyStores.{IsUnused, asked_in}
-use Rattle.command_steps.proofs.AskedOnly.{each_sent}
-use Rattle.command_steps.specs.Asking.{AsksFew, EachDialed, SendsFronts}
+use Rattle.command_steps.proofs.Asking.{none_dialed}
+use Rattle.command_steps.specs.Asking.{AsksFew, SendsFronts}
 use Rattle.caibx_codec.specs.Asks.{IsListedGet}
-use Rattle.caibx_codec.specs.Listing.{size_of}
-use Rattle.extract_plan.specs.Deal.{first_of, want_id}
+use Rattle.chunk_store.specs.declared.id.DigestKind.TheVariants as kinds
+use Rattle.extract_plan.specs.Deal.{IsPlan}
+use Rattle.image_assembly.specs.Kits.{KnowsFaults, worker_asks}
 use Rattle.http_wire.specs.declared.reply.Method.TheVariants as method
-use Rattle.extract_command.proofs.Spared.{cache_gives, of_told, spared_over}
-use Rattle.extract_command.specs.Extract.{IsSparedOnDisk, twice_wanted}
 
 -- what is seen of the cache
 abbrev see : (g : Over) → Option (Shelved g.row.F-Folder.Denot) → Option Shelf
@@ -67,7 +60,7 @@ abbrev words : (g : Over) → StoreWords (AnyStore g.row.F-Look.Denot g.row.D.De
 words g = any_words g.F.Look.Look g.D.Dial.state
 
 cache_told : (g : Over) (f : g.row.F.Denot) (o : Option (Shelved g.row.F-Folder.Denot)) → IsTold (see g o) (g.F.Files.disk f).folders
-cache_told g f o = told_files g.F.Folder.Look (λ d. g.met.F.Folder.Look.told d) (g.F.Files.disk f).folders
+cache_told g f o = told_files g.F.Folder.Look (g.met.F.Folder.Look g.world.𝓛 g.world.𝓜 g.world.𝓡 ((λ s y. y), (λ y. y), (λ y. y), (λ y. y))).told (g.F.Files.disk f).folders
     (λ some. (g.met.F.Files.alike.0 (subst (λ t. IsTrue t) (g.met.F.Files.told f).1 some)).3) o
 
 named : (g : Over) (cache : Option (List ℕ)) (o : Option (Shelved g.row.F-Folder.Denot)) → option_map (λ s. g.F.Folder.Look.place s.folder) o ≡ cache → name_in (see g o) ≡ cache
@@ -86,60 +79,149 @@ let_go-requires g c =
         named = lent.named;
         cache = known_still c.args.held.cache d'.folder_counts b.folder_counts read.folder_known lent.cache;
         seeds = all_known_later g.F.View.View.held d'.file_counts b.file_counts read.known c.args.held.seeds.items lent.seeds;
+        kits = all_give_later g.F.Look.Look g.F.View.View d' b read c.args.held.kits.items lent.kits;
       };
     }
+
+pub open_kits-requires : goal.open_kits-requires
+open_kits-requires g c = record {
+  size = rw c.as_slice-stores.ensures (many_named (location_in g.F.Look.Look.place) c.args.held.stores.items c.args.planned.now.stores c.requires.located c.requires.size);
+  some = c.requires.workers.0;
+  room = (c.args.held.kits.ok.0 ∙ ap length c.requires.held.room.0, c.requires.held.room.1);
+}
 
 pub let_go-requires-in-Err : goal.let_go-requires-in-Err
 let_go-requires-in-Err g c =
     let at = g.F.Files.disk in
+    let look = g.F.Look.Look in
+    let view = g.F.View.View in
     let d' = at c.args.files.now in
-    let b = at c.open_seeds.new.files in
+    let b0 = at c.open_seeds.new.files in
+    let b = at c.open_kits.new.files in
     let b2 = at c.take.new.self in
     let lent = c.requires.held.lent in
-    let folder_known : (q : List ℕ) → IsSome (d'.folder_counts q) → IsSome (b2.folder_counts q) = λ q is. subst (λ (m : Map ℕ). IsSome (m q)) (sym c.in-Err.ensures.counts.folder_counts) (c.in-Ok.ensures.kept.folder_known q is) in
+    let folders : (q : List ℕ) → IsSome (b.folder_counts q) → IsSome (b2.folder_counts q) = λ q is. subst (λ (m : Map ℕ). IsSome (m q)) (sym c.in-Err.ensures.counts.folder_counts) is in
+    let folder_known : (q : List ℕ) → IsSome (d'.folder_counts q) → IsSome (b2.folder_counts q) = λ q is. folders q (c.open_kits.ensures.kept.folder_known q (c.in-Ok.ensures.kept.folder_known q is)) in
     let known : (q : List ℕ) → IsSome (b.file_counts q) → IsSome (b2.file_counts q) = counted_known b.file_counts b2.file_counts _ c.in-Err.ensures.counts.counts in
+    let more = c.open_kits.new.kits.items in
     record {
       given = record {
-        stores = all_later d'.folder_counts b2.folder_counts folder_known (map (location_in g.F.Look.Look.place) c.args.held.stores.items) lent.stores;
+        stores = all_later d'.folder_counts b2.folder_counts folder_known (map (location_in look.place) c.args.held.stores.items) lent.stores;
         named = lent.named;
         cache = known_still c.args.held.cache d'.folder_counts b2.folder_counts folder_known lent.cache;
-        seeds = all_known_later g.F.View.View.held b.file_counts b2.file_counts known c.in-Ok.seeds.items c.in-Ok.ensures.known;
+        seeds = all_known_later view.held b0.file_counts b2.file_counts (λ q is. known q (c.open_kits.ensures.kept.known q is)) c.in-Ok.seeds.items c.in-Ok.ensures.known;
+        kits = λ n k lt. give_later look view b b2 folders known (slice_index_or more n k) (c.open_kits.ensures.opened n k lt).given;
       };
     }
 
+pub into_kits-kits-requires-clause-room : goal.into_kits-kits-requires-clause-room
+into_kits-kits-requires-clause-room g c = omega (arith, c.open_kits.ensures.room)
+
+pub assemble-ended-requires-clause-size : goal.assemble-ended-requires-clause-size
+assemble-ended-requires-clause-size g c κs within =
+    let many : length c.into_kits-kits.result.0.items ≡ suc (length c.open_kits.new.kits.items) = ap length c.into_kits-kits.ensures.kits.0.first in
+    (omega (arith, c.into_kits-kits.result.0.ok.0, many), omega (arith, c.into_kits-kits.result.0.ok.0, many, c.open_kits.new.kits.ok.0, c.open_kits.ensures.few, c.requires.workers.1))
+
+pub assemble-ended-requires-clause-alone : goal.assemble-ended-requires-clause-alone
+assemble-ended-requires-clause-alone g c κs within = λ some.
+    let e0 = see g c.args.held.shelf in
+    let more = c.open_kits.new.kits.items in
+    let name = named g c.args.held.cache c.args.held.shelf c.requires.held.lent.named in
+    let there : IsSome e0 = rw c.into_kits-kits.ensures.shelf at some in
+    let none = none_further e0 c.args.held.cache c.args.planned.now.workers (vec_len c.open_kits.new.kits) more name c.requires.alone c.open_kits.new.kits.ok.0 c.open_kits.ensures.few there in
+    c.into_kits-kits.result.0.ok.0 ∙ ap length c.into_kits-kits.ensures.kits.0.first ∙ ap (λ l. suc (length l)) none
+
+pub assemble-ended-requires-clause-places : goal.assemble-ended-requires-clause-places
+assemble-ended-requires-clause-places g c κs within =
+    let at = g.F.Files.disk in
+    let look = g.F.Look.Look in
+    let view = g.F.View.View in
+    let state = g.D.Dial.state in
+    let into = c.into_kits-kits.ensures.kits.0 in
+    let more = c.open_kits.new.kits.items in
+    let l = c.args.planned.now.index in
+    let x = c.args.planned.now.places in (
+      c.requires.plan.0,
+      c.requires.plan.1,
+      subst (λ xs. All (λ q. PlacesKnown l c.requires.plan.0 x (length q.seeds.items)) xs) (sym into.first)
+          (All-cons (λ q. PlacesKnown l c.requires.plan.0 x (length q.seeds.items)) into.kit more
+          (as_many (at c.args.files.now) (at c.open_seeds.new.files) view.held c.args.planned.now.seeds into.kit.seeds.items (subst (λ xs. AllZip (IsViewed (at c.args.files.now) (at c.open_seeds.new.files)) (map image_name c.args.planned.now.seeds) (map (seeds.seed_held view.held) xs)) (sym into.seeds_are) (rw c.as_slice-names.ensures at c.in-Ok.ensures.found)) l c.requires.plan.0 x c.requires.plan.2)
+          (λ n q lt. as_many (at c.open_seeds.new.files) (at c.open_kits.new.files) view.held c.args.planned.now.seeds (slice_index_or more n q).seeds.items (rw c.as_slice-names.ensures at (c.open_kits.ensures.opened n q lt).viewed) l c.requires.plan.0 x c.requires.plan.2)),
+    )
+
+pub assemble-ended-requires-clause-kind : goal.assemble-ended-requires-clause-kind
+assemble-ended-requires-clause-kind g c κs within =
+    let into = c.into_kits-kits.ensures.kits in
+    let more = c.open_kits.new.kits.items in
+    subst (λ l. All (λ q. q.chain.kind ≡ kinds.Sha512T256) l) (sym into.0.first) (All-cons (λ q. q.chain.kind ≡ kinds.Sha512T256) into.0.kit more into.1 (λ n q lt. (c.open_kits.ensures.opened n q lt).kind))
+
+pub assemble-ended-requires-clause-cache : goal.assemble-ended-requires-clause-cache
+assemble-ended-requires-clause-cache g c κs within = rw c.into_kits-kits.ensures.shelf (same_kind g.F.Folder.Look _ c.args.held.shelf c.requires.held.shelf)
+
+pub of_kits-held-requires : goal.of_kits-held-requires
+of_kits-held-requires g c =
+    let many : length c.into_kits-kits.result.0.items ≡ suc (length c.open_kits.new.kits.items) = ap length c.into_kits-kits.ensures.kits.0.first in
+    record { some = omega (arith, c.into_kits-kits.result.0.ok.0, many, c.assemble-ended.ensures.size) }
+
 pub give_back-requires : goal.give_back-requires
 give_back-requires g c =
-    let k = c.new-kit.result in
-    let back = c.assemble-ended.result.kits in
-    let j = c.swap_remove-kit.result in
-    let one = pushed c.args.held.kits.items c.push.new.self.items k c.push.result c.unwrap.result c.requires.held.room.0 c.unwrap.ensures c.push.ensures.items in
-    let other = alone back.items j (sym back.ok.0 ∙ c.assemble-ended.ensures.size) c.swap_remove-kit.ensures.value in
-    let made = c.assemble-ended.ensures.assembled.so (task c.args.planned.now.index c.requires.plan.0 c.args.planned.now.places) k j refl refl c.requires.plan.1 one other in
     let at = g.F.Files.disk in
-    let place = g.F.Look.Look.place in
-    let location = location_in place in
-    let view = g.F.View.View.held in
+    let look = g.F.Look.Look in
+    let view = g.F.View.View in
+    let state = g.D.Dial.state in
     let d' = at c.args.files.now in
-    let b = at c.open_seeds.new.files in
+    let b0 = at c.open_seeds.new.files in
+    let b = at c.open_kits.new.files in
     let b2 = at c.take.new.self in
-    let xs = c.args.held.stores.items in
-    let folder_known : (q : List ℕ) → IsSome (d'.folder_counts q) → IsSome (b2.folder_counts q) = λ q is. subst (λ (m : Map ℕ). IsSome (m q)) (sym c.in-Ok-take.ensures.counts.folder_counts) (c.in-Ok.ensures.kept.folder_known q is) in
-    let same : k.chain.stores ≡ xs = ap (λ k. k.stores) (c.new-kit.ensures.chain ∙ c.new.ensures.value) in
-    let now = all_later d'.folder_counts b2.folder_counts folder_known (map location xs) c.requires.held.lent.stores in
-    let located = stand_still place k.chain.stores j.chain.stores made.stores.places ∙ ap (map location) same in
     let e0 = see g c.args.held.shelf in
     let e1 = see g c.assemble-ended.result.cache in
+    let d = with_cache e0 d' in
+    let into = c.into_kits-kits.ensures.kits in
+    let last = c.of_kits-held.ensures.kits in
+    let k = into.0.kit in
+    let j = last.kit in
+    let more = c.open_kits.new.kits.items in
+    let rest = c.of_kits-held.result.kits.items in
+    let by = c.assemble-ended.ensures.kits in
+    let l = c.args.planned.now.index in
+    let t = task l by.0 c.args.planned.now.places in
+    let t0 = (g.F.Target.View.held c.in-Ok-take.taken).bytes in
+    let t1 = (g.F.Target.View.held c.assemble-ended.result.target).bytes in
+    let f0 = g.F.Target.View.faults c.in-Ok-take.taken in
+    let f1 = g.F.Target.View.faults c.assemble-ended.result.target in
+    let r = c.assemble-ended.result.answer in
+    let made = by_first (words g) view t g.F.Target.View.never_fails t0 t1 f0 f1 (see g c.into_kits-kits.result.2) e0 e1 c.into_kits-kits.result.0.items (k ∷ more) c.assemble-ended.result.kits.items (j ∷ rest) r (ap (see g) c.into_kits-kits.ensures.shelf) into.0.first last.first by.2 in
+    let read = c.in-Ok.ensures.kept in
+    let opened = c.open_kits.ensures.kept in
     let cache = c.args.held.cache in
-    let name_now : name_in e1 ≡ cache = name_after _ e0 e1 cache made.stocked (named g cache c.args.held.shelf c.requires.held.lent.named) in
-    let later : (q : List ℕ) → IsSome (b.file_counts q) → IsSome (b2.file_counts q) = counted_known b.file_counts b2.file_counts _ c.in-Ok-take.ensures.counts.counts in
-    let opened = all_known_later view b.file_counts b2.file_counts later c.in-Ok.seeds.items c.in-Ok.ensures.known in
-    let seeded : map (seeds.seed_held view) k.seeds.items ≡ map (seeds.seed_held view) c.in-Ok.seeds.items = ap (λ v. map (seeds.seed_held view) v.items) c.new-kit.ensures.seeds in
+    let name = named g cache c.args.held.shelf c.requires.held.lent.named in
+    let items = c.args.held.stores.items in
+    let names = map (location_in look.place) items in
+    let images = map image_name c.args.planned.now.seeds in
+    let stores_now : c.as_slice-stores.result.now ≡ names = c.as_slice-stores.ensures ∙ sym c.requires.located in
+    let others = subst (λ (n : List Location). AreOpened look view state b0 b n images more) stores_now (rw c.as_slice-names.ensures at c.open_kits.ensures.opened) in
+    let none_more = none_further e0 cache c.args.planned.now.workers (vec_len c.open_kits.new.kits) more name c.requires.alone c.open_kits.new.kits.ok.0 c.open_kits.ensures.few in
+    let all = opened_kits look view state e0 d' b0 b read opened images items c.in-Ok.seeds.items k more into.0.stores_are into.0.seeds_are into.1
+    c.requires.held.found c.requires.held.fresh c.requires.held.unused c.requires.held.lent.stores (rw c.as_slice-names.ensures at c.in-Ok.ensures.found) c.in-Ok.ensures.fresh c.in-Ok.ensures.known none_more others in
+    let many : length (j ∷ rest) ≡ length (k ∷ more) = made.kits in
+    let before = lent f0 (k ∷ more) e0 in
+    let after = lent f1 (j ∷ rest) e1 in
+    let Known = KnowsFaults g.F.Target.View.never_fails (k ∷ more) in
+    let folders : (q : List ℕ) → IsSome (b.folder_counts q) → IsSome (b2.folder_counts q) = λ q is. subst (λ (m : Map ℕ). IsSome (m q)) (sym c.in-Ok-take.ensures.counts.folder_counts) is in
+    let known : (q : List ℕ) → IsSome (b.file_counts q) → IsSome (b2.file_counts q) = counted_known b.file_counts b2.file_counts _ c.in-Ok-take.ensures.counts.counts in
+    let can : All (CanGiveKit look view b2) (j ∷ rest) = λ n q lt.
+    let there : n < length (k ∷ more) = omega (arith, lt, many) in
+    kit_can look view state t d b b names Known t0 n q q before after b2 (made.each n q q there) (give_later look view b b2 folders known (slice_index_or (k ∷ more) n q) (all n q there).given) in
+    let first = can 0 j (omega arith) in
+    let name_now : name_in e1 ≡ cache = name_after _ e0 e1 cache (made.stocked k) name in
+    let folder_known : (q : List ℕ) → IsSome (d'.folder_counts q) → IsSome (b2.folder_counts q) = λ q is. folders q (opened.folder_known q (read.folder_known q is)) in
     record {
       given = record {
-        stores = rw c.sources_of-stores.ensures.stores (subst (λ (q : List Location). All (IsKnown b2.folder_counts) q) (sym located) now);
-        named = sym (same_names g.F.Folder.Look c.assemble-ended.result.cache) ∙ name_now;
-        cache = known_still cache d'.folder_counts b2.folder_counts folder_known c.requires.held.lent.cache;
-        seeds = rw c.sources_of-stores.ensures.seeds (same_known view b2.file_counts c.in-Ok.seeds.items j.seeds.items (made.seeds.held ∙ seeded) opened);
+        stores = subst (λ xs. All (IsKnown b2.folder_counts) (map (location_in look.place) xs)) last.stores_are first.stores;
+        named = rw (c.of_kits-held.ensures.shelf, c.of_kits-held.ensures.cache, c.into_kits-kits.ensures.cache) (sym (same_names g.F.Folder.Look c.assemble-ended.result.cache) ∙ name_now);
+        cache = rw (c.of_kits-held.ensures.cache, c.into_kits-kits.ensures.cache) (known_still cache d'.folder_counts b2.folder_counts folder_known c.requires.held.lent.cache);
+        seeds = subst (λ xs. SeedsKnown view.held b2.file_counts xs) last.seeds_are first.seeds;
+        kits = All-tail (CanGiveKit look view b2) j rest can;
       };
     }
 
@@ -189,7 +271,8 @@ returns-in-Err-clause-assembled g c = λ p ls plan is.
     let s = see g c.args.held.shelf in
     let d' = at c.args.files.now in
     let d = with_cache s d' in
-    let b = at c.open_seeds.new.files in
+    let b = at c.open_kits.new.files in
+    let opened = c.open_kits.ensures.kept in
     let b2 = at c.take.new.self in
     let e = at c.let_go-in-Err.new.files in
     let q = c.args.target.now in
@@ -201,26 +284,29 @@ returns-in-Err-clause-assembled g c = λ p ls plan is.
     let gone = c.let_go-in-Err.ensures.kept in
     let name = named g c.args.held.cache c.args.held.shelf c.requires.held.lent.named in
     let le : count_at b2.file_counts q ≤ count_at e.file_counts q = gone.counts q in
+    let first = c.in-Ok.ensures.kept.counts q in
+    let next = opened.counts q in
+    let le_opened : count_at d.file_counts q ≤ count_at b.file_counts q = omega (arith, first, next) in
     let k = g.D.Dial.state c.args.dial.now in
     let before = same_before (storage d k) (storage e k) names c.args.held.cache o l x (λ cs. cached_in s ≡ Some (map chunks cs))
     (cached_there s c.args.held.cache name d'.folders (cache_told g c.args.files.now c.args.held.shelf))
-    (gone.files ∙ c.in-Err.ensures.err ∙ c.in-Ok.ensures.kept.files)
-    (refl, gone.folders ∙ ap (folders_with s) ((wrote_on b b2 _ c.in-Err.ensures.counts).folders ∙ c.in-Ok.ensures.kept.folders)) in
+    (gone.files ∙ c.in-Err.ensures.err ∙ opened.files ∙ c.in-Ok.ensures.kept.files)
+    (refl, gone.folders ∙ ap (folders_with s) ((wrote_on b b2 _ c.in-Err.ensures.counts).folders ∙ opened.folders ∙ c.in-Ok.ensures.kept.folders)) in
     rw c.not_taken.ensures (not_taken_as (storage d k) (storage e k) names c.args.held.cache o l x c.in-Err.fault before
     (λ failed. rose_longer (count_at d.file_counts q) (count_at b2.file_counts q) (count_at e.file_counts q) le
-    (rose_later (count_at d.file_counts q) (count_at b.file_counts q) (count_at b2.file_counts q) (c.in-Ok.ensures.kept.counts q) (took.cause (ap Err failed)))))
+    (rose_later (count_at d.file_counts q) (count_at b.file_counts q) (count_at b2.file_counts q) le_opened (took.cause (ap Err failed)))))
 
 pub returns-in-Err-clause-numbered : goal.returns-in-Err-clause-numbered
 returns-in-Err-clause-numbered g c =
     let at = g.F.Files.disk in
     let q = c.args.target.now in
-    let b = at c.open_seeds.new.files in
+    let b = at c.open_kits.new.files in
     let b2 = at c.take.new.self in
     let e = at c.let_go-in-Err.new.files in
     let gone = c.let_go-in-Err.ensures.kept in
     rw c.not_taken.ensures (untaken_numbered q (at c.args.files.now) e (count_at b.file_counts q) c.in-Err.fault
     (λ failed. rose_longer (count_at b.file_counts q) (count_at b2.file_counts q) (count_at e.file_counts q) (gone.counts q) (c.in-Err.ensures.faults.cause (ap Err failed)))
-    (gone.files ∙ c.in-Err.ensures.err ∙ c.in-Ok.ensures.kept.files))
+    (gone.files ∙ c.in-Err.ensures.err ∙ c.open_kits.ensures.kept.files ∙ c.in-Ok.ensures.kept.files))
 
 pub returns-in-Err-clause-kept : goal.returns-in-Err-clause-kept
 returns-in-Err-clause-kept g c =
@@ -228,7 +314,8 @@ returns-in-Err-clause-kept g c =
     let o = see g c.args.held.shelf in
     let d' = at c.args.files.now in
     let d = with_cache o d' in
-    let b = at c.open_seeds.new.files in
+    let b = at c.open_kits.new.files in
+    let opened = c.open_kits.ensures.kept in
     let b2 = at c.take.new.self in
     let e = at c.let_go-in-Err.new.files in
     let took = wrote_on b b2 _ c.in-Err.ensures.counts in
@@ -240,10 +327,10 @@ returns-in-Err-clause-kept g c =
     let l = c.args.planned.now.index in
     record {
       folders = cache_filled (words g) items names l o o c.args.held.cache d'.folders d e (named g c.args.held.cache c.args.held.shelf c.requires.held.lent.named) refl
-          (gone.folders ∙ ap (folders_with o) (took.folders ∙ read.folders)) (cache_told g c.args.files.now c.args.held.shelf)
+          (gone.folders ∙ ap (folders_with o) (took.folders ∙ opened.folders ∙ read.folders)) (cache_told g c.args.files.now c.args.held.shelf)
           (stocked_none (TakesListed (words g) l items) o) (held_where d.folders names files items c.requires.held.found);
-      counts = λ q. omega (arith, read.counts q, took.counts q, gone.counts q);
-      folder_counts = λ q. omega (arith, read.folder_counts q, took.folder_counts q, gone.folder_counts q);
+      counts = λ q. omega (arith, read.counts q, opened.counts q, took.counts q, gone.counts q);
+      folder_counts = λ q. omega (arith, read.folder_counts q, opened.folder_counts q, took.folder_counts q, gone.folder_counts q);
     }
 
 pub returns-in-Err-clause-tells : goal.returns-in-Err-clause-tells
@@ -251,230 +338,167 @@ returns-in-Err-clause-tells g c = (g.met.F.Files.told c.let_go-in-Err.new.files)
 
 pub returns-clause-kept : goal.returns-clause-kept
 returns-clause-kept g c =
-    let k = c.new-kit.result in
-    let back = c.assemble-ended.result.kits in
-    let j = c.swap_remove-kit.result in
-    let one = pushed c.args.held.kits.items c.push.new.self.items k c.push.result c.unwrap.result c.requires.held.room.0 c.unwrap.ensures c.push.ensures.items in
-    let other = alone back.items j (sym back.ok.0 ∙ c.assemble-ended.ensures.size) c.swap_remove-kit.ensures.value in
-    let made = c.assemble-ended.ensures.assembled.so (task c.args.planned.now.index c.requires.plan.0 c.args.planned.now.places) k j refl refl c.requires.plan.1 one other in
     let at = g.F.Files.disk in
-    let s = see g c.args.held.shelf in
-    let t = see g c.assemble-ended.result.cache in
+    let look = g.F.Look.Look in
+    let view = g.F.View.View in
+    let state = g.D.Dial.state in
     let d' = at c.args.files.now in
-    let d = with_cache s d' in
-    let b = at c.open_seeds.new.files in
+    let b0 = at c.open_seeds.new.files in
+    let b = at c.open_kits.new.files in
     let b2 = at c.take.new.self in
-    let b3 = c.give_back.ensures.given.cached in
-    let b4 = c.give_back.ensures.given.closed in
-    let b5 = at c.give_back.new.files in
-    let e = at c.give.new.self in
-    let read = c.in-Ok.ensures.kept in
-    let took = wrote_on b b2 _ c.in-Ok-take.ensures.counts in
-    let gave = given_adds t b2 b3 c.give_back.ensures.given.cache in
-    let closed = c.give_back.ensures.given.stores.0.disk in
-    let ended = c.give_back.ensures.given.seeds in
-    let back = wrote_back b5 e _ _ c.give.ensures.counts in
-    let files = source_files g.F.Look.Look.files in
-    let items = c.args.held.stores.items in
-    let names = map (location_in g.F.Look.Look.place) items in
+    let e0 = see g c.args.held.shelf in
+    let e1 = see g c.assemble-ended.result.cache in
+    let d = with_cache e0 d' in
+    let into = c.into_kits-kits.ensures.kits in
+    let last = c.of_kits-held.ensures.kits in
+    let k = into.0.kit in
+    let j = last.kit in
+    let more = c.open_kits.new.kits.items in
+    let rest = c.of_kits-held.result.kits.items in
+    let by = c.assemble-ended.ensures.kits in
     let l = c.args.planned.now.index in
-    let same : c.new-kit.result.chain.stores ≡ items = ap (λ k. k.stores) (c.new-kit.ensures.chain ∙ c.new.ensures.value) in
-    let stocked = subst (λ xs. Stocked (TakesListed (words g) l xs) s t) same made.stocked in
+    let t = task l by.0 c.args.planned.now.places in
+    let t0 = (g.F.Target.View.held c.in-Ok-take.taken).bytes in
+    let t1 = (g.F.Target.View.held c.assemble-ended.result.target).bytes in
+    let f0 = g.F.Target.View.faults c.in-Ok-take.taken in
+    let f1 = g.F.Target.View.faults c.assemble-ended.result.target in
+    let r = c.assemble-ended.result.answer in
+    let made = by_first (words g) view t g.F.Target.View.never_fails t0 t1 f0 f1 (see g c.into_kits-kits.result.2) e0 e1 c.into_kits-kits.result.0.items (k ∷ more) c.assemble-ended.result.kits.items (j ∷ rest) r (ap (see g) c.into_kits-kits.ensures.shelf) into.0.first last.first by.2 in
+    let read = c.in-Ok.ensures.kept in
+    let opened = c.open_kits.ensures.kept in
+    let cache = c.args.held.cache in
+    let name = named g cache c.args.held.shelf c.requires.held.lent.named in
+    let back = c.give_back.ensures.given in
+    let w2 = storage b2 (state c.args.dial.now) in
+    let b2b = back.first.disk in
+    let bc = back.cached in
+    let b3 = back.closed in
+    let b4 = at c.give_back.new.files in
+    let e = at c.give.new.self in
+    let kits = all_given_back look view state rest w2 back.first back.kits in
+    let given_shelf = rw c.of_kits-held.ensures.shelf at back.cache in
+    let gave = given_adds e1 b2b bc given_shelf in
+    let closed = back.stores.0.disk in
+    let end = back.seeds in
+    let put = wrote_back b4 e _ _ c.give.ensures.counts in
+    let took = wrote_on b b2 _ c.in-Ok-take.ensures.counts in
+    let shelf_now : e.folders ≡ folders_with e1 d'.folders = put.folders ∙ end.folders ∙ closed.folders ∙ given_folders e1 b2b bc given_shelf ∙ ap (folders_with e1) (kits.disk.folders ∙ took.folders ∙ opened.folders ∙ read.folders) in
+    let files = source_files look.files in
+    let items = c.args.held.stores.items in
+    let names = map (location_in look.place) items in
+    let stocked = subst (λ xs. Stocked (TakesListed (words g) l xs) e0 e1) into.0.stores_are (made.stocked k) in
     record {
-      folders = cache_filled (words g) items names l s t c.args.held.cache d'.folders d e (named g c.args.held.cache c.args.held.shelf c.requires.held.lent.named) refl
-          (back.folders ∙ ended.folders ∙ closed.folders ∙ given_folders t b2 b3 c.give_back.ensures.given.cache ∙ ap (folders_with t) (took.folders ∙ read.folders)) (cache_told g c.args.files.now c.args.held.shelf)
-          stocked (held_where d.folders names files items c.requires.held.found);
-      counts = λ q. omega (arith, read.counts q, took.counts q, gave.counts q, closed.counts q, ended.counts q, back.counts q);
-      folder_counts = λ q. omega (arith, read.folder_counts q, took.folder_counts q, gave.folder_counts q, closed.folder_counts q, ended.folder_counts q, back.folder_counts q);
+      folders = cache_filled (words g) items names l e0 e1 cache d'.folders d e name refl shelf_now (cache_told g c.args.files.now c.args.held.shelf) stocked (held_where d.folders names files items c.requires.held.found);
+      counts = λ q. omega (arith, read.counts q, opened.counts q, took.counts q, kits.disk.counts q, gave.counts q, closed.counts q, end.counts q, put.counts q);
+      folder_counts = λ q. omega (arith, read.folder_counts q, opened.folder_counts q, took.folder_counts q, kits.disk.folder_counts q, gave.folder_counts q, closed.folder_counts q, end.folder_counts q, put.folder_counts q);
     }
-
-pub unwrap-requires : goal.unwrap-requires
-unwrap-requires g c =
-    let none = c.args.held.kits.ok.0 ∙ ap length c.requires.held.room.0 in
-    c.push.ensures.succeeds (omega (arith, none, c.requires.held.room.1))
-
-pub assemble-ended-requires-clause-places : goal.assemble-ended-requires-clause-places
-assemble-ended-requires-clause-places g c =
-    let view = g.F.View.View.held in
-    let items = c.in-Ok.seeds.items in
-    let zipped = zipped_many (IsViewed (g.F.Files.disk c.args.files.now) (g.F.Files.disk c.open_seeds.new.files)) (map image_name c.args.planned.now.seeds) (map (seeds.seed_held view) items) (rw c.as_slice.ensures at c.in-Ok.ensures.found) in
-    let many : length items ≡ length c.args.planned.now.seeds = sym (length-map items (seeds.seed_held view)) ∙ sym zipped ∙ length-map c.args.planned.now.seeds image_name in
-    let same : length c.new-kit.result.seeds.items ≡ length c.args.planned.now.seeds = ap (λ v. length v.items) c.new-kit.ensures.seeds ∙ many in
-    let k = c.new-kit.result in
-    let one = pushed c.args.held.kits.items c.push.new.self.items k c.push.result c.unwrap.result c.requires.held.room.0 c.unwrap.ensures c.push.ensures.items in (
-      c.requires.plan.0,
-      c.requires.plan.1,
-      all_alone (λ q. PlacesKnown c.args.planned.now.index c.requires.plan.0 c.args.planned.now.places (length q.seeds.items)) c.push.new.self.items k one
-          (subst (λ (n : ℕ). PlacesKnown c.args.planned.now.index c.requires.plan.0 c.args.planned.now.places n) (sym same) c.requires.plan.2),
-    )
-
-pub assemble-ended-requires-clause-cache : goal.assemble-ended-requires-clause-cache
-assemble-ended-requires-clause-cache g c = same_kind g.F.Folder.Look _ c.args.held.shelf c.requires.held.shelf
 
 pub give-requires-clause-known : goal.give-requires-clause-known
 give-requires-clause-known g c =
     let at = g.F.Files.disk in
-    let gave = given_adds (see g c.assemble-ended.result.cache) (at c.take.new.self) (c.give_back.ensures.given.cached) c.give_back.ensures.given.cache in
-    c.give_back.ensures.given.seeds.known _ (c.give_back.ensures.given.stores.0.disk.known _ (gave.known _ c.in-Ok-take.ensures.known))
+    let back = c.give_back.ensures.given in
+    let kits = all_given_back g.F.Look.Look g.F.View.View g.D.Dial.state c.of_kits-held.result.kits.items (storage (at c.take.new.self) (g.D.Dial.state c.args.dial.now)) back.first back.kits in
+    let gave = given_adds (see g c.assemble-ended.result.cache) back.first.disk back.cached (rw c.of_kits-held.ensures.shelf at back.cache) in
+    back.seeds.known _ (back.stores.0.disk.known _ (gave.known _ (kits.disk.known _ c.in-Ok-take.ensures.known)))
 
 pub returns-clause-numbered : goal.returns-clause-numbered
 returns-clause-numbered g c =
     let at = g.F.Files.disk in
-    let gave = given_adds (see g c.assemble-ended.result.cache) (at c.take.new.self) (c.give_back.ensures.given.cached) c.give_back.ensures.given.cache in
-    inl (c.give.ensures.counts.counts.counted.known (c.give_back.ensures.given.seeds.known _ (c.give_back.ensures.given.stores.0.disk.known _ (gave.known _ c.in-Ok-take.ensures.known))))
+    let back = c.give_back.ensures.given in
+    let kits = all_given_back g.F.Look.Look g.F.View.View g.D.Dial.state c.of_kits-held.result.kits.items (storage (at c.take.new.self) (g.D.Dial.state c.args.dial.now)) back.first back.kits in
+    let gave = given_adds (see g c.assemble-ended.result.cache) back.first.disk back.cached (rw c.of_kits-held.ensures.shelf at back.cache) in
+    inl (c.give.ensures.counts.counts.counted.known (back.seeds.known _ (back.stores.0.disk.known _ (gave.known _ (kits.disk.known _ c.in-Ok-take.ensures.known)))))
 
 pub returns-clause-assembled : goal.returns-clause-assembled
 returns-clause-assembled g c = λ p ls plan is.
     let at = g.F.Files.disk in
+    let look = g.F.Look.Look in
+    let view = g.F.View.View in
+    let state = g.D.Dial.state in
+    let d' = at c.args.files.now in
+    let b0 = at c.open_seeds.new.files in
+    let b = at c.open_kits.new.files in
+    let b2 = at c.take.new.self in
     let e0 = see g c.args.held.shelf in
     let e1 = see g c.assemble-ended.result.cache in
-    let cache = c.args.held.cache in
-    let d' = at c.args.files.now in
     let d = with_cache e0 d' in
-    let b = at c.open_seeds.new.files in
-    let b2 = at c.take.new.self in
-    let bc = c.give_back.ensures.given.cached in
-    let b3 = c.give_back.ensures.given.closed in
-    let b4 = at c.give_back.new.files in
-    let e = at c.give.new.self in
-    let held = g.F.Target.View.held in
-    let view = g.F.View.View.held in
-    let view_faults = g.F.View.View.faults in
-    let files = source_files g.F.Look.Look.files in
-    let at_place = g.F.Look.Look.place in
-    let place = place_in at_place in
-    let location = location_in at_place in
-    let state = g.D.Dial.state in
-    let k0 = state c.args.dial.now in
-    let k1 = state c.give_back.new.dial in
-    let faults = source_faults g.F.Look.Look.faults g.D.Dial.state in
-    let q = c.args.target.now in
-    let o : Into = record { name = q; fresh = c.args.fresh } in
-    let k = c.new-kit.result in
-    let back = c.assemble-ended.result.kits in
-    let j = c.swap_remove-kit.result in
-    let one = pushed c.args.held.kits.items c.push.new.self.items k c.push.result c.unwrap.result c.requires.held.room.0 c.unwrap.ensures c.push.ensures.items in
-    let other = alone back.items j (sym back.ok.0 ∙ c.assemble-ended.ensures.size) c.swap_remove-kit.ensures.value in
-    let before = k.chain.stores in
-    let after = j.chain.stores in
-    let names = map location before in
-    let w = storage d k0 in
-    let v = storage e k1 in
+    let into = c.into_kits-kits.ensures.kits in
+    let last = c.of_kits-held.ensures.kits in
+    let k = into.0.kit in
+    let j = last.kit in
+    let more = c.open_kits.new.kits.items in
+    let rest = c.of_kits-held.result.kits.items in
+    let by = c.assemble-ended.ensures.kits in
     let l = c.args.planned.now.index in
-    let x = c.args.planned.now.places in
-    let z : Seeds = record { images = map image_name c.args.planned.now.seeds; listings = ls } in
-    let items = k.seeds.items in
-    let views = map (seeds.seed_held view) items in
-    let labels = map label_of views in
-    let r = c.assemble-ended.result.answer in
-    let t0 = (held c.in-Ok-take.taken).bytes in
-    let t1 = (held c.assemble-ended.result.target).bytes in
+    let t = task l by.0 c.args.planned.now.places in
+    let t0 = (g.F.Target.View.held c.in-Ok-take.taken).bytes in
+    let t1 = (g.F.Target.View.held c.assemble-ended.result.target).bytes in
     let f0 = g.F.Target.View.faults c.in-Ok-take.taken in
     let f1 = g.F.Target.View.faults c.assemble-ended.result.target in
-    let t = task l p x in
-    let made = c.assemble-ended.ensures.assembled.so t k j refl refl plan one other in
-    let stores = made.stores in
-    let stocked = made.stocked in
-    let kept = made.seeds in
-    let from = with_kit (lent f0 c.push.new.self.items e0) k in
-    let to = with_kit (lent f1 back.items e1) j in
-    let opens = c.in-Ok.ensures in
-    let same : before ≡ c.args.held.stores.items = ap (λ k. k.stores) (c.new-kit.ensures.chain ∙ c.new.ensures.value) in
-    let found = subst (λ xs. IfSome d.folders (λ m. map files xs ≡ map (location_files m) (map location xs))) (sym same) c.requires.held.found in
-    let fresh_stores = subst (λ xs. map faults xs ≡ map {B = ℕ} (λ q. 0) (map location xs)) (sym same) c.requires.held.fresh in
-    let zip : AllZip (IsViewed d b) z.images views = subst (λ v. AllZip (IsViewed d b) z.images (map (seeds.seed_held view) v.items)) (sym c.new-kit.ensures.seeds) (rw c.as_slice.ensures at opens.found) in
-    let unfailed : map (seeds.faults_in view_faults) items ≡ map {B = ℕ} (λ s. 0) items = subst (λ v. map (seeds.faults_in view_faults) v.items ≡ map {B = ℕ} (λ s. 0) v.items) (sym c.new-kit.ensures.seeds) opens.fresh in
-    let fresh_seeds : map (seeds.faults_in view_faults) items ≡ map {B = ℕ} (λ q. 0) labels = unfailed ∙ sym (zeros view items) in
-    let lent = given_adds e1 b2 bc c.give_back.ensures.given.cache in
-    let uncounted : b3.file_counts ≡ b2.file_counts = c.give_back.ensures.given.counts ∙ given_files e1 b2 bc c.give_back.ensures.given.cache in
-    let gave = c.give.ensures.files in
-    let out = c.in-Ok-take.ensures.ok in
-    let left = gave ∙ ap (option_map (λ m. at_name m q t1)) (c.give_back.ensures.given.seeds.files ∙ c.give_back.ensures.given.stores.0.disk.files ∙ lent.files ∙ out ∙ ap (option_map (λ m. at_name m q None)) opens.kept.files) in
-    let took = subst (λ f. IfSome f (λ m. t0 ≡ Some (old_of m o))) opens.kept.files (c.in-Ok-take.ensures.bytes) in
-    let added = c.give.ensures.counts.counts.added in
-    let given : (y : List ℕ) → count_at b4.file_counts y ≤ count_at e.file_counts y = λ y. counted_le b4.file_counts e.file_counts _ c.give.ensures.counts.counts.counted y in
-    let le_mid : (y : List ℕ) → count_at d.file_counts y ≤ count_at b3.file_counts y = λ y.
-    let first = opens.kept.counts y in
-    let next = counted_le b.file_counts b2.file_counts _ c.in-Ok-take.ensures.counts.counts y in
-    let last : count_at b3.file_counts y ≡ count_at b2.file_counts y = ap (λ (m : Map ℕ). count_at m y) uncounted in
-    omega (arith, first, next, last) in
-    let le : count_at d.file_counts q ≤ count_at b4.file_counts q = omega (arith, le_mid q, c.give_back.ensures.given.seeds.counts q) in
-    let reached : (y : List ℕ) → count_at d.folder_counts y ≤ count_at b2.folder_counts y = λ y.
-    let first = opens.kept.folder_counts y in
-    let last : count_at b2.folder_counts y ≡ count_at b.folder_counts y = ap (λ (m : Map ℕ). count_at m y) c.in-Ok-take.ensures.counts.folder_counts in
-    omega (arith, first, last) in
-    let opened : (y : List ℕ) → count_at d.folder_counts y ≤ count_at bc.folder_counts y = λ y. omega (arith, reached y, lent.folder_counts y) in
-    let rose : Rose f0 f1 → FileRose d e q = λ y. given_rose _ _ _ _ le added (rw c.in-Ok-take.ensures.fresh.0 at y) in
-    let excused : ExcusesAs f0 f1 (count_at d.file_counts q) (count_at e.file_counts q) = λ xs y. given_excuses xs _ _ _ _ le added (rw c.in-Ok-take.ensures.fresh.0 at y) in
-    let closed = rw c.sources_of-stores.ensures.stores at c.give_back.ensures.given.given in
-    let dialed = c.give_back.ensures.given.stores.0.dial in
-    let stays : e.folder_counts ≡ b3.folder_counts = c.give.ensures.counts.folder_counts ∙ c.give_back.ensures.given.folder_counts in
-    let ended : (y : List ℕ) → count_at bc.folder_counts y ≤ count_at e.folder_counts y = λ y.
-    let first = c.give_back.ensures.given.stores.0.disk.folder_counts y in
-    let last : count_at e.folder_counts y ≡ count_at b3.folder_counts y = ap (λ (m : Map ℕ). count_at m y) stays in
-    omega (arith, first, last) in
-    let counted_on : (y : List ℕ) → count_at b3.folder_counts y ≤ count_at e.folder_counts y = λ y.
-    let last : count_at e.folder_counts y ≡ count_at b3.folder_counts y = ap (λ (m : Map ℕ). count_at m y) stays in
-    omega (arith, last) in
-    let given_stores : All (IsGiven at_place g.F.Look.Look.faults state w v) after = λ n s lt.
-    given_longer at_place g.F.Look.Look.faults state w (storage b3 k1) v counted_on dialed (dials_none k1) (slice_index_or after n s)
-    (given_earlier at_place g.F.Look.Look.faults state w (storage bc k0) (storage b3 k1) opened (dials_none k0) dialed (slice_index_or after n s) (closed n s lt)) in
-    let located : (ys : List (AnyStore g.row.F-Look.Denot g.row.D.Denot g.row.D-Link.Denot)) → map place ys ≡ map place before → map location ys ≡ names = λ ys placed. stand_still at_place before ys placed in
-    let after_at = located after stores.places in
-    let stand = all_stand g.F.Look.Look.files at_place g.F.Look.Look.faults state w v after names after_at (held_after d.folders names files before after found stores.files) given_stores in
+    let r = c.assemble-ended.result.answer in
+    let made = by_first (words g) view t g.F.Target.View.never_fails t0 t1 f0 f1 (see g c.into_kits-kits.result.2) e0 e1 c.into_kits-kits.result.0.items (k ∷ more) c.assemble-ended.result.kits.items (j ∷ rest) r (ap (see g) c.into_kits-kits.ensures.shelf) into.0.first last.first by.2 in
+    let read = c.in-Ok.ensures.kept in
+    let opened = c.open_kits.ensures.kept in
+    let cache = c.args.held.cache in
     let name = named g cache c.args.held.shelf c.requires.held.lent.named in
-    let name_now = name_after _ e0 e1 cache stocked name in
-    let none = fresh_faults g.F.Folder.Look _ c.args.held.shelf c.requires.held.shelf in
-    let shelf_rose = cache_rose d e b2 bc reached ended (cache_faults e0) e1 none c.give_back.ensures.given.cache in
-    let shelf_now : e.folders ≡ folders_with e1 d'.folders = c.give.ensures.counts.folders ∙ c.give_back.ensures.given.seeds.folders ∙ c.give_back.ensures.given.stores.0.disk.folders ∙ given_folders e1 b2 bc c.give_back.ensures.given.cache
-    ∙ ap (folders_with e1) (c.in-Ok-take.ensures.counts.folders ∙ opens.kept.folders) in
-    let seeds_added : All (λ s. raised (count_at b3.file_counts (label_in view s)) (seeds.faults_in view_faults s) ≤ count_at e.file_counts (label_in view s)) j.seeds.items = λ n s lt.
-    let here = (rw c.sources_of-stores.ensures.seeds at c.give_back.ensures.given.added) n s lt in
-    let on = given (label_in view (slice_index_or j.seeds.items n s)) in
-    omega (arith, here, on) in
-    let labelled : map (label_in view) j.seeds.items ≡ labels = same_labels view items j.seeds.items kept.held ∙ labels_are view items in
-    let rises = store_rose (seeds.faults_in view_faults) (label_in view) d.file_counts b3.file_counts e.file_counts le_mid items j.seeds.items labels fresh_seeds labelled seeds_added in
-    let later : (y : List ℕ) → FileRose d b y → FileRose d e y = λ y.
-    let next = counted_le b.file_counts b2.file_counts _ c.in-Ok-take.ensures.counts.counts y in
-    let last : count_at b3.file_counts y ≡ count_at b2.file_counts y = ap (λ (m : Map ℕ). count_at m y) uncounted in
-    let more = c.give_back.ensures.given.seeds.counts y in
-    let end = given y in
-    let on : count_at b.file_counts y ≤ count_at e.file_counts y = omega (arith, next, last, more, end) in
-    rose_longer (count_at d.file_counts y) (count_at b.file_counts y) (count_at e.file_counts y) on in
-    let tells : (m : Map (List ℕ)) → d.files ≡ Some m → IsTrue g.F.View.View.tells = λ m y. (g.met.F.Files.alike.0 (subst (λ t. IsTrue t) ((g.met.F.Files.told c.args.files.now).0) (subst (λ (o : Option (Map (List ℕ))). IsTrue (is_some o)) (sym y) refl))).0 in
-    let unused = subst (λ xs. All (IsUnused state) xs) (sym same) c.requires.held.unused in
-    let last_ended = rw c.sources_of-stores.ensures.stores at c.give_back.ensures.given.ended in
-    let ends = assembled w v names cache o l z r
-    (facts_of w v names cache o l z (λ maps base. IsObtainable t base views maps)
-    (λ m told maps base i lt. had_of d b t z views zip is m told base maps i lt)
-    (λ m told quiet maps base i lt. obtainable_of d b t z views zip is m told base maps i lt (λ y rise. rose_not_quiet (count_at d.file_counts y) (count_at d.file_counts y) (count_at e.file_counts y) (omega arith) (later y rise) (quiet.files y)))
-    r (map files before) (λ cs. cached_in e0 ≡ Some (map chunks cs)) t0 t1 (AreUnused from to) f0 f1
-    (λ cached maps. IsTrue g.F.View.View.tells × (cached_in e0 ≡ Some cached) × (map (words g).holds before ≡ map Some maps))
-    (λ cached maps. SourcesQuiet (words g) g.F.View.View from to cached maps × HaveOneSize l e0 cached maps)
-    found (cached_there e0 cache name d'.folders (cache_told g c.args.files.now c.args.held.shelf)) took
-    (g.met.F.Target.View.told c.in-Ok-take.taken ∙ sym (g.met.F.Target.View.told c.assemble-ended.result.target))
-    left excused
-    (λ none. (none_reached at_place state before after names k0.ended k1.ended unused (ap (λ c. c.stores) none.0) after_at last_ended, shelf_now ∙ ap (λ s. folders_with s d'.folders) none.1.1)) made.bytes
-    (λ m told n y. lacks_told (words g) location g.F.View.View t w v names cache o z t0 from to stores located stand n
-    (λ fs told. held_maps files before fs (subst (λ o. IfSome o (λ m. map files before ≡ map (location_files m) names)) y found ∙ told)) rose m
-    (others_at (words g) location g.F.View.View t w v names cache o z t0 from to b m told zip is later rises (cache_lacking d e e0 e1 cache l d'.folders name_now shelf_now shelf_rose)) (Rose f0 f1) r made.lost)
-    (λ cached maps n. made.had (λ _. n.0) cached maps n.1 n.2) (λ cached maps n. made.exactly cached maps n.0 n.1) (λ cached maps n. made.after cached maps n.0 n.1)
-    (λ m y fs looks cs shelved. (tells m y, shelved, held_maps files before fs looks))
-    (λ m y n fs told looks cs shelved quiet. (
-      record {
-        target = rw c.in-Ok-take.ensures.fresh.0 (given_quiet _ _ _ _ le added (quiet.0.files q));
-        telling = λ _. tells m y;
-        seeds = each_quiet (seeds.faults_in view_faults) (label_in view) d.file_counts b3.file_counts e.file_counts le_mid items j.seeds.items labels fresh_seeds seeds_added quiet.0.files;
-        told_cache = shelved;
-        cache = cache_quiet d e b2 bc reached ended (cache_faults e0) e1 none c.give_back.ensures.given.cache quiet.0;
-        told = held_maps files before fs looks;
-        stores = folders_quiet g.F.Look.Look.files at_place g.F.Look.Look.faults state w v names fs before after fresh_stores (stores.files ∙ looks) given_stores quiet.0.folders;
-      },
-      one_size e0 cache l (map chunks cs) (map chunks fs) name quiet.1,
-    )))
-    (target_as _ (Rose f0 f1) (FileRose d e q) rose r made.lost)
-    (store_told (words g) location g.F.View.View t w v names cache o z t0 from to stores located stand (Rose f0 f1) r made.lost) in
-    rw c.answer_of.ensures (subst (λ xs. Assembled w v (map location xs) cache o l z (answer_of_assembly r)) same ends)
+    let items = c.args.held.stores.items in
+    let names = map (location_in look.place) items in
+    let images = map image_name c.args.planned.now.seeds in
+    let stores_now : c.as_slice-stores.result.now ≡ names = c.as_slice-stores.ensures ∙ sym c.requires.located in
+    let others = subst (λ (n : List Location). AreOpened look view state b0 b n images more) stores_now (rw c.as_slice-names.ensures at c.open_kits.ensures.opened) in
+    let none_more = none_further e0 cache c.args.planned.now.workers (vec_len c.open_kits.new.kits) more name c.requires.alone c.open_kits.new.kits.ok.0 c.open_kits.ensures.few in
+    let all = opened_kits look view state e0 d' b0 b read opened images items c.in-Ok.seeds.items k more into.0.stores_are into.0.seeds_are into.1
+    c.requires.held.found c.requires.held.fresh c.requires.held.unused c.requires.held.lent.stores (rw c.as_slice-names.ensures at c.in-Ok.ensures.found) c.in-Ok.ensures.fresh c.in-Ok.ensures.known none_more others in
+    let back = c.give_back.ensures.given in
+    let e = at c.give.new.self in
+    let q = c.args.target.now in
+    let o : Into = record { name = q; fresh = c.args.fresh } in
+    let k0 = state c.args.dial.now in
+    let k1 = state c.give_back.new.dial in
+    let never = g.F.Target.View.never_fails in
+    let run : IsRun g.row.D-Link.Denot look view state never d' e0 k0 e k1 names images cache o l c.args.planned.now.places r = record {
+      b0 = b0;
+      b = b;
+      b2 = b2;
+      read = read;
+      opened = opened;
+      t0 = t0;
+      f0 = f0;
+      fresh = c.in-Ok-take.ensures.fresh.0;
+      bytes = c.in-Ok-take.ensures.bytes;
+      took = c.in-Ok-take.ensures.ok;
+      taken = c.in-Ok-take.ensures.counts;
+      k = k;
+      more = more;
+      all = all;
+      deal = by.0;
+      planned = subst (λ xs. IsPlan l (length xs) by.0) into.0.first by.1;
+      t1 = t1;
+      f1 = f1;
+      e1 = e1;
+      j = j;
+      rest = rest;
+      told = g.met.F.Target.View.told c.in-Ok-take.taken ∙ sym (g.met.F.Target.View.told c.assemble-ended.result.target);
+      made = made;
+      first = back.first;
+      kits = back.kits;
+      bc = back.cached;
+      b3 = back.closed;
+      b4 = at c.give_back.new.files;
+      shelf = rw c.of_kits-held.ensures.shelf at back.cache;
+      stores = back.stores.0;
+      given = subst (λ xs. All (IsGiven look.place look.faults state (storage back.cached back.first.dial) (storage back.closed k1)) xs) (sym last.stores_are) back.given;
+      ended = subst (λ xs. k1.ended ≡ fold (with_those state) back.first.dial.ended xs) (sym last.stores_are) back.ended;
+      seeds = back.seeds;
+      added = subst (λ xs. All (λ s. raised (count_at back.closed.file_counts (label_in view.held s)) (seeds.faults_in view.faults s) ≤ count_at (at c.give_back.new.files).file_counts (label_in view.held s)) xs) (sym last.seeds_are) back.added;
+      put = c.give.ensures.counts;
+      put_files = c.give.ensures.files;
+      named = name;
+      sound = fresh_faults g.F.Folder.Look _ c.args.held.shelf c.requires.held.shelf;
+      shelf_told = cache_told g c.args.files.now c.args.held.shelf;
+      tells = λ m y. (g.met.F.Files.alike.0 (subst (λ t. IsTrue t) ((g.met.F.Files.told c.args.files.now).0) (subst (λ (o : Option (Map (List ℕ))). IsTrue (is_some o)) (sym y) refl))).0;
+    } in
+    rw c.answer_of.ensures (run_assembled look view state never d' e0 k0 e k1 names images cache o l c.args.planned.now.places r run p ls plan is)
 
 pub returns-in_default-clause-dialed : goal.returns-in_default-clause-dialed
 returns-in_default-clause-dialed g c = (dials_none _, λ t. refl)
@@ -484,199 +508,286 @@ returns-in-Err-clause-dialed g c = (dials_none _, λ t. refl)
 
 pub returns-clause-dialed : goal.returns-clause-dialed
 returns-clause-dialed g c =
-    let k = c.new-kit.result in
-    let back = c.assemble-ended.result.kits in
-    let j = c.swap_remove-kit.result in
-    let one = pushed c.args.held.kits.items c.push.new.self.items k c.push.result c.unwrap.result c.requires.held.room.0 c.unwrap.ensures c.push.ensures.items in
-    let other = alone back.items j (sym back.ok.0 ∙ c.assemble-ended.ensures.size) c.swap_remove-kit.ensures.value in
-    let made = c.assemble-ended.ensures.assembled.so (task c.args.planned.now.index c.requires.plan.0 c.args.planned.now.places) k j refl refl c.requires.plan.1 one other in
-    let place = g.F.Look.Look.place in
-    let same : c.new-kit.result.chain.stores ≡ c.args.held.stores.items = ap (λ k. k.stores) (c.new-kit.ensures.chain ∙ c.new.ensures.value) in
-    let located = stand_still place c.new-kit.result.chain.stores c.swap_remove-kit.result.chain.stores made.stores.places ∙ ap (map (location_in place)) same in
-    let kept = rw c.sources_of-stores.ensures.stores at c.give_back.ensures.given.stores in
-    (kept.0.dial, λ t. kept.1 (subst (λ (l : List Location). IsTrue (are_folders l)) (sym located) t))
+    let at = g.F.Files.disk in
+    let look = g.F.Look.Look in
+    let view = g.F.View.View in
+    let state = g.D.Dial.state in
+    let d' = at c.args.files.now in
+    let b0 = at c.open_seeds.new.files in
+    let b = at c.open_kits.new.files in
+    let b2 = at c.take.new.self in
+    let e0 = see g c.args.held.shelf in
+    let e1 = see g c.assemble-ended.result.cache in
+    let d = with_cache e0 d' in
+    let into = c.into_kits-kits.ensures.kits in
+    let last = c.of_kits-held.ensures.kits in
+    let k = into.0.kit in
+    let j = last.kit in
+    let more = c.open_kits.new.kits.items in
+    let rest = c.of_kits-held.result.kits.items in
+    let by = c.assemble-ended.ensures.kits in
+    let l = c.args.planned.now.index in
+    let t = task l by.0 c.args.planned.now.places in
+    let t0 = (g.F.Target.View.held c.in-Ok-take.taken).bytes in
+    let t1 = (g.F.Target.View.held c.assemble-ended.result.target).bytes in
+    let f0 = g.F.Target.View.faults c.in-Ok-take.taken in
+    let f1 = g.F.Target.View.faults c.assemble-ended.result.target in
+    let r = c.assemble-ended.result.answer in
+    let made = by_first (words g) view t g.F.Target.View.never_fails t0 t1 f0 f1 (see g c.into_kits-kits.result.2) e0 e1 c.into_kits-kits.result.0.items (k ∷ more) c.assemble-ended.result.kits.items (j ∷ rest) r (ap (see g) c.into_kits-kits.ensures.shelf) into.0.first last.first by.2 in
+    let read = c.in-Ok.ensures.kept in
+    let opened = c.open_kits.ensures.kept in
+    let cache = c.args.held.cache in
+    let name = named g cache c.args.held.shelf c.requires.held.lent.named in
+    let items = c.args.held.stores.items in
+    let names = map (location_in look.place) items in
+    let images = map image_name c.args.planned.now.seeds in
+    let stores_now : c.as_slice-stores.result.now ≡ names = c.as_slice-stores.ensures ∙ sym c.requires.located in
+    let others = subst (λ (n : List Location). AreOpened look view state b0 b n images more) stores_now (rw c.as_slice-names.ensures at c.open_kits.ensures.opened) in
+    let none_more = none_further e0 cache c.args.planned.now.workers (vec_len c.open_kits.new.kits) more name c.requires.alone c.open_kits.new.kits.ok.0 c.open_kits.ensures.few in
+    let all = opened_kits look view state e0 d' b0 b read opened images items c.in-Ok.seeds.items k more into.0.stores_are into.0.seeds_are into.1
+    c.requires.held.found c.requires.held.fresh c.requires.held.unused c.requires.held.lent.stores (rw c.as_slice-names.ensures at c.in-Ok.ensures.found) c.in-Ok.ensures.fresh c.in-Ok.ensures.known none_more others in
+    let many : length (j ∷ rest) ≡ length (k ∷ more) = made.kits in
+    let before = lent f0 (k ∷ more) e0 in
+    let after = lent f1 (j ∷ rest) e1 in
+    let Known = KnowsFaults g.F.Target.View.never_fails (k ∷ more) in
+    let back = c.give_back.ensures.given in
+    let w2 = storage b2 (state c.args.dial.now) in
+    let kits = all_given_back look view state rest w2 back.first back.kits in
+    let still : All (λ x. kit_stores look view x ≡ names) (j ∷ rest) = λ n x lt.
+    let there : n < length (k ∷ more) = omega (arith, lt, many) in
+    kit_still look view state t d b b names Known t0 n k x before after images (all n k there) (made.each n k x there) in
+    let first : kit_stores look view j ≡ names = still 0 j (omega arith) in
+    let back_at : map (location_in look.place) c.of_kits-held.result.stores.items ≡ names = ap (map (location_in look.place)) (sym last.stores_are) ∙ first in (
+      dials_twice w2.dial back.first.dial (state c.give_back.new.dial) kits.dial back.stores.0.dial,
+      λ t. back.stores.1 (subst (λ (l : List Location). IsTrue (are_folders l)) (sym back_at) t) ∙ kits_folders look view state names rest w2 back.first (All-tail (λ x. kit_stores look view x ≡ names) j rest still) back.kits t,
+    )
 
 pub returns-clause-tells : goal.returns-clause-tells
 returns-clause-tells g c = (g.met.F.Files.told c.give.new.self).0 ∙ sym ((g.met.F.Files.told c.args.files.now).0)
 
 pub returns-in_default-clause-asks : goal.returns-in_default-clause-asks
-returns-in_default-clause-asks g c = λ p ls plan is. record {
-  plan = p;
-  planned = plan;
-  gets = λ spared are. none_dialed (AsksFew method.Get (twice_wanted c.args.planned.now.index p spared)) (λ s id. omega arith) (map (location_in g.F.Look.Look.place) c.args.held.stores.items) (g.D.Dial.state c.args.dial.now).ended;
-  sends = none_dialed (SendsFronts (IsListedGet c.args.planned.now.index)) (λ s n t lt. absurd (omega (arith, lt))) (map (location_in g.F.Look.Look.place) c.args.held.stores.items) (g.D.Dial.state c.args.dial.now).ended;
-}
+returns-in_default-clause-asks g c = λ p ls plan is.
+    let names = map (location_in g.F.Look.Look.place) c.args.held.stores.items in
+    let ended = (g.D.Dial.state c.args.dial.now).ended in
+    record {
+      workers = 1;
+      plan = p;
+      planned = plan;
+      gets = λ spared are. (ended, none_dialed (AsksFew method.Get (worker_asks c.args.planned.now.index p spared 0)) (λ s id. omega arith) names ended, refl);
+      sends = (ended, none_dialed (SendsFronts (IsListedGet c.args.planned.now.index)) (λ s n t lt. absurd (omega (arith, lt))) names ended, refl);
+    }
 
 pub returns-in-Err-clause-asks : goal.returns-in-Err-clause-asks
-returns-in-Err-clause-asks g c = λ p ls plan is. record {
-  plan = p;
-  planned = plan;
-  gets = λ spared are. none_dialed (AsksFew method.Get (twice_wanted c.args.planned.now.index p spared)) (λ s id. omega arith) (map (location_in g.F.Look.Look.place) c.args.held.stores.items) (g.D.Dial.state c.args.dial.now).ended;
-  sends = none_dialed (SendsFronts (IsListedGet c.args.planned.now.index)) (λ s n t lt. absurd (omega (arith, lt))) (map (location_in g.F.Look.Look.place) c.args.held.stores.items) (g.D.Dial.state c.args.dial.now).ended;
-}
+returns-in-Err-clause-asks g c = λ p ls plan is.
+    let names = map (location_in g.F.Look.Look.place) c.args.held.stores.items in
+    let ended = (g.D.Dial.state c.args.dial.now).ended in
+    record {
+      workers = 1;
+      plan = p;
+      planned = plan;
+      gets = λ spared are. (ended, none_dialed (AsksFew method.Get (worker_asks c.args.planned.now.index p spared 0)) (λ s id. omega arith) names ended, refl);
+      sends = (ended, none_dialed (SendsFronts (IsListedGet c.args.planned.now.index)) (λ s n t lt. absurd (omega (arith, lt))) names ended, refl);
+    }
 
 pub returns-clause-asks : goal.returns-clause-asks
 returns-clause-asks g c = λ p ls plan is.
     let at = g.F.Files.disk in
+    let look = g.F.Look.Look in
+    let view = g.F.View.View in
+    let state = g.D.Dial.state in
+    let d' = at c.args.files.now in
+    let b0 = at c.open_seeds.new.files in
+    let b = at c.open_kits.new.files in
+    let b2 = at c.take.new.self in
     let e0 = see g c.args.held.shelf in
     let e1 = see g c.assemble-ended.result.cache in
-    let d' = at c.args.files.now in
     let d = with_cache e0 d' in
-    let b = at c.open_seeds.new.files in
-    let b2 = at c.take.new.self in
-    let bc = c.give_back.ensures.given.cached in
-    let b3 = c.give_back.ensures.given.closed in
-    let b4 = at c.give_back.new.files in
-    let e = at c.give.new.self in
-    let held = g.F.Target.View.held in
-    let view = g.F.View.View.held in
-    let view_faults = g.F.View.View.faults in
-    let at_place = g.F.Look.Look.place in
-    let place = place_in at_place in
-    let location = location_in at_place in
-    let state = g.D.Dial.state in
-    let k0 = state c.args.dial.now in
-    let k1 = state c.give_back.new.dial in
-    let q = c.args.target.now in
-    let o : Into = record { name = q; fresh = c.args.fresh } in
-    let k = c.new-kit.result in
-    let back = c.assemble-ended.result.kits in
-    let j = c.swap_remove-kit.result in
-    let one = pushed c.args.held.kits.items c.push.new.self.items k c.push.result c.unwrap.result c.requires.held.room.0 c.unwrap.ensures c.push.ensures.items in
-    let other = alone back.items j (sym back.ok.0 ∙ c.assemble-ended.ensures.size) c.swap_remove-kit.ensures.value in
-    let before = k.chain.stores in
-    let after = j.chain.stores in
-    let names = map location before in
-    let w = storage d k0 in
-    let v = storage e k1 in
+    let into = c.into_kits-kits.ensures.kits in
+    let last = c.of_kits-held.ensures.kits in
+    let k = into.0.kit in
+    let j = last.kit in
+    let more = c.open_kits.new.kits.items in
+    let rest = c.of_kits-held.result.kits.items in
+    let by = c.assemble-ended.ensures.kits in
     let l = c.args.planned.now.index in
-    let x = c.args.planned.now.places in
-    let z : Seeds = record { images = map image_name c.args.planned.now.seeds; listings = ls } in
-    let items = k.seeds.items in
-    let views = map (seeds.seed_held view) items in
-    let labels = map label_of views in
-    let t0 = (held c.in-Ok-take.taken).bytes in
+    let t = task l by.0 c.args.planned.now.places in
+    let t0 = (g.F.Target.View.held c.in-Ok-take.taken).bytes in
+    let t1 = (g.F.Target.View.held c.assemble-ended.result.target).bytes in
     let f0 = g.F.Target.View.faults c.in-Ok-take.taken in
     let f1 = g.F.Target.View.faults c.assemble-ended.result.target in
-    let t = task l p x in
-    let made = c.assemble-ended.ensures.assembled.so t k j refl refl plan one other in
-    let stores = made.stores in
-    let kept = made.seeds in
-    let from = with_kit (lent f0 c.push.new.self.items e0) k in
-    let to = with_kit (lent f1 back.items e1) j in
-    let opens = c.in-Ok.ensures in
-    let same : before ≡ c.args.held.stores.items = ap (λ k. k.stores) (c.new-kit.ensures.chain ∙ c.new.ensures.value) in
-    let zip : AllZip (IsViewed d b) z.images views = subst (λ v. AllZip (IsViewed d b) z.images (map (seeds.seed_held view) v.items)) (sym c.new-kit.ensures.seeds) (rw c.as_slice.ensures at opens.found) in
-    let unfailed : map (seeds.faults_in view_faults) items ≡ map {B = ℕ} (λ s. 0) items = subst (λ v. map (seeds.faults_in view_faults) v.items ≡ map {B = ℕ} (λ s. 0) v.items) (sym c.new-kit.ensures.seeds) opens.fresh in
-    let fresh_seeds : map (seeds.faults_in view_faults) items ≡ map {B = ℕ} (λ q. 0) labels = unfailed ∙ sym (zeros view items) in
-    let lent = given_adds e1 b2 bc c.give_back.ensures.given.cache in
-    let uncounted : b3.file_counts ≡ b2.file_counts = c.give_back.ensures.given.counts ∙ given_files e1 b2 bc c.give_back.ensures.given.cache in
-    let took = subst (λ f. IfSome f (λ m. t0 ≡ Some (old_of m o))) opens.kept.files (c.in-Ok-take.ensures.bytes) in
-    let added = c.give.ensures.counts.counts.added in
-    let given : (y : List ℕ) → count_at b4.file_counts y ≤ count_at e.file_counts y = λ y. counted_le b4.file_counts e.file_counts _ c.give.ensures.counts.counts.counted y in
-    let le_mid : (y : List ℕ) → count_at d.file_counts y ≤ count_at b3.file_counts y = λ y.
-    let first = opens.kept.counts y in
-    let next = counted_le b.file_counts b2.file_counts _ c.in-Ok-take.ensures.counts.counts y in
-    let last : count_at b3.file_counts y ≡ count_at b2.file_counts y = ap (λ (m : Map ℕ). count_at m y) uncounted in
-    omega (arith, first, next, last) in
-    let le : count_at d.file_counts q ≤ count_at b4.file_counts q = omega (arith, le_mid q, c.give_back.ensures.given.seeds.counts q) in
-    let rose : Rose f0 f1 → FileRose d e q = λ y. given_rose _ _ _ _ le added (rw c.in-Ok-take.ensures.fresh.0 at y) in
-    let located : (ys : List (AnyStore g.row.F-Look.Denot g.row.D.Denot g.row.D-Link.Denot)) → map place ys ≡ map place before → map location ys ≡ names = λ ys placed. stand_still at_place before ys placed in
-    let after_at = located after stores.places in
-    let seeds_added : All (λ s. raised (count_at b3.file_counts (label_in view s)) (seeds.faults_in view_faults s) ≤ count_at e.file_counts (label_in view s)) j.seeds.items = λ n s lt.
-    let here = (rw c.sources_of-stores.ensures.seeds at c.give_back.ensures.given.added) n s lt in
-    let on = given (label_in view (slice_index_or j.seeds.items n s)) in
-    omega (arith, here, on) in
-    let labelled : map (label_in view) j.seeds.items ≡ labels = same_labels view items j.seeds.items kept.held ∙ labels_are view items in
-    let rises = store_rose (seeds.faults_in view_faults) (label_in view) d.file_counts b3.file_counts e.file_counts le_mid items j.seeds.items labels fresh_seeds labelled seeds_added in
-    let later : (y : List ℕ) → FileRose d b y → FileRose d e y = λ y.
-    let next = counted_le b.file_counts b2.file_counts _ c.in-Ok-take.ensures.counts.counts y in
-    let last : count_at b3.file_counts y ≡ count_at b2.file_counts y = ap (λ (m : Map ℕ). count_at m y) uncounted in
-    let more = c.give_back.ensures.given.seeds.counts y in
-    let end = given y in
-    let on : count_at b.file_counts y ≤ count_at e.file_counts y = omega (arith, next, last, more, end) in
-    rose_longer (count_at d.file_counts y) (count_at b.file_counts y) (count_at e.file_counts y) on in
+    let r = c.assemble-ended.result.answer in
+    let made = by_first (words g) view t g.F.Target.View.never_fails t0 t1 f0 f1 (see g c.into_kits-kits.result.2) e0 e1 c.into_kits-kits.result.0.items (k ∷ more) c.assemble-ended.result.kits.items (j ∷ rest) r (ap (see g) c.into_kits-kits.ensures.shelf) into.0.first last.first by.2 in
+    let read = c.in-Ok.ensures.kept in
+    let opened = c.open_kits.ensures.kept in
     let cache = c.args.held.cache in
-    let stocked = made.stocked in
-    let reached : (y : List ℕ) → count_at d.folder_counts y ≤ count_at b2.folder_counts y = λ y.
-    let first = opens.kept.folder_counts y in
-    let last : count_at b2.folder_counts y ≡ count_at b.folder_counts y = ap (λ (m : Map ℕ). count_at m y) c.in-Ok-take.ensures.counts.folder_counts in
-    omega (arith, first, last) in
-    let stays : e.folder_counts ≡ b3.folder_counts = c.give.ensures.counts.folder_counts ∙ c.give_back.ensures.given.folder_counts in
-    let ended : (y : List ℕ) → count_at bc.folder_counts y ≤ count_at e.folder_counts y = λ y.
-    let first = c.give_back.ensures.given.stores.0.disk.folder_counts y in
-    let last : count_at e.folder_counts y ≡ count_at b3.folder_counts y = ap (λ (m : Map ℕ). count_at m y) stays in
-    omega (arith, first, last) in
     let name = named g cache c.args.held.shelf c.requires.held.lent.named in
-    let name_now = name_after _ e0 e1 cache stocked name in
-    let none = fresh_faults g.F.Folder.Look _ c.args.held.shelf c.requires.held.shelf in
-    let shelf_rose = cache_rose d e b2 bc reached ended (cache_faults e0) e1 none c.give_back.ensures.given.cache in
-    let unused = subst (λ xs. All (IsUnused state) xs) (sym same) c.requires.held.unused in
-    let last_ended = rw c.sources_of-stores.ensures.stores at c.give_back.ensures.given.ended in
-    record {
-      plan = p;
-      planned = plan;
-      gets = λ spared are.
-          let asked = made.asks spared (λ i below yes. of_told d.files (λ m. IsSparedOnDisk d e m cache o l z p i) (SparedOver (words g) g.F.View.View t t0 from to i)
-          (λ m told so. spared_over (words g) g.F.View.View t from to d b e m told plan o z zip is later rises t0 (subst (λ f. IfSome f (λ m. t0 ≡ Some (old_of m o))) told took) rose cache i below
-          (cache_gives (words g) before d e l (want_id l p i) (size_of l (first_of p i)) e0 e1 cache name_now (cached_there e0 cache name d'.folders (cache_told g c.args.files.now c.args.held.shelf)) shelf_rose) so) (are i below yes)) in
-          let few = few_each (asked_in method.Get state) (twice_wanted l p spared) before after (same_length place before after (sym stores.places)) (λ q n. asked.most q n) in
-          subst (λ xs. EachDialed (AsksFew method.Get (twice_wanted l p spared)) (map location xs) k0.ended k1.ended) same
-          (each_got at_place state (twice_wanted l p spared) before after names k0.ended k1.ended unused few after_at last_ended);
-      sends = subst (λ xs. EachDialed (SendsFronts (IsListedGet l)) (map location xs) k0.ended k1.ended) same (each_sent at_place state (IsListedGet l) before after names k0.ended k1.ended unused stores.sends after_at last_ended);
-    }
+    let items = c.args.held.stores.items in
+    let names = map (location_in look.place) items in
+    let images = map image_name c.args.planned.now.seeds in
+    let stores_now : c.as_slice-stores.result.now ≡ names = c.as_slice-stores.ensures ∙ sym c.requires.located in
+    let others = subst (λ (n : List Location). AreOpened look view state b0 b n images more) stores_now (rw c.as_slice-names.ensures at c.open_kits.ensures.opened) in
+    let none_more = none_further e0 cache c.args.planned.now.workers (vec_len c.open_kits.new.kits) more name c.requires.alone c.open_kits.new.kits.ok.0 c.open_kits.ensures.few in
+    let all = opened_kits look view state e0 d' b0 b read opened images items c.in-Ok.seeds.items k more into.0.stores_are into.0.seeds_are into.1
+    c.requires.held.found c.requires.held.fresh c.requires.held.unused c.requires.held.lent.stores (rw c.as_slice-names.ensures at c.in-Ok.ensures.found) c.in-Ok.ensures.fresh c.in-Ok.ensures.known none_more others in
+    let back = c.give_back.ensures.given in
+    let e = at c.give.new.self in
+    let q = c.args.target.now in
+    let o : Into = record { name = q; fresh = c.args.fresh } in
+    let k0 = state c.args.dial.now in
+    let k1 = state c.give_back.new.dial in
+    let never = g.F.Target.View.never_fails in
+    let run : IsRun g.row.D-Link.Denot look view state never d' e0 k0 e k1 names images cache o l c.args.planned.now.places r = record {
+      b0 = b0;
+      b = b;
+      b2 = b2;
+      read = read;
+      opened = opened;
+      t0 = t0;
+      f0 = f0;
+      fresh = c.in-Ok-take.ensures.fresh.0;
+      bytes = c.in-Ok-take.ensures.bytes;
+      took = c.in-Ok-take.ensures.ok;
+      taken = c.in-Ok-take.ensures.counts;
+      k = k;
+      more = more;
+      all = all;
+      deal = by.0;
+      planned = subst (λ xs. IsPlan l (length xs) by.0) into.0.first by.1;
+      t1 = t1;
+      f1 = f1;
+      e1 = e1;
+      j = j;
+      rest = rest;
+      told = g.met.F.Target.View.told c.in-Ok-take.taken ∙ sym (g.met.F.Target.View.told c.assemble-ended.result.target);
+      made = made;
+      first = back.first;
+      kits = back.kits;
+      bc = back.cached;
+      b3 = back.closed;
+      b4 = at c.give_back.new.files;
+      shelf = rw c.of_kits-held.ensures.shelf at back.cache;
+      stores = back.stores.0;
+      given = subst (λ xs. All (IsGiven look.place look.faults state (storage back.cached back.first.dial) (storage back.closed k1)) xs) (sym last.stores_are) back.given;
+      ended = subst (λ xs. k1.ended ≡ fold (with_those state) back.first.dial.ended xs) (sym last.stores_are) back.ended;
+      seeds = back.seeds;
+      added = subst (λ xs. All (λ s. raised (count_at back.closed.file_counts (label_in view.held s)) (seeds.faults_in view.faults s) ≤ count_at (at c.give_back.new.files).file_counts (label_in view.held s)) xs) (sym last.seeds_are) back.added;
+      put = c.give.ensures.counts;
+      put_files = c.give.ensures.files;
+      named = name;
+      sound = fresh_faults g.F.Folder.Look _ c.args.held.shelf c.requires.held.shelf;
+      shelf_told = cache_told g c.args.files.now c.args.held.shelf;
+      tells = λ m y. (g.met.F.Files.alike.0 (subst (λ t. IsTrue t) ((g.met.F.Files.told c.args.files.now).0) (subst (λ (o : Option (Map (List ℕ))). IsTrue (is_some o)) (sym y) refl))).0;
+    } in
+    run_asks look view state never d' e0 k0 e k1 names images cache o l c.args.planned.now.places r run p ls plan is
 
 pub returns-in_default-clause-used : goal.returns-in_default-clause-used
 returns-in_default-clause-used g c =
     let at = g.F.Files.disk in
+    let look = g.F.Look.Look in
+    let view = g.F.View.View in
     let b = at c.open_seeds.new.files in
     let e = at c.let_go.new.files in
-    let view = g.F.View.View.held in
-    let folders = folders_reached c.args.held.cache (map (location_in g.F.Look.Look.place) c.args.held.stores.items) in
-    let gone = subst (λ l. Uses (names_among (map (seeds.seed_held view) l)) folders b e) c.requires.held.none c.let_go.ensures.used in
-    let used = untouched_used c.args.target.now (map image_name c.args.planned.now.seeds) folders (at c.args.files.now) b (rw c.as_slice.ensures at c.in_default.ensures.used) e gone in
+    let images = map image_name c.args.planned.now.seeds in
+    let names = map (location_in look.place) c.args.held.stores.items in
+    let folders = folders_reached c.args.held.cache names in
+    let has : HasNames look view images c.args.held = record {
+      seeds = λ n none. subst (λ l. IsNoneOf n (names_among (map (seeds.seed_held view.held) l))) (sym c.requires.held.none) tt;
+      kits = subst (λ l. All (UsesNames look view images (folders_among names)) l) (sym c.requires.held.room.0) (All-nil (UsesNames look view images (folders_among names)));
+    } in
+    let opened = uses_within images [] images folders (at c.args.files.now) b (within_same images) (within_none folders) (rw c.as_slice-names.ensures at c.in_default.ensures.used) in
+    let gone = uses_within images folders (c.args.target.now ∷ images) folders b e (within_rest c.args.target.now images) (within_same folders) (c.let_go.ensures.used images has) in
+    let used = uses_twice (c.args.target.now ∷ images) folders (at c.args.files.now) b e (uses_within images folders (c.args.target.now ∷ images) folders (at c.args.files.now) b (within_rest c.args.target.now images) (within_same folders) opened) gone in
     record { files = used.files; folders = used.folders }
 
 pub returns-in-Err-clause-used : goal.returns-in-Err-clause-used
 returns-in-Err-clause-used g c =
     let at = g.F.Files.disk in
-    let d = at c.args.files.now in
-    let b = at c.open_seeds.new.files in
+    let look = g.F.Look.Look in
+    let view = g.F.View.View in
+    let state = g.D.Dial.state in
+    let d' = at c.args.files.now in
+    let b0 = at c.open_seeds.new.files in
+    let b = at c.open_kits.new.files in
     let b2 = at c.take.new.self in
     let e = at c.let_go-in-Err.new.files in
+    let cache = c.args.held.cache in
     let images = map image_name c.args.planned.now.seeds in
-    let views = map (seeds.seed_held g.F.View.View.held) c.in-Ok.seeds.items in
-    let folders = folders_reached c.args.held.cache (map (location_in g.F.Look.Look.place) c.args.held.stores.items) in
-    let gone = uses_within (names_among views) folders images folders b2 e (viewed_names d b images views (rw c.as_slice.ensures at c.in-Ok.ensures.found)) (within_same folders) c.let_go-in-Err.ensures.used in
-    let used = untaken_used c.args.target.now images folders d b (rw c.as_slice.ensures at c.in-Ok.ensures.used) b2 e c.in-Err.ensures.counts gone in
+    let names = map (location_in look.place) c.args.held.stores.items in
+    let more = c.open_kits.new.kits.items in
+    let stores_now : c.as_slice-stores.result.now ≡ names = c.as_slice-stores.ensures ∙ sym c.requires.located in
+    let others = subst (λ (n : List Location). AreOpened look view state b0 b n images more) stores_now (rw c.as_slice-names.ensures at c.open_kits.ensures.opened) in
+    let views = map (seeds.seed_held view.held) c.in-Ok.seeds.items in
+    let folders = folders_reached cache names in
+    let opened_used = uses_twice images folders d' b0 b
+    (uses_within images [] images folders d' b0 (within_same images) (within_none folders) (rw c.as_slice-names.ensures at c.in-Ok.ensures.used))
+    (uses_within images (folders_among names) images folders b0 b (within_same images) (within_right (folder_of cache) (folders_among names)) (subst (λ (n : List Location). Uses images (folders_among n) b0 b) stores_now (rw c.as_slice-names.ensures at c.open_kits.ensures.used))) in
+    let gone = c.let_go-in-Err.ensures.used images (record {
+      seeds = viewed_names d' b0 images views (rw c.as_slice-names.ensures at c.in-Ok.ensures.found);
+      kits = λ n x lt. opened_names look view state b0 b names images (slice_index_or more n x) (others n x lt);
+    }) in
+    let used = untaken_used c.args.target.now images folders d' b opened_used b2 e c.in-Err.ensures.counts gone in
     record { files = used.files; folders = used.folders }
 
 pub returns-clause-used : goal.returns-clause-used
 returns-clause-used g c =
-    let k = c.new-kit.result in
-    let back = c.assemble-ended.result.kits in
-    let j = c.swap_remove-kit.result in
-    let one = pushed c.args.held.kits.items c.push.new.self.items k c.push.result c.unwrap.result c.requires.held.room.0 c.unwrap.ensures c.push.ensures.items in
-    let other = alone back.items j (sym back.ok.0 ∙ c.assemble-ended.ensures.size) c.swap_remove-kit.ensures.value in
-    let made = c.assemble-ended.ensures.assembled.so (task c.args.planned.now.index c.requires.plan.0 c.args.planned.now.places) k j refl refl c.requires.plan.1 one other in
     let at = g.F.Files.disk in
-    let d = at c.args.files.now in
-    let b = at c.open_seeds.new.files in
+    let look = g.F.Look.Look in
+    let view = g.F.View.View in
+    let state = g.D.Dial.state in
+    let d' = at c.args.files.now in
+    let b0 = at c.open_seeds.new.files in
+    let b = at c.open_kits.new.files in
     let b2 = at c.take.new.self in
+    let e0 = see g c.args.held.shelf in
+    let e1 = see g c.assemble-ended.result.cache in
+    let d = with_cache e0 d' in
+    let into = c.into_kits-kits.ensures.kits in
+    let last = c.of_kits-held.ensures.kits in
+    let k = into.0.kit in
+    let j = last.kit in
+    let more = c.open_kits.new.kits.items in
+    let rest = c.of_kits-held.result.kits.items in
+    let by = c.assemble-ended.ensures.kits in
+    let l = c.args.planned.now.index in
+    let t = task l by.0 c.args.planned.now.places in
+    let t0 = (g.F.Target.View.held c.in-Ok-take.taken).bytes in
+    let t1 = (g.F.Target.View.held c.assemble-ended.result.target).bytes in
+    let f0 = g.F.Target.View.faults c.in-Ok-take.taken in
+    let f1 = g.F.Target.View.faults c.assemble-ended.result.target in
+    let r = c.assemble-ended.result.answer in
+    let made = by_first (words g) view t g.F.Target.View.never_fails t0 t1 f0 f1 (see g c.into_kits-kits.result.2) e0 e1 c.into_kits-kits.result.0.items (k ∷ more) c.assemble-ended.result.kits.items (j ∷ rest) r (ap (see g) c.into_kits-kits.ensures.shelf) into.0.first last.first by.2 in
+    let read = c.in-Ok.ensures.kept in
+    let opened = c.open_kits.ensures.kept in
+    let cache = c.args.held.cache in
+    let name = named g cache c.args.held.shelf c.requires.held.lent.named in
+    let items = c.args.held.stores.items in
+    let names = map (location_in look.place) items in
+    let images = map image_name c.args.planned.now.seeds in
+    let stores_now : c.as_slice-stores.result.now ≡ names = c.as_slice-stores.ensures ∙ sym c.requires.located in
+    let others = subst (λ (n : List Location). AreOpened look view state b0 b n images more) stores_now (rw c.as_slice-names.ensures at c.open_kits.ensures.opened) in
+    let none_more = none_further e0 cache c.args.planned.now.workers (vec_len c.open_kits.new.kits) more name c.requires.alone c.open_kits.new.kits.ok.0 c.open_kits.ensures.few in
+    let all = opened_kits look view state e0 d' b0 b read opened images items c.in-Ok.seeds.items k more into.0.stores_are into.0.seeds_are into.1
+    c.requires.held.found c.requires.held.fresh c.requires.held.unused c.requires.held.lent.stores (rw c.as_slice-names.ensures at c.in-Ok.ensures.found) c.in-Ok.ensures.fresh c.in-Ok.ensures.known none_more others in
+    let many : length (j ∷ rest) ≡ length (k ∷ more) = made.kits in
+    let before = lent f0 (k ∷ more) e0 in
+    let after = lent f1 (j ∷ rest) e1 in
+    let Known = KnowsFaults g.F.Target.View.never_fails (k ∷ more) in
+    let folders = folders_reached cache names in
+    let opened_used = uses_twice images folders d' b0 b
+    (uses_within images [] images folders d' b0 (within_same images) (within_none folders) (rw c.as_slice-names.ensures at c.in-Ok.ensures.used))
+    (uses_within images (folders_among names) images folders b0 b (within_same images) (within_right (folder_of cache) (folders_among names)) (subst (λ (n : List Location). Uses images (folders_among n) b0 b) stores_now (rw c.as_slice-names.ensures at c.open_kits.ensures.used))) in
     let b4 = at c.give_back.new.files in
     let e = at c.give.new.self in
-    let view = g.F.View.View.held in
-    let place = g.F.Look.Look.place in
-    let images = map image_name c.args.planned.now.seeds in
-    let views = map (seeds.seed_held view) c.in-Ok.seeds.items in
-    let cache = c.args.held.cache in
-    let folders = folders_reached cache (map (location_in place) c.args.held.stores.items) in
-    let same : k.chain.stores ≡ c.args.held.stores.items = ap (λ k. k.stores) (c.new-kit.ensures.chain ∙ c.new.ensures.value) in
-    let located = stand_still place k.chain.stores j.chain.stores made.stores.places ∙ ap (map (location_in place)) same in
-    let seeded : map (seeds.seed_held view) k.seeds.items ≡ views = ap (λ v. map (seeds.seed_held view) v.items) c.new-kit.ensures.seeds in
-    let gave = rw (c.sources_of-stores.ensures.stores, c.sources_of-stores.ensures.seeds) at c.give_back.ensures.given.used in
-    let there = subst (λ (l : List Location). Uses (names_among (map (seeds.seed_held view) j.seeds.items)) (folders_reached cache l) b2 b4) located gave in
-    let opened = subst (λ l. Uses (names_among l) folders b2 b4) (made.seeds.held ∙ seeded) there in
-    let lent = uses_within (names_among views) folders images folders b2 b4 (viewed_names d b images views (rw c.as_slice.ensures at c.in-Ok.ensures.found)) (within_same folders) opened in
-    let used = made_used c.args.target.now images folders d b (rw c.as_slice.ensures at c.in-Ok.ensures.used) b2 b4 e _ c.in-Ok-take.ensures.counts lent c.give.ensures.counts in
+    let there : (n : ℕ) → n < length (j ∷ rest) → n < length (k ∷ more) = λ n lt. omega (arith, lt, many) in
+    let still : (n : ℕ) (x : _) → n < length (j ∷ rest) → kit_stores look view (slice_index_or (j ∷ rest) n x) ≡ names = λ n x lt. kit_still look view state t d b b names Known t0 n k x before after images (all n k (there n lt)) (made.each n k x (there n lt)) in
+    let named_all : All (UsesNames look view images (folders_among names)) (j ∷ rest) = λ n x lt.
+    kit_named look view state t d b b names Known t0 n k x before after images (folders_among names) (made.each n k x (there n lt)) (opened_names look view state d b names images (slice_index_or (k ∷ more) n k) (all n k (there n lt))) in
+    let back_at : map (location_in look.place) c.of_kits-held.result.stores.items ≡ names = ap (map (location_in look.place)) (sym last.stores_are) ∙ still 0 j (omega arith) in
+    let first = named_all 0 j (omega arith) in
+    let gave = c.give_back.ensures.given.used images (record {
+      seeds = subst (λ xs. AreNamesOf images (names_among (map (seeds.seed_held view.held) xs))) last.seeds_are first.seeds;
+      kits = subst (λ (n : List Location). All (UsesNames look view images (folders_among n)) rest) (sym back_at) (All-tail (UsesNames look view images (folders_among names)) j rest named_all);
+    }) in
+    let back = subst (λ (n : List Location). Uses images (folders_reached cache n) b2 b4) back_at (rw (c.of_kits-held.ensures.cache, c.into_kits-kits.ensures.cache) at gave) in
+    let used = made_used c.args.target.now images folders d' b opened_used b2 b4 e _ c.in-Ok-take.ensures.counts back c.give.ensures.counts in
     record { files = used.files; folders = used.folders }

@@ -1,4 +1,4 @@
-use Rattle.std.proofs.Common.{◌∙◌, [], ℕ, List, Option, Ok, Err, inl, inr, arith, length, true, false, map, refl, subst, sym}
+use Rattle.std.proofs.Common.{[], ℕ, List, Option, inl, inr, arith, length, true, false, map, refl, subst, sym}
 use Rattle.caibx_codec.specs.Listing.{Listing}
 use Rattle.command_words.specs.declared.command.Location.{Location}
 use Rattle.command_steps.specs.AnyStores.{location_in}
@@ -15,7 +15,7 @@ use Rattle.extract_command.proofs.Replaced.{ends_unreached, ends_with, known_pla
 use Rattle.extract_command.proofs.Seeded.{zipped_many}
 use Rattle.extract_command.proofs.extract.extract.Goals as goal
 use Rattle.extract_command.specs.Extract.{ExtractEnds, OutMade}
-use Rattle.extract_command.specs.Held.{AllReached, disk_with, stores_of}
+use Rattle.extract_command.specs.Held.{disk_with, stores_of}
 
 pub plan_of-requires-clause-few : goal.plan_of-requires-clause-few
 plan_of-requires-clause-few g c =
@@ -24,7 +24,7 @@ plan_of-requires-clause-few g c =
     omega (arith, many, c.requires.seeds)
 
 pub assemble_into-requires-clause-plan : goal.assemble_into-requires-clause-plan
-assemble_into-requires-clause-plan g c =
+assemble_into-requires-clause-plan g c κs within =
     let listed = rw c.as_slice.ensures at c.in_ok-indexes.ensures.ok in
     let p = c.in-Ok.planned in
     let plan = c.in-Ok.ensures.plan in (
@@ -35,12 +35,36 @@ assemble_into-requires-clause-plan g c =
     )
 
 pub assemble_into-requires-clause-size : goal.assemble_into-requires-clause-size
-assemble_into-requires-clause-size g c =
-    let located = rw c.as_slice-2.ensures at c.in-Ok-reach.ensures.located in
+assemble_into-requires-clause-size g c κs within =
+    let located = rw (c.as_slice-stores.ensures, c.in-Ok.ensures.stores) at c.in-Ok-reach.ensures.located in
     opened_many (location_in g.F.Look.Look.place) c.args.words.stores c.in-Ok-reach.held.stores.items located c.requires.stores
 
+pub assemble_into-requires-clause-located : goal.assemble_into-requires-clause-located
+assemble_into-requires-clause-located g c κs within = rw c.as_slice-stores.ensures at c.in-Ok-reach.ensures.located
+
+pub assemble_into-requires-clause-workers : goal.assemble_into-requires-clause-workers
+assemble_into-requires-clause-workers g c κs within = rw (c.in-Ok.ensures.size) (c.workers_for-workers.ensures.size)
+
+pub assemble_into-requires-clause-alone : goal.assemble_into-requires-clause-alone
+assemble_into-requires-clause-alone g c κs within = rw (c.in-Ok.ensures.size, c.in-Ok-reach.ensures.named) c.workers_for-workers.ensures.alone
+
+pub assemble_into-requires-clause-held : goal.assemble_into-requires-clause-held
+assemble_into-requires-clause-held g c κs within = rw (c.in-Ok.ensures.size) c.in-Ok-reach.ensures.fresh
+
+pub assemble_beside-requires-clause-located : goal.assemble_beside-requires-clause-located
+assemble_beside-requires-clause-located g c κs within = rw c.as_slice-stores.ensures at c.in-Ok-reach.ensures.located
+
+pub assemble_beside-requires-clause-workers : goal.assemble_beside-requires-clause-workers
+assemble_beside-requires-clause-workers g c κs within = rw (c.in-Ok.ensures.size) (c.workers_for-workers.ensures.size)
+
+pub assemble_beside-requires-clause-alone : goal.assemble_beside-requires-clause-alone
+assemble_beside-requires-clause-alone g c κs within = rw (c.in-Ok.ensures.size, c.in-Ok-reach.ensures.named) c.workers_for-workers.ensures.alone
+
+pub assemble_beside-requires-clause-held : goal.assemble_beside-requires-clause-held
+assemble_beside-requires-clause-held g c κs within = rw (c.in-Ok.ensures.size) c.in-Ok-reach.ensures.fresh
+
 pub assemble_beside-requires-clause-plan : goal.assemble_beside-requires-clause-plan
-assemble_beside-requires-clause-plan g c =
+assemble_beside-requires-clause-plan g c κs within =
     let listed = rw c.as_slice.ensures at c.in_ok-indexes.ensures.ok in
     let p = c.in-Ok.planned in
     let plan = c.in-Ok.ensures.plan in (
@@ -51,8 +75,8 @@ assemble_beside-requires-clause-plan g c =
     )
 
 pub assemble_beside-requires-clause-size : goal.assemble_beside-requires-clause-size
-assemble_beside-requires-clause-size g c =
-    let located = rw c.as_slice-2.ensures at c.in-Ok-reach.ensures.located in
+assemble_beside-requires-clause-size g c κs within =
+    let located = rw (c.as_slice-stores.ensures, c.in-Ok.ensures.stores) at c.in-Ok-reach.ensures.located in
     opened_many (location_in g.F.Look.Look.place) c.args.words.stores c.in-Ok-reach.held.stores.items located c.requires.stores
 
 pub returns-in_default : goal.returns-in_default
@@ -63,7 +87,7 @@ returns-in_default g c =
     let read = c.in_ok-indexes.ensures in
     let e = at c.read_indexes.new.files in
     record {
-      ends = λ p. ends_unreached words.stores words.cache words.seeds words.in_place words.index words.target c.in_ok-listed.listed c.in_ok-indexes.indexes.items (at c.args.files.now) (at c.load_index.new.files) e e (g.D.Dial.state c.args.dial.now) p ends.Memory
+      ends = λ p. ends_unreached g.F.Target.View.never_fails words.stores words.cache words.seeds words.in_place words.index words.target c.in_ok-listed.listed c.in_ok-indexes.indexes.items (at c.args.files.now) (at c.load_index.new.files) e e (g.D.Dial.state c.args.dial.now) p ends.Memory
           (listed.ok, listed.kept, listed.used) ((rw c.as_slice.ensures at read.ok, read.few), read.kept, rw c.as_slice.ensures at read.used) (inl (inr refl, reads_none e, uses_none [] (folders_among words.stores) e));
     }
 
@@ -75,7 +99,7 @@ returns-in_default-temporary_out g c =
     let read = c.in_ok-indexes.ensures in
     let e = at c.read_indexes.new.files in
     record {
-      ends = λ p. ends_unreached words.stores words.cache words.seeds words.in_place words.index words.target c.in_ok-listed.listed c.in_ok-indexes.indexes.items (at c.args.files.now) (at c.load_index.new.files) e e (g.D.Dial.state c.args.dial.now) p ends.Memory
+      ends = λ p. ends_unreached g.F.Target.View.never_fails words.stores words.cache words.seeds words.in_place words.index words.target c.in_ok-listed.listed c.in_ok-indexes.indexes.items (at c.args.files.now) (at c.load_index.new.files) e e (g.D.Dial.state c.args.dial.now) p ends.Memory
           (listed.ok, listed.kept, listed.used) ((rw c.as_slice.ensures at read.ok, read.few), read.kept, rw c.as_slice.ensures at read.used) (inl (inr refl, reads_none e, uses_none [] (folders_among words.stores) e));
     }
 
@@ -85,9 +109,9 @@ returns-in-Err g c =
     let words = c.args.words in
     let listed = c.in_ok-listed.ensures in
     let read = c.in_ok-indexes.ensures in
-    let refused = rw c.as_slice-2.ensures at c.in-Err.ensures.err in
+    let refused = rw (c.as_slice-stores.ensures, c.in-Ok.ensures.stores) at c.in-Err.ensures.err in
     record {
-      ends = λ p. ends_unreached words.stores words.cache words.seeds words.in_place words.index words.target c.in_ok-listed.listed c.in_ok-indexes.indexes.items (at c.args.files.now) (at c.load_index.new.files) (at c.read_indexes.new.files) (at c.reach.new.files)
+      ends = λ p. ends_unreached g.F.Target.View.never_fails words.stores words.cache words.seeds words.in_place words.index words.target c.in_ok-listed.listed c.in_ok-indexes.indexes.items (at c.args.files.now) (at c.load_index.new.files) (at c.read_indexes.new.files) (at c.reach.new.files)
           (g.D.Dial.state c.args.dial.now) p c.in-Err.outcome (listed.ok, listed.kept, listed.used) ((rw c.as_slice.ensures at read.ok, read.few), read.kept, rw c.as_slice.ensures at read.used) refused;
     }
 
@@ -106,12 +130,12 @@ returns-then-in_place g c =
     let listed = c.in_ok-listed.ensures in
     let read = c.in_ok-indexes.ensures in
     let over = c.in-Ok-reach.ensures in
-    let located = rw c.as_slice-2.ensures at over.located in
-    let reached = rw c.as_slice-2.ensures at over.ok in
+    let located = rw (c.as_slice-stores.ensures, c.in-Ok.ensures.stores) at over.located in
+    let reached = rw (c.as_slice-stores.ensures, c.in-Ok.ensures.stores) at over.ok in
     let plan = c.in-Ok.ensures.plan in
     record {
       ends = λ p.
-          let ended : List Location → Option (List ℕ) → List (List ℕ) → List ℕ → Listing → Type 0 = λ n cache images q l. OutMade true n cache q l (record { images = map image_name images; listings = ls }) (world m k p) c.assemble_into.result (world e j p) in
+          let ended : List Location → Option (List ℕ) → List (List ℕ) → List ℕ → Listing → Type 0 = λ n cache images q l. OutMade g.F.Target.View.never_fails true n cache q l (record { images = map image_name images; listings = ls }) (world m k p) c.assemble_into.result (world e j p) in
           let made = c.assemble_into.ensures in
           let first : ended (stores_of g.F.Look.Look held) held.cache c.in-Ok.planned.seeds c.as_str-then-in_place.result.now c.in-Ok.planned.index = ((made.assembled plan.0 ls (rw c.in-Ok.ensures.index plan.1) (rw c.in-Ok.ensures.index plan.2), made.kept, made.tells, made.dialed, made.numbered, made.asks plan.0 ls (rw c.in-Ok.ensures.index plan.1) (rw c.in-Ok.ensures.index plan.2), made.used), refl) in
           let named = subst (λ q. ended (stores_of g.F.Look.Look held) held.cache c.in-Ok.planned.seeds q c.in-Ok.planned.index) c.as_str-then-in_place.ensures first in
@@ -119,13 +143,13 @@ returns-then-in_place g c =
           let seeded = subst (λ ss. ended (stores_of g.F.Look.Look held) held.cache ss words.target l) c.in-Ok.ensures.seeds indexed in
           let cached = subst (λ cache. ended (stores_of g.F.Look.Look held) cache words.seeds words.target l) over.named seeded in
           let into : ended words.stores words.cache words.seeds words.target l = subst (λ n. ended n words.cache words.seeds words.target l) located cached in
-          subst (λ place. ExtractEnds words.stores words.cache words.seeds place words.index words.target (world d k p) c.assemble_into.result (world e j p)) (sym c.if-in_place.true)
-          (ends_with words.stores words.cache words.seeds true words.index words.target l ls d (at c.load_index.new.files) (at c.read_indexes.new.files) m e k j p c.assemble_into.result
+          subst (λ place. ExtractEnds g.F.Target.View.never_fails words.stores words.cache words.seeds place words.index words.target (world d k p) c.assemble_into.result (world e j p)) (sym c.if-in_place.true)
+          (ends_with g.F.Target.View.never_fails words.stores words.cache words.seeds true words.index words.target l ls d (at c.load_index.new.files) (at c.read_indexes.new.files) m e k j p c.assemble_into.result
           (listed.ok, listed.kept, listed.used) ((rw c.as_slice.ensures at read.ok, read.few), read.kept, rw c.as_slice.ensures at read.used) reached into);
     }
 
-pub returns : goal.returns
-returns g c =
+pub returns-else-in_place : goal.returns-else-in_place
+returns-else-in_place g c =
     let at = g.F.Files.disk in
     let words = c.args.words in
     let d = at c.args.files.now in
@@ -139,18 +163,18 @@ returns g c =
     let listed = c.in_ok-listed.ensures in
     let read = c.in_ok-indexes.ensures in
     let over = c.in-Ok-reach.ensures in
-    let located = rw c.as_slice-2.ensures at over.located in
-    let reached = rw c.as_slice-2.ensures at over.ok in
+    let located = rw (c.as_slice-stores.ensures, c.in-Ok.ensures.stores) at over.located in
+    let reached = rw (c.as_slice-stores.ensures, c.in-Ok.ensures.stores) at over.ok in
     let plan = c.in-Ok.ensures.plan in
     record {
       ends = λ p.
-          let ended : List Location → Option (List ℕ) → List (List ℕ) → Listing → Type 0 = λ n cache images l. OutMade false n cache words.target l (record { images = map image_name images; listings = ls }) (world m k p) c.assemble_beside.result (world e j p) in
+          let ended : List Location → Option (List ℕ) → List (List ℕ) → Listing → Type 0 = λ n cache images l. OutMade g.F.Target.View.never_fails false n cache words.target l (record { images = map image_name images; listings = ls }) (world m k p) c.assemble_beside.result (world e j p) in
           let first : ended (stores_of g.F.Look.Look held) held.cache c.in-Ok.planned.seeds c.in-Ok.planned.index = c.assemble_beside.ensures.made plan.0 ls p (rw c.in-Ok.ensures.index plan.1) (rw c.in-Ok.ensures.index plan.2) in
           let indexed = subst (λ l. ended (stores_of g.F.Look.Look held) held.cache c.in-Ok.planned.seeds l) c.in-Ok.ensures.index first in
           let seeded = subst (λ ss. ended (stores_of g.F.Look.Look held) held.cache ss l) c.in-Ok.ensures.seeds indexed in
           let cached = subst (λ cache. ended (stores_of g.F.Look.Look held) cache words.seeds l) over.named seeded in
           let into : ended words.stores words.cache words.seeds l = subst (λ n. ended n words.cache words.seeds l) located cached in
-          subst (λ place. ExtractEnds words.stores words.cache words.seeds place words.index words.target (world d k p) c.assemble_beside.result (world e j p)) (sym c.if-in_place.false)
-          (ends_with words.stores words.cache words.seeds false words.index words.target l ls d (at c.load_index.new.files) (at c.read_indexes.new.files) m e k j p c.assemble_beside.result
+          subst (λ place. ExtractEnds g.F.Target.View.never_fails words.stores words.cache words.seeds place words.index words.target (world d k p) c.assemble_beside.result (world e j p)) (sym c.if-in_place.false)
+          (ends_with g.F.Target.View.never_fails words.stores words.cache words.seeds false words.index words.target l ls d (at c.load_index.new.files) (at c.read_indexes.new.files) m e k j p c.assemble_beside.result
           (listed.ok, listed.kept, listed.used) ((rw c.as_slice.ensures at read.ok, read.few), read.kept, rw c.as_slice.ensures at read.used) reached into);
     }

@@ -1,4 +1,4 @@
-use Rattle.std.proofs.Common.{◌≡◌, ◌∙◌, ℕ, [], All, IfSome, IsSome, List, Option, Ok, inr, map, rules, subst, sym}
+use Rattle.std.proofs.Common.{◌≡◌, ◌∙◌, ℕ, [], All, IfSome, IsSome, List, Ok, inr, map, rules, subst, sym}
 use Rattle.std.proofs.lemmas.List.Elements.{All-nil}
 use Rattle.chunk_sources.specs.Caches.{seen}
 use Rattle.command_steps.proofs.Cached.{cache_longer, cache_reads}
@@ -10,6 +10,7 @@ use Rattle.command_steps.specs.Seeds.{SeedsKnown}
 use Rattle.command_steps.specs.Uses.{Uses, folders_among}
 use Rattle.command_words.specs.declared.command.Location.{Location}
 use Rattle.extract_command.proofs.held.reach.Goals as goal
+use Rattle.extract_command.specs.Kits.{CanGiveKit}
 
 pub returns-in-Err-take_cache-clause-err : goal.returns-in-Err-take_cache-clause-err
 returns-in-Err-take_cache-clause-err g c =
@@ -38,7 +39,13 @@ returns-in-Ok-take_cache-clause-fresh g c =
     let fresh = subst (λ (l : List Location). map (source_faults g.F.Look.Look.faults g.D.Dial.state) c.in-Ok-open_sources.stores.items ≡ map {B = ℕ} (λ q. 0) l) (sym opened.located) opened.fresh in
     let found = found_still (source_files g.F.Look.Look.files) (location_in g.F.Look.Look.place) (at c.args.files.now).folders m.folders names c.in-Ok-open_sources.stores.items opened.found opened.located (reached.folders ∙ opened.kept.folders) in
     record {
-      lent = record { stores = stores; named = shelf.named; cache = shelf.known; seeds = subst (λ l. SeedsKnown g.F.View.View.held b.file_counts l) (sym c.new.ensures.items) (All-nil (λ s. IfSome s.view (λ v. IsSome (b.file_counts (g.F.View.View.held v).name)))) };
+      lent = record {
+        stores = stores;
+        named = shelf.named;
+        cache = shelf.known;
+        seeds = subst (λ l. SeedsKnown g.F.View.View.held b.file_counts l) (sym c.new.ensures.items) (All-nil (λ s. IfSome s.view (λ v. IsSome (b.file_counts (g.F.View.View.held v).name))));
+        kits = subst (λ l. All (CanGiveKit g.F.Look.Look g.F.View.View b) l) (sym c.in-Ok.ensures.items) (All-nil (CanGiveKit g.F.Look.Look g.F.View.View b));
+      };
       unused = opened.unused;
       fresh = fresh;
       shelf = shelf.fresh;

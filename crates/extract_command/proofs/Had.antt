@@ -1,0 +1,67 @@
+-- What can be had with one of several kits that were opened for the same words.
+use Rattle.std.proofs.Common.{◌≡◌, ◌∙◌, ◌++◌, ℕ, ◌<◌, List, [], ◌∷◌, map, IsTrue, Some, IfSome, sym, subst, arith}
+use Rattle.caibx_codec.specs.Listing.{count_of, image_length}
+use Rattle.chunk_sources.specs.Sources.{views_of}
+use Rattle.chunk_sources.specs.Wants.{Task}
+use Rattle.chunk_sources.specs.declared.kit.Kit.{Kit}
+use Rattle.chunk_store.specs.Folders.{chunks}
+use Rattle.command_steps.proofs.Found.{held_maps}
+use Rattle.command_steps.specs.AnyStores.{chunks_in, source_files}
+use Rattle.command_steps.specs.Sources.{location_files}
+use Rattle.command_steps.specs.declared.any_store.AnyStore.{AnyStore}
+use Rattle.command_words.specs.declared.command.Location.{Location}
+use Rattle.command_worlds.specs.Worlds.{FileRose}
+use Rattle.dsy_base.specs.Bytes.{resized}
+use Rattle.dsy_base.specs.Disk.{Disk}
+use Rattle.dsy_base.specs.Links.{DialState}
+use Rattle.dsy_base.specs.Maps.{Map}
+use Rattle.dsy_base.specs.declared.look.Look.{Ghosts as LookWords}
+use Rattle.dsy_base.specs.declared.view.View.{Ghosts as ViewWords}
+use Rattle.extract_command.proofs.AnyWords.{any_words}
+use Rattle.extract_command.proofs.Assembled.{had_of}
+use Rattle.extract_command.proofs.LentKits.{views_alike}
+use Rattle.extract_command.specs.Extract.{CanBeHad, Seeds}
+use Rattle.extract_command.specs.Kits.{AreOpened, IsKitOpened}
+use Rattle.extract_plan.specs.Places.{IsSeedIndex}
+use Rattle.image_assembly.specs.Kits.{AllKitsTell, AreKitsAlike, SomeKitHas}
+
+-- told maps are one list
+same_maps : (xs ys : List (Map (List ℕ))) → map Some xs ≡ map Some ys → xs ≡ ys
+same_maps [] [] same = cc
+same_maps [] (y ∷ ys) same = absurd (cc)
+same_maps (x ∷ xs) [] same = absurd (cc)
+same_maps (x ∷ xs) (y ∷ ys) same =
+    let here : Some x ≡ Some y = cc in
+    let rest : map Some xs ≡ map Some ys = cc in
+    let others = same_maps xs ys rest in
+    let one : x ≡ y = cc in
+    cc (one, others)
+
+module _ {L V D K : Type 0} (look : LookWords L) (view : ViewWords V) (state : D → DialState) (d b : Disk) (names : List Location) (x : Seeds) (n : Map (Map (List ℕ))) (y : d.folders ≡ Some n) (fs : List (Map (List ℕ))) (there : map (location_files n) names ≡ map Some fs) where
+  abbrev IsOpen : Kit (AnyStore L D K) V → Type 0
+  IsOpen k = IsKitOpened look view state d b names x.images k
+
+  -- its stores hold the chunks of the folders
+  kit_holds : (k : Kit (AnyStore L D K) V) → IsOpen k → map (chunks_in look.files) k.chain.stores ≡ map Some (map chunks fs)
+  kit_holds k is =
+      let found : map (source_files look.files) k.chain.stores ≡ map (location_files n) names = subst (λ o. IfSome o (λ m. map (source_files look.files) k.chain.stores ≡ map (location_files m) names)) y is.found in
+      held_maps (source_files look.files) k.chain.stores fs (found ∙ there)
+
+  pub kits_tell : (t : Task) (kits : List (Kit (AnyStore L D K) V)) → AreOpened look view state d b names x.images kits → IsTrue view.tells → AllKitsTell (any_words look state) view t kits
+  kits_tell t kits are tells = λ i k lt. (λ some. tells, (map chunks fs, kit_holds _ (are i k lt)))
+
+  module _ (m : Map (List ℕ)) (told : d.files ≡ Some m) where
+    pub kits_alike : (t : Task) → ((q : List ℕ) → FileRose d b q → ⊥) → (kits : List (Kit (AnyStore L D K) V)) → AreOpened look view state d b names x.images kits → AreKitsAlike (any_words look state) view t kits
+    kits_alike t quiet kits are = λ i q lt.
+        let here = are i q lt in
+        let first = are 0 q (omega (arith, lt)) in
+        (views_alike d b m told quiet x.images _ _ here.viewed first.viewed, kit_holds _ here ∙ sym (kit_holds _ first))
+
+    -- so an entry that can be had with one of them can be had
+    pub kit_had : (t : Task) (kits : List (Kit (AnyStore L D K) V)) → AreOpened look view state d b names x.images kits → IsSeedIndex t.listing t.plan x.listings t.places → (cached : List (Map (List ℕ))) (o : List ℕ) (i : ℕ) → i < count_of t.listing
+        → SomeKitHas (any_words look state) view t kits cached o i → CanBeHad t.listing (resized o (image_length t.listing)) m x (cached ++ map chunks fs) i
+    kit_had t kits are is cached o i listed (j, k, lt, at, (maps, holds, has)) =
+        let here : IsOpen k = subst IsOpen at (are j k lt) in
+        let same : maps ≡ map chunks fs = same_maps maps (map chunks fs) (sym holds ∙ kit_holds k here) in
+        subst (λ (l : List (Map (List ℕ))). CanBeHad t.listing (resized o (image_length t.listing)) m x (cached ++ l) i) same
+        (had_of d b t x (views_of view k.seeds.items) here.viewed is m told (resized o (image_length t.listing)) (cached ++ maps) i listed has)

@@ -1,0 +1,302 @@
+-- Kits that are opened and given back, one after the other.
+use Rattle.std.proofs.Common.{◌≡◌, ◌∙◌, ◌++◌, ℕ, suc, ◌+◌, ◌<◌, ◌≤◌, ◌⊎◌, List, [], ◌∷◌, length, map, slice_index_or, All, IsTrue, Option, Some, None, IfSome, IsSome, Result, Ok, is_ok, if◌then◌else◌, refl, sym, ap, subst, inl, inr, arith}
+use Rattle.std.proofs.Math.Seq.{get_or-append_seam}
+use Rattle.std.proofs.lemmas.List.{append-nil, get_or_append_left, length-append}
+use Rattle.std.proofs.lemmas.List.Elements.{All-cons, All-nil, All-tail}
+use Rattle.std.specs.List.{AllZip, fold, insert, remove}
+use Rattle.std.specs.Map.{count_at}
+use Rattle.chunk_sources.specs.declared.kit.Kit.{Kit}
+use Rattle.command_steps.proofs.Asking.{none_dialed}
+use Rattle.cache_store.specs.Shelves.{Shelf}
+use Rattle.chunk_store.specs.declared.id.DigestKind.TheVariants as kinds
+use Rattle.command_steps.proofs.Consulted.{consults_none, consults_twice, reads_none}
+use Rattle.command_steps.proofs.Dialed.{dials_none}
+use Rattle.command_steps.proofs.Given.{all_later}
+use Rattle.command_steps.proofs.Numbers.{rose_later, rose_longer}
+use Rattle.command_steps.proofs.SeedsOpened.{all_known_later}
+use Rattle.command_steps.proofs.SeedsUsed.{viewed_names}
+use Rattle.command_steps.proofs.Used.{uses_none, uses_twice, uses_within}
+use Rattle.command_steps.specs.AnyStores.{IsKnown, IsUnused, location_in, source_faults, source_files, with_those}
+use Rattle.command_steps.specs.Asking.{EachDialed}
+use Rattle.command_steps.specs.Cache.{with_cache}
+use Rattle.command_steps.specs.Seeds.{IsViewed, SeedsKnown, label_in}
+use Rattle.command_steps.specs.Sources.{Consults, Storage, location_files, storage}
+use Rattle.command_steps.specs.Stores.{are_folders}
+use Rattle.command_steps.specs.Uses.{IsNoneOf, Uses, folders_among}
+use Rattle.command_steps.specs.declared.any_store.AnyStore.{AnyStore}
+use Rattle.command_words.specs.declared.command.Location.{Location}
+use Rattle.command_words.specs.declared.command.Location.TheVariants as locations
+use Rattle.command_worlds.specs.Worlds.{FileRose, Reads}
+use Rattle.dsy_base.specs.Bytes.{Held}
+use Rattle.dsy_base.specs.Counts.{raised}
+use Rattle.dsy_base.specs.Disk.{Disk}
+use Rattle.dsy_base.specs.Links.{DialState, Traffic, with_all}
+use Rattle.dsy_base.specs.Maps.{Map}
+use Rattle.dsy_base.specs.declared.look.Look.{Ghosts as LookWords}
+use Rattle.dsy_base.specs.declared.view.View.{Ghosts as ViewWords}
+use Rattle.extract_command.specs.Extract.{WorkersDialed}
+use Rattle.extract_command.specs.Kits.{AreGivenBack, AreOpened, CanGiveKit, IsKitGiven, IsKitOpened, UsesNames, kit_names, kit_stores}
+use Rattle.extract_plan.specs.Seeds.{faults_in, seed_held}
+use Rattle.extract_plan.specs.declared.seed.Seed.{Seed}
+use Rattle.http_read.specs.Asks.{Server}
+
+-- ---- the first and the last of a list
+
+module _ {X : Type 0} where
+  -- one was put before all
+  pub put_first : {U E : Type 0} (old new : List X) (x : X) (r : Result U E) (u : U) → r ≡ Ok u → new ≡ (if is_ok r then insert old 0 x else old) → new ≡ x ∷ old
+  put_first old new x r u done is = is ∙ ap (λ (q : Result _ _). if is_ok q then insert old 0 x else old) done
+
+  -- or behind all
+  pub put_last : {U E : Type 0} (old new : List X) (x : X) (r : Result U E) (u : U) → r ≡ Ok u → new ≡ (if is_ok r then old ++ x ∷ [] else old) → new ≡ old ++ x ∷ []
+  put_last old new x r u done is = is ∙ ap (λ (q : Result _ _). if is_ok q then old ++ x ∷ [] else old) done
+
+  -- the first was taken out
+  pub first_out : (xs ys : List X) (x : X) → 1 ≤ length xs → x ≡ slice_index_or xs 0 x → ys ≡ remove xs 0 → xs ≡ x ∷ ys
+  first_out [] ys x some is rest = absurd (omega (arith, some))
+  first_out (y ∷ xs) ys x some is rest = cc (is, rest)
+
+  -- what is so of all is so of those before the last, and of the last
+  pub all_last : (P : X → Type 0) (xs rest : List X) (x : X) → xs ≡ rest ++ x ∷ [] → All P xs → All P rest × P x
+  all_last P xs rest x is all =
+      let h : All P (rest ++ x ∷ []) = subst (λ (l : List X). All P l) is all in
+      let many : length (rest ++ x ∷ []) ≡ length rest + 1 = length-append rest (x ∷ []) in
+      (λ k d lt. subst P (get_or_append_left rest (x ∷ []) d k lt) (h k d (omega (arith, lt, many))), subst P (get_or-append_seam rest x [] x) (h (length rest) x (omega (arith, many))))
+
+-- ---- what was opened earlier, and before more was read
+
+viewed_over : (d b c e : Disk) → Reads d b → Reads c e → (q : List ℕ) (o : Option Held) → IsViewed b c q o → IsViewed d e q o
+viewed_over d b c e r s q (Some h) v = (subst (λ f. IfSome f (λ m. (t : List ℕ) × (m q ≡ Some t) × (h.bytes ≡ Some t))) r.files v.0, v.1, v.2)
+viewed_over d b c e r s q None (inl absent) = inl (subst (λ f. IfSome f (λ m. m q ≡ None)) r.files absent)
+viewed_over d b c e r s q None (inr rose) =
+    let first = rose_later (count_at d.file_counts q) (count_at b.file_counts q) (count_at c.file_counts q) (r.counts q) rose in
+    inr (rose_longer (count_at d.file_counts q) (count_at c.file_counts q) (count_at e.file_counts q) (s.counts q) first)
+
+pub views_over : (d b c e : Disk) → Reads d b → Reads c e → (names : List (List ℕ)) (views : List (Option Held)) → AllZip (IsViewed b c) names views → AllZip (IsViewed d e) names views
+views_over d b c e r s [] [] zip = tt
+views_over d b c e r s [] (o ∷ views) zip = absurd zip
+views_over d b c e r s (q ∷ names) [] zip = absurd zip
+views_over d b c e r s (q ∷ names) (o ∷ views) zip = (viewed_over d b c e r s q o zip.0, views_over d b c e r s names views zip.1)
+
+-- views of the same images hold the same, where opening them didn't fail
+module _ (d b : Disk) (m : Map (List ℕ)) (told : d.files ≡ Some m) (quiet : (q : List ℕ) → FileRose d b q → ⊥) where
+  absent_there : (q : List ℕ) (h : Held) → IsViewed d b q (Some h) → IsViewed d b q None → ⊥
+  absent_there q h is (inl absent) =
+      let none : m q ≡ None = subst (λ f. IfSome f (λ m. m q ≡ None)) told absent in
+      let there : (t : List ℕ) × (m q ≡ Some t) × (h.bytes ≡ Some t) = subst (λ f. IfSome f (λ m. (t : List ℕ) × (m q ≡ Some t) × (h.bytes ≡ Some t))) told is.0 in
+      let no : None ≡ Some there.0 = sym none ∙ there.1 in
+      absurd (cc)
+  absent_there q h is (inr rose) = quiet q rose
+
+  view_alike : (q : List ℕ) (o p : Option Held) → IsViewed d b q o → IsViewed d b q p → o ≡ p
+  view_alike q None None u v = refl
+  view_alike q None (Some h) u v = absurd (absent_there q h v u)
+  view_alike q (Some h) None u v = absurd (absent_there q h u v)
+  view_alike q (Some h) (Some k) u v =
+      let one : (t : List ℕ) × (m q ≡ Some t) × (h.bytes ≡ Some t) = subst (λ f. IfSome f (λ m. (t : List ℕ) × (m q ≡ Some t) × (h.bytes ≡ Some t))) told u.0 in
+      let two : (t : List ℕ) × (m q ≡ Some t) × (k.bytes ≡ Some t) = subst (λ f. IfSome f (λ m. (t : List ℕ) × (m q ≡ Some t) × (k.bytes ≡ Some t))) told v.0 in
+      let same : Some one.0 ≡ Some two.0 = sym one.1 ∙ two.1 in
+      let bytes : h.bytes ≡ k.bytes = one.2 ∙ same ∙ sym two.2 in
+      let here : length one.0 ≡ h.size = subst (λ o. IfSome o (λ t. length t ≡ h.size)) one.2 u.2 in
+      let there : length two.0 ≡ k.size = subst (λ o. IfSome o (λ t. length t ≡ k.size)) two.2 v.2 in
+      let long : length one.0 ≡ length two.0 = cc in
+      let size : h.size ≡ k.size = sym here ∙ long ∙ there in
+      let name : h.name ≡ k.name = u.1 ∙ sym v.1 in
+      ap (λ (x : Option (List ℕ)). Some (record { bytes = x; size = h.size; name = h.name })) bytes
+      ∙ ap (λ (x : ℕ). Some (record { bytes = k.bytes; size = x; name = h.name })) size
+      ∙ ap (λ (x : List ℕ). Some (record { bytes = k.bytes; size = k.size; name = x })) name
+
+  pub views_alike : (names : List (List ℕ)) (xs ys : List (Option Held)) → AllZip (IsViewed d b) names xs → AllZip (IsViewed d b) names ys → xs ≡ ys
+  views_alike [] [] [] u v = refl
+  views_alike [] (x ∷ xs) ys u v = absurd u
+  views_alike [] [] (y ∷ ys) u v = absurd v
+  views_alike (q ∷ names) [] ys u v = absurd u
+  views_alike (q ∷ names) (x ∷ xs) [] u v = absurd v
+  views_alike (q ∷ names) (x ∷ xs) (y ∷ ys) u v = cc (view_alike q x y u.0 v.0, views_alike names xs ys u.1 v.1)
+
+-- ---- connections of stores that weren't asked
+
+abbrev Nothing : Server → List Traffic → Type 0
+Nothing s ended = ended ≡ []
+
+-- nothing more has ended, or what has isn't told
+joined_nothing : (a b e : Option (List Traffic)) → IfSome e (λ ended. ended ≡ []) → (with_all (with_all a b) e ≡ with_all a b) ⊎ (e ≡ None)
+joined_nothing a b None none = inr refl
+joined_nothing None b (Some e) none = inl refl
+joined_nothing (Some a) None (Some e) none = inl refl
+joined_nothing (Some a) (Some b) (Some e) none = inl (ap (λ (l : List Traffic). Some ((a ++ b) ++ l)) none ∙ ap Some (append-nil (a ++ b)))
+
+nothing_to : (a : Option (List Traffic)) → with_all a None ≡ None
+nothing_to None = refl
+nothing_to (Some a) = refl
+
+-- all of it a second time
+shifted : (stores : List Location) (a b e : Option (List Traffic)) → IfSome e (λ ended. ended ≡ []) → EachDialed Nothing stores a b → EachDialed Nothing stores (with_all a e) (with_all b e)
+shifted stores a b None none dialed = subst (λ o. EachDialed Nothing stores o (with_all b None)) (sym (nothing_to a)) (subst (λ o. EachDialed Nothing stores None o) (sym (nothing_to b)) (none_dialed Nothing (λ s. refl) stores None))
+shifted stores a b (Some e) none dialed = subst (λ o. EachDialed Nothing stores o (with_all b (Some e))) (sym (same a)) (subst (λ o. EachDialed Nothing stores a o) (sym (same b)) dialed) where
+  same : (o : Option (List Traffic)) → with_all o (Some e) ≡ o
+  same None = refl
+  same (Some t) = ap (λ (l : List Traffic). Some (t ++ l)) none ∙ ap Some (append-nil t)
+
+pub nothing_twice : (stores : List Location) (a b c : Option (List Traffic)) → EachDialed Nothing stores a b → EachDialed Nothing stores b c → EachDialed Nothing stores a c
+nothing_twice [] a b c u v = v ∙ u
+nothing_twice (locations.Folder q ∷ stores) a b c u v = nothing_twice stores a b c u v
+nothing_twice (locations.Http host port prefix ∷ stores) a b c u v =
+    let rest = nothing_twice stores (with_all (with_all a u.0) v.0) (with_all b v.0) c (shifted stores (with_all a u.0) b v.0 v.1 u.2) v.2 in
+    elim (joined_nothing a u.0 v.0 v.1) [
+      | inl same ↦ (u.0, u.1, subst (λ o. EachDialed Nothing stores o c) same rest)
+      | inr none ↦
+          let last : with_all (with_all a u.0) v.0 ≡ with_all a None = ap (with_all (with_all a u.0)) none ∙ nothing_to (with_all a u.0) ∙ sym (nothing_to a) in
+          (None, tt, subst (λ o. EachDialed Nothing stores o c) last rest)
+    ]
+
+module _ {L V D K : Type 0} (look : LookWords L) (view : ViewWords V) where
+  -- what can be given back can be so where no number was forgotten since
+  pub give_later : (d e : Disk) → ((q : List ℕ) → IsSome (d.folder_counts q) → IsSome (e.folder_counts q)) → ((q : List ℕ) → IsSome (d.file_counts q) → IsSome (e.file_counts q)) → (k : Kit (AnyStore L D K) V)
+      → CanGiveKit look view d k → CanGiveKit look view e k
+  give_later d e folders files k can = record {
+    stores = all_later d.folder_counts e.folder_counts folders (kit_stores look view k) can.stores;
+    seeds = all_known_later view.held d.file_counts e.file_counts files k.seeds.items can.seeds;
+  }
+
+  pub all_give_later : (d e : Disk) → Reads d e → (kits : List (Kit (AnyStore L D K) V)) → All (CanGiveKit look view d) kits → All (CanGiveKit look view e) kits
+  all_give_later d e r kits can = λ n k lt. give_later d e r.folder_known r.known (slice_index_or kits n k) (can n k lt)
+
+  -- the last was let go, and then those before it
+  pub dropped_first : (names folders : List (List ℕ)) (kits rest : List (Kit (AnyStore L D K) V)) (k : Kit (AnyStore L D K) V) (d b e : Disk) → kits ≡ rest ++ k ∷ [] → All (UsesNames look view names folders) kits
+      → Uses (kit_names look view k) (folders_among (kit_stores look view k)) d b → (All (UsesNames look view names folders) rest → Uses names folders b e) → Uses names folders d e
+  dropped_first names folders kits rest k d b e is named first others =
+      let both = all_last (UsesNames look view names folders) kits rest k is named in
+      uses_twice names folders d b e (uses_within (kit_names look view k) (folders_among (kit_stores look view k)) names folders d b both.1.seeds both.1.stores first) (others both.0)
+
+  module _ (state : D → DialState) where
+    -- what was opened over a later disk, and before more was read
+    pub opened_over : (d b c e : Disk) → Reads d b → Reads c e → (stores : List Location) (images : List (List ℕ)) (k : Kit (AnyStore L D K) V) → IsKitOpened look view state b c stores images k → IsKitOpened look view state d e stores images k
+    opened_over d b c e r s stores images k is = record {
+      found = subst (λ f. IfSome f (λ m. map (source_files look.files) k.chain.stores ≡ map (location_files m) stores)) r.folders is.found;
+      located = is.located;
+      fresh = is.fresh;
+      unused = is.unused;
+      kind = is.kind;
+      viewed = views_over d b c e r s images (map (seed_held view.held) k.seeds.items) is.viewed;
+      unfailed = is.unfailed;
+      given = give_later c e s.folder_known s.known k is.given;
+    }
+
+    pub all_opened_over : (d b c e : Disk) → Reads d b → Reads c e → (stores : List Location) (images : List (List ℕ)) (kits : List (Kit (AnyStore L D K) V)) → AreOpened look view state b c stores images kits → AreOpened look view state d e stores images kits
+    all_opened_over d b c e r s stores images kits are = λ n k lt. opened_over d b c e r s stores images (slice_index_or kits n k) (are n k lt)
+
+    -- over the folders with that of a cache, which isn't taken where there are such kits
+    opened_with : (o : Option Shelf) (d b : Disk) (stores : List Location) (images : List (List ℕ)) (kits : List (Kit (AnyStore L D K) V)) → (IsSome o → kits ≡ []) → AreOpened look view state d b stores images kits
+        → AreOpened look view state (with_cache o d) b stores images kits
+    opened_with None d b stores images kits none are = are
+    opened_with (Some s) d b stores images kits none are = subst (λ (l : List (Kit (AnyStore L D K) V)). AreOpened look view state (with_cache (Some s) d) b stores images l) (sym (none refl)) (All-nil (IsKitOpened look view state (with_cache (Some s) d) b stores images))
+
+    -- the first kit's stores and seeds were opened, and then the others
+    pub opened_kits : (o : Option Shelf) (d c b : Disk) → Reads d c → Reads c b → (images : List (List ℕ)) (xs : List (AnyStore L D K)) (seeds : List (Seed V)) (k : Kit (AnyStore L D K) V) (more : List (Kit (AnyStore L D K) V))
+        → k.chain.stores ≡ xs → k.seeds.items ≡ seeds → k.chain.kind ≡ kinds.Sha512T256
+        → IfSome (with_cache o d).folders (λ m. map (source_files look.files) xs ≡ map (location_files m) (map (location_in look.place) xs)) → map (source_faults look.faults state) xs ≡ map (λ q. 0) (map (location_in look.place) xs) → All (IsUnused state) xs
+        → All (IsKnown d.folder_counts) (map (location_in look.place) xs) → AllZip (IsViewed d c) images (map (seed_held view.held) seeds) → map (faults_in view.faults) seeds ≡ map {B = ℕ} (λ s. 0) seeds → SeedsKnown view.held c.file_counts seeds
+        → (IsSome o → more ≡ []) → AreOpened look view state c b (map (location_in look.place) xs) images more → AreOpened look view state (with_cache o d) b (map (location_in look.place) xs) images (k ∷ more)
+    opened_kits o d c b r s images xs seeds k more stores_are seeds_are kind found fresh unused known zip unfailed seeds_known none are =
+        let names = map (location_in look.place) xs in
+        let located : kit_stores look view k ≡ names = ap (map (location_in look.place)) stores_are in
+        All-cons (IsKitOpened look view state (with_cache o d) b names images) k more
+        (record {
+          found = subst (λ (l : List (AnyStore L D K)). IfSome (with_cache o d).folders (λ m. map (source_files look.files) l ≡ map (location_files m) names)) (sym stores_are) found;
+          located = located;
+          fresh = subst (λ (l : List (AnyStore L D K)). map (source_faults look.faults state) l ≡ map {B = ℕ} (λ q. 0) names) (sym stores_are) fresh;
+          unused = subst (λ (l : List (AnyStore L D K)). All (IsUnused state) l) (sym stores_are) unused;
+          kind = kind;
+          viewed = views_over d d c b (reads_none d) s images (map (seed_held view.held) k.seeds.items) (subst (λ (l : List (Seed V)). AllZip (IsViewed d c) images (map (seed_held view.held) l)) (sym seeds_are) zip);
+          unfailed = subst (λ (l : List (Seed V)). map (faults_in view.faults) l ≡ map {B = ℕ} (λ s. 0) l) (sym seeds_are) unfailed;
+          given = record {
+            stores = subst (λ (l : List Location). All (IsKnown b.folder_counts) l) (sym located) (all_later d.folder_counts b.folder_counts (λ q is. s.folder_known q (r.folder_known q is)) names known);
+            seeds = all_known_later view.held c.file_counts b.file_counts s.known k.seeds.items (subst (λ (l : List (Seed V)). SeedsKnown view.held c.file_counts l) (sym seeds_are) seeds_known);
+          };
+        })
+        (opened_with o d b names images more none (all_opened_over d c b b r (reads_none b) names images more are))
+
+    -- its names are those of the words
+    pub opened_names : (d e : Disk) (stores : List Location) (images : List (List ℕ)) (k : Kit (AnyStore L D K) V) → IsKitOpened look view state d e stores images k → UsesNames look view images (folders_among stores) k
+    opened_names d e stores images k is = record {
+      seeds = viewed_names d e images (map (seed_held view.held) k.seeds.items) is.viewed;
+      stores = λ q none. subst (λ (l : List Location). IsNoneOf q (folders_among l)) (sym is.located) none;
+    }
+
+    -- ---- kits that were given back
+
+    given_back : (k : Kit (AnyStore L D K) V) (w v : Storage) → IsKitGiven look view state k w v → Consults w v
+    given_back k w v is = consults_twice w (storage is.closed v.dial) v is.stores.0 (record { disk = is.seeds; dial = dials_none v.dial })
+
+    -- they were consulted
+    pub all_given_back : (kits : List (Kit (AnyStore L D K) V)) (w v : Storage) → AreGivenBack look view state kits w v → Consults w v
+    all_given_back [] w v same = subst (Consults w) (sym same) (consults_none w)
+    all_given_back (k ∷ kits) w v are = consults_twice w are.0 v (all_given_back kits w are.0 are.1) (given_back k are.0 v are.2)
+
+    given_behind : (k : Kit (AnyStore L D K) V) (rest : List (Kit (AnyStore L D K) V)) (w u v : Storage) → IsKitGiven look view state k w u → AreGivenBack look view state rest u v → AreGivenBack look view state (rest ++ k ∷ []) w v
+    given_behind k [] w u v first same = (w, refl, subst (IsKitGiven look view state k w) (sym same) first)
+    given_behind k (r ∷ rest) w u v first are = (are.0, given_behind k rest w u are.0 first are.1, are.2)
+
+    -- the last was given back, and then those before it
+    pub given_last : (kits rest : List (Kit (AnyStore L D K) V)) (k : Kit (AnyStore L D K) V) (w u v : Storage) → kits ≡ rest ++ k ∷ [] → IsKitGiven look view state k w u → AreGivenBack look view state rest u v → AreGivenBack look view state kits w v
+    given_last kits rest k w u v is first are = subst (λ (l : List (Kit (AnyStore L D K) V)). AreGivenBack look view state l w v) (sym is) (given_behind k rest w u v first are)
+
+    -- no server was asked where their stores are folders
+    pub given_folders : (stores : List Location) (kits : List (Kit (AnyStore L D K) V)) (w v : Storage) → All (λ k. kit_stores look view k ≡ stores) kits → AreGivenBack look view state kits w v → IsTrue (are_folders stores) → v.dial ≡ w.dial
+    given_folders stores [] w v at same all = ap (λ (s : Storage). s.dial) same
+    given_folders stores (k ∷ kits) w v at are all =
+        let here : kit_stores look view k ≡ stores = at 0 k (omega arith) in
+        are.2.stores.1 (subst (λ (l : List Location). IsTrue (are_folders l)) (sym here) all) ∙ given_folders stores kits w are.0 (All-tail (λ k. kit_stores look view k ≡ stores) k kits at) are.1 all
+
+    pub given_used : (names folders : List (List ℕ)) (kits : List (Kit (AnyStore L D K) V)) (w v : Storage) → All (UsesNames look view names folders) kits → AreGivenBack look view state kits w v → Uses names folders w.disk v.disk
+    given_used names folders [] w v named same = subst (λ (s : Storage). Uses names folders w.disk s.disk) (sym same) (uses_none names folders w.disk)
+    given_used names folders (k ∷ kits) w v named are =
+        let one : UsesNames look view names folders k = named 0 k (omega arith) in
+        uses_twice names folders w.disk are.0.disk v.disk (given_used names folders kits w are.0 (All-tail (UsesNames look view names folders) k kits named) are.1)
+        (uses_within (kit_names look view k) (folders_among (kit_stores look view k)) names folders are.0.disk v.disk one.seeds one.stores are.2.used)
+
+    -- what its seeds have counted was added to numbers that hadn't fallen since d, and that haven't since by e
+    pub record IsKitAdded (d e : Disk) (k : Kit (AnyStore L D K) V) : Type 0 where
+      pub counts : Map ℕ
+      pub le : (q : List ℕ) → count_at d.file_counts q ≤ count_at counts q
+      pub added : All (λ s. raised (count_at counts (label_in view.held s)) (faults_in view.faults s) ≤ count_at e.file_counts (label_in view.held s)) k.seeds.items
+
+    pub kits_added : (d e : Disk) (kits : List (Kit (AnyStore L D K) V)) (w v : Storage) → ((q : List ℕ) → count_at d.file_counts q ≤ count_at w.disk.file_counts q) → ((q : List ℕ) → count_at v.disk.file_counts q ≤ count_at e.file_counts q)
+        → AreGivenBack look view state kits w v → All (IsKitAdded d e) kits
+    kits_added d e [] w v before after same = All-nil (IsKitAdded d e)
+    kits_added d e (k ∷ kits) w v before after are =
+        let others = all_given_back kits w are.0 are.1 in
+        let here = given_back k are.0 v are.2 in
+        All-cons (IsKitAdded d e) k kits
+        (record {
+          counts = are.2.closed.file_counts;
+          le = λ q. omega (arith, before q, others.disk.counts q, are.2.stores.0.disk.counts q);
+          added = λ n s lt. let at = are.2.added n s lt in omega (arith, at, after (label_in view.held (slice_index_or k.seeds.items n s)));
+        })
+        (kits_added d e kits w are.0 before (λ q. omega (arith, here.disk.counts q, after q)) are.1)
+
+    -- the connections of worker m and those after it have ended, and then those of the workers before it
+    pub workers_dialed : (P : ℕ → Server → List Traffic → Type 0) (names : List Location) (m : ℕ) (kits : List (Kit (AnyStore L D K) V)) (w u : Storage) (new : Option (List Traffic)) → AreGivenBack look view state kits w u
+        → ((i : ℕ) (k : Kit (AnyStore L D K) V) → i < length kits → (a b : Option (List Traffic)) → b ≡ fold (with_those state) a (slice_index_or kits i k).chain.stores → EachDialed (P (m + i)) names a b)
+        → WorkersDialed P m names u.dial.ended new → WorkersDialed P (m + length kits) names w.dial.ended new
+    workers_dialed P names m [] w u new same each last =
+        let from : WorkersDialed P m names w.dial.ended new = subst (λ (s : Storage). WorkersDialed P m names s.dial.ended new) same last in
+        let none : m ≡ m + 0 = omega arith in
+        subst (λ (n : ℕ). WorkersDialed P n names w.dial.ended new) none from
+    workers_dialed P names m (k ∷ kits) w u new are each last =
+        let first : m + 0 ≡ m = omega arith in
+        let one : EachDialed (P m) names are.0.dial.ended u.dial.ended = subst (λ (n : ℕ). EachDialed (P n) names are.0.dial.ended u.dial.ended) first (each 0 k (omega arith) are.0.dial.ended u.dial.ended are.2.ended) in
+        let more = workers_dialed P names (suc m) kits w are.0 new are.1
+        (λ i j lt a b is. let next : m + suc i ≡ suc m + i = omega arith in subst (λ (n : ℕ). EachDialed (P n) names a b) next (each (suc i) j (omega (arith, lt)) a b is))
+        (u.dial.ended, one, last) in
+        let many : suc m + length kits ≡ m + suc (length kits) = omega arith in
+        subst (λ (n : ℕ). WorkersDialed P n names w.dial.ended new) many more
+
+    -- nothing was asked
+    pub given_nothing : (names : List Location) (kits : List (Kit (AnyStore L D K) V)) (w v : Storage) → All (λ k. (a b : Option (List Traffic)) → b ≡ fold (with_those state) a k.chain.stores → EachDialed Nothing names a b) kits → AreGivenBack look view state kits w v
+        → EachDialed Nothing names w.dial.ended v.dial.ended
+    given_nothing names [] w v each same = subst (λ (s : Storage). EachDialed Nothing names w.dial.ended s.dial.ended) (sym same) (none_dialed Nothing (λ s. refl) names w.dial.ended)
+    given_nothing names (k ∷ kits) w v each are =
+        nothing_twice names w.dial.ended are.0.dial.ended v.dial.ended (given_nothing names kits w are.0 (All-tail (λ k. (a b : Option (List Traffic)) → b ≡ fold (with_those state) a k.chain.stores → EachDialed Nothing names a b) k kits each) are.1)
+        (each 0 k (omega arith) are.0.dial.ended v.dial.ended are.2.ended)
