@@ -5,8 +5,8 @@ Into an absent output every byte is read from the store, named and written; over
 byte is read and named once; and over an older version, of which 94 % are right, every byte is named once, and the
 others are read from the store and written. Without -k the first run goes through a temporary file. With -c the chunks
 come from a full cache beside an empty store, or from the store and are then added to an empty cache. casync's
-extraction from a store of its own is measured beside it, where it is installed. Needs the image's size under the
-temporary folder for each run, and six times more.
+extraction from a store of its own is measured beside it, where it is installed. All with one worker; bench/workers.py
+measures several. Needs the image's size under the temporary folder for each run, and six times more.
 """
 
 import filecmp
@@ -66,8 +66,8 @@ def main():
             shutil.copyfile(image, output)
             age(output, index)
 
-        words = ['extract', '-k', '-s', 'store', 'image.caibx', 'output']
-        beside = ['extract', *words[2:]]
+        words = ['extract', '-n', '1', '-k', '-s', 'store', 'image.caibx', 'output']
+        beside = [word for word in words if word != '-k']
         shutil.copytree(os.path.join(folder, 'store'), os.path.join(folder, 'warm'))
         os.mkdir(os.path.join(folder, 'empty'))
         cold = os.path.join(folder, 'cold')
@@ -77,9 +77,9 @@ def main():
                 side_by_side.Row('extract -k, output right already', words, at_most=1.55),
                 side_by_side.Row('extract -k, output 94 % right', words, age_output, at_most=1.8),
                 side_by_side.Row('extract -k, from a cache, store empty',
-                                 ['extract', '-k', '-s', 'empty', '-c', 'warm', *words[4:]], remove_output),
+                                 ['extract', '-k', '-s', 'empty', '-c', 'warm', *words[-2:]], remove_output),
                 side_by_side.Row('extract -k, cache empty',
-                                 ['extract', '-k', '-s', 'store', '-c', 'cold', *words[4:]], cool_down)]
+                                 ['extract', '-k', '-s', 'store', '-c', 'cold', *words[-2:]], cool_down)]
         ours = rows[1:]
         rows += side_by_side.casync_rows(folder, image, output, remove_output, [('output absent', None)])
         side_by_side.measure(rows, folder, options.runs)

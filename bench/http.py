@@ -25,7 +25,8 @@ def main():
         clear = side_by_side.remover(os.path.join(folder, 'out'))
 
         def extract(what, store, at_most=None):
-            return side_by_side.Row(what, ['extract', '-k', '-s', store, 'image.caibx', 'out'], clear, at_most=at_most)
+            words = ['extract', '-n', '1', '-k', '-s', store, 'image.caibx', 'out']
+            return side_by_side.Row(what, words, clear, at_most=at_most)
 
         with servers.nginx(folder, os.path.join(folder, 'nginx')) as port:
             rows = [extract('the folder', 'store'), extract('nginx', f'http://localhost:{port}/store', 2.0)]

@@ -43,7 +43,7 @@ def main():
         image, output = os.path.join(folder, 'image'), os.path.join(folder, 'output')
 
         remove_output = side_by_side.remover(output)
-        words = ['extract', '-k', '-s', 'store', '--seed', 'older.caibx', 'image.caibx', 'output']
+        words = ['extract', '-n', '1', '-k', '-s', 'store', '--seed', 'older.caibx', 'image.caibx', 'output']
         rows = [side_by_side.openssl(image),
                 side_by_side.Row('extract -k --seed, output absent', words, remove_output, at_most=2.0)]
         rows += side_by_side.casync_rows(folder, image, output, remove_output,

@@ -46,6 +46,7 @@ use std::env;
 use std::env::Env;
 use std::marker::Brand;
 use std::process::ExitCode;
+use std::thread::Threads;
 use std::time::{CpuClock, Duration};
 
 const WORKERS: usize = 32;
@@ -76,13 +77,24 @@ fn zeros(alloc: Global, index: &Index) -> bool {
 }
 
 // Whether the target could be split and surveyed.
-fn surveyed<R: RunName, T: Target>(alloc: Global, index: &Index, plan: &Plan, target: T) -> bool
+fn surveyed<W: Threads + Sync, R: RunName + Send + Sync, T: Target>(
+    rt: &W,
+    alloc: Global,
+    index: &Index,
+    plan: &Plan,
+    target: T,
+) -> bool
+where
+    T::Piece: Send,
     requires over { IsRunOver R.run index.now plan.now T.tells (T.held target) }
 {
-    let Ok(mut buf) = index.room(alloc) else {
+    let Ok(buf) = index.room(alloc) else {
         return false;
     };
-    survey_shards::<R, T>(alloc, index, plan, target, &mut buf).is_ok()
+    let Ok(mut buffers) = vec![in alloc; buf] else {
+        return false;
+    };
+    survey_shards::<W, R, T>(rt, alloc, index, plan, target, &mut buffers).is_ok()
 }
 
 // Whether the target of this name, which is empty, could be split and surveyed.
@@ -90,7 +102,7 @@ fn split(rt: &HostRuntime, alloc: Global, index: &Index, plan: &Plan, name: Name
     requires plan { IsPlan index.now 32 plan.now }
 {
     let target = RealBytes::new(rt, alloc, name, 0);
-    surveyed::<Brand, RealBytes<HostRuntime>>(alloc, index, plan, target)
+    surveyed::<HostRuntime, Brand, RealBytes<HostRuntime>>(rt, alloc, index, plan, target)
 }
 
 // What the step takes of the processor.

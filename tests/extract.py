@@ -23,6 +23,9 @@ GIB = 1 << 30
 # The most memory for an index of the greatest size, and for a small index of small chunks.
 INDEX_MEMORY = 1 * GIB
 PLAIN_MEMORY = 16 << 20
+# How many workers there are where the words don't say, and the memory of each beside its buffer.
+WORKERS = 10
+WORKER_MEMORY = 1 << 20
 
 
 # Layouts
@@ -241,7 +244,7 @@ def image_over_4_gib(cases):
         entries = [(block * (number + 1), zeros) for number in range(65)]
         entries.append((block * 65 + len(last), formats.name_of(last)))
         lay_out(folder, items(*entries, sizes=(1, 1, block)), [last])
-        measured(folder, PLAIN_MEMORY + 2 * block)
+        measured(folder, PLAIN_MEMORY + WORKERS * WORKER_MEMORY + (WORKERS + 1) * block)
         expect_sparse(os.path.join(folder, OUT), block * 65, last)
 
 

@@ -50,8 +50,9 @@ class Image:
         return program.run(words, self.folder)
 
     def extract(self, *stores, more=(), out='out'):
+        """With one worker, so that chunks are asked for in order."""
         words = [word for store in stores for word in ('-s', store)]
-        return self.run('extract', *words, *more, 'new.caibx', out)
+        return self.run('extract', '-n', '1', *words, *more, 'new.caibx', out)
 
     def expect_out(self, out='out'):
         expect(file_bytes(self.path(out)) == self.bytes, f'{out} isn\'t the image')

@@ -153,7 +153,7 @@ def definitions_in(path):
         if match and (match.group(2) or record is None or len(match.group(1)) <= record or line.lstrip()[:3] != 'pub'):
             found.append([match.group(3), number, line, re.match(r' *-- (?!----)', above) is not None])
             record = len(match.group(1)) if match.group(2) else None
-        elif found and not line.lstrip().startswith('--'):
+        elif found and not line.lstrip().startswith(('--', 'module ')):
             found[-1][2] += '\n' + line
         above = line
     return found

@@ -14,7 +14,7 @@ import time
 
 import formats
 import program
-from checks import (Cases, Skip, expect_ended, expect_equal, expect_untouched, file_bytes, needs_program,
+from checks import (Cases, Skip, expect, expect_ended, expect_equal, expect_untouched, file_bytes, needs_program,
                     put_file, snapshot)
 
 INDEX, OUT = 'a.caibx', 'o'
@@ -148,7 +148,9 @@ def vanishing(cases):
         out = file_bytes(os.path.join(folder, OUT))
         entry = next(at for at, piece in enumerate(pieces) if out[at * 65536:(at + 1) * 65536] != piece)
         expect_ended(ended, formats.refusal(entry, formats.name_of(pieces[entry]), 'missing'))
-        expect_equal(out[entry * 65536:], bytes((512 - entry) * 65536), 'the rest of the output')
+        # Workers go side by side, so that entries after the named one may be right.
+        for at, piece in enumerate(pieces[entry:], entry):
+            expect(out[at * 65536:(at + 1) * 65536] in (piece, bytes(65536)), f'entry {at} is neither right nor zeros')
 
 
 def figures_line(held):

@@ -1,0 +1,366 @@
+#!/usr/bin/env python3
+"""`desync extract -n N` with one worker and with several: how it ends, what OUT holds then, and how servers are asked.
+
+    tests/workers.py                          500 scenes
+    tests/workers.py --scenes N --seed S
+
+A scene is an index with its old output, stores and seeds, of which some chunks are damaged, absent, or folders that
+can't be read. It is extracted by 1, 2, 3, 10 and 32 workers, which must end with the same line and leave the same
+bytes.
+Servers of this script count what each connection asks for, and hold back replies until as many connections wait as
+there are workers.
+"""
+
+import argparse
+import contextlib
+import errno
+import http.server
+import os
+import random
+import resource
+import socketserver
+import sys
+import threading
+
+import failing
+import formats
+import program
+from checks import Cases, expect, expect_ended, expect_equal, file_bytes, files_of, needs_program, put_file
+
+CREWS = (1, 2, 3, 10, 32)
+INDEX, OUT = 'a.caibx', 'o'
+SECONDS = 20
+
+
+def path_of(folder, name):
+    return os.path.join(folder, name)
+
+
+def extract(folder, count, *words, **more):
+    return program.run(['extract', '-n', str(count), *words, INDEX, OUT], folder, **more)
+
+
+# ---- scenes
+
+class Scene:
+    """What an extraction finds, by chance: its words, and the files of its folder."""
+
+    def __init__(self, folder, chance):
+        self.folder = folder
+        self.chance = chance
+        self.pieces = [chance.randbytes(chance.choice((1, 7, 60, 300))) for _ in range(chance.randint(1, 9))]
+        self.pieces.append(bytes(chance.randint(1, 50)))
+        self.image = [chance.choice(self.pieces) for _ in range(chance.randint(0, 24))]
+        formats.write_index(path_of(folder, INDEX), formats.index_of_pieces(self.image))
+        self.words = ['-k'] * chance.randint(0, 1)
+        for number in range(chance.randint(1, 3)):
+            self.write_store(f'st{number}')
+        for number in range(chance.choice((0, 0, 1, 2))):
+            self.write_seed(f'seed{number}')
+        self.old = self.old_output()
+
+    def write_store(self, name):
+        """A folder of chunks: most are right."""
+        store = path_of(self.folder, name)
+        os.mkdir(store)
+        self.words += ['-s', name]
+        for piece in self.pieces:
+            path = formats.chunk_path(store, formats.name_of(piece))
+            kind = self.chance.randint(0, 9)
+            if kind < 6:
+                put_file(path, piece)
+            elif kind == 6:
+                put_file(path, piece[:-1] + bytes([piece[-1] ^ 1]))
+            elif kind == 7:
+                os.makedirs(path)
+
+    def write_seed(self, name):
+        """An image with its index: some of its chunks are damaged, or its file is absent or a folder."""
+        pieces = self.chance.choices(self.pieces, k=self.chance.randint(0, 6))
+        formats.write_index(path_of(self.folder, f'{name}.caibx'), formats.index_of_pieces(pieces))
+        self.words += ['--seed', f'{name}.caibx']
+        kind = self.chance.randint(0, 9)
+        if kind < 8:
+            put_file(path_of(self.folder, name), self.spoiled(pieces))
+        elif kind == 8:
+            os.mkdir(path_of(self.folder, name))
+
+    def spoiled(self, pieces):
+        return b''.join(piece if self.chance.randint(0, 3) else bytes(len(piece)) for piece in pieces)
+
+    def old_output(self):
+        kind = self.chance.randint(0, 3)
+        if kind == 0:
+            return None
+        old = self.spoiled(self.image) if kind < 3 else self.chance.randbytes(self.chance.randint(0, 900))
+        return old[:len(old) - self.chance.randint(0, 40)] if kind == 2 else old
+
+    def run(self, count):
+        """How it ends with so many workers, and all files afterwards."""
+        with contextlib.suppress(FileNotFoundError):
+            os.remove(path_of(self.folder, OUT))
+        if self.old is not None:
+            put_file(path_of(self.folder, OUT), self.old)
+        ended = extract(self.folder, count, *self.words)
+        return ended.status, ended.err, files_of(self.folder)
+
+
+def random_scenes(cases, options):
+    for number in range(options.scenes):
+        with cases.case(f'scene {number} of seed {options.seed}') as folder:
+            scene = Scene(folder, random.Random(f'{options.seed} {number}'))
+            alone = scene.run(1)
+            expect(alone[0] in (0, 1), f'one worker ends with status {alone[0]}')
+            if alone[0] == 0:
+                expect_equal(alone[2].get(OUT), b''.join(scene.image), 'the output')
+            for count in CREWS[1:]:
+                for got, wanted, what in zip(scene.run(count), alone, ('status', 'line', 'files')):
+                    expect(got == wanted, f'{what} with {count} workers: {got!r}, and with one: {wanted!r}')
+
+
+def small_images(cases):
+    for count in CREWS:
+        with cases.case(f'an image of no entry, {count} workers') as folder:
+            put_file(path_of(folder, INDEX), formats.EMPTY_INDEX)
+            os.mkdir(path_of(folder, 'st'))
+            expect_ended(extract(folder, count, '-s', 'st'))
+            expect_equal(file_bytes(path_of(folder, OUT)), b'', 'the output')
+        with cases.case(f'an image of one entry, {count} workers') as folder:
+            put_file(path_of(folder, INDEX), formats.ABC_INDEX)
+            formats.write_chunk(path_of(folder, 'st'), formats.name_of(b'abc'), b'abc')
+            expect_ended(extract(folder, count, '-s', 'st'))
+            expect_equal(file_bytes(path_of(folder, OUT)), b'abc', 'the output')
+
+
+# ---- servers
+
+class Chunks(socketserver.ThreadingMixIn, http.server.HTTPServer):
+    """A server of these chunks that answers each connection in a thread of its own. `asked` has the path of each
+    request. `before` is called with the path before the reply is sent: it may wait, and may answer a status."""
+
+    daemon_threads = True
+    request_queue_size = 64
+
+    def __init__(self, chunks, before=lambda path: None):
+        self.paths = {f'/{formats.path_in_store(formats.name_of(chunk))}': chunk for chunk in chunks}
+        self.before = before
+        self.asked = []
+        self.lock = threading.Lock()
+        super().__init__(('127.0.0.1', 0), Handler)
+
+    def url(self):
+        return f'http://localhost:{self.server_address[1]}/'
+
+    def __enter__(self):
+        threading.Thread(target=self.serve_forever, args=(0.05,), daemon=True).start()
+        return self
+
+    def __exit__(self, *_):
+        self.shutdown()
+        self.server_close()
+
+
+class Handler(http.server.BaseHTTPRequestHandler):
+    protocol_version = 'HTTP/1.1'
+
+    def do_GET(self):
+        with self.server.lock:
+            self.server.asked.append(self.path)
+        status = self.server.before(self.path)
+        chunk = self.server.paths.get(self.path)
+        self.close_connection = True
+        if status is None:
+            status = 404 if chunk is None else 200
+        body = chunk if status == 200 else b''
+        self.send_response(status)
+        self.send_header('Content-Length', str(len(body)))
+        self.end_headers()
+        self.wfile.write(body)
+
+    def log_message(self, *_):
+        pass
+
+
+def image_of(count, seed=34):
+    chance = random.Random(seed)
+    return [chance.randbytes(400) for _ in range(count)]
+
+
+def lay_out(folder, pieces):
+    formats.write_index(path_of(folder, INDEX), formats.index_of_pieces(pieces))
+
+
+class Gate:
+    """Holds each caller back until so many wait at once, for at most some seconds. Then it is open for all."""
+
+    def __init__(self, count):
+        self.barrier = threading.Barrier(count)
+        self.passed = False
+
+    def __call__(self, path):
+        if not self.passed:
+            try:
+                self.barrier.wait(SECONDS)
+                self.passed = True
+            except threading.BrokenBarrierError:
+                pass
+
+
+def workers_at_once(cases):
+    for count in (2, 4, 10):
+        with cases.case(f'{count} workers wait for a server at once') as folder:
+            pieces = image_of(40)
+            lay_out(folder, pieces)
+            gate = Gate(count)
+            with Chunks(pieces, gate) as server:
+                expect_ended(extract(folder, count, '-s', server.url()))
+            expect(gate.passed, f'no {count} connections waited at once')
+            expect_equal(file_bytes(path_of(folder, OUT)), b''.join(pieces), 'the output')
+            expect_equal(sorted(server.asked), sorted(server.paths), 'what the server was asked for')
+
+
+def asks_are_counted(cases):
+    for count in CREWS:
+        with cases.case(f'each different chunk is asked for once, a missing one twice, {count} workers') as folder:
+            pieces = image_of(30)
+            lay_out(folder, pieces + pieces[:10] + [bytes(70)])
+            with Chunks(pieces[1:]) as server:
+                ended = extract(folder, count, '-k', '-s', server.url())
+            name = formats.name_of(pieces[0])
+            expect_ended(ended, f'chunk {name.hex()} of entry 0 is missing')
+            paths = [f'/{formats.path_in_store(formats.name_of(piece))}' for piece in pieces]
+            zeros = f'/{formats.path_in_store(formats.name_of(bytes(70)))}'
+            expect_equal(sorted(path for path in server.asked if path != zeros), sorted(paths + paths[:1]),
+                         'what the server was asked for')
+            expect(zeros not in server.asked, 'zeros were asked for')
+        with cases.case(f'what OUT and a seed have isn\'t asked for, {count} workers') as folder:
+            pieces = image_of(30)
+            lay_out(folder, pieces)
+            put_file(path_of(folder, OUT), b''.join(pieces[:10]) + bytes(4000) + b''.join(pieces[20:25]))
+            formats.write_index(path_of(folder, 'seed.caibx'), formats.index_of_pieces(pieces[10:15]))
+            put_file(path_of(folder, 'seed'), b''.join(pieces[10:15]))
+            with Chunks(pieces) as server:
+                expect_ended(extract(folder, count, '-k', '-s', server.url(), '--seed', 'seed.caibx'))
+            needed = pieces[15:20] + pieces[25:]
+            expect_equal(sorted(server.asked),
+                         sorted(f'/{formats.path_in_store(formats.name_of(piece))}' for piece in needed),
+                         'what the server was asked for')
+
+
+def failures_of_one_worker(cases):
+    with cases.case('a server fails once, in one worker') as folder:
+        pieces = image_of(20)
+        lay_out(folder, pieces)
+        broken = f'/{formats.path_in_store(formats.name_of(pieces[7]))}'
+        failed = []
+
+        def once(path):
+            if path == broken and not failed:
+                failed.append(path)
+                return 500
+            return None
+
+        with Chunks(pieces, once) as server:
+            expect_ended(extract(folder, 4, '-s', server.url()))
+        expect_equal(file_bytes(path_of(folder, OUT)), b''.join(pieces), 'the output')
+        expect_equal(server.asked.count(broken), 2, 'how often the chunk was asked for')
+    with cases.case('a server always fails for one chunk') as folder:
+        pieces = image_of(20)
+        lay_out(folder, pieces)
+        broken = f'/{formats.path_in_store(formats.name_of(pieces[7]))}'
+        with Chunks(pieces, lambda path: 500 if path == broken else None) as server:
+            ended = extract(folder, 4, '-k', '-s', server.url())
+        expect_ended(ended, 'store 0 failed')
+        wanted = b''.join(bytes(400) if number == 7 else piece for number, piece in enumerate(pieces))
+        expect_equal(file_bytes(path_of(folder, OUT)), wanted, 'the output')
+
+
+# ---- calls that fail
+
+def failing_writes(cases, shim):
+    pieces = image_of(6)
+    wanted = b''.join(pieces)
+    for at in range(2 * len(pieces)):
+        with cases.case(f'write {at} of OUT fails once, 4 workers') as folder:
+            lay_out(folder, pieces)
+            for piece in pieces:
+                formats.write_chunk(path_of(folder, 'st'), formats.name_of(piece), piece)
+            environment = shim().environment('pwrite', at, errno.EIO, False, path_of(folder, 'told'))
+            ended = extract(folder, 4, '-k', '-s', 'st', environment=environment)
+            expect_ended(ended)
+            expect_equal(file_bytes(path_of(folder, OUT)), wanted, 'the output')
+        with cases.case(f'write {at} of OUT and all after it fail, 4 workers') as folder:
+            lay_out(folder, pieces)
+            for piece in pieces:
+                formats.write_chunk(path_of(folder, 'st'), formats.name_of(piece), piece)
+            environment = shim().environment('pwrite', at, errno.EIO, True, path_of(folder, 'told'))
+            ended = extract(folder, 4, '-k', '-s', 'st', environment=environment)
+            if at < len(pieces):
+                expect_ended(ended, 'the target failed')
+            left = file_bytes(path_of(folder, OUT))
+            for number, piece in enumerate(pieces):
+                expect(left[400 * number:400 * number + 400] in (piece, bytes(400)), f'entry {number} is another')
+
+
+def threads_that_do_not_start(cases, shim):
+    for at in range(6):
+        with cases.case(f'thread {at} and all after it can\'t be started, 4 workers') as folder:
+            pieces = image_of(20)
+            lay_out(folder, pieces)
+            for piece in pieces:
+                formats.write_chunk(path_of(folder, 'st'), formats.name_of(piece), piece)
+            environment = shim().environment('thread', at, errno.EAGAIN, True, path_of(folder, 'told'))
+            expect_ended(extract(folder, 4, '-s', 'st', environment=environment))
+            expect_equal(file_bytes(path_of(folder, OUT)), b''.join(pieces), 'the output')
+
+
+def many_seeds(cases):
+    with cases.case('64 seeds, 32 workers and 1,024 files open at once') as folder:
+        pieces = image_of(64)
+        lay_out(folder, pieces)
+        os.mkdir(path_of(folder, 'st'))
+        words = ['-s', 'st']
+        for number, piece in enumerate(pieces):
+            formats.write_index(path_of(folder, f'{number}.caibx'), formats.index_of_pieces([piece]))
+            put_file(path_of(folder, str(number)), piece)
+            words += ['--seed', f'{number}.caibx']
+        expect_ended(extract(folder, 32, *words,
+                             lower=lambda: resource.setrlimit(resource.RLIMIT_NOFILE, (1024, 1024))))
+        expect_equal(file_bytes(path_of(folder, OUT)), b''.join(pieces), 'the output')
+
+
+def compiled(top):
+    """Answers a function that gives the library that makes calls fail, which is compiled once."""
+    made = []
+
+    def shim():
+        if not made:
+            folder = os.path.join(top, 'shim')
+            os.mkdir(folder)
+            failing.lay_out(folder)
+            made.append(failing.Shim(folder))
+        return made[0]
+    return shim
+
+
+def main():
+    needs_program('workers')
+    parser = argparse.ArgumentParser(description=__doc__)
+    parser.add_argument('--scenes', type=int, default=500)
+    parser.add_argument('--seed', type=int, default=34)
+    options = parser.parse_args()
+    cases = Cases('workers')
+    shim = compiled(cases.top)
+    random_scenes(cases, options)
+    small_images(cases)
+    workers_at_once(cases)
+    asks_are_counted(cases)
+    failures_of_one_worker(cases)
+    failing_writes(cases, shim)
+    threads_that_do_not_start(cases, shim)
+    many_seeds(cases)
+    sys.exit(cases.end())
+
+
+if __name__ == '__main__':
+    main()
