@@ -239,7 +239,7 @@ def memory_at_once(cases, folder):
         turns(96_000, 10_000)
         after = taken_by(server.process.pid)
         expect_equal(after[:2], before[:2], 'the numbers of open files and of threads')
-        expect(after[2] <= before[2] + 1024, f'the memory was {before[2]} KiB, and is {after[2]} KiB')
+        expect(after[2] <= before[2] + 2048, f'the memory was {before[2]} KiB, and is {after[2]} KiB')
 
 
 GROUPS = slow_peers, many, killed, memory_at_once
