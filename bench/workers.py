@@ -13,8 +13,9 @@ import filecmp
 import os
 import sys
 
-import extract
+# First, since tests/, which side_by_side looks into, has modules of this name and the next.
 import seeds
+import extract
 import servers
 import side_by_side
 
