@@ -26,7 +26,7 @@ ABSENT, SEEDED, RIGHT, SERVED = (0.6, 0.4), (0.6, 0.4), (0.55, 0.33), (0.7, 0.45
 
 
 def crews():
-    """The numbers of workers with their processors, as far as there are so many (one worker: on all)."""
+    """The numbers of workers that this machine has processors for, with these processors (one worker: all)."""
     here = sorted(os.sched_getaffinity(0))
     return [(count, here[:count] if count > 1 else ()) for count in CREWS if count <= len(here)]
 

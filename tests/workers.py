@@ -96,7 +96,7 @@ class Scene:
         return old[:len(old) - self.chance.randint(0, 40)] if kind == 2 else old
 
     def run(self, count):
-        """How it ends with so many workers, and all files afterwards."""
+        """How it ends with this number of workers, and all files afterwards."""
         with contextlib.suppress(FileNotFoundError):
             os.remove(path_of(self.folder, OUT))
         if self.old is not None:
@@ -191,7 +191,7 @@ def lay_out(folder, pieces):
 
 
 class Gate:
-    """Holds each caller back until so many wait at once, for at most some seconds. Then it is open for all."""
+    """Holds callers back until `count` of them wait at once, for at most some seconds. Then it is open for all."""
 
     def __init__(self, count):
         self.barrier = threading.Barrier(count)
