@@ -36,7 +36,7 @@ use Rattle.extract_plan.specs.Deal.{IsPlan, first_of, want_id}
 use Rattle.extract_plan.specs.Places.{IsSeedIndex}
 use Rattle.extract_plan.specs.Seeds.{faults_in}
 use Rattle.http_wire.specs.declared.reply.Method.TheVariants as method
-use Rattle.image_assembly.specs.Kits.{IsSparedFor, KitUsed, at_kit, worker_asks}
+use Rattle.image_workers.specs.Kits.{IsSparedFor, KitUsed, at_kit, worker_asks}
 
 module _ {L V D K : Type 0} (look : LookWords L) (view : ViewWords V) (state : D → DialState) (t : Task) (d b e : Disk) (names : List Location) (Known : Type 0) (t0 : Option (List ℕ)) (i : ℕ) (q j : Kit (AnyStore L D K) V) (old new : Lent (AnyStore L D K) V) where
   abbrev before : Kit (AnyStore L D K) V

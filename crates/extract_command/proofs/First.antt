@@ -21,7 +21,7 @@ use Rattle.extract_plan.specs.Deal.{Deal}
 use Rattle.extract_plan.specs.Places.{Placed, PlacesKnown}
 use Rattle.extract_plan.specs.Seeds.{seed_held}
 use Rattle.extract_plan.specs.declared.seed.Seed.{Seed}
-use Rattle.image_assembly.specs.Kits.{IsAssembledBy}
+use Rattle.image_workers.specs.Kits.{IsAssembledBy}
 use Rattle.range_ledger.specs.Fills.{WhereTold}
 use Rattle.range_survey.specs.declared.report.Report.{Report}
 

@@ -23,7 +23,7 @@ use Rattle.extract_command.proofs.LentKits.{views_alike}
 use Rattle.extract_command.specs.Extract.{CanBeHad, Seeds}
 use Rattle.extract_command.specs.Kits.{AreOpened, IsKitOpened}
 use Rattle.extract_plan.specs.Places.{IsSeedIndex}
-use Rattle.image_assembly.specs.Kits.{AllKitsTell, AreKitsAlike, SomeKitHas}
+use Rattle.image_workers.specs.Kits.{AllKitsTell, AreKitsAlike, SomeKitHas}
 
 -- told maps are one list
 same_maps : (xs ys : List (Map (List ℕ))) → map Some xs ≡ map Some ys → xs ≡ ys

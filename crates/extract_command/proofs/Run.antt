@@ -61,7 +61,7 @@ use Rattle.extract_plan.specs.Seeds.{faults_in, seed_held}
 use Rattle.extract_plan.specs.declared.seed.Seed.{Seed}
 use Rattle.http_wire.specs.declared.reply.Method.TheVariants as method
 use Rattle.http_read.specs.Asks.{Server}
-use Rattle.image_assembly.specs.Kits.{AreKitsAlike, IsAssembledBy, KitUsed, KnowsFaults, NoneUsed, SomeKitHas, at_kit, worker_asks}
+use Rattle.image_workers.specs.Kits.{AreKitsAlike, IsAssembledBy, KitUsed, KnowsFaults, NoneUsed, SomeKitHas, at_kit, worker_asks}
 use Rattle.range_ledger.specs.Fills.{WhereTold}
 use Rattle.range_survey.specs.Excuses.{Excuses}
 use Rattle.range_survey.specs.declared.report.Report.{Report}

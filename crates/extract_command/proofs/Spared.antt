@@ -27,7 +27,7 @@ use Rattle.dsy_base.specs.Maps.{Map}
 use Rattle.dsy_base.specs.declared.view.View.{Ghosts as ViewWords}
 use Rattle.extract_plan.specs.Deal.{Deal, IsPlan, first_of, want_id}
 use Rattle.extract_plan.specs.Places.{ArePlaces, IsSeedIndex, nth_place, place, places_at}
-use Rattle.image_assembly.specs.Kits.{IsSparedFor}
+use Rattle.image_workers.specs.Kits.{IsSparedFor}
 use Rattle.extract_command.proofs.Shelved.{name_in}
 use Rattle.extract_command.proofs.Seeded.{had_at, label_at, label_of}
 use Rattle.extract_command.specs.Extract.{CacheSpares, FileQuiet, Into, IsSparedOnDisk, folder_of, SeedHas, Seeds, old_of}

@@ -44,7 +44,7 @@ use Rattle.dsy_base.specs.Disk.{Disk, OnFile}
 use Rattle.extract_plan.specs.Deal.{Deal, IsPlan, first_of, of_want, want_id}
 use Rattle.http_read.specs.Asks.{Server}
 use Rattle.http_wire.specs.declared.reply.Method.TheVariants as method
-use Rattle.image_assembly.specs.Kits.{worker_asks}
+use Rattle.image_workers.specs.Kits.{worker_asks}
 use Rattle.store_chain.specs.Giving.{LacksAll}
 use Rattle.store_chain.specs.declared.refused.Refused.{Refused}
 use Rattle.store_chain.specs.declared.refused.Refused.TheVariants as refused

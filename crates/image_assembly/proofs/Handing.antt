@@ -17,8 +17,8 @@ use Rattle.extract_plan.specs.Deal.{Deal, IsPlan}
 use Rattle.extract_plan.specs.Places.{Placed}
 use Rattle.image_assembly.proofs.Lending.{by_none}
 use Rattle.image_assembly.proofs.OnePlan.{head_same}
-use Rattle.image_assembly.specs.Kits.{HasAssembled, handed}
-use Rattle.image_assembly.specs.Kits.{NoneUsed}
+use Rattle.image_assembly.specs.Endings.{HasAssembled, handed}
+use Rattle.image_workers.specs.Kits.{NoneUsed}
 
 -- one that was refused before any write: nothing was used
 pub refused : {S V : Type 0} (store : StoreWords S) (view : ViewWords V) (never : Bool) (l : Listing) (x : Placed) (d : Deal) (kits : List (Kit S V)) → 0 < length kits → IsPlan l (length kits) d

@@ -30,8 +30,8 @@ use Rattle.dsy_base.specs.Maps.{Map}
 use Rattle.dsy_base.specs.declared.view.View.{Ghosts as ViewWords}
 use Rattle.extract_plan.specs.Deal.{Deal, want_id}
 use Rattle.extract_plan.specs.declared.seed.Seed.{Seed}
-use Rattle.image_assembly.specs.Beside.{PermitsWith}
-use Rattle.image_assembly.specs.Kits.{AllKitsTell, AreKitsAlike, IsAssembledBy, IsSparedFor, KitUsed, KnowsFaults, NoneUsed, SomeKitHas, at_kit, worker_asks, worker_calls}
+use Rattle.image_workers.specs.Beside.{PermitsWith}
+use Rattle.image_workers.specs.Kits.{AllKitsTell, AreKitsAlike, IsAssembledBy, IsSparedFor, KitUsed, KnowsFaults, NoneUsed, SomeKitHas, at_kit, worker_asks, worker_calls}
 use Rattle.image_assembly.specs.Readied.{Permits}
 use Rattle.owned_shards.specs.Wholes.{base_told}
 use Rattle.range_ledger.specs.Fills.{WhereTold}

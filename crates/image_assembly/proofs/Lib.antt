@@ -1,13 +1,6 @@
-pub mod Beside
-pub mod Going
 pub mod Handing
-pub mod Kits
 pub mod Lending
-pub mod Moving
 pub mod OnePlan
-pub mod Permitting
 pub mod Picking
 pub mod Picks
 pub mod Readying
-pub mod Spared
-pub mod Working

@@ -25,8 +25,8 @@ use Rattle.dsy_base.specs.Maps.{Map}
 use Rattle.dsy_base.specs.declared.view.View.{Ghosts as ViewWords}
 use Rattle.extract_plan.specs.Deal.{AreWants, first_of, of_want, want_id}
 use Rattle.extract_plan.specs.Places.{places_at}
-use Rattle.image_assembly.specs.Beside.{PermitsKit}
-use Rattle.image_assembly.specs.Kits.{MayFillFrom, SomeKitHas}
+use Rattle.image_workers.specs.Beside.{PermitsKit}
+use Rattle.image_workers.specs.Kits.{MayFillFrom, SomeKitHas}
 use Rattle.image_assembly.specs.Readied.{Permits}
 use Rattle.image_assembly.proofs.Picking.{all_told, kit_maps, may_fill, may_have, picked, seeds_tell, some_may_have, want_had}
 use Rattle.owned_shards.specs.Wholes.{MayFillAll}

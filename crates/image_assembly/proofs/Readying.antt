@@ -15,11 +15,11 @@ use Rattle.dsy_base.specs.Maps.{Map}
 use Rattle.dsy_base.specs.declared.view.View.{Ghosts as ViewWords}
 use Rattle.extract_plan.specs.Deal.{AreWants}
 use Rattle.extract_plan.specs.Places.{PlacesKnown}
-use Rattle.image_assembly.proofs.Permitting.{permits}
+use Rattle.image_workers.proofs.Permitting.{permits}
 use Rattle.image_assembly.proofs.Picks.{if_so, resized_again}
-use Rattle.image_assembly.specs.Beside.{BegunBeside, PermitsKit}
-use Rattle.image_assembly.specs.Kits.{MayFillFrom}
-use Rattle.image_assembly.specs.Lanes.{IsReadyFor, worker_stage}
+use Rattle.image_workers.specs.Beside.{BegunBeside, PermitsKit}
+use Rattle.image_workers.specs.Kits.{MayFillFrom}
+use Rattle.image_workers.specs.Lanes.{IsReadyFor, worker_stage}
 use Rattle.image_assembly.specs.Readied.{IsReadied, Readied}
 use Rattle.owned_shards.specs.Wholes.{base_told}
 use Rattle.range_ledger.specs.Runs.{Run}

@@ -1,4 +1,2 @@
-pub mod Beside
-pub mod Kits
-pub mod Lanes
+pub mod Endings
 pub mod Readied

@@ -16,9 +16,9 @@ use Rattle.dsy_base.specs.Bytes.{Held, resized}
 use Rattle.dsy_base.specs.declared.view.View.{Ghosts as ViewWords}
 use Rattle.extract_plan.specs.Deal.{IsPlan, shards_of}
 use Rattle.extract_plan.specs.Places.{PlacesKnown}
-use Rattle.image_assembly.specs.Beside.{PermitsKit}
-use Rattle.image_assembly.specs.Kits.{MayFillFrom}
-use Rattle.image_assembly.specs.Lanes.{AreFirst}
+use Rattle.image_workers.specs.Beside.{PermitsKit}
+use Rattle.image_workers.specs.Kits.{MayFillFrom}
+use Rattle.image_workers.specs.Lanes.{AreFirst}
 use Rattle.owned_shards.specs.Wholes.{MayFillAll, Whole, base_told}
 use Rattle.range_ledger.specs.Runs.{Run}
 

@@ -10,12 +10,14 @@ ghost use Rattle.dsy_base.specs.Bytes.{resized};
 ghost use Rattle.dsy_base.specs.Counts.{Quiet};
 ghost use Rattle.extract_plan.specs.Deal.{Deal, IsPlan};
 ghost use Rattle.extract_plan.specs.Places.{PlacesKnown};
-ghost use Rattle.image_assembly.specs.Kits.{ByPlanOfAll, HasAssembled, IsAssembledBy, NoneUsed, handed};
+ghost use Rattle.image_assembly.specs.Endings.{ByPlanOfAll, HasAssembled, handed};
+ghost use Rattle.image_workers.specs.Kits.{IsAssembledBy, NoneUsed};
 ghost use Rattle.image_assembly.specs.Readied.{IsRunFor, Permits};
 ghost use Rattle.range_ledger.specs.Fills.{WhereTold};
 ghost use Rattle.range_survey.specs.Reports.{right_below};
 
-use crate::prepare::{Assembled, prepare};
+use crate::prepare::prepare;
+use image_workers::assembled::Assembled;
 use assembler::fault::ExtractFault;
 use cache_store::shelf::CacheShelf;
 use caibx_codec::index::Index;

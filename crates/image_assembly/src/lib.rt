@@ -4,8 +4,4 @@
 
 pub mod assemble;
 pub mod fault;
-mod finish;
-mod lanes;
 pub mod prepare;
-mod together;
-mod workers;

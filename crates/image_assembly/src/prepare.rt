@@ -7,7 +7,7 @@ ghost use Rattle.std.specs.List.{All};
 ghost use Rattle.assembler.specs.Assemblies.{Assembles, IsAssembled};
 ghost use Rattle.assembler.specs.Begun.{HasBegun};
 ghost use Rattle.assembler.specs.OneKit.{OfKit, lent};
-ghost use Rattle.image_assembly.specs.Kits.{IsAssembledBy};
+ghost use Rattle.image_workers.specs.Kits.{IsAssembledBy};
 ghost use Rattle.image_assembly.specs.Readied.{AreRoomsFor, IsRoomOf, IsRunFor, OfTarget, OfTargetWith, Permits};
 ghost use Rattle.caibx_codec.specs.Listing.{Listing, count_of, image_length, kind_of};
 ghost use Rattle.chunk_sources.specs.Caches.{seen};
@@ -22,7 +22,8 @@ ghost use Rattle.range_survey.specs.Fates.{SettledRight};
 ghost use Rattle.range_survey.specs.Reports.{right_below};
 
 use crate::fault::{PrepareFault, refusal};
-use crate::together::{Rooms, run_workers};
+use image_workers::assembled::Assembled;
+use image_workers::together::{Rooms, run_workers};
 use assembler::fault::ExtractFault;
 use assembler::run::{Ended, run_surveyed};
 use assembler::work::Wants;
@@ -71,15 +72,6 @@ impl<'a, R: RunName, T: Target, S: Store, V: View> Model for Prepared<'a, R, T, 
       places = p.places.now;
     }) p.shards p.kits.items) × (p.rooms ≡ None → length p.kits.items ≡ 1) × IfSome p.rooms (λ r.
         (2 ≤ length p.kits.items) × AreRoomsFor R.run (length p.kits.items) r.locks r.lanes r.known) };
-}
-
-/// What an assembly hands back: what was handed over, the kits in their order, and the answer.
-#[derive(Drop)]
-pub struct Assembled<T: Target, S: Store, V: View, F: Folder> {
-    pub target: T,
-    pub kits: Vec<Kit<S, V>>,
-    pub cache: Option<CacheShelf<F>>,
-    pub answer: Result<Report, ExtractFault>,
 }
 
 // Marks for the wants of a plan, a buffer of the size of the largest chunk for each kit, and room for several workers.

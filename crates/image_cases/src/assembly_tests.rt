@@ -20,7 +20,7 @@ use extract_plan::plan::Plan;
 use extract_plan::seed::Seed;
 use extract_plan::seeds::SeedIndex;
 use image_assembly::assemble::assemble;
-use image_assembly::prepare::Assembled;
+use image_workers::assembled::Assembled;
 use range_survey::report::Report;
 use std::alloc::Global;
 use std::process::Abort;

@@ -48,7 +48,7 @@ use Rattle.command_steps.specs.Asking.{AsksFew, SendsFronts}
 use Rattle.caibx_codec.specs.Asks.{IsListedGet}
 use Rattle.chunk_store.specs.declared.id.DigestKind.TheVariants as kinds
 use Rattle.extract_plan.specs.Deal.{IsPlan}
-use Rattle.image_assembly.specs.Kits.{KnowsFaults, worker_asks}
+use Rattle.image_workers.specs.Kits.{KnowsFaults, worker_asks}
 use Rattle.http_wire.specs.declared.reply.Method.TheVariants as method
 
 -- what is seen of the cache

@@ -9,7 +9,7 @@ use Rattle.caibx_codec.specs.Listing.{count_of, image_length}
 use Rattle.chunk_sources.specs.Caches.{seen}
 use Rattle.dsy_base.specs.Bytes.{resized}
 use Rattle.extract_plan.specs.Deal.{shards_of}
-use Rattle.image_assembly.specs.Kits.{HasAssembled, handed}
+use Rattle.image_assembly.specs.Endings.{HasAssembled, handed}
 use Rattle.image_assembly.proofs.assemble.assemble.Given.{Over}
 use Rattle.image_assembly.proofs.assemble.assemble.Goals.{In-Err}
 use Rattle.image_assembly.proofs.assemble.assemble.Goals as goal

@@ -16,8 +16,8 @@ use Rattle.extract_plan.specs.Places.{Placed}
 use Rattle.image_assembly.proofs.Handing.{refused}
 use Rattle.image_assembly.proofs.Lending.{as_long, by_same}
 use Rattle.image_assembly.proofs.OnePlan.{by_kit}
-use Rattle.image_assembly.specs.Kits.{HasAssembled, handed}
-use Rattle.image_assembly.specs.Kits.{IsAssembledBy, NoneUsed}
+use Rattle.image_assembly.specs.Endings.{HasAssembled, handed}
+use Rattle.image_workers.specs.Kits.{IsAssembledBy, NoneUsed}
 use Rattle.image_assembly.specs.Readied.{unprepared}
 use Rattle.image_assembly.specs.declared.fault.PrepareFault.{PrepareFault}
 use Rattle.image_assembly.specs.declared.fault.PrepareFault.TheVariants as refusals

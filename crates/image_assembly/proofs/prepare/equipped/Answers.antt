@@ -4,7 +4,7 @@ use Rattle.std.proofs.lemmas.Bool.{cases_eq}
 use Rattle.caibx_codec.specs.Listing.{Listing}
 use Rattle.chunk_sources.specs.declared.kit.Kit.{Kit}
 use Rattle.image_assembly.proofs.Lending.{at_map}
-use Rattle.image_assembly.proofs.Moving.{all_before, last_so}
+use Rattle.image_workers.proofs.Moving.{all_before, last_so}
 use Rattle.image_assembly.specs.Readied.{IsRoomOf}
 use Rattle.image_assembly.proofs.prepare.equipped.Goals as goal
 

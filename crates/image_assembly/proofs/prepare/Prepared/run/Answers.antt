@@ -15,8 +15,8 @@ use Rattle.dsy_base.specs.Counts.{Quiet}
 use Rattle.image_assembly.proofs.Lending.{by_one}
 use Rattle.image_assembly.proofs.OnePlan.{last_alone, none_left, of_only}
 use Rattle.image_assembly.proofs.Readying.{begun_beside, fills_from, none_of, permits_at, ready_for, ready_kit}
-use Rattle.image_assembly.specs.Beside.{BegunBeside}
-use Rattle.image_assembly.specs.Kits.{IsAssembledBy}
+use Rattle.image_workers.specs.Beside.{BegunBeside}
+use Rattle.image_workers.specs.Kits.{IsAssembledBy}
 use Rattle.image_assembly.specs.Readied.{AreRoomsFor, OfTarget, OfTargetWith, Readied, readied}
 use Rattle.range_ledger.specs.Fills.{WhereTold}
 use Rattle.range_survey.specs.Reports.{right_below}

@@ -1,0 +1,135 @@
+-- What is so of all kits, from what is so of the first one and of each worker.
+use Rattle.std.proofs.Common.{◌≡◌, ◌∙◌, ◌++◌, ◌∷◌, ◌<◌, ℕ, List, [], Bool, Option, Some, None, IfSome, Result, Ok, Err, length, map, slice_index_or, true, refl, sym, ap, subst, inl, inr, arith}
+use Rattle.std.proofs.lemmas.List.{get_or_default}
+use Rattle.std.proofs.lemmas.Option.{same_Some}
+use Rattle.assembler.proofs.Based.{some_map, told_map}
+use Rattle.assembler.specs.Assemblies.{Assembles, IsObtainable}
+use Rattle.assembler.specs.Obtainable.{IsObtainableOrBase, OnlyObtainable}
+use Rattle.assembler.specs.OneKit.{lent}
+use Rattle.assembler.specs.declared.fault.ExtractFault.{ExtractFault}
+use Rattle.assembler.specs.declared.fault.ExtractFault.TheVariants as faults
+use Rattle.cache_store.specs.Shelves.{Shelf}
+use Rattle.caibx_codec.specs.Listing.{Listing, count_of, image_length}
+use Rattle.chunk_sources.specs.Caches.{Stocked, TakesListed, cached_in}
+use Rattle.chunk_sources.specs.Sources.{Sources, Telling, views_of}
+use Rattle.chunk_sources.specs.Wants.{Task}
+use Rattle.chunk_sources.specs.declared.kit.Kit.{Kit}
+use Rattle.chunk_store.specs.declared.store.Store.{Ghosts as StoreWords}
+use Rattle.dsy_base.specs.Bytes.{Held, resized}
+use Rattle.dsy_base.specs.Maps.{Map}
+use Rattle.dsy_base.specs.declared.view.View.{Ghosts as ViewWords}
+use Rattle.image_workers.specs.Beside.{AssembledBeside, FillsObtainable}
+use Rattle.image_workers.specs.Kits.{AllKitsTell, AreKitsAlike, IsAssembledBy, KitUsed, KnowsFaults, MayFillFrom, NoneUsed, SomeKitHas, at_kit}
+use Rattle.range_ledger.specs.Fills.{WhereTold}
+use Rattle.range_ledger.specs.Runs.{Run}
+use Rattle.range_survey.specs.declared.report.Report.{Report}
+
+-- ---- values that are told
+
+abbrev given : {X : Type 0} → List (Option X) → List X
+given [] = []
+given (None ∷ os) = given os
+given (Some x ∷ os) = x ∷ given os
+
+given_all : {X : Type 0} (xs : List X) → given (map Some xs) ≡ xs
+given_all [] = refl
+given_all (x ∷ xs) = ap (λ ys. x ∷ ys) (given_all xs)
+
+same_given : {X : Type 0} (xs ys : List X) → map Some xs ≡ map Some ys → xs ≡ ys
+same_given xs ys same = sym (given_all xs) ∙ ap given same ∙ given_all ys
+
+told_so : (o p : Option (List ℕ)) (P Q : List ℕ → List ℕ → Type 0) → ((y z : List ℕ) → P y z → Q y z) → WhereTold o p P → WhereTold o p Q
+told_so None p P Q f has = tt
+told_so (Some y) None P Q f has = tt
+told_so (Some y) (Some z) P Q f has = f y z has
+
+-- ---- other words for the same
+
+-- a target that was made into shards isn't one for which nothing else was used
+assembles_so : (l : Listing) (Unused : Type 0) (a b : ℕ) (res : Result Report ExtractFault) (o z : List ℕ) → Assembles l ⊥ a b res o z → Assembles l Unused a b res o z
+assembles_so l Unused a b (Ok r) o z is = is
+assembles_so l Unused a b (Err (faults.Missing k id)) o z is = is
+assembles_so l Unused a b (Err (faults.Damaged k id s shows)) o z is = is
+assembles_so l Unused a b (Err (faults.StoreFault s)) o z is = is
+assembles_so l Unused a b (Err faults.TargetFault) o z (inl none) = absurd none.0
+assembles_so l Unused a b (Err faults.TargetFault) o z (inr torn) = inr torn
+assembles_so l Unused a b (Err faults.Memory) o z is = is
+
+only_so : (l : Listing) (P Q : ℕ → Type 0) → ((i : ℕ) → i < count_of l → P i → Q i) → (a b : ℕ) (res : Result Report ExtractFault) (o z : List ℕ)
+    → OnlyObtainable l P a b res o z → OnlyObtainable l Q a b res o z
+only_so l P Q f a b (Ok r) o z is = λ i inside. f i inside (is i inside)
+only_so l P Q f a b (Err e) o z (inl same) = inl same
+only_so l P Q f a b (Err e) o z (inr only) = inr (record {
+  failed = only.failed;
+  excused = only.excused;
+  each = λ i inside. elim (only.each i inside) [
+    | inl is ↦ inl (f i inside is)
+    | inr base ↦ inr base
+  ];
+})
+
+module _ {S V : Type 0} (store : StoreWords S) (view : ViewWords V) (r : Run) (t : Task) (kits : List (Kit S V)) where
+  -- ---- kits that are alike
+
+  module _ (q : Kit S V) (maps : List (Map (List ℕ))) (alike : AreKitsAlike store view t kits) (telling : Telling view.tells (views_of view (slice_index_or kits 0 q).seeds.items))
+      (told : map store.holds (slice_index_or kits 0 q).chain.stores ≡ map Some maps) where
+    abbrev views : List (Option Held)
+    views = views_of view (slice_index_or kits 0 q).seeds.items
+
+    views_at : (k : ℕ) (z : Kit S V) → k < length kits → views_of view (slice_index_or kits k z).seeds.items ≡ views
+    views_at k z less = ap (λ (p : Kit S V). views_of view p.seeds.items) (get_or_default kits k z q less) ∙ (alike k q less).0
+
+    told_at : (k : ℕ) (z : Kit S V) → k < length kits → map store.holds (slice_index_or kits k z).chain.stores ≡ map Some maps
+    told_at k z less = ap (λ (p : Kit S V). map store.holds p.chain.stores) (get_or_default kits k z q less) ∙ (alike k q less).1 ∙ told
+
+    -- all tell where the first does
+    all_tell : AllKitsTell store view t kits
+    all_tell k z less = (subst (Telling view.tells) (sym (views_at k z less)) telling, (maps, told_at k z less))
+
+    -- what one of them has the first has
+    first_has : (y : List ℕ) (i : ℕ) → SomeKitHas store view t kits [] y i → IsObtainable t (resized y (image_length t.listing)) views maps i
+    first_has y i (k, z, less, at, (more, holds, has)) =
+        let held : views_of view z.seeds.items ≡ views = subst (λ (p : Kit S V). views_of view p.seeds.items ≡ views) at (views_at k z less) in
+        let here : map store.holds z.chain.stores ≡ map Some maps = subst (λ (p : Kit S V). map store.holds p.chain.stores ≡ map Some maps) at (told_at k z less) in
+        let same : more ≡ maps = same_given more maps (sym holds ∙ here) in
+        subst (λ v. IsObtainable t (resized y (image_length t.listing)) v maps i) held
+        (subst (λ ms. IsObtainable t (resized y (image_length t.listing)) (views_of view z.seeds.items) ms i) same has)
+
+    fills_first : (o : Option (List ℕ)) → MayFillFrom store view t r.may o kits → (old : Sources S V) → old.seeds ≡ (slice_index_or kits 0 q).seeds.items → (cached : List (Map (List ℕ))) → cached ≡ []
+        → IfSome o (FillsObtainable store view r t old cached maps)
+    fills_first o fill old seeds cached none =
+        some_map o (λ y. (i : ℕ) → i < count_of t.listing → r.may i ≡ true → SomeKitHas store view t kits [] y i) (FillsObtainable store view r t old cached maps)
+        (λ y has i inside may.
+        subst (λ ms. IsObtainable t (resized y (image_length t.listing)) (views_of view old.seeds) (ms ++ maps) i) (sym none)
+        (subst (λ s. IsObtainable t (resized y (image_length t.listing)) (views_of view s) maps i) (sym seeds) (first_has y i (has i inside may))))
+        (fill all_tell)
+
+  -- ---- all of it
+
+  module _ (never : Bool) (o p : Option (List ℕ)) (f g : ℕ) (outs : List (Kit S V)) (e : Option Shelf) (res : Result Report ExtractFault) where
+    -- what an assembly has done, by what its first worker did and what became of each kit
+    pub assembled_by : MayFillFrom store view t r.may o kits
+        → ((q j : Kit S V) → AssembledBeside store view r t o p (at_kit (lent f kits None) 0 q) (at_kit (lent g outs e) 0 j) res)
+        → Kit S V → e ≡ None → length outs ≡ length kits
+        → ((k : ℕ) (q j : Kit S V) → k < length kits → KitUsed store view t (KnowsFaults never kits) o k (at_kit (lent f kits None) k q) (at_kit (lent g outs e) k j))
+        → IsAssembledBy store view t never o p (lent f kits None) (lent g outs e) res
+    assembled_by fill did some none long each =
+        let old = lent f kits None in
+        let new = lent g outs e in
+        let May : ℕ → Type 0 = λ i. r.may i ≡ true in
+        record {
+          bytes = told_so o p (Assembles t.listing ⊥ f g res) (Assembles t.listing (NoneUsed old new) f g res) (λ y z. assembles_so t.listing (NoneUsed old new) f g res y z) (did some some).bytes;
+          lost = λ q j. (did q j).lost;
+          had = λ tell cached is. told_map o p (λ y. (i : ℕ) → i < count_of t.listing → May i → SomeKitHas store view t kits [] y i) (OnlyObtainable t.listing May f g res)
+              (λ y z. OnlyObtainable t.listing (SomeKitHas store view t kits cached y) f g res y z)
+              (λ y z has. only_so t.listing May (SomeKitHas store view t kits cached y)
+              (λ i inside may. subst (λ c. SomeKitHas store view t kits c y i) (same_Some [] cached is) (has i inside may)) f g res y z)
+              (fill tell) (did some some).had;
+          exactly = λ alike q j cached maps nothing one. (did q j).exactly cached maps nothing one
+              (fills_first q maps alike nothing.telling nothing.told o fill (at_kit old 0 q) refl cached (sym (same_Some [] cached nothing.told_cache)));
+          after = λ alike q j cached maps nothing one. (did q j).after cached maps nothing one
+              (fills_first q maps alike nothing.telling nothing.told o fill (at_kit old 0 q) refl cached (sym (same_Some [] cached nothing.told_cache)));
+          stocked = λ q. subst (λ s. Stocked (TakesListed store t.listing (at_kit old 0 q).chain.stores) None s) (sym none) tt;
+          kits = long;
+          each = each;
+        }

@@ -1,0 +1,7 @@
+pub mod Beside
+pub mod Going
+pub mod Kits
+pub mod Moving
+pub mod Permitting
+pub mod Spared
+pub mod Working

@@ -1,0 +1,62 @@
+-- What a worker has done, by what its pass says.
+use Rattle.std.proofs.Common.{◌≡◌, ℕ, ◌&&◌, ◌<◌, List, [], Bool, true, false, Option, Some, None, IfErr, IsTrue, OnOk, Result, Ok, Err, refl, sym, subst, ◌∙◌, inl, inr}
+use Rattle.std.proofs.lemmas.Bool.{true≢false}
+use Rattle.std.specs.Result.{is_err}
+use Rattle.assembler.specs.Economy.{PassedBy}
+use Rattle.assembler.specs.Passes.{HasPassedShare, WhereQuiet, source_at}
+use Rattle.assembler.specs.Permits.{deals_to}
+use Rattle.assembler.specs.Stages.{Stage, from}
+use Rattle.cache_store.specs.Shelves.{Shelf}
+use Rattle.caibx_codec.specs.Listing.{count_of, image_length}
+use Rattle.chunk_sources.specs.Caches.{Stocked, TakesWants}
+use Rattle.chunk_sources.specs.Economy.{source_if}
+use Rattle.chunk_sources.specs.Losses.{MayLack}
+use Rattle.chunk_sources.specs.Wants.{Task}
+use Rattle.chunk_sources.specs.declared.kit.Kit.{Kit}
+use Rattle.chunk_store.specs.declared.store.Store.{Ghosts as StoreWords}
+use Rattle.dsy_base.specs.declared.fault.Memory.{Memory}
+use Rattle.dsy_base.specs.declared.view.View.{Ghosts as ViewWords}
+use Rattle.image_workers.specs.Lanes.{HasWorked, worker_stage}
+use Rattle.range_ledger.specs.Runs.{Run}
+use Rattle.range_survey.specs.declared.fate.Fate.{Fate}
+
+-- where there was no cache there is none
+pub stays_none : (Takes : List ℕ → List ℕ → Type 0) (s : Option Shelf) → Stocked Takes None s → s ≡ None
+stays_none Takes None same = refl
+stays_none Takes (Some t) same = absurd same
+
+is_ok_of : {P : Type 0} (res : Result Unit Memory) → is_err res ≡ false → OnOk res P → P
+is_ok_of (Ok u) isnt has = has
+is_ok_of (Err e) isnt has = absurd (true≢false isnt)
+
+lacked_of : {P : Type 0} (res : Result Unit Memory) → is_err res ≡ true → IfErr res (λ _. P) → P
+lacked_of (Ok u) is has = absurd (true≢false (sym is))
+lacked_of (Err e) is has = has
+
+pub without_cache : {S : Type 0} (store : StoreWords S) → MayLack store None → IsTrue store.may_lack_memory
+without_cache store (inl may) = may
+without_cache store (inr some) = absurd (cc)
+
+module _ {S V : Type 0} (store : StoreWords S) (view : ViewWords V) (r : Run) (t : Task) (never : Bool) (k : ℕ) (a b : Kit S V) (m n : List Fate) (f0 faults : ℕ) (s : Option Shelf) where
+  abbrev pub later : Stage S V
+  later = record { held = record { bytes = None; size = image_length r.listing; name = [] }; faults = faults; fates = n; kit = b; cache = s }
+
+  abbrev pub Paid : ℕ → Stage S V → (Type 0 → Type 0) → Type 0
+  Paid f y If = WhereQuiet store view r.listing (from (worker_stage r m f a)) (from y) (λ cached maps. If (PassedBy (source_if (deals_to t.plan k)
+      (source_at view t (worker_stage r m f a) cached maps)) t.plan.wants (count_of r.listing) m n a.chain b.chain))
+
+  pub worked : (lacked : Bool) (res : Result Unit Memory) → lacked ≡ is_err res → f0 ≡ 0 → (IsTrue (never && r.tells) → faults ≡ 0)
+      → HasPassedShare store view t (deals_to t.plan k) (worker_stage r m f0 a) later
+      → IfErr res (λ _. MayLack store None) → Paid f0 later (λ P. OnOk res P) → HasWorked store view r t never k a m b n lacked
+  worked lacked res is zero_is sure passed memory exactly =
+      let none : s ≡ None = stays_none (TakesWants store t.listing t.plan (λ w. (w < t.plan.wants) × (deals_to t.plan k w ≡ true)) a.chain.stores) s passed.stretch.stocked in
+      let end : Option Shelf → Stage S V = λ x. record { held = record { bytes = None; size = image_length r.listing; name = [] }; faults = faults; fates = n; kit = b; cache = x } in
+      record {
+        faults = faults;
+        sure = sure;
+        passed = subst (λ (x : Option Shelf). HasPassedShare store view t (deals_to t.plan k) (worker_stage r m 0 a) (end x)) none
+            (subst (λ (f : ℕ). HasPassedShare store view t (deals_to t.plan k) (worker_stage r m f a) (end s)) zero_is passed);
+        memory = λ so. without_cache store (lacked_of res (sym is ∙ so) memory);
+        exactly = λ so. subst (λ (x : Option Shelf). Paid 0 (end x) (λ P. P)) none
+            (subst (λ (f : ℕ). Paid f (end s) (λ P. P)) zero_is (λ cached maps nothing one. is_ok_of res (sym is ∙ so) (exactly cached maps nothing one)));
+      }

@@ -1,0 +1,263 @@
+use Rattle.std.proofs.Common.{◌≡◌, ◌∙◌, inl, inr, ◌<◌, ◌∷◌, ◌≤◌, ℕ, suc, zero, List, [], true, false, All, IsSome, None, Some, length, map, refl, reverse, slice_index_or, sym, ap, subst, arith, rules}
+use Rattle.std.proofs.lemmas.Bool.{cases_Bool, true≢false}
+use Rattle.std.proofs.lemmas.List.{length-map, length-reverse, reverse-append, with_items_is}
+use Rattle.std.specs.Vec.{with_items}
+use Rattle.assembler.specs.OneKit.{lent}
+use Rattle.assembler.specs.Stages.{task}
+use Rattle.chunk_sources.specs.Caches.{TakesWants, seen}
+use Rattle.chunk_sources.specs.Sources.{sources, views_of}
+use Rattle.chunk_sources.specs.declared.kit.Kit.{Kit}
+use Rattle.image_workers.proofs.Going.{a_kit, all_there, as_many, filled_of, ready_again, ready_at, worked_at}
+use Rattle.image_workers.proofs.Kits.{assembled_by}
+use Rattle.image_workers.proofs.Permitting.{permits}
+use Rattle.image_workers.proofs.Spared.{WasInShards, used_once, used_twice}
+use Rattle.image_workers.proofs.Working.{stays_none}
+use Rattle.image_workers.specs.Beside.{AssembledBeside, joined_stage}
+use Rattle.image_workers.specs.Kits.{KitUsed, KnowsFaults, at_kit}
+use Rattle.image_workers.specs.Lanes.{HasWorked, IsReadyFor, kit_of, tools_of}
+use Rattle.image_workers.specs.declared.lanes.Lane.{Lane}
+use Rattle.range_survey.specs.declared.fate.Fate.{Fate}
+use Rattle.image_workers.proofs.together.run_workers.Given.{Over}
+use Rattle.image_workers.proofs.together.run_workers.Goals.{After-deref_mut, After-reverse, After-some_lacked-lacked, In-Some}
+use Rattle.image_workers.proofs.together.run_workers.Goals as goal
+
+lanes_are : (g : Over) (c : After-deref_mut g) → map tools_of c.deref_mut.result.now ≡ map (λ (q : Kit g.row.S.Denot g.row.V.Denot). Some (q, c.args.shards.fates)) c.args.kits.items
+lanes_are g c = ap (map tools_of) c.deref_mut.ensures.value ∙ c.lanes_of-room.ensures.lanes
+
+many : (g : Over) (c : After-deref_mut g) → length c.deref_mut.result.now ≡ length c.args.kits.items
+many g c = as_many c.args.kits.items c.args.shards.fates c.deref_mut.result.now (lanes_are g c)
+
+pub pass_all-shards-requires-clause-ready : goal.pass_all-shards-requires-clause-ready
+pass_all-shards-requires-clause-ready g c κs within =
+    let here = (goal.at.pass_all-shards-requires-clause-ready g c).After-deref_mut in
+    ready_at c.args.kits.items c.args.shards.fates c.deref_mut.result.now (lanes_are g here) (IsReadyFor g.S.Store g.V.View g.R.RunName.run (task g.R.RunName.run.listing c.args.wants.now)) c.requires.ready
+
+many_kits : (g : Over) (c : After-deref_mut g) → 2 ≤ length c.args.kits.items
+many_kits g c = search rules
+
+some_kit : (g : Over) (c : After-deref_mut g) → 0 < length c.args.kits.items
+some_kit g c = omega (arith, many_kits g c)
+
+pub pass_all-shards-requires-clause-some : goal.pass_all-shards-requires-clause-some
+pass_all-shards-requires-clause-some g c κs within =
+    let here = (goal.at.pass_all-shards-requires-clause-some g c).After-deref_mut in
+    omega (arith, some_kit g here, many g here)
+
+after : (g : Over) (c : After-some_lacked-lacked g) → (with_items c.lanes_of-room.result.1 c.pass_all-shards.new.lanes).items ≡ c.pass_all-shards.new.lanes
+after g c = with_items_is c.lanes_of-room.result.1 c.pass_all-shards.new.lanes (omega (arith, c.pass_all-shards.ensures.lanes, c.deref_mut.ensures.len))
+
+pub kits_of-kits-requires-clause-there : goal.kits_of-kits-requires-clause-there
+kits_of-kits-requires-clause-there g c =
+    let here = (goal.at.kits_of-kits-requires-clause-there g c).After-some_lacked-lacked in
+    let early = (goal.at.kits_of-kits-requires-clause-there g c).After-deref_mut in
+    subst (λ (ys : List (Lane g.row.S.Denot g.row.V.Denot)). All (λ a. IsSome (kit_of a)) ys) (sym (after g here))
+    (all_there c.args.kits.items c.args.shards.fates c.deref_mut.result.now (lanes_are g early) g.S.Store g.V.View g.R.RunName.run (task g.R.RunName.run.listing c.args.wants.now) g.T.View.never_fails
+    c.pass_all-shards.new.lanes c.pass_all-shards.ensures.lanes c.pass_all-shards.ensures.each)
+
+pub kits_of-kits-requires-clause-room : goal.kits_of-kits-requires-clause-room
+kits_of-kits-requires-clause-room g c =
+    let early = (goal.at.kits_of-kits-requires-clause-room g c).After-deref_mut in
+    omega (arith, c.lanes_of-room.ensures.room, many g early, c.deref_mut.ensures.len, (let same : length c.args.kits.items ≡ c.args.kits.len = search rules in same))
+
+-- the kits as they come out of the lanes
+outs_are : (g : Over) (c : In-Some g) → reverse c.kits_of-kits.result.items ≡ c.in-Some.kit ∷ reverse c.pop.new.self.items
+outs_are g c = ap reverse c.in-Some.ensures.items ∙ reverse-append c.pop.new.self.items (c.in-Some.kit ∷ [])
+
+kits_are : (g : Over) (c : In-Some g) → map (λ (q : Kit g.row.S.Denot g.row.V.Denot). Some q) (reverse c.kits_of-kits.result.items) ≡ map kit_of c.pass_all-shards.new.lanes
+kits_are g c = c.kits_of-kits.ensures.kits ∙ ap (map kit_of) (with_items_is c.lanes_of-room.result.1 c.pass_all-shards.new.lanes (omega (arith, c.pass_all-shards.ensures.lanes, c.deref_mut.ensures.len)))
+
+lanes_so : (g : Over) (c : In-Some g) → map tools_of c.deref_mut.result.now ≡ map (λ (q : Kit g.row.S.Denot g.row.V.Denot). Some (q, c.args.shards.fates)) c.args.kits.items
+lanes_so g c = ap (map tools_of) c.deref_mut.ensures.value ∙ c.lanes_of-room.ensures.lanes
+
+abbrev none_there : (g : Over) → Lane g.row.S.Denot g.row.V.Denot
+none_there g = record { tools = None; lacked = false }
+
+-- what each worker has done
+went : (g : Over) (c : In-Some g) (k : ℕ) (q p : Kit g.row.S.Denot g.row.V.Denot) → k < length c.args.kits.items
+    → (n : List Fate) × HasWorked g.S.Store g.V.View g.R.RunName.run (task g.R.RunName.run.listing c.args.wants.now) g.T.View.never_fails k (slice_index_or c.args.kits.items k q) c.args.shards.fates
+    (slice_index_or (reverse c.kits_of-kits.result.items) k p) n (slice_index_or c.pass_all-shards.new.lanes k (none_there g)).lacked
+went g c = worked_at c.args.kits.items c.args.shards.fates c.deref_mut.result.now (lanes_so g c) g.S.Store g.V.View g.R.RunName.run (task g.R.RunName.run.listing c.args.wants.now) g.T.View.never_fails
+    c.pass_all-shards.new.lanes c.pass_all-shards.ensures.lanes c.pass_all-shards.ensures.each (reverse c.kits_of-kits.result.items) (kits_are g c)
+
+many_there : (g : Over) (c : In-Some g) → 2 ≤ length c.args.kits.items
+many_there g c = search rules
+
+some_one : (g : Over) (c : In-Some g) → 0 < length c.args.kits.items
+some_one g c = omega (arith, many_there g c)
+
+first_kit : (g : Over) (c : In-Some g) → Kit g.row.S.Denot g.row.V.Denot
+first_kit g c = a_kit c.args.kits.items (some_one g c)
+
+-- the first has
+first_went : (g : Over) (c : In-Some g) (q : Kit g.row.S.Denot g.row.V.Denot)
+    → (n : List Fate) × HasWorked g.S.Store g.V.View g.R.RunName.run (task g.R.RunName.run.listing c.args.wants.now) g.T.View.never_fails 0 (slice_index_or c.args.kits.items 0 q) c.args.shards.fates
+    c.in-Some.kit n (slice_index_or c.pass_all-shards.new.lanes 0 (none_there g)).lacked
+first_went g c q =
+    let h = went g c 0 q c.in-Some.kit (some_one g c) in
+    let is : slice_index_or (reverse c.kits_of-kits.result.items) 0 c.in-Some.kit ≡ c.in-Some.kit = ap (λ (zs : List (Kit g.row.S.Denot g.row.V.Denot)). slice_index_or zs 0 c.in-Some.kit) (outs_are g c) in (
+      h.0,
+      subst (λ (b : Kit g.row.S.Denot g.row.V.Denot). HasWorked g.S.Store g.V.View g.R.RunName.run (task g.R.RunName.run.listing c.args.wants.now) g.T.View.never_fails 0
+          (slice_index_or c.args.kits.items 0 q) c.args.shards.fates b h.0 (slice_index_or c.pass_all-shards.new.lanes 0 (none_there g)).lacked) is h.1,
+    )
+
+pub finish-target-requires-clause-ready : goal.finish-target-requires-clause-ready
+finish-target-requires-clause-ready g c =
+    let here = (goal.at.finish-target-requires-clause-ready g c).In-Some in
+    let q = first_kit g here in
+    let h = first_went g here q in
+    ready_again g.S.Store g.V.View g.R.RunName.run c.args.wants.now.plan.now c.args.wants.now.places.now g.T.View.never_fails (slice_index_or c.args.kits.items 0 q) c.in-Some.kit c.args.shards.fates h.0
+    (slice_index_or c.pass_all-shards.new.lanes 0 (none_there g)).lacked c.pass_all-shards.result (c.requires.ready 0 q (some_one g here)) h.1
+
+pub finish-target-requires-clause-may : goal.finish-target-requires-clause-may
+finish-target-requires-clause-may g c =
+    let here = (goal.at.finish-target-requires-clause-may g c).In-Some in
+    let r = g.R.RunName.run in
+    let d = c.args.wants.now.plan.now in
+    let x = c.args.wants.now.places.now in
+    let q = first_kit g here in
+    let first = slice_index_or c.args.kits.items 0 q in
+    let wants = (c.requires.ready 0 q (some_one g here)).ready.wants in
+    let step = (first_went g here q).1.passed.stretch.step in
+    let w = c.pass_all-shards.result in
+    permits r d x wants g.S.Store g.V.View (views_of g.V.View first.seeds.items) (map g.S.Store.holds first.chain.stores) (c.requires.permits q) (joined_stage w c.in-Some.kit) refl step.seeds.held step.stores.held
+    (filled_of g.S.Store g.V.View r d x wants w w.held.bytes (c.keeps-2.ensures.tells ∙ c.requires.tells) c.keeps-2.ensures.kept) (λ _. Unit {0})
+
+-- ---- memory
+
+lanes_seen : (g : Over) (c : After-some_lacked-lacked g) → c.deref.result.now ≡ c.pass_all-shards.new.lanes
+lanes_seen g c = c.deref.ensures.value ∙ after g c
+
+pub finish-target-requires-clause-lacked : goal.finish-target-requires-clause-lacked
+finish-target-requires-clause-lacked g c = λ is.
+    let here = (goal.at.finish-target-requires-clause-lacked g c).In-Some in
+    let before = (goal.at.finish-target-requires-clause-lacked g c).After-some_lacked-lacked in
+    let early = (goal.at.finish-target-requires-clause-lacked g c).After-deref_mut in
+    let at = c.some_lacked-lacked.ensures.yes is in
+    let q = first_kit g here in
+    let less : at.0 < length c.args.kits.items = omega (arith, at.1, ap (λ (zs : List (Lane g.row.S.Denot g.row.V.Denot)). length zs) (lanes_seen g before), c.pass_all-shards.ensures.lanes, many g early) in
+    (went g here at.0 q q less).1.memory (subst (λ (zs : List (Lane g.row.S.Denot g.row.V.Denot)). (slice_index_or zs at.0 (none_there g)).lacked ≡ true) (lanes_seen g before) (at.2 (none_there g)))
+
+-- ---- the kits in the end
+
+kits_back : (g : Over) (c : After-reverse g) → c.reverse.new.self.items ≡ c.finish-target.result.kit ∷ reverse c.pop.new.self.items
+kits_back g c = c.reverse.ensures.items ∙ ap reverse c.put_back.ensures.items ∙ reverse-append c.pop.new.self.items (c.finish-target.result.kit ∷ [])
+
+same_later : {A : Type 0} (xs ys zs : List A) (x y : A) → xs ≡ x ∷ zs → ys ≡ y ∷ zs → (k : ℕ) (p : A) → 0 < k → slice_index_or xs k p ≡ slice_index_or ys k p
+same_later xs ys zs x y one other zero p some = absurd (omega (arith, some))
+same_later xs ys zs x y one other (suc k) p some = ap (λ ws. slice_index_or ws (suc k) p) one ∙ sym (ap (λ ws. slice_index_or ws (suc k) p) other)
+
+as_many_kits : {A : Type 0} (xs ys zs : List A) (x y : A) → xs ≡ x ∷ zs → ys ≡ y ∷ zs → length ys ≡ length xs
+as_many_kits xs ys zs x y one other = ap length other ∙ sym (ap length one)
+
+by_worker : (P : ℕ → Type 0) → P 0 → ((k : ℕ) → 0 < k → P k) → (k : ℕ) → P k
+by_worker P first others zero = first
+by_worker P first others (suc k) = others (suc k) (omega arith)
+
+out_long : (g : Over) (c : In-Some g) → length (reverse c.kits_of-kits.result.items) ≡ length c.pass_all-shards.new.lanes
+out_long g c = sym (length-map (reverse c.kits_of-kits.result.items) (λ (q : Kit g.row.S.Denot g.row.V.Denot). Some q)) ∙ ap length (kits_are g c) ∙ length-map c.pass_all-shards.new.lanes kit_of
+
+pub returns-clause-size : goal.returns-clause-size
+returns-clause-size g c =
+    let here = (goal.at.returns-clause-size g c).In-Some in
+    let early = (goal.at.returns-clause-size g c).After-deref_mut in
+    let last = (goal.at.returns-clause-size g c).After-reverse in
+    let same = as_many_kits (reverse c.kits_of-kits.result.items) c.reverse.new.self.items (reverse c.pop.new.self.items) c.in-Some.kit c.finish-target.result.kit (outs_are g here) (kits_back g last) in
+    (omega (arith, same, out_long g here, c.pass_all-shards.ensures.lanes, many g early), c.finish-target.ensures.size)
+
+pub returns-clause-faults : goal.returns-clause-faults
+returns-clause-faults g c = omega (arith, c.pass_all-shards.ensures.before, c.keeps-2.ensures.faults, c.finish-target.ensures.faults)
+
+pub returns-clause-bytes : goal.returns-clause-bytes
+returns-clause-bytes g c = λ old f begun.
+    let here = (goal.at.returns-clause-bytes g c).In-Some in
+    let q = first_kit g here in
+    let first = slice_index_or c.args.kits.items 0 q in
+    let step = (first_went g here q).1.passed.stretch.step in
+    (c.finish-target.ensures.assembled old.bytes (sources f first.seeds.items None first.chain) (record {
+      before = subst (λ (n : ℕ). f ≤ n) (sym c.pass_all-shards.ensures.before) begun.before;
+      base = begun.base;
+      told = begun.told;
+      tells = c.keeps-2.ensures.tells ∙ c.requires.tells;
+      permits = c.requires.permits q;
+      cache = refl;
+      seeds = step.seeds;
+      stores = step.stores;
+    })).bytes
+
+pub returns-clause-kits : goal.returns-clause-kits
+returns-clause-kits g c = λ old f begun fill.
+    let here = (goal.at.returns-clause-kits g c).In-Some in
+    let early = (goal.at.returns-clause-kits g c).After-deref_mut in
+    let last = (goal.at.returns-clause-kits g c).After-reverse in
+    let r = g.R.RunName.run in
+    let d = c.args.wants.now.plan.now in
+    let x = c.args.wants.now.places.now in
+    let t = task r.listing c.args.wants.now in
+    let kits = c.args.kits.items in
+    let worked = reverse c.kits_of-kits.result.items in
+    let outs = c.reverse.new.self.items in
+    let never = g.T.View.never_fails in
+    let w0 = c.args.shards in
+    let w1 = c.pass_all-shards.result in
+    let end = c.finish-target.result in
+    let count = g.T.View.faults end.target in
+    let e = seen g.F.Look end.cache in
+    let from_first : Kit g.row.S.Denot g.row.V.Denot → _ = λ q. sources f (slice_index_or kits 0 q).seeds.items None (slice_index_or kits 0 q).chain in
+    let to_kit : Kit g.row.S.Denot g.row.V.Denot → _ = λ b. sources count b.seeds.items e b.chain in
+    let back : (j : Kit g.row.S.Denot g.row.V.Denot) → end.kit ≡ slice_index_or outs 0 j = λ j. sym (ap (λ (zs : List (Kit g.row.S.Denot g.row.V.Denot)). slice_index_or zs 0 j) (kits_back g last)) in
+    let wants = (c.requires.ready 0 (first_kit g here) (some_one g here)).ready.wants in
+    let passed = c.finish-target.ensures.passed.1 in
+    let was : WasInShards g.S.Store g.V.View r d x wants never old.bytes f count w0 w1 = record {
+      base = begun.base;
+      told = begun.told;
+      before = begun.before;
+      sure = c.pass_all-shards.ensures.sure;
+      same = c.pass_all-shards.ensures.before;
+      rises = c.keeps-2.ensures.faults;
+      ends = c.finish-target.ensures.faults;
+      tells = c.keeps.ensures.tells ∙ c.requires.tells;
+      kept = c.keeps.ensures.kept;
+      tells_then = c.keeps-2.ensures.tells ∙ c.requires.tells;
+      kept_then = c.keeps-2.ensures.kept;
+    } in
+    assembled_by g.S.Store g.V.View r t kits never old.bytes (g.T.View.held end.target).bytes f count outs e end.answer fill
+    (λ q j.
+    let step = (first_went g here q).1.passed.stretch.step in
+    subst (λ (b : Kit g.row.S.Denot g.row.V.Denot). AssembledBeside g.S.Store g.V.View r t old.bytes (g.T.View.held end.target).bytes (from_first q) (to_kit b) end.answer) (back j)
+    (c.finish-target.ensures.assembled old.bytes (from_first q) (record {
+      before = subst (λ (n : ℕ). f ≤ n) (sym was.same) was.before;
+      base = was.base;
+      told = was.told;
+      tells = was.tells_then;
+      permits = c.requires.permits q;
+      cache = refl;
+      seeds = step.seeds;
+      stores = step.stores;
+    })))
+    (first_kit g here)
+    (stays_none (TakesWants g.S.Store t.listing t.plan (λ v. v < t.plan.wants) c.in-Some.kit.chain.stores) e passed.stretch.stocked)
+    (omega (arith, as_many_kits worked outs (reverse c.pop.new.self.items) c.in-Some.kit end.kit (outs_are g here) (kits_back g last), out_long g here, c.pass_all-shards.ensures.lanes, many g early))
+    (λ k q j. by_worker (λ n. n < length kits → KitUsed g.S.Store g.V.View t (KnowsFaults never kits) old.bytes n (at_kit (lent f kits None) n q) (at_kit (lent count outs e) n j))
+    (λ less.
+    let h = first_went g here q in
+    subst (λ (b : Kit g.row.S.Denot g.row.V.Denot). KitUsed g.S.Store g.V.View t (KnowsFaults never kits) old.bytes 0 (from_first q) (to_kit b)) (back j)
+    (used_twice g.S.Store g.V.View r d x wants kits never old.bytes f count w0 w1 was (many_there g here) (slice_index_or kits 0 q) c.in-Some.kit h.0
+    (slice_index_or c.pass_all-shards.new.lanes 0 (none_there g)).lacked h.1
+    (record { held = g.T.View.held end.target; faults = count; fates = c.finish-target.ensures.passed.0; kit = end.kit; cache = e }) refl passed))
+    (λ n later less.
+    let h = went g here n q j less in
+    subst (λ (b : Kit g.row.S.Denot g.row.V.Denot). KitUsed g.S.Store g.V.View t (KnowsFaults never kits) old.bytes n (at_kit (lent f kits None) n q) (to_kit b))
+    (same_later worked outs (reverse c.pop.new.self.items) c.in-Some.kit end.kit (outs_are g here) (kits_back g last) n j later)
+    (used_once g.S.Store g.V.View r d x wants kits never old.bytes f count w0 w1 was (many_there g here) n (slice_index_or kits n q) (slice_index_or worked n j) h.0
+    (slice_index_or c.pass_all-shards.new.lanes n (none_there g)).lacked h.1 e))
+    k)
+
+pub unreachable-requires : goal.unreachable-requires
+unreachable-requires g c =
+    let before = (goal.at.unreachable-requires g c).After-some_lacked-lacked in
+    let early = (goal.at.unreachable-requires g c).After-deref_mut in
+    let items = c.kits_of-kits.result.items in
+    let same : map (λ (q : Kit g.row.S.Denot g.row.V.Denot). Some q) (reverse items) ≡ map kit_of c.pass_all-shards.new.lanes = c.kits_of-kits.ensures.kits ∙ ap (map kit_of) (after g before) in
+    let long : length (reverse items) ≡ length c.pass_all-shards.new.lanes = sym (length-map (reverse items) (λ (q : Kit g.row.S.Denot g.row.V.Denot). Some q)) ∙ ap length same ∙ length-map c.pass_all-shards.new.lanes kit_of in
+    let some : 0 < length items = omega (arith, long, length-reverse items, c.pass_all-shards.ensures.lanes, many g early, some_kit g early) in
+    absurd (true≢false (sym (c.in_default.ensures.variant.1 (let size : c.kits_of-kits.result.len ≡ length items = search rules in omega (arith, some, size)))))

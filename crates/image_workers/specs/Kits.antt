@@ -1,0 +1,118 @@
+-- What an assembly has done with any number of kits. Kits and wants count from 0, and kit k is that of worker k. `o`
+-- are the target's bytes before it, p those after it.
+use Rattle.std.specs.Prelude.{◌≡◌, ◌⊎◌, ◌++◌, ℕ, zero, suc, ◌+◌, ◌<◌, List, [], length, map, slice_index_or, Bool, true}
+use Rattle.std.specs.Prelude.{Option, Some, IfSome, IsSomeAnd, IsTrue, Result}
+use Rattle.std.specs.List.{All, Any}
+use Rattle.assembler.specs.Assemblies.{After, Assembles, IsObtainable, IsUnobtained, Verdict}
+use Rattle.assembler.specs.Obtainable.{OnlyObtainable}
+use Rattle.assembler.specs.OneKit.{Lent, with_kit}
+use Rattle.assembler.specs.Passes.{EndsBy, WhereQuiet}
+use Rattle.assembler.specs.Permits.{deals_to}
+use Rattle.assembler.specs.declared.fault.ExtractFault.{ExtractFault}
+use Rattle.caibx_codec.specs.Asks.{IsListedGet}
+use Rattle.caibx_codec.specs.Listing.{Listing, count_of, image_length}
+use Rattle.caibx_codec.specs.Right.{IsRightAt}
+use Rattle.chunk_sources.specs.Asks.{AsksAtMost, IsSpared, asks_below, calls_below, others_spared}
+use Rattle.chunk_sources.specs.Caches.{Stocked, TakesListed, cached_in}
+use Rattle.chunk_sources.specs.Sources.{KeepsSeeds, Sources, Telling, views_of}
+use Rattle.chunk_sources.specs.Wants.{Task}
+use Rattle.chunk_sources.specs.declared.kit.Kit.{Kit}
+use Rattle.chunk_store.specs.declared.store.Store.{Ghosts as StoreWords}
+use Rattle.dsy_base.specs.Bytes.{resized}
+use Rattle.dsy_base.specs.Counts.{Rose}
+use Rattle.dsy_base.specs.Maps.{Map}
+use Rattle.dsy_base.specs.declared.view.View.{Ghosts as ViewWords}
+use Rattle.extract_plan.specs.Deal.{Deal, want_id}
+use Rattle.range_ledger.specs.Fills.{WhereTold}
+use Rattle.range_survey.specs.declared.report.Report.{Report}
+use Rattle.store_chain.specs.Chains.{KeepsStores}
+
+-- no kit was used, nor the cache
+abbrev pub NoneUsed : {S V : Type 0} → Lent S V → Lent S V → Type 0
+NoneUsed old new = (new.kits ≡ old.kits) × (new.cache ≡ old.cache)
+
+-- what chunks are got from with kit k
+abbrev pub at_kit : {S V : Type 0} → Lent S V → ℕ → Kit S V → Sources S V
+at_kit a k q = with_kit a (slice_index_or a.kits k q)
+
+-- what the second pass adds to what worker k does: so much for the first worker, nothing for another
+abbrev pub once_more : ℕ → ℕ → ℕ
+once_more zero n = n
+once_more (suc k) n = 0
+
+-- how often worker k asks at most: for each want that it is dealt, and the first worker once more for each want; not
+-- for a spared one
+abbrev pub worker_calls : Deal → (ℕ → Bool) → ℕ → ℕ
+worker_calls d spared k = calls_below (others_spared (deals_to d k) spared) d.wants
+    + once_more k (calls_below spared d.wants)
+
+-- and how often for the id q
+abbrev pub worker_asks : Listing → Deal → (ℕ → Bool) → ℕ → List ℕ → ℕ
+worker_asks l d spared k q = asks_below (want_id l d) (others_spared (deals_to d k) spared) d.wants q
+    + once_more k (asks_below (want_id l d) spared d.wants q)
+
+-- a fault of the target is known of all workers: there is one, or the target's type never fails
+abbrev pub KnowsFaults : {K : Type 0} → Bool → List K → Type 0
+KnowsFaults never_fails kits = (length kits ≡ 1) ⊎ IsTrue never_fails
+
+module _ {S V : Type 0} (store : StoreWords S) (view : ViewWords V) (t : Task) where
+  -- want w is had without the stores: an entry of it is right in the base, and the target didn't fail, of which all
+  -- workers know; or a seed gives it that didn't fail; or the opening cache does, which didn't fail
+  abbrev pub IsSparedFor : Type 0 → Option (List ℕ) → Sources S V → Sources S V → ℕ → Type 0
+  IsSparedFor Known o old new w = IsSpared store view t
+      (λ j. IsSomeAnd o (λ b. IsRightAt (resized b (image_length t.listing)) t.listing j) × Known) old new w
+
+  -- what became of the kit of worker k. Only listed chunks were asked for
+  pub record KitUsed (Known : Type 0) (o : Option (List ℕ)) (k : ℕ) (old new : Sources S V) : Type 0 where
+    pub asks : (spared : ℕ → Bool)
+        → ((w : ℕ) → w < t.plan.wants → spared w ≡ true → IsSparedFor Known o old new w)
+        → AsksAtMost store (worker_calls t.plan spared k) (worker_asks t.listing t.plan spared k) old.chain
+        new.chain
+    pub stores : KeepsStores store (IsListedGet t.listing) old.chain.stores new.chain.stores
+    pub seeds : KeepsSeeds view old.seeds new.seeds
+    pub kind : new.chain.kind ≡ old.chain.kind
+
+  -- the seeds of each kit hold what those of the first do, and its stores tell what those of the first tell
+  abbrev pub AreKitsAlike : List (Kit S V) → Type 0
+  AreKitsAlike kits = (k : ℕ) (q : Kit S V) → k < length kits →
+      (views_of view (slice_index_or kits k q).seeds.items ≡ views_of view (slice_index_or kits 0 q).seeds.items)
+      × (map store.holds (slice_index_or kits k q).chain.stores
+      ≡ map store.holds (slice_index_or kits 0 q).chain.stores)
+
+  -- the seeds of each kit tell what they hold, and its stores do
+  abbrev pub AllKitsTell : List (Kit S V) → Type 0
+  AllKitsTell kits = All (λ k. Telling view.tells (views_of view k.seeds.items)
+      × ((maps : List (Map (List ℕ))) × (map store.holds k.chain.stores ≡ map Some maps))) kits
+
+  -- entry i can be had with one of these kits, over these bytes of the target; the cache holds these maps
+  abbrev pub SomeKitHas : List (Kit S V) → List (Map (List ℕ)) → List ℕ → ℕ → Type 0
+  SomeKitHas kits cached y i = Any (λ k. (maps : List (Map (List ℕ))) × (map store.holds k.chain.stores ≡ map Some maps)
+      × IsObtainable t (resized y (image_length t.listing)) (views_of view k.seeds.items) (cached ++ maps) i) kits
+
+  -- what may be filled can be had with one of these kits over the target's bytes, where all of them tell
+  abbrev pub MayFillFrom : (ℕ → Bool) → Option (List ℕ) → List (Kit S V) → Type 0
+  MayFillFrom may o kits = AllKitsTell kits
+      → IfSome o (λ y. (i : ℕ) → i < count_of t.listing → may i ≡ true → SomeKitHas kits [] y i)
+
+  -- what an assembly has done, from these bytes and this loan to those. A lost entry is one that the first kit didn't
+  -- get. What stands where nothing fails is over the first kit, where all kits are alike
+  pub record IsAssembledBy (never_fails : Bool) (o p : Option (List ℕ)) (old new : Lent S V)
+      (answer : Result Report ExtractFault) : Type 0 where
+    pub bytes : WhereTold o p (Assembles t.listing (NoneUsed old new) old.faults new.faults answer)
+    pub lost : (q j : Kit S V) → EndsBy (IsUnobtained store view t o (at_kit old 0 q) (at_kit new 0 j))
+        (Rose old.faults new.faults) answer
+    pub had : AllKitsTell old.kits → (cached : List (Map (List ℕ))) → cached_in old.cache ≡ Some cached
+        → WhereTold o p (λ y z. OnlyObtainable t.listing (SomeKitHas old.kits cached y) old.faults new.faults answer
+        y z)
+    pub exactly : AreKitsAlike old.kits → (q j : Kit S V) → WhereQuiet store view t.listing (at_kit old 0 q)
+        (at_kit new 0 j) (λ cached maps. IfSome o (λ y. Verdict t.listing (IsObtainable t (resized y (image_length
+        t.listing)) (views_of view (at_kit old 0 q).seeds) (cached ++ maps)) answer))
+    pub after : AreKitsAlike old.kits → (q j : Kit S V) → WhereQuiet store view t.listing (at_kit old 0 q)
+        (at_kit new 0 j) (λ cached maps. WhereTold o p (λ y z. After t.listing (IsObtainable t (resized y (image_length
+        t.listing)) (views_of view (at_kit old 0 q).seeds) (cached ++ maps)) (resized y (image_length t.listing)) z
+        answer))
+    pub stocked : (q : Kit S V) → Stocked (TakesListed store t.listing (at_kit old 0 q).chain.stores) old.cache
+        new.cache
+    pub kits : length new.kits ≡ length old.kits
+    pub each : (k : ℕ) (q j : Kit S V) → k < length old.kits
+        → KitUsed (KnowsFaults never_fails old.kits) o k (at_kit old k q) (at_kit new k j)

@@ -1,0 +1,82 @@
+-- Workers with kits of their own. Workers and wants count from 0.
+use Rattle.std.specs.Prelude.{◌≡◌, ℕ, ◌<◌, ◌≤◌, ◌&&◌, List, [], length, Bool, true, false, None, Option}
+use Rattle.std.specs.Prelude.{IsSomeAnd, IsTrue}
+use Rattle.std.specs.Option.{option_map}
+use Rattle.assembler.specs.Economy.{PassedBy}
+use Rattle.assembler.specs.Passes.{HasPassedShare, WhereQuiet, source_at}
+use Rattle.assembler.specs.Permits.{MayFillHad, deals_to}
+use Rattle.assembler.specs.Stages.{Ready, Stage, from}
+use Rattle.caibx_codec.specs.Listing.{Listing, count_of, image_length}
+use Rattle.chunk_sources.specs.Economy.{source_if}
+use Rattle.chunk_sources.specs.Wants.{Task}
+use Rattle.chunk_sources.specs.declared.kit.Kit.{Kit}
+use Rattle.chunk_store.specs.declared.store.Store.{Ghosts as StoreWords}
+use Rattle.dsy_base.specs.declared.view.View.{Ghosts as ViewWords}
+use Rattle.image_workers.specs.declared.lanes.Lane.{Lane}
+use Rattle.range_ledger.specs.Runs.{Run}
+use Rattle.range_survey.specs.Fates.{FirstFates, SettledRight}
+use Rattle.range_survey.specs.declared.fate.Fate.{Fate}
+
+-- the shards of the run stand behind so many locks
+pub record IsSurveyedFor (r : Run) (l : Listing) (told : Bool) (locks : ℕ) : Type 0 where
+  pub listing : l ≡ r.listing
+  pub tells : told ≡ r.tells
+  pub all : locks ≡ r.shards
+  pub few : r.shards ≤ count_of r.listing
+  pub some : 0 < count_of r.listing → 0 < r.shards
+
+-- the survey left these fates
+pub record AreFirst (r : Run) (m : List Fate) : Type 0 where
+  pub size : length m ≡ count_of r.listing
+  pub first : FirstFates m (count_of r.listing)
+  pub right : IsTrue r.tells → SettledRight r.listing r.base m (count_of r.listing)
+
+module _ {S V : Type 0} where
+  -- what a worker has come to, which knows so much of each entry: it sees no bytes of the target, and has no cache
+  abbrev pub worker_stage : Run → List Fate → ℕ → Kit S V → Stage S V
+  worker_stage r m faults kit = record {
+    held = record { bytes = None; size = image_length r.listing; name = [] };
+    faults = faults;
+    fates = m;
+    kit = kit;
+    cache = None;
+  }
+
+  -- the kit of a worker that is there
+  abbrev pub kit_of : Lane S V → Option (Kit S V)
+  kit_of a = option_map (λ x. x.kit) a.tools
+
+  -- and with it what the worker knows of each entry
+  abbrev pub tools_of : Lane S V → Option (Kit S V × List Fate)
+  tools_of a = option_map (λ x. (x.kit, x.known.items)) a.tools
+
+  -- it is so of the kit of a worker that is there, and of what it knows
+  abbrev pub OfTools : Lane S V → (Kit S V → List Fate → Type 0) → Type 0
+  OfTools a So = IsSomeAnd a.tools (λ x. So x.kit x.known.items)
+
+module _ {S V : Type 0} (store : StoreWords S) (view : ViewWords V) (r : Run) (t : Task) where
+  -- with this kit worker k can settle what it is dealt
+  pub record IsReadyFor (k : ℕ) (kit : Kit S V) (m : List Fate) : Type 0 where
+    pub known : AreFirst r m
+    pub ready : Ready t (worker_stage r m 0 kit)
+    pub may : MayFillHad store view t r.may (worker_stage r m 0 kit) (λ w. deals_to t.plan k w ≡ true)
+
+  -- a worker that is there can do so
+  abbrev pub IsReadyLane : ℕ → Lane S V → Type 0
+  IsReadyLane k a = OfTools a (IsReadyFor k)
+
+  -- worker k has settled what it was dealt: it had the kit a and knew m, and has the kit b and knows n. It lacked
+  -- memory only where the stores may
+  pub record HasWorked (never_fails : Bool) (k : ℕ) (a : Kit S V) (m : List Fate) (b : Kit S V) (n : List Fate)
+      (lacked : Bool) : Type 0 where
+    pub faults : ℕ
+    pub sure : IsTrue (never_fails && r.tells) → faults ≡ 0
+    pub passed : HasPassedShare store view t (deals_to t.plan k) (worker_stage r m 0 a) (worker_stage r n faults b)
+    pub memory : lacked ≡ true → IsTrue store.may_lack_memory
+    pub exactly : lacked ≡ false → WhereQuiet store view r.listing (from (worker_stage r m 0 a))
+        (from (worker_stage r n faults b)) (λ cached maps. PassedBy (source_if (deals_to t.plan k)
+        (source_at view t (worker_stage r m 0 a) cached maps)) t.plan.wants (count_of r.listing) m n a.chain b.chain)
+
+  -- so it is of a worker that was there and is there again
+  abbrev pub LaneWorks : Bool → ℕ → Lane S V → Lane S V → Type 0
+  LaneWorks never_fails k x y = OfTools x (λ a m. OfTools y (λ b n. HasWorked never_fails k a m b n y.lacked))

@@ -1,0 +1,106 @@
+//! The end of an assembly by several workers: the second pass, which the first of them makes over the joined shards.
+
+ghost use Rattle.std.specs.Prelude.{◌≡◌, ◌≤◌, ℕ, ◌+◌, List, Err, None, Option, replicate, false, true, IfOk, IsTrue};
+ghost use Rattle.assembler.specs.Passes.{Ends, HasPassed, one_pass};
+ghost use Rattle.assembler.specs.Permits.{MayFillHad};
+ghost use Rattle.assembler.specs.Stages.{Ready, stage, task};
+ghost use Rattle.caibx_codec.specs.Listing.{count_of, image_length};
+ghost use Rattle.chunk_sources.specs.Caches.{seen};
+ghost use Rattle.chunk_sources.specs.Losses.{MayLack};
+ghost use Rattle.chunk_sources.specs.Sources.{Sources, sources};
+ghost use Rattle.range_survey.specs.declared.fate.Fate.{Fate};
+ghost use Rattle.image_workers.specs.Beside.{AssembledBeside, ComesFrom, joined_stage};
+
+use assembler::fault::ExtractFault;
+use assembler::retry::retry;
+use assembler::run::Ended;
+use assembler::work::{Wants, Work};
+use cache_store::shelf::CacheShelf;
+use chunk_sources::kit::Kit;
+use chunk_store::store::Store;
+use dsy_base::folder::Folder;
+use dsy_base::view::{Part, Target, View};
+use owned_shards::shards::Shards;
+use range_ledger::ledger::Ledger;
+use range_ledger::run::RunName;
+
+// The second pass, unless a worker lacked memory in the first one.
+fn retry_unless<E: Ledger, S: Store, V: View, F: Folder>(
+    wants: &Wants<'_>,
+    tried: Vec<bool>,
+    work: &mut Work<E, S, V, F>,
+    lacked: bool,
+) -> Result<(), ExtractFault>
+    requires listing { wants.now.index.now ≡ E.run.listing }
+    requires fresh { tried.items ≡ replicate wants.now.plan.now.wants false }
+    requires ready { Ready (task E.run.listing wants.now) (stage E.Ledger F.Look work.old) }
+    requires unnamed { (F.pairs ≡ None) × (F.stores ≡ None) }
+    requires may { MayFillHad S.Store V.View (task E.run.listing wants.now) E.run.may (stage E.Ledger F.Look work.old)
+        (λ _. Unit {0}) }
+    requires lacked { lacked ≡ true → MayLack S.Store (seen F.Look work.old.cache) }
+    ensures passes { HasPassed S.Store V.View (task E.run.listing wants.now) one_pass (stage E.Ledger F.Look work.old)
+        (stage E.Ledger F.Look work.new) }
+    ensures ends { Ends S.Store V.View (task E.run.listing wants.now) (stage E.Ledger F.Look work.old)
+        (stage E.Ledger F.Look work.new) result }
+{
+    if lacked {
+        return Err(ExtractFault::Memory);
+    }
+    retry(wants, tried, work)
+}
+
+/// Makes the second pass with the kit of the first worker, unless a worker lacked memory, and joins the target.
+pub(crate) fn finish<R: RunName, T: Target, S: Store, V: View, F: Folder>(
+    wants: &Wants<'_>,
+    tried: Vec<bool>,
+    shards: Shards<'_, R, T>,
+    kit: Kit<S, V>,
+    lacked: bool,
+) -> Ended<T, S, V, F>
+    requires dealt { wants.now.index.now ≡ R.run.listing }
+    requires fresh { tried.items ≡ replicate wants.now.plan.now.wants false }
+    requires ready { Ready (task R.run.listing wants.now) (joined_stage shards kit) }
+    requires unnamed { (F.pairs ≡ None) × (F.stores ≡ None) }
+    requires may { MayFillHad S.Store V.View (task R.run.listing wants.now) R.run.may (joined_stage shards kit)
+        (λ _. Unit {0}) }
+    requires lacked { lacked ≡ true → IsTrue S.may_lack_memory }
+    ensures assembled { (o : Option (List ℕ)) (old : Sources S V) → ComesFrom S.Store V.View R.run
+        (task R.run.listing wants.now) o old shards.entry kit → AssembledBeside S.Store V.View R.run
+        (task R.run.listing wants.now) o (T.held result.target).bytes old
+        (sources (T.faults result.target) result.kit.seeds.items (seen F.Look result.cache) result.kit.chain)
+        result.answer }
+    ensures passed { (n : List Fate) × HasPassed S.Store V.View (task R.run.listing wants.now) one_pass
+        (joined_stage shards.entry kit) (record {
+          held = T.held result.target;
+          faults = T.faults result.target;
+          fates = n;
+          kit = result.kit;
+          cache = seen F.Look result.cache;
+        }) }
+    ensures report { IfOk result.answer
+        (λ r. r.kept + r.copied + r.seeded + r.cached + r.fetched ≡ count_of R.run.listing) }
+    ensures memory { result.answer ≡ Err ExtractFault.Memory → IsTrue S.may_lack_memory }
+    ensures size { (T.held result.target).size ≡ image_length R.run.listing }
+    ensures name { (T.held result.target).name ≡ shards.entry.held.name }
+    ensures faults { shards.entry.faults ≤ T.faults result.target }
+{
+    // Only for their contracts: what the shards keep.
+    shards.rules();
+    shards.keeps();
+    let mut work = Work {
+        ledger: shards,
+        kit,
+        cache: None::<CacheShelf<F>>,
+    };
+    let answer = match retry_unless(wants, tried, &mut work, lacked) {
+        Ok(()) => Ok(work.ledger.report()),
+        Err(fault) => Err(fault),
+    };
+    let Work { ledger, kit, cache } = work;
+    Ended {
+        target: ledger.into_target(),
+        kit,
+        cache,
+        answer,
+    }
+}

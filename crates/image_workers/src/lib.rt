@@ -1,0 +1,9 @@
+//! Workers make a target right side by side, each with a kit of its own, after the survey; then the first of them makes a
+//! second pass.
+#![tactic(auto)]
+
+pub mod assembled;
+mod finish;
+pub mod lanes;
+pub mod together;
+mod workers;

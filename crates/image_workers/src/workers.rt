@@ -1,0 +1,137 @@
+//! The first pass of an assembly by several workers, side by side, and how their kits go into lanes and come back.
+
+ghost use Rattle.std.specs.Prelude.{◌≡◌, ◌<◌, ◌≤◌, ℕ, IsSome, IsTrue, None, Some, [], length, map, reverse};
+ghost use Rattle.std.specs.Prelude.{slice_index_or, vec_capacity, vec_len};
+ghost use Rattle.std.specs.List.{All};
+ghost use Rattle.assembler.specs.Stages.{task};
+ghost use Rattle.caibx_codec.specs.Listing.{count_of};
+ghost use Rattle.chunk_sources.specs.declared.kit.Kit.{Kit};
+ghost use Rattle.image_workers.specs.Lanes.{IsReadyLane, LaneWorks, kit_of, tools_of};
+ghost use Rattle.image_workers.specs.declared.lanes.Lane.{Lane};
+
+use crate::lanes::{Lane, Tools, go_all};
+use assembler::work::Wants;
+use caibx_codec::index::Index;
+use chunk_sources::kit::Kit;
+use chunk_store::store::Store;
+use dsy_base::folder::Folder;
+use dsy_base::view::{Part, Target, View};
+use locked_shards::locked::fates_of;
+use owned_shards::shards::{Shards, put_back};
+use range_ledger::ledger::Ledger;
+use range_ledger::run::RunName;
+use range_ledger::shard::Shard;
+use range_survey::fate::Fate;
+use std::sync::{Mutex, Wait};
+use std::thread::Threads;
+
+/// The first pass: each shard stands behind a lock while the workers go their ways. `room` is for the locks.
+pub(crate) fn pass_all<
+    'a,
+    W: Threads + Wait + Sync,
+    R: RunName + Send + Sync,
+    T: Target,
+    S: Store + Send,
+    V: View + Send,
+    F: Folder + Send + Sync,
+>(
+    rt: &W,
+    index: &'a Index,
+    wants: &Wants<'_>,
+    shards: Shards<'a, R, T>,
+    lanes: &mut [Lane<S, V>],
+    room: Vec<Mutex<Shard<'a, T::Piece, R>>>,
+) -> Shards<'a, R, T>
+where
+    T::Piece: Send,
+    requires dealt { index.now ≡ R.run.listing }
+    requires listing { wants.now.index.now ≡ R.run.listing }
+    requires tells { T.tells ≡ R.run.tells }
+    requires few { R.run.shards ≤ count_of R.run.listing }
+    requires any { 0 < count_of R.run.listing → 0 < R.run.shards }
+    requires unnamed { (F.pairs ≡ None) × (F.stores ≡ None) }
+    requires some { 0 < length lanes.old }
+    requires ready { (k : ℕ) (a : Lane S V) → k < length lanes.old →
+        IsReadyLane S.Store V.View R.run (task R.run.listing wants.now) k (slice_index_or lanes.old k a) }
+    requires none { room.items ≡ [] }
+    requires room { R.run.shards ≤ vec_capacity room }
+    ensures each { (k : ℕ) (a : Lane S V) → k < length lanes.old → LaneWorks S.Store V.View R.run
+        (task R.run.listing wants.now) T.never_fails k (slice_index_or lanes.old k a) (slice_index_or lanes.new k a) }
+    ensures size { result.held.size ≡ shards.entry.held.size }
+    ensures name { result.held.name ≡ shards.entry.held.name }
+    ensures before { result.faults_before ≡ shards.entry.faults_before }
+    ensures sure { IsTrue T.never_fails → shards.entry.faults ≡ shards.entry.faults_before }
+    ensures lanes { length lanes.new ≡ length lanes.old }
+{
+    let (frame, locks) = shards.lock(room);
+    go_all::<W, T::Piece, R, S, V, F>(rt, index, wants, &locks, lanes);
+    frame.unlock(rt, locks)
+}
+
+/// A lane for each kit, in their order, whose worker knows what the ledger says of each entry, and the kits' room.
+pub(crate) fn lanes_of<L: Ledger, S: Store, V: View>(
+    ledger: &L,
+    count: usize,
+    kits: Vec<Kit<S, V>>,
+    known: Vec<Vec<Fate>>,
+    lanes: Vec<Lane<S, V>>,
+) -> (Vec<Kit<S, V>>, Vec<Lane<S, V>>)
+    requires count { count ≡ count_of L.run.listing }
+    requires none { lanes.items ≡ [] }
+    requires room { vec_len kits ≤ vec_capacity lanes }
+    requires size { vec_len known ≡ vec_len kits }
+    requires known { All (λ v. (v.items ≡ []) × (count ≤ vec_capacity v)) known.items }
+    ensures none { result.0.items ≡ [] }
+    ensures room { vec_len kits ≤ vec_capacity result.0 }
+    ensures lanes { map tools_of result.1.items ≡ map (λ k. Some (k, L.fates ledger.now)) kits.items }
+{
+    let mut kits = kits;
+    let mut known = known;
+    let mut lanes = lanes;
+    while let Some(kit) = kits.pop() {
+        let Some(room) = known.pop() else {
+            unreachable!();
+        };
+        let tools = Tools {
+            kit,
+            known: fates_of(ledger, count, room),
+        };
+        let lane = Lane {
+            tools: Some(tools),
+            lacked: false,
+        };
+        put_back(&mut lanes, lane);
+    }
+    lanes.reverse();
+    (kits, lanes)
+}
+
+// The kit of a lane.
+fn kit_from<S: Store, V: View>(lane: Lane<S, V>) -> Kit<S, V>
+    requires there { IsSome (kit_of lane) }
+    ensures kit { kit_of lane ≡ Some result }
+{
+    let Some(Tools { kit, .. }) = lane.tools else {
+        unreachable!();
+    };
+    kit
+}
+
+/// The kits of these lanes, the last first. `room` has the room for them.
+pub(crate) fn kits_of<S: Store, V: View>(
+    lanes: Vec<Lane<S, V>>,
+    room: Vec<Kit<S, V>>,
+) -> Vec<Kit<S, V>>
+    requires none { room.items ≡ [] }
+    requires room { vec_len lanes ≤ vec_capacity room }
+    requires there { All (λ a. IsSome (kit_of a)) lanes.items }
+    ensures kits { map (λ k. Some k) (reverse result.items) ≡ map kit_of lanes.items }
+    ensures room { vec_capacity room ≤ vec_capacity result }
+{
+    let mut lanes = lanes;
+    let mut kits = room;
+    while let Some(lane) = lanes.pop() {
+        put_back(&mut kits, kit_from(lane));
+    }
+    kits
+}
