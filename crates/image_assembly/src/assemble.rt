@@ -17,7 +17,6 @@ ghost use Rattle.range_ledger.specs.Fills.{WhereTold};
 ghost use Rattle.range_survey.specs.Reports.{right_below};
 
 use crate::prepare::prepare;
-use image_workers::assembled::Assembled;
 use assembler::fault::ExtractFault;
 use cache_store::shelf::CacheShelf;
 use caibx_codec::index::Index;
@@ -27,6 +26,7 @@ use dsy_base::folder::Folder;
 use dsy_base::view::{Part, Target, View};
 use extract_plan::plan::Plan;
 use extract_plan::seeds::SeedIndex;
+use image_workers::assembled::Assembled;
 use range_ledger::run::RunName;
 use std::alloc::Global;
 use std::marker::Brand;

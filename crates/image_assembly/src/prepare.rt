@@ -22,8 +22,6 @@ ghost use Rattle.range_survey.specs.Fates.{SettledRight};
 ghost use Rattle.range_survey.specs.Reports.{right_below};
 
 use crate::fault::{PrepareFault, refusal};
-use image_workers::assembled::Assembled;
-use image_workers::together::{Rooms, run_workers};
 use assembler::fault::ExtractFault;
 use assembler::run::{Ended, run_surveyed};
 use assembler::work::Wants;
@@ -35,6 +33,8 @@ use dsy_base::folder::Folder;
 use dsy_base::view::{Part, Target, View};
 use extract_plan::plan::Plan;
 use extract_plan::seeds::SeedIndex;
+use image_workers::assembled::Assembled;
+use image_workers::together::{Rooms, run_workers};
 use owned_shards::shards::Shards;
 use owned_shards::survey::survey_shards;
 use range_ledger::ledger::Ledger;

@@ -1,5 +1,5 @@
-//! Workers make a target right side by side, each with a kit of its own, after the survey; then the first of them makes a
-//! second pass.
+//! Workers make a surveyed target right side by side, each with a kit of its own; then the first of them makes a second
+//! pass.
 #![tactic(auto)]
 
 pub mod assembled;

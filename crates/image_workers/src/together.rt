@@ -16,9 +16,9 @@ ghost use Rattle.image_workers.specs.Kits.{IsAssembledBy, MayFillFrom};
 ghost use Rattle.image_workers.specs.Lanes.{IsReadyFor};
 ghost use Rattle.range_ledger.specs.Fills.{WhereTold};
 
+use crate::assembled::Assembled;
 use crate::finish::finish;
 use crate::lanes::{Lane, some_lacked};
-use crate::assembled::Assembled;
 use crate::workers::{kits_of, lanes_of, pass_all};
 use assembler::fault::ExtractFault;
 use assembler::run::Ended;
