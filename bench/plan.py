@@ -41,7 +41,7 @@ fn id_of(number: u64) -> ChunkId {
     ChunkId(id)
 }
 
-// The index of so many chunks, each once, in an order of its own for each seed.
+// The index of this many chunks, each once, in an order of its own for each seed.
 fn index_of(alloc: Global, count: u64, seed: u64) -> Option<Index> {
     let mut entries = Vec::new(alloc);
     let mut end = 0u64;

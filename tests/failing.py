@@ -41,7 +41,7 @@ HARD = {
 # The calls that a signal may interrupt; one that connects doesn't wait.
 INTERRUPTED = ('open', 'pread', 'pwrite', 'write', 'truncate', 'poll', 'send', 'recv')
 NETWORK = ('socket', 'connect', 'poll', 'send', 'recv')
-# No run makes so many calls of one kind.
+# No run makes this many calls of one kind.
 MOST = 2_000
 NO_MEMORY = b'desync: no memory\n'
 

@@ -77,8 +77,8 @@ def run_without_rights(words, folder):
     return _ended(process)
 
 
-# Runs the words after the first two with so much address space and on these processors (none named: on all), and prints
-# status and peak memory.
+# Runs the words after the first two with this much address space and on these processors (none named: on all), and
+# prints status and peak memory.
 MEASURER = """
 import os, resource, sys
 limit = int(sys.argv[1])

@@ -69,7 +69,7 @@ asks_on store c e n m old mid new first next = record {
   most = λ q k. omega (arith, first.most q k, next.most q k);
 }
 
--- so many at most, and so more at most
+-- at most this many, and hence at most more
 pub asks_up : {S : Type 0} (store : StoreWords S) (c e : ℕ) (n m : List ℕ → ℕ) (old new : Chained S) → c ≤ e → ((q : List ℕ) → n q ≤ m q)
     → AsksAtMost store c n old new → AsksAtMost store e m old new
 asks_up store c e n m old new fewer less asks = record {
@@ -141,7 +141,7 @@ pub both_of : (x y : Bool) → (if x then y else false) ≡ true → (x ≡ true
 both_of true y is = (refl, is)
 both_of false y is = absurd (true≢false (sym is))
 
--- ---- wants that are had without the stores
+-- ---- wants that are got without the stores
 
 module _ {S V : Type 0} (store : StoreWords S) (view : ViewWords V) (t : Task) where
   abbrev Over : (ℕ → Type 0) → Stage S V → Stage S V → Type 0

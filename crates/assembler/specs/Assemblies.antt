@@ -111,7 +111,7 @@ module _ {S V : Type 0} (store : StoreWords S) (view : ViewWords V) (t : Task) w
         new.cache
     pub stores : RefusedOnce store view t lost old.chain.stores new.chain.stores
 
-  -- want w is had without the stores: an entry of it is right in the base, and the target didn't fail; or a seed gives
+  -- want w is got without the stores: an entry of it is right in the base, and the target didn't fail; or a seed gives
   -- it that didn't fail; or the opening cache does, which didn't fail
   abbrev pub SparedOver : Option (List ℕ) → Sources S V → Sources S V → ℕ → Type 0
   SparedOver o old new w = IsSpared store view t

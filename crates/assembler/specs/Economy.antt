@@ -14,7 +14,7 @@ use Rattle.range_survey.specs.declared.fate.Fate.TheVariants as fate
 use Rattle.store_chain.specs.Chains.{Chained}
 use Rattle.store_chain.specs.declared.refused.Refused.TheVariants as refused
 
--- so many entries more have a fate that says that a chunk was got
+-- this many entries more have a fate that says that a chunk was got
 pub record Tallied (seeded cached fetched n : ℕ) (m0 m1 : List Fate) : Type 0 where
   pub from_seeds : tally fate.Seeded m1 n ≡ tally fate.Seeded m0 n + seeded
   pub from_cache : tally fate.Cached m1 n ≡ tally fate.Cached m0 n + cached

@@ -8,7 +8,7 @@ use Rattle.chunk_sources.specs.declared.kit.Kit.{Kit}
 use Rattle.extract_plan.specs.Deal.{IsPlan}
 use Rattle.extract_plan.specs.Places.{Placed}
 
--- it is so of the kit
+-- it holds between the one kit handed in and the one handed back
 pub record OfKit {K : Type 0} (old new : List K) (So : K → K → Type 0) : Type 0 where
   pub so : (k j : K) → old ≡ k ∷ [] → new ≡ j ∷ [] → So k j
 
@@ -34,7 +34,7 @@ AreUnused old new = (new.chain ≡ old.chain) × ((new.seeds ≡ old.seeds) × (
 abbrev pub KitUnused : {S V : Type 0} → Lent S V → Lent S V → Type 0
 KitUnused old new = OfKit old.kits new.kits (λ k j. AreUnused (with_kit old k) (with_kit new j))
 
--- it is so of the plan, and of what chunks are got from before and afterwards
+-- it holds for the plan, and for what chunks are got from before and afterwards
 pub record ByPlan {S V : Type 0} (l : Listing) (x : Placed) (old new : Lent S V)
     (So : Task → Sources S V → Sources S V → Type 0) : Type 0 where
   pub so : (t : Task) (k j : Kit S V) → t.listing ≡ l → t.places ≡ x → IsPlan l 1 t.plan → old.kits ≡ k ∷ []

@@ -1,4 +1,4 @@
--- Which wants a worker is dealt, and which entries may be filled: those of a want whose chunk is had.
+-- Which wants a worker is dealt, and which entries may be filled: those of a want whose chunk was got.
 use Rattle.std.specs.Prelude.{◌≡◌, ◌==◌, ◌%◌, ℕ, ◌<◌, Bool, true}
 use Rattle.assembler.specs.Stages.{Stage, from}
 use Rattle.chunk_sources.specs.Losses.{HadOver}
@@ -12,7 +12,7 @@ abbrev pub deals_to : Deal → ℕ → ℕ → Bool
 deals_to d k w = w % d.workers == k
 
 module _ {S V : Type 0} (store : StoreWords S) (view : ViewWords V) (t : Task) (may : ℕ → Bool) (a : Stage S V) where
-  -- if the chunk of want w is had over a stage, its entries may be filled
+  -- if the chunk of want w can be got over a stage, its entries may be filled
   abbrev pub MayFillWant : ℕ → Type 0
   MayFillWant w = HadOver store view a.fates (want_chunk t w) (from a)
       → (i : ℕ) → IsAmong (of_want t.plan w) i → may i ≡ true

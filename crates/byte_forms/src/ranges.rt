@@ -9,9 +9,9 @@ use std::alloc::{AllocError, Global};
 /// The calls on a file in memory that are to fail.
 #[derive(Debug, Drop)]
 pub struct RangeFails {
-    /// A read that covers the offset fails so many times.
+    /// How often a read that covers the offset fails.
     pub reads: Vec<(u64, u32)>,
-    /// A write that covers the offset fails so many times.
+    /// How often a write that covers the offset fails.
     pub writes: Vec<(u64, u32)>,
     /// So many changes of the length fail first.
     pub set_len: u32,

@@ -1,4 +1,4 @@
--- How a chunk is had through a shelf: from it, or else from a chain of stores, and then added to it.
+-- How a chunk is got through a shelf: from it, or else from a chain of stores, and then added to it.
 use Rattle.std.specs.Prelude.{◌≡◌, ℕ, List, map, take, true, false, Option, Some, IfSome, IfOk, IfErr, IsTrue}
 use Rattle.std.specs.Prelude.{Bool, Result, Ok, Err, slice_index}
 use Rattle.cache_store.specs.Shelves.{KeepsShelf, Shelf, Shelved, held_on, shelf_of}

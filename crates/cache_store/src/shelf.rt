@@ -100,7 +100,7 @@ impl<F: Folder> CacheShelf<F> {
     }
 
     /// Fills the front of `out` with the chunk of this id, and of this size where one is given, and answers its size.
-    /// Where a size is given, the folder is lent only so much of `out`.
+    /// Where a size is given, the folder is lent only that much of `out`.
     pub fn find(
         &mut self,
         id: &ChunkId,

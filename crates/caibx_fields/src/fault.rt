@@ -3,7 +3,7 @@
 /// Why bytes are no index file, or what is given is no index.
 #[derive(Clone, Copy, Debug, PartialEq, Eq)]
 pub enum IndexFault {
-    /// The bytes end before the marker, after so many.
+    /// The bytes end before the marker, after this many.
     Truncated { at: u64 },
     /// The head has another size or type.
     Head,

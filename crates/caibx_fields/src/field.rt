@@ -57,7 +57,7 @@ pub fn width(field: Field) -> usize
     }
 }
 
-/// Where a field begins in the file, after so many items.
+/// Where a field begins in the file, after this many items.
 pub fn place(field: Field, count: usize) -> u64
     requires { count ≤ item_limit }
     ensures { result ≡ place_of field count }

@@ -75,7 +75,7 @@ fn numbers(index: &Index) -> [u64; 6] {
     ]
 }
 
-// The file lists so many chunks of so many bytes together, and is written again from what it lists.
+// The file lists this many chunks, of this many bytes together, and is written again from what it lists.
 fn is_an_index(rt: &impl Abort, alloc: Global, file: &[u8], count: u64, length: u64) -> Index {
     let index = ok(rt, read_index(alloc, &mut view_of(rt, alloc, file)));
     let want = [

@@ -114,7 +114,7 @@ fn the_added_chunk_takes_the_place(rt: HostRuntime) {
     holds_abc(&rt, &out);
 }
 
-// What is had of `abc`.
+// What is got of `abc`.
 fn got(upstream: bool, kept: Kept) -> Result<Got, Refused> {
     Ok(Got {
         size: 3,

@@ -38,6 +38,6 @@ abbrev pub SizesGiven : Sizes → Result Sizes SizeFault → Type 0
 SizesGiven s (Ok made) = (size_fault s ≡ None) × (made ≡ s)
 SizesGiven s (Err f) = size_fault s ≡ Some f
 
--- about every so many bytes a window closes a chunk: casync's quotient, in whole numbers
+-- about every how many bytes a window closes a chunk: casync's quotient, in whole numbers
 unfoldable pub discriminator_of : ℕ → ℕ
 discriminator_of average = average * 10 ^ 15 / (1332375150000000 - 142888852 * average)

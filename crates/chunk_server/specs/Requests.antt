@@ -1,5 +1,5 @@
 -- The requests on a connection, over all bytes that come (RFC 9112, sections 2.2, 6.3, 9.3 and 9.6): each is a head
--- and, behind it, so many bytes as the head tells. A head says one thing (`http_wire`), so that these requests are a
+-- and, behind it, as many bytes as the head says. A head says one thing (`http_wire`), so that these requests are a
 -- function of the bytes. How long a head may be is this project's own.
 use Rattle.std.specs.Prelude.{◌≡◌, ℕ, ◌+◌, ◌<◌, ◌≤◌, ◌⊎◌, List, [], ◌∷◌, length, take, drop, Bool, true, false}
 use Rattle.std.specs.Prelude.{if◌then◌else◌, Option, Some, None}

@@ -20,7 +20,7 @@ use Rattle.store_chain.specs.Chains.{Chained}
 abbrev pub asked_at : {S : Type 0} → StoreWords S → List S → List ℕ → ℕ → ℕ
 asked_at store stores q k = slice_index (map (λ s. store.asked s q) stores) k
 
--- the chain was called at most so many times more, and each store asked for each id q at most n q times more
+-- the chain was called at most this many times more, and each store asked for each id q at most n q times more
 pub record AsksAtMost {S : Type 0} (store : StoreWords S) (c : ℕ) (n : List ℕ → ℕ) (old new : Chained S) : Type 0 where
   pub no_fewer : old.asks ≤ new.asks
   pub calls : new.asks ≤ old.asks + c
@@ -49,7 +49,7 @@ abbrev pub others_spared : (ℕ → Bool) → (ℕ → Bool) → ℕ → Bool
 others_spared these spared w = if these w then spared w else true
 
 module _ {S V : Type 0} (store : StoreWords S) (view : ViewWords V) (t : Task) where
-  -- want w is had without the stores: an entry of it is such, and the target didn't fail; or a seed gives it that
+  -- want w is got without the stores: an entry of it is such, and the target didn't fail; or a seed gives it that
   -- didn't fail; or the cache does, which didn't fail
   abbrev pub IsSpared : (ℕ → Type 0) → Sources S V → Sources S V → ℕ → Type 0
   IsSpared Is old new w = (((j : ℕ) × IsAmong (of_want t.plan w) j × Is j) × Quiet old.faults new.faults)

@@ -1,4 +1,4 @@
-//! What chunks are had with.
+//! The store chain, the opened seeds and the chunk buffer of one worker.
 
 ghost use Rattle.std.specs.Prelude.{◌≡◌, []};
 

@@ -1,4 +1,4 @@
-//! From where the bytes of a chunk are had: entries of the target that are right already, seeds, a cache and a chain of
+//! Where the bytes of a chunk come from: entries of the target that are right already, seeds, a cache and a chain of
 //! stores.
 #![tactic(auto)]
 

@@ -7,7 +7,7 @@ pub record Said : Type 1 where
   pub denied : List ℕ → Type 0
   -- it has shown these bytes under this id
   pub shown : List ℕ → List ℕ → Type 0
-  -- it has shown more than so many bytes under this id
+  -- it has shown more than this many bytes under this id
   pub longer : List ℕ → ℕ → Type 0
   -- it has taken these bytes under this id
   pub taken : List ℕ → List ℕ → Type 0

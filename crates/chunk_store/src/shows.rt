@@ -7,7 +7,7 @@ use crate::id::ChunkId;
 pub enum Shows {
     /// They have this digest, which isn't the id.
     Digest(ChunkId),
-    /// They have the digest, but so many bytes, which is another number than was asked for.
+    /// They have the digest, but another size than was asked for: this many bytes.
     Length(u64),
     /// They are more bytes than were asked for.
     Longer,

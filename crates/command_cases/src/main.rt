@@ -11,7 +11,7 @@
 //! - `file NAME BYTES`: a file.
 //! - `index NAME PIECE..`: a file that is the index of these pieces, by the format and not by our writer.
 //! - `failing-reads NAME OFFSET TIMES`, `failing-writes NAME OFFSET TIMES`: a file that is there, of which the reads or
-//!   writes that cover the offset fail so many times.
+//!   writes that cover the offset fail this often.
 //! - `failing-files CALL..`: no files and folders; calls of these numbers that open, replace or rename one will fail.
 //! - `store NAME CHUNK..`: a folder that holds chunks. `PIECE` is a chunk, and `PIECE=BYTES` other bytes under its id;
 //!   `NAME:BYTES` is any file.

@@ -95,7 +95,7 @@ pub fn names_shown(world: &mut World, folder: &str) -> Result<Option<Vec<u8>>, F
     Ok(Some(shown))
 }
 
-/// `sent NUMBER`: what was sent to a server on the connection that ended after so many others.
+/// `sent NUMBER`: what was sent to a server on the connection that ended after this many others.
 pub fn sent_shown(world: &World, number: &str) -> Result<Option<Vec<u8>>, Fail> {
     Ok(sent_on(
         world.alloc,

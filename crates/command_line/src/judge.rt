@@ -99,7 +99,7 @@ fn judge_number(most: u64, word: &str) -> Result<(), Refusal>
     judge_name(word.is_empty(), right, UsageWhy::BadNumber)
 }
 
-// Judges an operand of `demo` that has so many before it: a number and a size.
+// Judges an operand of `demo` that has this many before it: a number and a size.
 fn judge_demo_operand(before: usize, word: &str) -> Result<(), Refusal>
     ensures { RefusesWords (demo_operand_refusal before word.now) result }
 {
@@ -112,7 +112,7 @@ fn judge_demo_operand(before: usize, word: &str) -> Result<(), Refusal>
     Err(Refusal::Why(UsageWhy::Operands))
 }
 
-// Judges an operand that is a name and has so many before it.
+// Judges an operand that is a name and has this many before it.
 fn judge_name_operand(kind: CommandKind, before: usize, word: &str) -> Result<(), Refusal>
     ensures { RefusesWords (name_operand_refusal kind before word.now) result }
 {
@@ -120,7 +120,7 @@ fn judge_name_operand(kind: CommandKind, before: usize, word: &str) -> Result<()
     judge_name(word.is_empty(), right, UsageWhy::Operands)
 }
 
-// Judges an operand that has so many before it.
+// Judges an operand that has this many before it.
 fn judge_operand(kind: CommandKind, before: usize, word: &str) -> Result<(), Refusal>
     ensures { RefusesWords (operand_refusal kind before word.now) result }
 {

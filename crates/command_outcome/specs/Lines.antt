@@ -8,7 +8,7 @@ pub record Written : Type 0 where
   pub text : List ℕ
   pub room : ℕ
 
--- the text, of at most so many bytes, stands behind what stood there; it doesn't only where so many had no room
+-- the text, of at most this many bytes, stands behind what stood there; it doesn't only where they had no room
 pub record AddsToLine {A E : Type 0} (text : List ℕ) (most : ℕ) (old new : Written) (r : Result A E) : Type 0 where
   pub ok : OnOk r (new.text ≡ old.text ++ text)
   pub short : OnOk r (length new.text ≤ length old.text + most)

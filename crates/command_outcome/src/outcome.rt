@@ -49,7 +49,7 @@ pub enum Outcome {
         entry: u64,
         got: ChunkId,
     },
-    /// The file has so many bytes, and the index lists another number.
+    /// The file's size in bytes, where the index lists another.
     Length {
         size: u64,
     },

@@ -15,7 +15,7 @@ use Rattle.http_read.specs.Asks.{Server, times_asked}
 use Rattle.http_wire.specs.declared.reply.Method.{Method}
 use Rattle.http_wire.specs.declared.reply.Method.TheVariants as method
 
--- P is so of the connections of a store
+-- P holds for the connections of a store
 abbrev pub IsDialed : {L D K : Type 0} → (D → DialState) → (Server → List Traffic → Type 0) → AnyStore L D K → Type 0
 IsDialed state P (stores.Folder l) = Unit {0}
 IsDialed state P (stores.Http r) = IfSome (state r.dial).ended (P r.server)

@@ -26,7 +26,7 @@ SendsFronts P s ended = All (λ t. IsFrontOf P (ask_bytes s) t.sent) ended
 abbrev pub AsksOnly : (List ℕ → ℕ) → (List ℕ → ℕ) → (Ask → Type 0) → Server → List Traffic → Type 0
 AsksOnly gets heads P s ended = Asks gets heads s ended × SendsFronts P s ended
 
--- those that have ended since are, in the order of the stores, some on the server of each: P is so of these. A folder
+-- those that have ended since are, in the order of the stores, some on the server of each: P holds for these. A folder
 -- has none
 abbrev pub EachDialed : (Server → List Traffic → Type 0) → List Location → Option (List Traffic)
     → Option (List Traffic) → Type 0

@@ -35,11 +35,11 @@ option_rows =
 abbrev pub times : ℕ → ℕ → Times
 times l g = record { least = l; greatest = g }
 
--- operands that are names, so many
+-- this many operands that are names
 abbrev pub names : ℕ → ℕ → Takes
 names l g = record { operands = times l g; needs_folder = false; takes_numbers = false }
 
--- a store that has to be a folder, and so many names
+-- a store that has to be a folder, and this many names
 abbrev pub folder_and_names : ℕ → ℕ → Takes
 folder_and_names l g = record { operands = times l g; needs_folder = true; takes_numbers = false }
 

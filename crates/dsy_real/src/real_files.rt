@@ -31,7 +31,7 @@ pub struct RealFiles<'a, R: System<File = File>> {
 
 /// What stands under a name.
 enum Found {
-    /// A file of so many bytes.
+    /// A file, and its size in bytes.
     File(u64),
     Folder,
     Nothing,

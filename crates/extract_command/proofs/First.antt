@@ -1,4 +1,4 @@
--- What is so of an assembly with kits, of which the first are known.
+-- What holds for an assembly with kits, of which the first are known.
 use Rattle.std.proofs.Common.{◌≡◌, ◌∙◌, ℕ, ◌+◌, ◌<◌, ◌≤◌, List, [], ◌∷◌, length, map, Bool, Option, Some, None, IsSome, Result, refl, sym, ap, subst, arith}
 use Rattle.std.proofs.lemmas.List.{length-map}
 use Rattle.std.specs.List.{AllZip}

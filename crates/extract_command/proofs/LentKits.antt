@@ -56,7 +56,7 @@ module _ {X : Type 0} where
   first_out [] ys x some is rest = absurd (omega (arith, some))
   first_out (y ∷ xs) ys x some is rest = cc (is, rest)
 
-  -- what is so of all is so of those before the last, and of the last
+  -- what holds for all holds for those before the last, and for the last
   pub all_last : (P : X → Type 0) (xs rest : List X) (x : X) → xs ≡ rest ++ x ∷ [] → All P xs → All P rest × P x
   all_last P xs rest x is all =
       let h : All P (rest ++ x ∷ []) = subst (λ (l : List X). All P l) is all in

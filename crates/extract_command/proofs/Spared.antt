@@ -96,7 +96,7 @@ module _ {S V : Type 0} (store : StoreWords S) (view : ViewWords V) (t : Task) (
   spared_over cache w below gives (inr (inl seed)) = inr (inl (seed_at w seed.0 seed.1 seed.2 below))
   spared_over cache w below gives (inr (inr spares)) = inr (inr (gives spares))
 
--- what is so of what is told
+-- what holds for what is told
 pub of_told : {X : Type 0} (o : Option X) (P : X → Type 0) (R : Type 0) → ((a : X) → o ≡ Some a → P a → R) → IsSomeAnd o P → R
 of_told None P R f h = absurd h
 of_told (Some a) P R f h = f a refl h

@@ -107,7 +107,7 @@ AreFilled l P base t =
     (i : ℕ) → i < count_of l → (P i → IsRightAt t l i) × ((P i → ⊥) → slice_of l t i ≡ slice_of l base i)
 
 -- the file alone has changed. It holds t, in which each range is right or the base's unless a call on it failed: the
--- file's number has risen by at least so many
+-- file's number has risen by at least this much
 abbrev pub KeepsIn : Disk → Disk → Map (List ℕ) → Map (List ℕ) → Into → Listing → List ℕ → Type 0
 KeepsIn d e before after out l t =
     Leaves before after out t
@@ -290,7 +290,7 @@ pub record CacheSpares (d e : Disk) (cache : List ℕ) (l : Listing) (id : List 
   pub quiet : Quiet (count_at d.folder_counts cache) (count_at e.folder_counts cache)
   pub one_size : (n : ℕ) → IsListedAs l id n → n ≡ size
 
--- want w of the plan is had without the stores: an entry of it is right in the base, no call on OUT failed, and all
+-- want w of the plan is got without the stores: an entry of it is right in the base, no call on OUT failed, and all
 -- workers know of such faults; or a seed has its chunk, and no call on the seed's image failed; or the cache gives it,
 -- as it was before
 abbrev pub IsSparedOnDisk : Type 0 → Disk → Disk → Map (List ℕ) → Option (List ℕ) → Into → Listing → Seeds → Deal → ℕ
@@ -300,8 +300,8 @@ IsSparedOnDisk Known d e before cache out l x p w =
     ⊎ (((s : ℕ) × (h : SeedHas before x (want_id l p w) (size_of l (first_of p w)) s) × FileQuiet d e h.image)
     ⊎ IsSomeAnd cache (λ c. CacheSpares d e c l (want_id l p w) (size_of l (first_of p w))))
 
--- the connections of the workers' stores have ended one worker's after the other, those of the last first: P k is so of
--- those of worker k
+-- the connections of the workers' stores have ended one worker's after the other, those of the last first: P k holds
+-- for those of worker k
 abbrev pub WorkersDialed : (ℕ → Server → List Traffic → Type 0) → ℕ → List Location → Option (List Traffic)
     → Option (List Traffic) → Type 0
 WorkersDialed P zero stores old new = new ≡ old

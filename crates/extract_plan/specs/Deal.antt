@@ -21,11 +21,11 @@ pub record AreWants (l : Listing) (wants : ℕ) (want_of : List ℕ) : Type 0 wh
 abbrev pub entries_of : List ℕ → ℕ → List ℕ
 entries_of want_of w = filter (λ i. slice_index want_of i == w) (range_with_len 0 (length want_of))
 
--- into how many shards n entries are cut for so many workers
+-- into how many shards n entries are cut for this many workers
 abbrev pub shards_of : ℕ → ℕ → ℕ
 shards_of workers n = min (4 * workers) n
 
--- the entry with which shard k of so many begins, of n entries; n where k is the number of shards
+-- the entry with which shard k begins, of n entries; n where k is the number of shards
 abbrev pub shard_start : ℕ → ℕ → ℕ → ℕ
 shard_start n shards k = k * n / shards
 
@@ -44,7 +44,7 @@ pub record Deal : Type 0 where
 abbrev pub deal_shards : Deal → ℕ
 deal_shards d = shards_of d.workers (length d.want_of)
 
--- the plan of this index for so many workers
+-- the plan of this index for this many workers
 pub record IsPlan (l : Listing) (count : ℕ) (d : Deal) : Type 0 where
   pub workers : d.workers ≡ count
   pub wants : AreWants l d.wants d.want_of

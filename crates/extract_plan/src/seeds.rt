@@ -188,7 +188,7 @@ fn place(
 }
 
 impl Found {
-    // Nothing, with room for so many places.
+    // Nothing, with room for this many places.
     fn with_room(alloc: Global, items: usize) -> Result<Found, AllocError>
         ensures wants { IfOk result (λ f. f.wants.items ≡ []) }
         ensures places { IfOk result (λ f. f.places.items ≡ []) }

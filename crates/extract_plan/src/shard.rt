@@ -32,7 +32,7 @@ pub(crate) fn start(n: usize, shards: usize, k: usize) -> usize
     k * n / shards
 }
 
-/// The shard that has this entry, of n entries that are cut into so many shards.
+/// The shard that has this entry, of n entries that are cut into `shards` shards.
 pub fn shard_of(n: usize, shards: usize, entry: usize) -> usize
     requires entries { n ≤ item_limit }
     requires few { shards ≤ n }

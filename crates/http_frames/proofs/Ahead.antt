@@ -21,7 +21,7 @@ kept_in r = record { next = r.next; left = r.left; line = r.line; trailer = r.tr
 abbrev at : Next → ℕ → List ℕ → ℕ → List ℕ → Reading
 at n left line trailer body = record { next = n; left = left; line = line; trailer = trailer; body = body }
 
--- so many bytes lead from r to s, and if s isn't whole, so many fewer can come
+-- this many bytes lead from r to s, and if s isn't whole, that many fewer can come
 record Leaves (room : ℕ) (n : ℕ) (r s : Reading) : Type 0 where
   misses : Misses s.next s.left
   fewer : is_whole s.next ≡ false → (is_whole r.next ≡ false) × (ahead room (kept_in s) + n ≤ ahead room (kept_in r))

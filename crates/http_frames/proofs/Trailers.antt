@@ -9,7 +9,7 @@ use Rattle.http_frames.specs.Body.{trailer_limit, Reading, push_to_body, push_at
 use Rattle.http_frames.specs.Spelling.{HasNoFeed, IsTrailerLine, AreTrailerLines, print_line, trailer, IsTrailer}
 use Rattle.http_frames.proofs.Runs.{reads-append, reads_one, reads_none}
 
--- what was read, after so many bytes of the trailer
+-- what was read, after this many bytes of the trailer
 abbrev came : Reading → Next → ℕ → Reading
 came r n count = record r { next = n; trailer = count }
 

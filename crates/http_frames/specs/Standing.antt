@@ -8,7 +8,7 @@ use Rattle.http_frames.specs.declared.body.BodyKind.{BodyKind}
 use Rattle.http_frames.specs.Body.{Reading, reads_body, body_start, body_in}
 use Rattle.http_frames.specs.Seen.{ReaderKept, reading_seen}
 
--- a step over a front of so many of the bytes, or the fault of them all
+-- a step over this many of the first bytes, or the fault of them all
 abbrev pub StepsOverFront : ℕ → Reading → List ℕ → Result ℕ WireFault → Reading → Type 0
 StepsOverFront room r bytes (Ok n) s = reads_body room r (take n bytes) ≡ Ok s
 StepsOverFront room r bytes (Err f) s = reads_body room r bytes ≡ Err f

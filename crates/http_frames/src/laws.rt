@@ -27,7 +27,7 @@ pub fn fault_stays()
         → reads_body room (body_start k) b ≡ Err f → reads_body room (body_start k) (b ++ c) ≡ Err f }
 {}
 
-/// A body that isn't whole after so many bytes more may have so many fewer.
+/// Each byte of a body that isn't whole yet lowers the number of bytes that may still come by one.
 pub fn bodies_end()
     ensures value { (k : BodyKind) (b c before after : List ℕ) (h n : ReaderKept) → StandsFor k b h before
         → StandsFor k (b ++ c) n after → length after ≡ length before → is_whole n.next ≡ false

@@ -43,7 +43,7 @@ received_next b x None new reads is = subst (λ n. IfSome n (λ t. t.received �
 received_next b x (Some t) new reads is =
     subst (λ n. IfSome n (λ t. t.received ≡ x ++ b)) (sym reads.received) (ap (λ r. r ++ take (length b) t.coming) is ∙ ap (λ y. x ++ y) reads.next)
 
--- what is so of each connection that tells
+-- what holds for each connection that tells
 pub weaker : {P Q : Traffic → Type 0} → (o : Option Traffic) → ((t : Traffic) → P t → Q t) → IfSome o P → IfSome o Q
 weaker None f is = tt
 weaker (Some t) f is = f t is

@@ -24,7 +24,7 @@ pub record HasBadHead (m : Method) (t : Traffic) (f : WireFault) : Type 0 where
   pub size : ℕ
   pub says : SaysHead m t.received size (Err f)
 
--- the body of a 200 has this first fault, where there is so much room for it, and has it whatever follows, or no more
+-- the body of a 200 has this first fault, with this much room for it, and has it whatever follows, or no more
 -- comes. One that is longer has none
 pub record HasBadBody (m : Method) (room : ℕ) (t : Traffic) (f : WireFault) : Type 0 where
   pub get : m ≡ method.Get
@@ -41,7 +41,7 @@ IsUnwanted method.Get status = (status ≢ 200) × (status ≢ 404)
 IsUnwanted method.Head status = (status ≢ 200) × (status ≢ 404)
 IsUnwanted method.Put status = (status < 200) ⊎ (300 ≤ status)
 
--- what was received isn't taken, for this reason, where there is so much room for a body
+-- what was received isn't taken, for this reason, with this much room for a body
 abbrev pub IsRefused : Method → ℕ → Traffic → BadReply → Type 0
 IsRefused m room t (bad.Status status) = SaysStatus m t status × IsUnwanted m status
 IsRefused m room t (bad.Wire f) = HasNoHead t f ⊎ (HasBadHead m t f ⊎ HasBadBody m room t f)

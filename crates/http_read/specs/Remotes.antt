@@ -34,7 +34,7 @@ log_of state r =
 abbrev pub faults_of : Log → ℕ
 faults_of l = raised l.faults l.refused
 
--- one connection more has ended, and it is so of that
+-- one connection more has ended, and it holds for that
 abbrev pub AddsOne : (Traffic → Type 0) → Option (List Traffic) → Option (List Traffic) → Type 0
 AddsOne P (Some ended) new = (t : Traffic) × (new ≡ Some (ended ++ t ∷ [])) × P t
 AddsOne P None new = new ≡ None
@@ -51,7 +51,7 @@ pub record CountsBad (m : Method) (ask : List ℕ) (room : ℕ) (old new : Log) 
   pub last : new.last ≡ Some reason
   pub reply : AddsOne (λ t. IsBadReply m ask room t reason) old.ended new.ended
 
--- what a call leaves that sends this ask, where there is so much room for a body. It makes at most one connection. It
+-- what a call leaves that sends this ask, with this much room for a body. It makes at most one connection. It
 -- fails where the dialer counted a fault or the reply wasn't taken, and only a call that fails counts such a reply
 pub record Calls {A E : Type 0} (m : Method) (ask : List ℕ) (room : ℕ) (failed : E) (old new : Log)
     (result : Result A E) : Type 0 where

@@ -68,7 +68,7 @@ pub record IsShowing (s : Server) (id b : List ℕ) (t : Traffic) : Type 0 where
   pub sent : t.sent ≡ asks_get s id
   pub body : SaysBody t b
 
--- it was asked for the chunk, and gave more bytes than so many
+-- it was asked for the chunk, and gave more bytes than this
 pub record IsLonger (s : Server) (id : List ℕ) (n : ℕ) (t : Traffic) : Type 0 where
   pub sent : t.sent ≡ asks_get s id
   pub body : SaysLonger t n

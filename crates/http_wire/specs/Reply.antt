@@ -27,7 +27,7 @@ field_limit = 64
 abbrev pub digit_limit : ℕ
 digit_limit = 18
 
--- a head that is right: httparse reads all bytes as one, with room for so many lines
+-- a head that is right: httparse reads all bytes as one, with room for this many lines
 pub record IsReplyHead (head : List ℕ) (h : ResponseHead) : Type 0 where
   pub reads : ReadsResponse head h []
   pub few : length h.fields ≤ field_limit

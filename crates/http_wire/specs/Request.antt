@@ -20,7 +20,7 @@ use Rattle.http_wire.specs.declared.request.Act.{Act}
 use Rattle.http_wire.specs.declared.request.Act.TheVariants as act
 use Rattle.http_wire.specs.declared.request.Request.{Request}
 
--- a head that is right: httparse reads all bytes as one, with room for so many lines
+-- a head that is right: httparse reads all bytes as one, with room for this many lines
 pub record IsRequest (head : List ℕ) (h : RequestHead) : Type 0 where
   pub reads : ReadsRequest head h []
   pub few : length h.fields ≤ field_limit

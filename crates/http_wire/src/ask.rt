@@ -84,7 +84,7 @@ pub fn ask_text(
     )
 }
 
-/// Writes the head of an ask, up to its empty line. Host and path are written as they stand: the caller sees to it that
+/// Writes the head of an ask, up to its empty line. Host and path are written as they stand: the caller makes sure that
 /// the path begins with `/`, and that neither has a space or the end of a line in it. The length is the number of bytes
 /// of the body, which the caller writes after the head. `Failed` comes where the sink failed.
 pub fn write_ask<S: Sink>(

@@ -1,5 +1,5 @@
--- What is said of an assembly with any number of kits: what is so with one kit, what is so where nothing was used, and
--- what is so of kits before they were given room.
+-- What is said of an assembly with any number of kits: what holds with one kit, what holds where nothing was used, and
+-- what holds for kits before they were given room.
 use Rattle.std.proofs.Common.{◌≡◌, ◌⊎◌, ◌<◌, ◌≤◌, ◌+◌, ◌++◌, ◌%◌, ◌==◌, ℕ, zero, suc, List, [], ◌∷◌, All, Any, Bool, true, if◌then◌else◌, Option, Some, None, IfSome, IsTrue, Result, Ok, Err, length, map, slice_index_or, refl, sym, ap, subst, ◌∙◌, inl, inr, arith}
 use Rattle.std.proofs.lemmas.Bool.{eq-eqb}
 use Rattle.std.proofs.lemmas.List.{get_or_default, length-map}

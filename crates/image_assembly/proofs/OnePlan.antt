@@ -1,4 +1,4 @@
--- An index has one plan for so many workers, and a list of one kit has one kit.
+-- An index has one plan for each number of workers, and a list of one kit has one kit.
 use Rattle.std.proofs.Common.{◌≡◌, ◌∙◌, ℕ, zero, suc, ◌<◌, ◌+◌, List, [], ◌∷◌, ◌++◌, All, Option, length, map, slice_index, slice_index_or, slice_set, refl, sym, ap, subst, arith}
 use Rattle.std.proofs.lemmas.List.{ext_get_or, length-append, length-map}
 use Rattle.std.proofs.lemmas.List.FromFn.{get_or-map-range_with_len, length-range_with_len}
@@ -141,17 +141,17 @@ module _ {K : Type 0} where
   pub head_same : (x y : K) → x ∷ [] ≡ y ∷ [] → x ≡ y
   head_same x y same = ap (λ xs. slice_index_or xs 0 x) same
 
-  -- what is so of the only kit, whose place another took
+  -- what holds for the only kit, whose place another took
   pub of_only : (xs ys : List K) (k j : K) → xs ≡ k ∷ [] → ys ≡ j ∷ [] → {So : K → K → Type 0} → So k j → OfKit xs ys So
   of_only xs ys k j first last {So} is = record {
     so = λ q p one other. subst (λ (r : K). So r p) (head_same k q (sym first ∙ one)) (subst (λ (r : K). So k r) (head_same j p (sym last ∙ other)) is);
   }
 
-  -- what is so of a kit that stayed
+  -- what holds for a kit that stayed
   pub of_same : (xs : List K) {So : K → K → Type 0} → ((k : K) → So k k) → OfKit xs xs So
   of_same xs {So} is = record { so = λ k j first last. subst (λ r. So k r) (head_same k j (sym first ∙ last)) (is k) }
 
--- what is so of the only kit, by the plan of the index, is so of the kit before it had room
+-- what holds for the only kit, by the plan of the index, holds for the kit before it had room
 pub by_kit : {S V : Type 0} (l : Listing) (x : Placed) (s : Task) (a b : ℕ) (e f : Option Shelf) (xs ms ys : List (Kit S V)) → s.listing ≡ l → IsPlan l (length xs) s.plan → s.places ≡ x
     → map (λ k. k.chain) ms ≡ map (λ k. k.chain) xs → map (λ k. k.seeds) ms ≡ map (λ k. k.seeds) xs → {So : Task → Sources S V → Sources S V → Type 0}
     → OfKit ms ys (λ k j. So s (sources a k.seeds.items e k.chain) (sources b j.seeds.items f j.chain)) → ByPlan l x (lent a xs e) (lent b ys f) So

@@ -46,7 +46,7 @@ unmap h (Some x) P has = has
 pub resized_tells : (old new : Held) (n : ℕ) → new ≡ held_resized old n → is_some new.bytes ≡ is_some old.bytes
 resized_tells old new n is = ap (λ (h : Held). is_some h.bytes) is ∙ some_mapped (λ t. resized t n) old.bytes
 
--- what is so of the bytes that are told is so of the base
+-- what holds for the bytes that are told holds for the base
 pub right_in : (l : Listing) (base : List ℕ) (m : List Fate) (n : ℕ) (o : Option (List ℕ)) (b : Bool) → is_some o ≡ b → IfSome o (λ t. base ≡ t) → IfSome o (λ t. SettledRight l t m n) → IsTrue b → SettledRight l base m n
 right_in l base m n None b some is has tells = absurd (cc)
 right_in l base m n (Some t) b some is has tells = subst (λ (y : List ℕ). SettledRight l y m n) (sym is) has

@@ -22,7 +22,8 @@ use Rattle.image_workers.specs.Lanes.{AreFirst}
 use Rattle.owned_shards.specs.Wholes.{MayFillAll, Whole, base_told}
 use Rattle.range_ledger.specs.Runs.{Run}
 
--- the run is over this index, cut for so many workers, and over a target that holds this once it has the image's length
+-- the run is over this index, cut for this many workers, and over a target that holds this once it has the image's
+-- length
 pub record IsRunFor (r : Run) (l : Listing) (workers : ℕ) (told : Bool) (old : Held) : Type 0 where
   pub listing : r.listing ≡ l
   pub shards : r.shards ≡ shards_of workers (count_of l)
@@ -37,7 +38,7 @@ pub record Permits {S V : Type 0} (store : StoreWords S) (view : ViewWords V) (r
   pub each : All (PermitsKit store view r t) kits
   pub had : 2 ≤ length kits → MayFillFrom store view t r.may (base_told r) kits
 
--- so much room is that of the largest chunk of an index
+-- this much room is that of the largest chunk of an index
 pub record IsRoomOf (l : Listing) (room : ℕ) : Type 0 where
   pub enough : (i : ℕ) → i < count_of l → size_of l i ≤ room
   pub exactly : IsListedSize l room
@@ -70,7 +71,7 @@ pub record IsReadied {S V : Type 0} (store : StoreWords S) (view : ViewWords V) 
   pub kind : All (λ k. k.chain.kind ≡ kind_of x.task.listing) x.kits
   pub room : All (λ k. IsRoomOf x.task.listing (length k.buffer.items)) x.kits
 
--- this is room for so many workers of the run: for the locks, for the lanes, and for what each knows
+-- this is room for that many workers of the run: for the locks, for the lanes, and for what each knows
 pub record AreRoomsFor {A B C : Type 0} (r : Run) (workers : ℕ) (for_locks : Vec A) (for_lanes : Vec B)
     (for_known : Vec (Vec C)) : Type 0 where
   pub none : (for_locks.items ≡ []) × (for_lanes.items ≡ [])
@@ -79,11 +80,11 @@ pub record AreRoomsFor {A B C : Type 0} (r : Run) (workers : ℕ) (for_locks : V
   pub size : vec_len for_known ≡ workers
   pub known : All (λ v. (v.items ≡ []) × (count_of r.listing ≤ vec_capacity v)) for_known.items
 
--- it is so of each target of which these shards were made: of what it held, and of how often it had failed
+-- it holds for each target of which these shards were made: for what it held, and how often it had failed
 abbrev pub OfTarget : Listing → Whole → (Held → ℕ → Type 0) → Type 0
 OfTarget l x So = (old : Held) (f : ℕ) → HasBegun l old f x → So old f
 
--- the same with so many kits: with more than one, of how often it had failed at most before it was split
+-- the same with this many kits: with more than one, for how often it had failed at most before it was split
 abbrev pub OfTargetWith : ℕ → Listing → Whole → (Held → ℕ → Type 0) → Type 0
 OfTargetWith kits l x So = OfTarget l x (λ old f. (kits ≡ 1) ⊎ (f ≤ x.faults_before) → So old f)
 

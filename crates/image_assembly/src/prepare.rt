@@ -94,7 +94,7 @@ fn buffers_of(alloc: Global, index: &Index, count: usize) -> Result<Vec<Vec<u8>>
     Ok(buffers)
 }
 
-// Room for so many workers, unless there is one.
+// Room for several workers; none for one.
 fn rooms_of<'a, P: Part, R: RunName, S: Store, V: View>(
     alloc: Global,
     plan: &Plan,

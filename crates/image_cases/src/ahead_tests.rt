@@ -30,7 +30,7 @@ fn entries_are_claimed_from_the_end_and_taken_from_the_front(rt: HostRuntime) {
     same(&rt, Claims::new(3, 3).takes(3), false);
 }
 
-// These are the slices of entries 0 and 1 after all entries of the image were read into so many bytes.
+// These are the slices of entries 0 and 1 after all entries of the image were read into this many bytes.
 fn reads(
     rt: &impl Abort,
     alloc: Global,

@@ -235,7 +235,7 @@ fn a_seed_gives_its_chunks_where_they_are_right(rt: HostRuntime) {
     );
 }
 
-// Assembles three pieces from a store over a target to which the write of the second fails so many times.
+// Assembles three pieces from a store over a target to which the write of the second fails this often.
 fn assembles_after<H: Abort + Threads + Wait + Sync>(
     rt: &H,
     alloc: Global,

@@ -172,7 +172,7 @@ fn failing(alloc: Global) -> ScriptedStore {
     ScriptedStore::new(alloc, Refuses::Everything(IoFault::Failed))
 }
 
-// So many listed ids are had by one of the two stores, which are given back.
+// One of the two stores has this many of the listed ids; both are given back.
 fn are_had(
     rt: &impl Abort,
     alloc: Global,

@@ -5,7 +5,7 @@ use image_demo::bytes;
 use image_demo::demo::demo_figures;
 use image_demo::figures::Figures;
 
-// The figures of an image of so many bytes in so many chunks, each of which is fetched.
+// The figures of an image of this many bytes in this many chunks, each of which is fetched.
 fn fetched(bytes: u64, chunks: u64) -> Figures {
     Figures {
         bytes,

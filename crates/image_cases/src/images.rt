@@ -37,7 +37,7 @@ pub fn mixed(rt: &impl Abort, alloc: Global, length: usize) -> Vec<u8> {
     bytes
 }
 
-/// Where the view of an image waits in its first read, for so many turns at most, until the other one is read.
+/// Where the view of an image waits in its first read, for this many turns at most, until the other one is read.
 #[derive(Drop)]
 pub struct Gate {
     here: Arc<AtomicU64, Global>,

@@ -91,7 +91,7 @@ fn an_image_is_stored_or_its_store_is_at_fault(rt: HostRuntime) {
     abc_is_stored(&rt, alloc, Refuses::Call(1), fault, missing);
 }
 
-// Stores an image of three chunks, of which two are alike, by so many calls and puts.
+// Stores an image of three chunks, of which two are alike, by this many calls and puts.
 fn store_three<R: Abort + Threads + Sync>(
     rt: &R,
     alloc: Global,
@@ -242,8 +242,8 @@ fn changing_views(
     views
 }
 
-// Stores "abc" with so many views: it is open whether the others cut anything. Compares how often the store was called
-// and the first view read.
+// Stores "abc" with this many views: it is open whether the others cut anything. Compares how often the store was
+// called and the first view read.
 fn stored_twice<R: Abort + Threads + Sync>(
     rt: &R,
     alloc: Global,
@@ -291,7 +291,7 @@ fn an_image_is_stored_whatever_other_views_read(rt: HostRuntime) {
     stored_twice(&rt, alloc, Then::Same, Then::Same, 3, (2, 2, Ok(())));
 }
 
-// What storing the image with so many views gives: the index file, and the store.
+// What storing the image with this many views gives: the index file, and the store.
 fn stored_by<R: Abort + Threads + Sync>(
     rt: &R,
     alloc: Global,

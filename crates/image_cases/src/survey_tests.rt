@@ -114,7 +114,7 @@ fn ranges_past_the_old_length_are_not_read(rt: HostRuntime) {
     );
 }
 
-// The table for a target of the old length has this name, in digits, for so many zeros.
+// The table for a target of the old length has this name, in digits, for this many zeros.
 fn names(rt: &impl Abort, alloc: Global, old: u64, size: usize, digits: Option<&str>) {
     let index = index(rt, alloc);
     let mut buf = ok(rt, index.room(alloc));

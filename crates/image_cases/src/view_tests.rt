@@ -27,7 +27,7 @@ fn lists(rt: &impl Abort, index: &Index, image: &[u8], ends: &[u64]) {
     }
 }
 
-// The index by so many views of the image, which are handed back.
+// The index by this many views of the image, which are handed back.
 fn indexed<R: Abort + Threads + Sync>(
     rt: &R,
     alloc: Global,

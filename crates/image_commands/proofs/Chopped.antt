@@ -89,7 +89,7 @@ says_before l k a b keeps says = λ i below other.
     let s = says i below other in
     (s.0, s.1, elim s.2 [ inl shown ↦ inl ((keeps (id_of l i)).shown s.0 shown) | inr taken ↦ inr ((keeps (id_of l i)).taken s.0 taken) ])
 
--- what is so of a server that was given back
+-- what holds for a server that was given back
 pub server_given : (store : Location) (held : Option (Map (List ℕ))) (P : Map (List ℕ) → Map (List ℕ) → Type 0) (Q : Said → Type 0) (w v : Storage) → IsTrue (not (is_folder store)) → StoreGiven store held P Q w v → Q (said_at w v store)
 server_given (locations.Folder q) held P Q w v server h = absurd (cc)
 server_given (locations.Http host port prefix) held P Q w v server h = h

@@ -49,7 +49,7 @@ module _ (s : Sizes) (image : List ℕ) (told : Option (List ℕ)) (store : Loca
   stored_ended (Err faults.StoreFault) Z many cause given same image_rose store_rose kept gets = ((refl, store_rose refl, few {A = A} s told (Err faults.StoreFault) Z many (λ x. x), given), kept, gets)
   stored_ended (Err faults.Memory) Z many cause given same image_rose store_rose kept gets = (given, kept, gets)
 
--- what is so of an answer is so of what it gives, and of its outcome
+-- what holds for an answer holds for what it gives, and for its outcome
 module _ {A : Type 0} (of : A → List ℕ) (Y : List ℕ → Option (List ℕ) → Type 0) (P : List ℕ → Option (List ℕ) → Result (List ℕ) Outcome → Type 0) where
   pub if_stored : (r : Result A Outcome) → ((q : List ℕ) (told : Option (List ℕ)) → Y q told → P q told (seen_as of r)) → IfOk r (λ a. (q : List ℕ) (told : Option (List ℕ)) → Y q told → P q told (Ok (of a)))
   if_stored (Ok a) h = h

@@ -79,7 +79,7 @@ grows_as P Q old new f (inr (x, is, holds)) = inr (x, is, f x holds)
 pub long_enough : {X Y : Type 0} (f : X → Y) (xs : List X) → 0 < length xs → 0 < length (map f xs)
 long_enough f xs some = omega (arith, length-map xs f, some)
 
--- what so many views tell
+-- what this many views tell
 same_bool : (t u : Bool) → (IsTrue t → IsTrue u) → (IsTrue u → IsTrue t) → u ≡ t
 same_bool true u up down = up refl
 same_bool false true up down = sym (down refl)
@@ -120,7 +120,7 @@ more_front all rest done x is = sym (append_assoc rest (x ∷ []) done) ∙ is
 pub raised_more : (a b c n : ℕ) → a ≤ b → c ≡ raised b n → raised a n ≤ c
 raised_more a b c n le is = omega (arith, is)
 
--- what is so of each view's image is so of what they tell
+-- what holds for each view's image holds for what they tell
 pub of_first : {X : Type 0} (H : X → Held) (xs : List X) (q : List ℕ) (told : Option (List ℕ)) → 0 < length xs → AreOf q told (map H xs) → (P : Option (List ℕ) → Type 0) → All (λ v. P (H v).bytes) xs → P told
 of_first H [] q told some are P all = absurd (omega (arith, some))
 of_first H (x ∷ xs) q told some are P all = subst P (are 0 (H x) (omega arith)).1 (all 0 x (omega arith))

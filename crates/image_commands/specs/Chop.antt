@@ -25,7 +25,7 @@ use Rattle.image_store.specs.declared.chop.ChopFault.TheVariants as faults
 -- ---- chopping the image into a store that was taken
 
 -- what chopping made of the folder's files f: g. `told` are the image's bytes, where they are told. Where it ended
--- early, it has seen to the entries before one of them, and touched none after that
+-- early, it has chopped the entries before one of them, and touched none after that
 pub record ChoppedTo (l : Listing) (told : Option (List ℕ)) (r : Result Unit ChopFault) (f g : Map (List ℕ)) : Type 0
   where
     pub holds : HoldsAll l (seen_to l r) (chunks g)
@@ -38,7 +38,7 @@ abbrev pub HasLength : Listing → Option (List ℕ) → Type 0
 HasLength l told = IfSome told (λ t. length t ≡ image_length l)
 
 module _ (l : Listing) (image : List ℕ) (told : Option (List ℕ)) (store : Location) (held : Option (Map (List ℕ))) where
-  -- the store was given back after chopping that ended so. Of each entry that was seen to, a server has taken or shown
+  -- the store was given back after chopping that ended so. Of each entry that was chopped, a server has taken or shown
   -- bytes of the listed name
   abbrev pub ChopGiven : Result Unit ChopFault → Storage → Storage → Type 0
   ChopGiven r w v = StoreGiven store held (ChoppedTo l told r) (SaysAll l (seen_to l r)) w v

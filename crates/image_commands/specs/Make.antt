@@ -48,7 +48,7 @@ abbrev pub FolderGivenBack : Disk → Disk → List ℕ → Option (Map (List �
 FolderGivenBack d e q held P =
     IfSome d.folders (λ m. IfSome held (λ f. (g : Map (List ℕ)) × (e.folders ≡ Some (at_name m q (Some g))) × P f g))
 
--- so it was with the folder of a store. Where it is a server, Q is so of what that has said since
+-- so it was with the folder of a store. Where it is a server, Q holds for what that has said since
 abbrev pub StoreGiven : Location → Option (Map (List ℕ)) → (Map (List ℕ) → Map (List ℕ) → Type 0) → (Said → Type 0)
     → Storage → Storage → Type 0
 StoreGiven (locations.Folder q) held P Q w v = FolderGivenBack w.disk v.disk q held P

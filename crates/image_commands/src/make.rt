@@ -214,7 +214,7 @@ fn write_index<F: Files>(files: &mut F, name: Name, bytes: &[u8]) -> Result<(), 
     }
 }
 
-/// Makes INDEX the index of IMAGE, cut by the sizes with so many workers, and puts its chunks into STORE. What STORE
+/// Makes INDEX the index of IMAGE, cut by the sizes with this many workers, and puts its chunks into STORE. What STORE
 /// holds already is left where it is right.
 pub fn make<R: Threads + Sync, F: ImageFiles, D: Dial>(
     rt: &R,

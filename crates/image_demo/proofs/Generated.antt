@@ -29,7 +29,7 @@ one_more x z y size i xs ys all inside before pushed top next =
 pub all_made : (x size i : ℕ) (xs all : List ℕ) → size ≤ i → xs ++ bytes_after x (size - i) ≡ all → xs ≡ all
 all_made x size i xs all past before = sym (append-nil xs) ∙ ap (λ l. xs ++ l) (sym (after_none x (size - i) (omega (arith, past)))) ∙ before
 
--- there are so many
+-- there are this many
 pub length-bytes_after : (x n : ℕ) → length (bytes_after x n) ≡ n
 unfolding bytes_after
 length-bytes_after x zero = refl

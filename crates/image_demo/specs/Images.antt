@@ -7,7 +7,7 @@ use Rattle.buzhash_cut.specs.Sizes.{Sizes}
 abbrev pub next_state : ℕ → ℕ
 next_state x = (6364136223846793005 * x + 1442695040888963407) % 2 ^ 64
 
--- so many bytes after this state: each is the top 8 bits of the next state
+-- this many bytes after this state: each is the top 8 bits of the next state
 unfoldable pub bytes_after : ℕ → ℕ → List ℕ
 bytes_after x zero = []
 bytes_after x (suc n) = next_state x / 2 ^ 56 ∷ bytes_after (next_state x) n

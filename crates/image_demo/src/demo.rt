@@ -17,8 +17,8 @@ use std::alloc::Global;
 use std::sync::Wait;
 use std::thread::Threads;
 
-/// The figures of the image that the number makes, of so many bytes. The seed is the same but for up to 2^20 bytes from
-/// the middle on, of which all bits are turned round.
+/// The figures of the image that the number makes, of this many bytes. The seed is the same but for up to 2^20 bytes
+/// from the middle on, of which all bits are turned round.
 pub fn demo_figures<R: Threads + Wait + Sync>(
     rt: &R,
     alloc: Global,

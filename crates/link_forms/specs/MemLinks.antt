@@ -11,7 +11,7 @@ use Rattle.link_forms.specs.declared.open_link.Ended.{Ended, Nothing, Link'}
 abbrev pub bytes_in_pieces : {Z : Type 0} → List (Vec ℕ Z) → List ℕ
 bytes_in_pieces pieces = flat_map (λ p. p.items) pieces
 
--- what has come where so many pieces were passed and so many bytes of the others were read, and what hasn't
+-- what has come after this many pieces were passed and this many bytes of the others were read, and what hasn't
 abbrev pub come : {Z : Type 0} → List (Vec ℕ Z) → ℕ → ℕ → List ℕ
 come pieces piece at = bytes_in_pieces (take piece pieces) ++ take at (bytes_in_pieces (drop piece pieces))
 

@@ -12,7 +12,7 @@ pub record Knowledge : Type 0 where
   pub fates : List Fate
   pub faults : ℕ
 
--- there are so many locks, one a shard of the run, and an entry that the worker knows as kept is right in the base
+-- there is one lock for each shard of the run, and an entry that the worker knows as kept is right in the base
 pub record KnowsEntries (r : Run) (locks : ℕ) (fates : List Fate) : Type 0 where
   pub size : length fates ≡ count_of r.listing
   pub all : locks ≡ r.shards

@@ -23,7 +23,7 @@ moved_seen f h all left x to now y whole pop push same before =
     moved (map f all) (map f left) (map h to) (map h now) (f x) (ap (map f) pop ∙ map_push f left x) (ap (map h) push ∙ map_push h to y ∙ ap (λ z. map h to ++ z ∷ []) same)
     ∙ before
 
--- what is so of all is so of those before the last
+-- what holds for all holds for those before the last
 pub all_before : {A : Type 0} (P : A → Type 0) (all left : List A) (x : A) → all ≡ left ++ x ∷ [] → All P all → All P left
 all_before P all left x is has = (All-pop P all left (Some x) is has).0
 
@@ -70,7 +70,7 @@ gathered_fits f all left x had whole pop was =
     omega (arith, ap (λ zs. length zs) was, length-append had (flat_map f (reverse all)), ap (λ zs. length zs) turned, length-append (f x) (flat_map f (reverse left)))
 
 module _ {X A : Type 0} (P : A → Type 0) (f : X → List A) where
-  -- what is so of all is so of all in each piece
+  -- what holds for all holds for all in each piece
   pub all_in_pieces : (xs : List X) → All P (flat_map f xs) → All (λ x. All P (f x)) xs
   all_in_pieces xs all i d lt j e less =
       subst P (get_or-flat_map f xs i j d e lt less)
@@ -94,7 +94,7 @@ pieces_alike n f h (x ∷ xs) (y ∷ ys) long same =
     ∙ ap (λ zs. map n (f x) ++ zs) (pieces_alike n f h xs ys (omega (arith, long)) (λ i d lt. same (suc i) d (omega (arith, lt))))
     ∙ sym (map-append n (f x) (flat_map f xs))
 
--- what is so of all by what is seen of them is so of all that look alike
+-- what holds for all by what is seen of them holds for all that look alike
 pub all_alike : {X B : Type 0} (f : X → B) (P : B → Type 0) (xs ys : List X) → map f ys ≡ map f xs → All (λ x. P (f x)) xs → All (λ x. P (f x)) ys
 all_alike f P xs ys same all i d lt =
     let long : length ys ≡ length xs = sym (length-map ys f) ∙ ap (λ zs. length zs) same ∙ length-map xs f in
@@ -136,6 +136,6 @@ module _ (r : Run) (P Q : Seen → Type 0) where
     rest [] = []
     rest (n ∷ ns) = ns
 
--- it is so of each of them
+-- it holds for each of them
 pub with_all : (r : Run) (P : Seen → Type 0) (k : ℕ) (ss : List Seen) → ShardsWith P r k ss → All P ss
 with_all r P k ss is i d lt = (with_at r P k ss i d is lt).1

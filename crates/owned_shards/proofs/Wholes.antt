@@ -1,4 +1,4 @@
--- The shards of a run, one after the other: what is so of all of them together.
+-- The shards of a run, one after the other: what holds for all of them together.
 use Rattle.std.proofs.Common.{◌≡◌, ℕ, zero, suc, ◌+◌, ◌-◌, ◌*◌, ◌/◌, ◌<◌, ◌≤◌, List, [], ◌∷◌, ◌++◌, length, map, take, drop, set, get_or, slice_range, unwrap_or, Option, Some, None, IfSome, Bool, true, false, is_some, refl, sym, ap, subst, ◌∙◌, inl, inr, arith, length-append}
 use Rattle.std.proofs.Common.{mul-div_cancel, mul-zero, mul_comm, zero-mul}
 use native.Mathlib.Nat.{zero-div}

@@ -6,7 +6,7 @@ use Rattle.owned_shards.specs.Wholes.{Begun, base_extent}
 use Rattle.owned_shards.specs.declared.share.Share.{Share}
 use Rattle.range_ledger.specs.Runs.{IsDealtShard, Run, Seen, has_settled}
 
--- so many bytes are room for each entry
+-- this many bytes are room for each entry
 abbrev pub TakesEach : Listing → ℕ → Type 0
 TakesEach l n = (i : ℕ) → i < count_of l → size_of l i ≤ n
 

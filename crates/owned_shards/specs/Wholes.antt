@@ -53,7 +53,7 @@ pub record IsTold (r : Run) (s : Seen) : Type 0 where
   pub tells : is_some s.held.bytes ≡ r.tells
   pub sized : IfSome s.held.bytes (λ t. length t ≡ s.held.size)
 
--- the shards of a run from the k-th on, of each of which P is so
+-- the shards of a run from the k-th on, for each of which P holds
 abbrev pub ShardsWith : (Seen → Type 0) → Run → ℕ → List Seen → Type 0
 ShardsWith P r k [] = k ≡ r.shards
 ShardsWith P r k (s ∷ ss) = (s.number ≡ k) × (P s × ShardsWith P r (k + 1) ss)
@@ -87,7 +87,7 @@ pub record IsWhole (r : Run) (told : Bool) (left : Left) (ss : List Seen) : Type
 abbrev pub AwaitsShards : Run → Bool → Left → Type 0
 AwaitsShards r told left = (ss : List Seen) → AreShards r 0 ss → IsWhole r told left ss
 
--- what is so of the bytes t of a target in shards, whichever workers had them: a settled entry is right, and is so in
+-- what holds for the bytes t of a target in shards, whichever workers had them: a settled entry is right, and is so in
 -- the base too or may be filled; an entry that isn't settled has the base's bytes, or a call on it has failed; and an
 -- entry that is right in the base is settled and has the base's bytes, or a call on it has failed
 pub record KeptWhole (r : Run) (w : Whole) (t : List ℕ) : Type 0 where

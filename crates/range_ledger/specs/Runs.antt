@@ -81,9 +81,9 @@ abbrev pub IsOneOf : List ℕ → ℕ → Type 0
 IsOneOf [] e = ⊥
 IsOneOf (f ∷ fs) e = (e ≡ f) ⊎ IsOneOf fs e
 
--- what is so of the bytes t of a shard's part: a settled entry is right, and is so in the base too or may be filled; an
--- entry that isn't settled has the base's bytes, or a call on it has failed; and an entry that is right in the base is
--- settled and has the base's bytes, or a call on it has failed
+-- what holds for the bytes t of a shard's part: a settled entry is right, and right in the base too or may be filled;
+-- an entry that isn't settled has the base's bytes, or a call on it has failed; and an entry that is right in the base
+-- is settled and has the base's bytes, or a call on it has failed
 pub record IsKept (r : Run) (s : Seen) (t : List ℕ) : Type 0 where
   pub failed : List ℕ
   pub few : HaveFailed failed s.faults
@@ -96,7 +96,7 @@ pub record IsKept (r : Run) (s : Seen) (t : List ℕ) : Type 0 where
   pub base_kept : (e : ℕ) → Has r s e → IsRightAt r.base r.listing e
       → (slice_at r s t e ≡ slice_of r.listing r.base e) ⊎ IsOneOf failed e
 
--- what is so of each shard, whether its part tells or not
+-- what holds for each shard, whether its part tells or not
 pub record IsDealtShard (r : Run) (s : Seen) : Type 0 where
   pub valid : IsValidExtent (extent_of r s.number)
   pub count : first_in r s.number + length s.fates ≡ first_in r (s.number + 1)

@@ -8,11 +8,11 @@ use Rattle.chunk_store.specs.Names.{name_of}
 use Rattle.chunk_store.specs.declared.id.ChunkId.{ChunkId}
 use Rattle.chunk_store.specs.declared.id.DigestKind.TheVariants as kinds
 
--- the name of so many zeros, where the table has it
+-- the digest of this many zeros, if the table has it
 abbrev pub zeros_at : List (ℕ × ChunkId) → ℕ → Option ChunkId
 zeros_at table n = lookup (is_at (nat_cmp n)) table
 
--- each name in the table is that of so many zeros
+-- each digest in the table is that of as many zeros as it is listed for
 abbrev pub AllNamed : List (ℕ × ChunkId) → Type 0
 AllNamed table = (n : ℕ) → IfSome (zeros_at table n) (λ id. id.0 ≡ name_of kinds.Sha512T256 (replicate n 0))
 

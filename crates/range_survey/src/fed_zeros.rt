@@ -48,7 +48,7 @@ impl FedZeros {
         }
     }
 
-    // Feeds it up to so many zeros, of which `zeros` has enough.
+    // Feeds it up to this many zeros, of which `zeros` has enough.
     fn feed_to(&mut self, zeros: &[u8], size: usize)
         requires zeros { zeros.now ≡ replicate (length zeros.now) 0 }
         requires room { size ≤ length zeros.now }
@@ -60,7 +60,7 @@ impl FedZeros {
         self.fed = size;
     }
 
-    /// The name of so many zeros, of which `zeros` has enough. Where sizes rise each zero is hashed once.
+    /// The digest of this many zeros, of which `zeros` has enough. Where sizes rise each zero is hashed once.
     pub(crate) fn name(&mut self, zeros: &[u8], size: usize) -> Result<ChunkId, AllocError>
         requires zeros { zeros.now ≡ replicate (length zeros.now) 0 }
         requires room { size ≤ length zeros.now }

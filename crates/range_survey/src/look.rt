@@ -16,7 +16,7 @@ use chunk_store::range::name_range;
 use dsy_base::fault::Failed;
 use dsy_base::view::View;
 
-// The name of so many zeros as the entry has bytes, where it begins at or past `old` and the table has its size.
+// The digest of an all-zero entry, where it begins at or past `old` and the table has its size.
 fn tabled_name(zeros: &ZeroNames, index: &Index, old: u64, i: usize) -> Option<ChunkId>
     requires listed { i < count_of index.now }
     ensures found { OnSome result (IsTabled zeros.now index.now old i) }

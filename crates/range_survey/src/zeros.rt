@@ -71,7 +71,7 @@ fn sizes_past(alloc: Global, index: &Index, old: u64) -> Result<BTreeSet<usize>,
     Ok(sizes)
 }
 
-// Adds the name of so many zeros, of which `zeros` has enough.
+// Adds the digest of this many zeros, of which `zeros` has enough.
 fn add_name(
     names: &mut BTreeMap<usize, ChunkId>,
     fed: &mut FedZeros,
@@ -93,7 +93,7 @@ fn add_name(
     Ok(())
 }
 
-// The names of so many zeros for each of the sizes, the least first.
+// The digests of as many zeros as each of the sizes says, the least first.
 fn names_of(
     alloc: Global,
     mut sizes: BTreeSet<usize>,
@@ -134,7 +134,7 @@ impl ZeroNames {
         Ok(ZeroNames { names })
     }
 
-    /// The name of so many zeros, where the table has it.
+    /// The digest of this many zeros, if the table has it.
     pub fn name(&self, size: usize) -> Option<ChunkId>
         ensures value { result ≡ zeros_at self.now size }
         ensures named { IfSome result (λ id. id.0 ≡ name_of kinds.Sha512T256 (replicate size 0)) }

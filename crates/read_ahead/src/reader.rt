@@ -61,7 +61,7 @@ pub fn change_all<V: View>(readers: &mut [Reader<V>], ready: &mut [Ahead])
     }
 }
 
-// So many rooms of so many bytes, in which nothing stands.
+// This many rooms of this many bytes, in which nothing stands.
 fn rooms(alloc: Global, count: usize, size: usize) -> Result<Vec<Ahead>, AllocError>
     ensures size { IfOk result (λ v. vec_len v ≡ count) }
     ensures right { IfOk result (λ v. (l : Listing) (told : Option (List ℕ)) → All (IsAhead l told) v.items) }
@@ -83,7 +83,7 @@ pub struct Crew<V> {
 }
 
 impl<V: View> Crew<V> {
-    /// For so many readers of an image whose largest chunk has so many bytes. None is hired.
+    /// For this many readers of an image whose largest chunk has this many bytes. None is hired.
     pub fn new(alloc: Global, count: usize, largest: usize) -> Result<Crew<V>, AllocError>
         ensures none { IfOk result (λ c. c.readers.items ≡ []) }
         ensures room { IfOk result (λ c. count ≤ vec_capacity c.readers) }

@@ -22,7 +22,7 @@ fn accepted(listen: &mut RealListen<HostRuntime>) -> Option<RealLink<TcpStream>>
     listen.accept().ok()?
 }
 
-// Why no client is had.
+// Why no client connects.
 fn not_accepted(listen: &mut RealListen<HostRuntime>) -> Option<IoFault> {
     listen.accept().err()
 }

@@ -58,12 +58,12 @@ fn remove(files: &mut RealFiles<HostRuntime>, name: &str) -> Result<(), OpenFaul
     files.remove(name)
 }
 
-// Why no view of the file is had.
+// Why the file can't be viewed.
 fn no_view(files: &mut RealFiles<HostRuntime>, name: &str) -> Option<OpenFault> {
     files.view(name).err()
 }
 
-// The size of the file, where a view of it is had.
+// The size of the file, if it can be viewed.
 fn size_of(files: &mut RealFiles<HostRuntime>, name: &str) -> Option<u64> {
     let view = files.view(name).ok()?;
     let size = view.size();
@@ -71,7 +71,7 @@ fn size_of(files: &mut RealFiles<HostRuntime>, name: &str) -> Option<u64> {
     Some(size)
 }
 
-// Why no look at the folder is had.
+// Why the folder can't be looked at.
 fn no_look(files: &mut RealFiles<HostRuntime>, name: &str) -> Option<OpenFault> {
     files.look(name).err()
 }

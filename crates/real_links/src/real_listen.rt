@@ -59,7 +59,7 @@ impl<'a, R: Net> RealListen<'a, R> {
     }
 }
 
-// Listens at the first address of the host that may be had.
+// Listens at the first address of the host that is free.
 fn listen_at<R: Net>(rt: &R, host: &str, port: u16) -> io::Result<R::Listener> {
     let mut last = io::Error::from(ErrorKind::NotFound);
     for address in (unbracketed(host), port).to_socket_addrs(rt)? {

@@ -7,7 +7,7 @@ use Rattle.chunk_store.specs.declared.shows.Shows.{Shows}
 use Rattle.chunk_store.specs.declared.shows.Shows.TheVariants as shows
 use Rattle.store_chain.specs.declared.query.Query.{Query}
 
--- the chunk of this id, of this size where one is given, into so much room. Where a size is given only so much is lent
+-- the chunk of this id, of this size where one is given, into this much room. If a size is given only that much is lent
 abbrev pub query_of : DigestKind → ChunkId → Option ℕ → ℕ → Query
 query_of kind id size room = record { kind = kind; id = id; size = size; lent = unwrap_or size room }
 

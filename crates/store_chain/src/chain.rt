@@ -77,7 +77,7 @@ impl<S: Store> Chain<S> {
     }
 
     /// Fills the front of `out` with the chunk of this id, and of this size where one is given, and answers its size.
-    /// The stores are asked in order until one gives it. Where a size is given, a store is lent only so much of `out`.
+    /// The stores are asked in order until one gives it. With a size, a store is lent only that much of `out`.
     pub fn obtain(
         &mut self,
         id: &ChunkId,

@@ -26,7 +26,7 @@ fn differ(a: &ChunkId, b: &ChunkId) -> bool
 }
 
 impl Query {
-    /// Where a size is asked, a store is lent only so much of the room.
+    /// Where a size is asked, a store is lent only that much of the room.
     pub fn of(kind: DigestKind, id: &ChunkId, size: Option<usize>, room: usize) -> Query
         ensures { result ≡ query_of kind id.now size room }
     {

@@ -170,7 +170,7 @@ FrontListed d indexes [] = Unit {0}
 FrontListed d [] (l ∷ ls) = ⊥
 FrontListed d (q ∷ indexes) (l ∷ ls) = Listed d q l × FrontListed d indexes ls
 
--- so many entries list the id
+-- how many entries list the id
 abbrev pub listed_times : List Listing → List ℕ → ℕ
 listed_times [] id = 0
 listed_times (l ∷ ls) id = times_listed l (count_of l) id + listed_times ls id

@@ -16,7 +16,7 @@ use dsy_base::sink::Sink;
 use std::alloc::Global;
 use verify_tool::verify::{StoreCheck, verify_store};
 
-// The answer where so many damaged chunk files are left.
+// The answer where this many damaged chunk files are left.
 fn none_left(count: u64) -> Result<(), Outcome>
     ensures value { result ≡ answer_of_left count }
 {

@@ -101,7 +101,7 @@ fn words_are_refused_at_their_places(rt: HostRuntime) {
     }
 }
 
-// `extract` with so many stores and seeds.
+// `extract` with this many stores and seeds.
 fn many(rt: &impl Abort, alloc: Global, stores: usize, seeds: usize) -> Vec<String> {
     let mut words = words_of(rt, alloc, "extract");
     for _ in 0..stores {

@@ -118,7 +118,7 @@ fn text_of(rt: &impl Abort, alloc: Global, parts: &[&str]) -> String {
     text
 }
 
-// Serves a connection on which these bytes come, in pieces of so many, and looks at what is sent.
+// Serves a connection on which these bytes come, in pieces of this many, and looks at what is sent.
 fn is_sent<H: Shelf>(
     rt: &impl Abort,
     alloc: Global,
@@ -255,7 +255,7 @@ fn a_failed_read_ends_a_connection(rt: HostRuntime) {
     same(&rt, link.sent().len(), 0);
 }
 
-// A folder that holds a chunk of so many bytes, and a request for it.
+// A folder that holds a chunk of this many bytes, and a request for it.
 fn chunk_and_request(rt: &impl Abort, alloc: Global, size: usize) -> (MemFolder, String) {
     let body = ok(rt, vec![in alloc; b'x'; size]);
     let path = id_of(body.as_slice()).path();

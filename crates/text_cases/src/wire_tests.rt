@@ -21,7 +21,7 @@ use std::process::Abort;
 const CHUNKED: &[u8] =
     b"3;name=\"v\"\r\nabc\r\n00a \r\n0123456789\r\n0\r\nTrailer: 1\r\nother: 2\n\r\nGET";
 
-// The body of these bytes, fed so many at a time, its answer and whether it was done.
+// The body of these bytes, fed this many at a time, its answer and whether it was done.
 fn read(
     kind: BodyKind,
     bytes: &[u8],
@@ -300,7 +300,7 @@ fn targets_that_are_paths(rt: HostRuntime) {
     is_no_path(&rt, b"/");
 }
 
-// The head, before a body of so many bytes, is refused with this status, and the connection closed.
+// The head, before a body of this many bytes, is refused with this status, and the connection closed.
 fn is_refused(rt: &impl Abort, head: &[u8], status: u16, body: u64) {
     let want = Request {
         act: Act::Refuse(status),
@@ -397,7 +397,7 @@ fn requests_taken(rt: HostRuntime) {
     same(&rt, read_request(put, true), taken);
 }
 
-// A head of so many header lines.
+// A head of this many header lines.
 fn head_of(rt: &impl Abort, alloc: Global, lines: usize) -> String {
     let mut head = ok(rt, String::from_str(alloc, "GET /x HTTP/1.1\r\n"));
     for _ in 0..lines {

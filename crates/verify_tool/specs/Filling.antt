@@ -84,7 +84,7 @@ pub record FillUnfailed {S : Type 0} (holds : S → Option (Map (List ℕ))) (st
 
 -- ---- how it ends
 
--- so many of the first entries are in the cache then, at least
+-- how many of the first entries are in the cache then, at least
 abbrev pub filled_to : Listing → Result Unit FillFault → ℕ
 filled_to l (Ok u) = count_of l
 filled_to l (Err (faults.Missing k id)) = k
@@ -111,7 +111,7 @@ fill_fault_of entry id refused.Memory = faults.Memory
 -- ---- how often the stores are asked
 
 -- each store was asked for each id at most once for each of the first k entries that list it, and none whether it has
--- one; the chain counts at most so many calls more
+-- one; the chain counts at most this many calls more
 pub record AsksEntries {S : Type 0} (asked queried : S → List ℕ → ℕ) (l : Listing) (k : ℕ) (c0 c1 : Chained S)
     : Type 0 where
   pub stores : AllZip (λ a b. AsksListed l k (asked a) (asked b)) c0.stores c1.stores
@@ -171,7 +171,7 @@ module _ {S : Type 0} (store : StoreWords S) (l : Listing) where
 
   -- ---- and how filling ends
 
-  -- the first k entries were seen to: each is in the cache, into which only chunks of theirs were put that some store
+  -- the first k entries were filled: each is in the cache, into which only chunks of theirs were put that some store
   -- holds, and the stores were asked for these alone
   pub record FillsFirst (k : ℕ) (s0 s : Shelf) (c0 c : Chained S) : Type 0 where
     pub holds : HoldsTo l k s
@@ -179,7 +179,7 @@ module _ {S : Type 0} (store : StoreWords S) (l : Listing) where
     pub asks : AsksEntries store.asked store.queried l k c0 c
     pub stores : KeepsStores store (IsGetBefore l k) c0.stores c.stores
 
-  -- filling ended early at one of the entries. Those before it were seen to, which led to this cache and these stores,
+  -- filling ended early at one of the entries. Those before it were filled, which led to this cache and these stores,
   -- and the refusal is that of the last call, which was for this entry, from there on. It added nothing to the cache,
   -- which holds the chunks before it, and no others were added
   pub record FillStops (fault : FillFault) (s0 s1 : Shelf) (c0 c1 : Chained S) : Type 0 where
@@ -195,7 +195,7 @@ module _ {S : Type 0} (store : StoreWords S) (l : Listing) where
     pub holds : HoldsTo l entry s1
     pub stocks : Stocks (λ q b. IsListedId l entry q) s0 s1
 
-  -- all entries were seen to; or there was no memory to begin, and nothing was done; or filling ended early at one
+  -- all entries were filled; or there was no memory to begin, and nothing was done; or filling ended early at one
   abbrev pub FillEnds : Shelf → Shelf → Chained S → Chained S → Result Unit FillFault → Type 0
   FillEnds s0 s1 c0 c1 (Ok u) = FillsFirst (count_of l) s0 s1 c0 c1
   FillEnds s0 s1 c0 c1 (Err fault) =

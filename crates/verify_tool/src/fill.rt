@@ -1,4 +1,4 @@
-//! Filling a cache: each chunk that an index lists is had through it, and stands in it then.
+//! Filling a cache: each chunk that an index lists is got through it, and stands in it then.
 //! Entries are numbered from 0.
 
 ghost use Rattle.std.specs.Prelude.{◌≡◌, ℕ, List, ◌<◌, ◌≤◌, Some, None, IfSome, IfErr, OnOk, length, map};
@@ -114,7 +114,7 @@ fn fill_entry<F: Folder, S: Store>(
 }
 
 /// Sees to it that the cache holds each chunk that the index lists, entry by entry up to the first refusal: one that it
-/// doesn't give is had from the stores and put into it. An id that is listed twice is seen to twice.
+/// doesn't give is got from the stores and put into it. An id that is listed twice is filled twice.
 pub fn fill<F: Folder, S: Store>(
     alloc: Global,
     index: &Index,

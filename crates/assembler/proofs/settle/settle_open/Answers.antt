@@ -27,7 +27,7 @@ use Rattle.cache_store.specs.Shelves.{Shelf, Shelved}
 abbrev see : (g : Over) → Option (Shelved g.row.F.Denot) → Option Shelf
 see g = seen g.F.Look
 
--- what is so of the chunk as it was lent is so of the one that is sought
+-- what holds for the chunk as it was lent holds for the one that is sought
 module _ (kind : DigestKind) (q : Sought) (n size : ℕ) (same : n ≡ size) (P : Wanted → Type 0) where
   as_sought : P (sought_chunk kind q n) → P (sought_chunk kind q size)
   as_sought = subst (λ (k : ℕ). P (sought_chunk kind q k)) same

@@ -26,7 +26,7 @@ survey_shards-requires-clause-room g c = λ κs within k d less i inside.
 pub returns-in-Err-clause-cause : goal.returns-in-Err-clause-cause
 returns-in-Err-clause-cause g c = λ so. c.in-Err.ensures.cause (c.refusal.ensures.cause so)
 
--- what is so of the sizes of some is so of others that have these sizes
+-- what holds for the sizes of some holds for others that have these sizes
 by_size : {B : Type 0} (xs ys : List B) (f h : B → ℕ) → ((b : B) → f b ≡ h b) → (P : ℕ → Type 0) → map f ys ≡ map f xs → All (λ b. P (h b)) xs → All (λ b. P (h b)) ys
 by_size xs ys f h is P same has k d less =
     let long : length ys ≡ length xs = sym (length-map ys f) ∙ ap length same ∙ length-map xs f in

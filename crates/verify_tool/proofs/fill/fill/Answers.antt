@@ -83,7 +83,7 @@ pub returns-clause-stores : goal.returns-clause-stores
 returns-clause-stores g c =
     gets_listed g.S.Store c.args.index.now c.loop-i.i (omega (arith, c.loop-i.auto.i-end, c.count-i-end.ensures)) c.args.cached.now.chain.stores c.loop-i.cached.chain.stores c.loop-i.invariant.stores
 
--- all entries were seen to
+-- all entries were filled
 pub returns-clause-holds : goal.returns-clause-holds
 returns-clause-holds g c =
     let F = g.F.Look in

@@ -2,7 +2,7 @@ use Rattle.cache_store.specs.Shelves.{shelf_of}
 use Rattle.verify_tool.proofs.Filled.{Filled}
 use Rattle.verify_tool.proofs.fill.fill.Given as goal
 
--- the first i entries were seen to
+-- the first i entries were filled
 abbrev pub invariant-loop-i : goal.invariant-loop-i
 invariant-loop-i g l =
     let S = g.S.Store in
