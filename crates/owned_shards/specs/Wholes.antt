@@ -87,9 +87,9 @@ pub record IsWhole (r : Run) (told : Bool) (left : Left) (ss : List Seen) : Type
 abbrev pub AwaitsShards : Run → Bool → Left → Type 0
 AwaitsShards r told left = (ss : List Seen) → AreShards r 0 ss → IsWhole r told left ss
 
--- what holds for the bytes t of a target in shards, whichever workers had them: a settled entry is right, and is so in
--- the base too or may be filled; an entry that isn't settled has the base's bytes, or a call on it has failed; and an
--- entry that is right in the base is settled and has the base's bytes, or a call on it has failed
+-- what holds for the bytes t of a target in shards, whichever workers had them: a settled entry is right, and either it
+-- was right in the base or it may be filled; an entry that isn't settled has the base's bytes, or a call on it has
+-- failed; and an entry that is right in the base is settled and has the base's bytes, or a call on it has failed
 pub record KeptWhole (r : Run) (w : Whole) (t : List ℕ) : Type 0 where
   pub failed : List ℕ
   pub excused : Excuses failed w.faults_before w.faults

@@ -38,7 +38,8 @@ impl<'a, P: Part, R: RunName> Lane<'a, P, R> {
     }
 }
 
-/// A lane for each worker with room for its share of so many shards, nearly equally many for each. None has a buffer.
+/// A lane for each worker, with room for its share of `shards` shards. The shares differ by at most one shard. None has
+/// a buffer.
 pub(crate) fn idle_lanes<'a, P: Part, R: RunName>(
     alloc: Global,
     workers: usize,

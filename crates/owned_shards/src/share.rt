@@ -23,7 +23,7 @@ pub(crate) struct Share<'a, P: Part, R: RunName> {
     pub shards: Vec<Shard<'a, P, R>>,
 }
 
-// Moves so many values from the end of a list to the end of another, which has room for them: the last one first.
+// Moves `count` values from the end of a list to the end of another, which has room for them: the last one first.
 fn move_last<X: Drop>(from: &mut Vec<X>, to: &mut Vec<X>, count: usize)
     requires some { count ≤ vec_len from.old }
     requires room { vec_len to.old + count ≤ vec_capacity to.old }
@@ -63,7 +63,7 @@ fn surveyed<'a, P: Part, R: RunName>(
 }
 
 impl<'a, P: Part, R: RunName> Share<'a, P, R> {
-    /// Has no shard yet, but room for so many.
+    /// Has no shard yet, but room for `count` of them.
     pub fn new(alloc: Global, count: usize) -> Result<Share<'a, P, R>, AllocError>
         ensures none { IfOk result IsUndealt }
         ensures count { IfOk result (λ a. a.count ≡ count) }
