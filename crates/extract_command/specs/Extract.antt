@@ -106,8 +106,8 @@ abbrev pub AreFilled : Listing → (ℕ → Type 0) → List ℕ → List ℕ �
 AreFilled l P base t =
     (i : ℕ) → i < count_of l → (P i → IsRightAt t l i) × ((P i → ⊥) → slice_of l t i ≡ slice_of l base i)
 
--- the file alone has changed. It holds t, in which each range is right or the base's unless a call on it failed: the
--- file's number has risen by at least this much
+-- the file alone has changed. It holds t, in which each range is right or the base's, but for a list of entries that is
+-- no longer than the number of calls on the file that failed
 abbrev pub KeepsIn : Disk → Disk → Map (List ℕ) → Map (List ℕ) → Into → Listing → List ℕ → Type 0
 KeepsIn d e before after out l t =
     Leaves before after out t

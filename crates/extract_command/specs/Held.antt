@@ -59,8 +59,8 @@ pub record HasNames {L W V D K : Type 0} (look : LookWords L) (view : ViewWords 
   pub seeds : AreNamesOf images (names_among (map (seed_held view.held) h.seeds.items))
   pub kits : All (UsesNames look view images (folders_among (stores_of look h))) (further_kits h)
 
--- it was just reached: nothing was asked and nothing failed yet, no seed and no kit is open, and there is room for so
--- many kits
+-- it was just reached: nothing was asked and nothing failed yet, no seed and no kit is open, and there is room for
+-- this number of kits
 pub record JustReached {L W V D K : Type 0} (look : LookWords L) (folder : LookWords W) (view : ViewWords V)
     (state : D → DialState) (d : Disk) (workers : ℕ) (h : Held L W V D K) : Type 0 where
   pub lent : CanBeGiven look folder view d h

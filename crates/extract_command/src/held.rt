@@ -42,7 +42,7 @@ pub struct Held<L: Look, W: Folder, V: View, D: Dial> {
 }
 
 /// Opens the stores in their order, and takes the folder of the cache, where there is one. No seed is open yet, and no
-/// kit. There is room for the kits of so many workers.
+/// kit. There is room for `workers` kits.
 pub fn reach<F: Files, D: Dial>(
     alloc: Global,
     files: &mut F,

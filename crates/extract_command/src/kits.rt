@@ -45,8 +45,8 @@ fn open_kit<F: Files, D: Dial>(
     }
 }
 
-/// Opens a kit for each of so many workers but the first, whose kit isn't among them. Where one can't be opened, for
-/// whatever reason, the extraction goes on without it, and no more are opened.
+/// Opens a kit for each worker but the first, whose kit isn't among them. Where one can't be opened, for whatever
+/// reason, the extraction goes on without it, and no more are opened.
 pub fn open_kits<F: Files, D: Dial>(
     alloc: Global,
     files: &mut F,
