@@ -51,7 +51,7 @@ use std::time::{CpuClock, Duration};
 
 const WORKERS: usize = 32;
 
-// The index of so many chunks, each once. No chunk is of zeros.
+// The index of `count` chunks, each once. No chunk is of zeros.
 fn index_of(alloc: Global, count: u64) -> Option<Index> {
     let mut entries = Vec::new(alloc);
     let mut end = 0u64;

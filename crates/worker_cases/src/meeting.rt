@@ -24,7 +24,7 @@ pub struct Meeting {
 }
 
 impl Meeting {
-    /// Each part waits for so many turns at most.
+    /// Each part waits for at most `turns` turns.
     pub fn new(turns: u64) -> Meeting {
         Meeting {
             came: AtomicU64::new(0),

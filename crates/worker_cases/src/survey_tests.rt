@@ -30,7 +30,7 @@ fn chunk(entry: usize) -> [u8; 2] {
     [(entry % 251) as u8, (entry / 251 % 251) as u8]
 }
 
-// The index of an image with so many chunks.
+// The index of an image with `count` chunks.
 fn index_of(rt: &impl Abort, alloc: Global, count: usize) -> Index {
     let mut entries = Vec::new(alloc);
     let mut end = 0u64;
@@ -42,7 +42,7 @@ fn index_of(rt: &impl Abort, alloc: Global, count: usize) -> Index {
     Index::new(0xa000_0000_0000_0000, 1, 2, 64, entries).expect(rt, "an index")
 }
 
-// So many bytes of that image, in which each third chunk is another one.
+// The first `length` bytes of that image, in which each third chunk is another one.
 fn old_bytes(rt: &impl Abort, alloc: Global, length: usize) -> Vec<u8> {
     let mut bytes = Vec::new(alloc);
     for at in 0..length {
@@ -57,7 +57,7 @@ fn old_bytes(rt: &impl Abort, alloc: Global, length: usize) -> Vec<u8> {
     bytes
 }
 
-// So many buffers, each with room for the largest entry.
+// `count` buffers, each with room for the largest entry.
 fn buffers_of(rt: &impl Abort, alloc: Global, index: &Index, count: usize) -> Vec<Vec<u8>>
     ensures size { vec_len result ≡ count }
     ensures room { All (λ b. TakesEach index.now (vec_len b)) result.items }
@@ -70,7 +70,7 @@ fn buffers_of(rt: &impl Abort, alloc: Global, index: &Index, count: usize) -> Ve
     buffers
 }
 
-// What became of each entry in the survey of a target by so many workers.
+// What became of each entry in the survey of a target.
 fn fates<H: Abort + Threads + Sync, R: RunName + Send + Sync, T: Target>(
     rt: &H,
     alloc: Global,
@@ -97,7 +97,7 @@ where
     fates
 }
 
-// So many workers find which entries of an image with so many chunks are kept in so many bytes of it.
+// Workers find which entries of an image with `count` chunks are kept in its first `length` bytes.
 fn finds<H: Abort + Threads + Sync>(
     rt: &H,
     alloc: Global,
@@ -131,7 +131,7 @@ fn any_number_of_workers_finds_the_same(rt: HostRuntime) {
     }
 }
 
-// How many parts were read at first, and how many of them alone, in a survey by so many workers.
+// How many parts were read at first, and how many of them alone, in a survey by `workers` workers.
 fn meets<H: Abort + Threads + Sync>(
     rt: &H,
     alloc: Global,
