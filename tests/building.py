@@ -1,11 +1,14 @@
 #!/usr/bin/env python3
 """`./build` and `./install` over small repositories, with a stand-in for `rt` and nothing else on PATH but commands of
-coreutils: what is proved when, what is shown, and what is left behind. Nothing is proved.
+coreutils and flock: what is proved when, what is shown, and what is left behind. Nothing is proved.
 
-The stand-in takes as many seconds as the file `seconds` in the crate's folder says, and fails where there is a file
-`fails`. It tells when it begins and ends in the file that EVENTS names.
+As rt does, the stand-in locks the folder of the crate and of all crates below it in the tree where it runs, builds
+each of them whose stamp isn't that of its sources, and keeps work in out/incremental. A crate takes as many seconds as
+the file `seconds` in its folder says, fails where there is a file `fails`, and waits until the crates are begun that
+the file `beside` names. What begins and ends is told in the file that EVENTS names.
 """
 
+import fcntl
 import os
 import shutil
 import signal
@@ -17,27 +20,87 @@ import program
 from checks import Cases, expect, expect_equal
 
 STAND_IN = r"""#!/bin/bash
-name=${PWD##*/}
-echo "begin $name $$ $*" >> "$EVENTS"
-if [[ -e seconds ]]; then
-    sleep "$(< seconds)" &
-    trap 'kill $!; wait $!; exit 143' INT TERM HUP
-    echo "sleep $name $!" >> "$EVENTS"
-    wait
-fi
-if [[ -e fails ]]; then
-    echo "$name doesn't hold"
-    exit 3
-fi
-if [[ $1 == run ]]; then
-    mkdir -p out
-    printf '#!/bin/bash\n' > "out/$name"
-    chmod +x "out/$name"
-fi
-echo "end $name $$" >> "$EVENTS"
+set -u
+shopt -s globstar nullglob
+name=${PWD##*/} crates=()
+declare -A uses=() stamps=()
+while IFS=: read -r crate words; do
+    uses[$crate]=$words
+done < ../../crates.txt
+
+gather() {
+    local it
+    for it in ${uses[$1]}; do
+        [[ -z ${uses[$it]+there} ]] || gather "$it"
+    done
+    [[ " ${crates[*]} " == *" $1 "* ]] || crates+=("$1")
+}
+
+stamp() {
+    local file it
+    stamps[$1]="$1:${uses[$1]}:"
+    for file in ../"$1"/src/**; do
+        [[ ! -f $file ]] || stamps[$1]+="$file=$(< "$file");"
+    done
+    for it in ${uses[$1]}; do
+        stamps[$1]+="(${stamps[$it]:-})"
+    done
+}
+
+prove() {
+    local it number
+    echo "begin $name $$ $*" >> "$EVENTS"
+    [[ ! -d out/incremental ]] || echo "again $name" >> "$EVENTS"
+    mkdir -p out/incremental
+    if [[ -e beside ]]; then
+        for it in $(< beside); do
+            for ((number = 0; number < 250; number++)); do
+                [[ $(< "$EVENTS") != *"begin $it "* ]] || continue 2
+                sleep 0.02
+            done
+            echo "$name isn't proved beside $it"
+            exit 4
+        done
+    fi
+    if [[ -e seconds ]]; then
+        sleep "$(< seconds)" &
+        trap 'kill $!; wait $!; exit 143' INT TERM HUP
+        echo "sleep $name $!" >> "$EVENTS"
+        wait
+    fi
+    if [[ -e fails ]]; then
+        echo "$PWD doesn't hold"
+        exit 3
+    fi
+    echo "end $name $$" >> "$EVENTS"
+}
+
+gather "$name"
+for folder in ../*/; do
+    crate=${folder:3:-1}
+    if [[ " ${crates[*]} " == *" $crate "* ]]; then
+        exec {lock}< "$folder"
+        flock "$lock"
+    fi
+done
+for name in "${crates[@]}"; do
+    cd "../$name"
+    stamp "$name"
+    if [[ ! -e src/lib.rt ]]; then
+        prove "$@"
+        printf '#!/bin/bash\n' > "out/$name"
+        chmod +x "out/$name"
+    elif [[ ! -e out/rlib/$name.rlib/format || $(< out/rlib/stamp) != "${stamps[$name]}" ]]; then
+        rm -rf out/rlib
+        mkdir -p "out/rlib/$name.rlib"
+        prove "$@"
+        echo "$name" > "out/rlib/$name.rlib/format"
+        echo "${stamps[$name]}" > out/rlib/stamp
+    fi
+done
 """
 
-COREUTILS = ('cat', 'chmod', 'cp', 'dirname', 'mkdir', 'mktemp', 'mv', 'nproc', 'rm', 'sleep', 'wc')
+COREUTILS = ('cat', 'chmod', 'cp', 'dirname', 'flock', 'mkdir', 'mktemp', 'mv', 'nproc', 'rm', 'sleep', 'wc')
 
 # Two chains of three and one crate beside them, below the program; a crate that the program doesn't need; and `hex`,
 # which is the kit's.
@@ -64,7 +127,8 @@ class Repository:
         lines = ['# a comment: with a colon'] + [f'{name}: {" ".join(below)}' for name, below in crates.items()]
         self.put('crates.txt', '\n'.join(lines) + '\n')
         for name in crates:
-            self.put(f'crates/{name}/src/lib.rt', '/' * (sizes or {}).get(name, 10))
+            top = 'main' if name == 'desync_main' else 'lib'
+            self.put(f'crates/{name}/src/{top}.rt', '/' * (sizes or {}).get(name, 10))
             if seconds:
                 self.put(f'crates/{name}/seconds', str(seconds))
         for command in COREUTILS:
@@ -144,6 +208,16 @@ def proving(cases):
         expect_equal(left, list(range(len(NEEDED) - 1, -1, -1)), 'how many crates are left, line by line')
         made.expect_nothing_left()
 
+    with cases.case('crates that stand on the same crates are proved side by side') as folder:
+        crates = {'base': [], 'low': ['base'], 'one': ['low'], 'two': ['low', 'base'], 'three': ['low'],
+                  'desync_main': ['one', 'two', 'three']}
+        made = Repository(folder, crates)
+        for name in ('one', 'two', 'three'):
+            made.put(f'crates/{name}/beside', 'one two three')
+        status, _, err = made.run('build', lanes=3)
+        expect_equal((status, err), (0, ''), 'status and standard error')
+        made.expect_nothing_left()
+
     with cases.case('as many crates as there are lanes are at work, and no more') as folder:
         made = Repository(folder, seconds=0.2)
         made.run('build', lanes=2)
@@ -202,6 +276,46 @@ def again(cases):
             made.run('build')
             expect(os.path.exists(made.events), 'no crate was proved')
 
+    with cases.case('crates keep libraries and work, and a change proves its crate and those above it alone') as folder:
+        made = Repository(folder)
+        made.run('build')
+        for name in set(NEEDED) - {'desync_main'}:
+            kept = sorted(os.listdir(os.path.join(made.top, 'crates', name, 'out')))
+            expect_equal(kept, ['incremental', 'rlib'], f'what {name} has kept')
+            kept = set(os.listdir(os.path.join(made.top, 'crates', name, 'out', 'rlib')))
+            expect_equal(kept, {f'{name}.rlib', 'stamp'}, f'the library of {name}')
+        os.remove(made.events)
+        made.put('crates/right/src/lib.rt', 'another')
+        status, _, err = made.run('build')
+        expect_equal((status, err), (0, ''), 'status and standard error')
+        for kind in ('begin', 'again'):
+            expect_equal([name for _, name, *_ in made.told(kind)], ['right', 'wide', 'desync_main'], kind)
+
+    with cases.case('libraries are copied where they can\'t be linked') as folder:
+        made = Repository(folder)
+        os.remove(os.path.join(made.commands, 'cp'))
+        made.put('cp', f'#!/bin/bash\n[[ $1 != -al ]] || exit 1\nexec {shutil.which("cp")} "$@"\n', made.commands)
+        os.chmod(os.path.join(made.commands, 'cp'), 0o755)
+        for change in ('first', 'second'):
+            made.put('crates/right/src/lib.rt', change)
+            status, _, err = made.run('build')
+            expect_equal((status, err), (0, ''), 'status and standard error')
+        proved = sorted(name for _, name, *_ in made.told('begin'))
+        expect_equal(proved, sorted([*NEEDED, 'right', 'wide', 'desync_main']), 'what was proved')
+
+    with cases.case('a source that changes while its crate is proved is proved once more') as folder:
+        made = Repository(folder)
+        made.put('crates/low/seconds', '30')
+        process = made.start('build', lanes=1)
+        wait_for(lambda: os.path.exists(made.events) and made.told('sleep'), 'the first crate')
+        made.put('crates/low/src/lib.rt', 'another')
+        made.put('crates/low/seconds', '0')
+        os.kill(int(made.told('sleep')[0][2]), signal.SIGTERM)
+        _, err = process.communicate(timeout=60)
+        expect_equal((process.returncode, err), (0, ''), 'status and standard error')
+        with open(os.path.join(made.top, 'crates', 'low', 'out', 'rlib', 'stamp'), encoding='utf-8') as file:
+            expect('another' in file.read(), 'the library of the older source stayed')
+
     with cases.case('a program that rt has left is copied') as folder:
         made = Repository(folder)
         made.run('build')
@@ -218,7 +332,8 @@ def refusals(cases):
         made.put('crates/left/seconds', '0.1')
         made.put('crates/left/fails', '')
         status, out, err = made.run('build', lanes=3)
-        expect_equal((status, err), (1, 'left doesn\'t hold\nbuild: FAILED at left, with status 3\n'), 'how it ended')
+        wanted = 'crates/left doesn\'t hold\nbuild: FAILED at left, with status 3\n'
+        expect_equal((status, err), (1, wanted), 'how it ended')
         expect_equal(sorted(name for _, name, *_ in made.told('begin')), ['left', 'lone', 'low'], 'what was begun')
         expect('left' not in out, f'left is told as proved: {out}')
         expect(not made.has('bin'), 'there is a program')
@@ -281,6 +396,41 @@ def interruptions(cases):
             expect_equal((process.returncode, err), (128 + number, ''), 'status and standard error')
             expect(not made.has('bin'), 'there is a program')
             made.expect_nothing_left()
+
+    with cases.case('an interrupted build goes on where it was') as folder:
+        made = Repository(folder)
+        made.put('crates/mid/seconds', '30')
+        process = made.start('build', lanes=2)
+        done = {'low', 'lone', 'left', 'right', 'wide'}
+        wait_for(lambda: all(made.has(f'crates/{name}/out/rlib/stamp') for name in done) and made.told('sleep'),
+                 'the crates beside mid')
+        process.terminate()
+        process.communicate(timeout=60)
+        made.expect_nothing_left()
+        os.remove(made.events)
+        made.put('crates/mid/seconds', '0')
+        status, out, err = made.run('build', lanes=2)
+        expect_equal((status, err), (0, ''), 'status and standard error')
+        expect_equal([name for _, name, *_ in made.told('begin')], ['mid', 'high', 'desync_main'], 'what was proved')
+        expect_equal([name for _, name in made.told('again')], ['mid'], 'what was begun with kept work')
+
+    with cases.case('a crate in which rt works is waited for') as folder:
+        made = Repository(folder)
+        process, held = None, os.open(os.path.join(made.top, 'crates', 'low'), os.O_RDONLY)
+        fcntl.flock(held, fcntl.LOCK_EX)
+        for is_ended in (True, False):
+            process = made.start('build', lanes=2)
+            wait_for(lambda: os.path.exists(made.events) and made.told('begin'), 'the first crate')
+            if is_ended:
+                process.terminate()
+                process.communicate(timeout=60)
+                expect_equal(process.returncode, 143, 'the status')
+                made.expect_nothing_left()
+        time.sleep(0.2)
+        expect('low' not in {name for _, name, *_ in made.told('begin')}, 'low was begun')
+        os.close(held)
+        _, err = process.communicate(timeout=60)
+        expect_equal((process.returncode, err), (0, ''), 'status and standard error')
 
 
 def installing(cases):
