@@ -1,16 +1,14 @@
 -- An index has one plan for each number of workers, and a list of one kit has one kit.
 use Rattle.std.proofs.Common.{◌≡◌, ◌∙◌, ℕ, zero, suc, ◌<◌, ◌+◌, List, [], ◌∷◌, ◌++◌, All, Option, length, map, slice_index, slice_index_or, slice_set, refl, sym, ap, subst, arith}
 use Rattle.std.proofs.lemmas.List.{ext_get_or, length-append, length-map}
-use Rattle.std.proofs.lemmas.List.FromFn.{get_or-map-range_with_len, length-range_with_len}
-use Rattle.std.specs.List.{range_with_len}
 use Rattle.assembler.specs.OneKit.{ByPlan, OfKit, lent}
 use Rattle.cache_store.specs.Shelves.{Shelf}
 use Rattle.chunk_sources.specs.Sources.{Sources, sources}
 use Rattle.chunk_sources.specs.Wants.{Task}
 use Rattle.chunk_sources.specs.declared.kit.Kit.{Kit}
 use Rattle.extract_plan.specs.Places.{Placed, PlacesFit, PlacesKnown, places_at}
-use Rattle.caibx_codec.specs.Listing.{Listing, count_of, size_of, start_of}
-use Rattle.extract_plan.specs.Deal.{AreShardEnds, AreWants, Deal, IsPlan, deal_shards, entries_of, shard_start, shards_of}
+use Rattle.caibx_codec.specs.Listing.{Listing, count_of, size_of}
+use Rattle.extract_plan.specs.Deal.{AreShardEnds, AreWants, Deal, IsPlan, deal_shards, entries_of, shards_of}
 
 -- ---- the plan
 
@@ -65,8 +63,6 @@ module _ (l : Listing) where
       ∙ ap (λ (xs : List ℕ). record { workers = e.workers; wants = e.wants; want_of = xs; cuts = d.cuts }) want_of
       ∙ ap (λ (xs : List ℕ). record { workers = e.workers; wants = e.wants; want_of = e.want_of; cuts = xs }) cuts
 
-  -- ---- plans for other numbers of workers
-
   -- places by one plan are places by another
   pub places_on : (n m : ℕ) (d e : Deal) → IsPlan l n d → IsPlan l m e → (x : Placed) (seeds : ℕ) → PlacesKnown l d x seeds → PlacesKnown l e x seeds
   places_on n m d e p q x seeds is =
@@ -78,22 +74,6 @@ module _ (l : Listing) where
         size = is.size ∙ ap (λ (k : ℕ). k + 1) wants;
         fit = λ w inside. subst (λ (xs : List ℕ). PlacesFit seeds (size_of l (slice_index (entries_of xs w) 0)) (places_at x w)) want_of (is.fit w (omega (arith, inside, wants)));
       }
-
-  -- where there is a plan for one number of workers there is one for another
-  pub plan_for : (n m : ℕ) (d : Deal) → IsPlan l n d → (e : Deal) × IsPlan l m e
-  plan_for n m d p =
-      let count = shards_of m (length d.want_of) in
-      let end : ℕ → ℕ = λ k. start_of l (shard_start (count_of l) count (k + 1)) in (
-        record { workers = m; wants = d.wants; want_of = d.want_of; cuts = map end (range_with_len 0 count) },
-        record {
-          workers = refl;
-          wants = p.wants;
-          cuts = record {
-            size = length-map (range_with_len 0 count) end ∙ length-range_with_len 0 count;
-            ends = λ k inside. get_or-map-range_with_len end 0 count k k 0 inside (omega arith);
-          };
-        },
-      )
 
 -- ---- the kit
 

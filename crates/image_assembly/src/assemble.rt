@@ -17,14 +17,12 @@ ghost use Rattle.range_ledger.specs.Fills.{WhereTold};
 ghost use Rattle.range_survey.specs.Reports.{right_below};
 
 use crate::prepare::prepare;
-use assembler::fault::ExtractFault;
 use cache_store::shelf::CacheShelf;
 use caibx_codec::index::Index;
 use chunk_sources::kit::Kit;
 use chunk_store::store::Store;
 use dsy_base::folder::Folder;
 use dsy_base::view::{Part, Target, View};
-use extract_plan::plan::Plan;
 use extract_plan::seeds::SeedIndex;
 use image_workers::assembled::Assembled;
 use range_ledger::run::RunName;
@@ -33,7 +31,7 @@ use std::marker::Brand;
 use std::sync::Wait;
 use std::thread::Threads;
 
-// Prepares the assembly by this plan, and runs it. `R` names the run.
+// Prepares the assembly, and runs it. `R` names the run.
 fn assemble_named<
     R: RunName + Send + Sync,
     W: Threads + Wait + Sync,
@@ -43,9 +41,9 @@ fn assemble_named<
     F: Folder + Send + Sync,
 >(
     rt: &W,
+    alloc: Global,
     index: &Index,
     places: &SeedIndex,
-    plan: Plan,
     target: T,
     kits: Vec<Kit<S, V>>,
     cache: Option<CacheShelf<F>>,
@@ -54,10 +52,9 @@ where
     T::Piece: Send,
     requires size { (1 ≤ vec_len kits) × (vec_len kits ≤ 32) }
     requires alone { IsSome (seen F.Look cache) → vec_len kits ≡ 1 }
-    requires plan { IsPlan index.now (vec_len kits) plan }
     requires over { IsRunFor R.run index.now (vec_len kits) T.tells (T.held target) }
-    requires may { Permits S.Store V.View R.run
-        (record { listing = index.now; plan = plan; places = places.now }) kits.items }
+    requires may { (d : Deal) → IsPlan index.now (vec_len kits) d → Permits S.Store V.View R.run
+        (record { listing = index.now; plan = d; places = places.now }) kits.items }
     requires places { (d : Deal) × IsPlan index.now 1 d
         × All (λ k. PlacesKnown index.now d places.now (length k.seeds.items)) kits.items }
     requires kind { All (λ k. k.chain.kind ≡ kind_of index.now) kits.items }
@@ -68,8 +65,7 @@ where
         (handed (T.held result.target) (lent (T.faults result.target) result.kits.items (seen F.Look result.cache)))
         result.answer }
 {
-    let alloc = *kits.allocator();
-    match prepare::<W, R, T, S, V>(rt, alloc, index, places, plan, target, kits) {
+    match prepare::<W, R, T, S, V>(rt, alloc, index, places, target, kits) {
         Ok(prepared) => prepared.run(rt, cache),
         Err((target, kits, fault)) => Assembled {
             target,
@@ -134,15 +130,5 @@ where
     ensures name { (T.held result.target).name ≡ (T.held target).name }
     ensures faults { T.faults target ≤ T.faults result.target }
 {
-    match Plan::of(alloc, index, kits.len()) {
-        Ok(plan) => assemble_named::<Brand, W, T, S, V, F>(
-            rt, index, places, plan, target, kits, cache,
-        ),
-        Err(_) => Assembled {
-            target,
-            kits,
-            cache,
-            answer: Err(ExtractFault::Memory),
-        },
-    }
+    assemble_named::<Brand, W, T, S, V, F>(rt, alloc, index, places, target, kits, cache)
 }

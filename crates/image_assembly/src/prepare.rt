@@ -15,7 +15,7 @@ ghost use Rattle.chunk_sources.specs.Losses.{MayLack};
 ghost use Rattle.chunk_sources.specs.Sources.{sources};
 ghost use Rattle.dsy_base.specs.Bytes.{held_resized, resized};
 ghost use Rattle.dsy_base.specs.Counts.{Quiet, Rose};
-ghost use Rattle.extract_plan.specs.Deal.{Deal, IsPlan, deal_shards};
+ghost use Rattle.extract_plan.specs.Deal.{Deal, IsPlan, deal_shards, shards_of};
 ghost use Rattle.extract_plan.specs.Places.{PlacesKnown};
 ghost use Rattle.range_ledger.specs.Fills.{WhereTold};
 ghost use Rattle.range_survey.specs.Fates.{SettledRight};
@@ -74,9 +74,10 @@ impl<'a, R: RunName, T: Target, S: Store, V: View> Model for Prepared<'a, R, T, 
         (2 ≤ length p.kits.items) × AreRoomsFor R.run (length p.kits.items) r.locks r.lanes r.known) };
 }
 
-// Marks for the wants of a plan, a buffer of the size of the largest chunk for each kit, and room for several workers.
+// The plan, a mark for each want, a buffer of the size of the largest chunk for each kit, and room for several workers.
 #[derive(Drop)]
 struct Room<'a, P: Part, R: RunName, S: Store, V: View> {
+    plan: Plan,
     tried: Vec<bool>,
     buffers: Vec<Vec<u8>>,
     rooms: Option<Rooms<'a, P, R, S, V>>,
@@ -115,26 +116,26 @@ fn rooms_of<'a, P: Part, R: RunName, S: Store, V: View>(
 }
 
 impl<'a, P: Part, R: RunName, S: Store, V: View> Room<'a, P, R, S, V> {
-    fn of(
-        alloc: Global,
-        index: &Index,
-        plan: &Plan,
-        workers: usize,
-    ) -> Result<Room<'a, P, R, S, V>, AllocError>
-        requires some { 0 < workers }
+    fn of(alloc: Global, index: &Index, workers: usize) -> Result<Room<'a, P, R, S, V>, AllocError>
+        requires size { (1 ≤ workers) × (workers ≤ 32) }
         requires listing { index.now ≡ R.run.listing }
-        requires shards { deal_shards plan.now ≡ R.run.shards }
-        ensures fresh { IfOk result (λ r. r.tried.items ≡ replicate plan.now.wants false) }
+        requires shards { R.run.shards ≡ shards_of workers (count_of index.now) }
+        ensures plan { IfOk result (λ r. IsPlan index.now workers r.plan) }
+        ensures fresh { IfOk result (λ r. r.tried.items ≡ replicate r.plan.wants false) }
         ensures size { IfOk result (λ r. vec_len r.buffers ≡ workers) }
         ensures room { IfOk result (λ r. All (λ b. IsRoomOf index.now (length b.items)) r.buffers.items) }
         ensures one { IfOk result (λ r. r.rooms ≡ None → workers ≡ 1) }
         ensures many { IfOk result (λ r. IfSome r.rooms
             (λ x. (2 ≤ workers) × AreRoomsFor R.run workers x.locks x.lanes x.known)) }
     {
+        let Ok(plan) = Plan::of(alloc, index, workers) else {
+            return Err(AllocError);
+        };
         let tried = vec![in alloc; false; plan.wants()]?;
         let buffers = buffers_of(alloc, index, workers)?;
-        let rooms = rooms_of(alloc, plan, workers, index.count())?;
+        let rooms = rooms_of(alloc, &plan, workers, index.count())?;
         Ok(Room {
+            plan,
             tried,
             buffers,
             rooms,
@@ -162,9 +163,9 @@ fn equipped<S: Store, V: View>(kits: Vec<Kit<S, V>>, buffers: Vec<Vec<u8>>) -> V
     kits
 }
 
-/// Takes all the room that an assembly with 1 to 32 kits needs beside its plan, gives the target the image's length,
-/// and surveys its shards. The places are those in the seeds of each kit, by the plan of this index for one worker. A
-/// refusal hands the target and the kits back.
+/// Makes the plan of an assembly with 1 to 32 kits, takes all the room that it needs, gives the target the image's
+/// length, and surveys its shards. The places are those in the seeds of each kit, by the plan of this index for one
+/// worker. A refusal hands the target and the kits back.
 pub fn prepare<
     'a,
     W: Threads + Wait + Sync,
@@ -177,17 +178,15 @@ pub fn prepare<
     alloc: Global,
     index: &'a Index,
     places: &'a SeedIndex,
-    plan: Plan,
     target: T,
     kits: Vec<Kit<S, V>>,
 ) -> Result<Prepared<'a, R, T, S, V>, (T, Vec<Kit<S, V>>, PrepareFault)>
 where
     T::Piece: Send,
     requires size { (1 ≤ vec_len kits) × (vec_len kits ≤ 32) }
-    requires plan { IsPlan index.now (vec_len kits) plan }
     requires over { IsRunFor R.run index.now (vec_len kits) T.tells (T.held target) }
-    requires may { Permits S.Store V.View R.run
-        (record { listing = index.now; plan = plan; places = places.now }) kits.items }
+    requires may { (d : Deal) → IsPlan index.now (vec_len kits) d → Permits S.Store V.View R.run
+        (record { listing = index.now; plan = d; places = places.now }) kits.items }
     requires places { (d : Deal) × IsPlan index.now 1 d
         × All (λ k. PlacesKnown index.now d places.now (length k.seeds.items)) kits.items }
     requires kind { All (λ k. k.chain.kind ≡ kind_of index.now) kits.items }
@@ -207,10 +206,11 @@ where
     ensures cause { IfErr result (λ e. e.2 ≡ PrepareFault.TargetFault → Rose (T.faults target) (T.faults e.0)) }
     ensures faults { IfErr result (λ e. T.faults target ≤ T.faults e.0) }
 {
-    let Ok(room) = Room::<T::Piece, R, S, V>::of(alloc, index, &plan, kits.len()) else {
+    let Ok(room) = Room::<T::Piece, R, S, V>::of(alloc, index, kits.len()) else {
         return Err((target, kits, PrepareFault::Memory));
     };
     let Room {
+        plan,
         tried,
         mut buffers,
         rooms,

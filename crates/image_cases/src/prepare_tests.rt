@@ -45,21 +45,19 @@ fn prepared<
     alloc: Global,
     index: &Index,
     places: &SeedIndex,
-    plan: Plan,
     target: T,
     kits: Vec<Kit<S, V>>,
 ) -> Result<Assembled<T, S, V, MemFolder>, (T, Vec<Kit<S, V>>, PrepareFault)>
 where
     T::Piece: Send,
     requires size { vec_len kits ≡ 1 }
-    requires plan { IsPlan index.now 1 plan }
     requires over { IsRunFor R.run index.now (vec_len kits) T.tells (T.held target) }
     requires may { MayFillAll R.run }
     requires places { (d : Deal) × IsPlan index.now 1 d
         × All (λ k. PlacesKnown index.now d places.now (length k.seeds.items)) kits.items }
     requires kind { All (λ k. k.chain.kind ≡ kind_of index.now) kits.items }
 {
-    match prepare::<H, R, T, S, V>(rt, alloc, index, places, plan, target, kits) {
+    match prepare::<H, R, T, S, V>(rt, alloc, index, places, target, kits) {
         Ok(prepared) => Ok(prepared.run(rt, None)),
         Err(refused) => Err(refused),
     }
@@ -89,7 +87,7 @@ fn prepares<H: Abort + Threads + Wait + Sync>(
     let places = ok(rt, SeedIndex::of(alloc, &plan, &index, &seeds));
     let kits = ok(rt, vec![in alloc; kit]);
     prepared::<H, Brand, MemTarget, DirStore<MemFolder>, MemView>(
-        rt, alloc, &index, &places, plan, target, kits,
+        rt, alloc, &index, &places, target, kits,
     )
 }
 

@@ -46,7 +46,7 @@ pub struct Rooms<'a, P: Part, R: RunName, S: Store, V: View> {
 
 impl<'a, P: Part, R: RunName, S: Store, V: View> Rooms<'a, P, R, S, V> {
     /// Takes the room for so many shards, workers and entries.
-    pub(crate) fn of(
+    pub fn of(
         alloc: Global,
         shards: usize,
         workers: usize,
@@ -74,7 +74,7 @@ impl<'a, P: Part, R: RunName, S: Store, V: View> Rooms<'a, P, R, S, V> {
 }
 
 /// Both passes: all workers, each with its kit, and then the first one. The kits come back in their order.
-pub(crate) fn run_workers<
+pub fn run_workers<
     'a,
     W: Threads + Wait + Sync,
     R: RunName + Send + Sync,

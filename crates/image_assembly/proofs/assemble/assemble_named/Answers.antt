@@ -16,6 +16,7 @@ use Rattle.extract_plan.specs.Places.{Placed}
 use Rattle.image_assembly.proofs.Handing.{refused}
 use Rattle.image_assembly.proofs.Lending.{as_long, by_same}
 use Rattle.image_assembly.proofs.OnePlan.{by_kit}
+use Rattle.image_assembly.proofs.Planned.{is_plan, plan_of}
 use Rattle.image_assembly.specs.Endings.{HasAssembled, handed}
 use Rattle.image_workers.specs.Kits.{IsAssembledBy, NoneUsed}
 use Rattle.image_assembly.specs.Readied.{unprepared}
@@ -83,9 +84,9 @@ returns-in-Err g c =
     let n = g.T.View.faults c.in-Err.target in
     let e = c.in-Err.ensures in
     let cache = seen g.F.Look c.args.cache in
-    let plan : IsPlan l (length kits) c.args.plan = subst (λ (k : ℕ). IsPlan l k c.args.plan) c.args.kits.ok.0 c.requires.plan in
+    let plan = is_plan l 1 (length kits) c.requires.places.0 c.requires.places.1 in
     subst (λ (x : ExtractFault). HasAssembled g.S.Store g.V.View g.T.View.never_fails l c.args.places.now (handed old (lent f kits cache)) (handed new (lent n c.in-Err.kits.items cache)) (Err x)) (sym c.fault.ensures)
     (subst (λ (ks : List (Kit g.row.S.Denot g.row.V.Denot)). HasAssembled g.S.Store g.V.View g.T.View.never_fails l c.args.places.now (handed old (lent f kits cache)) (handed new (lent n ks cache))
     (Err (unprepared c.in-Err.fault))) (sym e.kept)
-    (refused g.S.Store g.V.View g.T.View.never_fails l c.args.places.now c.args.plan kits (omega (arith, c.requires.size.0, c.args.kits.ok.0)) plan old new f n e.faults cache (unprepared c.in-Err.fault)
+    (refused g.S.Store g.V.View g.T.View.never_fails l c.args.places.now (plan_of l (length kits)) kits (omega (arith, c.requires.size.0, c.args.kits.ok.0)) plan old new f n e.faults cache (unprepared c.in-Err.fault)
     (why_none c.in-Err.fault f n e.cause) e.err))

@@ -55,7 +55,7 @@ invariant_of-result g c =
     let here = (goal.at.invariant_of-result g c).In-Ok-survey_shards in
     let l = c.args.index.now in
     let x = c.args.places.now in
-    let d = c.args.plan in
+    let d = c.in-Ok.room.plan in
     let kits = c.args.kits.items in
     let ms = c.equipped-kits.result.items in
     let e = c.equipped-kits.ensures in
@@ -63,7 +63,7 @@ invariant_of-result g c =
     let many : n ≡ length kits = e.size in
     let r = g.R.RunName.run in
     let over = c.requires.over in
-    let plan : IsPlan l n d = subst (λ (k : ℕ). IsPlan l k d) (c.args.kits.ok.0 ∙ sym many) c.requires.plan in
+    let plan : IsPlan l n d = subst (λ (k : ℕ). IsPlan l k d) (c.len.ensures ∙ c.args.kits.ok.0 ∙ sym many) c.in-Ok.ensures.plan in
     let s = c.in-Ok-survey_shards.shards in
     let does = c.in-Ok-survey_shards.ensures in
     let old = g.T.View.held c.args.target in
@@ -72,7 +72,8 @@ invariant_of-result g c =
     let tells : is_some s.held.bytes ≡ r.tells = resized_tells old s.held (image_length l) does.ok ∙ g.met.T.View.told c.args.target ∙ sym over.tells in (
       record {
         listing = sym over.listing;
-        permits = permits_same g.S.Store g.V.View ms kits e.chain e.seeds r (record { listing = l; plan = d; places = x }) c.requires.may;
+        permits = permits_same g.S.Store g.V.View ms kits e.chain e.seeds r (record { listing = l; plan = d; places = x })
+            (c.requires.may d (subst (λ (k : ℕ). IsPlan l k d) c.len.ensures c.in-Ok.ensures.plan));
         shards = over.shards ∙ ap (λ (k : ℕ). shards_of k (count_of l)) (c.args.kits.ok.0 ∙ sym many) ∙ ap (λ (m : Listing). shards_of n (count_of m)) (sym over.listing);
         base = based;
         tells = sym over.tells;
@@ -85,7 +86,7 @@ invariant_of-result g c =
         plan = plan;
         fresh = c.in-Ok.ensures.fresh;
         places = all_same ms kits e.chain e.seeds (λ ch s. PlacesKnown l d x (length s))
-            (λ k q less. places_on l 1 (length kits) c.requires.places.0 d c.requires.places.1 (subst (λ (k : ℕ). IsPlan l k d) c.args.kits.ok.0 c.requires.plan) x _ (c.requires.places.2 k q less));
+            (λ k q less. places_on l 1 n c.requires.places.0 d c.requires.places.1 plan x _ (c.requires.places.2 k q less));
         kind = all_same ms kits e.chain e.seeds (λ ch s. ch.kind ≡ kind_of l) c.requires.kind;
         room = e.room l (buffers_so g here);
       },
