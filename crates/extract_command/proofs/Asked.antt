@@ -1,7 +1,8 @@
 -- How often the stores of one of several kits were asked, over files that were taken.
-use Rattle.std.proofs.Common.{◌≡◌, ◌∙◌, ℕ, ◌<◌, List, map, All, Bool, true, Option, Some, IfSome, IsSomeAnd, slice_index_or, sym, subst}
+use Rattle.std.proofs.Common.{◌≡◌, ◌∙◌, ℕ, ◌<◌, List, map, All, Bool, true, Option, Some, IfSome, IsSomeAnd, Result, slice_index_or, sym, subst}
 use Rattle.std.specs.List.{fold}
 use Rattle.assembler.specs.OneKit.{Lent}
+use Rattle.assembler.specs.declared.fault.ExtractFault.{ExtractFault}
 use Rattle.caibx_codec.specs.Asks.{IsListedGet}
 use Rattle.caibx_codec.specs.Listing.{size_of}
 use Rattle.chunk_sources.specs.Caches.{CacheGives}
@@ -37,6 +38,7 @@ use Rattle.extract_plan.specs.Places.{IsSeedIndex}
 use Rattle.extract_plan.specs.Seeds.{faults_in}
 use Rattle.http_wire.specs.declared.reply.Method.TheVariants as method
 use Rattle.image_workers.specs.Kits.{IsSparedFor, KitUsed, at_kit, worker_asks}
+use Rattle.range_survey.specs.declared.report.Report.{Report}
 
 module _ {L V D K : Type 0} (look : LookWords L) (view : ViewWords V) (state : D → DialState) (t : Task) (d b e : Disk) (names : List Location) (Known : Type 0) (t0 : Option (List ℕ)) (i : ℕ) (q j : Kit (AnyStore L D K) V) (old new : Lent (AnyStore L D K) V) where
   abbrev before : Kit (AnyStore L D K) V
@@ -45,7 +47,7 @@ module _ {L V D K : Type 0} (look : LookWords L) (view : ViewWords V) (state : D
   abbrev after : Kit (AnyStore L D K) V
   after = slice_index_or new.kits i j
 
-  module _ (images : List (List ℕ)) (is : IsKitOpened look view state d b names images before) (used : KitUsed (any_words look state) view t Known t0 i (at_kit old i q) (at_kit new i j)) where
+  module _ (images : List (List ℕ)) (is : IsKitOpened look view state d b names images before) {never : Bool} {answer : Result Report ExtractFault} (used : KitUsed (any_words look state) view t Known never t0 i (at_kit old i q) (at_kit new i j) answer) where
     pub kit_still : map (location_in look.place) after.chain.stores ≡ names
     kit_still = stand_still look.place before.chain.stores after.chain.stores used.stores.places ∙ is.located
 
@@ -54,20 +56,20 @@ module _ {L V D K : Type 0} (look : LookWords L) (view : ViewWords V) (state : D
     kit_sends a c ended = each_sent look.place state (IsListedGet t.listing) before.chain.stores after.chain.stores names a c is.unused used.stores.sends kit_still ended
 
   -- it can be given back as it could before
-  pub kit_can : (c : Disk) → KitUsed (any_words look state) view t Known t0 i (at_kit old i q) (at_kit new i j) → CanGiveKit look view c before → CanGiveKit look view c after
+  pub kit_can : (c : Disk) {never : Bool} {answer : Result Report ExtractFault} → KitUsed (any_words look state) view t Known never t0 i (at_kit old i q) (at_kit new i j) answer → CanGiveKit look view c before → CanGiveKit look view c after
   kit_can c used can = record {
     stores = subst (λ (l : List Location). All (IsKnown c.folder_counts) l) (sym (stand_still look.place before.chain.stores after.chain.stores used.stores.places)) can.stores;
     seeds = same_known view.held c.file_counts before.seeds.items after.seeds.items used.seeds.held can.seeds;
   }
 
   -- its names are still among these
-  pub kit_named : (files folders : List (List ℕ)) → KitUsed (any_words look state) view t Known t0 i (at_kit old i q) (at_kit new i j) → UsesNames look view files folders before → UsesNames look view files folders after
+  pub kit_named : (files folders : List (List ℕ)) {never : Bool} {answer : Result Report ExtractFault} → KitUsed (any_words look state) view t Known never t0 i (at_kit old i q) (at_kit new i j) answer → UsesNames look view files folders before → UsesNames look view files folders after
   kit_named files folders used named = record {
     seeds = λ n none. subst (λ (l : List (Option Held)). IsNoneOf n (names_among l)) (sym used.seeds.held) (named.seeds n none);
     stores = λ n none. subst (λ (l : List Location). IsNoneOf n (folders_among l)) (sym (stand_still look.place before.chain.stores after.chain.stores used.stores.places)) (named.stores n none);
   }
 
-  module _ (z : Seeds) (is : IsKitOpened look view state d b names z.images before) (used : KitUsed (any_words look state) view t Known t0 i (at_kit old i q) (at_kit new i j)) (added : IsKitAdded look view state d e after)
+  module _ (z : Seeds) (is : IsKitOpened look view state d b names z.images before) {never : Bool} {answer : Result Report ExtractFault} (used : KitUsed (any_words look state) view t Known never t0 i (at_kit old i q) (at_kit new i j) answer) (added : IsKitAdded look view state d e after)
       (count : ℕ) (plan : IsPlan t.listing count t.plan) (o : Into) (index : IsSeedIndex t.listing t.plan z.listings t.places) (later : (q : List ℕ) → FileRose d b q → FileRose d e q)
       (took : IfSome d.files (λ m. t0 ≡ Some (old_of m o))) (rose : Rose old.faults new.faults → FileRose d e o.name) (cache : Option (List ℕ))
       (gives : (w : ℕ) → IsSomeAnd cache (λ c. CacheSpares d e c t.listing (want_id t.listing t.plan w) (size_of t.listing (first_of t.plan w)))

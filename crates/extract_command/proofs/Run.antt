@@ -298,7 +298,7 @@ module _ {L V D K : Type 0} (look : LookWords L) (view : ViewWords V) (state : D
     one : IsKitOpened look view state d x.b names images x.k
     one = x.all 0 x.k (first_less x.k x.more)
 
-    used : KitUsed words view t Known x.t0 0 from to
+    used : KitUsed words view t Known never x.t0 0 from to r
     used = x.made.each 0 x.k x.j (first_less x.k x.more)
 
     fresh_seeds : map (faults_in view.faults) x.k.seeds.items ≡ map {B = ℕ} (λ q. 0) labels

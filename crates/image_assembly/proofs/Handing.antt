@@ -1,5 +1,5 @@
 -- What an assembly has done, by what its steps say.
-use Rattle.std.proofs.Common.{◌≡◌, ◌⊎◌, ◌∙◌, ◌<◌, ◌≤◌, ℕ, List, ◌∷◌, [], Bool, Option, Err, length, refl, sym, ap, subst, inl, inr}
+use Rattle.std.proofs.Common.{◌≡◌, ◌⊎◌, ◌∙◌, ◌<◌, ◌≤◌, ℕ, List, Bool, Option, Err, length, refl, sym, ap, subst, inl, inr}
 use Rattle.assembler.proofs.Assembled.{assembled_none, assembles_none}
 use Rattle.assembler.specs.Assemblies.{IsAssembled}
 use Rattle.assembler.specs.OneKit.{lent}

@@ -1,14 +1,16 @@
 -- What is said of an assembly with any number of kits: what holds with one kit, what holds where nothing was used, and
 -- what holds for kits before they were given room.
-use Rattle.std.proofs.Common.{◌≡◌, ◌⊎◌, ◌<◌, ◌≤◌, ◌+◌, ◌++◌, ◌%◌, ◌==◌, ℕ, zero, suc, List, [], ◌∷◌, All, Any, Bool, true, if◌then◌else◌, Option, Some, None, IfSome, IsTrue, Result, Ok, Err, length, map, slice_index_or, refl, sym, ap, subst, ◌∙◌, inl, inr, arith}
+use Rattle.std.proofs.Common.{◌≡◌, ◌⊎◌, ◌<◌, ◌≤◌, ◌+◌, ◌++◌, ◌%◌, ◌==◌, ℕ, zero, suc, List, [], ◌∷◌, All, Any, Bool, true, if◌then◌else◌, Option, Some, None, IfSome, IsTrue, Result, Ok, Err, false, length, lit≤, map, slice_index_or, refl, sym, ap, subst, ◌∙◌, inl, inr, arith}
 use Rattle.std.proofs.lemmas.Bool.{eq-eqb}
 use Rattle.std.proofs.lemmas.List.{get_or_default, length-map}
 use Rattle.std.specs.Str.{bytes_eq}
 use Rattle.assembler.proofs.Asked.{asks_none}
 use Rattle.assembler.proofs.Assembled.{assembled_none, assembles_none, told_as}
 use Rattle.assembler.proofs.Based.{only_first}
+use Rattle.assembler.proofs.EconomyRetried.{unless_any}
 use Rattle.assembler.proofs.Stepped.{seeds_none}
 use Rattle.assembler.specs.Assemblies.{After, Assembles, IsAssembled, IsObtainable, IsUnobtained, SparedOver, Verdict}
+use Rattle.assembler.specs.Economy.{AsksExactly, UnlessMemory}
 use Rattle.assembler.specs.Obtainable.{OnlyObtainable}
 use Rattle.assembler.specs.OneKit.{Lent, lent}
 use Rattle.assembler.specs.Passes.{EndsBy, WhereQuiet}
@@ -17,25 +19,29 @@ use Rattle.assembler.specs.declared.fault.ExtractFault.{ExtractFault}
 use Rattle.assembler.specs.declared.fault.ExtractFault.TheVariants as faults
 use Rattle.cache_store.specs.Shelves.{Shelf}
 use Rattle.caibx_codec.specs.Asks.{IsListedGet}
-use Rattle.caibx_codec.specs.Listing.{Listing, count_of, image_length}
+use Rattle.caibx_codec.specs.Listing.{Listing, image_length}
+use Rattle.chunk_sources.proofs.Lacking.{quiet_never}
 use Rattle.chunk_sources.specs.Asks.{AsksAtMost, asks_below, asks_for, calls_below, calls_for, others_spared}
 use Rattle.chunk_sources.specs.Caches.{Stocked, TakesListed}
+use Rattle.chunk_sources.specs.Economy.{all_asks, pass_asks, source_if, source_of, sum_below}
 use Rattle.chunk_sources.specs.Sources.{Sources, Telling, sources, views_of}
 use Rattle.chunk_sources.specs.Wants.{Task}
 use Rattle.chunk_sources.specs.declared.kit.Kit.{Kit}
 use Rattle.chunk_store.specs.declared.store.Store.{Ghosts as StoreWords}
 use Rattle.dsy_base.specs.Bytes.{Held, held_resized, resized}
-use Rattle.dsy_base.specs.Counts.{Rose}
+use Rattle.dsy_base.specs.Counts.{Rose, raised}
 use Rattle.dsy_base.specs.Maps.{Map}
 use Rattle.dsy_base.specs.declared.view.View.{Ghosts as ViewWords}
 use Rattle.extract_plan.specs.Deal.{Deal, want_id}
 use Rattle.extract_plan.specs.declared.seed.Seed.{Seed}
 use Rattle.image_workers.specs.Beside.{PermitsWith}
-use Rattle.image_workers.specs.Kits.{AllKitsTell, AreKitsAlike, IsAssembledBy, IsSparedFor, KitUsed, KnowsFaults, NoneUsed, SomeKitHas, at_kit, worker_asks, worker_calls}
+use Rattle.image_workers.specs.Kits.{AreKitsAlike, AsksDealt, IsAssembledBy, IsSparedFor, KitUsed, KnowsFaults, NoneUsed, SomeKitHas, at_kit, dealt_asks, worker_asks, worker_calls}
 use Rattle.image_assembly.specs.Readied.{Permits}
 use Rattle.owned_shards.specs.Wholes.{base_told}
 use Rattle.range_ledger.specs.Fills.{WhereTold}
 use Rattle.range_ledger.specs.Runs.{Run}
+use Rattle.range_survey.specs.declared.fate.Fate.{Fate}
+use Rattle.range_survey.specs.declared.fate.Fate.TheVariants as fate
 use Rattle.range_survey.specs.declared.report.Report.{Report}
 use Rattle.store_chain.proofs.Kept.{kept_still}
 use Rattle.store_chain.specs.Chains.{Chained}
@@ -83,6 +89,47 @@ module _ (f g : ℕ → Bool) (same : (w : ℕ) → f w ≡ g w) where
       ap (λ (k : ℕ). k + asks_for ids f n q) (asks_alike ids q n)
       ∙ ap (λ (b : Bool). asks_below ids g n q + asks_if (if bytes_eq (ids n) q then 1 else 0) b) (same n)
 
+-- a pass asks no more often than both do
+pass_within : (these : Bool) (source : Fate) → pass_asks (if these then source else fate.Kept) ≤ all_asks source
+pass_within false source = omega arith
+pass_within true fate.Open = lit≤ tt
+pass_within true fate.Kept = lit≤ tt
+pass_within true fate.Copied = lit≤ tt
+pass_within true fate.Seeded = lit≤ tt
+pass_within true fate.Cached = lit≤ tt
+pass_within true fate.Fetched = lit≤ tt
+
+sum_within : (f g : ℕ → ℕ) (n : ℕ) → ((w : ℕ) → f w ≤ g w) → sum_below f n ≤ sum_below g n
+sum_within f g zero less = omega arith
+sum_within f g (suc n) less = omega (arith, sum_within f g n less, less n)
+
+raised_within : (c a b new : ℕ) → a ≤ b → new ≡ raised c b → raised c a ≤ new
+raised_within c a b new less is = omega (arith, less, is)
+
+module _ {S V : Type 0} (store : StoreWords S) (view : ViewWords V) (t : Task) (o : Option (List ℕ)) (old new : Sources S V) where
+  abbrev over_base : List (Map (List ℕ)) → List (Map (List ℕ)) → List ℕ → ℕ → Fate
+  over_base cached maps y = source_of t (resized y (image_length t.listing)) (views_of view old.seeds) cached maps
+
+  abbrev DealtQuiet : Type 0
+  DealtQuiet = WhereQuiet store view t.listing old new (λ cached maps. IfSome o (λ y.
+      AsksDealt 0 (dealt_asks t (resized y (image_length t.listing)) (views_of view old.seeds) cached maps 0) old.chain.asks new.chain.asks))
+
+  dealt_within : WhereQuiet store view t.listing old new (λ cached maps. IfSome o (λ y. new.chain.asks ≡ raised old.chain.asks (sum_below (λ w. all_asks (over_base cached maps y w)) t.plan.wants))) → DealtQuiet
+  dealt_within calls = λ cached maps nothing one. some_more o
+      (λ y is. raised_within old.chain.asks (dealt_asks t (resized y (image_length t.listing)) (views_of view old.seeds) cached maps 0) (sum_below (λ w. all_asks (over_base cached maps y w)) t.plan.wants) new.chain.asks
+      (sum_within (λ w. pass_asks (source_if (deals_to t.plan 0) (over_base cached maps y) w)) (λ w. all_asks (over_base cached maps y w)) t.plan.wants (λ w. pass_within (deals_to t.plan 0 w) (over_base cached maps y w))) is)
+      (calls cached maps nothing one)
+
+  -- where both passes asked exactly as often as they must, the worker of the one kit has asked for what it is dealt
+  dealt_enough : (answer : Result Report ExtractFault)
+      → WhereQuiet store view t.listing old new (λ cached maps. IfSome o (λ y. AsksExactly (over_base cached maps y) t.plan.wants old.chain new.chain answer)) → UnlessMemory DealtQuiet answer
+  dealt_enough (Ok report) calls = dealt_within calls
+  dealt_enough (Err (faults.Missing k id)) calls = dealt_within calls
+  dealt_enough (Err (faults.Damaged k id s shows)) calls = dealt_within calls
+  dealt_enough (Err (faults.StoreFault s)) calls = dealt_within calls
+  dealt_enough (Err faults.TargetFault) calls = dealt_within calls
+  dealt_enough (Err faults.Memory) calls = tt
+
 module _ {S V : Type 0} (store : StoreWords S) (view : ViewWords V) (t : Task) (never : Bool) (o p : Option (List ℕ)) where
   -- ---- one kit
 
@@ -119,9 +166,10 @@ module _ {S V : Type 0} (store : StoreWords S) (view : ViewWords V) (t : Task) (
     kits = refl;
     each = λ i q r less. used i q r less;
   } where
-    used : (i : ℕ) (q r : Kit S V) → i < 1 → KitUsed store view t (KnowsFaults never (k ∷ [])) o i (at_kit (lent f (k ∷ []) e) i q) (at_kit (lent n (j ∷ []) c) i r)
+    used : (i : ℕ) (q r : Kit S V) → i < 1 → KitUsed store view t (KnowsFaults never (k ∷ [])) never o i (at_kit (lent f (k ∷ []) e) i q) (at_kit (lent n (j ∷ []) c) i r) answer
     used zero q r less = record {
       asks = λ spared are. asks_of_one one spared k.chain j.chain (is.asks spared (λ w below so. spares w (are w below so)));
+      exactly = λ sure. dealt_enough store view t o (sources f k.seeds.items e k.chain) (sources n j.seeds.items c j.chain) answer is.economy;
       stores = is.stores;
       seeds = is.seeds;
       kind = is.kind;
@@ -134,14 +182,20 @@ module _ {S V : Type 0} (store : StoreWords S) (view : ViewWords V) (t : Task) (
 
 -- ---- nothing was used
 
+-- where the target failed, what is so where nothing fails
+unless_failed : (f n : ℕ) (fault : ExtractFault) → ((fault ≡ faults.TargetFault) × Rose f n) ⊎ (fault ≡ faults.Memory) → (P : Type 0) → (Rose f n → P) → UnlessMemory {A = Report} P (Err fault)
+unless_failed f n fault (inl failed) P so = unless_any {A = Report} P (Err fault) (so failed.1)
+unless_failed f n fault (inr memory) P so = subst (λ (w : ExtractFault). UnlessMemory {A = Report} P (Err w)) (sym memory) tt
+
 module _ {S V : Type 0} (store : StoreWords S) (view : ViewWords V) (t : Task) (never : Bool) (old new : Held) (f n : ℕ) (fn : f ≤ n) (e : Option Shelf) (fault : ExtractFault)
     (why : ((fault ≡ faults.TargetFault) × Rose f n) ⊎ (fault ≡ faults.Memory)) (stands : (new ≡ old) ⊎ (new ≡ held_resized old (image_length t.listing))) where
-  unused_by : (kits : List (Kit S V)) (k : ℕ) (q r : Kit S V) → k < length kits → KitUsed store view t (KnowsFaults never kits) old.bytes k (at_kit (lent f kits e) k q) (at_kit (lent n kits e) k r)
+  unused_by : (kits : List (Kit S V)) (k : ℕ) (q r : Kit S V) → k < length kits → KitUsed store view t (KnowsFaults never kits) never old.bytes k (at_kit (lent f kits e) k q) (at_kit (lent n kits e) k r) (Err fault)
   unused_by kits k q r less =
       let j = slice_index_or kits k q in
-      subst (λ (z : Kit S V). KitUsed store view t (KnowsFaults never kits) old.bytes k (at_kit (lent f kits e) k q) (sources n z.seeds.items e z.chain)) (get_or_default kits k q r less)
+      subst (λ (z : Kit S V). KitUsed store view t (KnowsFaults never kits) never old.bytes k (at_kit (lent f kits e) k q) (sources n z.seeds.items e z.chain) (Err fault)) (get_or_default kits k q r less)
       (record {
         asks = λ spared are. asks_none store (worker_calls t.plan spared k) (worker_asks t.listing t.plan spared k) j.chain;
+        exactly = λ sure. unless_failed f n fault why _ (λ rose cached maps nothing one. absurd (quiet_never f n nothing.target rose));
         stores = kept_still store (IsListedGet t.listing) j.chain.stores;
         seeds = seeds_none view j.seeds.items;
         kind = refl;
@@ -240,8 +294,8 @@ module _ {S V : Type 0} (store : StoreWords S) (view : ViewWords V) (ms xs : Lis
           (is.after (alike_too alike) q j);
       stocked = λ q. subst (λ (s : Sources S V). Stocked (TakesListed store t.listing s.chain.stores) e new.cache) (sources_at ms xs chains seeds f e 0 q) (is.stocked q);
       kits = is.kits ∙ long;
-      each = λ k q j less. subst (λ (s : Sources S V). KitUsed store view t (KnowsFaults never xs) o k s (at_kit new k j)) (sources_at ms xs chains seeds f e k q)
-          (subst (λ (m : ℕ). KitUsed store view t ((m ≡ 1) ⊎ IsTrue never) o k (at_kit (lent f ms e) k q) (at_kit new k j)) long (is.each k q j (omega (arith, less, long))));
+      each = λ k q j less. subst (λ (s : Sources S V). KitUsed store view t (KnowsFaults never xs) never o k s (at_kit new k j) answer) (sources_at ms xs chains seeds f e k q)
+          (subst (λ (m : ℕ). KitUsed store view t ((m ≡ 1) ⊎ IsTrue never) never o k (at_kit (lent f ms e) k q) (at_kit new k j) answer) long (is.each k q j (omega (arith, less, long))));
     } where
       long : length ms ≡ length xs
       long = as_long ms xs chains seeds

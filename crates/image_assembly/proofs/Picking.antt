@@ -1,6 +1,6 @@
 -- Which entries an assembly may fill: with one kit each of them. With more those that one of the kits has, as far as the
 -- target, the seeds and the stores tell.
-use Rattle.std.proofs.Common.{◌≡◌, ℕ, ◌≤◌, ◌==◌, ◌||◌, List, [], ◌∷◌, length, map, Bool, true, if◌then◌else◌, Option, Some, None, is_some}
+use Rattle.std.proofs.Common.{ℕ, ◌==◌, ◌||◌, List, [], ◌∷◌, length, map, Bool, true, if◌then◌else◌, Option, Some, None, is_some}
 use Rattle.std.specs.List.{list_any}
 use Rattle.std.specs.Option.{option_map}
 use Rattle.assembler.specs.Passes.{want_at}

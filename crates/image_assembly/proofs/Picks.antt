@@ -7,11 +7,11 @@ use Rattle.std.proofs.lemmas.List.Folds.{Any-from_list_any, list_any-from_Any, l
 use Rattle.std.proofs.lemmas.Slice.Eq.{bytes_eq-Decides}
 use Rattle.std.specs.List.{list_any}
 use Rattle.std.specs.Option.{option_map}
-use Rattle.assembler.proofs.Entries.{among, first_among, ids_same, listed_of, among_of}
+use Rattle.assembler.proofs.Entries.{among, first_among, ids_same, listed_of}
 use Rattle.assembler.specs.Assemblies.{IsObtainable}
 use Rattle.assembler.specs.Passes.{want_at}
 use Rattle.cache_store.specs.Giving.{SomeGives}
-use Rattle.caibx_codec.specs.Listing.{Listing, count_of, id_of, image_length, kind_of, size_of, slice_of}
+use Rattle.caibx_codec.specs.Listing.{count_of, id_of, image_length, kind_of, size_of, slice_of}
 use Rattle.caibx_codec.specs.Right.{IsRightAt}
 use Rattle.chunk_sources.proofs.Origins.{seeds_decide, some_right, stores_decide}
 use Rattle.chunk_sources.specs.Economy.{seeds_give, stores_give}

@@ -1,5 +1,5 @@
 -- How the assembly of an index ends.
-use Rattle.std.specs.Prelude.{◌≡◌, ℕ, ◌+◌, ◌≤◌, List, length, Bool, IfOk, IfSome, Result}
+use Rattle.std.specs.Prelude.{◌≡◌, ◌+◌, ◌≤◌, List, length, Bool, IfOk, IfSome, Result}
 use Rattle.assembler.specs.Assemblies.{Assembles, IsAssembled}
 use Rattle.assembler.specs.OneKit.{ByPlan, Lent}
 use Rattle.assembler.specs.declared.fault.ExtractFault.{ExtractFault}

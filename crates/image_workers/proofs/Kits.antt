@@ -1,16 +1,16 @@
 -- What is so of all kits, from what is so of the first one and of each worker.
-use Rattle.std.proofs.Common.{◌≡◌, ◌∙◌, ◌++◌, ◌∷◌, ◌<◌, ℕ, List, [], Bool, Option, Some, None, IfSome, Result, Ok, Err, length, map, slice_index_or, true, refl, sym, ap, subst, inl, inr, arith}
+use Rattle.std.proofs.Common.{◌≡◌, ◌∙◌, ◌++◌, ◌∷◌, ◌<◌, ℕ, List, [], Bool, Option, Some, None, IfSome, Result, Ok, Err, length, map, slice_index_or, true, refl, sym, ap, subst, inl, inr}
 use Rattle.std.proofs.lemmas.List.{get_or_default}
 use Rattle.std.proofs.lemmas.Option.{same_Some}
 use Rattle.assembler.proofs.Based.{some_map, told_map}
 use Rattle.assembler.specs.Assemblies.{Assembles, IsObtainable}
-use Rattle.assembler.specs.Obtainable.{IsObtainableOrBase, OnlyObtainable}
+use Rattle.assembler.specs.Obtainable.{OnlyObtainable}
 use Rattle.assembler.specs.OneKit.{lent}
 use Rattle.assembler.specs.declared.fault.ExtractFault.{ExtractFault}
 use Rattle.assembler.specs.declared.fault.ExtractFault.TheVariants as faults
 use Rattle.cache_store.specs.Shelves.{Shelf}
 use Rattle.caibx_codec.specs.Listing.{Listing, count_of, image_length}
-use Rattle.chunk_sources.specs.Caches.{Stocked, TakesListed, cached_in}
+use Rattle.chunk_sources.specs.Caches.{Stocked, TakesListed}
 use Rattle.chunk_sources.specs.Sources.{Sources, Telling, views_of}
 use Rattle.chunk_sources.specs.Wants.{Task}
 use Rattle.chunk_sources.specs.declared.kit.Kit.{Kit}
@@ -111,7 +111,7 @@ module _ {S V : Type 0} (store : StoreWords S) (view : ViewWords V) (r : Run) (t
     pub assembled_by : MayFillFrom store view t r.may o kits
         → ((q j : Kit S V) → AssembledBeside store view r t o p (at_kit (lent f kits None) 0 q) (at_kit (lent g outs e) 0 j) res)
         → Kit S V → e ≡ None → length outs ≡ length kits
-        → ((k : ℕ) (q j : Kit S V) → k < length kits → KitUsed store view t (KnowsFaults never kits) o k (at_kit (lent f kits None) k q) (at_kit (lent g outs e) k j))
+        → ((k : ℕ) (q j : Kit S V) → k < length kits → KitUsed store view t (KnowsFaults never kits) never o k (at_kit (lent f kits None) k q) (at_kit (lent g outs e) k j) res)
         → IsAssembledBy store view t never o p (lent f kits None) (lent g outs e) res
     assembled_by fill did some none long each =
         let old = lent f kits None in

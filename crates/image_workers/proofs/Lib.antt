@@ -1,4 +1,5 @@
 pub mod Beside
+pub mod Exact
 pub mod Going
 pub mod Kits
 pub mod Moving

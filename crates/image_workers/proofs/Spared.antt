@@ -1,14 +1,16 @@
 -- How often each worker asks, by what is spared over the whole assembly: between it the target went over to shards of
 -- which the survey was over at w0, and which were joined again at w1.
-use Rattle.std.proofs.Common.{◌≡◌, ◌⊎◌, ◌∙◌, ◌&&◌, ◌+◌, ◌<◌, ◌≤◌, ℕ, List, [], Bool, Option, Some, None, IfSome, IsSomeAnd, IsTrue, is_some, length, slice_index, true, false, refl, sym, ap, subst, inl, inr, arith}
+use Rattle.std.proofs.Common.{◌≡◌, ◌⊎◌, ◌∙◌, ◌&&◌, ◌+◌, ◌<◌, ◌≤◌, ℕ, List, [], Bool, Option, Some, None, IfSome, IsSomeAnd, IsTrue, Result, is_some, length, slice_index, true, refl, sym, ap, subst, inl, inr, arith}
 use Rattle.std.proofs.lemmas.Bool.{true≢false}
 use Rattle.assembler.proofs.Asked.{asks_on, asks_up}
 use Rattle.assembler.proofs.Counted.{quiet_part}
 use Rattle.assembler.proofs.Entries.{listed_of}
 use Rattle.assembler.proofs.Stepped.{seeds_on}
-use Rattle.assembler.specs.Passes.{HasPassed, one_pass}
+use Rattle.assembler.specs.Economy.{UnlessMemory}
+use Rattle.assembler.specs.Passes.{HasPassed, WhereQuiet, one_pass}
 use Rattle.assembler.specs.Permits.{deals_to}
 use Rattle.assembler.specs.Stages.{Stage, from}
+use Rattle.assembler.specs.declared.fault.ExtractFault.{ExtractFault}
 use Rattle.cache_store.specs.Giving.{SomeGives}
 use Rattle.cache_store.specs.Shelves.{Shelf}
 use Rattle.caibx_codec.specs.Asks.{IsListedGet}
@@ -27,13 +29,14 @@ use Rattle.dsy_base.specs.declared.view.View.{Ghosts as ViewWords}
 use Rattle.extract_plan.specs.Deal.{AreWants, Deal, first_of, of_want, want_id}
 use Rattle.extract_plan.specs.Places.{Placed}
 use Rattle.image_workers.specs.Beside.{joined_stage}
-use Rattle.image_workers.specs.Kits.{IsSparedFor, KitUsed, KnowsFaults, once_more}
+use Rattle.image_workers.specs.Kits.{AsksDealt, IsSparedFor, KitUsed, KnowsFaults, dealt_asks, once_more}
 use Rattle.image_workers.specs.Lanes.{HasWorked, worker_stage}
 use Rattle.owned_shards.specs.Wholes.{KeptWhole, Whole}
 use Rattle.range_ledger.specs.Runs.{Run}
 use Rattle.range_survey.proofs.Excused.{excused_rose}
 use Rattle.range_survey.specs.Fates.{settled}
 use Rattle.range_survey.specs.declared.fate.Fate.{Fate}
+use Rattle.range_survey.specs.declared.report.Report.{Report}
 use Rattle.store_chain.proofs.Kept.{kept_on}
 use Rattle.store_chain.specs.Faults.{NoneFalls}
 
@@ -46,7 +49,7 @@ right_in_base r None base told j right = absurd right
 right_in_base r (Some y) base told j right = (sym told, subst (λ b. IsRightAt b r.listing j) (sym base) right)
 
 -- then it is settled in the shards, or a call on them failed
-settled_or : (r : Run) (w : Whole) (o : Option (List ℕ)) → is_some o ≡ r.tells → IfSome o (KeptWhole r w) → IsTrue r.tells → (j : ℕ) → j < count_of r.listing → IsRightAt r.base r.listing j
+pub settled_or : (r : Run) (w : Whole) (o : Option (List ℕ)) → is_some o ≡ r.tells → IfSome o (KeptWhole r w) → IsTrue r.tells → (j : ℕ) → j < count_of r.listing → IsRightAt r.base r.listing j
     → (settled w.fates j ≡ true) ⊎ Rose w.faults_before w.faults
 settled_or r w None told kept tells j inside right = absurd (true≢false (sym tells ∙ sym told))
 settled_or r w (Some y) told kept tells j inside right = elim (kept.base_right j inside right) [
@@ -54,10 +57,10 @@ settled_or r w (Some y) told kept tells j inside right = elim (kept.base_right j
   | inr failed ↦ inr (excused_rose kept.failed j w.faults_before w.faults failed kept.excused)
 ]
 
-both_so : (x y : Bool) → x ≡ true → y ≡ true → (x && y) ≡ true
+pub both_so : (x y : Bool) → x ≡ true → y ≡ true → (x && y) ≡ true
 both_so x y one other = ap (λ b. b && y) one ∙ other
 
-none_quiet : (n : ℕ) → n ≡ 0 → Quiet 0 n
+pub none_quiet : (n : ℕ) → n ≡ 0 → Quiet 0 n
 none_quiet n none = record { same = omega (arith, none); below = omega (arith, none) }
 
 -- ---- over a part of a stretch
@@ -105,6 +108,11 @@ module _ {S V : Type 0} (store : StoreWords S) (view : ViewWords V) (r : Run) (d
     pub tells_then : is_some w1.held.bytes ≡ r.tells
     pub kept_then : IfSome w1.held.bytes (KeptWhole r w1)
 
+  -- how often worker k asks where nothing fails
+  abbrev pub ExactlyDealt : Bool → Option (List ℕ) → ℕ → Sources S V → Sources S V → Result Report ExtractFault → Type 0
+  ExactlyDealt never o k old new answer = IsTrue never → UnlessMemory (WhereQuiet store view r.listing old new (λ cached maps. IfSome o (λ y.
+      AsksDealt k (dealt_asks t (resized y (image_length r.listing)) (views_of view old.seeds) cached maps k) old.chain.asks new.chain.asks))) answer
+
   module _ (kits : List (Kit S V)) (never : Bool) (o : Option (List ℕ)) (f g : ℕ) (w0 w1 : Whole) (was : WasInShards never o f g w0 w1) (some : 2 ≤ length kits) where
     abbrev Known : Type 0
     Known = KnowsFaults never kits
@@ -151,14 +159,16 @@ module _ {S V : Type 0} (store : StoreWords S) (view : ViewWords V) (r : Run) (d
           refl (λ s. omega arith) after is
 
       -- what became of the kit of another worker than the first
-      pub used_once : (e : Option Shelf) → KitUsed store view t Known o k (sources f a.seeds.items None a.chain) (sources g b.seeds.items e b.chain)
-      used_once e = record {
+      pub used_once : (e : Option Shelf) (answer : Result Report ExtractFault) → ExactlyDealt never o k (sources f a.seeds.items None a.chain) (sources g b.seeds.items e b.chain) answer
+          → KitUsed store view t Known never o k (sources f a.seeds.items None a.chain) (sources g b.seeds.items e b.chain) answer
+      used_once e answer exactly = record {
         asks = λ spared are.
             let f0 = others_spared (deals_to d k) spared in
             let ids = want_id r.listing d in
             asks_up store (calls_below f0 d.wants) (calls_below f0 d.wants + once_more k (calls_below spared d.wants)) (λ q. asks_below ids f0 d.wants q)
             (λ q. asks_below ids f0 d.wants q + once_more k (asks_below ids spared d.wants q)) a.chain b.chain (omega arith) (λ q. omega arith)
             (by.passed.asks spared (λ w below these is. spared_first (sources g b.seeds.items e b.chain) refl (λ s. omega arith) w (are w below is)));
+        exactly = exactly;
         stores = by.passed.stretch.step.stores;
         seeds = by.passed.stretch.step.seeds;
         kind = by.passed.stretch.step.kind;
@@ -166,8 +176,8 @@ module _ {S V : Type 0} (store : StoreWords S) (view : ViewWords V) (r : Run) (d
 
     -- what became of the kit of the first worker, which made the second pass with it
     pub used_twice : (a b : Kit S V) (n : List Fate) (lacked : Bool) → HasWorked store view r t never 0 a w0.fates b n lacked → (end : Stage S V) → end.faults ≡ g → HasPassed store view t one_pass (joined_stage w1 b) end
-        → KitUsed store view t Known o 0 (sources f a.seeds.items None a.chain) (from end)
-    used_twice a b n lacked by end count passed =
+        → (answer : Result Report ExtractFault) → ExactlyDealt never o 0 (sources f a.seeds.items None a.chain) (from end) answer → KitUsed store view t Known never o 0 (sources f a.seeds.items None a.chain) (from end) answer
+    used_twice a b n lacked by end count passed answer exactly =
         let step = by.passed.stretch.step in
         let next = passed.stretch.step in
         let s0 = sources f a.seeds.items None a.chain in
@@ -184,6 +194,7 @@ module _ {S V : Type 0} (store : StoreWords S) (view : ViewWords V) (r : Run) (d
                 quiet_part f w1.faults end.faults end.faults (omega (arith, was.before, was.same, was.rises)) (omega arith) quiet,
               ))
               step.seeds.held step.seeds.never_fall (λ s. omega arith) (are w below is)));
+          exactly = exactly;
           stores = kept_on store (IsListedGet r.listing) a.chain.stores b.chain.stores end.kit.chain.stores step.stores next.stores;
           seeds = seeds_on view a.seeds.items b.seeds.items end.kit.seeds.items step.seeds next.seeds;
           kind = next.kind ∙ step.kind;

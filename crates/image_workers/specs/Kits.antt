@@ -1,9 +1,10 @@
 -- What an assembly has done with any number of kits. Kits and wants count from 0, and kit k is that of worker k. `o`
 -- are the target's bytes before it, p those after it.
-use Rattle.std.specs.Prelude.{◌≡◌, ◌⊎◌, ◌++◌, ℕ, zero, suc, ◌+◌, ◌<◌, List, [], length, map, slice_index_or, Bool, true}
-use Rattle.std.specs.Prelude.{Option, Some, IfSome, IsSomeAnd, IsTrue, Result}
+use Rattle.std.specs.Prelude.{◌≡◌, ◌⊎◌, ◌++◌, ℕ, zero, suc, ◌+◌, ◌<◌, ◌≤◌, List, [], length, map, slice_index_or, Bool}
+use Rattle.std.specs.Prelude.{true, Option, Some, IfSome, IsSomeAnd, IsTrue, Result}
 use Rattle.std.specs.List.{All, Any}
 use Rattle.assembler.specs.Assemblies.{After, Assembles, IsObtainable, IsUnobtained, Verdict}
+use Rattle.assembler.specs.Economy.{UnlessMemory}
 use Rattle.assembler.specs.Obtainable.{OnlyObtainable}
 use Rattle.assembler.specs.OneKit.{Lent, with_kit}
 use Rattle.assembler.specs.Passes.{EndsBy, WhereQuiet}
@@ -14,12 +15,13 @@ use Rattle.caibx_codec.specs.Listing.{Listing, count_of, image_length}
 use Rattle.caibx_codec.specs.Right.{IsRightAt}
 use Rattle.chunk_sources.specs.Asks.{AsksAtMost, IsSpared, asks_below, calls_below, others_spared}
 use Rattle.chunk_sources.specs.Caches.{Stocked, TakesListed, cached_in}
+use Rattle.chunk_sources.specs.Economy.{pass_asks, source_if, source_of, sum_below}
 use Rattle.chunk_sources.specs.Sources.{KeepsSeeds, Sources, Telling, views_of}
 use Rattle.chunk_sources.specs.Wants.{Task}
 use Rattle.chunk_sources.specs.declared.kit.Kit.{Kit}
 use Rattle.chunk_store.specs.declared.store.Store.{Ghosts as StoreWords}
-use Rattle.dsy_base.specs.Bytes.{resized}
-use Rattle.dsy_base.specs.Counts.{Rose}
+use Rattle.dsy_base.specs.Bytes.{Held, resized}
+use Rattle.dsy_base.specs.Counts.{Rose, raised}
 use Rattle.dsy_base.specs.Maps.{Map}
 use Rattle.dsy_base.specs.declared.view.View.{Ghosts as ViewWords}
 use Rattle.extract_plan.specs.Deal.{Deal, want_id}
@@ -51,6 +53,18 @@ abbrev pub worker_asks : Listing → Deal → (ℕ → Bool) → ℕ → List �
 worker_asks l d spared k q = asks_below (want_id l d) (others_spared (deals_to d k) spared) d.wants q
     + once_more k (asks_below (want_id l d) spared d.wants q)
 
+-- how often worker k asks where nothing fails, if one pass over what it is dealt takes n calls: exactly so often; the
+-- first worker, which makes the second pass too, at least so often
+abbrev pub AsksDealt : ℕ → ℕ → ℕ → ℕ → Type 0
+AsksDealt zero n old new = raised old n ≤ new
+AsksDealt (suc k) n old new = new ≡ raised old n
+
+-- how many calls one pass takes over the wants that are dealt to worker k, where nothing fails: one for each of them
+-- that has no right entry in the base and that neither a seed nor the cache gives. Seeds, cache and stores hold these
+abbrev pub dealt_asks : Task → List ℕ → List (Option Held) → List (Map (List ℕ)) → List (Map (List ℕ)) → ℕ → ℕ
+dealt_asks t base views cached maps k =
+    sum_below (λ w. pass_asks (source_if (deals_to t.plan k) (source_of t base views cached maps) w)) t.plan.wants
+
 -- a fault of the target is known of all workers: there is one, or the target's type never fails
 abbrev pub KnowsFaults : {K : Type 0} → Bool → List K → Type 0
 KnowsFaults never_fails kits = (length kits ≡ 1) ⊎ IsTrue never_fails
@@ -62,12 +76,17 @@ module _ {S V : Type 0} (store : StoreWords S) (view : ViewWords V) (t : Task) w
   IsSparedFor Known o old new w = IsSpared store view t
       (λ j. IsSomeAnd o (λ b. IsRightAt (resized b (image_length t.listing)) t.listing j) × Known) old new w
 
-  -- what became of the kit of worker k. Only listed chunks were asked for
-  pub record KitUsed (Known : Type 0) (o : Option (List ℕ)) (k : ℕ) (old new : Sources S V) : Type 0 where
+  -- what became of the kit of worker k. Only listed chunks were asked for. Where nothing fails, of a target whose type
+  -- never does, the worker has asked for the chunk of each want that it is dealt and that is had in no other way
+  pub record KitUsed (Known : Type 0) (never_fails : Bool) (o : Option (List ℕ)) (k : ℕ) (old new : Sources S V)
+      (answer : Result Report ExtractFault) : Type 0 where
     pub asks : (spared : ℕ → Bool)
         → ((w : ℕ) → w < t.plan.wants → spared w ≡ true → IsSparedFor Known o old new w)
         → AsksAtMost store (worker_calls t.plan spared k) (worker_asks t.listing t.plan spared k) old.chain
         new.chain
+    pub exactly : IsTrue never_fails → UnlessMemory (WhereQuiet store view t.listing old new (λ cached maps.
+        IfSome o (λ y. AsksDealt k (dealt_asks t (resized y (image_length t.listing)) (views_of view old.seeds) cached
+        maps k) old.chain.asks new.chain.asks))) answer
     pub stores : KeepsStores store (IsListedGet t.listing) old.chain.stores new.chain.stores
     pub seeds : KeepsSeeds view old.seeds new.seeds
     pub kind : new.chain.kind ≡ old.chain.kind
@@ -115,4 +134,4 @@ module _ {S V : Type 0} (store : StoreWords S) (view : ViewWords V) (t : Task) w
         new.cache
     pub kits : length new.kits ≡ length old.kits
     pub each : (k : ℕ) (q j : Kit S V) → k < length old.kits
-        → KitUsed (KnowsFaults never_fails old.kits) o k (at_kit old k q) (at_kit new k j)
+        → KitUsed (KnowsFaults never_fails old.kits) never_fails o k (at_kit old k q) (at_kit new k j) answer

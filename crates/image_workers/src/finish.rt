@@ -42,6 +42,7 @@ fn retry_unless<E: Ledger, S: Store, V: View, F: Folder>(
         (stage E.Ledger F.Look work.new) }
     ensures ends { Ends S.Store V.View (task E.run.listing wants.now) (stage E.Ledger F.Look work.old)
         (stage E.Ledger F.Look work.new) result }
+    ensures lacking { lacked ≡ true → result ≡ Err ExtractFault.Memory }
 {
     if lacked {
         return Err(ExtractFault::Memory);
@@ -80,6 +81,7 @@ pub(crate) fn finish<R: RunName, T: Target, S: Store, V: View, F: Folder>(
     ensures report { IfOk result.answer
         (λ r. r.kept + r.copied + r.seeded + r.cached + r.fetched ≡ count_of R.run.listing) }
     ensures memory { result.answer ≡ Err ExtractFault.Memory → IsTrue S.may_lack_memory }
+    ensures lacking { lacked ≡ true → result.answer ≡ Err ExtractFault.Memory }
     ensures size { (T.held result.target).size ≡ image_length R.run.listing }
     ensures name { (T.held result.target).name ≡ shards.entry.held.name }
     ensures faults { shards.entry.faults ≤ T.faults result.target }

@@ -1,7 +1,6 @@
-use Rattle.std.proofs.Common.{◌≡◌, ◌≢◌, ◌∙◌, ◌++◌, ◌∷◌, ◌<◌, ◌≤◌, ◌+◌, ℕ, [], All, List, length, map, slice_index_or, slice_set, refl, inl, inr, sym, ap, subst, arith, rules}
+use Rattle.std.proofs.Common.{◌≡◌, ◌∙◌, ◌++◌, ◌∷◌, ◌<◌, ◌≤◌, ℕ, [], List, length, map, slice_index_or, slice_set, refl, inl, inr, sym, ap, subst, arith, rules}
 use Rattle.std.proofs.lemmas.List.{get_or-set_other, get_or-set_same, length-append, length-set, map-set, set-get_or}
 use Rattle.std.proofs.lemmas.Bool.{cases_eq}
-use Rattle.caibx_codec.specs.Listing.{Listing}
 use Rattle.chunk_sources.specs.declared.kit.Kit.{Kit}
 use Rattle.image_assembly.proofs.Lending.{at_map}
 use Rattle.image_workers.proofs.Moving.{all_before, last_so}

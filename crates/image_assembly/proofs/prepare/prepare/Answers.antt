@@ -1,12 +1,11 @@
-use Rattle.std.proofs.Common.{◌≡◌, ◌∙◌, ◌<◌, ◌≤◌, ℕ, [], All, IfSome, List, None, Option, Some, is_some, length, map, refl, slice_index_or, sym, ap, subst, arith, rules}
+use Rattle.std.proofs.Common.{◌≡◌, ◌∙◌, ◌<◌, ◌≤◌, ℕ, All, IfSome, List, is_some, length, map, slice_index_or, sym, ap, subst, arith}
 use Rattle.std.proofs.lemmas.List.{get_or-map, length-map, with_items_is}
 use Rattle.std.specs.Vec.{with_items}
 use Rattle.caibx_codec.specs.Listing.{Listing, count_of, image_length, kind_of}
-use Rattle.chunk_sources.specs.declared.kit.Kit.{Kit}
-use Rattle.dsy_base.specs.Bytes.{Held, held_resized, resized}
+use Rattle.dsy_base.specs.Bytes.{Held, resized}
 use Rattle.extract_plan.specs.Deal.{IsPlan, shards_of}
 use Rattle.extract_plan.specs.Places.{PlacesKnown}
-use Rattle.image_assembly.proofs.Lending.{all_same, as_long, permits_same}
+use Rattle.image_assembly.proofs.Lending.{all_same, permits_same}
 use Rattle.image_assembly.proofs.OnePlan.{places_on}
 use Rattle.image_assembly.proofs.Readying.{if_map, resized_tells, right_in}
 use Rattle.image_assembly.specs.Readied.{AreRoomsFor, IsRoomOf}

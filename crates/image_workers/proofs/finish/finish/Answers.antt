@@ -65,3 +65,12 @@ returns-clause-memory g c = λ is. elim c.match-retry_unless.branch [
       let same : w.in-Err.fault ≡ faults.Memory = cc in
       without_cache g.S.Store (c.retry_unless.ensures.ends.memory (w.in-Err.is ∙ ap (λ (e : ExtractFault). Err e) same))
 ]
+
+pub returns-clause-lacking : goal.returns-clause-lacking
+returns-clause-lacking g c = λ is. elim c.match-retry_unless.branch [
+  | in-Ok w ↦ let never : Ok w.in-Ok.field-0 ≡ Err faults.Memory = sym w.in-Ok.is ∙ c.retry_unless.ensures.lacking is in absurd (cc)
+  | in-Err w ↦
+      let why : Err w.in-Err.fault ≡ Err faults.Memory = sym w.in-Err.is ∙ c.retry_unless.ensures.lacking is in
+      let same : w.in-Err.fault ≡ faults.Memory = cc in
+      w.answer-is ∙ ap (λ (e : ExtractFault). Err e) same
+]

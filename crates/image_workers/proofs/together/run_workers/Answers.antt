@@ -1,12 +1,14 @@
-use Rattle.std.proofs.Common.{◌≡◌, ◌∙◌, inl, inr, ◌<◌, ◌∷◌, ◌≤◌, ℕ, suc, zero, List, [], true, false, All, IsSome, None, Some, length, map, refl, reverse, slice_index_or, sym, ap, subst, arith, rules}
-use Rattle.std.proofs.lemmas.Bool.{cases_Bool, true≢false}
+use Rattle.std.proofs.Common.{◌≡◌, ◌∙◌, ◌<◌, ◌∷◌, ◌≤◌, ℕ, suc, zero, Bool, Err, List, [], true, false, All, IsSome, None, Some, length, map, refl, reverse, slice_index_or, sym, ap, subst, arith, rules}
+use Rattle.std.proofs.lemmas.Bool.{true≢false}
 use Rattle.std.proofs.lemmas.List.{length-map, length-reverse, reverse-append, with_items_is}
 use Rattle.std.specs.Vec.{with_items}
 use Rattle.assembler.specs.OneKit.{lent}
-use Rattle.assembler.specs.Stages.{task}
+use Rattle.assembler.specs.Stages.{Stage, task}
+use Rattle.assembler.specs.declared.fault.ExtractFault.TheVariants as faults
 use Rattle.chunk_sources.specs.Caches.{TakesWants, seen}
 use Rattle.chunk_sources.specs.Sources.{sources, views_of}
 use Rattle.chunk_sources.specs.declared.kit.Kit.{Kit}
+use Rattle.image_workers.proofs.Exact.{exact_once, exact_twice, lacking_one}
 use Rattle.image_workers.proofs.Going.{a_kit, all_there, as_many, filled_of, ready_again, ready_at, worked_at}
 use Rattle.image_workers.proofs.Kits.{assembled_by}
 use Rattle.image_workers.proofs.Permitting.{permits}
@@ -188,6 +190,7 @@ pub returns-clause-kits : goal.returns-clause-kits
 returns-clause-kits g c = λ old f begun fill.
     let here = (goal.at.returns-clause-kits g c).In-Some in
     let early = (goal.at.returns-clause-kits g c).After-deref_mut in
+    let before = (goal.at.returns-clause-kits g c).After-some_lacked-lacked in
     let last = (goal.at.returns-clause-kits g c).After-reverse in
     let r = g.R.RunName.run in
     let d = c.args.wants.now.plan.now in
@@ -220,6 +223,14 @@ returns-clause-kits g c = λ old f begun fill.
       tells_then = c.keeps-2.ensures.tells ∙ c.requires.tells;
       kept_then = c.keeps-2.ensures.kept;
     } in
+    let stood : Stage g.row.S.Denot g.row.V.Denot = record { held = g.T.View.held end.target; faults = count; fates = c.finish-target.ensures.passed.0; kit = end.kit; cache = e } in
+    let known = (c.requires.ready 0 (first_kit g here) (some_one g here)).known in
+    let lacked : ℕ → Bool = λ n. (slice_index_or c.pass_all-shards.new.lanes n (none_there g)).lacked in
+    let lacks : (n : ℕ) → n < length kits → lacked n ≡ true → end.answer ≡ Err faults.Memory = λ n less.
+    lacking_one end.answer c.some_lacked-lacked.result (lacked n) c.finish-target.ensures.lacking
+    (λ no. subst (λ (zs : List (Lane g.row.S.Denot g.row.V.Denot)). (slice_index_or zs n (none_there g)).lacked ≡ false) (lanes_seen g before)
+    (c.some_lacked-lacked.ensures.no no n (none_there g)
+    (omega (arith, less, ap (λ (zs : List (Lane g.row.S.Denot g.row.V.Denot)). length zs) (lanes_seen g before), c.pass_all-shards.ensures.lanes, many g early)))) in
     assembled_by g.S.Store g.V.View r t kits never old.bytes (g.T.View.held end.target).bytes f count outs e end.answer fill
     (λ q j.
     let step = (first_went g here q).1.passed.stretch.step in
@@ -237,19 +248,20 @@ returns-clause-kits g c = λ old f begun fill.
     (first_kit g here)
     (stays_none (TakesWants g.S.Store t.listing t.plan (λ v. v < t.plan.wants) c.in-Some.kit.chain.stores) e passed.stretch.stocked)
     (omega (arith, as_many_kits worked outs (reverse c.pop.new.self.items) c.in-Some.kit end.kit (outs_are g here) (kits_back g last), out_long g here, c.pass_all-shards.ensures.lanes, many g early))
-    (λ k q j. by_worker (λ n. n < length kits → KitUsed g.S.Store g.V.View t (KnowsFaults never kits) old.bytes n (at_kit (lent f kits None) n q) (at_kit (lent count outs e) n j))
+    (λ k q j. by_worker (λ n. n < length kits → KitUsed g.S.Store g.V.View t (KnowsFaults never kits) never old.bytes n (at_kit (lent f kits None) n q) (at_kit (lent count outs e) n j) end.answer)
     (λ less.
     let h = first_went g here q in
-    subst (λ (b : Kit g.row.S.Denot g.row.V.Denot). KitUsed g.S.Store g.V.View t (KnowsFaults never kits) old.bytes 0 (from_first q) (to_kit b)) (back j)
+    subst (λ (b : Kit g.row.S.Denot g.row.V.Denot). KitUsed g.S.Store g.V.View t (KnowsFaults never kits) never old.bytes 0 (from_first q) (to_kit b) end.answer) (back j)
     (used_twice g.S.Store g.V.View r d x wants kits never old.bytes f count w0 w1 was (many_there g here) (slice_index_or kits 0 q) c.in-Some.kit h.0
-    (slice_index_or c.pass_all-shards.new.lanes 0 (none_there g)).lacked h.1
-    (record { held = g.T.View.held end.target; faults = count; fates = c.finish-target.ensures.passed.0; kit = end.kit; cache = e }) refl passed))
+    (lacked 0) h.1 stood refl passed end.answer
+    (exact_twice g.S.Store g.V.View r d x wants never old.bytes f count w0 w1 was known (slice_index_or kits 0 q) c.in-Some.kit h.0 (lacked 0) h.1 stood refl passed end.answer (lacks 0 less))))
     (λ n later less.
     let h = went g here n q j less in
-    subst (λ (b : Kit g.row.S.Denot g.row.V.Denot). KitUsed g.S.Store g.V.View t (KnowsFaults never kits) old.bytes n (at_kit (lent f kits None) n q) (to_kit b))
+    subst (λ (b : Kit g.row.S.Denot g.row.V.Denot). KitUsed g.S.Store g.V.View t (KnowsFaults never kits) never old.bytes n (at_kit (lent f kits None) n q) (to_kit b) end.answer)
     (same_later worked outs (reverse c.pop.new.self.items) c.in-Some.kit end.kit (outs_are g here) (kits_back g last) n j later)
     (used_once g.S.Store g.V.View r d x wants kits never old.bytes f count w0 w1 was (many_there g here) n (slice_index_or kits n q) (slice_index_or worked n j) h.0
-    (slice_index_or c.pass_all-shards.new.lanes n (none_there g)).lacked h.1 e))
+    (lacked n) h.1 e end.answer
+    (exact_once g.S.Store g.V.View r d x wants never old.bytes f count w0 w1 was known n (slice_index_or kits n q) (slice_index_or worked n j) h.0 (lacked n) h.1 e end.answer (lacks n less))))
     k)
 
 pub unreachable-requires : goal.unreachable-requires

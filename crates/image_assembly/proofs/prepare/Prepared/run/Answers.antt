@@ -1,4 +1,4 @@
-use Rattle.std.proofs.Common.{◌≡◌, ◌⊎◌, ◌∙◌, ◌+◌, ◌++◌, ◌<◌, ◌≤◌, ◌∷◌, ℕ, [], List, Option, None, Some, Err, IfOk, IfSome, IsSome, length, inl, inr, refl, slice_index_or, sym, ap, subst, arith, rules}
+use Rattle.std.proofs.Common.{◌≡◌, ◌⊎◌, ◌∙◌, ◌+◌, ◌++◌, ◌≤◌, ◌∷◌, ℕ, [], List, Option, None, IfOk, IfSome, length, inl, inr, slice_index_or, sym, ap, subst, arith}
 use Rattle.std.proofs.lemmas.Bool.{true≢false}
 use Rattle.assembler.specs.Assemblies.{Assembles, IsAssembled}
 use Rattle.assembler.specs.Begun.{HasBegun}
