@@ -1,6 +1,6 @@
 -- What is said of an assembly with any number of kits: what holds with one kit, what holds where nothing was used, and
 -- what holds for kits before they were given room.
-use Rattle.std.proofs.Common.{◌≡◌, ◌⊎◌, ◌<◌, ◌≤◌, ◌+◌, ◌++◌, ◌%◌, ◌==◌, ℕ, zero, suc, List, [], ◌∷◌, All, Any, Bool, true, if◌then◌else◌, Option, Some, None, IfSome, IsTrue, Result, Ok, Err, false, length, lit≤, map, slice_index_or, refl, sym, ap, subst, ◌∙◌, inl, inr, arith}
+use Rattle.std.proofs.Common.{◌≡◌, ◌⊎◌, ◌<◌, ◌≤◌, ◌+◌, ◌++◌, ◌%◌, ◌==◌, ℕ, zero, suc, List, [], ◌∷◌, All, Any, Bool, true, if◌then◌else◌, Option, Some, None, IfOk, IfSome, IsTrue, Result, Ok, Err, length, map, slice_index_or, refl, sym, ap, subst, ◌∙◌, inl, inr, arith, false, lit≤}
 use Rattle.std.proofs.lemmas.Bool.{eq-eqb}
 use Rattle.std.proofs.lemmas.List.{get_or_default, length-map}
 use Rattle.std.specs.Str.{bytes_eq}
@@ -10,7 +10,7 @@ use Rattle.assembler.proofs.Based.{only_first}
 use Rattle.assembler.proofs.EconomyRetried.{unless_any}
 use Rattle.assembler.proofs.Stepped.{seeds_none}
 use Rattle.assembler.specs.Assemblies.{After, Assembles, IsAssembled, IsObtainable, IsUnobtained, SparedOver, Verdict}
-use Rattle.assembler.specs.Economy.{AsksExactly, UnlessMemory}
+use Rattle.assembler.specs.Economy.{ReportsExactly, AsksExactly, UnlessMemory}
 use Rattle.assembler.specs.Obtainable.{OnlyObtainable}
 use Rattle.assembler.specs.OneKit.{Lent, lent}
 use Rattle.assembler.specs.Passes.{EndsBy, WhereQuiet}
@@ -23,13 +23,13 @@ use Rattle.caibx_codec.specs.Listing.{Listing, image_length}
 use Rattle.chunk_sources.proofs.Lacking.{quiet_never}
 use Rattle.chunk_sources.specs.Asks.{AsksAtMost, asks_below, asks_for, calls_below, calls_for, others_spared}
 use Rattle.chunk_sources.specs.Caches.{Stocked, TakesListed}
-use Rattle.chunk_sources.specs.Economy.{all_asks, pass_asks, source_if, source_of, sum_below}
-use Rattle.chunk_sources.specs.Sources.{Sources, Telling, sources, views_of}
+use Rattle.chunk_sources.specs.Economy.{source_of, all_asks, pass_asks, source_if, sum_below}
+use Rattle.chunk_sources.specs.Sources.{Sources, SourcesQuiet, Telling, sources, views_of}
 use Rattle.chunk_sources.specs.Wants.{Task}
 use Rattle.chunk_sources.specs.declared.kit.Kit.{Kit}
 use Rattle.chunk_store.specs.declared.store.Store.{Ghosts as StoreWords}
 use Rattle.dsy_base.specs.Bytes.{Held, held_resized, resized}
-use Rattle.dsy_base.specs.Counts.{Rose, raised}
+use Rattle.dsy_base.specs.Counts.{Quiet, Rose, raised}
 use Rattle.dsy_base.specs.Maps.{Map}
 use Rattle.dsy_base.specs.declared.view.View.{Ghosts as ViewWords}
 use Rattle.extract_plan.specs.Deal.{Deal, want_id}
@@ -40,6 +40,7 @@ use Rattle.image_assembly.specs.Readied.{Permits}
 use Rattle.owned_shards.specs.Wholes.{base_told}
 use Rattle.range_ledger.specs.Fills.{WhereTold}
 use Rattle.range_ledger.specs.Runs.{Run}
+use Rattle.range_survey.specs.Reports.{right_below}
 use Rattle.range_survey.specs.declared.fate.Fate.{Fate}
 use Rattle.range_survey.specs.declared.fate.Fate.TheVariants as fate
 use Rattle.range_survey.specs.declared.report.Report.{Report}
@@ -68,6 +69,11 @@ only_more l P Q a b (Err e) o t more (inr is) = inr (record {
 some_more : (o : Option (List ℕ)) {P Q : List ℕ → Type 0} → ((y : List ℕ) → P y → Q y) → IfSome o P → IfSome o Q
 some_more None each has = tt
 some_more (Some y) each has = each y has
+
+-- a target that never fails is quiet
+pub kept_sure : (r : Result Report ExtractFault) (P : Report → Type 0) (f n : ℕ) → n ≡ 0 → IfOk r (λ x. Quiet f n → P x) → IfOk r P
+kept_sure (Ok x) P f n none has = has (record { same = omega (arith, none); below = omega (arith, none) })
+kept_sure (Err e) P f n none has = tt
 
 -- ---- the only worker
 
@@ -152,8 +158,9 @@ module _ {S V : Type 0} (store : StoreWords S) (view : ViewWords V) (t : Task) (
 
   pub by_one : t.plan.workers ≡ 1 → (f n : ℕ) (k j : Kit S V) (e c : Option Shelf) (answer : Result Report ExtractFault)
       → WhereTold o p (Assembles t.listing ⊥ f n answer) → IsAssembled store view t o p (sources f k.seeds.items e k.chain) (sources n j.seeds.items c j.chain) answer
+      → (IsTrue never → IfOk answer (λ r. IfSome o (λ y. r.kept ≡ right_below t.listing (resized y (image_length t.listing)) (count_of t.listing))))
       → IsAssembledBy store view t never o p (lent f (k ∷ []) e) (lent n (j ∷ []) c) answer
-  by_one one f n k j e c answer bytes is = record {
+  by_one one f n k j e c answer bytes is kept = record {
     bytes = told_as t.listing f n answer o p (λ (no : ⊥). absurd no) bytes;
     lost = λ q r. is.lost;
     had = λ all cached has.
@@ -162,6 +169,8 @@ module _ {S V : Type 0} (store : StoreWords S) (view : ViewWords V) (t : Task) (
         (λ i can. (0, k, omega arith, refl, (at.1.0, at.1.1, can)))) (is.had at.0 cached at.1.0 has at.1.1);
     exactly = λ alike q r. is.exactly;
     after = λ alike q r. is.after;
+    reported = λ sure alike q r cached maps quiet one_size. is.reported cached maps (quiet 0 (omega arith)) one_size;
+    kept = kept;
     stocked = λ q. is.stocked;
     kits = refl;
     each = λ i q r less. used i q r less;
@@ -214,6 +223,8 @@ module _ {S V : Type 0} (store : StoreWords S) (view : ViewWords V) (t : Task) (
         ]);
         exactly = λ alike q r. is.exactly;
         after = λ alike q r. is.after;
+        reported = λ sure alike q r cached maps quiet one. is.reported cached maps (quiet 0 (omega arith)) one;
+        kept = λ sure. tt;
         stocked = λ q. is.stocked;
         kits = refl;
         each = λ i q r less. unused_by (k ∷ ks) i q r less;
@@ -292,6 +303,11 @@ module _ {S V : Type 0} (store : StoreWords S) (view : ViewWords V) (ms xs : Lis
       after = λ alike q j. subst (λ (s : Sources S V). WhereQuiet store view t.listing s (at_kit new 0 j) (λ cached maps. WhereTold o p (λ y z. After t.listing
           (IsObtainable t (resized y (image_length t.listing)) (views_of view s.seeds) (cached ++ maps)) (resized y (image_length t.listing)) z answer))) (sources_at ms xs chains seeds f e 0 q)
           (is.after (alike_too alike) q j);
+      reported = λ sure alike q j cached maps quiet one. subst (λ (s : Sources S V). IfSome o (λ y. IfOk answer (ReportsExactly
+          (source_of t (resized y (image_length t.listing)) (views_of view s.seeds) cached maps) t.plan.wants))) (sources_at ms xs chains seeds f e 0 q)
+          (is.reported sure (alike_too alike) q j cached maps
+          (λ k less. subst (λ (s : Sources S V). SourcesQuiet store view s (at_kit new k j) cached maps) (sym (sources_at ms xs chains seeds f e k q)) (quiet k (omega (arith, less, long)))) one);
+      kept = is.kept;
       stocked = λ q. subst (λ (s : Sources S V). Stocked (TakesListed store t.listing s.chain.stores) e new.cache) (sources_at ms xs chains seeds f e 0 q) (is.stocked q);
       kits = is.kits ∙ long;
       each = λ k q j less. subst (λ (s : Sources S V). KitUsed store view t (KnowsFaults never xs) never o k s (at_kit new k j) answer) (sources_at ms xs chains seeds f e k q)

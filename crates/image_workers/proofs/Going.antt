@@ -13,7 +13,7 @@ use Rattle.dsy_base.specs.declared.view.View.{Ghosts as ViewWords}
 use Rattle.extract_plan.specs.Places.{PlacesKnown}
 use Rattle.image_workers.proofs.Permitting.{FilledBy}
 use Rattle.image_workers.specs.Beside.{joined_stage}
-use Rattle.image_workers.specs.Lanes.{HasWorked, IsReadyFor, LaneWorks, OfTools, kit_of, tools_of}
+use Rattle.image_workers.specs.Lanes.{HasWorked, IsReadyFor, LaneWorks, OfTools, kit_of, known_of, tools_of}
 use Rattle.image_workers.specs.declared.lanes.Lane.{Lane}
 use Rattle.image_workers.specs.declared.lanes.Tools.{Tools}
 use Rattle.extract_plan.specs.Deal.{AreWants, Deal}
@@ -21,6 +21,10 @@ use Rattle.extract_plan.specs.Places.{Placed}
 use Rattle.owned_shards.specs.Wholes.{KeptWhole, Whole}
 use Rattle.range_ledger.specs.Runs.{Run}
 use Rattle.range_survey.specs.declared.fate.Fate.{Fate}
+
+abbrev list_or : List Fate → Option (List Fate) → List Fate
+list_or n None = n
+list_or n (Some m) = m
 
 module _ {S V : Type 0} where
   pub a_kit : (kits : List (Kit S V)) → 0 < length kits → Kit S V
@@ -52,6 +56,11 @@ module _ {S V : Type 0} where
   out_kit : (P : Kit S V → List Fate → Type 0) (q : Kit S V) (o : Option (Tools S V)) → option_map (λ x. x.kit) o ≡ Some q → IsSomeAnd o (λ x. P x.kit x.known.items) → (n : List Fate) × P q n
   out_kit P q None is has = absurd has
   out_kit P q (Some x) is has = (x.known.items, subst (λ k. P k x.known.items) (ap (only_or q) is) has)
+
+  out_both : (P : Kit S V → List Fate → Type 0) (q : Kit S V) (n : List Fate) (o : Option (Tools S V)) → option_map (λ x. x.kit) o ≡ Some q → option_map (λ x. x.known.items) o ≡ Some n
+      → IsSomeAnd o (λ x. P x.kit x.known.items) → P q n
+  out_both P q n None is so has = absurd has
+  out_both P q n (Some x) is so has = subst (λ m. P q m) (ap (list_or n) so) (subst (λ k. P k x.known.items) (ap (only_or q) is) has)
 
   is_there : (P : Kit S V → List Fate → Type 0) (o : Option (Tools S V)) → IsSomeAnd o (λ x. P x.kit x.known.items) → IsSome (option_map (λ x. x.kit) o)
   is_there P None has = absurd has
@@ -94,6 +103,25 @@ module _ {S V : Type 0} where
           let in_outs : k < length outs = omega (arith, in_ys, outs_long, ys_long, ap length are) in
           out_kit (λ b n. HasWorked store view r t never k (slice_index_or kits k q) m b n y.lacked) (slice_index_or outs k p) y.tools
           (sym (get_or-map kit_of ys k none_there None in_ys) ∙ ap (λ zs. slice_index_or zs k None) (sym are) ∙ get_or-map (λ z. Some z) outs k p None in_outs)
+          (out_tools (λ a w. OfTools y (λ b n. HasWorked store view r t never k a w b n y.lacked)) (slice_index_or kits k q) m (slice_index_or xs k none_there).tools (tools_at k none_there q in_xs)
+          (each k none_there in_xs))
+
+      -- the same, where the lists of what each knows were taken too
+      pub knew_at : (outs : List (Kit S V)) → map (λ q. Some q) outs ≡ map kit_of ys → (lists : List (List Fate)) → map (λ n. Some n) lists ≡ map known_of ys → (k : ℕ) (q p : Kit S V) → k < length kits
+          → HasWorked store view r t never k (slice_index_or kits k q) m (slice_index_or outs k p) (slice_index_or lists k []) (slice_index_or ys k none_there).lacked
+      knew_at outs are lists so k q p less =
+          let y = slice_index_or ys k none_there in
+          let in_xs : k < length xs = omega (arith, less, as_many) in
+          let in_ys : k < length ys = omega (arith, in_xs, long) in
+          let outs_long : length (map (λ (z : Kit S V). Some z) outs) ≡ length outs = length-map outs (λ (z : Kit S V). Some z) in
+          let lists_long : length (map (λ (z : List Fate). Some z) lists) ≡ length lists = length-map lists (λ (z : List Fate). Some z) in
+          let kits_long : length (map kit_of ys) ≡ length ys = length-map ys kit_of in
+          let known_long : length (map known_of ys) ≡ length ys = length-map ys known_of in
+          let in_outs : k < length outs = omega (arith, in_ys, outs_long, kits_long, ap length are) in
+          let in_lists : k < length lists = omega (arith, in_ys, lists_long, known_long, ap length so) in
+          out_both (λ b n. HasWorked store view r t never k (slice_index_or kits k q) m b n y.lacked) (slice_index_or outs k p) (slice_index_or lists k []) y.tools
+          (sym (get_or-map kit_of ys k none_there None in_ys) ∙ ap (λ zs. slice_index_or zs k None) (sym are) ∙ get_or-map (λ z. Some z) outs k p None in_outs)
+          (sym (get_or-map known_of ys k none_there None in_ys) ∙ ap (λ zs. slice_index_or zs k None) (sym so) ∙ get_or-map (λ z. Some z) lists k [] None in_lists)
           (out_tools (λ a w. OfTools y (λ b n. HasWorked store view r t never k a w b n y.lacked)) (slice_index_or kits k q) m (slice_index_or xs k none_there).tools (tools_at k none_there q in_xs)
           (each k none_there in_xs))
 

@@ -1,17 +1,19 @@
 -- What is so of all kits, from what is so of the first one and of each worker.
-use Rattle.std.proofs.Common.{◌≡◌, ◌∙◌, ◌++◌, ◌∷◌, ◌<◌, ℕ, List, [], Bool, Option, Some, None, IfSome, Result, Ok, Err, length, map, slice_index_or, true, refl, sym, ap, subst, inl, inr}
+use Rattle.std.proofs.Common.{◌≡◌, ◌∙◌, ◌++◌, ◌∷◌, ◌<◌, ℕ, List, [], Bool, Option, Some, None, IfOk, IfSome, IsTrue, Result, Ok, Err, length, map, slice_index_or, true, refl, sym, ap, subst, inl, inr, arith}
 use Rattle.std.proofs.lemmas.List.{get_or_default}
 use Rattle.std.proofs.lemmas.Option.{same_Some}
 use Rattle.assembler.proofs.Based.{some_map, told_map}
-use Rattle.assembler.specs.Assemblies.{Assembles, IsObtainable}
-use Rattle.assembler.specs.Obtainable.{OnlyObtainable}
+use Rattle.assembler.specs.Assemblies.{Assembles, IsObtainable, Verdict}
+use Rattle.assembler.specs.Economy.{ReportsExactly}
+use Rattle.assembler.specs.Obtainable.{IsObtainableOrBase, OnlyObtainable}
 use Rattle.assembler.specs.OneKit.{lent}
 use Rattle.assembler.specs.declared.fault.ExtractFault.{ExtractFault}
 use Rattle.assembler.specs.declared.fault.ExtractFault.TheVariants as faults
 use Rattle.cache_store.specs.Shelves.{Shelf}
 use Rattle.caibx_codec.specs.Listing.{Listing, count_of, image_length}
-use Rattle.chunk_sources.specs.Caches.{Stocked, TakesListed}
-use Rattle.chunk_sources.specs.Sources.{Sources, Telling, views_of}
+use Rattle.chunk_sources.specs.Caches.{HaveOneSize, Stocked, TakesListed, cached_in}
+use Rattle.chunk_sources.specs.Economy.{source_of}
+use Rattle.chunk_sources.specs.Sources.{Sources, SourcesQuiet, Telling, views_of}
 use Rattle.chunk_sources.specs.Wants.{Task}
 use Rattle.chunk_sources.specs.declared.kit.Kit.{Kit}
 use Rattle.chunk_store.specs.declared.store.Store.{Ghosts as StoreWords}
@@ -22,6 +24,7 @@ use Rattle.image_workers.specs.Beside.{AssembledBeside, FillsObtainable}
 use Rattle.image_workers.specs.Kits.{AllKitsTell, AreKitsAlike, IsAssembledBy, KitUsed, KnowsFaults, MayFillFrom, NoneUsed, SomeKitHas, at_kit}
 use Rattle.range_ledger.specs.Fills.{WhereTold}
 use Rattle.range_ledger.specs.Runs.{Run}
+use Rattle.range_survey.specs.Reports.{right_below}
 use Rattle.range_survey.specs.declared.report.Report.{Report}
 
 -- ---- values that are told
@@ -112,8 +115,14 @@ module _ {S V : Type 0} (store : StoreWords S) (view : ViewWords V) (r : Run) (t
         → ((q j : Kit S V) → AssembledBeside store view r t o p (at_kit (lent f kits None) 0 q) (at_kit (lent g outs e) 0 j) res)
         → Kit S V → e ≡ None → length outs ≡ length kits
         → ((k : ℕ) (q j : Kit S V) → k < length kits → KitUsed store view t (KnowsFaults never kits) never o k (at_kit (lent f kits None) k q) (at_kit (lent g outs e) k j) res)
+        → 0 < length kits
+        → (IsTrue never → AreKitsAlike store view t kits → (q j : Kit S V) (cached maps : List (Map (List ℕ)))
+        → ((k : ℕ) → k < length kits → SourcesQuiet store view (at_kit (lent f kits None) k q) (at_kit (lent g outs e) k j) cached maps) → HaveOneSize t.listing None cached maps
+        → IfSome o (λ y. Verdict t.listing (IsObtainable t (resized y (image_length t.listing)) (views_of view (slice_index_or kits 0 q).seeds.items) (cached ++ maps)) res)
+        → IfSome o (λ y. IfOk res (ReportsExactly (source_of t (resized y (image_length t.listing)) (views_of view (slice_index_or kits 0 q).seeds.items) cached maps) t.plan.wants)))
+        → (IsTrue never → IfOk res (λ rep. IfSome o (λ y. rep.kept ≡ right_below t.listing (resized y (image_length t.listing)) (count_of t.listing))))
         → IsAssembledBy store view t never o p (lent f kits None) (lent g outs e) res
-    assembled_by fill did some none long each =
+    assembled_by fill did some none long each any report kept =
         let old = lent f kits None in
         let new = lent g outs e in
         let May : ℕ → Type 0 = λ i. r.may i ≡ true in
@@ -129,6 +138,10 @@ module _ {S V : Type 0} (store : StoreWords S) (view : ViewWords V) (r : Run) (t
               (fills_first q maps alike nothing.telling nothing.told o fill (at_kit old 0 q) refl cached (sym (same_Some [] cached nothing.told_cache)));
           after = λ alike q j cached maps nothing one. (did q j).after cached maps nothing one
               (fills_first q maps alike nothing.telling nothing.told o fill (at_kit old 0 q) refl cached (sym (same_Some [] cached nothing.told_cache)));
+          reported = λ sure alike q j cached maps quiet one. report sure alike q j cached maps quiet one
+              ((did q j).exactly cached maps (quiet 0 any) one
+              (fills_first q maps alike (quiet 0 any).telling (quiet 0 any).told o fill (at_kit old 0 q) refl cached (sym (same_Some [] cached (quiet 0 any).told_cache))));
+          kept = kept;
           stocked = λ q. subst (λ s. Stocked (TakesListed store t.listing (at_kit old 0 q).chain.stores) None s) (sym none) tt;
           kits = long;
           each = each;

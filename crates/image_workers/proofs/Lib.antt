@@ -1,8 +1,12 @@
 pub mod Beside
+pub mod Dealt
 pub mod Exact
 pub mod Going
 pub mod Kits
+pub mod Known
 pub mod Moving
 pub mod Permitting
+pub mod Reports
 pub mod Spared
+pub mod Tallying
 pub mod Working

@@ -1,5 +1,5 @@
 -- Values that are moved from the end of one list to the end of another.
-use Rattle.std.proofs.Common.{◌≡◌, ◌++◌, ◌∷◌, [], All, List, Some, map, reverse, sym, ap, ◌∙◌}
+use Rattle.std.proofs.Common.{◌≡◌, ◌++◌, ◌∷◌, [], All, List, Some, map, refl, reverse, sym, ap, ◌∙◌}
 use Rattle.std.proofs.lemmas.List.{append_assoc, map_push, reverse-append}
 use Rattle.std.proofs.lemmas.List.Elements.{All-pop}
 
@@ -23,3 +23,8 @@ all_before P all left x is has = (All-pop P all left (Some x) is has).0
 -- and of the last
 pub last_so : {A : Type 0} (P : A → Type 0) (all left : List A) (x : A) → all ≡ left ++ x ∷ [] → All P all → P x
 last_so P all left x is has = (All-pop P all left (Some x) is has).1
+
+-- what is given of what was given
+pub map_twice : {A B C : Type 0} (f : A → B) (h : B → C) (xs : List A) → map h (map f xs) ≡ map (λ x. h (f x)) xs
+map_twice f h [] = refl
+map_twice f h (x ∷ xs) = ap (λ zs. h (f x) ∷ zs) (map_twice f h xs)

@@ -3,7 +3,7 @@ use Rattle.std.proofs.Common.{◌≡◌, ℕ, ◌&&◌, ◌<◌, List, [], Bool,
 use Rattle.std.proofs.lemmas.Bool.{true≢false}
 use Rattle.std.specs.Result.{is_err}
 use Rattle.assembler.specs.Economy.{PassedBy}
-use Rattle.assembler.specs.Passes.{HasPassedShare, WhereQuiet, source_at}
+use Rattle.assembler.specs.Passes.{HasPassedShare, WhereQuiet, source_at, want_at}
 use Rattle.assembler.specs.Permits.{deals_to}
 use Rattle.assembler.specs.Stages.{Stage, from}
 use Rattle.cache_store.specs.Shelves.{Shelf}
@@ -18,7 +18,9 @@ use Rattle.dsy_base.specs.declared.fault.Memory.{Memory}
 use Rattle.dsy_base.specs.declared.view.View.{Ghosts as ViewWords}
 use Rattle.image_workers.specs.Lanes.{HasWorked, worker_stage}
 use Rattle.range_ledger.specs.Runs.{Run}
+use Rattle.range_survey.specs.Fates.{fate_at, settled}
 use Rattle.range_survey.specs.declared.fate.Fate.{Fate}
+use Rattle.range_survey.specs.declared.fate.Fate.TheVariants as fate
 
 -- where there was no cache there is none
 pub stays_none : (Takes : List ℕ → List ℕ → Type 0) (s : Option Shelf) → Stocked Takes None s → s ≡ None
@@ -45,10 +47,16 @@ module _ {S V : Type 0} (store : StoreWords S) (view : ViewWords V) (r : Run) (t
   Paid f y If = WhereQuiet store view r.listing (from (worker_stage r m f a)) (from y) (λ cached maps. If (PassedBy (source_if (deals_to t.plan k)
       (source_at view t (worker_stage r m f a) cached maps)) t.plan.wants (count_of r.listing) m n a.chain b.chain))
 
+  -- what stays open where nothing fails has no source
+  abbrev pub Left : ℕ → Stage S V → (Type 0 → Type 0) → Type 0
+  Left f y If = WhereQuiet store view r.listing (from (worker_stage r m f a)) (from y) (λ cached maps. If ((i : ℕ) → i < count_of r.listing → deals_to t.plan k (want_at t.plan i) ≡ true
+      → settled n i ≡ false → source_at view t (worker_stage r m f a) cached maps (want_at t.plan i) ≡ fate.Open))
+
   pub worked : (lacked : Bool) (res : Result Unit Memory) → lacked ≡ is_err res → f0 ≡ 0 → (IsTrue (never && r.tells) → faults ≡ 0)
       → HasPassedShare store view t (deals_to t.plan k) (worker_stage r m f0 a) later
-      → IfErr res (λ _. MayLack store None) → Paid f0 later (λ P. OnOk res P) → HasWorked store view r t never k a m b n lacked
-  worked lacked res is zero_is sure passed memory exactly =
+      → IfErr res (λ _. MayLack store None) → Paid f0 later (λ P. OnOk res P) → Left f0 later (λ P. OnOk res P)
+      → ((i : ℕ) → deals_to t.plan k (want_at t.plan i) ≡ false → fate_at n i ≡ fate_at m i) → HasWorked store view r t never k a m b n lacked
+  worked lacked res is zero_is sure passed memory exactly left others =
       let none : s ≡ None = stays_none (TakesWants store t.listing t.plan (λ w. (w < t.plan.wants) × (deals_to t.plan k w ≡ true)) a.chain.stores) s passed.stretch.stocked in
       let end : Option Shelf → Stage S V = λ x. record { held = record { bytes = None; size = image_length r.listing; name = [] }; faults = faults; fates = n; kit = b; cache = x } in
       record {
@@ -59,4 +67,7 @@ module _ {S V : Type 0} (store : StoreWords S) (view : ViewWords V) (r : Run) (t
         memory = λ so. without_cache store (lacked_of res (sym is ∙ so) memory);
         exactly = λ so. subst (λ (x : Option Shelf). Paid 0 (end x) (λ P. P)) none
             (subst (λ (f : ℕ). Paid f (end s) (λ P. P)) zero_is (λ cached maps nothing one. is_ok_of res (sym is ∙ so) (exactly cached maps nothing one)));
+        left = λ so. subst (λ (x : Option Shelf). Left 0 (end x) (λ P. P)) none
+            (subst (λ (f : ℕ). Left f (end s) (λ P. P)) zero_is (λ cached maps nothing one. is_ok_of res (sym is ∙ so) (left cached maps nothing one)));
+        others = others;
       }

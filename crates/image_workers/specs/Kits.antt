@@ -1,10 +1,10 @@
 -- What an assembly has done with any number of kits. Kits and wants count from 0, and kit k is that of worker k. `o`
 -- are the target's bytes before it, p those after it.
 use Rattle.std.specs.Prelude.{◌≡◌, ◌⊎◌, ◌++◌, ℕ, zero, suc, ◌+◌, ◌<◌, ◌≤◌, List, [], length, map, slice_index_or, Bool}
-use Rattle.std.specs.Prelude.{true, Option, Some, IfSome, IsSomeAnd, IsTrue, Result}
+use Rattle.std.specs.Prelude.{true, Option, Some, IfOk, IfSome, IsSomeAnd, IsTrue, Result}
 use Rattle.std.specs.List.{All, Any}
 use Rattle.assembler.specs.Assemblies.{After, Assembles, IsObtainable, IsUnobtained, Verdict}
-use Rattle.assembler.specs.Economy.{UnlessMemory}
+use Rattle.assembler.specs.Economy.{ReportsExactly, UnlessMemory}
 use Rattle.assembler.specs.Obtainable.{OnlyObtainable}
 use Rattle.assembler.specs.OneKit.{Lent, with_kit}
 use Rattle.assembler.specs.Passes.{EndsBy, WhereQuiet}
@@ -14,9 +14,9 @@ use Rattle.caibx_codec.specs.Asks.{IsListedGet}
 use Rattle.caibx_codec.specs.Listing.{Listing, count_of, image_length}
 use Rattle.caibx_codec.specs.Right.{IsRightAt}
 use Rattle.chunk_sources.specs.Asks.{AsksAtMost, IsSpared, asks_below, calls_below, others_spared}
-use Rattle.chunk_sources.specs.Caches.{Stocked, TakesListed, cached_in}
-use Rattle.chunk_sources.specs.Economy.{pass_asks, source_if, source_of, sum_below}
-use Rattle.chunk_sources.specs.Sources.{KeepsSeeds, Sources, Telling, views_of}
+use Rattle.chunk_sources.specs.Caches.{HaveOneSize, Stocked, TakesListed, cached_in}
+use Rattle.chunk_sources.specs.Economy.{source_of, pass_asks, source_if, sum_below}
+use Rattle.chunk_sources.specs.Sources.{KeepsSeeds, Sources, SourcesQuiet, Telling, views_of}
 use Rattle.chunk_sources.specs.Wants.{Task}
 use Rattle.chunk_sources.specs.declared.kit.Kit.{Kit}
 use Rattle.chunk_store.specs.declared.store.Store.{Ghosts as StoreWords}
@@ -26,6 +26,7 @@ use Rattle.dsy_base.specs.Maps.{Map}
 use Rattle.dsy_base.specs.declared.view.View.{Ghosts as ViewWords}
 use Rattle.extract_plan.specs.Deal.{Deal, want_id}
 use Rattle.range_ledger.specs.Fills.{WhereTold}
+use Rattle.range_survey.specs.Reports.{right_below}
 use Rattle.range_survey.specs.declared.report.Report.{Report}
 use Rattle.store_chain.specs.Chains.{KeepsStores}
 
@@ -113,8 +114,17 @@ module _ {S V : Type 0} (store : StoreWords S) (view : ViewWords V) (t : Task) w
   MayFillFrom may o kits = AllKitsTell kits
       → IfSome o (λ y. (i : ℕ) → i < count_of t.listing → may i ≡ true → SomeKitHas kits [] y i)
 
+  -- what holds where nothing fails with any of the kits, of which cache and stores hold these maps: of what chunks are
+  -- got from with the first one
+  abbrev pub WhereAllQuiet : Lent S V → Lent S V → (Sources S V → List (Map (List ℕ)) → List (Map (List ℕ)) → Type 0)
+      → Type 0
+  WhereAllQuiet old new P = (q j : Kit S V) (cached maps : List (Map (List ℕ)))
+      → ((k : ℕ) → k < length old.kits → SourcesQuiet store view (at_kit old k q) (at_kit new k j) cached maps)
+      → HaveOneSize t.listing old.cache cached maps → P (at_kit old 0 q) cached maps
+
   -- what an assembly has done, from these bytes and this loan to those. A lost entry is one that the first kit didn't
-  -- get. What stands where nothing fails is over the first kit, where all kits are alike
+  -- get. What stands where nothing fails is over the first kit, where all kits are alike. Where the target's type never
+  -- fails each right entry is counted as kept, and each other want once by the source that gave it
   pub record IsAssembledBy (never_fails : Bool) (o p : Option (List ℕ)) (old new : Lent S V)
       (answer : Result Report ExtractFault) : Type 0 where
     pub bytes : WhereTold o p (Assembles t.listing (NoneUsed old new) old.faults new.faults answer)
@@ -130,6 +140,11 @@ module _ {S V : Type 0} (store : StoreWords S) (view : ViewWords V) (t : Task) w
         (at_kit new 0 j) (λ cached maps. WhereTold o p (λ y z. After t.listing (IsObtainable t (resized y (image_length
         t.listing)) (views_of view (at_kit old 0 q).seeds) (cached ++ maps)) (resized y (image_length t.listing)) z
         answer))
+    pub reported : IsTrue never_fails → AreKitsAlike old.kits → WhereAllQuiet old new (λ s cached maps. IfSome o
+        (λ y. IfOk answer (ReportsExactly (source_of t (resized y (image_length t.listing)) (views_of view s.seeds)
+        cached maps) t.plan.wants)))
+    pub kept : IsTrue never_fails → IfOk answer (λ r. IfSome o (λ y. r.kept
+        ≡ right_below t.listing (resized y (image_length t.listing)) (count_of t.listing)))
     pub stocked : (q : Kit S V) → Stocked (TakesListed store t.listing (at_kit old 0 q).chain.stores) old.cache
         new.cache
     pub kits : length new.kits ≡ length old.kits

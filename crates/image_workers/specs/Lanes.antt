@@ -3,7 +3,7 @@ use Rattle.std.specs.Prelude.{◌≡◌, ℕ, ◌<◌, ◌≤◌, ◌&&◌, List
 use Rattle.std.specs.Prelude.{IsSomeAnd, IsTrue}
 use Rattle.std.specs.Option.{option_map}
 use Rattle.assembler.specs.Economy.{PassedBy}
-use Rattle.assembler.specs.Passes.{HasPassedShare, WhereQuiet, source_at}
+use Rattle.assembler.specs.Passes.{HasPassedShare, WhereQuiet, source_at, want_at}
 use Rattle.assembler.specs.Permits.{MayFillHad, deals_to}
 use Rattle.assembler.specs.Stages.{Ready, Stage, from}
 use Rattle.caibx_codec.specs.Listing.{Listing, count_of, image_length}
@@ -14,8 +14,9 @@ use Rattle.chunk_store.specs.declared.store.Store.{Ghosts as StoreWords}
 use Rattle.dsy_base.specs.declared.view.View.{Ghosts as ViewWords}
 use Rattle.image_workers.specs.declared.lanes.Lane.{Lane}
 use Rattle.range_ledger.specs.Runs.{Run}
-use Rattle.range_survey.specs.Fates.{FirstFates, SettledRight}
+use Rattle.range_survey.specs.Fates.{FirstFates, SettledRight, fate_at, settled}
 use Rattle.range_survey.specs.declared.fate.Fate.{Fate}
+use Rattle.range_survey.specs.declared.fate.Fate.TheVariants as fate
 
 -- the shards of the run stand behind so many locks
 pub record IsSurveyedFor (r : Run) (l : Listing) (told : Bool) (locks : ℕ) : Type 0 where
@@ -46,7 +47,11 @@ module _ {S V : Type 0} where
   abbrev pub kit_of : Lane S V → Option (Kit S V)
   kit_of a = option_map (λ x. x.kit) a.tools
 
-  -- and with it what the worker knows of each entry
+  -- what a worker that is there knows of each entry
+  abbrev pub known_of : Lane S V → Option (List Fate)
+  known_of a = option_map (λ x. x.known.items) a.tools
+
+  -- both
   abbrev pub tools_of : Lane S V → Option (Kit S V × List Fate)
   tools_of a = option_map (λ x. (x.kit, x.known.items)) a.tools
 
@@ -65,8 +70,8 @@ module _ {S V : Type 0} (store : StoreWords S) (view : ViewWords V) (r : Run) (t
   abbrev pub IsReadyLane : ℕ → Lane S V → Type 0
   IsReadyLane k a = OfTools a (IsReadyFor k)
 
-  -- worker k has settled what it was dealt: it had the kit a and knew m, and has the kit b and knows n. It lacked
-  -- memory only where the stores may
+  -- worker k has settled what it was dealt: it had the kit a and knew m, and has the kit b and knows n. Of all else it
+  -- knows what it knew. It lacked memory only where the stores may. Where nothing fails it left open what no source has
   pub record HasWorked (never_fails : Bool) (k : ℕ) (a : Kit S V) (m : List Fate) (b : Kit S V) (n : List Fate)
       (lacked : Bool) : Type 0 where
     pub faults : ℕ
@@ -76,6 +81,11 @@ module _ {S V : Type 0} (store : StoreWords S) (view : ViewWords V) (r : Run) (t
     pub exactly : lacked ≡ false → WhereQuiet store view r.listing (from (worker_stage r m 0 a))
         (from (worker_stage r n faults b)) (λ cached maps. PassedBy (source_if (deals_to t.plan k)
         (source_at view t (worker_stage r m 0 a) cached maps)) t.plan.wants (count_of r.listing) m n a.chain b.chain)
+    pub left : lacked ≡ false → WhereQuiet store view r.listing (from (worker_stage r m 0 a))
+        (from (worker_stage r n faults b)) (λ cached maps. (i : ℕ) → i < count_of r.listing
+        → deals_to t.plan k (want_at t.plan i) ≡ true → settled n i ≡ false
+        → source_at view t (worker_stage r m 0 a) cached maps (want_at t.plan i) ≡ fate.Open)
+    pub others : (i : ℕ) → deals_to t.plan k (want_at t.plan i) ≡ false → fate_at n i ≡ fate_at m i
 
   -- so it is of a worker that was there and is there again
   abbrev pub LaneWorks : Bool → ℕ → Lane S V → Lane S V → Type 0

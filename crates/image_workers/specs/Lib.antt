@@ -1,3 +1,4 @@
 pub mod Beside
 pub mod Kits
 pub mod Lanes
+pub mod Reporting

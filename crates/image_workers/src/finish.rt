@@ -1,6 +1,8 @@
 //! The end of an assembly by several workers: the second pass, which the first of them makes over the joined shards.
 
 ghost use Rattle.std.specs.Prelude.{◌≡◌, ◌≤◌, ℕ, ◌+◌, List, Err, None, Option, replicate, false, true, IfOk, IsTrue};
+ghost use Rattle.std.specs.Prelude.{length, map};
+ghost use Rattle.std.specs.List.{All};
 ghost use Rattle.assembler.specs.Passes.{Ends, HasPassed, one_pass};
 ghost use Rattle.assembler.specs.Permits.{MayFillHad};
 ghost use Rattle.assembler.specs.Stages.{Ready, stage, task};
@@ -10,7 +12,9 @@ ghost use Rattle.chunk_sources.specs.Losses.{MayLack};
 ghost use Rattle.chunk_sources.specs.Sources.{Sources, sources};
 ghost use Rattle.range_survey.specs.declared.fate.Fate.{Fate};
 ghost use Rattle.image_workers.specs.Beside.{AssembledBeside, ComesFrom, joined_stage};
+ghost use Rattle.image_workers.specs.Reporting.{CountsFates, reported_at};
 
+use crate::counting::report_of;
 use assembler::fault::ExtractFault;
 use assembler::retry::retry;
 use assembler::run::Ended;
@@ -23,6 +27,7 @@ use dsy_base::view::{Part, Target, View};
 use owned_shards::shards::Shards;
 use range_ledger::ledger::Ledger;
 use range_ledger::run::RunName;
+use range_survey::fate::Fate;
 
 // The second pass, unless a worker lacked memory in the first one.
 fn retry_unless<E: Ledger, S: Store, V: View, F: Folder>(
@@ -50,12 +55,14 @@ fn retry_unless<E: Ledger, S: Store, V: View, F: Folder>(
     retry(wants, tried, work)
 }
 
-/// Makes the second pass with the kit of the first worker, unless a worker lacked memory, and joins the target.
+/// Makes the second pass with the kit of the first worker, unless a worker lacked memory, and joins the target. `known`
+/// is what each worker knows of each entry after the first pass.
 pub(crate) fn finish<R: RunName, T: Target, S: Store, V: View, F: Folder>(
     wants: &Wants<'_>,
     tried: Vec<bool>,
     shards: Shards<'_, R, T>,
     kit: Kit<S, V>,
+    known: &[Vec<Fate>],
     lacked: bool,
 ) -> Ended<T, S, V, F>
     requires dealt { wants.now.index.now ≡ R.run.listing }
@@ -65,6 +72,8 @@ pub(crate) fn finish<R: RunName, T: Target, S: Store, V: View, F: Folder>(
     requires may { MayFillHad S.Store V.View (task R.run.listing wants.now) R.run.may (joined_stage shards kit)
         (λ _. Unit {0}) }
     requires lacked { lacked ≡ true → IsTrue S.may_lack_memory }
+    requires workers { length known.now ≡ wants.now.plan.now.workers }
+    requires known { All (λ v. length v.items ≡ count_of R.run.listing) known.now }
     ensures assembled { (o : Option (List ℕ)) (old : Sources S V) → ComesFrom S.Store V.View R.run
         (task R.run.listing wants.now) o old shards.entry kit → AssembledBeside S.Store V.View R.run
         (task R.run.listing wants.now) o (T.held result.target).bytes old
@@ -80,6 +89,8 @@ pub(crate) fn finish<R: RunName, T: Target, S: Store, V: View, F: Folder>(
         }) }
     ensures report { IfOk result.answer
         (λ r. r.kept + r.copied + r.seeded + r.cached + r.fetched ≡ count_of R.run.listing) }
+    ensures counts { (n : List Fate) × IfOk result.answer (CountsFates
+        (reported_at wants.now.plan.now (map (λ v. v.items) known.now) n) (count_of R.run.listing)) }
     ensures memory { result.answer ≡ Err ExtractFault.Memory → IsTrue S.may_lack_memory }
     ensures lacking { lacked ≡ true → result.answer ≡ Err ExtractFault.Memory }
     ensures size { (T.held result.target).size ≡ image_length R.run.listing }
@@ -95,7 +106,7 @@ pub(crate) fn finish<R: RunName, T: Target, S: Store, V: View, F: Folder>(
         cache: None::<CacheShelf<F>>,
     };
     let answer = match retry_unless(wants, tried, &mut work, lacked) {
-        Ok(()) => Ok(work.ledger.report()),
+        Ok(()) => Ok(report_of(wants, known, &work.ledger)),
         Err(fault) => Err(fault),
     };
     let Work { ledger, kit, cache } = work;

@@ -3,6 +3,7 @@
 #![tactic(auto)]
 
 pub mod assembled;
+mod counting;
 mod finish;
 pub mod lanes;
 pub mod together;

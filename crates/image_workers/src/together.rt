@@ -101,6 +101,7 @@ where
     requires any { 0 < count_of R.run.listing → 0 < R.run.shards }
     requires unnamed { (F.pairs ≡ None) × (F.stores ≡ None) }
     requires many { 2 ≤ vec_len kits }
+    requires workers { wants.now.plan.now.workers ≡ vec_len kits }
     requires ready { (k : ℕ) (q : Kit S V) → k < length kits.items → IsReadyFor S.Store V.View R.run
         (task R.run.listing wants.now) k (slice_index_or kits.items k q) shards.fates }
     requires permits { (q : Kit S V) → PermitsKit S.Store V.View R.run (task R.run.listing wants.now)
@@ -131,14 +132,13 @@ where
         lanes,
         known,
     } = rooms;
-    let (room, lanes) = lanes_of(&shards, count, kits, known, lanes);
-    let mut lanes = lanes;
+    let (room, lists, mut lanes) = lanes_of(&shards, count, kits, known, lanes);
     // Only for its contract, as below: what the survey left.
     shards.keeps();
     let shards = pass_all::<W, R, T, S, V, F>(rt, index, wants, shards, &mut lanes, locks);
     shards.keeps();
     let lacked = some_lacked(&lanes);
-    let mut kits = kits_of(lanes, room);
+    let (mut kits, known) = kits_of(lanes, room, lists);
     let Some(kit) = kits.pop() else {
         unreachable!();
     };
@@ -147,7 +147,7 @@ where
         kit,
         cache,
         answer,
-    } = finish(wants, tried, shards, kit, lacked);
+    } = finish(wants, tried, shards, kit, &known, lacked);
     put_back(&mut kits, kit);
     kits.reverse();
     Assembled {

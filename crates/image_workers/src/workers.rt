@@ -6,7 +6,7 @@ ghost use Rattle.std.specs.List.{All};
 ghost use Rattle.assembler.specs.Stages.{task};
 ghost use Rattle.caibx_codec.specs.Listing.{count_of};
 ghost use Rattle.chunk_sources.specs.declared.kit.Kit.{Kit};
-ghost use Rattle.image_workers.specs.Lanes.{IsReadyLane, LaneWorks, kit_of, tools_of};
+ghost use Rattle.image_workers.specs.Lanes.{IsReadyLane, LaneWorks, kit_of, known_of, tools_of};
 ghost use Rattle.image_workers.specs.declared.lanes.Lane.{Lane};
 
 use crate::lanes::{Lane, Tools, go_all};
@@ -68,22 +68,24 @@ where
     frame.unlock(rt, locks)
 }
 
-/// A lane for each kit, in their order, whose worker knows what the ledger says of each entry, and the kits' room.
+/// A lane for each kit, in their order, whose worker knows what the ledger says of each entry, and the room of the kits
+/// and of the lists.
 pub(crate) fn lanes_of<L: Ledger, S: Store, V: View>(
     ledger: &L,
     count: usize,
     kits: Vec<Kit<S, V>>,
     known: Vec<Vec<Fate>>,
     lanes: Vec<Lane<S, V>>,
-) -> (Vec<Kit<S, V>>, Vec<Lane<S, V>>)
+) -> (Vec<Kit<S, V>>, Vec<Vec<Fate>>, Vec<Lane<S, V>>)
     requires count { count ≡ count_of L.run.listing }
     requires none { lanes.items ≡ [] }
     requires room { vec_len kits ≤ vec_capacity lanes }
     requires size { vec_len known ≡ vec_len kits }
     requires known { All (λ v. (v.items ≡ []) × (count ≤ vec_capacity v)) known.items }
-    ensures none { result.0.items ≡ [] }
+    ensures none { (result.0.items ≡ []) × (result.1.items ≡ []) }
     ensures room { vec_len kits ≤ vec_capacity result.0 }
-    ensures lanes { map tools_of result.1.items ≡ map (λ k. Some (k, L.fates ledger.now)) kits.items }
+    ensures lists { vec_len kits ≤ vec_capacity result.1 }
+    ensures lanes { map tools_of result.2.items ≡ map (λ k. Some (k, L.fates ledger.now)) kits.items }
 {
     let mut kits = kits;
     let mut known = known;
@@ -103,35 +105,44 @@ pub(crate) fn lanes_of<L: Ledger, S: Store, V: View>(
         put_back(&mut lanes, lane);
     }
     lanes.reverse();
-    (kits, lanes)
+    (kits, known, lanes)
 }
 
-// The kit of a lane.
-fn kit_from<S: Store, V: View>(lane: Lane<S, V>) -> Kit<S, V>
+// The tools of a lane.
+fn tools_from<S: Store, V: View>(lane: Lane<S, V>) -> Tools<S, V>
     requires there { IsSome (kit_of lane) }
-    ensures kit { kit_of lane ≡ Some result }
+    ensures kit { kit_of lane ≡ Some result.kit }
+    ensures known { known_of lane ≡ Some result.known.items }
 {
-    let Some(Tools { kit, .. }) = lane.tools else {
+    let Some(tools) = lane.tools else {
         unreachable!();
     };
-    kit
+    tools
 }
 
-/// The kits of these lanes, the last first. `room` has the room for them.
+/// The kits of these lanes, the last first, and what their workers know, in their order. `room` and `lists` have the
+/// room for them.
 pub(crate) fn kits_of<S: Store, V: View>(
     lanes: Vec<Lane<S, V>>,
     room: Vec<Kit<S, V>>,
-) -> Vec<Kit<S, V>>
-    requires none { room.items ≡ [] }
+    lists: Vec<Vec<Fate>>,
+) -> (Vec<Kit<S, V>>, Vec<Vec<Fate>>)
+    requires none { (room.items ≡ []) × (lists.items ≡ []) }
     requires room { vec_len lanes ≤ vec_capacity room }
+    requires lists { vec_len lanes ≤ vec_capacity lists }
     requires there { All (λ a. IsSome (kit_of a)) lanes.items }
-    ensures kits { map (λ k. Some k) (reverse result.items) ≡ map kit_of lanes.items }
-    ensures room { vec_capacity room ≤ vec_capacity result }
+    ensures kits { map (λ k. Some k) (reverse result.0.items) ≡ map kit_of lanes.items }
+    ensures known { map (λ v. Some v.items) result.1.items ≡ map known_of lanes.items }
+    ensures room { vec_capacity room ≤ vec_capacity result.0 }
 {
     let mut lanes = lanes;
     let mut kits = room;
+    let mut lists = lists;
     while let Some(lane) = lanes.pop() {
-        put_back(&mut kits, kit_from(lane));
+        let Tools { kit, known } = tools_from(lane);
+        put_back(&mut kits, kit);
+        put_back(&mut lists, known);
     }
-    kits
+    lists.reverse();
+    (kits, lists)
 }

@@ -32,7 +32,7 @@ returns-clause-assembled g c = λ o old comes.
     (subst (λ (n : ℕ). AssembledBeside g.S.Store g.V.View r t o b.held.bytes old (from_kit n) c.match-retry_unless.answer) (sym c.into_target.ensures.faults)
     (elim c.match-retry_unless.branch [
       | in-Ok q ↦ rw q.answer-is (beside_ok g.S.Store g.V.View r d x o old w c.args.kit b res c.requires.ready.wants comes c.keeps.ensures.faults c.rules.ensures.bytes c.rules.ensures.size c.keeps.ensures.kept
-          c.retry_unless.ensures.passes c.retry_unless.ensures.ends q.in-Ok.field-0 q.in-Ok.is q.report.result)
+          c.retry_unless.ensures.passes c.retry_unless.ensures.ends q.in-Ok.field-0 q.in-Ok.is q.report_of.result)
       | in-Err q ↦ rw q.answer-is (beside_err g.S.Store g.V.View r d x o old w c.args.kit b res c.requires.ready.wants comes c.keeps.ensures.faults c.rules.ensures.bytes c.rules.ensures.size c.keeps.ensures.kept
           c.retry_unless.ensures.passes c.retry_unless.ensures.ends q.in-Err.fault q.in-Err.is)
     ]))
@@ -52,14 +52,22 @@ returns-clause-passed g c =
 pub returns-clause-report : goal.returns-clause-report
 returns-clause-report g c = elim c.match-retry_unless.branch [
   | in-Ok w ↦
-      let whole : length c.retry_unless.new.work.ledger.fates ≡ count_of g.R.RunName.run.listing = c.retry_unless.ensures.passes.stretch.step.grows.size ∙ c.rules.ensures.counted in
-      rw w.answer-is (w.report.ensures.all (λ i inside. all_of c.retry_unless.result w.in-Ok.field-0 w.in-Ok.is c.retry_unless.ensures.ends.ok i (omega (arith, inside, whole))) ∙ whole)
+      rw w.answer-is (w.report_of.ensures.all (all_of c.retry_unless.result w.in-Ok.field-0 w.in-Ok.is c.retry_unless.ensures.ends.ok))
   | in-Err w ↦ rw w.answer-is tt
 ]
 
+pub returns-clause-counts : goal.returns-clause-counts
+returns-clause-counts g c = (
+  c.retry_unless.new.work.ledger.fates,
+  elim c.match-retry_unless.branch [
+    | in-Ok w ↦ rw w.answer-is w.report_of.ensures.counts
+    | in-Err w ↦ rw w.answer-is tt
+  ],
+)
+
 pub returns-clause-memory : goal.returns-clause-memory
 returns-clause-memory g c = λ is. elim c.match-retry_unless.branch [
-  | in-Ok w ↦ let never : Ok w.report.result ≡ Err faults.Memory = sym w.answer-is ∙ is in absurd (cc)
+  | in-Ok w ↦ let never : Ok w.report_of.result ≡ Err faults.Memory = sym w.answer-is ∙ is in absurd (cc)
   | in-Err w ↦
       let why : Err w.in-Err.fault ≡ Err faults.Memory = sym w.answer-is ∙ is in
       let same : w.in-Err.fault ≡ faults.Memory = cc in

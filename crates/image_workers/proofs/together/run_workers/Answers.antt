@@ -1,24 +1,31 @@
-use Rattle.std.proofs.Common.{◌≡◌, ◌∙◌, ◌<◌, ◌∷◌, ◌≤◌, ℕ, suc, zero, Bool, Err, List, [], true, false, All, IsSome, None, Some, length, map, refl, reverse, slice_index_or, sym, ap, subst, arith, rules}
-use Rattle.std.proofs.lemmas.Bool.{true≢false}
-use Rattle.std.proofs.lemmas.List.{length-map, length-reverse, reverse-append, with_items_is}
+use Rattle.std.proofs.Common.{◌≡◌, ◌∙◌, inl, inr, ◌<◌, ◌∷◌, ◌≤◌, ℕ, suc, zero, Bool, List, [], true, false, All, IfOk, IsSome, IsTrue, None, Result, Some, length, map, refl, reverse, slice_index_or, sym, ap, subst, arith, rules, Err}
+use Rattle.std.proofs.lemmas.Bool.{cases_Bool, true≢false}
+use Rattle.std.proofs.lemmas.List.{get_or-map, length-map, length-reverse, reverse-append, with_items_is}
+use Rattle.std.specs.Global.{Vec}
 use Rattle.std.specs.Vec.{with_items}
 use Rattle.assembler.specs.OneKit.{lent}
-use Rattle.assembler.specs.Stages.{Stage, task}
+use Rattle.assembler.specs.Stages.{task, Stage}
 use Rattle.assembler.specs.declared.fault.ExtractFault.TheVariants as faults
+use Rattle.assembler.specs.declared.fault.ExtractFault.{ExtractFault}
+use Rattle.caibx_codec.specs.Listing.{count_of}
 use Rattle.chunk_sources.specs.Caches.{TakesWants, seen}
 use Rattle.chunk_sources.specs.Sources.{sources, views_of}
 use Rattle.chunk_sources.specs.declared.kit.Kit.{Kit}
 use Rattle.image_workers.proofs.Exact.{exact_once, exact_twice, lacking_one}
-use Rattle.image_workers.proofs.Going.{a_kit, all_there, as_many, filled_of, ready_again, ready_at, worked_at}
+use Rattle.image_workers.proofs.Going.{a_kit, all_there, as_many, filled_of, knew_at, ready_again, ready_at, worked_at}
 use Rattle.image_workers.proofs.Kits.{assembled_by}
+use Rattle.image_workers.proofs.Moving.{map_twice}
 use Rattle.image_workers.proofs.Permitting.{permits}
+use Rattle.image_workers.proofs.Reports.{kept_so, quiet_ways, reported_so}
 use Rattle.image_workers.proofs.Spared.{WasInShards, used_once, used_twice}
 use Rattle.image_workers.proofs.Working.{stays_none}
 use Rattle.image_workers.specs.Beside.{AssembledBeside, joined_stage}
 use Rattle.image_workers.specs.Kits.{KitUsed, KnowsFaults, at_kit}
-use Rattle.image_workers.specs.Lanes.{HasWorked, IsReadyFor, kit_of, tools_of}
+use Rattle.image_workers.specs.Lanes.{HasWorked, IsReadyFor, kit_of, known_of, tools_of}
+use Rattle.image_workers.specs.Reporting.{CountsFates, reported_at}
 use Rattle.image_workers.specs.declared.lanes.Lane.{Lane}
 use Rattle.range_survey.specs.declared.fate.Fate.{Fate}
+use Rattle.range_survey.specs.declared.report.Report.{Report}
 use Rattle.image_workers.proofs.together.run_workers.Given.{Over}
 use Rattle.image_workers.proofs.together.run_workers.Goals.{After-deref_mut, After-reverse, After-some_lacked-lacked, In-Some}
 use Rattle.image_workers.proofs.together.run_workers.Goals as goal
@@ -45,8 +52,8 @@ pass_all-shards-requires-clause-some g c κs within =
     let here = (goal.at.pass_all-shards-requires-clause-some g c).After-deref_mut in
     omega (arith, some_kit g here, many g here)
 
-after : (g : Over) (c : After-some_lacked-lacked g) → (with_items c.lanes_of-room.result.1 c.pass_all-shards.new.lanes).items ≡ c.pass_all-shards.new.lanes
-after g c = with_items_is c.lanes_of-room.result.1 c.pass_all-shards.new.lanes (omega (arith, c.pass_all-shards.ensures.lanes, c.deref_mut.ensures.len))
+after : (g : Over) (c : After-some_lacked-lacked g) → (with_items c.lanes_of-room.result.2 c.pass_all-shards.new.lanes).items ≡ c.pass_all-shards.new.lanes
+after g c = with_items_is c.lanes_of-room.result.2 c.pass_all-shards.new.lanes (omega (arith, c.pass_all-shards.ensures.lanes, c.deref_mut.ensures.len))
 
 pub kits_of-kits-requires-clause-there : goal.kits_of-kits-requires-clause-there
 kits_of-kits-requires-clause-there g c =
@@ -61,12 +68,17 @@ kits_of-kits-requires-clause-room g c =
     let early = (goal.at.kits_of-kits-requires-clause-room g c).After-deref_mut in
     omega (arith, c.lanes_of-room.ensures.room, many g early, c.deref_mut.ensures.len, (let same : length c.args.kits.items ≡ c.args.kits.len = search rules in same))
 
+pub kits_of-kits-requires-clause-lists : goal.kits_of-kits-requires-clause-lists
+kits_of-kits-requires-clause-lists g c =
+    let early = (goal.at.kits_of-kits-requires-clause-lists g c).After-deref_mut in
+    omega (arith, c.lanes_of-room.ensures.lists, many g early, c.deref_mut.ensures.len, (let same : length c.args.kits.items ≡ c.args.kits.len = search rules in same))
+
 -- the kits as they come out of the lanes
-outs_are : (g : Over) (c : In-Some g) → reverse c.kits_of-kits.result.items ≡ c.in-Some.kit ∷ reverse c.pop.new.self.items
+outs_are : (g : Over) (c : In-Some g) → reverse c.kits_of-kits.result.0.items ≡ c.in-Some.kit ∷ reverse c.pop.new.self.items
 outs_are g c = ap reverse c.in-Some.ensures.items ∙ reverse-append c.pop.new.self.items (c.in-Some.kit ∷ [])
 
-kits_are : (g : Over) (c : In-Some g) → map (λ (q : Kit g.row.S.Denot g.row.V.Denot). Some q) (reverse c.kits_of-kits.result.items) ≡ map kit_of c.pass_all-shards.new.lanes
-kits_are g c = c.kits_of-kits.ensures.kits ∙ ap (map kit_of) (with_items_is c.lanes_of-room.result.1 c.pass_all-shards.new.lanes (omega (arith, c.pass_all-shards.ensures.lanes, c.deref_mut.ensures.len)))
+kits_are : (g : Over) (c : In-Some g) → map (λ (q : Kit g.row.S.Denot g.row.V.Denot). Some q) (reverse c.kits_of-kits.result.0.items) ≡ map kit_of c.pass_all-shards.new.lanes
+kits_are g c = c.kits_of-kits.ensures.kits ∙ ap (map kit_of) (with_items_is c.lanes_of-room.result.2 c.pass_all-shards.new.lanes (omega (arith, c.pass_all-shards.ensures.lanes, c.deref_mut.ensures.len)))
 
 lanes_so : (g : Over) (c : In-Some g) → map tools_of c.deref_mut.result.now ≡ map (λ (q : Kit g.row.S.Denot g.row.V.Denot). Some (q, c.args.shards.fates)) c.args.kits.items
 lanes_so g c = ap (map tools_of) c.deref_mut.ensures.value ∙ c.lanes_of-room.ensures.lanes
@@ -77,9 +89,9 @@ none_there g = record { tools = None; lacked = false }
 -- what each worker has done
 went : (g : Over) (c : In-Some g) (k : ℕ) (q p : Kit g.row.S.Denot g.row.V.Denot) → k < length c.args.kits.items
     → (n : List Fate) × HasWorked g.S.Store g.V.View g.R.RunName.run (task g.R.RunName.run.listing c.args.wants.now) g.T.View.never_fails k (slice_index_or c.args.kits.items k q) c.args.shards.fates
-    (slice_index_or (reverse c.kits_of-kits.result.items) k p) n (slice_index_or c.pass_all-shards.new.lanes k (none_there g)).lacked
+    (slice_index_or (reverse c.kits_of-kits.result.0.items) k p) n (slice_index_or c.pass_all-shards.new.lanes k (none_there g)).lacked
 went g c = worked_at c.args.kits.items c.args.shards.fates c.deref_mut.result.now (lanes_so g c) g.S.Store g.V.View g.R.RunName.run (task g.R.RunName.run.listing c.args.wants.now) g.T.View.never_fails
-    c.pass_all-shards.new.lanes c.pass_all-shards.ensures.lanes c.pass_all-shards.ensures.each (reverse c.kits_of-kits.result.items) (kits_are g c)
+    c.pass_all-shards.new.lanes c.pass_all-shards.ensures.lanes c.pass_all-shards.ensures.each (reverse c.kits_of-kits.result.0.items) (kits_are g c)
 
 many_there : (g : Over) (c : In-Some g) → 2 ≤ length c.args.kits.items
 many_there g c = search rules
@@ -90,13 +102,34 @@ some_one g c = omega (arith, many_there g c)
 first_kit : (g : Over) (c : In-Some g) → Kit g.row.S.Denot g.row.V.Denot
 first_kit g c = a_kit c.args.kits.items (some_one g c)
 
+-- and what it knows then
+abbrev lists_of : (g : Over) (c : In-Some g) → List (List Fate)
+lists_of g c = map (λ (v : Vec Fate). v.items) c.kits_of-kits.result.1.items
+
+lists_are : (g : Over) (c : In-Some g) → map (λ (n : List Fate). Some n) (lists_of g c) ≡ map known_of c.pass_all-shards.new.lanes
+lists_are g c = map_twice (λ (v : Vec Fate). v.items) (λ (n : List Fate). Some n) c.kits_of-kits.result.1.items
+    ∙ c.kits_of-kits.ensures.known ∙ ap (map known_of) (with_items_is c.lanes_of-room.result.2 c.pass_all-shards.new.lanes (omega (arith, c.pass_all-shards.ensures.lanes, c.deref_mut.ensures.len)))
+
+knew : (g : Over) (c : In-Some g) (k : ℕ) (q p : Kit g.row.S.Denot g.row.V.Denot) → k < length c.args.kits.items
+    → HasWorked g.S.Store g.V.View g.R.RunName.run (task g.R.RunName.run.listing c.args.wants.now) g.T.View.never_fails k (slice_index_or c.args.kits.items k q) c.args.shards.fates
+    (slice_index_or (reverse c.kits_of-kits.result.0.items) k p) (slice_index_or (lists_of g c) k []) (slice_index_or c.pass_all-shards.new.lanes k (none_there g)).lacked
+knew g c = knew_at c.args.kits.items c.args.shards.fates c.deref_mut.result.now (lanes_so g c) g.S.Store g.V.View g.R.RunName.run (task g.R.RunName.run.listing c.args.wants.now) g.T.View.never_fails
+    c.pass_all-shards.new.lanes c.pass_all-shards.ensures.lanes c.pass_all-shards.ensures.each (reverse c.kits_of-kits.result.0.items) (kits_are g c) (lists_of g c) (lists_are g c)
+
+-- there are as many lists as kits
+many_lists : (g : Over) (c : In-Some g) → length c.kits_of-kits.result.1.items ≡ length c.args.kits.items
+many_lists g c =
+    let vecs = c.kits_of-kits.result.1.items in
+    sym (length-map vecs (λ (v : Vec Fate). v.items)) ∙ sym (length-map (lists_of g c) (λ (n : List Fate). Some n)) ∙ ap length (lists_are g c) ∙ length-map c.pass_all-shards.new.lanes known_of
+    ∙ c.pass_all-shards.ensures.lanes ∙ as_many c.args.kits.items c.args.shards.fates c.deref_mut.result.now (lanes_so g c)
+
 -- the first has
 first_went : (g : Over) (c : In-Some g) (q : Kit g.row.S.Denot g.row.V.Denot)
     → (n : List Fate) × HasWorked g.S.Store g.V.View g.R.RunName.run (task g.R.RunName.run.listing c.args.wants.now) g.T.View.never_fails 0 (slice_index_or c.args.kits.items 0 q) c.args.shards.fates
     c.in-Some.kit n (slice_index_or c.pass_all-shards.new.lanes 0 (none_there g)).lacked
 first_went g c q =
     let h = went g c 0 q c.in-Some.kit (some_one g c) in
-    let is : slice_index_or (reverse c.kits_of-kits.result.items) 0 c.in-Some.kit ≡ c.in-Some.kit = ap (λ (zs : List (Kit g.row.S.Denot g.row.V.Denot)). slice_index_or zs 0 c.in-Some.kit) (outs_are g c) in (
+    let is : slice_index_or (reverse c.kits_of-kits.result.0.items) 0 c.in-Some.kit ≡ c.in-Some.kit = ap (λ (zs : List (Kit g.row.S.Denot g.row.V.Denot)). slice_index_or zs 0 c.in-Some.kit) (outs_are g c) in (
       h.0,
       subst (λ (b : Kit g.row.S.Denot g.row.V.Denot). HasWorked g.S.Store g.V.View g.R.RunName.run (task g.R.RunName.run.listing c.args.wants.now) g.T.View.never_fails 0
           (slice_index_or c.args.kits.items 0 q) c.args.shards.fates b h.0 (slice_index_or c.pass_all-shards.new.lanes 0 (none_there g)).lacked) is h.1,
@@ -123,6 +156,25 @@ finish-target-requires-clause-may g c =
     let w = c.pass_all-shards.result in
     permits r d x wants g.S.Store g.V.View (views_of g.V.View first.seeds.items) (map g.S.Store.holds first.chain.stores) (c.requires.permits q) (joined_stage w c.in-Some.kit) refl step.seeds.held step.stores.held
     (filled_of g.S.Store g.V.View r d x wants w w.held.bytes (c.keeps-2.ensures.tells ∙ c.requires.tells) c.keeps-2.ensures.kept) (λ _. Unit {0})
+
+-- ---- the lists
+
+pub finish-target-requires-clause-workers : goal.finish-target-requires-clause-workers
+finish-target-requires-clause-workers g c =
+    let here = (goal.at.finish-target-requires-clause-workers g c).In-Some in
+    ap length c.deref-2.ensures.value ∙ many_lists g here ∙ sym (c.requires.workers ∙ (let size : c.args.kits.len ≡ length c.args.kits.items = search rules in size))
+
+pub finish-target-requires-clause-known : goal.finish-target-requires-clause-known
+finish-target-requires-clause-known g c =
+    let here = (goal.at.finish-target-requires-clause-known g c).In-Some in
+    let vecs = c.kits_of-kits.result.1.items in
+    let q = first_kit g here in
+    let count = count_of g.R.RunName.run.listing in
+    subst (λ vs. All (λ v. length v.items ≡ count) vs) (sym c.deref-2.ensures.value)
+    (λ k v less.
+    let inside : k < length c.args.kits.items = omega (arith, less, many_lists g here) in
+    ap (λ (n : List Fate). length n) (sym (get_or-map (λ (w : Vec Fate). w.items) vecs k v [] less))
+    ∙ (knew g here k q q inside).passed.stretch.step.grows.size ∙ (c.requires.ready k q inside).known.size)
 
 -- ---- memory
 
@@ -155,15 +207,15 @@ by_worker : (P : ℕ → Type 0) → P 0 → ((k : ℕ) → 0 < k → P k) → (
 by_worker P first others zero = first
 by_worker P first others (suc k) = others (suc k) (omega arith)
 
-out_long : (g : Over) (c : In-Some g) → length (reverse c.kits_of-kits.result.items) ≡ length c.pass_all-shards.new.lanes
-out_long g c = sym (length-map (reverse c.kits_of-kits.result.items) (λ (q : Kit g.row.S.Denot g.row.V.Denot). Some q)) ∙ ap length (kits_are g c) ∙ length-map c.pass_all-shards.new.lanes kit_of
+out_long : (g : Over) (c : In-Some g) → length (reverse c.kits_of-kits.result.0.items) ≡ length c.pass_all-shards.new.lanes
+out_long g c = sym (length-map (reverse c.kits_of-kits.result.0.items) (λ (q : Kit g.row.S.Denot g.row.V.Denot). Some q)) ∙ ap length (kits_are g c) ∙ length-map c.pass_all-shards.new.lanes kit_of
 
 pub returns-clause-size : goal.returns-clause-size
 returns-clause-size g c =
     let here = (goal.at.returns-clause-size g c).In-Some in
     let early = (goal.at.returns-clause-size g c).After-deref_mut in
     let last = (goal.at.returns-clause-size g c).After-reverse in
-    let same = as_many_kits (reverse c.kits_of-kits.result.items) c.reverse.new.self.items (reverse c.pop.new.self.items) c.in-Some.kit c.finish-target.result.kit (outs_are g here) (kits_back g last) in
+    let same = as_many_kits (reverse c.kits_of-kits.result.0.items) c.reverse.new.self.items (reverse c.pop.new.self.items) c.in-Some.kit c.finish-target.result.kit (outs_are g here) (kits_back g last) in
     (omega (arith, same, out_long g here, c.pass_all-shards.ensures.lanes, many g early), c.finish-target.ensures.size)
 
 pub returns-clause-faults : goal.returns-clause-faults
@@ -197,7 +249,7 @@ returns-clause-kits g c = λ old f begun fill.
     let x = c.args.wants.now.places.now in
     let t = task r.listing c.args.wants.now in
     let kits = c.args.kits.items in
-    let worked = reverse c.kits_of-kits.result.items in
+    let worked = reverse c.kits_of-kits.result.0.items in
     let outs = c.reverse.new.self.items in
     let never = g.T.View.never_fails in
     let w0 = c.args.shards in
@@ -231,6 +283,12 @@ returns-clause-kits g c = λ old f begun fill.
     (λ no. subst (λ (zs : List (Lane g.row.S.Denot g.row.V.Denot)). (slice_index_or zs n (none_there g)).lacked ≡ false) (lanes_seen g before)
     (c.some_lacked-lacked.ensures.no no n (none_there g)
     (omega (arith, less, ap (λ (zs : List (Lane g.row.S.Denot g.row.V.Denot)). length zs) (lanes_seen g before), c.pass_all-shards.ensures.lanes, many g early)))) in
+    let lists = lists_of g here in
+    let workers : d.workers ≡ length kits = c.requires.workers ∙ (let size : c.args.kits.len ≡ length c.args.kits.items = search rules in size) in
+    let zero_is : IsTrue never → count ≡ 0 = λ sure. g.met.T.View.sure end.target sure in
+    let told : (v : List (List Fate)) → map (λ (w : Vec Fate). w.items) c.deref-2.result.now ≡ v → IfOk end.answer (CountsFates (reported_at d v c.finish-target.ensures.counts.0) (count_of r.listing)) = λ v same.
+    subst (λ (n : List (List Fate)). IfOk end.answer (CountsFates (reported_at d n c.finish-target.ensures.counts.0) (count_of r.listing))) same c.finish-target.ensures.counts.1 in
+    let counts = told lists (ap (map (λ (w : Vec Fate). w.items)) c.deref-2.ensures.value) in
     assembled_by g.S.Store g.V.View r t kits never old.bytes (g.T.View.held end.target).bytes f count outs e end.answer fill
     (λ q j.
     let step = (first_went g here q).1.passed.stretch.step in
@@ -263,13 +321,24 @@ returns-clause-kits g c = λ old f begun fill.
     (lacked n) h.1 e end.answer
     (exact_once g.S.Store g.V.View r d x wants never old.bytes f count w0 w1 was known n (slice_index_or kits n q) (slice_index_or worked n j) h.0 (lacked n) h.1 e end.answer (lacks n less))))
     k)
+    (some_one g here)
+    (λ sure alike q j cached maps quiet one verdict.
+    reported_so g.S.Store g.V.View r d x wants kits worked never f count w0 w1 known lists lacked workers (many_there g here) zero_is (knew g here) alike q j cached maps one
+    (quiet_ways g.S.Store g.V.View r d x wants kits worked outs q j f count e w0.fates lists cached maps (λ v. v < d.wants) w1 c.in-Some.kit end.kit (g.T.View.held end.target) c.finish-target.ensures.passed.0
+    (ap (λ (zs : List (Kit g.row.S.Denot g.row.V.Denot)). slice_index_or zs 0 j) (outs_are g here)) (back j)
+    (λ k later. same_later worked outs (reverse c.pop.new.self.items) c.in-Some.kit end.kit (outs_are g here) (kits_back g last) k j later)
+    passed.stretch quiet)
+    sure old.bytes was c.finish-target.ensures.counts.0 end.answer counts
+    lacks
+    verdict)
+    (kept_so g.S.Store g.V.View r d x wants kits worked never f count w0 w1 known lists lacked workers (many_there g here) zero_is (knew g here) old.bytes was c.finish-target.ensures.counts.0 end.answer counts)
 
 pub unreachable-requires : goal.unreachable-requires
 unreachable-requires g c =
     let before = (goal.at.unreachable-requires g c).After-some_lacked-lacked in
     let early = (goal.at.unreachable-requires g c).After-deref_mut in
-    let items = c.kits_of-kits.result.items in
+    let items = c.kits_of-kits.result.0.items in
     let same : map (λ (q : Kit g.row.S.Denot g.row.V.Denot). Some q) (reverse items) ≡ map kit_of c.pass_all-shards.new.lanes = c.kits_of-kits.ensures.kits ∙ ap (map kit_of) (after g before) in
     let long : length (reverse items) ≡ length c.pass_all-shards.new.lanes = sym (length-map (reverse items) (λ (q : Kit g.row.S.Denot g.row.V.Denot). Some q)) ∙ ap length same ∙ length-map c.pass_all-shards.new.lanes kit_of in
     let some : 0 < length items = omega (arith, long, length-reverse items, c.pass_all-shards.ensures.lanes, many g early, some_kit g early) in
-    absurd (true≢false (sym (c.in_default.ensures.variant.1 (let size : c.kits_of-kits.result.len ≡ length items = search rules in omega (arith, some, size)))))
+    absurd (true≢false (sym (c.in_default.ensures.variant.1 (let size : c.kits_of-kits.result.0.len ≡ length items = search rules in omega (arith, some, size)))))

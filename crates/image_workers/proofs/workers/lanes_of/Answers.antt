@@ -21,5 +21,6 @@ loop-kit-preserved g c =
       omega (arith, c.put_back.ensures.kept, c.put_back.ensures.size, ap length all, length_push c.pop.new.self.items kit, inv.1),
       omega (arith, c.in-Some.ensures.capacity, inv.2),
       omega (arith, ap length all, length_push c.pop.new.self.items kit, ap length rooms, length_push c.pop-in-Some.new.self.items c.in-Some-pop.room, inv.3),
-      all_before (λ v. (v.items ≡ []) × (c.args.count ≤ vec_capacity v)) c.loop-kit.known.items c.pop-in-Some.new.self.items c.in-Some-pop.room rooms inv.4,
+      omega (arith, c.in-Some-pop.ensures.capacity, inv.4),
+      all_before (λ v. (v.items ≡ []) × (c.args.count ≤ vec_capacity v)) c.loop-kit.known.items c.pop-in-Some.new.self.items c.in-Some-pop.room rooms inv.5,
     )

@@ -9,6 +9,7 @@ invariant-loop-kit g l =
     × (vec_len l.kits + vec_len l.lanes ≤ vec_capacity l.lanes)
     × (vec_len l.fn.kits ≤ vec_capacity l.kits)
     × (vec_len l.known ≡ vec_len l.kits)
+    × (vec_len l.fn.kits ≤ vec_capacity l.known)
     × All (λ v. (v.items ≡ []) × (l.fn.count ≤ vec_capacity v)) l.known.items
 
 abbrev pub decreases-loop-kit : goal.decreases-loop-kit

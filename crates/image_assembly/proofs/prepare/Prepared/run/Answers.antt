@@ -12,7 +12,7 @@ use Rattle.chunk_sources.specs.Wants.{Task}
 use Rattle.chunk_sources.specs.declared.kit.Kit.{Kit}
 use Rattle.dsy_base.specs.Bytes.{Held, resized}
 use Rattle.dsy_base.specs.Counts.{Quiet}
-use Rattle.image_assembly.proofs.Lending.{by_one}
+use Rattle.image_assembly.proofs.Lending.{by_one, kept_sure}
 use Rattle.image_assembly.proofs.OnePlan.{last_alone, none_left, of_only}
 use Rattle.image_assembly.proofs.Readying.{begun_beside, fills_from, none_of, permits_at, ready_for, ready_kit}
 use Rattle.image_workers.specs.Beside.{BegunBeside}
@@ -115,7 +115,10 @@ returns-clause-kits g c =
     (subst (λ (ys : Kits g). IsAssembledBy g.S.Store g.V.View t g.T.View.never_fails old.bytes p (lent f (c.in-Some-pop.kit ∷ []) cache) (lent n ys left) r.answer) (sym (last g end))
     (by_one g.S.Store g.V.View t g.T.View.never_fails old.bytes p (c.self.invariant.0.plan.workers ∙ one g here) f n c.in-Some-pop.kit r.kit cache left r.answer
     (subst (λ (l : Listing). HasBegun l old f i.shards → WhereTold old.bytes p (Assembles l ⊥ f n r.answer)) (sym c.self.invariant.0.listing) (c.run_surveyed-target.ensures.bytes old f) begun)
-    (assembled_so g end old f begun))))
+    (assembled_so g end old f begun)
+    (λ sure. kept_sure r.answer (λ x. IfSome old.bytes (λ y. x.kept ≡ right_below i.index.now (resized y (image_length i.index.now)) (count_of i.index.now))) f n (g.met.T.View.sure r.target sure)
+    (subst (λ (l : Listing). HasBegun l old f i.shards → IfOk r.answer (λ x. Quiet f n → IfSome old.bytes (λ y. x.kept ≡ right_below l (resized y (image_length l)) (count_of l))))
+    (sym c.self.invariant.0.listing) (c.run_surveyed-target.ensures.kept old f) begun)))))
 
 pub returns-clause-report : goal.returns-clause-report
 returns-clause-report g c =
@@ -188,6 +191,9 @@ run_workers-requires-clause-locks g c κs within = (rooms_so g (goal.at.run_work
 
 pub run_workers-requires-clause-lanes : goal.run_workers-requires-clause-lanes
 run_workers-requires-clause-lanes g c κs within = omega (arith, (rooms_so g (goal.at.run_workers-requires-clause-lanes g c).In-Some).lanes, c.self.inside.kits.ok.0)
+
+pub run_workers-requires-clause-workers : goal.run_workers-requires-clause-workers
+run_workers-requires-clause-workers g c κs within = c.self.invariant.0.plan.workers ∙ sym c.self.inside.kits.ok.0
 
 pub run_workers-requires-clause-size : goal.run_workers-requires-clause-size
 run_workers-requires-clause-size g c κs within = (rooms_so g (goal.at.run_workers-requires-clause-size g c).In-Some).size ∙ sym c.self.inside.kits.ok.0
