@@ -6,7 +6,6 @@ pub mod door;
 mod ended;
 mod gathering;
 mod kept;
-mod named_folder;
 pub mod serve_all;
 pub mod serve_folder;
 mod tally;

@@ -8,12 +8,12 @@ ghost use Rattle.locked_shelf.specs.Keepings.{KeepsOpening};
 ghost use Rattle.locked_shelf.specs.Listening.{ServesAll, ServesSome};
 
 use crate::door::LockedShelf;
-use crate::named_folder::{FolderName, NamedFolder};
 use crate::serve_all::{AllServed, serve_all};
 use chunk_server::state::ShelfState;
 use dsy_base::fault::IoFault;
 use dsy_base::folder::Folder;
 use dsy_base::listen::Listen;
+use named_folders::named_folder::{FolderName, NamedFolder};
 use std::alloc::Global;
 use std::marker::Brand;
 use std::sync::Wait;

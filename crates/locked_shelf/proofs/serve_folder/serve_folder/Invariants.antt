@@ -1,5 +1,11 @@
+use Rattle.std.proofs.Common.{None}
 use Rattle.locked_shelf.proofs.serve_folder.serve_folder.Given as goal
 
 -- the folder as it was handed in
 abbrev pub ghosts-serve_named : goal.ghosts-serve_named
-ghosts-serve_named g a = record { opening = g.F.Look.files a.folder; place = g.F.Look.place a.folder }
+ghosts-serve_named g a = record {
+  opening = g.F.Look.files a.folder;
+  place = g.F.Look.place a.folder;
+  pairs = None;
+  stores = None;
+}

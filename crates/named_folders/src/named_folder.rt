@@ -1,4 +1,5 @@
-//! Folders whose type names the files that they began with, and the name that they were taken under.
+//! Folders whose type names the files that they began with, the name that they were taken under, and what may be put
+//! into them. Sizes are in bytes.
 
 ghost use Rattle.std.specs.Prelude.{◌≡◌, ℕ, List, [], Option, None};
 ghost use Rattle.dsy_base.specs.Maps.{Map};
@@ -10,23 +11,33 @@ use dsy_base::name::Name;
 use std::marker::{Brand, Model, PhantomData};
 
 /// What the type of a folder names. Each call of a program picks it.
-pub(crate) trait FolderName {
+pub trait FolderName {
     /// The files that the folder began with.
     ghost opening: { Option (Map (List ℕ)) };
 
     /// The name that it was taken under.
     ghost place: { List ℕ };
+
+    /// The ids of the chunks that may be put, each with its size.
+    ghost pairs: { Option (List (List ℕ × ℕ)) };
+
+    /// The maps of the stores of which one has to hold what is put.
+    ghost stores: { Option (List (Map (List ℕ))) };
 }
 
 impl FolderName for Brand {
     ghost opening = { None };
 
     ghost place = { [] };
+
+    ghost pairs = { None };
+
+    ghost stores = { None };
 }
 
 /// A folder whose type names what N has.
 #[derive(Drop)]
-pub(crate) struct NamedFolder<F: Folder, N: FolderName> {
+pub struct NamedFolder<F: Folder, N: FolderName> {
     folder: F,
     of: PhantomData<N>,
 }
@@ -90,6 +101,10 @@ impl<F: Folder, N: FolderName> Look for NamedFolder<F, N> {
 
 impl<F: Folder, N: FolderName> Folder for NamedFolder<F, N> {
     ghost opening = { N.opening };
+
+    ghost pairs = { N.pairs };
+
+    ghost stores = { N.stores };
 
     fn put(&mut self, name: &str, b: &[u8]) -> Result<(), IoFault> {
         self.folder.put(name, b)

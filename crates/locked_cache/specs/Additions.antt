@@ -1,0 +1,47 @@
+-- What is added to a cache that several workers ask and fill, and what is found in it meanwhile.
+use Rattle.std.specs.Prelude.{◌≡◌, ℕ, ◌⊎◌, List, length, Option, Some, IfSome, Result}
+use Rattle.std.specs.List.{Any}
+use Rattle.cache_store.specs.Shelves.{Finds, IsPair, Shelf, Stocks}
+use Rattle.cache_store.specs.declared.shelf.CacheMiss.{CacheMiss}
+use Rattle.cache_store.specs.declared.shelf.CacheMiss.TheVariants as miss
+use Rattle.chunk_store.specs.Names.{name_of}
+use Rattle.chunk_store.specs.declared.id.DigestKind.TheVariants.{Sha512T256}
+use Rattle.dsy_base.specs.Maps.{Map}
+use Rattle.store_chain.specs.Queries.{IsWanted}
+use Rattle.store_chain.specs.declared.query.Query.{Query}
+
+-- the bytes may be added under the id: it is their digest, it is listed with their size, and one of the stores holds
+-- them under it. The last two only where the type of the folder names pairs and stores
+pub record MayAdd (pairs : Option (List (List ℕ × ℕ))) (stores : Option (List (Map (List ℕ)))) (id b : List ℕ) : Type 0
+  where
+    pub named : name_of Sha512T256 b ≡ id
+    pub listed : IfSome pairs (IsPair id (length b))
+    pub held : IfSome stores (Any (λ m. m id ≡ Some b))
+
+-- a shelf as it was when its folder held these files and no call on it had failed
+abbrev pub begun_with : Map (List ℕ) → Shelf → Shelf
+begun_with first s = record { files = Some first; place = s.place; faults = 0; kind = s.kind }
+
+-- the folder of a shelf held these files at first, and since then only such chunks were added
+abbrev pub StocksOpening : (List ℕ → List ℕ → Type 0) → Map (List ℕ) → Shelf → Type 0
+StocksOpening Takes first s = Stocks Takes (begun_with first s) s
+
+-- what is found on a shelf that held these chunks at first, and to which only such were added: it is so of what stands
+-- there now, which under the wanted id is what stood there at first or was added
+pub record FindsSince (Takes : List ℕ → List ℕ → Type 0) (w : Query) (first : Map (List ℕ)) (r : Result ℕ CacheMiss)
+    (out : List ℕ) : Type 0 where
+  pub now : Map (List ℕ)
+  pub stands : (now w.id.0 ≡ first w.id.0) ⊎ ((b : List ℕ) × (now w.id.0 ≡ Some b) × Takes w.id.0 b)
+  pub finds : Finds w now r out
+
+-- all that may be added under the wanted id is what is wanted
+abbrev pub AddsWanted : (List ℕ → List ℕ → Type 0) → Query → Type 0
+AddsWanted Takes w = (b : List ℕ) → Takes w.id.0 b → IsWanted w b
+
+-- the shelf couldn't be looked at: the call failed, or there was no memory
+abbrev pub IsUnlooked : CacheMiss → Type 0
+IsUnlooked m = (m ≡ miss.Failed) ⊎ (m ≡ miss.Memory)
+
+-- what contracts see of a worker's door: how often a call through it has failed
+pub record Doorway : Type 0 where
+  pub faults : ℕ

@@ -1,0 +1,148 @@
+//! A cache behind a lock, and the door by which a worker reaches it. Sizes are in bytes.
+
+ghost use Rattle.std.specs.Prelude.{◌≡◌, ◌≤◌, Err, IfErr, IfOk, IfSome, IsTrue, Some, length};
+ghost use Rattle.cache_store.specs.Shelves.{shelf_of};
+ghost use Rattle.chunk_store.specs.Folders.{chunks};
+ghost use Rattle.chunk_store.specs.declared.id.DigestKind.TheVariants as kinds;
+ghost use Rattle.dsy_base.specs.Counts.{CountsFaults};
+ghost use Rattle.locked_cache.specs.Additions.{AddsWanted, FindsSince, IsUnlooked, MayAdd, StocksOpening};
+ghost use Rattle.store_chain.specs.Giving.{Gives};
+ghost use Rattle.store_chain.specs.Queries.{FillsQuery, query_of};
+
+use crate::stocked::StockedShelf;
+use cache_store::shelf::{CacheMiss, CacheShelf};
+use chunk_store::id::ChunkId;
+use dsy_base::fault::{IoFault, raise};
+use dsy_base::folder::Folder;
+use std::marker::Model;
+use std::sync::{Mutex, Wait};
+
+/// A cache that threads share. Its lock is held for one look or one addition, and no longer.
+#[derive(Drop)]
+pub struct LockedCache<F: Folder> {
+    shelf: Mutex<StockedShelf<F>>,
+}
+
+/// The cache as one worker sees it, who may find what others have added. Only failed calls of its own are counted.
+#[derive(Drop)]
+pub struct CacheDoor<'a, W: Wait, F: Folder> {
+    rt: &'a W,
+    cache: &'a LockedCache<F>,
+    faults: u64,
+}
+
+impl<'a, W: Wait, F: Folder> Model for CacheDoor<'a, W, F> {
+    ghost use Rattle.std.specs.Prelude.{◌≡◌, IsTrue};
+    ghost use Rattle.locked_cache.specs.Additions.{Doorway};
+
+    ghost Value = { Doorway };
+
+    ghost view = { λ s. record { faults = s.faults } };
+
+    ghost invariant = { λ s. IsTrue F.never_fails → s.faults ≡ 0 };
+}
+
+impl<F: Folder> LockedCache<F> {
+    /// The folder of the shelf holds what its type names, where that names something.
+    pub fn new(shelf: CacheShelf<F>) -> LockedCache<F>
+        requires kind { shelf.kind ≡ kinds.Sha512T256 }
+        requires opening { IfSome F.opening (λ first. F.files shelf.folder ≡ Some first) }
+    {
+        LockedCache {
+            shelf: Mutex::new(StockedShelf::new(shelf)),
+        }
+    }
+
+    pub fn door<'a, W: Wait>(&'a self, rt: &'a W) -> CacheDoor<'a, W, F>
+        ensures fresh { result.faults ≡ 0 }
+    {
+        CacheDoor {
+            rt,
+            cache: self,
+            faults: 0,
+        }
+    }
+
+    pub fn into_inner(self) -> CacheShelf<F>
+        ensures kind { result.kind ≡ kinds.Sha512T256 }
+        ensures stocked { IfSome F.opening (λ first. StocksOpening (MayAdd F.pairs F.stores) first
+            (shelf_of F.files F.place F.faults result)) }
+    {
+        self.shelf.into_inner().into_inner()
+    }
+
+    // Looks for a chunk under the lock.
+    fn find_behind<W: Wait>(
+        &self,
+        rt: &W,
+        id: &ChunkId,
+        size: Option<usize>,
+        out: &mut [u8],
+    ) -> Result<usize, CacheMiss>
+        requires inside { IfSome size (λ n. n ≤ length out.old) }
+        ensures ok { IfOk result (λ n. FillsQuery (query_of kinds.Sha512T256 id.now size (length out.old)) n out.new) }
+        ensures found { IfSome F.opening (λ first. FindsSince (MayAdd F.pairs F.stores)
+            (query_of kinds.Sha512T256 id.now size (length out.old)) (chunks first) result out.new) }
+        ensures absent { IfErr result (λ m. IfSome F.opening (λ first.
+            Gives (query_of kinds.Sha512T256 id.now size (length out.old)) (chunks first) →
+            AddsWanted (MayAdd F.pairs F.stores) (query_of kinds.Sha512T256 id.now size (length out.old)) →
+            IsUnlooked m)) }
+        ensures only { result ≡ Err CacheMiss.Failed → IsTrue F.never_fails → ⊥ }
+    {
+        let mut guard = self.shelf.lock(rt);
+        let shelf = &mut *guard;
+        shelf.find(id, size, out)
+    }
+
+    // Adds a chunk under the lock.
+    fn add_behind<W: Wait>(&self, rt: &W, id: &ChunkId, b: &[u8]) -> Result<(), IoFault>
+        requires may { MayAdd F.pairs F.stores id.now.0 b.now }
+        ensures only { result ≡ Err IoFault.Failed → IsTrue F.never_fails → ⊥ }
+    {
+        let mut guard = self.shelf.lock(rt);
+        let shelf = &mut *guard;
+        shelf.add(id, b)
+    }
+}
+
+impl<'a, W: Wait, F: Folder> CacheDoor<'a, W, F> {
+    /// Fills the front of `out` with the chunk of this id, and of this size where one is given, and answers its size. It
+    /// is one that the folder held at first, or one that was added.
+    pub fn find(
+        &mut self,
+        id: &ChunkId,
+        size: Option<usize>,
+        out: &mut [u8],
+    ) -> Result<usize, CacheMiss>
+        requires inside { IfSome size (λ n. n ≤ length out.old) }
+        ensures ok { IfOk result (λ n. FillsQuery (query_of kinds.Sha512T256 id.now size (length out.old)) n out.new) }
+        ensures found { IfSome F.opening (λ first. FindsSince (MayAdd F.pairs F.stores)
+            (query_of kinds.Sha512T256 id.now size (length out.old)) (chunks first) result out.new) }
+        // A chunk that the folder held at first is there still, unless another one may be added in its place.
+        ensures absent { IfErr result (λ m. IfSome F.opening (λ first.
+            Gives (query_of kinds.Sha512T256 id.now size (length out.old)) (chunks first) →
+            AddsWanted (MayAdd F.pairs F.stores) (query_of kinds.Sha512T256 id.now size (length out.old)) →
+            IsUnlooked m)) }
+        ensures sure { IsTrue F.never_fails → self.new.faults ≡ 0 }
+        ensures faults { CountsFaults CacheMiss.Failed CacheMiss.Memory self.old.faults self.new.faults result }
+    {
+        let found = self.cache.find_behind(self.rt, id, size, out);
+        if let Err(CacheMiss::Failed) = found {
+            self.faults = raise(self.faults, 1);
+        }
+        found
+    }
+
+    /// Adds the chunk of this id, in the place of what stood there. That other workers find it is only tested.
+    pub fn add(&mut self, id: &ChunkId, b: &[u8]) -> Result<(), IoFault>
+        requires may { MayAdd F.pairs F.stores id.now.0 b.now }
+        ensures sure { IsTrue F.never_fails → self.new.faults ≡ 0 }
+        ensures faults { CountsFaults IoFault.Failed IoFault.Memory self.old.faults self.new.faults result }
+    {
+        let added = self.cache.add_behind(self.rt, id, b);
+        if let Err(IoFault::Failed) = added {
+            self.faults = raise(self.faults, 1);
+        }
+        added
+    }
+}

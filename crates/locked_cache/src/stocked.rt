@@ -1,0 +1,99 @@
+//! What stands behind a cache's lock: a shelf whose folder has kept what its type names. Sizes are in bytes.
+
+ghost use Rattle.std.specs.Prelude.{◌≡◌, ◌≤◌, length, Some, IfErr, IfOk, IfSome, OnErr, OnOk};
+ghost use Rattle.cache_store.specs.Shelves.{shelf_of};
+ghost use Rattle.chunk_store.specs.Folders.{chunks};
+ghost use Rattle.chunk_store.specs.declared.id.DigestKind.TheVariants as kinds;
+ghost use Rattle.dir_store.specs.Puts.{LeavesTemporary, PutsAtPath};
+ghost use Rattle.dsy_base.specs.Counts.{CountsFaults};
+ghost use Rattle.locked_cache.specs.Additions.{AddsWanted, FindsSince, IsUnlooked, MayAdd, StocksOpening};
+ghost use Rattle.store_chain.specs.Giving.{Gives};
+ghost use Rattle.store_chain.specs.Queries.{FillsQuery, query_of};
+
+use cache_store::shelf::{CacheMiss, CacheShelf};
+use chunk_store::id::ChunkId;
+use chunk_store::laws::id_has_32_bytes;
+use dir_store::laws::{chunk_names, put_changes_one_chunk, put_leaves_a_temporary};
+use dsy_base::fault::IoFault;
+use dsy_base::folder::Folder;
+use std::marker::Model;
+
+/// A shelf whose folder began with the files that its type names, and to which only chunks were added that the type
+/// allows.
+#[derive(Drop)]
+pub struct StockedShelf<F: Folder> {
+    shelf: CacheShelf<F>,
+}
+
+impl<F: Folder> Model for StockedShelf<F> {
+    ghost use Rattle.std.specs.Prelude.{◌≡◌, IfSome};
+    ghost use Rattle.cache_store.specs.Shelves.{Shelved, shelf_of};
+    ghost use Rattle.chunk_store.specs.declared.id.DigestKind.TheVariants as kinds;
+    ghost use Rattle.locked_cache.specs.Additions.{MayAdd, StocksOpening};
+
+    ghost Value = { Shelved F };
+
+    ghost view = { λ s. s.shelf };
+
+    ghost invariant = { λ s. (s.shelf.kind ≡ kinds.Sha512T256)
+        × IfSome F.opening (λ first. StocksOpening (MayAdd F.pairs F.stores) first
+        (shelf_of F.files F.place F.faults s.shelf)) };
+}
+
+impl<F: Folder> StockedShelf<F> {
+    pub fn new(shelf: CacheShelf<F>) -> StockedShelf<F>
+        requires kind { shelf.kind ≡ kinds.Sha512T256 }
+        requires opening { IfSome F.opening (λ first. F.files shelf.folder ≡ Some first) }
+        ensures { result ≡ shelf }
+    {
+        StockedShelf { shelf }
+    }
+
+    pub fn into_inner(self) -> CacheShelf<F>
+        ensures same { result ≡ self }
+        ensures kind { result.kind ≡ kinds.Sha512T256 }
+        ensures stocked { IfSome F.opening (λ first. StocksOpening (MayAdd F.pairs F.stores) first
+            (shelf_of F.files F.place F.faults result)) }
+    {
+        self.shelf
+    }
+
+    /// Fills the front of `out` as `CacheShelf::find` does.
+    pub fn find(
+        &mut self,
+        id: &ChunkId,
+        size: Option<usize>,
+        out: &mut [u8],
+    ) -> Result<usize, CacheMiss>
+        requires inside { IfSome size (λ n. n ≤ length out.old) }
+        ensures ok { IfOk result (λ n. FillsQuery (query_of kinds.Sha512T256 id.now size (length out.old)) n out.new) }
+        ensures found { IfSome F.opening (λ first. FindsSince (MayAdd F.pairs F.stores)
+            (query_of kinds.Sha512T256 id.now size (length out.old)) (chunks first) result out.new) }
+        ensures absent { IfErr result (λ m. IfSome F.opening (λ first.
+            Gives (query_of kinds.Sha512T256 id.now size (length out.old)) (chunks first) →
+            AddsWanted (MayAdd F.pairs F.stores) (query_of kinds.Sha512T256 id.now size (length out.old)) →
+            IsUnlooked m)) }
+        ensures kept { F.files self.new.folder ≡ F.files self.old.folder }
+        ensures place { F.place self.new.folder ≡ F.place self.old.folder }
+        ensures faults { CountsFaults CacheMiss.Failed CacheMiss.Memory
+            (F.faults self.old.folder) (F.faults self.new.folder) result }
+    {
+        self.shelf.find(id, size, out)
+    }
+
+    /// Puts a chunk there that may be added, in the place of what stood there.
+    pub fn add(&mut self, id: &ChunkId, b: &[u8]) -> Result<(), IoFault>
+        requires may { MayAdd F.pairs F.stores id.now.0 b.now }
+        ensures ok { OnOk result (PutsAtPath id.now.0 b.now (F.files self.old.folder) (F.files self.new.folder)) }
+        ensures err { OnErr result (LeavesTemporary id.now.0 (F.files self.old.folder) (F.files self.new.folder)) }
+        ensures place { F.place self.new.folder ≡ F.place self.old.folder }
+        ensures faults { CountsFaults IoFault.Failed IoFault.Memory
+            (F.faults self.old.folder) (F.faults self.new.folder) result }
+    {
+        id_has_32_bytes(id);
+        chunk_names();
+        put_leaves_a_temporary();
+        put_changes_one_chunk();
+        self.shelf.add(id, b)
+    }
+}
