@@ -1,0 +1,11 @@
+use Rattle.std.proofs.Common.{None}
+use Rattle.worker_cases.proofs.cache_tests.fill.Given as goal
+
+-- the folder as it was handed in, to which any chunk may be added
+abbrev pub ghosts-filled : goal.ghosts-filled
+ghosts-filled g a = record {
+  opening = g.F.Look.files a.folder;
+  place = g.F.Look.place a.folder;
+  pairs = None;
+  stores = None;
+}
