@@ -75,6 +75,7 @@ class Row:
         self.wanted = wanted
         self.processors = processors
         self.seconds = []
+        self.processor = []
         self.peak = 0
 
     def run(self, folder):
@@ -85,6 +86,7 @@ class Row:
         if ended.status != self.wanted:
             sys.exit(f'{self.what}: status {ended.status}')
         self.seconds.append(seconds)
+        self.processor.append(ended.processor)
         self.peak = max(self.peak, peak)
 
     def median(self):

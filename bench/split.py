@@ -44,8 +44,10 @@ use range_survey::zeros::ZeroNames;
 use std::alloc::Global;
 use std::env;
 use std::env::Env;
+use std::fs::File;
 use std::marker::Brand;
 use std::process::ExitCode;
+use std::rt::Files;
 use std::thread::Threads;
 use std::time::{CpuClock, Duration};
 
@@ -98,15 +100,27 @@ where
 }
 
 // Whether the target of this name, which is empty, could be split and surveyed.
-fn split(rt: &HostRuntime, alloc: Global, index: &Index, plan: &Plan, name: Name) -> bool
+fn split<H: Files<File = File> + Threads + Sync>(
+    rt: &H,
+    alloc: Global,
+    index: &Index,
+    plan: &Plan,
+    name: Name,
+) -> bool
     requires plan { IsPlan index.now 32 plan.now }
 {
     let target = RealBytes::new(rt, alloc, name, 0);
-    surveyed::<HostRuntime, Brand, RealBytes<HostRuntime>>(rt, alloc, index, plan, target)
+    surveyed::<H, Brand, RealBytes<H>>(rt, alloc, index, plan, target)
 }
 
 // What the step takes of the processor.
-fn work(rt: &HostRuntime, alloc: Global, step: u64, count: u64, name: &str) -> Option<Duration> {
+fn work<H: Files<File = File> + Threads + Sync + CpuClock>(
+    rt: &H,
+    alloc: Global,
+    step: u64,
+    count: u64,
+    name: &str,
+) -> Option<Duration> {
     let index = index_of(alloc, count)?;
     let Ok(plan) = Plan::of(alloc, &index, WORKERS) else {
         return None;
@@ -158,7 +172,7 @@ use Rattle.split_steps.proofs.split.Given as goal
 
 -- the run is over this index and its plan, and over a target that doesn't tell what it holds
 abbrev pub ghosts-surveyed : goal.ghosts-surveyed
-ghosts-surveyed a = record {
+ghosts-surveyed g a = record {
   run = record {
     listing = a.index.now;
     base = [];
@@ -173,7 +187,7 @@ ANSWER = '''use Rattle.std.proofs.Common.{refl, arith}
 use Rattle.split_steps.proofs.split.Goals as goal
 
 pub surveyed-requires : goal.surveyed-requires
-surveyed-requires c =
+surveyed-requires g c =
     let plan = c.requires.plan in
     record {
       over = record {

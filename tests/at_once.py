@@ -227,6 +227,19 @@ def come_and_go(server, connections):
 def memory_at_once(cases, folder):
     held = pieces_of(5, 10)
     lay_out(folder, *held)
+    with cases.case('memory, threads and open files after 100,000 requests are what they were after 1,000'), \
+            ChunkServer(folder) as server:
+        def connections(seeds):
+            for seed in seeds:
+                ask_in_turns(server, seed, held, 50)
+
+        # Each connection has a thread of its own, whose buffers the allocator may take from an arena that is new.
+        connections(range(20))
+        before = taken_by(server.process.pid)
+        connections(range(20, 2_000))
+        after = taken_by(server.process.pid)
+        expect_equal(after[:2], before[:2], 'the numbers of open files and of threads')
+        expect(after[2] <= before[2] + 2048, f'the memory was {before[2]} KiB, and is {after[2]} KiB')
     with cases.case('memory, threads and open files stay where 100,000 requests come on 10,000 connections'), \
             ChunkServer(folder) as server, concurrent.futures.ThreadPoolExecutor(16) as threads:
         def turns(requests, connections):

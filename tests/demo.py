@@ -73,10 +73,17 @@ def large(cases):
         expect_equal(ended.status, 0, 'the status')
 
 
+def several_workers(cases):
+    for count in (1, 2, 10, 32):
+        with cases.case(f'demo 7 700000 with {count} workers prints what is reckoned here') as folder:
+            ended = program.run(['demo', '-n', str(count), '7', '700000'], folder)
+            expect_ended(ended, out=text_of(figures_of(7, 700000)))
+
+
 def main():
     needs_program('demo')
     cases = Cases('demo')
-    for group in (examples, reckoned, large):
+    for group in (examples, reckoned, large, several_workers):
         group(cases)
     return cases.end()
 

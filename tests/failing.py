@@ -62,10 +62,11 @@ class Shim:
         if not file_bytes(told):
             raise Skip('the program makes no call of the C library that is seen here')
 
-    def environment(self, call, at, error, more, told):
+    def environment(self, call, at, error, more, told, **only):
+        """What the shim is told; `only` may name the `byte` or the `thread` of the calls that count."""
         given = {'LD_PRELOAD': self.path, 'FAIL_CALL': call, 'FAIL_AT': str(at), 'FAIL_ERROR': str(error),
                  'FAIL_TOLD': told, **({'FAIL_MORE': '1'} if more else {})}
-        return {**os.environ, **given}
+        return {**os.environ, **given, **{f'FAIL_{name.upper()}': str(number) for name, number in only.items()}}
 
     def run(self, scene, call, at, error, more=False):
         """How a run ended, and the paths that its failed calls were about."""

@@ -5,6 +5,9 @@
    FAIL_AT      which of these calls fails, counted from 0
    FAIL_ERROR   its errno; with 0 it answers 0 and does nothing
    FAIL_MORE    where it is set all later ones fail too
+   FAIL_BYTE    where it is set only a pread or pwrite of this byte of a file counts, from 0
+   FAIL_THREAD  where it is set only the calls of this thread count: 0 is the first one of the process, the others
+                have numbers from 1 on, in the order in which they first make such a call
    FAIL_TOLD    a file that takes a line for each call that fails: the path that it was about */
 #define _GNU_SOURCE
 #include <dlfcn.h>
@@ -21,7 +24,8 @@
 #include <sys/syscall.h>
 #include <unistd.h>
 
-static long seen;
+static long seen, threads;
+static __thread long thread;
 
 void *__libc_malloc(size_t);
 void *__libc_realloc(void *, size_t);
@@ -36,9 +40,17 @@ static void tell(const char *path) {
     syscall(SYS_close, file);
 }
 
+static int is_of_thread(void) {
+    const char *wanted = getenv("FAIL_THREAD");
+    if (wanted == NULL) return 1;
+    if (syscall(SYS_gettid) == getpid()) return atol(wanted) == 0;
+    if (thread == 0) thread = __atomic_add_fetch(&threads, 1, __ATOMIC_RELAXED);
+    return thread == atol(wanted);
+}
+
 static int fails(const char *call, const char *path) {
     const char *wanted = getenv("FAIL_CALL");
-    if (wanted == NULL || strcmp(wanted, call) != 0) return 0;
+    if (wanted == NULL || strcmp(wanted, call) != 0 || !is_of_thread()) return 0;
     long at = atol(getenv("FAIL_AT"));
     long number = __atomic_fetch_add(&seen, 1, __ATOMIC_RELAXED);
     if (number < at || (number > at && getenv("FAIL_MORE") == NULL)) return 0;
@@ -55,6 +67,12 @@ static int fails_at(const char *call, int file) {
     long size = syscall(SYS_readlinkat, AT_FDCWD, link, path, sizeof path - 1);
     path[size > 0 ? size : 0] = 0;
     return fails(call, path);
+}
+
+static int fails_in(const char *call, int file, size_t size, off_t at) {
+    const char *byte = getenv("FAIL_BYTE");
+    if (byte != NULL && (atol(byte) < at || at + (off_t)size <= atol(byte))) return 0;
+    return fails_at(call, file);
 }
 
 #define NEXT(name) __typeof__(name) *next = (__typeof__(name) *)dlsym(RTLD_NEXT, #name)
@@ -91,12 +109,12 @@ ssize_t getdents64(int file, void *out, size_t size) {
 
 ssize_t pread(int file, void *out, size_t size, off_t at) {
     NEXT(pread);
-    return fails_at("pread", file) ? ANSWER : next(file, out, size, at);
+    return fails_in("pread", file, size, at) ? ANSWER : next(file, out, size, at);
 }
 
 ssize_t pwrite(int file, const void *bytes, size_t size, off_t at) {
     NEXT(pwrite);
-    return fails_at("pwrite", file) ? ANSWER : next(file, bytes, size, at);
+    return fails_in("pwrite", file, size, at) ? ANSWER : next(file, bytes, size, at);
 }
 
 ssize_t write(int file, const void *bytes, size_t size) {

@@ -20,12 +20,14 @@ ADDRESS_LIMIT = 16 << 30
 
 
 class Ended:
-    """How a run ended; a status below 0 is the number of a signal."""
+    """How a run ended; a status below 0 is the number of a signal. The seconds that it took of the processors, where
+    they are measured."""
 
-    def __init__(self, status, out, err):
+    def __init__(self, status, out, err, processor=None):
         self.status = status
         self.out = out
         self.err = err
+        self.processor = processor
 
 
 def is_built():
@@ -59,26 +61,27 @@ class NoUser(Exception):
     """Permissions can't be tried here: the text says why."""
 
 
-def run_without_rights(words, folder):
-    """Runs the program as a user whom permissions bind: the caller, or nobody where the caller is root.
+def run_without_rights(words, folder, lower=None):
+    """Runs the program as a user whom permissions bind: the caller, or nobody where the caller is root. `lower` is
+    called before, as that user.
 
     The user nobody runs a copy of the program, since the checkout may lie where only its owner may read.
     """
     if os.geteuid() != 0:
-        return run(words, folder)
+        return run(words, folder, lower=lower)
     copy = os.path.join(os.path.dirname(folder), 'desync-for-nobody')
     shutil.copy(DESYNC, copy)
     os.chmod(copy, 0o755)
     try:
         process = subprocess.Popen([copy, *words], cwd=folder, user=NOBODY, group=NOBODY,
-                                   extra_groups=[], **_streams())
+                                   extra_groups=[], preexec_fn=lower, **_streams())
     except (PermissionError, TypeError) as why:
         raise NoUser(f'the caller is root and nobody can\'t run the program: {why}') from why
     return _ended(process)
 
 
 # Runs the words after the first two with this much address space and on these processors (none named: on all), and
-# prints status and peak memory.
+# prints status, peak memory and the time of the processors, of the program and of the system for it.
 MEASURER = """
 import os, resource, sys
 limit = int(sys.argv[1])
@@ -93,7 +96,7 @@ if number == 0:
         os.dup2(null, stream)
     os.execvp(sys.argv[3], sys.argv[3:])
 _, status, usage = os.wait4(number, 0)
-print(os.waitstatus_to_exitcode(status), usage.ru_maxrss)
+print(os.waitstatus_to_exitcode(status), usage.ru_maxrss, usage.ru_utime + usage.ru_stime)
 """
 
 
@@ -109,8 +112,8 @@ def run_measured(words, folder, program=DESYNC, processors=()):
     measured = subprocess.run([sys.executable, '-I', '-S', '-c', MEASURER, *bounds, program, *words],
                               cwd=folder, check=True, **_streams())
     seconds = time.monotonic() - begun
-    status, peak = measured.stdout.split()
-    return Ended(int(status), b'', measured.stderr), seconds, int(peak)
+    status, peak, processor = measured.stdout.split()
+    return Ended(int(status), b'', measured.stderr, float(processor)), seconds, int(peak)
 
 
 def _streams():
