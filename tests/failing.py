@@ -2,12 +2,13 @@
 """Commands over real files and connections of which one call fails, or which get no memory.
 
     tests/failing.py          each call of a run fails once, the errors in turn
-    tests/failing.py --all    each call fails with each error
+    tests/failing.py --all    each call fails with each error, and `make` is tried in ten times as many address spaces
 
 tests/failing_calls.c is compiled with `cc` and stands before the C library, so a call that the program makes is refused
 before the system sees it. The first call fails in one run, the second in the next, until a run has no failure. A run is
 done, or ends with the line of the file that the call was about; no other file is lost, and a second run ends as if
-nothing had happened. A call that a signal interrupts is made again. A run that gets no memory is done or says so.
+nothing had happened. A call that a signal interrupts is made again. A run that gets no memory is done or says so; with
+several workers `make` is done where it is with one.
 """
 
 import contextlib
@@ -597,11 +598,44 @@ def little_space(cases):
                     raise AssertionError(f'in {space} MiB: {why}') from why
 
 
+# A thread takes 8 MiB of address space, so in the spaces up to SPACES KiB above the least there is room for no thread,
+# and for one, two and three.
+SPACES = 26 << 10
+# In the least space itself, workers may lack a few KiB of their own.
+OWN_SPACE = 512
+
+
+def make_in(folder, count, space):
+    """How `make` ends, with some number of workers and this much address space, in KiB, over a store without chunks."""
+    store, index = (os.path.join(folder, name) for name in ('st', 'a.caibx'))
+    shutil.rmtree(store, ignore_errors=True)
+    os.mkdir(store)
+    with contextlib.suppress(FileNotFoundError):
+        os.remove(index)
+    return run_in(space << 10, ['make', '-n', str(count), '-s', 'st', 'a.caibx', 'image'], folder)
+
+
+def workers_in_little_space(cases, each):
+    """Where one worker makes an index, several do in as much address space, and in more."""
+    with cases.case('make with several workers in little address space') as folder:
+        put_file(os.path.join(folder, 'image'), random.Random(5).randbytes(2 << 20))
+        least = 1_000
+        while make_in(folder, 1, least).status != 0:
+            least += 250
+            if least > 200_000:
+                raise Skip('one worker makes no index in 200 MB of address space')
+        for space in range(least + OWN_SPACE, least + SPACES, 25 if each else 250):
+            for count in (1, 2, 10):
+                ended = make_in(folder, count, space)
+                expect_equal((ended.status, ended.err), (0, b''), f'how -n {count} ends in {space} KiB')
+
+
 def main():
     needs_program('failing')
     cases = Cases('failing')
     each = sys.argv[1:] == ['--all']
     little_space(cases)
+    workers_in_little_space(cases, each)
     is_stopped(cases)
     try:
         shim = Shim(cases.top)

@@ -12,7 +12,7 @@ use Rattle.caibx_codec.specs.Seen.{pairs}
 use Rattle.dsy_base.specs.Bytes.{Held}
 use Rattle.dsy_base.specs.Counts.{CountsFaults}
 
--- the slicer, if there is one, cuts by these sizes, and has room for the chunks of an image of so many bytes
+-- the slicer, if there is one, cuts by the sizes s, and has room for each chunk of an image of `size` bytes
 abbrev pub Slices : Sizes → ℕ → Option Slicer → Type 0
 Slices s size o = IfSome o (λ c. (c.cutter.sizes ≡ s) × IsWithin c size)
 
@@ -22,19 +22,19 @@ pub record IsReady {V : Type 0} (held : V → Held) (s : Sizes) (w : Worker V) :
   pub runs : w.runs.items ≡ []
   pub slices : Slices s (held w.view).size w.slicer
 
--- each of these was cut from its start on
+-- each run was cut from its start on
 abbrev pub AreRuns : Sizes → Held → List Run → Type 0
 AreRuns s h rs = All (λ r. IsEntryRun s h r.start (pairs r.entries.items)) rs
 
--- what a worker leaves that has cut, where its view tells by these what it holds and how often it has failed
+-- `held` and `failed` tell what a view holds and how often it has failed
 module _ {V : Type 0} (held : V → Held) (failed : V → ℕ) (s : Sizes) (old new : Worker V) where
-  -- what a worker leaves that has cut: its runs, and its view, which holds what it held
+  -- a worker that has cut: its runs were cut, and its view holds what it held
   pub record HasCut : Type 0 where
     pub runs : AreRuns s (held old.view) new.runs.items
     pub kept : held new.view ≡ held old.view
     pub never_falls : failed old.view ≤ failed new.view
 
-  -- and the first one, whose entries begin at 0
+  -- the first worker after it has cut: its entries are those of the image from 0 to `end`
   pub record HasCutFirst : Type 0 where
     pub end : IfOk new.end (λ e. (e ≤ (held old.view).size)
         × AreEntries s (held old.view).bytes 0 (pairs new.entries.items) e)

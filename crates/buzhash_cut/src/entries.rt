@@ -31,7 +31,7 @@ fn add_entry(entries: &mut Vec<Entry>, entry: Entry) -> Result<(), CutFault>
     Ok(())
 }
 
-/// Adds the entries of a run, where there may be so many more. Answers where the last one ends.
+/// Adds the entries of a run, where an index may list as many more. Answers where the last one ends.
 pub(crate) fn add_run(entries: &mut Vec<Entry>, run: &[Entry]) -> Result<u64, CutFault>
     requires some { 0 < length run.now }
     requires few { length (pairs entries.old.items) ≤ item_limit }

@@ -67,7 +67,7 @@ fn fill<V: View>(view: &mut V, piece: &mut [u8], at: u64) -> Result<usize, Faile
 }
 
 impl Slicer {
-    /// To cut an image of so many bytes from `start` on.
+    /// To cut an image of `size` bytes from `start` on.
     pub(crate) fn new(
         alloc: Global,
         sizes: &CutSizes,

@@ -173,7 +173,10 @@ pub(crate) fn joined<V: View>(
     };
     let mut entries = mem::replace(&mut first.entries, Vec::new(alloc));
     match walk(&mut first.view, &mut slicer, others, begun, &mut entries) {
-        Ok(()) => Ok(entries),
+        Ok(()) => {
+            entries.shrink_to_fit();
+            Ok(entries)
+        }
         Err(fault) => Err(fault),
     }
 }

@@ -143,15 +143,21 @@ fn cut_steps<V: View>(
 }
 
 impl<V: View> Worker<V> {
-    /// A worker that has cut nothing, and has this slicer.
-    pub(crate) fn new(alloc: Global, view: V, slicer: Option<Slicer>) -> Worker<V>
+    /// A worker that has cut nothing, and has this slicer, and this list for its entries.
+    pub(crate) fn new(
+        alloc: Global,
+        view: V,
+        slicer: Option<Slicer>,
+        entries: Vec<Entry>,
+    ) -> Worker<V>
+        requires none { entries.items ≡ [] }
         ensures view { result.view ≡ view }
         ensures none { (s : Sizes) → Slices s (V.held view).size slicer → IsReady V.held s result }
     {
         Worker {
             view,
             slicer,
-            entries: Vec::new(alloc),
+            entries,
             end: Ok(0),
             runs: Vec::new(alloc),
         }

@@ -1,7 +1,7 @@
 //! The workers that cut an image, beside one another.
 
-ghost use Rattle.std.specs.Prelude.{◌≡◌, ℕ, ◌-◌, ◌<◌, ◌≤◌, [], length, map, reverse, vec_len};
-ghost use Rattle.std.specs.Prelude.{vec_capacity, slice_index_or, All, IfOk, IfErr};
+ghost use Rattle.std.specs.Prelude.{◌≡◌, ℕ, ◌+◌, ◌-◌, ◌<◌, ◌≤◌, [], false, is_some, length, map, min, reverse, true};
+ghost use Rattle.std.specs.Prelude.{vec_capacity, vec_len, slice_index_or, All, IfOk, IfErr, IfSome};
 ghost use Rattle.buzhash_cut.specs.Entries.{AreAll, AreTooMany};
 ghost use Rattle.buzhash_cut.specs.Image.{AreOfOneImage, CountsViews};
 ghost use Rattle.buzhash_cut.specs.Runs.{HasCut, HasCutFirst, IsReady, Slices};
@@ -19,6 +19,42 @@ use std::alloc::Global;
 use std::thread;
 use std::thread::Threads;
 
+/// How many bytes storing takes beside its buffers, whatever the image is.
+const STORING: u64 = 262_144;
+
+/// How many bytes it takes for each chunk: in the index file, and in the set of the ids that are stored.
+const STORED: u64 = 128;
+
+// How many chunks an image of `size` bytes rarely has more than: a quarter, and 64, above what the average gives.
+fn likely_count(sizes: &CutSizes, size: u64) -> u64 {
+    let even = size / sizes.avg().max(1);
+    even.saturating_add(even / 4).saturating_add(64)
+}
+
+// Memory that the workers leave free for storing the image: two buffers of the largest chunk, and what else storing
+// takes. None where there isn't as much.
+fn spare_memory(alloc: Global, sizes: &CutSizes, size: u64) -> Option<Vec<u8>>
+    ensures buffers { IfSome result (λ v. min size sizes.now.greatest + min size sizes.now.greatest ≤ vec_capacity v) }
+{
+    sizes.rules();
+    let chunk = size.min(sizes.max());
+    let stored = likely_count(sizes, size).saturating_mul(STORED);
+    let bytes = (chunk + chunk)
+        .saturating_add(STORING)
+        .saturating_add(stored);
+    Vec::with_capacity(alloc, bytes as usize).ok()
+}
+
+// How many threads cut: as many as there are workers, or one where no memory is spared.
+fn thread_count(workers: usize, spare: &Option<Vec<u8>>) -> usize
+    requires some { 0 < workers }
+    ensures some { 0 < result }
+    ensures all { is_some spare.now ≡ true → result ≡ workers }
+    ensures one { is_some spare.now ≡ false → result ≡ 1 }
+{
+    if spare.is_some() { workers } else { 1 }
+}
+
 // The slicer of the first worker, if there is room for it; another worker gets none yet.
 fn slicer_ahead(alloc: Global, sizes: &CutSizes, size: u64, is_first: bool) -> Option<Slicer>
     ensures { Slices sizes.now size result }
@@ -27,6 +63,20 @@ fn slicer_ahead(alloc: Global, sizes: &CutSizes, size: u64, is_first: bool) -> O
         return None;
     }
     Slicer::new(alloc, sizes, size, 0).ok()
+}
+
+// The list of entries of the first worker, with room for those of the image, if there is as much; another worker's has
+// none yet.
+fn entries_ahead(alloc: Global, sizes: &CutSizes, size: u64, is_first: bool) -> Vec<Entry>
+    ensures { result.items ≡ [] }
+{
+    if !is_first {
+        return Vec::new(alloc);
+    }
+    match Vec::with_capacity(alloc, likely_count(sizes, size) as usize) {
+        Ok(entries) => entries,
+        Err(_) => Vec::new(alloc),
+    }
 }
 
 /// Gives each view to a worker. The first one comes last.
@@ -44,8 +94,10 @@ pub(crate) fn hire<V: View>(
     ensures room { vec_len workers.new ≤ vec_capacity views.new }
 {
     while let Some(view) = views.pop() {
-        let slicer = slicer_ahead(alloc, sizes, view.size(), views.is_empty());
-        let Ok(()) = workers.push(Worker::new(alloc, view, slicer)) else {
+        let is_first = views.is_empty();
+        let slicer = slicer_ahead(alloc, sizes, view.size(), is_first);
+        let entries = entries_ahead(alloc, sizes, view.size(), is_first);
+        let Ok(()) = workers.push(Worker::new(alloc, view, slicer, entries)) else {
             unreachable!();
         };
     }
@@ -64,7 +116,7 @@ pub(crate) fn dismiss<V: View>(workers: &mut Vec<Worker<V>>, views: &mut Vec<V>)
     }
 }
 
-// The workers cut the image, one beside the other.
+// The workers cut the image, one beside the other; in this thread alone where there is no spare memory.
 fn cut_all<R: Threads + Sync, V: View + Send>(
     rt: &R,
     alloc: Global,
@@ -83,12 +135,15 @@ fn cut_all<R: Threads + Sync, V: View + Send>(
 {
     let count = workers.len();
     let last = count - 1;
-    let blocks = Blocks::new(workers[last].view.size(), count as u64, sizes);
+    let size = workers[last].view.size();
+    let blocks = Blocks::new(size, count as u64, sizes);
     let shared = &blocks;
+    let spare = spare_memory(alloc, sizes, size);
+    let threads = thread_count(count, &spare);
     thread::for_each_mut(
         rt,
         workers,
-        count,
+        threads,
         &|number, worker: &mut Worker<V>|
             requires alike { shared.now.size ≡ (V.held worker.old.view).size }
             requires none { IsReady V.held sizes.now worker.old }

@@ -12,7 +12,7 @@ use Rattle.image_store.specs.PutChunks.{HoldsAll, PutsFiles, SaysNamed, Stands, 
 use Rattle.image_store.specs.declared.chop.ChopFault.{ChopFault}
 use Rattle.image_store.specs.declared.chop.ChopFault.TheVariants as faults
 
--- by the answer, so many of the first entries were seen to: at least, and at most
+-- how many of the first entries are stored, by the answer: at least, and at most
 abbrev pub seen_to : Listing → Result Unit ChopFault → ℕ
 seen_to l (Ok u) = count_of l
 seen_to l (Err (faults.Length n)) = 0
@@ -51,7 +51,7 @@ IsMismatch l told faults.ImageFault = Unit {0}
 IsMismatch l told faults.StoreFault = Unit {0}
 IsMismatch l told faults.Memory = Unit {0}
 
--- so many of the first k entries list the id q
+-- how many of the first k entries list the id q
 abbrev pub times_listed : Listing → ℕ → List ℕ → ℕ
 times_listed l k q = count_by (λ (e : ℕ × List ℕ). bytes_eq e.1 q) (take k l.entries)
 
@@ -60,7 +60,7 @@ pub record AsksListed (l : Listing) (k : ℕ) (old new : List ℕ → ℕ) : Typ
   pub no_less : (q : List ℕ) → old q ≤ new q
   pub most : (q : List ℕ) → new q ≤ old q + times_listed l k q
 
--- seeing to entry k ended early
+-- storing entry k ended early
 abbrev pub StopsAt : Listing → ℕ → Option (List ℕ) → ChopFault → Type 0
 StopsAt l k told (faults.Mismatch entry got) =
     (entry ≡ k) × (got.0 ≢ id_of l k) × IfSome told (λ t. got.0 ≡ name_of (kind_of l) (slice_of l t k))
@@ -69,7 +69,7 @@ StopsAt l k told faults.ImageFault = Unit {0}
 StopsAt l k told faults.StoreFault = Unit {0}
 StopsAt l k told faults.Memory = Unit {0}
 
--- seeing to the entries in order ended at one of them: the chunks of those before it are held, and at most the entry
+-- storing the entries in order ended at one of them: the chunks of those before it are held, and at most the entry
 -- itself was touched besides. `held` and `now` are what the store held and holds, `old` and `new` the files of its
 -- folder
 pub record StopsInOrder (l : Listing) (told : Option (List ℕ)) (held now old new : ToldMap) : Type 0 where
@@ -83,7 +83,8 @@ pub record StopsInOrder (l : Listing) (told : Option (List ℕ)) (held now old n
 abbrev pub SaysBefore : Listing → ℕ → Said → Type 0
 SaysBefore l k said = (i : ℕ) → i < k → id_of l i ≢ id_of l k → SaysNamed (kind_of l) (id_of l i) said
 
--- so it ended with a store, which was asked for no id but those of the entries up to there
+-- storing the entries in order ended early with this store, which was asked for no id but those of the entries up to
+-- that one
 pub record ChopStops {S : Type 0} (store : StoreWords S) (l : Listing) (told : Option (List ℕ)) (old new : S) : Type 0
   where
     pub stops : StopsInOrder l told (store.holds old) (store.holds new) (store.folder old) (store.folder new)

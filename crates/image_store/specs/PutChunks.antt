@@ -1,4 +1,4 @@
--- What seeing to the chunks of an image does to a store. l lists the chunks, t are the image's bytes, and `told` are
+-- What storing the chunks of an image does to a store. l lists the chunks, t are the image's bytes, and `told` are
 -- bytes where they are told.
 use Rattle.std.specs.Prelude.{◌≡◌, ◌≢◌, ◌⊎◌, slice_range, ℕ, ◌+◌, ◌<◌, ◌≤◌, List, Option, Some, IfSome, is_some}
 use Rattle.std.specs.Option.{option_map}
@@ -29,7 +29,7 @@ told_range told at end = option_map (λ t. slice_range t at end) told
 abbrev pub told_slice : Listing → ℕ → Option (List ℕ) → Option (List ℕ)
 told_slice l i told = option_map (λ t. slice_of l t i) told
 
--- ---- seeing to one chunk
+-- ---- storing one chunk
 
 -- b was put under this id
 abbrev pub PutsUnder : List ℕ → List ℕ → ToldMap → ToldMap → Type 0
@@ -53,7 +53,7 @@ HoldsNamed kind id held = (b : List ℕ) × (held ≡ Some b) × (name_of kind b
 abbrev pub SaysNamed : DigestKind → List ℕ → Said → Type 0
 SaysNamed kind id said = (b : List ℕ) × (name_of kind b ≡ id) × (said.shown id b ⊎ said.taken id b)
 
--- why seeing to entry k of this id ended early, where the image's slice is `told`
+-- why storing entry k of this id ended early, where the image's slice is `told`
 abbrev pub EndsAt : DigestKind → ℕ → List ℕ → Option (List ℕ) → MakeFault → Type 0
 EndsAt kind k id told (faults.Changed entry was got) =
     (entry ≡ k) × (was.0 ≡ id) × (got.0 ≢ id) × IfSome told (λ b. got.0 ≡ name_of kind b)
@@ -62,7 +62,7 @@ EndsAt kind k id told faults.ImageFault = Unit {0}
 EndsAt kind k id told faults.StoreFault = Unit {0}
 EndsAt kind k id told faults.Memory = Unit {0}
 
--- reading the slice again ended so
+-- how reading the slice again ended
 abbrev pub RereadsTo : DigestKind → ℕ → List ℕ → Option (List ℕ) → MakeFault → Type 0
 RereadsTo kind k id told (faults.Changed entry was got) = EndsAt kind k id told (faults.Changed entry was got)
 RereadsTo kind k id told faults.ImageFault = Unit {0}
@@ -94,7 +94,7 @@ module _ {S : Type 0} (store : StoreWords S) (kind : DigestKind) (id : List ℕ)
 abbrev pub KeepsListed : Listing → Ask → Type 0
 KeepsListed l a = IsListedGet l a ⊎ IsListedPut l a
 
--- ---- seeing to the first k chunks
+-- ---- storing the first k chunks
 
 -- the id q is one of theirs
 pub record IsListedId (l : Listing) (k : ℕ) (q : List ℕ) : Type 0 where
@@ -102,7 +102,7 @@ pub record IsListedId (l : Listing) (k : ℕ) (q : List ℕ) : Type 0 where
   pub below : entry < k
   pub id : q ≡ id_of l entry
 
--- so it is, and the image's slice is held under it, which has that name
+-- the id q is one of theirs, and the image's slice is held under it, which has that name
 pub record IsStored (l : Listing) (t : List ℕ) (k : ℕ) (q : List ℕ) (held : Option (List ℕ)) : Type 0 where
   pub entry : ℕ
   pub below : entry < k
@@ -140,7 +140,7 @@ pub record AsksEach (l : Listing) (k : ℕ) (old new : List ℕ → ℕ) : Type 
   pub once : (q : List ℕ) → new q ≤ old q + 1
   pub listed : (q : List ℕ) → (new q ≡ old q) ⊎ IsListedId l k q
 
--- seeing to all chunks ended early
+-- storing all chunks ended early
 abbrev pub PutsEnd : Listing → Option (List ℕ) → MakeFault → Type 0
 PutsEnd l told (faults.Changed entry was got) =
     (was.0 ≢ got.0) × (entry < count_of l) × (was.0 ≡ id_of l entry)

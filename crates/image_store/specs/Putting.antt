@@ -29,7 +29,7 @@ abbrev pub HoldsStill : List ℕ → Option (Map (List ℕ)) → Option (Map (Li
 HoldsStill q first now = IfSome first (λ m. IfSome now (λ n. n q ≡ m q))
 
 module _ {S : Type 0} (store : StoreWords S) (l : Listing) (told : Option (List ℕ)) where
-  -- at most the first k entries were seen to
+  -- at most the first k entries are stored
   pub record HasTouched (k : ℕ) (first now : S) : Type 0 where
     pub stands : IfSome told (λ t. IfSome (store.holds first) (λ old. IfSome (store.holds now)
         (λ new. Stands l t k old new)))
@@ -41,7 +41,7 @@ module _ {S : Type 0} (store : StoreWords S) (l : Listing) (told : Option (List 
     pub sends : Sends (KeepsListed l) (store.sent first) (store.sent now)
     pub faults : store.faults first ≤ store.faults now
 
-  -- they were, and theirs are the ids in the set. Any other id is as at first
+  -- the first k entries are stored, and the set has their ids. Any other id is as at first
   pub record HasPut (k : ℕ) (first now : S) (seen : BTreeSet (List ℕ)) : Type 0 where
     pub touched : HasTouched k first now
     pub holds : IfSome (store.holds now) (λ m. HoldsAll l k m)
@@ -50,7 +50,7 @@ module _ {S : Type 0} (store : StoreWords S) (l : Listing) (told : Option (List 
     pub unseen : (q : List ℕ) → is_seen seen q ≡ false
         → (store.asked now q ≡ store.asked first q) × HoldsStill q (store.holds first) (store.holds now)
 
--- seeing to entries with this view ended so
+-- how storing entries with this view ended
 pub record PuttingEnds {V S : Type 0} (view : ViewWords V) (store : StoreWords S) (l : Listing) (first : S)
     (old new : V)
     (now : S) (result : Result Unit MakeFault) : Type 0 where
@@ -60,7 +60,7 @@ pub record PuttingEnds {V S : Type 0} (view : ViewWords V) (store : StoreWords S
   pub image_faults : CountsFaults faults.ImageFault faults.Memory (view.faults old) (view.faults new) result
   pub store_faults : CountsCause faults.StoreFault (store.faults first) (store.faults now) result
 
--- and after Ok the first k entries were seen to
+-- and after Ok the first k entries are stored
 pub record SeesTo {V S : Type 0} (view : ViewWords V) (store : StoreWords S) (l : Listing) (k : ℕ) (first : S)
     (old new : V) (now : S) (seen : BTreeSet (List ℕ)) (result : Result Unit MakeFault) : Type 0 where
   pub put : OnOk result (HasPut store l (view.held old).bytes k first now seen)

@@ -25,14 +25,14 @@ abbrev pub storing_of : {V S : Type 0} → V → S → StoreProgress S → Rooms
 storing_of image store progress rooms = record { image = image; store = store; progress = progress; rooms = rooms }
 
 module _ {V S : Type 0} (view : ViewWords V) (store : StoreWords S) (l : Listing) where
-  -- the entries before `at` were seen to, and it can go on
+  -- the entries before `at` are stored, and it can go on
   pub record IsStoring (w : Storing V S) : Type 0 where
     pub size : image_length l ≡ (view.held w.image).size
     pub at : w.progress.at ≤ count_of l
     pub room : HasRoomFor l w.rooms
     pub put : HasPut store l (view.held w.image).bytes w.progress.at w.progress.first.value w.store w.progress.seen
 
-  -- it went on, and ended so
+  -- it went on, and ended with this result
   pub record GoesOn (old new : Storing V S) (result : Result Unit MakeFault) : Type 0 where
     pub next : OnOk result (IsStoring new)
     pub first : new.progress.first.value ≡ old.progress.first.value
@@ -46,7 +46,7 @@ IsAlike h k = (k.size ≡ h.size) × (k.bytes ≡ h.bytes)
 pub record NoFaultCountFalls (old new : List ℕ) : Type 0 where
   pub never_falls : (i : ℕ) → slice_index old i ≤ slice_index new i
 
--- seeing to all entries of an image of these bytes ended so
+-- how storing all entries of an image of these bytes ended
 pub record HasStored {S : Type 0} (store : StoreWords S) (l : Listing) (told : Option (List ℕ)) (first now : S)
     (result : Result Unit MakeFault) : Type 0 where
   pub holds : OnOk result (IfSome (store.holds now) (λ m. HoldsAll l (count_of l) m))

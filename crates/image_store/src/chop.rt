@@ -34,7 +34,7 @@ pub enum ChopFault {
     Memory,
 }
 
-// Sees to entry i.
+// Stores entry i.
 fn chop_entry<V: View, S: StoreWrite>(
     index: &Index,
     i: usize,
@@ -70,8 +70,8 @@ fn chop_entry<V: View, S: StoreWrite>(
     }
 }
 
-/// Sees to it that the store holds each chunk that the index lists, entry by entry up to the first refusal: the image's
-/// slice is named, and put where the store doesn't hold it. An id that is listed twice is seen to twice.
+/// Stores each chunk that the index lists, entry by entry up to the first refusal: the image's slice is named, and put
+/// where the store lacks it. An id that is listed twice is looked for twice.
 pub fn chop<V: View, S: StoreWrite>(
     alloc: Global,
     index: &Index,

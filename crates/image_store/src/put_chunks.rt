@@ -1,4 +1,4 @@
-//! Seeing to it that a store holds each chunk of an image. Offsets are bytes from 0.
+//! Storing each chunk of an image that a store lacks. Offsets are bytes from 0.
 
 ghost use Rattle.std.specs.Prelude.{◌≡◌, ◌≢◌, ◌⊎◌, ℕ, List, ◌+◌, ◌<◌, ◌≤◌, ◌||◌, length, not, Option, Some, Ok, Err};
 ghost use Rattle.std.specs.Prelude.{IfSome, IfOk, IfErr, OnOk, slice_range, is_some, true, false};
@@ -120,7 +120,7 @@ fn is_held<S: Store>(
     }
 }
 
-// Sees to it that the store holds the chunk under the id. It isn't put where it is held.
+// Stores the chunk under the id, where the store lacks it.
 #[tactic(auto, using(crate::proofs::Putting::sends_get))]
 fn keep<S: StoreWrite>(
     store: &mut S,
@@ -149,7 +149,7 @@ fn keep<S: StoreWrite>(
     store.put(id, chunk)
 }
 
-// Sees to it that the store holds this chunk, whose name is the id. `room` is as long as the chunk.
+// Stores this chunk, whose name is the id, where the store lacks it. `room` is as long as the chunk.
 #[tactic(auto, using(crate::proofs::Putting::sends_named))]
 fn put_named<S: StoreWrite>(
     store: &mut S,
@@ -172,7 +172,7 @@ fn put_named<S: StoreWrite>(
     }
 }
 
-// Sees to entry i. Its slice may have been read, and then it isn't read again.
+// Stores entry i. Its slice may have been read, and then it isn't read again.
 pub(crate) fn put_entry<V: View, S: StoreWrite>(
     index: &Index,
     i: usize,
@@ -211,8 +211,7 @@ pub(crate) fn put_entry<V: View, S: StoreWrite>(
     put_named(store, kind, &listed.id, bytes, held)
 }
 
-/// Sees to it that the store holds each chunk that the index lists, in order, each id once. What is held already isn't
-/// put.
+/// Stores each chunk that the index lists and the store lacks, in order, each id once.
 pub fn put_chunks<V: View, S: StoreWrite>(
     alloc: Global,
     index: &Index,

@@ -20,7 +20,7 @@ use read_ahead::reader::{Crew, Reader, change_all, dismiss, hire};
 use std::alloc::Global;
 use std::thread::{Threads, join_mut};
 
-// Sees to the entries before those of the round and to some of these, while each reader reads others in a thread. This
+// Stores the entries before those of the round and some of these, while each reader reads others in a thread. This
 // thread begins all of them, so that none waits for another one to begin it, and claims the first entry of each.
 #[cycle(round)]
 fn round<R: Threads + Sync, V: View, S: StoreWrite, W: View + Send, I: InnerFolders + Sync>(
@@ -69,7 +69,7 @@ fn round<R: Threads + Sync, V: View, S: StoreWrite, W: View + Send, I: InnerFold
     put
 }
 
-// Sees to all entries.
+// Stores all entries.
 fn put_by_rounds<R: Threads + Sync, V: View + Send, S: StoreWrite, I: InnerFolders + Sync>(
     rt: &R,
     index: &Index,
@@ -99,7 +99,7 @@ fn put_by_rounds<R: Threads + Sync, V: View + Send, S: StoreWrite, I: InnerFolde
     storing.put_to(index, index.count(), ready)
 }
 
-// Sees to all entries with the first view alone.
+// Stores all entries with the first view alone.
 fn store_alone<V: View, S: StoreWrite>(
     alloc: Global,
     index: &Index,
@@ -118,7 +118,7 @@ fn store_alone<V: View, S: StoreWrite>(
     (views, store, put)
 }
 
-// Sees to all entries with the first view, for which the others read ahead.
+// Stores all entries with the first view, for which the others read ahead.
 fn store_ahead<R: Threads + Sync, V: View + Send, S: StoreWrite, I: InnerFolders + Sync>(
     rt: &R,
     index: &Index,
@@ -154,7 +154,7 @@ fn store_ahead<R: Threads + Sync, V: View + Send, S: StoreWrite, I: InnerFolders
     (views, store, put)
 }
 
-/// Sees to it that the store holds each chunk that the index lists, in order, each id once. The first view is read;
+/// Stores each chunk that the index lists and the store lacks, in order, each id once. The first view is read;
 /// each other one reads and names slices ahead in a thread of its own, which makes the inner folders of their chunks'
 /// files, where there is memory for its rooms. `inner` are the subfolders of the store's folder.
 pub(crate) fn store_entries<
@@ -183,7 +183,7 @@ pub(crate) fn store_entries<
     if others == 0 {
         return store_alone(alloc, index, views, store, rooms);
     }
-    match Crew::new(alloc, others, rooms.chunk.len()) {
+    match Crew::new(alloc, others, rooms.chunk.len(), index.count()) {
         Ok(crew) => store_ahead(rt, index, views, crew, store, inner, rooms),
         Err(_) => store_alone(alloc, index, views, store, rooms),
     }

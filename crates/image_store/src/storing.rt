@@ -36,7 +36,7 @@ impl Rooms {
     }
 }
 
-/// How far a storing has come: the entries before `at` were seen to, `seen` are their ids, and `first` is the store as
+/// How far a storing has come: the entries before `at` are stored, `seen` are their ids, and `first` is the store as
 /// it was before.
 #[derive(Drop)]
 pub(crate) struct StoreProgress<S> {
@@ -46,7 +46,7 @@ pub(crate) struct StoreProgress<S> {
 }
 
 impl<S: StoreWrite> StoreProgress<S> {
-    /// Nothing was seen to.
+    /// Nothing is stored yet.
     pub(crate) fn new(alloc: Global, store: &S) -> StoreProgress<S>
         ensures put { (l : Listing) (told : Option (List ℕ)) →
             HasPut S.Store l told result.at result.first.value store.now result.seen }
@@ -60,7 +60,7 @@ impl<S: StoreWrite> StoreProgress<S> {
         }
     }
 
-    // Sees to the next entry, unless its id was seen to. Its slice may have been read.
+    // Stores the next entry, unless its id is stored already. Its slice may have been read.
     fn see_next<V: View>(
         &mut self,
         index: &Index,
@@ -96,7 +96,7 @@ impl<S: StoreWrite> StoreProgress<S> {
         Ok(())
     }
 
-    // Sees to the next entry, whose slice may be ready.
+    // Stores the next entry, whose slice may be ready.
     fn put_next<V: View>(
         &mut self,
         index: &Index,
@@ -119,7 +119,7 @@ impl<S: StoreWrite> StoreProgress<S> {
         Ok(())
     }
 
-    // Sees to the entries before `to`.
+    // Stores the entries before `to`.
     fn put_to<V: View>(
         &mut self,
         index: &Index,
@@ -143,7 +143,7 @@ impl<S: StoreWrite> StoreProgress<S> {
     }
 }
 
-/// Sees to all entries, with slices that it reads itself.
+/// Stores all entries, with slices that it reads itself.
 pub(crate) fn put_all<V: View, S: StoreWrite>(
     alloc: Global,
     index: &Index,
@@ -172,7 +172,7 @@ pub(crate) struct Storing<V, S> {
 }
 
 impl<V: View, S: StoreWrite> Storing<V, S> {
-    /// Nothing was seen to.
+    /// Nothing is stored yet.
     pub(crate) fn new(alloc: Global, image: V, store: S, rooms: Rooms) -> Storing<V, S>
         ensures storing { (l : Listing) → image_length l ≡ (V.held image).size → HasRoomFor l rooms
             → IsStoring V.View S.Store l result }
@@ -188,7 +188,7 @@ impl<V: View, S: StoreWrite> Storing<V, S> {
         }
     }
 
-    /// Sees to the entries before `to`.
+    /// Stores the entries before `to`.
     pub(crate) fn put_to(
         &mut self,
         index: &Index,
@@ -211,7 +211,7 @@ impl<V: View, S: StoreWrite> Storing<V, S> {
         )
     }
 
-    /// Sees to the entries before those of the round, and to those that it takes of them.
+    /// Stores the entries before those of the round, and those of the round that it takes.
     pub(crate) fn put_round(
         &mut self,
         index: &Index,

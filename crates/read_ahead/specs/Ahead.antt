@@ -31,10 +31,10 @@ pub record IsAhead (l : Listing) (told : Option (List ℕ)) (a : Ahead) : Type 0
   pub room : FitsItsRoom l a
   pub slices : All (λ p. IsSlice l told p.entry (piece_slice l a.room.items p)) a.pieces.items
 
--- how many bytes a room has for slices if the largest chunk has this many: with its list half a MiB, and half a chunk
+-- how many bytes a room has for slices, by the size of the largest chunk: half a MiB less its list, and half a chunk
 abbrev pub room_for : ℕ → ℕ
 room_for largest = 507904 + largest / 2
 
--- the room has this many bytes
+-- the room has `size` bytes
 abbrev pub HasBytes : ℕ → Ahead → Type 0
 HasBytes size a = length a.room.items ≡ size

@@ -67,7 +67,7 @@ fn make_subfolder<I: InnerFolders>(inner: &Option<I>, id: &ChunkId) {
 }
 
 impl Ahead {
-    /// A piece of room of this many bytes, in which nothing stands.
+    /// A piece of room of `size` bytes, in which nothing stands.
     pub fn new(alloc: Global, size: usize) -> Result<Ahead, AllocError>
         ensures right { IfOk result (λ a. (l : Listing) (told : Option (List ℕ)) → IsAhead l told a) }
         ensures bytes { IfOk result (HasBytes size) }
@@ -79,7 +79,7 @@ impl Ahead {
         })
     }
 
-    // Whether a slice of this many bytes fits behind the others, and its piece into the list.
+    // Whether a slice of `size` bytes fits behind the others, and its piece into the list.
     fn takes(&self, size: usize) -> bool
         requires { self.now.filled ≤ length self.now.room.items }
         ensures room { IsTrue result → self.now.filled + size ≤ length self.now.room.items }
@@ -89,7 +89,7 @@ impl Ahead {
     }
 
     // Reads the slice of entry i behind the others, and keeps it where it has its name; then the folder of its chunk's
-    // file is made. One that is read already or that the whole room can't hold is left out. Answers whether there is
+    // file is made. One that is stored already or that the whole room can't hold is left out. Answers whether there is
     // more to be read.
     fn read_entry<V: View, I: InnerFolders>(
         &mut self,

@@ -12,10 +12,21 @@ const READ_AHEAD: usize = 524_288;
 /// How many slices stand in a piece of room at most.
 pub(crate) const PIECES: usize = 1_024;
 
-/// What a list of this many pieces takes, at 16 bytes each.
+/// How many bytes such a list takes, at 16 bytes a slice.
 const LIST: usize = 16_384;
 
-/// The size of a piece of room beside its list, where the largest chunk has this many bytes.
+/// How many bytes storing takes beside its buffers, whatever the index lists.
+const STORING: usize = 262_144;
+
+/// How many bytes it takes for each chunk: in the index file, and in the set of the ids that are stored.
+const STORED: usize = 128;
+
+/// How many bytes the readers leave free for storing an image whose index lists `items` chunks.
+pub(crate) fn spare_size(items: usize) -> usize {
+    items.saturating_mul(STORED).saturating_add(STORING)
+}
+
+/// The size of a piece of room beside its list, where the largest chunk has `largest` bytes.
 pub(crate) fn room_size(largest: usize) -> usize
     ensures { result ≡ room_for largest }
 {
@@ -30,8 +41,8 @@ pub(crate) fn repeats(index: &Index, i: usize) -> bool
     0 < i && index.id(i).is(&index.id(i - 1))
 }
 
-/// The entry after those of the round that begins with entry `at`: what the storing thread and this many readers are to
-/// read, where the largest chunk has this many bytes. There are no more slices than the readers' lists hold.
+/// The entry after those of the round that begins with entry `at`: what the storing thread and the readers are to
+/// read, where the largest chunk has `largest` bytes. There are no more slices than the readers' lists hold.
 pub fn round_end(index: &Index, at: usize, readers: usize, largest: usize) -> usize
     requires { at < count_of index.now }
     ensures { (at < result) × (result ≤ count_of index.now) }

@@ -7,7 +7,7 @@ ghost use Rattle.read_ahead.specs.Ahead.{HasBytes, IsAhead, room_for};
 
 use crate::ahead::Ahead;
 use crate::claims::Claims;
-use crate::plan::room_size;
+use crate::plan::{room_size, spare_size};
 use caibx_codec::index::Index;
 use dsy_base::inner_folders::InnerFolders;
 use dsy_base::view::View;
@@ -61,7 +61,7 @@ pub fn change_all<V: View>(readers: &mut [Reader<V>], ready: &mut [Ahead])
     }
 }
 
-// This many rooms of this many bytes, in which nothing stands.
+// `count` rooms of `size` bytes each, in which nothing stands.
 fn rooms(alloc: Global, count: usize, size: usize) -> Result<Vec<Ahead>, AllocError>
     ensures size { IfOk result (λ v. vec_len v ≡ count) }
     ensures right { IfOk result (λ v. (l : Listing) (told : Option (List ℕ)) → All (IsAhead l told) v.items) }
@@ -83,8 +83,14 @@ pub struct Crew<V> {
 }
 
 impl<V: View> Crew<V> {
-    /// For this many readers of an image whose largest chunk has this many bytes. None is hired.
-    pub fn new(alloc: Global, count: usize, largest: usize) -> Result<Crew<V>, AllocError>
+    /// For `count` readers of an image whose index lists `items` chunks, the largest of `largest` bytes. None is hired.
+    /// Refused also where too little memory would be left for storing the image.
+    pub fn new(
+        alloc: Global,
+        count: usize,
+        largest: usize,
+        items: usize,
+    ) -> Result<Crew<V>, AllocError>
         ensures none { IfOk result (λ c. c.readers.items ≡ []) }
         ensures room { IfOk result (λ c. count ≤ vec_capacity c.readers) }
         ensures size { IfOk result (λ c. (vec_len c.rooms ≡ count) × (vec_len c.ready ≡ count)) }
@@ -92,6 +98,7 @@ impl<V: View> Crew<V> {
             × All (HasBytes (room_for largest)) c.ready.items) }
         ensures right { IfOk result (λ c. (l : Listing) (told : Option (List ℕ)) → All (IsAhead l told) c.ready.items) }
     {
+        let _spare: Vec<u8> = Vec::with_capacity(alloc, spare_size(items))?;
         let size = room_size(largest);
         Ok(Crew {
             readers: Vec::with_capacity(alloc, count)?,

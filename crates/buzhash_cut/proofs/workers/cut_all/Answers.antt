@@ -8,7 +8,7 @@ for_each_mut-requires-clause-accepts g c = λ κs lives i p lt is.
     let ws = c.args.workers.now in
     let last : length ws - 1 < length ws = omega (arith, c.requires.some) in
     let same = sizes_alike (λ w. g.V.View.held w.view) ws c.requires.alike (length ws - 1) i c.index-workers-last.result p.now last lt in
-    (c.new-blocks.ensures.size ∙ c.size.ensures ∙ same ∙ ap (λ w. (g.V.View.held w.view).size) (sym is), subst (λ w. IsReady g.V.View.held c.args.sizes.now w) (sym is) (c.requires.none i p.now lt))
+    (c.new-blocks.ensures.size ∙ c.size-size.ensures ∙ same ∙ ap (λ w. (g.V.View.held w.view).size) (sym is), subst (λ w. IsReady g.V.View.held c.args.sizes.now w) (sym is) (c.requires.none i p.now lt))
 
 pub returns-clause-cut : goal.returns-clause-cut
 returns-clause-cut g c = λ k d lt.
