@@ -3,9 +3,9 @@
 
     bench/earlier.py PROGRAM
 
-The jobs are those of bench/extract.py and bench/seeds.py. Both programs do each job in every round, one right after the
-other, and each goes first in every second round. The least time of the processors is compared, since other work of the
-machine adds to it less than to the clock's, whose medians stand beside it. With --count valgrind counts the
+The jobs are those of bench/extract.py and bench/seeds.py. Both programs do each job in every round, one right after
+the other, and each goes first in every second round. The least time of the processors is compared, since other work
+of the machine adds to it less than to the clock's, whose medians stand beside it. With --count valgrind counts the
 instructions of one run of each, which no other work changes, and strace its system calls. Both programs are to be
 compiled in the same way. Needs ten times the image's size under the temporary folder.
 """

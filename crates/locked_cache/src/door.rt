@@ -106,8 +106,8 @@ impl<F: Folder> LockedCache<F> {
 }
 
 impl<'a, W: Wait, F: Folder> CacheDoor<'a, W, F> {
-    /// Fills the front of `out` with the chunk of this id, and of this size where one is given, and answers its size. It
-    /// is one that the folder held at first, or one that was added.
+    /// Fills the front of `out` with the chunk of this id, and of this size where one is given, and answers its size.
+    /// It is one that the folder held at first, or one that was added.
     pub fn find(
         &mut self,
         id: &ChunkId,
