@@ -1,4 +1,4 @@
--- The views that come back, and what is so of each.
+-- The views that come back, and what holds for each.
 use Rattle.std.proofs.Common.{◌≡◌, ℕ, zero, suc, ◌<◌, List, [], ◌∷◌, ◌++◌, length-append, refl, length, map, slice_index, slice_index_or, All, ap, arith, ◌∙◌, sym, subst, Option, Result, Ok, Err, IfOk}
 use Rattle.std.proofs.lemmas.List.{get_or-map, length-map}
 use Rattle.std.proofs.lemmas.List.Elements.{All-map}
@@ -16,11 +16,11 @@ module _ {X : Type 0} (H : X → Held) where
   all_unmapped : (P : Held → Type 0) (vs : List X) → All P (map H vs) → All (λ v. P (H v)) vs
   all_unmapped P vs all k d lt = subst P (get_or-map H vs k d (H d) lt) (all k (H d) (omega (arith, lt, length-map vs H)))
 
-  -- what is so by what each view holds is so of views that hold the same
+  -- what holds by what each view holds is true of views that hold the same
   pub all_kept : (P : Held → Type 0) (vs ws : List X) → map H ws ≡ map H vs → All (λ v. P (H v)) vs → All (λ v. P (H v)) ws
   all_kept P vs ws kept all = all_unmapped P ws (subst (All P) (sym kept) (All-map P H vs all))
 
-  -- what is so of the first view's image is so of each
+  -- what holds for the first view's image holds for each
   pub all_of_first : (vs : List X) (w : X) → 0 < length vs → w ≡ slice_index_or vs 0 w → AreOfOneImage (map H vs) → (P : Option (List ℕ) → Type 0) → P (H w).bytes → All (λ v. P (H v).bytes) vs
   all_of_first vs w some first alike P here k d lt =
       let first_in : 0 < length (map H vs) = omega (arith, some, length-map vs H) in

@@ -1,4 +1,4 @@
--- What is so of kits in lanes is so of the kits before and after they were there.
+-- What holds for kits in lanes holds for the kits before and after they were there.
 use Rattle.std.proofs.Common.{◌≡◌, ◌<◌, ◌≤◌, ◌∷◌, ℕ, List, [], Bool, false, Option, Some, None, IfSome, IsSome, IsSomeAnd, All, is_some, length, map, refl, slice_index_or, sym, ap, subst, ◌∙◌, arith}
 use Rattle.std.proofs.lemmas.Bool.{true≢false}
 use Rattle.std.proofs.lemmas.List.{get_or-map, length-map}

@@ -1,4 +1,4 @@
--- What is so of all kits, from what is so of the first one and of each worker.
+-- What holds for all kits, from what holds for the first one and for each worker.
 use Rattle.std.proofs.Common.{◌≡◌, ◌∙◌, ◌++◌, ◌∷◌, ◌<◌, ℕ, List, [], Bool, Option, Some, None, IfOk, IfSome, IsTrue, Result, Ok, Err, length, map, slice_index_or, true, refl, sym, ap, subst, inl, inr, arith}
 use Rattle.std.proofs.lemmas.List.{get_or_default}
 use Rattle.std.proofs.lemmas.Option.{same_Some}

@@ -102,7 +102,7 @@ module _ (l : Listing) (d : Deal) (any : 0 < d.workers) (base : List ℕ) (m : L
 
 module _ (t : Task) (wants : AreWants t.listing t.plan.wants t.plan.want_of) (base : List ℕ) (m : List Fate)
     (right : (i : ℕ) → i < count_of t.listing → settled m i ≡ is_right_at t.listing base i) (views : List (Option Held)) (cached maps : List (Map (List ℕ))) where
-  -- what is so of its source at first is so over the base
+  -- what holds for its source at first holds over the base
   pub source_first : (w : ℕ) → source_over t (settled m) views cached maps w ≡ source_of t base views cached maps w
   source_first w = source_same t views maps w cached cached (settled m) (is_right_at t.listing base)
       (λ i other. right i (listed_of t.listing t.plan w i wants other)) refl

@@ -16,7 +16,7 @@ module _ {A B C : Type 0} (f : A → C) (h : B → C) where
       ∙ ap (λ zs. zs ++ map h (reverse done)) (sym taken)
       ∙ before
 
--- what is so of all is so of those before the last
+-- what holds for all holds for those before the last
 pub all_before : {A : Type 0} (P : A → Type 0) (all left : List A) (x : A) → all ≡ left ++ x ∷ [] → All P all → All P left
 all_before P all left x is has = (All-pop P all left (Some x) is has).0
 

@@ -12,7 +12,7 @@ use Rattle.range_survey.specs.declared.fate.Fate.{Fate}
 use Rattle.range_survey.specs.declared.fate.Fate.TheVariants as fate
 use Rattle.image_workers.specs.Reporting.{fate_told, known_at, reported_at}
 
--- so many of the first n have the fate f
+-- how many of the first n have the fate f
 abbrev pub with_fate : Fate → (ℕ → Fate) → ℕ → ℕ
 with_fate f at n = sum_below (λ i. one_if f (at i)) n
 

@@ -38,7 +38,7 @@ NoneUsed old new = (new.kits ≡ old.kits) × (new.cache ≡ old.cache)
 abbrev pub at_kit : {S V : Type 0} → Lent S V → ℕ → Kit S V → Sources S V
 at_kit a k q = with_kit a (slice_index_or a.kits k q)
 
--- what the second pass adds to what worker k does: so much for the first worker, nothing for another
+-- what the second pass adds to what worker k does: n for the first worker, nothing for another
 abbrev pub once_more : ℕ → ℕ → ℕ
 once_more zero n = n
 once_more (suc k) n = 0

@@ -18,7 +18,7 @@ use Rattle.range_survey.specs.Fates.{FirstFates, SettledRight, fate_at, settled}
 use Rattle.range_survey.specs.declared.fate.Fate.{Fate}
 use Rattle.range_survey.specs.declared.fate.Fate.TheVariants as fate
 
--- the shards of the run stand behind so many locks
+-- the shards of the run stand behind this many locks
 pub record IsSurveyedFor (r : Run) (l : Listing) (told : Bool) (locks : ℕ) : Type 0 where
   pub listing : l ≡ r.listing
   pub tells : told ≡ r.tells
@@ -33,7 +33,7 @@ pub record AreFirst (r : Run) (m : List Fate) : Type 0 where
   pub right : IsTrue r.tells → SettledRight r.listing r.base m (count_of r.listing)
 
 module _ {S V : Type 0} where
-  -- what a worker has come to, which knows so much of each entry: it sees no bytes of the target, and has no cache
+  -- what a worker has come to, which knows these fates: it sees no bytes of the target, and has no cache
   abbrev pub worker_stage : Run → List Fate → ℕ → Kit S V → Stage S V
   worker_stage r m faults kit = record {
     held = record { bytes = None; size = image_length r.listing; name = [] };
@@ -55,7 +55,7 @@ module _ {S V : Type 0} where
   abbrev pub tools_of : Lane S V → Option (Kit S V × List Fate)
   tools_of a = option_map (λ x. (x.kit, x.known.items)) a.tools
 
-  -- it is so of the kit of a worker that is there, and of what it knows
+  -- it holds for the kit of a worker that is there, and of what it knows
   abbrev pub OfTools : Lane S V → (Kit S V → List Fate → Type 0) → Type 0
   OfTools a So = IsSomeAnd a.tools (λ x. So x.kit x.known.items)
 

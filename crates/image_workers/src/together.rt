@@ -45,7 +45,7 @@ pub struct Rooms<'a, P: Part, R: RunName, S: Store, V: View> {
 }
 
 impl<'a, P: Part, R: RunName, S: Store, V: View> Rooms<'a, P, R, S, V> {
-    /// Takes the room for so many shards, workers and entries.
+    /// Takes the room for this many shards, workers and entries.
     pub fn of(
         alloc: Global,
         shards: usize,

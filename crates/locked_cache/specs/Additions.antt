@@ -26,7 +26,7 @@ begun_with first s = record { files = Some first; place = s.place; faults = 0; k
 abbrev pub StocksOpening : (List ℕ → List ℕ → Type 0) → Map (List ℕ) → Shelf → Type 0
 StocksOpening Takes first s = Stocks Takes (begun_with first s) s
 
--- what is found on a shelf that held these chunks at first, and to which only such were added: it is so of what stands
+-- what is found on a shelf that held these chunks at first, and to which only such were added: it holds for what stands
 -- there now, which under the wanted id is what stood there at first or was added
 pub record FindsSince (Takes : List ℕ → List ℕ → Type 0) (w : Query) (first : Map (List ℕ)) (r : Result ℕ CacheMiss)
     (out : List ℕ) : Type 0 where
