@@ -1,4 +1,4 @@
-//! The lock of one shard, which a worker takes for one read or one write.
+//! The lock of one shard, which a worker takes for one read or one write. It holds one lock at a time.
 
 ghost use Rattle.std.specs.Prelude.{◌≡◌, IsTrue, OnErr, length, true, false};
 ghost use Rattle.caibx_codec.specs.Listing.{id_of, kind_of, size_of};
@@ -14,18 +14,57 @@ use dsy_base::view::{Part, View};
 use range_ledger::run::RunName;
 use range_ledger::shard::Shard;
 use range_survey::fate::Fate;
-use std::sync::{Mutex, Wait};
+use std::sync::{Mutex, MutexGuard, Wait};
+
+/// What a worker takes locks with. It holds one at a time, which is all that `is_free` is for.
+#[derive(Drop)]
+pub(crate) struct Hand {
+    is_free: bool,
+}
+
+impl Hand {
+    /// Holds no lock.
+    pub(crate) fn new() -> Hand
+        ensures { result.is_free ≡ true }
+    {
+        Hand { is_free: true }
+    }
+
+    // Takes the lock of a shard.
+    fn take<'l, 'i, W: Wait, P: Part, R: RunName>(
+        &mut self,
+        rt: &W,
+        lock: &'l Mutex<Shard<'i, P, R>>,
+    ) -> MutexGuard<'l, Shard<'i, P, R>>
+        requires free { self.old.is_free ≡ true }
+        ensures taken { self.new.is_free ≡ false }
+    {
+        self.is_free = false;
+        lock.lock(rt)
+    }
+
+    // Lets go of the lock.
+    fn let_go<P: Part, R: RunName>(&mut self, guard: MutexGuard<'_, Shard<'_, P, R>>)
+        requires taken { self.old.is_free ≡ false }
+        ensures free { self.new.is_free ≡ true }
+    {
+        drop(guard);
+        self.is_free = true;
+    }
+}
 
 /// Reads the range of an entry that a worker knows as settled, with this fate, from shard `number`. Whether it could be
 /// read.
 pub(crate) fn read_behind<W: Wait, P: Part, R: RunName>(
     rt: &W,
+    hand: &mut Hand,
     lock: &Mutex<Shard<P, R>>,
     number: usize,
     entry: usize,
     known: Fate,
     out: &mut [u8],
 ) -> bool
+    requires free { hand.old.is_free ≡ true }
     requires inside { IsIn (extent_of R.run number) entry }
     requires size { length out.old ≡ size_of R.run.listing entry }
     requires tells { P.tells ≡ R.run.tells }
@@ -33,17 +72,20 @@ pub(crate) fn read_behind<W: Wait, P: Part, R: RunName>(
     ensures named { result ≡ true → IsTrue R.run.tells →
         name_of (kind_of R.run.listing) out.new ≡ id_of R.run.listing entry }
     ensures only { result ≡ false → IsTrue R.run.tells → IsTrue P.never_fails → ⊥ }
+    ensures free { hand.new.is_free ≡ true }
 {
-    let mut guard = lock.lock(rt);
+    let mut guard = hand.take(rt, lock);
     let shard = &mut *guard;
     shard.rules();
     if number == shard.number() {
         if shard.settled(entry) {
             let read = shard.read_settled(entry, out).is_ok();
             shard.rules();
+            hand.let_go(guard);
             return read;
         }
         if let Fate::Kept = known {
+            hand.let_go(guard);
             return false;
         }
     }
@@ -55,22 +97,26 @@ pub(crate) fn read_behind<W: Wait, P: Part, R: RunName>(
 /// Puts its chunk into an entry of shard `number`, which then has this fate.
 pub(crate) fn put_behind<W: Wait, P: Part, R: RunName>(
     rt: &W,
+    hand: &mut Hand,
     lock: &Mutex<Shard<P, R>>,
     number: usize,
     entry: usize,
     chunk: &[u8],
     fate: Fate,
 ) -> Result<(), Failed>
+    requires free { hand.old.is_free ≡ true }
     requires inside { IsIn (extent_of R.run number) entry }
     requires may { MayFill R.run entry chunk.now }
     requires fate { is_settled fate ≡ true }
     ensures only { OnErr result (IsTrue P.never_fails → ⊥) }
+    ensures free { hand.new.is_free ≡ true }
 {
-    let mut guard = lock.lock(rt);
+    let mut guard = hand.take(rt, lock);
     let shard = &mut *guard;
     if shard.number() == number {
         let put = shard.put(entry, chunk, fate);
         shard.rules();
+        hand.let_go(guard);
         return match put {
             Ok(_) => Ok(()),
             Err(Failed) => Err(Failed),

@@ -4,7 +4,7 @@ ghost use Rattle.std.specs.Prelude.{◌≡◌, ◌<◌, ◌≤◌, [], IsTrue, l
 ghost use Rattle.caibx_codec.specs.Listing.{count_of};
 ghost use Rattle.range_survey.specs.Fates.{FirstFates, SettledRight};
 
-use crate::door::{put_behind, read_behind};
+use crate::door::{Hand, put_behind, read_behind};
 use caibx_codec::index::Index;
 use dsy_base::fault::{Failed, raise};
 use dsy_base::view::{Part, View};
@@ -23,12 +23,13 @@ pub struct Locked<'l, 'i, W: Wait, P: Part, R: RunName> {
     rt: &'l W,
     index: &'i Index,
     locks: &'l [Mutex<Shard<'i, P, R>>],
+    hand: Hand,
     known: Vec<Fate>,
     faults: u64,
 }
 
 impl<'l, 'i, W: Wait, P: Part, R: RunName> Model for Locked<'l, 'i, W, P, R> {
-    ghost use Rattle.std.specs.Prelude.{◌≡◌, ◌&&◌, IsTrue, length};
+    ghost use Rattle.std.specs.Prelude.{◌≡◌, ◌&&◌, IsTrue, length, true};
     ghost use Rattle.locked_shards.specs.Known.{KnowsEntries, Knowledge};
 
     ghost Value = { Knowledge };
@@ -37,7 +38,7 @@ impl<'l, 'i, W: Wait, P: Part, R: RunName> Model for Locked<'l, 'i, W, P, R> {
 
     ghost invariant = { λ s. (s.index.now ≡ R.run.listing) × (P.tells ≡ R.run.tells)
         × KnowsEntries R.run (length s.locks.now) s.known.items
-        × (IsTrue (P.never_fails && R.run.tells) → s.faults ≡ 0) };
+        × (IsTrue (P.never_fails && R.run.tells) → s.faults ≡ 0) × (s.hand.is_free ≡ true) };
 }
 
 /// What a ledger says of each entry, for a worker to begin with. `room` has the room for it.
@@ -81,6 +82,7 @@ impl<'l, 'i, W: Wait, P: Part, R: RunName> Locked<'l, 'i, W, P, R> {
             rt,
             index,
             locks,
+            hand: Hand::new(),
             known,
             faults: 0,
         }
@@ -123,8 +125,17 @@ impl<'l, 'i, W: Wait, P: Part, R: RunName> Ledger for Locked<'l, 'i, W, P, R> {
         if !known.is_settled() {
             return false;
         }
-        let number = shard_with::<R>(self.index, self.locks.len(), entry);
-        let read = read_behind(self.rt, &self.locks[number], number, entry, known, out);
+        let locks = self.locks;
+        let number = shard_with::<R>(self.index, locks.len(), entry);
+        let read = read_behind(
+            self.rt,
+            &mut self.hand,
+            &locks[number],
+            number,
+            entry,
+            known,
+            out,
+        );
         if !read {
             self.faults = raise(self.faults, 1);
         }
@@ -135,8 +146,17 @@ impl<'l, 'i, W: Wait, P: Part, R: RunName> Ledger for Locked<'l, 'i, W, P, R> {
         if self.known[entry].is_settled() {
             return Ok(false);
         }
-        let number = shard_with::<R>(self.index, self.locks.len(), entry);
-        match put_behind(self.rt, &self.locks[number], number, entry, chunk, fate) {
+        let locks = self.locks;
+        let number = shard_with::<R>(self.index, locks.len(), entry);
+        match put_behind(
+            self.rt,
+            &mut self.hand,
+            &locks[number],
+            number,
+            entry,
+            chunk,
+            fate,
+        ) {
             Ok(()) => {
                 self.known[entry] = fate;
                 Ok(true)

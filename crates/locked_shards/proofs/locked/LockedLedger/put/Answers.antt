@@ -13,6 +13,7 @@ invariant_of-self g c = (
   c.self.invariant.1,
   known_set g.R.RunName.run _ c.self.inside.known.items c.args.entry c.args.fate c.requires.listed c.requires.made c.self.invariant.2,
   c.self.invariant.3,
+  c.in-Ok.ensures.free,
 )
 
 pub invariant_of-self-in-Err : goal.invariant_of-self-in-Err
@@ -21,6 +22,7 @@ invariant_of-self-in-Err g c = (
   c.self.invariant.1,
   c.self.invariant.2,
   λ never. absurd (c.in-Err.ensures.only (both_true g.P.View.never_fails g.R.RunName.run.tells never).0),
+  c.in-Err.ensures.free,
 )
 
 pub returns-in-Ok-clause-grows : goal.returns-in-Ok-clause-grows

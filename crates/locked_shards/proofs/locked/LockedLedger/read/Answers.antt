@@ -13,6 +13,7 @@ invariant_of-self g c =
       λ never.
           let both = both_true g.P.View.never_fails g.R.RunName.run.tells never in
           absurd (c.read_behind-read.ensures.only failed both.1 both.0),
+      c.read_behind-read.ensures.free,
     )
 
 pub returns-then-not-read-clause-absent : goal.returns-then-not-read-clause-absent
