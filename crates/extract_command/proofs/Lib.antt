@@ -1,5 +1,6 @@
 pub mod Asked
 pub mod Assembled
+pub mod Between
 pub mod First
 pub mod Had
 pub mod LentKits
@@ -13,4 +14,5 @@ pub mod Spared
 pub mod Wrote
 pub mod AnyWords
 pub mod Unused
+pub mod UsedKits
 pub mod Using

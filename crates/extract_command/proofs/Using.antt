@@ -28,6 +28,16 @@ kits_used images cache stores names d a e among kits rest =
     let folders = folders_reached cache stores in
     uses_then images (folders_among stores) names folders images folders d a e (within_same images) (within_right (folder_of cache) (folders_among stores)) among (within_same folders) kits rest
 
+-- the images of the seeds were opened
+pub seeds_used : (images folders : List (List ℕ)) (d b : Disk) → Uses images [] d b → Uses images folders d b
+seeds_used images folders d b = uses_within images [] images folders d b (within_same images) (within_none folders)
+
+-- and then the kits of the other workers
+pub opened_used : (images : List (List ℕ)) (cache : Option (List ℕ)) (stores : List Location) (d b e : Disk) → Uses images [] d b → Uses images (folders_among stores) b e → Uses images (folders_reached cache stores) d e
+opened_used images cache stores d b e seeds kits =
+    let folders = folders_reached cache stores in
+    uses_twice images folders d b e (seeds_used images folders d b seeds) (uses_within images (folders_among stores) images folders b e (within_same images) (within_right (folder_of cache) (folders_among stores)) kits)
+
 module _ (q : List ℕ) (images folders : List (List ℕ)) (d b : Disk) (opened : Uses images folders d b) where
   here : Within (q ∷ []) (q ∷ images)
   here = within_first q images
@@ -36,8 +46,8 @@ module _ (q : List ℕ) (images folders : List (List ℕ)) (d b : Disk) (opened 
   seeds = uses_within images folders (q ∷ images) folders d b (within_rest q images) (within_same folders) opened
 
   -- what is held was given back before the file was taken
-  pub untouched_used : (e : Disk) → Uses [] folders b e → Uses (q ∷ images) folders d e
-  untouched_used e gone = uses_twice (q ∷ images) folders d b e seeds (uses_within [] folders (q ∷ images) folders b e (within_none (q ∷ images)) (within_same folders) gone)
+  pub untouched_used : (e : Disk) → Uses images folders b e → Uses (q ∷ images) folders d e
+  untouched_used e gone = uses_twice (q ∷ images) folders d b e seeds (uses_within images folders (q ∷ images) folders b e (within_rest q images) (within_same folders) gone)
 
   taken : (c : Disk) → OnFile b c q → Uses (q ∷ images) folders d c
   taken c took = uses_twice (q ∷ images) folders d b c seeds (uses_within (q ∷ []) [] (q ∷ images) folders b c here (within_none folders) (file_used q b c took))
