@@ -162,6 +162,10 @@ module _ {L V D K : Type 0} (look : LookWords L) (view : ViewWords V) where
   pub all_give_later : (d e : Disk) → Reads d e → (kits : List (Kit (AnyStore L D K) V)) → All (CanGiveKit look view d) kits → All (CanGiveKit look view e) kits
   all_give_later d e r kits can = λ n k lt. give_later d e r.folder_known r.known (slice_index_or kits n k) (can n k lt)
 
+  -- the last was given back, so those before it can be
+  pub rest_can : (d e : Disk) (kits rest : List (Kit (AnyStore L D K) V)) (k : Kit (AnyStore L D K) V) → kits ≡ rest ++ k ∷ [] → All (CanGiveKit look view d) kits → Reads d e → All (CanGiveKit look view e) rest
+  rest_can d e kits rest k is can read = all_give_later d e read rest (all_last (CanGiveKit look view d) kits rest k is can).0
+
   -- the last was let go, and then those before it
   pub dropped_first : (names folders : List (List ℕ)) (kits rest : List (Kit (AnyStore L D K) V)) (k : Kit (AnyStore L D K) V) (d b e : Disk) → kits ≡ rest ++ k ∷ [] → All (UsesNames look view names folders) kits
       → Uses (kit_names look view k) (folders_among (kit_stores look view k)) d b → (All (UsesNames look view names folders) rest → Uses names folders b e) → Uses names folders d e

@@ -9,6 +9,10 @@ use Rattle.dsy_base.specs.Disk.{Disk, GivesFile, OnFile}
 use Rattle.extract_command.proofs.Shelved.{name_in}
 use Rattle.extract_command.specs.Extract.{folder_of, folders_reached}
 
+-- the folders of stores were used, and then the images of seeds
+pub both_used : (names folders : List (List ℕ)) (d b e : Disk) → Uses [] folders d b → Uses names [] b e → Uses names folders d e
+both_used names folders d b e = uses_then [] folders names [] names folders d b e (within_none names) (within_same folders) (within_same names) (within_none folders)
+
 shelf_used : (o : Option Shelf) (d e : Disk) → CacheGiven o d e → Uses [] (folder_of (name_in o)) d e
 shelf_used None d e h = subst (λ (y : Disk). Uses [] [] d y) (sym h) (uses_none [] [] d)
 shelf_used (Some s) d e h = folder_given s.place d e s.faults h.1
@@ -19,7 +23,7 @@ back_used o cache stores names d b c e named given closed ended =
     let folders = folders_reached cache stores in
     let shelf = subst (λ n. Uses [] (folder_of n) d b) named (shelf_used o d b given) in
     let sources = uses_then [] (folder_of cache) [] (folders_among stores) [] folders d b c (within_same []) (within_left (folder_of cache) (folders_among stores)) (within_same []) (within_right (folder_of cache) (folders_among stores)) shelf closed in
-    uses_then [] folders names [] names folders d c e (within_none names) (within_same folders) (within_same names) (within_none folders) sources ended
+    both_used names folders d c e sources ended
 
 -- and before all of it the kits, whose names are among those
 pub kits_used : (images : List (List ℕ)) (cache : Option (List ℕ)) (stores : List Location) (names : List (List ℕ)) (d a e : Disk) → Within names images → Uses images (folders_among stores) d a → Uses names (folders_reached cache stores) a e

@@ -1,6 +1,6 @@
 use Rattle.std.proofs.Common.{rules}
 use Rattle.command_steps.specs.Sources.{storage}
-use Rattle.extract_command.proofs.LentKits.{all_give_later, all_last, given_last}
+use Rattle.extract_command.proofs.LentKits.{all_last, given_last, rest_can}
 use Rattle.extract_command.specs.Kits.{CanGiveKit}
 use Rattle.extract_command.proofs.kits.+close_kits.Goals as goal
 
@@ -10,8 +10,7 @@ close_kit-requires g t c = record { given = (all_last (CanGiveKit g.F.Look.Look 
 pub close_kits-requires : goal.close_kits-requires
 close_kits-requires g t c =
     let at = g.F.Files.disk in
-    let both = all_last (CanGiveKit g.F.Look.Look g.F.View.View (at c.args.files.now)) c.args.kits.items c.pop.new.self.items c.in-Some.kit c.in-Some.ensures.items c.requires.given in
-    let given = all_give_later g.F.Look.Look g.F.View.View (at c.args.files.now) (at c.close_kit.new.files) c.close_kit.ensures.kept c.pop.new.self.items both.0 in
+    let given = rest_can g.F.Look.Look g.F.View.View (at c.args.files.now) (at c.close_kit.new.files) c.args.kits.items c.pop.new.self.items c.in-Some.kit c.in-Some.ensures.items c.requires.given c.close_kit.ensures.kept in
     search rules
 
 pub returns-in-Some : goal.returns-in-Some

@@ -1,6 +1,6 @@
 use Rattle.std.proofs.Common.{rules}
 use Rattle.command_steps.proofs.Consulted.{reads_twice}
-use Rattle.extract_command.proofs.LentKits.{all_give_later, all_last, dropped_first}
+use Rattle.extract_command.proofs.LentKits.{all_last, dropped_first, rest_can}
 use Rattle.extract_command.specs.Kits.{CanGiveKit}
 use Rattle.extract_command.proofs.kits.+drop_kits.Goals as goal
 
@@ -10,8 +10,7 @@ drop_kit-requires g t c = record { given = (all_last (CanGiveKit g.F.Look.Look g
 pub drop_kits-requires : goal.drop_kits-requires
 drop_kits-requires g t c =
     let at = g.F.Files.disk in
-    let both = all_last (CanGiveKit g.F.Look.Look g.F.View.View (at c.args.files.now)) c.args.kits.items c.pop.new.self.items c.in-Some.kit c.in-Some.ensures.items c.requires.given in
-    let given = all_give_later g.F.Look.Look g.F.View.View (at c.args.files.now) (at c.drop_kit.new.files) c.drop_kit.ensures.kept c.pop.new.self.items both.0 in
+    let given = rest_can g.F.Look.Look g.F.View.View (at c.args.files.now) (at c.drop_kit.new.files) c.args.kits.items c.pop.new.self.items c.in-Some.kit c.in-Some.ensures.items c.requires.given c.drop_kit.ensures.kept in
     search rules
 
 pub returns-in-Some : goal.returns-in-Some

@@ -1,8 +1,7 @@
-use Rattle.std.proofs.Common.{[]}
 use Rattle.command_steps.proofs.Consulted.{reads_twice}
 use Rattle.command_steps.proofs.SeedsOpened.{all_known_later}
-use Rattle.command_steps.proofs.Used.{uses_then, within_none, within_same}
 use Rattle.command_steps.specs.Uses.{folders_among}
+use Rattle.extract_command.proofs.Using.{both_used}
 use Rattle.extract_command.proofs.kits.close_kit.Goals as goal
 use Rattle.extract_command.specs.Kits.{kit_names, kit_stores}
 
@@ -18,15 +17,13 @@ pub returns-clause-given : goal.returns-clause-given
 returns-clause-given g c =
     let at = g.F.Files.disk in
     let b = at c.close_sources.new.files in
-    let names = kit_names g.F.Look.Look g.F.View.View c.args.kit in
-    let folders = folders_among (kit_stores g.F.Look.Look g.F.View.View c.args.kit) in
     record {
       closed = b;
       stores = rw c.into_stores.ensures.value at c.close_sources.ensures.kept;
       given = rw c.into_stores.ensures.value at c.close_sources.ensures.given;
       ended = rw c.into_stores.ensures.value at c.close_sources.ensures.ended;
       seeds = c.close_seeds.ensures.kept;
-      used = uses_then [] folders names [] names folders (at c.args.files.now) b (at c.close_seeds.new.files) (within_none names) (within_same folders) (within_same names) (within_none folders)
+      used = both_used (kit_names g.F.Look.Look g.F.View.View c.args.kit) (folders_among (kit_stores g.F.Look.Look g.F.View.View c.args.kit)) (at c.args.files.now) b (at c.close_seeds.new.files)
           (rw c.into_stores.ensures.value at c.close_sources.ensures.used) c.close_seeds.ensures.used;
       added = c.close_seeds.ensures.added;
     }

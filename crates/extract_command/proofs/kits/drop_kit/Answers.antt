@@ -1,8 +1,7 @@
-use Rattle.std.proofs.Common.{[]}
 use Rattle.command_steps.proofs.Consulted.{reads_twice}
 use Rattle.command_steps.proofs.SeedsOpened.{all_known_later}
-use Rattle.command_steps.proofs.Used.{uses_then, within_none, within_same}
 use Rattle.command_steps.specs.Uses.{folders_among}
+use Rattle.extract_command.proofs.Using.{both_used}
 use Rattle.extract_command.proofs.kits.drop_kit.Goals as goal
 use Rattle.extract_command.specs.Kits.{kit_names, kit_stores}
 
@@ -22,7 +21,5 @@ returns-clause-kept g c =
 pub returns-clause-used : goal.returns-clause-used
 returns-clause-used g c =
     let at = g.F.Files.disk in
-    let names = kit_names g.F.Look.Look g.F.View.View c.args.kit in
-    let folders = folders_among (kit_stores g.F.Look.Look g.F.View.View c.args.kit) in
-    uses_then [] folders names [] names folders (at c.args.files.now) (at c.drop_sources.new.files) (at c.close_seeds.new.files) (within_none names) (within_same folders) (within_same names) (within_none folders)
+    both_used (kit_names g.F.Look.Look g.F.View.View c.args.kit) (folders_among (kit_stores g.F.Look.Look g.F.View.View c.args.kit)) (at c.args.files.now) (at c.drop_sources.new.files) (at c.close_seeds.new.files)
     (rw c.into_stores.ensures.value at c.drop_sources.ensures.used) c.close_seeds.ensures.used

@@ -1,14 +1,14 @@
-use Rattle.std.proofs.Common.{◌≡◌, ◌∙◌, ℕ, [], All, IfSome, List, ap, map, subst, sym}
+use Rattle.std.proofs.Common.{◌≡◌, ◌∙◌, ℕ, All, IfSome, List, ap, map, subst, sym}
 use Rattle.std.specs.List.{AllZip}
 use Rattle.command_steps.proofs.Consulted.{reads_none, reads_twice}
 use Rattle.command_steps.proofs.Given.{all_later}
-use Rattle.command_steps.proofs.Used.{uses_then, within_none, within_same}
 use Rattle.command_steps.specs.AnyStores.{IsKnown, IsUnused, location_in, source_faults, source_files}
 use Rattle.command_steps.specs.Seeds.{IsViewed, SeedsKnown, image_name}
 use Rattle.command_steps.specs.Sources.{location_files}
 use Rattle.command_steps.specs.Uses.{folders_among}
 use Rattle.command_words.specs.declared.command.Location.{Location}
 use Rattle.extract_command.proofs.LentKits.{views_over}
+use Rattle.extract_command.proofs.Using.{both_used}
 use Rattle.extract_command.proofs.kits.open_kit.Goals as goal
 use Rattle.extract_plan.specs.Seeds.{faults_in, seed_held}
 
@@ -52,6 +52,4 @@ returns-in-Ok-open_seeds-clause-kept g c =
 pub returns-in-Ok-open_seeds-clause-used : goal.returns-in-Ok-open_seeds-clause-used
 returns-in-Ok-open_seeds-clause-used g c =
     let at = g.F.Files.disk in
-    let images = map image_name c.args.seeds.now in
-    let folders = folders_among c.args.stores.now in
-    uses_then [] folders images [] images folders (at c.args.files.now) (at c.open_sources.new.files) (at c.open_seeds.new.files) (within_none images) (within_same folders) (within_same images) (within_none folders) c.in-Ok.ensures.used c.in-Ok-open_seeds.ensures.used
+    both_used (map image_name c.args.seeds.now) (folders_among c.args.stores.now) (at c.args.files.now) (at c.open_sources.new.files) (at c.open_seeds.new.files) c.in-Ok.ensures.used c.in-Ok-open_seeds.ensures.used
