@@ -43,6 +43,11 @@ ends_read d b q n h g = record {
   folder_known = λ p is. subst (λ (m : Map ℕ). IsSome (m p)) (sym g.folder_counts) is;
 }
 
+-- a store that isn't reached
+pub refused_read : (images : List (List ℕ)) (store : Location) (d e : Disk) (o : Outcome) → SourceTaken images store d (Err o) e → Reads d e
+refused_read images (locations.Folder name) d e o taken = taken.1
+refused_read images (locations.Http host port prefix) d e o taken = taken.1
+
 -- what was refused before the image was given back
 pub taken_longer : (images : List (List ℕ)) (store : Location) (d e f : Disk) (o : Outcome) → SourceTaken [] store d (Err o) e → Reads e f → Uses images [] e f → SourceTaken images store d (Err o) f
 taken_longer images (locations.Folder name) d e f o taken read used = (
@@ -76,26 +81,32 @@ server_stays : (store : Location) (files : Option (Map (List ℕ))) (folders : O
 server_stays (locations.Folder q) files folders t = absurd (cc)
 server_stays (locations.Http host port prefix) files folders t = refl
 
-pub folders_back : (d b e : Disk) (store : Location) (files : Option (Map (List ℕ))) → Reads d b → e.folders ≡ given_to store files b.folders → e.folders ≡ given_to store files d.folders
-folders_back d b e store files read is = is ∙ ap (given_to store files) read.folders
+-- what is left where the images were given back, and then the store
+pub record GivesStore {L D K : Type 0} (files : L → Option (Map (List ℕ))) (place : L → List ℕ) (faults : L → ℕ) (state : D → DialState) (images : List (List ℕ)) (store : Location) (w v : Storage) (s : AnyStore L D K) : Type 0 where
+  pub folders : v.disk.folders ≡ given_to store (source_files files s) w.disk.folders
+  pub kept : WritesStore images store w v
+  pub given : IsGiven place faults state w v s
 
-pub wrote : (images : List (List ℕ)) (d b e : Disk) (k j : DialState) (store : Location) (files : Option (Map (List ℕ))) → Reads d b → Uses images [] d b → e.folders ≡ given_to store files b.folders → Adds b e → Uses [] (folders_among (store ∷ [])) b e
-    → DialsStores (store ∷ []) k j → WritesStore images store (storage d k) (storage e j)
-wrote images d b e k j store files read used is adds given dials =
+pub gives_store : {L D K : Type 0} (files : L → Option (Map (List ℕ))) (place : L → List ℕ) (faults : L → ℕ) (state : D → DialState) (images : List (List ℕ)) (d b e : Disk) (k j : DialState) (store : Location) (s : AnyStore L D K)
+    → Reads d b → Uses images [] d b
+    → e.folders ≡ given_to store (source_files files s) b.folders → Adds b e → Uses [] (folders_among (store ∷ [])) b e → DialsStores (store ∷ []) k j → IsGiven place faults state (storage b k) (storage e j) s
+    → GivesStore files place faults state images store (storage d k) (storage e j) s
+gives_store files place faults state images d b e k j store s read used is adds uses dials given =
     let folders = folders_among (store ∷ []) in
     record {
-      adds = read_adds d b e read adds;
-      folders = λ t. is ∙ server_stays store files b.folders t ∙ read.folders;
-      dials = dials;
-      used = uses_then images [] [] folders images folders d b e (within_same images) (within_none folders) (within_none images) (within_same folders) used given;
+      folders = is ∙ ap (given_to store (source_files files s)) read.folders;
+      kept = record {
+        adds = read_adds d b e read adds;
+        folders = λ t. is ∙ server_stays store (source_files files s) b.folders t ∙ read.folders;
+        dials = dials;
+        used = uses_then images [] [] folders images folders d b e (within_same images) (within_none folders) (within_none images) (within_same folders) used uses;
+      };
+      given = given_earlier place faults state (storage d k) (storage b k) (storage e j) read.folder_counts (dials_none k) dials.0 s given;
     }
 
 -- beside one image alone
 pub writes_beside : (some all : List (List ℕ)) (store : Location) (w v : Storage) → Within some all → WritesStore some store w v → WritesStore all store w v
 writes_beside some all store w v within h = record { adds = h.adds; folders = h.folders; dials = h.dials; used = uses_within some (folders_among (store ∷ [])) all (folders_among (store ∷ [])) w.disk v.disk within (within_same (folders_among (store ∷ []))) h.used }
-
-pub given_since : {L D K : Type 0} (place : L → List ℕ) (faults : L → ℕ) (state : D → DialState) (d b e : Disk) (k j : DialState) (store : Location) (s : AnyStore L D K) → Reads d b → DialsStores (store ∷ []) k j → IsGiven place faults state (storage b k) (storage e j) s → IsGiven place faults state (storage d k) (storage e j) s
-given_since place faults state d b e k j store s read dials given = given_earlier place faults state (storage d k) (storage b k) (storage e j) read.folder_counts (dials_none k) dials.0 s given
 
 -- a fault of a view that had counted none is one of its name
 pub view_rose : (d e : Disk) (q : List ℕ) (m n : ℕ) → count_at e.file_counts q ≡ raised (count_at d.file_counts q) n → m ≡ 0 → Rose m n → FileRose d e q

@@ -2,7 +2,7 @@
 use Rattle.std.proofs.Common.{◌≡◌, ◌≢◌, ◌∙◌, ℕ, zero, suc, ◌+◌, ◌<◌, ◌≤◌, IsSome, Bool, true, false, IsTrue, List, [], ◌∷◌, ◌++◌, length, map, slice_index, slice_index_or, All, Option, Some, None, Result, IfSome, is_some, ap, arith, refl, sym, subst, true≢false, inl, inr, length-append}
 use Rattle.std.proofs.lemmas.List.{append_assoc, get_or-map, get_or_append_left, length-map}
 use Rattle.std.proofs.lemmas.List.Elements.{All-append, All-map}
-use Rattle.buzhash_cut.specs.Image.{AreOfOneImage, HasTooManyCuts}
+use Rattle.buzhash_cut.specs.Image.{AreOfOneImage}
 use Rattle.buzhash_cut.specs.Sizes.{Sizes}
 use Rattle.chunk_store.specs.Said.{Said}
 use Rattle.command_steps.specs.InputFiles.{Holds}
@@ -142,11 +142,6 @@ first_rose H f d e (x ∷ xs) (y ∷ ys) q told some same are none added rose =
     let a : ℕ = count_at d.file_counts (H y).name in
     subst (FileRose d e) name (rose_longer a (raised a (f y)) (count_at e.file_counts (H y).name) added (given_rose a a (raised a (f y)) (f y) (omega arith) refl more))
 
--- where no fault of cutting is told there aren't too many cuts
-pub few_cuts : (told : Option (List ℕ)) (X : List ℕ → Type 0) (Y Z : Type 0) → (Y → ⊥) → IfSome told (λ t. X t → Y × Z) → IfSome told (λ t. X t → ⊥)
-few_cuts None X Y Z not many = tt
-few_cuts (Some t) X Y Z not many = λ x. not (many x).0
-
 -- what storing says of each view's image, of what they tell
 module _ {X : Type 0} (H : X → Held) (xs : List X) (q : List ℕ) (told : Option (List ℕ)) (some : 0 < length xs) (are : AreOf q told (map H xs)) (s : Sizes) where
   pub exactly_of : {A : Type 0} (bytes_of : A → List ℕ) (old new : Option (Map (List ℕ))) (r : Result A MakeFault) → All (λ v. IfSome (H v).bytes (λ t. IfSome old (λ a. IfSome new (λ b. StoresImage s bytes_of t a b r)))) xs
@@ -158,6 +153,3 @@ module _ {X : Type 0} (H : X → Held) (xs : List X) (q : List ℕ) (told : Opti
 
   pub said_of : (bytes : List ℕ) (said : Said) → All (λ v. SaysOf s (H v).bytes bytes said) xs → SaysOf s told bytes said
   said_of bytes said = of_first H xs q told some are (λ o. SaysOf s o bytes said)
-
-  pub few_of : (Y Z : Type 0) → (Y → ⊥) → All (λ v. IfSome (H v).bytes (λ t. HasTooManyCuts s t → Y × Z)) xs → IfSome told (λ t. HasTooManyCuts s t → ⊥)
-  few_of Y Z not all = few_cuts told (HasTooManyCuts s) Y Z not (of_first H xs q told some are (λ o. IfSome o (λ t. HasTooManyCuts s t → Y × Z)) all)

@@ -107,6 +107,12 @@ module _ (s : Sizes) (image : List ℕ) (told : Option (List ℕ)) (store : Loca
       × GetsImage s told store w v
   ImageStored w (Err o) v = NotStored w v o × WritesStore (image ∷ []) store w v × GetsImage s told store w v
 
+-- the store is taken, and the image stored in it
+abbrev pub StoredInto : Location → Sizes → List ℕ → Option (List ℕ) → Step World (List ℕ)
+StoredInto store s image told = do
+  held ← OnDisk (SourceTaken (image ∷ []) store)
+  OnStorage (ImageStored s image told store held)
+
 -- the answer of storing, where what it gives is seen as A
 abbrev pub answer_of_storing : {A : Type 0} → Result A MakeFault → Result A Outcome
 answer_of_storing (Ok bytes) = Ok bytes

@@ -3,5 +3,4 @@
 
 pub mod chop;
 pub mod make;
-mod store_with_image;
 mod views;

@@ -1,33 +1,23 @@
 //! `make -s STORE INDEX IMAGE`: INDEX becomes the index of IMAGE, and STORE holds each of its chunks.
 
-ghost use Rattle.std.specs.Prelude.{◌≡◌, ℕ, ◌<◌, ◌≤◌, List, Option, map, vec_len, All};
-ghost use Rattle.std.specs.Prelude.{Ok, Err, IfErr, IfOk, IfSome, IsSome, OnOk};
-ghost use Rattle.std.specs.Map.{count_at};
+ghost use Rattle.std.specs.Prelude.{◌≡◌, ℕ, ◌<◌, List, Option, map, vec_len, All};
+ghost use Rattle.std.specs.Prelude.{Ok, Err, IfErr, IfOk, IfSome, IsSome};
 ghost use Rattle.buzhash_cut.specs.Image.{AreOfOneImage};
-ghost use Rattle.command_steps.specs.AnyStores.{IsGiven, IsKnown, IsUnused, source_faults, source_files, location_in};
-ghost use Rattle.command_steps.specs.AnyStores.{with_those};
-ghost use Rattle.command_steps.specs.Sources.{storage};
-ghost use Rattle.command_steps.specs.TakenStores.{SourceTaken, given_to};
-ghost use Rattle.image_commands.specs.Views.{AreOf, IfFirst, names_of};
-ghost use Rattle.command_worlds.specs.Worlds.{Adds, world};
-ghost use Rattle.image_commands.specs.Make.{ImageStored, IndexWritten, MakeEnds, SizesJudged, WritesStore};
-ghost use Rattle.image_commands.specs.Make.{answer_of_storing};
-ghost use Rattle.dsy_base.specs.Counts.{raised};
+ghost use Rattle.image_commands.specs.Views.{AreOf};
+ghost use Rattle.command_worlds.specs.Worlds.{world};
+ghost use Rattle.image_commands.specs.Make.{IndexWritten, MakeEnds, SizesJudged, StoredInto, answer_of_storing};
 ghost use Rattle.dsy_base.specs.Disk.{Output};
 
 use crate::views::{end_views, open_views};
 use buzhash_cut::sizes::CutSizes;
 use command_outcome::outcome::Outcome;
-use command_steps::any_store::AnyStore;
 use command_steps::taken_stores::{give_source, take_source};
 use command_words::command::Location;
 use dsy_base::dial::Dial;
 use dsy_base::fault::IoFault;
 use dsy_base::files::Files;
-use dsy_base::folder::Folder;
 use dsy_base::image_files::ImageFiles;
 use dsy_base::inner_folders::InnerFolders;
-use dsy_base::look::Look;
 use dsy_base::name::Name;
 use dsy_base::view::View;
 use image_store::put_chunks::MakeFault;
@@ -53,68 +43,6 @@ pub struct Making {
     pub workers: u32,
     pub index: Name,
     pub image: Name,
-}
-
-// The views of an image, and a store that is taken to be written.
-#[derive(Drop)]
-struct Stored<V: View, W: Folder, D: Dial> {
-    views: Vec<V>,
-    taken: AnyStore<W, D>,
-}
-
-// Takes the store. Where it isn't reached, the views are given back.
-fn take_store<F: Files, D: Dial>(
-    alloc: Global,
-    files: &mut F,
-    dial: &D,
-    views: Vec<F::View>,
-    store: &Location,
-) -> Result<Stored<F::View, F::Folder, D>, Outcome>
-    requires known { All (λ v. IsSome ((F.disk files.old).file_counts (F.View.held v).name)) views.items }
-    ensures kept { IfOk result (λ r. r.views ≡ views) }
-    ensures ok { IfOk result (λ r. SourceTaken (names_of (map F.View.held views.items)) store.now (F.disk files.old)
-        (Ok (source_files F.Folder.files r.taken)) (F.disk files.new)) }
-    ensures changed { OnOk result (Adds (F.disk files.old) (F.disk files.new)) }
-    ensures located { IfOk result (λ r. location_in F.Folder.place r.taken ≡ store.now) }
-    ensures fresh { IfOk result (λ r. source_faults F.Folder.faults D.state r.taken ≡ 0) }
-    ensures unused { IfOk result (λ r. IsUnused D.state r.taken) }
-    ensures known { OnOk result (IsKnown (F.disk files.new).folder_counts store.now) }
-    ensures err { IfErr result (λ o. SourceTaken (names_of (map F.View.held views.items)) store.now (F.disk files.old)
-        (Err o) (F.disk files.new)) }
-{
-    match take_source(alloc, files, dial, store) {
-        Ok(taken) => Ok(Stored { views, taken }),
-        Err(outcome) => {
-            end_views(files, views);
-            Err(outcome)
-        }
-    }
-}
-
-// Gives the views and the store back.
-fn give_store<F: Files, D: Dial>(
-    files: &mut F,
-    dial: &mut D,
-    views: Vec<F::View>,
-    store: &Location,
-    taken: AnyStore<F::Folder, D>,
-)
-    requires known { All (λ v. IsSome ((F.disk files.old).file_counts (F.View.held v).name)) views.items
-        × IsKnown (F.disk files.old).folder_counts store.now }
-    requires located { location_in F.Folder.place taken ≡ store.now }
-    ensures folders { (F.disk files.new).folders
-        ≡ given_to store.now (source_files F.Folder.files taken) (F.disk files.old).folders }
-    ensures kept { WritesStore (names_of (map F.View.held views.items)) store.now
-        (storage (F.disk files.old) (D.state dial.old)) (storage (F.disk files.new) (D.state dial.new)) }
-    ensures ended { (D.state dial.new).ended ≡ with_those D.state (D.state dial.old).ended taken }
-    ensures given { IsGiven F.Folder.place F.Folder.faults D.state
-        (storage (F.disk files.old) (D.state dial.old)) (storage (F.disk files.new) (D.state dial.new)) taken }
-    ensures added { IfFirst (λ v.
-        raised (count_at (F.disk files.old).file_counts (F.View.held v).name) (F.View.faults v)
-        ≤ count_at (F.disk files.new).file_counts (F.View.held v).name) views.items }
-{
-    end_views(files, views);
-    give_source(files, dial, store, taken)
 }
 
 // The subfolders of a store's folder, which contracts see under the place of the store.
@@ -159,38 +87,40 @@ fn answer_of(stored: Result<Vec<u8>, MakeFault>) -> Result<Vec<u8>, Outcome>
     }
 }
 
-// Stores the image in the store that was taken, and gives the bytes of its index file. Views and store are given back,
+// Takes the store, stores the image in it, and gives the bytes of its index file. Views and store are given back,
 // whatever the answer is.
-fn store_between<R: Threads + Sync, F: ImageFiles, D: Dial>(
+fn store_into<R: Threads + Sync, F: ImageFiles, D: Dial>(
     rt: &R,
     alloc: Global,
     files: &mut F,
     dial: &mut D,
     sizes: &CutSizes,
     store: &Location,
-    opened: Stored<F::View, F::Folder, D>,
+    views: Vec<F::View>,
 ) -> Result<Vec<u8>, Outcome>
 where
     F::View: Send,
     F::Inner: Sync,
-    requires some { 0 < vec_len opened.views }
-    requires alike { AreOfOneImage (map F.View.held opened.views.items) }
-    requires image { All (λ v. IsSome ((F.disk files.old).file_counts (F.View.held v).name)) opened.views.items }
-    requires known { IsKnown (F.disk files.old).folder_counts store.now }
-    requires located { location_in F.Folder.place opened.taken ≡ store.now }
-    requires unused { IsUnused D.state opened.taken }
-    requires fresh { All (λ v. F.View.faults v ≡ 0) opened.views.items
-        × (source_faults F.Folder.faults D.state opened.taken ≡ 0) }
+    requires some { 0 < vec_len views }
+    requires alike { AreOfOneImage (map F.View.held views.items) }
+    requires known { All (λ v. IsSome ((F.disk files.old).file_counts (F.View.held v).name)) views.items }
+    requires fresh { All (λ v. F.View.faults v ≡ 0) views.items }
     ensures ok { IfOk result (λ b. (q : List ℕ) (told : Option (List ℕ)) →
-        AreOf q told (map F.View.held opened.views.items) →
-        ImageStored sizes.now q told store.now (source_files F.Folder.files opened.taken)
-        (storage (F.disk files.old) (D.state dial.old)) (Ok b.items) (storage (F.disk files.new) (D.state dial.new))) }
+        AreOf q told (map F.View.held views.items) → (p : Output) → StoredInto store.now sizes.now q told
+        (world (F.disk files.old) (D.state dial.old) p) (Ok b.items)
+        (world (F.disk files.new) (D.state dial.new) p)) }
     ensures err { IfErr result (λ o. (q : List ℕ) (told : Option (List ℕ)) →
-        AreOf q told (map F.View.held opened.views.items) →
-        ImageStored sizes.now q told store.now (source_files F.Folder.files opened.taken)
-        (storage (F.disk files.old) (D.state dial.old)) (Err o) (storage (F.disk files.new) (D.state dial.new))) }
+        AreOf q told (map F.View.held views.items) → (p : Output) → StoredInto store.now sizes.now q told
+        (world (F.disk files.old) (D.state dial.old) p) (Err o)
+        (world (F.disk files.new) (D.state dial.new) p)) }
 {
-    let Stored { views, taken } = opened;
+    let taken = match take_source(alloc, files, dial, store) {
+        Ok(taken) => taken,
+        Err(outcome) => {
+            end_views(files, views);
+            return Err(outcome);
+        }
+    };
     let (views, taken, stored) = store_image(
         rt,
         alloc,
@@ -199,7 +129,8 @@ where
         taken,
         &inner_of(files, store),
     );
-    give_store(files, dial, views, store, taken);
+    end_views(files, views);
+    give_source(files, dial, store, taken);
     answer_of(stored)
 }
 
@@ -239,7 +170,6 @@ where
     } = words;
     let sizes = judge(sizes)?;
     let views = open_views(alloc, files, image, workers)?;
-    let opened = take_store(alloc, files, dial, views, &store)?;
-    let bytes = store_between(rt, alloc, files, dial, &sizes, &store, opened)?;
+    let bytes = store_into(rt, alloc, files, dial, &sizes, &store, views)?;
     write_index(files, index, &bytes)
 }
