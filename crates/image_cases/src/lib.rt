@@ -28,6 +28,8 @@ mod ledger_tests;
 #[cfg(test)]
 mod prepare_tests;
 #[cfg(test)]
+mod scene_tests;
+#[cfg(test)]
 mod store_tests;
 #[cfg(test)]
 mod storing_tests;
@@ -35,3 +37,5 @@ mod storing_tests;
 mod survey_tests;
 #[cfg(test)]
 mod view_tests;
+#[cfg(test)]
+mod worker_tests;
