@@ -186,17 +186,15 @@ ghosts-surveyed g a = record {
 ANSWER = '''use Rattle.std.proofs.Common.{refl, arith}
 use Rattle.split_steps.proofs.split.Goals as goal
 
-pub surveyed-requires : goal.surveyed-requires
-surveyed-requires g c =
+pub surveyed-requires-clause-over : goal.surveyed-requires-clause-over
+surveyed-requires-clause-over g c κs within =
     let plan = c.requires.plan in
     record {
-      over = record {
-        dealt = record { listing = refl; entries = plan.wants.size; shards = refl };
-        workers = omega (arith, plan.workers);
-        cuts = plan.cuts;
-        base = tt;
-        tells = refl;
-      };
+      dealt = record { listing = refl; entries = plan.wants.size; shards = refl };
+      workers = omega (arith, plan.workers);
+      cuts = plan.cuts;
+      base = tt;
+      tells = refl;
     }
 '''
 
