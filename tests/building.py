@@ -240,7 +240,9 @@ def proving(cases):
         for lanes, wanted in ((8, {'alone': '8', 'long': '4', 'short': '4', 'next': '4'}),
                               (2, {'alone': '2', 'long': '2', 'short': '1'}), (1, {'alone': '1', 'long': '1'})):
             made = Repository(os.path.join(folder, str(lanes)), crates, seconds=0.1)
-            made.put('crates/short/seconds', '0.4')
+            if lanes > 1:
+                # It is still at work as the crate after the long one begins.
+                made.put('crates/short/beside', 'next')
             made.run('build', lanes=lanes)
             given = {name: words for _, name, _, *words in made.told('begin')}
             for name, jobs in wanted.items():
