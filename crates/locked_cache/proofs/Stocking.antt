@@ -22,7 +22,7 @@ use Rattle.dir_store.specs.Names.{id_at_path, is_stranger, is_temporary}
 use Rattle.dir_store.specs.Puts.{LeavesTemporary, PutsAtPath}
 use Rattle.dsy_base.specs.Folders.{put_in, temporary_of}
 use Rattle.dsy_base.specs.Maps.{Map, at_name}
-use Rattle.locked_cache.specs.Additions.{AddsWanted, FindsSince, IsUnlooked, StocksOpening, begun_with}
+use Rattle.locked_cache.specs.Additions.{AddsWanted, FindsSince, FindsStocked, IsUnlooked, KeepsGiving, StocksOpening, StocksSince, begun_with}
 use Rattle.store_chain.specs.Giving.{Gives, HoldsElse}
 use Rattle.store_chain.specs.Queries.{IsWanted, ShowsElse, query_of}
 use Rattle.store_chain.specs.declared.query.Query.{Query}
@@ -43,9 +43,6 @@ wanted_else w b (shows.Digest x) wanted else = else.2 (else.1 ∙ wanted.named)
 wanted_else w b (shows.Length n) wanted else = sized_else w.size (length b) n else.2 wanted.sized else.3
 
 module _ (Takes : List ℕ → List ℕ → Type 0) where
-  abbrev pub IsStocked : Option (Map (List ℕ)) → Shelf → Type 0
-  IsStocked opening s = IfSome opening (λ first. StocksOpening Takes first s)
-
   -- ---- the first files, and what was added to them
 
   begun_by : (first : Map (List ℕ)) (s : Shelf) → s.files ≡ Some first → StocksOpening Takes first s
@@ -58,7 +55,7 @@ module _ (Takes : List ℕ → List ℕ → Type 0) where
     never_falls = omega arith;
   }
 
-  pub stocks_begun : (opening : Option (Map (List ℕ))) (s : Shelf) → IfSome opening (λ first. s.files ≡ Some first) → IsStocked opening s
+  pub stocks_begun : (opening : Option (Map (List ℕ))) (s : Shelf) → IfSome opening (λ first. s.files ≡ Some first) → StocksSince Takes opening s
   stocks_begun opening s is = some_so opening (λ first. s.files ≡ Some first) (λ first. StocksOpening Takes first s) (λ first same. begun_by first s same) is
 
   begun_on : (first : Map (List ℕ)) (old new : Shelf) → Stocks Takes old new → StocksOpening Takes first old → StocksOpening Takes first new
@@ -73,7 +70,7 @@ module _ (Takes : List ℕ → List ℕ → Type 0) where
         never_falls = omega arith;
       }
 
-  pub stocks_more : (opening : Option (Map (List ℕ))) (old new : Shelf) → Stocks Takes old new → IsStocked opening old → IsStocked opening new
+  pub stocks_more : (opening : Option (Map (List ℕ))) (old new : Shelf) → Stocks Takes old new → StocksSince Takes opening old → StocksSince Takes opening new
   stocks_more opening old new then k = some_so opening (λ first. StocksOpening Takes first old) (λ first. StocksOpening Takes first new) (λ first. begun_on first old new then) k
 
   only_takes : (id b : List ℕ) → Takes id b → (q x : List ℕ) → (q ≡ id) × (x ≡ b) → Takes q x
@@ -89,7 +86,7 @@ module _ (Takes : List ℕ → List ℕ → Type 0) where
       → ((q : List ℕ) → IsTrue (is_temporary (temporary_of q)))
       → ((q i : List ℕ) → (id_at_path q ≡ Some i) ↔ (IsId i × (path_of i ≡ q)))
       → (old new : Shelf) → new.place ≡ old.place → new.kind ≡ old.kind → old.faults ≤ new.faults → Takes id b → (r : Result Unit E)
-      → OnOk r (PutsAtPath id b old.files new.files) → OnErr r (LeavesTemporary id old.files new.files) → IsStocked opening old → IsStocked opening new
+      → OnOk r (PutsAtPath id b old.files new.files) → OnErr r (LeavesTemporary id old.files new.files) → StocksSince Takes opening old → StocksSince Takes opening new
   stocks_added opening id b is holds left named exactly old new place kind faults takes (Ok u) ok err k =
       stocks_more opening old new
       (stocks_weaker (λ q x. (q ≡ id) × (x ≡ b)) Takes (only_takes id b takes) old new (added_stocks id b is holds left named exactly old new place kind faults kept.Yes ok)) k
@@ -106,8 +103,8 @@ module _ (Takes : List ℕ → List ℕ → Type 0) where
   found_by first w r out (Some n) told each found = record { now = chunks n; stands = each w.id.0; finds = found }
 
   pub found_since : (opening : Option (Map (List ℕ))) (s : Shelf) (kind : DigestKind) (id : ChunkId) (size : Option ℕ) (room : ℕ) (r : Result ℕ CacheMiss) (out : List ℕ) → kind ≡ Sha512T256
-      → IsStocked opening s → IfSome (option_map chunks s.files) (λ m. Finds (query_of kind id size room) m r out)
-      → IfSome opening (λ first. FindsSince Takes (query_of Sha512T256 id size room) (chunks first) r out)
+      → StocksSince Takes opening s → IfSome (option_map chunks s.files) (λ m. Finds (query_of kind id size room) m r out)
+      → FindsStocked Takes opening (query_of Sha512T256 id size room) r out
   found_since opening s kind id size room r out same k found =
       let at = subst (λ (d : DigestKind). IfSome (option_map chunks s.files) (λ m. Finds (query_of d id size room) m r out)) same found in
       some_so opening (λ first. StocksOpening Takes first s) (λ first. FindsSince Takes (query_of Sha512T256 id size room) (chunks first) r out)
@@ -127,8 +124,7 @@ module _ (Takes : List ℕ → List ℕ → Type 0) where
   unlooked w first miss.Failed out f gives adds = inl refl
   unlooked w first miss.Memory out f gives adds = inr refl
 
-  pub absent_since : (opening : Option (Map (List ℕ))) (w : Query) (r : Result ℕ CacheMiss) (out : List ℕ) → IfSome opening (λ first. FindsSince Takes w (chunks first) r out)
-      → IfErr r (λ m. IfSome opening (λ first. Gives w (chunks first) → AddsWanted Takes w → IsUnlooked m))
+  pub absent_since : (opening : Option (Map (List ℕ))) (w : Query) (r : Result ℕ CacheMiss) (out : List ℕ) → FindsStocked Takes opening w r out → KeepsGiving Takes opening w r
   absent_since opening w (Ok n) out found = tt
   absent_since opening w (Err m) out found =
       some_so opening (λ first. FindsSince Takes w (chunks first) (Err m) out) (λ first. Gives w (chunks first) → AddsWanted Takes w → IsUnlooked m)

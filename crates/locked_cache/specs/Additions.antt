@@ -1,12 +1,14 @@
 -- What is added to a cache that several workers ask and fill, and what is found in it meanwhile.
-use Rattle.std.specs.Prelude.{◌≡◌, ℕ, ◌⊎◌, List, length, Option, Some, IfSome, Result}
+use Rattle.std.specs.Prelude.{◌≡◌, ℕ, ◌⊎◌, List, length, Option, Some, IfErr, IfSome, Result}
 use Rattle.std.specs.List.{Any}
 use Rattle.cache_store.specs.Shelves.{Finds, IsPair, Shelf, Stocks}
 use Rattle.cache_store.specs.declared.shelf.CacheMiss.{CacheMiss}
 use Rattle.cache_store.specs.declared.shelf.CacheMiss.TheVariants as miss
+use Rattle.chunk_store.specs.Folders.{chunks}
 use Rattle.chunk_store.specs.Names.{name_of}
 use Rattle.chunk_store.specs.declared.id.DigestKind.TheVariants.{Sha512T256}
 use Rattle.dsy_base.specs.Maps.{Map}
+use Rattle.store_chain.specs.Giving.{Gives}
 use Rattle.store_chain.specs.Queries.{IsWanted}
 use Rattle.store_chain.specs.declared.query.Query.{Query}
 
@@ -26,6 +28,10 @@ begun_with first s = record { files = Some first; place = s.place; faults = 0; k
 abbrev pub StocksOpening : (List ℕ → List ℕ → Type 0) → Map (List ℕ) → Shelf → Type 0
 StocksOpening Takes first s = Stocks Takes (begun_with first s) s
 
+-- the same, where the type of the folder names those files
+abbrev pub StocksSince : (List ℕ → List ℕ → Type 0) → Option (Map (List ℕ)) → Shelf → Type 0
+StocksSince Takes opening s = IfSome opening (λ first. StocksOpening Takes first s)
+
 -- what is found on a shelf that held these chunks at first, and to which only such were added: it holds for what stands
 -- there now, which under the wanted id is what stood there at first or was added
 pub record FindsSince (Takes : List ℕ → List ℕ → Type 0) (w : Query) (first : Map (List ℕ)) (r : Result ℕ CacheMiss)
@@ -41,6 +47,17 @@ AddsWanted Takes w = (b : List ℕ) → Takes w.id.0 b → IsWanted w b
 -- the shelf couldn't be looked at: the call failed, or there was no memory
 abbrev pub IsUnlooked : CacheMiss → Type 0
 IsUnlooked m = (m ≡ miss.Failed) ⊎ (m ≡ miss.Memory)
+
+-- what is found where the type of the folder names the files that it held at first
+abbrev pub FindsStocked : (List ℕ → List ℕ → Type 0) → Option (Map (List ℕ)) → Query → Result ℕ CacheMiss → List ℕ
+    → Type 0
+FindsStocked Takes opening w r out = IfSome opening (λ first. FindsSince Takes w (chunks first) r out)
+
+-- a wanted chunk that the folder held at first is refused only if the shelf couldn't be looked at, unless another one
+-- may be added in its place
+abbrev pub KeepsGiving : (List ℕ → List ℕ → Type 0) → Option (Map (List ℕ)) → Query → Result ℕ CacheMiss → Type 0
+KeepsGiving Takes opening w r = IfErr r (λ m. IfSome opening (λ first.
+    Gives w (chunks first) → AddsWanted Takes w → IsUnlooked m))
 
 -- what contracts see of a worker's door: how often a call through it has failed
 pub record Doorway : Type 0 where

@@ -2,11 +2,9 @@
 
 ghost use Rattle.std.specs.Prelude.{◌≡◌, ◌≤◌, Err, IfErr, IfOk, IfSome, IsTrue, Some, length};
 ghost use Rattle.cache_store.specs.Shelves.{shelf_of};
-ghost use Rattle.chunk_store.specs.Folders.{chunks};
 ghost use Rattle.chunk_store.specs.declared.id.DigestKind.TheVariants as kinds;
 ghost use Rattle.dsy_base.specs.Counts.{CountsFaults};
-ghost use Rattle.locked_cache.specs.Additions.{AddsWanted, FindsSince, IsUnlooked, MayAdd, StocksOpening};
-ghost use Rattle.store_chain.specs.Giving.{Gives};
+ghost use Rattle.locked_cache.specs.Additions.{FindsStocked, KeepsGiving, MayAdd, StocksSince};
 ghost use Rattle.store_chain.specs.Queries.{FillsQuery, query_of};
 
 use crate::stocked::StockedShelf;
@@ -65,8 +63,7 @@ impl<F: Folder> LockedCache<F> {
 
     pub fn into_inner(self) -> CacheShelf<F>
         ensures kind { result.kind ≡ kinds.Sha512T256 }
-        ensures stocked { IfSome F.opening (λ first. StocksOpening (MayAdd F.pairs F.stores) first
-            (shelf_of F.files F.place F.faults result)) }
+        ensures stocked { StocksSince (MayAdd F.pairs F.stores) F.opening (shelf_of F.files F.place F.faults result) }
     {
         self.shelf.into_inner().into_inner()
     }
@@ -81,12 +78,10 @@ impl<F: Folder> LockedCache<F> {
     ) -> Result<usize, CacheMiss>
         requires inside { IfSome size (λ n. n ≤ length out.old) }
         ensures ok { IfOk result (λ n. FillsQuery (query_of kinds.Sha512T256 id.now size (length out.old)) n out.new) }
-        ensures found { IfSome F.opening (λ first. FindsSince (MayAdd F.pairs F.stores)
-            (query_of kinds.Sha512T256 id.now size (length out.old)) (chunks first) result out.new) }
-        ensures absent { IfErr result (λ m. IfSome F.opening (λ first.
-            Gives (query_of kinds.Sha512T256 id.now size (length out.old)) (chunks first) →
-            AddsWanted (MayAdd F.pairs F.stores) (query_of kinds.Sha512T256 id.now size (length out.old)) →
-            IsUnlooked m)) }
+        ensures found { FindsStocked (MayAdd F.pairs F.stores) F.opening
+            (query_of kinds.Sha512T256 id.now size (length out.old)) result out.new }
+        ensures absent { KeepsGiving (MayAdd F.pairs F.stores) F.opening
+            (query_of kinds.Sha512T256 id.now size (length out.old)) result }
         ensures only { result ≡ Err CacheMiss.Failed → IsTrue F.never_fails → ⊥ }
     {
         let mut guard = self.shelf.lock(rt);
@@ -116,13 +111,10 @@ impl<'a, W: Wait, F: Folder> CacheDoor<'a, W, F> {
     ) -> Result<usize, CacheMiss>
         requires inside { IfSome size (λ n. n ≤ length out.old) }
         ensures ok { IfOk result (λ n. FillsQuery (query_of kinds.Sha512T256 id.now size (length out.old)) n out.new) }
-        ensures found { IfSome F.opening (λ first. FindsSince (MayAdd F.pairs F.stores)
-            (query_of kinds.Sha512T256 id.now size (length out.old)) (chunks first) result out.new) }
-        // A chunk that the folder held at first is there still, unless another one may be added in its place.
-        ensures absent { IfErr result (λ m. IfSome F.opening (λ first.
-            Gives (query_of kinds.Sha512T256 id.now size (length out.old)) (chunks first) →
-            AddsWanted (MayAdd F.pairs F.stores) (query_of kinds.Sha512T256 id.now size (length out.old)) →
-            IsUnlooked m)) }
+        ensures found { FindsStocked (MayAdd F.pairs F.stores) F.opening
+            (query_of kinds.Sha512T256 id.now size (length out.old)) result out.new }
+        ensures absent { KeepsGiving (MayAdd F.pairs F.stores) F.opening
+            (query_of kinds.Sha512T256 id.now size (length out.old)) result }
         ensures sure { IsTrue F.never_fails → self.new.faults ≡ 0 }
         ensures faults { CountsFaults CacheMiss.Failed CacheMiss.Memory self.old.faults self.new.faults result }
     {

@@ -2,12 +2,10 @@
 
 ghost use Rattle.std.specs.Prelude.{◌≡◌, ◌≤◌, length, Some, IfErr, IfOk, IfSome, OnErr, OnOk};
 ghost use Rattle.cache_store.specs.Shelves.{shelf_of};
-ghost use Rattle.chunk_store.specs.Folders.{chunks};
 ghost use Rattle.chunk_store.specs.declared.id.DigestKind.TheVariants as kinds;
 ghost use Rattle.dir_store.specs.Puts.{LeavesTemporary, PutsAtPath};
 ghost use Rattle.dsy_base.specs.Counts.{CountsFaults};
-ghost use Rattle.locked_cache.specs.Additions.{AddsWanted, FindsSince, IsUnlooked, MayAdd, StocksOpening};
-ghost use Rattle.store_chain.specs.Giving.{Gives};
+ghost use Rattle.locked_cache.specs.Additions.{FindsStocked, KeepsGiving, MayAdd, StocksSince};
 ghost use Rattle.store_chain.specs.Queries.{FillsQuery, query_of};
 
 use cache_store::shelf::{CacheMiss, CacheShelf};
@@ -26,18 +24,17 @@ pub struct StockedShelf<F: Folder> {
 }
 
 impl<F: Folder> Model for StockedShelf<F> {
-    ghost use Rattle.std.specs.Prelude.{◌≡◌, IfSome};
+    ghost use Rattle.std.specs.Prelude.{◌≡◌};
     ghost use Rattle.cache_store.specs.Shelves.{Shelved, shelf_of};
     ghost use Rattle.chunk_store.specs.declared.id.DigestKind.TheVariants as kinds;
-    ghost use Rattle.locked_cache.specs.Additions.{MayAdd, StocksOpening};
+    ghost use Rattle.locked_cache.specs.Additions.{MayAdd, StocksSince};
 
     ghost Value = { Shelved F };
 
     ghost view = { λ s. s.shelf };
 
     ghost invariant = { λ s. (s.shelf.kind ≡ kinds.Sha512T256)
-        × IfSome F.opening (λ first. StocksOpening (MayAdd F.pairs F.stores) first
-        (shelf_of F.files F.place F.faults s.shelf)) };
+        × StocksSince (MayAdd F.pairs F.stores) F.opening (shelf_of F.files F.place F.faults s.shelf) };
 }
 
 impl<F: Folder> StockedShelf<F> {
@@ -52,8 +49,7 @@ impl<F: Folder> StockedShelf<F> {
     pub fn into_inner(self) -> CacheShelf<F>
         ensures same { result ≡ self }
         ensures kind { result.kind ≡ kinds.Sha512T256 }
-        ensures stocked { IfSome F.opening (λ first. StocksOpening (MayAdd F.pairs F.stores) first
-            (shelf_of F.files F.place F.faults result)) }
+        ensures stocked { StocksSince (MayAdd F.pairs F.stores) F.opening (shelf_of F.files F.place F.faults result) }
     {
         self.shelf
     }
@@ -67,12 +63,10 @@ impl<F: Folder> StockedShelf<F> {
     ) -> Result<usize, CacheMiss>
         requires inside { IfSome size (λ n. n ≤ length out.old) }
         ensures ok { IfOk result (λ n. FillsQuery (query_of kinds.Sha512T256 id.now size (length out.old)) n out.new) }
-        ensures found { IfSome F.opening (λ first. FindsSince (MayAdd F.pairs F.stores)
-            (query_of kinds.Sha512T256 id.now size (length out.old)) (chunks first) result out.new) }
-        ensures absent { IfErr result (λ m. IfSome F.opening (λ first.
-            Gives (query_of kinds.Sha512T256 id.now size (length out.old)) (chunks first) →
-            AddsWanted (MayAdd F.pairs F.stores) (query_of kinds.Sha512T256 id.now size (length out.old)) →
-            IsUnlooked m)) }
+        ensures found { FindsStocked (MayAdd F.pairs F.stores) F.opening
+            (query_of kinds.Sha512T256 id.now size (length out.old)) result out.new }
+        ensures absent { KeepsGiving (MayAdd F.pairs F.stores) F.opening
+            (query_of kinds.Sha512T256 id.now size (length out.old)) result }
         ensures kept { F.files self.new.folder ≡ F.files self.old.folder }
         ensures place { F.place self.new.folder ≡ F.place self.old.folder }
         ensures faults { CountsFaults CacheMiss.Failed CacheMiss.Memory
