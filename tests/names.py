@@ -115,8 +115,8 @@ def faults_of_row(functions, wanted, labels):
 
 def labels_that_are_not_listed():
     section = re.search(r'^## Labels of clauses$.*?(?=^## )', text_of(CONTRIBUTING), re.MULTILINE | re.DOTALL)[0]
-    listed = {label for line in section.split('\n') if line.startswith('| `')
-              for label in re.findall(r'`(\w+)`', line.split('|')[1])}
+    listed = {label for line in section.split('\n') if line.startswith('- `')
+              for label in re.findall(r'`(\w+)`', line.split(': ')[0])}
     used = {label: crate for crate in crates() for label in labels_of(crate)}
     for label in sorted(set(used) - listed):
         yield f'{CONTRIBUTING}: no label {label}, as in {used[label]}'
