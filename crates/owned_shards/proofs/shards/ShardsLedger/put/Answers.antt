@@ -81,8 +81,8 @@ invariant_of-self g c =
       c.self.invariant.3,
     )
 
-pub returns-clause-ok : goal.returns-clause-ok
-returns-clause-ok g c =
+pub returns : goal.returns
+returns g c =
     let r = g.R.RunName.run in
     let ss = c.self.inside.shards.items in
     let is = c.self.invariant.1 in
@@ -98,216 +98,22 @@ returns-clause-ok g c =
     let has : Has r s c.args.entry = has_it r ss is.shards k at.lt s here c.args.entry at.from at.to in
     let right : IfSome (whole_of left tells ss).held.bytes (λ t. name_of (kind_of r.listing) c.args.chunk.now ≡ id_of r.listing c.args.entry) =
     where_told left tells ss c.requires.right in
-    let ends = put_ends r left tells ss is k at.lt s here c.args.entry c.requires.listed has new c.args.fate c.requires.fate c.requires.made c.args.chunk.now c.requires.chunk right c.put-put.result
-    n.changed n.bytes n.left n.kept n.failed n.only n.err n.faults in
-    (subst (λ (w : Whole). PutEnds r.listing c.args.entry c.args.fate w (whole_of left tells (set ss k new)) c.put-put.result) c.self.view_is ends).ok
-
-pub returns-clause-origin : goal.returns-clause-origin
-returns-clause-origin g c =
-    let r = g.R.RunName.run in
-    let ss = c.self.inside.shards.items in
-    let is = c.self.invariant.1 in
-    let k = c.shard_with-k.result in
-    let at : Found r ss k c.args.entry = found r ss is.shards k c.args.entry
-    c.shard_with-k.ensures.from c.shard_with-k.ensures.to c.shard_with-k.ensures.inside in
-    let s : Seen = c.index_mut.result.now in
-    let here = c.index_mut.ensures.value in
-    let new : Seen = c.put-put.new.self in
-    let n = c.put-put.ensures in
-    let left = g.T.Target.left c.self.inside.rest in
-    let tells = g.T.View.tells in
-    let has : Has r s c.args.entry = has_it r ss is.shards k at.lt s here c.args.entry at.from at.to in
-    let right : IfSome (whole_of left tells ss).held.bytes (λ t. name_of (kind_of r.listing) c.args.chunk.now ≡ id_of r.listing c.args.entry) =
-    where_told left tells ss c.requires.right in
-    let ends = put_ends r left tells ss is k at.lt s here c.args.entry c.requires.listed has new c.args.fate c.requires.fate c.requires.made c.args.chunk.now c.requires.chunk right c.put-put.result
-    n.changed n.bytes n.left n.kept n.failed n.only n.err n.faults in
-    (subst (λ (w : Whole). PutEnds r.listing c.args.entry c.args.fate w (whole_of left tells (set ss k new)) c.put-put.result) c.self.view_is ends).origin
-
-pub returns-clause-changed : goal.returns-clause-changed
-returns-clause-changed g c =
-    let r = g.R.RunName.run in
-    let ss = c.self.inside.shards.items in
-    let is = c.self.invariant.1 in
-    let k = c.shard_with-k.result in
-    let at : Found r ss k c.args.entry = found r ss is.shards k c.args.entry
-    c.shard_with-k.ensures.from c.shard_with-k.ensures.to c.shard_with-k.ensures.inside in
-    let s : Seen = c.index_mut.result.now in
-    let here = c.index_mut.ensures.value in
-    let new : Seen = c.put-put.new.self in
-    let n = c.put-put.ensures in
-    let left = g.T.Target.left c.self.inside.rest in
-    let tells = g.T.View.tells in
-    let has : Has r s c.args.entry = has_it r ss is.shards k at.lt s here c.args.entry at.from at.to in
-    let right : IfSome (whole_of left tells ss).held.bytes (λ t. name_of (kind_of r.listing) c.args.chunk.now ≡ id_of r.listing c.args.entry) =
-    where_told left tells ss c.requires.right in
-    let ends = put_ends r left tells ss is k at.lt s here c.args.entry c.requires.listed has new c.args.fate c.requires.fate c.requires.made c.args.chunk.now c.requires.chunk right c.put-put.result
-    n.changed n.bytes n.left n.kept n.failed n.only n.err n.faults in
-    (subst (λ (w : Whole). PutEnds r.listing c.args.entry c.args.fate w (whole_of left tells (set ss k new)) c.put-put.result) c.self.view_is ends).changed
-
-pub returns-clause-err : goal.returns-clause-err
-returns-clause-err g c =
-    let r = g.R.RunName.run in
-    let ss = c.self.inside.shards.items in
-    let is = c.self.invariant.1 in
-    let k = c.shard_with-k.result in
-    let at : Found r ss k c.args.entry = found r ss is.shards k c.args.entry
-    c.shard_with-k.ensures.from c.shard_with-k.ensures.to c.shard_with-k.ensures.inside in
-    let s : Seen = c.index_mut.result.now in
-    let here = c.index_mut.ensures.value in
-    let new : Seen = c.put-put.new.self in
-    let n = c.put-put.ensures in
-    let left = g.T.Target.left c.self.inside.rest in
-    let tells = g.T.View.tells in
-    let has : Has r s c.args.entry = has_it r ss is.shards k at.lt s here c.args.entry at.from at.to in
-    let right : IfSome (whole_of left tells ss).held.bytes (λ t. name_of (kind_of r.listing) c.args.chunk.now ≡ id_of r.listing c.args.entry) =
-    where_told left tells ss c.requires.right in
-    let ends = put_ends r left tells ss is k at.lt s here c.args.entry c.requires.listed has new c.args.fate c.requires.fate c.requires.made c.args.chunk.now c.requires.chunk right c.put-put.result
-    n.changed n.bytes n.left n.kept n.failed n.only n.err n.faults in
-    (subst (λ (w : Whole). PutEnds r.listing c.args.entry c.args.fate w (whole_of left tells (set ss k new)) c.put-put.result) c.self.view_is ends).err
-
-pub returns-clause-kept : goal.returns-clause-kept
-returns-clause-kept g c =
-    let r = g.R.RunName.run in
-    let ss = c.self.inside.shards.items in
-    let is = c.self.invariant.1 in
-    let k = c.shard_with-k.result in
-    let at : Found r ss k c.args.entry = found r ss is.shards k c.args.entry
-    c.shard_with-k.ensures.from c.shard_with-k.ensures.to c.shard_with-k.ensures.inside in
-    let s : Seen = c.index_mut.result.now in
-    let here = c.index_mut.ensures.value in
-    let new : Seen = c.put-put.new.self in
-    let n = c.put-put.ensures in
-    let left = g.T.Target.left c.self.inside.rest in
-    let tells = g.T.View.tells in
-    let has : Has r s c.args.entry = has_it r ss is.shards k at.lt s here c.args.entry at.from at.to in
-    let right : IfSome (whole_of left tells ss).held.bytes (λ t. name_of (kind_of r.listing) c.args.chunk.now ≡ id_of r.listing c.args.entry) =
-    where_told left tells ss c.requires.right in
-    let ends = put_ends r left tells ss is k at.lt s here c.args.entry c.requires.listed has new c.args.fate c.requires.fate c.requires.made c.args.chunk.now c.requires.chunk right c.put-put.result
-    n.changed n.bytes n.left n.kept n.failed n.only n.err n.faults in
-    (subst (λ (w : Whole). PutEnds r.listing c.args.entry c.args.fate w (whole_of left tells (set ss k new)) c.put-put.result) c.self.view_is ends).kept
-
-pub returns-clause-others : goal.returns-clause-others
-returns-clause-others g c =
-    let r = g.R.RunName.run in
-    let ss = c.self.inside.shards.items in
-    let is = c.self.invariant.1 in
-    let k = c.shard_with-k.result in
-    let at : Found r ss k c.args.entry = found r ss is.shards k c.args.entry
-    c.shard_with-k.ensures.from c.shard_with-k.ensures.to c.shard_with-k.ensures.inside in
-    let s : Seen = c.index_mut.result.now in
-    let here = c.index_mut.ensures.value in
-    let new : Seen = c.put-put.new.self in
-    let n = c.put-put.ensures in
-    let left = g.T.Target.left c.self.inside.rest in
-    let tells = g.T.View.tells in
-    let has : Has r s c.args.entry = has_it r ss is.shards k at.lt s here c.args.entry at.from at.to in
-    let right : IfSome (whole_of left tells ss).held.bytes (λ t. name_of (kind_of r.listing) c.args.chunk.now ≡ id_of r.listing c.args.entry) =
-    where_told left tells ss c.requires.right in
-    let ends = put_ends r left tells ss is k at.lt s here c.args.entry c.requires.listed has new c.args.fate c.requires.fate c.requires.made c.args.chunk.now c.requires.chunk right c.put-put.result
-    n.changed n.bytes n.left n.kept n.failed n.only n.err n.faults in
-    (subst (λ (w : Whole). PutEnds r.listing c.args.entry c.args.fate w (whole_of left tells (set ss k new)) c.put-put.result) c.self.view_is ends).others
-
-pub returns-clause-grows : goal.returns-clause-grows
-returns-clause-grows g c =
-    let r = g.R.RunName.run in
-    let ss = c.self.inside.shards.items in
-    let is = c.self.invariant.1 in
-    let k = c.shard_with-k.result in
-    let at : Found r ss k c.args.entry = found r ss is.shards k c.args.entry
-    c.shard_with-k.ensures.from c.shard_with-k.ensures.to c.shard_with-k.ensures.inside in
-    let s : Seen = c.index_mut.result.now in
-    let here = c.index_mut.ensures.value in
-    let new : Seen = c.put-put.new.self in
-    let n = c.put-put.ensures in
-    let left = g.T.Target.left c.self.inside.rest in
-    let tells = g.T.View.tells in
-    let has : Has r s c.args.entry = has_it r ss is.shards k at.lt s here c.args.entry at.from at.to in
-    let right : IfSome (whole_of left tells ss).held.bytes (λ t. name_of (kind_of r.listing) c.args.chunk.now ≡ id_of r.listing c.args.entry) =
-    where_told left tells ss c.requires.right in
-    let ends = put_ends r left tells ss is k at.lt s here c.args.entry c.requires.listed has new c.args.fate c.requires.fate c.requires.made c.args.chunk.now c.requires.chunk right c.put-put.result
-    n.changed n.bytes n.left n.kept n.failed n.only n.err n.faults in
-    (subst (λ (w : Whole). PutEnds r.listing c.args.entry c.args.fate w (whole_of left tells (set ss k new)) c.put-put.result) c.self.view_is ends).grows
-
-pub returns-clause-bytes : goal.returns-clause-bytes
-returns-clause-bytes g c =
-    let r = g.R.RunName.run in
-    let ss = c.self.inside.shards.items in
-    let is = c.self.invariant.1 in
-    let k = c.shard_with-k.result in
-    let at : Found r ss k c.args.entry = found r ss is.shards k c.args.entry
-    c.shard_with-k.ensures.from c.shard_with-k.ensures.to c.shard_with-k.ensures.inside in
-    let s : Seen = c.index_mut.result.now in
-    let here = c.index_mut.ensures.value in
-    let new : Seen = c.put-put.new.self in
-    let n = c.put-put.ensures in
-    let left = g.T.Target.left c.self.inside.rest in
-    let tells = g.T.View.tells in
-    let has : Has r s c.args.entry = has_it r ss is.shards k at.lt s here c.args.entry at.from at.to in
-    let right : IfSome (whole_of left tells ss).held.bytes (λ t. name_of (kind_of r.listing) c.args.chunk.now ≡ id_of r.listing c.args.entry) =
-    where_told left tells ss c.requires.right in
-    let ends = put_ends r left tells ss is k at.lt s here c.args.entry c.requires.listed has new c.args.fate c.requires.fate c.requires.made c.args.chunk.now c.requires.chunk right c.put-put.result
-    n.changed n.bytes n.left n.kept n.failed n.only n.err n.faults in
-    (subst (λ (w : Whole). PutEnds r.listing c.args.entry c.args.fate w (whole_of left tells (set ss k new)) c.put-put.result) c.self.view_is ends).bytes
-
-pub returns-clause-faults : goal.returns-clause-faults
-returns-clause-faults g c =
-    let r = g.R.RunName.run in
-    let ss = c.self.inside.shards.items in
-    let is = c.self.invariant.1 in
-    let k = c.shard_with-k.result in
-    let at : Found r ss k c.args.entry = found r ss is.shards k c.args.entry
-    c.shard_with-k.ensures.from c.shard_with-k.ensures.to c.shard_with-k.ensures.inside in
-    let s : Seen = c.index_mut.result.now in
-    let here = c.index_mut.ensures.value in
-    let new : Seen = c.put-put.new.self in
-    let n = c.put-put.ensures in
-    let left = g.T.Target.left c.self.inside.rest in
-    let tells = g.T.View.tells in
-    let has : Has r s c.args.entry = has_it r ss is.shards k at.lt s here c.args.entry at.from at.to in
-    let right : IfSome (whole_of left tells ss).held.bytes (λ t. name_of (kind_of r.listing) c.args.chunk.now ≡ id_of r.listing c.args.entry) =
-    where_told left tells ss c.requires.right in
-    let ends = put_ends r left tells ss is k at.lt s here c.args.entry c.requires.listed has new c.args.fate c.requires.fate c.requires.made c.args.chunk.now c.requires.chunk right c.put-put.result
-    n.changed n.bytes n.left n.kept n.failed n.only n.err n.faults in
-    (subst (λ (w : Whole). PutEnds r.listing c.args.entry c.args.fate w (whole_of left tells (set ss k new)) c.put-put.result) c.self.view_is ends).faults
-
-pub returns-clause-cause : goal.returns-clause-cause
-returns-clause-cause g c =
-    let r = g.R.RunName.run in
-    let ss = c.self.inside.shards.items in
-    let is = c.self.invariant.1 in
-    let k = c.shard_with-k.result in
-    let at : Found r ss k c.args.entry = found r ss is.shards k c.args.entry
-    c.shard_with-k.ensures.from c.shard_with-k.ensures.to c.shard_with-k.ensures.inside in
-    let s : Seen = c.index_mut.result.now in
-    let here = c.index_mut.ensures.value in
-    let new : Seen = c.put-put.new.self in
-    let n = c.put-put.ensures in
-    let left = g.T.Target.left c.self.inside.rest in
-    let tells = g.T.View.tells in
-    let has : Has r s c.args.entry = has_it r ss is.shards k at.lt s here c.args.entry at.from at.to in
-    let right : IfSome (whole_of left tells ss).held.bytes (λ t. name_of (kind_of r.listing) c.args.chunk.now ≡ id_of r.listing c.args.entry) =
-    where_told left tells ss c.requires.right in
-    let ends = put_ends r left tells ss is k at.lt s here c.args.entry c.requires.listed has new c.args.fate c.requires.fate c.requires.made c.args.chunk.now c.requires.chunk right c.put-put.result
-    n.changed n.bytes n.left n.kept n.failed n.only n.err n.faults in
-    (subst (λ (w : Whole). PutEnds r.listing c.args.entry c.args.fate w (whole_of left tells (set ss k new)) c.put-put.result) c.self.view_is ends).cause
-
-pub returns-clause-failed : goal.returns-clause-failed
-returns-clause-failed g c =
-    let r = g.R.RunName.run in
-    let ss = c.self.inside.shards.items in
-    let is = c.self.invariant.1 in
-    let k = c.shard_with-k.result in
-    let at : Found r ss k c.args.entry = found r ss is.shards k c.args.entry
-    c.shard_with-k.ensures.from c.shard_with-k.ensures.to c.shard_with-k.ensures.inside in
-    let s : Seen = c.index_mut.result.now in
-    let here = c.index_mut.ensures.value in
-    let new : Seen = c.put-put.new.self in
-    let n = c.put-put.ensures in
-    let left = g.T.Target.left c.self.inside.rest in
-    let tells = g.T.View.tells in
-    let has : Has r s c.args.entry = has_it r ss is.shards k at.lt s here c.args.entry at.from at.to in
-    let right : IfSome (whole_of left tells ss).held.bytes (λ t. name_of (kind_of r.listing) c.args.chunk.now ≡ id_of r.listing c.args.entry) =
-    where_told left tells ss c.requires.right in
-    let ends = put_ends r left tells ss is k at.lt s here c.args.entry c.requires.listed has new c.args.fate c.requires.fate c.requires.made c.args.chunk.now c.requires.chunk right c.put-put.result
-    n.changed n.bytes n.left n.kept n.failed n.only n.err n.faults in
-    (subst (λ (w : Whole). PutEnds r.listing c.args.entry c.args.fate w (whole_of left tells (set ss k new)) c.put-put.result) c.self.view_is ends).failed
+    let ends = subst (λ (w : Whole). PutEnds r.listing c.args.entry c.args.fate w (whole_of left tells (set ss k new)) c.put-put.result) c.self.view_is
+    (put_ends r left tells ss is k at.lt s here c.args.entry c.requires.listed has new c.args.fate c.requires.fate c.requires.made c.args.chunk.now c.requires.chunk right c.put-put.result
+    n.changed n.bytes n.left n.kept n.failed n.only n.err n.faults) in
+    record {
+      ok = ends.ok;
+      origin = ends.origin;
+      changed = ends.changed;
+      err = ends.err;
+      kept = ends.kept;
+      others = ends.others;
+      grows = ends.grows;
+      bytes = ends.bytes;
+      faults = ends.faults;
+      cause = ends.cause;
+      failed = ends.failed;
+      tells = search rules;
+      name = search rules;
+      size = search rules;
+    }

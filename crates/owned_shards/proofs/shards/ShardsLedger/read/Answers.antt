@@ -75,8 +75,8 @@ invariant_of-self g c =
       c.self.invariant.3,
     )
 
-pub returns-clause-found : goal.returns-clause-found
-returns-clause-found g c =
+pub returns : goal.returns
+returns g c =
     let r = g.R.RunName.run in
     let ss = c.self.inside.shards.items in
     let is = c.self.invariant.1 in
@@ -90,93 +90,15 @@ returns-clause-found g c =
     let left = g.T.Target.left c.self.inside.rest in
     let tells = g.T.View.tells in
     let has : Has r s c.args.entry = has_it r ss is.shards k at.lt s here c.args.entry at.from at.to in
-    subst (λ (w : Whole). c.read-read.result ≡ true → (settled w.fates c.args.entry ≡ true) × IfSome w.held.bytes (λ t. c.read-read.new.out ≡ slice_of r.listing t c.args.entry)) c.self.view_is
-    (λ yes. (settled_as r left tells ss is k at.lt s here c.args.entry c.requires.listed has new ∙ (n.found yes).0, read_as r left tells ss is k at.lt s here c.args.entry c.requires.listed has new c.read-read.new.out (n.found yes).1))
-
-pub returns-clause-named : goal.returns-clause-named
-returns-clause-named g c =
-    let r = g.R.RunName.run in
-    let ss = c.self.inside.shards.items in
-    let is = c.self.invariant.1 in
-    let k = c.shard_with-k.result in
-    let at : Found r ss k c.args.entry = found r ss is.shards k c.args.entry
-    c.shard_with-k.ensures.from c.shard_with-k.ensures.to c.shard_with-k.ensures.inside in
-    let s : Seen = c.index_mut.result.now in
-    let here = c.index_mut.ensures.value in
-    let new : Seen = c.read-read.new.self in
-    let n = c.read-read.ensures in
-    let left = g.T.Target.left c.self.inside.rest in
-    let tells = g.T.View.tells in
-    let has : Has r s c.args.entry = has_it r ss is.shards k at.lt s here c.args.entry at.from at.to in
-    λ yes told. read_named r left tells ss is c.args.entry c.requires.listed c.read-read.new.out
-    (settled_as r left tells ss is k at.lt s here c.args.entry c.requires.listed has new ∙ (n.found yes).0)
-    (read_as r left tells ss is k at.lt s here c.args.entry c.requires.listed has new c.read-read.new.out (n.found yes).1) told
-
-pub returns-clause-absent : goal.returns-clause-absent
-returns-clause-absent g c =
-    let r = g.R.RunName.run in
-    let ss = c.self.inside.shards.items in
-    let is = c.self.invariant.1 in
-    let k = c.shard_with-k.result in
-    let at : Found r ss k c.args.entry = found r ss is.shards k c.args.entry
-    c.shard_with-k.ensures.from c.shard_with-k.ensures.to c.shard_with-k.ensures.inside in
-    let s : Seen = c.index_mut.result.now in
-    let here = c.index_mut.ensures.value in
-    let new : Seen = c.read-read.new.self in
-    let n = c.read-read.ensures in
-    let left = g.T.Target.left c.self.inside.rest in
-    let tells = g.T.View.tells in
-    let has : Has r s c.args.entry = has_it r ss is.shards k at.lt s here c.args.entry at.from at.to in
-    subst (λ (w : Whole). c.read-read.result ≡ false → settled w.fates c.args.entry ≡ true → Rose w.faults (whole_of left tells (set ss k new)).faults) c.self.view_is
-    (λ no was. rises r left tells ss is k at.lt s here c.args.entry c.requires.listed has new (n.absent no (sym (settled_as r left tells ss is k at.lt s here c.args.entry c.requires.listed has new) ∙ was)))
-
-pub returns-clause-kept : goal.returns-clause-kept
-returns-clause-kept g c =
-    let r = g.R.RunName.run in
-    let ss = c.self.inside.shards.items in
-    let is = c.self.invariant.1 in
-    let k = c.shard_with-k.result in
-    let at : Found r ss k c.args.entry = found r ss is.shards k c.args.entry
-    c.shard_with-k.ensures.from c.shard_with-k.ensures.to c.shard_with-k.ensures.inside in
-    let s : Seen = c.index_mut.result.now in
-    let here = c.index_mut.ensures.value in
-    let new : Seen = c.read-read.new.self in
-    let n = c.read-read.ensures in
-    let left = g.T.Target.left c.self.inside.rest in
-    let tells = g.T.View.tells in
-    let has : Has r s c.args.entry = has_it r ss is.shards k at.lt s here c.args.entry at.from at.to in
-    same_held r left tells ss is k at.lt s here c.args.entry c.requires.listed has new n.held ∙ ap (λ (w : Whole). w.held) c.self.view_is
-
-pub returns-clause-fates : goal.returns-clause-fates
-returns-clause-fates g c =
-    let r = g.R.RunName.run in
-    let ss = c.self.inside.shards.items in
-    let is = c.self.invariant.1 in
-    let k = c.shard_with-k.result in
-    let at : Found r ss k c.args.entry = found r ss is.shards k c.args.entry
-    c.shard_with-k.ensures.from c.shard_with-k.ensures.to c.shard_with-k.ensures.inside in
-    let s : Seen = c.index_mut.result.now in
-    let here = c.index_mut.ensures.value in
-    let new : Seen = c.read-read.new.self in
-    let n = c.read-read.ensures in
-    let left = g.T.Target.left c.self.inside.rest in
-    let tells = g.T.View.tells in
-    let has : Has r s c.args.entry = has_it r ss is.shards k at.lt s here c.args.entry at.from at.to in
-    same_fates r left tells ss is k at.lt s here c.args.entry c.requires.listed has new n.kept ∙ ap (λ (w : Whole). w.fates) c.self.view_is
-
-pub returns-clause-faults : goal.returns-clause-faults
-returns-clause-faults g c =
-    let r = g.R.RunName.run in
-    let ss = c.self.inside.shards.items in
-    let is = c.self.invariant.1 in
-    let k = c.shard_with-k.result in
-    let at : Found r ss k c.args.entry = found r ss is.shards k c.args.entry
-    c.shard_with-k.ensures.from c.shard_with-k.ensures.to c.shard_with-k.ensures.inside in
-    let s : Seen = c.index_mut.result.now in
-    let here = c.index_mut.ensures.value in
-    let new : Seen = c.read-read.new.self in
-    let n = c.read-read.ensures in
-    let left = g.T.Target.left c.self.inside.rest in
-    let tells = g.T.View.tells in
-    let has : Has r s c.args.entry = has_it r ss is.shards k at.lt s here c.args.entry at.from at.to in
-    subst (λ (w : Whole). w.faults ≤ (whole_of left tells (set ss k new)).faults) c.self.view_is (later r left tells ss is k at.lt s here c.args.entry c.requires.listed has new n.faults)
+    record {
+      found = subst (λ (w : Whole). c.read-read.result ≡ true → (settled w.fates c.args.entry ≡ true) × IfSome w.held.bytes (λ t. c.read-read.new.out ≡ slice_of r.listing t c.args.entry)) c.self.view_is
+          (λ yes. (settled_as r left tells ss is k at.lt s here c.args.entry c.requires.listed has new ∙ (n.found yes).0, read_as r left tells ss is k at.lt s here c.args.entry c.requires.listed has new c.read-read.new.out (n.found yes).1));
+      named = λ yes told. read_named r left tells ss is c.args.entry c.requires.listed c.read-read.new.out
+          (settled_as r left tells ss is k at.lt s here c.args.entry c.requires.listed has new ∙ (n.found yes).0)
+          (read_as r left tells ss is k at.lt s here c.args.entry c.requires.listed has new c.read-read.new.out (n.found yes).1) told;
+      absent = subst (λ (w : Whole). c.read-read.result ≡ false → settled w.fates c.args.entry ≡ true → Rose w.faults (whole_of left tells (set ss k new)).faults) c.self.view_is
+          (λ no was. rises r left tells ss is k at.lt s here c.args.entry c.requires.listed has new (n.absent no (sym (settled_as r left tells ss is k at.lt s here c.args.entry c.requires.listed has new) ∙ was)));
+      kept = same_held r left tells ss is k at.lt s here c.args.entry c.requires.listed has new n.held ∙ ap (λ (w : Whole). w.held) c.self.view_is;
+      fates = same_fates r left tells ss is k at.lt s here c.args.entry c.requires.listed has new n.kept ∙ ap (λ (w : Whole). w.fates) c.self.view_is;
+      faults = subst (λ (w : Whole). w.faults ≤ (whole_of left tells (set ss k new)).faults) c.self.view_is (later r left tells ss is k at.lt s here c.args.entry c.requires.listed has new n.faults);
+    }
