@@ -13,7 +13,8 @@ import threading
 import time
 
 import formats
-from checks import expect, expect_equal, file_bytes
+import program
+from checks import expect, expect_ended, expect_equal, file_bytes, files_of, put_file
 from replies import (ABC, GET_ABC, GIVES_ABC, NOTHING, PATH, Wanted, expect_serves, lay_out, path_of, put, refused,
                      request, said_to)
 from servers import ChunkServer
@@ -152,13 +153,14 @@ def break_off(server, piece, times):
 
 
 def expect_right(store, allowed):
-    """Each chunk file has the bytes that its name tells, and is one of these."""
-    for folder, _, names in os.walk(store):
-        for name in names:
-            if name.endswith('.cacnk'):
-                held = file_bytes(os.path.join(folder, name))
-                expect_equal(formats.name_of(held).hex(), name[:64], 'the digest of a chunk')
-                expect(held in allowed, f'{name} was put whole by nobody')
+    """Each chunk file has the bytes that its name tells, and is one of these. Answers the files."""
+    files = files_of(store)
+    chunks = {path: data for path, data in files.items() if re.fullmatch('[0-9a-f]{4}/[0-9a-f]{64}', path)}
+    expect(chunks, 'the store has no chunk')
+    for path, data in chunks.items():
+        expect_equal(formats.path_in_store(formats.name_of(data)), path, 'the path of a chunk')
+        expect(data in allowed, f'{path} was put whole by nobody')
+    return files
 
 
 def many(cases, folder):
@@ -205,8 +207,14 @@ def killed(cases, folder):
                 # Each peer finds its connection broken, or a reply cut off.
                 for run in runs:
                     expect(isinstance(run.exception(60), (OSError, AssertionError)), 'a peer was served to its end')
-            expect_right(store, {ABC, *both})
+            files = expect_right(store, {ABC, *both})
             expect_equal(file_bytes(formats.chunk_path(store, formats.name_of(ABC))), ABC, 'the old chunk')
+            # A temporary file that the kill has left goes by `prune`, and all chunks stay.
+            put_file(os.path.join(store, '5304', formats.TEMPORARY + 'x'), b'left')
+            formats.write_index(os.path.join(folder, 'all.caibx'), formats.index_of_pieces([ABC, *both]))
+            expect_ended(program.run(['prune', '-y', '-s', 'st', 'all.caibx'], folder))
+            kept = {path: data for path, data in files.items() if formats.TEMPORARY not in path}
+            expect_equal(files_of(store), kept, 'what the store has')
 
 
 # Memory

@@ -7,22 +7,26 @@ itself.
 """
 
 import contextlib
+import http.client
 import os
 import re
 import shutil
+import socket
+import ssl
 import subprocess
 import sys
 import textwrap
 
 import formats
 import program
+import replies
 import servers
 from checks import Cases, expect, expect_equal, needs_program
 
 GUIDE = os.path.join(program.TOP, 'docs', 'GUIDE.md')
 IMAGES = {'v1.img': 'seq 60000', 'v2.img': "seq 60000 | sed 's/^30000$/thirty thousand/'"}
 OURS, STATIC, NGINX, SERVED = 'localhost:8080', 'localhost:8000', 'images.example.com', '/srv/images'
-BEHIND = '127.0.0.1:8080'
+BEHIND, NETWORK = '127.0.0.1:8080', '192.0.2.0/24'
 LOCATION = re.compile(r'^    location .*?^    }\n', re.DOTALL | re.MULTILINE)
 
 
@@ -83,13 +87,61 @@ class Reader:
         if servers.nginx_program() is None:
             return
         port = servers.free_port()
-        expect('listen 80;' in block and (SERVED in block or BEHIND in block), f'the block of nginx is {block}')
-        for word, other in (('listen 80;', f'listen 127.0.0.1:{port};'), (SERVED, self.folder),
+        expect(SERVED in block or BEHIND in block, f'the block of nginx is {block}')
+        for word, other in (('listen 80;', f'listen 127.0.0.1:{port};'),
+                            ('listen 443 ssl;', f'listen 127.0.0.1:{port} ssl;'), (SERVED, self.folder),
                             (BEHIND, self.hosts[BEHIND])):
             block = block.replace(word, other)
         self.nginx.close()
+        if ' ssl;' in block:
+            self.over_tls(block, port)
+            return
         self.nginx.enter_context(servers.nginx_of(block, port, os.path.join(self.folder, 'nginx')))
         self.hosts[NGINX] = f'localhost:{port}'
+
+    def over_tls(self, block, port):
+        """Puts and gets as strangers do, and as those do who may put."""
+        if shutil.which('openssl') is None:
+            self.cases.skip('the block of nginx that speaks TLS', 'openssl isn\'t installed')
+            return
+        words = 'openssl req -x509 -newkey rsa:2048 -nodes -subj /CN=images.example.com -keyout key.pem -out cert.pem'
+        subprocess.run(words.split(), cwd=self.folder, stderr=subprocess.DEVNULL, check=True)
+        largest = bytes(formats.DEFAULT_SIZES[2])
+        for allowed, pieces in ((NETWORK, [(b'new', 403)]),
+                                ('127.0.0.0/8', [(b'new', 200), (largest, 200), (largest + b'x', 413)])):
+            expect(NETWORK in block, 'the network isn\'t there')
+            with servers.nginx_of(block.replace(NETWORK, allowed), port, os.path.join(self.folder, 'nginx')):
+                for piece, status in pieces:
+                    expect_equal(self.said(port, 'PUT', piece, piece)[0], status, f'the status of a PUT by {allowed}')
+                    wanted = (200, piece) if status == 200 else (404, b'')
+                    expect_equal(self.said(port, 'GET', piece), wanted, 'what is got')
+                self.fill(port)
+        for piece in (b'new', largest):
+            os.remove(formats.chunk_path(os.path.join(self.folder, 'chunks'), formats.name_of(piece)))
+
+    def trusted(self):
+        context = ssl.create_default_context(cafile=os.path.join(self.folder, 'cert.pem'))
+        context.check_hostname = False
+        return context
+
+    def said(self, port, method, piece, body=None):
+        """Status and body of a reply of nginx, over TLS."""
+        with contextlib.closing(http.client.HTTPSConnection('127.0.0.1', port, context=self.trusted())) as peer:
+            peer.request(method, '/chunks' + replies.path_of(piece), body)
+            reply = peer.getresponse()
+            return reply.status, reply.read() if reply.status == 200 else b''
+
+    def fill(self, port):
+        """More clients of nginx than places of the server stop in a head, and the server still answers at once."""
+        context = self.trusted()
+        with contextlib.ExitStack() as held:
+            for _ in range(260):
+                peer = held.enter_context(socket.create_connection(('127.0.0.1', port), servers.SECONDS))
+                held.enter_context(context.wrap_socket(peer)).sendall(replies.GET_ABC[:50])
+            host, served = self.hosts[BEHIND].split(':')
+            with socket.create_connection((host, int(served)), servers.SECONDS) as peer:
+                peer.sendall(replies.request('GET', '/', 'Connection: close'))
+                expect_equal(replies.to_the_end(peer), replies.Wanted(404, closes=True).bytes, 'the reply beside them')
 
     def type(self, block):
         for tool, word, there in (('casync', 'casync ', shutil.which('casync')),

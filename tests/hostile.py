@@ -218,9 +218,7 @@ def requests(cases, rounds):
             with cases.case(f'the store and the memory of a server with -n {workers} after random requests'):
                 expect_serves(server)
                 expect(files_of(store) == before, 'the store has changed')
-                with open(f'/proc/{server.process.pid}/status', encoding='utf-8') as file:
-                    peak = int(re.search(r'^VmHWM:\s+(\d+) kB$', file.read(), re.MULTILINE)[1])
-                expect(peak < PEAK, f'the peak of its memory is {peak} KiB')
+                expect_small(server)
     rounds.expect_told('requests', [b'200', b'400', b'404', b'405', b'411', b'413', b'431', b'none'])
 
 
@@ -453,6 +451,28 @@ def endless_requests(cases):
                 with cases.case(f'a request has {what} without an end, -n {workers}'), server.connect() as peer:
                     endless_one(peer, front, piece, status)
                     expect_serves(server)
+                    expect_small(server)
+
+
+def claims(cases):
+    """Bodies that were told and don't come take no memory."""
+    folder = os.path.join(cases.top, 'claims')
+    os.mkdir(folder)
+    lay_out(folder)
+    with cases.case('64 peers tell a body of 64 MiB each, and send 1,000 bytes of it'), \
+            ChunkServer(folder, '-w') as server, contextlib.ExitStack() as held:
+        for number in range(64):
+            path = path_of(str(number).encode())
+            peer = held.enter_context(server.connect())
+            peer.sendall(request('PUT', path, f'Content-Length: {64 * MIB}') + bytes(1_000))
+        expect_serves(server)
+        expect_small(server)
+
+
+def expect_small(server):
+    with open(f'/proc/{server.process.pid}/status', encoding='utf-8') as file:
+        peak = int(re.search(r'^VmHWM:\s+(\d+) kB$', file.read(), re.MULTILINE)[1])
+    expect(peak < PEAK, f'the peak of its memory is {peak} KiB')
 
 
 def endless_one(peer, front, piece, status):
@@ -472,20 +492,7 @@ def endless_one(peer, front, piece, status):
 
 
 def slow_peer(cases):
-    """A peer that sends a byte a second is waited for, since each call waits for a minute: the script ends it."""
-    with cases.case('a reply comes with a byte a second, and ends in its head') as folder:
-        formats.write_index(os.path.join(folder, 'a.caibx'), formats.index_of_pieces([PIECE]))
-
-        def drip(peer, *_):
-            for byte in reply(200, PIECE)[:6]:
-                peer.sendall(bytes([byte]))
-                time.sleep(1)
-        with servers.Server(drip) as server:
-            begun = time.monotonic()
-            ended = program.run(['extract', '-k', '-n', '1', '-s', server.url(), 'a.caibx', 'o'], folder)
-            seconds = time.monotonic() - begun
-        expect_ended(ended, 'store 0 failed')
-        expect(11 < seconds < 60, f'the run took {seconds} seconds')
+    """tests/serving.py and tests/http_stores.py wait for the end of peers that send a byte a second."""
     with cases.case('a peer sends a byte of a request a second, and the others are served') as folder:
         lay_out(folder)
         with ChunkServer(folder, '-w', '-n', '8') as server, server.connect() as slow:
@@ -518,6 +525,7 @@ def main():
     sizes(cases)
     endless_replies(cases)
     endless_requests(cases)
+    claims(cases)
     slow_peer(cases)
     return cases.end()
 

@@ -8,7 +8,9 @@ What is replaced or removed is the link and not what it leads to.
 import contextlib
 import os
 import socket
+import stat
 import sys
+import tempfile
 
 import formats
 import program
@@ -72,6 +74,18 @@ def make_folder_with_file(path):
     put_file(os.path.join(path, 'file'), b'')
 
 
+def make_device(path):
+    """What /dev/zero is, at the path."""
+    os.mknod(path, stat.S_IFCHR | 0o666, os.makedev(1, 5))
+
+
+def can_make_devices():
+    with tempfile.TemporaryDirectory(prefix='desync-tests-') as folder, contextlib.suppress(PermissionError):
+        make_device(os.path.join(folder, 'device'))
+        return True
+    return False
+
+
 # What extract, info and chop say, and verify.
 AT_A_CHUNK = {
     'a pipe': (os.mkfifo, FAILED, FAILED, FAILED, ''),
@@ -111,6 +125,41 @@ def at_a_chunk(cases):
             wanted = {'': Wanted(200, ABC), MISSING: Wanted(404), DAMAGED: Wanted(404)}.get(extract, Wanted(500))
             with ChunkServer(folder) as server:
                 expect_equal(said_to(server, request('GET', PATH)), wanted.bytes, 'the reply')
+            expect_untouched(before, snapshot(folder))
+
+
+# What stands in the place of a chunk's folder, and what extract says.
+AT_A_FOLDER = {
+    'a file': (lambda path: put_file(path, b'file'), MISSING),
+    'a pipe': (os.mkfifo, MISSING),
+    'a socket': (bind, MISSING),
+    'a link to a file': (lambda path: os.symlink('../precious', path), MISSING),
+    'a link to nothing': (lambda path: os.symlink('nothing', path), MISSING),
+    'a link to a device': (lambda path: os.symlink('/dev/zero', path), MISSING),
+    'a link to itself': (lambda path: os.symlink('5304', path), FAILED),
+}
+
+
+def at_a_folder(cases):
+    """Nothing stands below what is no folder, and nothing is put there: it stays, and the put fails."""
+    for what, (make, extract) in AT_A_FOLDER.items():
+        with cases.case(f'at the path of a chunk\'s folder stands {what}') as folder:
+            place = Place(folder)
+            os.rmdir(place.path('st/5304'))
+            make(place.path('st/5304'))
+            is_missing = extract == MISSING
+            figures = formats.figures(formats.read_index(ABC_INDEX), 0) if is_missing else ''
+            place.leaves('extract -s st a.caibx o', extract)
+            place.leaves('info -s st a.caibx', '' if is_missing else FAILED, figures)
+            place.leaves('chop -s st a.caibx img', FAILED)
+            place.leaves('make -s st b.caibx img', FAILED)
+            for words in ('verify -r -s st', 'prune -y -s st none.caibx'):
+                place.leaves(words, '' if is_missing else FAILED)
+            before = snapshot(folder)
+            with ChunkServer(folder, '-w') as server:
+                got = said_to(server, request('GET', PATH) + request('HEAD', PATH) + put(PATH, ABC))
+                wanted = Wanted(404 if is_missing else 500).bytes * 2 + Wanted(500).bytes
+                expect_equal(got, wanted, 'the replies')
             expect_untouched(before, snapshot(folder))
 
 
@@ -265,6 +314,33 @@ def listed_names(cases):
             place.leaves('extract -s st a.caibx o', but=['o'])
 
 
+# Ids whose bytes are a path, where an id were taken for text.
+IDS = [b'/' * 32, b'.' * 32, b'../' * 10 + b'..', b'../precious'.ljust(32, b'\0'), bytes(32), b'\xff' * 32]
+
+
+def listed_ids(cases):
+    """An index lists ids, and never names: each is asked for by its digits, below the store."""
+    for name in IDS:
+        with cases.case(f'an index lists the id {name!r}') as folder:
+            place = Place(folder)
+            os.mkdir(place.path('near'))
+            formats.write_index(place.path('i.caibx'), formats.Index([(8, name)]))
+            missing = formats.refusal(0, name, 'missing')
+            place.leaves('extract -s st i.caibx o', missing)
+            place.leaves('extract -s st -c near i.caibx o', missing)
+            place.leaves('cache -s st -c near i.caibx', missing)
+            place.leaves('list-chunks i.caibx', out=name.hex() + '\n')
+            formats.write_chunk(place.path('st'), name, b'precious')
+            place.leaves('extract -s st i.caibx o', formats.refusal(0, name, 'damaged', 0))
+            place.leaves('prune -y -s st i.caibx')
+            place.leaves('prune -y -s st a.caibx', but=[os.path.join('st', formats.path_in_store(name))])
+            expect_equal(files_of(place.path('st')), {}, 'what the store has')
+            with servers.Server(lambda peer, *_: peer.sendall(servers.reply(404))) as server:
+                place.ends(f'extract -s {server.url("/s")} i.caibx o', missing)
+                path = '/s/' + formats.path_in_store(name)
+                expect_equal({asked for _, asked in server.asked}, {path}, 'what was asked for')
+
+
 def asked_paths(cases):
     with cases.case('no path that is asked for or put leads out of the store') as folder:
         place = Place(folder)
@@ -294,7 +370,12 @@ def asked_paths(cases):
 def main():
     needs_program('odd_files')
     cases = Cases('odd_files')
-    for group in (at_a_chunk, removed, no_size, folder_links, planted, listed_names, asked_paths):
+    if can_make_devices():
+        AT_A_CHUNK['a device'] = make_device, FAILED, FAILED, FAILED, ''
+    else:
+        cases.skip('a device at the path of a chunk', 'no device can be made here')
+    for group in (at_a_chunk, at_a_folder, removed, no_size, folder_links, planted, listed_names, listed_ids,
+                  asked_paths):
         group(cases)
     return cases.end()
 

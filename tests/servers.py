@@ -243,13 +243,14 @@ def nginx_of(server, port, top, workers=1):
 class ChunkServer:
     """`desync chunk-server` over a store in a folder, with more words. It listens at a port of the host `host`, where
     it is reached at `address`, and ends with its `with`: up to then it is to run, and it is to say nothing. It has the
-    caller's environment where none is given, and may open so many files at once, if that is said."""
+    caller's environment where none is given, and may open so many files at once, if that is said. `lower` is called
+    before it begins."""
 
     def __init__(self, folder, *words, store='st', host='127.0.0.1', address='127.0.0.1', port=None, environment=None,
-                 files=None):
+                 files=None, lower=None):
         self.folder = folder
         self.environment = environment
-        self.lower = files and (lambda: resource.setrlimit(resource.RLIMIT_NOFILE, (files, files)))
+        self.lower = lower or files and (lambda: resource.setrlimit(resource.RLIMIT_NOFILE, (files, files)))
         self.address = address
         self.port = port or free_port()
         self.words = ['chunk-server', '-s', store, '-l', f'{host}:{self.port}', *words]

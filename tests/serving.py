@@ -14,7 +14,9 @@ import contextlib
 import os
 import random
 import re
+import resource
 import shutil
+import signal
 import socket
 import subprocess
 import sys
@@ -83,6 +85,29 @@ def taken_by(number):
     time.sleep(0.2)
     with open(f'/proc/{number}/smaps_rollup', encoding='utf-8') as file:
         return len(os.listdir(f'/proc/{number}/fd')), int(re.search(r'^Rss: +(\d+) kB$', file.read(), re.MULTILINE)[1])
+
+
+# A full disk
+
+def full_disk(cases, folder):
+    """A limit on the length of files stands for a full disk: nothing is left of a PUT that has no room."""
+    def lower():
+        signal.signal(signal.SIGXFSZ, signal.SIG_IGN)
+        resource.setrlimit(resource.RLIMIT_FSIZE, (1_000, 1_000))
+
+    store = lay_out(folder)
+    held = files_of(store)
+    for workers in ('1', '10'):
+        with cases.case(f'a PUT that the disk has no room for, -n {workers}'), \
+                ChunkServer(folder, '-w', '-n', workers, lower=lower) as server:
+            small, large = f'small {workers}'.encode(), bytes(2_000)
+            for _ in range(3):
+                expect_equal(said_to(server, put(path_of(large), large) + GET_ABC), Wanted(500).bytes + GIVES_ABC.bytes,
+                             'the replies')
+                expect_store(store, held)
+            expect_equal(said_to(server, put(path_of(small), small)), Wanted(200).bytes, 'the reply')
+            held[path_of(small)[1:]] = small
+            expect_store(store, held)
 
 
 # Few files
@@ -410,7 +435,7 @@ def main():
         holding_up.begin(HELD, 80)
         if sys.argv[1:] == ['--slow']:
             holding_up.begin(SLOWLY_HELD, 400)
-        for group in (*replies.GROUPS, *at_once.GROUPS, memory, few_files, addresses, by_curl):
+        for group in (*replies.GROUPS, *at_once.GROUPS, memory, full_disk, few_files, addresses, by_curl):
             folder = os.path.join(cases.top, group.__name__)
             os.mkdir(folder)
             group(cases, folder)
