@@ -1,8 +1,9 @@
 -- Folders that were lent as stores and given back: their names stay known, and what they counted is added to their numbers.
-use Rattle.std.proofs.Common.{◌≡◌, ℕ, zero, suc, ◌≤◌, List, [], ◌∷◌, length, map, All, IsSome, refl, sym, ap, subst, ◌∙◌, arith, inl, inr, slice_index}
+use Rattle.std.proofs.Common.{◌≡◌, ℕ, zero, suc, ◌≤◌, List, [], ◌∷◌, ◌++◌, get_or, length, map, All, IsSome, refl, sym, ap, subst, ◌∙◌, arith, inl, inr, slice_index}
 use Rattle.std.proofs.lemmas.Bool.{cases_lt}
 use Rattle.std.proofs.lemmas.List.{get_or-map, length-map}
 use Rattle.std.specs.Map.{count_at}
+use Rattle.command_steps.proofs.Used.{all_more}
 use Rattle.command_steps.specs.Blames.{name_at}
 use Rattle.dsy_base.specs.Counts.{AllQuiet, Quiet, Rose, raised}
 use Rattle.dsy_base.specs.Maps.{Map}
@@ -27,6 +28,12 @@ rose_count old mid new n le added (inl more) = elim (cases_lt old new) [
   | inr at_least ↦ inr (omega (arith, le, added, more, at_least))
 ]
 rose_count old mid new n le added (inr full) = inr (omega (arith, le, added, full))
+
+-- each was given back under its name, the last one first
+pub added_last : {L : Type 0} (place : L → List ℕ) (counted : L → ℕ) (old mid new : Map ℕ) (all rest : List L) (x : L) → all ≡ rest ++ x ∷ [] → ((q : List ℕ) → count_at old q ≤ count_at mid q) → ((q : List ℕ) → count_at mid q ≤ count_at new q)
+    → raised (count_at old (place x)) (counted x) ≤ count_at mid (place x) → All (λ s. raised (count_at mid (place s)) (counted s) ≤ count_at new (place s)) rest → All (λ s. raised (count_at old (place s)) (counted s) ≤ count_at new (place s)) all
+added_last place counted old mid new all rest x is before after one others =
+    all_more (λ s. raised (count_at old (place s)) (counted s) ≤ count_at new (place s)) rest all x is (λ k d lt. omega (arith, before (place (get_or rest k d)), others k d lt)) (omega (arith, one, after (place x)))
 
 zero_at : (names : List (List ℕ)) (k : ℕ) → slice_index (map (λ q. 0) names) k ≡ 0
 zero_at [] k = refl

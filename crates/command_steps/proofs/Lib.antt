@@ -14,6 +14,7 @@ pub mod SeedsOpened
 pub mod SeedsUsed
 pub mod SeedsRead
 pub mod Found
+pub mod IndexFiles
 pub mod Lacked
 pub mod Asking
 pub mod AskedOnly

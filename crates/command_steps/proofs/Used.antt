@@ -146,6 +146,22 @@ pub ended_last : (all front : List (Option Held)) (o : Option Held) (d b e : Dis
 ended_last all front o d b e is =
     uses_then (names_among (o ∷ [])) [] (names_among front) [] (names_among all) [] d b e (last_of names_among views_joined all front o is) (within_same []) (front_of names_among views_joined all front o is) (within_same [])
 
+-- the first folder was used, once more under its store's name, and then the rest
+pub used_next : (names rest : List Location) (first store : Location) (d b c e : Disk) → names ≡ first ∷ rest → store ≡ first → Uses [] (folders_among (first ∷ [])) d b → Uses [] (folders_among (store ∷ [])) b c → Uses [] (folders_among rest) c e → Uses [] (folders_among names) d e
+used_next names rest first store d b c e is at u v w =
+    let all = folders_among names in
+    let one : Within (folders_among (first ∷ [])) all = subst (λ (l : List Location). Within (folders_among (first ∷ [])) (folders_among l)) (sym is) (folders_joined.first first rest) in
+    let more : Within (folders_among rest) all = subst (λ (l : List Location). Within (folders_among rest) (folders_among l)) (sym is) (folders_joined.rest first rest) in
+    let same : Within (folders_among (store ∷ [])) all = subst (λ (s : Location). Within (folders_among (s ∷ [])) all) (sym at) one in
+    let kept = uses_twice [] all d b c (uses_within [] (folders_among (first ∷ [])) [] all d b (within_same []) one u) (uses_within [] (folders_among (store ∷ [])) [] all b c (within_same []) same v) in
+    uses_twice [] all d c e kept (uses_within [] (folders_among rest) [] all c e (within_same []) more w)
+
+-- the first file, and then the rest
+pub file_next : (names rest : List (List ℕ)) (first name : List ℕ) (d b e : Disk) → names ≡ first ∷ rest → name ≡ first → Uses (name ∷ []) [] d b → Uses rest [] b e → Uses names [] d e
+file_next names rest first name d b e is at =
+    let one : Within (name ∷ []) (first ∷ rest) = subst (λ (q : List ℕ). Within (q ∷ []) (first ∷ rest)) (sym at) (within_first first rest) in
+    uses_then (name ∷ []) [] rest [] names [] d b e (subst (λ (l : List (List ℕ)). Within (name ∷ []) l) (sym is) one) (within_same []) (subst (λ (l : List (List ℕ)). Within rest l) (sym is) (within_rest first rest)) (within_same [])
+
 -- ---- one that is appended
 
 -- each name of the new ones is one of the old, or one of these

@@ -4,7 +4,8 @@ use Rattle.std.specs.Option.{option_map}
 use Rattle.std.proofs.lemmas.List.{append-nil}
 use Rattle.std.proofs.lemmas.List.Elements.{All-nil, All-cons, All-append}
 use Rattle.dsy_base.specs.Links.{Accepts, LinkState, ListenState, Traffic}
-use Rattle.locked_shelf.specs.Listening.{EndsAnyhow, IsServing, ServesAll, ServesSome}
+use Rattle.locked_shelf.specs.declared.tally.Tally.{Tally}
+use Rattle.locked_shelf.specs.Listening.{EndsAnyhow, GivesBack, IsServing, ServesAll, ServesSome}
 
 here : (o : Option (List Traffic)) → IfSome o (λ queue. (0 ≤ length queue) × (o ≡ Some (drop 0 queue)))
 here None = tt
@@ -175,3 +176,25 @@ module _ (ends : Bool → LinkState → Type 0) (first : ListenState) where
       ended = ended ∙ none_gone first.ended;
       each = All-nil (EndsAnyhow ends);
     }
+
+-- ---- connections that are given back
+
+-- some were dropped
+pub gives_lost : (ends : Bool → LinkState → Type 0) (s : ListenState) (was now : Tally) → (now.lacking ≡ false → (was.lacking ≡ false) × (now.pending ≡ was.pending)) → now.pending ≤ was.pending → GivesBack ends s s was now
+gives_lost ends s was now well few = record { back = later; coming = refl; faults = refl; few = few } where
+  later : (first : ListenState) → IsServing ends first s was.pending was.lacking → IsServing ends first s now.pending now.lacking
+  later first h = record {
+    taken = h.taken;
+    coming = h.coming;
+    gone = h.gone;
+    ended = h.ended;
+    each = h.each;
+    well = λ none.
+        let lost = well none in
+        let before = h.well lost.0 in
+        (subst (λ (n : ℕ). n + length h.gone ≡ h.taken) (sym lost.1) before.0, before.1);
+    faults = h.faults;
+  }
+
+pub gives_twice : (ends : Bool → LinkState → Type 0) (old mid new : ListenState) (was then now : Tally) → GivesBack ends old mid was then → GivesBack ends mid new then now → GivesBack ends old new was now
+gives_twice ends old mid new was then now a b = record { back = λ first h. b.back first (a.back first h); coming = b.coming ∙ a.coming; faults = b.faults ∙ a.faults; few = omega (arith, a.few, b.few) }

@@ -1,11 +1,12 @@
-use Rattle.std.proofs.Common.{ap, map, subst, ◌∙◌, ℕ, List, [], ◌∷◌, rules}
+use Rattle.std.proofs.Common.{ap, map, subst, sym, ◌∙◌, ℕ, List, [], ◌∷◌, rules}
 use Rattle.std.proofs.lemmas.Result.{on_ok_weaker}
+use Rattle.command_steps.proofs.Consulted.{reads_twice}
 use Rattle.command_steps.proofs.SeedsOpened.{all_known_later, known_more, one_known, opens_more}
 use Rattle.command_steps.proofs.SeedsUsed.{among_seeds, kept_first, opened_all}
 use Rattle.command_steps.proofs.Used.{uses_within, within_first, within_same}
 use Rattle.command_steps.specs.Uses.{Uses}
 use Rattle.command_steps.proofs.seeds.+open_each.Goals as goal
-use Rattle.command_steps.specs.Seeds.{IsSeedAt, image_name}
+use Rattle.command_steps.specs.Seeds.{IsSeedAt, SeedsKnown, image_name}
 
 pub returns-clause-ok : goal.returns-clause-ok
 returns-clause-ok g t c =
@@ -63,3 +64,21 @@ open_each-requires g t c κs within =
     let one = one_known held (at c.open.new.files).file_counts counts kept.known c.in_ok-seed.seed.view c.in_ok-seed.ensures.known in
     let known = known_more held counts c.args.seeds.now.items c.keep.new.seeds.items c.in_ok-seed.seed c.in_ok-keep.ensures.ok before one in
     search rules
+
+pub returns-clause-kept : goal.returns-clause-kept
+returns-clause-kept g t c =
+    let at = g.F.Files.disk in
+    reads_twice (at c.args.files.now) (at c.keep.new.files) (at c.open_each.new.files) (reads_twice (at c.args.files.now) (at c.open.new.files) (at c.keep.new.files) c.in_ok-seed.ensures.kept c.in_ok-keep.ensures.kept) c.open_each.ensures.kept
+
+pub returns-in_err-keep-clause-kept : goal.returns-in_err-keep-clause-kept
+returns-in_err-keep-clause-kept g t c =
+    let at = g.F.Files.disk in
+    reads_twice (at c.args.files.now) (at c.open.new.files) (at c.keep.new.files) c.in_ok-seed.ensures.kept c.in_err-keep.ensures.kept
+
+pub returns-in_err-keep-clause-known : goal.returns-in_err-keep-clause-known
+returns-in_err-keep-clause-known g t c =
+    let at = g.F.Files.disk in
+    let held = g.F.View.View.held in
+    let counts = (at c.keep.new.files).file_counts in
+    let before = all_known_later held (at c.args.files.now).file_counts counts (λ q is. c.in_err-keep.ensures.kept.known q (c.in_ok-seed.ensures.kept.known q is)) c.args.seeds.now.items c.requires.known in
+    subst (λ l. SeedsKnown held counts l) (sym c.in_err-keep.ensures.err) before

@@ -1,6 +1,8 @@
 use Rattle.std.proofs.Common.{subst, ◌∙◌, ℕ, ◌+◌, ◌≤◌, List, arith}
 use Rattle.std.proofs.lemmas.Result.{IfErr-weaker, on_ok_weaker}
+use Rattle.command_steps.proofs.Consulted.{reads_twice}
 use Rattle.command_steps.proofs.SeedsRead.{all_more, none_more}
+use Rattle.command_steps.proofs.Used.{file_next}
 use Rattle.command_steps.proofs.seeds.+read_each.Goals as goal
 use Rattle.command_steps.specs.InputFiles.{Listed}
 use Rattle.command_steps.specs.Seeds.{NoneListed}
@@ -26,3 +28,13 @@ returns-clause-err g t c =
     let few : c.args.items + k ≤ seed_item_limit = omega (arith, c.if-items-gt-SEED_ITEM_LIMIT.false) in
     rw c.in-Some.ensures.cases.0 (IfErr-weaker c.read_each.result (NoneListed b e (c.args.items + k) rest) _
     (λ o. none_more d b e c.in_ok-index.ensures.kept c.in-Some.first.now rest c.in_ok-index.index c.args.items k o listed c.count.ensures few) c.read_each.ensures.err)
+
+pub returns-clause-kept : goal.returns-clause-kept
+returns-clause-kept g t c =
+    let at = g.F.Files.disk in
+    reads_twice (at c.args.files.now) (at c.load_index.new.files) (at c.read_each.new.files) c.in_ok-index.ensures.kept c.read_each.ensures.kept
+
+pub returns-clause-used : goal.returns-clause-used
+returns-clause-used g t c =
+    let at = g.F.Files.disk in
+    file_next c.args.names.now c.in-Some.rest.now c.in-Some.first.now c.in-Ok.name (at c.args.files.now) (at c.load_index.new.files) (at c.read_each.new.files) c.in-Some.ensures.cases.0 (c.in-Ok.ensures ∙ c.as_str.ensures) c.in_ok-index.ensures.used c.read_each.ensures.used

@@ -1,10 +1,12 @@
-use Rattle.std.proofs.Common.{◌∙◌, ℕ, List, Option, rules, subst}
+use Rattle.std.proofs.Common.{◌∙◌, [], ℕ, List, Option, rules, subst}
 use Rattle.std.proofs.lemmas.Result.{err_from_is_err_and}
 use Rattle.command_steps.specs.AnyStores.{IsUnused, source_faults, source_files, location_in}
 use Rattle.command_steps.specs.Sources.{OpensSources}
+use Rattle.command_steps.specs.Uses.{folders_among}
+use Rattle.command_steps.proofs.Consulted.{reads_twice}
 use Rattle.command_steps.proofs.Given.{all_later, known_later}
 use Rattle.command_steps.proofs.OpenedSources.{unreached_after}
-use Rattle.command_steps.proofs.Used.{all_more, among_next, known_more}
+use Rattle.command_steps.proofs.Used.{all_more, among_next, known_more, used_next, uses_none}
 use Rattle.command_steps.proofs.sources.+open_each.Goals as goal
 use Rattle.dsy_base.specs.Maps.{Map}
 
@@ -52,3 +54,37 @@ pub returns-clause-among : goal.returns-clause-among
 returns-clause-among g t c =
     among_next (location_in g.F.Look.Look.place) c.args.stores.now.items c.keep.new.stores.items c.open_each.new.stores.items c.in_ok-store.store c.in-Some.first.now c.in-Some.rest.now c.args.names.now c.in-Some.ensures.cases.0 c.in_ok-store.ensures.ok.located c.in_ok-keep.ensures.ok
     c.in_ok-open_each.ensures.among
+
+pub returns-in_err-keep-clause-kept : goal.returns-in_err-keep-clause-kept
+returns-in_err-keep-clause-kept g t c =
+    let at = g.F.Files.disk in
+    reads_twice (at c.args.files.now) (at c.open.new.files) (at c.keep.new.files) c.in_ok-store.ensures.kept c.in_err-keep.ensures.kept
+
+pub returns-in_err-open_each-clause-kept : goal.returns-in_err-open_each-clause-kept
+returns-in_err-open_each-clause-kept g t c =
+    let at = g.F.Files.disk in
+    reads_twice (at c.args.files.now) (at c.keep.new.files) (at c.open_each.new.files) (reads_twice (at c.args.files.now) (at c.open.new.files) (at c.keep.new.files) c.in_ok-store.ensures.kept c.in_ok-keep.ensures.kept) c.in_err-open_each.ensures.kept
+
+pub returns-clause-kept : goal.returns-clause-kept
+returns-clause-kept g t c =
+    let at = g.F.Files.disk in
+    reads_twice (at c.args.files.now) (at c.keep.new.files) (at c.open_each.new.files) (reads_twice (at c.args.files.now) (at c.open.new.files) (at c.keep.new.files) c.in_ok-store.ensures.kept c.in_ok-keep.ensures.kept) c.in_ok-open_each.ensures.kept
+
+pub returns-in_err-keep-clause-used : goal.returns-in_err-keep-clause-used
+returns-in_err-keep-clause-used g t c =
+    let at = g.F.Files.disk in
+    let rest = c.in-Some.rest.now in
+    let e = at c.keep.new.files in
+    used_next c.args.names.now rest c.in-Some.first.now (location_in g.F.Look.Look.place c.in_ok-store.store) (at c.args.files.now) (at c.open.new.files) e e c.in-Some.ensures.cases.0 c.in_ok-store.ensures.ok.located c.in_ok-store.ensures.used c.in_err-keep.ensures.used (uses_none [] (folders_among rest) e)
+
+pub returns-in_err-open_each-clause-used : goal.returns-in_err-open_each-clause-used
+returns-in_err-open_each-clause-used g t c =
+    let at = g.F.Files.disk in
+    used_next c.args.names.now c.in-Some.rest.now c.in-Some.first.now (location_in g.F.Look.Look.place c.in_ok-store.store) (at c.args.files.now) (at c.open.new.files) (at c.keep.new.files) (at c.open_each.new.files) c.in-Some.ensures.cases.0 c.in_ok-store.ensures.ok.located c.in_ok-store.ensures.used c.in_ok-keep.ensures.used
+    c.in_err-open_each.ensures.used
+
+pub returns-clause-used : goal.returns-clause-used
+returns-clause-used g t c =
+    let at = g.F.Files.disk in
+    used_next c.args.names.now c.in-Some.rest.now c.in-Some.first.now (location_in g.F.Look.Look.place c.in_ok-store.store) (at c.args.files.now) (at c.open.new.files) (at c.keep.new.files) (at c.open_each.new.files) c.in-Some.ensures.cases.0 c.in_ok-store.ensures.ok.located c.in_ok-store.ensures.used c.in_ok-keep.ensures.used
+    c.in_ok-open_each.ensures.used
