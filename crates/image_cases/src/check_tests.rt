@@ -191,66 +191,33 @@ fn fault(store: u32) -> Result<u64, HasFault> {
     Err(HasFault::StoreFault { store })
 }
 
+// The same of stores that have something under these names.
+fn are_counted(
+    rt: &impl Abort,
+    alloc: Global,
+    index: &Index,
+    first: &[&str],
+    second: &[&str],
+    wanted: Result<u64, HasFault>,
+) {
+    let first = having(rt, alloc, first);
+    let second = having(rt, alloc, second);
+    are_had(rt, alloc, index, first, second, wanted);
+}
+
 #[test]
 fn an_id_counts_once_where_some_store_has_it(rt: HostRuntime) {
     let alloc = rt.alloc();
     let index = index_of(&rt, alloc, &[ABC, DEF, ABC]);
-    are_had(
-        &rt,
-        alloc,
-        &index,
-        having(&rt, alloc, &[ABC]),
-        having(&rt, alloc, &[]),
-        Ok(1),
-    );
-    are_had(
-        &rt,
-        alloc,
-        &index,
-        having(&rt, alloc, &[ABC]),
-        having(&rt, alloc, &[ABC]),
-        Ok(1),
-    );
-    are_had(
-        &rt,
-        alloc,
-        &index,
-        having(&rt, alloc, &[]),
-        having(&rt, alloc, &[DEF]),
-        Ok(1),
-    );
-    are_had(
-        &rt,
-        alloc,
-        &index,
-        having(&rt, alloc, &[DEF]),
-        having(&rt, alloc, &[ABC]),
-        Ok(2),
-    );
-    are_had(
-        &rt,
-        alloc,
-        &index,
-        having(&rt, alloc, &[]),
-        having(&rt, alloc, &[]),
-        Ok(0),
-    );
-    are_had(
-        &rt,
-        alloc,
-        &index,
-        having(&rt, alloc, &[]),
-        failing(alloc),
-        fault(1),
-    );
-    are_had(
-        &rt,
-        alloc,
-        &index,
-        failing(alloc),
-        having(&rt, alloc, &[ABC]),
-        fault(0),
-    );
+    are_counted(&rt, alloc, &index, &[ABC], &[], Ok(1));
+    are_counted(&rt, alloc, &index, &[ABC], &[ABC], Ok(1));
+    are_counted(&rt, alloc, &index, &[], &[DEF], Ok(1));
+    are_counted(&rt, alloc, &index, &[DEF], &[ABC], Ok(2));
+    are_counted(&rt, alloc, &index, &[], &[], Ok(0));
+    let none = having(&rt, alloc, &[]);
+    are_had(&rt, alloc, &index, none, failing(alloc), fault(1));
+    let one = having(&rt, alloc, &[ABC]);
+    are_had(&rt, alloc, &index, failing(alloc), one, fault(0));
 }
 
 // Each store was asked twice.
@@ -264,14 +231,9 @@ fn two_calls(rt: &impl Abort, stores: &[ScriptedStore]) {
 fn each_id_is_asked_for_once(rt: HostRuntime) {
     let alloc = rt.alloc();
     let index = index_of(&rt, alloc, &[ABC, DEF, ABC, DEF, ABC]);
-    let stores = are_had(
-        &rt,
-        alloc,
-        &index,
-        having(&rt, alloc, &[]),
-        having(&rt, alloc, &[]),
-        Ok(0),
-    );
+    let first = having(&rt, alloc, &[]);
+    let second = having(&rt, alloc, &[]);
+    let stores = are_had(&rt, alloc, &index, first, second, Ok(0));
     two_calls(&rt, &stores);
 }
 

@@ -1,7 +1,6 @@
 //! Targets in memory that are surveyed. Offsets are bytes from 0.
 
-ghost use Rattle.std.specs.Prelude.{◌≡◌, All, length, vec_len};
-ghost use Rattle.owned_shards.specs.Shares.{TakesEach};
+ghost use Rattle.std.specs.Prelude.{◌≡◌};
 ghost use Rattle.owned_shards.specs.Wholes.{IsRunOver};
 
 use crate::compare::{ok, same};
@@ -43,19 +42,6 @@ fn has_kept<R: RunName, T: Target>(
     }
 }
 
-// So many buffers, each with room for the largest entry.
-fn buffers_of(rt: &impl Abort, alloc: Global, index: &Index, count: usize) -> Vec<Vec<u8>>
-    ensures size { vec_len result ≡ count }
-    ensures room { All (λ b. TakesEach index.now (vec_len b)) result.items }
-{
-    let mut buffers = Vec::new(alloc);
-    for _ in 0..count {
-        let buffer = index.room(alloc).expect(rt, "memory");
-        buffers.push(buffer).expect(rt, "memory");
-    }
-    buffers
-}
-
 // Surveys the shards of a target, and compares which of its four entries were kept.
 fn surveys<H: Abort + Threads + Sync, R: RunName + Send + Sync, T: Target>(
     rt: &H,
@@ -69,7 +55,8 @@ where
     T::Piece: Send,
     requires over { IsRunOver R.run index.now plan.now T.tells (T.held target) }
 {
-    let mut buffers = buffers_of(rt, alloc, index, 1);
+    let mut buffers = Vec::new(alloc);
+    ok(rt, buffers.push(ok(rt, index.room(alloc))));
     let surveyed = survey_shards::<H, R, T>(rt, alloc, index, plan, target, &mut buffers);
     let Ok(shards) = surveyed else {
         panic!(rt; "not surveyed");

@@ -31,6 +31,16 @@ fn index_of(rt: &impl Abort, alloc: Global, pieces: &[&[u8]]) -> Index {
     Index::new(0xa000_0000_0000_0000, 1, 2, 64, entries).expect(rt, "an index")
 }
 
+// What a worker has done that put so many chunks, and read all of them back.
+fn all_put(count: usize) -> Done {
+    Done {
+        put: count,
+        settled: 0,
+        failed: 0,
+        read: count,
+    }
+}
+
 // Two workers fill a target that holds `old`, and leave `new`.
 fn fill<H: Abort + Threads + Wait + Sync>(
     rt: &H,
@@ -54,24 +64,8 @@ fn fill<H: Abort + Threads + Wait + Sync>(
 fn two_workers_fill_a_target(rt: HostRuntime) {
     let none = RangeFails::none(rt.alloc());
     let (first, second) = fill(&rt, rt.alloc(), b"", none, b"abcdefghijklmnopqr");
-    assert_eq!(rt;
-        first,
-        Done {
-            put: 5,
-            settled: 0,
-            failed: 0,
-            read: 5
-        }
-    );
-    assert_eq!(rt;
-        second,
-        Done {
-            put: 4,
-            settled: 0,
-            failed: 0,
-            read: 4
-        }
-    );
+    assert_eq!(rt; first, all_put(5));
+    assert_eq!(rt; second, all_put(4));
 }
 
 #[test]
@@ -118,15 +112,7 @@ fn a_failed_write_leaves_its_entry_open(rt: HostRuntime) {
             read: 4
         }
     );
-    assert_eq!(rt;
-        second,
-        Done {
-            put: 4,
-            settled: 0,
-            failed: 0,
-            read: 4
-        }
-    );
+    assert_eq!(rt; second, all_put(4));
 }
 
 #[test]
@@ -134,15 +120,7 @@ fn a_failed_read_gives_no_chunk(rt: HostRuntime) {
     let mut fails = RangeFails::none(rt.alloc());
     fails.reads.push((6, 1)).expect(&rt, "memory");
     let (first, second) = fill(&rt, rt.alloc(), b"", fails, b"abcdefghijklmnopqr");
-    assert_eq!(rt;
-        first,
-        Done {
-            put: 5,
-            settled: 0,
-            failed: 0,
-            read: 5
-        }
-    );
+    assert_eq!(rt; first, all_put(5));
     assert_eq!(rt;
         second,
         Done {
