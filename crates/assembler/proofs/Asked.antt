@@ -7,14 +7,15 @@ use Rattle.std.specs.Str.{bytes_eq}
 use Rattle.assembler.proofs.CacheSpared.{cache_never, cache_part}
 use Rattle.assembler.proofs.Counted.{quiet_part}
 use Rattle.assembler.proofs.Filled.{settled_on}
+use Rattle.assembler.proofs.Others.{adds_on, alone_adds}
 use Rattle.assembler.proofs.Stepped.{stretch_none}
 use Rattle.assembler.specs.Passes.{PassAsks, one_pass}
 use Rattle.assembler.specs.Stages.{Stage, Stretch, from}
 use Rattle.caibx_codec.specs.Listing.{size_of}
 use Rattle.chunk_sources.proofs.Cached.{stocked_falls}
 use Rattle.chunk_sources.proofs.Lacking.{quiet_never}
-use Rattle.chunk_sources.specs.Asks.{AreSpared, AsksAtMost, IsSpared, ShareAsks, asked_at, asks_below, asks_for, calls_below, calls_for, others_spared}
-use Rattle.chunk_sources.specs.Caches.{TakesWants}
+use Rattle.chunk_sources.specs.Asks.{AsksAtMost, IsSpared, ShareAsks, asked_at, asks_below, asks_for, calls_below, calls_for, others_spared}
+use Rattle.chunk_sources.specs.Caches.{AddsSize, IsAlone, TakesWants}
 use Rattle.chunk_sources.specs.Losses.{AskedLast}
 use Rattle.chunk_sources.specs.Sources.{HeldAt, counts_of, views_of}
 use Rattle.chunk_sources.specs.Wants.{Task, want_chunk}
@@ -184,21 +185,30 @@ module _ {S V : Type 0} (store : StoreWords S) (view : ViewWords V) (t : Task) w
   abbrev pub Last : Stage S V → Stage S V → ℕ → Type 0
   Last a b w = AskedLast store view (want_chunk t w) a.fates (from a) (from b)
 
+  -- it was spared, and others add no chunk of another size under its id
+  abbrev pub SparedAlone : Stage S V → Stage S V → ℕ → Type 0
+  SparedAlone a b w = Spared a b w × AddsSize (want_id t.listing t.plan w) (size_of t.listing (first_of t.plan w)) a.cache
+
+  adds_since : (A : ℕ → Type 0) (a b : Stage S V) (w : ℕ) → Over A a b → AddsSize (want_id t.listing t.plan w) (size_of t.listing (first_of t.plan w)) a.cache
+      → AddsSize (want_id t.listing t.plan w) (size_of t.listing (first_of t.plan w)) b.cache
+  adds_since A a b w over adds =
+      adds_on (TakesWants store t.listing t.plan A a.kit.chain.stores) (want_id t.listing t.plan w) (size_of t.listing (first_of t.plan w)) a.cache b.cache over.stocked adds
+
   -- the stores weren't asked for it
-  spared_never : (a b : Stage S V) (w : ℕ) → Spared a b w → Last a b w → ⊥
-  spared_never a b w (inl ((j, among, is), quiet)) last = quiet_never a.faults b.faults quiet (last.copies j among is)
-  spared_never a b w (inr (inl (k, p, inside, at, (has, quiet)))) last =
+  spared_never : (a b : Stage S V) (w : ℕ) → SparedAlone a b w → Last a b w → ⊥
+  spared_never a b w (inl ((j, among, is), quiet), adds) last = quiet_never a.faults b.faults quiet (last.copies j among is)
+  spared_never a b w (inr (inl (k, p, inside, at, (has, quiet))), adds) last =
       let counts : List (Seed V) → SeedPlace → ℕ = λ s y. slice_index (counts_of view s) y.seed in
       let s0 = a.kit.seeds.items in
       let s1 = b.kit.seeds.items in
       let failed : HeldAt (views_of view s0) p (want_id t.listing t.plan w) → Rose (counts s0 p) (counts s1 p) =
       subst (λ y. HeldAt (views_of view s0) y (want_id t.listing t.plan w) → Rose (counts s0 y) (counts s1 y)) at (last.seeds k p inside) in
       quiet_never (counts s0 p) (counts s1 p) quiet (failed has)
-  spared_never a b w (inr (inr gives)) last =
-      cache_never store t.listing a.kit.chain.stores (want_id t.listing t.plan w) (size_of t.listing (first_of t.plan w)) a.cache b.cache gives last.cache
+  spared_never a b w (inr (inr gives), adds) last =
+      cache_never store t.listing a.kit.chain.stores (want_id t.listing t.plan w) (size_of t.listing (first_of t.plan w)) a.cache b.cache gives adds last.cache
 
   -- what one want asks
-  asks_want : (a b : Stage S V) (spared : ℕ → Bool) (w : ℕ) → (spared w ≡ true → Spared a b w) → (b.kit.chain ≡ a.kit.chain) ⊎ Last a b w
+  asks_want : (a b : Stage S V) (spared : ℕ → Bool) (w : ℕ) → (spared w ≡ true → SparedAlone a b w) → (b.kit.chain ≡ a.kit.chain) ⊎ Last a b w
       → AsksAtMost store (calls_for spared w) (asks_for (want_id t.listing t.plan) spared w) a.kit.chain b.kit.chain
   asks_want a b spared w are (inl same) = asks_same store (calls_for spared w) (asks_for (want_id t.listing t.plan) spared w) a.kit.chain b.kit.chain same
   asks_want a b spared w are (inr last) = elim (cases_Bool (spared w)) [
@@ -210,7 +220,7 @@ module _ {S V : Type 0} (store : StoreWords S) (view : ViewWords V) (t : Task) w
 
   -- each was asked for at most once
   abbrev pub AsksDone : (ℕ → Bool) → Stage S V → Stage S V → Type 0
-  AsksDone done a b = (spared : ℕ → Bool) → AreSpared store view t a.fates (from a) (from b) spared
+  AsksDone done a b = (spared : ℕ → Bool) → ((w : ℕ) → w < t.plan.wants → spared w ≡ true → SparedAlone a b w)
       → AsksAtMost store (calls_below (others_spared done spared) t.plan.wants) (asks_below (want_id t.listing t.plan) (others_spared done spared) t.plan.wants) a.kit.chain b.kit.chain
 
   pub asks_done_none : (done : ℕ → Bool) (a : Stage S V) → AsksDone done a a
@@ -243,8 +253,8 @@ module _ {S V : Type 0} (store : StoreWords S) (view : ViewWords V) (t : Task) w
       let elsewhere : (v : ℕ) → v ≢ w → g v ≡ f v = λ v apart. ap (λ b. if b then spared v else true) (others v apart) in
       let was : f w ≡ true = undone done spared w wasnt in
       let here : g w ≡ spared w = as_done later spared w is in
-      let so_far = before spared (λ v less so. spared_first B a b c v wants next (are v less so)) in
-      let one = asks_want b c g w (λ so. spared_rest (λ v. done v ≡ true) a b c w wants within first (are w below (sym here ∙ so))) asks in
+      let so_far = before spared (λ v less so. (spared_first B a b c v wants next (are v less so).0, (are v less so).1)) in
+      let one = asks_want b c g w (λ so. let both = are w below (sym here ∙ so) in (spared_rest (λ v. done v ≡ true) a b c w wants within first both.0, adds_since (λ v. done v ≡ true) a b w first both.1)) asks in
       let calls : calls_below f n + calls_for g w ≤ calls_below g n =
       let one = sums_one (calls_for f) (calls_for g) w (λ v apart. ap (λ b. if b then 0 else 1) (elsewhere v apart)) (ap (λ b. if b then 0 else 1) was) n below in
       omega (arith, calls_are f n, calls_are g n, one) in
@@ -266,10 +276,10 @@ module _ {S V : Type 0} (store : StoreWords S) (view : ViewWords V) (t : Task) w
       asks_fewer (others_spared done both) (others_spared these spared) more a b
       (asks both (λ w less so. are w less (both_of (these w) (spared w) so).0 (both_of (these w) (spared w) so).1))
 
-  -- these are all wants
-  pub asks_share_all : (these : ℕ → Bool) → ((v : ℕ) → these v ≡ true) → (a b : Stage S V) → ShareAsks store view t a.fates (from a) (from b) these → PassAsks store view t one_pass a b
-  asks_share_all these all a b asks = λ spared are.
-      asks_fewer (others_spared these spared) spared (λ v is. as_done these spared v (all v) ∙ is) a b (asks spared (λ w less is so. are w less so))
+  -- these are all wants, and nobody else fills the cache
+  pub asks_share_all : (these : ℕ → Bool) → ((v : ℕ) → these v ≡ true) → (a b : Stage S V) → IsAlone a.cache → ShareAsks store view t a.fates (from a) (from b) these → PassAsks store view t one_pass a b
+  asks_share_all these all a b alone asks = λ spared are.
+      asks_fewer (others_spared these spared) spared (λ v is. as_done these spared v (all v) ∙ is) a b (asks spared (λ w less is so. (are w less so, alone_adds (want_id t.listing t.plan w) (size_of t.listing (first_of t.plan w)) a.cache alone)))
 
-  pub asks_done_all : (done : ℕ → Bool) (a b : Stage S V) → AsksDone done a b → PassAsks store view t one_pass a b
-  asks_done_all done a b asks = asks_share_all (λ v. true) (λ v. refl) a b (asks_done_share done (λ v. true) (λ v is. refl) a b asks)
+  pub asks_done_all : (done : ℕ → Bool) (a b : Stage S V) → IsAlone a.cache → AsksDone done a b → PassAsks store view t one_pass a b
+  asks_done_all done a b alone asks = asks_share_all (λ v. true) (λ v. refl) a b alone (asks_done_share done (λ v. true) (λ v is. refl) a b asks)

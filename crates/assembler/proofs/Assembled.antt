@@ -29,7 +29,7 @@ use Rattle.caibx_codec.specs.Right.{IsRightAt}
 use Rattle.chunk_sources.proofs.Cached.{stocked_none}
 use Rattle.chunk_sources.proofs.Lacking.{quiet_never}
 use Rattle.chunk_sources.specs.Asks.{IsSpared, asks_below, calls_below}
-use Rattle.chunk_sources.specs.Caches.{HaveOneSize, TakesListed, cached_in}
+use Rattle.chunk_sources.specs.Caches.{HaveOneSize, IsAlone, TakesListed, cached_in}
 use Rattle.chunk_sources.specs.Economy.{source_of}
 use Rattle.chunk_sources.specs.Sources.{Sources, SourcesQuiet, Telling, sources, views_of}
 use Rattle.chunk_sources.specs.Wants.{Task}
@@ -49,7 +49,6 @@ use Rattle.range_survey.specs.declared.report.Report.{Report}
 use Rattle.extract_plan.specs.declared.seed.Seed.{Seed}
 use Rattle.store_chain.proofs.Kept.{kept_still}
 use Rattle.store_chain.specs.Chains.{Chained}
-use Rattle.store_chain.specs.declared.refused.Refused.TheVariants as refused
 
 -- ---- both passes
 
@@ -63,6 +62,7 @@ module _ {S V : Type 0} (store : StoreWords S) (view : ViewWords V) (t : Task) (
   -- what both passes leave over the base of o
   pub record Ran (r : Result Unit ExtractFault) : Type 0 where
     pub wants : AreWants t.listing t.plan.wants t.plan.want_of
+    pub alone : IsAlone a.cache
     pub rises : f ≤ a.faults
     pub base : a.held.bytes ≡ option_map over_base o
     pub over : IfSome o Found
@@ -96,6 +96,7 @@ module _ {S V : Type 0} (store : StoreWords S) (view : ViewWords V) (t : Task) (
     finished = record {
       wants = ran.wants;
       since = since_survey store view t f (from a) ran.rises;
+      alone = ran.alone;
       tells = ap (λ (p : Option (List ℕ)). is_some p) ran.base ∙ as_told o;
       whole = subst (λ (p : Option (List ℕ)). WhereTold o p Whole) (sym ran.base) (is_whole o ran.over);
       had = ran.passed.had;
@@ -179,7 +180,7 @@ told_all (Some y) (Some z) P all = all y z
 -- ---- as the calls say it
 
 module _ {S V : Type 0} (store : StoreWords S) (view : ViewWords V) (t : Task) (old : Held) (f : ℕ) (a b : Stage S V) (r : Result Unit ExtractFault)
-    (index : Listing) (same : index ≡ t.listing) (wants : AreWants index t.plan.wants t.plan.want_of) (is : a.held ≡ held_resized old (image_length index)) (rises : f ≤ a.faults)
+    (index : Listing) (same : index ≡ t.listing) (wants : AreWants index t.plan.wants t.plan.want_of) (alone : IsAlone a.cache) (is : a.held ≡ held_resized old (image_length index)) (rises : f ≤ a.faults)
     (sized : IfSome a.held.bytes (λ y. length y ≡ a.held.size)) (right : IfSome a.held.bytes (λ y. SettledRight t.listing y a.fates (count_of t.listing)))
     (wrong : IfSome a.held.bytes (λ y. OpenWrong index y a.fates f a.faults (count_of index))) (firsts : FirstFates a.fates (count_of index))
     (passed : HasPassed store view t two_passes a b) (ends : Ends store view t a b r)
@@ -191,6 +192,7 @@ module _ {S V : Type 0} (store : StoreWords S) (view : ViewWords V) (t : Task) (
   pub ran_of : Ran store view t old.bytes f a b r
   ran_of = record {
     wants = subst (λ (l : Listing). AreWants l t.plan.wants t.plan.want_of) same wants;
+    alone = alone;
     rises = rises;
     base = ap (λ (h : Held). h.bytes) resized_so;
     over = over_of t.listing a.fates f a.faults old a.held resized_so sized right

@@ -7,7 +7,7 @@ use Rattle.cache_store.specs.Shelves.{Shelf}
 use Rattle.caibx_codec.specs.Listing.{Listing, kind_of, size_of}
 use Rattle.chunk_sources.proofs.Cached.{stocked_falls, stocked_gives, stocked_told}
 use Rattle.chunk_sources.proofs.Lacking.{quiet_never}
-use Rattle.chunk_sources.specs.Caches.{CacheFailed, CacheGives, IsListedAs, Stocked, TakesWants, cache_faults, cached_in}
+use Rattle.chunk_sources.specs.Caches.{AddsSize, CacheFailed, CacheGives, IsListedAs, Stocked, TakesWants, cache_faults, cached_in}
 use Rattle.chunk_store.specs.Giving.{IsChunk}
 use Rattle.chunk_store.specs.declared.store.Store.{Ghosts as StoreWords}
 use Rattle.dsy_base.specs.Counts.{Rose}
@@ -48,11 +48,12 @@ module _ {S : Type 0} (store : StoreWords S) (l : Listing) (d : Deal) where
         one_size = λ n b listed chunk held. has.one_size n b listed chunk (λ maps told. held maps (same ∙ told));
       }
 
--- a cache that gives the chunk and doesn't fail was asked before the stores
+-- a cache that gives the chunk, to which others add none of another size under its id, and that doesn't fail was asked
+-- before the stores
 pub cache_never : {S : Type 0} (store : StoreWords S) (l : Listing) (stores : List S) (id : List ℕ) (size : ℕ) (e0 e1 : Option Shelf)
-    → CacheGives store l stores id size e0 e1 → CacheFailed (kind_of l) id size e0 e1 → ⊥
-cache_never store l stores id size e0 e1 has failed = go (cached_in e0) has.gives failed where
+    → CacheGives store l stores id size e0 e1 → AddsSize id size e0 → CacheFailed (kind_of l) id size e0 e1 → ⊥
+cache_never store l stores id size e0 e1 has adds failed = go (cached_in e0) has.gives failed where
   go : (o : Option (List (Map (List ℕ)))) → IsSomeAnd o (SomeGives (kind_of l) id size)
-      → IfSome o (λ cached. SomeGives (kind_of l) id size cached → Rose (cache_faults e0) (cache_faults e1)) → ⊥
+      → IfSome o (λ cached. SomeGives (kind_of l) id size cached → AddsSize id size e0 → Rose (cache_faults e0) (cache_faults e1)) → ⊥
   go None gives fails = gives
-  go (Some cached) gives fails = quiet_never (cache_faults e0) (cache_faults e1) has.sound (fails gives)
+  go (Some cached) gives fails = quiet_never (cache_faults e0) (cache_faults e1) has.sound (fails gives adds)

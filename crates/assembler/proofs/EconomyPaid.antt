@@ -7,6 +7,7 @@ use Rattle.assembler.proofs.EconomySums.{raised_on, sum_none, sum_one, sum_same}
 use Rattle.assembler.proofs.Entries.{among, among_of}
 use Rattle.assembler.proofs.Filled.{open_before, settled_on}
 use Rattle.assembler.proofs.Passed.{OneMore}
+use Rattle.assembler.proofs.Stepped.{alone_since}
 use Rattle.assembler.proofs.Stocking.{give_same}
 use Rattle.assembler.proofs.Tallies.{tallied_none, tallied_on}
 use Rattle.assembler.specs.Economy.{HadMemory, PassedBy, SettledBy, SettlesBy, Tallied}
@@ -18,7 +19,7 @@ use Rattle.assembler.specs.declared.fault.Unsettled.TheVariants as unsettled
 use Rattle.caibx_codec.specs.Listing.{count_of}
 use Rattle.chunk_sources.proofs.Cached.{stocked_told}
 use Rattle.chunk_sources.proofs.Origins.{same_raised}
-use Rattle.chunk_sources.specs.Caches.{HaveOneSize, TakesWants, cached_in}
+use Rattle.chunk_sources.specs.Caches.{HaveOneSize, IsAlone, TakesWants, cached_in}
 use Rattle.chunk_sources.specs.Economy.{pass_asks, source_if, source_over, sum_below}
 use Rattle.chunk_sources.specs.Sources.{SourcesQuiet, views_of}
 use Rattle.chunk_sources.specs.Wants.{IsAmong, Task}
@@ -127,16 +128,16 @@ module _ {S V : Type 0} (store : StoreWords S) (view : ViewWords V) (t : Task) w
   -- from the stage a on
   pub record Paid (done : ℕ → Bool) (a b : Stage S V) : Type 0 where
     pub untouched : (i : ℕ) → done (want_at t.plan i) ≡ false → settled b.fates i ≡ settled a.fates i
-    pub passed : WhereQuiet store view t.listing (from a) (from b) (λ cached maps.
+    pub passed : IsAlone a.cache → WhereQuiet store view t.listing (from a) (from b) (λ cached maps.
         PassedBy (source_if done (source_at view t a cached maps)) t.plan.wants (count_of t.listing) a.fates b.fates a.kit.chain b.kit.chain)
-    pub left : WhereQuiet store view t.listing (from a) (from b) (λ cached maps. (i : ℕ) → i < count_of t.listing → done (want_at t.plan i) ≡ true
+    pub left : IsAlone a.cache → WhereQuiet store view t.listing (from a) (from b) (λ cached maps. (i : ℕ) → i < count_of t.listing → done (want_at t.plan i) ≡ true
         → settled b.fates i ≡ false → source_at view t a cached maps (want_at t.plan i) ≡ fate.Open)
 
   pub paid_none : (done : ℕ → Bool) (a : Stage S V) → ((w : ℕ) → done w ≡ false) → a.kit.chain.asks < 2 ^ 64 → Paid done a a
   paid_none done a none bound = record {
     untouched = λ i isnt. refl;
-    passed = λ cached maps nothing one. passed_nothing done (source_at view t a cached maps) t.plan.wants (count_of t.listing) a.fates a.kit.chain none bound;
-    left = λ cached maps nothing one i inside is isnt. absurd (true≢false (sym is ∙ none (want_at t.plan i)));
+    passed = λ alone cached maps nothing one. passed_nothing done (source_at view t a cached maps) t.plan.wants (count_of t.listing) a.fates a.kit.chain none bound;
+    left = λ alone cached maps nothing one i inside is isnt. absurd (true≢false (sym is ∙ none (want_at t.plan i)));
   }
 
   module _ (a b c : Stage S V) (wants : AreWants t.listing t.plan.wants t.plan.want_of) (w : ℕ) (done later : ℕ → Bool) (more : OneMore done later w t.plan.wants)
@@ -170,39 +171,40 @@ module _ {S V : Type 0} (store : StoreWords S) (view : ViewWords V) (t : Task) w
         others_stay y apart ∙ before.untouched y (sym (more.others (want_at t.plan y) apart) ∙ isnt)
 
     module _ (r : Result Unit Unsettled) (memory : HadMemory r) (all : OnOk r ((y : ℕ) → IsAmong (of_want t.plan w) y → settled c.fates y ≡ true))
-        (exactly : (cached maps : List (Map (List ℕ))) → Nothing b c cached maps
+        (exactly : IsAlone b.cache → (cached maps : List (Map (List ℕ))) → Nothing b c cached maps
         → SettlesBy (source_at view t b cached maps w) (count_of t.listing) b.fates c.fates b.kit.chain c.kit.chain r) where
       earlier : (cached maps : List (Map (List ℕ))) → Nothing a c cached maps → Nothing a b cached maps
       earlier cached maps nothing = nothing_first store view t (λ v. v ≡ w) a b c cached maps next.stretch nothing
 
-      now_by : (cached maps : List (Map (List ℕ))) → Nothing a c cached maps → HaveOneSize t.listing a.cache cached maps
-          → (c.kit.chain.asks ≡ raised b.kit.chain.asks (pass_asks (source_at view t a cached maps w)))
-          × SettledBy (source_at view t a cached maps w) (count_of t.listing) b.fates c.fates r
-      now_by cached maps nothing one =
-          let later_on = stocked_told (TakesWants store t.listing t.plan (λ v. done v ≡ true) a.kit.chain.stores) a.cache b.cache cached first.stocked nothing.told_cache in
-          let by = exactly later_on.0 maps (nothing_next store view t (λ v. done v ≡ true) a b c cached maps first later_on.0 later_on.1 nothing) in
-          subst (λ (s : Fate). (c.kit.chain.asks ≡ raised b.kit.chain.asks (pass_asks s)) × SettledBy s (count_of t.listing) b.fates c.fates r)
-          (source_still cached later_on.0 maps nothing.told_cache later_on.1 nothing.told one) (by.0 memory, by.1)
+      module _ (alone : IsAlone a.cache) where
+        now_by : (cached maps : List (Map (List ℕ))) → Nothing a c cached maps → HaveOneSize t.listing a.cache cached maps
+            → (c.kit.chain.asks ≡ raised b.kit.chain.asks (pass_asks (source_at view t a cached maps w)))
+            × SettledBy (source_at view t a cached maps w) (count_of t.listing) b.fates c.fates r
+        now_by cached maps nothing one =
+            let later_on = stocked_told (TakesWants store t.listing t.plan (λ v. done v ≡ true) a.kit.chain.stores) a.cache b.cache cached first.stocked nothing.told_cache in
+            let by = exactly (alone_since store view t (λ v. done v ≡ true) a b first alone) later_on.0 maps (nothing_next store view t (λ v. done v ≡ true) a b c cached maps first later_on.0 later_on.1 nothing) in
+            subst (λ (s : Fate). (c.kit.chain.asks ≡ raised b.kit.chain.asks (pass_asks s)) × SettledBy s (count_of t.listing) b.fates c.fates r)
+            (source_still cached later_on.0 maps nothing.told_cache later_on.1 nothing.told one) (by.0 memory, by.1)
 
-      passed_more : (cached maps : List (Map (List ℕ))) → Nothing a c cached maps → HaveOneSize t.listing a.cache cached maps
-          → PassedBy (source_if later (source_at view t a cached maps)) t.plan.wants (count_of t.listing) a.fates c.fates a.kit.chain c.kit.chain
-      passed_more cached maps nothing one =
-          let call = now_by cached maps nothing one in
-          let source = source_at view t a cached maps in
-          passed_on done later w t.plan.wants more.below more.wasnt more.now more.others source (count_of t.listing) a.fates b.fates c.fates a.kit.chain b.kit.chain c.kit.chain
-          (before.passed cached maps (earlier cached maps nothing) one) call.0 (tallied_want (source w) (count_of t.listing) b.fates c.fates r memory call.1)
+        passed_more : (cached maps : List (Map (List ℕ))) → Nothing a c cached maps → HaveOneSize t.listing a.cache cached maps
+            → PassedBy (source_if later (source_at view t a cached maps)) t.plan.wants (count_of t.listing) a.fates c.fates a.kit.chain c.kit.chain
+        passed_more cached maps nothing one =
+            let call = now_by cached maps nothing one in
+            let source = source_at view t a cached maps in
+            passed_on done later w t.plan.wants more.below more.wasnt more.now more.others source (count_of t.listing) a.fates b.fates c.fates a.kit.chain b.kit.chain c.kit.chain
+            (before.passed alone cached maps (earlier cached maps nothing) one) call.0 (tallied_want (source w) (count_of t.listing) b.fates c.fates r memory call.1)
 
-      left_more : (cached maps : List (Map (List ℕ))) → Nothing a c cached maps → HaveOneSize t.listing a.cache cached maps
-          → (y : ℕ) → y < count_of t.listing → later (want_at t.plan y) ≡ true → settled c.fates y ≡ false → source_at view t a cached maps (want_at t.plan y) ≡ fate.Open
-      left_more cached maps nothing one y inside so isnt = elim (cases_eq (want_at t.plan y) w) [
-        | inl same ↦
-            let size : length t.plan.want_of ≡ count_of t.listing = wants.size in
-            ap (source_at view t a cached maps) same
-            ∙ left_want (source_at view t a cached maps w) (count_of t.listing) b.fates c.fates (of_want t.plan w) r memory (now_by cached maps nothing one).1 all y
-            (among t.plan w y (omega (arith, inside, size)) same) isnt
-        | inr apart ↦ before.left cached maps (earlier cached maps nothing) one y inside (sym (more.others (want_at t.plan y) apart) ∙ so)
-            (open_before b.fates c.fates next.stretch.step.grows y isnt)
-      ]
+        left_more : (cached maps : List (Map (List ℕ))) → Nothing a c cached maps → HaveOneSize t.listing a.cache cached maps
+            → (y : ℕ) → y < count_of t.listing → later (want_at t.plan y) ≡ true → settled c.fates y ≡ false → source_at view t a cached maps (want_at t.plan y) ≡ fate.Open
+        left_more cached maps nothing one y inside so isnt = elim (cases_eq (want_at t.plan y) w) [
+          | inl same ↦
+              let size : length t.plan.want_of ≡ count_of t.listing = wants.size in
+              ap (source_at view t a cached maps) same
+              ∙ left_want (source_at view t a cached maps w) (count_of t.listing) b.fates c.fates (of_want t.plan w) r memory (now_by cached maps nothing one).1 all y
+              (among t.plan w y (omega (arith, inside, size)) same) isnt
+          | inr apart ↦ before.left alone cached maps (earlier cached maps nothing) one y inside (sym (more.others (want_at t.plan y) apart) ∙ so)
+              (open_before b.fates c.fates next.stretch.step.grows y isnt)
+        ]
 
       pub paid_more : Paid later a c
       paid_more = record { untouched = untouched_more; passed = passed_more; left = left_more }
@@ -210,22 +212,22 @@ module _ {S V : Type 0} (store : StoreWords S) (view : ViewWords V) (t : Task) w
   -- at the end: each want is done, or was settled at first
   pub paid_all : (done : ℕ → Bool) (a b : Stage S V)
       → ((w : ℕ) → w < t.plan.wants → (done w ≡ true) ⊎ ((i : ℕ) × IsAmong (of_want t.plan w) i × (settled a.fates i ≡ true))) → Paid done a b
-      → WhereQuiet store view t.listing (from a) (from b) (λ cached maps.
+      → IsAlone a.cache → WhereQuiet store view t.listing (from a) (from b) (λ cached maps.
       PassedBy (source_at view t a cached maps) t.plan.wants (count_of t.listing) a.fates b.fates a.kit.chain b.kit.chain)
-  paid_all done a b all paid cached maps nothing one =
+  paid_all done a b all paid alone cached maps nothing one =
       let source = source_at view t a cached maps in
       passed_as (source_if done source) source t.plan.wants (count_of t.listing) a.fates b.fates a.kit.chain b.kit.chain
       (λ w less. all_done done source w (elim (all w less) [
         | inl is ↦ inl is
         | inr other ↦ inr (source_kept t (views_of view a.kit.seeds.items) maps w cached (settled a.fates) other.0 other.1 other.2)
       ]))
-      (paid.passed cached maps nothing one)
+      (paid.passed alone cached maps nothing one)
 
   -- these wants are done
   pub paid_share : (done these : ℕ → Bool) (a b : Stage S V) → ((w : ℕ) → w < t.plan.wants → done w ≡ these w) → Paid done a b
-      → WhereQuiet store view t.listing (from a) (from b) (λ cached maps.
+      → IsAlone a.cache → WhereQuiet store view t.listing (from a) (from b) (λ cached maps.
       PassedBy (source_if these (source_at view t a cached maps)) t.plan.wants (count_of t.listing) a.fates b.fates a.kit.chain b.kit.chain)
-  paid_share done these a b same paid cached maps nothing one =
+  paid_share done these a b same paid alone cached maps nothing one =
       let source = source_at view t a cached maps in
       passed_as (source_if done source) (source_if these source) t.plan.wants (count_of t.listing) a.fates b.fates a.kit.chain b.kit.chain
-      (λ w less. ap (λ b. if b then source w else fate.Kept) (same w less)) (paid.passed cached maps nothing one)
+      (λ w less. ap (λ b. if b then source w else fate.Kept) (same w less)) (paid.passed alone cached maps nothing one)

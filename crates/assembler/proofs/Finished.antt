@@ -7,6 +7,7 @@ use Rattle.assembler.proofs.Counted.{quiet_part}
 use Rattle.assembler.proofs.Entries.{among, among_of, first_among, ids_same, listed_of}
 use Rattle.assembler.proofs.HadOn.{had_entry, had_from}
 use Rattle.assembler.proofs.Lost.{lacks_since, refused_since, seeds_since}
+use Rattle.assembler.proofs.Others.{alone_given, given_told}
 use Rattle.assembler.proofs.Stepped.{seeds_none, seeds_on}
 use Rattle.assembler.proofs.Stocking.{gives_on, stocking_on, stocking_wider}
 use Rattle.assembler.specs.Assemblies.{After, Assembles, IsObtainable, IsUnobtained, KeepsBase, RightAlike, Verdict}
@@ -25,7 +26,7 @@ use Rattle.caibx_codec.specs.Right.{IsRightAt}
 use Rattle.chunk_sources.proofs.Cached.{gives_part, stocked_none, stocked_told}
 use Rattle.chunk_sources.proofs.Lacking.{Tells, quiet_never, seeds_never, stores_never, tells_of}
 use Rattle.chunk_sources.proofs.SeedAnswers.{telling_on}
-use Rattle.chunk_sources.specs.Caches.{HaveOneSize, Stocked, TakesWants, cache_faults, cached_in}
+use Rattle.chunk_sources.specs.Caches.{HaveOneSize, IsAlone, Stocked, TakesWants, cache_faults, cached_in, given_maps}
 use Rattle.chunk_sources.specs.Losses.{CopiesFailed}
 use Rattle.chunk_sources.specs.Sources.{KeepsSeeds, SeedsGive, Sources, SourcesQuiet, Telling, counts_of, sources, views_of}
 use Rattle.chunk_sources.specs.Wants.{IsAmong, Task}
@@ -214,7 +215,7 @@ module _ {S V : Type 0} (store : StoreWords S) (view : ViewWords V) (t : Task) w
 module _ {S V : Type 0} (store : StoreWords S) (view : ViewWords V) (t : Task) (wants : AreWants t.listing t.plan.wants t.plan.want_of) (old : Sources S V) (a : Stage S V)
     (since : Since store view t old (from a)) (Such : ℕ → Type 0) (base : List ℕ)
     (filled : (i : ℕ) → i < count_of t.listing → settled a.fates i ≡ true → IsRightAt base t.listing i ⊎ Such i)
-    (cached maps : List (Map (List ℕ))) (telling : Telling view.tells (views_of view old.seeds)) (told_cache : cached_in old.cache ≡ Some cached)
+    (cached maps : List (Map (List ℕ))) (telling : Telling view.tells (views_of view old.seeds)) (told_cache : given_maps old.cache ≡ Some cached)
     (told : map store.holds old.chain.stores ≡ map Some maps) where
   abbrev CanBeHad : ℕ → Type 0
   CanBeHad i = IsObtainable t base (views_of view old.seeds) (cached ++ maps) i
@@ -226,7 +227,7 @@ module _ {S V : Type 0} (store : StoreWords S) (view : ViewWords V) (t : Task) (
   permits_from may such can_may Among w less any has i among_w =
       let views = views_of view old.seeds in
       let inside = listed_of t.listing t.plan w i wants among_w in
-      let later = stocked_told (TakesWants store t.listing t.plan (λ v. v < t.plan.wants) old.chain.stores) old.cache a.cache cached since.stocked told_cache in
+      let later = given_told (TakesWants store t.listing t.plan (λ v. v < t.plan.wants) old.chain.stores) old.cache a.cache cached since.stocked told_cache in
       let had = had_from t wants store view (λ v. v < t.plan.wants) old (from a) since.seeds.held since.stocked cached later.0 maps told_cache later.1 told a.fates w
       (has (telling_on view.tells views (views_of view a.kit.seeds.items) since.seeds.held telling) later.0 maps later.1 (since.stores.held ∙ told)) in
       can_may i inside (obtainable t wants Such a.fates base filled views (cached ++ maps) such i inside
@@ -254,6 +255,7 @@ module _ {S V : Type 0} (store : StoreWords S) (view : ViewWords V) (t : Task) (
   pub record Finished (r : Result Unit ExtractFault) : Type 0 where
     pub wants : AreWants t.listing t.plan.wants t.plan.want_of
     pub since : Since store view t old (from a)
+    pub alone : IsAlone old.cache
     pub tells : is_some a.held.bytes ≡ is_some o
     pub whole : WhereTold o a.held.bytes Kept
     pub had : HadAll store view t a b.fates
@@ -261,11 +263,12 @@ module _ {S V : Type 0} (store : StoreWords S) (view : ViewWords V) (t : Task) (
     pub ends : Ends store view t a b r
 
   -- so it is after the second pass alone, whatever the passes before it were, if what they settled is known so
-  pub finished_retry : (r : Result Unit ExtractFault) → AreWants t.listing t.plan.wants t.plan.want_of → Since store view t old (from a) → is_some a.held.bytes ≡ is_some o
+  pub finished_retry : (r : Result Unit ExtractFault) → AreWants t.listing t.plan.wants t.plan.want_of → Since store view t old (from a) → IsAlone old.cache → is_some a.held.bytes ≡ is_some o
       → WhereTold o a.held.bytes Kept → HasPassed store view t one_pass a b → Ends store view t a b r → Finished r
-  finished_retry r wants since tells whole passed ends = record {
+  finished_retry r wants since alone tells whole passed ends = record {
     wants = wants;
     since = since;
+    alone = alone;
     tells = tells;
     whole = whole;
     had = passed.had;
@@ -375,8 +378,9 @@ module _ {S V : Type 0} (store : StoreWords S) (view : ViewWords V) (t : Task) (
       module _ (telling : Telling view.tells views) (told_cache : cached_in old.cache ≡ Some cached) (told : map store.holds old.chain.stores ≡ map Some maps) where
         had_at : (i : ℕ) → i < count_of t.listing → settled b.fates i ≡ true → HadAt t a.fates views (cached ++ maps) i
         had_at i inside is =
-            let later = stocked_told (TakesWants store t.listing t.plan Each old.chain.stores) old.cache a.cache cached done.since.stocked told_cache in
-            had_from t done.wants store view Each old (from a) done.since.seeds.held done.since.stocked cached later.0 maps told_cache later.1 told a.fates (want_at t.plan i)
+            let given = alone_given old.cache done.alone ∙ told_cache in
+            let later = given_told (TakesWants store t.listing t.plan Each old.chain.stores) old.cache a.cache cached done.since.stocked given in
+            had_from t done.wants store view Each old (from a) done.since.seeds.held done.since.stocked cached later.0 maps given later.1 told a.fates (want_at t.plan i)
             (done.had (telling_on view.tells views (views_of view a.kit.seeds.items) done.since.seeds.held telling) later.0 maps later.1 (done.since.stores.held ∙ told) i inside is)
 
         -- what is settled can be had

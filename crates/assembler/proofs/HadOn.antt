@@ -1,10 +1,10 @@
 -- Where the chunks of settled entries came from, from one want to the next.
 use Rattle.std.proofs.Common.{◌≡◌, ◌++◌, Some, ℕ, ◌<◌, Bool, List, length, map, Option, true, false, refl, sym, ◌∙◌, subst, inl, inr, arith}
 use Rattle.std.proofs.lemmas.Bool.{cases_Bool}
-use Rattle.assembler.proofs.Stocking.{gave_from}
+use Rattle.assembler.proofs.Others.{given_gave, given_told}
+use Rattle.assembler.proofs.Stocking.{gave_by}
 use Rattle.chunk_sources.proofs.SeedAnswers.{telling_on}
-use Rattle.chunk_sources.proofs.Cached.{stocked_told}
-use Rattle.chunk_sources.specs.Caches.{Stocked, TakesWants, cached_in}
+use Rattle.chunk_sources.specs.Caches.{Stocked, TakesWants, given_maps}
 use Rattle.chunk_sources.specs.Losses.{Had}
 use Rattle.chunk_sources.specs.Sources.{Sources, views_of}
 use Rattle.chunk_sources.specs.Wants.{IsAmong, Task, want_chunk}
@@ -14,7 +14,7 @@ use Rattle.assembler.specs.Passes.{HadAll, HadAt, want_at}
 use Rattle.assembler.specs.Permits.{MayFillHad}
 use Rattle.assembler.specs.Settling.{Settles}
 use Rattle.assembler.specs.Stages.{Stage, Stretch, from}
-use Rattle.caibx_codec.specs.Listing.{count_of}
+use Rattle.caibx_codec.specs.Listing.{count_of, kind_of}
 use Rattle.dsy_base.specs.Bytes.{Held}
 use Rattle.dsy_base.specs.Maps.{Map}
 use Rattle.dsy_base.specs.declared.view.View.{Ghosts as ViewWords}
@@ -64,20 +64,21 @@ module _ (t : Task) (wants : AreWants t.listing t.plan.wants t.plan.want_of) whe
 
     -- what was had from the cache as it was then was had from it as it was at first, or from a store
     pub had_from : (A : ℕ → Type 0) (old new : Sources S V) → views_of view new.seeds ≡ views_of view old.seeds
-        → Stocked (TakesWants store t.listing t.plan A old.chain.stores) old.cache new.cache → (was now maps : List (Map (List ℕ))) → cached_in old.cache ≡ Some was
-        → cached_in new.cache ≡ Some now → map store.holds old.chain.stores ≡ map Some maps → (m : List Fate) (w : ℕ)
+        → Stocked (TakesWants store t.listing t.plan A old.chain.stores) old.cache new.cache → (was now maps : List (Map (List ℕ))) → given_maps old.cache ≡ Some was
+        → given_maps new.cache ≡ Some now → map store.holds old.chain.stores ≡ map Some maps → (m : List Fate) (w : ℕ)
         → Had m (want_chunk t w) (views_of view new.seeds) (now ++ maps) → Had m (want_chunk t w) (views_of view old.seeds) (was ++ maps)
     had_from A old new seeds stocked was now maps told tells held m w (inl settled_then) = inl settled_then
     had_from A old new seeds stocked was now maps told tells held m w (inr (inl seed)) = subst (λ v. Had m (want_chunk t w) v (was ++ maps)) seeds (inr (inl seed))
     had_from A old new seeds stocked was now maps told tells held m w (inr (inr gives)) =
         let q = want_chunk t w in
-        inr (inr (gave_from store t.listing t.plan A old.chain.stores old.cache new.cache was now maps stocked told tells held q.id q.size gives))
+        inr (inr (gave_by store t.listing t.plan A old.chain.stores was now maps held q.id q.size
+        (given_gave (TakesWants store t.listing t.plan A old.chain.stores) (kind_of t.listing) q.id q.size old.cache new.cache was now stocked told tells) gives))
 
     -- what may be filled over a stage may be filled later
     pub permits_on : (A Among : ℕ → Type 0) (may : ℕ → Bool) (a b : Stage S V) → Stretch store view t A a b → HadAll store view t a b.fates
         → MayFillHad store view t may a Among → MayFillHad store view t may b Among
     permits_on A Among may a b over before permits w less among has = permits w less among (λ told cached maps tells are.
-        let later = stocked_told (TakesWants store t.listing t.plan A a.kit.chain.stores) a.cache b.cache cached over.stocked tells in
+        let later = given_told (TakesWants store t.listing t.plan A a.kit.chain.stores) a.cache b.cache cached over.stocked tells in
         had_by a.fates b.fates b.fates (views_of view a.kit.seeds.items) (cached ++ maps) w (before told cached maps tells are)
         (had_from A (from a) (from b) over.step.seeds.held over.stocked cached later.0 maps tells later.1 are b.fates w
         (has (telling_on view.tells (views_of view a.kit.seeds.items) (views_of view b.kit.seeds.items) over.step.seeds.held told) later.0 maps later.1
@@ -87,7 +88,7 @@ module _ (t : Task) (wants : AreWants t.listing t.plan.wants t.plan.want_of) whe
     pub had_more : (A : ℕ → Type 0) (a b c : Stage S V) (w : ℕ) → Stretch store view t A a b → Settles store view t w b c
         → HadAll store view t a b.fates → HadAll store view t a c.fates
     had_more A a b c w over by before = λ told cached maps has are.
-        let later = stocked_told (TakesWants store t.listing t.plan A a.kit.chain.stores) a.cache b.cache cached over.stocked has in
+        let later = given_told (TakesWants store t.listing t.plan A a.kit.chain.stores) a.cache b.cache cached over.stocked has in
         had_on a.fates b.fates c.fates (views_of view a.kit.seeds.items) (cached ++ maps) w (before told cached maps has are) by.only
         (λ i isnt is. had_from A (from a) (from b) over.step.seeds.held over.stocked cached later.0 maps has later.1 are b.fates w
         (by.had (telling_on view.tells (views_of view a.kit.seeds.items) (views_of view b.kit.seeds.items) over.step.seeds.held told) later.0 maps later.1

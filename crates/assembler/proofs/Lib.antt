@@ -4,6 +4,7 @@ pub mod Entries
 pub mod Counted
 pub mod CacheSpared
 pub mod Stocking
+pub mod Others
 pub mod Stepped
 pub mod Asked
 pub mod HadOn

@@ -6,6 +6,7 @@ use Rattle.assembler.proofs.Entries.{among_of, first_among, ids_same, listed_of}
 use Rattle.std.proofs.lemmas.Bool.{true≢false}
 use Rattle.assembler.proofs.Filled.{rose_still, settled_on}
 use Rattle.assembler.proofs.Passed.{OneMore}
+use Rattle.assembler.proofs.Stepped.{alone_since}
 use Rattle.assembler.proofs.Tried.{is_tried}
 use Rattle.range_ledger.specs.Fills.{Grows}
 use Rattle.assembler.specs.Losses.{IsFirstOpen, Where, lost_want}
@@ -18,7 +19,7 @@ use Rattle.assembler.specs.declared.fault.Unsettled.TheVariants as unsettled
 use Rattle.caibx_codec.specs.Asks.{IsListedGet}
 use Rattle.caibx_codec.specs.Listing.{count_of, id_of, kind_of, size_of}
 use Rattle.chunk_sources.proofs.Cached.{stocked_falls, stocked_gave, stocked_was}
-use Rattle.chunk_sources.specs.Caches.{CacheLacks, Stocked, TakesWants, cache_faults}
+use Rattle.chunk_sources.specs.Caches.{CacheLacks, IsAlone, Stocked, TakesWants, cache_faults}
 use Rattle.chunk_sources.specs.Losses.{AskedLast, CopiesFailed, RefusedBy}
 use Rattle.chunk_sources.specs.Sources.{HeldAt, KeepsSeeds, SeedsFailed, counts_of, views_of}
 use Rattle.chunk_sources.specs.Wants.{Task, want_chunk}
@@ -177,10 +178,10 @@ module _ {S V : Type 0} (store : StoreWords S) (view : ViewWords V) (t : Task) w
 
   -- so it is where a call for a want has ended so
   pub lost_ended : (a b : Stage S V) (w : ℕ) (lost : Lost) (r : Result Unit Unsettled) (e : Unsettled) → AreWants t.listing t.plan.wants t.plan.want_of → w < t.plan.wants → Over (λ v. v ≡ w) a b
-      → HasEnded store view t w a b r → r ≡ Err e → e ≡ unsettled.Lost lost → lost.refused ≢ refused.Memory → AreLost a b lost
-  lost_ended a b w lost r e wants below over ended is why had_memory =
+      → IsAlone a.cache → HasEnded store view t w a b r → r ≡ Err e → e ≡ unsettled.Lost lost → lost.refused ≢ refused.Memory → AreLost a b lost
+  lost_ended a b w lost r e wants below over alone ended is why had_memory =
       lost_now a b w lost wants below over (lost_of _ _ r e lost is why ended.lost) (lost_of _ _ r e lost is why ended.refused had_memory) (lost_of _ _ r e lost is why ended.asked had_memory)
-      (lost_of _ _ r e lost is why ended.missed had_memory) had_memory
+      (lost_of _ _ r e lost is why ended.missed had_memory alone) had_memory
 
   -- ---- over wants that were tried
 
@@ -198,10 +199,10 @@ module _ {S V : Type 0} (store : StoreWords S) (view : ViewWords V) (t : Task) w
           more.others (want_at t.plan lost.entry) apart ∙ was.1,
         )
 
-    pub newly_lost : (A : ℕ → Type 0) (lost : Lost) (r : Result Unit Unsettled) (e : Unsettled) → Over A a b → HasEnded store view t w b c r → r ≡ Err e → e ≡ unsettled.Lost lost
+    pub newly_lost : (A : ℕ → Type 0) (lost : Lost) (r : Result Unit Unsettled) (e : Unsettled) → Over A a b → IsAlone a.cache → HasEnded store view t w b c r → r ≡ Err e → e ≡ unsettled.Lost lost
         → lost.refused ≢ refused.Memory → LostTried (set tried w true) a c lost
-    newly_lost A lost r e first ended is why had_memory =
+    newly_lost A lost r e first alone ended is why had_memory =
         let first_of_all : IsFirstOpen t.listing b.fates (of_want t.plan w) lost = lost_of _ _ r e lost is why ended.lost in (
-          lost_since A a b c lost first (lost_ended b c w lost r e wants more.below next ended is why had_memory),
+          lost_since A a b c lost first (lost_ended b c w lost r e wants more.below next (alone_since store view t A a b first alone) ended is why had_memory),
           ap (is_tried (set tried w true)) (among_of t.plan w lost.entry first_of_all.among).1 ∙ more.now,
         )

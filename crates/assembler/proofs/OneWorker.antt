@@ -4,6 +4,7 @@ use Rattle.std.proofs.lemmas.Bool.{eq-eqb}
 use Rattle.assembler.proofs.EconomyPaid.{passed_as}
 use Rattle.assembler.proofs.Passed.{share_all}
 use Rattle.assembler.specs.Economy.{PassedBy}
+use Rattle.chunk_sources.specs.Caches.{IsAlone}
 use Rattle.chunk_sources.specs.Economy.{source_if}
 use Rattle.assembler.specs.Passes.{HasPassed, HasPassedShare, WhereQuiet, one_pass, source_at, want_at}
 use Rattle.assembler.specs.Permits.{deals_to}
@@ -21,8 +22,8 @@ deals_all : (d : Deal) (w : ℕ) → d.workers ≡ 1 → deals_to d 0 w ≡ true
 deals_all d w one = ap (λ n. w % n == 0) one ∙ eq-eqb (w % 1) 0 (omega arith)
 
 module _ {S V : Type 0} (store : StoreWords S) (view : ViewWords V) (t : Task) (one : t.plan.workers ≡ 1) (a b : Stage S V) where
-  pub passed_alone : HasPassedShare store view t (deals_to t.plan 0) a b → HasPassed store view t one_pass a b
-  passed_alone passed = share_all store view t (deals_to t.plan 0) a b (λ w. deals_all t.plan w one) passed
+  pub passed_alone : IsAlone a.cache → HasPassedShare store view t (deals_to t.plan 0) a b → HasPassed store view t one_pass a b
+  passed_alone alone passed = share_all store view t (deals_to t.plan 0) a b alone (λ w. deals_all t.plan w one) passed
 
   pub exactly_alone : WhereQuiet store view t.listing (from a) (from b) (λ cached maps.
       PassedBy (source_if (deals_to t.plan 0) (source_at view t a cached maps)) t.plan.wants (count_of t.listing) a.fates b.fates a.kit.chain b.kit.chain)

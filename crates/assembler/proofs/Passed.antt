@@ -7,6 +7,7 @@ use Rattle.assembler.proofs.Stepped.{stretch_none, stretch_on, stretch_wider}
 use Rattle.assembler.specs.Passes.{HadAll, HasPassed, HasPassedShare, one_pass}
 use Rattle.assembler.specs.Settling.{Settles}
 use Rattle.assembler.specs.Stages.{Stage, Stretch}
+use Rattle.chunk_sources.specs.Caches.{IsAlone}
 use Rattle.chunk_sources.specs.Wants.{Task}
 use Rattle.chunk_store.specs.declared.store.Store.{Ghosts as StoreWords}
 use Rattle.dsy_base.specs.declared.view.View.{Ghosts as ViewWords}
@@ -41,11 +42,11 @@ module _ {S V : Type 0} (store : StoreWords S) (view : ViewWords V) (t : Task) w
         (λ v is. more.others v (λ same. true≢false (sym is ∙ ap done same ∙ more.wasnt)) ∙ is) (λ v same. ap later same ∙ more.now) a b c first.stretch next.stretch;
   }
 
-  -- what it leaves in the end
-  pub done_all : (done : ℕ → Bool) (a b : Stage S V) → ((v : ℕ) → done v ≡ true → v < t.plan.wants) → WantsDone done a b → HasPassed store view t one_pass a b
-  done_all done a b within passed = record {
+  -- what it leaves in the end, where nobody else fills the cache
+  pub done_all : (done : ℕ → Bool) (a b : Stage S V) → IsAlone a.cache → ((v : ℕ) → done v ≡ true → v < t.plan.wants) → WantsDone done a b → HasPassed store view t one_pass a b
+  done_all done a b alone within passed = record {
     had = passed.had;
-    asks = asks_done_all store view t done a b passed.asks;
+    asks = asks_done_all store view t done a b alone passed.asks;
     stretch = stretch_wider store view t (λ v. done v ≡ true) (λ v. v < t.plan.wants) within a b passed.stretch;
   }
 
@@ -58,9 +59,9 @@ module _ {S V : Type 0} (store : StoreWords S) (view : ViewWords V) (t : Task) w
     stretch = stretch_wider store view t (λ v. done v ≡ true) (λ v. (v < t.plan.wants) × (these v ≡ true)) within a b passed.stretch;
   }
 
-  pub share_all : (these : ℕ → Bool) (a b : Stage S V) → ((v : ℕ) → these v ≡ true) → HasPassedShare store view t these a b → HasPassed store view t one_pass a b
-  share_all these a b all passed = record {
+  pub share_all : (these : ℕ → Bool) (a b : Stage S V) → IsAlone a.cache → ((v : ℕ) → these v ≡ true) → HasPassedShare store view t these a b → HasPassed store view t one_pass a b
+  share_all these a b alone all passed = record {
     had = passed.had;
-    asks = asks_share_all store view t these all a b passed.asks;
+    asks = asks_share_all store view t these all a b alone passed.asks;
     stretch = stretch_wider store view t (λ v. (v < t.plan.wants) × (these v ≡ true)) (λ v. v < t.plan.wants) (λ v both. both.0) a b passed.stretch;
   }

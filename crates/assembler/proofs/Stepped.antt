@@ -2,16 +2,19 @@
 use Rattle.std.proofs.Common.{◌≡◌, ℕ, List, length, IfSome, refl, sym, ap, ◌∙◌, subst, inl, inr, arith}
 use Rattle.std.proofs.lemmas.List.{length-map}
 use Rattle.assembler.proofs.Filled.{grows_none, grows_on, told_none, told_on}
+use Rattle.assembler.proofs.Others.{alone_on, suits_on}
 use Rattle.assembler.proofs.Stocking.{stocking_on, stocking_wider}
 use Rattle.assembler.specs.Stages.{Ready, Stage, Progress, Stretch}
 use Rattle.caibx_codec.specs.Asks.{IsListedGet}
 use Rattle.caibx_codec.specs.Listing.{Listing}
 use Rattle.chunk_sources.proofs.Cached.{stocked_kind, stocked_none, stocked_some}
 use Rattle.chunk_sources.proofs.SeedAnswers.{falls_on}
-use Rattle.chunk_sources.specs.Caches.{TakesWants}
+use Rattle.chunk_sources.specs.AnyCaches.{Suits}
+use Rattle.chunk_sources.specs.Caches.{IsAlone, TakesWants}
 use Rattle.chunk_sources.specs.Losses.{MayLack}
 use Rattle.chunk_sources.specs.Sources.{KeepsSeeds, counts_of}
 use Rattle.chunk_sources.specs.Wants.{Task}
+use Rattle.chunk_sources.specs.declared.cache.Cache.{Ghosts as CacheWords}
 use Rattle.chunk_store.specs.declared.id.DigestKind.{DigestKind}
 use Rattle.chunk_store.specs.declared.store.Store.{Ghosts as StoreWords}
 use Rattle.dsy_base.specs.declared.view.View.{Ghosts as ViewWords}
@@ -103,6 +106,15 @@ module _ {S V : Type 0} (store : StoreWords S) (view : ViewWords V) where
       cache = subst (λ (k : DigestKind). IfSome b.cache (λ s. s.kind ≡ k)) (sym over.step.kind)
           (stocked_kind (TakesWants store t.listing t.plan A a.kit.chain.stores) a.cache b.cache a.kit.chain.kind over.stocked ready.cache);
     }
+
+    -- what suits the cache suits it afterwards, and who else fills it
+    pub suits_since : {C : Type 0} (words : CacheWords C) (A : ℕ → Type 0) (a b : Stage S V) → Over A a b → Suits words store t.listing a.kit.chain.stores a.cache
+        → Suits words store t.listing b.kit.chain.stores b.cache
+    suits_since words A a b over suits =
+        suits_on words store t.listing (TakesWants store t.listing t.plan A a.kit.chain.stores) a.kit.chain.stores b.kit.chain.stores a.cache b.cache over.step.stores.held over.stocked suits
+
+    pub alone_since : (A : ℕ → Type 0) (a b : Stage S V) → Over A a b → IsAlone a.cache → IsAlone b.cache
+    alone_since A a b over alone = alone_on (TakesWants store t.listing t.plan A a.kit.chain.stores) a.cache b.cache over.stocked alone
 
     -- if there is a cache now there was one
     pub may_lack_before : (A : ℕ → Type 0) (a b : Stage S V) → Over A a b → MayLack store b.cache → MayLack store a.cache

@@ -54,17 +54,23 @@ module _ {S : Type 0} (store : StoreWords S) (l : Listing) (d : Deal) where
       any_map (λ (m : Map (List ℕ)). m id ≡ Some b) (λ (m : Map (List ℕ)). GivesChunk (kind_of l) id n (m id)) (λ m at. (b, at, right)) maps
       (subst (λ (q : List ℕ). Any (λ (m : Map (List ℕ)). m q ≡ Some b) maps) (sym is) (held maps told))
 
+  -- where what a cache gives it gave before, or it was added, the cache and the stores together gave what they give
+  pub gave_by : (A : ℕ → Type 0) (stores : List S) (was now maps : List (Map (List ℕ))) → map store.holds stores ≡ map Some maps → (id : List ℕ) (n : ℕ)
+      → (SomeGives (kind_of l) id n now → SomeGives (kind_of l) id n was ⊎ ((b : List ℕ) × Takes A stores id b × IsChunk (kind_of l) id n b))
+      → SomeGives (kind_of l) id n (now ++ maps) → SomeGives (kind_of l) id n (was ++ maps)
+  gave_by A stores was now maps held id n gave gives = elim (gives_part (kind_of l) id n now maps gives) [
+    | inl cache ↦ elim (gave cache) [
+      | inl before ↦ gives_left (kind_of l) id n was maps before
+      | inr (b, takes, right) ↦ gives_right (kind_of l) id n was maps (takes_give A stores maps id b n held takes right)
+    ]
+    | inr store ↦ gives_right (kind_of l) id n was maps store
+  ]
+
   module _ (A : ℕ → Type 0) (stores : List S) (e f : Option Shelf) (was now maps : List (Map (List ℕ))) (stocked : Stocked (Takes A stores) e f)
       (told : cached_in e ≡ Some was) (tells : cached_in f ≡ Some now) (held : map store.holds stores ≡ map Some maps) where
     -- the cache and the stores together gave what they give
-    pub gave_from : (id : List ℕ) (n : ℕ) → SomeGives (kind_of l) id n (now ++ maps) → SomeGives (kind_of l) id n (was ++ maps)
-    gave_from id n gives = elim (gives_part (kind_of l) id n now maps gives) [
-      | inl cache ↦ elim (stocked_gave (Takes A stores) (kind_of l) id n e f was now stocked told tells cache) [
-        | inl before ↦ gives_left (kind_of l) id n was maps before
-        | inr (b, takes, right) ↦ gives_right (kind_of l) id n was maps (takes_give A stores maps id b n held takes right)
-      ]
-      | inr store ↦ gives_right (kind_of l) id n was maps store
-    ]
+    gave_from : (id : List ℕ) (n : ℕ) → SomeGives (kind_of l) id n (now ++ maps) → SomeGives (kind_of l) id n (was ++ maps)
+    gave_from id n gives = gave_by A stores was now maps held id n (stocked_gave (Takes A stores) (kind_of l) id n e f was now stocked told tells) gives
 
     pub one_size_on : HaveOneSize l e was maps → HaveOneSize l f now maps
     one_size_on one = λ some id n m listed other first second.

@@ -7,6 +7,7 @@ use Rattle.assembler.proofs.EconomyRetried.{unless_map}
 use Rattle.assembler.proofs.Filled.{open_before, torn_on}
 use Rattle.assembler.proofs.HadOn.{had_from, had_through}
 use Rattle.assembler.proofs.Lost.{lost_since}
+use Rattle.assembler.proofs.Others.{alone_given, given_told}
 use Rattle.assembler.proofs.Stepped.{may_lack_before, stretch_on}
 use Rattle.assembler.proofs.Stocking.{give_before, one_size_on}
 use Rattle.assembler.proofs.TwoPasses.{ends_map, err_map}
@@ -18,7 +19,7 @@ use Rattle.caibx_codec.specs.Listing.{count_of}
 use Rattle.chunk_sources.proofs.Cached.{stocked_told}
 use Rattle.chunk_sources.proofs.SeedAnswers.{telling_on}
 use Rattle.chunk_sources.specs.Asks.{asks_below, calls_below}
-use Rattle.chunk_sources.specs.Caches.{TakesWants}
+use Rattle.chunk_sources.specs.Caches.{IsAlone, TakesWants}
 use Rattle.chunk_sources.specs.Sources.{views_of}
 use Rattle.chunk_sources.specs.Wants.{Task}
 use Rattle.chunk_store.specs.declared.store.Store.{Ghosts as StoreWords}
@@ -49,7 +50,7 @@ module _ {S V : Type 0} (store : StoreWords S) (view : ViewWords V) (t : Task) (
       had = λ tells cached maps has told i inside is.
           let over = first.stretch in
           let views : Stage S V → _ = λ x. views_of view x.kit.seeds.items in
-          let later = stocked_told (TakesWants store t.listing t.plan All a.kit.chain.stores) a.cache b.cache cached over.stocked has in
+          let later = given_told (TakesWants store t.listing t.plan All a.kit.chain.stores) a.cache b.cache cached over.stocked has in
           let had = next.had (telling_on view.tells (views a) (views b) over.step.seeds.held tells) later.0 maps later.1 (over.step.stores.held ∙ told) i inside is in
           had_through t wants a.fates b.fates (views a) (cached ++ maps) i inside (first.had tells cached maps has told)
           (had_from t wants store view All (from a) (from b) over.step.seeds.held over.stocked cached later.0 maps has later.1 told b.fates (want_at t.plan i) had);
@@ -93,13 +94,13 @@ module _ {S V : Type 0} (store : StoreWords S) (view : ViewWords V) (t : Task) (
           memory = λ is. may_lack_before store view t All a b over (ends.memory is);
         }
 
-    pub exactly_both : (r : Result Unit ExtractFault)
+    pub exactly_both : (r : Result Unit ExtractFault) → IsAlone a.cache
         → WhereQuiet store view t.listing (from a) (from b) (λ cached maps. PassedBy (source_at view t a cached maps) t.plan.wants (count_of t.listing) a.fates b.fates a.kit.chain b.kit.chain)
         → WhereQuiet store view t.listing (from a) (from b) (λ cached maps. (i : ℕ) → i < count_of t.listing → settled b.fates i ≡ false
         → source_at view t a cached maps (want_at t.plan i) ≡ fate.Open)
         → WhereQuiet store view t.listing (from b) (from c) (λ cached maps. UnlessMemory (PassedBy (source_at view t b cached maps) t.plan.wants (count_of t.listing) b.fates c.fates b.kit.chain c.kit.chain) r)
         → WhereQuiet store view t.listing (from a) (from c) (λ cached maps. UnlessMemory (AssembledBy (source_at view t a cached maps) t.plan.wants (count_of t.listing) a.fates c.fates a.kit.chain c.kit.chain) r)
-    exactly_both r passed left again = λ cached maps nothing one.
+    exactly_both r alone passed left again = λ cached maps nothing one.
         let over = first.stretch in
         let views = views_of view a.kit.seeds.items in
         let later = stocked_told (TakesWants store t.listing t.plan All a.kit.chain.stores) a.cache b.cache cached over.stocked nothing.told_cache in
@@ -108,7 +109,7 @@ module _ {S V : Type 0} (store : StoreWords S) (view : ViewWords V) (t : Task) (
         let still = one_size_on store t.listing t.plan All a.kit.chain.stores a.cache b.cache cached later.0 maps over.stocked nothing.told_cache later.1 nothing.told one in
         unless_map _ _ r
         (λ more. passes_by t wants a.fates b.fates views cached later.0 maps
-        (first.had sooner.telling cached maps sooner.told_cache sooner.told) (left cached maps sooner one)
+        (first.had sooner.telling cached maps (alone_given a.cache alone ∙ sooner.told_cache) sooner.told) (left cached maps sooner one)
         c.fates (views_of view b.kit.seeds.items) a.kit.chain b.kit.chain c.kit.chain over.step.seeds.held
         (give_before store t.listing t.plan All a.kit.chain.stores a.cache b.cache cached later.0 maps over.stocked nothing.told_cache later.1 nothing.told wants (λ w below. below) one)
         (passed cached maps sooner one) more)

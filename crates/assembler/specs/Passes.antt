@@ -10,7 +10,7 @@ use Rattle.assembler.specs.declared.fault.Lost.{Lost}
 use Rattle.caibx_codec.specs.Asks.{IsListedGet}
 use Rattle.caibx_codec.specs.Listing.{Listing, count_of, id_of, kind_of, size_of}
 use Rattle.chunk_sources.specs.Asks.{AreSpared, AsksAtMost, ShareAsks, asks_below, calls_below}
-use Rattle.chunk_sources.specs.Caches.{CacheLacks, HaveOneSize, cached_in}
+use Rattle.chunk_sources.specs.Caches.{CacheLacks, HaveOneSize, given_maps}
 use Rattle.chunk_sources.specs.Economy.{source_over}
 use Rattle.chunk_sources.specs.Losses.{CopiesFailed, Had, MayLack, RefusedBy}
 use Rattle.chunk_sources.specs.Sources.{SeedsFailed, Sources, SourcesQuiet, Telling, counts_of, views_of}
@@ -103,7 +103,7 @@ module _ {S V : Type 0} (store : StoreWords S) (view : ViewWords V) where
     -- where the chunk of each entry that is settled now may have come from, over a stage
     abbrev pub HadAll : Stage S V → List Fate → Type 0
     HadAll a now = Telling view.tells (views_of view a.kit.seeds.items) → (cached maps : List (Map (List ℕ)))
-        → cached_in a.cache ≡ Some cached → map store.holds a.kit.chain.stores ≡ map Some maps
+        → given_maps a.cache ≡ Some cached → map store.holds a.kit.chain.stores ≡ map Some maps
         → (i : ℕ) → i < count_of t.listing → settled now i ≡ true
         → HadAt t a.fates (views_of view a.kit.seeds.items) (cached ++ maps) i
 

@@ -5,13 +5,14 @@ use Rattle.assembler.specs.declared.work.Work.{Work}
 use Rattle.cache_store.specs.Shelves.{Shelf}
 use Rattle.caibx_codec.specs.Asks.{IsListedGet}
 use Rattle.caibx_codec.specs.Listing.{Listing, count_of, kind_of, size_of}
-use Rattle.chunk_sources.specs.Caches.{Stocked, TakesWants, seen}
+use Rattle.chunk_sources.specs.AnyCaches.{seen_in}
+use Rattle.chunk_sources.specs.Caches.{Stocked, TakesWants}
 use Rattle.chunk_sources.specs.Sources.{KeepsSeeds, Sources, sources}
 use Rattle.chunk_sources.specs.Wants.{Task}
+use Rattle.chunk_sources.specs.declared.cache.Cache.{Ghosts as CacheWords}
 use Rattle.chunk_sources.specs.declared.kit.Kit.{Kit}
 use Rattle.chunk_store.specs.declared.store.Store.{Ghosts as StoreWords}
 use Rattle.dsy_base.specs.Bytes.{Held}
-use Rattle.dsy_base.specs.declared.look.Look.{Ghosts as LookWords}
 use Rattle.dsy_base.specs.declared.view.View.{Ghosts as ViewWords}
 use Rattle.extract_plan.specs.Deal.{AreWants}
 use Rattle.extract_plan.specs.Places.{PlacesKnown}
@@ -33,13 +34,13 @@ pub record Stage (S V : Type 0) : Type 0 where
   pub cache : Option Shelf
 
 -- the stage that a run has come to
-abbrev pub stage : {E S V F : Type 0} → LedgerWords E → LookWords F → Work E S V F → Stage S V
-stage ledger look w = record {
+abbrev pub stage : {E S V C : Type 0} → LedgerWords E → CacheWords C → Work E S V C → Stage S V
+stage ledger words w = record {
   held = ledger.held w.ledger;
   faults = ledger.faults w.ledger;
   fates = ledger.fates w.ledger;
   kit = w.kit;
-  cache = seen look w.cache;
+  cache = seen_in words w.cache;
 }
 
 -- what its chunks are got from

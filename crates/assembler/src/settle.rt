@@ -10,7 +10,8 @@ ghost use Rattle.assembler.specs.Settling.{HasEnded, Settles};
 ghost use Rattle.assembler.specs.Stages.{Ready, from, stage, task};
 ghost use Rattle.assembler.specs.declared.fault.Lost.{Lost};
 ghost use Rattle.caibx_codec.specs.Listing.{count_of, kind_of};
-ghost use Rattle.chunk_sources.specs.Caches.{CacheLacks, Stocked, TakesChunk, cached_in, seen};
+ghost use Rattle.chunk_sources.specs.AnyCaches.{Suits, seen_in};
+ghost use Rattle.chunk_sources.specs.Caches.{CacheLacks, IfShared, IsAlone, Stocked, TakesChunk, given_maps};
 ghost use Rattle.chunk_sources.specs.Economy.{source_among};
 ghost use Rattle.chunk_sources.specs.Losses.{AskedLast, Had, HadOver, MayLack, RefusedBy, chunk_of};
 ghost use Rattle.chunk_sources.specs.Sources.{KeepsSeeds, SourcesQuiet, Telling, sources, views_of};
@@ -19,6 +20,7 @@ ghost use Rattle.chunk_store.specs.Asks.{Get};
 ghost use Rattle.dsy_base.specs.Counts.{Rose};
 ghost use Rattle.dsy_base.specs.Maps.{Map};
 ghost use Rattle.extract_plan.specs.Places.{PlacesFit};
+ghost use Rattle.locked_cache.specs.Additions.{MayAdd};
 ghost use Rattle.range_ledger.specs.Fills.{Fills, FillsTorn, Grows, WhereTold};
 ghost use Rattle.range_survey.specs.Fates.{settled};
 ghost use Rattle.store_chain.specs.Chains.{KeepsStores};
@@ -26,11 +28,10 @@ ghost use Rattle.store_chain.specs.Chains.{KeepsStores};
 use crate::fault::{Lost, Unsettled};
 use crate::put::put;
 use crate::work::{Wants, Work};
-use cache_store::shelf::CacheShelf;
+use chunk_sources::cache::Cache;
 use chunk_sources::obtain::{Sought, obtain};
 use chunk_store::store::Store;
 use dsy_base::fault::Failed;
-use dsy_base::folder::Folder;
 use dsy_base::view::View;
 use extract_plan::seed::Seed;
 use range_ledger::ledger::Ledger;
@@ -64,11 +65,11 @@ struct Opened<'a> {
 }
 
 // Makes the open ones of the entries that are sought right, of which the opened one is the first.
-fn settle_open<E: Ledger, S: Store, V: View, F: Folder>(
+fn settle_open<E: Ledger, S: Store, V: View, C: Cache>(
     opened: &Opened<'_>,
     ledger: &mut E,
     seeds: &mut [Seed<V>],
-    cache: &mut Option<CacheShelf<F>>,
+    cache: &mut Option<C>,
     chain: &mut Chain<S>,
     buf: &mut [u8],
 ) -> Result<(), Unsettled>
@@ -78,18 +79,22 @@ fn settle_open<E: Ledger, S: Store, V: View, F: Folder>(
     requires places { PlacesFit (length seeds.old) opened.now.size opened.now.sought.places.now }
     requires room { opened.now.size ≤ length buf.old }
     requires kind { chain.old.kind ≡ kind_of E.run.listing }
-    requires unnamed { (F.pairs ≡ None) × (F.stores ≡ None) }
-    requires cache { IfSome (seen F.Look cache.old) (λ s. s.kind ≡ chain.old.kind) }
+    requires own { IfSome (seen_in C.Cache cache.old)
+        (λ s. s.others ≡ None → (C.pairs ≡ None) × (C.stores ≡ None)) }
+    requires takes { IfShared (seen_in C.Cache cache.old) ((b : List ℕ) → TakesChunk S.Store chain.old.kind
+        opened.now.sought.id.0 opened.now.size chain.old.stores opened.now.sought.id.0 b → MayAdd C.pairs C.stores
+        opened.now.sought.id.0 b) }
+    requires cache { IfSome (seen_in C.Cache cache.old) (λ s. s.kind ≡ chain.old.kind) }
     requires may { HadOver S.Store V.View (E.fates ledger.old)
         (sought_chunk (kind_of E.run.listing) opened.now.sought opened.now.size)
-        (sources (E.faults ledger.old) seeds.old (seen F.Look cache.old) chain.old) →
+        (sources (E.faults ledger.old) seeds.old (seen_in C.Cache cache.old) chain.old) →
         (i : ℕ) → IsAmong opened.now.sought.entries.now i → E.run.may i ≡ true }
     ensures ok { OnOk result ((i : ℕ) → IsAmong opened.now.sought.entries.now i →
         settled (E.fates ledger.new) i ≡ true) }
     ensures only { (i : ℕ) → settled (E.fates ledger.old) i ≡ false → settled (E.fates ledger.new) i ≡ true →
         IsAmong opened.now.sought.entries.now i }
     ensures had { Telling V.tells (views_of V.View seeds.old) → (cached maps : List (Map (List ℕ))) →
-        cached_in (seen F.Look cache.old) ≡ Some cached → map S.holds chain.old.stores ≡ map Some maps → (i : ℕ) →
+        given_maps (seen_in C.Cache cache.old) ≡ Some cached → map S.holds chain.old.stores ≡ map Some maps → (i : ℕ) →
         settled (E.fates ledger.old) i ≡ false → settled (E.fates ledger.new) i ≡ true → Had (E.fates ledger.old)
         (sought_chunk (kind_of E.run.listing) opened.now.sought opened.now.size) (views_of V.View seeds.old)
         (cached ++ maps) }
@@ -101,23 +106,25 @@ fn settle_open<E: Ledger, S: Store, V: View, F: Folder>(
     ensures refused { Where (λ x. x.refused ≢ Refused.Memory → RefusedBy S.Store
         (chunk_of (kind_of E.run.listing) opened.now.sought.id opened.now.size) chain.old.stores chain.new.stores
         x.refused) (Unit {0}) result }
-    ensures missed { Where (λ x. x.refused ≢ Refused.Memory → CacheLacks (kind_of E.run.listing) opened.now.sought.id.0
-        opened.now.size (seen F.Look cache.old) (seen F.Look cache.new)) (Unit {0}) result }
+    ensures missed { Where (λ x. x.refused ≢ Refused.Memory → IsAlone (seen_in C.Cache cache.old) →
+        CacheLacks (kind_of E.run.listing) opened.now.sought.id.0 opened.now.size (seen_in C.Cache cache.old)
+        (seen_in C.Cache cache.new)) (Unit {0}) result }
     ensures asked { Where (λ x. x.refused ≢ Refused.Memory → AskedLast S.Store V.View
         (sought_chunk (kind_of E.run.listing) opened.now.sought opened.now.size) (E.fates ledger.old)
-        (sources (E.faults ledger.old) seeds.old (seen F.Look cache.old) chain.old)
-        (sources (E.faults ledger.new) seeds.new (seen F.Look cache.new) chain.new)) (Unit {0}) result }
-    ensures memory { Where (λ x. x.refused ≡ Refused.Memory → MayLack S.Store (seen F.Look cache.old)) (Unit {0})
+        (sources (E.faults ledger.old) seeds.old (seen_in C.Cache cache.old) chain.old)
+        (sources (E.faults ledger.new) seeds.new (seen_in C.Cache cache.new) chain.new)) (Unit {0}) result }
+    ensures memory { Where (λ x. x.refused ≡ Refused.Memory → MayLack S.Store (seen_in C.Cache cache.old)) (Unit {0})
         result }
     ensures asks { (chain.new ≡ chain.old) ⊎ AskedLast S.Store V.View
         (sought_chunk (kind_of E.run.listing) opened.now.sought opened.now.size) (E.fates ledger.old)
-        (sources (E.faults ledger.old) seeds.old (seen F.Look cache.old) chain.old)
-        (sources (E.faults ledger.new) seeds.new (seen F.Look cache.new) chain.new) }
+        (sources (E.faults ledger.old) seeds.old (seen_in C.Cache cache.old) chain.old)
+        (sources (E.faults ledger.new) seeds.new (seen_in C.Cache cache.new) chain.new) }
 
-    // Where nothing fails.
-    ensures exactly { (cached maps : List (Map (List ℕ))) → SourcesQuiet S.Store V.View
-        (sources (E.faults ledger.old) seeds.old (seen F.Look cache.old) chain.old)
-        (sources (E.faults ledger.new) seeds.new (seen F.Look cache.new) chain.new) cached maps →
+    // Where nothing fails, and nobody else fills the cache.
+    ensures exactly { IsAlone (seen_in C.Cache cache.old) → (cached maps : List (Map (List ℕ))) →
+        SourcesQuiet S.Store V.View
+        (sources (E.faults ledger.old) seeds.old (seen_in C.Cache cache.old) chain.old)
+        (sources (E.faults ledger.new) seeds.new (seen_in C.Cache cache.new) chain.new) cached maps →
         SettlesBy (source_among (settled (E.fates ledger.old))
         (sought_chunk (kind_of E.run.listing) opened.now.sought opened.now.size) (views_of V.View seeds.old) cached
         maps) (count_of E.run.listing) (E.fates ledger.old) (E.fates ledger.new) chain.old chain.new result }
@@ -131,7 +138,7 @@ fn settle_open<E: Ledger, S: Store, V: View, F: Folder>(
     ensures faults { E.faults ledger.old ≤ E.faults ledger.new }
     ensures seeds { KeepsSeeds V.View seeds.old seeds.new }
     ensures stocked { Stocked (TakesChunk S.Store (kind_of E.run.listing) opened.now.sought.id.0 opened.now.size
-        chain.old.stores) (seen F.Look cache.old) (seen F.Look cache.new) }
+        chain.old.stores) (seen_in C.Cache cache.old) (seen_in C.Cache cache.new) }
     ensures stores { KeepsStores S.Store (λ a. a ≡ Get opened.now.sought.id.0) chain.old.stores chain.new.stores }
     ensures same_kind { chain.new.kind ≡ chain.old.kind }
 {
@@ -151,26 +158,27 @@ fn settle_open<E: Ledger, S: Store, V: View, F: Folder>(
 }
 
 /// Makes the open entries of a want right, and leaves all others.
-pub(crate) fn settle<E: Ledger, S: Store, V: View, F: Folder>(
+pub(crate) fn settle<E: Ledger, S: Store, V: View, C: Cache>(
     wants: &Wants<'_>,
     want: usize,
-    work: &mut Work<E, S, V, F>,
+    work: &mut Work<E, S, V, C>,
 ) -> Result<(), Unsettled>
     requires listing { wants.now.index.now ≡ E.run.listing }
-    requires ready { Ready (task E.run.listing wants.now) (stage E.Ledger F.Look work.old) }
+    requires ready { Ready (task E.run.listing wants.now) (stage E.Ledger C.Cache work.old) }
     requires want { want < wants.now.plan.now.wants }
-    requires unnamed { (F.pairs ≡ None) × (F.stores ≡ None) }
+    requires suits { Suits C.Cache S.Store E.run.listing work.old.kit.chain.stores (seen_in C.Cache work.old.cache) }
     requires may { MayFillWant S.Store V.View (task E.run.listing wants.now) E.run.may
-        (stage E.Ledger F.Look work.old) want }
-    ensures settles { Settles S.Store V.View (task E.run.listing wants.now) want (stage E.Ledger F.Look work.old)
-        (stage E.Ledger F.Look work.new) }
-    ensures ends { HasEnded S.Store V.View (task E.run.listing wants.now) want (stage E.Ledger F.Look work.old)
-        (stage E.Ledger F.Look work.new) result }
+        (stage E.Ledger C.Cache work.old) want }
+    ensures settles { Settles S.Store V.View (task E.run.listing wants.now) want (stage E.Ledger C.Cache work.old)
+        (stage E.Ledger C.Cache work.new) }
+    ensures ends { HasEnded S.Store V.View (task E.run.listing wants.now) want (stage E.Ledger C.Cache work.old)
+        (stage E.Ledger C.Cache work.new) result }
 
-    // Where nothing fails.
-    ensures exactly { (cached maps : List (Map (List ℕ))) → SourcesQuiet S.Store V.View
-        (from (stage E.Ledger F.Look work.old)) (from (stage E.Ledger F.Look work.new)) cached maps →
-        SettlesBy (source_at V.View (task E.run.listing wants.now) (stage E.Ledger F.Look work.old) cached maps
+    // Where nothing fails, and nobody else fills the cache.
+    ensures exactly { IsAlone (seen_in C.Cache work.old.cache) → (cached maps : List (Map (List ℕ))) →
+        SourcesQuiet S.Store V.View
+        (from (stage E.Ledger C.Cache work.old)) (from (stage E.Ledger C.Cache work.new)) cached maps →
+        SettlesBy (source_at V.View (task E.run.listing wants.now) (stage E.Ledger C.Cache work.old) cached maps
         want) (count_of E.run.listing) (E.fates work.old.ledger) (E.fates work.new.ledger) work.old.kit.chain
         work.new.kit.chain result }
 {

@@ -3,11 +3,10 @@
 ghost use Rattle.std.specs.Prelude.{◌≡◌};
 ghost use Rattle.assembler.specs.Permits.{deals_to};
 
-use cache_store::shelf::CacheShelf;
 use caibx_codec::index::Index;
+use chunk_sources::cache::Cache;
 use chunk_sources::kit::Kit;
 use chunk_store::store::Store;
-use dsy_base::folder::Folder;
 use dsy_base::view::View;
 use extract_plan::plan::Plan;
 use extract_plan::seeds::SeedIndex;
@@ -32,8 +31,8 @@ impl<'a> Wants<'a> {
 
 /// The entries, where their chunks come from, and the cache, if there is one.
 #[derive(Drop)]
-pub struct Work<E: Ledger, S: Store, V: View, F: Folder> {
+pub struct Work<E: Ledger, S: Store, V: View, C: Cache> {
     pub ledger: E,
     pub kit: Kit<S, V>,
-    pub cache: Option<CacheShelf<F>>,
+    pub cache: Option<C>,
 }

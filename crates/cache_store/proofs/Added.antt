@@ -74,7 +74,7 @@ module _ (id b : List ℕ) (is : IsId id)
   told_by P f h None = tt
   told_by P f h (Some m) = h m
 
-  module _ (old new : Shelf) (place : new.place ≡ old.place) (kind : new.kind ≡ old.kind) (never_falls : old.faults ≤ new.faults) where
+  module _ (old new : Shelf) (place : new.place ≡ old.place) (kind : new.kind ≡ old.kind) (never_falls : old.faults ≤ new.faults) (alone : new.others ≡ old.others) where
     by : (f : Map (List ℕ) → Map (List ℕ)) → ((m : Map (List ℕ)) → Holds Adds m (f m)) → ((m : Map (List ℕ)) → Strangers m (f m))
         → new.files ≡ option_map f old.files → Stocks Adds old new
     by f each others e = record {
@@ -84,6 +84,7 @@ module _ (id b : List ℕ) (is : IsId id)
       place = place;
       kind = kind;
       never_falls = never_falls;
+      others = alone;
     }
 
     pub added_stocks : (k : Kept) → AddedTo id b k old new → Stocks (λ q x. (q ≡ id) × (x ≡ b)) old new

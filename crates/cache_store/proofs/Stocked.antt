@@ -77,6 +77,7 @@ module _ (Takes : List ℕ → List ℕ → Type 0) where
     place = refl;
     kind = refl;
     never_falls = omega arith;
+    others = refl;
   }
 
   -- a shelf to which something was added, and then more
@@ -88,6 +89,7 @@ module _ (Takes : List ℕ → List ℕ → Type 0) where
     place = then.place ∙ first.place;
     kind = then.kind ∙ first.kind;
     never_falls = omega (arith, first.never_falls, then.never_falls);
+    others = then.others ∙ first.others;
   }
 
   -- a shelf that was only looked at
@@ -99,6 +101,7 @@ module _ (Takes : List ℕ → List ℕ → Type 0) where
     place = h.place;
     kind = h.kind;
     never_falls = h.never_falls;
+    others = h.others;
   }
 
   -- what may be added may be more
@@ -110,6 +113,7 @@ module _ (Takes : List ℕ → List ℕ → Type 0) where
     place = h.place;
     kind = h.kind;
     never_falls = h.never_falls;
+    others = h.others;
   }
 
   gives_before_one : (kind : DigestKind) (id : List ℕ) (size : ℕ) (x y : Option (List ℕ)) → (y ≡ x) ⊎ ((b : List ℕ) × (y ≡ Some b) × Takes id b) → GivesChunk kind id size y

@@ -1,5 +1,6 @@
 -- What contracts see of a shelf, what is found on it, and how it changes.
-use Rattle.std.specs.Prelude.{◌≡◌, ℕ, ◌⊎◌, ◌≤◌, List, take, Option, Some, IfSome, IsTrue, Result, Ok, Err, is_some}
+use Rattle.std.specs.Prelude.{◌≡◌, ℕ, ◌⊎◌, ◌≤◌, List, take, Option, Some, None, IfSome, IsTrue, Result, Ok, Err}
+use Rattle.std.specs.Prelude.{is_some}
 use Rattle.std.specs.List.{Any}
 use Rattle.std.specs.Option.{option_map}
 use Rattle.cache_store.specs.declared.shelf.CacheMiss.{CacheMiss}
@@ -16,18 +17,31 @@ pub record Shelved (F : Type 0) : Type 0 where
   pub folder : F
   pub kind : DigestKind
 
--- the files of its folder, where they are told, the name that the folder was taken under, the count of its faults, and
--- the digest that names the chunks
+-- what others may add to a shelf that is shared: chunks of these ids and sizes, which these stores hold, where that is
+-- known
+pub record Others : Type 0 where
+  pub pairs : Option (List (List ℕ × ℕ))
+  pub stores : Option (List (Map (List ℕ)))
+
+-- the files of its folder, where they are told, the name that the folder was taken under, the count of its faults, the
+-- digest that names the chunks, and what others may add meanwhile: nothing where the shelf isn't shared. The files of a
+-- shared shelf are those that it had before anybody added any
 pub record Shelf : Type 0 where
   pub files : Option (Map (List ℕ))
   pub place : List ℕ
   pub faults : ℕ
   pub kind : DigestKind
+  pub others : Option Others
 
 -- the shelf of a folder whose files, name and count these functions tell
 abbrev pub shelf_of : {F : Type 0} → (F → Option (Map (List ℕ))) → (F → List ℕ) → (F → ℕ) → Shelved F → Shelf
-shelf_of files place faults s =
-    record { files = files s.folder; place = place s.folder; faults = faults s.folder; kind = s.kind }
+shelf_of files place faults s = record {
+  files = files s.folder;
+  place = place s.folder;
+  faults = faults s.folder;
+  kind = s.kind;
+  others = None;
+}
 
 -- the chunks that it holds
 abbrev pub held_on : Shelf → Option (Map (List ℕ))
@@ -51,6 +65,7 @@ pub record KeepsShelf (old new : Shelf) : Type 0 where
   pub place : new.place ≡ old.place
   pub kind : new.kind ≡ old.kind
   pub never_falls : old.faults ≤ new.faults
+  pub others : new.others ≡ old.others
 
 -- chunks were added to a shelf: under each id it holds what it held, or bytes that may stand there by `Takes`. Each
 -- file that is neither a chunk's nor a temporary one stands as before
@@ -63,3 +78,4 @@ pub record Stocks (Takes : List ℕ → List ℕ → Type 0) (old new : Shelf) :
   pub place : new.place ≡ old.place
   pub kind : new.kind ≡ old.kind
   pub never_falls : old.faults ≤ new.faults
+  pub others : new.others ≡ old.others

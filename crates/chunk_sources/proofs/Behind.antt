@@ -1,5 +1,5 @@
 -- What the cache and the stores behind it gave, and what it took.
-use Rattle.std.proofs.Common.{◌≡◌, ◌⊎◌, ◌++◌, ℕ, ◌<◌, ◌^◌, List, [], ◌∷◌, map, take, Option, Some, None, IfSome, true, false, Result, Ok, Err, sym, ap, ◌∙◌, subst, inl, inr, slice_index, refl, arith, ◌≢◌}
+use Rattle.std.proofs.Common.{◌≡◌, ◌⊎◌, ◌++◌, ℕ, ◌<◌, List, [], ◌∷◌, map, take, Option, Some, None, IfSome, true, Result, Ok, Err, sym, ap, ◌∙◌, subst, inl, inr, slice_index, refl, arith}
 use Rattle.std.proofs.lemmas.Bool.{true≢false}
 use Rattle.std.proofs.lemmas.Option.{same_Some}
 use Rattle.std.specs.Option.{option_map}
@@ -10,8 +10,8 @@ use Rattle.cache_store.specs.declared.cached.Got.{Got}
 use Rattle.chunk_sources.proofs.Cached.{gives_left, gives_one, gives_right, one_gives, told_at}
 use Rattle.chunk_sources.proofs.Lacking.{quiet_never, lacked_memory}
 use Rattle.chunk_sources.proofs.Obtained.{holds_gives}
-use Rattle.chunk_sources.proofs.Origins.{by_cache, by_none, by_store, by_want}
-use Rattle.chunk_sources.specs.Caches.{CacheFailed, TakesChunk, cached_in}
+use Rattle.chunk_sources.proofs.Origins.{by_none, by_store, by_want}
+use Rattle.chunk_sources.specs.Caches.{AddsSize, CacheFailed, TakesChunk, cached_in}
 use Rattle.chunk_sources.specs.Economy.{ObtainedBy, source_behind}
 use Rattle.chunk_sources.specs.Losses.{chunk_of}
 use Rattle.chunk_store.specs.Folders.{chunks}
@@ -27,7 +27,6 @@ use Rattle.store_chain.specs.Faults.{EachQuiet}
 use Rattle.store_chain.specs.Giving.{Gives, SomeHolds}
 use Rattle.store_chain.specs.Queries.{IsWanted}
 use Rattle.store_chain.specs.declared.refused.Refused.{Refused}
-use Rattle.store_chain.specs.declared.refused.Refused.TheVariants as refused
 use Rattle.store_chain.specs.declared.query.Query.{Query}
 
 if_some : {X : Type 0} (o : Option X) (P : X → Type 0) (x : X) → o ≡ Some x → IfSome o P → P x
@@ -44,15 +43,15 @@ none_given kind id size cached told gives =
 unfound_failed : (kind : DigestKind) (id : ChunkId) (size : ℕ) (old new : Shelf) → Unfound (chunk_of kind id size) old new → CacheFailed kind id.0 size (Some old) (Some new)
 unfound_failed kind id size old new unfound = go old.files unfound where
   go : (o : Option (Map (List ℕ))) → IfSome (option_map chunks o) (λ m. Gives (chunk_of kind id size) m → Rose old.faults new.faults)
-      → IfSome (option_map (λ m. chunks m ∷ []) o) (λ cached. SomeGives kind id.0 size cached → Rose old.faults new.faults)
+      → IfSome (option_map (λ m. chunks m ∷ []) o) (λ cached. SomeGives kind id.0 size cached → AddsSize id.0 size (Some old) → Rose old.faults new.faults)
   go None h = tt
-  go (Some m) h = λ gives.
+  go (Some m) h = λ gives adds.
       let chunk = gives_one kind id.0 size (chunks m) gives in
       h (chunk.0, chunk.1, record { named = chunk.2.named; sized = chunk.2.sized; fits = omega (arith, chunk.2.sized) })
 
 -- where there is no cache none failed
 pub none_failed : (kind : DigestKind) (id : List ℕ) (size : ℕ) (new : Option Shelf) → CacheFailed kind id size None new
-none_failed kind id size new = λ gives. absurd (none_given kind id size [] refl gives)
+none_failed kind id size new = λ gives adds. absurd (none_given kind id size [] refl gives)
 
 -- a shelf that is told, and quiet, gives nothing that wasn't found on it
 unfound_never : (kind : DigestKind) (id : ChunkId) (size : ℕ) (old new : Shelf) (cached : List (Map (List ℕ))) → cached_in (Some old) ≡ Some cached
@@ -84,11 +83,6 @@ module _ {F S : Type 0} (look : LookWords F) (store : StoreWords S) (kind : Dige
   asks_through r (inl from) = inl from.chain
   asks_through r (inr from) = inr (from.asks, unfound_failed kind id size before after from.unfound)
 
-  pub asked_through : (r : Refused) → Ends (Err r) → r ≢ refused.Memory
-      → AsksOnce store.asked store.queried id.0 old.chain new.chain × CacheFailed kind id.0 size (Some before) (Some after)
-  asked_through r (inl from) isnt = absurd (isnt from.answer)
-  asked_through r (inr from) isnt = (from.asks, unfound_failed kind id size before after from.unfound)
-
   module _ (cached maps : List (Map (List ℕ))) (told : cached_in (Some before) ≡ Some cached) (held : map store.holds old.chain.stores ≡ map Some maps) where
     from_shelf : (got : Got) → IsWanted w (take got.size out) → FromShelf look.files look.place look.faults w old new (Ok got) out → SomeGives kind id.0 size cached
     from_shelf got right from =
@@ -111,11 +105,6 @@ module _ {F S : Type 0} (look : LookWords F) (store : StoreWords S) (kind : Dige
       fetched_through got up right (inr from) =
           by_store kind id.0 size cached maps old.chain new.chain (unfound_never kind id size before after cached told still from.unfound) from.asks.calls
           (from_stores got right from)
-
-      pub cached_through : (got : Got) → got.upstream ≡ false → old.chain.asks < 2 ^ 64 → IsWanted w (take got.size out) → Ends (Ok got)
-          → ObtainedBy (source_behind kind id.0 size cached maps) old.chain new.chain (Ok fate.Cached)
-      cached_through got up below right (inl from) = by_cache kind id.0 size cached maps old.chain new.chain below from.chain (from_shelf got right from)
-      cached_through got up below right (inr from) = absurd (true≢false (sym from.added.0 ∙ up))
 
       pub refused_through : EachQuiet (map store.faults old.chain.stores) (map store.faults new.chain.stores) → (r : Refused) → Ends (Err r) → ObtainedBy (source_behind kind id.0 size cached maps) old.chain new.chain (Err r)
       refused_through quiet r (inl from) =

@@ -4,3 +4,4 @@ pub mod Lacking
 pub mod Cached
 pub mod Origins
 pub mod Behind
+pub mod Shared

@@ -99,9 +99,6 @@ module _ {S : Type 0} (kind : DigestKind) (id : List ℕ) (size : ℕ) (cached m
   abbrev behind : Fate
   behind = source_behind kind id size cached maps
 
-  pub by_cache : old.asks < 2 ^ 64 → new ≡ old → SomeGives kind id size cached → ObtainedBy behind old new (Ok fate.Cached)
-  by_cache below same gives = rw ((stores_decide kind id size cached).1 gives, same) (λ isnt. same_raised old.asks below, refl)
-
   pub by_want : ObtainedBy behind old new (Err refused.Memory)
   by_want = (λ isnt. absurd (isnt refl), inl refl)
 

@@ -4,7 +4,7 @@ use Rattle.std.specs.Prelude.{Bool, true, if◌then◌else◌}
 use Rattle.std.specs.List.{Any}
 use Rattle.std.specs.Str.{bytes_eq}
 use Rattle.caibx_codec.specs.Listing.{size_of}
-use Rattle.chunk_sources.specs.Caches.{CacheGives}
+use Rattle.chunk_sources.specs.Caches.{AddsSize, CacheGives}
 use Rattle.chunk_sources.specs.Sources.{HeldAt, Sources, counts_of, views_of}
 use Rattle.chunk_sources.specs.Wants.{IsAmong, Task}
 use Rattle.chunk_store.specs.declared.store.Store.{Ghosts as StoreWords}
@@ -63,10 +63,12 @@ module _ {S V : Type 0} (store : StoreWords S) (view : ViewWords V) (t : Task) w
   AreSpared m old new spared =
       (w : ℕ) → w < t.plan.wants → spared w ≡ true → IsSpared (λ j. settled m j ≡ true) old new w
 
-  -- one pass over these wants asks at most once for each of them, not for a spared one, and for no other
+  -- one pass over these wants asks at most once for each of them, and for no other. It doesn't ask for a spared one to
+  -- whose id others add no other size
   abbrev pub ShareAsks : List Fate → Sources S V → Sources S V → (ℕ → Bool) → Type 0
   ShareAsks m old new these = (spared : ℕ → Bool)
       → ((w : ℕ) → w < t.plan.wants → these w ≡ true → spared w ≡ true
-      → IsSpared (λ j. settled m j ≡ true) old new w)
+      → IsSpared (λ j. settled m j ≡ true) old new w × AddsSize (want_id t.listing t.plan w)
+      (size_of t.listing (first_of t.plan w)) old.cache)
       → AsksAtMost store (calls_below (others_spared these spared) t.plan.wants)
       (λ q. asks_below (want_id t.listing t.plan) (others_spared these spared) t.plan.wants q) old.chain new.chain

@@ -1,27 +1,69 @@
 -- The cache among the sources, where there is one.
-use Rattle.std.specs.Prelude.{◌≡◌, ℕ, ◌<◌, List, [], ◌∷◌, ◌++◌, Option, Some, None, IsSome, IfSome, IsSomeAnd}
+use Rattle.std.specs.Prelude.{◌≡◌, ℕ, ◌<◌, List, [], ◌∷◌, ◌++◌, length, Option, Some, None, IsSome, IfSome, IsSomeAnd}
 use Rattle.std.specs.Option.{option_map}
 use Rattle.cache_store.specs.Giving.{GiveOneSize, SomeGives}
-use Rattle.cache_store.specs.Shelves.{Shelf, Shelved, Stocks, shelf_of}
+use Rattle.cache_store.specs.Shelves.{Others, Shelf, Shelved, Stocks, shelf_of}
 use Rattle.caibx_codec.specs.Listing.{Listing, count_of, id_of, kind_of, size_of}
 use Rattle.chunk_store.specs.Folders.{chunks}
 use Rattle.chunk_store.specs.Giving.{IsChunk}
 use Rattle.chunk_store.specs.declared.id.DigestKind.{DigestKind}
+use Rattle.chunk_store.specs.declared.id.DigestKind.TheVariants.{Sha512T256}
 use Rattle.chunk_store.specs.declared.store.Store.{Ghosts as StoreWords}
 use Rattle.dsy_base.specs.Counts.{Quiet, Rose}
 use Rattle.dsy_base.specs.Maps.{Map}
 use Rattle.dsy_base.specs.declared.look.Look.{Ghosts as LookWords}
 use Rattle.extract_plan.specs.Deal.{Deal, first_of, want_id}
+use Rattle.locked_cache.specs.Additions.{MayAdd}
 use Rattle.store_chain.specs.Giving.{SomeHolds}
 
--- what is seen of it
+-- what is seen of it, where it is a shelf of one's own
 abbrev pub seen : {F : Type 0} → LookWords F → Option (Shelved F) → Option Shelf
 seen look cache = option_map (shelf_of look.files look.place look.faults) cache
 
--- the chunks that it holds, where it tells them: one map. Where there is no cache there is none
+-- the chunks that it holds, where it tells them: one map. Where there is no cache there is none. Of a shared one those
+-- that it held before anybody added any
 abbrev pub cached_in : Option Shelf → Option (List (Map (List ℕ)))
 cached_in None = Some []
 cached_in (Some s) = option_map (λ m. chunks m ∷ []) s.files
+
+-- the maps of which one holds what a shared shelf gives, where they are told: those chunks, and the stores of what
+-- others add
+abbrev pub shared_maps : Option (Map (List ℕ)) → Option (List (Map (List ℕ))) → Option (List (Map (List ℕ)))
+shared_maps None stores = None
+shared_maps (Some m) stores = option_map (λ maps. chunks m ∷ maps) stores
+
+-- the same of any shelf: where it isn't shared, its chunks alone
+abbrev pub maps_with : Option (Map (List ℕ)) → Option Others → Option (List (Map (List ℕ)))
+maps_with files None = option_map (λ m. chunks m ∷ []) files
+maps_with files (Some o) = shared_maps files o.stores
+
+-- the maps of which one holds what the cache gives, where they are told
+abbrev pub given_maps : Option Shelf → Option (List (Map (List ℕ)))
+given_maps None = Some []
+given_maps (Some s) = maps_with s.files s.others
+
+-- nobody else adds to it
+abbrev pub IsAlone : Option Shelf → Type 0
+IsAlone cache = IfSome cache (λ s. s.others ≡ None)
+
+-- this holds where others add to it too
+abbrev pub IfShared : Option Shelf → Type 0 → Type 0
+IfShared cache P = IfSome cache (λ s. IfSome s.others (λ _. P))
+
+-- what others add to it under the id has this size
+abbrev pub AddsSize : List ℕ → ℕ → Option Shelf → Type 0
+AddsSize id size cache =
+    IfSome cache (λ s. IfSome s.others (λ o. (b : List ℕ) → MayAdd o.pairs o.stores id b → length b ≡ size))
+
+-- a shared cache that held these files at first, and whose own calls have failed so often
+abbrev pub shared_shelf : Option (Map (List ℕ)) → Option (List (List ℕ × ℕ)) → Option (List (Map (List ℕ))) → ℕ → Shelf
+shared_shelf opening pairs stores faults = record {
+  files = opening;
+  place = [];
+  faults = faults;
+  kind = Sha512T256;
+  others = Some (record { pairs = pairs; stores = stores });
+}
 
 -- how often it has failed
 abbrev pub cache_faults : Option Shelf → ℕ
@@ -33,10 +75,10 @@ abbrev pub CacheLacks : DigestKind → List ℕ → ℕ → Option Shelf → Opt
 CacheLacks kind id size old new = (now : List (Map (List ℕ))) → cached_in new ≡ Some now → SomeGives kind id size now
     → Rose (cache_faults old) (cache_faults new)
 
--- where it gave the chunk it has failed
+-- where it gave the chunk, and others add none of another size under the id, it has failed
 abbrev pub CacheFailed : DigestKind → List ℕ → ℕ → Option Shelf → Option Shelf → Type 0
 CacheFailed kind id size old new = IfSome (cached_in old) (λ cached. SomeGives kind id size cached
-    → Rose (cache_faults old) (cache_faults new))
+    → AddsSize id size old → Rose (cache_faults old) (cache_faults new))
 
 -- chunks were added to it
 abbrev pub Stocked : (List ℕ → List ℕ → Type 0) → Option Shelf → Option Shelf → Type 0

@@ -1,3 +1,4 @@
+pub mod AnyCaches
 pub mod Wants
 pub mod Caches
 pub mod Sources

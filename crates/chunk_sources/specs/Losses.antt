@@ -2,7 +2,7 @@
 use Rattle.std.specs.Prelude.{◌≡◌, ◌⊎◌, ◌++◌, ℕ, List, map, Some, true, Option, slice_index, IsSome, IsTrue}
 use Rattle.cache_store.specs.Giving.{SomeGives}
 use Rattle.cache_store.specs.Shelves.{Shelf}
-use Rattle.chunk_sources.specs.Caches.{CacheFailed, cached_in}
+use Rattle.chunk_sources.specs.Caches.{CacheFailed, given_maps}
 use Rattle.chunk_sources.specs.Sources.{SeedsFailed, SeedsGive, Sources, Telling, counts_of, views_of}
 use Rattle.chunk_sources.specs.Wants.{IsAmong, Wanted}
 use Rattle.chunk_store.specs.declared.id.ChunkId.{ChunkId}
@@ -47,7 +47,7 @@ Had fates q views maps = ((j : ℕ) × IsAmong q.entries j × (settled fates j �
 -- so it came where seeds, cache and stores tell
 abbrev pub HadOver : {S V : Type 0} → StoreWords S → ViewWords V → List Fate → Wanted → Sources S V → Type 0
 HadOver store view fates q s = Telling view.tells (views_of view s.seeds) → (cached maps : List (Map (List ℕ)))
-    → cached_in s.cache ≡ Some cached → map store.holds s.chain.stores ≡ map Some maps
+    → given_maps s.cache ≡ Some cached → map store.holds s.chain.stores ≡ map Some maps
     → Had fates q (views_of view s.seeds) (cached ++ maps)
 
 -- the stores refused what is wanted, answered so, and lack it so if they tell what they hold

@@ -2,6 +2,7 @@
 //! stores.
 #![tactic(auto)]
 
+pub mod cache;
 mod copy;
 pub mod kit;
 pub mod obtain;

@@ -3,7 +3,8 @@
 ghost use Rattle.std.specs.Prelude.{◌≡◌, ◌≢◌, ◌⊎◌, ◌++◌, ℕ, List, ◌≤◌, length, map, true, None, Some};
 ghost use Rattle.std.specs.Prelude.{IfSome, IfOk, IfErr, IsTrue, OnOk};
 ghost use Rattle.caibx_codec.specs.Listing.{kind_of};
-ghost use Rattle.chunk_sources.specs.Caches.{CacheLacks, Stocked, TakesChunk, cached_in, seen};
+ghost use Rattle.chunk_sources.specs.AnyCaches.{seen_in};
+ghost use Rattle.chunk_sources.specs.Caches.{CacheLacks, IfShared, IsAlone, Stocked, TakesChunk, given_maps};
 ghost use Rattle.chunk_sources.specs.Economy.{ObtainedBy, source_among};
 ghost use Rattle.chunk_sources.specs.Losses.{AskedLast, Had, MayLack, RefusedBy, chunk_of};
 ghost use Rattle.chunk_sources.specs.Sources.{KeepsSeeds, SourcesQuiet, Telling, sources, views_of};
@@ -12,16 +13,16 @@ ghost use Rattle.chunk_store.specs.Asks.{Get};
 ghost use Rattle.chunk_store.specs.Names.{name_of};
 ghost use Rattle.dsy_base.specs.Maps.{Map};
 ghost use Rattle.extract_plan.specs.Places.{PlacesFit};
+ghost use Rattle.locked_cache.specs.Additions.{MayAdd};
 ghost use Rattle.range_survey.specs.Fates.{is_made, is_settled, settled};
 ghost use Rattle.store_chain.specs.Chains.{KeepsStores};
 
+use crate::cache::Cache;
 use crate::copy::copy;
 use crate::seeding::from_seeds;
 use crate::upstream::from_upstream;
-use cache_store::shelf::CacheShelf;
 use chunk_store::id::ChunkId;
 use chunk_store::store::Store;
-use dsy_base::folder::Folder;
 use dsy_base::view::View;
 use extract_plan::seed::{Seed, SeedPlace};
 use range_ledger::ledger::Ledger;
@@ -39,45 +40,51 @@ pub struct Sought<'a> {
 
 /// Fills `chunk` with the chunk that is sought, which has its size, and answers where it came from. The cache and then
 /// the stores are asked only where no entry of the target and no seed gave it.
-pub fn obtain<E: Ledger, S: Store, V: View, F: Folder>(
+pub fn obtain<E: Ledger, S: Store, V: View, C: Cache>(
     sought: &Sought<'_>,
     ledger: &mut E,
     seeds: &mut [Seed<V>],
-    cache: &mut Option<CacheShelf<F>>,
+    cache: &mut Option<C>,
     chain: &mut Chain<S>,
     chunk: &mut [u8],
 ) -> Result<Fate, Refused>
     requires entries { AllOf E.run.listing sought.now.id.0 (length chunk.old) sought.now.entries.now }
     requires places { PlacesFit (length seeds.old) (length chunk.old) sought.now.places.now }
     requires kind { chain.old.kind ≡ kind_of E.run.listing }
-    requires unnamed { (F.pairs ≡ None) × (F.stores ≡ None) }
-    requires cache { IfSome (seen F.Look cache.old) (λ s. s.kind ≡ chain.old.kind) }
+    requires own { IfSome (seen_in C.Cache cache.old)
+        (λ s. s.others ≡ None → (C.pairs ≡ None) × (C.stores ≡ None)) }
+    requires takes { IfShared (seen_in C.Cache cache.old) ((b : List ℕ) → TakesChunk S.Store chain.old.kind
+        sought.now.id.0 (length chunk.old) chain.old.stores sought.now.id.0 b → MayAdd C.pairs C.stores
+        sought.now.id.0 b) }
+    requires cache { IfSome (seen_in C.Cache cache.old) (λ s. s.kind ≡ chain.old.kind) }
     ensures ok { OnOk result (IsTrue E.tells → name_of (kind_of E.run.listing) chunk.new ≡ sought.now.id.0) }
     ensures origin { IfOk result (λ f. is_settled f ≡ true) }
     ensures made { IfOk result (λ f. is_made f ≡ true) }
     ensures had { Telling V.tells (views_of V.View seeds.old) → (cached maps : List (Map (List ℕ))) →
-        cached_in (seen F.Look cache.old) ≡ Some cached → map S.holds chain.old.stores ≡ map Some maps →
+        given_maps (seen_in C.Cache cache.old) ≡ Some cached → map S.holds chain.old.stores ≡ map Some maps →
         OnOk result (Had (E.fates ledger.old) (sought_chunk (kind_of E.run.listing) sought.now (length chunk.old))
         (views_of V.View seeds.old) (cached ++ maps)) }
     ensures refused { IfErr result (λ r. r ≢ Refused.Memory → RefusedBy S.Store
         (chunk_of (kind_of E.run.listing) sought.now.id (length chunk.old)) chain.old.stores chain.new.stores r) }
-    ensures memory { IfErr result (λ r. r ≡ Refused.Memory → MayLack S.Store (seen F.Look cache.old)) }
-    ensures missed { IfErr result (λ r. r ≢ Refused.Memory → CacheLacks (kind_of E.run.listing) sought.now.id.0
-        (length chunk.old) (seen F.Look cache.old) (seen F.Look cache.new)) }
+    ensures memory { IfErr result (λ r. r ≡ Refused.Memory → MayLack S.Store (seen_in C.Cache cache.old)) }
+    ensures missed { IfErr result (λ r. r ≢ Refused.Memory → IsAlone (seen_in C.Cache cache.old) →
+        CacheLacks (kind_of E.run.listing) sought.now.id.0 (length chunk.old) (seen_in C.Cache cache.old)
+        (seen_in C.Cache cache.new)) }
     // The chain is asked where no other source gave the chunk, and always before a refusal.
     ensures asks { (chain.new ≡ chain.old) ⊎ AskedLast S.Store V.View
         (sought_chunk (kind_of E.run.listing) sought.now (length chunk.old)) (E.fates ledger.old)
-        (sources (E.faults ledger.old) seeds.old (seen F.Look cache.old) chain.old)
-        (sources (E.faults ledger.new) seeds.new (seen F.Look cache.new) chain.new) }
+        (sources (E.faults ledger.old) seeds.old (seen_in C.Cache cache.old) chain.old)
+        (sources (E.faults ledger.new) seeds.new (seen_in C.Cache cache.new) chain.new) }
     ensures asked { IfErr result (λ r. r ≢ Refused.Memory → AskedLast S.Store V.View
         (sought_chunk (kind_of E.run.listing) sought.now (length chunk.old)) (E.fates ledger.old)
-        (sources (E.faults ledger.old) seeds.old (seen F.Look cache.old) chain.old)
-        (sources (E.faults ledger.new) seeds.new (seen F.Look cache.new) chain.new)) }
+        (sources (E.faults ledger.old) seeds.old (seen_in C.Cache cache.old) chain.old)
+        (sources (E.faults ledger.new) seeds.new (seen_in C.Cache cache.new) chain.new)) }
 
-    // Where nothing fails.
-    ensures exactly { (cached maps : List (Map (List ℕ))) → SourcesQuiet S.Store V.View
-        (sources (E.faults ledger.old) seeds.old (seen F.Look cache.old) chain.old)
-        (sources (E.faults ledger.new) seeds.new (seen F.Look cache.new) chain.new) cached maps →
+    // Where nothing fails, and nobody else adds to the cache.
+    ensures exactly { IsAlone (seen_in C.Cache cache.old) → (cached maps : List (Map (List ℕ))) →
+        SourcesQuiet S.Store V.View
+        (sources (E.faults ledger.old) seeds.old (seen_in C.Cache cache.old) chain.old)
+        (sources (E.faults ledger.new) seeds.new (seen_in C.Cache cache.new) chain.new) cached maps →
         ObtainedBy (source_among (settled (E.fates ledger.old))
         (sought_chunk (kind_of E.run.listing) sought.now (length chunk.old)) (views_of V.View seeds.old) cached maps)
         chain.old chain.new result }
@@ -87,7 +94,7 @@ pub fn obtain<E: Ledger, S: Store, V: View, F: Folder>(
     ensures faults { E.faults ledger.old ≤ E.faults ledger.new }
     ensures seeds { KeepsSeeds V.View seeds.old seeds.new }
     ensures stocked { Stocked (TakesChunk S.Store (kind_of E.run.listing) sought.now.id.0 (length chunk.old)
-        chain.old.stores) (seen F.Look cache.old) (seen F.Look cache.new) }
+        chain.old.stores) (seen_in C.Cache cache.old) (seen_in C.Cache cache.new) }
     ensures stores { KeepsStores S.Store (λ a. a ≡ Get sought.now.id.0) chain.old.stores chain.new.stores }
     ensures same_kind { chain.new.kind ≡ chain.old.kind }
 {

@@ -8,7 +8,7 @@ use Rattle.assembler.specs.Stages.{Stage, from}
 use Rattle.assembler.specs.declared.fault.ExtractFault.{ExtractFault}
 use Rattle.cache_store.specs.Shelves.{Shelf}
 use Rattle.caibx_codec.specs.Listing.{count_of, image_length}
-use Rattle.chunk_sources.specs.Caches.{Stocked, TakesWants}
+use Rattle.chunk_sources.specs.Caches.{IsAlone, Stocked, TakesWants}
 use Rattle.chunk_sources.specs.Sources.{Sources, views_of}
 use Rattle.chunk_sources.specs.Wants.{Task}
 use Rattle.chunk_sources.specs.declared.kit.Kit.{Kit}
@@ -48,6 +48,7 @@ module _ {S V : Type 0} (store : StoreWords S) (view : ViewWords V) (r : Run) (d
           stores = comes.stores;
           stocked = subst (λ (s : Option Shelf). Stocked (TakesWants store t.listing t.plan (λ v. v < t.plan.wants) old.chain.stores) s None) (sym comes.cache) tt;
         })
+        (subst (λ (s : Option Shelf). IsAlone s) (sym comes.cache) tt)
         (comes.tells ∙ sym comes.told)
         (stands_joined r w old.faults comes.before o comes.base (some_map w.held.bytes (λ y. length y ≡ w.held.size) (λ y. length y ≡ image_length r.listing) (λ y is. is ∙ long) sized) kept)
         passed ends

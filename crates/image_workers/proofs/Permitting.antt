@@ -10,7 +10,7 @@ use Rattle.assembler.specs.Stages.{Stage}
 use Rattle.cache_store.specs.Giving.{SomeGives}
 use Rattle.caibx_codec.specs.Listing.{count_of, id_of, kind_of, size_of}
 use Rattle.caibx_codec.specs.Right.{IsRightAt}
-use Rattle.chunk_sources.specs.Caches.{cached_in}
+use Rattle.chunk_sources.specs.Caches.{given_maps}
 use Rattle.chunk_sources.specs.Losses.{Had}
 use Rattle.chunk_sources.specs.Sources.{SeedsGive, Telling, views_of}
 use Rattle.chunk_sources.specs.Wants.{Task, want_chunk}
@@ -55,7 +55,7 @@ module _ (r : Run) (d : Deal) (x : Placed) (wants : AreWants r.listing d.wants d
   permits store view views told permit a none seen holds filled Among w less any has i among =
       let inside = listed_of r.listing d w i wants among in
       permit i inside (λ tells telling maps is.
-      let had : Had a.fates (want_chunk t w) (views_of view a.kit.seeds.items) maps = has (subst (Telling view.tells) (sym seen) telling) [] maps (ap cached_in none) (holds ∙ is) in
+      let had : Had a.fates (want_chunk t w) (views_of view a.kit.seeds.items) maps = has (subst (Telling view.tells) (sym seen) telling) [] maps (ap given_maps none) (holds ∙ is) in
       had_so a.fates (filled tells) views maps i inside (had_entry t wants a.fates views maps w i among (subst (λ v. Had a.fates (want_chunk t w) v maps) seen had)))
 
   -- what a pass has settled may be filled, if the run permits so with the kit that it began with
@@ -65,4 +65,4 @@ module _ (r : Run) (d : Deal) (x : Placed) (wants : AreWants r.listing d.wants d
   settled_may store view views told permit a now none seen holds filled had i inside is =
       permit i inside (λ tells telling maps are.
       had_so a.fates (filled tells) views maps i inside
-      (subst (λ v. HadAt t a.fates v maps i) seen (had (subst (Telling view.tells) (sym seen) telling) [] maps (ap cached_in none) (holds ∙ are) i inside is)))
+      (subst (λ v. HadAt t a.fates v maps i) seen (had (subst (Telling view.tells) (sym seen) telling) [] maps (ap given_maps none) (holds ∙ are) i inside is)))

@@ -167,7 +167,7 @@ module _ {S V : Type 0} (store : StoreWords S) (view : ViewWords V) (r : Run) (d
             let ids = want_id r.listing d in
             asks_up store (calls_below f0 d.wants) (calls_below f0 d.wants + once_more k (calls_below spared d.wants)) (λ q. asks_below ids f0 d.wants q)
             (λ q. asks_below ids f0 d.wants q + once_more k (asks_below ids spared d.wants q)) a.chain b.chain (omega arith) (λ q. omega arith)
-            (by.passed.asks spared (λ w below these is. spared_first (sources g b.seeds.items e b.chain) refl (λ s. omega arith) w (are w below is)));
+            (by.passed.asks spared (λ w below these is. (spared_first (sources g b.seeds.items e b.chain) refl (λ s. omega arith) w (are w below is), tt)));
         exactly = exactly;
         stores = by.passed.stretch.step.stores;
         seeds = by.passed.stretch.step.seeds;
@@ -186,7 +186,7 @@ module _ {S V : Type 0} (store : StoreWords S) (view : ViewWords V) (r : Run) (d
               let f0 = others_spared (deals_to d 0) spared in
               let ids = want_id r.listing d in
               asks_on store (calls_below f0 d.wants) (calls_below spared d.wants) (λ q. asks_below ids f0 d.wants q) (λ q. asks_below ids spared d.wants q) a.chain b.chain end.kit.chain
-              (by.passed.asks spared (λ w below these is. spared_first 0 a b n lacked by (from end) count next.seeds.never_fall w (are w below is)))
+              (by.passed.asks spared (λ w below these is. (spared_first 0 a b n lacked by (from end) count next.seeds.never_fall w (are w below is), tt)))
               (passed.asks spared (λ w below is.
               spared_as store view t Is (λ j. settled w1.fates j ≡ true) s0 (from end) (from (joined_stage w1 b)) (from end) w refl
               (λ j among right quiet. (

@@ -7,7 +7,8 @@ ghost use Rattle.assembler.specs.Passes.{Ends, HasPassed, one_pass};
 ghost use Rattle.assembler.specs.Permits.{MayFillHad};
 ghost use Rattle.assembler.specs.Stages.{Ready, stage, task};
 ghost use Rattle.caibx_codec.specs.Listing.{count_of, image_length};
-ghost use Rattle.chunk_sources.specs.Caches.{seen};
+ghost use Rattle.chunk_sources.specs.AnyCaches.{Suits, seen_in};
+ghost use Rattle.chunk_sources.specs.Caches.{IsAlone, seen};
 ghost use Rattle.chunk_sources.specs.Losses.{MayLack};
 ghost use Rattle.chunk_sources.specs.Sources.{Sources, sources};
 ghost use Rattle.range_survey.specs.declared.fate.Fate.{Fate};
@@ -20,6 +21,7 @@ use assembler::retry::retry;
 use assembler::run::Ended;
 use assembler::work::{Wants, Work};
 use cache_store::shelf::CacheShelf;
+use chunk_sources::cache::Cache;
 use chunk_sources::kit::Kit;
 use chunk_store::store::Store;
 use dsy_base::folder::Folder;
@@ -30,23 +32,24 @@ use range_ledger::run::RunName;
 use range_survey::fate::Fate;
 
 // The second pass, unless a worker lacked memory in the first one.
-fn retry_unless<E: Ledger, S: Store, V: View, F: Folder>(
+fn retry_unless<E: Ledger, S: Store, V: View, C: Cache>(
     wants: &Wants<'_>,
     tried: Vec<bool>,
-    work: &mut Work<E, S, V, F>,
+    work: &mut Work<E, S, V, C>,
     lacked: bool,
 ) -> Result<(), ExtractFault>
     requires listing { wants.now.index.now ≡ E.run.listing }
     requires fresh { tried.items ≡ replicate wants.now.plan.now.wants false }
-    requires ready { Ready (task E.run.listing wants.now) (stage E.Ledger F.Look work.old) }
-    requires unnamed { (F.pairs ≡ None) × (F.stores ≡ None) }
-    requires may { MayFillHad S.Store V.View (task E.run.listing wants.now) E.run.may (stage E.Ledger F.Look work.old)
+    requires ready { Ready (task E.run.listing wants.now) (stage E.Ledger C.Cache work.old) }
+    requires suits { Suits C.Cache S.Store E.run.listing work.old.kit.chain.stores (seen_in C.Cache work.old.cache) }
+    requires alone { IsAlone (seen_in C.Cache work.old.cache) }
+    requires may { MayFillHad S.Store V.View (task E.run.listing wants.now) E.run.may (stage E.Ledger C.Cache work.old)
         (λ _. Unit {0}) }
-    requires lacked { lacked ≡ true → MayLack S.Store (seen F.Look work.old.cache) }
-    ensures passes { HasPassed S.Store V.View (task E.run.listing wants.now) one_pass (stage E.Ledger F.Look work.old)
-        (stage E.Ledger F.Look work.new) }
-    ensures ends { Ends S.Store V.View (task E.run.listing wants.now) (stage E.Ledger F.Look work.old)
-        (stage E.Ledger F.Look work.new) result }
+    requires lacked { lacked ≡ true → MayLack S.Store (seen_in C.Cache work.old.cache) }
+    ensures passes { HasPassed S.Store V.View (task E.run.listing wants.now) one_pass (stage E.Ledger C.Cache work.old)
+        (stage E.Ledger C.Cache work.new) }
+    ensures ends { Ends S.Store V.View (task E.run.listing wants.now) (stage E.Ledger C.Cache work.old)
+        (stage E.Ledger C.Cache work.new) result }
     ensures lacking { lacked ≡ true → result ≡ Err ExtractFault.Memory }
 {
     if lacked {

@@ -53,6 +53,7 @@ module _ (Takes : List ℕ → List ℕ → Type 0) where
     place = refl;
     kind = refl;
     never_falls = omega arith;
+    others = refl;
   }
 
   pub stocks_begun : (opening : Option (Map (List ℕ))) (s : Shelf) → IfSome opening (λ first. s.files ≡ Some first) → StocksSince Takes opening s
@@ -68,6 +69,7 @@ module _ (Takes : List ℕ → List ℕ → Type 0) where
         place = refl;
         kind = refl;
         never_falls = omega arith;
+        others = refl;
       }
 
   pub stocks_more : (opening : Option (Map (List ℕ))) (old new : Shelf) → Stocks Takes old new → StocksSince Takes opening old → StocksSince Takes opening new
@@ -85,14 +87,14 @@ module _ (Takes : List ℕ → List ℕ → Type 0) where
       → ((x : Option (List ℕ)) (m : Map (List ℕ)) → chunks (at_name m (temporary_of (path_of id)) x) ≡ chunks m)
       → ((q : List ℕ) → IsTrue (is_temporary (temporary_of q)))
       → ((q i : List ℕ) → (id_at_path q ≡ Some i) ↔ (IsId i × (path_of i ≡ q)))
-      → (old new : Shelf) → new.place ≡ old.place → new.kind ≡ old.kind → old.faults ≤ new.faults → Takes id b → (r : Result Unit E)
+      → (old new : Shelf) → new.place ≡ old.place → new.kind ≡ old.kind → old.faults ≤ new.faults → new.others ≡ old.others → Takes id b → (r : Result Unit E)
       → OnOk r (PutsAtPath id b old.files new.files) → OnErr r (LeavesTemporary id old.files new.files) → StocksSince Takes opening old → StocksSince Takes opening new
-  stocks_added opening id b is holds left named exactly old new place kind faults takes (Ok u) ok err k =
+  stocks_added opening id b is holds left named exactly old new place kind faults alone takes (Ok u) ok err k =
       stocks_more opening old new
-      (stocks_weaker (λ q x. (q ≡ id) × (x ≡ b)) Takes (only_takes id b takes) old new (added_stocks id b is holds left named exactly old new place kind faults kept.Yes ok)) k
-  stocks_added opening id b is holds left named exactly old new place kind faults takes (Err e) ok err k =
+      (stocks_weaker (λ q x. (q ≡ id) × (x ≡ b)) Takes (only_takes id b takes) old new (added_stocks id b is holds left named exactly old new place kind faults alone kept.Yes ok)) k
+  stocks_added opening id b is holds left named exactly old new place kind faults alone takes (Err e) ok err k =
       stocks_more opening old new
-      (stocks_weaker (λ q x. (q ≡ id) × (x ≡ b)) Takes (only_takes id b takes) old new (added_stocks id b is holds left named exactly old new place kind faults kept.Memory err)) k
+      (stocks_weaker (λ q x. (q ≡ id) × (x ≡ b)) Takes (only_takes id b takes) old new (added_stocks id b is holds left named exactly old new place kind faults alone kept.Memory err)) k
 
   -- ---- what is found
 

@@ -22,7 +22,7 @@ pub record MayAdd (pairs : Option (List (List ℕ × ℕ))) (stores : Option (Li
 
 -- a shelf as it was when its folder held these files and no call on it had failed
 abbrev pub begun_with : Map (List ℕ) → Shelf → Shelf
-begun_with first s = record { files = Some first; place = s.place; faults = 0; kind = s.kind }
+begun_with first s = record { files = Some first; place = s.place; faults = 0; kind = s.kind; others = s.others }
 
 -- the folder of a shelf held these files at first, and since then only such chunks were added
 abbrev pub StocksOpening : (List ℕ → List ℕ → Type 0) → Map (List ℕ) → Shelf → Type 0

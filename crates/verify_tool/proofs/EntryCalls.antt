@@ -50,7 +50,7 @@ temporary_same id x y still (t, is) = ap (option_map chunks) is ∙ go x where
 
 -- nothing was added where each chunk is as before
 pub none_added : (T : List ℕ → List ℕ → Type 0) (s t : Shelf) → Stocks T s t → held_on t ≡ held_on s → Stocks (λ q b. ⊥) s t
-none_added T s t h same = record { told = h.told; chunks = go s.files t.files same; strangers = h.strangers; place = h.place; kind = h.kind; never_falls = h.never_falls } where
+none_added T s t h same = record { told = h.told; chunks = go s.files t.files same; strangers = h.strangers; place = h.place; kind = h.kind; never_falls = h.never_falls; others = h.others } where
   go : (x y : Option (Map (List ℕ))) → option_map chunks y ≡ option_map chunks x → IfSome x (λ m. IfSome y (λ n. (q : List ℕ) → (chunks n q ≡ chunks m q) ⊎ ((b : List ℕ) × (chunks n q ≡ Some b) × ⊥)))
   go None y same = tt
   go (Some m) None same = tt

@@ -177,7 +177,7 @@ module _ {S : Type 0} (store : StoreWords S) (l : Listing) where
             | inl kept ↦ (kept.0 ∙ same.0, kept.1 ∙ same.1)
             | inr more ↦
                 let P : Option (Map (List ℕ)) → Type 0 = λ o. IfSome o (λ n. GivesEntry l i n → Rose s.faults t.faults) in
-                let Q : Option (Map (List ℕ)) → Type 0 = λ f. IfSome (held_on (record { files = f; place = s.place; faults = s.faults; kind = s.kind })) (λ n. GivesEntry l i n → Rose s.faults t.faults) in
+                let Q : Option (Map (List ℕ)) → Type 0 = λ f. IfSome (held_on (record { files = f; place = s.place; faults = s.faults; kind = s.kind; others = s.others })) (λ n. GivesEntry l i n → Rose s.faults t.faults) in
                 let rose : GivesEntry l i m → Rose s.faults t.faults = subst P is (subst Q same.1 more.0) in
                 absurd (rose_never s.faults t.faults (quiet_within s0.faults s.faults t.faults t.faults before.stocks.never_falls (omega arith) quiet) (rose (all i inside)))
           ]

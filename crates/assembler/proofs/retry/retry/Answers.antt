@@ -7,7 +7,7 @@ use Rattle.assembler.proofs.Filled.{open_before, settled_on, torn_on}
 use Rattle.assembler.proofs.HadOn.{permits_on}
 use Rattle.assembler.proofs.Lost.{LostTried, lost_of, newly_lost, still_lost, torn_of}
 use Rattle.assembler.proofs.Passed.{OneMore, WantsDone, done_all, done_more, done_none}
-use Rattle.assembler.proofs.Stepped.{may_lack_before, ready_on}
+use Rattle.assembler.proofs.Stepped.{may_lack_before, ready_on, suits_since}
 use Rattle.assembler.proofs.Tried.{IsFirst, SettledBelow, first_later, is_tried, lost_here, lost_of as left_lost, tried_is, tries_lost, tries_none, tries_passed, tries_settled, untried as untried_at}
 use Rattle.assembler.proofs.TwoPasses.{err_same, fault_apart, memory_apart, memory_never, target_apart}
 use Rattle.assembler.specs.Losses.{IsFirstOpen}
@@ -33,7 +33,7 @@ on_ok_is {P} r u is says = subst (λ q. OnOk q P) is says
 pub loop-entry-init : goal.loop-entry-init
 loop-entry-init g c =
     let t = task g.E.Ledger.run.listing c.args.wants.now in
-    let a = stage g.E.Ledger g.F.Look c.args.work.now in
+    let a = stage g.E.Ledger g.C.Cache c.args.work.now in
     let tried = c.args.tried.items in
     record {
       done = done_none g.S.Store g.V.View t c.requires.ready.wants (is_tried tried) a;
@@ -45,8 +45,8 @@ loop-entry-init g c =
 pub loop-entry-preserved-then-is_settled : goal.loop-entry-preserved-then-is_settled
 loop-entry-preserved-then-is_settled g c =
     let t = task g.E.Ledger.run.listing c.args.wants.now in
-    let a = stage g.E.Ledger g.F.Look c.args.work.now in
-    let b = stage g.E.Ledger g.F.Look c.loop-entry.work in
+    let a = stage g.E.Ledger g.C.Cache c.args.work.now in
+    let b = stage g.E.Ledger g.C.Cache c.loop-entry.work in
     let tried = c.loop-entry.tried.items in
     let listed = c.requires.ready.wants in
     let inside : c.loop-entry.entry < length t.plan.want_of = omega (arith, c.loop-entry-test.true, c.count-entry-end.ensures, ap count_of c.requires.dealt, listed.size) in
@@ -65,8 +65,13 @@ loop-entry-preserved-then-is_settled g c =
 
 pub settle-requires-clause-ready : goal.settle-requires-clause-ready
 settle-requires-clause-ready g c =
-    ready_on g.S.Store g.V.View (task g.E.Ledger.run.listing c.args.wants.now) (λ v. is_tried c.loop-entry.tried.items v ≡ true) (stage g.E.Ledger g.F.Look c.args.work.now)
-    (stage g.E.Ledger g.F.Look c.loop-entry.work) c.loop-entry.invariant.done.stretch c.requires.ready
+    ready_on g.S.Store g.V.View (task g.E.Ledger.run.listing c.args.wants.now) (λ v. is_tried c.loop-entry.tried.items v ≡ true) (stage g.E.Ledger g.C.Cache c.args.work.now)
+    (stage g.E.Ledger g.C.Cache c.loop-entry.work) c.loop-entry.invariant.done.stretch c.requires.ready
+
+pub settle-requires-clause-suits : goal.settle-requires-clause-suits
+settle-requires-clause-suits g c =
+    suits_since g.S.Store g.V.View (task g.E.Ledger.run.listing c.args.wants.now) g.C.Cache (λ v. is_tried c.loop-entry.tried.items v ≡ true) (stage g.E.Ledger g.C.Cache c.args.work.now)
+    (stage g.E.Ledger g.C.Cache c.loop-entry.work) c.loop-entry.invariant.done.stretch c.requires.suits
 
 pub settle-requires-clause-may : goal.settle-requires-clause-may
 settle-requires-clause-may g c =
@@ -74,18 +79,18 @@ settle-requires-clause-may g c =
     let listed = c.requires.ready.wants in
     let inside : c.loop-entry.entry < length t.plan.want_of = omega (arith, c.loop-entry-test.true, c.count-entry-end.ensures, ap count_of c.requires.dealt, listed.size) in
     let below : c.want_of-want.result < t.plan.wants = omega (arith, listed.within c.loop-entry.entry (omega (arith, inside, listed.size)), c.want_of-want.ensures) in
-    permits_on t listed g.S.Store g.V.View (λ v. is_tried c.loop-entry.tried.items v ≡ true) (λ _. Unit {0}) g.E.Ledger.run.may (stage g.E.Ledger g.F.Look c.args.work.now)
-    (stage g.E.Ledger g.F.Look c.loop-entry.work) c.loop-entry.invariant.done.stretch c.loop-entry.invariant.done.had c.requires.may c.want_of-want.result below tt
+    permits_on t listed g.S.Store g.V.View (λ v. is_tried c.loop-entry.tried.items v ≡ true) (λ _. Unit {0}) g.E.Ledger.run.may (stage g.E.Ledger g.C.Cache c.args.work.now)
+    (stage g.E.Ledger g.C.Cache c.loop-entry.work) c.loop-entry.invariant.done.stretch c.loop-entry.invariant.done.had c.requires.may c.want_of-want.result below tt
 
 -- the stages before the pass, before the call and after it
 abbrev before : (g : Over) → After-settle g → Stage g.row.S.Denot g.row.V.Denot
-before g c = stage g.E.Ledger g.F.Look c.args.work.now
+before g c = stage g.E.Ledger g.C.Cache c.args.work.now
 
 abbrev between : (g : Over) → After-settle g → Stage g.row.S.Denot g.row.V.Denot
-between g c = stage g.E.Ledger g.F.Look c.loop-entry.work
+between g c = stage g.E.Ledger g.C.Cache c.loop-entry.work
 
 abbrev after : (g : Over) → After-settle g → Stage g.row.S.Denot g.row.V.Denot
-after g c = stage g.E.Ledger g.F.Look c.settle.new.work
+after g c = stage g.E.Ledger g.C.Cache c.settle.new.work
 
 abbrev now_tried : (g : Over) → After-settle g → List Bool
 now_tried g c = set c.loop-entry.tried.items c.want_of-want.result true
@@ -123,7 +128,7 @@ more g c =
 passed : (g : Over) (c : After-settle g) → HasPassed g.S.Store g.V.View (task g.E.Ledger.run.listing c.args.wants.now) one_pass (before g c) (after g c)
 passed g c =
     let tried = c.loop-entry.tried.items in
-    done_all g.S.Store g.V.View (task g.E.Ledger.run.listing c.args.wants.now) (is_tried (now_tried g c)) (before g c) (after g c)
+    done_all g.S.Store g.V.View (task g.E.Ledger.run.listing c.args.wants.now) (is_tried (now_tried g c)) (before g c) (after g c) c.requires.alone
     (λ v is. tried_within (now_tried g c) v c.args.wants.now.plan.now.wants (length-set tried c.want_of-want.result true ∙ c.loop-entry.invariant.tries.size) is) (more g c)
 
 -- what was lost before the call, and what is lost after it
@@ -175,9 +180,9 @@ failed : (g : Over) (c : In-Err-TargetFault g) → settled (g.E.Ledger.fates c.l
 failed g c not_yet all_before =
     let e = g.E.Ledger in
     let t = task e.run.listing c.args.wants.now in
-    let a = stage e g.F.Look c.args.work.now in
-    let b = stage e g.F.Look c.loop-entry.work in
-    let h = stage e g.F.Look c.settle.new.work in
+    let a = stage e g.C.Cache c.args.work.now in
+    let b = stage e g.C.Cache c.loop-entry.work in
+    let h = stage e g.C.Cache c.settle.new.work in
     let first = c.loop-entry.invariant.done.stretch.step in
     let next = c.settle.ensures.settles.stretch.step in
     let f = c.settle.ensures.ends.failed (c.in-Err-TargetFault.is ∙ ap (λ y. Err y) c.in-Err-TargetFault.field-0-is) in
@@ -252,7 +257,7 @@ loop-entry-preserved g c =
             (lost_here t.plan (LostBefore g at) (between g at).fates tried c.loop-entry.entry (inside g at) t.listing c.loop-entry.first w lost (sym c.want_of-want.ensures) inv.tries
             (is_open g at) (one_more g at).wasnt first)
             (newly_lost g.S.Store g.V.View t tried (before g at) (between g at) (after g at) w c.requires.ready.wants (one_more g at) ended.settles.stretch (λ v. is_tried tried v ≡ true)
-            lost c.settle.result e.in-Err-Lost.field-0 inv.done.stretch ended.ends e.in-Err-Lost.is e.in-Err-Lost.field-0-is (e.lacked_memory.ensures.no e.if-lacked_memory.false))
+            lost c.settle.result e.in-Err-Lost.field-0 inv.done.stretch c.requires.alone ended.ends e.in-Err-Lost.is e.in-Err-Lost.field-0-is (e.lacked_memory.ensures.no e.if-lacked_memory.false))
             inv.tries)
       ];
       paid = paid_more g.S.Store g.V.View t (before g at) (between g at) (after g at) c.requires.ready.wants w (is_tried tried) (is_tried (now_tried g at)) (one_more g at)
@@ -268,15 +273,15 @@ loop-entry-preserved g c =
 -- at the end
 pub returns-in-Some-first-clause-passes : goal.returns-in-Some-first-clause-passes
 returns-in-Some-first-clause-passes g c =
-    done_all g.S.Store g.V.View (task g.E.Ledger.run.listing c.args.wants.now) (is_tried c.loop-entry.tried.items) (stage g.E.Ledger g.F.Look c.args.work.now)
-    (stage g.E.Ledger g.F.Look c.loop-entry.work) (λ v is. tried_within c.loop-entry.tried.items v c.args.wants.now.plan.now.wants c.loop-entry.invariant.tries.size is)
+    done_all g.S.Store g.V.View (task g.E.Ledger.run.listing c.args.wants.now) (is_tried c.loop-entry.tried.items) (stage g.E.Ledger g.C.Cache c.args.work.now)
+    (stage g.E.Ledger g.C.Cache c.loop-entry.work) c.requires.alone (λ v is. tried_within c.loop-entry.tried.items v c.args.wants.now.plan.now.wants c.loop-entry.invariant.tries.size is)
     c.loop-entry.invariant.done
 
 pub returns-in-Some-first-clause-ends : goal.returns-in-Some-first-clause-ends
 returns-in-Some-first-clause-ends g c =
     let t = task g.E.Ledger.run.listing c.args.wants.now in
-    let a = stage g.E.Ledger g.F.Look c.args.work.now in
-    let b = stage g.E.Ledger g.F.Look c.loop-entry.work in
+    let a = stage g.E.Ledger g.C.Cache c.args.work.now in
+    let b = stage g.E.Ledger g.C.Cache c.loop-entry.work in
     let tried = c.loop-entry.tried.items in
     let lost = c.in-Some-first.lost in
     let was = MatchOption-at_some (SettledBelow b.fates c.loop-entry.entry) (IsFirst (LostTried g.S.Store g.V.View t tried a b) b.fates) lost c.in-Some-first.is
@@ -295,28 +300,28 @@ returns-in-Some-first-clause-ends g c =
 pub returns-in-Some-first-clause-exactly : goal.returns-in-Some-first-clause-exactly
 returns-in-Some-first-clause-exactly g c =
     let t = task g.E.Ledger.run.listing c.args.wants.now in
-    let a = stage g.E.Ledger g.F.Look c.args.work.now in
-    let b = stage g.E.Ledger g.F.Look c.loop-entry.work in
+    let a = stage g.E.Ledger g.C.Cache c.args.work.now in
+    let b = stage g.E.Ledger g.C.Cache c.loop-entry.work in
     let tried = c.loop-entry.tried.items in
     λ cached maps nothing one. unless_any {A = Unit {0}} _ (Err c.fault-in-Some-first.result)
     (paid_all g.S.Store g.V.View t (is_tried tried) a b
     (λ w. tried_all t.listing t.plan a.fates b.fates tried c.loop-entry.entry w c.requires.ready.wants
     (omega (arith, c.loop-entry-test.false, c.count-entry-end.ensures, ap count_of c.requires.dealt)) c.loop-entry.invariant.tries.cover c.loop-entry.invariant.paid.untouched)
-    c.loop-entry.invariant.paid cached maps nothing one)
+    c.loop-entry.invariant.paid c.requires.alone cached maps nothing one)
 
 pub returns-clause-passes : goal.returns-clause-passes
 returns-clause-passes g c =
-    done_all g.S.Store g.V.View (task g.E.Ledger.run.listing c.args.wants.now) (is_tried c.loop-entry.tried.items) (stage g.E.Ledger g.F.Look c.args.work.now)
-    (stage g.E.Ledger g.F.Look c.loop-entry.work) (λ v is. tried_within c.loop-entry.tried.items v c.args.wants.now.plan.now.wants c.loop-entry.invariant.tries.size is)
+    done_all g.S.Store g.V.View (task g.E.Ledger.run.listing c.args.wants.now) (is_tried c.loop-entry.tried.items) (stage g.E.Ledger g.C.Cache c.args.work.now)
+    (stage g.E.Ledger g.C.Cache c.loop-entry.work) c.requires.alone (λ v is. tried_within c.loop-entry.tried.items v c.args.wants.now.plan.now.wants c.loop-entry.invariant.tries.size is)
     c.loop-entry.invariant.done
 
 pub returns-clause-exactly : goal.returns-clause-exactly
 returns-clause-exactly g c =
     let t = task g.E.Ledger.run.listing c.args.wants.now in
-    let a = stage g.E.Ledger g.F.Look c.args.work.now in
-    let b = stage g.E.Ledger g.F.Look c.loop-entry.work in
+    let a = stage g.E.Ledger g.C.Cache c.args.work.now in
+    let b = stage g.E.Ledger g.C.Cache c.loop-entry.work in
     let tried = c.loop-entry.tried.items in
     paid_all g.S.Store g.V.View t (is_tried tried) a b
     (λ w. tried_all t.listing t.plan a.fates b.fates tried c.loop-entry.entry w c.requires.ready.wants
     (omega (arith, c.loop-entry-test.false, c.count-entry-end.ensures, ap count_of c.requires.dealt)) c.loop-entry.invariant.tries.cover c.loop-entry.invariant.paid.untouched)
-    c.loop-entry.invariant.paid
+    c.loop-entry.invariant.paid c.requires.alone

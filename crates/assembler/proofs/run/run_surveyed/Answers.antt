@@ -1,22 +1,22 @@
-use Rattle.std.proofs.Common.{◌≡◌, ◌∙◌, ◌<◌, ◌≤◌, ℕ, List, length, Result, Ok, Err, OnOk, IfSome, refl, sym, ap, subst, arith}
+use Rattle.std.proofs.Common.{◌≡◌, ◌∙◌, ℕ, length, Result, Ok, Err, OnOk, refl, sym, ap, subst, arith}
 use Rattle.assembler.proofs.Assembled.{assembled_err, assembled_ok, finished, first_sources, ran_of}
 use Rattle.assembler.proofs.Based.{Surveyed, over_of, some_map}
 use Rattle.assembler.proofs.Counted.{quiet_part}
 use Rattle.assembler.proofs.Finished.{bytes_err, bytes_ok}
 use Rattle.assembler.proofs.KeptCount.{kept_count}
+use Rattle.assembler.proofs.Others.{seen_alone, suits_alone}
 use Rattle.assembler.specs.Assemblies.{Assembles, IsAssembled}
 use Rattle.assembler.specs.Stages.{Stage}
 use Rattle.assembler.specs.declared.fault.ExtractFault.{ExtractFault}
 use Rattle.chunk_sources.specs.Sources.{sources}
-use Rattle.dsy_base.specs.Bytes.{Held, held_resized, resized}
+use Rattle.dsy_base.specs.Bytes.{Held, resized}
 use Rattle.dsy_base.specs.Counts.{Quiet}
 use Rattle.range_ledger.specs.Fills.{WhereTold}
-use Rattle.range_survey.specs.Fates.{FirstFates, OpenWrong}
 use Rattle.range_survey.specs.Reports.{right_below, tally}
 use Rattle.range_survey.specs.declared.fate.Fate.TheVariants as fate
 use Rattle.range_survey.specs.declared.report.Report.{Report}
 use Rattle.chunk_sources.specs.Wants.{Task}
-use Rattle.caibx_codec.specs.Listing.{Listing, count_of, image_length}
+use Rattle.caibx_codec.specs.Listing.{count_of, image_length}
 use Rattle.chunk_sources.specs.Caches.{seen}
 use Rattle.assembler.proofs.run.run_surveyed.Goals.{in-Ok, in-Err}
 use Rattle.assembler.proofs.run.run_surveyed.Goals as goal
@@ -30,6 +30,9 @@ err_apart is = absurd (cc)
 err_same : {d e : ExtractFault} → (◌≡◌ {A = Result Report ExtractFault} (Err d) (Err e)) → d ≡ e
 err_same is = cc
 
+pub settle_all-requires-clause-suits : goal.settle_all-requires-clause-suits
+settle_all-requires-clause-suits g c = suits_alone _ _ _ _ _ c.requires.unnamed (seen_alone g.F.Look c.args.cache)
+
 pub settle_all-requires-clause-may : goal.settle_all-requires-clause-may
 settle_all-requires-clause-may g c = λ w less any has i among. c.requires.may i
 
@@ -40,7 +43,7 @@ returns-clause-assembled g c = λ old f begun.
     let a : Stage g.row.S.Denot g.row.V.Denot = record { held = c.args.ledger.held; faults = c.args.ledger.faults; fates = c.args.ledger.fates; kit = c.args.kit; cache = seen g.F.Look c.args.cache } in
     let b : Stage g.row.S.Denot g.row.V.Denot = record { held = work.ledger.held; faults = work.ledger.faults; fates = work.ledger.fates; kit = work.kit; cache = seen g.F.Look work.cache } in
     let r = c.settle_all.result in
-    let ran = ran_of g.S.Store g.V.View t old f a b r g.R.RunName.run.listing refl c.requires.ready.wants begun.held begun.rises c.rules.ensures.bytes c.rules.ensures.right begun.wrong begun.first
+    let ran = ran_of g.S.Store g.V.View t old f a b r g.R.RunName.run.listing refl c.requires.ready.wants (seen_alone g.F.Look c.args.cache) begun.held begun.rises c.rules.ensures.bytes c.rules.ensures.right begun.wrong begun.first
     c.settle_all.ensures.passes c.settle_all.ensures.ends c.settle_all.ensures.exactly in
     subst (λ (h : Held). IsAssembled g.S.Store g.V.View t old.bytes h.bytes (sources f c.args.kit.seeds.items (seen g.F.Look c.args.cache) c.args.kit.chain)
     (sources (g.T.View.faults c.into_target.result) work.kit.seeds.items (seen g.F.Look work.cache) work.kit.chain) c.match-settle_all.answer) (sym c.into_target.ensures.held)
@@ -63,7 +66,7 @@ returns-clause-bytes g c = λ old f begun.
     let a : Stage g.row.S.Denot g.row.V.Denot = record { held = c.args.ledger.held; faults = c.args.ledger.faults; fates = c.args.ledger.fates; kit = c.args.kit; cache = seen g.F.Look c.args.cache } in
     let b : Stage g.row.S.Denot g.row.V.Denot = record { held = work.ledger.held; faults = work.ledger.faults; fates = work.ledger.fates; kit = work.kit; cache = seen g.F.Look work.cache } in
     let r = c.settle_all.result in
-    let ran = ran_of g.S.Store g.V.View t old f a b r l refl c.requires.ready.wants begun.held begun.rises c.rules.ensures.bytes c.rules.ensures.right begun.wrong begun.first
+    let ran = ran_of g.S.Store g.V.View t old f a b r l refl c.requires.ready.wants (seen_alone g.F.Look c.args.cache) begun.held begun.rises c.rules.ensures.bytes c.rules.ensures.right begun.wrong begun.first
     c.settle_all.ensures.passes c.settle_all.ensures.ends c.settle_all.ensures.exactly in
     let done = finished g.S.Store g.V.View t old.bytes f a b r ran in
     subst (λ (h : Held). WhereTold old.bytes h.bytes (Assembles l ⊥ f (g.T.View.faults c.into_target.result) c.match-settle_all.answer)) (sym c.into_target.ensures.held)

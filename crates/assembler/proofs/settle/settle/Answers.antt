@@ -2,13 +2,15 @@ use Rattle.std.proofs.Common.{◌≡◌, ◌∙◌, ◌<◌, ◌++◌, ℕ, List
 use Rattle.std.proofs.lemmas.Bool.{true≢false}
 use Rattle.std.proofs.lemmas.List.{with_items_is}
 use Rattle.assembler.proofs.EconomySettled.{settles_kept}
+use Rattle.assembler.proofs.Others.{takes_entry}
 use Rattle.assembler.proofs.Settled.{all_as, all_kept, asks_as, first_open, fit, inside, keeps_as, last_as, listed, refused_as, same_chunk, takes_as, where_both, where_map}
 use Rattle.assembler.proofs.Stepped.{stretch_none}
 use Rattle.assembler.specs.Economy.{SettlesBy}
 use Rattle.assembler.specs.Stages.{stage, task}
 use Rattle.caibx_codec.specs.Listing.{Listing, count_of, id_of, kind_of, size_of}
 use Rattle.chunk_sources.proofs.Cached.{stocked_wider}
-use Rattle.chunk_sources.specs.Caches.{CacheLacks, TakesChunk, TakesWants, seen}
+use Rattle.chunk_sources.specs.AnyCaches.{seen_in}
+use Rattle.chunk_sources.specs.Caches.{CacheLacks, TakesChunk, TakesWants}
 use Rattle.chunk_sources.specs.Economy.{source_among, source_over}
 use Rattle.chunk_sources.specs.Losses.{Had}
 use Rattle.chunk_sources.specs.Sources.{KeepsSeeds, SourcesQuiet, Telling, sources, views_of}
@@ -22,15 +24,15 @@ use Rattle.range_survey.specs.Fates.{settled}
 use Rattle.assembler.proofs.settle.settle.Given.{Over}
 use Rattle.assembler.proofs.settle.settle.Goals as goal
 use Rattle.assembler.proofs.settle.settle.Goals.{In-Some, After-entry}
-use Rattle.cache_store.specs.Shelves.{Shelf, Shelved}
+use Rattle.cache_store.specs.Shelves.{Shelf}
 
 on_ok : {P Q : Type 0} (r : Result Unit Unsettled) → (P → Q) → OnOk r P → OnOk r Q
 on_ok (Ok x) f p = f p
 on_ok (Err e) f p = tt
 
 -- what is seen of a cache
-abbrev see : (g : Over) → Option (Shelved g.row.F.Denot) → Option Shelf
-see g = seen g.F.Look
+abbrev see : (g : Over) → Option g.row.C.Denot → Option Shelf
+see g = seen_in g.C.Cache
 
 pub first_open-requires : goal.first_open-requires
 first_open-requires g c =
@@ -39,7 +41,7 @@ first_open-requires g c =
 -- all of the want was settled before
 pub returns-in_default-clause-settles : goal.returns-in_default-clause-settles
 returns-in_default-clause-settles g c =
-    let a = stage g.E.Ledger g.F.Look c.args.work.now in
+    let a = stage g.E.Ledger g.C.Cache c.args.work.now in
     record {
       only = λ i was is. absurd (true≢false (sym is ∙ was));
       had = λ tells cached maps has told i was is. absurd (true≢false (sym is ∙ was));
@@ -48,7 +50,7 @@ returns-in_default-clause-settles g c =
     }
 
 pub returns-in_default-clause-exactly : goal.returns-in_default-clause-exactly
-returns-in_default-clause-exactly g c = λ cached maps quiet.
+returns-in_default-clause-exactly g c = λ alone cached maps quiet.
     let t = task g.E.Ledger.run.listing c.args.wants.now in
     let m = g.E.Ledger.fates c.args.work.now.ledger in
     let views = views_of g.V.View c.args.work.now.kit.seeds.items in
@@ -93,6 +95,12 @@ pub settle_open-requires-clause-room : goal.settle_open-requires-clause-room
 settle_open-requires-clause-room g c =
     let at = goal.at.settle_open-requires-clause-room g c in
     omega (arith, sized g at.After-entry, c.requires.ready.room c.in-Some.entry (is_listed g at.In-Some), ap (λ (xs : List ℕ). length xs) c.deref_mut-2.ensures.value)
+
+pub settle_open-requires-clause-takes : goal.settle_open-requires-clause-takes
+settle_open-requires-clause-takes g c =
+    let at = goal.at.settle_open-requires-clause-takes g c in
+    takes_entry g.C.Cache g.S.Store g.E.Ledger.run.listing c.args.work.now.kit.chain.stores (see g c.args.work.now.cache) c.requires.suits c.in-Some.entry (is_listed g at.In-Some)
+    c.args.work.now.kit.chain.kind c.requires.ready.kind c.id-id.result.0 (named g at.After-entry) c.entry.result.size (sized g at.After-entry)
 
 pub settle_open-requires-clause-may : goal.settle_open-requires-clause-may
 settle_open-requires-clause-may g c = λ had j inside.
@@ -196,9 +204,9 @@ returns-clause-ends g c =
           (λ x at_x refusing memory. refused_as g.S.Store t i n id x c.args.work.now.kit.chain.stores c.settle_open.new.chain.stores sized_so at_x.0 at_x.1 (refusing memory))
           e.lost e.refused;
       missed = where_both _ _ _ _ (Unit {0}) c.settle_open.result
-          (λ x at_x lacks memory.
+          (λ x at_x lacks memory alone.
           subst (λ (k : ℕ). CacheLacks (kind_of t.listing) (id_of t.listing x.entry) k (see g c.args.work.now.cache) (see g c.settle_open.new.cache)) (sized_so ∙ ap (size_of t.listing) (sym at_x.0))
-          (subst (λ (q : List ℕ). CacheLacks (kind_of t.listing) q n (see g c.args.work.now.cache) (see g c.settle_open.new.cache)) (named_so ∙ ap (id_of t.listing) (sym at_x.0)) (lacks memory)))
+          (subst (λ (q : List ℕ). CacheLacks (kind_of t.listing) q n (see g c.args.work.now.cache) (see g c.settle_open.new.cache)) (named_so ∙ ap (id_of t.listing) (sym at_x.0)) (lacks memory alone)))
           e.lost e.missed;
       asked = where_map _ _ _ c.settle_open.result
           (λ x asked memory. last_as g.S.Store g.V.View old same (g.E.Ledger.faults c.args.work.now.ledger) (g.E.Ledger.faults c.settle_open.new.ledger) (see g c.args.work.now.cache)
@@ -209,7 +217,7 @@ returns-clause-ends g c =
     }
 
 pub returns-clause-exactly : goal.returns-clause-exactly
-returns-clause-exactly g c = λ cached maps quiet.
+returns-clause-exactly g c = λ alone cached maps quiet.
     let at = goal.at.returns-clause-exactly g c in
     let t = task g.E.Ledger.run.listing c.args.wants.now in
     let w = c.args.want in
@@ -228,6 +236,6 @@ returns-clause-exactly g c = λ cached maps quiet.
     subst (λ (q : Wanted). SettlesBy (source_among (settled old) q (views_of g.V.View seeds.items) cached maps) (count_of t.listing) old (g.E.Ledger.fates c.settle_open.new.ledger) c0 c1 c.settle_open.result) same
     (subst (λ (xs : List (Seed g.row.V.Denot)). SettlesBy (source_among (settled old) (record { kind = kind_of t.listing; id = c.id-id.result.0; size = c.entry.result.size; entries = c.entries-entries.result.now; places = c.places-places.result.now })
     (views_of g.V.View xs) cached maps) (count_of t.listing) old (g.E.Ledger.fates c.settle_open.new.ledger) c0 c1 c.settle_open.result) first
-    (c.settle_open.ensures.exactly cached maps
+    (c.settle_open.ensures.exactly alone cached maps
     (subst (λ (xs : List (Seed g.row.V.Denot)). SourcesQuiet g.S.Store g.V.View (sources f0 xs e0 c0) (sources f1 c.settle_open.new.seeds e1 c1) cached maps) (sym first)
     (subst (λ (xs : List (Seed g.row.V.Denot)). SourcesQuiet g.S.Store g.V.View (sources f0 seeds.items e0 c0) (sources f1 xs e1 c1) cached maps) kept quiet))))

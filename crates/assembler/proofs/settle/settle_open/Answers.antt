@@ -1,4 +1,4 @@
-use Rattle.std.proofs.Common.{◌≡◌, ◌⊎◌, ◌∙◌, ◌++◌, ℕ, List, length, slice_index, Option, Ok, Err, refl, ap, sym, subst}
+use Rattle.std.proofs.Common.{◌≡◌, ◌⊎◌, ◌∙◌, ◌++◌, ℕ, List, length, slice_index, Option, Ok, Err, refl, ap, sym, subst, arith}
 use Rattle.assembler.proofs.EconomyQuiet.{quiet_before}
 use Rattle.assembler.proofs.Filled.{told_none, told_since, torn_since}
 use Rattle.assembler.proofs.Settled.{asks_still}
@@ -10,7 +10,8 @@ use Rattle.range_ledger.specs.Fills.{Fills, FillsTorn, WhereTold}
 use Rattle.range_survey.specs.declared.fate.Fate.{Fate}
 use Rattle.assembler.proofs.EconomySettled.{settles_got, settles_lost}
 use Rattle.caibx_codec.specs.Listing.{kind_of, count_of}
-use Rattle.chunk_sources.specs.Caches.{seen}
+use Rattle.chunk_sources.specs.AnyCaches.{seen_in}
+use Rattle.chunk_sources.specs.Caches.{CacheLacks, IfShared, TakesChunk}
 use Rattle.chunk_sources.specs.Economy.{ObtainedBy, source_among}
 use Rattle.chunk_sources.specs.Losses.{AskedLast, Had}
 use Rattle.chunk_sources.specs.Sources.{sources, views_of}
@@ -18,19 +19,28 @@ use Rattle.chunk_sources.specs.Wants.{Wanted, sought_chunk}
 use Rattle.chunk_sources.specs.declared.obtain.Sought.{Sought}
 use Rattle.chunk_store.specs.declared.id.DigestKind.{DigestKind}
 use Rattle.dsy_base.specs.Bytes.{Held}
+use Rattle.locked_cache.specs.Additions.{MayAdd}
 use Rattle.range_survey.specs.Fates.{settled}
 use Rattle.assembler.proofs.settle.settle_open.Goals as goal
 use Rattle.assembler.proofs.settle.settle_open.Given.{Over}
-use Rattle.cache_store.specs.Shelves.{Shelf, Shelved}
+use Rattle.cache_store.specs.Shelves.{Shelf}
 
 -- what is seen of a cache
-abbrev see : (g : Over) → Option (Shelved g.row.F.Denot) → Option Shelf
-see g = seen g.F.Look
+abbrev see : (g : Over) → Option g.row.C.Denot → Option Shelf
+see g = seen_in g.C.Cache
 
 -- what holds for the chunk as it was lent holds for the one that is sought
 module _ (kind : DigestKind) (q : Sought) (n size : ℕ) (same : n ≡ size) (P : Wanted → Type 0) where
   as_sought : P (sought_chunk kind q n) → P (sought_chunk kind q size)
   as_sought = subst (λ (k : ℕ). P (sought_chunk kind q k)) same
+
+pub obtain-requires-clause-takes : goal.obtain-requires-clause-takes
+obtain-requires-clause-takes g c =
+    subst (λ (n : ℕ). IfShared (see g c.args.cache.now) ((b : List ℕ) → TakesChunk g.S.Store c.args.chain.now.kind c.args.opened.now.sought.id.0 n c.args.chain.now.stores
+    c.args.opened.now.sought.id.0 b → MayAdd g.C.Cache.pairs g.C.Cache.stores c.args.opened.now.sought.id.0 b)) (sym c.split_at_mut-chunk.ensures.front_len) c.requires.takes
+
+pub put-requires-clause-chunk : goal.put-requires-clause-chunk
+put-requires-clause-chunk g c = λ k less. omega (arith, (c.requires.entries k less).size_is, c.split_at_mut-chunk.ensures.front_len, c.obtain.auto.chunk)
 
 pub put-requires-clause-may : goal.put-requires-clause-may
 put-requires-clause-may g c = λ k less. c.requires.may
@@ -50,7 +60,7 @@ returns-in-Err-put-clause-had g c = λ tells cached maps has told i was now.
     (λ q. Had (g.E.Ledger.fates c.args.ledger.now) q (views_of g.V.View c.args.seeds.now) (cached ++ maps)) (c.in-Ok.ensures.had tells cached maps has told)
 
 pub returns-in-Ok-put-clause-exactly : goal.returns-in-Ok-put-clause-exactly
-returns-in-Ok-put-clause-exactly g c = λ cached maps quiet.
+returns-in-Ok-put-clause-exactly g c = λ alone cached maps quiet.
     let e = g.E.Ledger in
     let m = e.fates c.args.ledger.now in
     let q = sought_chunk (kind_of e.run.listing) c.args.opened.now.sought c.args.opened.now.size in
@@ -60,7 +70,7 @@ returns-in-Ok-put-clause-exactly g c = λ cached maps quiet.
     settles_got (source_among (settled m) q (views_of g.V.View c.args.seeds.now) cached maps) (count_of e.run.listing) m (e.fates c.put.new.ledger) c.args.chain.now c.obtain.new.chain
     c.in-Ok.origin (as_sought (kind_of e.run.listing) c.args.opened.now.sought (length c.split_at_mut-chunk.result.0.now) c.args.opened.now.size c.split_at_mut-chunk.ensures.front_len
     (λ q. ObtainedBy (source_among (settled m) q (views_of g.V.View c.args.seeds.now) cached maps) c.args.chain.now c.obtain.new.chain (Ok c.in-Ok.origin))
-    (c.in-Ok.ensures.exactly cached maps sooner))
+    (c.in-Ok.ensures.exactly alone cached maps sooner))
     (subst (λ (n : List Fate). TalliedAs c.in-Ok.origin (count_of e.run.listing) n (e.fates c.put.new.ledger)) c.in-Ok.ensures.fates
     (c.in-Ok-put.ensures.tallied c.args.opened.now.entry c.requires.among (ap (λ (n : List Fate). settled n c.args.opened.now.entry) c.in-Ok.ensures.fates ∙ c.requires.is_open)))
 
@@ -130,7 +140,7 @@ returns-in-Err-put-clause-asks g c =
     (sources (e.faults c.obtain.new.ledger) c.obtain.new.seeds (see g c.obtain.new.cache) c.obtain.new.chain)) c.in-Ok.ensures.asks)
 
 pub returns-in-Err-clause-exactly : goal.returns-in-Err-clause-exactly
-returns-in-Err-clause-exactly g c = λ cached maps quiet.
+returns-in-Err-clause-exactly g c = λ alone cached maps quiet.
     let e = g.E.Ledger in
     let m = e.fates c.args.ledger.now in
     let q = sought_chunk (kind_of e.run.listing) c.args.opened.now.sought c.args.opened.now.size in
@@ -140,7 +150,7 @@ returns-in-Err-clause-exactly g c = λ cached maps quiet.
     (settles_lost source (count_of e.run.listing) m c.args.chain.now c.obtain.new.chain lost
     (as_sought (kind_of e.run.listing) c.args.opened.now.sought (length c.split_at_mut-chunk.result.0.now) c.args.opened.now.size c.split_at_mut-chunk.ensures.front_len
     (λ q. ObtainedBy (source_among (settled m) q (views_of g.V.View c.args.seeds.now) cached maps) c.args.chain.now c.obtain.new.chain (Err c.in-Err.refused))
-    (c.in-Err.ensures.exactly cached maps quiet)))
+    (c.in-Err.ensures.exactly alone cached maps quiet)))
 
 pub returns-in-Err-clause-asks : goal.returns-in-Err-clause-asks
 returns-in-Err-clause-asks g c =
@@ -149,6 +159,11 @@ returns-in-Err-clause-asks g c =
     (λ q. (c.obtain.new.chain ≡ c.args.chain.now) ⊎ AskedLast g.S.Store g.V.View q (e.fates c.args.ledger.now)
     (sources (e.faults c.args.ledger.now) c.args.seeds.now (see g c.args.cache.now) c.args.chain.now)
     (sources (e.faults c.obtain.new.ledger) c.obtain.new.seeds (see g c.obtain.new.cache) c.obtain.new.chain)) c.in-Err.ensures.asks
+
+pub returns-in-Err-clause-missed : goal.returns-in-Err-clause-missed
+returns-in-Err-clause-missed g c = λ memory alone.
+    as_sought (kind_of g.E.Ledger.run.listing) c.args.opened.now.sought (length c.split_at_mut-chunk.result.0.now) c.args.opened.now.size c.split_at_mut-chunk.ensures.front_len
+    (λ q. CacheLacks q.kind q.id q.size (see g c.args.cache.now) (see g c.obtain.new.cache)) (c.in-Err.ensures.missed memory alone)
 
 pub returns-in-Err-clause-asked : goal.returns-in-Err-clause-asked
 returns-in-Err-clause-asked g c = λ memory.

@@ -1,12 +1,13 @@
 use Rattle.std.proofs.Common.{◌≡◌, ◌++◌, ℕ, length, inl, inr, refl, ⊎_elim, arith, Option}
 use Rattle.cache_store.specs.Giving.{SomeGives}
-use Rattle.cache_store.specs.Shelves.{Shelf, Shelved}
+use Rattle.cache_store.specs.Shelves.{Shelf}
 use Rattle.caibx_codec.specs.Listing.{kind_of}
 use Rattle.chunk_sources.proofs.Cached.{stocked_none}
 use Rattle.chunk_sources.proofs.Lacking.{quiet_never, seeds_never}
 use Rattle.chunk_sources.proofs.Obtained.{among_named, err_more, ok_more, sized_as}
 use Rattle.chunk_sources.proofs.Origins.{by_copy, by_rest, by_seed}
-use Rattle.chunk_sources.specs.Caches.{CacheFailed, CacheLacks, Stocked, TakesChunk, seen}
+use Rattle.chunk_sources.specs.Caches.{CacheFailed, CacheLacks, Stocked, TakesChunk}
+use Rattle.chunk_sources.specs.AnyCaches.{seen_in}
 use Rattle.chunk_sources.specs.Economy.{ObtainedBy, source_behind}
 use Rattle.chunk_sources.specs.Losses.{RefusedBy, chunk_of}
 use Rattle.chunk_sources.specs.Sources.{counts_of, views_of}
@@ -21,8 +22,8 @@ use Rattle.chunk_sources.proofs.obtain.obtain.Goals.{After-slice_known-4-1}
 use Rattle.chunk_sources.proofs.obtain.obtain.Goals as goal
 
 -- what is seen of a cache
-abbrev see : (g : Over) → Option (Shelved g.row.F.Denot) → Option Shelf
-see g = seen g.F.Look
+abbrev see : (g : Over) → Option g.row.C.Denot → Option Shelf
+see g = seen_in g.C.Cache
 
 pub returns-then-copy-clause-stores : goal.returns-then-copy-clause-stores
 returns-then-copy-clause-stores g c = kept_still g.S.Store (λ a. a ≡ Get c.args.sought.now.id.0) c.args.chain.now.stores
@@ -39,13 +40,13 @@ returns-then-from_seeds-clause-stocked g c =
     stocked_none (TakesChunk g.S.Store (kind_of g.E.Ledger.run.listing) c.args.sought.now.id.0 (length c.args.chunk.now) c.args.chain.now.stores) (see g c.args.cache.now)
 
 pub returns-then-copy-clause-exactly : goal.returns-then-copy-clause-exactly
-returns-then-copy-clause-exactly g c = λ cached maps quiet.
+returns-then-copy-clause-exactly g c = λ alone cached maps quiet.
     let found = c.copy.ensures.found c.if-copy.true in
     by_copy (settled (g.E.Ledger.fates c.args.ledger.now)) (sought_chunk (kind_of g.E.Ledger.run.listing) c.args.sought.now (length c.args.chunk.now))
     (views_of g.V.View c.args.seeds.now) cached maps c.args.chain.now c.args.chain.now c.asks.ensures.below refl found.0 found.1 found.2
 
 pub returns-then-from_seeds-clause-exactly : goal.returns-then-from_seeds-clause-exactly
-returns-then-from_seeds-clause-exactly g c = λ cached maps quiet.
+returns-then-from_seeds-clause-exactly g c = λ alone cached maps quiet.
     let faults = g.E.Ledger.faults in
     by_seed (settled (g.E.Ledger.fates c.args.ledger.now)) (sought_chunk (kind_of g.E.Ledger.run.listing) c.args.sought.now (length c.args.chunk.now))
     (views_of g.V.View c.args.seeds.now) cached maps c.args.chain.now c.args.chain.now
@@ -82,8 +83,8 @@ returns-clause-refused g c =
 
 pub returns-clause-missed : goal.returns-clause-missed
 returns-clause-missed g c =
-    err_more c.from_upstream.result (λ r lacks memory.
-    as_sought g c (λ k n. CacheLacks k c.args.sought.now.id.0 n (see g c.args.cache.now) (see g c.from_upstream.new.cache)) (lacks memory))
+    err_more c.from_upstream.result (λ r lacks memory alone.
+    as_sought g c (λ k n. CacheLacks k c.args.sought.now.id.0 n (see g c.args.cache.now) (see g c.from_upstream.new.cache)) (lacks memory alone))
     c.from_upstream.ensures.missed
 
 pub returns-clause-asks : goal.returns-clause-asks
@@ -101,7 +102,7 @@ returns-clause-asked g c =
     c.from_upstream.ensures.asked
 
 pub returns-clause-exactly : goal.returns-clause-exactly
-returns-clause-exactly g c = λ cached maps quiet.
+returns-clause-exactly g c = λ alone cached maps quiet.
     let q = c.args.sought.now in
     let views = views_of g.V.View c.args.seeds.now in
     let faults = g.E.Ledger.faults in
@@ -112,7 +113,7 @@ returns-clause-exactly g c = λ cached maps quiet.
     (c.from_seeds.ensures.absent c.if-from_seeds.false))
     c.from_upstream.result
     (as_sought g c (λ k n. ObtainedBy (source_behind k q.id.0 n cached maps) c.args.chain.now c.from_upstream.new.chain c.from_upstream.result)
-    (c.from_upstream.ensures.exactly cached maps quiet.told_cache quiet.cache quiet.told quiet.stores))
+    (c.from_upstream.ensures.exactly alone cached maps quiet.told_cache quiet.cache quiet.told quiet.stores))
 
 pub returns-clause-stocked : goal.returns-clause-stocked
 returns-clause-stocked g c =

@@ -39,6 +39,6 @@ returns g c =
           (subst (λ (n : List Fate). HasWorked g.S.Store g.V.View r t g.P.View.never_fails c.args.worker x.kit x.known.items w.kit n c.is_err-lane.result) (sym c.into_known.ensures.fates)
           (subst (λ (m : List Fate). HasWorked g.S.Store g.V.View r t g.P.View.never_fails c.args.worker x.kit m w.kit w.ledger.fates c.is_err-lane.result) c.new.ensures.fates
           (worked g.S.Store g.V.View r t g.P.View.never_fails c.args.worker x.kit w.kit c.new.result.fates w.ledger.fates c.new.result.faults w.ledger.faults (seen g.F.Look w.cache)
-          c.is_err-lane.result c.fill.result c.is_err-lane.ensures.value c.new.ensures.faults c.rules.ensures.sure c.fill.ensures.passes c.fill.ensures.memory c.fill.ensures.exactly
-          c.fill.ensures.left c.fill.ensures.others)));
+          c.is_err-lane.result c.fill.result c.is_err-lane.ensures.value c.new.ensures.faults c.rules.ensures.sure c.fill.ensures.passes c.fill.ensures.memory (c.fill.ensures.exactly tt)
+          (c.fill.ensures.left tt) c.fill.ensures.others)));
     }

@@ -1,4 +1,4 @@
-use Rattle.std.proofs.Common.{◌∙◌}
+use Rattle.std.proofs.Common.{◌∙◌, refl}
 use Rattle.cache_store.specs.Shelves.{shelf_of}
 use Rattle.locked_cache.proofs.Stocking.{stocks_added}
 use Rattle.locked_cache.specs.Additions.{MayAdd}
@@ -12,5 +12,5 @@ invariant_of-self g c =
       e.kind ∙ c.self.invariant.0,
       stocks_added (MayAdd g.F.Folder.pairs g.F.Folder.stores) g.F.Folder.opening c.args.id.now.0 c.args.b.now c.id_has_32_bytes.ensures.size
           (λ m. c.put_changes_one_chunk.ensures.holds _ _ m c.id_has_32_bytes.ensures.size) (λ x m. c.put_changes_one_chunk.ensures.kept _ x m) c.put_leaves_a_temporary.ensures.named c.chunk_names.ensures.exactly
-          old new e.place e.kind e.faults.never_falls c.requires.may c.add.result e.ok e.err c.self.invariant.1,
+          old new e.place e.kind e.faults.never_falls refl c.requires.may c.add.result e.ok e.err c.self.invariant.1,
     )

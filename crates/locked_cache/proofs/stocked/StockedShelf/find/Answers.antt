@@ -1,4 +1,4 @@
-use Rattle.std.proofs.Common.{length, ◌∙◌}
+use Rattle.std.proofs.Common.{length, refl, ◌∙◌}
 use Rattle.cache_store.proofs.Stocked.{stocks_looked}
 use Rattle.cache_store.specs.Shelves.{shelf_of}
 use Rattle.chunk_store.specs.declared.id.DigestKind.TheVariants as kinds
@@ -15,7 +15,7 @@ invariant_of-self g c =
     let e = c.find.ensures in (
       e.kind ∙ c.self.invariant.0,
       stocks_more takes g.F.Folder.opening old new
-          (stocks_looked takes old new (record { files = e.kept; place = e.place; kind = e.kind; never_falls = e.faults.never_falls }))
+          (stocks_looked takes old new (record { files = e.kept; place = e.place; kind = e.kind; never_falls = e.faults.never_falls; others = refl }))
           c.self.invariant.1,
     )
 
