@@ -3,9 +3,10 @@
 much in crates.txt or in a crate.
 
 A crate is one of crates.txt. A label is the name of a clause (`ensures LABEL { .. }`). Each row of docs/PROMISES.md has
-a promise, public functions, and labels, in a section whose heading has the crates in brackets: each label has to be
-that of a clause of one of the functions, and each function that has labels has to have one of these. Other words in
-backquotes are names where they are in the spelling of code: each has to stand in some source, script or list.
+a promise, and behind it public functions, a colon and labels, in a section whose heading has the crates in brackets:
+each label has to be that of a clause of one of the functions, and each function that has labels has to have one of
+these. Other words in backquotes are names where they are in the spelling of code: each has to stand in some source,
+script or list.
 """
 
 import os
@@ -97,9 +98,9 @@ def labels_that_are_not_there():
                 for function, label in clauses_in(text_of(path)):
                     labels.setdefault(function, set()).add(label)
         elif named and line.startswith('|'):
-            cells = [re.findall(r'`([\w:]+)`', cell) for cell in line.strip('|').split('|')]
-            if len(cells) == 3 and cells[1]:
-                yield from (f'{PROMISES}:{number}: {fault}' for fault in faults_of_row(cells[1], set(cells[2]), labels))
+            functions, _, clauses = line.strip('| ').split('|')[-1].partition('`: ')
+            functions, clauses = (re.findall(r'`([\w:]+)`', cell) for cell in (functions + '`', clauses))
+            yield from (f'{PROMISES}:{number}: {fault}' for fault in faults_of_row(functions, set(clauses), labels))
 
 
 def faults_of_row(functions, wanted, labels):
