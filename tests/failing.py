@@ -2,13 +2,14 @@
 """Commands over real files and connections of which one call fails, or which get no memory.
 
     tests/failing.py          each call of a run fails once, the errors in turn
-    tests/failing.py --all    each call fails with each error, and `make` is tried in ten times as many address spaces
+    tests/failing.py --all    each call fails with each error, and `make` and `extract` are tried in ten times as many
+                              address spaces
 
 tests/failing_calls.c is compiled with `cc` and stands before the C library, so a call that the program makes is refused
 before the system sees it. The first call fails in one run, the second in the next, until a run has no failure. A run is
 done, or ends with the line of the file that the call was about; no other file is lost, and a second run ends as if
 nothing had happened. A call that a signal interrupts is made again. A run that gets no memory is done or says so; with
-several workers `make` is done where it is with one.
+several workers `make` and `extract` are done where they are with one.
 """
 
 import contextlib
@@ -631,12 +632,50 @@ def workers_in_little_space(cases, each):
 
 
 def main():
+def extract_in(folder, count, space):
+    """How `extract` ends, with some number of workers and this much address space, in KiB, and what OUT holds then."""
+    out = os.path.join(folder, 'o')
+    with contextlib.suppress(FileNotFoundError):
+        os.remove(out)
+    words = ['extract', '-n', str(count), '-s', 'st', '--seed', 's.caibx', 'a.caibx', 'o']
+    return run_in(space << 10, words, folder), file_bytes(out)
+
+
+# The greatest address space, in KiB, in which several workers are compared with one.
+MOST_SPACE = 100_000
+
+
+def extract_in_little_space(cases, each):
+    """Where one worker extracts an image, several do in as much address space."""
+    with cases.case('extract with several workers in little address space') as folder:
+        image = random.Random(6).randbytes(2 << 20)
+        index = formats.index_of(image)
+        formats.write_index(os.path.join(folder, 'a.caibx'), index)
+        formats.write_chunks(os.path.join(folder, 'st'), index, image)
+        seed = image[:1 << 20]
+        put_file(os.path.join(folder, 's'), seed)
+        formats.write_index(os.path.join(folder, 's.caibx'), formats.index_of(seed))
+        compared = 0
+        for space in range(1_000, MOST_SPACE, 25 if each else 250):
+            ended, made = extract_in(folder, 1, space)
+            if ended.status != 0:
+                continue
+            expect(made == image, f'-n 1 makes another image in {space} KiB')
+            compared += 1
+            for count in (10, 32):
+                ended, made = extract_in(folder, count, space)
+                expect_equal((ended.status, ended.err), (0, b''), f'how -n {count} ends in {space} KiB')
+                expect(made == image, f'-n {count} makes another image in {space} KiB')
+        expect(compared > 0, f'one worker extracts no image in {MOST_SPACE} KiB of address space')
+
+
     needs_program('failing')
     cases = Cases('failing')
     each = sys.argv[1:] == ['--all']
     little_space(cases)
     workers_in_little_space(cases, each)
     is_stopped(cases)
+    extract_in_little_space(cases, each)
     try:
         shim = Shim(cases.top)
     except Skip as why:

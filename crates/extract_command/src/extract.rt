@@ -34,6 +34,7 @@ use dsy_base::view::Target;
 use extract_plan::plan::Plan;
 use extract_plan::seeds::SeedIndex;
 use image_assembly::assemble::assemble;
+use image_assembly::room::workers_with_room;
 use range_survey::report::Report;
 use std::alloc::{AllocError, Global};
 use std::sync::Wait;
@@ -203,8 +204,9 @@ where
     };
     held.seeds = seeds;
     let stores = planned.stores.as_slice();
+    let workers = workers_with_room(alloc, &planned.index, planned.workers);
     let kits = &mut held.kits;
-    open_kits(alloc, files, dial, stores, names, planned.workers, kits);
+    open_kits(alloc, files, dial, stores, names, workers, kits);
     let taken = match files.take(target, fresh) {
         Ok(taken) => taken,
         Err(fault) => {
@@ -306,7 +308,8 @@ where
 /// Makes OUT the image that INDEX lists: in its place, where what it holds already is kept where it is right; or by way
 /// of a temporary file, which takes OUT's name when it is the image. Chunks come from the images of the seeds, else
 /// from the cache, and else from the stores, which are asked in order. What a store gave is added to the cache. Each
-/// worker has stores and seeds of its own; where they can't be opened again there are fewer workers.
+/// worker has stores and seeds of its own; where they can't be opened again, or there is no memory for as many workers,
+/// there are fewer.
 pub fn extract<R: Threads + Wait + Sync, F: Files, D: Dial + Send>(
     rt: &R,
     alloc: Global,

@@ -75,6 +75,20 @@ module _ (l : Listing) where
         fit = λ w inside. subst (λ (xs : List ℕ). PlacesFit seeds (size_of l (slice_index (entries_of xs w) 0)) (places_at x w)) want_of (is.fit w (omega (arith, inside, wants)));
       }
 
+-- the plans for one worker and for several have the same wants
+module _ (l : Listing) (count : ℕ) (p q : Deal) (one : IsPlan l 1 p) (several : IsPlan l count q) where
+  -- the plan for one worker with the wants of the other
+  abbrev pub with_wants : Deal
+  with_wants = record { workers = 1; wants = q.wants; want_of = q.want_of; cuts = p.cuts }
+
+  with_wants_is : IsPlan l 1 with_wants
+  with_wants_is =
+      let shards : shards_of p.workers (length p.want_of) ≡ shards_of 1 (length q.want_of) = ap (λ (n : ℕ). shards_of n (length p.want_of)) one.workers ∙ ap (shards_of 1) (one.wants.size ∙ sym several.wants.size) in
+      record { workers = refl; wants = several.wants; cuts = subst (λ (n : ℕ). AreShardEnds l n p.cuts) shards one.cuts }
+
+  pub same_but_workers : p ≡ with_wants
+  same_but_workers = same_plan l 1 p with_wants one with_wants_is
+
 -- ---- the kit
 
 module _ {K : Type 0} where

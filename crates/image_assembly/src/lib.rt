@@ -5,3 +5,4 @@
 pub mod assemble;
 pub mod fault;
 pub mod prepare;
+pub mod room;

@@ -84,8 +84,8 @@ let_go-requires g c =
 pub open_kits-requires : goal.open_kits-requires
 open_kits-requires g c = record {
   size = rw c.as_slice-stores.ensures (many_named (location_in g.F.Look.Look.place) c.args.held.stores.items c.args.planned.now.stores c.requires.located c.requires.size);
-  some = c.requires.workers.0;
-  room = (c.args.held.kits.ok.0 ∙ ap length c.requires.held.room.0, c.requires.held.room.1);
+  some = c.workers_with_room-workers.ensures.size.0;
+  room = (c.args.held.kits.ok.0 ∙ ap length c.requires.held.room.0, omega (arith, c.workers_with_room-workers.ensures.size.1, c.requires.held.room.1));
 }
 
 pub let_go-requires-in-Err : goal.let_go-requires-in-Err
@@ -118,7 +118,7 @@ into_kits-kits-requires-clause-room g c = omega (arith, c.open_kits.ensures.room
 pub assemble-ended-requires-clause-size : goal.assemble-ended-requires-clause-size
 assemble-ended-requires-clause-size g c κs within =
     let many : length c.into_kits-kits.result.0.items ≡ suc (length c.open_kits.new.kits.items) = ap length c.into_kits-kits.ensures.kits.0.first in
-    (omega (arith, c.into_kits-kits.result.0.ok.0, many), omega (arith, c.into_kits-kits.result.0.ok.0, many, c.open_kits.new.kits.ok.0, c.open_kits.ensures.few, c.requires.workers.1))
+    (omega (arith, c.into_kits-kits.result.0.ok.0, many), omega (arith, c.into_kits-kits.result.0.ok.0, many, c.open_kits.new.kits.ok.0, c.open_kits.ensures.few, c.workers_with_room-workers.ensures.size.1, c.requires.workers.1))
 
 pub assemble-ended-requires-clause-alone : goal.assemble-ended-requires-clause-alone
 assemble-ended-requires-clause-alone g c κs within = λ some.
@@ -126,7 +126,7 @@ assemble-ended-requires-clause-alone g c κs within = λ some.
     let more = c.open_kits.new.kits.items in
     let name = named g c.args.held.cache c.args.held.shelf c.requires.held.lent.named in
     let there : IsSome e0 = rw c.into_kits-kits.ensures.shelf at some in
-    let none = none_further e0 c.args.held.cache c.args.planned.now.workers (vec_len c.open_kits.new.kits) more name c.requires.alone c.open_kits.new.kits.ok.0 c.open_kits.ensures.few there in
+    let none = none_further e0 c.args.held.cache c.args.planned.now.workers (vec_len c.open_kits.new.kits) more name c.requires.alone c.open_kits.new.kits.ok.0 (omega (arith, c.open_kits.ensures.few, c.workers_with_room-workers.ensures.size.1)) there in
     c.into_kits-kits.result.0.ok.0 ∙ ap length c.into_kits-kits.ensures.kits.0.first ∙ ap (λ l. suc (length l)) none
 
 pub assemble-ended-requires-clause-places : goal.assemble-ended-requires-clause-places
@@ -377,7 +377,7 @@ module _ (g : Over) (c : After-of_kits-held g) where
       let into = c.into_kits-kits.ensures.kits in
       let held = c.requires.held in
       let others = subst (λ (n : List Location). AreOpened g.F.Look.Look g.F.View.View state b0 b n images more) names_are (rw c.as_slice-names.ensures at c.open_kits.ensures.opened) in
-      let none_more = none_further e0 c.args.held.cache c.args.planned.now.workers (vec_len c.open_kits.new.kits) more cache_is c.requires.alone c.open_kits.new.kits.ok.0 c.open_kits.ensures.few in
+      let none_more = none_further e0 c.args.held.cache c.args.planned.now.workers (vec_len c.open_kits.new.kits) more cache_is c.requires.alone c.open_kits.new.kits.ok.0 (omega (arith, c.open_kits.ensures.few, c.workers_with_room-workers.ensures.size.1)) in
       opened_kits g.F.Look.Look g.F.View.View state e0 d' b0 b c.in-Ok.ensures.kept c.open_kits.ensures.kept images c.args.held.stores.items c.in-Ok.seeds.items k more into.0.stores_are into.0.seeds_are into.1
       held.found held.fresh held.unused held.lent.stores (rw c.as_slice-names.ensures at c.in-Ok.ensures.found) c.in-Ok.ensures.fresh c.in-Ok.ensures.known none_more others
 
