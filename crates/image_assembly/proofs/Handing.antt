@@ -21,11 +21,11 @@ use Rattle.image_assembly.specs.Endings.{HasAssembled, handed}
 use Rattle.image_workers.specs.Kits.{NoneUsed}
 
 -- one that was refused before any write: nothing was used
-pub refused : {S V : Type 0} (store : StoreWords S) (view : ViewWords V) (never : Bool) (l : Listing) (x : Placed) (d : Deal) (kits : List (Kit S V)) → 0 < length kits → IsPlan l (length kits) d
+pub refused : {S V : Type 0} (store : StoreWords S) (view : ViewWords V) (never cache_never : Bool) (l : Listing) (x : Placed) (d : Deal) (kits : List (Kit S V)) → 0 < length kits → IsPlan l (length kits) d
     → (old new : Held) (f n : ℕ) → f ≤ n → (e : Option Shelf) (fault : ExtractFault)
     → ((fault ≡ faults.TargetFault) × Rose f n) ⊎ (fault ≡ faults.Memory) → (new ≡ old) ⊎ (new ≡ held_resized old (image_length l))
-    → HasAssembled store view never l x (handed old (lent f kits e)) (handed new (lent n kits e)) (Err fault)
-refused {S} {V} store view never l x d kits some plan old new f n fn e fault why stands = record {
+    → HasAssembled store view never cache_never l x (handed old (lent f kits e)) (handed new (lent n kits e)) (Err fault)
+refused {S} {V} store view never cache_never l x d kits some plan old new f n fn e fault why stands = record {
   bytes = assembles_none l (NoneUsed (lent f kits e) (lent n kits e)) (refl, refl) old new f n fn fault why stands;
   assembled = record {
     so = λ t k j listed placed planned one other.
@@ -36,7 +36,7 @@ refused {S} {V} store view never l x d kits some plan old new f n fn e fault why
         ]));
   };
   kept = λ one. tt;
-  kits = (d, plan, by_none store view (record { listing = l; plan = d; places = x }) never old new f n fn e fault why stands kits some);
+  kits = (d, plan, by_none store view (record { listing = l; plan = d; places = x }) never cache_never old new f n fn e fault why stands kits some);
   report = tt;
   size = refl;
   name = elim stands [

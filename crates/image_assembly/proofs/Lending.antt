@@ -2,7 +2,7 @@
 -- what holds for kits before they were given room.
 use Rattle.std.proofs.Common.{◌≡◌, ◌⊎◌, ◌<◌, ◌≤◌, ◌+◌, ◌++◌, ◌%◌, ◌==◌, ℕ, zero, suc, List, [], ◌∷◌, All, Any, Bool, true, if◌then◌else◌, Option, Some, None, IfOk, IfSome, IsTrue, Result, Ok, Err, length, map, slice_index_or, refl, sym, ap, subst, ◌∙◌, inl, inr, arith, false, lit≤}
 use Rattle.std.proofs.lemmas.Bool.{eq-eqb}
-use Rattle.std.proofs.lemmas.List.{get_or_default, length-map}
+use Rattle.std.proofs.lemmas.List.{append-nil, get_or_default, length-map}
 use Rattle.std.specs.Str.{bytes_eq}
 use Rattle.assembler.proofs.Asked.{asks_none}
 use Rattle.assembler.proofs.Assembled.{assembled_none, assembles_none, told_as}
@@ -19,10 +19,11 @@ use Rattle.assembler.specs.declared.fault.ExtractFault.{ExtractFault}
 use Rattle.assembler.specs.declared.fault.ExtractFault.TheVariants as faults
 use Rattle.cache_store.specs.Shelves.{Shelf}
 use Rattle.caibx_codec.specs.Asks.{IsListedGet}
-use Rattle.caibx_codec.specs.Listing.{Listing, count_of, image_length}
+use Rattle.caibx_codec.specs.Listing.{Listing, count_of, image_length, size_of}
 use Rattle.chunk_sources.proofs.Lacking.{quiet_never}
 use Rattle.chunk_sources.specs.Asks.{AsksAtMost, asks_below, asks_for, calls_below, calls_for, others_spared}
-use Rattle.chunk_sources.specs.Caches.{Stocked, TakesListed}
+use Rattle.chunk_sources.proofs.Cached.{stocked_none}
+use Rattle.chunk_sources.specs.Caches.{CacheGives, Stocked, TakesListed, given_maps}
 use Rattle.chunk_sources.specs.Economy.{source_of, all_asks, pass_asks, source_if, sum_below}
 use Rattle.chunk_sources.specs.Sources.{Sources, SourcesQuiet, Telling, sources, views_of}
 use Rattle.chunk_sources.specs.Wants.{Task}
@@ -32,10 +33,11 @@ use Rattle.dsy_base.specs.Bytes.{Held, held_resized, resized}
 use Rattle.dsy_base.specs.Counts.{Quiet, Rose, raised}
 use Rattle.dsy_base.specs.Maps.{Map}
 use Rattle.dsy_base.specs.declared.view.View.{Ghosts as ViewWords}
-use Rattle.extract_plan.specs.Deal.{Deal, want_id}
+use Rattle.extract_plan.specs.Deal.{Deal, first_of, want_id}
 use Rattle.extract_plan.specs.declared.seed.Seed.{Seed}
 use Rattle.image_workers.specs.Beside.{PermitsWith}
-use Rattle.image_workers.specs.Kits.{AreKitsAlike, AsksDealt, IsAssembledBy, IsSparedFor, KitUsed, KnowsFaults, NoneUsed, SomeKitHas, at_kit, dealt_asks, worker_asks, worker_calls}
+use Rattle.image_workers.specs.Kits.{AreKitsAlike, AsksDealt, NoOtherSize, IsAssembledBy, IsSparedFor, IsUnshared, KitUsed, KnowsFaults, NoneUsed, SomeKitHas, at_kit, dealt_asks, worker_asks, worker_calls}
+use Rattle.image_workers.specs.Shared.{all_stores, all_told, door_shelf}
 use Rattle.image_assembly.specs.Readied.{Permits}
 use Rattle.owned_shards.specs.Wholes.{base_told}
 use Rattle.range_ledger.specs.Fills.{WhereTold}
@@ -46,6 +48,7 @@ use Rattle.range_survey.specs.declared.fate.Fate.TheVariants as fate
 use Rattle.range_survey.specs.declared.report.Report.{Report}
 use Rattle.store_chain.proofs.Kept.{kept_still}
 use Rattle.store_chain.specs.Chains.{Chained}
+use Rattle.store_chain.specs.Giving.{SomeHolds}
 
 -- ---- what can be had in other words
 
@@ -136,7 +139,7 @@ module _ {S V : Type 0} (store : StoreWords S) (view : ViewWords V) (t : Task) (
   dealt_enough (Err faults.TargetFault) calls = dealt_within calls
   dealt_enough (Err faults.Memory) calls = tt
 
-module _ {S V : Type 0} (store : StoreWords S) (view : ViewWords V) (t : Task) (never : Bool) (o p : Option (List ℕ)) where
+module _ {S V : Type 0} (store : StoreWords S) (view : ViewWords V) (t : Task) (never cache_never : Bool) (o p : Option (List ℕ)) where
   -- ---- one kit
 
   asks_of_one : t.plan.workers ≡ 1 → (spared : ℕ → Bool) (a b : Chained S)
@@ -159,7 +162,7 @@ module _ {S V : Type 0} (store : StoreWords S) (view : ViewWords V) (t : Task) (
   pub by_one : t.plan.workers ≡ 1 → (f n : ℕ) (k j : Kit S V) (e c : Option Shelf) (answer : Result Report ExtractFault)
       → WhereTold o p (Assembles t.listing ⊥ f n answer) → IsAssembled store view t o p (sources f k.seeds.items e k.chain) (sources n j.seeds.items c j.chain) answer
       → (IsTrue never → IfOk answer (λ r. IfSome o (λ y. r.kept ≡ right_below t.listing (resized y (image_length t.listing)) (count_of t.listing))))
-      → IsAssembledBy store view t never o p (lent f (k ∷ []) e) (lent n (j ∷ []) c) answer
+      → IsAssembledBy store view t never cache_never o p (lent f (k ∷ []) e) (lent n (j ∷ []) c) answer
   by_one one f n k j e c answer bytes is kept = record {
     bytes = told_as t.listing f n answer o p (λ (no : ⊥). absurd no) bytes;
     lost = λ q r. is.lost;
@@ -169,24 +172,27 @@ module _ {S V : Type 0} (store : StoreWords S) (view : ViewWords V) (t : Task) (
         (λ i can. (0, k, omega arith, refl, (at.1.0, at.1.1, can)))) (is.had at.0 cached at.1.0 has at.1.1);
     exactly = λ alike q r. is.exactly;
     after = λ alike q r. is.after;
-    reported = λ sure alike q r cached maps quiet one_size. is.reported cached maps (quiet 0 (omega arith)) one_size;
+    reported = λ unshared sure alike q r cached maps quiet one_size. is.reported cached maps (quiet 0 (omega arith)) one_size;
     kept = kept;
-    stocked = λ q. is.stocked;
+    stocked = subst (λ (xs : List S). Stocked (TakesListed store t.listing xs) e c) (sym (append-nil k.chain.stores)) is.stocked;
+    first = λ why q. is.stocked;
     kits = refl;
     each = λ i q r less. used i q r less;
   } where
-    used : (i : ℕ) (q r : Kit S V) → i < 1 → KitUsed store view t (KnowsFaults never (k ∷ [])) never o i (at_kit (lent f (k ∷ []) e) i q) (at_kit (lent n (j ∷ []) c) i r) answer
+    used : (i : ℕ) (q r : Kit S V) → i < 1 → KitUsed store view t never cache_never o (lent f (k ∷ []) e) i (at_kit (lent f (k ∷ []) e) i q) (at_kit (lent n (j ∷ []) c) i r) answer
     used zero q r less = record {
-      asks = λ spared are. asks_of_one one spared k.chain j.chain (is.asks spared (λ w below so. spares w (are w below so)));
-      exactly = λ sure. dealt_enough store view t o (sources f k.seeds.items e k.chain) (sources n j.seeds.items c j.chain) answer is.economy;
+      asks = λ spared are. asks_of_one one spared k.chain j.chain (is.asks spared (λ w below so. spares w (are w below so).0));
+      exactly = λ unshared sure. dealt_enough store view t o (sources f k.seeds.items e k.chain) (sources n j.seeds.items c j.chain) answer is.economy;
       stores = is.stores;
       seeds = is.seeds;
       kind = is.kind;
     } where
-      spares : (w : ℕ) → IsSparedFor store view t (KnowsFaults never (k ∷ [])) o (sources f k.seeds.items e k.chain) (sources n j.seeds.items c j.chain) w
+      spares : (w : ℕ) → IsSparedFor store view t never cache_never o (lent f (k ∷ []) e) (sources f k.seeds.items e k.chain) (sources n j.seeds.items c j.chain) w
           → SparedOver store view t o (sources f k.seeds.items e k.chain) (sources n j.seeds.items c j.chain) w
-      spares w (inl ((i, among, right), quiet)) = inl ((i, among, right.0), quiet)
-      spares w (inr rest) = inr rest
+      spares w (inl (inl ((i, among, right), quiet))) = inl ((i, among, right.0), quiet)
+      spares w (inl (inr (inl seeds))) = inr (inl seeds)
+      spares w (inl (inr (inr gives))) = let none = gives.gives in let less : none.0 < 0 = none.2 in absurd (omega (arith, less))
+      spares w (inr (gives, known)) = inr (inr (subst (λ (xs : List S). CacheGives store t.listing xs (want_id t.listing t.plan w) (size_of t.listing (first_of t.plan w)) e c) (append-nil k.chain.stores) gives))
     used (suc i) q r less = absurd (omega (arith, less))
 
 -- ---- nothing was used
@@ -196,21 +202,21 @@ unless_failed : (f n : ℕ) (fault : ExtractFault) → ((fault ≡ faults.Target
 unless_failed f n fault (inl failed) P so = unless_any {A = Report} P (Err fault) (so failed.1)
 unless_failed f n fault (inr memory) P so = subst (λ (w : ExtractFault). UnlessMemory {A = Report} P (Err w)) (sym memory) tt
 
-module _ {S V : Type 0} (store : StoreWords S) (view : ViewWords V) (t : Task) (never : Bool) (old new : Held) (f n : ℕ) (fn : f ≤ n) (e : Option Shelf) (fault : ExtractFault)
+module _ {S V : Type 0} (store : StoreWords S) (view : ViewWords V) (t : Task) (never cache_never : Bool) (old new : Held) (f n : ℕ) (fn : f ≤ n) (e : Option Shelf) (fault : ExtractFault)
     (why : ((fault ≡ faults.TargetFault) × Rose f n) ⊎ (fault ≡ faults.Memory)) (stands : (new ≡ old) ⊎ (new ≡ held_resized old (image_length t.listing))) where
-  unused_by : (kits : List (Kit S V)) (k : ℕ) (q r : Kit S V) → k < length kits → KitUsed store view t (KnowsFaults never kits) never old.bytes k (at_kit (lent f kits e) k q) (at_kit (lent n kits e) k r) (Err fault)
+  unused_by : (kits : List (Kit S V)) (k : ℕ) (q r : Kit S V) → k < length kits → KitUsed store view t never cache_never old.bytes (lent f kits e) k (at_kit (lent f kits e) k q) (at_kit (lent n kits e) k r) (Err fault)
   unused_by kits k q r less =
       let j = slice_index_or kits k q in
-      subst (λ (z : Kit S V). KitUsed store view t (KnowsFaults never kits) never old.bytes k (at_kit (lent f kits e) k q) (sources n z.seeds.items e z.chain) (Err fault)) (get_or_default kits k q r less)
+      subst (λ (z : Kit S V). KitUsed store view t never cache_never old.bytes (lent f kits e) k (at_kit (lent f kits e) k q) (sources n z.seeds.items e z.chain) (Err fault)) (get_or_default kits k q r less)
       (record {
         asks = λ spared are. asks_none store (worker_calls t.plan spared k) (worker_asks t.listing t.plan spared k) j.chain;
-        exactly = λ sure. unless_failed f n fault why _ (λ rose cached maps nothing one. absurd (quiet_never f n nothing.target rose));
+        exactly = λ unshared sure. unless_failed f n fault why _ (λ rose cached maps nothing one. absurd (quiet_never f n nothing.target rose));
         stores = kept_still store (IsListedGet t.listing) j.chain.stores;
         seeds = seeds_none view j.seeds.items;
         kind = refl;
       })
 
-  pub by_none : (kits : List (Kit S V)) → 0 < length kits → IsAssembledBy store view t never old.bytes new.bytes (lent f kits e) (lent n kits e) (Err fault)
+  pub by_none : (kits : List (Kit S V)) → 0 < length kits → IsAssembledBy store view t never cache_never old.bytes new.bytes (lent f kits e) (lent n kits e) (Err fault)
   by_none [] some = absurd (omega (arith, some))
   by_none (k ∷ ks) some =
       let is = assembled_none store view t old new f n fn k.seeds.items e k.chain fault why stands in
@@ -223,9 +229,10 @@ module _ {S V : Type 0} (store : StoreWords S) (view : ViewWords V) (t : Task) (
         ]);
         exactly = λ alike q r. is.exactly;
         after = λ alike q r. is.after;
-        reported = λ sure alike q r cached maps quiet one. is.reported cached maps (quiet 0 (omega arith)) one;
+        reported = λ unshared sure alike q r cached maps quiet one. is.reported cached maps (quiet 0 (omega arith)) one;
         kept = λ sure. tt;
-        stocked = λ q. is.stocked;
+        stocked = stocked_none (TakesListed store t.listing (all_stores (k ∷ ks))) e;
+        first = λ why q. is.stocked;
         kits = refl;
         each = λ i q r less. unused_by (k ∷ ks) i q r less;
       }
@@ -280,19 +287,37 @@ module _ {S V : Type 0} (store : StoreWords S) (view : ViewWords V) (ms xs : Lis
   abbrev Has : Task → List (Map (List ℕ)) → List ℕ → ℕ → Chained S → List (Seed V) → Type 0
   Has t cached y i c s = (maps : List (Map (List ℕ))) × (map store.holds c.stores ≡ map Some maps) × IsObtainable t (resized y (image_length t.listing)) (views_of view s) (cached ++ maps) i
 
+  long : length ms ≡ length xs
+  long = as_long ms xs chains seeds
+
+  -- all stores together
+  abbrev stores_in : List (Chained S) → List S
+  stores_in [] = []
+  stores_in (c ∷ cs) = c.stores ++ stores_in cs
+
+  stores_are : (ks : List (Kit S V)) → all_stores ks ≡ stores_in (map (λ k. k.chain) ks)
+  stores_are [] = refl
+  stores_are (k ∷ ks) = ap (λ zs. k.chain.stores ++ zs) (stores_are ks)
+
+  same_stores : all_stores ms ≡ all_stores xs
+  same_stores = stores_are ms ∙ ap stores_in chains ∙ sym (stores_are xs)
+
   -- the run permits with them as with those
-  pub permits_same : (r : Run) (t : Task) → Permits store view r t xs → Permits store view r t ms
-  permits_same r t is = record {
-    one = λ alone. is.one (sym (as_long ms xs chains seeds) ∙ alone);
-    each = all_same ms xs chains seeds (λ c s. PermitsWith view.tells r t (views_of view s) (map store.holds c.stores)) is.each;
-    had = λ many all. some_more (base_told r) (λ y has i inside may. any_same ms xs chains seeds (Has t [] y i) (has i inside may))
-        (is.had (subst (λ (n : ℕ). 2 ≤ n) (as_long ms xs chains seeds) many) (all_same xs ms (sym chains) (sym seeds) Tells all));
+  pub permits_same : (r : Run) (t : Task) (first : Option (Map (List ℕ))) (taken : List ℕ) (failed : ℕ) (pairs : Option (List (List ℕ × ℕ))) (maps : Option (List (Map (List ℕ)))) (cache : Option Shelf)
+      → Permits store view r t xs first taken failed pairs maps cache → Permits store view r t ms first taken failed pairs maps cache
+  permits_same r t first taken failed pairs maps cache is = record {
+    shelf = is.shelf;
+    listed = is.listed;
+    stores = is.stores ∙ ap (λ (ys : List S). all_told (map store.holds ys)) (sym same_stores);
+    each = all_same ms xs chains seeds (λ c s. PermitsWith view.tells r t (views_of view s) (given_maps (door_shelf first pairs maps 0 cache)) (map store.holds c.stores)) is.each;
+    had = λ all cached told. some_more (base_told r) (λ y has i inside may. any_same ms xs chains seeds (Has t cached y i) (has i inside may))
+        (is.had (all_same xs ms (sym chains) (sym seeds) Tells all) cached told);
   }
 
   -- so has an assembly with them
-  module _ (t : Task) (never : Bool) (o p : Option (List ℕ)) (f : ℕ) (e : Option Shelf) (new : Lent S V) (answer : Result Report ExtractFault) where
-    pub by_same : WhereTold o p (Assembles t.listing (NoneUsed (lent f xs e) new) f new.faults answer) → IsAssembledBy store view t never o p (lent f ms e) new answer
-        → IsAssembledBy store view t never o p (lent f xs e) new answer
+  module _ (t : Task) (never cache_never : Bool) (o p : Option (List ℕ)) (f : ℕ) (e : Option Shelf) (new : Lent S V) (answer : Result Report ExtractFault) where
+    pub by_same : WhereTold o p (Assembles t.listing (NoneUsed (lent f xs e) new) f new.faults answer) → IsAssembledBy store view t never cache_never o p (lent f ms e) new answer
+        → IsAssembledBy store view t never cache_never o p (lent f xs e) new answer
     by_same bytes is = record {
       bytes = bytes;
       lost = λ q j. subst (λ (s : Sources S V). EndsBy (IsUnobtained store view t o s (at_kit new 0 j)) (Rose f new.faults) answer) (sources_at ms xs chains seeds f e 0 q) (is.lost q j);
@@ -303,18 +328,46 @@ module _ {S V : Type 0} (store : StoreWords S) (view : ViewWords V) (ms xs : Lis
       after = λ alike q j. subst (λ (s : Sources S V). WhereQuiet store view t.listing s (at_kit new 0 j) (λ cached maps. WhereTold o p (λ y z. After t.listing
           (IsObtainable t (resized y (image_length t.listing)) (views_of view s.seeds) (cached ++ maps)) (resized y (image_length t.listing)) z answer))) (sources_at ms xs chains seeds f e 0 q)
           (is.after (alike_too alike) q j);
-      reported = λ sure alike q j cached maps quiet one. subst (λ (s : Sources S V). IfSome o (λ y. IfOk answer (ReportsExactly
+      reported = λ unshared sure alike q j cached maps quiet one. subst (λ (s : Sources S V). IfSome o (λ y. IfOk answer (ReportsExactly
           (source_of t (resized y (image_length t.listing)) (views_of view s.seeds) cached maps) t.plan.wants))) (sources_at ms xs chains seeds f e 0 q)
-          (is.reported sure (alike_too alike) q j cached maps
+          (is.reported (unshared_too unshared) sure (alike_too alike) q j cached maps
           (λ k less. subst (λ (s : Sources S V). SourcesQuiet store view s (at_kit new k j) cached maps) (sym (sources_at ms xs chains seeds f e k q)) (quiet k (omega (arith, less, long)))) one);
       kept = is.kept;
-      stocked = λ q. subst (λ (s : Sources S V). Stocked (TakesListed store t.listing s.chain.stores) e new.cache) (sources_at ms xs chains seeds f e 0 q) (is.stocked q);
+      stocked = subst (λ (ys : List S). Stocked (TakesListed store t.listing ys) e new.cache) same_stores is.stocked;
+      first = λ why q. subst (λ (s : Sources S V). Stocked (TakesListed store t.listing s.chain.stores) e new.cache) (sources_at ms xs chains seeds f e 0 q) (is.first (elim why [
+        | inl unshared ↦ inl (unshared_too unshared)
+        | inr alike ↦ inr (alike_too alike)
+      ]) q);
       kits = is.kits ∙ long;
-      each = λ k q j less. subst (λ (s : Sources S V). KitUsed store view t (KnowsFaults never xs) never o k s (at_kit new k j) answer) (sources_at ms xs chains seeds f e k q)
-          (subst (λ (m : ℕ). KitUsed store view t ((m ≡ 1) ⊎ IsTrue never) never o k (at_kit (lent f ms e) k q) (at_kit new k j) answer) long (is.each k q j (omega (arith, less, long))));
+      each = λ k q j less. used_too k (at_kit (lent f xs e) k q) (at_kit new k j)
+          (subst (λ (s : Sources S V). KitUsed store view t never cache_never o (lent f ms e) k s (at_kit new k j) answer) (sources_at ms xs chains seeds f e k q) (is.each k q j (omega (arith, less, long))));
     } where
-      long : length ms ≡ length xs
-      long = as_long ms xs chains seeds
+      unshared_too : IsUnshared (lent f xs e) → IsUnshared (lent f ms e)
+      unshared_too (inl one) = inl (long ∙ one)
+      unshared_too (inr none) = inr none
+
+      knows_too : (sure : Bool) → KnowsFaults sure xs → KnowsFaults sure ms
+      knows_too sure (inl one) = inl (long ∙ one)
+      knows_too sure (inr is) = inr is
+
+      spared_too : (s n : Sources S V) (w : ℕ) → IsSparedFor store view t never cache_never o (lent f xs e) s n w → IsSparedFor store view t never cache_never o (lent f ms e) s n w
+      spared_too s n w (inl (inl ((i, among, (right, known)), quiet))) = inl (inl ((i, among, (right, knows_too never known)), quiet))
+      spared_too s n w (inl (inr rest)) = inl (inr rest)
+      spared_too s n w (inr (gives, known)) =
+          inr (subst (λ (ys : List S). CacheGives store t.listing ys (want_id t.listing t.plan w) (size_of t.listing (first_of t.plan w)) s.cache n.cache) (sym same_stores) gives, knows_too cache_never known)
+
+      size_too : (w : ℕ) → IsUnshared (lent f xs e) ⊎ NoOtherSize store view t (lent f xs e) w → IsUnshared (lent f ms e) ⊎ NoOtherSize store view t (lent f ms e) w
+      size_too w (inl unshared) = inl (unshared_too unshared)
+      size_too w (inr one) = inr (λ n b listed chunk held. one n b listed chunk (subst (λ (ys : List S). SomeHolds store.holds ys (want_id t.listing t.plan w) b) same_stores held))
+
+      used_too : (k : ℕ) (s n : Sources S V) → KitUsed store view t never cache_never o (lent f ms e) k s n answer → KitUsed store view t never cache_never o (lent f xs e) k s n answer
+      used_too k s n used = record {
+        asks = λ spared are. used.asks spared (λ w below so. let both = are w below so in (spared_too s n w both.0, size_too w both.1));
+        exactly = λ unshared. used.exactly (unshared_too unshared);
+        stores = used.stores;
+        seeds = used.seeds;
+        kind = used.kind;
+      }
 
       holds_at : (k : ℕ) (q : Kit S V) → map store.holds (slice_index_or ms k q).chain.stores ≡ map store.holds (slice_index_or xs k q).chain.stores
       holds_at k q = ap (λ (c : Chained S). map store.holds c.stores) (chain_at ms xs chains seeds k q)

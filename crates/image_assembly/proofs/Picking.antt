@@ -1,6 +1,6 @@
 -- Which entries an assembly may fill: with one kit each of them. With more those that one of the kits has, as far as the
--- target, the seeds and the stores tell.
-use Rattle.std.proofs.Common.{ℕ, ◌==◌, ◌||◌, List, [], ◌∷◌, length, map, Bool, true, if◌then◌else◌, Option, Some, None, is_some}
+-- target, the seeds, the cache and the stores tell.
+use Rattle.std.proofs.Common.{ℕ, ◌==◌, ◌||◌, ◌++◌, List, length, map, Bool, true, if◌then◌else◌, Option, Some, None, is_some}
 use Rattle.std.specs.List.{list_any}
 use Rattle.std.specs.Option.{option_map}
 use Rattle.assembler.specs.Passes.{want_at}
@@ -15,14 +15,14 @@ use Rattle.dsy_base.specs.Maps.{Map}
 use Rattle.dsy_base.specs.declared.view.View.{Ghosts as ViewWords}
 use Rattle.extract_plan.specs.Deal.{first_of, of_want, shards_of, want_id}
 use Rattle.extract_plan.specs.Places.{places_at}
+use Rattle.image_workers.specs.Shared.{all_told}
 use Rattle.range_ledger.specs.Runs.{Run}
 use Rattle.range_survey.specs.Fates.{is_right_at}
 
--- what all of these tell, where all do
-abbrev pub all_told : {X : Type 0} → List (Option X) → Option (List X)
-all_told [] = Some []
-all_told (None ∷ os) = None
-all_told (Some x ∷ os) = option_map (λ xs. x ∷ xs) (all_told os)
+-- what cache and stores tell together, where both do
+abbrev pub both_told : Option (List (Map (List ℕ))) → Option (List (Map (List ℕ))) → Option (List (Map (List ℕ)))
+both_told None maps = None
+both_told (Some cached) maps = option_map (λ ms. cached ++ ms) maps
 
 -- whether seeds whose views hold this tell so: where there is one with a view, its type does
 abbrev pub seeds_tell : Bool → List (Option Held) → Bool
@@ -41,25 +41,26 @@ may_have t base views None w = true
 may_have t base views (Some maps) w = want_had t base views maps w
 
 module _ {S V : Type 0} (store : StoreWords S) (view : ViewWords V) where
-  -- the maps that the stores of a kit hold, where they and its seeds tell
-  abbrev pub kit_maps : Kit S V → Option (List (Map (List ℕ)))
-  kit_maps k = if seeds_tell view.tells (views_of view k.seeds.items) then all_told (map store.holds k.chain.stores)
+  -- the maps that the cache and the stores of a kit hold, where they and its seeds tell
+  abbrev pub kit_maps : Option (List (Map (List ℕ))) → Kit S V → Option (List (Map (List ℕ)))
+  kit_maps cached k = if seeds_tell view.tells (views_of view k.seeds.items)
+      then both_told cached (all_told (map store.holds k.chain.stores))
       else None
 
   -- whether one of the kits may have want w
-  abbrev pub some_may_have : Task → List ℕ → List (Kit S V) → ℕ → Bool
-  some_may_have t base kits w = list_any (λ k. may_have t base (views_of view k.seeds.items) (kit_maps k) w) kits
+  abbrev pub some_may_have : Task → List ℕ → Option (List (Map (List ℕ))) → List (Kit S V) → ℕ → Bool
+  some_may_have t base cached kits w = list_any (λ k. may_have t base (views_of view k.seeds.items) (kit_maps cached k) w) kits
 
   -- whether the entries of want w may be filled
-  abbrev pub may_fill : Bool → Task → List ℕ → List (Kit S V) → ℕ → Bool
-  may_fill tells t base kits w = if tells then (length kits == 1) || some_may_have t base kits w else true
+  abbrev pub may_fill : Bool → Task → List ℕ → Option (List (Map (List ℕ))) → List (Kit S V) → ℕ → Bool
+  may_fill tells t base cached kits w = if tells then (length kits == 1) || some_may_have t base cached kits w else true
 
   -- the run that an assembly picks, over this base, which the target tells or not
-  abbrev pub picked : Bool → Task → List ℕ → List (Kit S V) → Run
-  picked tells t base kits = record {
+  abbrev pub picked : Bool → Task → List ℕ → Option (List (Map (List ℕ))) → List (Kit S V) → Run
+  picked tells t base cached kits = record {
     listing = t.listing;
     base = base;
     shards = shards_of (length kits) (count_of t.listing);
-    may = λ e. may_fill tells t base kits (want_at t.plan e);
+    may = λ e. may_fill tells t base cached kits (want_at t.plan e);
     tells = tells;
   }

@@ -1,9 +1,10 @@
 -- The run that an assembly picks permits what it has to, and no more.
-use Rattle.std.proofs.Common.{◌≡◌, ◌⊎◌, ◌≤◌, ◌||◌, ◌==◌, ℕ, ◌<◌, List, [], ◌∷◌, ◌++◌, length, map, take, replicate, ◌-◌, Bool, true, false, Decides, Option, Some, None, All, IfSome, is_some, if◌then◌else◌, slice_index_or, refl, sym, ap, subst, ◌∙◌, inl, inr, arith}
+use Rattle.std.proofs.Common.{◌≡◌, ◌⊎◌, ◌≤◌, ◌||◌, ◌==◌, ℕ, ◌<◌, List, [], ◌∷◌, ◌++◌, length, map, take, replicate, ◌-◌, Bool, true, false, Decides, Option, Some, None, All, IfSome, IsTrue, is_some, if◌then◌else◌, slice_index_or, refl, sym, ap, subst, ◌∙◌, inl, inr, arith}
 use Rattle.std.proofs.lemmas.Bool.{cases_Bool, eq-eqb, eqb-true, false≢true, true≢false}
 use Rattle.std.proofs.lemmas.Bool.Decides.{Decides-or}
 use Rattle.std.proofs.lemmas.List.{append-nil, get_or_default, length-append, length-replicate, length-take, take_all}
 use Rattle.std.proofs.lemmas.List.Folds.{Any-from_list_any, list_any-from_Any, list_any_at}
+use Rattle.std.proofs.lemmas.Option.{none-some, same_Some}
 use Rattle.std.proofs.lemmas.Slice.Eq.{bytes_eq-Decides}
 use Rattle.std.specs.List.{list_any}
 use Rattle.std.specs.Option.{option_map}
@@ -11,13 +12,18 @@ use Rattle.assembler.proofs.Entries.{among, first_among, ids_same, listed_of}
 use Rattle.assembler.specs.Assemblies.{IsObtainable}
 use Rattle.assembler.specs.Passes.{want_at}
 use Rattle.cache_store.specs.Giving.{SomeGives}
+use Rattle.cache_store.specs.Shelves.{Shelf}
 use Rattle.caibx_codec.specs.Listing.{count_of, id_of, image_length, kind_of, size_of, slice_of}
 use Rattle.caibx_codec.specs.Right.{IsRightAt}
+use Rattle.chunk_sources.proofs.Cached.{gives_left, gives_part, gives_right, told_at}
 use Rattle.chunk_sources.proofs.Origins.{seeds_decide, some_right, stores_decide}
+use Rattle.chunk_sources.specs.Caches.{cached_in, given_maps, shared_maps}
 use Rattle.chunk_sources.specs.Economy.{seeds_give, stores_give}
 use Rattle.chunk_sources.specs.Sources.{SeedsGive, Telling, views_of}
 use Rattle.chunk_sources.specs.Wants.{IsAmong, Task}
 use Rattle.chunk_sources.specs.declared.kit.Kit.{Kit}
+use Rattle.chunk_store.specs.Folders.{chunks}
+use Rattle.chunk_store.specs.Giving.{GivesChunk}
 use Rattle.chunk_store.specs.Names.{name_of}
 use Rattle.chunk_store.specs.declared.store.Store.{Ghosts as StoreWords}
 use Rattle.dsy_base.specs.Bytes.{Held, resized}
@@ -25,12 +31,15 @@ use Rattle.dsy_base.specs.Maps.{Map}
 use Rattle.dsy_base.specs.declared.view.View.{Ghosts as ViewWords}
 use Rattle.extract_plan.specs.Deal.{AreWants, first_of, of_want, want_id}
 use Rattle.extract_plan.specs.Places.{places_at}
-use Rattle.image_workers.specs.Beside.{PermitsKit}
+use Rattle.image_workers.proofs.Doors.{named_opens}
+use Rattle.image_workers.proofs.Sharing.{kit_of, mute_kit}
+use Rattle.image_workers.proofs.Telling.{all_are, told_all}
+use Rattle.image_workers.specs.Beside.{MayFillAlike, PermitsKit}
+use Rattle.image_workers.specs.Shared.{NamesShelf, all_stores, all_told, door_shelf, pairs_of}
 use Rattle.image_workers.specs.Kits.{MayFillFrom, SomeKitHas}
 use Rattle.image_assembly.specs.Readied.{Permits}
-use Rattle.image_assembly.proofs.Picking.{all_told, kit_maps, may_fill, may_have, picked, seeds_tell, some_may_have, want_had}
+use Rattle.image_assembly.proofs.Picking.{both_told, kit_maps, may_fill, may_have, picked, seeds_tell, some_may_have, want_had}
 use Rattle.owned_shards.specs.Wholes.{MayFillAll}
-use Rattle.range_ledger.specs.Runs.{Run}
 use Rattle.range_survey.specs.Fates.{is_right_at}
 
 -- ---- tests
@@ -59,24 +68,22 @@ if_told false base P has = tt
 
 -- ---- what is told
 
--- what all tell
-pub told_all : {X : Type 0} (maps : List X) → all_told (map Some maps) ≡ Some maps
-told_all [] = refl
-told_all (m ∷ ms) = ap (option_map (λ xs. m ∷ xs)) (told_all ms)
+-- what cache and stores tell together
+record BothTold (cached maps : Option (List (Map (List ℕ)))) (all : List (Map (List ℕ))) : Type 0 where
+  held : List (Map (List ℕ))
+  given : List (Map (List ℕ))
+  cache : cached ≡ Some held
+  stores : maps ≡ Some given
+  whole : all ≡ held ++ given
 
-cons_told : {X : Type 0} (o : Option X) (os : List (Option X)) (r : Option (List X)) (maps : List X) → all_told os ≡ r → all_told (o ∷ os) ≡ Some maps
-    → ((ms : List X) → r ≡ Some ms → os ≡ map Some ms) → o ∷ os ≡ map Some maps
-cons_told None os r maps is told rest = absurd (cc)
-cons_told (Some x) os None maps is told rest = let bad : None ≡ Some maps = sym (ap (option_map (λ xs. x ∷ xs)) is) ∙ told in absurd (cc)
-cons_told (Some x) os (Some ms) maps is told rest =
-    let same : Some (x ∷ ms) ≡ Some maps = sym (ap (option_map (λ xs. x ∷ xs)) is) ∙ told in
-    let list : x ∷ ms ≡ maps = cc in
-    ap (λ ys. Some x ∷ ys) (rest ms refl) ∙ ap (map Some) list
+both_are : (cached maps : Option (List (Map (List ℕ)))) (all : List (Map (List ℕ))) → both_told cached maps ≡ Some all → BothTold cached maps all
+both_are None maps all told = absurd (none-some all told)
+both_are (Some held) None all told = absurd (none-some all told)
+both_are (Some held) (Some given) all told = record { held = held; given = given; cache = refl; stores = refl; whole = sym (same_Some (held ++ given) all told) }
 
-pub all_are : {X : Type 0} (os : List (Option X)) (maps : List X) → all_told os ≡ Some maps → os ≡ map Some maps
-all_are [] [] told = refl
-all_are [] (m ∷ ms) told = absurd (cc)
-all_are (o ∷ os) maps told = cons_told o os (all_told os) maps refl told (λ ms is. all_are os ms is)
+both_mute : (cached maps : Option (List (Map (List ℕ)))) → maps ≡ None → both_told cached maps ≡ None
+both_mute None maps mute = refl
+both_mute (Some held) maps mute = ap (option_map (λ ms. held ++ ms)) mute
 
 telling_of : (tells : Bool) (views : List (Option Held)) → seeds_tell tells views ≡ true → Telling tells views
 telling_of tells views is = λ some. sym (if_so (list_any (λ v. is_some v) views) tells true (list_any-from_Any (λ v. is_some v) views some)) ∙ is
@@ -161,46 +168,153 @@ module _ (t : Task) (base : List ℕ) (wants : AreWants t.listing t.plan.wants t
 
   -- ---- the kits
 
-  module _ {S V : Type 0} (store : StoreWords S) (view : ViewWords V) (tells : Bool) (kits : List (Kit S V)) where
-    kit_tells : (k : Kit S V) (maps : List (Map (List ℕ))) → kit_maps store view k ≡ Some maps → Telling view.tells (views_of view k.seeds.items) × (map store.holds k.chain.stores ≡ map Some maps)
-    kit_tells k maps is =
-        let both = some_if (seeds_tell view.tells (views_of view k.seeds.items)) (all_told (map store.holds k.chain.stores)) maps is in
-        (telling_of view.tells (views_of view k.seeds.items) both.0, all_are (map store.holds k.chain.stores) maps both.1)
+  module _ {S V : Type 0} (store : StoreWords S) (view : ViewWords V) (tells : Bool) (kits : List (Kit S V)) (c0 : Option Shelf) where
+    abbrev cached_now : Option (List (Map (List ℕ)))
+    cached_now = cached_in c0
 
-    maps_told : (k : Kit S V) (maps : List (Map (List ℕ))) → Telling view.tells (views_of view k.seeds.items) → map store.holds k.chain.stores ≡ map Some maps → kit_maps store view k ≡ Some maps
-    maps_told k maps telling told =
-        if_so (seeds_tell view.tells (views_of view k.seeds.items)) (all_told (map store.holds k.chain.stores)) None (tells_of view.tells (views_of view k.seeds.items) telling)
-        ∙ ap all_told told ∙ told_all maps
+    abbrev views_at : Kit S V → List (Option Held)
+    views_at k = views_of view k.seeds.items
 
     abbrev test : ℕ → Kit S V → Bool
-    test w k = may_have t base (views_of view k.seeds.items) (kit_maps store view k) w
+    test w k = may_have t base (views_at k) (kit_maps store view cached_now k) w
 
-    pub permits_each : All (PermitsKit store view (picked store view tells t base kits) t) kits
-    permits_each n q less = λ i inside so.
+    -- what a kit tells that tells all
+    kit_tells : (k : Kit S V) (all : List (Map (List ℕ))) → kit_maps store view cached_now k ≡ Some all → Telling view.tells (views_at k) × BothTold cached_now (all_told (map store.holds k.chain.stores)) all
+    kit_tells k all is =
+        let both = some_if (seeds_tell view.tells (views_at k)) (both_told cached_now (all_told (map store.holds k.chain.stores))) all is in
+        (telling_of view.tells (views_at k) both.0, both_are cached_now (all_told (map store.holds k.chain.stores)) all both.1)
+
+    maps_told : (k : Kit S V) (held maps : List (Map (List ℕ))) → Telling view.tells (views_at k) → cached_now ≡ Some held → map store.holds k.chain.stores ≡ map Some maps → kit_maps store view cached_now k ≡ Some (held ++ maps)
+    maps_told k held maps telling cache told =
+        if_so (seeds_tell view.tells (views_at k)) (both_told cached_now (all_told (map store.holds k.chain.stores))) None (tells_of view.tells (views_at k) telling)
+        ∙ ap (λ o. both_told o (all_told (map store.holds k.chain.stores))) cache ∙ ap (option_map (λ ms. held ++ ms)) (ap all_told told ∙ told_all maps)
+
+    -- one of the kits may have what is tested so
+    some_kit : (w n : ℕ) (k : Kit S V) → n < length kits → slice_index_or kits n k ≡ k → test w k ≡ true → some_may_have store view t base cached_now kits w ≡ true
+    some_kit w n k less at is = list_any_at (test w) kits n k less (subst (λ (q : Kit S V). test w q ≡ true) (sym at) is)
+
+    -- one that tells not all may have anything
+    mute_has : (w : ℕ) (k : Kit S V) → kit_maps store view cached_now k ≡ None → test w k ≡ true
+    mute_has w k none = ap (λ o. may_have t base (views_at k) o w) none
+
+    mute_maps : (k : Kit S V) → all_told (map store.holds k.chain.stores) ≡ None → kit_maps store view cached_now k ≡ None
+    mute_maps k mute = go (seeds_tell view.tells (views_at k)) where
+      go : (b : Bool) → (if b then both_told cached_now (all_told (map store.holds k.chain.stores)) else None) ≡ None
+      go true = both_mute cached_now (all_told (map store.holds k.chain.stores)) mute
+      go false = refl
+
+    -- a kit whose stores hold the chunk may have it
+    gives_has : (w : ℕ) (k : Kit S V) (maps : List (Map (List ℕ))) → map store.holds k.chain.stores ≡ map Some maps
+        → SomeGives (kind_of t.listing) (want_id t.listing t.plan w) (size_of t.listing (first_of t.plan w)) maps → test w k ≡ true
+    gives_has w k maps told gives = have_when (views_at k) (kit_maps store view cached_now k) w (λ all is.
+        let b = (kit_tells k all is).1 in
+        let same : b.given ≡ maps = same_Some b.given maps (sym b.stores ∙ ap all_told told ∙ told_all maps) in
+        (had_decides (views_at k) all w).1 (inr (inr (subst (λ ms. SomeGives (kind_of t.listing) (want_id t.listing t.plan w) (size_of t.listing (first_of t.plan w)) ms) (sym b.whole)
+        (gives_right (kind_of t.listing) (want_id t.listing t.plan w) (size_of t.listing (first_of t.plan w)) b.held b.given
+        (subst (λ ms. SomeGives (kind_of t.listing) (want_id t.listing t.plan w) (size_of t.listing (first_of t.plan w)) ms) (sym same) gives))))))
+
+    -- what can be had of what the cache gives meanwhile some kit may have
+    module _ (n : ℕ) (q : Kit S V) (less : n < length kits) where
+      abbrev kit_here : Kit S V
+      kit_here = slice_index_or kits n q
+
+      at_here : slice_index_or kits n kit_here ≡ kit_here
+      at_here = get_or_default kits n kit_here q less
+
+      abbrev Fits : ℕ → List (Map (List ℕ)) → Type 0
+      Fits w ms = SomeGives (kind_of t.listing) (want_id t.listing t.plan w) (size_of t.listing (first_of t.plan w)) ms
+
+      -- all of it can be had with this kit, or it stands in another kit's store
+      had_by_some : (i : ℕ) → i < count_of t.listing → (held ms own all : List (Map (List ℕ))) → all ≡ held ++ own → map store.holds (all_stores kits) ≡ map Some ms
+          → IsObtainable t base (views_at kit_here) ((held ++ ms) ++ own) i
+          → (want_had t base (views_at kit_here) all (want_at t.plan i) ≡ true) ⊎ (some_may_have store view t base cached_now kits (want_at t.plan i) ≡ true)
+      had_by_some i inside held ms own all whole told can = elim ((had_decides (views_at kit_here) ((held ++ ms) ++ own) (want_at t.plan i)).0 (had_of (views_at kit_here) ((held ++ ms) ++ own) i inside can)) [
+        | inl right ↦ inl ((had_decides (views_at kit_here) all (want_at t.plan i)).1 (inl right))
+        | inr (inl seeds) ↦ inl ((had_decides (views_at kit_here) all (want_at t.plan i)).1 (inr (inl seeds)))
+        | inr (inr gives) ↦ elim (gives_part (kind_of t.listing) (want_id t.listing t.plan (want_at t.plan i)) (size_of t.listing (first_of t.plan (want_at t.plan i))) (held ++ ms) own gives) [
+          | inr here ↦ inl (gave i (gives_right (kind_of t.listing) (want_id t.listing t.plan (want_at t.plan i)) (size_of t.listing (first_of t.plan (want_at t.plan i))) held own here))
+          | inl cache ↦ elim (gives_part (kind_of t.listing) (want_id t.listing t.plan (want_at t.plan i)) (size_of t.listing (first_of t.plan (want_at t.plan i))) held ms cache) [
+            | inl first ↦ inl (gave i (gives_left (kind_of t.listing) (want_id t.listing t.plan (want_at t.plan i)) (size_of t.listing (first_of t.plan (want_at t.plan i))) held own first))
+            | inr other ↦
+                let k = kit_of store (λ (m : Map (List ℕ)). GivesChunk (kind_of t.listing) (want_id t.listing t.plan (want_at t.plan i)) (size_of t.listing (first_of t.plan (want_at t.plan i)))
+                (m (want_id t.listing t.plan (want_at t.plan i)))) kits ms told other in
+                inr (some_kit (want_at t.plan i) k.at k.kit k.inside k.is (gives_has (want_at t.plan i) k.kit k.part k.told k.any))
+          ]
+        ]
+      ] where
+        gave : (i : ℕ) → Fits (want_at t.plan i) (held ++ own) → want_had t base (views_at kit_here) all (want_at t.plan i) ≡ true
+        gave i gives = (had_decides (views_at kit_here) all (want_at t.plan i)).1 (inr (inr (subst (Fits (want_at t.plan i)) (sym whole) gives)))
+
+    -- what the door to the cache gives, where all stores tell
+    door_gives : (first : Option (Map (List ℕ))) (pairs : Option (List (List ℕ × ℕ))) (maps : Option (List (Map (List ℕ)))) (c : Option Shelf) → IfSome c (λ s. first ≡ s.files) → (held ms : List (Map (List ℕ)))
+        → cached_in c ≡ Some held → maps ≡ Some ms → (given : List (Map (List ℕ))) × (given_maps (door_shelf first pairs maps 0 c) ≡ Some given) × ((more : List (Map (List ℕ))) → (given ≡ held ++ ms) ⊎ (given ≡ held))
+    door_gives first pairs maps None opens held ms cache told = ([], refl, λ more. inr (same_Some [] held cache))
+    door_gives first pairs maps (Some s) opens held ms cache told =
+        let at = told_at s.files held cache in (
+          chunks at.0 ∷ ms,
+          ap (λ (f : Option (Map (List ℕ))). shared_maps f maps) (opens ∙ at.1) ∙ ap (λ (o : Option (List (Map (List ℕ)))). shared_maps (Some at.0) o) told,
+          λ more. inl (ap (λ zs. zs ++ ms) (sym at.2)),
+        )
+
+    pub permits_each : (first : Option (Map (List ℕ))) (pairs : Option (List (List ℕ × ℕ))) (maps : Option (List (Map (List ℕ)))) → IfSome c0 (λ s. first ≡ s.files) → maps ≡ all_told (map store.holds (all_stores kits))
+        → All (PermitsKit store view (picked store view tells t base cached_now kits) t (door_shelf first pairs maps 0 c0)) kits
+    permits_each first pairs maps opens stores n q less = λ i inside so.
         let w = want_at t.plan i in
         let k = slice_index_or kits n q in
-        elim (cases_Bool (may_fill store view tells t base kits w)) [
+        elim (cases_Bool (may_fill store view tells t base cached_now kits w)) [
           | inl is ↦ is
-          | inr isnt ↦ may_when tells (length kits == 1) (some_may_have store view t base kits w) (λ told. list_any_at (test w) kits n q less
-              (have_when (views_of view k.seeds.items) (kit_maps store view k) w (λ maps is.
-              let tell = kit_tells k maps is in
-              elim (so told tell.0 maps tell.1) [
-                | inl can ↦ had_of (views_of view k.seeds.items) maps i inside can
-                | inr (j, listed, same, may) ↦ absurd (true≢false (sym may ∙ ap (λ (v : ℕ). may_fill store view tells t base kits v) same ∙ isnt))
-              ])))
+          | inr isnt ↦ may_when tells (length kits == 1) (some_may_have store view t base cached_now kits w) (λ told. some_told i inside isnt told so (all_told (map store.holds (all_stores kits))) refl)
         ]
+      where
+        some_told : (i : ℕ) → i < count_of t.listing → may_fill store view tells t base cached_now kits (want_at t.plan i) ≡ false → tells ≡ true
+            → (IsTrue tells → Telling view.tells (views_at (slice_index_or kits n q)) → (given own : List (Map (List ℕ))) → given_maps (door_shelf first pairs maps 0 c0) ≡ Some given
+            → map store.holds (slice_index_or kits n q).chain.stores ≡ map Some own
+            → IsObtainable t base (views_at (slice_index_or kits n q)) (given ++ own) i ⊎ MayFillAlike (picked store view tells t base cached_now kits) t i)
+            → (o : Option (List (Map (List ℕ)))) → all_told (map store.holds (all_stores kits)) ≡ o → some_may_have store view t base cached_now kits (want_at t.plan i) ≡ true
+        some_told i inside isnt told so None is =
+            let m = mute_kit store kits is in
+            some_kit (want_at t.plan i) m.at m.kit m.inside m.is (mute_has (want_at t.plan i) m.kit (mute_maps m.kit m.mute))
+        some_told i inside isnt told so (Some ms) is = list_any_at (test (want_at t.plan i)) kits n q less
+            (have_when (views_at (slice_index_or kits n q)) (kit_maps store view cached_now (slice_index_or kits n q)) (want_at t.plan i) (λ all are.
+            let tell = kit_tells (slice_index_or kits n q) all are in
+            let b = tell.1 in
+            let own_told : map store.holds (slice_index_or kits n q).chain.stores ≡ map Some b.given = all_are (map store.holds (slice_index_or kits n q).chain.stores) b.given b.stores in
+            let all_stores_told : map store.holds (all_stores kits) ≡ map Some ms = all_are (map store.holds (all_stores kits)) ms is in
+            let door = door_gives first pairs maps c0 opens b.held ms b.cache (stores ∙ is) in
+            elim (so told tell.0 door.0 b.given door.1 own_told) [
+              | inl can ↦ elim (had_by_some n q less i inside b.held ms b.given all b.whole all_stores_told (elim (door.2 ms) [
+                | inl both ↦ subst (λ (g : List (Map (List ℕ))). IsObtainable t base (views_at (slice_index_or kits n q)) (g ++ b.given) i) both can
+                | inr alone ↦ wider i b.held ms b.given (subst (λ (g : List (Map (List ℕ))). IsObtainable t base (views_at (slice_index_or kits n q)) (g ++ b.given) i) alone can)
+              ])) [
+                | inl had ↦ had
+                | inr some ↦ absurd (true≢false (sym (may_then_fill told some) ∙ isnt))
+              ]
+              | inr (j, listed, same, may) ↦ absurd (true≢false (sym may ∙ ap (λ (v : ℕ). may_fill store view tells t base cached_now kits v) same ∙ isnt))
+            ]))
+          where
+            may_then_fill : tells ≡ true → some_may_have store view t base cached_now kits (want_at t.plan i) ≡ true → may_fill store view tells t base cached_now kits (want_at t.plan i) ≡ true
+            may_then_fill told some = may_when tells (length kits == 1) (some_may_have store view t base cached_now kits (want_at t.plan i)) (λ so. some)
 
-    pub fills_had : (tells ≡ true → length base ≡ image_length t.listing) → 2 ≤ length kits → MayFillFrom store view t (λ e. may_fill store view tells t base kits (want_at t.plan e)) (if tells then Some base else None) kits
-    fills_had sized many all = if_told tells base (λ y. (i : ℕ) → i < count_of t.listing → may_fill store view tells t base kits (want_at t.plan i) ≡ true → SomeKitHas store view t kits [] y i)
+            wider : (i : ℕ) (held ms own : List (Map (List ℕ))) → IsObtainable t base (views_at (slice_index_or kits n q)) (held ++ own) i → IsObtainable t base (views_at (slice_index_or kits n q)) ((held ++ ms) ++ own) i
+            wider i held ms own (inl right) = inl right
+            wider i held ms own (inr (inl seeds)) = inr (inl seeds)
+            wider i held ms own (inr (inr gives)) = inr (inr (elim (gives_part (kind_of t.listing) (id_of t.listing i) (size_of t.listing i) held own gives) [
+              | inl here ↦ gives_left (kind_of t.listing) (id_of t.listing i) (size_of t.listing i) (held ++ ms) own (gives_left (kind_of t.listing) (id_of t.listing i) (size_of t.listing i) held ms here)
+              | inr later ↦ gives_right (kind_of t.listing) (id_of t.listing i) (size_of t.listing i) (held ++ ms) own later
+            ]))
+
+    pub fills_had : (tells ≡ true → length base ≡ image_length t.listing) → 2 ≤ length kits
+        → MayFillFrom store view t (λ e. may_fill store view tells t base cached_now kits (want_at t.plan e)) (if tells then Some base else None) c0 kits
+    fills_had sized many all cached cache = if_told tells base (λ y. (i : ℕ) → i < count_of t.listing → may_fill store view tells t base cached_now kits (want_at t.plan i) ≡ true → SomeKitHas store view t kits cached y i)
         (λ told i inside may.
         let w = want_at t.plan i in
         let several : (length kits == 1) ≡ false = not_one (length kits) many in
-        let a = Any-from_list_any (test w) kits (may_then tells (length kits == 1) (some_may_have store view t base kits w) told several may) in
+        let a = Any-from_list_any (test w) kits (may_then tells (length kits == 1) (some_may_have store view t base cached_now kits w) told several may) in
         let k = a.1 in
         let knows = subst (λ (q : Kit S V). Telling view.tells (views_of view q.seeds.items) × ((maps : List (Map (List ℕ))) × (map store.holds q.chain.stores ≡ map Some maps))) a.3 (all a.0 a.1 a.2) in
         let maps = knows.1.0 in
-        let had : want_had t base (views_of view k.seeds.items) maps w ≡ true =
-        subst (λ o. may_have t base (views_of view k.seeds.items) o w ≡ true) (maps_told k maps knows.0 knows.1.1) a.4 in (
+        let had : want_had t base (views_of view k.seeds.items) (cached ++ maps) w ≡ true =
+        subst (λ o. may_have t base (views_of view k.seeds.items) o w ≡ true) (maps_told k cached maps knows.0 cache knows.1.1) a.4 in (
           a.0,
           k,
           a.2,
@@ -208,8 +322,8 @@ module _ (t : Task) (base : List ℕ) (wants : AreWants t.listing t.plan.wants t
           (
             maps,
             knows.1.1,
-            subst (λ (b : List ℕ). IsObtainable t b (views_of view k.seeds.items) maps i) (sym (resized_same base (image_length t.listing) (sized told)))
-                (obtained (views_of view k.seeds.items) maps i inside had),
+            subst (λ (b : List ℕ). IsObtainable t b (views_of view k.seeds.items) (cached ++ maps) i) (sym (resized_same base (image_length t.listing) (sized told)))
+                (obtained (views_of view k.seeds.items) (cached ++ maps) i inside had),
           ),
         ))
       where
@@ -219,21 +333,20 @@ module _ (t : Task) (base : List ℕ) (wants : AreWants t.listing t.plan.wants t
           | inr isnt ↦ isnt
         ]
 
-    pub picked_permits : (tells ≡ true → length base ≡ image_length t.listing) → Permits store view (picked store view tells t base kits) t kits
-    picked_permits sized = record {
-      one = λ is e. may_one tells (length kits == 1) (some_may_have store view t base kits (want_at t.plan e)) (eq-eqb (length kits) 1 is);
-      each = permits_each;
-      had = λ many. fills_had sized many;
-    } where
+    pub picked_permits : (tells ≡ true → length base ≡ image_length t.listing) → 2 ≤ length kits → (first : Option (Map (List ℕ))) (taken : List ℕ) (failed : ℕ) (pairs : Option (List (List ℕ × ℕ)))
+        (maps : Option (List (Map (List ℕ)))) → IfSome c0 (NamesShelf first taken failed) → pairs ≡ Some (pairs_of t.listing) → maps ≡ all_told (map store.holds (all_stores kits))
+        → Permits store view (picked store view tells t base cached_now kits) t kits first taken failed pairs maps c0
+    picked_permits sized many first taken failed pairs maps names listed stores = record {
+      shelf = names;
+      listed = listed;
+      stores = stores;
+      each = permits_each first pairs maps (named_opens first taken failed c0 names) stores;
+      had = fills_had sized many;
+    }
+
+    pub picked_one : length kits ≡ 1 → MayFillAll (picked store view tells t base cached_now kits)
+    picked_one is e = may_one tells (length kits == 1) (some_may_have store view t base cached_now kits (want_at t.plan e)) (eq-eqb (length kits) 1 is) where
       may_one : (b one has : Bool) → one ≡ true → (if b then one || has else true) ≡ true
       may_one true true has is = refl
       may_one true false has is = absurd (false≢true is)
       may_one false one has is = refl
-
--- where each entry may be filled the run permits with one kit
-pub permits_one : {S V : Type 0} (store : StoreWords S) (view : ViewWords V) (r : Run) (t : Task) (kits : List (Kit S V)) → length kits ≡ 1 → MayFillAll r → Permits store view r t kits
-permits_one store view r t kits one all = record {
-  one = λ is. all;
-  each = λ n q less i inside so. all i;
-  had = λ many. absurd (omega (arith, one, many));
-}

@@ -5,10 +5,12 @@ use Rattle.assembler.specs.Assemblies.{IsObtainable}
 use Rattle.assembler.specs.Stages.{Ready}
 use Rattle.cache_store.specs.Shelves.{Shelf}
 use Rattle.caibx_codec.specs.Listing.{Listing, count_of, image_length, kind_of, size_of}
+use Rattle.chunk_sources.specs.Caches.{given_maps}
 use Rattle.chunk_sources.specs.Sources.{views_of}
 use Rattle.chunk_sources.specs.Wants.{Task}
 use Rattle.chunk_sources.specs.declared.kit.Kit.{Kit}
 use Rattle.chunk_store.specs.declared.id.DigestKind.{DigestKind}
+use Rattle.chunk_store.specs.declared.id.DigestKind.TheVariants.{Sha512T256}
 use Rattle.chunk_store.specs.declared.store.Store.{Ghosts as StoreWords}
 use Rattle.dsy_base.specs.Bytes.{Held, held_resized, resized}
 use Rattle.dsy_base.specs.Maps.{Map}
@@ -16,19 +18,17 @@ use Rattle.dsy_base.specs.declared.view.View.{Ghosts as ViewWords}
 use Rattle.extract_plan.specs.Deal.{AreWants}
 use Rattle.extract_plan.specs.Places.{PlacesKnown}
 use Rattle.image_workers.proofs.Permitting.{permits}
+use Rattle.image_workers.proofs.Sharing.{door, door_adds, door_kind}
 use Rattle.image_assembly.proofs.Picks.{if_so, resized_again}
 use Rattle.image_workers.specs.Beside.{BegunBeside, PermitsKit}
 use Rattle.image_workers.specs.Kits.{MayFillFrom}
 use Rattle.image_workers.specs.Lanes.{IsReadyFor, worker_stage}
-use Rattle.image_assembly.specs.Readied.{IsReadied, Readied}
+use Rattle.image_workers.specs.Shared.{MayAddFrom, door_shelf, pairs_of}
+use Rattle.image_assembly.specs.Readied.{IsReadied, Permits, Readied}
 use Rattle.owned_shards.specs.Wholes.{base_told}
 use Rattle.range_ledger.specs.Runs.{Run}
 use Rattle.range_survey.specs.Fates.{SettledRight}
 use Rattle.range_survey.specs.declared.fate.Fate.{Fate}
-
-pub none_of : {A : Type 0} (o : Option A) → (IsSome o → ⊥) → o ≡ None
-none_of None never = refl
-none_of (Some x) never = absurd (never refl)
 
 some_mapped : {A B : Type 0} (h : A → B) (o : Option A) → is_some (option_map h o) ≡ is_some o
 some_mapped h None = refl
@@ -73,19 +73,36 @@ module _ {S V : Type 0} (store : StoreWords S) (view : ViewWords V) (r : Run) (t
         cache = subst (λ (d : DigestKind). IfSome cache (λ s. s.kind ≡ d)) (sym kind) cached;
       }
 
-  pub permits_at : (k : ℕ) (q : Kit S V) → k < length x.kits → PermitsKit store view r t (slice_index_or x.kits k q)
-  permits_at k q less = subst (λ (l : Listing). PermitsKit store view r (record { listing = l; plan = x.task.plan; places = x.task.places }) (slice_index_or x.kits k q)) is.listing (is.permits.each k q less)
+  -- ---- several workers, with a cache of which a type names this
 
-  -- each worker
-  pub ready_for : (k : ℕ) (q : Kit S V) → k < length x.kits → IsReadyFor store view r t k (slice_index_or x.kits k q) x.whole.fates
-  ready_for k q less =
-      let kit = slice_index_or x.kits k q in
-      record {
-        known = is.first;
-        ready = ready_kit k q less (worker_stage r x.whole.fates 0 kit).held 0 x.whole.fates None tt;
-        may = permits r x.task.plan x.task.places wants_so store view (views_of view kit.seeds.items) (map store.holds kit.chain.stores) (permits_at k q less) (worker_stage r x.whole.fates 0 kit) refl refl refl
-            (λ tells i inside so. inl (is.first.right tells i inside so)) _;
-      }
+  module _ (first : Option (Map (List ℕ))) (taken : List ℕ) (failed : ℕ) (pairs : Option (List (List ℕ × ℕ))) (maps : Option (List (Map (List ℕ)))) (cache : Option Shelf)
+      (permit : Permits store view r x.task x.kits first taken failed pairs maps cache) where
+    -- the door of each worker
+    abbrev e0 : Option Shelf
+    e0 = door_shelf first pairs maps 0 cache
+
+    pub pairs_so : pairs ≡ Some (pairs_of r.listing)
+    pairs_so = permit.listed ∙ ap (λ (l : Listing). Some (pairs_of l)) is.listing
+
+    door_is : e0 ≡ door store r.listing x.kits first cache
+    door_is = ap (λ (p : Option (List (List ℕ × ℕ))). door_shelf first p maps 0 cache) pairs_so ∙ ap (λ (m : Option (List (Map (List ℕ)))). door_shelf first (Some (pairs_of r.listing)) m 0 cache) permit.stores
+
+    pub permits_at : (k : ℕ) (q : Kit S V) → k < length x.kits → PermitsKit store view r t e0 (slice_index_or x.kits k q)
+    permits_at k q less =
+        subst (λ (l : Listing). PermitsKit store view r (record { listing = l; plan = x.task.plan; places = x.task.places }) e0 (slice_index_or x.kits k q)) is.listing (permit.each k q less)
+
+    -- each worker
+    pub ready_for : (k : ℕ) (q : Kit S V) → k < length x.kits → IsReadyFor store view r t e0 k (slice_index_or x.kits k q) x.whole.fates
+    ready_for k q less =
+        let kit = slice_index_or x.kits k q in
+        record {
+          known = is.first;
+          ready = ready_kit k q less (worker_stage r x.whole.fates 0 e0 kit).held 0 x.whole.fates e0 (subst (λ (e : Option Shelf). IfSome e (λ s. s.kind ≡ Sha512T256)) (sym door_is) (door_kind store r.listing x.kits first cache));
+          adds = subst (λ (e : Option Shelf). MayAddFrom store r.listing kit.chain.stores e) (sym door_is) (door_adds store r.listing x.kits first cache k q less);
+          may = permits r x.task.plan x.task.places wants_so store view (views_of view kit.seeds.items) (given_maps e0) (map store.holds kit.chain.stores) (permits_at k q less) (worker_stage r x.whole.fates 0 e0 kit)
+              (λ given told. (given, told, λ id n gives. gives)) refl refl
+              (λ tells i inside so. inl (is.first.right tells i inside so)) _;
+        }
 
   -- ---- the target of which the shards were made
 
@@ -103,19 +120,19 @@ module _ {S V : Type 0} (store : StoreWords S) (view : ViewWords V) (r : Run) (t
     begun_beside f before = record { before = before; base = based; told = told_so }
 
     -- what may be filled can be had over these bytes, with the image's length
-    abbrev HadOver : List ℕ → Type 0
-    HadOver z = (i : ℕ) → i < count_of r.listing → r.may i ≡ true
-        → Any (λ (k : Kit S V). (maps : List (Map (List ℕ))) × (map store.holds k.chain.stores ≡ map Some maps) × IsObtainable t z (views_of view k.seeds.items) ([] ++ maps) i) x.kits
+    abbrev HadOver : List (Map (List ℕ)) → List ℕ → Type 0
+    HadOver cached z = (i : ℕ) → i < count_of r.listing → r.may i ≡ true
+        → Any (λ (k : Kit S V). (maps : List (Map (List ℕ))) × (map store.holds k.chain.stores ≡ map Some maps) × IsObtainable t z (views_of view k.seeds.items) (cached ++ maps) i) x.kits
 
-    abbrev Over : List ℕ → Type 0
-    Over y = HadOver (resized y (image_length r.listing))
+    abbrev Over : List (Map (List ℕ)) → List ℕ → Type 0
+    Over cached y = HadOver cached (resized y (image_length r.listing))
 
-    over_base : (o : Option (List ℕ)) → is_some o ≡ r.tells → IfSome o (λ y. r.base ≡ resized y (image_length r.listing)) → IfSome (base_told r) Over → IfSome o Over
-    over_base None some base has = tt
-    over_base (Some y) some base has =
+    over_base : (cached : List (Map (List ℕ))) (o : Option (List ℕ)) → is_some o ≡ r.tells → IfSome o (λ y. r.base ≡ resized y (image_length r.listing)) → IfSome (base_told r) (Over cached) → IfSome o (Over cached)
+    over_base cached None some base has = tt
+    over_base cached (Some y) some base has =
         let n = image_length r.listing in
-        subst HadOver (ap (λ (b : List ℕ). resized b n) base ∙ resized_again y n) (subst (λ (o : Option (List ℕ)). IfSome o Over) (if_so r.tells (Some r.base) None (sym some)) has)
+        subst (HadOver cached) (ap (λ (b : List ℕ). resized b n) base ∙ resized_again y n) (subst (λ (o : Option (List ℕ)). IfSome o (Over cached)) (if_so r.tells (Some r.base) None (sym some)) has)
 
-    pub fills_from : 2 ≤ length x.kits → MayFillFrom store view t r.may old.bytes x.kits
-    fills_from many all = over_base old.bytes told_so based
-        (subst (λ (l : Listing). MayFillFrom store view (record { listing = l; plan = x.task.plan; places = x.task.places }) r.may (base_told r) x.kits) is.listing (is.permits.had many) all)
+    pub fills_from : (cache : Option Shelf) → MayFillFrom store view x.task r.may (base_told r) cache x.kits → MayFillFrom store view t r.may old.bytes cache x.kits
+    fills_from cache has all cached told = over_base cached old.bytes told_so based
+        (subst (λ (l : Listing). MayFillFrom store view (record { listing = l; plan = x.task.plan; places = x.task.places }) r.may (base_told r) cache x.kits) is.listing has all cached told)

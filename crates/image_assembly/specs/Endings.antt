@@ -32,16 +32,17 @@ abbrev pub handed : {S V : Type 0} → Held → Lent S V → Handed S V
 handed held lent = record { held = held; lent = lent }
 
 -- the assembly of an index has ended, with these places in the seeds. `assembled` and `kept` are so with one kit
-pub record HasAssembled {S V : Type 0} (store : StoreWords S) (view : ViewWords V) (never_fails : Bool) (l : Listing)
-    (x : Placed) (old new : Handed S V) (answer : Result Report ExtractFault) : Type 0 where
+pub record HasAssembled {S V : Type 0} (store : StoreWords S) (view : ViewWords V)
+    (never_fails cache_never_fails : Bool) (l : Listing) (x : Placed) (old new : Handed S V)
+    (answer : Result Report ExtractFault) : Type 0 where
   pub bytes : WhereTold old.held.bytes new.held.bytes (Assembles l (NoneUsed old.lent new.lent) old.lent.faults
       new.lent.faults answer)
   pub assembled : ByPlan l x old.lent new.lent (λ t a b. IsAssembled store view t old.held.bytes new.held.bytes a b
       answer)
   pub kept : length old.lent.kits ≡ 1 → IfOk answer (λ r. Quiet old.lent.faults new.lent.faults
       → IfSome old.held.bytes (λ o. r.kept ≡ right_below l (resized o (image_length l)) (count_of l)))
-  pub kits : ByPlanOfAll l x old.lent.kits (λ t. IsAssembledBy store view t never_fails old.held.bytes new.held.bytes
-      old.lent new.lent answer)
+  pub kits : ByPlanOfAll l x old.lent.kits (λ t. IsAssembledBy store view t never_fails cache_never_fails old.held.bytes
+      new.held.bytes old.lent new.lent answer)
   pub report : IfOk answer (λ r. r.kept + r.copied + r.seeded + r.cached + r.fetched ≡ count_of l)
   pub size : length new.lent.kits ≡ length old.lent.kits
   pub name : new.held.name ≡ old.held.name

@@ -1,11 +1,12 @@
 -- What stands once an assembly is prepared.
-use Rattle.std.specs.Prelude.{◌≡◌, ◌⊎◌, ℕ, ◌<◌, ◌≤◌, List, [], length, replicate, Bool, false, IfSome}
-use Rattle.std.specs.Prelude.{vec_capacity, vec_len}
+use Rattle.std.specs.Prelude.{◌≡◌, ◌⊎◌, ℕ, ◌<◌, ◌≤◌, List, [], length, map, replicate, Bool, false, IfSome, Option}
+use Rattle.std.specs.Prelude.{Some, vec_capacity, vec_len}
 use Rattle.std.specs.Global.{Vec}
 use Rattle.std.specs.List.{All}
 use Rattle.assembler.specs.Begun.{HasBegun}
 use Rattle.assembler.specs.declared.fault.ExtractFault.{ExtractFault}
 use Rattle.assembler.specs.declared.fault.ExtractFault.TheVariants as faults
+use Rattle.cache_store.specs.Shelves.{Shelf}
 use Rattle.image_assembly.specs.declared.fault.PrepareFault.{PrepareFault}
 use Rattle.image_assembly.specs.declared.fault.PrepareFault.TheVariants as refusals
 use Rattle.caibx_codec.specs.Listing.{IsListedSize, Listing, count_of, image_length, kind_of, size_of}
@@ -13,12 +14,14 @@ use Rattle.chunk_sources.specs.Wants.{Task}
 use Rattle.chunk_sources.specs.declared.kit.Kit.{Kit}
 use Rattle.chunk_store.specs.declared.store.Store.{Ghosts as StoreWords}
 use Rattle.dsy_base.specs.Bytes.{Held, resized}
+use Rattle.dsy_base.specs.Maps.{Map}
 use Rattle.dsy_base.specs.declared.view.View.{Ghosts as ViewWords}
 use Rattle.extract_plan.specs.Deal.{IsPlan, shards_of}
 use Rattle.extract_plan.specs.Places.{PlacesKnown}
 use Rattle.image_workers.specs.Beside.{PermitsKit}
 use Rattle.image_workers.specs.Kits.{MayFillFrom}
 use Rattle.image_workers.specs.Lanes.{AreFirst}
+use Rattle.image_workers.specs.Shared.{NamesShelf, all_stores, all_told, door_shelf, pairs_of}
 use Rattle.owned_shards.specs.Wholes.{MayFillAll, Whole, base_told}
 use Rattle.range_ledger.specs.Runs.{Run}
 
@@ -30,13 +33,16 @@ pub record IsRunFor (r : Run) (l : Listing) (workers : ℕ) (told : Bool) (old :
   pub base : IfSome old.bytes (λ o. r.base ≡ resized o (image_length l))
   pub tells : r.tells ≡ told
 
--- what the run permits with these kits: with one each entry may be filled. With more an entry may be filled that can be
--- had with one of them, and no other where all of them tell
+-- what the run permits with several kits and this cache, of which a type names what its folder held, and what may be
+-- added: an entry may be filled that can be had with one of them, and no other where all of them tell
 pub record Permits {S V : Type 0} (store : StoreWords S) (view : ViewWords V) (r : Run) (t : Task)
-    (kits : List (Kit S V)) : Type 0 where
-  pub one : length kits ≡ 1 → MayFillAll r
-  pub each : All (PermitsKit store view r t) kits
-  pub had : 2 ≤ length kits → MayFillFrom store view t r.may (base_told r) kits
+    (kits : List (Kit S V)) (first : Option (Map (List ℕ))) (taken : List ℕ) (failed : ℕ)
+    (pairs : Option (List (List ℕ × ℕ))) (maps : Option (List (Map (List ℕ)))) (cache : Option Shelf) : Type 0 where
+  pub shelf : IfSome cache (NamesShelf first taken failed)
+  pub listed : pairs ≡ Some (pairs_of t.listing)
+  pub stores : maps ≡ all_told (map store.holds (all_stores kits))
+  pub each : All (PermitsKit store view r t (door_shelf first pairs maps 0 cache)) kits
+  pub had : MayFillFrom store view t r.may (base_told r) cache kits
 
 -- this much room is that of the largest chunk of an index
 pub record IsRoomOf (l : Listing) (room : ℕ) : Type 0 where
@@ -54,12 +60,12 @@ pub record Readied (S V : Type 0) : Type 0 where
 abbrev pub readied : {S V : Type 0} → Task → Whole → List (Kit S V) → Readied S V
 readied task whole kits = record { task = task; whole = whole; kits = kits }
 
--- what it keeps: the run permits with the kits, the plan is that of the run's index for as many workers as there are
+-- what it keeps: with one kit the run permits all, the plan is that of the run's index for as many workers as there are
 -- kits, no want is marked as tried, the places and each kit are of this index, and the survey is over
 pub record IsReadied {S V : Type 0} (store : StoreWords S) (view : ViewWords V) (r : Run) (told : Bool)
     (tried : List Bool) (x : Readied S V) : Type 0 where
   pub listing : x.task.listing ≡ r.listing
-  pub permits : Permits store view r x.task x.kits
+  pub one : length x.kits ≡ 1 → MayFillAll r
   pub shards : r.shards ≡ shards_of (length x.kits) (count_of r.listing)
   pub base : IfSome x.whole.held.bytes (λ t. r.base ≡ t)
   pub tells : told ≡ r.tells

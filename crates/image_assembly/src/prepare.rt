@@ -2,7 +2,7 @@
 //! shards count from 0.
 
 ghost use Rattle.std.specs.Prelude.{◌≡◌, ◌≢◌, ◌⊎◌, ◌+◌, ◌<◌, ◌≤◌, ℕ, length, map, replicate, vec_len, Err, None, false};
-ghost use Rattle.std.specs.Prelude.{IfErr, IfOk, IfSome, IsSome};
+ghost use Rattle.std.specs.Prelude.{IfErr, IfOk, IfSome};
 ghost use Rattle.std.specs.List.{All};
 ghost use Rattle.assembler.specs.Assemblies.{Assembles, IsAssembled};
 ghost use Rattle.assembler.specs.Begun.{HasBegun};
@@ -16,6 +16,7 @@ ghost use Rattle.chunk_sources.specs.Sources.{sources};
 ghost use Rattle.dsy_base.specs.Bytes.{held_resized, resized};
 ghost use Rattle.dsy_base.specs.Counts.{Quiet, Rose};
 ghost use Rattle.extract_plan.specs.Deal.{Deal, IsPlan, deal_shards, shards_of};
+ghost use Rattle.owned_shards.specs.Wholes.{MayFillAll};
 ghost use Rattle.extract_plan.specs.Places.{PlacesKnown};
 ghost use Rattle.range_ledger.specs.Fills.{WhereTold};
 ghost use Rattle.range_survey.specs.Fates.{SettledRight};
@@ -30,11 +31,13 @@ use caibx_codec::index::Index;
 use chunk_sources::kit::Kit;
 use chunk_store::store::Store;
 use dsy_base::folder::Folder;
+use dsy_base::look::Look;
 use dsy_base::view::{Part, Target, View};
 use extract_plan::plan::Plan;
 use extract_plan::seeds::SeedIndex;
 use image_workers::assembled::Assembled;
 use image_workers::together::{Rooms, run_workers};
+use named_folders::named_folder::FolderName;
 use owned_shards::shards::Shards;
 use owned_shards::survey::survey_shards;
 use range_ledger::ledger::Ledger;
@@ -185,8 +188,7 @@ where
     T::Piece: Send,
     requires size { (1 ≤ vec_len kits) × (vec_len kits ≤ 32) }
     requires over { IsRunFor R.run index.now (vec_len kits) T.tells (T.held target) }
-    requires may { (d : Deal) → IsPlan index.now (vec_len kits) d → Permits S.Store V.View R.run
-        (record { listing = index.now; plan = d; places = places.now }) kits.items }
+    requires one { vec_len kits ≡ 1 → MayFillAll R.run }
     requires places { (d : Deal) × IsPlan index.now 1 d
         × All (λ k. PlacesKnown index.now d places.now (length k.seeds.items)) kits.items }
     requires kind { All (λ k. k.chain.kind ≡ kind_of index.now) kits.items }
@@ -243,17 +245,18 @@ impl<'a, R: RunName + Send + Sync, T: Target, S: Store + Send, V: View + Send> P
 > {
     /// Makes right all that the survey left open and that can be had. The chunk of each want comes from an alike entry
     /// that is right, or from a seed, or from the cache, or else from the stores; what a store gives is added to the
-    /// cache, whose faults are passed over. With several kits there are as many workers, and no cache. Goes on past
-    /// wants whose chunk no source gives, and answers for the first entry of them. What was handed over comes back
-    /// whatever the answer is.
-    pub fn run<W: Threads + Wait + Sync, F: Folder + Send + Sync>(
+    /// cache, whose faults are passed over. With several kits there are as many workers, and the cache, whose folder
+    /// `N` names, is behind a lock meanwhile. Goes on past wants whose chunk no source gives, and answers for the first
+    /// entry of them. What was handed over comes back whatever the answer is.
+    pub fn run<W: Threads + Wait + Sync, N: FolderName + Send + Sync, F: Folder + Send + Sync>(
         self,
         rt: &W,
         cache: Option<CacheShelf<F>>,
     ) -> Assembled<T, S, V, F>
     where
         T::Piece: Send,
-        requires alone { IsSome (seen F.Look cache) → length self.kits ≡ 1 }
+        requires permits { 2 ≤ length self.kits → Permits S.Store V.View R.run self.task self.kits N.opening N.place
+            N.faults N.pairs N.stores (seen F.Look cache) }
         requires cache { IfSome (seen F.Look cache) (λ s. s.kind ≡ kind_of self.task.listing) }
         requires unnamed { (F.pairs ≡ None) × (F.stores ≡ None) }
         ensures bytes { OfTargetWith (length self.entry.kits) self.entry.task.listing self.entry.whole
@@ -273,7 +276,8 @@ impl<'a, R: RunName + Send + Sync, T: Target, S: Store + Send, V: View + Send> P
 
         // With any number of kits.
         ensures kits { OfTargetWith (length self.entry.kits) self.entry.task.listing self.entry.whole
-            (λ old f. IsAssembledBy S.Store V.View self.entry.task T.never_fails old.bytes (T.held result.target).bytes
+            (λ old f. IsAssembledBy S.Store V.View self.entry.task T.never_fails F.never_fails old.bytes
+            (T.held result.target).bytes
             (lent f self.entry.kits (seen F.Look cache))
             (lent (T.faults result.target) result.kits.items (seen F.Look result.cache)) result.answer) }
         ensures report { IfOk result.answer
@@ -302,7 +306,9 @@ impl<'a, R: RunName + Send + Sync, T: Target, S: Store + Send, V: View + Send> P
             places,
         };
         if let Some(rooms) = rooms {
-            return run_workers(rt, index, &wants, tried, shards, kits, rooms);
+            return run_workers::<W, R, N, T, S, V, F>(
+                rt, index, &wants, tried, shards, kits, cache, rooms,
+            );
         }
         let Some(kit) = kits.pop() else {
             unreachable!();

@@ -30,6 +30,8 @@ mod prepare_tests;
 #[cfg(test)]
 mod scene_tests;
 #[cfg(test)]
+mod sharing_tests;
+#[cfg(test)]
 mod store_tests;
 #[cfg(test)]
 mod storing_tests;

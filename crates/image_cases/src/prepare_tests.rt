@@ -58,7 +58,7 @@ where
     requires kind { All (λ k. k.chain.kind ≡ kind_of index.now) kits.items }
 {
     match prepare::<H, R, T, S, V>(rt, alloc, index, places, target, kits) {
-        Ok(prepared) => Ok(prepared.run(rt, None)),
+        Ok(prepared) => Ok(prepared.run::<_, Brand, _>(rt, None)),
         Err(refused) => Err(refused),
     }
 }

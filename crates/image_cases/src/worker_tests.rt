@@ -34,12 +34,24 @@ const TURNS: u64 = 10_000_000;
 
 // Where each of several stores waits once, for this many turns at most, until another one is asked.
 #[derive(Drop)]
-struct StoreGate {
+pub(crate) struct StoreGate {
     asked: AtomicU64,
     passed: AtomicU64,
 }
 
 impl StoreGate {
+    pub(crate) fn new() -> StoreGate {
+        StoreGate {
+            asked: AtomicU64::new(0),
+            passed: AtomicU64::new(0),
+        }
+    }
+
+    // How many stores have passed.
+    pub(crate) fn passed(&self) -> u64 {
+        self.passed.load(Ordering::SeqCst)
+    }
+
     fn wait(&self) {
         let _ = self.asked.fetch_add(1, Ordering::SeqCst);
         for _ in 0..TURNS {
@@ -54,7 +66,7 @@ impl StoreGate {
 
 // Chunks in memory as a store, which is first asked through a gate.
 #[derive(Drop)]
-struct GatedStore {
+pub(crate) struct GatedStore {
     chunks: MemStore,
     gate: Arc<StoreGate, Global>,
     waited: bool,
@@ -130,7 +142,7 @@ fn gated_kit(
 }
 
 // This many of them, with the same gate.
-fn gated_kits(
+pub(crate) fn gated_kits(
     rt: &impl Abort,
     alloc: Global,
     gate: &Arc<StoreGate, Global>,
@@ -149,7 +161,7 @@ fn gated_kits(
 }
 
 // How often the stores of all kits were asked.
-fn asks_of(kits: &[Kit<GatedStore, MemView>]) -> u64 {
+pub(crate) fn asks_of(kits: &[Kit<GatedStore, MemView>]) -> u64 {
     let mut asks = 0u64;
     for kit in kits {
         asks = asks.saturating_add(kit.chain.asks());
@@ -166,11 +178,7 @@ fn assembles_beside<H: Abort + Threads + Wait + Sync>(rt: &H, alloc: Global, cou
     let plan = ok(rt, Plan::of(alloc, &index, 1));
     let seeds: [Index; 0] = [];
     let places = ok(rt, SeedIndex::of(alloc, &plan, &index, &seeds));
-    let gate = StoreGate {
-        asked: AtomicU64::new(0),
-        passed: AtomicU64::new(0),
-    };
-    let gate = ok(rt, Arc::new(alloc, gate));
+    let gate = ok(rt, Arc::new(alloc, StoreGate::new()));
     let kits = gated_kits(rt, alloc, &gate, &pieces, count);
     let old = target_of(rt, alloc, b"", RangeFails::none(alloc));
     let none = None::<CacheShelf<MemFolder>>;
@@ -182,7 +190,7 @@ fn assembles_beside<H: Abort + Threads + Wait + Sync>(rt: &H, alloc: Global, cou
     } = assemble(rt, alloc, &index, &places, old, kits, none);
     same(rt, answer, counts(0, 0, 0, 6));
     same(rt, target.bytes(), b"abcdefghijklmnopqr".as_slice());
-    same(rt, gate.passed.load(Ordering::SeqCst), count as u64);
+    same(rt, gate.passed(), count as u64);
     same(rt, asks_of(&kits), 6);
 }
 

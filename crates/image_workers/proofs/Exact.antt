@@ -99,19 +99,19 @@ module _ {S V : Type 0} (store : StoreWords S) (view : ViewWords V) (r : Run) (d
 
     -- the source of a want, as a worker knows it, is that over the base
     pub sourced : IsTrue never → Quiet f g → IsTrue r.tells → (a : Kit S V) (cached maps : List (Map (List ℕ))) (w : ℕ)
-        → source_at view t (worker_stage r w0.fates 0 a) cached maps w ≡ source_of t r.base (views_of view a.seeds.items) cached maps w
+        → source_at view t (worker_stage r w0.fates 0 None a) cached maps w ≡ source_of t r.base (views_of view a.seeds.items) cached maps w
     sourced sure quiet tells a cached maps w =
         source_same t (views_of view a.seeds.items) maps w cached cached (settled w0.fates) (is_right_at r.listing r.base)
         (λ i among. settled_as sure quiet tells i (listed_of r.listing d w i wants among)) refl
 
-    module _ (k : ℕ) (a b : Kit S V) (n : List Fate) (lacked : Bool) (by : HasWorked store view r t never k a w0.fates b n lacked) where
+    module _ (e0 : Option Shelf) (cache_never : Bool) (none : e0 ≡ None) (k : ℕ) (a b : Kit S V) (n : List Fate) (lacked : Bool) (by : HasWorked store view r t e0 never cache_never k a w0.fates b n lacked) where
       abbrev first : Sources S V
       first = sources f a.seeds.items None a.chain
 
       -- where nothing fails until the last, nothing does on its way
       pub on_its_way : (last : Sources S V) → NoneFalls (counts_of view b.seeds.items) (counts_of view last.seeds) → NoneFalls (map store.faults b.chain.stores) (map store.faults last.chain.stores)
           → IsTrue never → IsTrue r.tells → (cached maps : List (Map (List ℕ))) → SourcesQuiet store view first last cached maps
-          → SourcesQuiet store view (from (worker_stage r w0.fates 0 a)) (from (worker_stage r n by.faults b)) cached maps
+          → SourcesQuiet store view (from (worker_stage r w0.fates 0 None a)) (from (worker_stage r n by.faults None b)) cached maps
       on_its_way last seeds stores sure tells cached maps nothing = record {
         target = none_quiet by.faults (by.sure (both_so never r.tells sure tells));
         telling = nothing.telling;
@@ -124,12 +124,12 @@ module _ {S V : Type 0} (store : StoreWords S) (view : ViewWords V) (r : Run) (d
 
       -- it has asked as often as what it was dealt takes, over the base
       calls_dealt : lacked ≡ false → IsTrue never → IsTrue r.tells → Quiet f g → (cached maps : List (Map (List ℕ)))
-          → SourcesQuiet store view (from (worker_stage r w0.fates 0 a)) (from (worker_stage r n by.faults b)) cached maps → HaveOneSize r.listing None cached maps
+          → SourcesQuiet store view (from (worker_stage r w0.fates 0 None a)) (from (worker_stage r n by.faults None b)) cached maps → HaveOneSize r.listing None cached maps
           → (base : List ℕ) → r.base ≡ base → b.chain.asks ≡ raised a.chain.asks (dealt_asks t base (views_of view a.seeds.items) cached maps k)
       calls_dealt had sure tells quiet cached maps nothing one base is =
           let over : (ℕ → Fate) → ℕ → ℕ = λ source w. pass_asks (source_if (deals_to d k) source w) in
-          (by.exactly had cached maps nothing one).calls
-          ∙ ap (raised a.chain.asks) (sum_same (over (source_at view t (worker_stage r w0.fates 0 a) cached maps)) (over (source_of t base (views_of view a.seeds.items) cached maps)) d.wants
+          (by.exactly none had cached maps nothing one).calls
+          ∙ ap (raised a.chain.asks) (sum_same (over (source_at view t (worker_stage r w0.fates 0 None a) cached maps)) (over (source_of t base (views_of view a.seeds.items) cached maps)) d.wants
           (λ w less. ap (λ (s : Fate). pass_asks (if deals_to d k w then s else fate.Kept))
           (sourced sure quiet tells a cached maps w ∙ ap (λ (z : List ℕ). source_of t z (views_of view a.seeds.items) cached maps w) is)))
 
@@ -153,8 +153,9 @@ module _ {S V : Type 0} (store : StoreWords S) (view : ViewWords V) (r : Run) (d
           exact_by (sources g b.seeds.items e b.chain) refl (λ s. omega arith) (λ s. omega arith) (λ m is. dealt_by k m a.chain.asks b.chain.asks is) answer lacks
 
     -- the first worker, which makes another
-    pub exact_twice : (a b : Kit S V) (n : List Fate) (lacked : Bool) → HasWorked store view r t never 0 a w0.fates b n lacked → (end : Stage S V) → end.faults ≡ g → HasPassed store view t one_pass (joined_stage w1 b) end
+    pub exact_twice : (e0 : Option Shelf) (cache_never : Bool) → e0 ≡ None → (a b : Kit S V) (n : List Fate) (lacked : Bool) → HasWorked store view r t e0 never cache_never 0 a w0.fates b n lacked
+        → (c1 : Option Shelf) (end : Stage S V) → end.faults ≡ g → HasPassed store view t one_pass (joined_stage w1 c1 b) end
         → (answer : Result Report ExtractFault) → (lacked ≡ true → answer ≡ Err faults.Memory) → ExactlyDealt store view r d x wants never o 0 (sources f a.seeds.items None a.chain) (from end) answer
-    exact_twice a b n lacked by end count passed answer lacks =
+    exact_twice e0 cache_never none a b n lacked by c1 end count passed answer lacks =
         let more = (passed.asks (λ w. false) (λ w below is. absurd (true≢false (sym is)))).no_fewer in
-        exact_by 0 a b n lacked by (from end) count passed.stretch.step.seeds.never_fall passed.stretch.step.stores.never_fall (λ m is. omega (arith, is, more)) answer lacks
+        exact_by e0 cache_never none 0 a b n lacked by (from end) count passed.stretch.step.seeds.never_fall passed.stretch.step.stores.never_fall (λ m is. omega (arith, is, more)) answer lacks

@@ -5,9 +5,11 @@ use Rattle.std.proofs.lemmas.List.{get_or-map, length-map}
 use Rattle.std.specs.Option.{option_map}
 use Rattle.assembler.proofs.Stepped.{seeds_count}
 use Rattle.assembler.specs.Stages.{Ready}
-use Rattle.caibx_codec.specs.Listing.{size_of}
+use Rattle.cache_store.specs.Shelves.{Shelf}
+use Rattle.caibx_codec.specs.Listing.{kind_of, size_of}
 use Rattle.chunk_sources.specs.Wants.{Task}
 use Rattle.chunk_sources.specs.declared.kit.Kit.{Kit}
+use Rattle.chunk_store.specs.declared.id.DigestKind.{DigestKind}
 use Rattle.chunk_store.specs.declared.store.Store.{Ghosts as StoreWords}
 use Rattle.dsy_base.specs.declared.view.View.{Ghosts as ViewWords}
 use Rattle.extract_plan.specs.Places.{PlacesKnown}
@@ -79,8 +81,8 @@ module _ {S V : Type 0} where
         let q = a_kit kits (omega (arith, less, as_many)) in
         in_tools (P k) (slice_index_or kits k q) m (slice_index_or xs k a).tools (tools_at k a q less) (are k q (omega (arith, less, as_many)))
 
-    module _ (store : StoreWords S) (view : ViewWords V) (r : Run) (t : Task) (never : Bool) (ys : List (Lane S V)) (long : length ys ≡ length xs)
-        (each : (k : ℕ) (a : Lane S V) → k < length xs → LaneWorks store view r t never k (slice_index_or xs k a) (slice_index_or ys k a)) where
+    module _ (store : StoreWords S) (view : ViewWords V) (r : Run) (t : Task) (e : Option Shelf) (never cache_never : Bool) (ys : List (Lane S V)) (long : length ys ≡ length xs)
+        (each : (k : ℕ) (a : Lane S V) → k < length xs → LaneWorks store view r t e never cache_never k (slice_index_or xs k a) (slice_index_or ys k a)) where
       abbrev none_there : Lane S V
       none_there = record { tools = None; lacked = false }
 
@@ -88,12 +90,12 @@ module _ {S V : Type 0} where
       all_there k d less =
           let q = a_kit kits (omega (arith, less, long, as_many)) in
           let y = slice_index_or ys k d in
-          is_there (λ b n. HasWorked store view r t never k (slice_index_or kits k q) m b n y.lacked) y.tools
-          (out_tools (λ a p. OfTools y (λ b n. HasWorked store view r t never k a p b n y.lacked)) (slice_index_or kits k q) m (slice_index_or xs k d).tools (tools_at k d q (omega (arith, less, long)))
+          is_there (λ b n. HasWorked store view r t e never cache_never k (slice_index_or kits k q) m b n y.lacked) y.tools
+          (out_tools (λ a p. OfTools y (λ b n. HasWorked store view r t e never cache_never k a p b n y.lacked)) (slice_index_or kits k q) m (slice_index_or xs k d).tools (tools_at k d q (omega (arith, less, long)))
           (each k d (omega (arith, less, long))))
 
       pub worked_at : (outs : List (Kit S V)) → map (λ q. Some q) outs ≡ map kit_of ys → (k : ℕ) (q p : Kit S V) → k < length kits
-          → (n : List Fate) × HasWorked store view r t never k (slice_index_or kits k q) m (slice_index_or outs k p) n (slice_index_or ys k none_there).lacked
+          → (n : List Fate) × HasWorked store view r t e never cache_never k (slice_index_or kits k q) m (slice_index_or outs k p) n (slice_index_or ys k none_there).lacked
       worked_at outs are k q p less =
           let y = slice_index_or ys k none_there in
           let in_xs : k < length xs = omega (arith, less, as_many) in
@@ -101,14 +103,14 @@ module _ {S V : Type 0} where
           let outs_long : length (map (λ (z : Kit S V). Some z) outs) ≡ length outs = length-map outs (λ (z : Kit S V). Some z) in
           let ys_long : length (map kit_of ys) ≡ length ys = length-map ys kit_of in
           let in_outs : k < length outs = omega (arith, in_ys, outs_long, ys_long, ap length are) in
-          out_kit (λ b n. HasWorked store view r t never k (slice_index_or kits k q) m b n y.lacked) (slice_index_or outs k p) y.tools
+          out_kit (λ b n. HasWorked store view r t e never cache_never k (slice_index_or kits k q) m b n y.lacked) (slice_index_or outs k p) y.tools
           (sym (get_or-map kit_of ys k none_there None in_ys) ∙ ap (λ zs. slice_index_or zs k None) (sym are) ∙ get_or-map (λ z. Some z) outs k p None in_outs)
-          (out_tools (λ a w. OfTools y (λ b n. HasWorked store view r t never k a w b n y.lacked)) (slice_index_or kits k q) m (slice_index_or xs k none_there).tools (tools_at k none_there q in_xs)
+          (out_tools (λ a w. OfTools y (λ b n. HasWorked store view r t e never cache_never k a w b n y.lacked)) (slice_index_or kits k q) m (slice_index_or xs k none_there).tools (tools_at k none_there q in_xs)
           (each k none_there in_xs))
 
       -- the same, where the lists of what each knows were taken too
       pub knew_at : (outs : List (Kit S V)) → map (λ q. Some q) outs ≡ map kit_of ys → (lists : List (List Fate)) → map (λ n. Some n) lists ≡ map known_of ys → (k : ℕ) (q p : Kit S V) → k < length kits
-          → HasWorked store view r t never k (slice_index_or kits k q) m (slice_index_or outs k p) (slice_index_or lists k []) (slice_index_or ys k none_there).lacked
+          → HasWorked store view r t e never cache_never k (slice_index_or kits k q) m (slice_index_or outs k p) (slice_index_or lists k []) (slice_index_or ys k none_there).lacked
       knew_at outs are lists so k q p less =
           let y = slice_index_or ys k none_there in
           let in_xs : k < length xs = omega (arith, less, as_many) in
@@ -119,10 +121,10 @@ module _ {S V : Type 0} where
           let known_long : length (map known_of ys) ≡ length ys = length-map ys known_of in
           let in_outs : k < length outs = omega (arith, in_ys, outs_long, kits_long, ap length are) in
           let in_lists : k < length lists = omega (arith, in_ys, lists_long, known_long, ap length so) in
-          out_both (λ b n. HasWorked store view r t never k (slice_index_or kits k q) m b n y.lacked) (slice_index_or outs k p) (slice_index_or lists k []) y.tools
+          out_both (λ b n. HasWorked store view r t e never cache_never k (slice_index_or kits k q) m b n y.lacked) (slice_index_or outs k p) (slice_index_or lists k []) y.tools
           (sym (get_or-map kit_of ys k none_there None in_ys) ∙ ap (λ zs. slice_index_or zs k None) (sym are) ∙ get_or-map (λ z. Some z) outs k p None in_outs)
           (sym (get_or-map known_of ys k none_there None in_ys) ∙ ap (λ zs. slice_index_or zs k None) (sym so) ∙ get_or-map (λ z. Some z) lists k [] None in_lists)
-          (out_tools (λ a w. OfTools y (λ b n. HasWorked store view r t never k a w b n y.lacked)) (slice_index_or kits k q) m (slice_index_or xs k none_there).tools (tools_at k none_there q in_xs)
+          (out_tools (λ a w. OfTools y (λ b n. HasWorked store view r t e never cache_never k a w b n y.lacked)) (slice_index_or kits k q) m (slice_index_or xs k none_there).tools (tools_at k none_there q in_xs)
           (each k none_there in_xs))
 
 module _ {S V : Type 0} (store : StoreWords S) (view : ViewWords V) (r : Run) (d : Deal) (x : Placed) where
@@ -130,15 +132,17 @@ module _ {S V : Type 0} (store : StoreWords S) (view : ViewWords V) (r : Run) (d
   t = record { listing = r.listing; plan = d; places = x }
 
   -- the first kit is as it must be for the second pass
-  pub ready_again : (never : Bool) (a b : Kit S V) (m n : List Fate) (lacked : Bool) (w : Whole) → IsReadyFor store view r t 0 a m → HasWorked store view r t never 0 a m b n lacked → Ready t (joined_stage w b)
-  ready_again never a b m n lacked w is by =
+  pub ready_again : (e : Option Shelf) (never cache_never : Bool) (a b : Kit S V) (m n : List Fate) (lacked : Bool) (w : Whole) (c1 : Option Shelf) → IfSome c1 (λ s. s.kind ≡ kind_of r.listing)
+      → IsReadyFor store view r t e 0 a m → HasWorked store view r t e never cache_never 0 a m b n lacked → Ready t (joined_stage w c1 b)
+  ready_again e never cache_never a b m n lacked w c1 kind is by =
       let step = by.passed.stretch.step in
+      let same : b.chain.kind ≡ kind_of r.listing = step.kind ∙ is.ready.kind in
       record {
         wants = is.ready.wants;
         places = subst (λ (c : ℕ). PlacesKnown r.listing d x c) (sym (seeds_count view a.seeds.items b.seeds.items step.seeds)) is.ready.places;
-        kind = step.kind ∙ is.ready.kind;
+        kind = same;
         room = λ i less. subst (λ (c : ℕ). size_of r.listing i ≤ c) (sym step.room) (is.ready.room i less);
-        cache = tt;
+        cache = subst (λ (k : DigestKind). IfSome c1 (λ s. s.kind ≡ k)) (sym same) kind;
       }
 
   pub filled_of : (wants : AreWants r.listing d.wants d.want_of) (w : Whole) (o : Option (List ℕ)) → is_some o ≡ r.tells → IfSome o (KeptWhole r w) → FilledBy r d x wants w.fates

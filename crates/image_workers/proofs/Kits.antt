@@ -1,5 +1,5 @@
 -- What holds for all kits, from what holds for the first one and for each worker.
-use Rattle.std.proofs.Common.{◌≡◌, ◌∙◌, ◌++◌, ◌∷◌, ◌<◌, ℕ, List, [], Bool, Option, Some, None, IfOk, IfSome, IsTrue, Result, Ok, Err, length, map, slice_index_or, true, refl, sym, ap, subst, inl, inr, arith}
+use Rattle.std.proofs.Common.{◌≡◌, ◌⊎◌, ◌∙◌, ◌++◌, ◌∷◌, ◌<◌, ℕ, List, [], Bool, Option, Some, None, IfOk, IfSome, IsTrue, Result, Ok, Err, length, map, slice_index_or, true, refl, sym, ap, subst, inl, inr, arith}
 use Rattle.std.proofs.lemmas.List.{get_or_default}
 use Rattle.std.proofs.lemmas.Option.{same_Some}
 use Rattle.assembler.proofs.Based.{some_map, told_map}
@@ -20,8 +20,9 @@ use Rattle.chunk_store.specs.declared.store.Store.{Ghosts as StoreWords}
 use Rattle.dsy_base.specs.Bytes.{Held, resized}
 use Rattle.dsy_base.specs.Maps.{Map}
 use Rattle.dsy_base.specs.declared.view.View.{Ghosts as ViewWords}
-use Rattle.image_workers.specs.Beside.{AssembledBeside, FillsObtainable}
-use Rattle.image_workers.specs.Kits.{AllKitsTell, AreKitsAlike, IsAssembledBy, KitUsed, KnowsFaults, MayFillFrom, NoneUsed, SomeKitHas, at_kit}
+use Rattle.image_workers.specs.Beside.{AddsOwn, AssembledBeside, FillsObtainable}
+use Rattle.image_workers.specs.Kits.{AllKitsTell, AreKitsAlike, IsAssembledBy, IsUnshared, KitUsed, MayFillFrom, NoneUsed, SomeKitHas, at_kit}
+use Rattle.image_workers.specs.Shared.{all_stores}
 use Rattle.range_ledger.specs.Fills.{WhereTold}
 use Rattle.range_ledger.specs.Runs.{Run}
 use Rattle.range_survey.specs.Reports.{right_below}
@@ -90,59 +91,66 @@ module _ {S V : Type 0} (store : StoreWords S) (view : ViewWords V) (r : Run) (t
     all_tell k z less = (subst (Telling view.tells) (sym (views_at k z less)) telling, (maps, told_at k z less))
 
     -- what one of them has the first has
-    first_has : (y : List ℕ) (i : ℕ) → SomeKitHas store view t kits [] y i → IsObtainable t (resized y (image_length t.listing)) views maps i
-    first_has y i (k, z, less, at, (more, holds, has)) =
+    first_has : (cached : List (Map (List ℕ))) (y : List ℕ) (i : ℕ) → SomeKitHas store view t kits cached y i → IsObtainable t (resized y (image_length t.listing)) views (cached ++ maps) i
+    first_has cached y i (k, z, less, at, (more, holds, has)) =
         let held : views_of view z.seeds.items ≡ views = subst (λ (p : Kit S V). views_of view p.seeds.items ≡ views) at (views_at k z less) in
         let here : map store.holds z.chain.stores ≡ map Some maps = subst (λ (p : Kit S V). map store.holds p.chain.stores ≡ map Some maps) at (told_at k z less) in
         let same : more ≡ maps = same_given more maps (sym holds ∙ here) in
-        subst (λ v. IsObtainable t (resized y (image_length t.listing)) v maps i) held
-        (subst (λ ms. IsObtainable t (resized y (image_length t.listing)) (views_of view z.seeds.items) ms i) same has)
+        subst (λ v. IsObtainable t (resized y (image_length t.listing)) v (cached ++ maps) i) held
+        (subst (λ ms. IsObtainable t (resized y (image_length t.listing)) (views_of view z.seeds.items) (cached ++ ms) i) same has)
 
-    fills_first : (o : Option (List ℕ)) → MayFillFrom store view t r.may o kits → (old : Sources S V) → old.seeds ≡ (slice_index_or kits 0 q).seeds.items → (cached : List (Map (List ℕ))) → cached ≡ []
-        → IfSome o (FillsObtainable store view r t old cached maps)
-    fills_first o fill old seeds cached none =
-        some_map o (λ y. (i : ℕ) → i < count_of t.listing → r.may i ≡ true → SomeKitHas store view t kits [] y i) (FillsObtainable store view r t old cached maps)
+    fills_first : (o : Option (List ℕ)) (c0 : Option Shelf) → MayFillFrom store view t r.may o c0 kits → (old : Sources S V) → old.seeds ≡ (slice_index_or kits 0 q).seeds.items → (cached : List (Map (List ℕ)))
+        → cached_in c0 ≡ Some cached → IfSome o (FillsObtainable store view r t old cached maps)
+    fills_first o c0 fill old seeds cached told_cache =
+        some_map o (λ y. (i : ℕ) → i < count_of t.listing → r.may i ≡ true → SomeKitHas store view t kits cached y i) (FillsObtainable store view r t old cached maps)
         (λ y has i inside may.
-        subst (λ ms. IsObtainable t (resized y (image_length t.listing)) (views_of view old.seeds) (ms ++ maps) i) (sym none)
-        (subst (λ s. IsObtainable t (resized y (image_length t.listing)) (views_of view s) maps i) (sym seeds) (first_has y i (has i inside may))))
-        (fill all_tell)
+        subst (λ s. IsObtainable t (resized y (image_length t.listing)) (views_of view s) (cached ++ maps) i) (sym seeds) (first_has cached y i (has i inside may)))
+        (fill all_tell cached told_cache)
 
   -- ---- all of it
 
-  module _ (never : Bool) (o p : Option (List ℕ)) (f g : ℕ) (outs : List (Kit S V)) (e : Option Shelf) (res : Result Report ExtractFault) where
-    -- what an assembly has done, by what its first worker did and what became of each kit
-    pub assembled_by : MayFillFrom store view t r.may o kits
-        → ((q j : Kit S V) → AssembledBeside store view r t o p (at_kit (lent f kits None) 0 q) (at_kit (lent g outs e) 0 j) res)
-        → Kit S V → e ≡ None → length outs ≡ length kits
-        → ((k : ℕ) (q j : Kit S V) → k < length kits → KitUsed store view t (KnowsFaults never kits) never o k (at_kit (lent f kits None) k q) (at_kit (lent g outs e) k j) res)
-        → 0 < length kits
-        → (IsTrue never → AreKitsAlike store view t kits → (q j : Kit S V) (cached maps : List (Map (List ℕ)))
-        → ((k : ℕ) → k < length kits → SourcesQuiet store view (at_kit (lent f kits None) k q) (at_kit (lent g outs e) k j) cached maps) → HaveOneSize t.listing None cached maps
+  module _ (never cache_never : Bool) (o p : Option (List ℕ)) (f g : ℕ) (outs : List (Kit S V)) (e : Option Shelf) (res : Result Report ExtractFault) where
+    -- that each want is counted by its source, where nothing fails and the cache was this
+    abbrev pub ReportedOver : Option Shelf → Type 0
+    ReportedOver c = IsTrue never → AreKitsAlike store view t kits → (q j : Kit S V) (cached maps : List (Map (List ℕ)))
+        → ((k : ℕ) → k < length kits → SourcesQuiet store view (at_kit (lent f kits c) k q) (at_kit (lent g outs e) k j) cached maps) → HaveOneSize t.listing c cached maps
         → IfSome o (λ y. Verdict t.listing (IsObtainable t (resized y (image_length t.listing)) (views_of view (slice_index_or kits 0 q).seeds.items) (cached ++ maps)) res)
-        → IfSome o (λ y. IfOk res (ReportsExactly (source_of t (resized y (image_length t.listing)) (views_of view (slice_index_or kits 0 q).seeds.items) cached maps) t.plan.wants)))
+        → IfSome o (λ y. IfOk res (ReportsExactly (source_of t (resized y (image_length t.listing)) (views_of view (slice_index_or kits 0 q).seeds.items) cached maps) t.plan.wants))
+
+    -- what an assembly has done, by what its first worker did and what became of each kit. It had this cache, which was
+    -- that between the passes
+    pub assembled_by : (c0 c1 : Option Shelf) → MayFillFrom store view t r.may o c0 kits
+        → ((q j : Kit S V) → AssembledBeside store view r t o p (at_kit (lent f kits c0) 0 q) c1 (at_kit (lent g outs e) 0 j) res)
+        → Kit S V → (AreKitsAlike store view t kits → (q : Kit S V) → AddsOwn store view r t (at_kit (lent f kits c0) 0 q) c1)
+        → Stocked (TakesListed store t.listing (all_stores kits)) c0 e
+        → (IsUnshared (lent f kits c0) ⊎ AreKitsAlike store view t kits → (q : Kit S V) → Stocked (TakesListed store t.listing (slice_index_or kits 0 q).chain.stores) c0 e)
+        → length outs ≡ length kits
+        → ((k : ℕ) (q j : Kit S V) → k < length kits → KitUsed store view t never cache_never o (lent f kits c0) k (at_kit (lent f kits c0) k q) (at_kit (lent g outs e) k j) res)
+        → 0 < length kits
+        → (IsUnshared (lent f kits c0) → ReportedOver c0)
         → (IsTrue never → IfOk res (λ rep. IfSome o (λ y. rep.kept ≡ right_below t.listing (resized y (image_length t.listing)) (count_of t.listing))))
-        → IsAssembledBy store view t never o p (lent f kits None) (lent g outs e) res
-    assembled_by fill did some none long each any report kept =
-        let old = lent f kits None in
+        → IsAssembledBy store view t never cache_never o p (lent f kits c0) (lent g outs e) res
+    assembled_by c0 c1 fill did some own stocked first_stocked long each any report kept =
+        let old = lent f kits c0 in
         let new = lent g outs e in
         let May : ℕ → Type 0 = λ i. r.may i ≡ true in
         record {
           bytes = told_so o p (Assembles t.listing ⊥ f g res) (Assembles t.listing (NoneUsed old new) f g res) (λ y z. assembles_so t.listing (NoneUsed old new) f g res y z) (did some some).bytes;
           lost = λ q j. (did q j).lost;
-          had = λ tell cached is. told_map o p (λ y. (i : ℕ) → i < count_of t.listing → May i → SomeKitHas store view t kits [] y i) (OnlyObtainable t.listing May f g res)
+          had = λ tell cached is. told_map o p (λ y. (i : ℕ) → i < count_of t.listing → May i → SomeKitHas store view t kits cached y i) (OnlyObtainable t.listing May f g res)
               (λ y z. OnlyObtainable t.listing (SomeKitHas store view t kits cached y) f g res y z)
-              (λ y z has. only_so t.listing May (SomeKitHas store view t kits cached y)
-              (λ i inside may. subst (λ c. SomeKitHas store view t kits c y i) (same_Some [] cached is) (has i inside may)) f g res y z)
-              (fill tell) (did some some).had;
-          exactly = λ alike q j cached maps nothing one. (did q j).exactly cached maps nothing one
-              (fills_first q maps alike nothing.telling nothing.told o fill (at_kit old 0 q) refl cached (sym (same_Some [] cached nothing.told_cache)));
-          after = λ alike q j cached maps nothing one. (did q j).after cached maps nothing one
-              (fills_first q maps alike nothing.telling nothing.told o fill (at_kit old 0 q) refl cached (sym (same_Some [] cached nothing.told_cache)));
-          reported = λ sure alike q j cached maps quiet one. report sure alike q j cached maps quiet one
-              ((did q j).exactly cached maps (quiet 0 any) one
-              (fills_first q maps alike (quiet 0 any).telling (quiet 0 any).told o fill (at_kit old 0 q) refl cached (sym (same_Some [] cached (quiet 0 any).told_cache))));
+              (λ y z has. only_so t.listing May (SomeKitHas store view t kits cached y) (λ i inside may. has i inside may) f g res y z)
+              (fill tell cached is) (did some some).had;
+          exactly = λ alike q j cached maps nothing one. (did q j).exactly (own alike q) cached maps nothing one
+              (fills_first q maps alike nothing.telling nothing.told o c0 fill (at_kit old 0 q) refl cached nothing.told_cache);
+          after = λ alike q j cached maps nothing one. (did q j).after (own alike q) cached maps nothing one
+              (fills_first q maps alike nothing.telling nothing.told o c0 fill (at_kit old 0 q) refl cached nothing.told_cache);
+          reported = λ unshared sure alike q j cached maps quiet one. report unshared sure alike q j cached maps quiet one
+              ((did q j).exactly (own alike q) cached maps (quiet 0 any) one
+              (fills_first q maps alike (quiet 0 any).telling (quiet 0 any).told o c0 fill (at_kit old 0 q) refl cached (quiet 0 any).told_cache));
           kept = kept;
-          stocked = λ q. subst (λ s. Stocked (TakesListed store t.listing (at_kit old 0 q).chain.stores) None s) (sym none) tt;
+          stocked = stocked;
+          first = first_stocked;
           kits = long;
           each = each;
         }

@@ -1,5 +1,6 @@
 pub mod Beside
 pub mod Dealt
+pub mod Doors
 pub mod Exact
 pub mod Going
 pub mod Kits
@@ -7,6 +8,8 @@ pub mod Known
 pub mod Moving
 pub mod Permitting
 pub mod Reports
+pub mod Sharing
 pub mod Spared
 pub mod Tallying
+pub mod Telling
 pub mod Working

@@ -52,7 +52,7 @@ module _ {S V : Type 0} (store : StoreWords S) (view : ViewWords V) (r : Run) (d
   -- what was quiet from before to after it was quiet on the way of a worker, which counts faults of its own
   pub quiet_worker : (f g h : ℕ) (a b : Kit S V) (m n : List Fate) (e : Option Shelf) (cached maps : List (Map (List ℕ))) → h ≡ 0
       → SourcesQuiet store view (sources f a.seeds.items None a.chain) (sources g b.seeds.items e b.chain) cached maps
-      → SourcesQuiet store view (from (worker_stage r m 0 a)) (from (worker_stage r n h b)) cached maps
+      → SourcesQuiet store view (from (worker_stage r m 0 None a)) (from (worker_stage r n h None b)) cached maps
   quiet_worker f g h a b m n e cached maps none nothing = record {
     target = none_quiet h none;
     telling = nothing.telling;
@@ -67,27 +67,27 @@ module _ {S V : Type 0} (store : StoreWords S) (view : ViewWords V) (r : Run) (d
   pub quiet_ways : (kits worked outs : List (Kit S V)) (q j : Kit S V) (f g : ℕ) (e : Option Shelf) (m : List Fate) (lists : List (List Fate)) (cached maps : List (Map (List ℕ)))
       (A : ℕ → Type 0) (w1 : Whole) (b c : Kit S V) (held : Held) (n : List Fate) → slice_index_or worked 0 j ≡ b → c ≡ slice_index_or outs 0 j
       → ((k : ℕ) → 0 < k → slice_index_or worked k j ≡ slice_index_or outs k j)
-      → Stretch store view t A (joined_stage w1 b) (record { held = held; faults = g; fates = n; kit = c; cache = e })
+      → Stretch store view t A (joined_stage w1 None b) (record { held = held; faults = g; fates = n; kit = c; cache = e })
       → ((k : ℕ) → k < length kits → SourcesQuiet store view (at_kit (lent f kits None) k q) (at_kit (lent g outs e) k j) cached maps)
       → (k h : ℕ) → k < length kits → h ≡ 0
-      → SourcesQuiet store view (from (worker_stage r m 0 (slice_index_or kits k q))) (from (worker_stage r (slice_index_or lists k []) h (slice_index_or worked k j))) cached maps
+      → SourcesQuiet store view (from (worker_stage r m 0 None (slice_index_or kits k q))) (from (worker_stage r (slice_index_or lists k []) h None (slice_index_or worked k j))) cached maps
   quiet_ways kits worked outs q j f g e m lists cached maps A w1 b c held n first back later more quiet zero h less none =
       let a = slice_index_or kits 0 q in
       let begin : Stage S V = record { held = held; faults = f; fates = m; kit = a; cache = None } in
       let end : Stage S V = record { held = held; faults = g; fates = n; kit = c; cache = e } in
       let all : SourcesQuiet store view (from begin) (from end) cached maps =
       subst (λ (z : Kit S V). SourcesQuiet store view (from begin) (sources g z.seeds.items e z.chain) cached maps) (sym back) (quiet 0 less) in
-      subst (λ (z : Kit S V). SourcesQuiet store view (from (worker_stage r m 0 a)) (from (worker_stage r (slice_index_or lists 0 []) h z)) cached maps) (sym first)
+      subst (λ (z : Kit S V). SourcesQuiet store view (from (worker_stage r m 0 None a)) (from (worker_stage r (slice_index_or lists 0 []) h None z)) cached maps) (sym first)
       (quiet_worker f w1.faults h a b m (slice_index_or lists 0 []) None cached maps none
-      (nothing_first store view t A begin (joined_stage w1 b) end cached maps more all))
+      (nothing_first store view t A begin (joined_stage w1 None b) end cached maps more all))
   quiet_ways kits worked outs q j f g e m lists cached maps A w1 b c held n first back later more quiet (suc k) h less none =
       let a = slice_index_or kits (suc k) q in
-      subst (λ (z : Kit S V). SourcesQuiet store view (from (worker_stage r m 0 a)) (from (worker_stage r (slice_index_or lists (suc k) []) h z)) cached maps) (sym (later (suc k) (omega arith)))
+      subst (λ (z : Kit S V). SourcesQuiet store view (from (worker_stage r m 0 None a)) (from (worker_stage r (slice_index_or lists (suc k) []) h None z)) cached maps) (sym (later (suc k) (omega arith)))
       (quiet_worker f g h a (slice_index_or outs (suc k) j) m (slice_index_or lists (suc k) []) e cached maps none (quiet (suc k) less))
 
   module _ (kits outs : List (Kit S V)) (never : Bool) (f g : ℕ) (w0 w1 : Whole) (known : AreFirst r w0.fates) (lists : List (List Fate)) (lacked : ℕ → Bool)
       (workers : d.workers ≡ length kits) (some : 2 ≤ length kits) (zero_is : IsTrue never → g ≡ 0)
-      (by : (k : ℕ) (q p : Kit S V) → k < length kits → HasWorked store view r t never k (slice_index_or kits k q) w0.fates (slice_index_or outs k p) (slice_index_or lists k []) (lacked k)) where
+      (e0 : Option Shelf) (cache_never : Bool) (by : (k : ℕ) (q p : Kit S V) → k < length kits → HasWorked store view r t e0 never cache_never k (slice_index_or kits k q) w0.fates (slice_index_or outs k p) (slice_index_or lists k []) (lacked k)) where
     any : 0 < d.workers
     any = omega (arith, workers, some)
 
@@ -115,9 +115,9 @@ module _ {S V : Type 0} (store : StoreWords S) (view : ViewWords V) (r : Run) (d
 
     -- ---- how many were got from which source
 
-    module _ (alike : AreKitsAlike store view t kits) (q j : Kit S V) (cached maps : List (Map (List ℕ))) (one : HaveOneSize r.listing None cached maps)
-        (quiet : (k : ℕ) (h : ℕ) → k < length kits → h ≡ 0 → SourcesQuiet store view (from (worker_stage r w0.fates 0 (slice_index_or kits k q)))
-        (from (worker_stage r (slice_index_or lists k []) h (slice_index_or outs k j))) cached maps) (sure : IsTrue never) where
+    module _ (none : e0 ≡ None) (alike : AreKitsAlike store view t kits) (q j : Kit S V) (cached maps : List (Map (List ℕ))) (one : HaveOneSize r.listing None cached maps)
+        (quiet : (k : ℕ) (h : ℕ) → k < length kits → h ≡ 0 → SourcesQuiet store view (from (worker_stage r w0.fates 0 None (slice_index_or kits k q)))
+        (from (worker_stage r (slice_index_or lists k []) h None (slice_index_or outs k j))) cached maps) (sure : IsTrue never) where
       abbrev views : List (Option Held)
       views = views_of view (slice_index_or kits 0 q).seeds.items
 
@@ -129,7 +129,7 @@ module _ {S V : Type 0} (store : StoreWords S) (view : ViewWords V) (r : Run) (d
         source w = source_of t base views cached maps w
 
         abbrev source_by : ℕ → ℕ → Fate
-        source_by k w = source_at view t (worker_stage r w0.fates 0 (slice_index_or kits k q)) cached maps w
+        source_by k w = source_at view t (worker_stage r w0.fates 0 None (slice_index_or kits k q)) cached maps w
 
         same_source : (k : ℕ) → k < length kits → (w : ℕ) → source_by k w ≡ source w
         same_source k less w = ap (λ (v : List (Option Held)). source_over t (settled w0.fates) v cached maps w) (alike k q less).0
@@ -146,7 +146,7 @@ module _ {S V : Type 0} (store : StoreWords S) (view : ViewWords V) (r : Run) (d
             elim (cases_Bool (settled (slice_index_or lists k []) i)) [
               | inl is ↦ is
               | inr isnt ↦ absurd (had_not_open t wants base w0.fates (right_over y was sure) views cached maps i inside (can i inside)
-                  (sym (same_source k less w) ∙ (by k q j less).left (had k less) cached maps (quiet k (by k q j less).faults less (none_failed k less)) one i inside (deals_owner d any w) isnt))
+                  (sym (same_source k less w) ∙ (by k q j less).left none (had k less) cached maps (quiet k (by k q j less).faults less (none_failed k less)) one i inside (deals_owner d any w) isnt))
             ]
 
         pub reports_so : ((i : ℕ) → i < count_of r.listing → IsObtainable t base views (cached ++ maps) i) → (n : List Fate) (rep : Report) → CountsFates (reported_at d lists n) (count_of r.listing) rep
@@ -159,7 +159,7 @@ module _ {S V : Type 0} (store : StoreWords S) (view : ViewWords V) (r : Run) (d
             let inside = within k less in
             (passed_as (source_if (deals_to d k) (source_by k)) (source_if (deals_to d k) source) d.wants (count_of r.listing) w0.fates (slice_index_or lists k []) (slice_index_or kits k q).chain (slice_index_or outs k j).chain
             (λ w below. ap (λ (s : Fate). if deals_to d k w then s else fate.Kept) (same_source k inside w))
-            ((by k q j inside).exactly (had k inside) cached maps (quiet k (by k q j inside).faults inside (none_failed k inside)) one)).tallied)
+            ((by k q j inside).exactly none (had k inside) cached maps (quiet k (by k q j inside).faults inside (none_failed k inside)) one)).tallied)
             rep counts
 
       -- as it is said of the answer

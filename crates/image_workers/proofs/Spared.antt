@@ -1,12 +1,13 @@
 -- How often each worker asks, by what is spared over the whole assembly: between it the target went over to shards of
 -- which the survey was over at w0, and which were joined again at w1.
-use Rattle.std.proofs.Common.{◌≡◌, ◌⊎◌, ◌∙◌, ◌&&◌, ◌+◌, ◌<◌, ◌≤◌, ℕ, List, [], Bool, Option, Some, None, IfSome, IsSomeAnd, IsTrue, Result, is_some, length, slice_index, true, refl, sym, ap, subst, inl, inr, arith}
+use Rattle.std.proofs.Common.{◌≡◌, ◌⊎◌, ◌∙◌, ◌&&◌, ◌+◌, ◌<◌, ◌≤◌, ℕ, List, [], Bool, Option, Some, None, IfSome, IsSomeAnd, IsTrue, Result, is_some, length, slice_index, slice_index_or, true, refl, sym, ap, subst, inl, inr, arith}
 use Rattle.std.proofs.lemmas.Bool.{true≢false}
 use Rattle.assembler.proofs.Asked.{asks_on, asks_up}
 use Rattle.assembler.proofs.Counted.{quiet_part}
 use Rattle.assembler.proofs.Entries.{listed_of}
 use Rattle.assembler.proofs.Stepped.{seeds_on}
 use Rattle.assembler.specs.Economy.{UnlessMemory}
+use Rattle.assembler.specs.OneKit.{Lent, lent}
 use Rattle.assembler.specs.Passes.{HasPassed, WhereQuiet, one_pass}
 use Rattle.assembler.specs.Permits.{deals_to}
 use Rattle.assembler.specs.Stages.{Stage, from}
@@ -18,18 +19,21 @@ use Rattle.caibx_codec.specs.Listing.{count_of, image_length, kind_of, size_of}
 use Rattle.caibx_codec.specs.Right.{IsRightAt}
 use Rattle.chunk_sources.proofs.Lacking.{quiet_never}
 use Rattle.chunk_sources.specs.Asks.{IsSpared, asks_below, calls_below, others_spared}
-use Rattle.chunk_sources.specs.Caches.{CacheGives, cached_in}
+use Rattle.chunk_sources.specs.Caches.{AddsSize, CacheGives, Stocked}
 use Rattle.chunk_sources.specs.Sources.{HeldAt, Sources, counts_of, sources, views_of}
 use Rattle.chunk_sources.specs.Wants.{IsAmong, Task}
 use Rattle.chunk_sources.specs.declared.kit.Kit.{Kit}
 use Rattle.chunk_store.specs.declared.store.Store.{Ghosts as StoreWords}
 use Rattle.dsy_base.specs.Bytes.{resized}
 use Rattle.dsy_base.specs.Counts.{Quiet, Rose}
+use Rattle.dsy_base.specs.Maps.{Map}
 use Rattle.dsy_base.specs.declared.view.View.{Ghosts as ViewWords}
 use Rattle.extract_plan.specs.Deal.{AreWants, Deal, first_of, of_want, want_id}
 use Rattle.extract_plan.specs.Places.{Placed}
 use Rattle.image_workers.specs.Beside.{joined_stage}
-use Rattle.image_workers.specs.Kits.{AsksDealt, IsSparedFor, KitUsed, KnowsFaults, dealt_asks, once_more}
+use Rattle.image_workers.proofs.Sharing.{Adds, door, door_none, door_size, gives_between, gives_first}
+use Rattle.image_workers.specs.Kits.{AsksDealt, NoOtherSize, IsSparedFor, IsUnshared, KitUsed, KnowsFaults, dealt_asks, once_more}
+use Rattle.image_workers.specs.Shared.{all_stores}
 use Rattle.image_workers.specs.Lanes.{HasWorked, worker_stage}
 use Rattle.owned_shards.specs.Wholes.{KeptWhole, Whole}
 use Rattle.range_ledger.specs.Runs.{Run}
@@ -66,18 +70,22 @@ none_quiet n none = record { same = omega (arith, none); below = omega (arith, n
 -- ---- over a part of a stretch
 
 module _ {S V : Type 0} (store : StoreWords S) (view : ViewWords V) (t : Task) where
-  no_cache : (s0 s1 : Sources S V) (id : List ℕ) (size : ℕ) → s0.cache ≡ None → CacheGives store t.listing s0.chain.stores id size s0.cache s1.cache → ⊥
-  no_cache s0 s1 id size none gives =
-      let some : SomeGives (kind_of t.listing) id size [] = subst (λ (e : Option Shelf). IsSomeAnd (cached_in e) (SomeGives (kind_of t.listing) id size)) none gives.gives in
-      omega (arith, some.2)
+  no_cache : (stores : List S) (e : Option Shelf) (id : List ℕ) (size : ℕ) → CacheGives store t.listing stores id size None e → ⊥
+  no_cache stores e id size gives = let some : SomeGives (kind_of t.listing) id size [] = gives.gives in let less : some.0 < 0 = some.2 in omega (arith, less)
+
+  -- an entry is right in the base, which all workers know
+  abbrev RightFor : Bool → Option (List ℕ) → Lent S V → ℕ → Type 0
+  RightFor never o all j = IsSomeAnd o (λ b. IsRightAt (resized b (image_length t.listing)) t.listing j) × KnowsFaults never all.kits
 
   -- what is spared from s0 to s1 is spared between, from a0 to a1
-  spared_as : (Is Now : ℕ → Type 0) (s0 s1 a0 a1 : Sources S V) (w : ℕ) → s0.cache ≡ None
-      → ((j : ℕ) → IsAmong (of_want t.plan w) j → Is j → Quiet s0.faults s1.faults → Now j × Quiet a0.faults a1.faults)
+  spared_as : (never cache_never : Bool) (o : Option (List ℕ)) (all : Lent S V) (Now : ℕ → Type 0) (s0 s1 a0 a1 : Sources S V) (w : ℕ)
+      → ((j : ℕ) → IsAmong (of_want t.plan w) j → RightFor never o all j → Quiet s0.faults s1.faults → Now j × Quiet a0.faults a1.faults)
       → views_of view a0.seeds ≡ views_of view s0.seeds → NoneFalls (counts_of view s0.seeds) (counts_of view a0.seeds) → NoneFalls (counts_of view a1.seeds) (counts_of view s1.seeds)
-      → IsSpared store view t Is s0 s1 w → IsSpared store view t Now a0 a1 w
-  spared_as Is Now s0 s1 a0 a1 w none so held before after (inl ((j, among, is), quiet)) = let now = so j among is quiet in inl ((j, among, now.0), now.1)
-  spared_as Is Now s0 s1 a0 a1 w none so held before after (inr (inl (k, p, inside, at, (has, quiet)))) =
+      → (CacheGives store t.listing (all_stores all.kits) (want_id t.listing t.plan w) (size_of t.listing (first_of t.plan w)) s0.cache s1.cache → KnowsFaults cache_never all.kits
+      → CacheGives store t.listing a0.chain.stores (want_id t.listing t.plan w) (size_of t.listing (first_of t.plan w)) a0.cache a1.cache)
+      → IsSparedFor store view t never cache_never o all s0 s1 w → IsSpared store view t Now a0 a1 w
+  spared_as never cache_never o all Now s0 s1 a0 a1 w so held before after given (inl (inl ((j, among, is), quiet))) = let now = so j among is quiet in inl ((j, among, now.0), now.1)
+  spared_as never cache_never o all Now s0 s1 a0 a1 w so held before after given (inl (inr (inl (k, p, inside, at, (has, quiet))))) =
       let count : Sources S V → ℕ = λ y. slice_index (counts_of view y.seeds) p.seed in
       inr (inl (
         k,
@@ -86,7 +94,9 @@ module _ {S V : Type 0} (store : StoreWords S) (view : ViewWords V) (t : Task) w
         at,
         (subst (λ views. HeldAt views p (want_id t.listing t.plan w)) (sym held) has, quiet_part (count s0) (count a0) (count a1) (count s1) (before p.seed) (after p.seed) quiet),
       ))
-  spared_as Is Now s0 s1 a0 a1 w none so held before after (inr (inr gives)) = absurd (no_cache s0 s1 (want_id t.listing t.plan w) (size_of t.listing (first_of t.plan w)) none gives)
+  spared_as never cache_never o all Now s0 s1 a0 a1 w so held before after given (inl (inr (inr gives))) =
+      absurd (no_cache s0.chain.stores s1.cache (want_id t.listing t.plan w) (size_of t.listing (first_of t.plan w)) gives)
+  spared_as never cache_never o all Now s0 s1 a0 a1 w so held before after given (inr (gives, known)) = inr (inr (given gives known))
 
 -- ---- the workers
 
@@ -113,17 +123,29 @@ module _ {S V : Type 0} (store : StoreWords S) (view : ViewWords V) (r : Run) (d
   ExactlyDealt never o k old new answer = IsTrue never → UnlessMemory (WhereQuiet store view r.listing old new (λ cached maps. IfSome o (λ y.
       AsksDealt k (dealt_asks t (resized y (image_length r.listing)) (views_of view old.seeds) cached maps k) old.chain.asks new.chain.asks))) answer
 
-  module _ (kits : List (Kit S V)) (never : Bool) (o : Option (List ℕ)) (f g : ℕ) (w0 w1 : Whole) (was : WasInShards never o f g w0 w1) (some : 2 ≤ length kits) where
-    abbrev Known : Type 0
-    Known = KnowsFaults never kits
+  module _ (kits : List (Kit S V)) (first : Option (Map (List ℕ))) (c0 : Option Shelf) (opens : IfSome c0 (λ s. first ≡ s.files)) (never cache_never : Bool) (o : Option (List ℕ)) (f g : ℕ)
+      (w0 w1 : Whole) (was : WasInShards never o f g w0 w1) (some : 2 ≤ length kits) where
+    abbrev all : Lent S V
+    all = lent f kits c0
+
+    -- the door of each worker
+    abbrev e0 : Option Shelf
+    e0 = door store r.listing kits first c0
 
     -- an entry of the want is right in the base, which all workers know
     abbrev Is : ℕ → Type 0
-    Is j = IsSomeAnd o (λ b. IsRightAt (resized b (image_length r.listing)) r.listing j) × Known
+    Is j = RightFor store view t never o all j
 
-    is_never : Known → IsTrue never
-    is_never (inl one) = absurd (omega (arith, one, some))
-    is_never (inr never) = never
+    is_never : (never : Bool) → KnowsFaults never kits → IsTrue never
+    is_never never (inl one) = absurd (omega (arith, one, some))
+    is_never never (inr so) = so
+
+    -- nobody adds another chunk under its id
+    adds_one : (w : ℕ) → IsUnshared all ⊎ NoOtherSize store view t all w → AddsSize (want_id r.listing d w) (size_of r.listing (first_of d w)) e0
+    adds_one w (inl (inl one)) = absurd (omega (arith, one, some))
+    adds_one w (inl (inr none)) =
+        subst (λ (e : Option Shelf). AddsSize (want_id r.listing d w) (size_of r.listing (first_of d w)) e) (sym (door_none store r.listing kits first c0 none)) tt
+    adds_one w (inr one) = door_size store r.listing kits first c0 (want_id r.listing d w) (size_of r.listing (first_of d w)) one
 
     -- then the survey has settled it
     settled_first : (j : ℕ) → j < count_of r.listing → Is j → Quiet f g → settled w0.fates j ≡ true
@@ -133,8 +155,8 @@ module _ {S V : Type 0} (store : StoreWords S) (view : ViewWords V) (r : Run) (d
           | inl so ↦ so
           | inr rose ↦
               let no : Quiet w0.faults_before w0.faults = record {
-                same = omega (arith, was.sure (is_never is.1));
-                below = omega (arith, was.sure (is_never is.1), was.same, was.rises, was.ends, quiet.below);
+                same = omega (arith, was.sure (is_never never is.1));
+                below = omega (arith, was.sure (is_never never is.1), was.same, was.rises, was.ends, quiet.below);
               } in absurd (quiet_never w0.faults_before w0.faults no rose)
         ]
 
@@ -147,27 +169,36 @@ module _ {S V : Type 0} (store : StoreWords S) (view : ViewWords V) (r : Run) (d
           | inr rose ↦ absurd (quiet_never w1.faults_before w1.faults (quiet_part f w1.faults_before w1.faults g (omega (arith, was.before, was.same)) was.ends quiet) rose)
         ]
 
-    module _ (k : ℕ) (a b : Kit S V) (n : List Fate) (lacked : Bool) (by : HasWorked store view r t never k a w0.fates b n lacked) where
+    module _ (k : ℕ) (z b : Kit S V) (less : k < length kits) (n : List Fate) (lacked : Bool) (by : HasWorked store view r t e0 never cache_never k (slice_index_or kits k z) w0.fates b n lacked) where
+      abbrev a : Kit S V
+      a = slice_index_or kits k z
+
       -- a want that is spared over the whole is spared over its way
-      spared_first : (s1 : Sources S V) → s1.faults ≡ g → NoneFalls (counts_of view b.seeds.items) (counts_of view s1.seeds) → (w : ℕ) → IsSparedFor store view t Known o (sources f a.seeds.items None a.chain) s1 w
-          → IsSpared store view t (λ j. settled w0.fates j ≡ true) (from (worker_stage r w0.fates 0 a)) (from (worker_stage r n by.faults b)) w
-      spared_first s1 count after w is = spared_as store view t Is (λ j. settled w0.fates j ≡ true) (sources f a.seeds.items None a.chain) s1 (from (worker_stage r w0.fates 0 a)) (from (worker_stage r n by.faults b)) w refl
+      spared_first : (s1 : Sources S V) → s1.faults ≡ g → NoneFalls (counts_of view b.seeds.items) (counts_of view s1.seeds) → (w : ℕ)
+          → IsSparedFor store view t never cache_never o all (sources f a.seeds.items c0 a.chain) s1 w
+          → IsSpared store view t (λ j. settled w0.fates j ≡ true) (from (worker_stage r w0.fates 0 e0 a)) (from (worker_stage r n by.faults by.door b)) w
+      spared_first s1 count after w is = spared_as store view t never cache_never o all (λ j. settled w0.fates j ≡ true) (sources f a.seeds.items c0 a.chain) s1 (from (worker_stage r w0.fates 0 e0 a))
+          (from (worker_stage r n by.faults by.door b)) w
           (λ j among right quiet. (
             settled_first j (listed_of r.listing d w j wants among) right (subst (Quiet f) count quiet),
-            none_quiet by.faults (by.sure (both_so never r.tells (is_never right.1) (right_in_base r o was.base was.told j right.0).0)),
+            none_quiet by.faults (by.sure (both_so never r.tells (is_never never right.1) (right_in_base r o was.base was.told j right.0).0)),
           ))
-          refl (λ s. omega arith) after is
+          refl (λ s. omega arith) after
+          (λ gives known. gives_first store view r.listing d x wants kits first c0 s1.cache by.door opens (by.calm (is_never cache_never known)) k z less (want_id r.listing d w) (size_of r.listing (first_of d w)) gives)
+          is
 
       -- what became of the kit of another worker than the first
-      pub used_once : (e : Option Shelf) (answer : Result Report ExtractFault) → ExactlyDealt never o k (sources f a.seeds.items None a.chain) (sources g b.seeds.items e b.chain) answer
-          → KitUsed store view t Known never o k (sources f a.seeds.items None a.chain) (sources g b.seeds.items e b.chain) answer
+      pub used_once : (e : Option Shelf) (answer : Result Report ExtractFault) → (IsUnshared all → ExactlyDealt never o k (sources f a.seeds.items c0 a.chain) (sources g b.seeds.items e b.chain) answer)
+          → KitUsed store view t never cache_never o all k (sources f a.seeds.items c0 a.chain) (sources g b.seeds.items e b.chain) answer
       used_once e answer exactly = record {
         asks = λ spared are.
             let f0 = others_spared (deals_to d k) spared in
             let ids = want_id r.listing d in
             asks_up store (calls_below f0 d.wants) (calls_below f0 d.wants + once_more k (calls_below spared d.wants)) (λ q. asks_below ids f0 d.wants q)
             (λ q. asks_below ids f0 d.wants q + once_more k (asks_below ids spared d.wants q)) a.chain b.chain (omega arith) (λ q. omega arith)
-            (by.passed.asks spared (λ w below these is. (spared_first (sources g b.seeds.items e b.chain) refl (λ s. omega arith) w (are w below is), tt)));
+            (by.passed.asks spared (λ w below these is.
+            let so = are w below is in
+            (spared_first (sources g b.seeds.items e b.chain) refl (λ s. omega arith) w so.0, adds_one w so.1)));
         exactly = exactly;
         stores = by.passed.stretch.step.stores;
         seeds = by.passed.stretch.step.seeds;
@@ -175,27 +206,43 @@ module _ {S V : Type 0} (store : StoreWords S) (view : ViewWords V) (r : Run) (d
       }
 
     -- what became of the kit of the first worker, which made the second pass with it
-    pub used_twice : (a b : Kit S V) (n : List Fate) (lacked : Bool) → HasWorked store view r t never 0 a w0.fates b n lacked → (end : Stage S V) → end.faults ≡ g → HasPassed store view t one_pass (joined_stage w1 b) end
-        → (answer : Result Report ExtractFault) → ExactlyDealt never o 0 (sources f a.seeds.items None a.chain) (from end) answer → KitUsed store view t Known never o 0 (sources f a.seeds.items None a.chain) (from end) answer
-    used_twice a b n lacked by end count passed answer exactly =
-        let step = by.passed.stretch.step in
-        let next = passed.stretch.step in
-        let s0 = sources f a.seeds.items None a.chain in
-        record {
-          asks = λ spared are.
-              let f0 = others_spared (deals_to d 0) spared in
-              let ids = want_id r.listing d in
-              asks_on store (calls_below f0 d.wants) (calls_below spared d.wants) (λ q. asks_below ids f0 d.wants q) (λ q. asks_below ids spared d.wants q) a.chain b.chain end.kit.chain
-              (by.passed.asks spared (λ w below these is. (spared_first 0 a b n lacked by (from end) count next.seeds.never_fall w (are w below is), tt)))
-              (passed.asks spared (λ w below is.
-              spared_as store view t Is (λ j. settled w1.fates j ≡ true) s0 (from end) (from (joined_stage w1 b)) (from end) w refl
-              (λ j among right quiet. (
-                settled_then j (listed_of r.listing d w j wants among) right (subst (Quiet f) count quiet),
-                quiet_part f w1.faults end.faults end.faults (omega (arith, was.before, was.same, was.rises)) (omega arith) quiet,
-              ))
-              step.seeds.held step.seeds.never_fall (λ s. omega arith) (are w below is)));
-          exactly = exactly;
-          stores = kept_on store (IsListedGet r.listing) a.chain.stores b.chain.stores end.kit.chain.stores step.stores next.stores;
-          seeds = seeds_on view a.seeds.items b.seeds.items end.kit.seeds.items step.seeds next.seeds;
-          kind = next.kind ∙ step.kind;
-        }
+    module _ (z b : Kit S V) (n : List Fate) (lacked : Bool) (by : HasWorked store view r t e0 never cache_never 0 (slice_index_or kits 0 z) w0.fates b n lacked) (c1 : Option Shelf)
+        (stocked : Stocked (Adds store r.listing kits) c0 c1) (end : Stage S V) (passed : HasPassed store view t one_pass (joined_stage w1 c1 b) end) where
+      abbrev was_first : Kit S V
+      was_first = slice_index_or kits 0 z
+
+      any_kit : 0 < length kits
+      any_kit = omega (arith, some)
+
+      spared_second : end.faults ≡ g → (w : ℕ) → IsSparedFor store view t never cache_never o all (sources f was_first.seeds.items c0 was_first.chain) (from end) w
+          → IsSpared store view t (λ j. settled w1.fates j ≡ true) (from (joined_stage w1 c1 b)) (from end) w
+      spared_second count w is =
+          let step = by.passed.stretch.step in
+          spared_as store view t never cache_never o all (λ j. settled w1.fates j ≡ true) (sources f was_first.seeds.items c0 was_first.chain) (from end) (from (joined_stage w1 c1 b)) (from end) w
+          (λ j among right quiet. (
+            settled_then j (listed_of r.listing d w j wants among) right (subst (Quiet f) count quiet),
+            quiet_part f w1.faults end.faults end.faults (omega (arith, was.before, was.same, was.rises)) (omega arith) quiet,
+          ))
+          step.seeds.held step.seeds.never_fall (λ s. omega arith)
+          (λ gives known. gives_between store view r.listing d x wants kits c0 c1 stocked z b any_kit step.stores.held end.cache passed.stretch.stocked (want_id r.listing d w) (size_of r.listing (first_of d w)) gives)
+          is
+
+      pub used_twice : end.faults ≡ g → (answer : Result Report ExtractFault) → (IsUnshared all → ExactlyDealt never o 0 (sources f was_first.seeds.items c0 was_first.chain) (from end) answer)
+          → KitUsed store view t never cache_never o all 0 (sources f was_first.seeds.items c0 was_first.chain) (from end) answer
+      used_twice count answer exactly =
+          let step = by.passed.stretch.step in
+          let next = passed.stretch.step in
+          record {
+            asks = λ spared are.
+                let f0 = others_spared (deals_to d 0) spared in
+                let ids = want_id r.listing d in
+                asks_on store (calls_below f0 d.wants) (calls_below spared d.wants) (λ q. asks_below ids f0 d.wants q) (λ q. asks_below ids spared d.wants q) was_first.chain b.chain end.kit.chain
+                (by.passed.asks spared (λ w below these is.
+                let so = are w below is in
+                (spared_first 0 z b any_kit n lacked by (from end) count next.seeds.never_fall w so.0, adds_one w so.1)))
+                (passed.asks spared (λ w below is. spared_second count w (are w below is).0));
+            exactly = exactly;
+            stores = kept_on store (IsListedGet r.listing) was_first.chain.stores b.chain.stores end.kit.chain.stores step.stores next.stores;
+            seeds = seeds_on view was_first.seeds.items b.seeds.items end.kit.seeds.items step.seeds next.seeds;
+            kind = next.kind ∙ step.kind;
+          }

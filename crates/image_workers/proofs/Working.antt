@@ -8,7 +8,7 @@ use Rattle.assembler.specs.Permits.{deals_to}
 use Rattle.assembler.specs.Stages.{Stage, from}
 use Rattle.cache_store.specs.Shelves.{Shelf}
 use Rattle.caibx_codec.specs.Listing.{count_of, image_length}
-use Rattle.chunk_sources.specs.Caches.{Stocked, TakesWants}
+use Rattle.chunk_sources.specs.Caches.{IsAlone, Stocked, TakesWants, cache_faults}
 use Rattle.chunk_sources.specs.Economy.{source_if}
 use Rattle.chunk_sources.specs.Losses.{MayLack}
 use Rattle.chunk_sources.specs.Wants.{Task}
@@ -39,35 +39,42 @@ pub without_cache : {S : Type 0} (store : StoreWords S) → MayLack store None �
 without_cache store (inl may) = may
 without_cache store (inr some) = absurd (cc)
 
-module _ {S V : Type 0} (store : StoreWords S) (view : ViewWords V) (r : Run) (t : Task) (never : Bool) (k : ℕ) (a b : Kit S V) (m n : List Fate) (f0 faults : ℕ) (s : Option Shelf) where
-  abbrev pub later : Stage S V
-  later = record { held = record { bytes = None; size = image_length r.listing; name = [] }; faults = faults; fates = n; kit = b; cache = s }
+module _ {S V : Type 0} (store : StoreWords S) (view : ViewWords V) (r : Run) (t : Task) (e : Option Shelf) (never cache_never : Bool) (k : ℕ) (a b : Kit S V) (m n : List Fate) (f0 faults : ℕ) (s : Option Shelf) where
+  -- what it has come to, seeing this of the cache
+  abbrev pub later : Option Shelf → Stage S V
+  later x = record { held = record { bytes = None; size = image_length r.listing; name = [] }; faults = faults; fates = n; kit = b; cache = x }
 
-  abbrev pub Paid : ℕ → Stage S V → (Type 0 → Type 0) → Type 0
-  Paid f y If = WhereQuiet store view r.listing (from (worker_stage r m f a)) (from y) (λ cached maps. If (PassedBy (source_if (deals_to t.plan k)
-      (source_at view t (worker_stage r m f a) cached maps)) t.plan.wants (count_of r.listing) m n a.chain b.chain))
+  abbrev pub Paid : ℕ → Option Shelf → Option Shelf → (Type 0 → Type 0) → Type 0
+  Paid f x y If = WhereQuiet store view r.listing (from (worker_stage r m f x a)) (from (later y)) (λ cached maps. If (PassedBy (source_if (deals_to t.plan k)
+      (source_at view t (worker_stage r m f x a) cached maps)) t.plan.wants (count_of r.listing) m n a.chain b.chain))
 
   -- what stays open where nothing fails has no source
-  abbrev pub Left : ℕ → Stage S V → (Type 0 → Type 0) → Type 0
-  Left f y If = WhereQuiet store view r.listing (from (worker_stage r m f a)) (from y) (λ cached maps. If ((i : ℕ) → i < count_of r.listing → deals_to t.plan k (want_at t.plan i) ≡ true
-      → settled n i ≡ false → source_at view t (worker_stage r m f a) cached maps (want_at t.plan i) ≡ fate.Open))
+  abbrev pub Left : ℕ → Option Shelf → Option Shelf → (Type 0 → Type 0) → Type 0
+  Left f x y If = WhereQuiet store view r.listing (from (worker_stage r m f x a)) (from (later y)) (λ cached maps. If ((i : ℕ) → i < count_of r.listing → deals_to t.plan k (want_at t.plan i) ≡ true
+      → settled n i ≡ false → source_at view t (worker_stage r m f x a) cached maps (want_at t.plan i) ≡ fate.Open))
 
-  pub worked : (lacked : Bool) (res : Result Unit Memory) → lacked ≡ is_err res → f0 ≡ 0 → (IsTrue (never && r.tells) → faults ≡ 0)
-      → HasPassedShare store view t (deals_to t.plan k) (worker_stage r m f0 a) later
-      → IfErr res (λ _. MayLack store None) → Paid f0 later (λ P. OnOk res P) → Left f0 later (λ P. OnOk res P)
-      → ((i : ℕ) → deals_to t.plan k (want_at t.plan i) ≡ false → fate_at n i ≡ fate_at m i) → HasWorked store view r t never k a m b n lacked
-  worked lacked res is zero_is sure passed memory exactly left others =
-      let none : s ≡ None = stays_none (TakesWants store t.listing t.plan (λ w. (w < t.plan.wants) × (deals_to t.plan k w ≡ true)) a.chain.stores) s passed.stretch.stocked in
-      let end : Option Shelf → Stage S V = λ x. record { held = record { bytes = None; size = image_length r.listing; name = [] }; faults = faults; fates = n; kit = b; cache = x } in
+  abbrev Takes : List ℕ → List ℕ → Type 0
+  Takes = TakesWants store t.listing t.plan (λ w. (w < t.plan.wants) × (deals_to t.plan k w ≡ true)) a.chain.stores
+
+  pub worked : (lacked : Bool) (res : Result Unit Memory) → lacked ≡ is_err res → f0 ≡ 0 → (IsTrue (never && r.tells) → faults ≡ 0) → (IsTrue cache_never → cache_faults s ≡ 0)
+      → HasPassedShare store view t (deals_to t.plan k) (worker_stage r m f0 e a) (later s)
+      → IfErr res (λ _. MayLack store e) → (IsAlone e → Paid f0 e s (λ P. OnOk res P)) → (IsAlone e → Left f0 e s (λ P. OnOk res P))
+      → ((i : ℕ) → deals_to t.plan k (want_at t.plan i) ≡ false → fate_at n i ≡ fate_at m i) → HasWorked store view r t e never cache_never k a m b n lacked
+  worked lacked res is zero_is sure calm passed memory exactly left others =
+      let stays : e ≡ None → s ≡ None = λ none. stays_none Takes s (subst (λ (x : Option Shelf). Stocked Takes x s) none passed.stretch.stocked) in
+      let alone : e ≡ None → IsAlone e = λ none. subst (λ (x : Option Shelf). IsAlone x) (sym none) tt in
       record {
         faults = faults;
+        door = s;
         sure = sure;
-        passed = subst (λ (x : Option Shelf). HasPassedShare store view t (deals_to t.plan k) (worker_stage r m 0 a) (end x)) none
-            (subst (λ (f : ℕ). HasPassedShare store view t (deals_to t.plan k) (worker_stage r m f a) (end s)) zero_is passed);
-        memory = λ so. without_cache store (lacked_of res (sym is ∙ so) memory);
-        exactly = λ so. subst (λ (x : Option Shelf). Paid 0 (end x) (λ P. P)) none
-            (subst (λ (f : ℕ). Paid f (end s) (λ P. P)) zero_is (λ cached maps nothing one. is_ok_of res (sym is ∙ so) (exactly cached maps nothing one)));
-        left = λ so. subst (λ (x : Option Shelf). Left 0 (end x) (λ P. P)) none
-            (subst (λ (f : ℕ). Left f (end s) (λ P. P)) zero_is (λ cached maps nothing one. is_ok_of res (sym is ∙ so) (left cached maps nothing one)));
+        calm = calm;
+        passed = subst (λ (f : ℕ). HasPassedShare store view t (deals_to t.plan k) (worker_stage r m f e a) (later s)) zero_is passed;
+        memory = λ so. lacked_of res (sym is ∙ so) memory;
+        exactly = λ none so. subst (λ (y : Option Shelf). Paid 0 None y (λ P. P)) (stays none)
+            (subst (λ (x : Option Shelf). Paid 0 x s (λ P. P)) none
+            (subst (λ (f : ℕ). Paid f e s (λ P. P)) zero_is (λ cached maps nothing one. is_ok_of res (sym is ∙ so) (exactly (alone none) cached maps nothing one))));
+        left = λ none so. subst (λ (y : Option Shelf). Left 0 None y (λ P. P)) (stays none)
+            (subst (λ (x : Option Shelf). Left 0 x s (λ P. P)) none
+            (subst (λ (f : ℕ). Left f e s (λ P. P)) zero_is (λ cached maps nothing one. is_ok_of res (sym is ∙ so) (left (alone none) cached maps nothing one))));
         others = others;
       }

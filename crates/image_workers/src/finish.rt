@@ -1,6 +1,6 @@
 //! The end of an assembly by several workers: the second pass, which the first of them makes over the joined shards.
 
-ghost use Rattle.std.specs.Prelude.{◌≡◌, ◌≤◌, ℕ, ◌+◌, List, Err, None, Option, replicate, false, true, IfOk, IsTrue};
+ghost use Rattle.std.specs.Prelude.{◌≡◌, ◌≤◌, ℕ, ◌+◌, List, Err, None, Option, replicate, false, true, IfOk};
 ghost use Rattle.std.specs.Prelude.{length, map};
 ghost use Rattle.std.specs.List.{All};
 ghost use Rattle.assembler.specs.Passes.{Ends, HasPassed, one_pass};
@@ -9,6 +9,7 @@ ghost use Rattle.assembler.specs.Stages.{Ready, stage, task};
 ghost use Rattle.caibx_codec.specs.Listing.{count_of, image_length};
 ghost use Rattle.chunk_sources.specs.AnyCaches.{Suits, seen_in};
 ghost use Rattle.chunk_sources.specs.Caches.{IsAlone, seen};
+ghost use Rattle.dsy_base.specs.Maps.{Map};
 ghost use Rattle.chunk_sources.specs.Losses.{MayLack};
 ghost use Rattle.chunk_sources.specs.Sources.{Sources, sources};
 ghost use Rattle.range_survey.specs.declared.fate.Fate.{Fate};
@@ -58,32 +59,34 @@ fn retry_unless<E: Ledger, S: Store, V: View, C: Cache>(
     retry(wants, tried, work)
 }
 
-/// Makes the second pass with the kit of the first worker, unless a worker lacked memory, and joins the target. `known`
-/// is what each worker knows of each entry after the first pass.
+/// Makes the second pass with the kit of the first worker, which has the cache for itself, unless a worker lacked
+/// memory, and joins the target. `known` is what each worker knows of each entry after the first pass.
 pub(crate) fn finish<R: RunName, T: Target, S: Store, V: View, F: Folder>(
     wants: &Wants<'_>,
     tried: Vec<bool>,
     shards: Shards<'_, R, T>,
     kit: Kit<S, V>,
+    cache: Option<CacheShelf<F>>,
     known: &[Vec<Fate>],
     lacked: bool,
 ) -> Ended<T, S, V, F>
     requires dealt { wants.now.index.now ≡ R.run.listing }
     requires fresh { tried.items ≡ replicate wants.now.plan.now.wants false }
-    requires ready { Ready (task R.run.listing wants.now) (joined_stage shards kit) }
+    requires ready { Ready (task R.run.listing wants.now) (joined_stage shards (seen F.Look cache) kit) }
     requires unnamed { (F.pairs ≡ None) × (F.stores ≡ None) }
-    requires may { MayFillHad S.Store V.View (task R.run.listing wants.now) R.run.may (joined_stage shards kit)
-        (λ _. Unit {0}) }
-    requires lacked { lacked ≡ true → IsTrue S.may_lack_memory }
+    requires may { MayFillHad S.Store V.View (task R.run.listing wants.now) R.run.may
+        (joined_stage shards (seen F.Look cache) kit) (λ _. Unit {0}) }
+    requires lacked { lacked ≡ true → MayLack S.Store (seen F.Look cache) }
     requires workers { length known.now ≡ wants.now.plan.now.workers }
     requires known { All (λ v. length v.items ≡ count_of R.run.listing) known.now }
-    ensures assembled { (o : Option (List ℕ)) (old : Sources S V) → ComesFrom S.Store V.View R.run
-        (task R.run.listing wants.now) o old shards.entry kit → AssembledBeside S.Store V.View R.run
-        (task R.run.listing wants.now) o (T.held result.target).bytes old
+    ensures assembled { (o : Option (List ℕ)) (given : Option (List (Map (List ℕ)))) (old : Sources S V) →
+        ComesFrom S.Store V.View R.run (task R.run.listing wants.now) o given old shards.entry (seen F.Look cache) kit →
+        AssembledBeside S.Store V.View R.run (task R.run.listing wants.now) o (T.held result.target).bytes old
+        (seen F.Look cache)
         (sources (T.faults result.target) result.kit.seeds.items (seen F.Look result.cache) result.kit.chain)
         result.answer }
     ensures passed { (n : List Fate) × HasPassed S.Store V.View (task R.run.listing wants.now) one_pass
-        (joined_stage shards.entry kit) (record {
+        (joined_stage shards.entry (seen F.Look cache) kit) (record {
           held = T.held result.target;
           faults = T.faults result.target;
           fates = n;
@@ -94,7 +97,7 @@ pub(crate) fn finish<R: RunName, T: Target, S: Store, V: View, F: Folder>(
         (λ r. r.kept + r.copied + r.seeded + r.cached + r.fetched ≡ count_of R.run.listing) }
     ensures counts { (n : List Fate) × IfOk result.answer (CountsFates
         (reported_at wants.now.plan.now (map (λ v. v.items) known.now) n) (count_of R.run.listing)) }
-    ensures memory { result.answer ≡ Err ExtractFault.Memory → IsTrue S.may_lack_memory }
+    ensures memory { result.answer ≡ Err ExtractFault.Memory → MayLack S.Store (seen F.Look cache) }
     ensures lacking { lacked ≡ true → result.answer ≡ Err ExtractFault.Memory }
     ensures size { (T.held result.target).size ≡ image_length R.run.listing }
     ensures name { (T.held result.target).name ≡ shards.entry.held.name }
@@ -106,7 +109,7 @@ pub(crate) fn finish<R: RunName, T: Target, S: Store, V: View, F: Folder>(
     let mut work = Work {
         ledger: shards,
         kit,
-        cache: None::<CacheShelf<F>>,
+        cache,
     };
     let answer = match retry_unless(wants, tried, &mut work, lacked) {
         Ok(()) => Ok(report_of(wants, known, &work.ledger)),

@@ -6,5 +6,6 @@ pub mod assembled;
 mod counting;
 mod finish;
 pub mod lanes;
+mod shared;
 pub mod together;
 mod workers;

@@ -1,19 +1,21 @@
 //! An assembly by several workers, after its survey: a pass by all of them side by side, and a second pass by the first
-//! one. It takes no memory of its own.
+//! one, which has the cache for itself. It takes no memory of its own.
 
-ghost use Rattle.std.specs.Prelude.{◌≡◌, ◌+◌, ◌<◌, ◌≤◌, ℕ, Err, IfOk, IsTrue, None, [], false, length, replicate};
-ghost use Rattle.std.specs.Prelude.{slice_index_or, vec_capacity, vec_len};
+ghost use Rattle.std.specs.Prelude.{◌≡◌, ◌+◌, ◌<◌, ◌≤◌, ℕ, Err, IfOk, IfSome, None, Some, [], false, length, map};
+ghost use Rattle.std.specs.Prelude.{replicate, slice_index_or, vec_capacity, vec_len};
 ghost use Rattle.std.specs.List.{All};
 ghost use Rattle.assembler.specs.Assemblies.{Assembles};
 ghost use Rattle.assembler.specs.OneKit.{lent};
 ghost use Rattle.assembler.specs.Stages.{task};
 ghost use Rattle.caibx_codec.specs.Listing.{count_of, image_length};
 ghost use Rattle.chunk_sources.specs.Caches.{seen};
+ghost use Rattle.chunk_sources.specs.Losses.{MayLack};
 ghost use Rattle.chunk_sources.specs.declared.kit.Kit.{Kit};
 ghost use Rattle.dsy_base.specs.Bytes.{Held};
 ghost use Rattle.image_workers.specs.Beside.{BegunBeside, PermitsKit};
 ghost use Rattle.image_workers.specs.Kits.{IsAssembledBy, MayFillFrom};
 ghost use Rattle.image_workers.specs.Lanes.{IsReadyFor};
+ghost use Rattle.image_workers.specs.Shared.{NamesShelf, all_stores, all_told, door_shelf, pairs_of};
 ghost use Rattle.range_ledger.specs.Fills.{WhereTold};
 
 use crate::assembled::Assembled;
@@ -23,11 +25,14 @@ use crate::workers::{kits_of, lanes_of, pass_all};
 use assembler::fault::ExtractFault;
 use assembler::run::Ended;
 use assembler::work::Wants;
+use cache_store::shelf::CacheShelf;
 use caibx_codec::index::Index;
 use chunk_sources::kit::Kit;
 use chunk_store::store::Store;
 use dsy_base::folder::Folder;
+use dsy_base::look::Look;
 use dsy_base::view::{Part, Target, View};
+use named_folders::named_folder::FolderName;
 use owned_shards::shards::{Shards, put_back};
 use range_ledger::run::RunName;
 use range_ledger::shard::Shard;
@@ -73,11 +78,13 @@ impl<'a, P: Part, R: RunName, S: Store, V: View> Rooms<'a, P, R, S, V> {
     }
 }
 
-/// Both passes: all workers, each with its kit, and then the first one. The kits come back in their order.
+/// Both passes: all workers, each with its kit, and then the first one. The kits come back in their order. The cache is
+/// behind a lock during the first pass; `N` names what its folder held before, and what may be added.
 pub fn run_workers<
     'a,
     W: Threads + Wait + Sync,
     R: RunName + Send + Sync,
+    N: FolderName + Send + Sync,
     T: Target,
     S: Store + Send,
     V: View + Send,
@@ -89,6 +96,7 @@ pub fn run_workers<
     tried: Vec<bool>,
     shards: Shards<'a, R, T>,
     kits: Vec<Kit<S, V>>,
+    cache: Option<CacheShelf<F>>,
     rooms: Rooms<'a, T::Piece, R, S, V>,
 ) -> Assembled<T, S, V, F>
 where
@@ -100,12 +108,16 @@ where
     requires few { R.run.shards ≤ count_of R.run.listing }
     requires any { 0 < count_of R.run.listing → 0 < R.run.shards }
     requires unnamed { (F.pairs ≡ None) × (F.stores ≡ None) }
+    requires named { IfSome (seen F.Look cache) (NamesShelf N.opening N.place N.faults) }
+    requires pairs { N.pairs ≡ Some (pairs_of R.run.listing) }
+    requires stores { N.stores ≡ all_told (map S.holds (all_stores kits.items)) }
     requires many { 2 ≤ vec_len kits }
     requires workers { wants.now.plan.now.workers ≡ vec_len kits }
     requires ready { (k : ℕ) (q : Kit S V) → k < length kits.items → IsReadyFor S.Store V.View R.run
-        (task R.run.listing wants.now) k (slice_index_or kits.items k q) shards.fates }
+        (task R.run.listing wants.now) (door_shelf N.opening N.pairs N.stores 0 (seen F.Look cache)) k
+        (slice_index_or kits.items k q) shards.fates }
     requires permits { (q : Kit S V) → PermitsKit S.Store V.View R.run (task R.run.listing wants.now)
-        (slice_index_or kits.items 0 q) }
+        (door_shelf N.opening N.pairs N.stores 0 (seen F.Look cache)) (slice_index_or kits.items 0 q) }
     requires none { (rooms.locks.items ≡ []) × (rooms.lanes.items ≡ []) }
     requires locks { R.run.shards ≤ vec_capacity rooms.locks }
     requires lanes { vec_len kits ≤ vec_capacity rooms.lanes }
@@ -114,13 +126,13 @@ where
     ensures bytes { (old : Held) (f : ℕ) → BegunBeside R.run old f shards.entry → WhereTold old.bytes
         (T.held result.target).bytes (Assembles R.run.listing ⊥ f (T.faults result.target) result.answer) }
     ensures kits { (old : Held) (f : ℕ) → BegunBeside R.run old f shards.entry →
-        MayFillFrom S.Store V.View (task R.run.listing wants.now) R.run.may old.bytes kits.items →
-        IsAssembledBy S.Store V.View (task R.run.listing wants.now) T.never_fails old.bytes
-        (T.held result.target).bytes (lent f kits.items None)
+        MayFillFrom S.Store V.View (task R.run.listing wants.now) R.run.may old.bytes (seen F.Look cache) kits.items →
+        IsAssembledBy S.Store V.View (task R.run.listing wants.now) T.never_fails F.never_fails old.bytes
+        (T.held result.target).bytes (lent f kits.items (seen F.Look cache))
         (lent (T.faults result.target) result.kits.items (seen F.Look result.cache)) result.answer }
     ensures report { IfOk result.answer
         (λ r. r.kept + r.copied + r.seeded + r.cached + r.fetched ≡ count_of R.run.listing) }
-    ensures memory { result.answer ≡ Err ExtractFault.Memory → IsTrue S.may_lack_memory }
+    ensures memory { result.answer ≡ Err ExtractFault.Memory → MayLack S.Store (seen F.Look cache) }
     ensures size { (length result.kits.items ≡ length kits.items)
         × ((T.held result.target).size ≡ image_length R.run.listing) }
     ensures name { (T.held result.target).name ≡ shards.entry.held.name }
@@ -135,7 +147,9 @@ where
     let (room, lists, mut lanes) = lanes_of(&shards, count, kits, known, lanes);
     // Only for its contract, as below: what the survey left.
     shards.keeps();
-    let shards = pass_all::<W, R, T, S, V, F>(rt, index, wants, shards, &mut lanes, locks);
+    let (shards, cache) = pass_all::<W, R, N, T, S, V, F>(
+        rt, index, wants, shards, &mut lanes, locks, cache,
+    );
     shards.keeps();
     let lacked = some_lacked(&lanes);
     let (mut kits, known) = kits_of(lanes, room, lists);
@@ -147,7 +161,7 @@ where
         kit,
         cache,
         answer,
-    } = finish(wants, tried, shards, kit, &known, lacked);
+    } = finish(wants, tried, shards, kit, cache, &known, lacked);
     put_back(&mut kits, kit);
     kits.reverse();
     Assembled {

@@ -1,22 +1,29 @@
 //! The first pass of an assembly by several workers, side by side, and how their kits go into lanes and come back.
 
-ghost use Rattle.std.specs.Prelude.{◌≡◌, ◌<◌, ◌≤◌, ℕ, IsSome, IsTrue, None, Some, [], length, map, reverse};
+ghost use Rattle.std.specs.Prelude.{◌≡◌, ◌<◌, ◌≤◌, ℕ, IfSome, IsSome, IsTrue, Some, [], length, map, reverse};
 ghost use Rattle.std.specs.Prelude.{slice_index_or, vec_capacity, vec_len};
 ghost use Rattle.std.specs.List.{All};
 ghost use Rattle.assembler.specs.Stages.{task};
 ghost use Rattle.caibx_codec.specs.Listing.{count_of};
+ghost use Rattle.chunk_sources.specs.Caches.{Stocked, seen};
 ghost use Rattle.chunk_sources.specs.declared.kit.Kit.{Kit};
 ghost use Rattle.image_workers.specs.Lanes.{IsReadyLane, LaneWorks, kit_of, known_of, tools_of};
+ghost use Rattle.image_workers.specs.Shared.{NamesShelf, door_shelf};
 ghost use Rattle.image_workers.specs.declared.lanes.Lane.{Lane};
+ghost use Rattle.locked_cache.specs.Additions.{MayAdd};
 
 use crate::lanes::{Lane, Tools, go_all};
+use crate::shared::{lock_cache, unlock_cache};
 use assembler::work::Wants;
+use cache_store::shelf::CacheShelf;
 use caibx_codec::index::Index;
 use chunk_sources::kit::Kit;
 use chunk_store::store::Store;
 use dsy_base::folder::Folder;
+use dsy_base::look::Look;
 use dsy_base::view::{Part, Target, View};
 use locked_shards::locked::fates_of;
+use named_folders::named_folder::FolderName;
 use owned_shards::shards::{Shards, put_back};
 use range_ledger::ledger::Ledger;
 use range_ledger::run::RunName;
@@ -25,11 +32,13 @@ use range_survey::fate::Fate;
 use std::sync::{Mutex, Wait};
 use std::thread::Threads;
 
-/// The first pass: each shard stands behind a lock while the workers go their ways. `room` is for the locks.
+/// The first pass: each shard stands behind a lock while the workers go their ways, and so does the cache. `room` is
+/// for the locks of the shards. `N` names the folder of the cache.
 pub(crate) fn pass_all<
     'a,
     W: Threads + Wait + Sync,
     R: RunName + Send + Sync,
+    N: FolderName + Send + Sync,
     T: Target,
     S: Store + Send,
     V: View + Send,
@@ -41,7 +50,8 @@ pub(crate) fn pass_all<
     shards: Shards<'a, R, T>,
     lanes: &mut [Lane<S, V>],
     room: Vec<Mutex<Shard<'a, T::Piece, R>>>,
-) -> Shards<'a, R, T>
+    cache: Option<CacheShelf<F>>,
+) -> (Shards<'a, R, T>, Option<CacheShelf<F>>)
 where
     T::Piece: Send,
     requires dealt { index.now ≡ R.run.listing }
@@ -49,23 +59,27 @@ where
     requires tells { T.tells ≡ R.run.tells }
     requires few { R.run.shards ≤ count_of R.run.listing }
     requires any { 0 < count_of R.run.listing → 0 < R.run.shards }
-    requires unnamed { (F.pairs ≡ None) × (F.stores ≡ None) }
+    requires named { IfSome (seen F.Look cache) (NamesShelf N.opening N.place N.faults) }
     requires some { 0 < length lanes.old }
-    requires ready { (k : ℕ) (a : Lane S V) → k < length lanes.old →
-        IsReadyLane S.Store V.View R.run (task R.run.listing wants.now) k (slice_index_or lanes.old k a) }
+    requires ready { (k : ℕ) (a : Lane S V) → k < length lanes.old → IsReadyLane S.Store V.View R.run
+        (task R.run.listing wants.now) (door_shelf N.opening N.pairs N.stores 0 (seen F.Look cache)) k
+        (slice_index_or lanes.old k a) }
     requires none { room.items ≡ [] }
     requires room { R.run.shards ≤ vec_capacity room }
     ensures each { (k : ℕ) (a : Lane S V) → k < length lanes.old → LaneWorks S.Store V.View R.run
-        (task R.run.listing wants.now) T.never_fails k (slice_index_or lanes.old k a) (slice_index_or lanes.new k a) }
-    ensures size { result.held.size ≡ shards.entry.held.size }
-    ensures name { result.held.name ≡ shards.entry.held.name }
-    ensures before { result.faults_before ≡ shards.entry.faults_before }
+        (task R.run.listing wants.now) (door_shelf N.opening N.pairs N.stores 0 (seen F.Look cache)) T.never_fails
+        F.never_fails k (slice_index_or lanes.old k a) (slice_index_or lanes.new k a) }
+    ensures stocked { Stocked (MayAdd N.pairs N.stores) (seen F.Look cache) (seen F.Look result.1) }
+    ensures size { result.0.held.size ≡ shards.entry.held.size }
+    ensures name { result.0.held.name ≡ shards.entry.held.name }
+    ensures before { result.0.faults_before ≡ shards.entry.faults_before }
     ensures sure { IsTrue T.never_fails → shards.entry.faults ≡ shards.entry.faults_before }
     ensures lanes { length lanes.new ≡ length lanes.old }
 {
+    let cache = lock_cache::<F, N>(cache);
     let (frame, locks) = shards.lock(room);
-    go_all::<W, T::Piece, R, S, V, F>(rt, index, wants, &locks, lanes);
-    frame.unlock(rt, locks)
+    go_all::<W, T::Piece, R, N, S, V, F>(rt, index, wants, &locks, &cache, lanes);
+    (frame.unlock(rt, locks), unlock_cache(cache))
 }
 
 /// A lane for each kit, in their order, whose worker knows what the ledger says of each entry, and the room of the kits

@@ -101,6 +101,13 @@ impl<F: Folder> LockedCache<F> {
 }
 
 impl<'a, W: Wait, F: Folder> CacheDoor<'a, W, F> {
+    /// What a door keeps: none of its calls has failed where no call on the folder does.
+    pub fn keeps(&self)
+        ensures sure { IsTrue F.never_fails → self.now.faults ≡ 0 }
+    {
+        let _ = &self.faults;
+    }
+
     /// Fills the front of `out` with the chunk of this id, and of this size where one is given, and answers its size.
     /// It is one that the folder held at first, or one that was added.
     pub fn find(

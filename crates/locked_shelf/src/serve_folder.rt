@@ -31,6 +31,7 @@ where
     L::Link: Send,
     requires opening { IfSome N.opening (λ first. F.files folder ≡ Some first) }
     requires place { F.place folder ≡ N.place }
+    requires faults { N.faults ≤ F.faults folder }
     ensures kept { IfSome N.opening (λ first. KeepsOpening kinds.Sha512T256 first (F.files result.0)) }
     ensures place { F.place result.0 ≡ N.place }
     ensures end { result.1 ≡ AllServed.Ended → (L.state listen.new).coming ≡ Some [] }

@@ -1,7 +1,7 @@
-//! Folders whose type names the files that they began with, the name that they were taken under, and what may be put
-//! into them. Sizes are in bytes.
+//! Folders whose type names the files that they began with, the name that they were taken under, how often they had
+//! failed, and what may be put into them. Sizes are in bytes.
 
-ghost use Rattle.std.specs.Prelude.{◌≡◌, ℕ, List, [], Option, None};
+ghost use Rattle.std.specs.Prelude.{◌≡◌, ◌≤◌, ℕ, List, [], Option, None};
 ghost use Rattle.dsy_base.specs.Maps.{Map};
 
 use dsy_base::fault::{FileFault, IoFault};
@@ -18,6 +18,9 @@ pub trait FolderName {
     /// The name that it was taken under.
     ghost place: { List ℕ };
 
+    /// How often a call on it had failed.
+    ghost faults: { ℕ };
+
     /// The ids of the chunks that may be put, each with its size.
     ghost pairs: { Option (List (List ℕ × ℕ)) };
 
@@ -29,6 +32,8 @@ impl FolderName for Brand {
     ghost opening = { None };
 
     ghost place = { [] };
+
+    ghost faults = { 0 };
 
     ghost pairs = { None };
 
@@ -43,18 +48,19 @@ pub struct NamedFolder<F: Folder, N: FolderName> {
 }
 
 impl<F: Folder, N: FolderName> Model for NamedFolder<F, N> {
-    ghost use Rattle.std.specs.Prelude.{◌≡◌};
+    ghost use Rattle.std.specs.Prelude.{◌≡◌, ◌≤◌};
 
     ghost Value = { F };
 
     ghost view = { λ s. s.folder };
 
-    ghost invariant = { λ s. F.place s.folder ≡ N.place };
+    ghost invariant = { λ s. (F.place s.folder ≡ N.place) × (N.faults ≤ F.faults s.folder) };
 }
 
 impl<F: Folder, N: FolderName> NamedFolder<F, N> {
     pub fn new(folder: F) -> NamedFolder<F, N>
         requires place { F.place folder ≡ N.place }
+        requires faults { N.faults ≤ F.faults folder }
         ensures { result ≡ folder }
     {
         NamedFolder {
@@ -66,6 +72,7 @@ impl<F: Folder, N: FolderName> NamedFolder<F, N> {
     pub fn into_inner(self) -> F
         ensures same { result ≡ self }
         ensures place { F.place result ≡ N.place }
+        ensures faults { N.faults ≤ F.faults result }
     {
         self.folder
     }

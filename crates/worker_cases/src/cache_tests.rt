@@ -1,6 +1,6 @@
 //! Tests of a cache behind a lock, which several workers ask and fill.
 
-ghost use Rattle.std.specs.Prelude.{◌≡◌, IfSome, None, Some};
+ghost use Rattle.std.specs.Prelude.{◌≡◌, ◌≤◌, IfSome, None, Some};
 
 use cache_store::shelf::{CacheMiss, CacheShelf};
 use chunk_store::id::{ChunkId, DigestKind};
@@ -92,6 +92,7 @@ fn filled<H: Abort + Threads + Wait + Sync, F: Folder + Send, N: FolderName + Se
 ) -> F
     requires opening { IfSome N.opening (λ first. F.files folder ≡ Some first) }
     requires place { F.place folder ≡ N.place }
+    requires faults { N.faults ≤ F.faults folder }
     requires unnamed { (N.pairs ≡ None) × (N.stores ≡ None) }
 {
     let named: NamedFolder<F, N> = NamedFolder::new(folder);

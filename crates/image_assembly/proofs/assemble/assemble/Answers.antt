@@ -1,9 +1,14 @@
-use Rattle.std.proofs.Common.{◌≡◌, ◌∙◌, ℕ, List, Bool, true, Option, Some, None, IfSome, is_some, length, refl, subst, sym, ap, vec_len}
+use Rattle.std.proofs.Common.{◌≡◌, ◌∙◌, ◌≤◌, ℕ, List, Bool, true, Option, Some, None, IfSome, is_some, length, map, refl, subst, sym, ap, vec_len, arith}
+use Rattle.assembler.proofs.Others.{seen_alone}
+use Rattle.cache_store.specs.Shelves.{Shelf}
+use Rattle.chunk_sources.specs.Caches.{cache_faults, cached_in, seen}
+use Rattle.chunk_store.specs.declared.id.DigestKind.TheVariants.{Sha512T256}
+use Rattle.image_workers.specs.Shared.{NamesShelf, all_stores, all_told, pairs_of}
 use Rattle.image_assembly.proofs.OnePlan.{same_plan}
 use Rattle.image_assembly.proofs.Picking.{picked}
-use Rattle.image_assembly.proofs.Picks.{length_resized, picked_permits}
+use Rattle.image_assembly.proofs.Picks.{length_resized, picked_one, picked_permits}
 use Rattle.image_assembly.proofs.Planned.{is_plan, plan_of}
-use Rattle.image_assembly.proofs.assemble.assemble.Invariants.{base_of}
+use Rattle.image_assembly.proofs.assemble.assemble.Invariants.{base_of, files_of, place_of}
 use Rattle.caibx_codec.specs.Listing.{count_of, image_length}
 use Rattle.chunk_sources.specs.Wants.{Task}
 use Rattle.dsy_base.specs.Bytes.{resized}
@@ -30,8 +35,21 @@ assemble_named-requires-clause-over g c κs within = record {
   tells = refl;
 }
 
+pub assemble_named-requires-clause-one : goal.assemble_named-requires-clause-one
+assemble_named-requires-clause-one g c κs within = λ one.
+    let l = c.args.index.now in
+    let n = vec_len c.args.kits in
+    let t : Task = record { listing = l; plan = plan_of l n; places = c.args.places.now } in
+    let plan = is_plan l 1 n c.requires.places.0 c.requires.places.1 in
+    picked_one t (base_of (g.T.View.held c.args.target).bytes (image_length l)) plan.wants g.S.Store g.V.View g.T.View.tells c.args.kits.items (seen g.F.Look c.args.cache) (sym c.args.kits.ok.0 ∙ one)
+
+-- the cache as it is named
+named : (c : Option Shelf) → IfSome c (λ s. s.kind ≡ Sha512T256) → IfSome c (λ s. s.others ≡ None) → IfSome c (NamesShelf (files_of c) (place_of c) (cache_faults c))
+named None kind alone = tt
+named (Some s) kind alone = record { opening = refl; place = refl; faults = refl; kind = kind; others = alone }
+
 pub assemble_named-requires-clause-may : goal.assemble_named-requires-clause-may
-assemble_named-requires-clause-may g c κs within = λ d is.
+assemble_named-requires-clause-may g c κs within = λ many d is.
     let l = c.args.index.now in
     let x = c.args.places.now in
     let kits = c.args.kits.items in
@@ -40,8 +58,14 @@ assemble_named-requires-clause-may g c κs within = λ d is.
     let base = base_of o (image_length l) in
     let plan = is_plan l n n d is in
     let t : Task = record { listing = l; plan = plan_of l n; places = x } in
-    subst (λ (e : Deal). Permits g.S.Store g.V.View (picked g.S.Store g.V.View g.T.View.tells t base kits) (record { listing = l; plan = e; places = x }) kits) (same_plan l n (plan_of l n) d plan is)
-    (picked_permits t base plan.wants g.S.Store g.V.View g.T.View.tells kits (long o (image_length l) g.T.View.tells (g.met.T.View.told c.args.target)))
+    let cache = seen g.F.Look c.args.cache in
+    let pairs = Some (pairs_of l) in
+    let maps = all_told (map g.S.Store.holds (all_stores kits)) in
+    subst (λ (e : Deal). Permits g.S.Store g.V.View (picked g.S.Store g.V.View g.T.View.tells t base (cached_in cache) kits) (record { listing = l; plan = e; places = x }) kits (files_of cache) (place_of cache)
+    (cache_faults cache) pairs maps cache) (same_plan l n (plan_of l n) d plan is)
+    (picked_permits t base plan.wants g.S.Store g.V.View g.T.View.tells kits cache (long o (image_length l) g.T.View.tells (g.met.T.View.told c.args.target)) (omega (arith, many, c.args.kits.ok.0))
+    (files_of cache) (place_of cache) (cache_faults cache) pairs maps
+    (named cache c.requires.cache (seen_alone g.F.Look c.args.cache)) refl refl)
 
 pub returns-clause-bytes : goal.returns-clause-bytes
 returns-clause-bytes g c = c.assemble_named.ensures.bytes

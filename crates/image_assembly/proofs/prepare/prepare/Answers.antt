@@ -5,7 +5,7 @@ use Rattle.caibx_codec.specs.Listing.{Listing, count_of, image_length, kind_of}
 use Rattle.dsy_base.specs.Bytes.{Held, resized}
 use Rattle.extract_plan.specs.Deal.{IsPlan, shards_of}
 use Rattle.extract_plan.specs.Places.{PlacesKnown}
-use Rattle.image_assembly.proofs.Lending.{all_same, permits_same}
+use Rattle.image_assembly.proofs.Lending.{all_same}
 use Rattle.image_assembly.proofs.OnePlan.{places_on}
 use Rattle.image_assembly.proofs.Readying.{if_map, resized_tells, right_in}
 use Rattle.image_assembly.specs.Readied.{AreRoomsFor, IsRoomOf}
@@ -71,8 +71,7 @@ invariant_of-result g c =
     let tells : is_some s.held.bytes ≡ r.tells = resized_tells old s.held (image_length l) does.ok ∙ g.met.T.View.told c.args.target ∙ sym over.tells in (
       record {
         listing = sym over.listing;
-        permits = permits_same g.S.Store g.V.View ms kits e.chain e.seeds r (record { listing = l; plan = d; places = x })
-            (c.requires.may d (subst (λ (k : ℕ). IsPlan l k d) c.len.ensures c.in-Ok.ensures.plan));
+        one = λ alone. c.requires.one (c.args.kits.ok.0 ∙ sym many ∙ alone);
         shards = over.shards ∙ ap (λ (k : ℕ). shards_of k (count_of l)) (c.args.kits.ok.0 ∙ sym many) ∙ ap (λ (m : Listing). shards_of n (count_of m)) (sym over.listing);
         base = based;
         tells = sym over.tells;

@@ -1,26 +1,36 @@
-use Rattle.std.proofs.Common.{◌≡◌, ◌∙◌, inl, inr, ◌<◌, ◌∷◌, ◌≤◌, ℕ, suc, zero, Bool, List, [], true, false, All, IfOk, IsSome, IsTrue, None, Result, Some, length, map, refl, reverse, slice_index_or, sym, ap, subst, arith, rules, Err}
+use Rattle.std.proofs.Common.{◌≡◌, ◌∙◌, inl, inr, ◌<◌, ◌∷◌, ◌≤◌, ℕ, suc, zero, Bool, List, [], true, false, All, IfOk, IfSome, IsSome, IsTrue, None, Option, Result, Some, length, map, refl, reverse, slice_index_or, sym, ap, subst, arith, rules, Err}
 use Rattle.std.proofs.lemmas.Bool.{cases_Bool, true≢false}
 use Rattle.std.proofs.lemmas.List.{get_or-map, length-map, length-reverse, reverse-append, with_items_is}
 use Rattle.std.specs.Global.{Vec}
 use Rattle.std.specs.Vec.{with_items}
 use Rattle.assembler.specs.OneKit.{lent}
-use Rattle.assembler.specs.Stages.{task, Stage}
+use Rattle.assembler.specs.Stages.{Stretch, task, Stage}
 use Rattle.assembler.specs.declared.fault.ExtractFault.TheVariants as faults
 use Rattle.assembler.specs.declared.fault.ExtractFault.{ExtractFault}
 use Rattle.caibx_codec.specs.Listing.{count_of}
-use Rattle.chunk_sources.specs.Caches.{TakesWants, seen}
+use Rattle.assembler.proofs.Others.{seen_alone}
+use Rattle.cache_store.specs.Shelves.{Shelf, Shelved}
+use Rattle.chunk_sources.proofs.Cached.{stocked_falls, stocked_kind}
+use Rattle.chunk_sources.specs.Caches.{Stocked, TakesListed, given_maps, seen}
+use Rattle.chunk_store.specs.declared.id.DigestKind.TheVariants.{Sha512T256}
+use Rattle.dsy_base.specs.Bytes.{Held}
+use Rattle.dsy_base.specs.Maps.{Map}
+use Rattle.image_workers.proofs.Doors.{lacks_before, lacks_between, named_kind, named_opens}
+use Rattle.image_workers.proofs.Sharing.{Adds, adds_own, door, door_gave, stocked_alike, stocked_all}
+use Rattle.image_workers.specs.Shared.{GivesNoMore, all_stores, all_told, door_shelf, pairs_of}
+use Rattle.locked_cache.specs.Additions.{MayAdd}
 use Rattle.chunk_sources.specs.Sources.{sources, views_of}
 use Rattle.chunk_sources.specs.declared.kit.Kit.{Kit}
 use Rattle.image_workers.proofs.Exact.{exact_once, exact_twice, lacking_one}
 use Rattle.image_workers.proofs.Going.{a_kit, all_there, as_many, filled_of, knew_at, ready_again, ready_at, worked_at}
-use Rattle.image_workers.proofs.Kits.{assembled_by}
+use Rattle.image_workers.proofs.Kits.{ReportedOver, assembled_by}
 use Rattle.image_workers.proofs.Moving.{map_twice}
 use Rattle.image_workers.proofs.Permitting.{permits}
 use Rattle.image_workers.proofs.Reports.{kept_so, quiet_ways, reported_so}
-use Rattle.image_workers.proofs.Spared.{WasInShards, used_once, used_twice}
+use Rattle.image_workers.proofs.Spared.{ExactlyDealt, WasInShards, used_once, used_twice}
 use Rattle.image_workers.proofs.Working.{stays_none}
-use Rattle.image_workers.specs.Beside.{AssembledBeside, joined_stage}
-use Rattle.image_workers.specs.Kits.{KitUsed, KnowsFaults, at_kit}
+use Rattle.image_workers.specs.Beside.{AssembledBeside, BegunBeside, ComesFrom, joined_stage}
+use Rattle.image_workers.specs.Kits.{IsUnshared, KitUsed, at_kit}
 use Rattle.image_workers.specs.Lanes.{HasWorked, IsReadyFor, kit_of, known_of, tools_of}
 use Rattle.image_workers.specs.Reporting.{CountsFates, reported_at}
 use Rattle.image_workers.specs.declared.lanes.Lane.{Lane}
@@ -29,6 +39,10 @@ use Rattle.range_survey.specs.declared.report.Report.{Report}
 use Rattle.image_workers.proofs.together.run_workers.Given.{Over}
 use Rattle.image_workers.proofs.together.run_workers.Goals.{After-deref_mut, After-reverse, After-some_lacked-lacked, In-Some}
 use Rattle.image_workers.proofs.together.run_workers.Goals as goal
+
+-- the door of each worker to the cache
+abbrev door_seen : (g : Over) → Option (Shelved g.row.F.Denot) → Option Shelf
+door_seen g cache = door_shelf g.N.FolderName.opening g.N.FolderName.pairs g.N.FolderName.stores 0 (seen g.F.Look cache)
 
 lanes_are : (g : Over) (c : After-deref_mut g) → map tools_of c.deref_mut.result.now ≡ map (λ (q : Kit g.row.S.Denot g.row.V.Denot). Some (q, c.args.shards.fates)) c.args.kits.items
 lanes_are g c = ap (map tools_of) c.deref_mut.ensures.value ∙ c.lanes_of-room.ensures.lanes
@@ -39,7 +53,7 @@ many g c = as_many c.args.kits.items c.args.shards.fates c.deref_mut.result.now 
 pub pass_all-shards-requires-clause-ready : goal.pass_all-shards-requires-clause-ready
 pass_all-shards-requires-clause-ready g c κs within =
     let here = (goal.at.pass_all-shards-requires-clause-ready g c).After-deref_mut in
-    ready_at c.args.kits.items c.args.shards.fates c.deref_mut.result.now (lanes_are g here) (IsReadyFor g.S.Store g.V.View g.R.RunName.run (task g.R.RunName.run.listing c.args.wants.now)) c.requires.ready
+    ready_at c.args.kits.items c.args.shards.fates c.deref_mut.result.now (lanes_are g here) (IsReadyFor g.S.Store g.V.View g.R.RunName.run (task g.R.RunName.run.listing c.args.wants.now) (door_seen g c.args.cache)) c.requires.ready
 
 many_kits : (g : Over) (c : After-deref_mut g) → 2 ≤ length c.args.kits.items
 many_kits g c = search rules
@@ -60,7 +74,7 @@ kits_of-kits-requires-clause-there g c =
     let here = (goal.at.kits_of-kits-requires-clause-there g c).After-some_lacked-lacked in
     let early = (goal.at.kits_of-kits-requires-clause-there g c).After-deref_mut in
     subst (λ (ys : List (Lane g.row.S.Denot g.row.V.Denot)). All (λ a. IsSome (kit_of a)) ys) (sym (after g here))
-    (all_there c.args.kits.items c.args.shards.fates c.deref_mut.result.now (lanes_are g early) g.S.Store g.V.View g.R.RunName.run (task g.R.RunName.run.listing c.args.wants.now) g.T.View.never_fails
+    (all_there c.args.kits.items c.args.shards.fates c.deref_mut.result.now (lanes_are g early) g.S.Store g.V.View g.R.RunName.run (task g.R.RunName.run.listing c.args.wants.now) (door_seen g c.args.cache) g.T.View.never_fails g.F.Look.never_fails
     c.pass_all-shards.new.lanes c.pass_all-shards.ensures.lanes c.pass_all-shards.ensures.each)
 
 pub kits_of-kits-requires-clause-room : goal.kits_of-kits-requires-clause-room
@@ -88,9 +102,9 @@ none_there g = record { tools = None; lacked = false }
 
 -- what each worker has done
 went : (g : Over) (c : In-Some g) (k : ℕ) (q p : Kit g.row.S.Denot g.row.V.Denot) → k < length c.args.kits.items
-    → (n : List Fate) × HasWorked g.S.Store g.V.View g.R.RunName.run (task g.R.RunName.run.listing c.args.wants.now) g.T.View.never_fails k (slice_index_or c.args.kits.items k q) c.args.shards.fates
+    → (n : List Fate) × HasWorked g.S.Store g.V.View g.R.RunName.run (task g.R.RunName.run.listing c.args.wants.now) (door_seen g c.args.cache) g.T.View.never_fails g.F.Look.never_fails k (slice_index_or c.args.kits.items k q) c.args.shards.fates
     (slice_index_or (reverse c.kits_of-kits.result.0.items) k p) n (slice_index_or c.pass_all-shards.new.lanes k (none_there g)).lacked
-went g c = worked_at c.args.kits.items c.args.shards.fates c.deref_mut.result.now (lanes_so g c) g.S.Store g.V.View g.R.RunName.run (task g.R.RunName.run.listing c.args.wants.now) g.T.View.never_fails
+went g c = worked_at c.args.kits.items c.args.shards.fates c.deref_mut.result.now (lanes_so g c) g.S.Store g.V.View g.R.RunName.run (task g.R.RunName.run.listing c.args.wants.now) (door_seen g c.args.cache) g.T.View.never_fails g.F.Look.never_fails
     c.pass_all-shards.new.lanes c.pass_all-shards.ensures.lanes c.pass_all-shards.ensures.each (reverse c.kits_of-kits.result.0.items) (kits_are g c)
 
 many_there : (g : Over) (c : In-Some g) → 2 ≤ length c.args.kits.items
@@ -111,9 +125,9 @@ lists_are g c = map_twice (λ (v : Vec Fate). v.items) (λ (n : List Fate). Some
     ∙ c.kits_of-kits.ensures.known ∙ ap (map known_of) (with_items_is c.lanes_of-room.result.2 c.pass_all-shards.new.lanes (omega (arith, c.pass_all-shards.ensures.lanes, c.deref_mut.ensures.len)))
 
 knew : (g : Over) (c : In-Some g) (k : ℕ) (q p : Kit g.row.S.Denot g.row.V.Denot) → k < length c.args.kits.items
-    → HasWorked g.S.Store g.V.View g.R.RunName.run (task g.R.RunName.run.listing c.args.wants.now) g.T.View.never_fails k (slice_index_or c.args.kits.items k q) c.args.shards.fates
+    → HasWorked g.S.Store g.V.View g.R.RunName.run (task g.R.RunName.run.listing c.args.wants.now) (door_seen g c.args.cache) g.T.View.never_fails g.F.Look.never_fails k (slice_index_or c.args.kits.items k q) c.args.shards.fates
     (slice_index_or (reverse c.kits_of-kits.result.0.items) k p) (slice_index_or (lists_of g c) k []) (slice_index_or c.pass_all-shards.new.lanes k (none_there g)).lacked
-knew g c = knew_at c.args.kits.items c.args.shards.fates c.deref_mut.result.now (lanes_so g c) g.S.Store g.V.View g.R.RunName.run (task g.R.RunName.run.listing c.args.wants.now) g.T.View.never_fails
+knew g c = knew_at c.args.kits.items c.args.shards.fates c.deref_mut.result.now (lanes_so g c) g.S.Store g.V.View g.R.RunName.run (task g.R.RunName.run.listing c.args.wants.now) (door_seen g c.args.cache) g.T.View.never_fails g.F.Look.never_fails
     c.pass_all-shards.new.lanes c.pass_all-shards.ensures.lanes c.pass_all-shards.ensures.each (reverse c.kits_of-kits.result.0.items) (kits_are g c) (lists_of g c) (lists_are g c)
 
 -- there are as many lists as kits
@@ -125,23 +139,71 @@ many_lists g c =
 
 -- the first has
 first_went : (g : Over) (c : In-Some g) (q : Kit g.row.S.Denot g.row.V.Denot)
-    → (n : List Fate) × HasWorked g.S.Store g.V.View g.R.RunName.run (task g.R.RunName.run.listing c.args.wants.now) g.T.View.never_fails 0 (slice_index_or c.args.kits.items 0 q) c.args.shards.fates
+    → (n : List Fate) × HasWorked g.S.Store g.V.View g.R.RunName.run (task g.R.RunName.run.listing c.args.wants.now) (door_seen g c.args.cache) g.T.View.never_fails g.F.Look.never_fails 0 (slice_index_or c.args.kits.items 0 q) c.args.shards.fates
     c.in-Some.kit n (slice_index_or c.pass_all-shards.new.lanes 0 (none_there g)).lacked
 first_went g c q =
     let h = went g c 0 q c.in-Some.kit (some_one g c) in
     let is : slice_index_or (reverse c.kits_of-kits.result.0.items) 0 c.in-Some.kit ≡ c.in-Some.kit = ap (λ (zs : List (Kit g.row.S.Denot g.row.V.Denot)). slice_index_or zs 0 c.in-Some.kit) (outs_are g c) in (
       h.0,
-      subst (λ (b : Kit g.row.S.Denot g.row.V.Denot). HasWorked g.S.Store g.V.View g.R.RunName.run (task g.R.RunName.run.listing c.args.wants.now) g.T.View.never_fails 0
+      subst (λ (b : Kit g.row.S.Denot g.row.V.Denot). HasWorked g.S.Store g.V.View g.R.RunName.run (task g.R.RunName.run.listing c.args.wants.now) (door_seen g c.args.cache) g.T.View.never_fails g.F.Look.never_fails 0
           (slice_index_or c.args.kits.items 0 q) c.args.shards.fates b h.0 (slice_index_or c.pass_all-shards.new.lanes 0 (none_there g)).lacked) is h.1,
     )
+
+-- ---- the cache
+
+abbrev at_first : (g : Over) (c : In-Some g) → Option Shelf
+at_first g c = seen g.F.Look c.args.cache
+
+abbrev between : (g : Over) (c : In-Some g) → Option Shelf
+between g c = seen g.F.Look c.pass_all-shards.result.1
+
+door_is : (g : Over) (c : In-Some g) → door_seen g c.args.cache ≡ door g.S.Store g.R.RunName.run.listing c.args.kits.items g.N.FolderName.opening (at_first g c)
+door_is g c =
+    ap (λ (p : Option (List (List ℕ × ℕ))). door_shelf g.N.FolderName.opening p g.N.FolderName.stores 0 (at_first g c)) c.requires.pairs
+    ∙ ap (λ (m : Option (List (Map (List ℕ)))). door_shelf g.N.FolderName.opening (Some (pairs_of g.R.RunName.run.listing)) m 0 (at_first g c)) c.requires.stores
+
+added : (g : Over) (c : In-Some g) → Stocked (Adds g.S.Store g.R.RunName.run.listing c.args.kits.items) (at_first g c) (between g c)
+added g c =
+    subst (λ (p : Option (List (List ℕ × ℕ))). Stocked (MayAdd p (all_told (map g.S.Store.holds (all_stores c.args.kits.items)))) (at_first g c) (between g c)) c.requires.pairs
+    (subst (λ (m : Option (List (Map (List ℕ)))). Stocked (MayAdd g.N.FolderName.pairs m) (at_first g c) (between g c)) c.requires.stores c.pass_all-shards.ensures.stocked)
+
+opens : (g : Over) (c : In-Some g) → IfSome (at_first g c) (λ s. g.N.FolderName.opening ≡ s.files)
+opens g c = named_opens g.N.FolderName.opening g.N.FolderName.place g.N.FolderName.faults (at_first g c) c.requires.named
+
+gave : (g : Over) (c : In-Some g) → GivesNoMore (given_maps (door_seen g c.args.cache)) (between g c)
+gave g c = subst (λ (e : Option Shelf). GivesNoMore (given_maps e) (between g c)) (sym (door_is g c))
+    (door_gave g.S.Store g.R.RunName.run.listing c.args.kits.items g.N.FolderName.opening (at_first g c) (opens g c) (between g c) (seen_alone g.F.Look c.pass_all-shards.result.1) (added g c))
+
+-- ---- the second pass
+
+came : (g : Over) (c : In-Some g) (old : Held) (f : ℕ) → BegunBeside g.R.RunName.run old f c.args.shards → (q : Kit g.row.S.Denot g.row.V.Denot)
+    → ComesFrom g.S.Store g.V.View g.R.RunName.run (task g.R.RunName.run.listing c.args.wants.now) old.bytes (given_maps (door_seen g c.args.cache))
+    (sources f (slice_index_or c.args.kits.items 0 q).seeds.items (at_first g c) (slice_index_or c.args.kits.items 0 q).chain) c.pass_all-shards.result.0 (between g c) c.in-Some.kit
+came g c old f begun q =
+    let step = (first_went g c q).1.passed.stretch.step in
+    record {
+      before = subst (λ (n : ℕ). f ≤ n) (sym c.pass_all-shards.ensures.before) begun.before;
+      base = begun.base;
+      told = begun.told;
+      tells = c.keeps-2.ensures.tells ∙ c.requires.tells;
+      permits = c.requires.permits q;
+      gives = gave g c;
+      falls = stocked_falls (Adds g.S.Store g.R.RunName.run.listing c.args.kits.items) (at_first g c) (between g c) (added g c);
+      seeds = step.seeds;
+      stores = step.stores;
+    }
 
 pub finish-target-requires-clause-ready : goal.finish-target-requires-clause-ready
 finish-target-requires-clause-ready g c =
     let here = (goal.at.finish-target-requires-clause-ready g c).In-Some in
     let q = first_kit g here in
     let h = first_went g here q in
-    ready_again g.S.Store g.V.View g.R.RunName.run c.args.wants.now.plan.now c.args.wants.now.places.now g.T.View.never_fails (slice_index_or c.args.kits.items 0 q) c.in-Some.kit c.args.shards.fates h.0
-    (slice_index_or c.pass_all-shards.new.lanes 0 (none_there g)).lacked c.pass_all-shards.result (c.requires.ready 0 q (some_one g here)) h.1
+    ready_again g.S.Store g.V.View g.R.RunName.run c.args.wants.now.plan.now c.args.wants.now.places.now (door_seen g c.args.cache) g.T.View.never_fails g.F.Look.never_fails (slice_index_or c.args.kits.items 0 q)
+    c.in-Some.kit c.args.shards.fates h.0
+    (slice_index_or c.pass_all-shards.new.lanes 0 (none_there g)).lacked c.pass_all-shards.result.0 (between g here)
+    (stocked_kind (Adds g.S.Store g.R.RunName.run.listing c.args.kits.items) (at_first g here) (between g here) Sha512T256 (added g here)
+    (named_kind g.N.FolderName.opening g.N.FolderName.place g.N.FolderName.faults (at_first g here) c.requires.named))
+    (c.requires.ready 0 q (some_one g here)) h.1
 
 pub finish-target-requires-clause-may : goal.finish-target-requires-clause-may
 finish-target-requires-clause-may g c =
@@ -153,8 +215,9 @@ finish-target-requires-clause-may g c =
     let first = slice_index_or c.args.kits.items 0 q in
     let wants = (c.requires.ready 0 q (some_one g here)).ready.wants in
     let step = (first_went g here q).1.passed.stretch.step in
-    let w = c.pass_all-shards.result in
-    permits r d x wants g.S.Store g.V.View (views_of g.V.View first.seeds.items) (map g.S.Store.holds first.chain.stores) (c.requires.permits q) (joined_stage w c.in-Some.kit) refl step.seeds.held step.stores.held
+    let w = c.pass_all-shards.result.0 in
+    permits r d x wants g.S.Store g.V.View (views_of g.V.View first.seeds.items) (given_maps (door_seen g c.args.cache)) (map g.S.Store.holds first.chain.stores) (c.requires.permits q)
+    (joined_stage w (between g here) c.in-Some.kit) (gave g here) step.seeds.held step.stores.held
     (filled_of g.S.Store g.V.View r d x wants w w.held.bytes (c.keeps-2.ensures.tells ∙ c.requires.tells) c.keeps-2.ensures.kept) (λ _. Unit {0})
 
 -- ---- the lists
@@ -189,7 +252,8 @@ finish-target-requires-clause-lacked g c = λ is.
     let at = c.some_lacked-lacked.ensures.yes is in
     let q = first_kit g here in
     let less : at.0 < length c.args.kits.items = omega (arith, at.1, ap (λ (zs : List (Lane g.row.S.Denot g.row.V.Denot)). length zs) (lanes_seen g before), c.pass_all-shards.ensures.lanes, many g early) in
-    (went g here at.0 q q less).1.memory (subst (λ (zs : List (Lane g.row.S.Denot g.row.V.Denot)). (slice_index_or zs at.0 (none_there g)).lacked ≡ true) (lanes_seen g before) (at.2 (none_there g)))
+    lacks_between g.S.Store (Adds g.S.Store g.R.RunName.run.listing c.args.kits.items) g.N.FolderName.opening g.N.FolderName.pairs g.N.FolderName.stores (at_first g here) (between g here) (added g here)
+    ((went g here at.0 q q less).1.memory (subst (λ (zs : List (Lane g.row.S.Denot g.row.V.Denot)). (slice_index_or zs at.0 (none_there g)).lacked ≡ true) (lanes_seen g before) (at.2 (none_there g))))
 
 -- ---- the kits in the end
 
@@ -226,17 +290,12 @@ returns-clause-bytes g c = λ old f begun.
     let here = (goal.at.returns-clause-bytes g c).In-Some in
     let q = first_kit g here in
     let first = slice_index_or c.args.kits.items 0 q in
-    let step = (first_went g here q).1.passed.stretch.step in
-    (c.finish-target.ensures.assembled old.bytes (sources f first.seeds.items None first.chain) (record {
-      before = subst (λ (n : ℕ). f ≤ n) (sym c.pass_all-shards.ensures.before) begun.before;
-      base = begun.base;
-      told = begun.told;
-      tells = c.keeps-2.ensures.tells ∙ c.requires.tells;
-      permits = c.requires.permits q;
-      cache = refl;
-      seeds = step.seeds;
-      stores = step.stores;
-    })).bytes
+    (c.finish-target.ensures.assembled old.bytes (given_maps (door_seen g c.args.cache)) (sources f first.seeds.items (at_first g here) first.chain) (came g here old f begun q)).bytes
+
+pub returns-clause-memory : goal.returns-clause-memory
+returns-clause-memory g c = λ is.
+    let here = (goal.at.returns-clause-memory g c).In-Some in
+    lacks_before g.S.Store (Adds g.S.Store g.R.RunName.run.listing c.args.kits.items) (at_first g here) (between g here) (added g here) (c.finish-target.ensures.memory is)
 
 pub returns-clause-kits : goal.returns-clause-kits
 returns-clause-kits g c = λ old f begun fill.
@@ -253,11 +312,18 @@ returns-clause-kits g c = λ old f begun fill.
     let outs = c.reverse.new.self.items in
     let never = g.T.View.never_fails in
     let w0 = c.args.shards in
-    let w1 = c.pass_all-shards.result in
+    let w1 = c.pass_all-shards.result.0 in
+    let sure = g.F.Look.never_fails in
+    let c0 = at_first g here in
+    let c1 = between g here in
+    let l = r.listing in
+    let e0 = door_seen g c.args.cache in
+    let own = door g.S.Store l kits g.N.FolderName.opening c0 in
+    let room = Adds g.S.Store l kits in
     let end = c.finish-target.result in
     let count = g.T.View.faults end.target in
     let e = seen g.F.Look end.cache in
-    let from_first : Kit g.row.S.Denot g.row.V.Denot → _ = λ q. sources f (slice_index_or kits 0 q).seeds.items None (slice_index_or kits 0 q).chain in
+    let from_first : Kit g.row.S.Denot g.row.V.Denot → _ = λ q. sources f (slice_index_or kits 0 q).seeds.items c0 (slice_index_or kits 0 q).chain in
     let to_kit : Kit g.row.S.Denot g.row.V.Denot → _ = λ b. sources count b.seeds.items e b.chain in
     let back : (j : Kit g.row.S.Denot g.row.V.Denot) → end.kit ≡ slice_index_or outs 0 j = λ j. sym (ap (λ (zs : List (Kit g.row.S.Denot g.row.V.Denot)). slice_index_or zs 0 j) (kits_back g last)) in
     let wants = (c.requires.ready 0 (first_kit g here) (some_one g here)).ready.wants in
@@ -288,50 +354,64 @@ returns-clause-kits g c = λ old f begun fill.
     let zero_is : IsTrue never → count ≡ 0 = λ sure. g.met.T.View.sure end.target sure in
     let told : (v : List (List Fate)) → map (λ (w : Vec Fate). w.items) c.deref-2.result.now ≡ v → IfOk end.answer (CountsFates (reported_at d v c.finish-target.ensures.counts.0) (count_of r.listing)) = λ v same.
     subst (λ (n : List (List Fate)). IfOk end.answer (CountsFates (reported_at d n c.finish-target.ensures.counts.0) (count_of r.listing))) same c.finish-target.ensures.counts.1 in
+    let no_cache : IsUnshared (lent f kits c0) → c0 ≡ None = λ unshared. elim unshared [
+      | inl one ↦ absurd (omega (arith, one, many_there g here))
+      | inr none ↦ none
+    ] in
+    let no_door : c0 ≡ None → e0 ≡ None = λ none. ap (λ (x : Option Shelf). door_shelf g.N.FolderName.opening g.N.FolderName.pairs g.N.FolderName.stores 0 x) none in
+    let none_between : c0 ≡ None → c1 ≡ None = λ none. stays_none room c1 (subst (λ (x : Option Shelf). Stocked room x c1) none (added g here)) in
     let counts = told lists (ap (map (λ (w : Vec Fate). w.items)) c.deref-2.ensures.value) in
-    assembled_by g.S.Store g.V.View r t kits never old.bytes (g.T.View.held end.target).bytes f count outs e end.answer fill
+    assembled_by g.S.Store g.V.View r t kits never sure old.bytes (g.T.View.held end.target).bytes f count outs e end.answer c0 c1 fill
     (λ q j.
-    let step = (first_went g here q).1.passed.stretch.step in
-    subst (λ (b : Kit g.row.S.Denot g.row.V.Denot). AssembledBeside g.S.Store g.V.View r t old.bytes (g.T.View.held end.target).bytes (from_first q) (to_kit b) end.answer) (back j)
-    (c.finish-target.ensures.assembled old.bytes (from_first q) (record {
-      before = subst (λ (n : ℕ). f ≤ n) (sym was.same) was.before;
-      base = was.base;
-      told = was.told;
-      tells = was.tells_then;
-      permits = c.requires.permits q;
-      cache = refl;
-      seeds = step.seeds;
-      stores = step.stores;
-    })))
+    subst (λ (b : Kit g.row.S.Denot g.row.V.Denot). AssembledBeside g.S.Store g.V.View r t old.bytes (g.T.View.held end.target).bytes (from_first q) c1 (to_kit b) end.answer) (back j)
+    (c.finish-target.ensures.assembled old.bytes (given_maps e0) (from_first q) (came g here old f begun q)))
     (first_kit g here)
-    (stays_none (TakesWants g.S.Store t.listing t.plan (λ v. v < t.plan.wants) c.in-Some.kit.chain.stores) e passed.stretch.stocked)
+    (λ alike q. adds_own g.S.Store g.V.View l d x wants kits c0 c1 (added g here) alike q)
+    (let q = first_kit g here in stocked_all g.S.Store g.V.View l d x wants kits c0 c1 (added g here) q c.in-Some.kit (some_one g here) (first_went g here q).1.passed.stretch.step.stores.held e passed.stretch.stocked)
+    (λ why q.
+    let now = stocked_all g.S.Store g.V.View l d x wants kits c0 c1 (added g here) q c.in-Some.kit (some_one g here) (first_went g here q).1.passed.stretch.step.stores.held e passed.stretch.stocked in
+    let first = TakesListed g.S.Store l (slice_index_or kits 0 q).chain.stores in
+    elim why [
+      | inl unshared ↦
+          let none = no_cache unshared in
+          let end_none : e ≡ None = stays_none (TakesListed g.S.Store l (all_stores kits)) e (subst (λ (y : Option Shelf). Stocked (TakesListed g.S.Store l (all_stores kits)) y e) none now) in
+          subst (λ (y : Option Shelf). Stocked first y e) (sym none) (subst (λ (y : Option Shelf). Stocked first None y) (sym end_none) tt)
+      | inr alike ↦ stocked_alike g.S.Store g.V.View l d x wants kits c0 c1 (added g here) q c.in-Some.kit (some_one g here) (first_went g here q).1.passed.stretch.step.stores.held e passed.stretch.stocked alike
+    ])
     (omega (arith, as_many_kits worked outs (reverse c.pop.new.self.items) c.in-Some.kit end.kit (outs_are g here) (kits_back g last), out_long g here, c.pass_all-shards.ensures.lanes, many g early))
-    (λ k q j. by_worker (λ n. n < length kits → KitUsed g.S.Store g.V.View t (KnowsFaults never kits) never old.bytes n (at_kit (lent f kits None) n q) (at_kit (lent count outs e) n j) end.answer)
+    (λ k q j. by_worker (λ n. n < length kits → KitUsed g.S.Store g.V.View t never sure old.bytes (lent f kits c0) n (at_kit (lent f kits c0) n q) (at_kit (lent count outs e) n j) end.answer)
     (λ less.
     let h = first_went g here q in
-    subst (λ (b : Kit g.row.S.Denot g.row.V.Denot). KitUsed g.S.Store g.V.View t (KnowsFaults never kits) never old.bytes 0 (from_first q) (to_kit b) end.answer) (back j)
-    (used_twice g.S.Store g.V.View r d x wants kits never old.bytes f count w0 w1 was (many_there g here) (slice_index_or kits 0 q) c.in-Some.kit h.0
-    (lacked 0) h.1 stood refl passed end.answer
-    (exact_twice g.S.Store g.V.View r d x wants never old.bytes f count w0 w1 was known (slice_index_or kits 0 q) c.in-Some.kit h.0 (lacked 0) h.1 stood refl passed end.answer (lacks 0 less))))
+    subst (λ (b : Kit g.row.S.Denot g.row.V.Denot). KitUsed g.S.Store g.V.View t never sure old.bytes (lent f kits c0) 0 (from_first q) (to_kit b) end.answer) (back j)
+    (used_twice g.S.Store g.V.View r d x wants kits g.N.FolderName.opening c0 (opens g here) never sure old.bytes f count w0 w1 was (many_there g here) q c.in-Some.kit h.0
+    (lacked 0) (subst (λ (y : Option Shelf). HasWorked g.S.Store g.V.View r t y never sure 0 (slice_index_or kits 0 q) w0.fates c.in-Some.kit h.0 (lacked 0)) (door_is g here) h.1) c1 (added g here) stood passed refl end.answer
+    (λ unshared. let none = no_cache unshared in
+    subst (λ (y : Option Shelf). ExactlyDealt g.S.Store g.V.View r d x wants never old.bytes 0 (sources f (slice_index_or kits 0 q).seeds.items y (slice_index_or kits 0 q).chain) (to_kit end.kit) end.answer) (sym none)
+    (exact_twice g.S.Store g.V.View r d x wants never old.bytes f count w0 w1 was known e0 sure (no_door none) (slice_index_or kits 0 q) c.in-Some.kit h.0 (lacked 0) h.1 c1 stood refl passed end.answer (lacks 0 less)))))
     (λ n later less.
     let h = went g here n q j less in
-    subst (λ (b : Kit g.row.S.Denot g.row.V.Denot). KitUsed g.S.Store g.V.View t (KnowsFaults never kits) never old.bytes n (at_kit (lent f kits None) n q) (to_kit b) end.answer)
+    subst (λ (b : Kit g.row.S.Denot g.row.V.Denot). KitUsed g.S.Store g.V.View t never sure old.bytes (lent f kits c0) n (at_kit (lent f kits c0) n q) (to_kit b) end.answer)
     (same_later worked outs (reverse c.pop.new.self.items) c.in-Some.kit end.kit (outs_are g here) (kits_back g last) n j later)
-    (used_once g.S.Store g.V.View r d x wants kits never old.bytes f count w0 w1 was (many_there g here) n (slice_index_or kits n q) (slice_index_or worked n j) h.0
-    (lacked n) h.1 e end.answer
-    (exact_once g.S.Store g.V.View r d x wants never old.bytes f count w0 w1 was known n (slice_index_or kits n q) (slice_index_or worked n j) h.0 (lacked n) h.1 e end.answer (lacks n less))))
+    (used_once g.S.Store g.V.View r d x wants kits g.N.FolderName.opening c0 (opens g here) never sure old.bytes f count w0 w1 was (many_there g here) n q (slice_index_or worked n j) less h.0
+    (lacked n) (subst (λ (y : Option Shelf). HasWorked g.S.Store g.V.View r t y never sure n (slice_index_or kits n q) w0.fates (slice_index_or worked n j) h.0 (lacked n)) (door_is g here) h.1) e end.answer
+    (λ unshared. let none = no_cache unshared in
+    subst (λ (y : Option Shelf). ExactlyDealt g.S.Store g.V.View r d x wants never old.bytes n (sources f (slice_index_or kits n q).seeds.items y (slice_index_or kits n q).chain) (to_kit (slice_index_or worked n j)) end.answer)
+    (sym none)
+    (exact_once g.S.Store g.V.View r d x wants never old.bytes f count w0 w1 was known e0 sure (no_door none) n (slice_index_or kits n q) (slice_index_or worked n j) h.0 (lacked n) h.1 e end.answer (lacks n less)))))
     k)
     (some_one g here)
-    (λ sure alike q j cached maps quiet one verdict.
-    reported_so g.S.Store g.V.View r d x wants kits worked never f count w0 w1 known lists lacked workers (many_there g here) zero_is (knew g here) alike q j cached maps one
+    (λ unshared. let none = no_cache unshared in
+    subst (λ (y : Option Shelf). ReportedOver g.S.Store g.V.View r t kits never sure old.bytes (g.T.View.held end.target).bytes f count outs e end.answer y) (sym none)
+    (λ sure_target alike q j cached maps quiet one verdict.
+    reported_so g.S.Store g.V.View r d x wants kits worked never f count w0 w1 known lists lacked workers (many_there g here) zero_is e0 sure (knew g here) (no_door none) alike q j cached maps one
     (quiet_ways g.S.Store g.V.View r d x wants kits worked outs q j f count e w0.fates lists cached maps (λ v. v < d.wants) w1 c.in-Some.kit end.kit (g.T.View.held end.target) c.finish-target.ensures.passed.0
     (ap (λ (zs : List (Kit g.row.S.Denot g.row.V.Denot)). slice_index_or zs 0 j) (outs_are g here)) (back j)
     (λ k later. same_later worked outs (reverse c.pop.new.self.items) c.in-Some.kit end.kit (outs_are g here) (kits_back g last) k j later)
-    passed.stretch quiet)
-    sure old.bytes was c.finish-target.ensures.counts.0 end.answer counts
+    (subst (λ (y : Option Shelf). Stretch g.S.Store g.V.View t (λ v. v < d.wants) (joined_stage w1 y c.in-Some.kit) stood) (none_between none) passed.stretch) quiet)
+    sure_target old.bytes was c.finish-target.ensures.counts.0 end.answer counts
     lacks
-    verdict)
-    (kept_so g.S.Store g.V.View r d x wants kits worked never f count w0 w1 known lists lacked workers (many_there g here) zero_is (knew g here) old.bytes was c.finish-target.ensures.counts.0 end.answer counts)
+    verdict))
+    (kept_so g.S.Store g.V.View r d x wants kits worked never f count w0 w1 known lists lacked workers (many_there g here) zero_is e0 sure (knew g here) old.bytes was c.finish-target.ensures.counts.0 end.answer counts)
 
 pub unreachable-requires : goal.unreachable-requires
 unreachable-requires g c =

@@ -6,6 +6,7 @@ abbrev pub ghosts-filled : goal.ghosts-filled
 ghosts-filled g a = record {
   opening = g.F.Look.files a.folder;
   place = g.F.Look.place a.folder;
+  faults = g.F.Look.faults a.folder;
   pairs = None;
   stores = None;
 }

@@ -1,10 +1,10 @@
-use Rattle.std.proofs.Common.{◌≡◌, ◌⊎◌, ◌∙◌, ◌+◌, ◌++◌, ◌≤◌, ◌∷◌, ℕ, [], List, Option, None, IfOk, IfSome, length, inl, inr, slice_index_or, sym, ap, subst, arith}
+use Rattle.std.proofs.Common.{◌≡◌, ◌⊎◌, ◌∙◌, ◌+◌, ◌++◌, ◌≤◌, ◌∷◌, ℕ, [], List, Option, IfOk, IfSome, is_some, length, inl, inr, slice_index_or, sym, ap, subst, arith}
 use Rattle.std.proofs.lemmas.Bool.{true≢false}
 use Rattle.assembler.specs.Assemblies.{Assembles, IsAssembled}
 use Rattle.assembler.specs.Begun.{HasBegun}
 use Rattle.assembler.specs.OneKit.{OfKit, lent}
 use Rattle.assembler.specs.Stages.{Ready}
-use Rattle.cache_store.specs.Shelves.{Shelf}
+use Rattle.cache_store.specs.Shelves.{Shelved}
 use Rattle.caibx_codec.specs.Listing.{Listing, count_of, image_length, kind_of}
 use Rattle.chunk_sources.specs.Caches.{seen}
 use Rattle.chunk_sources.specs.Sources.{sources}
@@ -14,10 +14,10 @@ use Rattle.dsy_base.specs.Bytes.{Held, resized}
 use Rattle.dsy_base.specs.Counts.{Quiet}
 use Rattle.image_assembly.proofs.Lending.{by_one, kept_sure}
 use Rattle.image_assembly.proofs.OnePlan.{last_alone, none_left, of_only}
-use Rattle.image_assembly.proofs.Readying.{begun_beside, fills_from, none_of, permits_at, ready_for, ready_kit}
+use Rattle.image_assembly.proofs.Readying.{begun_beside, fills_from, pairs_so, permits_at, ready_for, ready_kit}
 use Rattle.image_workers.specs.Beside.{BegunBeside}
 use Rattle.image_workers.specs.Kits.{IsAssembledBy}
-use Rattle.image_assembly.specs.Readied.{AreRoomsFor, OfTarget, OfTargetWith, Readied, readied}
+use Rattle.image_assembly.specs.Readied.{AreRoomsFor, OfTarget, OfTargetWith, Permits, Readied, readied}
 use Rattle.range_ledger.specs.Fills.{WhereTold}
 use Rattle.range_survey.specs.Reports.{right_below}
 use Rattle.image_assembly.proofs.prepare.Prepared.run.Given.{Over}
@@ -59,7 +59,7 @@ run_surveyed-target-requires-clause-ready g c =
     (subst (λ (x : All g). IfSome cache (λ s. s.kind ≡ kind_of x.task.listing)) (sym c.self.view_is) c.requires.cache))
 
 pub run_surveyed-target-requires-clause-may : goal.run_surveyed-target-requires-clause-may
-run_surveyed-target-requires-clause-may g c = c.self.invariant.0.permits.one (one g (goal.at.run_surveyed-target-requires-clause-may g c).In-Some-pop)
+run_surveyed-target-requires-clause-may g c = c.self.invariant.0.one (one g (goal.at.run_surveyed-target-requires-clause-may g c).In-Some-pop)
 
 pub run_surveyed-target-requires-clause-workers : goal.run_surveyed-target-requires-clause-workers
 run_surveyed-target-requires-clause-workers g c = c.self.invariant.0.plan.workers ∙ one g (goal.at.run_surveyed-target-requires-clause-workers g c).In-Some-pop
@@ -108,12 +108,12 @@ returns-clause-kits g c =
     let left = seen g.F.Look r.cache in
     let i = c.self.inside in
     let t : Task = record { listing = i.index.now; plan = i.plan; places = i.places.now } in
-    subst (λ (x : All g). OfTargetWith (length x.kits) x.task.listing x.whole (λ old f. IsAssembledBy g.S.Store g.V.View x.task g.T.View.never_fails old.bytes p (lent f x.kits cache)
+    subst (λ (x : All g). OfTargetWith (length x.kits) x.task.listing x.whole (λ old f. IsAssembledBy g.S.Store g.V.View x.task g.T.View.never_fails g.F.Look.never_fails old.bytes p (lent f x.kits cache)
     (lent n c.push.new.self.items left) r.answer)) c.self.view_is
     (λ old f begun early.
-    subst (λ (xs : Kits g). IsAssembledBy g.S.Store g.V.View t g.T.View.never_fails old.bytes p (lent f xs cache) (lent n c.push.new.self.items left) r.answer) (sym (only g here))
-    (subst (λ (ys : Kits g). IsAssembledBy g.S.Store g.V.View t g.T.View.never_fails old.bytes p (lent f (c.in-Some-pop.kit ∷ []) cache) (lent n ys left) r.answer) (sym (last g end))
-    (by_one g.S.Store g.V.View t g.T.View.never_fails old.bytes p (c.self.invariant.0.plan.workers ∙ one g here) f n c.in-Some-pop.kit r.kit cache left r.answer
+    subst (λ (xs : Kits g). IsAssembledBy g.S.Store g.V.View t g.T.View.never_fails g.F.Look.never_fails old.bytes p (lent f xs cache) (lent n c.push.new.self.items left) r.answer) (sym (only g here))
+    (subst (λ (ys : Kits g). IsAssembledBy g.S.Store g.V.View t g.T.View.never_fails g.F.Look.never_fails old.bytes p (lent f (c.in-Some-pop.kit ∷ []) cache) (lent n ys left) r.answer) (sym (last g end))
+    (by_one g.S.Store g.V.View t g.T.View.never_fails g.F.Look.never_fails old.bytes p (c.self.invariant.0.plan.workers ∙ one g here) f n c.in-Some-pop.kit r.kit cache left r.answer
     (subst (λ (l : Listing). HasBegun l old f i.shards → WhereTold old.bytes p (Assembles l ⊥ f n r.answer)) (sym c.self.invariant.0.listing) (c.run_surveyed-target.ensures.bytes old f) begun)
     (assembled_so g end old f begun)
     (λ sure. kept_sure r.answer (λ x. IfSome old.bytes (λ y. x.kept ≡ right_below i.index.now (resized y (image_length i.index.now)) (count_of i.index.now))) f n (g.met.T.View.sure r.target sure)
@@ -160,12 +160,26 @@ many g c = (subst (λ o. IfSome o (λ y. (2 ≤ length c.self.inside.kits.items)
 rooms_so : (g : Over) (c : In-Some g) → AreRoomsFor g.R.RunName.run (length c.self.inside.kits.items) c.in-Some.rooms.locks c.in-Some.rooms.lanes c.in-Some.rooms.known
 rooms_so g c = (subst (λ o. IfSome o (λ y. (2 ≤ length c.self.inside.kits.items) × AreRoomsFor g.R.RunName.run (length c.self.inside.kits.items) y.locks y.lanes y.known)) c.in-Some.is c.self.invariant.2).1
 
--- there is no cache
-none : (g : Over) (c : In-Some g) → seen g.F.Look c.args.cache ≡ None
-none g c = none_of (seen g.F.Look c.args.cache) (λ some. let alone : length c.self.inside.kits.items ≡ 1 = ap (λ (x : All g). length x.kits) c.self.view_is ∙ c.requires.alone some in omega (arith, many g c, alone))
-
 abbrev prepared : (g : Over) (c : In-Some g) → All g
 prepared g c = readied (record { listing = c.self.inside.index.now; plan = c.self.inside.plan; places = c.self.inside.places.now }) c.self.inside.shards c.self.inside.kits.items
+
+-- what the run permits with this cache
+permitted : (g : Over) (c : In-Some g) → Permits g.S.Store g.V.View g.R.RunName.run (prepared g c).task c.self.inside.kits.items g.N.FolderName.opening g.N.FolderName.place g.N.FolderName.faults g.N.FolderName.pairs
+    g.N.FolderName.stores (seen g.F.Look c.args.cache)
+permitted g c = subst (λ (x : All g). 2 ≤ length x.kits → Permits g.S.Store g.V.View g.R.RunName.run x.task x.kits g.N.FolderName.opening g.N.FolderName.place g.N.FolderName.faults g.N.FolderName.pairs g.N.FolderName.stores
+    (seen g.F.Look c.args.cache)) (sym c.self.view_is) c.requires.permits (many g c)
+
+pub run_workers-requires-clause-named : goal.run_workers-requires-clause-named
+run_workers-requires-clause-named g c κs within = (permitted g (goal.at.run_workers-requires-clause-named g c).In-Some).shelf
+
+pub run_workers-requires-clause-pairs : goal.run_workers-requires-clause-pairs
+run_workers-requires-clause-pairs g c κs within =
+    let here = (goal.at.run_workers-requires-clause-pairs g c).In-Some in
+    let n = g.N.FolderName in
+    pairs_so g.S.Store g.V.View g.R.RunName.run g.T.View.tells c.self.inside.tried.items (prepared g here) c.self.invariant.0 n.opening n.place n.faults n.pairs n.stores (seen g.F.Look c.args.cache) (permitted g here)
+
+pub run_workers-requires-clause-stores : goal.run_workers-requires-clause-stores
+run_workers-requires-clause-stores g c κs within = (permitted g (goal.at.run_workers-requires-clause-stores g c).In-Some).stores
 
 pub run_workers-requires-clause-few : goal.run_workers-requires-clause-few
 run_workers-requires-clause-few g c κs within = omega (arith, c.self.invariant.0.shards)
@@ -177,10 +191,16 @@ pub run_workers-requires-clause-many : goal.run_workers-requires-clause-many
 run_workers-requires-clause-many g c κs within = omega (arith, many g (goal.at.run_workers-requires-clause-many g c).In-Some, c.self.inside.kits.ok.0)
 
 pub run_workers-requires-clause-ready : goal.run_workers-requires-clause-ready
-run_workers-requires-clause-ready g c κs within = ready_for g.S.Store g.V.View g.R.RunName.run g.T.View.tells c.self.inside.tried.items (prepared g (goal.at.run_workers-requires-clause-ready g c).In-Some) c.self.invariant.0
+run_workers-requires-clause-ready g c κs within =
+    let here = (goal.at.run_workers-requires-clause-ready g c).In-Some in
+    let n = g.N.FolderName in
+    ready_for g.S.Store g.V.View g.R.RunName.run g.T.View.tells c.self.inside.tried.items (prepared g here) c.self.invariant.0 n.opening n.place n.faults n.pairs n.stores (seen g.F.Look c.args.cache) (permitted g here)
 
 pub run_workers-requires-clause-permits : goal.run_workers-requires-clause-permits
-run_workers-requires-clause-permits g c κs within = λ q. permits_at g.S.Store g.V.View g.R.RunName.run g.T.View.tells c.self.inside.tried.items (prepared g (goal.at.run_workers-requires-clause-permits g c).In-Some) c.self.invariant.0 0 q
+run_workers-requires-clause-permits g c κs within = λ q.
+    let here = (goal.at.run_workers-requires-clause-permits g c).In-Some in
+    let n = g.N.FolderName in
+    permits_at g.S.Store g.V.View g.R.RunName.run g.T.View.tells c.self.inside.tried.items (prepared g here) c.self.invariant.0 n.opening n.place n.faults n.pairs n.stores (seen g.F.Look c.args.cache) (permitted g here) 0 q
     c.self.invariant.0.some
 
 pub run_workers-requires-clause-none : goal.run_workers-requires-clause-none
@@ -244,12 +264,12 @@ returns-in-Some-clause-kits g c =
     let p = (g.T.View.held r.target).bytes in
     let cache = seen g.F.Look c.args.cache in
     let after = lent n r.kits.items (seen g.F.Look r.cache) in
-    subst (λ (x : All g). OfTargetWith (length x.kits) x.task.listing x.whole (λ old f. IsAssembledBy g.S.Store g.V.View x.task g.T.View.never_fails old.bytes p (lent f x.kits cache) after r.answer)) c.self.view_is
+    subst (λ (x : All g). OfTargetWith (length x.kits) x.task.listing x.whole (λ old f. IsAssembledBy g.S.Store g.V.View x.task g.T.View.never_fails g.F.Look.never_fails old.bytes p (lent f x.kits cache) after r.answer)) c.self.view_is
     (λ old f begun early.
-    subst (λ (e : Option Shelf). IsAssembledBy g.S.Store g.V.View (record { listing = i.index.now; plan = i.plan; places = i.places.now }) g.T.View.never_fails old.bytes p (lent f i.kits.items e) after r.answer) (sym (none g here))
-    (subst (λ (l : Listing). IsAssembledBy g.S.Store g.V.View (record { listing = l; plan = i.plan; places = i.places.now }) g.T.View.never_fails old.bytes p (lent f i.kits.items None) after r.answer) (sym c.self.invariant.0.listing)
+    subst (λ (l : Listing). IsAssembledBy g.S.Store g.V.View (record { listing = l; plan = i.plan; places = i.places.now }) g.T.View.never_fails g.F.Look.never_fails old.bytes p (lent f i.kits.items cache) after r.answer)
+    (sym c.self.invariant.0.listing)
     (c.run_workers.ensures.kits old f (beside g here old f begun early)
-    (fills_from g.S.Store g.V.View g.R.RunName.run g.T.View.tells i.tried.items (prepared g here) c.self.invariant.0 old begun.held c.keeps.ensures.tells (many g here)))))
+    (fills_from g.S.Store g.V.View g.R.RunName.run g.T.View.tells i.tried.items (prepared g here) c.self.invariant.0 old begun.held c.keeps.ensures.tells cache (permitted g here).had)))
 
 pub returns-in-Some-clause-report : goal.returns-in-Some-clause-report
 returns-in-Some-clause-report g c =
@@ -258,10 +278,13 @@ returns-in-Some-clause-report g c =
     (subst (λ (l : Listing). IfOk r.answer (λ n. n.kept + n.copied + n.seeded + n.cached + n.fetched ≡ count_of l)) (sym c.self.invariant.0.listing) c.run_workers.ensures.report)
 
 pub returns-in-Some-clause-memory : goal.returns-in-Some-clause-memory
-returns-in-Some-clause-memory g c = λ is. inl (c.run_workers.ensures.memory is)
+returns-in-Some-clause-memory g c = c.run_workers.ensures.memory
 
 pub returns-in-Some-clause-only : goal.returns-in-Some-clause-only
-returns-in-Some-clause-only g c = λ never empty is. absurd (true≢false (sym (c.run_workers.ensures.memory is) ∙ never))
+returns-in-Some-clause-only g c = λ never empty is. elim (c.run_workers.ensures.memory is) [
+  | inl may ↦ absurd (true≢false (sym may ∙ never))
+  | inr some ↦ absurd (true≢false (sym some ∙ ap (λ (o : Option (Shelved g.row.F.Denot)). is_some (seen g.F.Look o)) empty))
+]
 
 pub returns-in-Some-clause-size : goal.returns-in-Some-clause-size
 returns-in-Some-clause-size g c =
