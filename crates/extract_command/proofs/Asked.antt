@@ -1,10 +1,10 @@
 -- How often the stores of one of several kits were asked, over files that were taken.
-use Rattle.std.proofs.Common.{◌≡◌, ◌∙◌, ℕ, ◌<◌, List, map, All, Bool, true, Option, Some, IfSome, IsSomeAnd, Result, slice_index_or, sym, subst}
+use Rattle.std.proofs.Common.{◌≡◌, ◌∙◌, ℕ, ◌<◌, List, map, All, Bool, true, Option, Some, IfSome, IsSomeAnd, Result, length, slice_index_or, sym, subst, inl}
 use Rattle.std.specs.List.{fold}
 use Rattle.assembler.specs.OneKit.{Lent}
 use Rattle.assembler.specs.declared.fault.ExtractFault.{ExtractFault}
 use Rattle.caibx_codec.specs.Asks.{IsListedGet}
-use Rattle.caibx_codec.specs.Listing.{size_of}
+use Rattle.caibx_codec.specs.Listing.{image_length, size_of}
 use Rattle.chunk_sources.specs.Caches.{CacheGives}
 use Rattle.chunk_sources.specs.Sources.{views_of}
 use Rattle.chunk_sources.specs.Wants.{Task}
@@ -21,7 +21,7 @@ use Rattle.command_steps.specs.declared.any_store.AnyStore.{AnyStore}
 use Rattle.command_words.specs.declared.command.Location.{Location}
 use Rattle.command_worlds.specs.Worlds.{FileRose}
 use Rattle.command_steps.specs.Uses.{IsNoneOf, folders_among, names_among}
-use Rattle.dsy_base.specs.Bytes.{Held}
+use Rattle.dsy_base.specs.Bytes.{Held, resized}
 use Rattle.dsy_base.specs.Counts.{Rose}
 use Rattle.dsy_base.specs.Disk.{Disk}
 use Rattle.dsy_base.specs.Links.{DialState, Traffic}
@@ -37,17 +37,23 @@ use Rattle.extract_plan.specs.Deal.{IsPlan, first_of, want_id}
 use Rattle.extract_plan.specs.Places.{IsSeedIndex}
 use Rattle.extract_plan.specs.Seeds.{faults_in}
 use Rattle.http_wire.specs.declared.reply.Method.TheVariants as method
-use Rattle.image_workers.specs.Kits.{IsSparedFor, KitUsed, at_kit, worker_asks}
+use Rattle.caibx_codec.specs.Right.{IsRightAt}
+use Rattle.chunk_sources.specs.Asks.{IsSpared}
+use Rattle.image_workers.proofs.Sharing.{spared_unshared}
+use Rattle.image_workers.specs.Kits.{IsUnshared, KitUsed, KnowsFaults, at_kit, worker_asks}
 use Rattle.range_survey.specs.declared.report.Report.{Report}
 
-module _ {L V D K : Type 0} (look : LookWords L) (view : ViewWords V) (state : D → DialState) (t : Task) (d b e : Disk) (names : List Location) (Known : Type 0) (t0 : Option (List ℕ)) (i : ℕ) (q j : Kit (AnyStore L D K) V) (old new : Lent (AnyStore L D K) V) where
+module _ {L V D K : Type 0} (look : LookWords L) (view : ViewWords V) (state : D → DialState) (t : Task) (d b e : Disk) (names : List Location) (never cache_never : Bool) (t0 : Option (List ℕ)) (i : ℕ) (q j : Kit (AnyStore L D K) V) (old new : Lent (AnyStore L D K) V) where
+  abbrev Known : Type 0
+  Known = KnowsFaults never old.kits
+
   abbrev before : Kit (AnyStore L D K) V
   before = slice_index_or old.kits i q
 
   abbrev after : Kit (AnyStore L D K) V
   after = slice_index_or new.kits i j
 
-  module _ (images : List (List ℕ)) (is : IsKitOpened look view state d b names images before) {never : Bool} {answer : Result Report ExtractFault} (used : KitUsed (any_words look state) view t Known never t0 i (at_kit old i q) (at_kit new i j) answer) where
+  module _ (images : List (List ℕ)) (is : IsKitOpened look view state d b names images before) {answer : Result Report ExtractFault} (used : KitUsed (any_words look state) view t never cache_never t0 old i (at_kit old i q) (at_kit new i j) answer) where
     pub kit_still : map (location_in look.place) after.chain.stores ≡ names
     kit_still = stand_still look.place before.chain.stores after.chain.stores used.stores.places ∙ is.located
 
@@ -56,20 +62,21 @@ module _ {L V D K : Type 0} (look : LookWords L) (view : ViewWords V) (state : D
     kit_sends a c ended = each_sent look.place state (IsListedGet t.listing) before.chain.stores after.chain.stores names a c is.unused used.stores.sends kit_still ended
 
   -- it can be given back as it could before
-  pub kit_can : (c : Disk) {never : Bool} {answer : Result Report ExtractFault} → KitUsed (any_words look state) view t Known never t0 i (at_kit old i q) (at_kit new i j) answer → CanGiveKit look view c before → CanGiveKit look view c after
+  pub kit_can : (c : Disk) {answer : Result Report ExtractFault} → KitUsed (any_words look state) view t never cache_never t0 old i (at_kit old i q) (at_kit new i j) answer → CanGiveKit look view c before → CanGiveKit look view c after
   kit_can c used can = record {
     stores = subst (λ (l : List Location). All (IsKnown c.folder_counts) l) (sym (stand_still look.place before.chain.stores after.chain.stores used.stores.places)) can.stores;
     seeds = same_known view.held c.file_counts before.seeds.items after.seeds.items used.seeds.held can.seeds;
   }
 
   -- its names are still among these
-  pub kit_named : (files folders : List (List ℕ)) {never : Bool} {answer : Result Report ExtractFault} → KitUsed (any_words look state) view t Known never t0 i (at_kit old i q) (at_kit new i j) answer → UsesNames look view files folders before → UsesNames look view files folders after
+  pub kit_named : (files folders : List (List ℕ)) {answer : Result Report ExtractFault} → KitUsed (any_words look state) view t never cache_never t0 old i (at_kit old i q) (at_kit new i j) answer → UsesNames look view files folders before → UsesNames look view files folders after
   kit_named files folders used named = record {
     seeds = λ n none. subst (λ (l : List (Option Held)). IsNoneOf n (names_among l)) (sym used.seeds.held) (named.seeds n none);
     stores = λ n none. subst (λ (l : List Location). IsNoneOf n (folders_among l)) (sym (stand_still look.place before.chain.stores after.chain.stores used.stores.places)) (named.stores n none);
   }
 
-  module _ (z : Seeds) (is : IsKitOpened look view state d b names z.images before) {never : Bool} {answer : Result Report ExtractFault} (used : KitUsed (any_words look state) view t Known never t0 i (at_kit old i q) (at_kit new i j) answer) (added : IsKitAdded look view state d e after)
+  module _ (z : Seeds) (is : IsKitOpened look view state d b names z.images before) {answer : Result Report ExtractFault} (used : KitUsed (any_words look state) view t never cache_never t0 old i (at_kit old i q) (at_kit new i j) answer) (added : IsKitAdded look view state d e after)
+      (less : i < length old.kits) (unshared : IsUnshared old)
       (count : ℕ) (plan : IsPlan t.listing count t.plan) (o : Into) (index : IsSeedIndex t.listing t.plan z.listings t.places) (later : (q : List ℕ) → FileRose d b q → FileRose d e q)
       (took : IfSome d.files (λ m. t0 ≡ Some (old_of m o))) (rose : Rose old.faults new.faults → FileRose d e o.name) (cache : Option (List ℕ))
       (gives : (w : ℕ) → IsSomeAnd cache (λ c. CacheSpares d e c t.listing (want_id t.listing t.plan w) (size_of t.listing (first_of t.plan w)))
@@ -85,8 +92,13 @@ module _ {L V D K : Type 0} (look : LookWords L) (view : ViewWords V) (state : D
         let fresh : map (faults_in view.faults) xs ≡ map {B = ℕ} (λ s. 0) labels = is.unfailed ∙ sym (zeros view.held xs) in
         let labelled : map (label_in view.held) ys ≡ labels = same_labels view.held xs ys used.seeds.held ∙ labels_are view.held xs in
         let rises = store_rose (faults_in view.faults) (label_in view.held) d.file_counts added.counts e.file_counts added.le xs ys labels fresh labelled added.added in
-        let asked = used.asks spared (λ w below yes. of_told d.files (λ m. IsSparedOnDisk Known d e m cache o t.listing z t.plan w) (IsSparedFor (any_words look state) view t Known t0 (at_kit old i q) (at_kit new i j) w)
-        (λ m told so. spared_over (any_words look state) view t (at_kit old i q) (at_kit new i j) d b e m told count plan Known o z is.viewed index later rises t0 (subst (λ f. IfSome f (λ m. t0 ≡ Some (old_of m o))) told took) rose cache w below (gives w) so) (are w below yes)) in
+        let asked = used.asks spared (λ w below yes. (
+          spared_unshared (any_words look state) view t.listing t.plan t.places plan.wants old.kits never cache_never t0 old i q less unshared (at_kit new i j) w
+              (of_told d.files (λ m. IsSparedOnDisk Known d e m cache o t.listing z t.plan w)
+              (IsSpared (any_words look state) view t (λ n. IsSomeAnd t0 (λ b. IsRightAt (resized b (image_length t.listing)) t.listing n) × Known) (at_kit old i q) (at_kit new i j) w)
+              (λ m told so. spared_over (any_words look state) view t (at_kit old i q) (at_kit new i j) d b e m told count plan Known o z is.viewed index later rises t0 (subst (λ f. IfSome f (λ m. t0 ≡ Some (old_of m o))) told took) rose cache w below (gives w) so) (are w below yes)),
+          inl unshared,
+        )) in
         let asks = worker_asks t.listing t.plan spared i in
         let few = few_each (asked_in method.Get state) asks before.chain.stores after.chain.stores (same_length (place_in look.place) before.chain.stores after.chain.stores (sym used.stores.places)) (λ q n. asked.most q n) in
         each_got look.place state asks before.chain.stores after.chain.stores names a c is.unused few (kit_still z.images is used) ended

@@ -1,5 +1,5 @@
 -- What holds for an assembly with kits, of which the first are known.
-use Rattle.std.proofs.Common.{◌≡◌, ◌∙◌, ℕ, ◌+◌, ◌<◌, ◌≤◌, List, [], ◌∷◌, length, map, Bool, Option, Some, None, IsSome, Result, refl, sym, ap, subst, arith}
+use Rattle.std.proofs.Common.{◌≡◌, ◌∙◌, ℕ, suc, ◌+◌, ◌<◌, ◌≤◌, List, [], ◌∷◌, length, map, Bool, Option, Some, None, IsSome, Result, refl, sym, ap, subst, arith, inl, inr}
 use Rattle.std.proofs.lemmas.List.{length-map}
 use Rattle.std.specs.List.{AllZip}
 use Rattle.assembler.specs.Obtainable.{OnlyObtainable}
@@ -21,17 +21,17 @@ use Rattle.extract_plan.specs.Deal.{Deal}
 use Rattle.extract_plan.specs.Places.{Placed, PlacesKnown}
 use Rattle.extract_plan.specs.Seeds.{seed_held}
 use Rattle.extract_plan.specs.declared.seed.Seed.{Seed}
-use Rattle.image_workers.specs.Kits.{IsAssembledBy}
+use Rattle.image_workers.specs.Kits.{IsAssembledBy, IsUnshared}
 use Rattle.range_ledger.specs.Fills.{WhereTold}
 use Rattle.range_survey.specs.declared.report.Report.{Report}
 
 -- over lists of kits and a cache that are these
-pub by_first : {S V : Type 0} (store : StoreWords S) (view : ViewWords V) (t : Task) (never : Bool) (o p : Option (List ℕ)) (a b : ℕ) (e u f : Option Shelf) (xs ms ys ns : List (Kit S V)) (r : Result Report ExtractFault) → e ≡ u → xs ≡ ms → ys ≡ ns
-    → IsAssembledBy store view t never o p (lent a xs e) (lent b ys f) r → IsAssembledBy store view t never o p (lent a ms u) (lent b ns f) r
-by_first {S} {V} store view t never o p a b e u f xs ms ys ns r shelf old new made =
-    subst (λ (c : Option Shelf). IsAssembledBy store view t never o p (lent a ms c) (lent b ns f) r) shelf
-    (subst (λ (l : List (Kit S V)). IsAssembledBy store view t never o p (lent a l e) (lent b ns f) r) old
-    (subst (λ (l : List (Kit S V)). IsAssembledBy store view t never o p (lent a xs e) (lent b l f) r) new made))
+pub by_first : {S V : Type 0} (store : StoreWords S) (view : ViewWords V) (t : Task) (never cache_never : Bool) (o p : Option (List ℕ)) (a b : ℕ) (e u f : Option Shelf) (xs ms ys ns : List (Kit S V)) (r : Result Report ExtractFault) → e ≡ u → xs ≡ ms → ys ≡ ns
+    → IsAssembledBy store view t never cache_never o p (lent a xs e) (lent b ys f) r → IsAssembledBy store view t never cache_never o p (lent a ms u) (lent b ns f) r
+by_first {S} {V} store view t never cache_never o p a b e u f xs ms ys ns r shelf old new made =
+    subst (λ (c : Option Shelf). IsAssembledBy store view t never cache_never o p (lent a ms c) (lent b ns f) r) shelf
+    (subst (λ (l : List (Kit S V)). IsAssembledBy store view t never cache_never o p (lent a l e) (lent b ns f) r) old
+    (subst (λ (l : List (Kit S V)). IsAssembledBy store view t never cache_never o p (lent a xs e) (lent b l f) r) new made))
 
 -- a cache that was taken has a name
 pub named_cache : (o : Option Shelf) (cache : Option (List ℕ)) → name_in o ≡ cache → IsSome o → IsSome cache
@@ -42,6 +42,11 @@ named_cache (Some s) cache is some = subst (λ (n : Option (List ℕ)). IsSome n
 pub none_further : {K : Type 0} (o : Option Shelf) (cache : Option (List ℕ)) (workers many : ℕ) (kits : List K) → name_in o ≡ cache → (IsSome cache → workers ≡ 1) → many ≡ length kits → many + 1 ≤ workers → IsSome o → kits ≡ []
 none_further o cache workers many [] is alone len few some = refl
 none_further o cache workers many (k ∷ kits) is alone len few some = let one = alone (named_cache o cache is some) in absurd (omega (arith, one, len, few))
+
+-- then no worker shares it with others
+pub unshared_of : {S V : Type 0} (a : ℕ) (k : Kit S V) (more : List (Kit S V)) (o : Option Shelf) → (IsSome o → more ≡ []) → IsUnshared (lent a (k ∷ more) o)
+unshared_of a k more None none = inr refl
+unshared_of a k more (Some s) none = inl (ap (λ l. suc (length l)) (none refl))
 
 -- as many words as stores
 pub many_named : {S X : Type 0} (location : S → X) (xs : List S) (names : List X) → map location xs ≡ names → (1 ≤ length xs) × (length xs ≤ 16) → (1 ≤ length names) × (length names ≤ 16)

@@ -1,5 +1,5 @@
 -- An assembly over kits that were lent to it, from the disk that stood before them to the one after all was given back.
-use Rattle.std.proofs.Common.{◌≡◌, ◌∙◌, ◌++◌, ℕ, suc, ◌+◌, ◌<◌, ◌≤◌, List, [], ◌∷◌, All, Bool, length, drop, map, slice_index, slice_index_or, IsTrue, is_some, Option, Some, None, IfSome, IsSomeAnd, Result, refl, sym, ap, subst, arith}
+use Rattle.std.proofs.Common.{◌≡◌, ◌∙◌, ◌++◌, ℕ, suc, ◌+◌, ◌<◌, ◌≤◌, List, [], ◌∷◌, All, Bool, length, drop, map, slice_index, slice_index_or, IsTrue, is_some, Option, Some, None, IfSome, IsSomeAnd, Result, refl, sym, ap, subst, arith, inl}
 use Rattle.std.proofs.lemmas.List.Elements.{All-cons}
 use Rattle.std.specs.List.{fold}
 use Rattle.std.specs.Map.{count_at}
@@ -61,7 +61,7 @@ use Rattle.extract_plan.specs.Seeds.{faults_in, seed_held}
 use Rattle.extract_plan.specs.declared.seed.Seed.{Seed}
 use Rattle.http_wire.specs.declared.reply.Method.TheVariants as method
 use Rattle.http_read.specs.Asks.{Server}
-use Rattle.image_workers.specs.Kits.{AreKitsAlike, IsAssembledBy, KitUsed, KnowsFaults, NoneUsed, SomeKitHas, at_kit, worker_asks}
+use Rattle.image_workers.specs.Kits.{AreKitsAlike, IsAssembledBy, IsUnshared, KitUsed, KnowsFaults, NoneUsed, SomeKitHas, at_kit, worker_asks}
 use Rattle.range_ledger.specs.Fills.{WhereTold}
 use Rattle.range_survey.specs.Excuses.{Excuses}
 use Rattle.range_survey.specs.declared.report.Report.{Report}
@@ -108,7 +108,7 @@ not_quiet : (d e : Disk) → DiskQuiet d e → (q : List ℕ) → FileRose d e q
 not_quiet d e quiet q rise = rose_not_quiet (count_at d.file_counts q) (count_at d.file_counts q) (count_at e.file_counts q) (omega arith) rise (quiet.files q)
 
 -- the data and the facts of it
-pub record IsRun {L V D : Type 0} (K : Type 0) (look : LookWords L) (view : ViewWords V) (state : D → DialState) (never : Bool) (d' : Disk) (e0 : Option Shelf) (k0 : DialState) (e : Disk) (k1 : DialState) (names : List Location) (images : List (List ℕ))
+pub record IsRun {L V D : Type 0} (K : Type 0) (look : LookWords L) (view : ViewWords V) (state : D → DialState) (never cache_never : Bool) (d' : Disk) (e0 : Option Shelf) (k0 : DialState) (e : Disk) (k1 : DialState) (names : List Location) (images : List (List ℕ))
     (cache : Option (List ℕ)) (out : Into) (l : Listing) (places : Placed) (r : Result Report ExtractFault) : Type 0 where
   pub b0 : Disk
   pub b : Disk
@@ -132,7 +132,8 @@ pub record IsRun {L V D : Type 0} (K : Type 0) (look : LookWords L) (view : View
   pub j : Kit (AnyStore L D K) V
   pub rest : List (Kit (AnyStore L D K) V)
   pub told : is_some t0 ≡ is_some t1
-  pub made : IsAssembledBy (any_words look state) view (task l deal places) never t0 t1 (lent f0 (k ∷ more) e0) (lent f1 (j ∷ rest) e1) r
+  pub made : IsAssembledBy (any_words look state) view (task l deal places) never cache_never t0 t1 (lent f0 (k ∷ more) e0) (lent f1 (j ∷ rest) e1) r
+  pub unshared : IsUnshared (lent f0 (k ∷ more) e0)
   pub first : Storage
   pub kits : AreGivenBack look view state rest (storage b2 k0) first
   pub bc : Disk
@@ -151,8 +152,8 @@ pub record IsRun {L V D : Type 0} (K : Type 0) (look : LookWords L) (view : View
   pub shelf_told : IsTold e0 d'.folders
   pub tells : (m : Map (List ℕ)) → d'.files ≡ Some m → IsTrue view.tells
 
-module _ {L V D K : Type 0} (look : LookWords L) (view : ViewWords V) (state : D → DialState) (never : Bool) (d' : Disk) (e0 : Option Shelf) (k0 : DialState) (e : Disk) (k1 : DialState) (names : List Location) (images : List (List ℕ))
-    (cache : Option (List ℕ)) (out : Into) (l : Listing) (places : Placed) (r : Result Report ExtractFault) (x : IsRun K look view state never d' e0 k0 e k1 names images cache out l places r) where
+module _ {L V D K : Type 0} (look : LookWords L) (view : ViewWords V) (state : D → DialState) (never cache_never : Bool) (d' : Disk) (e0 : Option Shelf) (k0 : DialState) (e : Disk) (k1 : DialState) (names : List Location) (images : List (List ℕ))
+    (cache : Option (List ℕ)) (out : Into) (l : Listing) (places : Placed) (r : Result Report ExtractFault) (x : IsRun K look view state never cache_never d' e0 k0 e k1 names images cache out l places r) where
   abbrev d : Disk
   d = with_cache e0 d'
 
@@ -217,7 +218,7 @@ module _ {L V D K : Type 0} (look : LookWords L) (view : ViewWords V) (state : D
   quiet_opened quiet q rise = not_quiet d e quiet q (later q rise)
 
   name_now : name_in x.e1 ≡ cache
-  name_now = name_after _ e0 x.e1 cache (x.made.stocked x.k) x.named
+  name_now = name_after _ e0 x.e1 cache (x.made.first (inl x.unshared) x.k) x.named
 
   shelf_rose : IfSome x.e1 (λ s. Rose (cache_faults e0) s.faults → FolderRose d e s.place)
   shelf_rose = cache_rose d e x.first.disk x.bc n.reached n.from_cached (cache_faults e0) x.e1 x.sound x.shelf
@@ -265,8 +266,8 @@ module _ {L V D K : Type 0} (look : LookWords L) (view : ViewWords V) (state : D
       plan = x.deal;
       planned = x.planned;
       gets = λ spared are. all_dialed (λ i. AsksFew method.Get (worker_asks l x.deal spared i)) (λ i q lt.
-          kit_gets look view state t d x.b e names Known x.t0 i x.k q before after z (x.all i x.k (each_there i lt)) (x.made.each i x.k q (each_there i lt)) (added_all i q lt) (length (x.k ∷ x.more)) x.planned out is_here later took_bytes rose cache (gives i) spared are);
-      sends = all_dialed (λ i. SendsFronts (IsListedGet l)) (λ i q lt. kit_sends look view state t d x.b e names Known x.t0 i x.k q before after images (x.all i x.k (each_there i lt)) (x.made.each i x.k q (each_there i lt)));
+          kit_gets look view state t d x.b e names never cache_never x.t0 i x.k q before after z (x.all i x.k (each_there i lt)) (x.made.each i x.k q (each_there i lt)) (added_all i q lt) (each_there i lt) x.unshared (length (x.k ∷ x.more)) x.planned out is_here later took_bytes rose cache (gives i) spared are);
+      sends = all_dialed (λ i. SendsFronts (IsListedGet l)) (λ i q lt. kit_sends look view state t d x.b e names never cache_never x.t0 i x.k q before after images (x.all i x.k (each_there i lt)) (x.made.each i x.k q (each_there i lt)));
     }
 
     -- ---- what was assembled
@@ -298,7 +299,7 @@ module _ {L V D K : Type 0} (look : LookWords L) (view : ViewWords V) (state : D
     one : IsKitOpened look view state d x.b names images x.k
     one = x.all 0 x.k (first_less x.k x.more)
 
-    used : KitUsed words view t Known never x.t0 0 from to r
+    used : KitUsed words view t never cache_never x.t0 before 0 from to r
     used = x.made.each 0 x.k x.j (first_less x.k x.more)
 
     fresh_seeds : map (faults_in view.faults) x.k.seeds.items ≡ map {B = ℕ} (λ q. 0) labels

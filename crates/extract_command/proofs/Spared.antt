@@ -9,6 +9,7 @@ use Rattle.cache_store.specs.Giving.{SomeGives}
 use Rattle.cache_store.specs.Shelves.{Shelf}
 use Rattle.caibx_codec.specs.Listing.{Listing, image_length, kind_of, size_of}
 use Rattle.caibx_codec.specs.Right.{IsRightAt}
+use Rattle.chunk_sources.specs.Asks.{IsSpared}
 use Rattle.chunk_sources.specs.Caches.{CacheGives, cache_faults, cached_in}
 use Rattle.chunk_sources.specs.Sources as origins
 use Rattle.chunk_sources.specs.Sources.{HeldAt, counts_of, views_of}
@@ -27,7 +28,6 @@ use Rattle.dsy_base.specs.Maps.{Map}
 use Rattle.dsy_base.specs.declared.view.View.{Ghosts as ViewWords}
 use Rattle.extract_plan.specs.Deal.{Deal, IsPlan, first_of, want_id}
 use Rattle.extract_plan.specs.Places.{ArePlaces, IsSeedIndex, nth_place, place, places_at}
-use Rattle.image_workers.specs.Kits.{IsSparedFor}
 use Rattle.extract_command.proofs.Shelved.{name_in}
 use Rattle.extract_command.proofs.Seeded.{had_at, label_at, label_of}
 use Rattle.extract_command.specs.Extract.{CacheSpares, FileQuiet, Into, IsSparedOnDisk, folder_of, SeedHas, Seeds, old_of}
@@ -84,7 +84,11 @@ module _ {S V : Type 0} (store : StoreWords S) (view : ViewWords V) (t : Task) (
             )
       ]
 
-  pub spared_over : (cache : Option (List ℕ)) (w : ℕ) → w < p.wants → (IsSomeAnd cache (λ c. CacheSpares d e c l (want_id l p w) (size_of l (first_of p w))) → CacheGives store l from.chain.stores (want_id l p w) (size_of l (first_of p w)) from.cache to.cache) → IsSparedOnDisk Known d e m cache o l z p w → IsSparedFor store view t Known t0 from to w
+  -- want w is had without the stores
+  abbrev pub SparedWith : ℕ → Type 0
+  SparedWith w = IsSpared store view t (λ j. IsSomeAnd t0 (λ b. IsRightAt (resized b (image_length t.listing)) t.listing j) × Known) from to w
+
+  pub spared_over : (cache : Option (List ℕ)) (w : ℕ) → w < p.wants → (IsSomeAnd cache (λ c. CacheSpares d e c l (want_id l p w) (size_of l (first_of p w))) → CacheGives store l from.chain.stores (want_id l p w) (size_of l (first_of p w)) from.cache to.cache) → IsSparedOnDisk Known d e m cache o l z p w → SparedWith w
   spared_over cache w below gives (inl right) = inl (
     (
       right.0.0,

@@ -23,7 +23,7 @@ use Rattle.extract_command.specs.Held.{CanBeGiven, HasNames, stores_of}
 use Rattle.extract_command.specs.Kits.{AreNamesOf, AreOpened, CanGiveKit, UsesNames, kit_stores}
 use Rattle.extract_command.specs.declared.held.Held.{Held}
 use Rattle.extract_plan.specs.Seeds.{seed_held}
-use Rattle.image_workers.specs.Kits.{IsAssembledBy, KnowsFaults}
+use Rattle.image_workers.specs.Kits.{IsAssembledBy}
 use Rattle.range_survey.specs.declared.report.Report.{Report}
 
 -- its stores are those of the names, as are those of the further kits, and its names are as before
@@ -32,26 +32,23 @@ pub record IsHeldStill {L W V D K : Type 0} (look : LookWords L) (view : ViewWor
   pub kits : All (λ x. kit_stores look view x ≡ names) h.kits.items
   pub named : HasNames look view images h
 
-module _ {L W V D K : Type 0} (look : LookWords L) (view : ViewWords V) (state : D → DialState) (t : Task) (never : Bool) (d b : Disk) (names : List Location) (images : List (List ℕ)) (t0 t1 : Option (List ℕ)) (f0 f1 : ℕ) (e0 e1 : Option Shelf)
+module _ {L W V D K : Type 0} (look : LookWords L) (view : ViewWords V) (state : D → DialState) (t : Task) (never cache_never : Bool) (d b : Disk) (names : List Location) (images : List (List ℕ)) (t0 t1 : Option (List ℕ)) (f0 f1 : ℕ) (e0 e1 : Option Shelf)
     (olds : List (Kit (AnyStore L D K) V)) (j : Kit (AnyStore L D K) V) (h : Held L W V D K) (r : Result Report ExtractFault) (all : AreOpened look view state d b names images olds)
-    (made : IsAssembledBy (any_words look state) view t never t0 t1 (lent f0 olds e0) (lent f1 (j ∷ h.kits.items) e1) r) where
+    (made : IsAssembledBy (any_words look state) view t never cache_never t0 t1 (lent f0 olds e0) (lent f1 (j ∷ h.kits.items) e1) r) where
   abbrev before : Lent (AnyStore L D K) V
   before = lent f0 olds e0
 
   abbrev after : Lent (AnyStore L D K) V
   after = lent f1 (j ∷ h.kits.items) e1
 
-  abbrev Known : Type 0
-  Known = KnowsFaults never olds
-
   there : (n : ℕ) → n < length (j ∷ h.kits.items) → n < length olds
   there n lt = let many : length (j ∷ h.kits.items) ≡ length olds = made.kits in omega (arith, lt, many)
 
   each_still : All (λ x. kit_stores look view x ≡ names) (j ∷ h.kits.items)
-  each_still n x lt = kit_still look view state t d b b names Known t0 n x x before after images (all n x (there n lt)) (made.each n x x (there n lt))
+  each_still n x lt = kit_still look view state t d b b names never cache_never t0 n x x before after images (all n x (there n lt)) (made.each n x x (there n lt))
 
   each_named : All (UsesNames look view images (folders_among names)) (j ∷ h.kits.items)
-  each_named n x lt = kit_named look view state t d b b names Known t0 n x x before after images (folders_among names) (made.each n x x (there n lt)) (opened_names look view state d b names images (slice_index_or olds n x) (all n x (there n lt)))
+  each_named n x lt = kit_named look view state t d b b names never cache_never t0 n x x before after images (folders_among names) (made.each n x x (there n lt)) (opened_names look view state d b names images (slice_index_or olds n x) (all n x (there n lt)))
 
   module _ (stores_are : j.chain.stores ≡ h.stores.items) (seeds_are : j.seeds.items ≡ h.seeds.items) where
     held_at : stores_of look h ≡ names
@@ -73,7 +70,7 @@ module _ {L W V D K : Type 0} (look : LookWords L) (view : ViewWords V) (state :
     pub held_given : (folder : LookWords W) (c : Disk) → ((q : List ℕ) → IsSome (b.folder_counts q) → IsSome (c.folder_counts q)) → ((q : List ℕ) → IsSome (b.file_counts q) → IsSome (c.file_counts q))
         → option_map (λ s. folder.place s.folder) h.shelf ≡ h.cache → IfSome h.cache (λ q. IsSome (c.folder_counts q)) → CanBeGiven look folder view c h
     held_given folder c folders files is known =
-        let can : All (CanGiveKit look view c) (j ∷ h.kits.items) = λ n x lt. kit_can look view state t d b b names Known t0 n x x before after c (made.each n x x (there n lt)) (give_later look view b c folders files (slice_index_or olds n x) (all n x (there n lt)).given) in
+        let can : All (CanGiveKit look view c) (j ∷ h.kits.items) = λ n x lt. kit_can look view state t d b b names never cache_never t0 n x x before after c (made.each n x x (there n lt)) (give_later look view b c folders files (slice_index_or olds n x) (all n x (there n lt)).given) in
         let first = can 0 j (omega arith) in
         record {
           stores = subst (λ xs. All (IsKnown c.folder_counts) (map (location_in look.place) xs)) stores_are first.stores;

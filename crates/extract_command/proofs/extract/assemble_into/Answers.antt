@@ -31,7 +31,7 @@ use Rattle.dsy_base.specs.Links.{DialState}
 use Rattle.dsy_base.specs.Maps.{Map, at_name}
 use Rattle.extract_command.proofs.AnyWords.{any_words, task}
 use Rattle.extract_command.proofs.Between.{asked_nothing, back_dialed, back_reads, back_writes, fills, stopped, took_writes, untaken}
-use Rattle.extract_command.proofs.First.{as_many, by_first, many_named, none_further}
+use Rattle.extract_command.proofs.First.{as_many, by_first, many_named, none_further, unshared_of}
 use Rattle.extract_command.proofs.LentKits.{all_give_later, give_later, opened_kits, opened_names}
 use Rattle.extract_command.proofs.Run.{IsRun, run_asks, run_assembled}
 use Rattle.extract_command.proofs.Shelved.{IsTold, fresh_faults, known_still, name_after, name_in, same_kind, same_names, told_files}
@@ -47,7 +47,7 @@ use Rattle.extract_command.specs.Kits.{AreOpened, UsesNames}
 use Rattle.extract_plan.specs.Deal.{IsPlan}
 use Rattle.extract_plan.specs.Places.{PlacesKnown}
 use Rattle.extract_plan.specs.Seeds as seeds
-use Rattle.image_workers.specs.Kits.{IsAssembledBy}
+use Rattle.image_workers.specs.Kits.{IsAssembledBy, IsUnshared}
 
 -- what is seen of the cache
 abbrev see : (g : Over) → Option (Shelved g.row.F-Folder.Denot) → Option Shelf
@@ -119,15 +119,6 @@ pub assemble-ended-requires-clause-size : goal.assemble-ended-requires-clause-si
 assemble-ended-requires-clause-size g c κs within =
     let many : length c.into_kits-kits.result.0.items ≡ suc (length c.open_kits.new.kits.items) = ap length c.into_kits-kits.ensures.kits.0.first in
     (omega (arith, c.into_kits-kits.result.0.ok.0, many), omega (arith, c.into_kits-kits.result.0.ok.0, many, c.open_kits.new.kits.ok.0, c.open_kits.ensures.few, c.workers_with_room-workers.ensures.size.1, c.requires.workers.1))
-
-pub assemble-ended-requires-clause-alone : goal.assemble-ended-requires-clause-alone
-assemble-ended-requires-clause-alone g c κs within = λ some.
-    let e0 = see g c.args.held.shelf in
-    let more = c.open_kits.new.kits.items in
-    let name = named g c.args.held.cache c.args.held.shelf c.requires.held.lent.named in
-    let there : IsSome e0 = rw c.into_kits-kits.ensures.shelf at some in
-    let none = none_further e0 c.args.held.cache c.args.planned.now.workers (vec_len c.open_kits.new.kits) more name c.requires.alone c.open_kits.new.kits.ok.0 (omega (arith, c.open_kits.ensures.few, c.workers_with_room-workers.ensures.size.1)) there in
-    c.into_kits-kits.result.0.ok.0 ∙ ap length c.into_kits-kits.ensures.kits.0.first ∙ ap (λ l. suc (length l)) none
 
 pub assemble-ended-requires-clause-places : goal.assemble-ended-requires-clause-places
 assemble-ended-requires-clause-places g c κs within =
@@ -359,15 +350,22 @@ module _ (g : Over) (c : After-of_kits-held g) where
   abbrev never : Bool
   never = g.F.Target.View.never_fails
 
+  abbrev cache_never : Bool
+  cache_never = g.F.Folder.Look.never_fails
+
   cache_is : name_in e0 ≡ c.args.held.cache
   cache_is = named g c.args.held.cache c.args.held.shelf c.requires.held.lent.named
 
-  made : IsAssembledBy (words g) g.F.View.View made_by never t0 t1 (lent f0 (k ∷ more) e0) (lent f1 (j ∷ rest) e1) c.assemble-ended.result.answer
+  made : IsAssembledBy (words g) g.F.View.View made_by never cache_never t0 t1 (lent f0 (k ∷ more) e0) (lent f1 (j ∷ rest) e1) c.assemble-ended.result.answer
   made =
       let into = c.into_kits-kits.ensures in
       let by = c.assemble-ended.ensures.kits in
-      by_first (words g) g.F.View.View made_by never t0 t1 f0 f1 (see g c.into_kits-kits.result.2) e0 e1 c.into_kits-kits.result.0.items (k ∷ more) c.assemble-ended.result.kits.items (j ∷ rest) c.assemble-ended.result.answer
+      by_first (words g) g.F.View.View made_by never cache_never t0 t1 f0 f1 (see g c.into_kits-kits.result.2) e0 e1 c.into_kits-kits.result.0.items (k ∷ more) c.assemble-ended.result.kits.items (j ∷ rest) c.assemble-ended.result.answer
       (ap (see g) into.shelf) into.kits.0.first c.of_kits-held.ensures.kits.first by.2
+
+  unshared : IsUnshared (lent f0 (k ∷ more) e0)
+  unshared = unshared_of f0 k more e0
+      (none_further e0 c.args.held.cache c.args.planned.now.workers (vec_len c.open_kits.new.kits) more cache_is c.requires.alone c.open_kits.new.kits.ok.0 c.open_kits.ensures.few)
 
   names_are : c.as_slice-stores.result.now ≡ names
   names_are = c.as_slice-stores.ensures ∙ sym c.requires.located
@@ -389,15 +387,15 @@ module _ (g : Over) (c : After-of_kits-held g) where
       let cache = c.args.held.cache in
       let folders : (q : List ℕ) → IsSome (b.folder_counts q) → IsSome (b2.folder_counts q) = λ q is. subst (λ (m : Map ℕ). IsSome (m q)) (sym c.in-Ok-take.ensures.counts.folder_counts) is in
       let files : (q : List ℕ) → IsSome (b.file_counts q) → IsSome (b2.file_counts q) = counted_known b.file_counts b2.file_counts _ c.in-Ok-take.ensures.counts.counts in
-      let name_now : name_in e1 ≡ cache = name_after _ e0 e1 cache (made.stocked k) cache_is in
-      held_given g.F.Look.Look g.F.View.View state made_by never (with_cache e0 d') b names images t0 t1 f0 f1 e0 e1 (k ∷ more) j c.of_kits-held.result c.assemble-ended.result.answer all made last.kits.stores_are last.kits.seeds_are
+      let name_now : name_in e1 ≡ cache = name_after _ e0 e1 cache (made.first (inl unshared) k) cache_is in
+      held_given g.F.Look.Look g.F.View.View state made_by never cache_never (with_cache e0 d') b names images t0 t1 f0 f1 e0 e1 (k ∷ more) j c.of_kits-held.result c.assemble-ended.result.answer all made last.kits.stores_are last.kits.seeds_are
       g.F.Folder.Look b2 folders files (rw (last.shelf, last.cache, into.cache) (sym (same_names g.F.Folder.Look c.assemble-ended.result.cache) ∙ name_now))
       (subst (λ (o : Option (List ℕ)). IfSome o (λ q. IsSome (b2.folder_counts q))) (sym (last.cache ∙ into.cache)) (known_still cache d'.folder_counts b2.folder_counts (λ q is. folders q (c.open_kits.ensures.kept.folder_known q (c.in-Ok.ensures.kept.folder_known q is))) c.requires.held.lent.cache))
 
   still : IsHeldStill g.F.Look.Look g.F.View.View names images c.of_kits-held.result
   still =
       let last = c.of_kits-held.ensures.kits in
-      held_still g.F.Look.Look g.F.View.View state made_by never (with_cache e0 d') b names images t0 t1 f0 f1 e0 e1 (k ∷ more) j c.of_kits-held.result c.assemble-ended.result.answer all made last.stores_are last.seeds_are
+      held_still g.F.Look.Look g.F.View.View state made_by never cache_never (with_cache e0 d') b names images t0 t1 f0 f1 e0 e1 (k ∷ more) j c.of_kits-held.result c.assemble-ended.result.answer all made last.stores_are last.seeds_are
 
   module _ (b4 : Disk) (k1 : DialState) (back : IsGivenBack g.F.Look.Look g.F.Folder.Look g.F.View.View state c.of_kits-held.result (storage b2 (state c.args.dial.now)) (storage b4 k1)) where
     -- it was given back
@@ -416,7 +414,7 @@ module _ (g : Over) (c : After-of_kits-held g) where
       kept =
           let took = took_writes d' b0 b b2 c.args.target.now c.in-Ok.ensures.kept c.open_kits.ensures.kept c.in-Ok-take.ensures.counts in
           let wrote = wrote_then (with_cache e1 d') b4 e (back_writes e1 d' b2 b4 took read) (wrote_back b4 e c.args.target.now f1 put) in
-          let stocked = subst (λ xs. Stocked (TakesListed (words g) c.args.planned.now.index xs) e0 e1) c.into_kits-kits.ensures.kits.0.stores_are (made.stocked k) in
+          let stocked = subst (λ xs. Stocked (TakesListed (words g) c.args.planned.now.index xs) e0 e1) c.into_kits-kits.ensures.kits.0.stores_are (made.first (inl unshared) k) in
           fills g.F.Look.Look state c.args.held.stores.items names c.args.planned.now.index e0 e1 c.args.held.cache d' e cache_is (cache_told g c.args.files.now c.args.held.shelf) c.requires.held.found stocked wrote
 
       used : Uses (c.args.target.now ∷ images) (folders_reached c.args.held.cache names) d' e
@@ -428,7 +426,7 @@ module _ (g : Over) (c : After-of_kits-held g) where
           made_used c.args.target.now images folders d' b opened b2 b4 e f1 c.in-Ok-take.ensures.counts gone put
 
       run : e.files ≡ option_map (λ m. at_name m c.args.target.now t1) b4.files
-          → IsRun g.row.D-Link.Denot g.F.Look.Look g.F.View.View state never d' e0 (state c.args.dial.now) e k1 names images c.args.held.cache out c.args.planned.now.index c.args.planned.now.places c.assemble-ended.result.answer
+          → IsRun g.row.D-Link.Denot g.F.Look.Look g.F.View.View state never cache_never d' e0 (state c.args.dial.now) e k1 names images c.args.held.cache out c.args.planned.now.index c.args.planned.now.places c.assemble-ended.result.answer
       run put_files =
           let look = g.F.Look.Look in
           let view = g.F.View.View in
@@ -459,6 +457,7 @@ module _ (g : Over) (c : After-of_kits-held g) where
             rest = rest;
             told = g.met.F.Target.View.told c.in-Ok-take.taken ∙ sym (g.met.F.Target.View.told c.assemble-ended.result.target);
             made = made;
+            unshared = unshared;
             first = back.first;
             kits = back.kits;
             bc = back.cached;
@@ -489,7 +488,7 @@ returns-clause-assembled g c = λ p ls plan is.
     let here = (goal.at.returns-clause-assembled g c).After-of_kits-held in
     let at = g.F.Files.disk in
     let state = g.D.Dial.state in
-    rw c.answer_of.ensures (run_assembled g.F.Look.Look g.F.View.View state g.F.Target.View.never_fails (at c.args.files.now) (see g c.args.held.shelf) (state c.args.dial.now) (at c.give.new.self) (state c.give_back.new.dial) (names g here) (images g here) c.args.held.cache (out g here) c.args.planned.now.index c.args.planned.now.places c.assemble-ended.result.answer
+    rw c.answer_of.ensures (run_assembled g.F.Look.Look g.F.View.View state g.F.Target.View.never_fails g.F.Folder.Look.never_fails (at c.args.files.now) (see g c.args.held.shelf) (state c.args.dial.now) (at c.give.new.self) (state c.give_back.new.dial) (names g here) (images g here) c.args.held.cache (out g here) c.args.planned.now.index c.args.planned.now.places c.assemble-ended.result.answer
     (run g here (at c.give_back.new.files) (state c.give_back.new.dial) c.give_back.ensures.given (at c.give.new.self) c.give.ensures.counts c.give.ensures.files) p ls plan is)
 
 pub returns-clause-asks : goal.returns-clause-asks
@@ -497,7 +496,7 @@ returns-clause-asks g c = λ p ls plan is.
     let here = (goal.at.returns-clause-asks g c).After-of_kits-held in
     let at = g.F.Files.disk in
     let state = g.D.Dial.state in
-    run_asks g.F.Look.Look g.F.View.View state g.F.Target.View.never_fails (at c.args.files.now) (see g c.args.held.shelf) (state c.args.dial.now) (at c.give.new.self) (state c.give_back.new.dial) (names g here) (images g here) c.args.held.cache (out g here) c.args.planned.now.index c.args.planned.now.places c.assemble-ended.result.answer
+    run_asks g.F.Look.Look g.F.View.View state g.F.Target.View.never_fails g.F.Folder.Look.never_fails (at c.args.files.now) (see g c.args.held.shelf) (state c.args.dial.now) (at c.give.new.self) (state c.give_back.new.dial) (names g here) (images g here) c.args.held.cache (out g here) c.args.planned.now.index c.args.planned.now.places c.assemble-ended.result.answer
     (run g here (at c.give_back.new.files) (state c.give_back.new.dial) c.give_back.ensures.given (at c.give.new.self) c.give.ensures.counts c.give.ensures.files) p ls plan is
 
 pub returns-clause-kept : goal.returns-clause-kept
