@@ -365,7 +365,7 @@ module _ (g : Over) (c : After-of_kits-held g) where
 
   unshared : IsUnshared (lent f0 (k ∷ more) e0)
   unshared = unshared_of f0 k more e0
-      (none_further e0 c.args.held.cache c.args.planned.now.workers (vec_len c.open_kits.new.kits) more cache_is c.requires.alone c.open_kits.new.kits.ok.0 c.open_kits.ensures.few)
+      (none_further e0 c.args.held.cache c.args.planned.now.workers (vec_len c.open_kits.new.kits) more cache_is c.requires.alone c.open_kits.new.kits.ok.0 (omega (arith, c.open_kits.ensures.few, c.workers_with_room-workers.ensures.size.1)))
 
   names_are : c.as_slice-stores.result.now ≡ names
   names_are = c.as_slice-stores.ensures ∙ sym c.requires.located
