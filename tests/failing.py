@@ -331,7 +331,7 @@ def disk_is_full(cases, shim):
 
 
 def no_threads(cases, shim):
-    """Where no thread, or only some can be started the work is done all the same."""
+    """Where no thread, or only some can be started the work is done all the same. Else each further worker has one."""
     scenes = {'make -n 3': ['make', '-n', '10', '-m', '1:2:4', '-s', 'to', 'new.caibx', 'cut'],
               'extract': ['extract', '-n', '10', '-s', 'st', 'a.caibx', 'o'],
               'extract -k': ['extract', '-k', '-n', '10', '-s', 'st', 'a.caibx', 'o'],
@@ -346,6 +346,7 @@ def no_threads(cases, shim):
                     scene.judge_whole(ended)
                     if not paths:
                         break
+                expect(9 <= at, f'{at} threads are started for ten workers')
 
 
 # Servers
@@ -631,7 +632,6 @@ def workers_in_little_space(cases, each):
                 expect_equal((ended.status, ended.err), (0, b''), f'how -n {count} ends in {space} KiB')
 
 
-def main():
 def extract_in(folder, count, space):
     """How `extract` ends, with some number of workers and this much address space, in KiB, and what OUT holds then."""
     out = os.path.join(folder, 'o')
@@ -669,13 +669,14 @@ def extract_in_little_space(cases, each):
         expect(compared > 0, f'one worker extracts no image in {MOST_SPACE} KiB of address space')
 
 
+def main():
     needs_program('failing')
     cases = Cases('failing')
     each = sys.argv[1:] == ['--all']
     little_space(cases)
     workers_in_little_space(cases, each)
-    is_stopped(cases)
     extract_in_little_space(cases, each)
+    is_stopped(cases)
     try:
         shim = Shim(cases.top)
     except Skip as why:

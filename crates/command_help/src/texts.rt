@@ -192,7 +192,7 @@ extracts them in memory, with a seed that differs in the middle. Prints what the
 extraction took: bytes, chunks, different chunks, and how many chunks were kept,
 copied, and given by the seed and by the store. No file is touched.
 
-  -n, --concurrency WORKERS     1 to 32 workers; for now one does all
+  -n, --concurrency WORKERS     1 to 32 workers that extract, 10 if not given
 
 example: desync demo 7 1048576
 ";

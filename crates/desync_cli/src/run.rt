@@ -130,7 +130,11 @@ where
         } => fill_cache(alloc, files, dial, stores, cache, indexes),
         Command::Verify { store, repair } => verify(alloc, files, out, store, repair),
         Command::Prune { store, indexes } => prune_folder(alloc, files, store, indexes),
-        Command::Demo { number, size, .. } => demo(rt, alloc, out, number, size),
+        Command::Demo {
+            number,
+            size,
+            workers,
+        } => demo(rt, alloc, out, number, size, workers as usize),
         Command::ChunkServer {
             store,
             host,

@@ -22,12 +22,34 @@ fn fetched(bytes: u64, chunks: u64) -> Figures {
 fn one_byte_is_fetched(rt: HostRuntime) {
     let image = ok(&rt, bytes::image(rt.alloc(), 7, 1));
     same(&rt, image.as_slice(), b"\x7e".as_slice());
-    same(&rt, demo_figures(&rt, rt.alloc(), 7, 1), Ok(fetched(1, 1)));
+    same(
+        &rt,
+        demo_figures(&rt, rt.alloc(), 7, 1, 1),
+        Ok(fetched(1, 1)),
+    );
+}
+
+#[test]
+fn numbers_of_workers_beyond_the_bounds_count_as_the_bounds(rt: HostRuntime) {
+    same(
+        &rt,
+        demo_figures(&rt, rt.alloc(), 7, 1, 0),
+        Ok(fetched(1, 1)),
+    );
+    same(
+        &rt,
+        demo_figures(&rt, rt.alloc(), 7, 1, 33),
+        Ok(fetched(1, 1)),
+    );
 }
 
 #[test]
 fn no_bytes_take_nothing(rt: HostRuntime) {
-    same(&rt, demo_figures(&rt, rt.alloc(), 7, 0), Ok(fetched(0, 0)));
+    same(
+        &rt,
+        demo_figures(&rt, rt.alloc(), 7, 0, 10),
+        Ok(fetched(0, 0)),
+    );
 }
 
 #[test]

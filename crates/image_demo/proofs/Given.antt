@@ -1,5 +1,5 @@
 -- What making an image gives, where nothing fails: its figures, or two unequal pieces of bytes of one name.
-use Rattle.std.proofs.Common.{◌≡◌, ◌≢◌, ◌⊎◌, ℕ, zero, suc, ◌+◌, ◌-◌, ◌<◌, ◌≤◌, ◌&&◌, not, List, [], ◌∷◌, true, length, drop, replicate, Option, Some, None, Result, Ok, Err, refl, sym, ap, subst, ◌∙◌, inl, inr, arith, map, IfSome, IfOk, is_some}
+use Rattle.std.proofs.Common.{◌≡◌, ◌≢◌, ◌⊎◌, ℕ, zero, suc, ◌+◌, ◌-◌, ◌<◌, ◌≤◌, ◌&&◌, not, List, [], ◌∷◌, true, length, drop, replicate, Option, Some, None, Result, Ok, Err, refl, sym, ap, subst, ◌∙◌, inl, inr, arith, IfSome, IfOk, is_some}
 use Rattle.std.proofs.lemmas.List.{length-take-le, length-drop}
 use Rattle.assembler.specs.Assemblies.{IsObtainable, Verdict}
 use Rattle.assembler.specs.Economy.{ReportsExactly}
@@ -12,15 +12,11 @@ use Rattle.buzhash_cut.specs.Sizes.{Sizes}
 use Rattle.caibx_codec.specs.Listing.{Listing, Rules, count_of, end_of, id_of, image_length, size_of, slice_of, start_of}
 use Rattle.caibx_codec.specs.Right.{IsRight, IsRightAt}
 use Rattle.chunk_sources.specs.Economy.{source_of, sum_below}
-use Rattle.chunk_sources.specs.Sources.{views_of}
 use Rattle.chunk_store.specs.declared.id.ChunkId.{ChunkId}
-use Rattle.chunk_store.specs.declared.id.DigestKind.TheVariants as kinds
 use Rattle.dsy_base.specs.Bytes.{Held, resized}
 use Rattle.dsy_base.specs.Maps.{Map}
-use Rattle.dsy_base.specs.declared.view.View.{Ghosts as ViewWords}
 use Rattle.extract_plan.specs.Deal.{AreWants, Deal}
 use Rattle.extract_plan.specs.Places.{IsSeedIndex, Placed}
-use Rattle.extract_plan.specs.declared.seed.Seed.{Seed}
 use Rattle.image_demo.proofs.FirstEntries.{sum_counted, wants_counted}
 use Rattle.image_demo.proofs.Generated.{length-bytes_after}
 use Rattle.image_demo.proofs.Sources.{cached_none, fetched_each, seeded_each, zeros_filled}
@@ -30,7 +26,6 @@ use Rattle.image_demo.specs.Stocks.{IsNamed, IsStocked, demo_fault}
 use Rattle.image_demo.specs.Tasks.{task_of}
 use Rattle.image_demo.specs.declared.figures.Figures.{Figures}
 use Rattle.image_store.specs.PutChunks.{HoldsAll, IsStored, Stands}
-use Rattle.store_chain.specs.Chains.{Chained}
 
 no_sum : (f : ℕ → ℕ) (n : ℕ) → ((w : ℕ) → f w ≡ 0) → sum_below f n ≡ 0
 no_sum f zero none = refl
@@ -112,27 +107,18 @@ pub told_bytes : (o : Option (List ℕ)) → is_some o ≡ true → (t : List �
 told_bytes None h = absurd (cc)
 told_bytes (Some t) h = (t, refl)
 
--- with one store and one seed, and an empty target
-module _ {S V : Type 0} (holds : S → Option (Map (List ℕ))) (view : ViewWords V) (store : S) (v : V) (l : Listing) (d : Deal) (x : Placed) (chain : Chained S) (seeds : List (Seed V)) (told : Option (List ℕ))
-    (one : chain ≡ record { stores = store ∷ []; asks = 0; kind = kinds.Sha512T256 }) (seeded : seeds ≡ record { view = Some v } ∷ []) (empty : told ≡ Some []) (chunks : Map (List ℕ)) (is : holds store ≡ Some chunks) where
-  stores_told : map holds chain.stores ≡ Some chunks ∷ []
-  stores_told = ap (λ c. map holds c.stores) one ∙ ap (λ o. o ∷ []) is
-
-  pub judged : (r s : Result Report ExtractFault) → r ≡ s
-      → ((maps : List (Map (List ℕ))) → map holds chain.stores ≡ map Some maps → IfSome told (λ o. Verdict l (IsObtainable (task_of l d x) (resized o (image_length l)) (views_of view seeds) maps) r))
-      → Verdict l (IsObtainable (task_of l d x) (base_of l) (Some (view.held v) ∷ []) (chunks ∷ [])) s
+-- what an assembly answers of an empty target
+module _ (l : Listing) (d : Deal) (x : Placed) (views : List (Option Held)) (maps : List (Map (List ℕ))) (told : Option (List ℕ)) (empty : told ≡ Some []) where
+  pub judged : (r s : Result Report ExtractFault) → r ≡ s → IfSome told (λ o. Verdict l (IsObtainable (task_of l d x) (resized o (image_length l)) views maps) r) → Verdict l (IsObtainable (task_of l d x) (base_of l) views maps) s
   judged r s same judge =
-      let h = subst (λ o. IfSome o (λ b. Verdict l (IsObtainable (task_of l d x) (resized b (image_length l)) (views_of view seeds) (chunks ∷ [])) r)) empty (judge (chunks ∷ []) stores_told) in
-      let k = subst (λ z. Verdict l (IsObtainable (task_of l d x) (base_of l) (views_of view z) (chunks ∷ [])) r) seeded h in
-      subst (λ e. Verdict l (IsObtainable (task_of l d x) (base_of l) (Some (view.held v) ∷ []) (chunks ∷ [])) e) same k
+      let h = subst (λ o. IfSome o (λ b. Verdict l (IsObtainable (task_of l d x) (resized b (image_length l)) views maps) r)) empty judge in
+      subst (λ e. Verdict l (IsObtainable (task_of l d x) (base_of l) views maps) e) same h
 
-  pub told_report : (r : Result Report ExtractFault) (report : Report) → r ≡ Ok report
-      → ((maps : List (Map (List ℕ))) → map holds chain.stores ≡ map Some maps → IfSome told (λ o. IfOk r (ReportsExactly (source_of (task_of l d x) (resized o (image_length l)) (views_of view seeds) [] maps) d.wants)))
-      → ReportsExactly (source_of (task_of l d x) (base_of l) (Some (view.held v) ∷ []) [] (chunks ∷ [])) d.wants report
+  pub told_report : (r : Result Report ExtractFault) (report : Report) → r ≡ Ok report → IfSome told (λ o. IfOk r (ReportsExactly (source_of (task_of l d x) (resized o (image_length l)) views [] maps) d.wants))
+      → ReportsExactly (source_of (task_of l d x) (base_of l) views [] maps) d.wants report
   told_report r report same says =
-      let h = subst (λ o. IfSome o (λ b. IfOk r (ReportsExactly (source_of (task_of l d x) (resized b (image_length l)) (views_of view seeds) [] (chunks ∷ [])) d.wants))) empty (says (chunks ∷ []) stores_told) in
-      let k = subst (λ z. IfOk r (ReportsExactly (source_of (task_of l d x) (base_of l) (views_of view z) [] (chunks ∷ [])) d.wants)) seeded h in
-      subst (λ e. IfOk e (ReportsExactly (source_of (task_of l d x) (base_of l) (Some (view.held v) ∷ []) [] (chunks ∷ [])) d.wants)) same k
+      let h = subst (λ o. IfSome o (λ b. IfOk r (ReportsExactly (source_of (task_of l d x) (resized b (image_length l)) views [] maps) d.wants))) empty says in
+      subst (λ e. IfOk e (ReportsExactly (source_of (task_of l d x) (base_of l) views [] maps) d.wants)) same h
 
 -- a store that was empty holds each chunk
 pub stocked : (l : Listing) (told : Option (List ℕ)) (old new : Option (Map (List ℕ))) → old ≡ Some (λ _. None) → is_some new ≡ is_some old → IfSome new (λ m. HoldsAll l (count_of l) m)

@@ -1,3 +1,4 @@
+pub mod Alike
 pub mod FirstEntries
 pub mod Generated
 pub mod Given

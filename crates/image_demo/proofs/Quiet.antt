@@ -1,5 +1,5 @@
 -- An assembly from sources that never fail.
-use Rattle.std.proofs.Common.{◌≡◌, ℕ, zero, suc, List, [], ◌∷◌, map, slice_index, Option, Some, None, IsTrue, refl, arith, inl, inr, sym, subst, unwrap_or, Result, Ok, Err, IfOk, IfSome, ◌<◌}
+use Rattle.std.proofs.Common.{◌≡◌, ℕ, zero, suc, List, [], ◌∷◌, map, slice_index, Option, Some, None, IsTrue, refl, arith, inl, inr, sym, subst, unwrap_or, Result, Ok, Err, ◌<◌}
 use Rattle.std.specs.Option.{option_map}
 use Rattle.assembler.specs.Faults.{fault_of}
 use Rattle.assembler.specs.Passes.{EndsBy}
@@ -22,7 +22,7 @@ use Rattle.store_chain.specs.Faults.{EachQuiet}
 use Rattle.store_chain.specs.declared.refused.Refused.{Refused}
 use Rattle.store_chain.specs.declared.refused.Refused.TheVariants as refused
 
-pub still : (a b : ℕ) → a ≡ 0 → b ≡ 0 → Quiet a b
+still : (a b : ℕ) → a ≡ 0 → b ≡ 0 → Quiet a b
 still a b old new = record { same = omega (arith, old, new); below = omega (arith, new) }
 
 no_count : {X : Type 0} (f : X → ℕ) → ((x : X) → f x ≡ 0) → (xs : List X) (k : ℕ) → slice_index (map f xs) k ≡ 0
@@ -64,11 +64,6 @@ no_sizes l maps h = absurd (cc)
 pub not_risen : (a b : ℕ) → a ≡ 0 → b ≡ 0 → Rose a b → ⊥
 not_risen a b old new (inl up) = omega (arith, old, new, up)
 not_risen a b old new (inr top) = omega (arith, new, top)
-
--- what holds of an answer where nothing failed, holds
-pub once_quiet : {A E B : Type 0} (r : Result A E) (o : Option B) (P : A → B → Type 0) (old new : ℕ) → Quiet old new → IfOk r (λ a. Quiet old new → IfSome o (P a)) → IfOk r (λ a. IfSome o (P a))
-once_quiet (Ok a) o P old new quiet has = has quiet
-once_quiet (Err e) o P old new quiet has = tt
 
 -- an entry that no source gave is named
 named : (A : Type 0) (l : Listing) (k : ℕ) (id : ChunkId) (r : Refused) → (k < count_of l) × (id.0 ≡ id_of l k) → IsNamed {A = A} l (Err (fault_of k id r))

@@ -2,3 +2,4 @@ pub mod Images
 pub mod Figures
 pub mod Stocks
 pub mod Tasks
+pub mod SharedKits

@@ -1,22 +1,16 @@
-//! What an image is made with. Wants count from 0.
+//! The plan by which an image is made. Wants count from 0.
 
-ghost use Rattle.std.specs.Prelude.{◌≡◌, ◌≤◌, [], ◌∷◌, Some, IfOk, IfErr};
+ghost use Rattle.std.specs.Prelude.{◌≡◌, ◌≤◌, [], ◌∷◌, IfOk, IfErr};
 ghost use Rattle.caibx_codec.specs.Listing.{count_of};
 ghost use Rattle.caibx_fields.specs.Limits.{item_limit};
-ghost use Rattle.chunk_store.specs.declared.id.DigestKind.TheVariants as kinds;
 ghost use Rattle.extract_plan.specs.Deal.{IsPlan};
 ghost use Rattle.extract_plan.specs.Places.{IsSeedIndex, PlacesKnown};
 
 use crate::fault::DemoFault;
 use caibx_codec::index::Index;
-use chunk_sources::kit::Kit;
-use chunk_store::store::Store;
-use dsy_base::view::View;
 use extract_plan::plan::Plan;
-use extract_plan::seed::Seed;
 use extract_plan::seeds::SeedIndex;
 use std::alloc::Global;
-use store_chain::chain::Chain;
 
 /// The plan of an index, and where a seed lists its chunks.
 #[derive(Drop)]
@@ -47,21 +41,4 @@ impl Planned {
             Err(_) => Err(DemoFault::Memory),
         }
     }
-}
-
-/// A kit of one store and one seed.
-pub fn kit_of<S: Store, V: View>(alloc: Global, store: S, seed: V) -> Result<Kit<S, V>, DemoFault>
-    ensures chain { IfOk result (λ k. k.chain ≡ record { stores = store ∷ []; asks = 0; kind = kinds.Sha512T256 }) }
-    ensures seeds { IfOk result (λ k. k.seeds.items ≡ record { view = Some seed } ∷ []) }
-    ensures err { IfErr result (λ e. e ≡ DemoFault.Memory) }
-{
-    let mut stores = Vec::new(alloc);
-    let Ok(()) = stores.push(store) else {
-        return Err(DemoFault::Memory);
-    };
-    let mut seeds = Vec::new(alloc);
-    let Ok(()) = seeds.push(Seed { view: Some(seed) }) else {
-        return Err(DemoFault::Memory);
-    };
-    Ok(Kit::new(alloc, Chain::new(stores), seeds))
 }

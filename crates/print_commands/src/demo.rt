@@ -1,4 +1,4 @@
-//! `demo NUMBER SIZE`: an image that NUMBER makes is cut, stored and extracted, all in memory.
+//! `demo [-n N] NUMBER SIZE`: an image that NUMBER makes is cut, stored and extracted by N workers, all in memory.
 
 ghost use Rattle.std.specs.Prelude.{◌≤◌, ◌^◌};
 ghost use Rattle.command_worlds.specs.Printing.{Printed};
@@ -18,17 +18,18 @@ use std::alloc::Global;
 use std::sync::Wait;
 use std::thread::Threads;
 
-// Makes, stores and extracts the image.
+// Makes, stores and extracts the image, with so many workers.
 fn rehearse<R: Threads + Wait + Sync>(
     rt: &R,
     alloc: Global,
     number: u64,
     size: u64,
+    workers: usize,
 ) -> Result<Figures, Outcome>
     requires { size ≤ 2 ^ 29 }
     ensures { Rehearsed number size result }
 {
-    match demo_figures(rt, alloc, number, size) {
+    match demo_figures(rt, alloc, number, size, workers) {
         Ok(figures) => Ok(figures),
         Err(DemoFault::Mismatch { entry, id }) => Err(Outcome::Mismatch { entry, got: id }),
         Err(DemoFault::Memory) => Err(Outcome::Memory),
@@ -43,19 +44,21 @@ fn print<O: Sink>(alloc: Global, figures: &Figures, out: &mut O) -> Result<(), O
     printed(figures.put(alloc, out))
 }
 
-/// Prints what it takes to make the image of NUMBER and SIZE from a seed and a store in memory.
+/// Prints what it takes to make the image of NUMBER and SIZE from a seed and a store in memory. It is the same whatever
+/// the number of workers is: 1 to 32, and what is beyond that counts as the nearer of the two.
 pub fn demo<R: Threads + Wait + Sync, O: Sink>(
     rt: &R,
     alloc: Global,
     out: &mut O,
     number: u64,
     size: u64,
+    workers: usize,
 ) -> Result<(), Outcome>
     requires { size ≤ 2 ^ 29 }
     ensures ends { (d : Disk) (k : DialState) → DemoEnds number size (world d k (O.output out.old)) result
         (world d k (O.output out.new)) }
 {
-    let figures = rehearse(rt, alloc, number, size)?;
+    let figures = rehearse(rt, alloc, number, size, workers)?;
     print(alloc, &figures, out)?;
     Ok(())
 }

@@ -21,13 +21,14 @@ returns-in-Ok-clause-value g c =
     let told = told_bytes held.bytes ((g.met.V.View g.world.𝓛 g.world.𝓜 g.world.𝓡 ((λ s y. y), (λ y. y), (λ y. y), (λ y. y))).told c.args.seed.view ∙ c.requires.tells) in
     let right = subst (λ o. IfSome o (λ t. IsRight t m)) told.1 c.requires.seeds in
     let target = (g.T.View.held c.args.target).bytes in
-    let kit = c.in_ok-kit.kit in
+    let made = c.assemble_quietly-target.ensures in
+    let alike = c.in_ok-kits.ensures.alike in
     made_figures l m d x c.in_ok-planned.ensures.plan.wants c.in_ok-planned.ensures.places held told.0 told.1 right c.rules-2.ensures c.requires.size s.map (image_length l) c.in-Ok.report
-    (judged g.S.Store.holds g.V.View c.args.store c.args.seed.view l d x kit.chain kit.seeds.items target c.in_ok-kit.ensures.chain c.in_ok-kit.ensures.seeds c.requires.none s.map s.told c.assemble_quietly-target.result.answer _ c.in-Ok.is c.assemble_quietly-target.ensures.verdict)
-    (told_report g.S.Store.holds g.V.View c.args.store c.args.seed.view l d x kit.chain kit.seeds.items target c.in_ok-kit.ensures.chain c.in_ok-kit.ensures.seeds c.requires.none s.map s.told c.assemble_quietly-target.result.answer c.in-Ok.report c.in-Ok.is c.assemble_quietly-target.ensures.reported)
-    (subst (λ (r : Result Report ExtractFault). IfOk r (λ n. n.kept + n.copied + n.seeded + n.cached + n.fetched ≡ count_of l)) c.in-Ok.is c.assemble_quietly-target.ensures.report)
+    (judged l d x (Some held ∷ []) (s.map ∷ []) target c.requires.none c.assemble_quietly-target.result.answer _ c.in-Ok.is (made.verdict c.args.store c.args.seed.view s.map alike s.told))
+    (told_report l d x (Some held ∷ []) (s.map ∷ []) target c.requires.none c.assemble_quietly-target.result.answer c.in-Ok.report c.in-Ok.is (made.reported c.args.store c.args.seed.view s.map alike s.told))
+    (subst (λ (r : Result Report ExtractFault). IfOk r (λ n. n.kept + n.copied + n.seeded + n.cached + n.fetched ≡ count_of l)) c.in-Ok.is made.report)
     (subst (λ o. IfSome o (λ b. c.in-Ok.report.kept ≡ right_below l (resized b (image_length l)) (count_of l))) c.requires.none
-    (subst (λ (r : Result Report ExtractFault). IfOk r (λ n. IfSome target (λ b. n.kept ≡ right_below l (resized b (image_length l)) (count_of l)))) c.in-Ok.is c.assemble_quietly-target.ensures.kept))
+    (subst (λ (r : Result Report ExtractFault). IfOk r (λ n. IfSome target (λ b. n.kept ≡ right_below l (resized b (image_length l)) (count_of l)))) c.in-Ok.is made.kept))
     c.figures.result c.figures.ensures
 
 pub returns-clause-err : goal.returns-clause-err
@@ -36,7 +37,8 @@ returns-clause-err g c =
     let d = c.in_ok-planned.planned.plan in
     let x = c.in_ok-planned.planned.places in
     let s = c.requires.stocked.2 in
-    let kit = c.in_ok-kit.kit in
-    subst IsDemoRefused (sym c.fault_of.ensures) (refusal l d x (base_of l) (Some (g.V.View.held c.args.seed.view) ∷ []) c.rules.ensures c.requires.stocked.0 c.requires.stocked.1 (g.S.Store.holds c.args.store) s c.in-Err.fault
-    (judged g.S.Store.holds g.V.View c.args.store c.args.seed.view l d x kit.chain kit.seeds.items (g.T.View.held c.args.target).bytes c.in_ok-kit.ensures.chain c.in_ok-kit.ensures.seeds c.requires.none s.map s.told c.assemble_quietly-target.result.answer _ c.in-Err.is c.assemble_quietly-target.ensures.verdict)
-    (subst (λ (r : Result Report ExtractFault). IsNamed l r) c.in-Err.is c.assemble_quietly-target.ensures.named))
+    let views = Some (g.V.View.held c.args.seed.view) ∷ [] in
+    let made = c.assemble_quietly-target.ensures in
+    subst IsDemoRefused (sym c.fault_of.ensures) (refusal l d x (base_of l) views c.rules.ensures c.requires.stocked.0 c.requires.stocked.1 (g.S.Store.holds c.args.store) s c.in-Err.fault
+    (judged l d x views (s.map ∷ []) (g.T.View.held c.args.target).bytes c.requires.none c.assemble_quietly-target.result.answer _ c.in-Err.is (made.verdict c.args.store c.args.seed.view s.map c.in_ok-kits.ensures.alike s.told))
+    (subst (λ (r : Result Report ExtractFault). IsNamed l r) c.in-Err.is made.named))
