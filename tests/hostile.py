@@ -492,7 +492,7 @@ def endless_one(peer, front, piece, status):
 
 
 def slow_peer(cases):
-    """tests/serving.py and tests/http_stores.py wait for the end of peers that send a byte a second."""
+    """No other peer waits for one that sends a byte a second; tests/serving.py waits for its end."""
     with cases.case('a peer sends a byte of a request a second, and the others are served') as folder:
         lay_out(folder)
         with ChunkServer(folder, '-w', '-n', '8') as server, server.connect() as slow:

@@ -531,17 +531,21 @@ class Waiting:
         self.threads = held.enter_context(concurrent.futures.ThreadPoolExecutor())
         self.runs = []
 
-    def begin(self, what, words, sends=lambda method, piece: b'', port=None, seconds=(55, 110), text=FAILED, out=None):
+    def begin(self, what, words, sends=lambda method, piece: b'', drips=b'', port=None, seconds=(55, 110), text=FAILED,
+              out=None):
         """Starts a run, which is to end within these seconds, with this text, and with the image in the file `out`. The
-        server sends what `sends` makes of the method and the one chunk, and then nothing more; with `port` it is the
-        one at that port."""
+        server sends what `sends` makes of the method and the one chunk, and then what `drips` once a second, or nothing
+        more; with `port` it is the one at that port."""
         folder = os.path.join(self.cases.top, what)
         os.mkdir(folder)
         image = Image(folder, 1)
         def answer(peer, method, *_):
             peer.sendall(sends(method, image.bytes))
+            while drips and not server.over.wait(1):
+                peer.sendall(drips)
             return servers.WAIT
-        port = port or self.held.enter_context(servers.Server(answer)).port
+        server = None if port else self.held.enter_context(servers.Server(answer))
+        port = port or server.port
         words = [f'http://localhost:{port}' if word == 'URL' else word for word in words]
         run = self.threads.submit(program.run_measured, words, folder)
         self.runs.append((what, image, run, files(folder), seconds, text, out))
@@ -559,8 +563,8 @@ class Waiting:
 
 
 def silent(waiting, deaf):
-    """A read is given up after a minute without a byte, and an address that doesn't take a connection after ten
-    seconds."""
+    """A read is given up after a minute without a byte, a reply whose bytes were waited for a minute, and an address
+    that doesn't take a connection after ten seconds."""
     info = ['info', '-s', 'URL', 'new.caibx']
     waiting.begin('the server never answers', info)
     waiting.begin('the server stops in a head', info, lambda *_: b'HTTP/1.1 200 OK\r\nContent-')
@@ -569,6 +573,9 @@ def silent(waiting, deaf):
                   ['extract', '-s', 'URL', '-s', 'all', 'new.caibx', 'out'], text='', out='out')
     waiting.begin('the server stops in a body', ['cache', '-s', 'URL', '-c', 'near', 'new.caibx'],
                   lambda _, piece: reply(200, piece)[:-1])
+    waiting.begin('the server sends a byte of a head a second', info, lambda *_: b'HTTP/1.1 200 OK\r\nA:', b'x')
+    waiting.begin('the server sends a byte of a body a second', ['cache', '-s', 'URL', '-c', 'near', 'new.caibx'],
+                  lambda _, piece: reply(200, piece)[:-len(piece)], b'x')
     waiting.begin('the server never answers a PUT', ['make', '-s', 'URL', 'made.caibx', 'image'],
                   lambda method, _: reply(404) if method == 'GET' else b'')
 

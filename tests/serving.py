@@ -20,6 +20,7 @@ import signal
 import socket
 import subprocess
 import sys
+import threading
 import time
 
 import at_once
@@ -379,7 +380,20 @@ def behind_nginx(cases):
 
 # Peers that hold up a server
 
+def dripping(front, more):
+    """Sends the front, and then some more each second, until the peer hangs up."""
+    def drip(peer):
+        with contextlib.suppress(OSError):
+            peer.sendall(front)
+            while True:
+                time.sleep(1)
+                peer.sendall(more)
+    return lambda peer: threading.Thread(target=drip, args=(peer,), daemon=True).start()
+
+
 HELD = {
+    'sends a byte of a head a second': dripping(b'GET /', b'x'),
+    'sends a byte of a body a second': dripping(request('PUT', PATH, 'Content-Length: 1000'), b'x'),
     'says nothing': lambda peer: None,
     'stops in a head': lambda peer: peer.sendall(GET_ABC[:50]),
     'stops in a body': lambda peer: peer.sendall(put(path_of(b'held'), b'held')[:-1]),

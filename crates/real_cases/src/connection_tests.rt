@@ -10,7 +10,11 @@ use real_links::real_listen::RealListen;
 use std::io::{Read, Write};
 use std::net::{TcpListener, TcpStream};
 
-fn dialed(dial: &mut RealDial<HostRuntime>, host: &str, port: u16) -> Option<RealLink<TcpStream>> {
+fn dialed<'a>(
+    dial: &mut RealDial<'a, HostRuntime>,
+    host: &str,
+    port: u16,
+) -> Option<RealLink<'a, HostRuntime, TcpStream>> {
     dial.dial(host, port).ok()
 }
 
@@ -18,7 +22,9 @@ fn bind(listen: &mut RealListen<HostRuntime>, host: &str, port: u16) -> Result<(
     listen.bind(host, port)
 }
 
-fn accepted(listen: &mut RealListen<HostRuntime>) -> Option<RealLink<TcpStream>> {
+fn accepted<'a>(
+    listen: &mut RealListen<'a, HostRuntime>,
+) -> Option<RealLink<'a, HostRuntime, TcpStream>> {
     listen.accept().ok()?
 }
 
@@ -27,11 +33,11 @@ fn not_accepted(listen: &mut RealListen<HostRuntime>) -> Option<IoFault> {
     listen.accept().err()
 }
 
-fn sent(link: &mut RealLink<TcpStream>, b: &[u8]) -> bool {
+fn sent(link: &mut RealLink<HostRuntime, TcpStream>, b: &[u8]) -> bool {
     link.write(b).is_ok()
 }
 
-fn received(link: &mut RealLink<TcpStream>, out: &mut [u8; 4]) -> Option<usize> {
+fn received(link: &mut RealLink<HostRuntime, TcpStream>, out: &mut [u8; 4]) -> Option<usize> {
     link.read(out).ok()
 }
 

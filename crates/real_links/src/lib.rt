@@ -1,6 +1,7 @@
 //! Connections of the operating system.
 #![tactic(auto)]
 
+mod pace;
 pub mod real_dial;
 pub mod real_link;
 pub mod real_listen;

@@ -8,19 +8,19 @@ use dsy_base::fault::{IoFault, Memory, raise};
 use std::io;
 use std::io::ErrorKind;
 use std::net::{Net, TcpStream, ToSocketAddrs};
-use std::time::Duration;
+use std::time::{Clock, Duration};
 
 // How many seconds an address may take to answer.
 const SECONDS_TO_CONNECT: u64 = 10;
 
 /// What connects over TCP.
 #[derive(Drop)]
-pub struct RealDial<'a, R: Net> {
+pub struct RealDial<'a, R: Net + Clock> {
     rt: &'a R,
     faults: u64,
 }
 
-impl<'a, R: Net> RealDial<'a, R> {
+impl<'a, R: Net + Clock> RealDial<'a, R> {
     pub fn new(rt: &'a R) -> RealDial<'a, R>
         ensures faults { result.faults ≡ 0 }
     {
@@ -44,24 +44,28 @@ pub(crate) fn unbracketed(host: &str) -> &str {
 }
 
 // Connects to the first address of the host that answers.
-fn connect<R: Net>(rt: &R, host: &str, port: u16) -> io::Result<RealLink<R::Stream>>
+fn connect<'a, R: Net + Clock>(
+    rt: &'a R,
+    host: &str,
+    port: u16,
+) -> io::Result<RealLink<'a, R, R::Stream>>
     ensures faults { IfOk result (λ l. l.faults ≡ 0) }
 {
     let timeout = Duration::from_secs(SECONDS_TO_CONNECT);
     let mut last = io::Error::from(ErrorKind::NotFound);
     for address in (unbracketed(host), port).to_socket_addrs(rt)? {
         match TcpStream::connect_timeout(rt, &address, timeout) {
-            Ok(stream) => return RealLink::new(stream),
+            Ok(stream) => return RealLink::new(rt, stream),
             Err(error) => last = error,
         }
     }
     Err(last)
 }
 
-impl<R: Net> Dial for RealDial<'_, R> {
+impl<'a, R: Net + Clock> Dial for RealDial<'a, R> {
     ghost use Rattle.std.specs.Prelude.{None, false, refl};
 
-    type Link = RealLink<R::Stream>;
+    type Link = RealLink<'a, R, R::Stream>;
 
     ghost state = { λ d. record { ended = None; faults = d.faults } };
 
@@ -71,7 +75,7 @@ impl<R: Net> Dial for RealDial<'_, R> {
         Ok(RealDial::new(self.rt))
     }
 
-    fn dial(&mut self, host: &str, port: u16) -> Result<RealLink<R::Stream>, IoFault> {
+    fn dial(&mut self, host: &str, port: u16) -> Result<RealLink<'a, R, R::Stream>, IoFault> {
         match connect(self.rt, host, port) {
             Ok(link) => Ok(link),
             Err(_) => {
@@ -81,7 +85,7 @@ impl<R: Net> Dial for RealDial<'_, R> {
         }
     }
 
-    fn hang_up(&mut self, link: RealLink<R::Stream>) {
+    fn hang_up(&mut self, link: RealLink<'a, R, R::Stream>) {
         link.shut();
         self.faults = raise(self.faults, link.faults());
     }

@@ -3,12 +3,13 @@
 ghost use Rattle.std.specs.Prelude.{◌≡◌, IfOk};
 ghost use Rattle.std.specs.Io.{ReadsAtMost};
 
+use crate::pace::Pace;
 use dsy_base::fault::{Failed, IoFault, raise};
 use dsy_base::link::Link;
 use std::io;
 use std::io::{ErrorKind, Read, Write};
 use std::net::{OpenStream, Shutdown};
-use std::time::Duration;
+use std::time::{Clock, Duration, Instant};
 
 // How many seconds each read and each write may take.
 const SECONDS_TO_WAIT: u64 = 60;
@@ -20,9 +21,13 @@ const READS_TO_LINGER: u64 = 1_024;
 
 /// A connection over TCP. Once it is finished it has no stream.
 #[derive(Drop)]
-pub struct RealLink<S: Read + Write + Drop> {
+pub struct RealLink<'a, C: Clock, S: Read + Write + Drop> {
+    clock: &'a C,
     stream: Option<S>,
     faults: u64,
+    // What came since it was last written to, and what went since it was last read.
+    coming: Pace,
+    going: Pace,
 }
 
 // Reads once, where no signal comes between.
@@ -33,6 +38,61 @@ fn read_once<S: Read>(stream: &mut S, out: &mut [u8]) -> io::Result<usize>
         match stream.read(out) {
             Err(error) if error.kind() == ErrorKind::Interrupted => {}
             ended => return ended,
+        }
+    }
+    Err(io::Error::from(ErrorKind::Interrupted))
+}
+
+// How long ago a time was; nothing where the clock doesn't tell.
+fn since<C: Clock>(clock: &C, begun: Option<Instant>) -> Duration {
+    match begun {
+        Some(begun) => begun.elapsed(clock).unwrap_or(Duration::ZERO),
+        None => Duration::ZERO,
+    }
+}
+
+// Reads once, where what has come up to now didn't take too long.
+fn read_in_time<C: Clock, S: Read>(
+    clock: &C,
+    stream: &mut S,
+    pace: &mut Pace,
+    out: &mut [u8],
+) -> io::Result<usize>
+    ensures { ReadsAtMost result out.new }
+{
+    if pace.is_slow() {
+        return Err(io::Error::from(ErrorKind::TimedOut));
+    }
+    let begun = Instant::now(clock).ok();
+    let n = read_once(stream, out)?;
+    pace.add(since(clock, begun), n);
+    Ok(n)
+}
+
+// Writes all of it, where that doesn't take too long.
+fn write_in_time<C: Clock, S: Write>(
+    clock: &C,
+    stream: &mut S,
+    pace: &mut Pace,
+    b: &[u8],
+) -> io::Result<()> {
+    let mut rest = b;
+    for _ in 0..u64::MAX {
+        if rest.is_empty() {
+            return Ok(());
+        }
+        if pace.is_slow() {
+            return Err(io::Error::from(ErrorKind::TimedOut));
+        }
+        let begun = Instant::now(clock).ok();
+        match stream.write(rest) {
+            Ok(0) => return Err(io::Error::from(ErrorKind::WriteZero)),
+            Ok(n) => {
+                pace.add(since(clock, begun), n);
+                rest = &rest[n..];
+            }
+            Err(error) if error.kind() == ErrorKind::Interrupted => {}
+            Err(error) => return Err(error),
         }
     }
     Err(io::Error::from(ErrorKind::Interrupted))
@@ -71,15 +131,19 @@ fn set_up<S: OpenStream>(stream: &S) -> io::Result<()> {
     stream.set_nodelay(true)
 }
 
-impl<S: Read + Write + OpenStream + Drop> RealLink<S> {
-    /// The connection of this stream, each of whose reads and writes takes at most 60 seconds.
-    pub fn new(stream: S) -> io::Result<RealLink<S>>
+impl<'a, C: Clock, S: Read + Write + OpenStream + Drop> RealLink<'a, C, S> {
+    /// The connection of this stream. Each call waits for at most 60 seconds, and the calls for a message together for
+    /// 60 seconds and one more for each KiB of it.
+    pub fn new(clock: &'a C, stream: S) -> io::Result<RealLink<'a, C, S>>
         ensures faults { IfOk result (λ l. l.faults ≡ 0) }
     {
         set_up(&stream)?;
         Ok(RealLink {
+            clock,
             stream: Some(stream),
             faults: 0,
+            coming: Pace::new(),
+            going: Pace::new(),
         })
     }
 
@@ -98,7 +162,7 @@ impl<S: Read + Write + OpenStream + Drop> RealLink<S> {
     }
 }
 
-impl<S: Read + Write + OpenStream + Drop> Link for RealLink<S> {
+impl<C: Clock, S: Read + Write + OpenStream + Drop> Link for RealLink<'_, C, S> {
     ghost use Rattle.std.specs.Prelude.{None, false, refl};
 
     ghost state = { λ l. record { traffic = None; faults = l.faults } };
@@ -106,8 +170,9 @@ impl<S: Read + Write + OpenStream + Drop> Link for RealLink<S> {
     ghost tells = { false };
 
     fn read(&mut self, out: &mut [u8]) -> Result<usize, Failed> {
+        self.going = Pace::new();
         let read = match &mut self.stream {
-            Some(stream) => read_once(stream, out),
+            Some(stream) => read_in_time(self.clock, stream, &mut self.coming, out),
             None => Err(io::Error::from(ErrorKind::NotConnected)),
         };
         match read {
@@ -120,8 +185,9 @@ impl<S: Read + Write + OpenStream + Drop> Link for RealLink<S> {
     }
 
     fn write(&mut self, b: &[u8]) -> Result<(), IoFault> {
+        self.coming = Pace::new();
         let written = match &mut self.stream {
-            Some(stream) => stream.write_all(b),
+            Some(stream) => write_in_time(self.clock, stream, &mut self.going, b),
             None => Err(io::Error::from(ErrorKind::NotConnected)),
         };
         match written {

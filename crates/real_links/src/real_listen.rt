@@ -102,13 +102,16 @@ fn is_want(error: &io::Error) -> bool {
 }
 
 // The next connection that can be had.
-fn accept_next<R: Net + Clock>(rt: &R, listener: &R::Listener) -> io::Result<RealLink<R::Stream>>
+fn accept_next<'a, R: Net + Clock>(
+    rt: &'a R,
+    listener: &R::Listener,
+) -> io::Result<RealLink<'a, R, R::Stream>>
     ensures faults { IfOk result (λ l. l.faults ≡ 0) }
 {
     for _ in 0..u64::MAX {
         match listener.accept() {
             Ok((stream, _)) => {
-                if let Ok(link) = RealLink::new(stream) {
+                if let Ok(link) = RealLink::new(rt, stream) {
                     return Ok(link);
                 }
             }
@@ -122,10 +125,10 @@ fn accept_next<R: Net + Clock>(rt: &R, listener: &R::Listener) -> io::Result<Rea
     Err(io::Error::from(ErrorKind::Interrupted))
 }
 
-impl<R: Net + Clock> Listen for RealListen<'_, R> {
+impl<'a, R: Net + Clock> Listen for RealListen<'a, R> {
     ghost use Rattle.std.specs.Prelude.{None, false, refl};
 
-    type Link = RealLink<R::Stream>;
+    type Link = RealLink<'a, R, R::Stream>;
 
     ghost state = { λ l. record { coming = None; ended = None; faults = l.faults } };
 
@@ -144,7 +147,7 @@ impl<R: Net + Clock> Listen for RealListen<'_, R> {
         }
     }
 
-    fn accept(&mut self) -> Result<Option<RealLink<R::Stream>>, IoFault> {
+    fn accept(&mut self) -> Result<Option<RealLink<'a, R, R::Stream>>, IoFault> {
         let accepted = match &self.listener {
             Some(listener) => accept_next(self.rt, listener),
             None => Err(io::Error::from(ErrorKind::NotConnected)),
@@ -158,7 +161,7 @@ impl<R: Net + Clock> Listen for RealListen<'_, R> {
         }
     }
 
-    fn end(&mut self, mut link: RealLink<R::Stream>) {
+    fn end(&mut self, mut link: RealLink<'a, R, R::Stream>) {
         link.finish();
     }
 
