@@ -98,7 +98,14 @@ fn workers_fill_one_cache_side_by_side(rt: HostRuntime) {
 fn what_the_cache_has_is_not_asked_for(rt: HostRuntime) {
     let alloc = rt.alloc();
     let half = cache_of(&rt, alloc, &PIECES[..3], Vec::new(alloc));
-    let filled = assembles_through(&rt, alloc, half, counts(0, 0, 3, 3), 3);
+    let ended = Ok(Report {
+        kept: 0,
+        copied: 0,
+        seeded: 0,
+        cached: 3,
+        fetched: 3,
+    });
+    let filled = assembles_through(&rt, alloc, half, ended, 3);
     holds_all(&rt, filled);
 }
 
