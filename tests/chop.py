@@ -25,12 +25,12 @@ def lay_out_both(folder, image, listed=None):
     return index
 
 
-def chops(folder, index, entries=None, text=''):
+def chops(folder, index, entries=None, text='', words=()):
     """Chops, and compares what was stored: the first so many entries or all, and nothing else."""
     image = file_bytes(os.path.join(folder, IMAGE))
     front = formats.Index(index.entries if entries is None else index.entries[:entries])
     before = snapshot(folder)
-    expect_ended(program.run(WORDS, folder), text)
+    expect_ended(program.run([*WORDS, *words], folder), text)
     expect_stored(folder, STORE, front, image)
     expect_untouched(before, snapshot(folder), but=written(before, folder, STORE, front, image))
     expect_no_temporary(folder)
@@ -73,6 +73,28 @@ def wrong_images(cases):
         with cases.case(f'an image that is too {what}') as folder:
             lay_out_both(folder, image, listed)
             chops(folder, index, 0, f'the file has {len(image)} bytes')
+
+
+def workers(cases):
+    """chop and verify-index end alike with any number of workers, over an image of more than they read at a time."""
+    listed = random.Random(23).randbytes(6_000_000)
+    index = formats.index_of(listed)
+    slices = list(index.slices())
+    for count in ('1', '2', '32'):
+        words = ('-n', count)
+        with cases.case(f'{count} workers') as folder:
+            lay_out_both(folder, listed)
+            expect_ended(program.run(['verify-index', *words, INDEX, IMAGE], folder))
+            chops(folder, index, words=words)
+        for entry in (0, len(slices) // 2, len(slices) - 1):
+            with cases.case(f'{count} workers, and entry {entry} is another one, as is the last') as folder:
+                image = bytearray(listed)
+                image[slices[entry][0]] ^= 1
+                image[slices[-1][1] - 1] ^= 2
+                lay_out_both(folder, bytes(image), listed)
+                text = formats.checked(index, bytes(image))
+                expect_ended(program.run(['verify-index', *words, INDEX, IMAGE], folder), text)
+                chops(folder, index, entry, text, words)
 
 
 def bad_input(cases):
@@ -131,7 +153,7 @@ def interrupted(cases):
 def main():
     needs_program('chop')
     cases = Cases('chop')
-    for group in (images, chunks_there, wrong_images, bad_input, interrupted):
+    for group in (images, chunks_there, wrong_images, workers, bad_input, interrupted):
         group(cases)
     return cases.end()
 

@@ -66,8 +66,8 @@ command_by_roles command.Make p = said.Make (store p) (sizes p) (workers p) (ope
 command_by_roles command.Extract p =
     said.Extract (stores p) (words_as (role.Value option.Seed) p.roles p.words) (cache p) (is_given option.InPlace p)
     (workers p) (operand 0 p) (operand 1 p)
-command_by_roles command.VerifyIndex p = said.VerifyIndex (operand 0 p) (operand 1 p)
-command_by_roles command.Chop p = said.Chop (store p) (operand 0 p) (operand 1 p)
+command_by_roles command.VerifyIndex p = said.VerifyIndex (workers p) (operand 0 p) (operand 1 p)
+command_by_roles command.Chop p = said.Chop (store p) (workers p) (operand 0 p) (operand 1 p)
 command_by_roles command.Cache p = said.Cache (stores p) (value option.Cache p) (words_as role.Operand p.roles p.words)
 command_by_roles command.ListChunks p = said.ListChunks (operand 0 p)
 command_by_roles command.Info p = said.Info (stores p) (operand 0 p)

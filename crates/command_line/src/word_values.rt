@@ -148,6 +148,7 @@ impl<'a> CheckedWords<'a> {
     {
         Ok(Command::Chop {
             store: self.store(alloc)?,
+            workers: self.workers(),
             index: self.operand(alloc, 0)?,
             image: self.operand(alloc, 1)?,
         })
@@ -194,6 +195,7 @@ impl<'a> CheckedWords<'a> {
             CommandKind::Make => self.make(alloc),
             CommandKind::Extract => self.extract(alloc),
             CommandKind::VerifyIndex => Ok(Command::VerifyIndex {
+                workers: self.workers(),
                 index: self.operand(alloc, 0)?,
                 image: self.operand(alloc, 1)?,
             }),

@@ -105,11 +105,13 @@ pub enum Command {
         target: Name,
     },
     VerifyIndex {
+        workers: u32,
         index: Name,
         image: Name,
     },
     Chop {
         store: Location,
+        workers: u32,
         index: Name,
         image: Name,
     },

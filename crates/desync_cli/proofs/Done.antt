@@ -19,8 +19,8 @@ use Rattle.desync_cli.proofs.Verified.{verified}
 achieves : (sure : Bool) (k : Heard) (c : Command) (w v : World) → is_some w.disk.files ≡ is_some w.disk.folders → CommandEnds sure k c w (Ok tt) v → Achieves sure k c w v
 achieves sure k (commands.Make store sizes workers index image) w v told h = made store sizes index image w v told h
 achieves sure k (commands.Extract stores seeds cache in_place workers index target) w v told h = extracted sure stores cache seeds in_place index target w v told h
-achieves sure k (commands.VerifyIndex index image) w v told h = verified index image w v h
-achieves sure k (commands.Chop store index image) w v told h = chopped store index image w v h
+achieves sure k (commands.VerifyIndex workers index image) w v told h = verified index image w v h
+achieves sure k (commands.Chop store workers index image) w v told h = chopped store index image w v h
 achieves sure k (commands.Cache stores cache indexes) w v told h = cached stores cache indexes w v h
 achieves sure k (commands.Verify store repair) w v told h = verified_store store repair w v h
 achieves sure k (commands.Prune store indexes) w v told h = pruned_to store indexes w v h

@@ -41,8 +41,8 @@ listens other = false
 -- how each ends, from the world before it to the world after it, where this was heard
 abbrev pub CommandEnds : Bool → Heard → Command → Step World Unit
 CommandEnds sure h (commands.Make store sizes workers index image) = MakeEnds store sizes index image
-CommandEnds sure h (commands.VerifyIndex index image) = VerifyIndexEnds index image
-CommandEnds sure h (commands.Chop store index image) = ChopEnds store index image
+CommandEnds sure h (commands.VerifyIndex workers index image) = VerifyIndexEnds index image
+CommandEnds sure h (commands.Chop store workers index image) = ChopEnds store index image
 CommandEnds sure h (commands.Cache stores cache indexes) = CacheEnds stores cache indexes
 CommandEnds sure h (commands.ListChunks index) = ListChunksEnds index
 CommandEnds sure h (commands.Extract stores seeds cache in_place workers index target) =
@@ -60,8 +60,8 @@ CommandEnds sure h (commands.ChunkServer store host port writable workers) = Chu
 abbrev pub spares : Command → Spares
 spares (commands.Make store sizes workers index image) = record
     { files = false; folders = not (is_folder store); dial = is_folder store; out = true }
-spares (commands.VerifyIndex index image) = record { files = true; folders = true; dial = true; out = true }
-spares (commands.Chop store index image) = record
+spares (commands.VerifyIndex workers index image) = record { files = true; folders = true; dial = true; out = true }
+spares (commands.Chop store workers index image) = record
     { files = true; folders = not (is_folder store); dial = is_folder store; out = true }
 spares (commands.Cache stores cache indexes) = record
     { files = true; folders = false; dial = are_folders stores; out = true }
@@ -78,9 +78,9 @@ spares other = record { files = true; folders = true; dial = true; out = false }
 abbrev pub parts : Heard → Command → Parts
 parts h (commands.Make store sizes workers index image) = record
     { image = image; stores = store ∷ []; target = []; cache = []; listener = unheard }
-parts h (commands.VerifyIndex index image) = record
+parts h (commands.VerifyIndex workers index image) = record
     { image = image; stores = []; target = []; cache = []; listener = unheard }
-parts h (commands.Chop store index image) = record
+parts h (commands.Chop store workers index image) = record
     { image = image; stores = store ∷ []; target = []; cache = []; listener = unheard }
 parts h (commands.Cache stores cache indexes) = record
     { image = []; stores = stores; target = []; cache = cache; listener = unheard }
@@ -106,8 +106,8 @@ abbrev pub Achieves : Bool → Heard → Command → World → World → Type 0
 Achieves sure h (commands.Make store sizes workers index image) w v =
     IfSome w.disk.files (λ b. IfSome v.disk.files (λ a. (l : Listing)
     × IsMade b a sizes index image l × StoreHas (storage_of w) (storage_of v) store l))
-Achieves sure h (commands.VerifyIndex index image) w v = IfSome w.disk.files (λ m. IsVerified m index image)
-Achieves sure h (commands.Chop store index image) w v = IfSome w.disk.files (λ b. (l : Listing)
+Achieves sure h (commands.VerifyIndex workers index image) w v = IfSome w.disk.files (λ m. IsVerified m index image)
+Achieves sure h (commands.Chop store workers index image) w v = IfSome w.disk.files (λ b. (l : Listing)
     × IsChopped b index image l × StoreHas (storage_of w) (storage_of v) store l)
 Achieves sure h (commands.Cache stores cache indexes) w v =
     IfSome w.disk.files (λ b. IfSome w.disk.folders (λ f. IfSome v.disk.folders (λ g.

@@ -29,7 +29,7 @@ use dsy_base::listen::Listen;
 use dsy_base::sink::Sink;
 use dsy_base::view::Target;
 use extract_command::extract::{Extraction, extract};
-use image_commands::chop::chop_into_store;
+use image_commands::chop::{ChopWords, chop_into_store};
 use image_commands::make::{Making, make};
 use print_commands::demo::demo;
 use print_commands::help::help;
@@ -89,7 +89,11 @@ where
                 image,
             },
         ),
-        Command::VerifyIndex { index, image } => check_image(alloc, files, index, image),
+        Command::VerifyIndex {
+            workers,
+            index,
+            image,
+        } => check_image(rt, alloc, files, index, image, workers),
         Command::ListChunks { index } => print_chunks(alloc, files, out, index),
         Command::Extract {
             stores,
@@ -120,9 +124,21 @@ where
         Command::HelpOn(kind) => help(out, Topic::Command(kind)),
         Command::Chop {
             store,
+            workers,
             index,
             image,
-        } => chop_into_store(alloc, files, dial, store, index, image),
+        } => chop_into_store(
+            rt,
+            alloc,
+            files,
+            dial,
+            ChopWords {
+                store,
+                workers,
+                index,
+                image,
+            },
+        ),
         Command::Cache {
             stores,
             cache,

@@ -9,12 +9,13 @@ use caibx_codec::index::Index;
 use dsy_base::fault::{Failed, IoFault};
 use dsy_base::view::View;
 use dsy_forms::mem_sink::MemSink;
+use image_check::check::{CheckFault, verify_index};
 use std::alloc::Global;
 use std::process::Abort;
+use std::thread::Threads;
 use store_chain::chain::Chain;
 use store_chain::refused::HasFault;
 use store_forms::scripted_store::{Refuses, ScriptedStore};
-use verify_tool::check::{CheckFault, verify_index};
 use verify_tool::count::count_in_store;
 use verify_tool::info::info;
 use verify_tool::list::list_chunks;
@@ -24,15 +25,16 @@ fn view_of(rt: &impl Abort, alloc: Global, image: &[u8], fails: Vec<u64>) -> Mem
 }
 
 // What comes of these bytes beside the index.
-fn is_checked(
-    rt: &impl Abort,
+fn is_checked<R: Abort + Threads + Sync>(
+    rt: &R,
     alloc: Global,
     index: &Index,
     image: &[u8],
     want: Result<(), CheckFault>,
 ) {
-    let mut view = view_of(rt, alloc, image, Vec::new(alloc));
-    same(rt, verify_index(alloc, index, &mut view), want);
+    let view = view_of(rt, alloc, image, Vec::new(alloc));
+    let (_, checked) = verify_index(rt, alloc, index, view, &mut Vec::new(alloc));
+    same(rt, checked, want);
 }
 
 // The chunk that is another one has this name.
@@ -64,8 +66,8 @@ fn the_first_wrong_chunk_is_named(rt: HostRuntime) {
 fn a_failed_read_is_no_mismatch(rt: HostRuntime) {
     let alloc = rt.alloc();
     let two = index_of(&rt, alloc, &[ABC, DEF]);
-    let mut view = view_of(&rt, alloc, b"abcdeX", fails(&rt, alloc, 1));
-    let checked = verify_index(alloc, &two, &mut view);
+    let view = view_of(&rt, alloc, b"abcdeX", fails(&rt, alloc, 1));
+    let (_, checked) = verify_index(&rt, alloc, &two, view, &mut Vec::new(alloc));
     same(&rt, checked, Err(CheckFault::ImageFault));
 }
 
@@ -73,8 +75,8 @@ fn a_failed_read_is_no_mismatch(rt: HostRuntime) {
 fn a_wrong_length_is_told_before_any_read(rt: HostRuntime) {
     let alloc = rt.alloc();
     let two = index_of(&rt, alloc, &[ABC, DEF]);
-    let mut view = view_of(&rt, alloc, b"abXdeXg", fails(&rt, alloc, 0));
-    let checked = verify_index(alloc, &two, &mut view);
+    let view = view_of(&rt, alloc, b"abXdeXg", fails(&rt, alloc, 0));
+    let (mut view, checked) = verify_index(&rt, alloc, &two, view, &mut Vec::new(alloc));
     same(&rt, checked, Err(CheckFault::Length { size: 7 }));
     // The first read fails, and it has not been made yet.
     assert!(rt; view.size() == 7);

@@ -8,6 +8,8 @@ mod ahead_tests;
 #[cfg(test)]
 mod assembly_tests;
 #[cfg(test)]
+mod beside_tests;
+#[cfg(test)]
 mod calls;
 #[cfg(test)]
 mod check_tests;

@@ -15,7 +15,7 @@ use dsy_base::fault::{Failed, raise};
 use dsy_base::name::Name;
 use dsy_base::view::View;
 use dsy_forms::no_folders::NoFolders;
-use image_store::chop::{ChopFault, chop};
+use image_chop::chop::{ChopFault, chop};
 use image_store::put_chunks::MakeFault;
 use image_store::store_image::store_image;
 use std::alloc::Global;
@@ -350,18 +350,20 @@ fn mismatch(entry: u64, got: &[u8]) -> Result<(), ChopFault> {
 }
 
 // Chops the image by the index, and compares how it ended, and how many chunks were put.
-fn chops(
-    rt: &impl Abort,
+fn chops<R: Abort + Threads + Sync>(
+    rt: &R,
     alloc: Global,
     index: &Index,
     image: &[u8],
-    store: &mut ScriptedStore,
+    store: ScriptedStore,
     want: Result<(), ChopFault>,
     puts: u64,
-) {
-    let chopped = chop(alloc, index, &mut view_of(rt, alloc, image), store);
+) -> ScriptedStore {
+    let view = view_of(rt, alloc, image);
+    let (_, store, chopped) = chop(rt, alloc, index, view, &mut Vec::new(alloc), store);
     same(rt, chopped, want);
     same(rt, store.puts(), puts);
+    store
 }
 
 // Each chunk is asked for and put.
@@ -369,29 +371,15 @@ fn chops(
 fn an_image_is_chopped_up_to_the_first_refusal(rt: HostRuntime) {
     let alloc = rt.alloc();
     let index = index_of_pieces(&rt, alloc, &[b"abc", b"def"]);
-    let mut store = ScriptedStore::new(alloc, Refuses::Nothing);
+    let store = ScriptedStore::new(alloc, Refuses::Nothing);
     let length = Err(ChopFault::Length { size: 5 });
-    chops(&rt, alloc, &index, b"abcde", &mut store, length, 0);
-    chops(
-        &rt,
-        alloc,
-        &index,
-        b"abXdef",
-        &mut store,
-        mismatch(0, b"abX"),
-        0,
-    );
-    chops(
-        &rt,
-        alloc,
-        &index,
-        b"abcdeX",
-        &mut store,
-        mismatch(1, b"deX"),
-        1,
-    );
-    let mut store = ScriptedStore::new(alloc, Refuses::Nothing);
-    chops(&rt, alloc, &index, b"abcdef", &mut store, Ok(()), 2);
+    let store = chops(&rt, alloc, &index, b"abcde", store, length, 0);
+    let wrong = mismatch(0, b"abX");
+    let store = chops(&rt, alloc, &index, b"abXdef", store, wrong, 0);
+    let wrong = mismatch(1, b"deX");
+    let _ = chops(&rt, alloc, &index, b"abcdeX", store, wrong, 1);
+    let store = ScriptedStore::new(alloc, Refuses::Nothing);
+    let _ = chops(&rt, alloc, &index, b"abcdef", store, Ok(()), 2);
 }
 
 #[test]
@@ -399,27 +387,41 @@ fn a_store_that_fails_ends_the_chopping(rt: HostRuntime) {
     let alloc = rt.alloc();
     let index = index_of_pieces(&rt, alloc, &[b"abc", b"def"]);
     let fault = Err(ChopFault::StoreFault);
-    let mut store = ScriptedStore::new(alloc, Refuses::Call(0));
-    chops(&rt, alloc, &index, b"abcdef", &mut store, fault, 0);
-    let mut store = ScriptedStore::new(alloc, Refuses::Call(3));
-    chops(&rt, alloc, &index, b"abcdef", &mut store, fault, 1);
+    let store = ScriptedStore::new(alloc, Refuses::Call(0));
+    let _ = chops(&rt, alloc, &index, b"abcdef", store, fault, 0);
+    let store = ScriptedStore::new(alloc, Refuses::Call(3));
+    let _ = chops(&rt, alloc, &index, b"abcdef", store, fault, 1);
 }
 
 #[test]
 fn an_id_that_is_listed_twice_is_seen_to_twice(rt: HostRuntime) {
     let alloc = rt.alloc();
     let index = index_of_pieces(&rt, alloc, &[b"abc", b"abc"]);
-    let mut store = ScriptedStore::new(alloc, Refuses::Nothing);
-    chops(
-        &rt,
-        alloc,
-        &index,
-        b"abcabX",
-        &mut store,
-        mismatch(1, b"abX"),
-        1,
-    );
+    let store = ScriptedStore::new(alloc, Refuses::Nothing);
+    let wrong = mismatch(1, b"abX");
+    let store = chops(&rt, alloc, &index, b"abcabX", store, wrong, 1);
     same(&rt, store.calls(), 2);
-    chops(&rt, alloc, &index, b"abcabc", &mut store, Ok(()), 1);
+    let store = chops(&rt, alloc, &index, b"abcabc", store, Ok(()), 1);
     same(&rt, store.calls(), 4);
+}
+
+// Chops "abc" beside a view that is so. Compares how often the first view was read.
+fn chops_beside<R: Abort + Threads + Sync>(rt: &R, alloc: Global, other: Then, reads: u64) {
+    let index = index_of_pieces(rt, alloc, &[b"abc"]);
+    let first = changing_view(rt, alloc, Then::Same);
+    let mut others = one_view(rt, alloc, changing_view(rt, alloc, other).changed());
+    let store = ScriptedStore::new(alloc, Refuses::Nothing);
+    let (first, store, chopped) = chop(rt, alloc, &index, first, &mut others, store);
+    same(rt, chopped, Ok(()));
+    same(rt, store.puts(), 1);
+    same(rt, first.reads, reads);
+}
+
+// The same with chopping.
+#[test]
+fn an_image_is_chopped_whatever_another_view_reads(rt: HostRuntime) {
+    let alloc = rt.alloc();
+    chops_beside(&rt, alloc, Then::Fault, 1);
+    chops_beside(&rt, alloc, Then::Other, 1);
+    chops_beside(&rt, alloc, Then::Same, 0);
 }

@@ -27,10 +27,10 @@ use Rattle.command_steps.specs.declared.any_store.AnyStore.{AnyStore}
 use Rattle.command_words.specs.declared.command.Location.{Location}
 use Rattle.dsy_base.specs.Links.{DialState, Traffic}
 use Rattle.http_wire.specs.declared.reply.Method.TheVariants as method
-use Rattle.image_store.specs.Chopping.{AsksListed, ChopStops, IsMismatch, SaysBefore, StopsInOrder, TellsLength, most_seen, seen_to, times_listed}
+use Rattle.image_chop.specs.Chopping.{AsksListed, ChopStops, IsMismatch, SaysBefore, StopsInOrder, TellsLength, most_seen, seen_to, times_listed}
 use Rattle.image_store.specs.PutChunks.{HoldsAll, KeepsListed, PutsFiles, SaysAll, Stands}
-use Rattle.image_store.specs.declared.chop.ChopFault.{ChopFault}
-use Rattle.image_store.specs.declared.chop.ChopFault.TheVariants as faults
+use Rattle.image_chop.specs.declared.chop.ChopFault.{ChopFault}
+use Rattle.image_chop.specs.declared.chop.ChopFault.TheVariants as faults
 
 pub has_length : (l : Listing) (told : Option (List ℕ)) (size : ℕ) → IfSome told (λ t. length t ≡ size) → size ≡ image_length l → HasLength l told
 has_length l None size sized is = tt

@@ -31,18 +31,6 @@ use Rattle.dsy_base.specs.Maps.{Map, at_name}
 use Rattle.image_store.specs.PutChunks.{SaysAll}
 use Rattle.image_store.specs.StoreImage.{SaysOf}
 
--- ---- giving both back
-
-pub ends_read : (d b : Disk) (q : List ℕ) (n : ℕ) → HoldsSame d b → GivesFile d b q n → Reads d b
-ends_read d b q n h g = record {
-  files = h.files;
-  folders = h.folders;
-  counts = counted_le d.file_counts b.file_counts q g.counts.counted;
-  folder_counts = λ p. let same : count_at b.folder_counts p ≡ count_at d.folder_counts p = ap (λ m. count_at m p) g.folder_counts in omega (arith, same);
-  known = counted_known d.file_counts b.file_counts q g.counts.counted;
-  folder_known = λ p is. subst (λ (m : Map ℕ). IsSome (m p)) (sym g.folder_counts) is;
-}
-
 -- a store that isn't reached
 pub refused_read : (images : List (List ℕ)) (store : Location) (d e : Disk) (o : Outcome) → SourceTaken images store d (Err o) e → Reads d e
 refused_read images (locations.Folder name) d e o taken = taken.1
@@ -107,11 +95,6 @@ gives_store files place faults state images d b e k j store s read used is adds 
 -- beside one image alone
 pub writes_beside : (some all : List (List ℕ)) (store : Location) (w v : Storage) → Within some all → WritesStore some store w v → WritesStore all store w v
 writes_beside some all store w v within h = record { adds = h.adds; folders = h.folders; dials = h.dials; used = uses_within some (folders_among (store ∷ [])) all (folders_among (store ∷ [])) w.disk v.disk within (within_same (folders_among (store ∷ []))) h.used }
-
--- a fault of a view that had counted none is one of its name
-pub view_rose : (d e : Disk) (q : List ℕ) (m n : ℕ) → count_at e.file_counts q ≡ raised (count_at d.file_counts q) n → m ≡ 0 → Rose m n → FileRose d e q
-view_rose d e q m n added none rose =
-    given_rose (count_at d.file_counts q) (count_at d.file_counts q) (count_at e.file_counts q) n (omega arith) added (subst (λ k. Rose k n) none rose)
 
 -- ---- the store
 

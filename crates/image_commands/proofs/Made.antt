@@ -17,14 +17,14 @@ use Rattle.command_steps.specs.declared.any_store.AnyStore.{AnyStore}
 use Rattle.command_words.specs.declared.command.Location.{Location}
 use Rattle.dsy_base.specs.Links.{DialState, Traffic}
 use Rattle.http_wire.specs.declared.reply.Method.TheVariants as method
-use Rattle.image_store.specs.Chopping.{times_listed}
+use Rattle.image_chop.specs.Chopping.{times_listed}
 use Rattle.image_store.specs.PutChunks.{AsksEach, IsListedId, KeepsListed}
 use Rattle.buzhash_cut.specs.Sizes.{Sizes}
 use Rattle.chunk_store.specs.Folders.{chunks}
 use Rattle.image_commands.proofs.GivenStores.{writes_beside}
-use Rattle.image_commands.proofs.Viewed.{names_alone}
+use Rattle.image_views.proofs.Viewed.{names_alone}
 use Rattle.image_commands.specs.Make.{MadeOf, WritesStore, once_listed}
-use Rattle.image_commands.specs.Views.{AreOf, names_of}
+use Rattle.image_views.specs.Views.{AreOf, names_of}
 use Rattle.command_steps.specs.Sources.{Storage}
 use Rattle.dsy_base.specs.Bytes.{Held}
 use Rattle.dsy_base.specs.Maps.{Map}

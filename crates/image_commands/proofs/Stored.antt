@@ -15,7 +15,7 @@ use Rattle.image_commands.proofs.GivenStores.{stored_more}
 use Rattle.image_commands.proofs.Made.{made_of}
 use Rattle.image_commands.proofs.Viewed.{of_first, said_of}
 use Rattle.image_commands.specs.Make.{AnySaid, GetsImage, HasFewCuts, ImageStored, MadeOf, StoreGiven, WritesStore, answer_of_storing}
-use Rattle.image_commands.specs.Views.{AreOf}
+use Rattle.image_views.specs.Views.{AreOf}
 use Rattle.image_store.specs.StoreImage.{IsOfCutting, IsOfImage, PutsFilesOf, SaysOf, StoresImage}
 use Rattle.image_store.specs.declared.put_chunks.MakeFault.{MakeFault}
 use Rattle.image_store.specs.declared.put_chunks.MakeFault.TheVariants as faults

@@ -16,11 +16,11 @@ use Rattle.command_worlds.specs.Worlds.{FileRose, OnDisk, Step, World}
 use Rattle.command_words.specs.declared.command.Location.{Location}
 use Rattle.image_commands.specs.Make.{AnySaid, WritesStore, StoreGiven}
 use Rattle.dsy_base.specs.Maps.{Map}
-use Rattle.image_store.specs.Chopping.{AreRightTo, IsMismatch, SaysBefore, StopsInOrder, most_seen, seen_to}
-use Rattle.image_store.specs.Chopping.{times_listed}
+use Rattle.image_chop.specs.Chopping.{AreRightTo, IsMismatch, SaysBefore, StopsInOrder, most_seen, seen_to}
+use Rattle.image_chop.specs.Chopping.{times_listed}
 use Rattle.image_store.specs.PutChunks.{HoldsAll, KeepsListed, PutsFiles, SaysAll, Stands}
-use Rattle.image_store.specs.declared.chop.ChopFault.{ChopFault}
-use Rattle.image_store.specs.declared.chop.ChopFault.TheVariants as faults
+use Rattle.image_chop.specs.declared.chop.ChopFault.{ChopFault}
+use Rattle.image_chop.specs.declared.chop.ChopFault.TheVariants as faults
 
 -- ---- chopping the image into a store that was taken
 

@@ -1,3 +1,2 @@
 pub mod Chop
 pub mod Make
-pub mod Views

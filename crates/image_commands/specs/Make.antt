@@ -24,7 +24,7 @@ use Rattle.command_words.specs.declared.command.Location.TheVariants as location
 use Rattle.dsy_base.specs.Disk.{Disk}
 use Rattle.dsy_base.specs.Maps.{Map, at_name}
 use Rattle.image_store.specs.PutChunks.{KeepsListed, HoldsAll, SaysAll}
-use Rattle.image_store.specs.Chopping.{times_listed}
+use Rattle.image_chop.specs.Chopping.{times_listed}
 use Rattle.image_store.specs.StoreImage.{Lists, PutsFilesOf, SaysOf, StoresImage}
 use Rattle.image_store.specs.declared.put_chunks.MakeFault.{MakeFault}
 use Rattle.image_store.specs.declared.put_chunks.MakeFault.TheVariants as faults

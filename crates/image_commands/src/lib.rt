@@ -3,4 +3,3 @@
 
 pub mod chop;
 pub mod make;
-mod views;

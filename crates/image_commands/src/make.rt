@@ -3,12 +3,11 @@
 ghost use Rattle.std.specs.Prelude.{◌≡◌, ℕ, ◌<◌, List, Option, map, vec_len, All};
 ghost use Rattle.std.specs.Prelude.{Ok, Err, IfErr, IfOk, IfSome, IsSome};
 ghost use Rattle.buzhash_cut.specs.Image.{AreOfOneImage};
-ghost use Rattle.image_commands.specs.Views.{AreOf};
+ghost use Rattle.image_views.specs.Views.{AreOf};
 ghost use Rattle.command_worlds.specs.Worlds.{world};
 ghost use Rattle.image_commands.specs.Make.{IndexWritten, MakeEnds, SizesJudged, StoredInto, answer_of_storing};
 ghost use Rattle.dsy_base.specs.Disk.{Output};
 
-use crate::views::{end_views, open_views};
 use buzhash_cut::sizes::CutSizes;
 use command_outcome::outcome::Outcome;
 use command_steps::taken_stores::{give_source, take_source};
@@ -22,6 +21,7 @@ use dsy_base::name::Name;
 use dsy_base::view::View;
 use image_store::put_chunks::MakeFault;
 use image_store::store_image::store_image;
+use image_views::views::{end_views, open_views};
 use std::alloc::Global;
 use std::thread::Threads;
 

@@ -3,8 +3,7 @@ pub mod Rooms
 pub mod Seen
 pub mod Stored
 pub mod Putting
-pub mod Crews
+pub mod Beside
 pub mod Going
-pub mod Chopped
 pub mod Answered
 pub mod Views

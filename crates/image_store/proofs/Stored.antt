@@ -11,7 +11,6 @@ use Rattle.chunk_store.specs.declared.id.DigestKind.{DigestKind}
 use Rattle.dsy_base.specs.Folders.{temporary_of}
 use Rattle.dsy_base.specs.Maps.{Map, at_name}
 use Rattle.image_store.proofs.Names.{equal_or_not, other_name, same_name}
-use Rattle.image_store.specs.Chopping.{SaysBefore}
 use Rattle.image_store.specs.PutChunks.{PutsRight, PutsLacked, HoldsNamed, SaysNamed, IsListedId, IsStored, Stands, HoldsAll, SaysAll, IsPut, PutsFiles, AsksEach}
 use Rattle.image_store.specs.Putting.{HoldsStill}
 
@@ -143,7 +142,7 @@ module _ (l : Listing) where
     ],
   )
 
-  pub said_before : (i : ℕ) (old new : Said) → ((q : List ℕ) → q ≢ id_of l i → KeepsOf old new q) → SaysAll l i old → SaysBefore l i new
+  pub said_before : (i : ℕ) (old new : Said) → ((q : List ℕ) → q ≢ id_of l i → KeepsOf old new q) → SaysAll l i old → (j : ℕ) → j < i → id_of l j ≢ id_of l i → SaysNamed (kind_of l) (id_of l j) new
   said_before i old new keeps said = λ j less other. said_on (id_of l j) old new (keeps (id_of l j) other) (said j less)
 
   pub said_more : (i : ℕ) (old new : Said) → ((q : List ℕ) → q ≢ id_of l i → KeepsOf old new q) → SaysNamed (kind_of l) (id_of l i) new → SaysAll l i old → SaysAll l (i + 1) new

@@ -2,4 +2,3 @@ pub mod PutChunks
 pub mod Putting
 pub mod Storing
 pub mod StoreImage
-pub mod Chopping

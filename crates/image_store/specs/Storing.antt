@@ -1,11 +1,9 @@
 -- What storing the entries of an index with a view has come to. l lists the chunks.
 use Rattle.std.specs.Prelude.{◌≡◌, ℕ, ◌<◌, ◌≤◌, All, IfErr, IfSome, List, OnOk, Option, Result, length, map}
-use Rattle.std.specs.Prelude.{slice_index}
 use Rattle.buzhash_cut.specs.Image.{CountsViews}
 use Rattle.caibx_codec.specs.Listing.{Listing, count_of, image_length, size_of}
 use Rattle.chunk_store.specs.Causes.{CountsCause}
 use Rattle.chunk_store.specs.declared.store.Store.{Ghosts as StoreWords}
-use Rattle.dsy_base.specs.Bytes.{Held}
 use Rattle.dsy_base.specs.declared.view.View.{Ghosts as ViewWords}
 use Rattle.image_store.specs.PutChunks.{HoldsAll, PutsEnd, SaysAll}
 use Rattle.image_store.specs.Putting.{PuttingEnds, HasPut, HasTouched}
@@ -37,14 +35,6 @@ module _ {V S : Type 0} (view : ViewWords V) (store : StoreWords S) (l : Listing
     pub next : OnOk result (IsStoring new)
     pub first : new.progress.first.value ≡ old.progress.first.value
     pub ends : PuttingEnds view store l new.progress.first.value old.image new.image new.store result
-
--- what a view holds is the image that another one holds
-abbrev pub IsAlike : Held → Held → Type 0
-IsAlike h k = (k.size ≡ h.size) × (k.bytes ≡ h.bytes)
-
--- no count of the list has fallen
-pub record NoFaultCountFalls (old new : List ℕ) : Type 0 where
-  pub never_falls : (i : ℕ) → slice_index old i ≤ slice_index new i
 
 -- how storing all entries of an image of these bytes ended
 pub record HasStored {S : Type 0} (store : StoreWords S) (l : Listing) (told : Option (List ℕ)) (first now : S)

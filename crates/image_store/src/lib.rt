@@ -1,9 +1,8 @@
 //! Storing an image: its index, and each of its chunks in a store.
 #![tactic(auto)]
 
-pub mod chop;
 pub mod put_chunks;
-mod rounds;
 mod spell;
+mod store_entries;
 pub mod store_image;
-mod storing;
+pub mod storing;

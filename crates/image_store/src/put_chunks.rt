@@ -172,8 +172,8 @@ fn put_named<S: StoreWrite>(
     }
 }
 
-// Stores entry i. Its slice may have been read, and then it isn't read again.
-pub(crate) fn put_entry<V: View, S: StoreWrite>(
+/// Stores entry i. Its slice may have been read, and then it isn't read again.
+pub fn put_entry<V: View, S: StoreWrite>(
     index: &Index,
     i: usize,
     image: &mut V,

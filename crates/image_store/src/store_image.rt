@@ -10,8 +10,8 @@ ghost use Rattle.image_store.specs.StoreImage.{Indexes, IsOfCutting, IsOfStoring
 ghost use Rattle.image_store.specs.StoreImage.{IsOfImage, SaysOf, SendsOf};
 
 use crate::put_chunks::MakeFault;
-use crate::rounds::store_entries;
 use crate::spell::spell;
+use crate::store_entries::store_entries;
 use buzhash_cut::image::{CutFault, index_view};
 use buzhash_cut::laws::{image_is_right, many_cuts};
 use buzhash_cut::sizes::CutSizes;

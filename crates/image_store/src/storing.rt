@@ -12,21 +12,21 @@ use caibx_codec::index::Index;
 use chunk_store::store::{Store, StoreWrite};
 use dsy_base::view::View;
 use read_ahead::ahead::{Ahead, slice_among};
-use read_ahead::claims::Claims;
+use read_ahead::consumer::Consumer;
 use std::alloc::{AllocError, Global};
 use std::collections::BTreeSet;
 use std::snapshot::Snapshot;
 
 /// Room for the slice of an entry, and for the bytes that the store holds in its place, each as long as the largest.
 #[derive(Drop)]
-pub(crate) struct Rooms {
+pub struct Rooms {
     pub chunk: Vec<u8>,
     pub room: Vec<u8>,
 }
 
 impl Rooms {
     /// Room for the entries of the index.
-    pub(crate) fn new(alloc: Global, index: &Index) -> Result<Rooms, AllocError>
+    pub fn new(alloc: Global, index: &Index) -> Result<Rooms, AllocError>
         ensures { IfOk result (HasRoomFor index.now) }
     {
         Ok(Rooms {
@@ -188,22 +188,16 @@ impl<V: View, S: StoreWrite> Storing<V, S> {
         }
     }
 
-    /// Stores the entries before `to`.
-    pub(crate) fn put_to(
-        &mut self,
-        index: &Index,
-        to: usize,
-        ready: &[Ahead],
-    ) -> Result<(), MakeFault>
-        requires inside { to ≤ count_of index.now }
+    /// Stores the next entry, whose slice may be ready.
+    fn put_next(&mut self, index: &Index, ready: &[Ahead]) -> Result<(), MakeFault>
+        requires more { self.old.progress.at < count_of index.now }
         requires storing { IsStoring V.View S.Store index.now self.old }
         requires ready { All (IsAhead index.now (V.held self.old.image).bytes) ready.now }
         ensures on { GoesOn V.View S.Store index.now self.old self.new result }
-        ensures to { OnOk result (to ≤ self.new.progress.at) }
+        ensures next { OnOk result (self.new.progress.at ≡ self.old.progress.at + 1) }
     {
-        self.progress.put_to(
+        self.progress.put_next(
             index,
-            to,
             &mut self.image,
             &mut self.store,
             &mut self.rooms,
@@ -211,35 +205,32 @@ impl<V: View, S: StoreWrite> Storing<V, S> {
         )
     }
 
-    /// Stores the entries before those of the round, and those of the round that it takes.
-    pub(crate) fn put_round(
-        &mut self,
-        index: &Index,
-        claims: &Claims,
-        ready: &[Ahead],
-    ) -> Result<(), MakeFault>
-        requires inside { (claims.now.from ≤ count_of index.now) × (claims.now.to ≤ count_of index.now) }
-        requires storing { IsStoring V.View S.Store index.now self.old }
-        requires ready { All (IsAhead index.now (V.held self.old.image).bytes) ready.now }
-        ensures { GoesOn V.View S.Store index.now self.old self.new result }
-    {
-        self.put_to(index, claims.from, ready)?;
-        while claims.takes(self.progress.at) {
-            self.progress.put_next(
-                index,
-                &mut self.image,
-                &mut self.store,
-                &mut self.rooms,
-                ready,
-            )?;
-        }
-        Ok(())
-    }
-
     /// Hands the view and the store back.
     pub(crate) fn end(self) -> (V, S)
         ensures { (result.0 ≡ self.image) × (result.1 ≡ self.store) }
     {
         (self.image, self.store)
+    }
+}
+
+impl<V: View, S: StoreWrite> Consumer for Storing<V, S> {
+    ghost use Rattle.image_store.specs.Storing.{GoesOn, IsStoring};
+
+    type Fault = MakeFault;
+
+    ghost image = { λ s. V.held s.image };
+
+    ghost taken = { λ s. s.progress.at };
+
+    ghost can_go_on = { λ l s. IsStoring V.View S.Store l s };
+
+    ghost goes = { λ l a b r. GoesOn V.View S.Store l a b r };
+
+    fn at(&self) -> usize {
+        self.progress.at
+    }
+
+    fn take_next(&mut self, index: &Index, ready: &[Ahead]) -> Result<(), MakeFault> {
+        self.put_next(index, ready)
     }
 }

@@ -1,7 +1,7 @@
 -- Lists of readers, place by place.
 use Rattle.std.proofs.Common.{◌≡◌, ℕ, zero, suc, ◌+◌, ◌<◌, ◌≤◌, List, [], ◌∷◌, ◌++◌, length, map, reverse, slice_index_or, slice_set, refl, sym, ap, ◌∙◌, subst, inl, inr, arith}
 use Rattle.std.proofs.lemmas.Bool.{cases_lt}
-use Rattle.std.proofs.lemmas.List.{get_or-set_other, get_or-set_same, length-set, reverse-append, reverse-reverse}
+use Rattle.std.proofs.lemmas.List.{get_or-set_other, get_or-set_same, length-set, reverse-reverse}
 
 -- what is seen of each is alike
 maps_alike : {W X : Type 0} (f : W → X) (xs ys : List W) → length ys ≡ length xs → ((k : ℕ) (d : W) → k < length xs → f (slice_index_or ys k d) ≡ f (slice_index_or xs k d)) → map f ys ≡ map f xs
@@ -57,7 +57,6 @@ set_alike {W} f xs k y e inside same = maps_alike f xs (slice_set xs k y) (lengt
   ]
 
 -- the views in their order, from those that were taken from the end
-pub hired : {W : Type 0} (vs ms left : List W) (first : W) → left ≡ [] → (left ++ reverse ms) ++ first ∷ [] ≡ reverse vs → vs ≡ first ∷ ms
-hired {W} vs ms left first none is =
-    sym (reverse-reverse vs) ∙ ap reverse (sym is ∙ ap (λ (xs : List W). (xs ++ reverse ms) ++ first ∷ []) none)
-    ∙ reverse-append (reverse ms) (first ∷ []) ∙ ap (λ (xs : List W). first ∷ xs) (reverse-reverse ms)
+pub hired : {W : Type 0} (vs ms left : List W) → left ≡ [] → left ++ reverse ms ≡ reverse vs → vs ≡ ms
+hired {W} vs ms left none is =
+    sym (reverse-reverse vs) ∙ ap reverse (sym is ∙ ap (λ (xs : List W). xs ++ reverse ms) none) ∙ reverse-reverse ms

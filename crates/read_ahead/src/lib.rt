@@ -1,7 +1,10 @@
-//! Views of an image that read and name its slices ahead of the one that stores them.
+//! Entries of an index that one thread takes in order, while views of the image read and name slices ahead of it.
 #![tactic(auto)]
 
 pub mod ahead;
 pub mod claims;
-pub mod plan;
+pub mod consumer;
+mod plan;
 pub mod reader;
+pub mod rounds;
+pub mod subfolders;

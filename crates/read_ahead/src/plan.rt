@@ -41,9 +41,9 @@ pub(crate) fn repeats(index: &Index, i: usize) -> bool
     0 < i && index.id(i).is(&index.id(i - 1))
 }
 
-/// The entry after those of the round that begins with entry `at`: what the storing thread and the readers are to
+/// The entry after those of the round that begins with entry `at`: what the thread in front and the readers are to
 /// read, where the largest chunk has `largest` bytes. There are no more slices than the readers' lists hold.
-pub fn round_end(index: &Index, at: usize, readers: usize, largest: usize) -> usize
+pub(crate) fn round_end(index: &Index, at: usize, readers: usize, largest: usize) -> usize
     requires { at < count_of index.now }
     ensures { (at < result) × (result ≤ count_of index.now) }
 {

@@ -1,6 +1,6 @@
 //! Views that read slices of an image ahead, each into a room of its own. Entries are numbered from 0.
 
-ghost use Rattle.std.specs.Prelude.{◌≡◌, ℕ, ◌+◌, ◌<◌, ◌≤◌, [], ◌∷◌, All, List, Option, IfOk, IfSome, length, map};
+ghost use Rattle.std.specs.Prelude.{◌≡◌, ℕ, ◌+◌, ◌<◌, ◌≤◌, [], All, List, Option, IfOk, IfSome, length, map};
 ghost use Rattle.std.specs.Prelude.{vec_capacity, vec_len};
 ghost use Rattle.caibx_codec.specs.Listing.{Listing, count_of, image_length};
 ghost use Rattle.read_ahead.specs.Ahead.{HasBytes, IsAhead, room_for};
@@ -51,7 +51,7 @@ impl<V: View> Reader<V> {
 }
 
 /// Takes from each reader what it has read, and gives it another room.
-pub fn change_all<V: View>(readers: &mut [Reader<V>], ready: &mut [Ahead])
+pub(crate) fn change_all<V: View>(readers: &mut [Reader<V>], ready: &mut [Ahead])
     requires { length ready.old ≡ length readers.old }
     ensures changed { ready.new ≡ map (λ r. r.ahead) readers.old }
     ensures kept { map (λ r. r.view) readers.new ≡ map (λ r. r.view) readers.old }
@@ -76,7 +76,7 @@ fn rooms(alloc: Global, count: usize, size: usize) -> Result<Vec<Ahead>, AllocEr
 
 /// What readers need: `rooms` to read into, `ready` rooms to be stored, and a place for each reader.
 #[derive(Drop)]
-pub struct Crew<V> {
+pub(crate) struct Crew<V> {
     pub readers: Vec<Reader<V>>,
     pub rooms: Vec<Ahead>,
     pub ready: Vec<Ahead>,
@@ -108,20 +108,22 @@ impl<V: View> Crew<V> {
     }
 }
 
-/// Makes a reader of each view but the first, which is handed out.
-pub fn hire<V: View>(views: &mut Vec<V>, rooms: &mut Vec<Ahead>, readers: &mut Vec<Reader<V>>) -> V
-    requires some { vec_len views.old ≡ vec_len rooms.old + 1 }
+/// Makes a reader of each view.
+pub(crate) fn hire<V: View>(
+    views: &mut Vec<V>,
+    rooms: &mut Vec<Ahead>,
+    readers: &mut Vec<Reader<V>>,
+)
+    requires rooms { vec_len rooms.old ≡ vec_len views.old }
     requires none { readers.old.items ≡ [] }
-    requires room { vec_len rooms.old ≤ vec_capacity readers.old }
-    ensures kept { views.old.items ≡ result ∷ map (λ r. r.view) readers.new.items }
+    requires room { vec_len views.old ≤ vec_capacity readers.old }
+    ensures kept { views.old.items ≡ map (λ r. r.view) readers.new.items }
     ensures none { views.new.items ≡ [] }
-    ensures room { vec_len readers.new + 1 ≤ vec_capacity views.new }
-    ensures size { vec_len readers.new ≡ vec_len rooms.old }
+    ensures size { vec_len readers.new ≡ vec_len views.old }
+    ensures room { vec_len readers.new ≤ vec_capacity views.new }
+    ensures capacity { vec_capacity views.new ≡ vec_capacity views.old }
 {
     views.reverse();
-    let Some(first) = views.pop() else {
-        unreachable!();
-    };
     while let Some(view) = views.pop() {
         let Some(ahead) = rooms.pop() else {
             unreachable!();
@@ -130,22 +132,19 @@ pub fn hire<V: View>(views: &mut Vec<V>, rooms: &mut Vec<Ahead>, readers: &mut V
             unreachable!();
         };
     }
-    first
 }
 
 /// Takes the views back, in their order.
-pub fn dismiss<V: View>(first: V, readers: &mut Vec<Reader<V>>, views: &mut Vec<V>)
+pub(crate) fn dismiss<V: View>(readers: &mut Vec<Reader<V>>, views: &mut Vec<V>)
     requires none { views.old.items ≡ [] }
-    requires room { vec_len readers.old + 1 ≤ vec_capacity views.old }
-    ensures { views.new.items ≡ first ∷ map (λ r. r.view) readers.old.items }
+    requires room { vec_len readers.old ≤ vec_capacity views.old }
+    ensures kept { views.new.items ≡ map (λ r. r.view) readers.old.items }
+    ensures capacity { vec_capacity views.old ≤ vec_capacity views.new }
 {
     while let Some(reader) = readers.pop() {
         let Ok(()) = views.push(reader.view) else {
             unreachable!();
         };
     }
-    let Ok(()) = views.push(first) else {
-        unreachable!();
-    };
     views.reverse();
 }

@@ -37,7 +37,7 @@ use Rattle.dsy_base.specs.Links.{DialState}
 use Rattle.dsy_base.specs.Maps.{Map, at_name}
 use Rattle.image_store.specs.PutChunks.{IsListedId as IsAmong}
 use Rattle.store_chain.specs.Chains.{Chained, KeepsStores}
-use Rattle.image_store.specs.Chopping.{AsksListed}
+use Rattle.image_chop.specs.Chopping.{AsksListed}
 use Rattle.store_chain.specs.Faults.{EachQuiet, NoneFalls}
 use Rattle.store_chain.specs.Refusals.{Refuses}
 use Rattle.store_chain.specs.declared.refused.Refused.{Refused}

@@ -1,9 +1,9 @@
 -- What the check of an image answers, and what it achieves.
 use Rattle.std.proofs.Common.{◌≡◌, ℕ, List, length, Option, Some, None, IfSome, IfErr, Result, Ok, Err, refl, sym, ◌∙◌}
 use Rattle.caibx_codec.specs.Listing.{Listing}
-use Rattle.verify_tool.specs.Checks.{NamesEntry, TellsChunks, TellsSize}
-use Rattle.verify_tool.specs.declared.check.CheckFault.{CheckFault}
-use Rattle.verify_tool.specs.declared.check.CheckFault.TheVariants as checks
+use Rattle.image_check.specs.Checks.{NamesEntry, TellsChunks, TellsSize}
+use Rattle.image_check.specs.declared.check.CheckFault.{CheckFault}
+use Rattle.image_check.specs.declared.check.CheckFault.TheVariants as checks
 use Rattle.store_commands.specs.VerifyIndex.{Checked, answer_of_check}
 use Rattle.command_worlds.specs.Worlds.{FileRose}
 use Rattle.dsy_base.specs.Disk.{Disk}

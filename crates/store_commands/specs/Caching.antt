@@ -27,7 +27,7 @@ use Rattle.dsy_base.specs.Disk.{Disk}
 use Rattle.dsy_base.specs.Links.{DialState}
 use Rattle.dsy_base.specs.Maps.{Map, at_name}
 use Rattle.image_store.specs.PutChunks.{HoldsAll, IsListedId as IsAmong}
-use Rattle.image_store.specs.Chopping.{times_listed}
+use Rattle.image_chop.specs.Chopping.{times_listed}
 use Rattle.store_chain.specs.Faults.{EachQuiet}
 use Rattle.store_chain.specs.Giving.{LacksAll}
 use Rattle.store_chain.specs.Refusals.{Refuses}

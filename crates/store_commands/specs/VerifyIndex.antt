@@ -4,9 +4,9 @@ use Rattle.caibx_codec.specs.Listing.{Listing, count_of, id_of, image_length}
 use Rattle.caibx_codec.specs.Right.{IsRight}
 use Rattle.command_outcome.specs.declared.outcome.Outcome.{Outcome}
 use Rattle.command_outcome.specs.declared.outcome.Outcome.TheVariants as ends
-use Rattle.verify_tool.specs.Checks.{IsFirstWrong}
-use Rattle.verify_tool.specs.declared.check.CheckFault.{CheckFault}
-use Rattle.verify_tool.specs.declared.check.CheckFault.TheVariants as checks
+use Rattle.image_check.specs.Checks.{IsFirstWrong}
+use Rattle.image_check.specs.declared.check.CheckFault.{CheckFault}
+use Rattle.image_check.specs.declared.check.CheckFault.TheVariants as checks
 use Rattle.dsy_base.specs.Maps.{Map}
 use Rattle.command_steps.specs.InputFiles.{ImageOpened, IndexRead, IsListed}
 use Rattle.command_worlds.specs.Steps.{◌>>=◌}

@@ -12,8 +12,8 @@ use Rattle.chunk_store.specs.declared.id.ChunkId.{ChunkId}
 use Rattle.chunk_store.specs.declared.store.Store.{Ghosts as StoreWords}
 use Rattle.dsy_base.specs.Counts.{Quiet, Rose}
 use Rattle.dsy_base.specs.Maps.{Map}
-use Rattle.image_store.proofs.Chopped.{asks_entry, asks_none, asks_whole}
-use Rattle.image_store.specs.Chopping.{AsksListed}
+use Rattle.image_chop.proofs.Chopped.{asks_entry, asks_none, asks_whole}
+use Rattle.image_chop.specs.Chopping.{AsksListed}
 use Rattle.image_store.specs.PutChunks.{IsListedId}
 use Rattle.store_chain.proofs.Kept.{kept_on, kept_still, kept_weaker, none_more}
 use Rattle.store_chain.proofs.Pairs.{all_zip_same}

@@ -1,4 +1,3 @@
-pub mod Chunks
 pub mod Sending
 pub mod Distinct
 pub mod Counted

@@ -13,7 +13,7 @@ use Rattle.chunk_store.specs.declared.id.ChunkId.{ChunkId}
 use Rattle.chunk_store.specs.declared.store.Store.{Ghosts as StoreWords}
 use Rattle.dsy_base.specs.Counts.{Quiet, Rose}
 use Rattle.dsy_base.specs.Maps.{Map}
-use Rattle.image_store.specs.Chopping.{AsksListed}
+use Rattle.image_chop.specs.Chopping.{AsksListed}
 use Rattle.image_store.specs.PutChunks.{IsListedId}
 use Rattle.store_chain.specs.Chains.{AsksOnce, Chained, KeepsStores}
 use Rattle.store_chain.specs.Faults.{EachQuiet}

@@ -1,4 +1,3 @@
-pub mod Checks
 pub mod Texts
 pub mod Counts
 pub mod Blocks

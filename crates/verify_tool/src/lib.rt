@@ -1,7 +1,6 @@
-//! What an index says: told, held against an image, and kept in a cache. And folder stores, checked and pruned.
+//! What an index says: told, and kept in a cache. And folder stores, checked and pruned.
 #![tactic(auto)]
 
-pub mod check;
 pub mod count;
 pub mod fill;
 pub mod info;

@@ -13,10 +13,11 @@ use Rattle.image_commands.proofs.Ended.{stored_into}
 use Rattle.image_commands.proofs.GivenStores.{back, gives_store, rose, taken_beside, taken_longer}
 use Rattle.image_commands.proofs.Made.{gets_image, if_some, unmade, wrote_alone}
 use Rattle.image_commands.proofs.Stored.{SaidAfter, cause_of, if_stored, if_unstored, made_as, said_after, said_more, seen_as, stored_ended}
-use Rattle.image_commands.proofs.Viewed.{all_kept, exactly_of, files_of, first_rose, names_alone, of_first}
+use Rattle.image_commands.proofs.Viewed.{all_kept, exactly_of, files_of, first_rose, of_first}
+use Rattle.image_views.proofs.Viewed.{names_alone}
 use Rattle.buzhash_cut.specs.Image.{HasTooManyCuts}
 use Rattle.image_commands.specs.Make.{AnySaid, MadeOf, StoredInto, answer_of_storing}
-use Rattle.image_commands.specs.Views.{AreOf, IfFirst, names_of}
+use Rattle.image_views.specs.Views.{AreOf, IfFirst, names_of}
 use Rattle.image_commands.proofs.make.store_into.Goals as goal
 use Rattle.image_store.specs.StoreImage.{IsOfCutting, SendsOf}
 use Rattle.http_wire.specs.declared.reply.Method.TheVariants as method

@@ -5,7 +5,8 @@ use Rattle.read_ahead.proofs.reader.dismiss.Given as goal
 abbrev pub invariant-loop-reader : goal.invariant-loop-reader
 invariant-loop-reader g l = record {
   views : l.views.items ++ reverse (map (λ r. r.view) l.readers.items) ≡ reverse (map (λ r. r.view) l.fn.readers.items);
-  room : vec_len l.views + vec_len l.readers + 1 ≤ vec_capacity l.views;
+  room : vec_len l.views + vec_len l.readers ≤ vec_capacity l.views;
+  back : vec_capacity l.fn.views ≤ vec_capacity l.views;
 }
 
 abbrev pub decreases-loop-reader : goal.decreases-loop-reader

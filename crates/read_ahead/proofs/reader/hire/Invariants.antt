@@ -1,14 +1,14 @@
-use Rattle.std.proofs.Common.{◌≡◌, ◌+◌, ◌≤◌, ◌++◌, [], ◌∷◌, map, reverse, vec_len, vec_capacity}
+use Rattle.std.proofs.Common.{◌≡◌, ◌+◌, ◌≤◌, ◌++◌, map, reverse, vec_len, vec_capacity}
 use Rattle.read_ahead.proofs.reader.hire.Given as goal
 
 -- the views before these have readers
 abbrev pub invariant-loop-view : goal.invariant-loop-view
 invariant-loop-view g l = record {
-  views : (l.views.items ++ reverse (map (λ r. r.view) l.readers.items)) ++ l.first ∷ [] ≡ reverse l.fn.views.items;
+  views : l.views.items ++ reverse (map (λ r. r.view) l.readers.items) ≡ reverse l.fn.views.items;
   rooms : vec_len l.views ≡ vec_len l.rooms;
-  count : vec_len l.rooms + vec_len l.readers ≡ vec_len l.fn.rooms;
-  room : vec_len l.fn.rooms ≤ vec_capacity l.readers;
-  back : vec_len l.fn.rooms + 1 ≤ vec_capacity l.views;
+  count : vec_len l.rooms + vec_len l.readers ≡ vec_len l.fn.views;
+  room : vec_len l.fn.views ≤ vec_capacity l.readers;
+  back : vec_capacity l.views ≡ vec_capacity l.fn.views;
 }
 
 abbrev pub decreases-loop-view : goal.decreases-loop-view

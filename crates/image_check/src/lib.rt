@@ -1,0 +1,5 @@
+//! An image held against an index.
+#![tactic(auto)]
+
+pub mod check;
+mod checking;

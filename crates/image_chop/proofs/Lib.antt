@@ -1,0 +1,2 @@
+pub mod Chopped
+pub mod ChoppingOn

@@ -1,0 +1,2 @@
+pub mod Chopping
+pub mod ChopProgress

@@ -1,0 +1,4 @@
+//! The views of an image: as many as there are workers.
+#![tactic(auto)]
+
+pub mod views;
