@@ -12,6 +12,7 @@ import sys
 
 import formats
 import program
+import servers
 import updating
 from checks import (DAMAGES, Cases, expect, expect_ended, expect_equal, expect_files, expect_untouched, file_bytes,
                     files_of, needs_program, put_file, snapshot)
@@ -115,6 +116,17 @@ def asked_in_order(cases):
         expect_equal(read, sorted(image.needed - half), 'what was read from the store')
         image.expect_out()
         image.expect_kept(image.needed)
+    for workers in ('1', '4'):
+        with cases.case(f'a server is asked once for each chunk that the cache lacks, by {workers} of -n') as folder:
+            image = Image(folder)
+            half = set(sorted(image.needed)[::2])
+            image.keep(half)
+            with servers.store(image.path('all')) as server:
+                expect_ended(image.run(image.words('-n', workers, store=server.url())))
+            lacked = [('GET', f'/{name.hex()[:4]}/{name.hex()}') for name in image.needed - half]
+            expect_equal(sorted(server.asked), sorted(lacked), 'what the server was asked for')
+            image.expect_out()
+            image.expect_kept(image.needed)
     with cases.case('the cache is asked for what no seed gives alone') as folder:
         image = Image(folder)
         half = len(image.pieces) // 2

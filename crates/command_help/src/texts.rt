@@ -71,7 +71,7 @@ and what OUT holds already is kept where it is right.
                                 the file X: chunks come from there first; up
                                 to 64
   -n, --concurrency WORKERS     1 to 32 workers that fill OUT, 10 if not given;
-                                with -c one; OUT is the same with any number
+                                OUT is the same with any number
 
 example: desync extract -k -s near -s chunks disk.caibx disk.img
 ";

@@ -1,11 +1,12 @@
 //! The cache of a command: its folder is taken to be written, and given back.
 
-ghost use Rattle.std.specs.Prelude.{◌≡◌, [], Ok, Err, Some, IfSome, IfOk, IfErr, OnOk, IsSome};
+ghost use Rattle.std.specs.Prelude.{◌≡◌, [], Ok, Err, None, Some, IfSome, IfOk, IfErr, OnOk, IsSome};
 ghost use Rattle.std.specs.Option.{option_map};
 ghost use Rattle.cache_store.specs.Shelves.{shelf_of};
 ghost use Rattle.chunk_store.specs.declared.id.DigestKind.TheVariants as kinds;
 ghost use Rattle.command_steps.specs.Cache.{CacheGiven, CacheOpened, with_cache};
 ghost use Rattle.command_worlds.specs.Worlds.{Reads};
+ghost use Rattle.dsy_base.specs.Maps.{at_name};
 
 use crate::stores::not_reached;
 use cache_store::shelf::CacheShelf;
@@ -25,6 +26,8 @@ pub fn take_shelf<F: Files>(
     ensures named { IfOk result (λ s. F.Folder.place s.folder ≡ name.now) }
     ensures fresh { IfOk result (λ s. (F.Folder.faults s.folder ≡ 0) × (s.kind ≡ kinds.Sha512T256)) }
     ensures known { OnOk result (IsSome ((F.disk files.new).folder_counts name.now)) }
+    ensures gone { OnOk result ((F.disk files.new).folders ≡ option_map (λ m. at_name m name.now None)
+        (F.disk files.old).folders) }
     ensures err { IfErr result (λ o. CacheOpened [] (Some name.now) (F.disk files.old) (Err o) (F.disk files.new)) }
 {
     match files.take_folder(name) {
@@ -54,6 +57,8 @@ pub fn take_cache<F: Files>(
     ensures named { IfOk result (λ o. option_map (λ s. F.Folder.place s.folder) o ≡ cache.now) }
     ensures fresh { IfOk result (λ o. IfSome o (λ s. (F.Folder.faults s.folder ≡ 0) × (s.kind ≡ kinds.Sha512T256))) }
     ensures known { OnOk result (IfSome cache.now (λ q. IsSome ((F.disk files.new).folder_counts q))) }
+    ensures gone { OnOk result (IfSome cache.now (λ q. (F.disk files.new).folders
+        ≡ option_map (λ m. at_name m q None) (F.disk files.old).folders)) }
     ensures err { IfErr result (λ o. CacheOpened [] cache.now (F.disk files.old) (Err o) (F.disk files.new)) }
 {
     let Some(name) = cache else {

@@ -44,7 +44,7 @@ use Rattle.dsy_base.specs.Links.{DialState}
 use Rattle.dsy_base.specs.Maps.{Map, at_name}
 use Rattle.extract_plan.specs.Places.{seed_item_limit}
 use Rattle.extract_command.proofs.Wrote.{wrote_on}
-use Rattle.extract_command.specs.Extract.{Assembled, CacheFilled, CacheGrows, CacheLacksEntry, ExtractEnds, FillsCache, HadFrom, ImageMade, Into, IsLacking, KeepsIn, NotRenamed, OutMade, Renamed, Seeds, Told, WhereFolders, beside, folder_of, in_place, temporary_out}
+use Rattle.extract_command.specs.Extract.{Assembled, CacheFilled, CacheGrows, CacheLacksEntry, ExtractEnds, FillsCache, HadFrom, ImageMade, Into, IsLacking, KeepsIn, NeverFail, NotRenamed, OutMade, Renamed, Seeds, Told, WhereFolders, beside, folder_of, in_place, never_fail, temporary_out}
 use Rattle.store_chain.specs.Refusals.{HasShown, Lacks}
 use Rattle.store_chain.specs.Queries.{ShowsElse}
 use Rattle.store_chain.specs.declared.refused.Refused.{Refused}
@@ -288,7 +288,7 @@ module _ (w v : Storage) (none : NoneRose w.disk v.disk) (b : Map (List ℕ)) (n
 self_climbs : (d : Disk) → Climbs d d
 self_climbs d = record { files = λ q. omega arith; folders = λ q. omega arith }
 
-module _ (sure : Bool) (stores : List Location) (cache : Option (List ℕ)) (out : List ℕ) (l : Listing) (x : Seeds) (w : Disk) (v : World) (quiet : DiskQuiet w v.disk) (b : Map (List ℕ)) (n : Map (Map (List ℕ))) (one : IsSome cache → ListsOneSize l)
+module _ (sure : NeverFail) (stores : List Location) (cache : Option (List ℕ)) (out : List ℕ) (l : Listing) (x : Seeds) (w : Disk) (v : World) (quiet : DiskQuiet w v.disk) (b : Map (List ℕ)) (n : Map (Map (List ℕ))) (one : IsSome cache → ListsOneSize l)
     (u : World) (files : u.disk.files ≡ Some b) (folders : u.disk.folders ≡ Some n) (so_far : Climbs w u.disk) where
   image_at_hand : (i : Into) (c : Disk) → Climbs c v.disk → ((k : ℕ) → k < count_of l → IsAtHand b n i l x (near cache stores) k) → (o : Outcome) → ImageMade sure stores cache i l x (storage u.disk u.dial) (Err o) (storage c v.dial) → o ≡ ends.Memory
   image_at_hand i c later hand o h =
@@ -325,7 +325,7 @@ module _ (sure : Bool) (stores : List Location) (cache : Option (List ℕ)) (out
 
 -- ---- the command
 
-module _ (sure : Bool) (stores : List Location) (cache : Option (List ℕ)) (seeds : List (List ℕ)) (place : Bool) (index out : List ℕ) (w v : World) (quiet : DiskQuiet w.disk v.disk) (b : Map (List ℕ)) (n : Map (Map (List ℕ))) (files : w.disk.files ≡ Some b) (folders : w.disk.folders ≡ Some n)
+module _ (sure : NeverFail) (stores : List Location) (cache : Option (List ℕ)) (seeds : List (List ℕ)) (place : Bool) (index out : List ℕ) (w v : World) (quiet : DiskQuiet w.disk v.disk) (b : Map (List ℕ)) (n : Map (Map (List ℕ))) (files : w.disk.files ≡ Some b) (folders : w.disk.folders ≡ Some n)
     (no : NeedsNoServer b n stores cache seeds (into place out) index) where
   abbrev seeds_of : List Listing → Seeds
   seeds_of ls = record { images = map image_name seeds; listings = ls }
@@ -410,7 +410,7 @@ refused_at_hand sure (commands.Extract stores seeds cache place workers index ta
   go : (f : Option (Map (List ℕ))) (g : Option (Map (Map (List ℕ)))) → w.disk.files ≡ f → w.disk.folders ≡ g → IfSome f (λ b. IfSome g (λ n. NeedsNoServer b n stores cache seeds (into place target) index → (o ≡ ends.Done) ⊎ (o ≡ ends.Memory)))
   go None g is y = tt
   go (Some b) None is y = tt
-  go (Some b) (Some n) is y = λ no. inr (extracted_at_hand sure stores cache seeds place index target w v quiet b n is y no o h)
+  go (Some b) (Some n) is y = λ no. inr (extracted_at_hand (never_fail sure k.never_fails) stores cache seeds place index target w v quiet b n is y no o h)
 refused_at_hand sure other k w v o quiet h = tt
 
 words_refused : (words : List (List ℕ)) (d : Disk) (o : Outcome) → NoCommand words o → IfSome (command_of words) (λ c. EndsAtHand c d o)

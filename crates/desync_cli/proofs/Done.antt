@@ -7,6 +7,7 @@ use Rattle.command_worlds.specs.Worlds.{World}
 use Rattle.command_words.specs.declared.command.Command.{Command}
 use Rattle.command_words.specs.declared.command.Command.TheVariants as commands
 use Rattle.desync_cli.specs.Commands.{Achieves, DesyncEnds, CommandEnds, command_of}
+use Rattle.extract_command.specs.Extract.{never_fail}
 use Rattle.store_commands.specs.Serving.{Heard}
 use Rattle.desync_cli.proofs.Fair.{answered, begun, if_some}
 use Rattle.desync_cli.proofs.Cached.{cached}
@@ -18,7 +19,7 @@ use Rattle.desync_cli.proofs.Verified.{verified}
 
 achieves : (sure : Bool) (k : Heard) (c : Command) (w v : World) → is_some w.disk.files ≡ is_some w.disk.folders → CommandEnds sure k c w (Ok tt) v → Achieves sure k c w v
 achieves sure k (commands.Make store sizes workers index image) w v told h = made store sizes index image w v told h
-achieves sure k (commands.Extract stores seeds cache in_place workers index target) w v told h = extracted sure stores cache seeds in_place index target w v told h
+achieves sure k (commands.Extract stores seeds cache in_place workers index target) w v told h = extracted (never_fail sure k.never_fails) stores cache seeds in_place index target w v told h
 achieves sure k (commands.VerifyIndex workers index image) w v told h = verified index image w v h
 achieves sure k (commands.Chop store workers index image) w v told h = chopped store index image w v h
 achieves sure k (commands.Cache stores cache indexes) w v told h = cached stores cache indexes w v h

@@ -7,7 +7,7 @@ use Rattle.command_steps.proofs.Cached.{cache_reads}
 use Rattle.command_steps.specs.InputFiles.{IsListed}
 use Rattle.command_steps.specs.Seeds.{image_name}
 use Rattle.command_worlds.specs.Worlds.{World}
-use Rattle.extract_command.specs.Extract.{ExtractEnds, HadFrom, Into, IsExtracted, KeepsIn, Seeds, WhereFolders, beside, folder_of, in_place, temporary_out}
+use Rattle.extract_command.specs.Extract.{ExtractEnds, HadFrom, Into, IsExtracted, KeepsIn, NeverFail, Seeds, WhereFolders, beside, folder_of, in_place, temporary_out}
 use Rattle.extract_command.proofs.Replaced.{beside_apart}
 use Rattle.dsy_base.proofs.Counts.{at_other, at_same}
 use Rattle.dsy_base.specs.Disk.{Disk}
@@ -43,7 +43,7 @@ module _ (names : List Location) (cache : Option (List ℕ)) (index out : List �
       let made_so : IsExtracted b now index out = record { listing = l; listed = listed; image = t; holds = holds; right = made.2.0.2 } in
       subst (λ o. IfSome o (λ a. IsExtracted b a index out)) (sym is) made_so
 
-pub extracted : (sure : Bool) (stores : List Location) (cache : Option (List ℕ)) (seeds : List (List ℕ)) (place : Bool) (index out : List ℕ) (w v : World) → is_some w.disk.files ≡ is_some w.disk.folders → ExtractEnds sure stores cache seeds place index out w (Ok tt) v
+pub extracted : (sure : NeverFail) (stores : List Location) (cache : Option (List ℕ)) (seeds : List (List ℕ)) (place : Bool) (index out : List ℕ) (w v : World) → is_some w.disk.files ≡ is_some w.disk.folders → ExtractEnds sure stores cache seeds place index out w (Ok tt) v
     → IfSome w.disk.files (λ b. IfSome v.disk.files (λ a. IsExtracted b a index out))
 extracted sure stores cache seeds true index out w v told h =
     let reached = cache_reads stores cache h.then.then.disk h.then.then.then.disk (Ok tt) h.then.then.then.did.0 in

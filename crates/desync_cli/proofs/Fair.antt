@@ -27,7 +27,7 @@ use Rattle.image_commands.specs.Chop.{ImageChopped}
 use Rattle.desync_cli.specs.Commands.{DesyncEnds, CommandEnds, NoCommand, TellsRefusal, WordsRead, command_of, parts, refusal_in, usage_refusal, command_said, spares}
 use Rattle.print_commands.specs.Demo.{Rehearsed}
 use Rattle.extract_command.proofs.Wrote.{wrote_on}
-use Rattle.extract_command.specs.Extract.{CacheFilled, Clearing, FillsCache, ImageMade, Into, OutMade, Renamed, Seeds, beside, in_place, temporary_out}
+use Rattle.extract_command.specs.Extract.{CacheFilled, Clearing, FillsCache, ImageMade, Into, NeverFail, OutMade, Renamed, Seeds, beside, in_place, never_fail, temporary_out}
 use Rattle.store_commands.specs.Info.{IdsCounted, NotAsked}
 use Rattle.image_commands.specs.Make.{ImageStored, IndexWritten, SizesJudged, WritesStore}
 use Rattle.store_commands.specs.Serving.{FolderServed, Heard, TakenUnheard}
@@ -96,7 +96,7 @@ filled {o} {stores} {cache} {l} {w} {v} p r dials = record {
   go None same t = same
   go (Some c) h t = absurd (cc)
 
-assembled_step : (sure o : Bool) (x : Parts) (p : Output) (cache : Option (List ℕ)) (l : Listing) (z : Seeds) (i : Into) → i.name ≡ x.target
+assembled_step : (sure : NeverFail) (o : Bool) (x : Parts) (p : Output) (cache : Option (List ℕ)) (l : Listing) (z : Seeds) (i : Into) → i.name ≡ x.target
     → IsStep (behind p) (record { files = false; folders = not (is_some cache); dial = are_folders x.stores; out = o }) x (ImageMade sure x.stores cache i l z)
 assembled_step sure o x p cache l z i is = record { fair = fair; leaves = λ w v r h. filled p h.1 h.3 } where
   fair : (w v : Storage) (o : Outcome) → ImageMade sure x.stores cache i l z w (Err o) v → IsFair x o (behind p w) (behind p v)
@@ -171,7 +171,7 @@ renamed_step f n o x p from to = record { fair = fair; leaves = leaves } where
   leaves d e (Ok t) h = writes p (wrote_on d e to h.1)
   leaves d e (Err r) h = writes p (wrote_on d e to h.2)
 
-out_step : (sure o : Bool) (x : Parts) (cache : Option (List ℕ)) (l : Listing) (z : Seeds) (place : Bool) (out : List ℕ) → x.target ≡ cond place out (temporary_out out)
+out_step : (sure : NeverFail) (o : Bool) (x : Parts) (cache : Option (List ℕ)) (l : Listing) (z : Seeds) (place : Bool) (out : List ℕ) → x.target ≡ cond place out (temporary_out out)
     → IsStep whole (record { files = false; folders = not (is_some cache); dial = are_folders x.stores; out = o }) x (OutMade sure place x.stores cache out l z)
 out_step sure o x cache l z true out is = on_sources (λ p. assembled_step sure o x p cache l z (in_place out) (sym is))
 out_step sure o x cache l z false out is =
@@ -299,7 +299,7 @@ command_step sure h (commands.VerifyIndex workers index image) = bound (on_disk 
 command_step sure h (commands.Chop store workers index image) = bound (on_disk (λ p. index_step _ _ p index)) (λ l. bound (on_disk (λ p. image_step _ _ p)) (λ told. bound (on_disk (λ p. source_taken_step _ _ _ _ p _ store)) (λ held. on_sources (λ p. chopped_step _ p store refl _ _ l told held))))
 command_step sure h (commands.Cache stores cache indexes) = bound (on_disk (λ p. sources_step _ _ p stores)) (λ u. bound (on_disk (λ p. cache_step _ _ p stores (Some cache))) (λ u. on_sources (λ p. filled_step _ _ (parts h (commands.Cache stores cache indexes)) p indexes)))
 command_step sure h (commands.ListChunks index) = bound (on_disk (λ p. index_step _ _ p index)) (λ l. on_out (λ d. printed_step _ _ _ _ d (text_of_chunks l)))
-command_step sure h (commands.Extract stores seeds cache in_place workers index target) = bound (on_disk (λ p. index_step _ _ p index)) (λ l. bound (on_disk (λ p. indexes_step _ _ p seeds)) (λ ls. bound (on_disk (λ p. sources_step _ _ p stores)) (λ u. bound (on_disk (λ p. cache_step _ _ p stores cache)) (λ u. out_step sure _ (parts h (commands.Extract stores seeds cache in_place workers index target)) cache l (record { images = map image_name seeds; listings = ls }) in_place target refl))))
+command_step sure h (commands.Extract stores seeds cache in_place workers index target) = bound (on_disk (λ p. index_step _ _ p index)) (λ l. bound (on_disk (λ p. indexes_step _ _ p seeds)) (λ ls. bound (on_disk (λ p. sources_step _ _ p stores)) (λ u. bound (on_disk (λ p. cache_step _ _ p stores cache)) (λ u. out_step (never_fail sure h.never_fails) _ (parts h (commands.Extract stores seeds cache in_place workers index target)) cache l (record { images = map image_name seeds; listings = ls }) in_place target refl))))
 command_step sure h (commands.Info stores index) = bound (on_disk (λ p. index_step _ _ p index)) (λ l. bound (on_sources (λ p. counted_step _ _ p (λ t. t) l)) (λ n. on_out (λ d. printed_step _ _ _ _ d (text_of_info l n))))
 command_step sure h (commands.Verify store repair) = bound (on_disk (λ p. taken_step _ _ _ _ p [] store)) (λ held. verified_step _ _ store repair held refl)
 command_step sure h (commands.Prune store indexes) = bound (on_disk (λ p. indexes_step _ _ p indexes)) (λ ls. bound (on_disk (λ p. taken_step _ _ _ _ p [] store)) (λ held. on_disk (λ p. pruned_step _ _ _ _ p (is_listed_in ls) store held refl)))

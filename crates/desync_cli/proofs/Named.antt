@@ -1,6 +1,6 @@
 -- How long the name is that an outcome tells: no longer than the words, but for what stands behind OUT in the name of the
 -- temporary file.
-use Rattle.std.proofs.Common.{◌≡◌, ℕ, ◌+◌, ◌≤◌, ◌++◌, List, [], ◌∷◌, length, map, codes, Bool, true, false, Option, Some, None, Result, Ok, Err, refl, ap, subst, ◌∙◌, inl, inr, arith}
+use Rattle.std.proofs.Common.{◌≡◌, ℕ, ◌≤◌, List, [], ◌∷◌, length, map, Bool, true, false, Option, Some, None, Result, Err, ap, inl, inr, arith}
 use Rattle.caibx_codec.specs.Listing.{Listing}
 use Rattle.buzhash_cut.specs.Sizes.{Sizes}
 use Rattle.command_outcome.specs.ErrorLines.{name_in}
@@ -11,7 +11,7 @@ use Rattle.command_steps.specs.InputFiles.{ImageOpened, IndexRead, NotOpened, No
 use Rattle.command_worlds.specs.Printing.{Printed}
 use Rattle.command_steps.specs.Seeds.{IndexesRead, NoneListed}
 use Rattle.command_steps.specs.Sources.{FirstUnreached, NotAsking, OnStorage, Storage, SourcesOpened, Unreached, storage, storage_of}
-use Rattle.command_worlds.specs.Steps.{◌>>=◌, Passed}
+use Rattle.command_worlds.specs.Steps.{◌>>=◌}
 use Rattle.command_steps.specs.Stores.{NotReached, StoreTaken, folder_name}
 use Rattle.command_steps.specs.TakenStores.{SourceTaken}
 use Rattle.command_worlds.specs.Worlds.{OnDisk, OnOut, Pure, Step, World}
@@ -21,7 +21,7 @@ use Rattle.dsy_base.specs.Disk.{Disk, Output}
 use Rattle.dsy_base.specs.Maps.{Map}
 use Rattle.image_commands.specs.Chop.{ImageChopped}
 use Rattle.print_commands.specs.Demo.{Rehearsed}
-use Rattle.extract_command.specs.Extract.{Clearing, ImageMade, Into, NotRenamed, OutMade, Renamed, Seeds, beside, in_place, temporary_out}
+use Rattle.extract_command.specs.Extract.{Clearing, ImageMade, Into, NeverFail, NotRenamed, OutMade, Renamed, Seeds, beside, in_place, temporary_out}
 use Rattle.image_commands.specs.Make.{ImageStored, IndexWritten, NotWritten, SizesJudged}
 use Rattle.store_commands.specs.VerifyIndex.{ImageChecked}
 use Rattle.store_commands.specs.Caching.{IndexesFilled, NotFilled, Evidence, outcome_of_fill}
@@ -259,7 +259,7 @@ module _ (n : ℕ) where
   pub filled : (stores : List Location) (cache : List ℕ) (indexes : List (List ℕ)) → AllShort n indexes → Shorts n (IndexesFilled stores cache indexes)
   filled stores cache indexes all = record { short = filled_tells stores cache indexes all }
 
-  made_tells : (sure : Bool) (stores : List Location) (cache : Option (List ℕ)) (i : Into) (l : Listing) (x : Seeds) → Tells n (ImageMade sure stores cache i l x)
+  made_tells : (sure : NeverFail) (stores : List Location) (cache : Option (List ℕ)) (i : Into) (l : Listing) (x : Seeds) → Tells n (ImageMade sure stores cache i l x)
   made_tells sure stores cache i l x w v (ends.Missing k id) h = omega arith
   made_tells sure stores cache i l x w v (ends.Damaged k id store shows) h = omega arith
   made_tells sure stores cache i l x w v (ends.StoreFault k) h = omega arith
@@ -267,7 +267,7 @@ module _ (n : ℕ) where
   made_tells sure stores cache i l x w v ends.Memory h = omega arith
   made_tells sure stores cache i l x w v other h = absurd h.0
 
-  pub made : (sure : Bool) (stores : List Location) (cache : Option (List ℕ)) (i : Into) (l : Listing) (x : Seeds) → Shorts n (ImageMade sure stores cache i l x)
+  pub made : (sure : NeverFail) (stores : List Location) (cache : Option (List ℕ)) (i : Into) (l : Listing) (x : Seeds) → Shorts n (ImageMade sure stores cache i l x)
   made sure stores cache i l x = record { short = made_tells sure stores cache i l x }
 
   clearing_tells : (q : List ℕ) (step : Step Storage Unit) → Shorts n step → Tells n (Clearing q step)
@@ -282,7 +282,7 @@ module _ (n : ℕ) where
   pub renamed : (p q : List ℕ) → length p ≤ n → length q ≤ n → Shorts n (NotAsking (Renamed p q))
   renamed p q from to = record { short = renamed_tells p q from to }
 
-  pub out_made : (sure place : Bool) (stores : List Location) (cache : Option (List ℕ)) (out : List ℕ) (l : Listing) (x : Seeds) → length (temporary_out out) ≤ n → length out ≤ n → Shorts n (OutMade sure place stores cache out l x)
+  pub out_made : (sure : NeverFail) (place : Bool) (stores : List Location) (cache : Option (List ℕ)) (out : List ℕ) (l : Listing) (x : Seeds) → length (temporary_out out) ≤ n → length out ≤ n → Shorts n (OutMade sure place stores cache out l x)
   out_made sure true stores cache out l x temporary le = on_sources (made sure stores cache (in_place out) l x)
   out_made sure false stores cache out l x temporary le = bound (on_sources (clearing (temporary_out out) _ (made sure stores cache (beside out) l x))) (λ u. on_sources (clearing (temporary_out out) _ (renamed (temporary_out out) out temporary le)))
 

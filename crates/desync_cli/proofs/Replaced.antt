@@ -16,7 +16,7 @@ use Rattle.command_worlds.specs.Worlds.{OnDisk, Reads, World, world}
 use Rattle.desync_cli.proofs.Fair.{begun, if_any, if_some}
 use Rattle.desync_cli.specs.Commands.{DesyncEnds, CommandEnds, LeavesBehind, command_of}
 use Rattle.store_commands.specs.Serving.{Heard}
-use Rattle.extract_command.specs.Extract.{Assembled, Cleared, ExtractEnds, Into, KeepsIn, OutMade, Seeds, StopsSomewhere, beside, folder_of, old_of, temporary_out}
+use Rattle.extract_command.specs.Extract.{Assembled, Cleared, ExtractEnds, Into, KeepsIn, NeverFail, OutMade, Seeds, StopsSomewhere, beside, folder_of, never_fail, old_of, temporary_out}
 use Rattle.desync_cli.specs.Commands.{LeavesOut}
 use Rattle.dsy_base.proofs.Counts.{at_other}
 use Rattle.dsy_base.specs.Disk.{Disk}
@@ -112,7 +112,7 @@ left_same true out w v same = tt
 left_same false out w v same = left_over out w v (only_same (temporary_out out) w.disk.files v.disk.files same)
 
 -- what a refusal of the command leaves
-pub left_out : (sure : Bool) (stores : List Location) (cache : Option (List ℕ)) (seeds : List (List ℕ)) (place : Bool) (index out : List ℕ) (w v : World) (o : Outcome) → is_some w.disk.files ≡ is_some w.disk.folders → ExtractEnds sure stores cache seeds place index out w (Err o) v → LeavesOut place out w v
+pub left_out : (sure : NeverFail) (stores : List Location) (cache : Option (List ℕ)) (seeds : List (List ℕ)) (place : Bool) (index out : List ℕ) (w v : World) (o : Outcome) → is_some w.disk.files ≡ is_some w.disk.folders → ExtractEnds sure stores cache seeds place index out w (Err o) v → LeavesOut place out w v
 left_out sure stores cache seeds true index out w v o told h = tt
 left_out sure stores cache seeds false index out w v o told (inl h) = left_same false out w v h.0.1.files
 left_out sure stores cache seeds false index out w v o told (inr h) = go h.then where
@@ -168,7 +168,7 @@ left_out sure stores cache seeds false index out w v o told (inr h) = go h.then 
 -- ---- what the top call says
 
 left_of : (sure : Bool) (k : Heard) (c : Command) (w v : World) (o : Outcome) → is_some w.disk.files ≡ is_some w.disk.folders → CommandEnds sure k c w (Err o) v → LeavesBehind c w v
-left_of sure k (commands.Extract stores seeds cache place workers index target) w v o told h = left_out sure stores cache seeds place index target w v o told h
+left_of sure k (commands.Extract stores seeds cache place workers index target) w v o told h = left_out (never_fail sure k.never_fails) stores cache seeds place index target w v o told h
 left_of sure k other w v o told h = tt
 
 left_none : (c : Command) (w v : World) → v ≡ w → LeavesBehind c w v

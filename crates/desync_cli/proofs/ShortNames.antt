@@ -1,6 +1,6 @@
 -- The names that a command of words has, and with them those that outcomes tell, are no longer than the longest word, but
 -- for what stands behind OUT in the name of the temporary file.
-use Rattle.std.proofs.Common.{◌≡◌, ℕ, zero, suc, ◌+◌, ◌≤◌, ◌<◌, ◌==◌, ◌++◌, List, [], ◌∷◌, length, map, codes, Bool, true, false, if◌then◌else◌, Option, Some, None, Result, Ok, Err, refl, ap, subst, ◌∙◌, inl, inr, slice_index_or, arith}
+use Rattle.std.proofs.Common.{◌≡◌, ℕ, zero, suc, ◌+◌, ◌≤◌, ◌<◌, ◌==◌, List, [], ◌∷◌, length, map, codes, Bool, true, false, if◌then◌else◌, Option, Some, None, Result, Ok, Err, subst, inl, inr, slice_index_or, arith}
 use Rattle.std.proofs.lemmas.List.{length-append}
 use Rattle.std.specs.List.{list_any}
 use Rattle.command_line.specs.CommandLine.{command_by, command_line, command_by_roles as parsed, command_or_help, complete, is_alone, read_location}
@@ -27,10 +27,10 @@ use Rattle.command_words.specs.declared.roles.Role.{Role}
 use Rattle.command_words.specs.declared.roles.Role.TheVariants as role
 use Rattle.command_words.specs.declared.usage.UsageWhy.{UsageWhy}
 use Rattle.command_words.specs.declared.usage.WordsFault.{WordsFault}
-use Rattle.desync_cli.specs.Commands.{DesyncEnds, CommandEnds, NoCommand, command_of, command_said}
+use Rattle.desync_cli.specs.Commands.{DesyncEnds, CommandEnds, NoCommand, command_said}
 use Rattle.desync_cli.proofs.Fair.{begun}
 use Rattle.desync_cli.proofs.Named.{AllShort, Shorts, bound, cache_opened, checked, chopped, counted, filled, image_opened, index_read, indexes_read, judged as sizes_judged, on_disk, on_out, on_sources, opened, out_made, printed, pruned, rehearsed, served, source_taken, stored, taken, unheard, verified, written}
-use Rattle.extract_command.specs.Extract.{temporary_out}
+use Rattle.extract_command.specs.Extract.{never_fail, temporary_out}
 use Rattle.store_commands.specs.Serving.{Heard}
 
 -- the names that a command has
@@ -59,7 +59,7 @@ command_short n sure h (commands.VerifyIndex workers index image) f = bound (on_
 command_short n sure h (commands.Chop store workers index image) f = bound (on_disk (index_read n index f.1)) (λ l. bound (on_disk (image_opened n image f.2)) (λ told. bound (on_disk (source_taken n _ store f.0)) (λ held. on_sources (chopped n l image told store held))))
 command_short n sure h (commands.Cache stores cache indexes) f = bound (on_disk (opened n stores f.0)) (λ u. bound (on_disk (cache_opened n stores (Some cache) (f.1, tt))) (λ u. on_sources (filled n stores cache indexes f.2)))
 command_short n sure h (commands.ListChunks index) f = bound (on_disk (index_read n index f)) (λ l. on_out (printed n _))
-command_short n sure h (commands.Extract stores seeds cache in_place workers index target) f = bound (on_disk (index_read n index f.3)) (λ l. bound (on_disk (indexes_read n seeds f.1)) (λ ls. bound (on_disk (opened n stores f.0)) (λ u. bound (on_disk (cache_opened n stores cache (cached cache f.2))) (λ u. out_made n sure in_place stores cache target l _ f.4 f.5)))) where
+command_short n sure h (commands.Extract stores seeds cache in_place workers index target) f = bound (on_disk (index_read n index f.3)) (λ l. bound (on_disk (indexes_read n seeds f.1)) (λ ls. bound (on_disk (opened n stores f.0)) (λ u. bound (on_disk (cache_opened n stores cache (cached cache f.2))) (λ u. out_made n (never_fail sure h.never_fails) in_place stores cache target l _ f.4 f.5)))) where
   cached : (cache : Option (List ℕ)) → AllShort n (named cache) → AllShort n (elim cache [ None ↦ [] | Some q ↦ q ∷ [] ])
   cached None all = all
   cached (Some q) all = all

@@ -15,7 +15,7 @@ use Rattle.command_words.specs.declared.usage.WordsFault.{WordsFault}
 use Rattle.command_words.specs.declared.usage.WordsFault.TheVariants as faults
 use Rattle.image_commands.specs.Chop.{ChopEnds, IsChopped}
 use Rattle.print_commands.specs.Demo.{DemoEnds}
-use Rattle.extract_command.specs.Extract.{ExtractEnds, IsExtracted, temporary_out}
+use Rattle.extract_command.specs.Extract.{ExtractEnds, IsExtracted, never_fail, temporary_out}
 use Rattle.image_commands.specs.Make.{IsMade, MakeEnds, StoreHas}
 use Rattle.store_commands.specs.VerifyIndex.{IsVerified, VerifyIndexEnds}
 use Rattle.store_commands.specs.Caching.{CacheEnds, IsCached}
@@ -46,7 +46,7 @@ CommandEnds sure h (commands.Chop store workers index image) = ChopEnds store in
 CommandEnds sure h (commands.Cache stores cache indexes) = CacheEnds stores cache indexes
 CommandEnds sure h (commands.ListChunks index) = ListChunksEnds index
 CommandEnds sure h (commands.Extract stores seeds cache in_place workers index target) =
-    ExtractEnds sure stores cache seeds in_place index target
+    ExtractEnds (never_fail sure h.never_fails) stores cache seeds in_place index target
 CommandEnds sure h (commands.Info stores index) = InfoEnds stores index
 CommandEnds sure h (commands.Verify store repair) = VerifyEnds store repair
 CommandEnds sure h (commands.Prune store indexes) = PruneEnds store indexes

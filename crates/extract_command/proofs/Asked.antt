@@ -1,10 +1,10 @@
 -- How often the stores of one of several kits were asked, over files that were taken.
-use Rattle.std.proofs.Common.{◌≡◌, ◌∙◌, ℕ, ◌<◌, List, map, All, Bool, true, Option, Some, IfSome, IsSomeAnd, Result, length, slice_index_or, sym, subst, inl}
+use Rattle.std.proofs.Common.{◌≡◌, ◌⊎◌, ◌∙◌, ℕ, ◌<◌, List, map, All, Bool, true, Option, None, Some, IfSome, IsSomeAnd, Result, length, slice_index_or, sym, subst, inl, inr}
 use Rattle.std.specs.List.{fold}
 use Rattle.assembler.specs.OneKit.{Lent}
 use Rattle.assembler.specs.declared.fault.ExtractFault.{ExtractFault}
 use Rattle.caibx_codec.specs.Asks.{IsListedGet}
-use Rattle.caibx_codec.specs.Listing.{image_length, size_of}
+use Rattle.caibx_codec.specs.Listing.{size_of}
 use Rattle.chunk_sources.specs.Caches.{CacheGives}
 use Rattle.chunk_sources.specs.Sources.{views_of}
 use Rattle.chunk_sources.specs.Wants.{Task}
@@ -21,7 +21,7 @@ use Rattle.command_steps.specs.declared.any_store.AnyStore.{AnyStore}
 use Rattle.command_words.specs.declared.command.Location.{Location}
 use Rattle.command_worlds.specs.Worlds.{FileRose}
 use Rattle.command_steps.specs.Uses.{IsNoneOf, folders_among, names_among}
-use Rattle.dsy_base.specs.Bytes.{Held, resized}
+use Rattle.dsy_base.specs.Bytes.{Held}
 use Rattle.dsy_base.specs.Counts.{Rose}
 use Rattle.dsy_base.specs.Disk.{Disk}
 use Rattle.dsy_base.specs.Links.{DialState, Traffic}
@@ -31,21 +31,22 @@ use Rattle.extract_command.proofs.AnyWords.{any_words}
 use Rattle.extract_command.proofs.LentKits.{IsKitAdded}
 use Rattle.extract_command.proofs.Seeded.{label_of, labels_are, same_known, same_labels, zeros}
 use Rattle.extract_command.proofs.Spared.{of_told, spared_over}
-use Rattle.extract_command.specs.Extract.{CacheSpares, Into, IsSparedOnDisk, Seeds, old_of}
+use Rattle.extract_command.specs.Extract.{CacheSpares, Into, IsOwnOrOneSize, IsSparedOnDisk, NeverFail, Seeds, never_fail, old_of}
 use Rattle.extract_command.specs.Kits.{CanGiveKit, IsKitOpened, UsesNames}
 use Rattle.extract_plan.specs.Deal.{IsPlan, first_of, want_id}
 use Rattle.extract_plan.specs.Places.{IsSeedIndex}
 use Rattle.extract_plan.specs.Seeds.{faults_in}
 use Rattle.http_wire.specs.declared.reply.Method.TheVariants as method
-use Rattle.caibx_codec.specs.Right.{IsRightAt}
-use Rattle.chunk_sources.specs.Asks.{IsSpared}
-use Rattle.image_workers.proofs.Sharing.{spared_unshared}
-use Rattle.image_workers.specs.Kits.{IsUnshared, KitUsed, KnowsFaults, at_kit, worker_asks}
+use Rattle.image_workers.specs.Kits.{IsSparedFor, IsUnshared, KitUsed, NoOtherSize, at_kit, uncached, worker_asks}
+use Rattle.image_workers.specs.Shared.{all_stores}
 use Rattle.range_survey.specs.declared.report.Report.{Report}
 
 module _ {L V D K : Type 0} (look : LookWords L) (view : ViewWords V) (state : D → DialState) (t : Task) (d b e : Disk) (names : List Location) (never cache_never : Bool) (t0 : Option (List ℕ)) (i : ℕ) (q j : Kit (AnyStore L D K) V) (old new : Lent (AnyStore L D K) V) where
-  abbrev Known : Type 0
-  Known = KnowsFaults never old.kits
+  abbrev sure : NeverFail
+  sure = never_fail never cache_never
+
+  abbrev many : ℕ
+  many = length old.kits
 
   abbrev before : Kit (AnyStore L D K) V
   before = slice_index_or old.kits i q
@@ -76,15 +77,19 @@ module _ {L V D K : Type 0} (look : LookWords L) (view : ViewWords V) (state : D
   }
 
   module _ (z : Seeds) (is : IsKitOpened look view state d b names z.images before) {answer : Result Report ExtractFault} (used : KitUsed (any_words look state) view t never cache_never t0 old i (at_kit old i q) (at_kit new i j) answer) (added : IsKitAdded look view state d e after)
-      (less : i < length old.kits) (unshared : IsUnshared old)
       (count : ℕ) (plan : IsPlan t.listing count t.plan) (o : Into) (index : IsSeedIndex t.listing t.plan z.listings t.places) (later : (q : List ℕ) → FileRose d b q → FileRose d e q)
-      (took : IfSome d.files (λ m. t0 ≡ Some (old_of m o))) (rose : Rose old.faults new.faults → FileRose d e o.name) (cache : Option (List ℕ))
+      (took : IfSome d.files (λ m. t0 ≡ Some (old_of m o))) (rose : Rose old.faults new.faults → FileRose d e o.name) (cache : Option (List ℕ)) (uncached_both : cache ≡ None → old.cache ≡ None)
       (gives : (w : ℕ) → IsSomeAnd cache (λ c. CacheSpares d e c t.listing (want_id t.listing t.plan w) (size_of t.listing (first_of t.plan w)))
-      → CacheGives (any_words look state) t.listing before.chain.stores (want_id t.listing t.plan w) (size_of t.listing (first_of t.plan w)) old.cache new.cache) where
+      → CacheGives (any_words look state) t.listing (all_stores old.kits) (want_id t.listing t.plan w) (size_of t.listing (first_of t.plan w)) old.cache new.cache) where
     abbrev labels : List (List ℕ)
     labels = map label_of (views_of view before.seeds.items)
 
-    pub kit_gets : (spared : ℕ → Bool) → ((w : ℕ) → w < t.plan.wants → spared w ≡ true → IsSomeAnd d.files (λ m. IsSparedOnDisk Known d e m cache o t.listing z t.plan w))
+    own_or_one : (w : ℕ) → IsOwnOrOneSize many cache t.listing t.plan w → IsUnshared old ⊎ NoOtherSize (any_words look state) view t old w
+    own_or_one w (inl (inl one)) = inl (inl one)
+    own_or_one w (inl (inr none)) = inl (inr (uncached_both none))
+    own_or_one w (inr one) = inr (λ n b listed chunk held. one n listed)
+
+    pub kit_gets : (spared : ℕ → Bool) → ((w : ℕ) → w < t.plan.wants → spared w ≡ true → IsSomeAnd d.files (λ m. IsSparedOnDisk sure many d e m cache o t.listing z t.plan w) × IsOwnOrOneSize many cache t.listing t.plan w)
         → (a c : Option (List Traffic)) → c ≡ fold (with_those state) a after.chain.stores → EachDialed (AsksFew method.Get (worker_asks t.listing t.plan spared i)) names a c
     kit_gets spared are a c ended =
         let xs = before.seeds.items in
@@ -93,11 +98,12 @@ module _ {L V D K : Type 0} (look : LookWords L) (view : ViewWords V) (state : D
         let labelled : map (label_in view.held) ys ≡ labels = same_labels view.held xs ys used.seeds.held ∙ labels_are view.held xs in
         let rises = store_rose (faults_in view.faults) (label_in view.held) d.file_counts added.counts e.file_counts added.le xs ys labels fresh labelled added.added in
         let asked = used.asks spared (λ w below yes. (
-          spared_unshared (any_words look state) view t.listing t.plan t.places plan.wants old.kits never cache_never t0 old i q less unshared (at_kit new i j) w
-              (of_told d.files (λ m. IsSparedOnDisk Known d e m cache o t.listing z t.plan w)
-              (IsSpared (any_words look state) view t (λ n. IsSomeAnd t0 (λ b. IsRightAt (resized b (image_length t.listing)) t.listing n) × Known) (at_kit old i q) (at_kit new i j) w)
-              (λ m told so. spared_over (any_words look state) view t (at_kit old i q) (at_kit new i j) d b e m told count plan Known o z is.viewed index later rises t0 (subst (λ f. IfSome f (λ m. t0 ≡ Some (old_of m o))) told took) rose cache w below (gives w) so) (are w below yes)),
-          inl unshared,
+          of_told d.files (λ m. IsSparedOnDisk sure many d e m cache o t.listing z t.plan w) (IsSparedFor (any_words look state) view t never cache_never t0 old (at_kit old i q) (at_kit new i j) w)
+              (λ m told so. elim (spared_over (any_words look state) view t (uncached (at_kit old i q)) (at_kit new i j) d b e m told count plan sure many o z is.viewed index later rises t0 (subst (λ f. IfSome f (λ m. t0 ≡ Some (old_of m o))) told took) rose cache w below so) [
+                | inl spared ↦ inl spared
+                | inr cached ↦ inr (gives w cached.0, cached.1)
+              ]) (are w below yes).0,
+          own_or_one w (are w below yes).1,
         )) in
         let asks = worker_asks t.listing t.plan spared i in
         let few = few_each (asked_in method.Get state) asks before.chain.stores after.chain.stores (same_length (place_in look.place) before.chain.stores after.chain.stores (sym used.stores.places)) (λ q n. asked.most q n) in

@@ -1,21 +1,22 @@
 -- The disks between the steps of an assembly: what stands after all was given back, where OUT was written and where the
 -- extraction ended before.
-use Rattle.std.proofs.Common.{◌≡◌, ◌∙◌, ℕ, List, All, IsTrue, Option, Some, IfSome, Bool, Err, map, refl, sym, ap, subst, arith}
+use Rattle.std.proofs.Common.{◌≡◌, ◌∙◌, ℕ, List, [], All, IsTrue, Option, Some, None, IfSome, Err, map, refl, sym, ap, subst, arith}
+use Rattle.std.proofs.lemmas.List.Elements.{All-nil}
 use Rattle.cache_store.specs.Shelves.{Shelf}
 use Rattle.caibx_codec.specs.Asks.{IsListedGet}
 use Rattle.caibx_codec.specs.Listing.{Listing}
+use Rattle.chunk_sources.proofs.Cached.{stocked_none}
 use Rattle.chunk_sources.specs.Caches.{Stocked, TakesListed, cached_in, seen}
+use Rattle.chunk_sources.specs.declared.kit.Kit.{Kit}
 use Rattle.chunk_store.specs.Folders.{chunks}
 use Rattle.command_outcome.specs.declared.outcome.Outcome.TheVariants as ends
 use Rattle.command_steps.proofs.Asking.{none_dialed}
 use Rattle.command_steps.proofs.Cached.{given_reads}
 use Rattle.command_steps.proofs.Consulted.{reads_twice}
 use Rattle.command_steps.proofs.Dialed.{dials_twice}
-use Rattle.command_steps.proofs.Found.{held_where}
-use Rattle.command_steps.specs.AnyStores.{source_files}
 use Rattle.command_steps.specs.Asking.{AsksFew, SendsFronts}
 use Rattle.command_steps.specs.Cache.{folders_with, with_cache}
-use Rattle.command_steps.specs.Sources.{Consults, DialsStores, Storage, location_files, storage}
+use Rattle.command_steps.specs.Sources.{Consults, DialsStores, Storage, storage}
 use Rattle.command_steps.specs.Stores.{are_folders}
 use Rattle.command_steps.specs.declared.any_store.AnyStore.{AnyStore}
 use Rattle.command_words.specs.declared.command.Location.{Location}
@@ -30,15 +31,17 @@ use Rattle.dsy_base.specs.declared.view.View.{Ghosts as ViewWords}
 use Rattle.extract_command.proofs.AnyWords.{any_words}
 use Rattle.extract_command.proofs.Assembled.{not_taken_as, same_before, stopped_before}
 use Rattle.extract_command.proofs.LentKits.{all_given_back, given_folders as kits_folders}
-use Rattle.extract_command.proofs.Shelved.{IsTold, cache_filled, cached_there, name_in}
+use Rattle.extract_command.proofs.Had.{all_held}
+use Rattle.extract_command.proofs.Shelved.{AreOfFolders, IsTold, cache_filled, cached_there, name_in}
 use Rattle.extract_command.proofs.Wrote.{read_with, wrote_on, wrote_read, wrote_then}
-use Rattle.extract_command.specs.Extract.{Assembled, FillsCache, GetsWants, Into, Seeds, answer_of_taking}
+use Rattle.extract_command.specs.Extract.{Assembled, FillsCache, GetsWants, Into, NeverFail, Seeds, answer_of_taking}
 use Rattle.extract_command.specs.Held.{IsGivenBack, stores_of}
-use Rattle.extract_command.specs.Kits.{kit_stores}
+use Rattle.extract_command.specs.Kits.{AreOpened, IsKitOpened, kit_stores}
 use Rattle.extract_command.specs.declared.held.Held.{Held}
 use Rattle.extract_plan.specs.Deal.{Deal, IsPlan}
 use Rattle.http_wire.specs.declared.reply.Method.TheVariants as method
 use Rattle.image_workers.specs.Kits.{worker_asks}
+use Rattle.image_workers.specs.Shared.{all_stores}
 
 -- ---- one step after the other
 
@@ -72,14 +75,25 @@ module _ {L W V D K : Type 0} (look : LookWords L) (folder : LookWords W) (view 
 
 -- ---- what the cache's folder holds in the end
 
--- it was filled from these stores, or stands as before
-pub fills : {L D K : Type 0} (look : LookWords L) (state : D → DialState) (xs : List (AnyStore L D K)) (stores : List Location) (l : Listing) (o p : Option Shelf) (cache : Option (List ℕ)) (d e : Disk) → name_in o ≡ cache → IsTold o d.folders
-    → IfSome (with_cache o d).folders (λ m. map (source_files look.files) xs ≡ map (location_files m) stores) → Stocked (TakesListed (any_words look state) l xs) o p → Writes (with_cache p d) e → FillsCache stores cache l (with_cache o d) e
-fills look state xs stores l o p cache d e named told found stocked wrote = record {
-  folders = cache_filled (any_words look state) xs stores l o p cache d.folders (with_cache o d) e named refl wrote.folders told stocked (held_where (with_cache o d).folders stores (source_files look.files) xs found);
+-- what the stores of kits hold is in the folders that they were opened from
+of_folders : {L V D K : Type 0} (look : LookWords L) (view : ViewWords V) (state : D → DialState) (all : List (Kit (AnyStore L D K) V)) (stores : List Location) (images : List (List ℕ)) (d b : Disk) → AreOpened look view state d b stores images all
+    → (o : Option (Map (Map (List ℕ)))) → d.folders ≡ o → IfSome o (AreOfFolders (any_words look state) (all_stores all) stores)
+of_folders look view state all stores images d b are None is = tt
+of_folders look view state all stores images d b are (Some m) is = λ fs there id c held. all_held look view state d b stores (record { images = images; listings = [] }) m is fs there all are id c held
+
+-- it was filled from the stores of these kits, or stands as before
+pub fills : {L V D K : Type 0} (look : LookWords L) (view : ViewWords V) (state : D → DialState) (all : List (Kit (AnyStore L D K) V)) (stores : List Location) (images : List (List ℕ)) (l : Listing) (o p : Option Shelf) (cache : Option (List ℕ)) (d b e : Disk) → name_in o ≡ cache → IsTold o d.folders
+    → AreOpened look view state (with_cache o d) b stores images all → Stocked (TakesListed (any_words look state) l (all_stores all)) o p → Writes (with_cache p d) e → FillsCache stores cache l (with_cache o d) e
+fills look view state all stores images l o p cache d b e named told are stocked wrote = record {
+  folders = cache_filled (any_words look state) (all_stores all) stores l o p cache d.folders (with_cache o d) e named refl wrote.folders told stocked (of_folders look view state all stores images (with_cache o d) b are (with_cache o d).folders refl);
   counts = wrote.counts;
   folder_counts = wrote.folder_counts;
 }
+
+-- nothing was added to it
+pub unfilled : {L V D : Type 0} (K : Type 0) (look : LookWords L) (view : ViewWords V) (state : D → DialState) (stores : List Location) (l : Listing) (o : Option Shelf) (cache : Option (List ℕ)) (d e : Disk) → name_in o ≡ cache → IsTold o d.folders → Writes (with_cache o d) e → FillsCache stores cache l (with_cache o d) e
+unfilled {L} {V} {D} K look view state stores l o cache d e named told wrote =
+    fills look view state [] stores [] l o o cache d d e named told (All-nil (IsKitOpened {L = L} {V = V} {D = D} {K = K} look view state (with_cache o d) d stores [])) (stocked_none (TakesListed (any_words {L = L} {D = D} {K = K} look state) l []) o) wrote
 
 -- ---- where it ended before OUT was written
 
@@ -103,7 +117,7 @@ module _ (stores : List Location) (cache : Option (List ℕ)) (out : Into) (l : 
     untaken fault rose = not_taken_as was left stores cache out l z fault (same_before was left stores cache out l z Cached (cached_there o cache named d.folders told) files (refl, wrote.folders)) rose
 
   -- no server was asked
-  pub asked_nothing : (never : Bool) (p : Deal) → IsPlan l 1 p → GetsWants never was left stores cache out l z
+  pub asked_nothing : (never : NeverFail) (p : Deal) → IsPlan l 1 p → GetsWants never was left stores cache out l z
   asked_nothing never p plan = record {
     workers = 1;
     plan = p;

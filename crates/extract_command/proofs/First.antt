@@ -1,5 +1,5 @@
 -- What holds for an assembly with kits, of which the first are known.
-use Rattle.std.proofs.Common.{◌≡◌, ◌∙◌, ℕ, suc, ◌+◌, ◌<◌, ◌≤◌, List, [], ◌∷◌, length, map, Bool, Option, Some, None, IsSome, Result, refl, sym, ap, subst, arith, inl, inr}
+use Rattle.std.proofs.Common.{◌≡◌, ◌∙◌, ℕ, ◌<◌, ◌≤◌, List, length, map, Bool, Option, Some, None, Result, sym, ap, subst, arith}
 use Rattle.std.proofs.lemmas.List.{length-map}
 use Rattle.std.specs.List.{AllZip}
 use Rattle.assembler.specs.Obtainable.{OnlyObtainable}
@@ -16,12 +16,11 @@ use Rattle.chunk_store.specs.declared.store.Store.{Ghosts as StoreWords}
 use Rattle.dsy_base.specs.declared.view.View.{Ghosts as ViewWords}
 use Rattle.extract_command.proofs.Assembled.{only_as}
 use Rattle.extract_command.proofs.Seeded.{zipped_many}
-use Rattle.extract_command.proofs.Shelved.{name_in}
 use Rattle.extract_plan.specs.Deal.{Deal}
 use Rattle.extract_plan.specs.Places.{Placed, PlacesKnown}
 use Rattle.extract_plan.specs.Seeds.{seed_held}
 use Rattle.extract_plan.specs.declared.seed.Seed.{Seed}
-use Rattle.image_workers.specs.Kits.{IsAssembledBy, IsUnshared}
+use Rattle.image_workers.specs.Kits.{IsAssembledBy}
 use Rattle.range_ledger.specs.Fills.{WhereTold}
 use Rattle.range_survey.specs.declared.report.Report.{Report}
 
@@ -32,21 +31,6 @@ by_first {S} {V} store view t never cache_never o p a b e u f xs ms ys ns r shel
     subst (λ (c : Option Shelf). IsAssembledBy store view t never cache_never o p (lent a ms c) (lent b ns f) r) shelf
     (subst (λ (l : List (Kit S V)). IsAssembledBy store view t never cache_never o p (lent a l e) (lent b ns f) r) old
     (subst (λ (l : List (Kit S V)). IsAssembledBy store view t never cache_never o p (lent a xs e) (lent b l f) r) new made))
-
--- a cache that was taken has a name
-pub named_cache : (o : Option Shelf) (cache : Option (List ℕ)) → name_in o ≡ cache → IsSome o → IsSome cache
-named_cache None cache is some = absurd (cc)
-named_cache (Some s) cache is some = subst (λ (n : Option (List ℕ)). IsSome n) is refl
-
--- where there is one, there is no further kit
-pub none_further : {K : Type 0} (o : Option Shelf) (cache : Option (List ℕ)) (workers many : ℕ) (kits : List K) → name_in o ≡ cache → (IsSome cache → workers ≡ 1) → many ≡ length kits → many + 1 ≤ workers → IsSome o → kits ≡ []
-none_further o cache workers many [] is alone len few some = refl
-none_further o cache workers many (k ∷ kits) is alone len few some = let one = alone (named_cache o cache is some) in absurd (omega (arith, one, len, few))
-
--- then no worker shares it with others
-pub unshared_of : {S V : Type 0} (a : ℕ) (k : Kit S V) (more : List (Kit S V)) (o : Option Shelf) → (IsSome o → more ≡ []) → IsUnshared (lent a (k ∷ more) o)
-unshared_of a k more None none = inr refl
-unshared_of a k more (Some s) none = inl (ap (λ l. suc (length l)) (none refl))
 
 -- as many words as stores
 pub many_named : {S X : Type 0} (location : S → X) (xs : List S) (names : List X) → map location xs ≡ names → (1 ≤ length xs) × (length xs ≤ 16) → (1 ≤ length names) × (length names ≤ 16)

@@ -1,5 +1,8 @@
 -- What can be had with one of several kits that were opened for the same words.
-use Rattle.std.proofs.Common.{◌≡◌, ◌∙◌, ◌++◌, ℕ, ◌<◌, List, [], ◌∷◌, map, IsTrue, Some, IfSome, sym, subst, arith}
+use Rattle.std.proofs.Common.{◌≡◌, ◌⊎◌, ◌∙◌, ◌++◌, ℕ, zero, suc, ◌<◌, List, [], ◌∷◌, All, length, map, IsTrue, Option, Some, IfSome, refl, sym, ap, subst, inl, inr, arith}
+use Rattle.std.proofs.lemmas.List.{map-append}
+use Rattle.std.proofs.lemmas.List.Elements.{All-tail}
+use Rattle.std.specs.List.{Any}
 use Rattle.caibx_codec.specs.Listing.{count_of, image_length}
 use Rattle.chunk_sources.specs.Sources.{views_of}
 use Rattle.chunk_sources.specs.Wants.{Task}
@@ -24,6 +27,8 @@ use Rattle.extract_command.specs.Extract.{CanBeHad, Seeds}
 use Rattle.extract_command.specs.Kits.{AreOpened, IsKitOpened}
 use Rattle.extract_plan.specs.Places.{IsSeedIndex}
 use Rattle.image_workers.specs.Kits.{AllKitsTell, AreKitsAlike, SomeKitHas}
+use Rattle.image_workers.specs.Shared.{all_stores}
+use Rattle.store_chain.specs.Giving.{SomeHolds}
 
 -- told maps are one list
 same_maps : (xs ys : List (Map (List ℕ))) → map Some xs ≡ map Some ys → xs ≡ ys
@@ -37,6 +42,27 @@ same_maps (x ∷ xs) (y ∷ ys) same =
     let one : x ≡ y = cc in
     cc (one, others)
 
+-- one of a list, or of those behind it
+either : {X : Type 0} (P : X → Type 0) (xs ys : List X) → Any P (xs ++ ys) → Any P xs ⊎ Any P ys
+either P [] ys any = inr any
+either P (x ∷ xs) ys (zero, y, less, at, p) = inl (0, x, omega arith, refl, subst P (sym at) p)
+either P (x ∷ xs) ys (suc k, y, less, at, p) = elim (either P xs ys (k, y, omega (arith, less), at, p)) [
+  | inl first ↦ let before : first.0 < length xs = first.2 in inl (suc first.0, first.1, omega (arith, before), first.3, first.4)
+  | inr later ↦ inr later
+]
+
+-- a list so many times
+abbrev times : {X : Type 0} → ℕ → List X → List X
+times zero xs = []
+times (suc n) xs = xs ++ times n xs
+
+one_of : {X : Type 0} (P : X → Type 0) (n : ℕ) (xs : List X) → Any P (times n xs) → Any P xs
+one_of P zero xs any = let less : any.0 < 0 = any.2 in absurd (omega (arith, less))
+one_of P (suc n) xs any = elim (either P xs (times n xs) any) [
+  | inl here ↦ here
+  | inr later ↦ one_of P n xs later
+]
+
 module _ {L V D K : Type 0} (look : LookWords L) (view : ViewWords V) (state : D → DialState) (d b : Disk) (names : List Location) (x : Seeds) (n : Map (Map (List ℕ))) (y : d.folders ≡ Some n) (fs : List (Map (List ℕ))) (there : map (location_files n) names ≡ map Some fs) where
   abbrev IsOpen : Kit (AnyStore L D K) V → Type 0
   IsOpen k = IsKitOpened look view state d b names x.images k
@@ -46,6 +72,21 @@ module _ {L V D K : Type 0} (look : LookWords L) (view : ViewWords V) (state : D
   kit_holds k is =
       let found : map (source_files look.files) k.chain.stores ≡ map (location_files n) names = subst (λ o. IfSome o (λ m. map (source_files look.files) k.chain.stores ≡ map (location_files m) names)) y is.found in
       held_maps (source_files look.files) k.chain.stores fs (found ∙ there)
+
+  all_hold : (kits : List (Kit (AnyStore L D K) V)) → All IsOpen kits → map (chunks_in look.files) (all_stores kits) ≡ map Some (times (length kits) (map chunks fs))
+  all_hold [] are = refl
+  all_hold (k ∷ kits) are =
+      let maps = map chunks fs in
+      let first : map (chunks_in look.files) k.chain.stores ≡ map Some maps = kit_holds k (are 0 k (omega arith)) in
+      let rest = all_hold kits (All-tail IsOpen k kits are) in
+      map-append (chunks_in look.files) k.chain.stores (all_stores kits)
+      ∙ ap (λ (l : List (Option (Map (List ℕ)))). l ++ map (chunks_in look.files) (all_stores kits)) first
+      ∙ ap (λ (l : List (Option (Map (List ℕ)))). map Some maps ++ l) rest
+      ∙ sym (map-append Some maps (times (length kits) maps))
+
+  -- what one of them holds is in the folders
+  pub all_held : (kits : List (Kit (AnyStore L D K) V)) → AreOpened look view state d b names x.images kits → (id c : List ℕ) → SomeHolds (chunks_in look.files) (all_stores kits) id c → Any (λ m. m id ≡ Some c) (map chunks fs)
+  all_held kits are id c held = one_of (λ m. m id ≡ Some c) (length kits) (map chunks fs) (held (times (length kits) (map chunks fs)) (all_hold kits are))
 
   pub kits_tell : (t : Task) (kits : List (Kit (AnyStore L D K) V)) → AreOpened look view state d b names x.images kits → IsTrue view.tells → AllKitsTell (any_words look state) view t kits
   kits_tell t kits are tells = λ i k lt. (λ some. tells, (map chunks fs, kit_holds _ (are i k lt)))

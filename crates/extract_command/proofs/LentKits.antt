@@ -1,6 +1,7 @@
 -- Kits that are opened and given back, one after the other.
-use Rattle.std.proofs.Common.{◌≡◌, ◌∙◌, ◌++◌, ℕ, suc, ◌+◌, ◌<◌, ◌≤◌, ◌⊎◌, List, [], ◌∷◌, length, map, slice_index_or, All, IsTrue, Option, Some, None, IfSome, IsSome, Result, Ok, is_ok, if◌then◌else◌, refl, sym, ap, subst, inl, inr, arith}
+use Rattle.std.proofs.Common.{◌≡◌, ◌≢◌, ◌∙◌, is_some, true, ◌++◌, ℕ, suc, ◌+◌, ◌<◌, ◌≤◌, ◌⊎◌, List, [], ◌∷◌, length, map, slice_index_or, All, IsTrue, Option, Some, None, IfSome, IsSome, Result, Ok, is_ok, if◌then◌else◌, refl, sym, ap, subst, inl, inr, arith}
 use Rattle.std.proofs.Math.Seq.{get_or-append_seam}
+use Rattle.std.proofs.lemmas.Bool.{true≢false}
 use Rattle.std.proofs.lemmas.List.{append-nil, get_or_append_left, length-append}
 use Rattle.std.proofs.lemmas.List.Elements.{All-cons, All-nil, All-tail}
 use Rattle.std.specs.List.{AllZip, fold, insert, remove}
@@ -18,20 +19,22 @@ use Rattle.command_steps.proofs.SeedsUsed.{viewed_names}
 use Rattle.command_steps.proofs.Used.{uses_none, uses_twice, uses_within}
 use Rattle.command_steps.specs.AnyStores.{IsKnown, IsUnused, location_in, source_faults, source_files, with_those}
 use Rattle.command_steps.specs.Asking.{EachDialed}
-use Rattle.command_steps.specs.Cache.{with_cache}
+use Rattle.command_steps.specs.Cache.{folders_with, with_cache}
 use Rattle.command_steps.specs.Seeds.{IsViewed, SeedsKnown, label_in}
 use Rattle.command_steps.specs.Sources.{Consults, Storage, location_files, storage}
 use Rattle.command_steps.specs.Stores.{are_folders}
 use Rattle.command_steps.specs.Uses.{IsNoneOf, Uses, folders_among}
 use Rattle.command_steps.specs.declared.any_store.AnyStore.{AnyStore}
+use Rattle.command_steps.specs.declared.any_store.AnyStore.TheVariants as stores
 use Rattle.command_words.specs.declared.command.Location.{Location}
 use Rattle.command_words.specs.declared.command.Location.TheVariants as locations
 use Rattle.command_worlds.specs.Worlds.{FileRose, Reads}
+use Rattle.dsy_base.proofs.Counts.{at_other}
 use Rattle.dsy_base.specs.Bytes.{Held}
 use Rattle.dsy_base.specs.Counts.{raised}
 use Rattle.dsy_base.specs.Disk.{Disk}
 use Rattle.dsy_base.specs.Links.{DialState, Traffic, with_all}
-use Rattle.dsy_base.specs.Maps.{Map}
+use Rattle.dsy_base.specs.Maps.{Map, at_name}
 use Rattle.dsy_base.specs.declared.look.Look.{Ghosts as LookWords}
 use Rattle.dsy_base.specs.declared.view.View.{Ghosts as ViewWords}
 use Rattle.extract_command.specs.Extract.{WorkersDialed}
@@ -150,6 +153,10 @@ nothing_twice (locations.Http host port prefix ∷ stores) a b c u v =
           (None, tt, subst (λ o. EachDialed Nothing stores o c) last rest)
     ]
 
+-- what was opened tells its files where folders are told
+abbrev pub LooksTell : {L : Type 0} → LookWords L → Option (Map (Map (List ℕ))) → Type 0
+LooksTell {L} look folders = (m : Map (Map (List ℕ))) → folders ≡ Some m → (l : L) → is_some (look.files l) ≡ true
+
 module _ {L V D K : Type 0} (look : LookWords L) (view : ViewWords V) where
   -- what can be given back can be so where no number was forgotten since
   pub give_later : (d e : Disk) → ((q : List ℕ) → IsSome (d.folder_counts q) → IsSome (e.folder_counts q)) → ((q : List ℕ) → IsSome (d.file_counts q) → IsSome (e.file_counts q)) → (k : Kit (AnyStore L D K) V)
@@ -173,6 +180,29 @@ module _ {L V D K : Type 0} (look : LookWords L) (view : ViewWords V) where
       let both = all_last (UsesNames look view names folders) kits rest k is named in
       uses_twice names folders d b e (uses_within (kit_names look view k) (folders_among (kit_stores look view k)) names folders d b both.1.seeds both.1.stores first) (others both.0)
 
+  -- stores that were opened while a folder wasn't there hold the same with it
+  still_found : (m : Map (Map (List ℕ))) (q : List ℕ) (o : Option (Map (List ℕ))) → m q ≡ None → ((l : L) → is_some (look.files l) ≡ true) → (xs : List (AnyStore L D K)) → map (source_files look.files) xs ≡ map (location_files m) (map (location_in look.place) xs)
+      → map (source_files look.files) xs ≡ map (location_files (at_name m q o)) (map (location_in look.place) xs)
+  still_found m q o gone tell [] same = refl
+  still_found m q o gone tell (stores.Folder l ∷ xs) same =
+      let here : look.files l ≡ m (look.place l) = cc in
+      let rest : map (source_files look.files) xs ≡ map (location_files m) (map (location_in look.place) xs) = cc in
+      let apart : look.place l ≢ q = λ is. true≢false (sym (tell l) ∙ ap is_some (here ∙ ap m is ∙ gone)) in
+      let one : look.files l ≡ at_name m q o (look.place l) = here ∙ sym (at_other m q o (look.place l) apart) in
+      let others = still_found m q o gone tell xs rest in
+      cc (one, others)
+  still_found m q o gone tell (stores.Http r ∷ xs) same =
+      let rest : map (source_files look.files) xs ≡ map (location_files m) (map (location_in look.place) xs) = cc in
+      ap (λ (l : List (Option (Map (List ℕ)))). None ∷ l) (still_found m q o gone tell xs rest)
+
+  found_with : (o : Option Shelf) (folders : Option (Map (Map (List ℕ)))) (xs : List (AnyStore L D K)) (names : List Location) → IfSome o (λ s. IfSome folders (λ m. m s.place ≡ None)) → LooksTell look folders → map (location_in look.place) xs ≡ names
+      → IfSome folders (λ m. map (source_files look.files) xs ≡ map (location_files m) names) → IfSome (folders_with o folders) (λ m. map (source_files look.files) xs ≡ map (location_files m) names)
+  found_with None folders xs names gone tell located found = found
+  found_with (Some s) None xs names gone tell located found = tt
+  found_with (Some s) (Some m) xs names gone tell located found =
+      subst (λ (ns : List Location). map (source_files look.files) xs ≡ map (location_files (at_name m s.place s.files)) ns) located
+      (still_found m s.place s.files gone (tell m refl) xs (subst (λ (ns : List Location). map (source_files look.files) xs ≡ map (location_files m) ns) (sym located) found))
+
   module _ (state : D → DialState) where
     -- what was opened over a later disk, and before more was read
     pub opened_over : (d b c e : Disk) → Reads d b → Reads c e → (stores : List Location) (images : List (List ℕ)) (k : Kit (AnyStore L D K) V) → IsKitOpened look view state b c stores images k → IsKitOpened look view state d e stores images k
@@ -190,19 +220,27 @@ module _ {L V D K : Type 0} (look : LookWords L) (view : ViewWords V) where
     pub all_opened_over : (d b c e : Disk) → Reads d b → Reads c e → (stores : List Location) (images : List (List ℕ)) (kits : List (Kit (AnyStore L D K) V)) → AreOpened look view state b c stores images kits → AreOpened look view state d e stores images kits
     all_opened_over d b c e r s stores images kits are = λ n k lt. opened_over d b c e r s stores images (slice_index_or kits n k) (are n k lt)
 
-    -- over the folders with that of a cache, which isn't taken where there are such kits
-    opened_with : (o : Option Shelf) (d b : Disk) (stores : List Location) (images : List (List ℕ)) (kits : List (Kit (AnyStore L D K) V)) → (IsSome o → kits ≡ []) → AreOpened look view state d b stores images kits
+    -- over the folders with that of a cache, which none of their stores is: it was taken when they were opened
+    opened_with : (o : Option Shelf) (d b : Disk) (stores : List Location) (images : List (List ℕ)) (kits : List (Kit (AnyStore L D K) V)) → IfSome o (λ s. IfSome d.folders (λ m. m s.place ≡ None)) → LooksTell look d.folders → AreOpened look view state d b stores images kits
         → AreOpened look view state (with_cache o d) b stores images kits
-    opened_with None d b stores images kits none are = are
-    opened_with (Some s) d b stores images kits none are = subst (λ (l : List (Kit (AnyStore L D K) V)). AreOpened look view state (with_cache (Some s) d) b stores images l) (sym (none refl)) (All-nil (IsKitOpened look view state (with_cache (Some s) d) b stores images))
+    opened_with o d b stores images kits gone tell are = λ n k lt. let is = are n k lt in record {
+      found = found_with o d.folders (slice_index_or kits n k).chain.stores stores gone tell is.located is.found;
+      located = is.located;
+      fresh = is.fresh;
+      unused = is.unused;
+      kind = is.kind;
+      viewed = is.viewed;
+      unfailed = is.unfailed;
+      given = is.given;
+    }
 
     -- the first kit's stores and seeds were opened, and then the others
     pub opened_kits : (o : Option Shelf) (d c b : Disk) → Reads d c → Reads c b → (images : List (List ℕ)) (xs : List (AnyStore L D K)) (seeds : List (Seed V)) (k : Kit (AnyStore L D K) V) (more : List (Kit (AnyStore L D K) V))
         → k.chain.stores ≡ xs → k.seeds.items ≡ seeds → k.chain.kind ≡ kinds.Sha512T256
         → IfSome (with_cache o d).folders (λ m. map (source_files look.files) xs ≡ map (location_files m) (map (location_in look.place) xs)) → map (source_faults look.faults state) xs ≡ map (λ q. 0) (map (location_in look.place) xs) → All (IsUnused state) xs
         → All (IsKnown d.folder_counts) (map (location_in look.place) xs) → AllZip (IsViewed d c) images (map (seed_held view.held) seeds) → map (faults_in view.faults) seeds ≡ map {B = ℕ} (λ s. 0) seeds → SeedsKnown view.held c.file_counts seeds
-        → (IsSome o → more ≡ []) → AreOpened look view state c b (map (location_in look.place) xs) images more → AreOpened look view state (with_cache o d) b (map (location_in look.place) xs) images (k ∷ more)
-    opened_kits o d c b r s images xs seeds k more stores_are seeds_are kind found fresh unused known zip unfailed seeds_known none are =
+        → IfSome o (λ s. IfSome d.folders (λ m. m s.place ≡ None)) → LooksTell look d.folders → AreOpened look view state c b (map (location_in look.place) xs) images more → AreOpened look view state (with_cache o d) b (map (location_in look.place) xs) images (k ∷ more)
+    opened_kits o d c b r s images xs seeds k more stores_are seeds_are kind found fresh unused known zip unfailed seeds_known gone tell are =
         let names = map (location_in look.place) xs in
         let located : kit_stores look view k ≡ names = ap (map (location_in look.place)) stores_are in
         All-cons (IsKitOpened look view state (with_cache o d) b names images) k more
@@ -219,7 +257,7 @@ module _ {L V D K : Type 0} (look : LookWords L) (view : ViewWords V) where
             seeds = all_known_later view.held c.file_counts b.file_counts s.known k.seeds.items (subst (λ (l : List (Seed V)). SeedsKnown view.held c.file_counts l) (sym seeds_are) seeds_known);
           };
         })
-        (opened_with o d b names images more none (all_opened_over d c b b r (reads_none b) names images more are))
+        (opened_with o d b names images more gone tell (all_opened_over d c b b r (reads_none b) names images more are))
 
     -- its names are those of the words
     pub opened_names : (d e : Disk) (stores : List Location) (images : List (List ℕ)) (k : Kit (AnyStore L D K) V) → IsKitOpened look view state d e stores images k → UsesNames look view images (folders_among stores) k

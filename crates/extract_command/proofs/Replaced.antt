@@ -11,7 +11,7 @@ use Rattle.command_worlds.specs.Worlds.{Step, World, world}
 use Rattle.command_words.specs.declared.command.Location.{Location}
 use Rattle.extract_command.proofs.Seeded.{zipped_many}
 use Rattle.extract_command.specs.Held.{AllReached}
-use Rattle.extract_command.specs.Extract.{ClearedAfter, Clearing, ExtractEnds, OutMade, temporary_out}
+use Rattle.extract_command.specs.Extract.{ClearedAfter, Clearing, ExtractEnds, NeverFail, OutMade, temporary_out}
 use Rattle.dsy_base.specs.Disk.{Disk, Output}
 use Rattle.dsy_base.specs.Links.{DialState}
 use Rattle.extract_plan.specs.Deal.{Deal}
@@ -39,7 +39,7 @@ passed_any step next w (Ok b) v h = h
 passed_any step next w (Err o) v h = inr h
 
 -- OUT was made so after the steps before it
-pub ends_with : (sure : Bool) (stores : List Location) (cache : Option (List ℕ)) (seeds : List (List ℕ)) (place : Bool) (index out : List ℕ) (l : Listing) (ls : List Listing) (d b c m e : Disk) (k j : DialState) (p : Output) (r : Result Unit Outcome)
+pub ends_with : (sure : NeverFail) (stores : List Location) (cache : Option (List ℕ)) (seeds : List (List ℕ)) (place : Bool) (index out : List ℕ) (l : Listing) (ls : List Listing) (d b c m e : Disk) (k j : DialState) (p : Output) (r : Result Unit Outcome)
     → IndexRead index d (Ok l) b → IndexesRead seeds b (Ok ls) c → AllReached stores cache c (Ok tt) m → OutMade sure place stores cache out l (record { images = map image_name seeds; listings = ls }) (world m k p) r (world e j p)
     → ExtractEnds sure stores cache seeds place index out (world d k p) r (world e j p)
 ends_with sure stores cache seeds place index out l ls d b c m e k j p r listed read reached made =
@@ -60,7 +60,7 @@ ends_with sure stores cache seeds place index out l ls d b c m e k j p r listed 
     })
 
 -- the stores or the cache weren't reached after the indexes were read
-pub ends_unreached : (sure : Bool) (stores : List Location) (cache : Option (List ℕ)) (seeds : List (List ℕ)) (place : Bool) (index out : List ℕ) (l : Listing) (ls : List Listing) (d b c e : Disk) (k : DialState) (p : Output) (o : Outcome)
+pub ends_unreached : (sure : NeverFail) (stores : List Location) (cache : Option (List ℕ)) (seeds : List (List ℕ)) (place : Bool) (index out : List ℕ) (l : Listing) (ls : List Listing) (d b c e : Disk) (k : DialState) (p : Output) (o : Outcome)
     → IndexRead index d (Ok l) b → IndexesRead seeds b (Ok ls) c → AllReached stores cache c (Err o) e → ExtractEnds sure stores cache seeds place index out (world d k p) (Err o) (world e k p)
 ends_unreached sure stores cache seeds place index out l ls d b c e k p o listed read refused =
     inr (record {

@@ -1,5 +1,5 @@
 -- An assembly over kits that were lent to it, from the disk that stood before them to the one after all was given back.
-use Rattle.std.proofs.Common.{◌≡◌, ◌∙◌, ◌++◌, ℕ, suc, ◌+◌, ◌<◌, ◌≤◌, List, [], ◌∷◌, All, Bool, length, drop, map, slice_index, slice_index_or, IsTrue, is_some, Option, Some, None, IfSome, IsSomeAnd, Result, refl, sym, ap, subst, arith, inl}
+use Rattle.std.proofs.Common.{◌≡◌, ◌∙◌, ◌++◌, ℕ, suc, ◌+◌, ◌<◌, ◌≤◌, List, [], ◌∷◌, All, Bool, length, drop, map, slice_index, slice_index_or, IsTrue, is_some, Option, Some, None, IfSome, IsSomeAnd, Result, refl, sym, ap, subst, arith}
 use Rattle.std.proofs.lemmas.List.Elements.{All-cons}
 use Rattle.std.specs.List.{fold}
 use Rattle.std.specs.Map.{count_at}
@@ -49,11 +49,11 @@ use Rattle.extract_command.proofs.LentKits.{IsKitAdded, all_given_back, given_no
 use Rattle.extract_command.proofs.Lost.{lacks_told, others_at, store_told, target_as}
 use Rattle.extract_command.proofs.Plans.{seed_index_by}
 use Rattle.extract_command.proofs.Seeded.{label_of, labels_are, same_labels, zeros}
-use Rattle.extract_command.proofs.Shelved.{IsTold, cache_lacking, cache_quiet, cache_rose, cached_there, name_after, name_in, one_size}
+use Rattle.extract_command.proofs.Shelved.{IsTold, cache_lacking, cache_quiet, cache_rose, cached_there, name_after, name_in, none_seen, one_size}
 use Rattle.extract_command.proofs.Spared.{cache_gives}
 use Rattle.extract_command.proofs.Unused.{none_reached}
 use Rattle.extract_command.proofs.Wrote.{wrote_back, wrote_on}
-use Rattle.extract_command.specs.Extract.{Assembled, CacheSpares, CanBeHad, GetsWants, Into, Seeds, Undisturbed, WorkersDialed, answer_of_assembly, folder_of, old_of}
+use Rattle.extract_command.specs.Extract.{Assembled, CacheSpares, CanBeHad, GetsWants, Into, Seeds, Undisturbed, WorkersDialed, answer_of_assembly, folder_of, never_fail, old_of}
 use Rattle.extract_command.specs.Kits.{AreGivenBack, AreOpened, IsKitOpened}
 use Rattle.extract_plan.specs.Deal.{Deal, IsPlan, first_of, want_id}
 use Rattle.extract_plan.specs.Places.{IsSeedIndex, Placed}
@@ -61,7 +61,8 @@ use Rattle.extract_plan.specs.Seeds.{faults_in, seed_held}
 use Rattle.extract_plan.specs.declared.seed.Seed.{Seed}
 use Rattle.http_wire.specs.declared.reply.Method.TheVariants as method
 use Rattle.http_read.specs.Asks.{Server}
-use Rattle.image_workers.specs.Kits.{AreKitsAlike, IsAssembledBy, IsUnshared, KitUsed, KnowsFaults, NoneUsed, SomeKitHas, at_kit, worker_asks}
+use Rattle.image_workers.specs.Kits.{AreKitsAlike, IsAssembledBy, KitUsed, NoneUsed, SomeKitHas, at_kit, worker_asks}
+use Rattle.image_workers.specs.Shared.{all_stores}
 use Rattle.range_ledger.specs.Fills.{WhereTold}
 use Rattle.range_survey.specs.Excuses.{Excuses}
 use Rattle.range_survey.specs.declared.report.Report.{Report}
@@ -133,7 +134,6 @@ pub record IsRun {L V D : Type 0} (K : Type 0) (look : LookWords L) (view : View
   pub rest : List (Kit (AnyStore L D K) V)
   pub told : is_some t0 ≡ is_some t1
   pub made : IsAssembledBy (any_words look state) view (task l deal places) never cache_never t0 t1 (lent f0 (k ∷ more) e0) (lent f1 (j ∷ rest) e1) r
-  pub unshared : IsUnshared (lent f0 (k ∷ more) e0)
   pub first : Storage
   pub kits : AreGivenBack look view state rest (storage b2 k0) first
   pub bc : Disk
@@ -175,9 +175,6 @@ module _ {L V D K : Type 0} (look : LookWords L) (view : ViewWords V) (state : D
   abbrev after : Lent (AnyStore L D K) V
   after = lent x.f1 (x.j ∷ x.rest) x.e1
 
-  abbrev Known : Type 0
-  Known = KnowsFaults never (x.k ∷ x.more)
-
   abbrev W2 : Storage
   W2 = storage x.b2 k0
 
@@ -218,7 +215,7 @@ module _ {L V D K : Type 0} (look : LookWords L) (view : ViewWords V) (state : D
   quiet_opened quiet q rise = not_quiet d e quiet q (later q rise)
 
   name_now : name_in x.e1 ≡ cache
-  name_now = name_after _ e0 x.e1 cache (x.made.first (inl x.unshared) x.k) x.named
+  name_now = name_after _ e0 x.e1 cache x.made.stocked x.named
 
   shelf_rose : IfSome x.e1 (λ s. Rose (cache_faults e0) s.faults → FolderRose d e s.place)
   shelf_rose = cache_rose d e x.first.disk x.bc n.reached n.from_cached (cache_faults e0) x.e1 x.sound x.shelf
@@ -257,16 +254,16 @@ module _ {L V D K : Type 0} (look : LookWords L) (view : ViewWords V) (state : D
     is_here : IsSeedIndex l x.deal ls places
     is_here = seed_index_by l (length (x.k ∷ x.more)) p x.deal plan x.planned ls places is
 
-    gives : (i w : ℕ) → IsSomeAnd cache (λ c. CacheSpares d e c l (want_id l x.deal w) (size_of l (first_of x.deal w))) → CacheGives words l (slice_index_or (x.k ∷ x.more) i x.k).chain.stores (want_id l x.deal w) (size_of l (first_of x.deal w)) e0 x.e1
-    gives i w = cache_gives words (slice_index_or (x.k ∷ x.more) i x.k).chain.stores d e l (want_id l x.deal w) (size_of l (first_of x.deal w)) e0 x.e1 cache name_now there_before shelf_rose
+    gives : (w : ℕ) → IsSomeAnd cache (λ c. CacheSpares d e c l (want_id l x.deal w) (size_of l (first_of x.deal w))) → CacheGives words l (all_stores (x.k ∷ x.more)) (want_id l x.deal w) (size_of l (first_of x.deal w)) e0 x.e1
+    gives w = cache_gives words (all_stores (x.k ∷ x.more)) d e l (want_id l x.deal w) (size_of l (first_of x.deal w)) e0 x.e1 cache name_now there_before shelf_rose
 
-    pub run_asks : GetsWants never w v names cache out l z
+    pub run_asks : GetsWants (never_fail never cache_never) w v names cache out l z
     run_asks = record {
       workers = length (x.k ∷ x.more);
       plan = x.deal;
       planned = x.planned;
       gets = λ spared are. all_dialed (λ i. AsksFew method.Get (worker_asks l x.deal spared i)) (λ i q lt.
-          kit_gets look view state t d x.b e names never cache_never x.t0 i x.k q before after z (x.all i x.k (each_there i lt)) (x.made.each i x.k q (each_there i lt)) (added_all i q lt) (each_there i lt) x.unshared (length (x.k ∷ x.more)) x.planned out is_here later took_bytes rose cache (gives i) spared are);
+          kit_gets look view state t d x.b e names never cache_never x.t0 i x.k q before after z (x.all i x.k (each_there i lt)) (x.made.each i x.k q (each_there i lt)) (added_all i q lt) (length (x.k ∷ x.more)) x.planned out is_here later took_bytes rose cache (none_seen e0 cache x.named) gives spared are);
       sends = all_dialed (λ i. SendsFronts (IsListedGet l)) (λ i q lt. kit_sends look view state t d x.b e names never cache_never x.t0 i x.k q before after images (x.all i x.k (each_there i lt)) (x.made.each i x.k q (each_there i lt)));
     }
 

@@ -2,6 +2,7 @@
 use Rattle.std.proofs.Common.{◌≡◌, ◌≤◌, ◌⊎◌, ◌∙◌, ℕ, List, [], ◌∷◌, ◌++◌, map, Option, Some, None, IfSome, IsSome, is_some, true, IsTrue, refl, sym, ap, subst, inl, inr, arith}
 use Rattle.std.proofs.lemmas.Bool.{true≢false}
 use Rattle.std.specs.Option.{option_map}
+use Rattle.std.specs.List.{Any}
 use Rattle.std.specs.Map.{count_at}
 use Rattle.cache_store.specs.Giving.{GiveOneSize, SomeGives}
 use Rattle.cache_store.specs.Shelves.{Shelf, Shelved}
@@ -24,6 +25,7 @@ use Rattle.dsy_base.specs.Counts.{Quiet, Rose}
 use Rattle.dsy_base.specs.Disk.{Disk}
 use Rattle.dsy_base.specs.Maps.{Map, at_name}
 use Rattle.dsy_base.specs.declared.look.Look.{Ghosts as LookWords}
+use Rattle.store_chain.specs.Giving.{SomeHolds}
 
 -- the name that it was taken under
 abbrev pub name_in : Option Shelf → Option (List ℕ)
@@ -121,6 +123,24 @@ pub known_still : (o : Option (List ℕ)) (m n : Map ℕ) → ((q : List ℕ) �
 known_still None m n on known = tt
 known_still (Some q) m n on known = on q known
 
+-- its folder isn't among the folders while it is taken
+pub taken_gone : (o : Option (List ℕ)) (old new : Option (Map (Map (List ℕ)))) → IfSome o (λ q. new ≡ option_map (λ m. at_name m q None) old) → IfSome o (λ q. IfSome new (λ m. m q ≡ None))
+taken_gone None old new is = tt
+taken_gone (Some q) old new is = subst (λ (f : Option (Map (Map (List ℕ)))). IfSome f (λ m. m q ≡ None)) (sym is) (at old) where
+  at : (f : Option (Map (Map (List ℕ)))) → IfSome (option_map (λ m. at_name m q None) f) (λ m. m q ≡ None)
+  at None = tt
+  at (Some m) = at_same m q None
+
+-- so it is with the name that is seen of it
+pub gone_seen : (o : Option Shelf) (cache : Option (List ℕ)) (folders : Option (Map (Map (List ℕ)))) → name_in o ≡ cache → IfSome cache (λ q. IfSome folders (λ m. m q ≡ None)) → IfSome o (λ s. IfSome folders (λ m. m s.place ≡ None))
+gone_seen None cache folders is gone = tt
+gone_seen (Some s) cache folders is gone = subst (λ (c : Option (List ℕ)). IfSome c (λ q. IfSome folders (λ m. m q ≡ None))) (sym is) gone
+
+-- it has no name where there is none
+pub none_seen : (o : Option Shelf) (cache : Option (List ℕ)) → name_in o ≡ cache → cache ≡ None → o ≡ None
+none_seen None cache is none = refl
+none_seen (Some s) cache is none = let no : Some s.place ≡ None = is ∙ none in absurd (cc)
+
 -- the name of a cache to which chunks were added
 pub name_after : (Takes : List ℕ → List ℕ → Type 0) (e0 e1 : Option Shelf) (cache : Option (List ℕ)) → Stocked Takes e0 e1 → name_in e0 ≡ cache → name_in e1 ≡ cache
 name_after Takes None None cache stocked is = is
@@ -138,9 +158,13 @@ module _ (stores : List Location) (l : Listing) (c : List ℕ) where
       → Filled (Some (at_name m c x)) (Some (at_name m c y))
   filled_at m x y f g is now grows = (refl, (f, at_same m c x ∙ is, g, ap (at_name m c) now ∙ sym (at_name_twice m c x (Some g)), grows))
 
-module _ {S : Type 0} (store : StoreWords S) (xs : List S) (l : Listing) (n : Map (Map (List ℕ))) (stores : List Location) (held : (fs : List (Map (List ℕ))) → map (location_files n) stores ≡ map Some fs → map store.holds xs ≡ map Some (map chunks fs)) where
+-- what these stores hold is in the folders
+abbrev pub AreOfFolders : {S : Type 0} → StoreWords S → List S → List Location → Map (Map (List ℕ)) → Type 0
+AreOfFolders store xs stores n = (fs : List (Map (List ℕ))) → map (location_files n) stores ≡ map Some fs → (id b : List ℕ) → SomeHolds store.holds xs id b → Any (λ m. m id ≡ Some b) (map chunks fs)
+
+module _ {S : Type 0} (store : StoreWords S) (xs : List S) (l : Listing) (n : Map (Map (List ℕ))) (stores : List Location) (held : AreOfFolders store xs stores n) where
   for_cache : (q b : List ℕ) → TakesListed store l xs q b → IsForCache l n stores q b
-  for_cache q b h = (h.0, h.1, h.2.0, h.2.1, λ fs told. h.2.2 (map chunks fs) (held fs told))
+  for_cache q b h = (h.0, h.1, h.2.0, h.2.1, λ fs told. held fs told (id_of l h.0) b h.2.2)
 
   grows : (s t : Shelf) (f g : Map (List ℕ)) → s.files ≡ Some f → t.files ≡ Some g → Stocked (TakesListed store l xs) (Some s) (Some t) → CacheGrows l n stores f g
   grows s t f g is now stocked = record {
@@ -154,7 +178,7 @@ module _ {S : Type 0} (store : StoreWords S) (xs : List S) (l : Listing) (n : Ma
 
 pub cache_filled : {S : Type 0} (store : StoreWords S) (xs : List S) (stores : List Location) (l : Listing) (e0 e1 : Option Shelf) (cache : Option (List ℕ)) (folders : Option (Map (Map (List ℕ)))) (d e : Disk)
     → name_in e0 ≡ cache → d.folders ≡ folders_with e0 folders → e.folders ≡ folders_with e1 folders → IsTold e0 folders → Stocked (TakesListed store l xs) e0 e1
-    → IfSome d.folders (λ m. (fs : List (Map (List ℕ))) → map (location_files m) stores ≡ map Some fs → map store.holds xs ≡ map Some (map chunks fs))
+    → IfSome d.folders (AreOfFolders store xs stores)
     → CacheFilled stores cache l d e
 cache_filled {S} store xs stores l None None cache folders d e is was now told stocked there = subst (λ c. CacheFilled stores c l d e) is (now ∙ sym was)
 cache_filled {S} store xs stores l None (Some t) cache folders d e is was now told stocked there = absurd stocked
@@ -163,7 +187,7 @@ cache_filled {S} store xs stores l (Some s) (Some t) cache folders d e is was no
     subst (λ c. CacheFilled stores c l d e) is (subst (λ y. Filled stores l s.place y e.folders) (sym was) (subst (λ z. Filled stores l s.place (folders_with (Some s) folders) z) (sym now)
     (over folders told (subst (λ y. IfSome y There) was there)))) where
       There : Map (Map (List ℕ)) → Type 0
-      There m = (fs : List (Map (List ℕ))) → map (location_files m) stores ≡ map Some fs → map store.holds xs ≡ map Some (map chunks fs)
+      There m = AreOfFolders store xs stores m
 
       over : (folders : Option (Map (Map (List ℕ)))) → IsTold (Some s) folders → IfSome (folders_with (Some s) folders) There → Filled stores l s.place (folders_with (Some s) folders) (folders_with (Some t) folders)
       over None told there = (refl, tt)

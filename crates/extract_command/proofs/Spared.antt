@@ -1,5 +1,5 @@
 -- How often servers were asked by an assembly over files that were taken.
-use Rattle.std.proofs.Common.{◌≡◌, ℕ, ◌+◌, ◌<◌, ◌^◌, List, [], ◌∷◌, IfSome, map, slice_index, Option, None, Some, IsSomeAnd, refl, sym, ap, subst, ◌∙◌, inl, inr, arith}
+use Rattle.std.proofs.Common.{◌≡◌, ◌⊎◌, ℕ, ◌+◌, ◌<◌, ◌^◌, List, [], ◌∷◌, IfSome, map, slice_index, Option, None, Some, IsSomeAnd, refl, sym, ap, subst, ◌∙◌, inl, inr, arith}
 use Rattle.std.proofs.lemmas.Bool.{cases_lt}
 use Rattle.std.proofs.lemmas.List.{get_or_default}
 use Rattle.std.specs.List.{AllZip, Any}
@@ -30,7 +30,7 @@ use Rattle.extract_plan.specs.Deal.{Deal, IsPlan, first_of, want_id}
 use Rattle.extract_plan.specs.Places.{ArePlaces, IsSeedIndex, nth_place, place, places_at}
 use Rattle.extract_command.proofs.Shelved.{name_in}
 use Rattle.extract_command.proofs.Seeded.{had_at, label_at, label_of}
-use Rattle.extract_command.specs.Extract.{CacheSpares, FileQuiet, Into, IsSparedOnDisk, folder_of, SeedHas, Seeds, old_of}
+use Rattle.extract_command.specs.Extract.{AllKnow, CacheSpares, FileQuiet, Into, IsSparedOnDisk, NeverFail, folder_of, SeedHas, Seeds, old_of}
 
 -- a count that didn't rise
 quiet_unless : (old new : ℕ) → (Rose old new → ⊥) → Quiet old new
@@ -42,7 +42,7 @@ quiet_unless old new none = elim (cases_lt old new) [
   ]
 ]
 
-module _ {S V : Type 0} (store : StoreWords S) (view : ViewWords V) (t : Task) (from to : origins.Sources S V) (d b e : Disk) (m : Map (List ℕ)) (told : d.files ≡ Some m) (count : ℕ) (plan : IsPlan t.listing count t.plan) (Known : Type 0) (o : Into) (z : Seeds)
+module _ {S V : Type 0} (store : StoreWords S) (view : ViewWords V) (t : Task) (from to : origins.Sources S V) (d b e : Disk) (m : Map (List ℕ)) (told : d.files ≡ Some m) (count : ℕ) (plan : IsPlan t.listing count t.plan) (sure : NeverFail) (workers : ℕ) (o : Into) (z : Seeds)
     (zip : AllZip (IsViewed d b) z.images (views_of view from.seeds)) (is : IsSeedIndex t.listing t.plan z.listings t.places) (later : (q : List ℕ) → FileRose d b q → FileRose d e q)
     (rises : (n : ℕ) → Rose (slice_index (counts_of view from.seeds) n) (slice_index (counts_of view to.seeds) n) → FileRose d e (name_at (map label_of (views_of view from.seeds)) n))
     (t0 : Option (List ℕ)) (took : t0 ≡ Some (old_of m o)) (rose : Rose from.faults to.faults → FileRose d e o.name) where
@@ -86,19 +86,20 @@ module _ {S V : Type 0} (store : StoreWords S) (view : ViewWords V) (t : Task) (
 
   -- want w is had without the stores
   abbrev pub SparedWith : ℕ → Type 0
-  SparedWith w = IsSpared store view t (λ j. IsSomeAnd t0 (λ b. IsRightAt (resized b (image_length t.listing)) t.listing j) × Known) from to w
+  SparedWith w = IsSpared store view t (λ j. IsSomeAnd t0 (λ b. IsRightAt (resized b (image_length t.listing)) t.listing j) × AllKnow workers sure.out) from to w
 
-  pub spared_over : (cache : Option (List ℕ)) (w : ℕ) → w < p.wants → (IsSomeAnd cache (λ c. CacheSpares d e c l (want_id l p w) (size_of l (first_of p w))) → CacheGives store l from.chain.stores (want_id l p w) (size_of l (first_of p w)) from.cache to.cache) → IsSparedOnDisk Known d e m cache o l z p w → SparedWith w
-  spared_over cache w below gives (inl right) = inl (
+  pub spared_over : (cache : Option (List ℕ)) (w : ℕ) → w < p.wants → IsSparedOnDisk sure workers d e m cache o l z p w
+      → SparedWith w ⊎ (IsSomeAnd cache (λ c. CacheSpares d e c l (want_id l p w) (size_of l (first_of p w))) × AllKnow workers sure.cache)
+  spared_over cache w below (inl right) = inl (inl (
     (
       right.0.0,
       right.0.1,
       (subst (λ t. IsSomeAnd t (λ b. IsRightAt (resized b (image_length l)) l right.0.0)) (sym took) right.0.2, right.2),
     ),
     quiet_unless from.faults to.faults (λ rise. quiet_file o.name right.1 (rose rise)),
-  )
-  spared_over cache w below gives (inr (inl seed)) = inr (inl (seed_at w seed.0 seed.1 seed.2 below))
-  spared_over cache w below gives (inr (inr spares)) = inr (inr (gives spares))
+  ))
+  spared_over cache w below (inr (inl seed)) = inl (inr (inl (seed_at w seed.0 seed.1 seed.2 below)))
+  spared_over cache w below (inr (inr spares)) = inr spares
 
 -- what holds for what is told
 pub of_told : {X : Type 0} (o : Option X) (P : X → Type 0) (R : Type 0) → ((a : X) → o ≡ Some a → P a → R) → IsSomeAnd o P → R

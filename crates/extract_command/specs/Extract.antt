@@ -284,21 +284,44 @@ pub record FillsCache (stores : List Location) (cache : Option (List ℕ)) (l : 
 abbrev pub FileQuiet : Disk → Disk → List ℕ → Type 0
 FileQuiet d e q = Quiet (count_at d.file_counts q) (count_at e.file_counts q)
 
+-- the types that never fail: that of OUT, and that of the cache's folder
+pub record NeverFail : Type 0 where
+  pub out : Bool
+  pub cache : Bool
+
+abbrev pub never_fail : Bool → Bool → NeverFail
+never_fail out cache = record { out = out; cache = cache }
+
+-- each of this many workers knows of a fault: there is one, or the type never fails
+abbrev pub AllKnow : ℕ → Bool → Type 0
+AllKnow workers never_fails = (workers ≡ 1) ⊎ IsTrue never_fails
+
+-- the index lists the id with no other size
+abbrev pub IsOnlySize : Listing → List ℕ → ℕ → Type 0
+IsOnlySize l id size = (n : ℕ) → IsListedAs l id n → n ≡ size
+
 -- the cache's folder gives the chunk, no call on it failed, and the index lists the id with no other size
 pub record CacheSpares (d e : Disk) (cache : List ℕ) (l : Listing) (id : List ℕ) (size : ℕ) : Type 0 where
   pub gives : IsSomeAnd d.folders (λ m. IsSomeAnd (m cache) (λ f. GivesChunk (kind_of l) id size (chunks f id)))
   pub quiet : Quiet (count_at d.folder_counts cache) (count_at e.folder_counts cache)
-  pub one_size : (n : ℕ) → IsListedAs l id n → n ≡ size
+  pub one_size : IsOnlySize l id size
 
 -- want w of the plan is got without the stores: an entry of it is right in the base, no call on OUT failed, and all
 -- workers know of such faults; or a seed has its chunk, and no call on the seed's image failed; or the cache gives it,
--- as it was before
-abbrev pub IsSparedOnDisk : Type 0 → Disk → Disk → Map (List ℕ) → Option (List ℕ) → Into → Listing → Seeds → Deal → ℕ
-    → Type 0
-IsSparedOnDisk Known d e before cache out l x p w =
-    (((j : ℕ) × IsAmong (of_want p w) j × IsRightAt (base_of before out l) l j) × FileQuiet d e out.name × Known)
+-- as it was before, and all workers know of faults of the cache
+abbrev pub IsSparedOnDisk : NeverFail → ℕ → Disk → Disk → Map (List ℕ) → Option (List ℕ) → Into → Listing → Seeds
+    → Deal → ℕ → Type 0
+IsSparedOnDisk sure workers d e before cache out l x p w =
+    (((j : ℕ) × IsAmong (of_want p w) j × IsRightAt (base_of before out l) l j) × FileQuiet d e out.name
+    × AllKnow workers sure.out)
     ⊎ (((s : ℕ) × (h : SeedHas before x (want_id l p w) (size_of l (first_of p w)) s) × FileQuiet d e h.image)
-    ⊎ IsSomeAnd cache (λ c. CacheSpares d e c l (want_id l p w) (size_of l (first_of p w))))
+    ⊎ (IsSomeAnd cache (λ c. CacheSpares d e c l (want_id l p w) (size_of l (first_of p w)))
+    × AllKnow workers sure.cache))
+
+-- there is one worker, or no cache; or the index lists the want's id with no other size
+abbrev pub IsOwnOrOneSize : ℕ → Option (List ℕ) → Listing → Deal → ℕ → Type 0
+IsOwnOrOneSize workers cache l p w =
+    ((workers ≡ 1) ⊎ (cache ≡ None)) ⊎ IsOnlySize l (want_id l p w) (size_of l (first_of p w))
 
 -- the connections of the workers' stores have ended one worker's after the other, those of the last first: P k holds
 -- for those of worker k
@@ -310,15 +333,17 @@ WorkersDialed P (suc k) stores old new = (ended : Option (List Traffic)) × Each
 
 -- each worker asks each server for the chunk of an id at most once for each want of that id that it is dealt and that
 -- isn't spared, and the first worker once more for each want of that id that isn't spared; and each sends nothing but
--- fronts of requests for chunks that the index lists. All workers know of a fault of OUT where there is one worker, or
--- where no call on it ever fails, as `sure` says
-pub record GetsWants (sure : Bool) (w v : Storage) (stores : List Location) (cache : Option (List ℕ)) (out : Into)
+-- fronts of requests for chunks that the index lists. All workers know of a fault of OUT, or of the cache, where there
+-- is one worker, or where no call on it ever fails, as `sure` says. Where several workers share the cache a want is
+-- spared only if the index lists its id with one size
+pub record GetsWants (sure : NeverFail) (w v : Storage) (stores : List Location) (cache : Option (List ℕ)) (out : Into)
     (l : Listing) (x : Seeds) : Type 0 where
   pub workers : ℕ
   pub plan : Deal
   pub planned : IsPlan l workers plan
   pub gets : (spared : ℕ → Bool) → ((i : ℕ) → i < plan.wants → spared i ≡ true → IsSomeAnd w.disk.files
-      (λ b. IsSparedOnDisk ((workers ≡ 1) ⊎ IsTrue sure) w.disk v.disk b cache out l x plan i)) →
+      (λ b. IsSparedOnDisk sure workers w.disk v.disk b cache out l x plan i)
+      × IsOwnOrOneSize workers cache l plan i) →
       WorkersDialed (λ k. AsksFew method.Get (worker_asks l plan spared k)) workers stores w.dial.ended v.dial.ended
   pub sends : WorkersDialed (λ k. SendsFronts (IsListedGet l)) workers stores w.dial.ended v.dial.ended
 
@@ -330,7 +355,7 @@ IsNumbered name d r e = IsSome (e.file_counts name) ⊎ ((r ≡ Err ends.Memory)
 
 -- files tell afterwards where they told before. The file, the images of seeds, the cache's folder and those of stores
 -- alone were used
-abbrev pub ImageMade : Bool → List Location → Option (List ℕ) → Into → Listing → Seeds → Step Storage Unit
+abbrev pub ImageMade : NeverFail → List Location → Option (List ℕ) → Into → Listing → Seeds → Step Storage Unit
 ImageMade sure stores cache out l x w r v = Assembled w v stores cache out l x r
     × FillsCache stores cache l w.disk v.disk
     × (is_some v.disk.files ≡ is_some w.disk.files) × DialsStores stores w.dial v.dial
@@ -386,14 +411,14 @@ Renamed from to d (Ok u) e =
 Renamed from to d (Err o) e = NotRenamed from to d o e × (e.files ≡ d.files) × OnFile d e to
 
 -- OUT becomes the image: it is made it in its place; or the temporary file is, and takes OUT's name
-abbrev pub OutMade : Bool → Bool → List Location → Option (List ℕ) → List ℕ → Listing → Seeds → Step World Unit
+abbrev pub OutMade : NeverFail → Bool → List Location → Option (List ℕ) → List ℕ → Listing → Seeds → Step World Unit
 OutMade sure true stores cache out l x = OnStorage (ImageMade sure stores cache (in_place out) l x)
 OutMade sure false stores cache out l x = do
   _ ← OnStorage (Clearing (temporary_out out) (ImageMade sure stores cache (beside out) l x))
   OnStorage (Clearing (temporary_out out) (NotAsking (Renamed (temporary_out out) out)))
 
--- while the cache is used its folder counts as there. Where `sure`, no call on OUT ever fails
-abbrev pub ExtractEnds : Bool → List Location → Option (List ℕ) → List (List ℕ) → Bool → List ℕ → List ℕ
+-- while the cache is used its folder counts as there. `sure` says whether calls on OUT, or on the cache, never fail
+abbrev pub ExtractEnds : NeverFail → List Location → Option (List ℕ) → List (List ℕ) → Bool → List ℕ → List ℕ
     → Step World Unit
 ExtractEnds sure stores cache seeds in_place index out = do
   l ← OnDisk (IndexRead index)

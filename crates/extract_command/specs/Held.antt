@@ -1,6 +1,6 @@
 -- What an extraction holds while it runs: its stores, the shelf of its cache, the images of its seeds, and the kits of
 -- its further workers.
-use Rattle.std.specs.Prelude.{◌≡◌, ◌⊎◌, ℕ, ◌≤◌, List, [], All, IfSome, IsSome, Option, Ok, Err, map, vec_capacity}
+use Rattle.std.specs.Prelude.{◌≡◌, ◌⊎◌, ℕ, ◌≤◌, List, [], All, IfSome, IsSome, None, Option, Ok, Err, map, vec_capacity}
 use Rattle.std.specs.List.{fold}
 use Rattle.std.specs.Map.{count_at}
 use Rattle.std.specs.Option.{option_map}
@@ -59,8 +59,8 @@ pub record HasNames {L W V D K : Type 0} (look : LookWords L) (view : ViewWords 
   pub seeds : AreNamesOf images (names_among (map (seed_held view.held) h.seeds.items))
   pub kits : All (UsesNames look view images (folders_among (stores_of look h))) (further_kits h)
 
--- it was just reached: nothing was asked and nothing failed yet, no seed and no kit is open, and there is room for
--- this number of kits
+-- it was just reached: nothing was asked and nothing failed yet, the cache's folder is taken, no seed and no kit is
+-- open, and there is room for this number of kits
 pub record JustReached {L W V D K : Type 0} (look : LookWords L) (folder : LookWords W) (view : ViewWords V)
     (state : D → DialState) (d : Disk) (workers : ℕ) (h : Held L W V D K) : Type 0 where
   pub lent : CanBeGiven look folder view d h
@@ -69,6 +69,7 @@ pub record JustReached {L W V D K : Type 0} (look : LookWords L) (folder : LookW
   pub shelf : IfSome h.shelf (λ s. (folder.faults s.folder ≡ 0) × (s.kind ≡ kinds.Sha512T256))
   pub found : IfSome (disk_with folder h d).folders (λ m.
       map (source_files look.files) h.stores.items ≡ map (location_files m) (stores_of look h))
+  pub gone : IfSome h.cache (λ q. IfSome d.folders (λ m. m q ≡ None))
   pub none : h.seeds.items ≡ []
   pub room : (h.kits.items ≡ []) × (workers ≤ vec_capacity h.kits)
 

@@ -10,7 +10,7 @@ ghost use Rattle.command_steps.specs.Uses.{Uses};
 ghost use Rattle.command_worlds.specs.Worlds.{world};
 ghost use Rattle.extract_command.specs.Extract.{Assembled, ClearedAfter, ExtractEnds, FillsCache, IsNoFile};
 ghost use Rattle.extract_command.specs.Extract.{IsNumbered, OutMade, Renamed, answer_of_assembly, answer_of_taking};
-ghost use Rattle.extract_command.specs.Extract.{GetsWants, folders_reached, temporary_out};
+ghost use Rattle.extract_command.specs.Extract.{GetsWants, folders_reached, never_fail, temporary_out};
 ghost use Rattle.extract_command.specs.Held.{JustReached, disk_with, stores_of};
 ghost use Rattle.dsy_base.specs.Disk.{Output};
 ghost use Rattle.extract_plan.specs.Deal.{Deal, IsPlan};
@@ -48,8 +48,7 @@ pub struct Extraction {
     /// The names of the seeds' indexes.
     pub seeds: Names,
     pub in_place: bool,
-    /// How many workers fill OUT: 1 to 32, and what is beyond that counts as the nearer of the two. With a cache it is
-    /// one for now, whatever stands here.
+    /// How many workers fill OUT: 1 to 32, and what is beyond that counts as the nearer of the two.
     pub workers: usize,
     pub index: Name,
     pub target: Name,
@@ -70,15 +69,11 @@ struct Planned {
     workers: usize,
 }
 
-// How many workers go. The cache isn't shared by several.
-fn workers_for(workers: usize, cache: &Option<Name>) -> usize
-    ensures size { (1 ≤ result) × (result ≤ 32) }
-    ensures alone { IsSome cache.now → result ≡ 1 }
+// How many workers go.
+fn worker_count(workers: usize) -> usize
+    ensures { (1 ≤ result) × (result ≤ 32) }
 {
-    match cache {
-        Some(_) => 1,
-        None => workers.clamp(1, MOST_WORKERS),
-    }
+    workers.clamp(1, MOST_WORKERS)
 }
 
 // The answer of an assembly.
@@ -172,7 +167,6 @@ where
     requires size { (1 ≤ length held.stores.items) × (length held.stores.items ≤ 16) }
     requires located { stores_of F.Look.Look held ≡ planned.now.stores }
     requires workers { (1 ≤ planned.now.workers) × (planned.now.workers ≤ 32) }
-    requires alone { IsSome held.cache → planned.now.workers ≡ 1 }
     requires held { JustReached F.Look.Look F.Folder.Look F.View.View D.state (F.disk files.old) planned.now.workers
         held }
     ensures assembled { (d : Deal) (ls : List Listing) → IsPlan planned.now.index 1 d →
@@ -191,7 +185,8 @@ where
     ensures numbered { IsNumbered target.now (F.disk files.old) result (F.disk files.new) }
     ensures asks { (d : Deal) (ls : List Listing) → IsPlan planned.now.index 1 d →
         IsSeedIndex planned.now.index d ls planned.now.places →
-        GetsWants F.Target.never_fails (storage (disk_with F.Folder.Look held (F.disk files.old)) (D.state dial.old))
+        GetsWants (never_fail F.Target.never_fails F.Folder.never_fails)
+        (storage (disk_with F.Folder.Look held (F.disk files.old)) (D.state dial.old))
         (storage (F.disk files.new) (D.state dial.new)) (stores_of F.Look.Look held) held.cache
         (record { name = target.now; fresh = fresh }) planned.now.index
         (record { images = map image_name planned.now.seeds; listings = ls }) }
@@ -288,12 +283,12 @@ where
     requires size { (1 ≤ length held.stores.items) × (length held.stores.items ≤ 16) }
     requires located { stores_of F.Look.Look held ≡ planned.now.stores }
     requires workers { (1 ≤ planned.now.workers) × (planned.now.workers ≤ 32) }
-    requires alone { IsSome held.cache → planned.now.workers ≡ 1 }
     requires held { JustReached F.Look.Look F.Folder.Look F.View.View D.state (F.disk files.old) planned.now.workers
         held }
     requires named { temporary.now ≡ temporary_out target }
     ensures made { (d : Deal) (ls : List Listing) (p : Output) → IsPlan planned.now.index 1 d →
-        IsSeedIndex planned.now.index d ls planned.now.places → OutMade F.Target.never_fails false
+        IsSeedIndex planned.now.index d ls planned.now.places → OutMade
+        (never_fail F.Target.never_fails F.Folder.never_fails) false
         (stores_of F.Look.Look held) held.cache target planned.now.index
         (record { images = map image_name planned.now.seeds; listings = ls })
         (world (disk_with F.Folder.Look held (F.disk files.old)) (D.state dial.old) p) result
@@ -325,8 +320,9 @@ where
     D::Link: Send,
     requires stores { (1 ≤ length words.stores) × (length words.stores ≤ 16) }
     requires seeds { length words.seeds ≤ 64 }
-    ensures ends { (p : Output) → ExtractEnds F.Target.never_fails words.stores words.cache words.seeds
-        words.in_place words.index words.target (world (F.disk files.old) (D.state dial.old) p) result
+    ensures ends { (p : Output) → ExtractEnds
+        (never_fail F.Target.never_fails F.Folder.never_fails) words.stores words.cache words.seeds words.in_place
+        words.index words.target (world (F.disk files.old) (D.state dial.old) p) result
         (world (F.disk files.new) (D.state dial.new) p) }
 {
     let Extraction {
@@ -338,7 +334,7 @@ where
         index,
         target,
     } = words;
-    let workers = workers_for(workers, &cache);
+    let workers = worker_count(workers);
     let listed = load_index(alloc, files, index)?;
     let indexes = read_indexes(alloc, files, seeds.as_slice())?;
     let Ok(planned) = plan_of(alloc, listed, seeds, indexes, stores, workers) else {

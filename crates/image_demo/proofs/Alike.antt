@@ -1,5 +1,5 @@
 -- What an assembly with kits of one store and one seed has done, where nothing fails: by the plan for one worker.
-use Rattle.std.proofs.Common.{◌≡◌, ◌∙◌, ℕ, ◌<◌, ◌≤◌, List, [], ◌∷◌, All, Option, Some, None, Bool, IsTrue, Result, IfOk, IfSome, length, map, slice_index_or, sym, ap, subst, arith}
+use Rattle.std.proofs.Common.{◌≡◌, ◌∙◌, ℕ, ◌<◌, ◌≤◌, List, [], ◌∷◌, All, Option, Some, None, Bool, IsTrue, Result, IfOk, IfSome, length, map, slice_index_or, inr, refl, sym, ap, subst, arith}
 use Rattle.assembler.specs.Assemblies.{IsObtainable, Verdict}
 use Rattle.assembler.specs.Economy.{ReportsExactly}
 use Rattle.assembler.specs.OneKit.{lent}
@@ -46,8 +46,8 @@ module _ {S V : Type 0} (s : S) (v : V) (kits : List (Kit S V)) (all : All (IsKi
     stores_hold : (n : ℕ) (k : Kit S V) → n < length kits → map store.holds (slice_index_or kits n k).chain.stores ≡ store.holds s ∷ []
     stores_hold n k lt = ap (λ (c : Chained S). map store.holds c.stores) (all n k lt).chain
 
-    module _ (l : Listing) (x : Placed) (e d : Deal) (one : IsPlan l 1 e) (several : IsPlan l (length kits) d) (some : 1 ≤ length kits) (tells : IsTrue view.tells) (never : Bool) (sure : IsTrue never)
-        (o p : Option (List ℕ)) (f0 f1 : ℕ) (new : List (Kit S V)) (e1 : Option Shelf) (r : Result Report ExtractFault) (done : IsAssembledBy store view (task_of l d x) never o p (lent f0 kits None) (lent f1 new e1) r)
+    module _ (l : Listing) (x : Placed) (e d : Deal) (one : IsPlan l 1 e) (several : IsPlan l (length kits) d) (some : 1 ≤ length kits) (tells : IsTrue view.tells) (never cache_never : Bool) (sure : IsTrue never)
+        (o p : Option (List ℕ)) (f0 f1 : ℕ) (new : List (Kit S V)) (e1 : Option Shelf) (r : Result Report ExtractFault) (done : IsAssembledBy store view (task_of l d x) never cache_never o p (lent f0 kits None) (lent f1 new e1) r)
         (old_is : f0 ≡ 0) (new_is : f1 ≡ 0) (stores : (t : S) → store.faults t ≡ 0) (views : (w : V) → view.faults w ≡ 0) (chunks : Map (List ℕ)) (told : store.holds s ≡ Some chunks) where
       abbrev k : Kit S V
       k = first_of kits some
@@ -58,7 +58,7 @@ module _ {S V : Type 0} (s : S) (v : V) (kits : List (Kit S V)) (all : All (IsKi
       quiet : (n : ℕ) → n < length kits → SourcesQuiet store view (at_kit (lent f0 kits None) n k) (at_kit (lent f1 new e1) n k) [] (chunks ∷ [])
       quiet n lt =
           nothing_fails store view f0 f1 (slice_index_or kits n k).seeds.items (slice_index_or new n k).seeds.items e1 (slice_index_or kits n k).chain (slice_index_or new n k).chain (chunks ∷ []) (TakesListed store l (slice_index_or kits 0 k).chain.stores)
-          tells old_is new_is stores views (done.stocked k) (stores_hold n k lt ∙ ap (λ (q : Option (Map (List ℕ))). q ∷ []) told)
+          tells old_is new_is stores views (done.first (inr alike) k) (stores_hold n k lt ∙ ap (λ (q : Option (Map (List ℕ))). q ∷ []) told)
 
       -- what holds by the plan for as many workers, over what the first kit's seeds hold, holds by the plan for one
       by_one : (P : Deal → List (Option Held) → Type 0) → P (record { workers = 1; wants = d.wants; want_of = d.want_of; cuts = e.cuts }) (views_of view (slice_index_or kits 0 k).seeds.items) → P e (Some (view.held v) ∷ [])
@@ -70,4 +70,4 @@ module _ {S V : Type 0} (s : S) (v : V) (kits : List (Kit S V)) (all : All (IsKi
 
       pub reported_alike : IfSome o (λ y. IfOk r (ReportsExactly (source_of (task_of l e x) (resized y (image_length l)) (Some (view.held v) ∷ []) [] (chunks ∷ [])) e.wants))
       reported_alike = by_one (λ q z. IfSome o (λ y. IfOk r (ReportsExactly (source_of (task_of l q x) (resized y (image_length l)) z [] (chunks ∷ [])) q.wants)))
-          (done.reported sure alike k k [] (chunks ∷ []) (λ n lt. quiet n lt) (no_sizes l (chunks ∷ [])))
+          (done.reported (inr refl) sure alike k k [] (chunks ∷ []) (λ n lt. quiet n lt) (no_sizes l (chunks ∷ [])))

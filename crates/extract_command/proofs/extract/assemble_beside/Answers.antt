@@ -10,7 +10,7 @@ use Rattle.command_steps.specs.Sources.{NotAsking, storage}
 use Rattle.command_worlds.specs.Worlds.{world}
 use Rattle.extract_command.proofs.Replaced.{beside_apart, clears, passed_any}
 use Rattle.extract_command.proofs.extract.assemble_beside.Goals as goal
-use Rattle.extract_command.specs.Extract.{ClearedAfter, ImageMade, Renamed, Seeds, beside}
+use Rattle.extract_command.specs.Extract.{ClearedAfter, ImageMade, Renamed, Seeds, beside, never_fail}
 
 -- what is seen of the cache
 abbrev see : (g : Over) → Option (Shelved g.row.F-Folder.Denot) → Option Shelf
@@ -34,9 +34,9 @@ returns-in_err-clear g c =
       made = λ deal ls p plan is.
           let z : Seeds = record { images = map image_name c.args.planned.now.seeds; listings = ls } in
           let made = c.assemble_into-made.ensures in
-          let image = subst (λ (n : List ℕ). ImageMade g.F.Target.View.never_fails names c.args.held.cache (record { name = n; fresh = true }) l z w c.assemble_into-made.result (storage b k1)) c.requires.named (made.assembled deal ls plan is, made.kept, made.tells, made.dialed, made.numbered, made.asks deal ls plan is, made.used) in
+          let image = subst (λ (n : List ℕ). ImageMade (never_fail g.F.Target.View.never_fails g.F.Folder.Look.never_fails) names c.args.held.cache (record { name = n; fresh = true }) l z w c.assemble_into-made.result (storage b k1)) c.requires.named (made.assembled deal ls plan is, made.kept, made.tells, made.dialed, made.numbered, made.asks deal ls plan is, made.used) in
           let cleared = subst (λ (n : List ℕ). ClearedAfter n b c.assemble_into-made.result (Err c.in_err-clear.field-0.0) (at c.clear.new.files)) c.requires.named c.in_err-clear.ensures in
-          rw (e.1, e.2) (inl (clears _ (ImageMade g.F.Target.View.never_fails names c.args.held.cache (beside c.args.target) l z) w b (at c.clear.new.files) k1 c.assemble_into-made.result (Err c.in_err-clear.field-0.0) image cleared, refl));
+          rw (e.1, e.2) (inl (clears _ (ImageMade (never_fail g.F.Target.View.never_fails g.F.Folder.Look.never_fails) names c.args.held.cache (beside c.args.target) l z) w b (at c.clear.new.files) k1 c.assemble_into-made.result (Err c.in_err-clear.field-0.0) image cleared, refl));
     }
 
 pub returns : goal.returns
@@ -56,7 +56,7 @@ returns g c =
       made = λ deal ls p plan is.
           let z : Seeds = record { images = map image_name c.args.planned.now.seeds; listings = ls } in
           let made = c.assemble_into-made.ensures in
-          let image = subst (λ (n : List ℕ). ImageMade g.F.Target.View.never_fails names c.args.held.cache (record { name = n; fresh = true }) l z w c.assemble_into-made.result (storage b k1)) c.requires.named (made.assembled deal ls plan is, made.kept, made.tells, made.dialed, made.numbered, made.asks deal ls plan is, made.used) in
+          let image = subst (λ (n : List ℕ). ImageMade (never_fail g.F.Target.View.never_fails g.F.Folder.Look.never_fails) names c.args.held.cache (record { name = n; fresh = true }) l z w c.assemble_into-made.result (storage b k1)) c.requires.named (made.assembled deal ls plan is, made.kept, made.tells, made.dialed, made.numbered, made.asks deal ls plan is, made.used) in
           let cleared = subst (λ (n : List ℕ). ClearedAfter n b c.assemble_into-made.result (Ok tt) m) c.requires.named c.in_ok-clear.ensures in
           let renamed = subst (λ (q : List ℕ). Renamed q c.args.target m c.rename-renamed.result n) c.requires.named c.rename-renamed.ensures in
           let last = subst (λ (q : List ℕ). ClearedAfter q n c.rename-renamed.result c.clear-2.result f) c.requires.named c.clear-2.ensures in
@@ -65,7 +65,7 @@ returns g c =
             dial = k1;
             out = p;
             gave = tt;
-            did = (clears _ (ImageMade g.F.Target.View.never_fails names c.args.held.cache (beside c.args.target) l z) w b m k1 c.assemble_into-made.result (Ok tt) image cleared, refl);
+            did = (clears _ (ImageMade (never_fail g.F.Target.View.never_fails g.F.Folder.Look.never_fails) names c.args.held.cache (beside c.args.target) l z) w b m k1 c.assemble_into-made.result (Ok tt) image cleared, refl);
             then = (clears _ (NotAsking (Renamed _ c.args.target)) (storage m k1) n f k1 c.rename-renamed.result c.clear-2.result (renamed, refl) last, refl);
           });
     }

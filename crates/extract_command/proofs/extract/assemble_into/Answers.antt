@@ -1,12 +1,11 @@
-use Rattle.std.proofs.Common.{◌≡◌, ◌∙◌, ℕ, suc, ◌≤◌, All, Bool, List, ◌∷◌, Err, length, vec_len, Option, IfSome, IsTrue, is_some, map, slice_index_or, refl, sym, ap, subst, arith, inl, inr, IsSome}
+use Rattle.std.proofs.Common.{◌≡◌, ◌∙◌, ℕ, suc, ◌≤◌, All, Bool, List, ◌∷◌, Err, length, Option, IfSome, IsTrue, is_some, map, slice_index_or, refl, sym, ap, subst, arith, inl, inr, IsSome}
 use Rattle.std.proofs.lemmas.List.Elements.{All-cons, All-nil}
 use Rattle.std.specs.List.{AllZip, fold}
 use Rattle.std.specs.Map.{count_at}
 use Rattle.std.specs.Option.{option_map}
 use Rattle.assembler.specs.OneKit.{lent}
 use Rattle.cache_store.specs.Shelves.{Shelf, Shelved}
-use Rattle.chunk_sources.proofs.Cached.{stocked_none}
-use Rattle.chunk_sources.specs.Caches.{Stocked, TakesListed, seen}
+use Rattle.chunk_sources.specs.Caches.{seen}
 use Rattle.chunk_sources.specs.Wants.{Task}
 use Rattle.chunk_sources.specs.declared.kit.Kit.{Kit}
 use Rattle.chunk_store.specs.declared.id.DigestKind.TheVariants as kinds
@@ -30,24 +29,24 @@ use Rattle.dsy_base.specs.Disk.{Disk, GivesFile}
 use Rattle.dsy_base.specs.Links.{DialState}
 use Rattle.dsy_base.specs.Maps.{Map, at_name}
 use Rattle.extract_command.proofs.AnyWords.{any_words, task}
-use Rattle.extract_command.proofs.Between.{asked_nothing, back_dialed, back_reads, back_writes, fills, stopped, took_writes, untaken}
-use Rattle.extract_command.proofs.First.{as_many, by_first, many_named, none_further, unshared_of}
-use Rattle.extract_command.proofs.LentKits.{all_give_later, give_later, opened_kits, opened_names}
+use Rattle.extract_command.proofs.Between.{asked_nothing, back_dialed, back_reads, back_writes, fills, stopped, took_writes, unfilled, untaken}
+use Rattle.extract_command.proofs.First.{as_many, by_first, many_named}
+use Rattle.extract_command.proofs.LentKits.{LooksTell, all_give_later, give_later, opened_kits, opened_names}
 use Rattle.extract_command.proofs.Run.{IsRun, run_asks, run_assembled}
-use Rattle.extract_command.proofs.Shelved.{IsTold, fresh_faults, known_still, name_after, name_in, same_kind, same_names, told_files}
+use Rattle.extract_command.proofs.Shelved.{IsTold, fresh_faults, gone_seen, known_still, name_after, name_in, same_kind, same_names, told_files}
 use Rattle.extract_command.proofs.UsedKits.{IsHeldStill, held_given, held_still}
 use Rattle.extract_command.proofs.Using.{made_used, opened_used, seeds_used, untaken_used, untouched_used}
 use Rattle.extract_command.proofs.Wrote.{untaken_numbered, wrote_back, wrote_read, wrote_then}
 use Rattle.extract_command.proofs.extract.assemble_into.Given.{Over}
 use Rattle.extract_command.proofs.extract.assemble_into.Goals.{After-of_kits-held}
 use Rattle.extract_command.proofs.extract.assemble_into.Goals as goal
-use Rattle.extract_command.specs.Extract.{FillsCache, Into, folders_reached}
+use Rattle.extract_command.specs.Extract.{FillsCache, Into, folders_reached, never_fail}
 use Rattle.extract_command.specs.Held.{CanBeGiven, HasNames, IsGivenBack}
 use Rattle.extract_command.specs.Kits.{AreOpened, UsesNames}
 use Rattle.extract_plan.specs.Deal.{IsPlan}
 use Rattle.extract_plan.specs.Places.{PlacesKnown}
 use Rattle.extract_plan.specs.Seeds as seeds
-use Rattle.image_workers.specs.Kits.{IsAssembledBy, IsUnshared}
+use Rattle.image_workers.specs.Kits.{IsAssembledBy}
 
 -- what is seen of the cache
 abbrev see : (g : Over) → Option (Shelved g.row.F-Folder.Denot) → Option Shelf
@@ -60,6 +59,11 @@ words g = any_words g.F.Look.Look g.D.Dial.state
 cache_told : (g : Over) (f : g.row.F.Denot) (o : Option (Shelved g.row.F-Folder.Denot)) → IsTold (see g o) (g.F.Files.disk f).folders
 cache_told g f o = told_files g.F.Folder.Look (g.met.F.Folder.Look g.world.𝓛 g.world.𝓜 g.world.𝓡 ((λ s y. y), (λ y. y), (λ y. y), (λ y. y))).told (g.F.Files.disk f).folders
     (λ some. (g.met.F.Files.alike.0 (subst (λ t. IsTrue t) (g.met.F.Files.told f).1 some)).3) o
+
+looks_tell : (g : Over) (f : g.row.F.Denot) → LooksTell g.F.Look.Look (g.F.Files.disk f).folders
+looks_tell g f m is l =
+    let some : IsTrue (is_some (g.F.Files.disk f).folders) = subst (λ (y : Option (Map (Map (List ℕ)))). IsTrue (is_some y)) (sym is) refl in
+    (g.met.F.Look.Look g.world.𝓛 g.world.𝓜 g.world.𝓡 ((λ s y. y), (λ y. y), (λ y. y), (λ y. y))).told l ∙ (g.met.F.Files.alike.0 (subst (λ t. IsTrue t) (g.met.F.Files.told f).1 some)).2
 
 named : (g : Over) (cache : Option (List ℕ)) (o : Option (Shelved g.row.F-Folder.Denot)) → option_map (λ s. g.F.Folder.Look.place s.folder) o ≡ cache → name_in (see g o) ≡ cache
 named g cache o is = same_names g.F.Folder.Look o ∙ is
@@ -176,16 +180,15 @@ returns-in_default-clause-kept g c =
     let d = at c.args.files.now in
     let b = at c.open_seeds.new.files in
     let e = at c.let_go.new.files in
-    let items = c.args.held.stores.items in
-    fills g.F.Look.Look g.D.Dial.state items (map (location_in g.F.Look.Look.place) items) c.args.planned.now.index o o c.args.held.cache d e (named g c.args.held.cache c.args.held.shelf c.requires.held.lent.named) (cache_told g c.args.files.now c.args.held.shelf) c.requires.held.found
-    (stocked_none (TakesListed (words g) c.args.planned.now.index items) o) (back_writes o d b e (wrote_read d b c.in_default.ensures.kept) c.let_go.ensures.kept)
+    unfilled g.row.D-Link.Denot g.F.Look.Look g.F.View.View g.D.Dial.state (map (location_in g.F.Look.Look.place) c.args.held.stores.items) c.args.planned.now.index o c.args.held.cache d e (named g c.args.held.cache c.args.held.shelf c.requires.held.lent.named) (cache_told g c.args.files.now c.args.held.shelf)
+    (back_writes o d b e (wrote_read d b c.in_default.ensures.kept) c.let_go.ensures.kept)
 
 pub returns-in_default-clause-dialed : goal.returns-in_default-clause-dialed
 returns-in_default-clause-dialed g c = (dials_none _, λ t. refl)
 
 pub returns-in_default-clause-asks : goal.returns-in_default-clause-asks
 returns-in_default-clause-asks g c = λ p ls plan is. asked_nothing (map (location_in g.F.Look.Look.place) c.args.held.stores.items) c.args.held.cache (record { name = c.args.target.now; fresh = c.args.fresh }) c.args.planned.now.index
-    (record { images = map image_name c.args.planned.now.seeds; listings = ls }) (see g c.args.held.shelf) (g.D.Dial.state c.args.dial.now) (g.F.Files.disk c.args.files.now) (g.F.Files.disk c.let_go.new.files) g.F.Target.View.never_fails p plan
+    (record { images = map image_name c.args.planned.now.seeds; listings = ls }) (see g c.args.held.shelf) (g.D.Dial.state c.args.dial.now) (g.F.Files.disk c.args.files.now) (g.F.Files.disk c.let_go.new.files) (never_fail g.F.Target.View.never_fails g.F.Folder.Look.never_fails) p plan
 
 pub returns-in_default-clause-used : goal.returns-in_default-clause-used
 returns-in_default-clause-used g c =
@@ -244,9 +247,7 @@ returns-in-Err-clause-kept g c =
     let d = at c.args.files.now in
     let b2 = at c.take.new.self in
     let e = at c.let_go-in-Err.new.files in
-    let items = c.args.held.stores.items in
-    fills g.F.Look.Look g.D.Dial.state items (map (location_in g.F.Look.Look.place) items) c.args.planned.now.index o o c.args.held.cache d e (named g c.args.held.cache c.args.held.shelf c.requires.held.lent.named) (cache_told g c.args.files.now c.args.held.shelf) c.requires.held.found
-    (stocked_none (TakesListed (words g) c.args.planned.now.index items) o)
+    unfilled g.row.D-Link.Denot g.F.Look.Look g.F.View.View g.D.Dial.state (map (location_in g.F.Look.Look.place) c.args.held.stores.items) c.args.planned.now.index o c.args.held.cache d e (named g c.args.held.cache c.args.held.shelf c.requires.held.lent.named) (cache_told g c.args.files.now c.args.held.shelf)
     (back_writes o d b2 e (took_writes d (at c.open_seeds.new.files) (at c.open_kits.new.files) b2 c.args.target.now c.in-Ok.ensures.kept c.open_kits.ensures.kept c.in-Err.ensures.counts) c.let_go-in-Err.ensures.kept)
 
 pub returns-in-Err-clause-tells : goal.returns-in-Err-clause-tells
@@ -257,7 +258,7 @@ returns-in-Err-clause-dialed g c = (dials_none _, λ t. refl)
 
 pub returns-in-Err-clause-asks : goal.returns-in-Err-clause-asks
 returns-in-Err-clause-asks g c = λ p ls plan is. asked_nothing (map (location_in g.F.Look.Look.place) c.args.held.stores.items) c.args.held.cache (record { name = c.args.target.now; fresh = c.args.fresh }) c.args.planned.now.index
-    (record { images = map image_name c.args.planned.now.seeds; listings = ls }) (see g c.args.held.shelf) (g.D.Dial.state c.args.dial.now) (g.F.Files.disk c.args.files.now) (g.F.Files.disk c.let_go-in-Err.new.files) g.F.Target.View.never_fails p plan
+    (record { images = map image_name c.args.planned.now.seeds; listings = ls }) (see g c.args.held.shelf) (g.D.Dial.state c.args.dial.now) (g.F.Files.disk c.args.files.now) (g.F.Files.disk c.let_go-in-Err.new.files) (never_fail g.F.Target.View.never_fails g.F.Folder.Look.never_fails) p plan
 
 pub returns-in-Err-clause-used : goal.returns-in-Err-clause-used
 returns-in-Err-clause-used g c =
@@ -363,10 +364,6 @@ module _ (g : Over) (c : After-of_kits-held g) where
       by_first (words g) g.F.View.View made_by never cache_never t0 t1 f0 f1 (see g c.into_kits-kits.result.2) e0 e1 c.into_kits-kits.result.0.items (k ∷ more) c.assemble-ended.result.kits.items (j ∷ rest) c.assemble-ended.result.answer
       (ap (see g) into.shelf) into.kits.0.first c.of_kits-held.ensures.kits.first by.2
 
-  unshared : IsUnshared (lent f0 (k ∷ more) e0)
-  unshared = unshared_of f0 k more e0
-      (none_further e0 c.args.held.cache c.args.planned.now.workers (vec_len c.open_kits.new.kits) more cache_is c.requires.alone c.open_kits.new.kits.ok.0 (omega (arith, c.open_kits.ensures.few, c.workers_with_room-workers.ensures.size.1)))
-
   names_are : c.as_slice-stores.result.now ≡ names
   names_are = c.as_slice-stores.ensures ∙ sym c.requires.located
 
@@ -375,9 +372,9 @@ module _ (g : Over) (c : After-of_kits-held g) where
       let into = c.into_kits-kits.ensures.kits in
       let held = c.requires.held in
       let others = subst (λ (n : List Location). AreOpened g.F.Look.Look g.F.View.View state b0 b n images more) names_are (rw c.as_slice-names.ensures at c.open_kits.ensures.opened) in
-      let none_more = none_further e0 c.args.held.cache c.args.planned.now.workers (vec_len c.open_kits.new.kits) more cache_is c.requires.alone c.open_kits.new.kits.ok.0 (omega (arith, c.open_kits.ensures.few, c.workers_with_room-workers.ensures.size.1)) in
+      let gone = gone_seen e0 c.args.held.cache d'.folders cache_is held.gone in
       opened_kits g.F.Look.Look g.F.View.View state e0 d' b0 b c.in-Ok.ensures.kept c.open_kits.ensures.kept images c.args.held.stores.items c.in-Ok.seeds.items k more into.0.stores_are into.0.seeds_are into.1
-      held.found held.fresh held.unused held.lent.stores (rw c.as_slice-names.ensures at c.in-Ok.ensures.found) c.in-Ok.ensures.fresh c.in-Ok.ensures.known none_more others
+      held.found held.fresh held.unused held.lent.stores (rw c.as_slice-names.ensures at c.in-Ok.ensures.found) c.in-Ok.ensures.fresh c.in-Ok.ensures.known gone (looks_tell g c.args.files.now) others
 
   -- what is held can be given back
   can_give : CanBeGiven g.F.Look.Look g.F.Folder.Look g.F.View.View b2 c.of_kits-held.result
@@ -387,7 +384,7 @@ module _ (g : Over) (c : After-of_kits-held g) where
       let cache = c.args.held.cache in
       let folders : (q : List ℕ) → IsSome (b.folder_counts q) → IsSome (b2.folder_counts q) = λ q is. subst (λ (m : Map ℕ). IsSome (m q)) (sym c.in-Ok-take.ensures.counts.folder_counts) is in
       let files : (q : List ℕ) → IsSome (b.file_counts q) → IsSome (b2.file_counts q) = counted_known b.file_counts b2.file_counts _ c.in-Ok-take.ensures.counts.counts in
-      let name_now : name_in e1 ≡ cache = name_after _ e0 e1 cache (made.first (inl unshared) k) cache_is in
+      let name_now : name_in e1 ≡ cache = name_after _ e0 e1 cache made.stocked cache_is in
       held_given g.F.Look.Look g.F.View.View state made_by never cache_never (with_cache e0 d') b names images t0 t1 f0 f1 e0 e1 (k ∷ more) j c.of_kits-held.result c.assemble-ended.result.answer all made last.kits.stores_are last.kits.seeds_are
       g.F.Folder.Look b2 folders files (rw (last.shelf, last.cache, into.cache) (sym (same_names g.F.Folder.Look c.assemble-ended.result.cache) ∙ name_now))
       (subst (λ (o : Option (List ℕ)). IfSome o (λ q. IsSome (b2.folder_counts q))) (sym (last.cache ∙ into.cache)) (known_still cache d'.folder_counts b2.folder_counts (λ q is. folders q (c.open_kits.ensures.kept.folder_known q (c.in-Ok.ensures.kept.folder_known q is))) c.requires.held.lent.cache))
@@ -414,8 +411,7 @@ module _ (g : Over) (c : After-of_kits-held g) where
       kept =
           let took = took_writes d' b0 b b2 c.args.target.now c.in-Ok.ensures.kept c.open_kits.ensures.kept c.in-Ok-take.ensures.counts in
           let wrote = wrote_then (with_cache e1 d') b4 e (back_writes e1 d' b2 b4 took read) (wrote_back b4 e c.args.target.now f1 put) in
-          let stocked = subst (λ xs. Stocked (TakesListed (words g) c.args.planned.now.index xs) e0 e1) c.into_kits-kits.ensures.kits.0.stores_are (made.first (inl unshared) k) in
-          fills g.F.Look.Look state c.args.held.stores.items names c.args.planned.now.index e0 e1 c.args.held.cache d' e cache_is (cache_told g c.args.files.now c.args.held.shelf) c.requires.held.found stocked wrote
+          fills g.F.Look.Look g.F.View.View state (k ∷ more) names images c.args.planned.now.index e0 e1 c.args.held.cache d' b e cache_is (cache_told g c.args.files.now c.args.held.shelf) all made.stocked wrote
 
       used : Uses (c.args.target.now ∷ images) (folders_reached c.args.held.cache names) d' e
       used =
@@ -457,7 +453,6 @@ module _ (g : Over) (c : After-of_kits-held g) where
             rest = rest;
             told = g.met.F.Target.View.told c.in-Ok-take.taken ∙ sym (g.met.F.Target.View.told c.assemble-ended.result.target);
             made = made;
-            unshared = unshared;
             first = back.first;
             kits = back.kits;
             bc = back.cached;

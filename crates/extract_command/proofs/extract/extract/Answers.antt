@@ -14,7 +14,7 @@ use Rattle.extract_plan.specs.Places.{PlacesKnown}
 use Rattle.extract_command.proofs.Replaced.{ends_unreached, ends_with, known_places_of}
 use Rattle.extract_command.proofs.Seeded.{zipped_many}
 use Rattle.extract_command.proofs.extract.extract.Goals as goal
-use Rattle.extract_command.specs.Extract.{ExtractEnds, OutMade}
+use Rattle.extract_command.specs.Extract.{ExtractEnds, OutMade, never_fail}
 use Rattle.extract_command.specs.Held.{disk_with, stores_of}
 
 pub plan_of-requires-clause-few : goal.plan_of-requires-clause-few
@@ -43,10 +43,7 @@ pub assemble_into-requires-clause-located : goal.assemble_into-requires-clause-l
 assemble_into-requires-clause-located g c κs within = rw c.as_slice-stores.ensures at c.in-Ok-reach.ensures.located
 
 pub assemble_into-requires-clause-workers : goal.assemble_into-requires-clause-workers
-assemble_into-requires-clause-workers g c κs within = rw (c.in-Ok.ensures.size) (c.workers_for-workers.ensures.size)
-
-pub assemble_into-requires-clause-alone : goal.assemble_into-requires-clause-alone
-assemble_into-requires-clause-alone g c κs within = rw (c.in-Ok.ensures.size, c.in-Ok-reach.ensures.named) c.workers_for-workers.ensures.alone
+assemble_into-requires-clause-workers g c κs within = rw (c.in-Ok.ensures.size) c.worker_count-workers.ensures
 
 pub assemble_into-requires-clause-held : goal.assemble_into-requires-clause-held
 assemble_into-requires-clause-held g c κs within = rw (c.in-Ok.ensures.size) c.in-Ok-reach.ensures.fresh
@@ -55,10 +52,7 @@ pub assemble_beside-requires-clause-located : goal.assemble_beside-requires-clau
 assemble_beside-requires-clause-located g c κs within = rw c.as_slice-stores.ensures at c.in-Ok-reach.ensures.located
 
 pub assemble_beside-requires-clause-workers : goal.assemble_beside-requires-clause-workers
-assemble_beside-requires-clause-workers g c κs within = rw (c.in-Ok.ensures.size) (c.workers_for-workers.ensures.size)
-
-pub assemble_beside-requires-clause-alone : goal.assemble_beside-requires-clause-alone
-assemble_beside-requires-clause-alone g c κs within = rw (c.in-Ok.ensures.size, c.in-Ok-reach.ensures.named) c.workers_for-workers.ensures.alone
+assemble_beside-requires-clause-workers g c κs within = rw (c.in-Ok.ensures.size) c.worker_count-workers.ensures
 
 pub assemble_beside-requires-clause-held : goal.assemble_beside-requires-clause-held
 assemble_beside-requires-clause-held g c κs within = rw (c.in-Ok.ensures.size) c.in-Ok-reach.ensures.fresh
@@ -87,7 +81,7 @@ returns-in_default g c =
     let read = c.in_ok-indexes.ensures in
     let e = at c.read_indexes.new.files in
     record {
-      ends = λ p. ends_unreached g.F.Target.View.never_fails words.stores words.cache words.seeds words.in_place words.index words.target c.in_ok-listed.listed c.in_ok-indexes.indexes.items (at c.args.files.now) (at c.load_index.new.files) e e (g.D.Dial.state c.args.dial.now) p ends.Memory
+      ends = λ p. ends_unreached (never_fail g.F.Target.View.never_fails g.F.Folder.Look.never_fails) words.stores words.cache words.seeds words.in_place words.index words.target c.in_ok-listed.listed c.in_ok-indexes.indexes.items (at c.args.files.now) (at c.load_index.new.files) e e (g.D.Dial.state c.args.dial.now) p ends.Memory
           (listed.ok, listed.kept, listed.used) ((rw c.as_slice.ensures at read.ok, read.few), read.kept, rw c.as_slice.ensures at read.used) (inl (inr refl, reads_none e, uses_none [] (folders_among words.stores) e));
     }
 
@@ -99,7 +93,7 @@ returns-in_default-temporary_out g c =
     let read = c.in_ok-indexes.ensures in
     let e = at c.read_indexes.new.files in
     record {
-      ends = λ p. ends_unreached g.F.Target.View.never_fails words.stores words.cache words.seeds words.in_place words.index words.target c.in_ok-listed.listed c.in_ok-indexes.indexes.items (at c.args.files.now) (at c.load_index.new.files) e e (g.D.Dial.state c.args.dial.now) p ends.Memory
+      ends = λ p. ends_unreached (never_fail g.F.Target.View.never_fails g.F.Folder.Look.never_fails) words.stores words.cache words.seeds words.in_place words.index words.target c.in_ok-listed.listed c.in_ok-indexes.indexes.items (at c.args.files.now) (at c.load_index.new.files) e e (g.D.Dial.state c.args.dial.now) p ends.Memory
           (listed.ok, listed.kept, listed.used) ((rw c.as_slice.ensures at read.ok, read.few), read.kept, rw c.as_slice.ensures at read.used) (inl (inr refl, reads_none e, uses_none [] (folders_among words.stores) e));
     }
 
@@ -111,7 +105,7 @@ returns-in-Err g c =
     let read = c.in_ok-indexes.ensures in
     let refused = rw (c.as_slice-stores.ensures, c.in-Ok.ensures.stores) at c.in-Err.ensures.err in
     record {
-      ends = λ p. ends_unreached g.F.Target.View.never_fails words.stores words.cache words.seeds words.in_place words.index words.target c.in_ok-listed.listed c.in_ok-indexes.indexes.items (at c.args.files.now) (at c.load_index.new.files) (at c.read_indexes.new.files) (at c.reach.new.files)
+      ends = λ p. ends_unreached (never_fail g.F.Target.View.never_fails g.F.Folder.Look.never_fails) words.stores words.cache words.seeds words.in_place words.index words.target c.in_ok-listed.listed c.in_ok-indexes.indexes.items (at c.args.files.now) (at c.load_index.new.files) (at c.read_indexes.new.files) (at c.reach.new.files)
           (g.D.Dial.state c.args.dial.now) p c.in-Err.outcome (listed.ok, listed.kept, listed.used) ((rw c.as_slice.ensures at read.ok, read.few), read.kept, rw c.as_slice.ensures at read.used) refused;
     }
 
@@ -135,7 +129,7 @@ returns-then-in_place g c =
     let plan = c.in-Ok.ensures.plan in
     record {
       ends = λ p.
-          let ended : List Location → Option (List ℕ) → List (List ℕ) → List ℕ → Listing → Type 0 = λ n cache images q l. OutMade g.F.Target.View.never_fails true n cache q l (record { images = map image_name images; listings = ls }) (world m k p) c.assemble_into.result (world e j p) in
+          let ended : List Location → Option (List ℕ) → List (List ℕ) → List ℕ → Listing → Type 0 = λ n cache images q l. OutMade (never_fail g.F.Target.View.never_fails g.F.Folder.Look.never_fails) true n cache q l (record { images = map image_name images; listings = ls }) (world m k p) c.assemble_into.result (world e j p) in
           let made = c.assemble_into.ensures in
           let first : ended (stores_of g.F.Look.Look held) held.cache c.in-Ok.planned.seeds c.as_str-then-in_place.result.now c.in-Ok.planned.index = ((made.assembled plan.0 ls (rw c.in-Ok.ensures.index plan.1) (rw c.in-Ok.ensures.index plan.2), made.kept, made.tells, made.dialed, made.numbered, made.asks plan.0 ls (rw c.in-Ok.ensures.index plan.1) (rw c.in-Ok.ensures.index plan.2), made.used), refl) in
           let named = subst (λ q. ended (stores_of g.F.Look.Look held) held.cache c.in-Ok.planned.seeds q c.in-Ok.planned.index) c.as_str-then-in_place.ensures first in
@@ -143,8 +137,8 @@ returns-then-in_place g c =
           let seeded = subst (λ ss. ended (stores_of g.F.Look.Look held) held.cache ss words.target l) c.in-Ok.ensures.seeds indexed in
           let cached = subst (λ cache. ended (stores_of g.F.Look.Look held) cache words.seeds words.target l) over.named seeded in
           let into : ended words.stores words.cache words.seeds words.target l = subst (λ n. ended n words.cache words.seeds words.target l) located cached in
-          subst (λ place. ExtractEnds g.F.Target.View.never_fails words.stores words.cache words.seeds place words.index words.target (world d k p) c.assemble_into.result (world e j p)) (sym c.if-in_place.true)
-          (ends_with g.F.Target.View.never_fails words.stores words.cache words.seeds true words.index words.target l ls d (at c.load_index.new.files) (at c.read_indexes.new.files) m e k j p c.assemble_into.result
+          subst (λ place. ExtractEnds (never_fail g.F.Target.View.never_fails g.F.Folder.Look.never_fails) words.stores words.cache words.seeds place words.index words.target (world d k p) c.assemble_into.result (world e j p)) (sym c.if-in_place.true)
+          (ends_with (never_fail g.F.Target.View.never_fails g.F.Folder.Look.never_fails) words.stores words.cache words.seeds true words.index words.target l ls d (at c.load_index.new.files) (at c.read_indexes.new.files) m e k j p c.assemble_into.result
           (listed.ok, listed.kept, listed.used) ((rw c.as_slice.ensures at read.ok, read.few), read.kept, rw c.as_slice.ensures at read.used) reached into);
     }
 
@@ -168,13 +162,13 @@ returns-else-in_place g c =
     let plan = c.in-Ok.ensures.plan in
     record {
       ends = λ p.
-          let ended : List Location → Option (List ℕ) → List (List ℕ) → Listing → Type 0 = λ n cache images l. OutMade g.F.Target.View.never_fails false n cache words.target l (record { images = map image_name images; listings = ls }) (world m k p) c.assemble_beside.result (world e j p) in
+          let ended : List Location → Option (List ℕ) → List (List ℕ) → Listing → Type 0 = λ n cache images l. OutMade (never_fail g.F.Target.View.never_fails g.F.Folder.Look.never_fails) false n cache words.target l (record { images = map image_name images; listings = ls }) (world m k p) c.assemble_beside.result (world e j p) in
           let first : ended (stores_of g.F.Look.Look held) held.cache c.in-Ok.planned.seeds c.in-Ok.planned.index = c.assemble_beside.ensures.made plan.0 ls p (rw c.in-Ok.ensures.index plan.1) (rw c.in-Ok.ensures.index plan.2) in
           let indexed = subst (λ l. ended (stores_of g.F.Look.Look held) held.cache c.in-Ok.planned.seeds l) c.in-Ok.ensures.index first in
           let seeded = subst (λ ss. ended (stores_of g.F.Look.Look held) held.cache ss l) c.in-Ok.ensures.seeds indexed in
           let cached = subst (λ cache. ended (stores_of g.F.Look.Look held) cache words.seeds l) over.named seeded in
           let into : ended words.stores words.cache words.seeds l = subst (λ n. ended n words.cache words.seeds l) located cached in
-          subst (λ place. ExtractEnds g.F.Target.View.never_fails words.stores words.cache words.seeds place words.index words.target (world d k p) c.assemble_beside.result (world e j p)) (sym c.if-in_place.false)
-          (ends_with g.F.Target.View.never_fails words.stores words.cache words.seeds false words.index words.target l ls d (at c.load_index.new.files) (at c.read_indexes.new.files) m e k j p c.assemble_beside.result
+          subst (λ place. ExtractEnds (never_fail g.F.Target.View.never_fails g.F.Folder.Look.never_fails) words.stores words.cache words.seeds place words.index words.target (world d k p) c.assemble_beside.result (world e j p)) (sym c.if-in_place.false)
+          (ends_with (never_fail g.F.Target.View.never_fails g.F.Folder.Look.never_fails) words.stores words.cache words.seeds false words.index words.target l ls d (at c.load_index.new.files) (at c.read_indexes.new.files) m e k j p c.assemble_beside.result
           (listed.ok, listed.kept, listed.used) ((rw c.as_slice.ensures at read.ok, read.few), read.kept, rw c.as_slice.ensures at read.used) reached into);
     }

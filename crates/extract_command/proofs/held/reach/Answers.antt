@@ -9,6 +9,7 @@ use Rattle.command_steps.specs.Cache.{with_cache}
 use Rattle.command_steps.specs.Seeds.{SeedsKnown}
 use Rattle.command_steps.specs.Uses.{Uses, folders_among}
 use Rattle.command_words.specs.declared.command.Location.{Location}
+use Rattle.extract_command.proofs.Shelved.{taken_gone}
 use Rattle.extract_command.proofs.held.reach.Goals as goal
 use Rattle.extract_command.specs.Kits.{CanGiveKit}
 
@@ -50,6 +51,7 @@ returns-in-Ok-take_cache-clause-fresh g c =
       fresh = fresh;
       shelf = shelf.fresh;
       found = found;
+      gone = taken_gone c.args.cache (at c.open_sources.new.files).folders b.folders shelf.gone;
       none = c.new.ensures.items;
       room = search rules;
     }
