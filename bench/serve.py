@@ -6,7 +6,9 @@ measured twice: as a client that checks each chunk against its digest before it 
 does, and as one that only receives them; its bytes are checked after the timed part. nginx has one worker, and sends
 files as they are; ours reads and names each chunk before it is sent. Then several clients at once, each a process with
 a connection of its own, ask for all chunks in an order of their own and check each; nginx has one worker a processor
-for them. Needs nginx, and the size under the temporary folder and in memory.
+for them. Clients and server share the processors, and chunk-server computes a digest more of each chunk than nginx. So
+the limit is nginx with clients that check each chunk twice. Needs nginx, and the size under the temporary folder and in
+memory.
 """
 
 import multiprocessing
@@ -73,8 +75,8 @@ def seconds_for(port, names, room, checks):
         return time.monotonic() - begun
 
 
-def ask_for_all(port, names, seed, together):
-    """A client of its own process: each chunk is checked as it comes."""
+def ask_for_all(port, names, seed, checks, together):
+    """A client of its own process: each chunk is checked so often as it comes."""
     order = random.Random(seed).sample(names, len(names))
     room = memoryview(bytearray(CHUNK))
     with socket.create_connection(('127.0.0.1', port)) as peer:
@@ -83,13 +85,15 @@ def ask_for_all(port, names, seed, together):
         for name in order:
             peer.sendall(f'GET {formats.chunk_path("/", name)} HTTP/1.1\r\nHost: localhost\r\n\r\n'.encode())
             receive(peer, room)
-            check(name, 0, room)
+            for _ in range(checks):
+                check(name, 0, room)
 
 
-def seconds_for_many(port, names, clients):
-    """The seconds that so many clients take at once, from when all are connected."""
+def seconds_for_many(port, names, clients, checks):
+    """The seconds that so many clients take at once, from when all are connected. Each checks each chunk so often."""
     together = multiprocessing.Barrier(clients + 1)
-    runs = [multiprocessing.Process(target=ask_for_all, args=(port, names, seed, together)) for seed in range(clients)]
+    runs = [multiprocessing.Process(target=ask_for_all, args=(port, names, seed, checks, together))
+            for seed in range(clients)]
     for run in runs:
         run.start()
     together.wait()
@@ -126,25 +130,27 @@ def main():
                     for place, name in enumerate(names):
                         check(name, place, room)
                     room[:] = bytes(len(room))
-        many = {'nginx': [], 'chunk-server': []}
+        many = {('nginx', 1): [], ('nginx', 2): [], ('chunk-server', 1): []}
         top = os.path.join(folder, 'nginx')
         with servers.ChunkServer(folder) as ours, \
                 servers.nginx(os.path.join(folder, 'st'), top, STAY_OPEN, os.cpu_count()) as nginx:
             ports = {'nginx': nginx, 'chunk-server': ours.port}
             for _ in range(options.runs):
-                for what, each in many.items():
-                    each.append(seconds_for_many(ports[what], names, options.clients))
+                for (what, checks), each in many.items():
+                    each.append(seconds_for_many(ports[what], names, options.clients, checks))
     rates = {run: count / statistics.median(each) for run, each in seconds.items()}
-    crowd = {what: options.clients * count / statistics.median(each) for what, each in many.items()}
+    crowd = {run: options.clients * count / statistics.median(each) for run, each in many.items()}
     print(f'{count} chunks of {CHUNK} bytes; medians of {options.runs} runs')
     print(f'{"":30} {"requests/s":>11} {"MB/s":>8} {"ratio":>7} {"at least":>9}')
     for (what, checks), rate in rates.items():
         shown = f'{what}, {"each checked" if checks else "taken alone"}'
         wanted = '0.50' if what == 'chunk-server' else ''
         print(f'{shown:30} {rate:11.0f} {rate * CHUNK / 1e6:8.1f} {rate / rates["nginx", checks]:7.2f} {wanted:>9}')
-    for what, rate in crowd.items():
-        shown = f'{what}, {options.clients} clients'
-        print(f'{shown:30} {rate:11.0f} {rate * CHUNK / 1e6:8.1f} {rate / crowd["nginx"]:7.2f} {"":>9}')
+    for (what, checks), rate in crowd.items():
+        shown = f'{what}, {options.clients} clients' + (', two checks' if checks == 2 else '')
+        print(f'{shown:30} {rate:11.0f} {rate * CHUNK / 1e6:8.1f} {rate / crowd["nginx", 1]:7.2f} {"":>9}')
+    print(f'chunk-server with {options.clients} clients, times nginx with two checks: '
+          f'{crowd["chunk-server", 1] / crowd["nginx", 2]:.2f}')
 
 
 if __name__ == '__main__':

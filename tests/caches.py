@@ -210,6 +210,17 @@ def side_by_side(cases):
             for out in ('out', 'other'):
                 image.expect_out(out)
             image.expect_kept(image.needed)
+    with cases.case('eight extractions of eight workers each over one cache at once') as folder:
+        image = Image(folder, pieces=200)
+        outs = [f'out-{number}' for number in range(8)]
+        runs = [program.start(image.words('-n', '8', out=out), folder) for out in outs]
+        for run in runs:
+            expect_ended(program.ended(run))
+        for out in outs:
+            image.expect_out(out)
+        image.expect_kept(image.needed)
+        expect_ended(image.run(image.words('-n', '8', store='none')), what='the run without a store')
+        image.expect_out()
     for turn in range(6):
         with cases.case(f'an extraction that is killed, and run again without a store, turn {turn}') as folder:
             image = Image(folder, pieces=200)
