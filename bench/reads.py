@@ -1,6 +1,6 @@
 #!/usr/bin/env python3
-"""`desync` reading an index of the greatest number of entries, and holding an image against its index, each beside
-openssl's digest of the same file.
+"""`desync` reading an index of the greatest number of entries, and holding an image against its index with one worker,
+each beside openssl's digest of the same file; and the latter with two and four workers beside one.
 
 The long index is read by `verify-index` with an image that isn't there, so that the run ends where the index stands
 in memory. The image is of random bytes, cut every 64 KiB. Needs the image's size and 168 MB under the temporary
@@ -9,9 +9,14 @@ folder.
 
 import os
 
+# First, since tests/, which side_by_side looks into, has a module of this name.
+import workers
 import side_by_side
 import formats
 import sliced
+
+# The wanted ratios to one worker: with two, and with four.
+WANTED = (0.6, 0.35)
 
 
 def show(what, rows, folder, size, runs):
@@ -33,11 +38,14 @@ def main():
 
         size = options.size * side_by_side.MIB
         sliced.lay_out(folder, size, image='image')
-        verifying = side_by_side.Row('verify-index', ['verify-index', 'image.caibx', 'image'], at_most=2)
+        words = ['verify-index', '-n', '1', 'image.caibx', 'image']
+        verifying = side_by_side.Row('verify-index -n 1', words, at_most=2)
         image = os.path.join(folder, 'image')
         show('an image', [side_by_side.openssl(image), verifying], folder, size, options.runs)
         index = os.path.getsize(os.path.join(folder, 'image.caibx'))
-        print(f'memory: {verifying.peak} KiB, the index has {index // 1024}; at most 16384 beside it')
+        print(f'memory: {verifying.peak} KiB, the index has {index // 1024}; at most 16384 beside it\n')
+        crews = workers.job('verify-index', ['image.caibx', 'image'], lambda: None, WANTED, ['verify-index'])
+        show('the same', crews, folder, size, options.runs)
 
 
 if __name__ == '__main__':

@@ -1,11 +1,11 @@
 #!/usr/bin/env python3
 """`desync extract -k -n N` of an image of random bytes in chunks of 16 to 256 KiB, beside one worker.
 
-Four jobs: the output is absent; it is absent and an older version with 94 % of the chunks is the seed; it is right
-already; it is absent and nginx serves the store, where it is installed. Each runs with one worker, with two on two
-processors and with four on four, one after the other in each round. The limit is as many openssl digests of the image
-at once as there are workers, over that many times one digest. casync's extraction is measured beside the first job,
-where it is installed. Needs five times the image's size under the temporary folder.
+Five jobs: the output is absent; it is absent and an older version with 94 % of the chunks is the seed; it is right
+already; it is absent and a cache has all chunks; it is absent and nginx serves the store, where it is installed. Each
+runs with one worker, with two on two processors and with four on four, one after the other in each round. The limit is
+as many openssl digests of the image at once as there are workers, over that many times one digest. casync's extraction
+is measured beside the first job, where it is installed. Needs five times the image's size under the temporary folder.
 """
 
 import contextlib
@@ -22,7 +22,7 @@ import side_by_side
 # Numbers of workers, each on as many processors.
 CREWS = (1, 2, 4)
 # The wanted ratios to one worker: with two, and with four.
-ABSENT, SEEDED, RIGHT, SERVED = (0.6, 0.4), (0.6, 0.4), (0.55, 0.33), (0.7, 0.45)
+ABSENT, SEEDED, RIGHT, CACHED, SERVED = (0.6, 0.4), (0.6, 0.4), (0.55, 0.33), (None, 0.4), (0.7, 0.45)
 
 
 def crews():
@@ -31,11 +31,11 @@ def crews():
     return [(count, here[:count] if count > 1 else ()) for count in CREWS if count <= len(here)]
 
 
-def job(what, words, prepare, wanted):
+def job(what, words, prepare, wanted, command=('extract', '-k')):
     """A row for each number of workers."""
     rows = []
     for (count, processors), at_most in zip(crews(), (None, *wanted)):
-        rows.append(side_by_side.Row(f'-n {count}, {what}', ['extract', '-n', str(count), '-k', *words], prepare,
+        rows.append(side_by_side.Row(f'-n {count}, {what}', [*command, '-n', str(count), *words], prepare,
                                      at_most=at_most, processors=processors))
     return rows
 
@@ -71,7 +71,9 @@ def main():
         listed = ['image.caibx', 'output']
         jobs = [job('output absent', ['-s', 'store', *listed], clear, ABSENT),
                 job('seed with 94 %', ['-s', 'store', '--seed', 'older.caibx', *listed], clear, SEEDED),
-                job('output right already', ['-s', 'store', *listed], lambda: None, RIGHT)]
+                job('output right already', ['-s', 'store', *listed], lambda: None, RIGHT),
+                job('all chunks in the cache', ['-s', 'empty', '-c', 'store', *listed], clear, CACHED)]
+        os.mkdir(os.path.join(folder, 'empty'))
         if servers.nginx_program() is None:
             print('nginx isn\'t installed, so it isn\'t measured')
         else:
