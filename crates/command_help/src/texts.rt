@@ -82,7 +82,7 @@ usage: desync verify-index [-n WORKERS] INDEX IMAGE
 
 Checks that IMAGE is the image that INDEX lists: its length, then each chunk.
 
-  -n, --concurrency WORKERS     1 to 32 workers that read IMAGE, 10 if not given;
+  -n, --concurrency WORKERS     1 to 32 workers to read IMAGE, 10 if not given;
                                 the outcome is the same with any number
 
 example: desync verify-index disk.caibx disk.img
@@ -96,7 +96,7 @@ Puts the chunks of IMAGE that INDEX lists into the store, up to the first that
 isn't IMAGE's. What the store holds already is left where it is right.
 
   -s, --store STORE             a folder, or an http URL, that takes the chunks
-  -n, --concurrency WORKERS     1 to 32 workers that read IMAGE, 10 if not given;
+  -n, --concurrency WORKERS     1 to 32 workers to read IMAGE, 10 if not given;
                                 the outcome is the same with any number
 
 example: desync chop -s chunks disk.caibx disk.img

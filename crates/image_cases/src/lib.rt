@@ -8,7 +8,6 @@ mod ahead_tests;
 #[cfg(test)]
 mod assembly_tests;
 #[cfg(test)]
-mod beside_tests;
 #[cfg(test)]
 mod calls;
 #[cfg(test)]

@@ -404,24 +404,3 @@ fn an_id_that_is_listed_twice_is_seen_to_twice(rt: HostRuntime) {
     let store = chops(&rt, alloc, &index, b"abcabc", store, Ok(()), 1);
     same(&rt, store.calls(), 4);
 }
-
-// Chops "abc" beside a view that is so. Compares how often the first view was read.
-fn chops_beside<R: Abort + Threads + Sync>(rt: &R, alloc: Global, other: Then, reads: u64) {
-    let index = index_of_pieces(rt, alloc, &[b"abc"]);
-    let first = changing_view(rt, alloc, Then::Same);
-    let mut others = one_view(rt, alloc, changing_view(rt, alloc, other).changed());
-    let store = ScriptedStore::new(alloc, Refuses::Nothing);
-    let (first, store, chopped) = chop(rt, alloc, &index, first, &mut others, store);
-    same(rt, chopped, Ok(()));
-    same(rt, store.puts(), 1);
-    same(rt, first.reads, reads);
-}
-
-// The same with chopping.
-#[test]
-fn an_image_is_chopped_whatever_another_view_reads(rt: HostRuntime) {
-    let alloc = rt.alloc();
-    chops_beside(&rt, alloc, Then::Fault, 1);
-    chops_beside(&rt, alloc, Then::Other, 1);
-    chops_beside(&rt, alloc, Then::Same, 0);
-}
