@@ -1,15 +1,17 @@
 //! A folder of chunks as a shelf: what is found on it is named first, and what is added has its name.
 //! Sizes are in bytes.
 
-ghost use Rattle.std.specs.Prelude.{◌≡◌, ◌≤◌, length, Some, IfSome, IfOk, OnOk, OnErr};
+ghost use Rattle.std.specs.Prelude.{◌≡◌, ℕ, ◌≤◌, List, length, Err, Ok, Some, IfSome, IfOk, OnOk, OnErr};
 ghost use Rattle.std.specs.List.{Any};
 ghost use Rattle.std.specs.Option.{option_map};
 ghost use Rattle.cache_store.specs.Shelves.{Finds, IsPair};
 ghost use Rattle.chunk_store.specs.Folders.{chunks};
+ghost use Rattle.chunk_store.specs.Gets.{GetGives};
 ghost use Rattle.chunk_store.specs.Names.{name_of};
 ghost use Rattle.chunk_store.specs.declared.id.DigestKind.TheVariants as kinds;
 ghost use Rattle.dir_store.specs.Puts.{LeavesTemporary, PutsAtPath};
 ghost use Rattle.dsy_base.specs.Counts.{CountsFaults};
+ghost use Rattle.dsy_base.specs.Maps.{Map};
 ghost use Rattle.store_chain.specs.Queries.{FillsQuery, query_of};
 
 use chunk_store::id::{ChunkId, DigestKind};
@@ -47,22 +49,23 @@ impl<F: Folder> Model for CacheShelf<F> {
     ghost view = { λ s. record { folder = s.store; kind = s.kind } };
 }
 
-// Reads the file of what is wanted.
-fn look<F: Folder>(
-    store: &mut DirStore<F>,
+/// What a look for the chunk has found, by what reading its file has answered and by the bytes that were read, which are
+/// all that was lent. Here the digest is computed.
+pub fn judge(
     query: &Query,
-    out: &mut [u8],
+    answer: Result<usize, GetFault>,
+    lent: &[u8],
 ) -> Result<usize, CacheMiss>
-    requires size { query.now.lent ≡ length out.old }
-    ensures ok { IfOk result (λ n. FillsQuery query.now n out.new) }
-    ensures found { IfSome (option_map chunks (F.files store.old)) (λ m. Finds query.now m result out.new) }
-    ensures kept { F.files store.new ≡ F.files store.old }
-    ensures place { F.place store.new ≡ F.place store.old }
-    ensures faults { CountsFaults CacheMiss.Failed CacheMiss.Memory (F.faults store.old) (F.faults store.new) result }
+    requires size { query.now.lent ≡ length lent.now }
+    requires inside { IfOk answer (λ n. n ≤ length lent.now) }
+    ensures ok { IfOk result (λ n. (answer ≡ Ok n) × FillsQuery query.now n lent.now) }
+    ensures found { (m : Map (List ℕ)) → GetGives (m query.now.id.0) answer lent.now → Finds query.now m result lent.now }
+    ensures only { result ≡ Err CacheMiss.Failed → answer ≡ Err GetFault.Failed }
+    ensures memory { result ≡ Err CacheMiss.Memory → answer ≡ Err GetFault.Memory }
 {
-    match store.get(&query.id, out) {
+    match answer {
         Ok(n) => {
-            let (bytes, _) = out.split_at(n);
+            let (bytes, _) = lent.split_at(n);
             match query.shown(bytes) {
                 None => Ok(n),
                 Some(shows) => Err(CacheMiss::Wrong(shows)),
@@ -99,6 +102,21 @@ impl<F: Folder> CacheShelf<F> {
         self.kind
     }
 
+    /// Reads the file of this id to the front of `lent`, and answers how many bytes it has. No digest is computed: what
+    /// was read has to be judged.
+    pub fn read(&mut self, id: &ChunkId, lent: &mut [u8]) -> Result<usize, GetFault>
+        ensures bytes { IfSome (option_map chunks (F.files self.old.folder))
+            (λ m. GetGives (m id.now.0) result lent.new) }
+        ensures inside { IfOk result (λ n. n ≤ length lent.new) }
+        ensures kept { F.files self.new.folder ≡ F.files self.old.folder }
+        ensures place { F.place self.new.folder ≡ F.place self.old.folder }
+        ensures kind { self.new.kind ≡ self.old.kind }
+        ensures faults { CountsFaults GetFault.Failed GetFault.Memory
+            (F.faults self.old.folder) (F.faults self.new.folder) result }
+    {
+        self.store.get(id, lent)
+    }
+
     /// Fills the front of `out` with the chunk of this id, and of this size where one is given, and answers its size.
     /// Where a size is given, the folder is lent only that much of `out`.
     pub fn find(
@@ -119,7 +137,8 @@ impl<F: Folder> CacheShelf<F> {
     {
         let query = Query::of(self.kind, id, size, out.len());
         let (lent, _) = out.split_at_mut(query.lent);
-        look(&mut self.store, &query, lent)
+        let answer = self.read(id, lent);
+        judge(&query, answer, lent)
     }
 
     /// Puts the chunk of this id there, in the place of what stood there. Where the type of the folder names the chunks

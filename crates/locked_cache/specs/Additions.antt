@@ -5,8 +5,10 @@ use Rattle.cache_store.specs.Shelves.{Finds, IsPair, Shelf, Stocks}
 use Rattle.cache_store.specs.declared.shelf.CacheMiss.{CacheMiss}
 use Rattle.cache_store.specs.declared.shelf.CacheMiss.TheVariants as miss
 use Rattle.chunk_store.specs.Folders.{chunks}
+use Rattle.chunk_store.specs.Gets.{GetGives}
 use Rattle.chunk_store.specs.Names.{name_of}
 use Rattle.chunk_store.specs.declared.id.DigestKind.TheVariants.{Sha512T256}
+use Rattle.chunk_store.specs.declared.store.GetFault.{GetFault}
 use Rattle.dsy_base.specs.Maps.{Map}
 use Rattle.store_chain.specs.Giving.{Gives}
 use Rattle.store_chain.specs.Queries.{IsWanted}
@@ -32,12 +34,25 @@ StocksOpening Takes first s = Stocks Takes (begun_with first s) s
 abbrev pub StocksSince : (List ℕ → List ℕ → Type 0) → Option (Map (List ℕ)) → Shelf → Type 0
 StocksSince Takes opening s = IfSome opening (λ first. StocksOpening Takes first s)
 
+-- under the id such a shelf holds what it held at first, or what was added
+abbrev pub StandsSince : (List ℕ → List ℕ → Type 0) → List ℕ → Map (List ℕ) → Map (List ℕ) → Type 0
+StandsSince Takes id first now = (now id ≡ first id) ⊎ ((b : List ℕ) × (now id ≡ Some b) × Takes id b)
+
+-- what is read of the file of this id on a shelf that held these chunks at first, and to which only such were added
+abbrev pub ReadsSince : (List ℕ → List ℕ → Type 0) → List ℕ → Map (List ℕ) → Result ℕ GetFault → List ℕ → Type 0
+ReadsSince Takes id first r out = (now : Map (List ℕ)) × StandsSince Takes id first now × GetGives (now id) r out
+
+-- the same, where the type of the folder names the files that it held at first
+abbrev pub ReadsStocked : (List ℕ → List ℕ → Type 0) → Option (Map (List ℕ)) → List ℕ → Result ℕ GetFault → List ℕ
+    → Type 0
+ReadsStocked Takes opening id r out = IfSome opening (λ first. ReadsSince Takes id (chunks first) r out)
+
 -- what is found on a shelf that held these chunks at first, and to which only such were added: it holds for what stands
 -- there now, which under the wanted id is what stood there at first or was added
 pub record FindsSince (Takes : List ℕ → List ℕ → Type 0) (w : Query) (first : Map (List ℕ)) (r : Result ℕ CacheMiss)
     (out : List ℕ) : Type 0 where
   pub now : Map (List ℕ)
-  pub stands : (now w.id.0 ≡ first w.id.0) ⊎ ((b : List ℕ) × (now w.id.0 ≡ Some b) × Takes w.id.0 b)
+  pub stands : StandsSince Takes w.id.0 first now
   pub finds : Finds w now r out
 
 -- all that may be added under the wanted id is what is wanted

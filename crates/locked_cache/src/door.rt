@@ -4,18 +4,20 @@ ghost use Rattle.std.specs.Prelude.{◌≡◌, ◌≤◌, Err, IfErr, IfOk, IfSo
 ghost use Rattle.cache_store.specs.Shelves.{shelf_of};
 ghost use Rattle.chunk_store.specs.declared.id.DigestKind.TheVariants as kinds;
 ghost use Rattle.dsy_base.specs.Counts.{CountsFaults};
-ghost use Rattle.locked_cache.specs.Additions.{FindsStocked, KeepsGiving, MayAdd, StocksSince};
+ghost use Rattle.locked_cache.specs.Additions.{FindsStocked, KeepsGiving, MayAdd, ReadsStocked, StocksSince};
 ghost use Rattle.store_chain.specs.Queries.{FillsQuery, query_of};
 
 use crate::stocked::StockedShelf;
-use cache_store::shelf::{CacheMiss, CacheShelf};
-use chunk_store::id::ChunkId;
+use cache_store::shelf::{CacheMiss, CacheShelf, judge};
+use chunk_store::id::{ChunkId, DigestKind};
+use chunk_store::store::GetFault;
 use dsy_base::fault::{IoFault, raise};
 use dsy_base::folder::Folder;
 use std::marker::Model;
 use std::sync::{Mutex, Wait};
+use store_chain::query::Query;
 
-/// A cache that threads share. Its lock is held for one look or one addition, and no longer.
+/// A cache that threads share. Its lock is held while a chunk's file is read or written, and no longer.
 #[derive(Drop)]
 pub struct LockedCache<F: Folder> {
     shelf: Mutex<StockedShelf<F>>,
@@ -68,25 +70,15 @@ impl<F: Folder> LockedCache<F> {
         self.shelf.into_inner().into_inner()
     }
 
-    // Looks for a chunk under the lock.
-    fn find_behind<W: Wait>(
-        &self,
-        rt: &W,
-        id: &ChunkId,
-        size: Option<usize>,
-        out: &mut [u8],
-    ) -> Result<usize, CacheMiss>
-        requires inside { IfSome size (λ n. n ≤ length out.old) }
-        ensures ok { IfOk result (λ n. FillsQuery (query_of kinds.Sha512T256 id.now size (length out.old)) n out.new) }
-        ensures found { FindsStocked (MayAdd F.pairs F.stores) F.opening
-            (query_of kinds.Sha512T256 id.now size (length out.old)) result out.new }
-        ensures absent { KeepsGiving (MayAdd F.pairs F.stores) F.opening
-            (query_of kinds.Sha512T256 id.now size (length out.old)) result }
-        ensures only { result ≡ Err CacheMiss.Failed → IsTrue F.never_fails → ⊥ }
+    // Reads a chunk's file under the lock.
+    fn read_behind<W: Wait>(&self, rt: &W, id: &ChunkId, lent: &mut [u8]) -> Result<usize, GetFault>
+        ensures bytes { ReadsStocked (MayAdd F.pairs F.stores) F.opening id.now.0 result lent.new }
+        ensures inside { IfOk result (λ n. n ≤ length lent.new) }
+        ensures only { result ≡ Err GetFault.Failed → IsTrue F.never_fails → ⊥ }
     {
         let mut guard = self.shelf.lock(rt);
         let shelf = &mut *guard;
-        shelf.find(id, size, out)
+        shelf.read(id, lent)
     }
 
     // Adds a chunk under the lock.
@@ -109,7 +101,8 @@ impl<'a, W: Wait, F: Folder> CacheDoor<'a, W, F> {
     }
 
     /// Fills the front of `out` with the chunk of this id, and of this size where one is given, and answers its size.
-    /// It is one that the folder held at first, or one that was added.
+    /// It is one that the folder held at first, or one that was added. Its digest is computed once the lock is given
+    /// back.
     pub fn find(
         &mut self,
         id: &ChunkId,
@@ -125,11 +118,13 @@ impl<'a, W: Wait, F: Folder> CacheDoor<'a, W, F> {
         ensures sure { IsTrue F.never_fails → self.new.faults ≡ 0 }
         ensures faults { CountsFaults CacheMiss.Failed CacheMiss.Memory self.old.faults self.new.faults result }
     {
-        let found = self.cache.find_behind(self.rt, id, size, out);
-        if let Err(CacheMiss::Failed) = found {
+        let query = Query::of(DigestKind::Sha512T256, id, size, out.len());
+        let (lent, _) = out.split_at_mut(query.lent);
+        let answer = self.cache.read_behind(self.rt, id, lent);
+        if let Err(GetFault::Failed) = answer {
             self.faults = raise(self.faults, 1);
         }
-        found
+        judge(&query, answer, lent)
     }
 
     /// Adds the chunk of this id, in the place of what stood there. That other workers find it is only tested.

@@ -1,16 +1,16 @@
 //! What stands behind a cache's lock: a shelf whose folder has kept what its type names. Sizes are in bytes.
 
-ghost use Rattle.std.specs.Prelude.{◌≡◌, ◌≤◌, length, Some, IfErr, IfOk, IfSome, OnErr, OnOk};
+ghost use Rattle.std.specs.Prelude.{◌≡◌, ◌≤◌, length, Some, IfOk, IfSome, OnErr, OnOk};
 ghost use Rattle.cache_store.specs.Shelves.{shelf_of};
 ghost use Rattle.chunk_store.specs.declared.id.DigestKind.TheVariants as kinds;
 ghost use Rattle.dir_store.specs.Puts.{LeavesTemporary, PutsAtPath};
 ghost use Rattle.dsy_base.specs.Counts.{CountsFaults};
-ghost use Rattle.locked_cache.specs.Additions.{FindsStocked, KeepsGiving, MayAdd, StocksSince};
-ghost use Rattle.store_chain.specs.Queries.{FillsQuery, query_of};
+ghost use Rattle.locked_cache.specs.Additions.{MayAdd, ReadsStocked, StocksSince};
 
-use cache_store::shelf::{CacheMiss, CacheShelf};
+use cache_store::shelf::CacheShelf;
 use chunk_store::id::ChunkId;
 use chunk_store::laws::id_has_32_bytes;
+use chunk_store::store::GetFault;
 use dir_store::laws::{chunk_names, put_changes_one_chunk, put_leaves_a_temporary};
 use dsy_base::fault::IoFault;
 use dsy_base::folder::Folder;
@@ -54,25 +54,16 @@ impl<F: Folder> StockedShelf<F> {
         self.shelf
     }
 
-    /// Fills the front of `out` as `CacheShelf::find` does.
-    pub fn find(
-        &mut self,
-        id: &ChunkId,
-        size: Option<usize>,
-        out: &mut [u8],
-    ) -> Result<usize, CacheMiss>
-        requires inside { IfSome size (λ n. n ≤ length out.old) }
-        ensures ok { IfOk result (λ n. FillsQuery (query_of kinds.Sha512T256 id.now size (length out.old)) n out.new) }
-        ensures found { FindsStocked (MayAdd F.pairs F.stores) F.opening
-            (query_of kinds.Sha512T256 id.now size (length out.old)) result out.new }
-        ensures absent { KeepsGiving (MayAdd F.pairs F.stores) F.opening
-            (query_of kinds.Sha512T256 id.now size (length out.old)) result }
+    /// Reads the file of this id. No digest is computed, since others wait for the lock meanwhile.
+    pub fn read(&mut self, id: &ChunkId, lent: &mut [u8]) -> Result<usize, GetFault>
+        ensures bytes { ReadsStocked (MayAdd F.pairs F.stores) F.opening id.now.0 result lent.new }
+        ensures inside { IfOk result (λ n. n ≤ length lent.new) }
         ensures kept { F.files self.new.folder ≡ F.files self.old.folder }
         ensures place { F.place self.new.folder ≡ F.place self.old.folder }
-        ensures faults { CountsFaults CacheMiss.Failed CacheMiss.Memory
+        ensures faults { CountsFaults GetFault.Failed GetFault.Memory
             (F.faults self.old.folder) (F.faults self.new.folder) result }
     {
-        self.shelf.find(id, size, out)
+        self.shelf.read(id, lent)
     }
 
     /// Puts a chunk there that may be added, in the place of what stood there.
