@@ -68,10 +68,11 @@ command_by_roles command.Extract p =
     (workers p) (operand 0 p) (operand 1 p)
 command_by_roles command.VerifyIndex p = said.VerifyIndex (workers p) (operand 0 p) (operand 1 p)
 command_by_roles command.Chop p = said.Chop (store p) (workers p) (operand 0 p) (operand 1 p)
-command_by_roles command.Cache p = said.Cache (stores p) (value option.Cache p) (words_as role.Operand p.roles p.words)
+command_by_roles command.Cache p =
+    said.Cache (stores p) (value option.Cache p) (workers p) (words_as role.Operand p.roles p.words)
 command_by_roles command.ListChunks p = said.ListChunks (operand 0 p)
 command_by_roles command.Info p = said.Info (stores p) (operand 0 p)
-command_by_roles command.Verify p = said.Verify (value option.Store p) (is_given option.Repair p)
+command_by_roles command.Verify p = said.Verify (value option.Store p) (is_given option.Repair p) (workers p)
 command_by_roles command.Prune p = said.Prune (value option.Store p) (words_as role.Operand p.roles p.words)
 command_by_roles command.ChunkServer p =
     said.ChunkServer (value option.Store p) (address p).0 (address p).1 (is_given option.Writable p) (workers p)

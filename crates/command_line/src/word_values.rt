@@ -160,6 +160,7 @@ impl<'a> CheckedWords<'a> {
         Ok(Command::Cache {
             stores: self.stores(alloc)?,
             cache: self.named(alloc, OptionKind::Cache)?,
+            workers: self.workers(),
             indexes: self.names_as(alloc, Role::Operand)?,
         })
     }
@@ -211,6 +212,7 @@ impl<'a> CheckedWords<'a> {
             CommandKind::Verify => Ok(Command::Verify {
                 store: self.named(alloc, OptionKind::Store)?,
                 repair: self.is_given(OptionKind::Repair),
+                workers: self.workers(),
             }),
             CommandKind::Prune => Ok(Command::Prune {
                 store: self.named(alloc, OptionKind::Store)?,

@@ -118,6 +118,7 @@ pub enum Command {
     Cache {
         stores: Locations,
         cache: Name,
+        workers: u32,
         indexes: Names,
     },
     ListChunks {
@@ -130,6 +131,7 @@ pub enum Command {
     Verify {
         store: Name,
         repair: bool,
+        workers: u32,
     },
     Prune {
         store: Name,

@@ -22,8 +22,8 @@ achieves sure k (commands.Make store sizes workers index image) w v told h = mad
 achieves sure k (commands.Extract stores seeds cache in_place workers index target) w v told h = extracted (never_fail sure k.never_fails) stores cache seeds in_place index target w v told h
 achieves sure k (commands.VerifyIndex workers index image) w v told h = verified index image w v h
 achieves sure k (commands.Chop store workers index image) w v told h = chopped store index image w v h
-achieves sure k (commands.Cache stores cache indexes) w v told h = cached stores cache indexes w v h
-achieves sure k (commands.Verify store repair) w v told h = verified_store store repair w v h
+achieves sure k (commands.Cache stores cache workers indexes) w v told h = cached stores cache indexes w v h
+achieves sure k (commands.Verify store repair workers) w v told h = verified_store store repair w v h
 achieves sure k (commands.Prune store indexes) w v told h = pruned_to store indexes w v h
 achieves sure k other w v told h = h
 

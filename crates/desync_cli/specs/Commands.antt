@@ -43,12 +43,12 @@ abbrev pub CommandEnds : Bool → Heard → Command → Step World Unit
 CommandEnds sure h (commands.Make store sizes workers index image) = MakeEnds store sizes index image
 CommandEnds sure h (commands.VerifyIndex workers index image) = VerifyIndexEnds index image
 CommandEnds sure h (commands.Chop store workers index image) = ChopEnds store index image
-CommandEnds sure h (commands.Cache stores cache indexes) = CacheEnds stores cache indexes
+CommandEnds sure h (commands.Cache stores cache workers indexes) = CacheEnds stores cache indexes
 CommandEnds sure h (commands.ListChunks index) = ListChunksEnds index
 CommandEnds sure h (commands.Extract stores seeds cache in_place workers index target) =
     ExtractEnds (never_fail sure h.never_fails) stores cache seeds in_place index target
 CommandEnds sure h (commands.Info stores index) = InfoEnds stores index
-CommandEnds sure h (commands.Verify store repair) = VerifyEnds store repair
+CommandEnds sure h (commands.Verify store repair workers) = VerifyEnds store repair
 CommandEnds sure h (commands.Prune store indexes) = PruneEnds store indexes
 CommandEnds sure h (commands.Demo number size workers) = DemoEnds number size
 CommandEnds sure h commands.Help = OnOut (Printed (help_text topics.All))
@@ -63,12 +63,12 @@ spares (commands.Make store sizes workers index image) = record
 spares (commands.VerifyIndex workers index image) = record { files = true; folders = true; dial = true; out = true }
 spares (commands.Chop store workers index image) = record
     { files = true; folders = not (is_folder store); dial = is_folder store; out = true }
-spares (commands.Cache stores cache indexes) = record
+spares (commands.Cache stores cache workers indexes) = record
     { files = true; folders = false; dial = are_folders stores; out = true }
 spares (commands.Extract stores seeds cache in_place workers index target) = record
     { files = false; folders = not (is_some cache); dial = are_folders stores; out = true }
 spares (commands.Info stores index) = record { files = true; folders = true; dial = are_folders stores; out = false }
-spares (commands.Verify store repair) = record { files = true; folders = false; dial = true; out = false }
+spares (commands.Verify store repair workers) = record { files = true; folders = false; dial = true; out = false }
 spares (commands.Prune store indexes) = record { files = true; folders = false; dial = true; out = true }
 spares (commands.ChunkServer store host port writable workers) = record
     { files = true; folders = false; dial = true; out = true }
@@ -82,7 +82,7 @@ parts h (commands.VerifyIndex workers index image) = record
     { image = image; stores = []; target = []; cache = []; listener = unheard }
 parts h (commands.Chop store workers index image) = record
     { image = image; stores = store ∷ []; target = []; cache = []; listener = unheard }
-parts h (commands.Cache stores cache indexes) = record
+parts h (commands.Cache stores cache workers indexes) = record
     { image = []; stores = stores; target = []; cache = cache; listener = unheard }
 parts h (commands.Extract stores seeds cache in_place workers index target) = record {
   image = [];
@@ -93,7 +93,7 @@ parts h (commands.Extract stores seeds cache in_place workers index target) = re
 }
 parts h (commands.Info stores index) = record
     { image = []; stores = stores; target = []; cache = []; listener = unheard }
-parts h (commands.Verify store repair) = record
+parts h (commands.Verify store repair workers) = record
     { image = []; stores = locations.Folder store ∷ []; target = []; cache = []; listener = unheard }
 parts h (commands.Prune store indexes) = record
     { image = []; stores = locations.Folder store ∷ []; target = []; cache = []; listener = unheard }
@@ -109,12 +109,12 @@ Achieves sure h (commands.Make store sizes workers index image) w v =
 Achieves sure h (commands.VerifyIndex workers index image) w v = IfSome w.disk.files (λ m. IsVerified m index image)
 Achieves sure h (commands.Chop store workers index image) w v = IfSome w.disk.files (λ b. (l : Listing)
     × IsChopped b index image l × StoreHas (storage_of w) (storage_of v) store l)
-Achieves sure h (commands.Cache stores cache indexes) w v =
+Achieves sure h (commands.Cache stores cache workers indexes) w v =
     IfSome w.disk.files (λ b. IfSome w.disk.folders (λ f. IfSome v.disk.folders (λ g.
     IsCached b f g cache indexes)))
 Achieves sure h (commands.Extract stores seeds cache in_place workers index target) w v =
     IfSome w.disk.files (λ b. IfSome v.disk.files (λ a. IsExtracted b a index target))
-Achieves sure h (commands.Verify store repair) w v =
+Achieves sure h (commands.Verify store repair workers) w v =
     IfSome w.disk.folders (λ f. IfSome v.disk.folders (λ g.
     IsVerifiedStore f g w.out.taken v.out.taken store repair))
 Achieves sure h (commands.Prune store indexes) w v =

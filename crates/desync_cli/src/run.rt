@@ -143,8 +143,9 @@ where
             stores,
             cache,
             indexes,
+            ..
         } => fill_cache(alloc, files, dial, stores, cache, indexes),
-        Command::Verify { store, repair } => verify(alloc, files, out, store, repair),
+        Command::Verify { store, repair, .. } => verify(alloc, files, out, store, repair),
         Command::Prune { store, indexes } => prune_folder(alloc, files, store, indexes),
         Command::Demo {
             number,
