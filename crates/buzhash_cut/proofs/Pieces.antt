@@ -13,6 +13,9 @@ drop-add a n xs = grind (arith, common_steps)
 take-take-le : (i j : ℕ) (xs : List ℕ) → i ≤ j → take i (take j xs) ≡ take i xs
 take-take-le i j xs le = grind (arith, common_steps)
 
+length_take_all : (n : ℕ) (xs : List ℕ) → n ≤ length xs → length (take n xs) ≡ n
+length_take_all n xs le = grind (arith, common_steps)
+
 -- n bytes more of the image
 pub range_on : (t p : List ℕ) (start at k n : ℕ) → start ≤ at → p ≡ slice_range t at (at + k) → n ≤ k → slice_range t start at ++ take n p ≡ slice_range t start (at + n)
 range_on t p start at k n le piece few =
@@ -85,3 +88,37 @@ cut_last s t start at begun e le all cut =
     let size : e - begun ≡ start + e - (start + begun) = omega arith in
     let rest : drop begun (slice_range t start at) ≡ drop (start + begun) t = ap (drop begun) (range_last t start at le all) ∙ sym (drop-add start begun t) in
     subst (IsCut s (drop (start + begun) t)) size (subst (λ (x : List ℕ). IsCut s x (e - begun)) rest cut)
+
+-- the n bytes that a range of p begins with
+range_front : (p : List ℕ) (from upto n : ℕ) → from + n ≤ upto → slice_range p from (from + n) ≡ take n (slice_range p from upto)
+range_front p from upto n le =
+    let size : from + n - from ≡ n = omega arith in
+    ap (λ (i : ℕ). take i (drop from p)) size ∙ sym (take-take-le n (upto - from) (drop from p) (omega arith))
+
+-- the k bytes of a chunk from `begun` to `at` stand in front of f, and n bytes of the piece p were put behind them
+module _ (t p q d f e : List ℕ) (begun at from upto n k m : ℕ) (same : q ≡ p) (buffer : f ≡ d) (place : begun + k ≡ at) (inside : from + n ≤ upto) (long : upto ≤ length p)
+    (piece : slice_range p from upto ≡ slice_range t at (at + (upto - from))) (put : slice_range e 0 (k + length (slice_range q from (from + n))) ≡ slice_range f 0 k ++ slice_range q from (from + n)) where
+  taken_is : slice_range q from (from + n) ≡ take n (slice_range p from upto)
+  taken_is = ap (λ (x : List ℕ). slice_range x from (from + n)) same ∙ range_front p from upto n inside
+
+  size_is : length (slice_range q from (from + n)) ≡ n
+  size_is =
+      let size : from + n - from ≡ n = omega arith in
+      ap (λ (x : List ℕ). length (slice_range x from (from + n))) same ∙ ap (λ (i : ℕ). length (take i (drop from p))) size
+      ∙ length_take_all n (drop from p) (omega (arith, length-drop from p))
+
+  pub kept_on : slice_range d 0 (at - begun) ≡ slice_range t begun at → slice_range e 0 (at + n - begun) ≡ slice_range t begun (at + n)
+  kept_on kept =
+      let far : at + n - begun ≡ k + length (slice_range q from (from + n)) = omega (arith, place, size_is) in
+      let short : k ≡ at - begun = omega (arith, place) in
+      ap (slice_range e 0) far ∙ put
+      ∙ ap (λ (x : List ℕ). slice_range x 0 k ++ slice_range q from (from + n)) buffer
+      ∙ ap (λ (i : ℕ). slice_range d 0 i ++ slice_range q from (from + n)) short
+      ∙ ap (λ (x : List ℕ). x ++ slice_range q from (from + n)) kept
+      ∙ ap (λ (x : List ℕ). slice_range t begun at ++ x) taken_is
+      ∙ range_on t (slice_range p from upto) begun at (upto - from) n (omega (arith, place)) piece (omega arith)
+
+  -- the same of the whole buffer
+  pub chunk_on : (b : List ℕ) → at + n - begun ≤ m → at + n - begun ≤ length e → slice_range d 0 (at - begun) ≡ slice_range t begun at
+      → slice_range (take m (e ++ b)) 0 (at + n - begun) ≡ slice_range t begun (at + n)
+  chunk_on b room inside kept = front_of e b (at + n - begun) m room inside ∙ kept_on kept

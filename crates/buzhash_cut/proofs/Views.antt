@@ -1,7 +1,6 @@
 -- Views and their workers, who stand the other way round.
 use Rattle.std.proofs.Common.{◌≡◌, ℕ, suc, ◌-◌, ◌<◌, List, [], ◌∷◌, ◌++◌, length, map, reverse, slice_index_or, All, refl, sym, ap, subst, ◌∙◌, arith}
 use Rattle.std.proofs.lemmas.List.{get_or-map, get_or-reverse, length-map, length-reverse, map-append, reverse-append, reverse-reverse}
-use Rattle.std.proofs.lemmas.List.Elements.{All-map}
 use Rattle.buzhash_cut.specs.Image.{AreOfOneImage}
 use Rattle.dsy_base.specs.Bytes.{Held}
 

@@ -1,20 +1,18 @@
 //! An image cut from a place on, as a view gives it in pieces, and its chunks named. Offsets are bytes from 0, ends are
 //! exclusive.
 
-ghost use Rattle.std.specs.Prelude.{◌≡◌, ℕ, ◌+◌, ◌-◌, ◌^◌, ◌<◌, ◌≤◌, length, min, slice_range, IfOk};
+ghost use Rattle.std.specs.Prelude.{◌≡◌, ℕ, ◌+◌, ◌-◌, ◌^◌, ◌<◌, ◌≤◌, ◌++◌, length, min, slice_range, IfOk};
 ghost use Rattle.std.specs.Prelude.{IfSome, OnOk, MatchOption, List, drop, vec_len};
 ghost use Rattle.chunk_ends.specs.Cuts.{IsCut};
 ghost use Rattle.buzhash_cut.specs.Entries.{IsCutEntry};
-ghost use Rattle.buzhash_cut.specs.Slicing.{IsWithin, HasRead, begun_by, piece_size};
+ghost use Rattle.buzhash_cut.specs.Slicing.{IsWithin, HasChunkOf, HasRead, begun_by, piece_size};
 ghost use Rattle.caibx_codec.specs.Seen.{pair};
-ghost use Rattle.chunk_store.specs.Names.{name_of};
 ghost use Rattle.dsy_base.specs.Counts.{CountsRefusals};
 
 use caibx_codec::index::Entry;
 use chunk_ends::cutter::Cutter;
 use chunk_ends::sizes::CutSizes;
 use chunk_store::id::{ChunkId, DigestKind};
-use chunk_store::range::name_range;
 use dsy_base::fault::Failed;
 use dsy_base::view::View;
 use std::alloc::{AllocError, Global};
@@ -23,7 +21,7 @@ use std::alloc::{AllocError, Global};
 const PIECE: usize = 65_536;
 
 /// What is kept of an image that is cut from `start` on. The cutter was given the bytes up to `at`, and those that
-/// follow lie in the piece, between two places. A chunk is read again to be named.
+/// follow lie in the piece, between two places. The `kept` bytes of the open chunk stand at the front of `chunk`.
 #[derive(Drop)]
 pub(crate) struct Slicer {
     cutter: Cutter,
@@ -33,23 +31,16 @@ pub(crate) struct Slicer {
     from: usize,
     upto: usize,
     chunk: Vec<u8>,
+    kept: usize,
 }
 
-// The name of a chunk, which is read into `chunk`.
-fn name_chunk<V: View>(
-    view: &mut V,
-    chunk: &mut [u8],
-    begun: u64,
-    end: u64,
-) -> Result<ChunkId, Failed>
-    requires inside { (begun ≤ end) × (end ≤ (V.held view.old).size) × (end - begun ≤ length chunk.old) }
-    ensures named { IfOk result (λ id. IfSome (V.held view.old).bytes (λ t.
-        id.0 ≡ name_of DigestKind.Sha512T256 (slice_range t begun end))) }
-    ensures kept { V.held view.new ≡ V.held view.old }
-    ensures faults { CountsRefusals (V.faults view.old) (V.faults view.new) result }
+// Writes the bytes at this place.
+fn put(out: &mut [u8], at: usize, bytes: &[u8])
+    requires inside { at + length bytes.now ≤ length out.old }
+    ensures put { slice_range out.new 0 (at + length bytes.now) ≡ slice_range out.old 0 at ++ bytes.now }
+    ensures whole { length out.new ≡ length out.old }
 {
-    let slice = &mut chunk[..(end - begun) as usize];
-    name_range(view, DigestKind::Sha512T256, begun, slice)
+    out[at..at + bytes.len()].copy_from_slice(bytes);
 }
 
 // Fills the beginning of the piece with the bytes from `at` on, and says how many they are.
@@ -93,6 +84,7 @@ impl Slicer {
             from: 0,
             upto: 0,
             chunk,
+            kept: 0,
         })
     }
 
@@ -108,6 +100,7 @@ impl Slicer {
         self.at = start;
         self.from = 0;
         self.upto = 0;
+        self.kept = 0;
     }
 
     // Reads a piece, where all of the last one was given to the cutter.
@@ -145,15 +138,23 @@ impl Slicer {
         ensures read { OnOk result (IfSome (V.held view.old).bytes (λ t. HasRead self.old t → HasRead self.new t)) }
         ensures cut { IfOk result (λ o. IfSome o (λ e. IfSome (V.held view.old).bytes (λ t. HasRead self.old t
             → IsCut self.old.cutter.sizes (drop (begun_by self.old) t) (e - begun_by self.old)))) }
+        ensures chunk { IfOk result (λ o. IfSome o (λ e. IfSome (V.held view.old).bytes (λ t. HasRead self.old t
+            → HasChunkOf self.new t (begun_by self.old) e))) }
         ensures kept { V.held view.new ≡ V.held view.old }
         ensures faults { CountsRefusals (V.faults view.old) (V.faults view.new) result }
     {
         self.refill(view)?;
         let fed = self.cutter.feed(&self.piece[self.from..self.upto]);
+        let taken = &self.piece[self.from..self.from + fed.taken];
+        put(&mut self.chunk, self.kept, taken);
         self.from += fed.taken;
         self.at += fed.taken as u64;
+        self.kept += fed.taken;
         match fed.end {
-            Some(end) => Ok(Some(self.start + end)),
+            Some(end) => {
+                self.kept = 0;
+                Ok(Some(self.start + end))
+            }
             None => Ok(None),
         }
     }
@@ -170,6 +171,8 @@ impl Slicer {
         ensures read { OnOk result (IfSome (V.held view.old).bytes (λ t. HasRead self.old t → HasRead self.new t)) }
         ensures cut { IfOk result (λ e. IfSome (V.held view.old).bytes (λ t. HasRead self.old t
             → IsCut self.old.cutter.sizes (drop (begun_by self.old) t) (e - begun_by self.old))) }
+        ensures chunk { IfOk result (λ e. IfSome (V.held view.old).bytes (λ t. HasRead self.old t
+            → HasChunkOf self.new t (begun_by self.old) e)) }
         ensures kept { V.held view.new ≡ V.held view.old }
         ensures faults { CountsRefusals (V.faults view.old) (V.faults view.new) result }
     {
@@ -202,7 +205,10 @@ impl Slicer {
         ensures faults { CountsRefusals (V.faults view.old) (V.faults view.new) result }
     {
         let end = self.next_end(view)?;
-        let id = name_chunk(view, &mut self.chunk, begun, end)?;
+        let id = ChunkId::of(
+            DigestKind::Sha512T256,
+            &self.chunk[..(end - begun) as usize],
+        );
         Ok(Entry { end, id })
     }
 }

@@ -104,7 +104,8 @@ impl Cutter {
         ensures sizes { self.new.sizes ≡ self.old.sizes }
         ensures at { self.new.at ≡ self.old.at + result.taken }
         ensures end { MatchOption result.end
-            ((result.taken ≡ length piece.now) × (self.new.begun ≡ self.old.begun))
+            ((result.taken ≡ length piece.now) × (self.new.begun ≡ self.old.begun)
+            × (self.new.at - self.old.begun < self.old.sizes.greatest))
             (λ e. (e ≡ self.new.at) × (self.new.begun ≡ e) × (self.old.begun < e)
             × (e - self.old.begun ≤ self.old.sizes.greatest)) }
         ensures fed { (image : List ℕ) → WasFed self.old image

@@ -13,4 +13,5 @@ returns-clause-read g c =
       fed = far.fed;
       left = front_of c.fill.new.piece (drop (length c.fill.new.piece) c.args.self.now.piece.items) n c.args.self.now.piece.len (omega (arith, c.in_ok-n.ensures.some)) (omega (arith, c.in_ok-n.ensures.some))
           ∙ read ∙ ap (slice_range t at) end;
+      chunk = far.chunk;
     })
