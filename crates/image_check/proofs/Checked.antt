@@ -6,7 +6,7 @@ use Rattle.chunk_store.specs.Names.{name_of}
 use Rattle.dsy_base.specs.Bytes.{Held}
 use Rattle.dsy_base.specs.Counts.{CountsFaults}
 use Rattle.dsy_base.specs.declared.view.View.{Ghosts as ViewWords}
-use Rattle.read_ahead.specs.Ahead.{IsSlice}
+use Rattle.image_slices.specs.Ahead.{IsSlice}
 use Rattle.image_check.specs.Checks.{AreRightBelow, IsFirstWrong}
 use Rattle.image_check.specs.CheckProgress.{CheckEnds, ChecksOn, IsChecking, IsWrongAt}
 use Rattle.image_check.specs.declared.check.CheckFault.{CheckFault}

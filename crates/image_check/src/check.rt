@@ -3,7 +3,7 @@
 ghost use Rattle.std.specs.Prelude.{◌≡◌, ℕ, ◌<◌, ◌≤◌, All, length, IfErr, IfSome, map};
 ghost use Rattle.caibx_codec.specs.Listing.{count_of, size_of, image_length};
 ghost use Rattle.dsy_base.specs.Counts.{CountsFaults};
-ghost use Rattle.read_ahead.specs.Consumers.{IsAlike, NoFaultCountFalls};
+ghost use Rattle.image_slices.specs.Consumers.{IsAlike, NoFaultCountFalls};
 ghost use Rattle.image_check.specs.Checks.{TellsSize, TellsChunks, NamesEntry};
 ghost use Rattle.image_check.specs.CheckProgress.{CheckEnds};
 
@@ -11,8 +11,8 @@ use crate::checking::Checking;
 use caibx_codec::index::Index;
 use chunk_store::id::ChunkId;
 use dsy_base::view::View;
-use read_ahead::rounds::take_all;
-use read_ahead::subfolders::NoSubfolders;
+use image_slices::consumer::take_slices;
+use image_slices::subfolders::NoSubfolders;
 use std::alloc::Global;
 use std::thread::Threads;
 
@@ -48,9 +48,9 @@ fn check_beside<R: Threads + Sync, V: View + Send>(
 {
     let alloc = *buf.allocator();
     let largest = buf.len();
-    let mut checking = Checking::new(view, buf);
+    let checking = Checking::new(view, buf);
     let none: Option<NoSubfolders> = None;
-    let checked = take_all(rt, alloc, index, largest, &mut checking, others, &none);
+    let (checking, checked) = take_slices(rt, alloc, index, largest, checking, others, &none);
     (checking.end(), checked)
 }
 

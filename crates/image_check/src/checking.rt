@@ -4,7 +4,7 @@ ghost use Rattle.std.specs.Prelude.{◌≡◌, ℕ, ◌+◌, ◌<◌, ◌≤◌,
 ghost use Rattle.caibx_codec.specs.Listing.{Listing, count_of, image_length, size_of};
 ghost use Rattle.caibx_codec.specs.Right.{IsRightAt};
 ghost use Rattle.dsy_base.specs.Counts.{CountsFaults};
-ghost use Rattle.read_ahead.specs.Ahead.{IsAhead};
+ghost use Rattle.image_slices.specs.Ahead.{IsAhead, TellsSlice};
 ghost use Rattle.image_check.specs.CheckProgress.{ChecksOn, IsChecking, IsWrongAt};
 
 use crate::check::CheckFault;
@@ -12,8 +12,8 @@ use caibx_codec::index::Index;
 use chunk_store::range::name_range;
 use dsy_base::fault::Failed;
 use dsy_base::view::View;
-use read_ahead::ahead::{Ahead, slice_among};
-use read_ahead::consumer::Consumer;
+use image_slices::ahead::{Ahead, slice_among};
+use image_slices::consumer::EntryConsumer;
 
 // Reads chunk i and names it.
 fn check_chunk<V: View>(
@@ -66,7 +66,7 @@ impl<V: View> Checking<V> {
     fn see_next(&mut self, index: &Index, ready: &[Ahead]) -> Result<(), CheckFault>
         requires more { self.old.at < count_of index.now }
         requires checking { IsChecking V.View index.now self.old }
-        requires ready { All (IsAhead index.now (V.held self.old.view).bytes) ready.now }
+        requires ready { All (IsAhead index.now (TellsSlice index.now (V.held self.old.view).bytes)) ready.now }
         ensures right { OnOk result (IfSome (V.held self.old.view).bytes (λ t. IsRightAt t index.now self.old.at)) }
         ensures wrong { IfErr result (IsWrongAt index.now self.old.at (V.held self.old.view).bytes) }
         ensures at { self.new.at ≡ self.old.at }
@@ -86,7 +86,7 @@ impl<V: View> Checking<V> {
     fn check_next(&mut self, index: &Index, ready: &[Ahead]) -> Result<(), CheckFault>
         requires more { self.old.at < count_of index.now }
         requires checking { IsChecking V.View index.now self.old }
-        requires ready { All (IsAhead index.now (V.held self.old.view).bytes) ready.now }
+        requires ready { All (IsAhead index.now (TellsSlice index.now (V.held self.old.view).bytes)) ready.now }
         ensures on { ChecksOn V.View index.now self.old self.new result }
         ensures next { OnOk result (self.new.at ≡ self.old.at + 1) }
     {
@@ -104,7 +104,7 @@ impl<V: View> Checking<V> {
     }
 }
 
-impl<V: View> Consumer for Checking<V> {
+impl<V: View> EntryConsumer for Checking<V> {
     ghost use Rattle.image_check.specs.CheckProgress.{ChecksOn, IsChecking};
 
     type Fault = CheckFault;

@@ -12,7 +12,7 @@ ghost use Rattle.image_chop.specs.Chopping.{AsksListed, ChopStops, IsMismatch, T
 ghost use Rattle.image_chop.specs.Chopping.{most_seen, seen_to};
 ghost use Rattle.image_store.specs.PutChunks.{HoldsAll, KeepsListed, PutsFiles, SaysAll, Stands};
 ghost use Rattle.image_store.specs.Storing.{HasRoomFor};
-ghost use Rattle.read_ahead.specs.Consumers.{IsAlike, NoFaultCountFalls};
+ghost use Rattle.image_slices.specs.Consumers.{IsAlike, NoFaultCountFalls};
 
 use crate::chopping::Chopping;
 use caibx_codec::index::Index;
@@ -20,8 +20,8 @@ use chunk_store::id::ChunkId;
 use chunk_store::store::{Store, StoreWrite};
 use dsy_base::view::View;
 use image_store::storing::Rooms;
-use read_ahead::rounds::take_all;
-use read_ahead::subfolders::NoSubfolders;
+use image_slices::consumer::take_slices;
+use image_slices::subfolders::NoSubfolders;
 use std::alloc::Global;
 use std::thread::Threads;
 
@@ -59,9 +59,9 @@ fn chop_beside<R: Threads + Sync, V: View + Send, S: StoreWrite>(
 {
     let alloc = *rooms.chunk.allocator();
     let largest = rooms.chunk.len();
-    let mut chopping = Chopping::new(image, store, rooms);
+    let chopping = Chopping::new(image, store, rooms);
     let none: Option<NoSubfolders> = None;
-    let chopped = take_all(rt, alloc, index, largest, &mut chopping, others, &none);
+    let (chopping, chopped) = take_slices(rt, alloc, index, largest, chopping, others, &none);
     let (image, store) = chopping.end();
     (image, store, chopped)
 }

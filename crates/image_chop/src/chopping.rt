@@ -9,7 +9,7 @@ ghost use Rattle.image_chop.specs.Chopping.{StopsAt};
 ghost use Rattle.image_chop.specs.ChopProgress.{ChopsOn, IsChopping};
 ghost use Rattle.image_store.specs.PutChunks.{HasChunk, TouchesChunk, told_slice};
 ghost use Rattle.image_store.specs.Storing.{HasRoomFor};
-ghost use Rattle.read_ahead.specs.Ahead.{IsAhead, IsSlice};
+ghost use Rattle.image_slices.specs.Ahead.{IsAhead, IsSlice, TellsSlice};
 
 use crate::chop::ChopFault;
 use caibx_codec::index::Index;
@@ -18,8 +18,8 @@ use chunk_store::store::{Store, StoreWrite};
 use dsy_base::view::View;
 use image_store::put_chunks::{MakeFault, put_entry};
 use image_store::storing::Rooms;
-use read_ahead::ahead::{Ahead, slice_among};
-use read_ahead::consumer::Consumer;
+use image_slices::ahead::{Ahead, slice_among};
+use image_slices::consumer::EntryConsumer;
 use std::snapshot::Snapshot;
 
 // Stores entry i. Its slice may have been read.
@@ -94,7 +94,7 @@ impl<V: View, S: StoreWrite> Chopping<V, S> {
     fn chop_next(&mut self, index: &Index, ready: &[Ahead]) -> Result<(), ChopFault>
         requires more { self.old.at < count_of index.now }
         requires chopping { IsChopping V.View S.Store index.now self.old }
-        requires ready { All (IsAhead index.now (V.held self.old.image).bytes) ready.now }
+        requires ready { All (IsAhead index.now (TellsSlice index.now (V.held self.old.image).bytes)) ready.now }
         ensures on { ChopsOn V.View S.Store index.now self.old self.new result }
         ensures next { OnOk result (self.new.at ≡ self.old.at + 1) }
     {
@@ -120,7 +120,7 @@ impl<V: View, S: StoreWrite> Chopping<V, S> {
     }
 }
 
-impl<V: View, S: StoreWrite> Consumer for Chopping<V, S> {
+impl<V: View, S: StoreWrite> EntryConsumer for Chopping<V, S> {
     ghost use Rattle.image_chop.specs.ChopProgress.{ChopsOn, IsChopping};
 
     type Fault = ChopFault;

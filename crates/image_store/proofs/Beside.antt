@@ -15,7 +15,7 @@ use Rattle.image_store.specs.Storing.{GoesOn, HasStored, IsStoredBy, IsStoring}
 use Rattle.image_store.specs.declared.put_chunks.MakeFault.{MakeFault}
 use Rattle.image_store.specs.declared.put_chunks.MakeFault.TheVariants as faults
 use Rattle.image_store.specs.declared.storing.Storing.{Storing}
-use Rattle.read_ahead.specs.Consumers.{IsAlike, NoFaultCountFalls}
+use Rattle.image_slices.specs.Consumers.{IsAlike, NoFaultCountFalls}
 
 -- the first view was taken out, and another put in its place
 pub first_out : {V : Type 0} (vs rest : List V) (v : V) → 0 < length vs → v ≡ slice_index_or vs 0 v → rest ≡ remove vs 0 → vs ≡ v ∷ rest

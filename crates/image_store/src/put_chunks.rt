@@ -13,7 +13,7 @@ ghost use Rattle.chunk_store.specs.Causes.{CountsCause};
 ghost use Rattle.chunk_store.specs.Names.{name_of};
 ghost use Rattle.chunk_store.specs.Said.{KeepsOf, AskedOnce};
 ghost use Rattle.dsy_base.specs.Counts.{CountsFaults};
-ghost use Rattle.read_ahead.specs.Ahead.{IsSlice};
+ghost use Rattle.image_slices.specs.Ahead.{IsSlice};
 ghost use Rattle.image_store.specs.PutChunks.{told_range, told_slice, PutsUnder, PutsLacked};
 ghost use Rattle.image_store.specs.PutChunks.{HasChunk, TouchesChunk, HoldsAll, SaysAll, Stands, PutsFiles, AsksEach};
 ghost use Rattle.image_store.specs.PutChunks.{EndsAt, KeepsListed, RereadsTo, PutsEnd};

@@ -11,7 +11,7 @@ use caibx_codec::index::Index;
 use chunk_store::store::{Store, StoreWrite};
 use dsy_base::inner_folders::InnerFolders;
 use dsy_base::view::View;
-use read_ahead::rounds::take_all;
+use image_slices::consumer::take_slices;
 use std::alloc::Global;
 use std::thread::Threads;
 
@@ -34,8 +34,8 @@ fn store_ahead<R: Threads + Sync, V: View + Send, S: StoreWrite, I: InnerFolders
     let alloc = *rooms.chunk.allocator();
     let largest = rooms.chunk.len();
     let image = views.remove(0);
-    let mut storing = Storing::new(alloc, image, store, rooms);
-    let put = take_all(rt, alloc, index, largest, &mut storing, &mut views, inner);
+    let storing = Storing::new(alloc, image, store, rooms);
+    let (storing, put) = take_slices(rt, alloc, index, largest, storing, &mut views, inner);
     let (image, store) = storing.end();
     let Ok(()) = views.insert(0, image) else {
         unreachable!();

@@ -5,14 +5,14 @@ ghost use Rattle.caibx_codec.specs.Listing.{Listing, count_of, image_length};
 ghost use Rattle.dsy_base.specs.Counts.{CountsFaults};
 ghost use Rattle.image_store.specs.Putting.{HasPut, SeesTo};
 ghost use Rattle.image_store.specs.Storing.{GoesOn, HasRoomFor, HasStored, IsStoring, storing_of};
-ghost use Rattle.read_ahead.specs.Ahead.{IsAhead, IsSlice};
+ghost use Rattle.image_slices.specs.Ahead.{IsAhead, IsSlice, TellsSlice};
 
 use crate::put_chunks::{MakeFault, is_new, put_entry};
 use caibx_codec::index::Index;
 use chunk_store::store::{Store, StoreWrite};
 use dsy_base::view::View;
-use read_ahead::ahead::{Ahead, slice_among};
-use read_ahead::consumer::Consumer;
+use image_slices::ahead::{Ahead, slice_among};
+use image_slices::consumer::EntryConsumer;
 use std::alloc::{AllocError, Global};
 use std::collections::BTreeSet;
 use std::snapshot::Snapshot;
@@ -107,7 +107,7 @@ impl<S: StoreWrite> StoreProgress<S> {
     ) -> Result<(), MakeFault>
         requires more { self.old.at < count_of index.now }
         requires storing { IsStoring V.View S.Store index.now (storing_of image.old store.old self.old rooms.old) }
-        requires ready { All (IsAhead index.now (V.held image.old).bytes) ready.now }
+        requires ready { All (IsAhead index.now (TellsSlice index.now (V.held image.old).bytes)) ready.now }
         ensures on { GoesOn V.View S.Store index.now (storing_of image.old store.old self.old rooms.old)
             (storing_of image.new store.new self.new rooms.new) result }
         ensures next { OnOk result (self.new.at ≡ self.old.at + 1) }
@@ -131,7 +131,7 @@ impl<S: StoreWrite> StoreProgress<S> {
     ) -> Result<(), MakeFault>
         requires inside { to ≤ count_of index.now }
         requires storing { IsStoring V.View S.Store index.now (storing_of image.old store.old self.old rooms.old) }
-        requires ready { All (IsAhead index.now (V.held image.old).bytes) ready.now }
+        requires ready { All (IsAhead index.now (TellsSlice index.now (V.held image.old).bytes)) ready.now }
         ensures on { GoesOn V.View S.Store index.now (storing_of image.old store.old self.old rooms.old)
             (storing_of image.new store.new self.new rooms.new) result }
         ensures to { OnOk result (to ≤ self.new.at) }
@@ -192,7 +192,7 @@ impl<V: View, S: StoreWrite> Storing<V, S> {
     fn put_next(&mut self, index: &Index, ready: &[Ahead]) -> Result<(), MakeFault>
         requires more { self.old.progress.at < count_of index.now }
         requires storing { IsStoring V.View S.Store index.now self.old }
-        requires ready { All (IsAhead index.now (V.held self.old.image).bytes) ready.now }
+        requires ready { All (IsAhead index.now (TellsSlice index.now (V.held self.old.image).bytes)) ready.now }
         ensures on { GoesOn V.View S.Store index.now self.old self.new result }
         ensures next { OnOk result (self.new.progress.at ≡ self.old.progress.at + 1) }
     {
@@ -213,7 +213,7 @@ impl<V: View, S: StoreWrite> Storing<V, S> {
     }
 }
 
-impl<V: View, S: StoreWrite> Consumer for Storing<V, S> {
+impl<V: View, S: StoreWrite> EntryConsumer for Storing<V, S> {
     ghost use Rattle.image_store.specs.Storing.{GoesOn, IsStoring};
 
     type Fault = MakeFault;

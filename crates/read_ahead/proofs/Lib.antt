@@ -1,3 +1,1 @@
-pub mod Rooms
-pub mod Readers
-pub mod Crews
+pub mod Readings

@@ -1,12 +1,12 @@
-//! The entries of a round, shared out while it runs: readers claim them from the last one down, and the storing thread
-//! takes them from the first one up, until they meet. Entries are numbered from 0.
+//! The items of a round, shared out while it runs: readers claim them from the last one down, and the consumer takes
+//! them from the first one up, until they meet. Items are numbered from 0.
 
 ghost use Rattle.std.specs.Prelude.{◌≡◌, ◌<◌, ◌≤◌, IfSome, IsTrue};
 
 use std::sync::atomic::{AtomicUsize, Ordering};
 
-/// The entries from `from` to `to`. So many of them were `taken` by readers, and the storing thread has begun those
-/// before `begun`. Each is read at least once in the end, since the storing thread reads what no reader has read.
+/// The items from `from` to `to`. So many of them were `taken` by readers, and the consumer has begun those before
+/// `begun`. Each is read at least once in the end, since the consumer reads what no reader has read.
 #[derive(Drop)]
 pub struct Claims {
     pub from: usize,
@@ -29,7 +29,7 @@ impl Claims {
         }
     }
 
-    /// The last entry that isn't claimed yet, for a reader.
+    /// The last item that isn't claimed yet, for a reader.
     pub fn claim(&self) -> Option<usize>
         ensures { IfSome result (λ i. (self.now.from ≤ i) × (i < self.now.to)) }
     {
@@ -44,7 +44,7 @@ impl Claims {
         Some(i)
     }
 
-    /// Whether the storing thread is to see to entry i by itself: no reader has claimed it, nor one before it.
+    /// Whether the consumer is to take item i in this round: no reader has claimed it, nor one before it.
     pub fn takes(&self, i: usize) -> bool
         ensures { IsTrue result → i < self.now.to }
     {

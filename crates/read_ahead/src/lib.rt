@@ -1,10 +1,7 @@
-//! Entries of an index that one thread takes in order, while views of the image read and name slices ahead of it.
+//! Items that one thread takes in order, while other threads read them ahead.
 #![tactic(auto)]
 
-pub mod ahead;
 pub mod claims;
 pub mod consumer;
-mod plan;
 pub mod reader;
 pub mod rounds;
-pub mod subfolders;

@@ -1,227 +1,242 @@
-//! Entries that are taken in order by one thread, while readers read and name slices ahead. They are numbered from 0.
+//! Items that one thread takes in order, while readers read them ahead into rooms. Items are numbered from 0.
 
-ghost use Rattle.std.specs.Prelude.{◌≡◌, ℕ, ◌+◌, ◌<◌, ◌≤◌, [], All, IfSome, List, Ok, OnOk, Option, length, map};
-ghost use Rattle.std.specs.Prelude.{vec_capacity, vec_len};
-ghost use Rattle.caibx_codec.specs.Listing.{Listing, count_of, image_length};
-ghost use Rattle.read_ahead.specs.Ahead.{IsAhead};
-ghost use Rattle.read_ahead.specs.Consumers.{IsAlike, NoFaultCountFalls};
+ghost use Rattle.std.specs.Prelude.{◌≡◌, ◌<◌, ◌≤◌, All, IfOk, IfSome, List, Ok, OnOk, length, vec_len};
+ghost use Rattle.std.specs.List.{AllZip};
+ghost use Rattle.read_ahead.specs.ReadsOn.{ReadsOn};
 
-use crate::ahead::Ahead;
 use crate::claims::Claims;
 use crate::consumer::Consumer;
-use crate::plan::round_end;
-use crate::reader::{Crew, Reader, change_all, dismiss, hire};
-use caibx_codec::index::Index;
-use dsy_base::inner_folders::InnerFolders;
-use dsy_base::view::View;
-use std::alloc::Global;
+use crate::reader::Reader;
+use std::alloc::{AllocError, Global};
+use std::mem::swap;
 use std::thread::{Threads, join_mut};
 
-// Takes the entries before `to`.
-fn take_to<C: Consumer>(
-    index: &Index,
-    to: usize,
-    consumer: &mut C,
-    ready: &[Ahead],
-) -> Result<(), C::Fault>
-    requires inside { to ≤ count_of index.now }
-    requires going { C.can_go_on index.now consumer.old }
-    requires ready { All (IsAhead index.now (C.image consumer.old).bytes) ready.now }
-    ensures on { (first : C) → C.goes index.now first consumer.old (Ok tt)
-        → C.goes index.now first consumer.new result }
-    ensures going { OnOk result (C.can_go_on index.now consumer.new) }
-    ensures image { C.image consumer.new ≡ C.image consumer.old }
+// Takes the items before `to`.
+fn take_to<A, C: Consumer<A>>(to: usize, consumer: &mut C, ready: &[A]) -> Result<(), C::Fault>
+    requires inside { to ≤ C.count consumer.old }
+    requires going { C.can_go_on consumer.old }
+    requires ready { All (C.accepts consumer.old) ready.now }
+    ensures on { (first : C) → C.goes first consumer.old (Ok tt) → C.goes first consumer.new result }
+    ensures going { OnOk result (C.can_go_on consumer.new) }
+    ensures count { C.count consumer.new ≡ C.count consumer.old }
+    ensures accepted { OnOk result ((a : A) → C.accepts consumer.old a → C.accepts consumer.new a) }
     ensures to { OnOk result (to ≤ C.taken consumer.new) }
 {
     while consumer.at() < to {
-        consumer.take_next(index, ready)?;
+        consumer.take_next(ready)?;
     }
     Ok(())
 }
 
-// Takes the entries before those of the round, and those of the round that no reader has claimed.
-fn take_round<C: Consumer>(
-    index: &Index,
+// Takes the items before those of the round, and those of the round that no reader has claimed.
+fn take_round<A, C: Consumer<A>>(
     claims: &Claims,
     consumer: &mut C,
-    ready: &[Ahead],
+    ready: &[A],
 ) -> Result<(), C::Fault>
-    requires inside { (claims.now.from ≤ count_of index.now) × (claims.now.to ≤ count_of index.now) }
-    requires going { C.can_go_on index.now consumer.old }
-    requires ready { All (IsAhead index.now (C.image consumer.old).bytes) ready.now }
-    ensures on { (first : C) → C.goes index.now first consumer.old (Ok tt)
-        → C.goes index.now first consumer.new result }
-    ensures going { OnOk result (C.can_go_on index.now consumer.new) }
-    ensures image { C.image consumer.new ≡ C.image consumer.old }
+    requires inside { (claims.now.from ≤ C.count consumer.old) × (claims.now.to ≤ C.count consumer.old) }
+    requires going { C.can_go_on consumer.old }
+    requires ready { All (C.accepts consumer.old) ready.now }
+    ensures on { (first : C) → C.goes first consumer.old (Ok tt) → C.goes first consumer.new result }
+    ensures going { OnOk result (C.can_go_on consumer.new) }
+    ensures count { C.count consumer.new ≡ C.count consumer.old }
+    ensures accepted { OnOk result ((a : A) → C.accepts consumer.old a → C.accepts consumer.new a) }
 {
-    take_to(index, claims.from, consumer, ready)?;
+    take_to(claims.from, consumer, ready)?;
     while claims.takes(consumer.at()) {
-        consumer.take_next(index, ready)?;
+        consumer.take_next(ready)?;
     }
     Ok(())
 }
 
-// Takes the entries before those of the round and some of these, while each reader reads others in a thread. This
-// thread begins all of them, so that none waits for another one to begin it, and claims the first entry of each.
-#[cycle(round)]
-fn round<R: Threads + Sync, C: Consumer, V: View + Send, I: InnerFolders + Sync>(
-    rt: &R,
-    index: &Index,
-    consumer: &mut C,
-    readers: &mut [Reader<V>],
-    claims: &Claims,
-    ready: &[Ahead],
-    inner: &Option<I>,
-) -> Result<(), C::Fault>
-    requires inside { (claims.now.from ≤ count_of index.now) × (claims.now.to ≤ count_of index.now) }
-    requires going { C.can_go_on index.now consumer.old }
-    requires ready { All (IsAhead index.now (C.image consumer.old).bytes) ready.now }
-    requires size { All (λ r. image_length index.now ≡ (V.held r.view).size) readers.old }
-    ensures on { (first : C) → C.goes index.now first consumer.old (Ok tt)
-        → C.goes index.now first consumer.new result }
-    ensures going { OnOk result (C.can_go_on index.now consumer.new) }
-    ensures image { C.image consumer.new ≡ C.image consumer.old }
-    ensures ahead { All (λ r. IsAhead index.now (V.held r.view).bytes r.ahead) readers.new }
-    ensures kept { map (λ r. V.held r.view) readers.new ≡ map (λ r. V.held r.view) readers.old }
-    ensures faults { NoFaultCountFalls (map (λ r. V.faults r.view) readers.old)
-        (map (λ r. V.faults r.view) readers.new) }
+// Empties the room, and reads item `first` and each that it claims into it, until there is no more to be read.
+fn read_round<A, V: Reader<A>>(reader: &mut V, room: &mut A, first: Option<usize>, claims: &Claims)
+    requires listed { IfSome first (λ i. i < V.count reader.old) }
+    requires inside { claims.now.to ≤ V.count reader.old }
+    requires able { V.can_read reader.old }
+    ensures right { V.is_right reader.new room.new }
+    ensures on { ReadsOn V.Reader reader.old reader.new }
 {
-    let Some((reader, rest)) = readers.split_first_mut() else {
-        return take_round(index, claims, consumer, ready);
+    reader.begin(room);
+    let mut next = first;
+    for _ in claims.from..claims.to {
+        let Some(i) = next else {
+            return;
+        };
+        if !reader.read_item(i, room) {
+            return;
+        }
+        next = claims.claim();
+    }
+}
+
+// A round: the claims on its items, and the rooms that were filled in the round before.
+#[derive(Drop)]
+struct Round<'a, R, A> {
+    rt: &'a R,
+    claims: &'a Claims,
+    ready: &'a [A],
+}
+
+// Takes the items before those of the round and some of these, while each reader reads others in a thread. This thread
+// begins all of them, so that none waits for another one to begin it, and claims the first item of each.
+#[cycle(round)]
+fn run_round<R: Threads + Sync, A: Send + Sync, C: Consumer<A>, V: Reader<A> + Send>(
+    round: &Round<'_, R, A>,
+    consumer: &mut C,
+    readers: &mut [V],
+    rooms: &mut [A],
+) -> Result<(), C::Fault>
+    requires rooms { length rooms.old ≡ length readers.old }
+    requires inside { round.now.claims.now.from ≤ C.count consumer.old }
+    requires end { round.now.claims.now.to ≤ C.count consumer.old }
+    requires going { C.can_go_on consumer.old }
+    requires ready { All (C.accepts consumer.old) round.now.ready.now }
+    requires count { All (λ r. V.count r ≡ C.count consumer.old) readers.old }
+    requires able { All V.can_read readers.old }
+    ensures on { (first : C) → C.goes first consumer.old (Ok tt) → C.goes first consumer.new result }
+    ensures going { OnOk result (C.can_go_on consumer.new) }
+    ensures count { C.count consumer.new ≡ C.count consumer.old }
+    ensures accepted { OnOk result ((a : A) → C.accepts consumer.old a → C.accepts consumer.new a) }
+    ensures right { AllZip V.is_right readers.new rooms.new }
+    ensures readers { AllZip (ReadsOn V.Reader) readers.old readers.new }
+{
+    let Some((reader, others)) = readers.split_first_mut() else {
+        return take_round(round.claims, consumer, round.ready);
     };
-    let first = claims.claim();
+    let Some((room, rest)) = rooms.split_first_mut() else {
+        unreachable!();
+    };
+    let first = round.claims.claim();
     let mut read = ||
-        requires first { IfSome first (λ i. i < count_of index.now) }
-        requires inside { claims.now.to ≤ count_of index.now }
-        requires size { image_length index.now ≡ (V.held reader.now.view).size }
-        ensures ahead { IsAhead index.entry.now (V.held reader.exit.now.view).bytes reader.exit.now.ahead }
-        ensures kept { V.held reader.exit.now.view ≡ V.held reader.entry.now.view }
-        ensures faults { V.faults reader.entry.now.view ≤ V.faults reader.exit.now.view }
-    { reader.read(index, first, claims, inner) };
+        requires first { IfSome first (λ i. i < V.count reader.now) }
+        requires end { round.now.claims.now.to ≤ V.count reader.now }
+        requires able { V.can_read reader.now }
+        ensures right { V.is_right reader.exit.now room.exit.now }
+        ensures on { ReadsOn V.Reader reader.entry.now reader.exit.now }
+    { read_round(reader, room, first, round.claims) };
     let mut go_on = || -> Result<(), C::Fault>
-        requires inside { (claims.now.from ≤ count_of index.now) × (claims.now.to ≤ count_of index.now) }
-        requires going { C.can_go_on index.now consumer.now }
-        requires ready { All (IsAhead index.now (C.image consumer.now).bytes) ready.now }
-        requires size { All (λ r. image_length index.now ≡ (V.held r.view).size) rest.now }
-        ensures on { (first : C) → C.goes index.entry.now first consumer.entry.now (Ok tt)
-            → C.goes index.entry.now first consumer.exit.now result }
-        ensures going { OnOk result (C.can_go_on index.entry.now consumer.exit.now) }
-        ensures image { C.image consumer.exit.now ≡ C.image consumer.entry.now }
-        ensures ahead { All (λ r. IsAhead index.entry.now (V.held r.view).bytes r.ahead) rest.exit.now }
-        ensures kept { map (λ r. V.held r.view) rest.exit.now ≡ map (λ r. V.held r.view) rest.entry.now }
-        ensures faults { NoFaultCountFalls (map (λ r. V.faults r.view) rest.entry.now)
-            (map (λ r. V.faults r.view) rest.exit.now) }
-    { round(rt, index, consumer, rest, claims, ready, inner) };
-    let (_, taken) = join_mut(rt, &mut read, &mut go_on);
+        requires rooms { length rest.now ≡ length others.now }
+        requires inside { round.now.claims.now.from ≤ C.count consumer.now }
+        requires end { round.now.claims.now.to ≤ C.count consumer.now }
+        requires going { C.can_go_on consumer.now }
+        requires ready { All (C.accepts consumer.now) round.now.ready.now }
+        requires count { All (λ r. V.count r ≡ C.count consumer.now) others.now }
+        requires able { All V.can_read others.now }
+        ensures on { (first : C) → C.goes first consumer.entry.now (Ok tt)
+            → C.goes first consumer.exit.now result }
+        ensures going { OnOk result (C.can_go_on consumer.exit.now) }
+        ensures count { C.count consumer.exit.now ≡ C.count consumer.entry.now }
+        ensures accepted { OnOk result ((a : A) → C.accepts consumer.entry.now a → C.accepts consumer.exit.now a) }
+        ensures right { AllZip V.is_right others.exit.now rest.exit.now }
+        ensures readers { AllZip (ReadsOn V.Reader) others.entry.now others.exit.now }
+    { run_round(round, consumer, others, rest) };
+    let (_, taken) = join_mut(round.rt, &mut read, &mut go_on);
     taken
 }
 
-// Takes all entries, the largest of `largest` bytes.
-fn take_by_rounds<R: Threads + Sync, C: Consumer, V: View + Send, I: InnerFolders + Sync>(
+// Takes all items.
+fn take_by_rounds<R: Threads + Sync, A: Drop + Send + Sync, C: Consumer<A>, V: Reader<A> + Send>(
     rt: &R,
-    index: &Index,
-    largest: usize,
     consumer: &mut C,
-    readers: &mut [Reader<V>],
-    ready: &mut [Ahead],
-    inner: &Option<I>,
+    readers: &mut [V],
+    mut rooms: Vec<A>,
+    mut ready: Vec<A>,
 ) -> Result<(), C::Fault>
-    requires rooms { length ready.old ≡ length readers.old }
-    requires size { image_length index.now ≡ (C.image consumer.old).size }
-    requires going { C.can_go_on index.now consumer.old }
-    requires ready { All (IsAhead index.now (C.image consumer.old).bytes) ready.old }
-    requires alike { All (IsAlike (C.image consumer.old)) (map (λ r. V.held r.view) readers.old) }
-    ensures on { (first : C) → C.goes index.now first consumer.old (Ok tt)
-        → C.goes index.now first consumer.new result }
-    ensures going { OnOk result (C.can_go_on index.now consumer.new) }
-    ensures image { C.image consumer.new ≡ C.image consumer.old }
-    ensures all { OnOk result (count_of index.now ≤ C.taken consumer.new) }
-    ensures kept { map (λ r. V.held r.view) readers.new ≡ map (λ r. V.held r.view) readers.old }
-    ensures faults { NoFaultCountFalls (map (λ r. V.faults r.view) readers.old)
-        (map (λ r. V.faults r.view) readers.new) }
+    requires rooms { (length rooms.items ≡ length readers.old) × (length ready.items ≡ length readers.old) }
+    requires ready { All (C.accepts consumer.old) ready.items }
+    requires count { All (λ r. V.count r ≡ C.count consumer.old) readers.old }
+    requires able { All V.can_read readers.old }
+    requires going { C.can_go_on consumer.old }
+    requires trusted { All (λ r. (a : A) → V.is_right r a → C.accepts consumer.old a) readers.old }
+    ensures on { (first : C) → C.goes first consumer.old (Ok tt) → C.goes first consumer.new result }
+    ensures going { OnOk result (C.can_go_on consumer.new) }
+    ensures count { C.count consumer.new ≡ C.count consumer.old }
+    ensures all { OnOk result (C.count consumer.new ≤ C.taken consumer.new) }
+    ensures readers { AllZip (ReadsOn V.Reader) readers.old readers.new }
 {
     let mut at = 0;
-    while at < index.count() {
-        let end = round_end(index, at, readers.len(), largest);
+    while at < consumer.count() {
+        let end = consumer.round_end(at, readers.len());
         let claims = Claims::new(at, end);
-        round(rt, index, consumer, readers, &claims, ready, inner)?;
-        change_all(readers, ready);
+        let round = Round {
+            rt,
+            claims: &claims,
+            ready: &ready,
+        };
+        run_round(&round, consumer, readers, &mut rooms)?;
+        swap(&mut rooms, &mut ready);
         at = end;
     }
-    take_to(index, index.count(), consumer, ready)
+    take_to(consumer.count(), consumer, &ready)
 }
 
-// Takes all entries, while the views read ahead.
-fn take_ahead<R: Threads + Sync, C: Consumer, V: View + Send, I: InnerFolders + Sync>(
-    rt: &R,
-    index: &Index,
-    largest: usize,
-    consumer: &mut C,
-    views: &mut Vec<V>,
-    crew: Crew<V>,
-    inner: &Option<I>,
-) -> Result<(), C::Fault>
-    requires none { crew.readers.items ≡ [] }
-    requires crew { (vec_len crew.rooms ≡ vec_len views.old) × (vec_len crew.ready ≡ vec_len views.old)
-        × (vec_len views.old ≤ vec_capacity crew.readers) }
-    requires empty { (l : Listing) (told : Option (List ℕ)) → All (IsAhead l told) crew.ready.items }
-    requires size { image_length index.now ≡ (C.image consumer.old).size }
-    requires going { C.can_go_on index.now consumer.old }
-    requires alike { All (IsAlike (C.image consumer.old)) (map V.held views.old.items) }
-    ensures on { (first : C) → C.goes index.now first consumer.old (Ok tt)
-        → C.goes index.now first consumer.new result }
-    ensures going { OnOk result (C.can_go_on index.now consumer.new) }
-    ensures image { C.image consumer.new ≡ C.image consumer.old }
-    ensures all { OnOk result (count_of index.now ≤ C.taken consumer.new) }
-    ensures kept { map V.held views.new.items ≡ map V.held views.old.items }
-    ensures faults { NoFaultCountFalls (map V.faults views.old.items) (map V.faults views.new.items) }
-    ensures capacity { vec_capacity views.old ≤ vec_capacity views.new }
+// `count` rooms in which nothing stands.
+fn new_rooms<A: Drop, C: Consumer<A>>(
+    alloc: Global,
+    consumer: &C,
+    count: usize,
+) -> Result<Vec<A>, AllocError>
+    ensures size { IfOk result (λ v. vec_len v ≡ count) }
+    ensures ready { IfOk result (λ v. All (C.accepts consumer.now) v.items) }
 {
-    let mut crew = crew;
-    hire(views, &mut crew.rooms, &mut crew.readers);
-    let taken = take_by_rounds(
-        rt,
-        index,
-        largest,
-        consumer,
-        &mut crew.readers,
-        &mut crew.ready,
-        inner,
-    );
-    dismiss(&mut crew.readers, views);
-    taken
+    let mut rooms = Vec::with_capacity(alloc, count)?;
+    while rooms.len() < count {
+        rooms.push(consumer.room(alloc)?)?;
+    }
+    Ok(rooms)
 }
 
-/// Lets the consumer take all entries, the largest of `largest` bytes, while each of the views reads and names slices
-/// ahead in a thread of its own, which makes the inner folders of their chunks' files. Where there is no memory for the
-/// views' rooms the consumer is alone.
-pub fn take_all<R: Threads + Sync, C: Consumer, V: View + Send, I: InnerFolders + Sync>(
+// Two rooms for each reader, in which nothing stands. Refused also where too little memory would be left beside them.
+fn room_pairs<A: Drop, C: Consumer<A>>(
+    alloc: Global,
+    consumer: &C,
+    count: usize,
+) -> Result<(Vec<A>, Vec<A>), AllocError>
+    ensures size { IfOk result (λ p. (vec_len p.0 ≡ count) × (vec_len p.1 ≡ count)) }
+    ensures ready { IfOk result (λ p. All (C.accepts consumer.now) p.1.items) }
+{
+    let _spare: Vec<u8> = Vec::with_capacity(alloc, consumer.spare())?;
+    let rooms = new_rooms(alloc, consumer, count)?;
+    let ready = new_rooms(alloc, consumer, count)?;
+    Ok((rooms, ready))
+}
+
+/// Lets the consumer take all items, with nothing read ahead.
+pub fn take_alone<A, C: Consumer<A>>(consumer: &mut C) -> Result<(), C::Fault>
+    requires going { C.can_go_on consumer.old }
+    ensures on { (first : C) → C.goes first consumer.old (Ok tt) → C.goes first consumer.new result }
+    ensures going { OnOk result (C.can_go_on consumer.new) }
+    ensures count { C.count consumer.new ≡ C.count consumer.old }
+    ensures all { OnOk result (C.count consumer.new ≤ C.taken consumer.new) }
+{
+    take_to(consumer.count(), consumer, &[])
+}
+
+/// Lets the consumer take all items, while each reader reads items ahead in a thread of its own. Each reader has two
+/// rooms, and the consumer takes from one while the reader fills the other. Where there is no memory for the rooms, or
+/// for what is to be left free beside them, the consumer is alone.
+pub fn take_all<R: Threads + Sync, A: Drop + Send + Sync, C: Consumer<A>, V: Reader<A> + Send>(
     rt: &R,
     alloc: Global,
-    index: &Index,
-    largest: usize,
     consumer: &mut C,
-    views: &mut Vec<V>,
-    inner: &Option<I>,
+    readers: &mut [V],
 ) -> Result<(), C::Fault>
-    requires size { image_length index.now ≡ (C.image consumer.old).size }
-    requires going { C.can_go_on index.now consumer.old }
-    requires alike { All (IsAlike (C.image consumer.old)) (map V.held views.old.items) }
-    ensures on { (first : C) → C.goes index.now first consumer.old (Ok tt)
-        → C.goes index.now first consumer.new result }
-    ensures going { OnOk result (C.can_go_on index.now consumer.new) }
-    ensures image { C.image consumer.new ≡ C.image consumer.old }
-    ensures all { OnOk result (count_of index.now ≤ C.taken consumer.new) }
-    ensures kept { map V.held views.new.items ≡ map V.held views.old.items }
-    ensures faults { NoFaultCountFalls (map V.faults views.old.items) (map V.faults views.new.items) }
-    ensures capacity { vec_capacity views.old ≤ vec_capacity views.new }
+    requires count { All (λ r. V.count r ≡ C.count consumer.old) readers.old }
+    requires able { All V.can_read readers.old }
+    requires going { C.can_go_on consumer.old }
+    requires trusted { All (λ r. (a : A) → V.is_right r a → C.accepts consumer.old a) readers.old }
+    ensures on { (first : C) → C.goes first consumer.old (Ok tt) → C.goes first consumer.new result }
+    ensures going { OnOk result (C.can_go_on consumer.new) }
+    ensures count { C.count consumer.new ≡ C.count consumer.old }
+    ensures all { OnOk result (C.count consumer.new ≤ C.taken consumer.new) }
+    ensures readers { (firsts : List V) → AllZip V.went firsts readers.old → AllZip V.went firsts readers.new }
 {
-    let count = views.len();
-    if count == 0 {
-        return take_to(index, index.count(), consumer, &[]);
+    if readers.is_empty() {
+        return take_alone(consumer);
     }
-    match Crew::new(alloc, count, largest, index.count()) {
-        Ok(crew) => take_ahead(rt, index, largest, consumer, views, crew, inner),
-        Err(_) => take_to(index, index.count(), consumer, &[]),
+    match room_pairs(alloc, consumer, readers.len()) {
+        Ok((rooms, ready)) => take_by_rounds(rt, consumer, readers, rooms, ready),
+        Err(_) => take_alone(consumer),
     }
 }

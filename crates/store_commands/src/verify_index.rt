@@ -5,7 +5,7 @@ ghost use Rattle.store_commands.specs.VerifyIndex.{Checked, VerifyIndexEnds, ans
 ghost use Rattle.command_worlds.specs.Worlds.{Reads, world};
 ghost use Rattle.dsy_base.specs.Disk.{Output};
 ghost use Rattle.dsy_base.specs.Links.{DialState};
-ghost use Rattle.read_ahead.specs.Consumers.{IsAlike};
+ghost use Rattle.image_slices.specs.Consumers.{IsAlike};
 
 use caibx_codec::index::Index;
 use command_outcome::outcome::Outcome;

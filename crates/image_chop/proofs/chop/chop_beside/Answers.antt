@@ -4,27 +4,27 @@ use Rattle.dsy_base.specs.Counts.{CountsFaults}
 use Rattle.image_chop.proofs.ChoppingOn.{chopping_all, chops_none}
 use Rattle.image_chop.specs.ChopProgress.{ChoppingEnds}
 use Rattle.image_chop.specs.declared.chop.ChopFault.TheVariants as faults
-use Rattle.read_ahead.specs.Consumers.{IsAlike}
+use Rattle.image_slices.specs.Consumers.{IsAlike}
 use Rattle.image_chop.proofs.chop.chop_beside.Goals as goal
 
-pub take_all-chopped-requires-clause-size : goal.take_all-chopped-requires-clause-size
-take_all-chopped-requires-clause-size g c = λ lifetimes bounds. subst (λ v. image_length c.args.index.now ≡ (g.V.View.held v).size) (sym c.new-chopping.ensures.image) c.requires.size
+pub take_slices-chopping-requires-clause-size : goal.take_slices-chopping-requires-clause-size
+take_slices-chopping-requires-clause-size g c = λ lifetimes bounds. subst (λ v. image_length c.args.index.now ≡ (g.V.View.held v).size) (sym c.new-chopping.ensures.image) c.requires.size
 
-pub take_all-chopped-requires-clause-going : goal.take_all-chopped-requires-clause-going
-take_all-chopped-requires-clause-going g c = λ lifetimes bounds. c.new-chopping.ensures.chopping c.args.index.now c.requires.size c.requires.room
+pub take_slices-chopping-requires-clause-going : goal.take_slices-chopping-requires-clause-going
+take_slices-chopping-requires-clause-going g c = λ lifetimes bounds. c.new-chopping.ensures.chopping c.args.index.now c.requires.size c.requires.room
 
-pub take_all-chopped-requires-clause-alike : goal.take_all-chopped-requires-clause-alike
-take_all-chopped-requires-clause-alike g c = λ lifetimes bounds.
+pub take_slices-chopping-requires-clause-alike : goal.take_slices-chopping-requires-clause-alike
+take_slices-chopping-requires-clause-alike g c = λ lifetimes bounds.
     subst (λ v. All (IsAlike (g.V.View.held v)) (map g.V.View.held c.args.others.now.items)) (sym c.new-chopping.ensures.image) c.requires.alike
 
 pub returns : goal.returns
 returns g c =
     let l = c.args.index.now in
     let a = c.new-chopping.result in
-    let b = c.take_all-chopped.new.consumer in
-    let r = c.take_all-chopped.result in
+    let b = c.take_slices-chopping.result.0 in
+    let r = c.take_slices-chopping.result.1 in
     let store = c.args.store in
-    let done = c.take_all-chopped.ensures in
+    let done = c.take_slices-chopping.ensures in
     let was = c.new-chopping.ensures.image in
     let went = done.on a (chops_none g.V.View g.S.Store l a (c.new-chopping.ensures.chopping l c.requires.size c.requires.room)) in
     let size : (g.V.View.held a.image).size ≡ image_length l = ap (λ v. (g.V.View.held v).size) was ∙ sym c.requires.size in

@@ -3,27 +3,27 @@ use Rattle.caibx_codec.specs.Listing.{image_length}
 use Rattle.image_store.specs.Storing.{IsStoredBy}
 use Rattle.image_store.proofs.Beside.{by_first, first_out, others_alike, stored_on}
 use Rattle.image_store.proofs.Going.{goes_none}
-use Rattle.read_ahead.specs.Consumers.{IsAlike}
+use Rattle.image_slices.specs.Consumers.{IsAlike}
 use Rattle.image_store.proofs.store_entries.store_ahead.Goals as goal
 
-pub take_all-put-requires-clause-going : goal.take_all-put-requires-clause-going
-take_all-put-requires-clause-going g c = λ lifetimes bounds.
+pub take_slices-storing-requires-clause-going : goal.take_slices-storing-requires-clause-going
+take_slices-storing-requires-clause-going g c = λ lifetimes bounds.
     let l = c.args.index.now in
     let image = c.remove-image.result in
     let was = first_out c.args.views.items c.remove-image.new.self.items image (omega (arith, c.requires.some)) c.remove-image.ensures.value c.remove-image.ensures.items in
     let size = (subst (All (λ v. image_length l ≡ (g.V.View.held v).size)) was c.requires.size) 0 image (omega arith) in
     c.new-storing.ensures.storing l size c.requires.room
 
-pub take_all-put-requires-clause-alike : goal.take_all-put-requires-clause-alike
-take_all-put-requires-clause-alike g c = λ lifetimes bounds.
+pub take_slices-storing-requires-clause-alike : goal.take_slices-storing-requires-clause-alike
+take_slices-storing-requires-clause-alike g c = λ lifetimes bounds.
     let rest = c.remove-image.new.self.items in
     let image = c.remove-image.result in
     let was = first_out c.args.views.items rest image (omega (arith, c.requires.some)) c.remove-image.ensures.value c.remove-image.ensures.items in
     subst (λ v. All (IsAlike (g.V.View.held v)) (map (λ v. g.V.View.held v) rest)) (sym c.new-storing.ensures.image)
     (others_alike (λ v. g.V.View.held v) c.args.views.items rest image was c.requires.alike)
 
-pub take_all-put-requires-clause-size : goal.take_all-put-requires-clause-size
-take_all-put-requires-clause-size g c = λ lifetimes bounds.
+pub take_slices-storing-requires-clause-size : goal.take_slices-storing-requires-clause-size
+take_slices-storing-requires-clause-size g c = λ lifetimes bounds.
     let l = c.args.index.now in
     let image = c.remove-image.result in
     let was = first_out c.args.views.items c.remove-image.new.self.items image (omega (arith, c.requires.some)) c.remove-image.ensures.value c.remove-image.ensures.items in
@@ -32,12 +32,12 @@ take_all-put-requires-clause-size g c = λ lifetimes bounds.
 pub returns : goal.returns
 returns g c =
     let l = c.args.index.now in
-    let done = c.take_all-put.ensures in
+    let done = c.take_slices-storing.ensures in
     let a = c.new-storing.result in
-    let b = c.take_all-put.new.consumer in
-    let r = c.take_all-put.result in
+    let b = c.take_slices-storing.result.0 in
+    let r = c.take_slices-storing.result.1 in
     let rest = c.remove-image.new.self.items in
-    let news = c.take_all-put.new.views.items in
+    let news = c.take_slices-storing.new.views.items in
     let was : c.args.views.items ≡ a.image ∷ rest =
     first_out c.args.views.items rest c.remove-image.result (omega (arith, c.requires.some)) c.remove-image.ensures.value c.remove-image.ensures.items ∙ ap (λ v. v ∷ rest) (sym c.new-storing.ensures.image) in
     let put : c.insert.new.self.items ≡ c.end-image.result.0 ∷ news = search rules in

@@ -1,20 +1,17 @@
-use Rattle.std.proofs.Common.{◌≡◌, ◌≤◌, All, arith, map, rules, subst}
-use Rattle.caibx_codec.specs.Listing.{image_length}
-use Rattle.std.proofs.lemmas.List.Elements.{All-cons, All-head, All-rest}
+use Rattle.std.proofs.Common.{◌≡◌, All, arith, rules, subst}
+use Rattle.std.proofs.lemmas.List.Elements.{All-head, All-rest}
 use Rattle.std.proofs.lemmas.Option.{IfSome_then}
-use Rattle.read_ahead.proofs.Crews.{falls_cons}
-use Rattle.read_ahead.specs.Consumers.{NoFaultCountFalls}
-use Rattle.read_ahead.specs.Ahead.{IsAhead}
-use Rattle.read_ahead.specs.declared.reader.Reader.{Reader}
 use Rattle.read_ahead.proofs.rounds.+round.Goals as goal
 
 pub join_mut-taken-requires-after_bounds : goal.join_mut-taken-requires-after_bounds
 join_mut-taken-requires-after_bounds g t c κs within =
-    let P = λ (r : Reader g.row.V.Denot). image_length c.args.index.now ≡ (g.V.View.held r.view).size in
-    let crossing = c.requires-raw.1.1.1.1.1.1 in (
+    let counts = λ (r : g.row.V.Denot). g.V.Reader.count r ≡ g.C.Consumer.count c.args.consumer.now in
+    let is = c.in-Some.ensures.cases.0 in
+    let here : g.V.Reader.count c.in-Some.reader.now ≡ g.C.Consumer.count c.args.consumer.now = All-head counts _ _ (subst (All counts) is c.requires.count) in
+    let able = All-head g.V.Reader.can_read _ _ (subst (All g.V.Reader.can_read) is c.requires.able) in (
       (
-        IfSome_then c.claim-first.result c.claim-first.ensures (λ i is. omega (arith, is.1, c.requires.inside.1)),
-        (c.requires.inside.1, All-head P _ _ (subst (All P) c.in-Some.ensures.cases.0 c.requires.size)),
+        IfSome_then c.claim-first.result c.claim-first.ensures (λ i is. omega (arith, is.1, c.requires.end, here)),
+        (omega (arith, c.requires.end, here), able),
       ),
       (
         omega (arith, c.decreases, c.in-Some.ensures.cases.1),
@@ -29,14 +26,20 @@ join_mut-taken-requires-after_bounds g t c κs within =
                 (
                   (λ a m. m),
                   (
-                    c.requires.inside,
+                    omega (arith, c.requires.rooms, c.in-Some.ensures.cases.1, c.in-Some-split_first_mut.ensures.cases.1),
                     (
-                      c.requires.going,
+                      c.requires.inside,
                       (
-                        c.requires.ready,
+                        c.requires.end,
                         (
-                          All-rest P _ _ _ c.in-Some.ensures.cases.0 c.requires.size,
-                          (crossing.0, crossing.1.0, crossing.1.1.0),
+                          c.requires.going,
+                          (
+                            c.requires.ready,
+                            (
+                              All-rest counts _ _ _ is c.requires.count,
+                              (All-rest g.V.Reader.can_read _ _ _ is c.requires.able, (assumption rules, assumption rules, assumption rules, assumption rules)),
+                            ),
+                          ),
                         ),
                       ),
                     ),
@@ -48,16 +51,3 @@ join_mut-taken-requires-after_bounds g t c κs within =
         ),
       ),
     )
-
-pub returns-clause-ahead : goal.returns-clause-ahead
-returns-clause-ahead g t c =
-    let P = λ (r : Reader g.row.V.Denot). IsAhead c.args.index.now (g.V.View.held r.view).bytes r.ahead in
-    All-cons P _ _ (subst P (search rules) c.join_mut-taken.ensures.0.met.1.0) (subst (All P) (search rules) c.join_mut-taken.ensures.1.met.1.1.1.1.0)
-
-pub returns-clause-faults : goal.returns-clause-faults
-returns-clause-faults g t c =
-    let F = λ (r : Reader g.row.V.Denot). g.V.View.faults r.view in
-    let x = c.in-Some.reader.now in
-    let xs = c.in-Some.rest.now in
-    falls_cons F c.args.readers.now x _ xs _ c.in-Some.ensures.cases.0 (subst (λ n. F x ≤ n) (search rules) c.join_mut-taken.ensures.0.met.1.1.1)
-    (subst (λ ys. NoFaultCountFalls (map F xs) (map F ys)) (search rules) c.join_mut-taken.ensures.1.met.1.1.1.1.1.1)

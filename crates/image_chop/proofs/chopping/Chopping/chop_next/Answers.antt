@@ -7,7 +7,7 @@ use Rattle.image_chop.specs.declared.chopping.Chopping.{Chopping}
 use Rattle.image_chop.proofs.chopping.Chopping.chop_next.Goals as goal
 
 pub chop_entry-requires-clause-read : goal.chop_entry-requires-clause-read
-chop_entry-requires-clause-read g c = IfSome_then c.slice_among-read.result c.slice_among-read.ensures (λ b is. is _ c.requires.ready)
+chop_entry-requires-clause-read g c = IfSome_then c.slice_among-read.result c.slice_among-read.ensures.told (λ b is. is _ c.requires.ready)
 
 pub returns-in_err-chop_entry-clause-on : goal.returns-in_err-chop_entry-clause-on
 returns-in_err-chop_entry-clause-on g c =

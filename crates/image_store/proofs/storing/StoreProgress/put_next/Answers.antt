@@ -17,4 +17,4 @@ returns-clause-on g c =
     }
 
 pub see_next-requires-clause-read : goal.see_next-requires-clause-read
-see_next-requires-clause-read g c = IfSome_then c.slice_among-read.result c.slice_among-read.ensures (λ b is. is _ c.requires.ready)
+see_next-requires-clause-read g c = IfSome_then c.slice_among-read.result c.slice_among-read.ensures.told (λ b is. is _ c.requires.ready)
