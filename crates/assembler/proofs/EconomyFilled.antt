@@ -31,9 +31,6 @@ below_of w v is = elim (cases_lt v w) [
   | inr more ↦ absurd (true≢false (sym is ∙ le-ltb v w more))
 ]
 
-pub still_below : (w v : ℕ) → is_below w v ≡ true → is_below (w + 1) v ≡ true
-still_below w v is = let less = below_of w v is in lt-ltb v (w + 1) (omega (arith, less))
-
 pub now_at : (w v : ℕ) → v ≡ w → is_below (w + 1) v ≡ true
 now_at w v is = lt-ltb v (w + 1) (omega (arith, is))
 

@@ -48,11 +48,6 @@ pub memory_lost : (r : Result Unit Unsettled) (e : Unsettled) (x : Lost) → r �
 memory_lost r e x is why had lost other lacked =
     had (ap (λ (y : Lost). y.refused) (lost_same r x lost (is ∙ ap (λ y. Err y) why) other) ∙ lacked)
 
--- no write failed
-pub never_torn : (source : Fate) (n : ℕ) (m0 m1 : List Fate) (r : Result Unit Unsettled) (e : Unsettled) → r ≡ Err e → e ≡ unsettled.TargetFault
-    → SettledBy source n m0 m1 r → ⊥
-never_torn source n m0 m1 r e is why settles = subst (SettledBy source n m0 m1) (is ∙ ap (λ y. Err y) why) settles
-
 -- ---- wants that were tried
 
 pub tried_now : (tried : List Bool) (w n : ℕ) → length tried ≡ n → w < n → is_tried (set tried w true) w ≡ true

@@ -200,16 +200,6 @@ module _ {S V : Type 0} (store : StoreWords S) (view : ViewWords V) (t : Task) w
     stocked = stocked_none (TakesWants store t.listing t.plan All s.chain.stores) s.cache;
   }
 
-  -- what one worker's pass leaves of its own sources, whatever the target's counts are
-  pub since_fill : (these : ℕ → Bool) (f c : ℕ) → f ≤ c → (s0 s1 : Stage S V) → HasPassedShare store view t these s0 s1
-      → Since (sources f s0.kit.seeds.items s0.cache s0.kit.chain) (sources c s1.kit.seeds.items s1.cache s1.kit.chain)
-  since_fill these f c rises s0 s1 passed = record {
-    rises = rises;
-    seeds = passed.stretch.step.seeds;
-    stores = passed.stretch.step.stores;
-    stocked = stocking_wider store t.listing t.plan (λ w. (w < t.plan.wants) × (these w ≡ true)) All (λ w both. both.0) s0.kit.chain.stores s0.cache s1.cache passed.stretch.stocked;
-  }
-
 -- ---- which entries a pass may fill
 
 module _ {S V : Type 0} (store : StoreWords S) (view : ViewWords V) (t : Task) (wants : AreWants t.listing t.plan.wants t.plan.want_of) (old : Sources S V) (a : Stage S V)
@@ -219,19 +209,6 @@ module _ {S V : Type 0} (store : StoreWords S) (view : ViewWords V) (t : Task) (
     (told : map store.holds old.chain.stores ≡ map Some maps) where
   abbrev CanBeHad : ℕ → Type 0
   CanBeHad i = IsObtainable t base (views_of view old.seeds) (cached ++ maps) i
-
-  -- where what is settled was right in the base or can be had, and what can be had may be filled. At the first pass of a
-  -- worker, where the survey has settled what is settled, nothing is such
-  pub permits_from : (may : ℕ → Bool) → ((i : ℕ) → i < count_of t.listing → Such i → CanBeHad i) → ((i : ℕ) → i < count_of t.listing → CanBeHad i → may i ≡ true)
-      → (Among : ℕ → Type 0) → MayFillHad store view t may a Among
-  permits_from may such can_may Among w less any has i among_w =
-      let views = views_of view old.seeds in
-      let inside = listed_of t.listing t.plan w i wants among_w in
-      let later = given_told (TakesWants store t.listing t.plan (λ v. v < t.plan.wants) old.chain.stores) old.cache a.cache cached since.stocked told_cache in
-      let had = had_from t wants store view (λ v. v < t.plan.wants) old (from a) since.seeds.held since.stocked cached later.0 maps told_cache later.1 told a.fates w
-      (has (telling_on view.tells views (views_of view a.kit.seeds.items) since.seeds.held telling) later.0 maps later.1 (since.stores.held ∙ told)) in
-      can_may i inside (obtainable t wants Such a.fates base filled views (cached ++ maps) such i inside
-      (had_entry t wants a.fates views (cached ++ maps) w i among_w had))
 
 -- ---- the last passes
 

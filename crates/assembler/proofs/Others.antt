@@ -5,19 +5,18 @@ use Rattle.std.proofs.lemmas.Bool.{true≢false}
 use Rattle.std.proofs.lemmas.Option.{none-some, same_Some}
 use Rattle.std.specs.Option.{option_map}
 use Rattle.cache_store.specs.Giving.{SomeGives}
-use Rattle.cache_store.specs.Shelves.{Others, Shelf, Shelved}
+use Rattle.cache_store.specs.Shelves.{MayAdd, Others, Shelf, Shelved}
+use Rattle.cache_store.specs.declared.cache.Cache.{Ghosts as CacheWords}
 use Rattle.caibx_codec.specs.Listing.{Listing, count_of, id_of, kind_of, size_of}
-use Rattle.chunk_sources.proofs.Cached.{gives_left, gives_part, gives_right, stocked_gave}
+use Rattle.chunk_sources.proofs.Cached.{gives_left, gives_part, gives_right, is_told, stocked_gave}
 use Rattle.chunk_sources.specs.AnyCaches.{Suits}
 use Rattle.chunk_sources.specs.Caches.{AddsSize, IfShared, IsAlone, Stocked, TakesChunk, TakesListed, cached_in, given_maps, maps_with, seen, shared_maps}
-use Rattle.chunk_sources.specs.declared.cache.Cache.{Ghosts as CacheWords}
 use Rattle.chunk_store.specs.Folders.{chunks}
 use Rattle.chunk_store.specs.Giving.{IsChunk}
 use Rattle.chunk_store.specs.declared.id.DigestKind.{DigestKind}
 use Rattle.chunk_store.specs.declared.store.Store.{Ghosts as StoreWords}
 use Rattle.dsy_base.specs.Maps.{Map}
 use Rattle.dsy_base.specs.declared.look.Look.{Ghosts as LookWords}
-use Rattle.locked_cache.specs.Additions.{MayAdd}
 
 -- ---- a cache that nobody else fills
 
@@ -151,10 +150,6 @@ with_told : (files : Option (Map (List ℕ))) (x : Option Others) (m : Map (List
 with_told files None m r is told = ap (λ (f : Option (Map (List ℕ))). maps_with f None) is ∙ ap (λ (q : List (Map (List ℕ))). Some (chunks m ∷ q)) (same_Some [] r told)
 with_told files (Some o) m r is told =
     ap (λ (f : Option (Map (List ℕ))). shared_maps f o.stores) is ∙ ap (λ (x : Option (List (Map (List ℕ)))). shared_maps (Some m) x) told
-
-is_told : (o : Option (Map (List ℕ))) → is_some o ≡ true → (m : Map (List ℕ)) × (o ≡ Some m)
-is_told None told = absurd (true≢false (sym told))
-is_told (Some m) told = (m, refl)
 
 module _ (Takes : List ℕ → List ℕ → Type 0) where
   -- it still tells

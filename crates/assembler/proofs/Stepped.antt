@@ -5,6 +5,7 @@ use Rattle.assembler.proofs.Filled.{grows_none, grows_on, told_none, told_on}
 use Rattle.assembler.proofs.Others.{alone_on, suits_on}
 use Rattle.assembler.proofs.Stocking.{stocking_on, stocking_wider}
 use Rattle.assembler.specs.Stages.{Ready, Stage, Progress, Stretch}
+use Rattle.cache_store.specs.declared.cache.Cache.{Ghosts as CacheWords}
 use Rattle.caibx_codec.specs.Asks.{IsListedGet}
 use Rattle.caibx_codec.specs.Listing.{Listing}
 use Rattle.chunk_sources.proofs.Cached.{stocked_kind, stocked_none, stocked_some}
@@ -14,7 +15,6 @@ use Rattle.chunk_sources.specs.Caches.{IsAlone, TakesWants}
 use Rattle.chunk_sources.specs.Losses.{MayLack}
 use Rattle.chunk_sources.specs.Sources.{KeepsSeeds, counts_of}
 use Rattle.chunk_sources.specs.Wants.{Task}
-use Rattle.chunk_sources.specs.declared.cache.Cache.{Ghosts as CacheWords}
 use Rattle.chunk_store.specs.declared.id.DigestKind.{DigestKind}
 use Rattle.chunk_store.specs.declared.store.Store.{Ghosts as StoreWords}
 use Rattle.dsy_base.specs.declared.view.View.{Ghosts as ViewWords}

@@ -91,9 +91,6 @@ abbrev pub PutUpTo : Fate → Fate → List ℕ → ℕ → ℕ → List Fate �
 PutUpTo origin x es k n m0 m1 = ((x ≡ origin) × (m1 ≡ m0) × ((j : ℕ) → j < k → settled m0 (slice_index es j) ≡ true))
     ⊎ ((x ≡ fate.Copied) × TalliedAs origin n m0 m1)
 
-pub put_none : (origin : Fate) (es : List ℕ) (n : ℕ) (m : List Fate) → PutUpTo origin origin es 0 n m m
-put_none origin es n m = inl (refl, refl, λ j less. absurd (omega (arith, less)))
-
 module _ (origin x : Fate) (es : List ℕ) (k n : ℕ) (m0 m1 m2 : List Fate) where
   pub put_written : slice_index es k < length m1 → slice_index es k < n → settled m1 (slice_index es k) ≡ false → m2 ≡ set m1 (slice_index es k) x
       → PutUpTo origin x es k n m0 m1 → PutUpTo origin fate.Copied es (k + 1) n m0 m2

@@ -34,9 +34,6 @@ Settled = Result (Unit {0}) ExtractFault
 pub err_same : (e f : ExtractFault) → Path Settled (Err e) (Err f) → e ≡ f
 err_same e f is = cc
 
-pub torn_map : (t : Task) (m n : List Fate) (P Q : ℕ → Type 0) → ((i : ℕ) → P i → Q i) → EndsTorn t m n P → EndsTorn t m n Q
-torn_map t m n P Q f h = record { entry = h.entry; listed = h.listed; was_open = h.was_open; before = h.before; torn = h.torn; among = h.among; is_torn = f h.torn h.is_torn }
-
 pub ok_apart : (u : Unit {0}) → Path Settled (Ok u) (Err faults.TargetFault) → ⊥
 ok_apart u is = absurd (cc)
 

@@ -30,10 +30,6 @@ with_kit a k = sources a.faults k.seeds.items a.cache k.chain
 abbrev pub AreUnused : {S V : Type 0} → Sources S V → Sources S V → Type 0
 AreUnused old new = (new.chain ≡ old.chain) × ((new.seeds ≡ old.seeds) × (new.cache ≡ old.cache))
 
--- so it is of what was lent
-abbrev pub KitUnused : {S V : Type 0} → Lent S V → Lent S V → Type 0
-KitUnused old new = OfKit old.kits new.kits (λ k j. AreUnused (with_kit old k) (with_kit new j))
-
 -- it holds for the plan, and for what chunks are got from before and afterwards
 pub record ByPlan {S V : Type 0} (l : Listing) (x : Placed) (old new : Lent S V)
     (So : Task → Sources S V → Sources S V → Type 0) : Type 0 where

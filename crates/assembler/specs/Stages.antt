@@ -3,13 +3,13 @@ use Rattle.std.specs.Prelude.{◌≡◌, ℕ, ◌<◌, ◌≤◌, List, length, 
 use Rattle.assembler.specs.declared.work.Wants.{Wants}
 use Rattle.assembler.specs.declared.work.Work.{Work}
 use Rattle.cache_store.specs.Shelves.{Shelf}
+use Rattle.cache_store.specs.declared.cache.Cache.{Ghosts as CacheWords}
 use Rattle.caibx_codec.specs.Asks.{IsListedGet}
 use Rattle.caibx_codec.specs.Listing.{Listing, count_of, kind_of, size_of}
 use Rattle.chunk_sources.specs.AnyCaches.{seen_in}
 use Rattle.chunk_sources.specs.Caches.{Stocked, TakesWants}
 use Rattle.chunk_sources.specs.Sources.{KeepsSeeds, Sources, sources}
 use Rattle.chunk_sources.specs.Wants.{Task}
-use Rattle.chunk_sources.specs.declared.cache.Cache.{Ghosts as CacheWords}
 use Rattle.chunk_sources.specs.declared.kit.Kit.{Kit}
 use Rattle.chunk_store.specs.declared.store.Store.{Ghosts as StoreWords}
 use Rattle.dsy_base.specs.Bytes.{Held}

@@ -15,7 +15,7 @@ ghost use Rattle.range_survey.specs.declared.fate.Fate.TheVariants as fate;
 
 use crate::settle::{lacked_memory, settle};
 use crate::work::{Wants, Work};
-use chunk_sources::cache::Cache;
+use cache_store::cache::Cache;
 use chunk_store::store::Store;
 use dsy_base::fault::Memory;
 use dsy_base::view::View;

@@ -13,7 +13,7 @@ use crate::fault::ExtractFault;
 use crate::fill::fill;
 use crate::retry::retry;
 use crate::work::{Wants, Work};
-use chunk_sources::cache::Cache;
+use cache_store::cache::Cache;
 use chunk_store::store::Store;
 use dsy_base::fault::Memory;
 use dsy_base::view::View;

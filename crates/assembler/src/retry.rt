@@ -12,7 +12,7 @@ ghost use Rattle.chunk_sources.specs.Caches.{IsAlone};
 use crate::fault::{ExtractFault, Lost, Unsettled};
 use crate::settle::settle;
 use crate::work::{Wants, Work};
-use chunk_sources::cache::Cache;
+use cache_store::cache::Cache;
 use chunk_store::store::Store;
 use dsy_base::view::View;
 use range_ledger::ledger::Ledger;

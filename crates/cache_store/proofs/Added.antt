@@ -1,20 +1,24 @@
 -- How a shelf changes when one chunk is added.
-use Rattle.std.proofs.Common.{◌≡◌, ◌≢◌, ◌⊎◌, ◌↔◌, ℕ, ◌≤◌, List, Bool, true, false, not, ◌&&◌, is_none, Option, Some, None, IsTrue, is_some, cond, refl, sym, subst, ap, ◌∙◌, inl, inr}
+use Rattle.std.proofs.Common.{◌≡◌, ◌≢◌, ◌⊎◌, ◌↔◌, ℕ, ◌≤◌, List, Bool, true, false, not, ◌&&◌, is_none, Option, Some, None, IsTrue, is_some, Result, Ok, Err, OnOk, OnErr, cond, refl, sym, subst, ap, ◌∙◌, inl, inr}
 use Rattle.std.proofs.lemmas.Slice.Eq.{bytes_eq-Decides}
 use Rattle.std.specs.Option.{option_map}
 use Rattle.std.specs.Str.{bytes_eq}
 use Rattle.cache_store.proofs.Stocked.{Told, Holds, Strangers}
 use Rattle.cache_store.specs.Shelves.{Shelf, Stocks}
-use Rattle.cache_store.specs.Through.{AddedTo}
+use Rattle.cache_store.specs.Through.{AddedBeside, kept_by}
 use Rattle.cache_store.specs.declared.cached.Kept.{Kept}
 use Rattle.cache_store.specs.declared.cached.Kept.TheVariants as kept
 use Rattle.chunk_store.specs.Folders.{chunks}
 use Rattle.chunk_store.specs.Names.{IsId}
 use Rattle.chunk_store.specs.Paths.{path_of}
 use Rattle.dir_store.specs.Names.{id_at_path, is_stranger, is_temporary}
+use Rattle.dir_store.specs.Puts.{LeavesTemporary, PutsAtPath}
 use Rattle.dsy_base.proofs.Counts.{at_other}
+use Rattle.dsy_base.specs.Counts.{Rose}
 use Rattle.dsy_base.specs.Folders.{put_in, temporary_of}
 use Rattle.dsy_base.specs.Maps.{Map, at_name}
+use Rattle.dsy_base.specs.declared.fault.IoFault.{IoFault}
+use Rattle.dsy_base.specs.declared.fault.IoFault.TheVariants as io
 
 false_true : false ≡ true → ⊥
 false_true e = cc
@@ -87,7 +91,14 @@ module _ (id b : List ℕ) (is : IsId id)
       others = alone;
     }
 
-    pub added_stocks : (k : Kept) → AddedTo id b k old new → Stocks (λ q x. (q ≡ id) × (x ≡ b)) old new
+    pub added_stocks : (k : Kept) → AddedBeside None id b k old new → Stocks (λ q x. (q ≡ id) × (x ≡ b)) old new
     added_stocks kept.Yes put = by (λ m. put_in m (path_of id) b) put_chunks put_strangers put
     added_stocks kept.Failed added = by (λ m. at_name m (temporary_of (path_of id)) added.0.0) (left_chunks added.0.0) (left_strangers added.0.0) added.0.1
     added_stocks kept.Memory left = by (λ m. at_name m (temporary_of (path_of id)) left.0) (left_chunks left.0) (left_strangers left.0) left.1
+
+-- what an addition to a shelf of one's own tells by its answer
+pub added_answer : (id b : List ℕ) (old new : Shelf) (r : Result Unit IoFault) → OnOk r (PutsAtPath id b old.files new.files) → OnErr r (LeavesTemporary id old.files new.files)
+    → (r ≡ Err io.Failed → Rose old.faults new.faults) → AddedBeside None id b (kept_by r) old new
+added_answer id b old new (Ok u) ok err cause = ok
+added_answer id b old new (Err io.Failed) ok err cause = (err, cause refl)
+added_answer id b old new (Err io.Memory) ok err cause = err

@@ -1,15 +1,15 @@
 -- What a chunk shows of the stores that came from them, and of the shelf that it was added to.
 use Rattle.std.proofs.Common.{◌≡◌, ℕ, ◌≤◌, List, Option, Some, None, IfSome, Ok, Err, sym, subst, ◌∙◌, inl, inr, arith}
 use Rattle.std.specs.Option.{option_map}
-use Rattle.cache_store.specs.Shelves.{Shelf}
-use Rattle.cache_store.specs.Through.{AddedTo, Unfound}
+use Rattle.cache_store.specs.Shelves.{GivesStill, KeepsShelf, Others, Shelf}
+use Rattle.cache_store.specs.Through.{AddedBeside, AddedTo, Unfound}
 use Rattle.cache_store.specs.declared.cached.Kept.{Kept}
 use Rattle.cache_store.specs.declared.cached.Kept.TheVariants as kept
 use Rattle.chunk_store.specs.Folders.{chunks}
 use Rattle.dir_store.specs.Puts.{LeavesTemporary, PutsAtPath}
 use Rattle.dsy_base.specs.Counts.{Rose}
 use Rattle.dsy_base.specs.Maps.{Map}
-use Rattle.store_chain.specs.Giving.{Gives, SomeHolds}
+use Rattle.store_chain.specs.Giving.{SomeHolds}
 use Rattle.store_chain.specs.Queries.{IsWanted}
 use Rattle.store_chain.specs.declared.query.Query.{Query}
 
@@ -24,16 +24,18 @@ rose_from a b c less (inr top) = inr top
 -- a chunk that wasn't found, though more was done since
 pub unfound_on : (w : Query) (a b c : Shelf) → b.faults ≤ c.faults → Unfound w a b → Unfound w a c
 unfound_on w a b c more h = go a.files h where
-  go : (o : Option (Map (List ℕ))) → IfSome (option_map chunks o) (λ m. Gives w m → Rose a.faults b.faults) → IfSome (option_map chunks o) (λ m. Gives w m → Rose a.faults c.faults)
+  go : (o : Option (Map (List ℕ))) → IfSome (option_map chunks o) (λ m. GivesStill a.others w m → Rose a.faults b.faults) → IfSome (option_map chunks o) (λ m. GivesStill a.others w m → Rose a.faults c.faults)
   go None h = tt
   go (Some m) h = λ gives. rose_on a.faults b.faults c.faults (h gives) more
 
 -- bytes that were added to a shelf that was looked at before
-pub added_from : (id b : List ℕ) (k : Kept) (old mid new : Shelf) → mid.files ≡ old.files → old.faults ≤ mid.faults → AddedTo id b k mid new → AddedTo id b k old new
-added_from id b kept.Yes old mid new same less put = subst (λ (o : Option (Map (List ℕ))). PutsAtPath id b o new.files) same put
-added_from id b kept.Failed old mid new same less left =
-    (subst (λ (o : Option (Map (List ℕ))). LeavesTemporary id o new.files) same left.0, rose_from old.faults mid.faults new.faults less left.1)
-added_from id b kept.Memory old mid new same less left = subst (λ (o : Option (Map (List ℕ))). LeavesTemporary id o new.files) same left
+pub added_from : (id b : List ℕ) (k : Kept) (old mid new : Shelf) → KeepsShelf old mid → AddedTo id b k mid new → AddedTo id b k old new
+added_from id b k old mid new looked added = go old.others k (subst (λ (o : Option Others). AddedBeside o id b k mid new) looked.others added) where
+  go : (o : Option Others) (k : Kept) → AddedBeside o id b k mid new → AddedBeside o id b k old new
+  go None kept.Yes put = subst (λ (o : Option (Map (List ℕ))). PutsAtPath id b o new.files) looked.files put
+  go None kept.Failed left = (subst (λ (o : Option (Map (List ℕ))). LeavesTemporary id o new.files) looked.files left.0, rose_from old.faults mid.faults new.faults looked.never_falls left.1)
+  go None kept.Memory left = subst (λ (o : Option (Map (List ℕ))). LeavesTemporary id o new.files) looked.files left
+  go (Some o) k same = same ∙ looked.files
 
 pub ok_err : {X E : Type 0} (x : X) (e : E) → Ok x ≡ Err e → ⊥
 ok_err x e is = cc

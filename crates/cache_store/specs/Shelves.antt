@@ -1,15 +1,18 @@
 -- What contracts see of a shelf, what is found on it, and how it changes.
-use Rattle.std.specs.Prelude.{◌≡◌, ℕ, ◌⊎◌, ◌≤◌, List, take, Option, Some, None, IfSome, IsTrue, Result, Ok, Err}
+use Rattle.std.specs.Prelude.{◌≡◌, ℕ, ◌⊎◌, ◌≤◌, List, length, take, Option, Some, None, IfSome, IsTrue, Result, Ok, Err}
 use Rattle.std.specs.Prelude.{is_some}
 use Rattle.std.specs.List.{Any}
 use Rattle.std.specs.Option.{option_map}
 use Rattle.cache_store.specs.declared.shelf.CacheMiss.{CacheMiss}
 use Rattle.cache_store.specs.declared.shelf.CacheMiss.TheVariants as miss
 use Rattle.chunk_store.specs.Folders.{chunks}
+use Rattle.chunk_store.specs.Names.{name_of}
 use Rattle.chunk_store.specs.declared.id.DigestKind.{DigestKind}
+use Rattle.chunk_store.specs.declared.id.DigestKind.TheVariants.{Sha512T256}
 use Rattle.dir_store.specs.Names.{is_stranger}
 use Rattle.dsy_base.specs.Maps.{Map}
-use Rattle.store_chain.specs.Giving.{HoldsElse, HoldsNone}
+use Rattle.store_chain.specs.Giving.{Gives, HoldsElse, HoldsNone}
+use Rattle.store_chain.specs.Queries.{IsWanted}
 use Rattle.store_chain.specs.declared.query.Query.{Query}
 
 -- what contracts see of a shelf: its folder, and the digest that names the chunks
@@ -50,6 +53,28 @@ held_on s = option_map chunks s.files
 -- the id and the size are one of these pairs
 abbrev pub IsPair : List ℕ → ℕ → List (List ℕ × ℕ) → Type 0
 IsPair id size pairs = Any (λ (p : List ℕ × ℕ). (p.0 ≡ id) × (p.1 ≡ size)) pairs
+
+-- the bytes may be added under the id: it is their digest, it is listed with their size, and one of the stores holds
+-- them under it. The last two only where the type of the folder names pairs and stores
+pub record MayAdd (pairs : Option (List (List ℕ × ℕ))) (stores : Option (List (Map (List ℕ)))) (id b : List ℕ) : Type 0
+  where
+    pub named : name_of Sha512T256 b ≡ id
+    pub listed : IfSome pairs (IsPair id (length b))
+    pub held : IfSome stores (Any (λ m. m id ≡ Some b))
+
+-- all that may be added under the wanted id is what is wanted
+abbrev pub AddsWanted : (List ℕ → List ℕ → Type 0) → Query → Type 0
+AddsWanted Takes w = (b : List ℕ) → Takes w.id.0 b → IsWanted w b
+
+-- a shelf that held these chunks at first may hold the bytes under the id: it held them, or others have added them
+abbrev pub MayHold : Option Others → Map (List ℕ) → List ℕ → List ℕ → Type 0
+MayHold None m id b = m id ≡ Some b
+MayHold (Some o) m id b = (m id ≡ Some b) ⊎ MayAdd o.pairs o.stores id b
+
+-- a shelf that held these chunks at first gives what is wanted, whatever others add
+abbrev pub GivesStill : Option Others → Query → Map (List ℕ) → Type 0
+GivesStill None w m = Gives w m
+GivesStill (Some o) w m = Gives w m × AddsWanted (MayAdd o.pairs o.stores) w
 
 -- what a look for a chunk answers, where the shelf holds these, and the front of the buffer afterwards
 abbrev pub Finds : Query → Map (List ℕ) → Result ℕ CacheMiss → List ℕ → Type 0

@@ -1,26 +1,26 @@
-//! A shelf before a chain of stores. Sizes are in bytes.
+//! A cache before a chain of stores. Sizes are in bytes.
 
-ghost use Rattle.std.specs.Prelude.{◌≡◌, ◌⊎◌, ℕ, List, ◌≤◌, length, None, take, Some, IfSome, IfOk, IfErr};
+ghost use Rattle.std.specs.Prelude.{◌≡◌, ◌⊎◌, ℕ, List, ◌≤◌, length, None, take, true, Some, IfSome, IfOk, IfErr};
+ghost use Rattle.std.specs.List.{Any};
 ghost use Rattle.store_chain.specs.Giving.{SomeHolds};
-ghost use Rattle.cache_store.specs.Shelves.{KeepsShelf, held_on, Stocks, shelf_of};
-ghost use Rattle.cache_store.specs.Through.{AddedTo, Unfound, FromShelf, FromStores};
+ghost use Rattle.cache_store.specs.Shelves.{IsPair, KeepsShelf, MayHold, Stocks, held_on, shelf_of};
+ghost use Rattle.cache_store.specs.Through.{AddedOnce, AddedTo, CacheGave, FromShelf, FromStores, StoresGave, Unfound};
 ghost use Rattle.chunk_store.specs.Asks.{Get};
 ghost use Rattle.chunk_store.specs.Names.{name_of};
 ghost use Rattle.store_chain.specs.Chains.{KeepsStores};
 ghost use Rattle.store_chain.specs.Queries.{FillsQuery, IsWanted, query_of};
 
+use crate::cache::Cache;
 use crate::shelf::{CacheMiss, CacheShelf};
 use chunk_store::id::ChunkId;
-use chunk_store::laws::id_has_32_bytes;
 use chunk_store::store::Store;
-use dir_store::laws::{chunk_names, put_changes_one_chunk, put_leaves_a_temporary};
 use dsy_base::fault::IoFault;
 use dsy_base::folder::Folder;
 use std::marker::Model;
 use store_chain::chain::Chain;
 use store_chain::refused::Refused;
 
-/// Whether a shelf holds a chunk that it was asked for.
+/// Whether a cache holds a chunk that it was asked for.
 #[derive(Clone, Copy, Debug, PartialEq, Eq)]
 pub enum Kept {
     Yes,
@@ -34,30 +34,30 @@ pub enum Kept {
 #[derive(Clone, Copy, Debug, PartialEq, Eq)]
 pub struct Got {
     pub size: usize,
-    /// Whether a store gave it, and not the shelf.
+    /// Whether a store gave it, and not the cache.
     pub upstream: bool,
     pub kept: Kept,
 }
 
-// Looks for the chunk on the shelf. A fault of the shelf is as if it didn't have the chunk.
-fn find_first<F: Folder>(
-    shelf: &mut CacheShelf<F>,
+// Looks for the chunk in the cache. A fault of the cache is as if it didn't have the chunk.
+fn find_first<C: Cache>(
+    cache: &mut C,
     id: &ChunkId,
     size: Option<usize>,
     out: &mut [u8],
 ) -> Result<Option<usize>, Refused>
     requires inside { IfSome size (λ n. n ≤ length out.old) }
-    ensures ok { IfOk result (λ o. IfSome o (λ n. FillsQuery (query_of shelf.old.kind id.now size (length out.old)) n
-        out.new)) }
-    ensures found { IfOk result (λ o. IfSome o (λ n. IfSome (held_on (shelf_of F.files F.place F.faults shelf.old))
-        (λ m. m id.now.0 ≡ Some (take n out.new)))) }
-    ensures absent { result ≡ Ok None → Unfound (query_of shelf.old.kind id.now size (length out.old))
-        (shelf_of F.files F.place F.faults shelf.old) (shelf_of F.files F.place F.faults shelf.new) }
+    ensures ok { IfOk result (λ o. IfSome o (λ n. FillsQuery
+        (query_of (C.shelf cache.old).kind id.now size (length out.old)) n out.new)) }
+    ensures found { IfOk result (λ o. IfSome o (λ n. IfSome (held_on (C.shelf cache.old))
+        (λ m. MayHold (C.shelf cache.old).others m id.now.0 (take n out.new)))) }
+    ensures absent { result ≡ Ok None → Unfound
+        (query_of (C.shelf cache.old).kind id.now size (length out.old)) (C.shelf cache.old) (C.shelf cache.new) }
     ensures only { IfErr result (λ r. r ≡ Refused.Memory) }
-    ensures kept { KeepsShelf (shelf_of F.files F.place F.faults shelf.old)
-        (shelf_of F.files F.place F.faults shelf.new) }
+    ensures changed { C.looks cache.old cache.new }
+    ensures kept { KeepsShelf (C.shelf cache.old) (C.shelf cache.new) }
 {
-    match shelf.find(id, size, out) {
+    match cache.look(id, size, out) {
         Ok(n) => Ok(Some(n)),
         Err(CacheMiss::Memory) => Err(Refused::Memory),
         Err(CacheMiss::Absent) => Ok(None),
@@ -66,54 +66,54 @@ fn find_first<F: Folder>(
     }
 }
 
-// Puts what a store gave on the shelf.
-fn keep<F: Folder>(shelf: &mut CacheShelf<F>, id: &ChunkId, b: &[u8]) -> Kept
-    requires named { name_of shelf.old.kind b.now ≡ id.now.0 }
-    requires unnamed { (F.pairs ≡ None) × (F.stores ≡ None) }
-    ensures stocks { Stocks (λ q x. (q ≡ id.now.0) × (x ≡ b.now)) (shelf_of F.files F.place F.faults shelf.old)
-        (shelf_of F.files F.place F.faults shelf.new) }
-    ensures added { AddedTo id.now.0 b.now result (shelf_of F.files F.place F.faults shelf.old)
-        (shelf_of F.files F.place F.faults shelf.new) }
+// Adds what a store gave to the cache.
+fn keep<C: Cache>(cache: &mut C, id: &ChunkId, b: &[u8]) -> Kept
+    requires named { name_of (C.shelf cache.old).kind b.now ≡ id.now.0 }
+    requires listed { IfSome C.pairs (IsPair id.now.0 (length b.now)) }
+    requires held { IfSome C.stores (Any (λ m. m id.now.0 ≡ Some b.now)) }
+    ensures stocks { Stocks (λ q x. (q ≡ id.now.0) × (x ≡ b.now)) (C.shelf cache.old) (C.shelf cache.new) }
+    ensures added { AddedTo id.now.0 b.now result (C.shelf cache.old) (C.shelf cache.new) }
+    ensures changed { C.adds id.now.0 b.now result cache.old cache.new }
 {
-    id_has_32_bytes(id);
-    put_changes_one_chunk();
-    put_leaves_a_temporary();
-    chunk_names();
-    match shelf.add(id, b) {
+    match cache.keep(id, b) {
         Ok(()) => Kept::Yes,
         Err(IoFault::Failed) => Kept::Failed,
         Err(IoFault::Memory) => Kept::Memory,
     }
 }
 
-/// Fills the front of `out` with the chunk of this id, and of this size where one is given: from the shelf where it is
-/// right there, else from the stores, and then it is added to the shelf. A fault of the shelf makes no refusal. Where a
-/// look on it finds no memory, the stores aren't asked.
-pub fn obtain_through<F: Folder, S: Store>(
-    shelf: &mut CacheShelf<F>,
+/// Fills the front of `out` with the chunk of this id, and of this size where one is given: from the cache where it is
+/// right there, else from the stores, and then it is added to the cache. A fault of the cache makes no refusal. Where a
+/// look into it finds no memory, the stores aren't asked.
+pub fn obtain_through<C: Cache, S: Store>(
+    cache: &mut C,
     chain: &mut Chain<S>,
     id: &ChunkId,
     size: Option<usize>,
     out: &mut [u8],
 ) -> Result<Got, Refused>
     requires inside { IfSome size (λ n. n ≤ length out.old) }
-    requires kind { shelf.old.kind ≡ chain.old.kind }
-    requires unnamed { (F.pairs ≡ None) × (F.stores ≡ None) }
+    requires kind { (C.shelf cache.old).kind ≡ chain.old.kind }
+    // What the stores give may be added.
+    requires listed { (b : List ℕ) → IsWanted (query_of chain.old.kind id.now size (length out.old)) b →
+        SomeHolds S.holds chain.old.stores id.now.0 b → IfSome C.pairs (IsPair id.now.0 (length b)) }
+    requires held { (b : List ℕ) → IsWanted (query_of chain.old.kind id.now size (length out.old)) b →
+        SomeHolds S.holds chain.old.stores id.now.0 b → IfSome C.stores (Any (λ m. m id.now.0 ≡ Some b)) }
     ensures ok { IfOk result (λ got. FillsQuery (query_of chain.old.kind id.now size (length out.old)) got.size
         out.new) }
-    ensures ends { FromShelf F.files F.place F.faults (query_of chain.old.kind id.now size (length out.old))
-        (record { shelf = shelf.old; chain = chain.old })
-        (record { shelf = shelf.new; chain = chain.new }) result out.new
-        ⊎ FromStores F.files F.place F.faults S.holds S.said S.faults S.may_lack_memory S.asked S.queried
-        (query_of chain.old.kind id.now size (length out.old)) (record { shelf = shelf.old; chain = chain.old })
-        (record { shelf = shelf.new; chain = chain.new }) result out.new }
+    ensures ends { CacheGave (query_of chain.old.kind id.now size (length out.old)) (C.shelf cache.old)
+        (C.shelf cache.new) chain.old chain.new result out.new
+        ⊎ StoresGave S.holds S.said S.faults S.may_lack_memory S.asked S.queried
+        (query_of chain.old.kind id.now size (length out.old)) (C.shelf cache.old) (C.shelf cache.new) chain.old
+        chain.new result out.new }
+    ensures added { IfOk result (λ got. got.upstream ≡ true → AddedOnce C.looks C.adds id.now.0
+        (take got.size out.new) got.kept cache.old cache.new) }
     ensures stocks { Stocks (λ q b. (q ≡ id.now.0) × IsWanted (query_of chain.old.kind id.now size (length out.old)) b
-        × SomeHolds S.holds chain.old.stores q b) (shelf_of F.files F.place F.faults shelf.old)
-        (shelf_of F.files F.place F.faults shelf.new) }
+        × SomeHolds S.holds chain.old.stores q b) (C.shelf cache.old) (C.shelf cache.new) }
     ensures stores { KeepsStores S.Store (λ a. a ≡ Get id.now.0) chain.old.stores chain.new.stores }
     ensures kind { chain.new.kind ≡ chain.old.kind }
 {
-    if let Some(n) = find_first(shelf, id, size, out)? {
+    if let Some(n) = find_first(cache, id, size, out)? {
         return Ok(Got {
             size: n,
             upstream: false,
@@ -122,7 +122,7 @@ pub fn obtain_through<F: Folder, S: Store>(
     }
     let n = chain.obtain(id, size, out)?;
     let (bytes, _) = out.split_at(n);
-    let kept = keep(shelf, id, bytes);
+    let kept = keep(cache, id, bytes);
     Ok(Got {
         size: n,
         upstream: true,

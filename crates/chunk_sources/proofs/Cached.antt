@@ -76,7 +76,7 @@ told_at (Some m) cached told = (m, refl, sym (same_Some (chunks m ∷ []) cached
 if_some : {X : Type 0} (o : Option X) (P : X → Type 0) (x : X) → o ≡ Some x → IfSome o P → P x
 if_some o P x is has = subst (λ q. IfSome q P) is has
 
-is_told : (o : Option (Map (List ℕ))) → is_some o ≡ true → (m : Map (List ℕ)) × (o ≡ Some m)
+pub is_told : (o : Option (Map (List ℕ))) → is_some o ≡ true → (m : Map (List ℕ)) × (o ≡ Some m)
 is_told None told = absurd (true≢false (sym told))
 is_told (Some m) told = (m, refl)
 

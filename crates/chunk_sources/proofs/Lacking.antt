@@ -111,10 +111,3 @@ module _ (kind : DigestKind) (id : ChunkId) (size : ℕ) where
   lacked_memory maps (refused.Damaged s x) sound lacks gives = absurd (stores_never maps (refused.Damaged s x) tt sound lacks gives)
   lacked_memory maps (refused.StoreFault s) sound lacks gives = absurd (sound s refl)
   lacked_memory maps refused.Memory sound lacks gives = refl
-
--- so it is of what the index names
-pub lacked_named : (kind named : DigestKind) (id : ChunkId) (n size : ℕ) (maps : List (Map (List ℕ))) (r : Refused) → kind ≡ named → n ≡ size
-    → ((s : ℕ) → r ≡ refused.StoreFault s → ⊥) → LacksAll (chunk_of kind id n) maps r → SomeGives named id.0 size maps → r ≡ refused.Memory
-lacked_named kind named id n size maps r same sized sound lacks gives =
-    lacked_memory kind id n maps r sound lacks
-    (subst (λ (m : ℕ). SomeGives kind id.0 m maps) (sym sized) (subst (λ (k : DigestKind). SomeGives k id.0 size maps) (sym same) gives))

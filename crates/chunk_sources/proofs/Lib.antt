@@ -4,4 +4,3 @@ pub mod Lacking
 pub mod Cached
 pub mod Origins
 pub mod Behind
-pub mod Shared

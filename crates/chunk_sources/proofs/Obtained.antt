@@ -1,6 +1,5 @@
 -- What a chain gives, as what the assembly asks of it.
-use Rattle.std.proofs.Common.{◌≡◌, ℕ, List, length, take, Some, IfErr, OnOk, Result, Ok, Err, sym, ap, ◌∙◌, subst, arith}
-use Rattle.std.proofs.lemmas.List.{length-take, take_all}
+use Rattle.std.proofs.Common.{◌≡◌, ℕ, List, Some, IfErr, OnOk, Result, Ok, Err, sym, ap, ◌∙◌, subst}
 use Rattle.std.specs.List.{Any}
 use Rattle.caibx_codec.specs.Listing.{Listing, id_of, kind_of}
 use Rattle.chunk_sources.specs.Losses.{chunk_of}
@@ -9,21 +8,13 @@ use Rattle.chunk_store.specs.Names.{name_of}
 use Rattle.chunk_store.specs.declared.id.ChunkId.{ChunkId}
 use Rattle.chunk_store.specs.declared.id.DigestKind.{DigestKind}
 use Rattle.dsy_base.specs.Maps.{Map}
-use Rattle.store_chain.specs.Queries.{FillsQuery, IsWanted, query_of}
+use Rattle.store_chain.specs.Queries.{IsWanted}
 use Rattle.cache_store.specs.Giving.{SomeGives}
 
 -- a store that holds what was wanted gives it
 pub holds_gives : (kind : DigestKind) (id : ChunkId) (size : ℕ) (maps : List (Map (List ℕ))) (b : List ℕ) → IsWanted (chunk_of kind id size) b → Any (λ m. m id.0 ≡ Some b) maps
     → SomeGives kind id.0 size maps
 holds_gives kind id size maps b right (k, m, inside, at, held) = (k, m, inside, at, (b, held, record { named = right.named; sized = right.sized }))
-
--- a chunk that fills its room is all of it
-pub given_whole : (kind named : DigestKind) (id : ChunkId) (n size : ℕ) (out : List ℕ) → kind ≡ named → length out ≡ size → FillsQuery (query_of kind id (Some size) size) n out
-    → name_of named out ≡ id.0
-given_whole kind named id n size out same whole given =
-    let sized : length (take n out) ≡ size = given.wanted.sized in
-    let all : take n out ≡ out = take_all n out (omega (arith, sized, whole, length-take n out)) in
-    ap (λ k. name_of k out) (sym same) ∙ ap (name_of kind) (sym all) ∙ given.wanted.named
 
 -- bytes that have the digest of one of these entries have that of the chunk
 pub among_named : (l : Listing) (id : List ℕ) (size : ℕ) (entries : List ℕ) → AllOf l id size entries → (b : List ℕ) (i : ℕ) → IsAmong entries i → name_of (kind_of l) b ≡ id_of l i

@@ -2,18 +2,16 @@
 use Rattle.std.specs.Prelude.{◌≡◌, ℕ, ◌<◌, List, [], ◌∷◌, ◌++◌, length, Option, Some, None, IsSome, IfSome, IsSomeAnd}
 use Rattle.std.specs.Option.{option_map}
 use Rattle.cache_store.specs.Giving.{GiveOneSize, SomeGives}
-use Rattle.cache_store.specs.Shelves.{Others, Shelf, Shelved, Stocks, shelf_of}
+use Rattle.cache_store.specs.Shelves.{MayAdd, Others, Shelf, Shelved, Stocks, shelf_of}
 use Rattle.caibx_codec.specs.Listing.{Listing, count_of, id_of, kind_of, size_of}
 use Rattle.chunk_store.specs.Folders.{chunks}
 use Rattle.chunk_store.specs.Giving.{IsChunk}
 use Rattle.chunk_store.specs.declared.id.DigestKind.{DigestKind}
-use Rattle.chunk_store.specs.declared.id.DigestKind.TheVariants.{Sha512T256}
 use Rattle.chunk_store.specs.declared.store.Store.{Ghosts as StoreWords}
 use Rattle.dsy_base.specs.Counts.{Quiet, Rose}
 use Rattle.dsy_base.specs.Maps.{Map}
 use Rattle.dsy_base.specs.declared.look.Look.{Ghosts as LookWords}
 use Rattle.extract_plan.specs.Deal.{Deal, first_of, want_id}
-use Rattle.locked_cache.specs.Additions.{MayAdd}
 use Rattle.store_chain.specs.Giving.{SomeHolds}
 
 -- what is seen of it, where it is a shelf of one's own
@@ -54,16 +52,6 @@ IfShared cache P = IfSome cache (λ s. IfSome s.others (λ _. P))
 abbrev pub AddsSize : List ℕ → ℕ → Option Shelf → Type 0
 AddsSize id size cache =
     IfSome cache (λ s. IfSome s.others (λ o. (b : List ℕ) → MayAdd o.pairs o.stores id b → length b ≡ size))
-
--- a shared cache that held these files at first, and whose own calls have failed so often
-abbrev pub shared_shelf : Option (Map (List ℕ)) → Option (List (List ℕ × ℕ)) → Option (List (Map (List ℕ))) → ℕ → Shelf
-shared_shelf opening pairs stores faults = record {
-  files = opening;
-  place = [];
-  faults = faults;
-  kind = Sha512T256;
-  others = Some (record { pairs = pairs; stores = stores });
-}
 
 -- how often it has failed
 abbrev pub cache_faults : Option Shelf → ℕ

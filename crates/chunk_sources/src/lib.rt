@@ -2,7 +2,6 @@
 //! stores.
 #![tactic(auto)]
 
-pub mod cache;
 mod copy;
 pub mod kit;
 pub mod obtain;

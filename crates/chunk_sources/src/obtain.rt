@@ -1,9 +1,10 @@
 //! Getting the chunk of a want: from an entry of the target that has it, from a seed, from the cache, or from a store.
 
 ghost use Rattle.std.specs.Prelude.{◌≡◌, ◌≢◌, ◌⊎◌, ◌++◌, ℕ, List, ◌≤◌, length, map, true, None, Some};
-ghost use Rattle.std.specs.Prelude.{IfSome, IfOk, IfErr, IsTrue, OnOk};
+ghost use Rattle.std.specs.Prelude.{IfSome, IfOk, IfErr, IsTrue, Ok, OnOk};
+ghost use Rattle.cache_store.specs.Shelves.{MayAdd};
 ghost use Rattle.caibx_codec.specs.Listing.{kind_of};
-ghost use Rattle.chunk_sources.specs.AnyCaches.{seen_in};
+ghost use Rattle.chunk_sources.specs.AnyCaches.{IsAddedOnce, seen_in};
 ghost use Rattle.chunk_sources.specs.Caches.{CacheLacks, IfShared, IsAlone, Stocked, TakesChunk, given_maps};
 ghost use Rattle.chunk_sources.specs.Economy.{ObtainedBy, source_among};
 ghost use Rattle.chunk_sources.specs.Losses.{AskedLast, Had, MayLack, RefusedBy, chunk_of};
@@ -13,11 +14,10 @@ ghost use Rattle.chunk_store.specs.Asks.{Get};
 ghost use Rattle.chunk_store.specs.Names.{name_of};
 ghost use Rattle.dsy_base.specs.Maps.{Map};
 ghost use Rattle.extract_plan.specs.Places.{PlacesFit};
-ghost use Rattle.locked_cache.specs.Additions.{MayAdd};
 ghost use Rattle.range_survey.specs.Fates.{is_made, is_settled, settled};
 ghost use Rattle.store_chain.specs.Chains.{KeepsStores};
 
-use crate::cache::Cache;
+use cache_store::cache::Cache;
 use crate::copy::copy;
 use crate::seeding::from_seeds;
 use crate::upstream::from_upstream;
@@ -93,6 +93,8 @@ pub fn obtain<E: Ledger, S: Store, V: View, C: Cache>(
     ensures fates { E.fates ledger.new ≡ E.fates ledger.old }
     ensures faults { E.faults ledger.old ≤ E.faults ledger.new }
     ensures seeds { KeepsSeeds V.View seeds.old seeds.new }
+    ensures added { result ≡ Ok Fate.Fetched →
+        IsAddedOnce C.Cache sought.now.id.0 chunk.new cache.old cache.new }
     ensures stocked { Stocked (TakesChunk S.Store (kind_of E.run.listing) sought.now.id.0 (length chunk.old)
         chain.old.stores) (seen_in C.Cache cache.old) (seen_in C.Cache cache.new) }
     ensures stores { KeepsStores S.Store (λ a. a ≡ Get sought.now.id.0) chain.old.stores chain.new.stores }

@@ -1,10 +1,11 @@
 //! Chunks from the cache, and else from the chain of stores.
 
 ghost use Rattle.std.specs.Prelude.{◌≡◌, ◌≢◌, ◌⊎◌, ◌++◌, ℕ, List, ◌<◌, ◌^◌, length, map, true, None, Some, IfSome};
-ghost use Rattle.std.specs.Prelude.{IfOk, IfErr, OnOk};
+ghost use Rattle.std.specs.Prelude.{IfOk, IfErr, Ok, OnOk};
 ghost use Rattle.cache_store.specs.Giving.{SomeGives};
+ghost use Rattle.cache_store.specs.Shelves.{MayAdd};
 ghost use Rattle.chunk_sources.specs.Caches.{CacheFailed, CacheLacks, IfShared, IsAlone, Stocked, TakesChunk};
-ghost use Rattle.chunk_sources.specs.AnyCaches.{seen_in};
+ghost use Rattle.chunk_sources.specs.AnyCaches.{IsAddedOnce, seen_in};
 ghost use Rattle.chunk_sources.specs.Caches.{cache_faults, cached_in, given_maps};
 ghost use Rattle.chunk_sources.specs.Economy.{ObtainedBy, source_behind};
 ghost use Rattle.chunk_sources.specs.Losses.{MayLack, RefusedBy, chunk_of};
@@ -12,17 +13,72 @@ ghost use Rattle.chunk_store.specs.Asks.{Get};
 ghost use Rattle.chunk_store.specs.Names.{name_of};
 ghost use Rattle.dsy_base.specs.Counts.{Quiet};
 ghost use Rattle.dsy_base.specs.Maps.{Map};
-ghost use Rattle.locked_cache.specs.Additions.{MayAdd};
 ghost use Rattle.range_survey.specs.Fates.{is_made, is_settled};
 ghost use Rattle.store_chain.specs.Chains.{AsksOnce, KeepsStores};
 ghost use Rattle.store_chain.specs.Faults.{EachQuiet};
 
-use crate::cache::Cache;
+use cache_store::cache::Cache;
+use cache_store::cached::obtain_through;
 use chunk_store::id::ChunkId;
 use chunk_store::store::Store;
 use range_survey::fate::Fate;
 use store_chain::chain::Chain;
 use store_chain::refused::Refused;
+
+// Fills `chunk` with the chunk of this id, which has its size, from the cache or else from a store, and answers which of
+// them gave it. What a store gave is added to the cache. A fault of the cache makes no refusal. Where a look into it
+// finds no memory, the stores aren't asked.
+fn from_cache<S: Store, C: Cache>(
+    id: &ChunkId,
+    chain: &mut Chain<S>,
+    cache: &mut C,
+    chunk: &mut [u8],
+) -> Result<Fate, Refused>
+    requires kind { (C.shelf cache.old).kind ≡ chain.old.kind }
+    requires asks { chain.old.asks < 2 ^ 64 }
+    // One that nobody else fills names nothing in its type.
+    requires own { (C.shelf cache.old).others ≡ None → (C.pairs ≡ None) × (C.stores ≡ None) }
+    requires takes { IfShared (Some (C.shelf cache.old)) ((b : List ℕ) → TakesChunk S.Store chain.old.kind id.now.0
+        (length chunk.old) chain.old.stores id.now.0 b → MayAdd C.pairs C.stores id.now.0 b) }
+    ensures ok { OnOk result (name_of chain.old.kind chunk.new ≡ id.now.0) }
+    ensures origin { IfOk result (λ f. is_settled f ≡ true) }
+    ensures made { IfOk result (λ f. is_made f ≡ true) }
+    ensures had { (cached maps : List (Map (List ℕ))) → given_maps (Some (C.shelf cache.old)) ≡ Some cached →
+        map S.holds chain.old.stores ≡ map Some maps →
+        OnOk result (SomeGives chain.old.kind id.now.0 (length chunk.old) (cached ++ maps)) }
+    ensures refused { IfErr result (λ r. r ≢ Refused.Memory → RefusedBy S.Store
+        (chunk_of chain.old.kind id.now (length chunk.old)) chain.old.stores chain.new.stores r) }
+    ensures missed { IfErr result (λ r. r ≢ Refused.Memory → IsAlone (Some (C.shelf cache.old)) →
+        CacheLacks chain.old.kind id.now.0 (length chunk.old) (Some (C.shelf cache.old))
+        (Some (C.shelf cache.new))) }
+    ensures asks { (chain.new ≡ chain.old) ⊎ (AsksOnce S.asked S.queried id.now.0 chain.old chain.new
+        × CacheFailed chain.old.kind id.now.0 (length chunk.old) (Some (C.shelf cache.old))
+        (Some (C.shelf cache.new))) }
+    ensures asked { IfErr result (λ r. r ≢ Refused.Memory →
+        AsksOnce S.asked S.queried id.now.0 chain.old chain.new × CacheFailed chain.old.kind id.now.0
+        (length chunk.old) (Some (C.shelf cache.old)) (Some (C.shelf cache.new))) }
+
+    // Where nothing fails, and nobody else adds to it.
+    ensures exactly { IsAlone (Some (C.shelf cache.old)) → (cached maps : List (Map (List ℕ))) →
+        cached_in (Some (C.shelf cache.old)) ≡ Some cached → Quiet (cache_faults (Some (C.shelf cache.old)))
+        (cache_faults (Some (C.shelf cache.new))) → map S.holds chain.old.stores ≡ map Some maps →
+        EachQuiet (map S.faults chain.old.stores) (map S.faults chain.new.stores) → ObtainedBy
+        (source_behind chain.old.kind id.now.0 (length chunk.old) cached maps) chain.old chain.new result }
+
+    ensures added { result ≡ Ok Fate.Fetched → IsAddedOnce C.Cache id.now.0 chunk.new (Some cache.old)
+        (Some cache.new) }
+    ensures stocked { Stocked (TakesChunk S.Store chain.old.kind id.now.0 (length chunk.old) chain.old.stores)
+        (Some (C.shelf cache.old)) (Some (C.shelf cache.new)) }
+    ensures stores { KeepsStores S.Store (λ a. a ≡ Get id.now.0) chain.old.stores chain.new.stores }
+    ensures same_kind { chain.new.kind ≡ chain.old.kind }
+{
+    let got = obtain_through(cache, chain, id, Some(chunk.len()), chunk)?;
+    if got.upstream {
+        Ok(Fate::Fetched)
+    } else {
+        Ok(Fate::Cached)
+    }
+}
 
 /// Fills `chunk` with the chunk of this id, which has its size, from the cache or else from a store, and answers which
 /// of them gave it. What a store gave is added to the cache.
@@ -64,6 +120,7 @@ pub(crate) fn from_upstream<S: Store, C: Cache>(
         EachQuiet (map S.faults chain.old.stores) (map S.faults chain.new.stores) →
         ObtainedBy (source_behind chain.old.kind id.now.0 (length chunk.old) cached maps) chain.old chain.new result }
 
+    ensures added { result ≡ Ok Fate.Fetched → IsAddedOnce C.Cache id.now.0 chunk.new cache.old cache.new }
     ensures stocked { Stocked (TakesChunk S.Store chain.old.kind id.now.0 (length chunk.old) chain.old.stores)
         (seen_in C.Cache cache.old) (seen_in C.Cache cache.new) }
     ensures stores { KeepsStores S.Store (λ a. a ≡ Get id.now.0) chain.old.stores chain.new.stores }
@@ -73,5 +130,5 @@ pub(crate) fn from_upstream<S: Store, C: Cache>(
         chain.obtain(id, Some(chunk.len()), chunk)?;
         return Ok(Fate::Fetched);
     };
-    cache.obtain(id, chain, chunk)
+    from_cache(id, chain, cache, chunk)
 }

@@ -2,16 +2,16 @@
 use Rattle.std.proofs.Common.{◌≡◌, ◌⊎◌, ℕ, List, Bool, Option, Some, None, IfSome, IsTrue, is_some, true, false, refl, sym, ap, subst, ◌∙◌, inl, inr}
 use Rattle.std.proofs.lemmas.Bool.{true≢false}
 use Rattle.std.specs.Option.{option_map}
-use Rattle.cache_store.specs.Shelves.{Shelf}
+use Rattle.cache_store.specs.Shelves.{MayAdd, Shelf}
 use Rattle.caibx_codec.specs.Listing.{Listing}
 use Rattle.chunk_sources.proofs.Cached.{stocked_some}
-use Rattle.chunk_sources.specs.Caches.{IfShared, Stocked, TakesListed, cache_faults, shared_shelf}
+use Rattle.chunk_sources.specs.Caches.{IfShared, Stocked, TakesListed, cache_faults}
 use Rattle.chunk_sources.specs.Losses.{MayLack}
 use Rattle.chunk_store.specs.declared.id.DigestKind.TheVariants.{Sha512T256}
 use Rattle.chunk_store.specs.declared.store.Store.{Ghosts as StoreWords}
 use Rattle.dsy_base.specs.Maps.{Map}
 use Rattle.image_workers.specs.Shared.{MayAddFrom, NamesShelf, door_shelf}
-use Rattle.locked_cache.specs.Additions.{MayAdd}
+use Rattle.locked_cache.specs.Additions.{shared_shelf}
 
 module _ (opening : Option (Map (List ℕ))) (pairs : Option (List (List ℕ × ℕ))) (maps : Option (List (Map (List ℕ)))) where
   -- what is seen of a door that counts so

@@ -10,7 +10,7 @@ use Rattle.assembler.proofs.Finished.{here}
 use Rattle.assembler.specs.OneKit.{Lent}
 use Rattle.assembler.specs.Passes.{want_at}
 use Rattle.cache_store.specs.Giving.{SomeGives}
-use Rattle.cache_store.specs.Shelves.{IsPair, Shelf}
+use Rattle.cache_store.specs.Shelves.{IsPair, MayAdd, Shelf}
 use Rattle.caibx_codec.specs.Listing.{Listing, count_of, id_of, image_length, kind_of, size_of}
 use Rattle.caibx_codec.specs.Right.{IsRightAt}
 use Rattle.chunk_sources.proofs.Cached.{gives_left, gives_right, stocked_falls, stocked_gave, stocked_gives, stocked_on, stocked_told, stocked_wider}
@@ -31,7 +31,6 @@ use Rattle.extract_plan.specs.Places.{Placed}
 use Rattle.image_workers.proofs.Telling.{all_are, told_all}
 use Rattle.image_workers.specs.Kits.{AreKitsAlike, IsSparedFor, IsUnshared, KnowsFaults, at_kit}
 use Rattle.image_workers.specs.Shared.{GivesNoMore, MayAddFrom, all_stores, all_told, door_shelf, pairs_below}
-use Rattle.locked_cache.specs.Additions.{MayAdd}
 use Rattle.store_chain.specs.Giving.{SomeHolds}
 
 -- ---- lists
@@ -426,22 +425,3 @@ module _ {S V : Type 0} (store : StoreWords S) (view : ViewWords V) (l : Listing
     sound = let fresh = door_fresh store l kits first c0 in record { same = omega (arith, none, fresh); below = omega (arith, none) };
     one_size = λ n c listed chunk held. has.one_size n c listed chunk (holds_all store kits k z less id c held);
   }
-
-  -- what is spared of a kit is so where the cache isn't shared
-  pub spared_unshared : (never cache_never : Bool) (o : Option (List ℕ)) (all : Lent S V) (k : ℕ) (z : Kit S V) → k < length all.kits → IsUnshared all → (new : Sources S V) (w : ℕ)
-      → IsSpared store view t (λ j. IsSomeAnd o (λ b. IsRightAt (resized b (image_length l)) l j) × KnowsFaults never all.kits) (at_kit all k z) new w
-      → IsSparedFor store view t never cache_never o all (at_kit all k z) new w
-  spared_unshared never cache_never o all k z less unshared new w (inl right) = inl (inl right)
-  spared_unshared never cache_never o all k z less unshared new w (inr (inl seeds)) = inl (inr (inl seeds))
-  spared_unshared never cache_never o all k z less unshared new w (inr (inr gives)) = elim unshared [
-    | inl one ↦ inr (subst (λ xs. CacheGives store l xs (want_id l d w) (size_of l (first_of d w)) all.cache new.cache) (only_stores all.kits k z one less) gives, inl one)
-    | inr none ↦
-        let some : IsSomeAnd (cached_in None) (SomeGives (kind_of l) (want_id l d w) (size_of l (first_of d w))) =
-        subst (λ (e : Option Shelf). IsSomeAnd (cached_in e) (SomeGives (kind_of l) (want_id l d w) (size_of l (first_of d w)))) none gives.gives in
-        let less : some.0 < 0 = some.2 in absurd (omega (arith, less))
-  ] where
-    only_stores : (ks : List (Kit S V)) (k : ℕ) (z : Kit S V) → length ks ≡ 1 → k < length ks → (slice_index_or ks k z).chain.stores ≡ all_stores ks
-    only_stores [] k z one less = absurd (omega (arith, less))
-    only_stores (y ∷ []) zero z one less = sym (append-nil y.chain.stores)
-    only_stores (y ∷ []) (suc k) z one less = absurd (omega (arith, less))
-    only_stores (y ∷ (x ∷ xs)) k z one less = absurd (omega (arith, one))

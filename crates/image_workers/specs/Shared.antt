@@ -2,14 +2,14 @@
 use Rattle.std.specs.Prelude.{◌≡◌, ℕ, zero, suc, ◌++◌, List, [], ◌∷◌, Option, None, Some, IfSome}
 use Rattle.std.specs.Option.{option_map}
 use Rattle.cache_store.specs.Giving.{SomeGives}
-use Rattle.cache_store.specs.Shelves.{Shelf}
+use Rattle.cache_store.specs.Shelves.{MayAdd, Shelf}
 use Rattle.caibx_codec.specs.Listing.{Listing, count_of, id_of, size_of}
-use Rattle.chunk_sources.specs.Caches.{TakesListed, given_maps, shared_shelf}
+use Rattle.chunk_sources.specs.Caches.{TakesListed, given_maps}
 use Rattle.chunk_sources.specs.declared.kit.Kit.{Kit}
 use Rattle.chunk_store.specs.declared.id.DigestKind.TheVariants.{Sha512T256}
 use Rattle.chunk_store.specs.declared.store.Store.{Ghosts as StoreWords}
 use Rattle.dsy_base.specs.Maps.{Map}
-use Rattle.locked_cache.specs.Additions.{MayAdd}
+use Rattle.locked_cache.specs.Additions.{shared_shelf}
 
 -- what is seen of a door through which this many calls have failed, where there is a cache. Its type names the files
 -- that it held at first, the chunks that may be added, and the stores of which one has to hold them

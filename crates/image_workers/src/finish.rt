@@ -22,7 +22,7 @@ use assembler::retry::retry;
 use assembler::run::Ended;
 use assembler::work::{Wants, Work};
 use cache_store::shelf::CacheShelf;
-use chunk_sources::cache::Cache;
+use cache_store::cache::Cache;
 use chunk_sources::kit::Kit;
 use chunk_store::store::Store;
 use dsy_base::folder::Folder;

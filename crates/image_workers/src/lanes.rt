@@ -18,11 +18,11 @@ use dsy_base::view::{Part, View};
 use locked_cache::door::LockedCache;
 use locked_shards::locked::Locked;
 use named_folders::named_folder::{FolderName, NamedFolder};
+use owned_shards::lock::ShardLock;
 use range_ledger::ledger::Ledger;
 use range_ledger::run::RunName;
-use range_ledger::shard::Shard;
 use range_survey::fate::Fate;
-use std::sync::{Mutex, Wait};
+use std::sync::Wait;
 use std::thread;
 use std::thread::Threads;
 
@@ -47,7 +47,7 @@ fn go<'i, W: Wait, P: Part, R: RunName, N: FolderName, S: Store, V: View, F: Fol
     rt: &W,
     index: &'i Index,
     wants: &Wants<'_>,
-    locks: &[Mutex<Shard<'i, P, R>>],
+    locks: &[ShardLock<'i, P, R>],
     cache: &Option<LockedCache<NamedFolder<F, N>>>,
     worker: usize,
     lane: &mut Lane<S, V>,
@@ -92,7 +92,7 @@ pub(crate) fn go_all<
     rt: &W,
     index: &'i Index,
     wants: &Wants<'_>,
-    locks: &[Mutex<Shard<'i, P, R>>],
+    locks: &[ShardLock<'i, P, R>],
     cache: &Option<LockedCache<NamedFolder<F, N>>>,
     lanes: &mut [Lane<S, V>],
 )

@@ -1,11 +1,11 @@
 //! The cache of an assembly behind a lock, while several workers ask and fill it.
 
 ghost use Rattle.std.specs.Prelude.{◌≡◌, Bool, IfSome, IsTrue, None, Option, is_some};
-ghost use Rattle.cache_store.specs.Shelves.{Shelf};
-ghost use Rattle.chunk_sources.specs.Caches.{Stocked, seen, shared_shelf};
+ghost use Rattle.cache_store.specs.Shelves.{MayAdd, Shelf};
+ghost use Rattle.chunk_sources.specs.Caches.{Stocked, seen};
 ghost use Rattle.image_workers.specs.Shared.{NamesShelf, door_shelf};
-ghost use Rattle.locked_cache.specs.Additions.{MayAdd};
 ghost use Rattle.std.specs.Option.{option_map};
+ghost use Rattle.locked_cache.specs.Additions.{shared_shelf};
 
 use cache_store::shelf::CacheShelf;
 use dsy_base::folder::Folder;

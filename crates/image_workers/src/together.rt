@@ -33,18 +33,18 @@ use dsy_base::folder::Folder;
 use dsy_base::look::Look;
 use dsy_base::view::{Part, Target, View};
 use named_folders::named_folder::FolderName;
+use owned_shards::lock::ShardLock;
 use owned_shards::shards::{Shards, put_back};
 use range_ledger::run::RunName;
-use range_ledger::shard::Shard;
 use range_survey::fate::Fate;
 use std::alloc::{AllocError, Global};
-use std::sync::{Mutex, Wait};
+use std::sync::Wait;
 use std::thread::Threads;
 
 /// Room for the workers: for the locks, and for a lane and a list of fates for each kit.
 #[derive(Drop)]
 pub struct Rooms<'a, P: Part, R: RunName, S: Store, V: View> {
-    pub locks: Vec<Mutex<Shard<'a, P, R>>>,
+    pub locks: Vec<ShardLock<'a, P, R>>,
     pub lanes: Vec<Lane<S, V>>,
     pub known: Vec<Vec<Fate>>,
 }

@@ -4,13 +4,13 @@ ghost use Rattle.std.specs.Prelude.{◌≡◌, ◌<◌, ◌≤◌, ℕ, IfSome, 
 ghost use Rattle.std.specs.Prelude.{slice_index_or, vec_capacity, vec_len};
 ghost use Rattle.std.specs.List.{All};
 ghost use Rattle.assembler.specs.Stages.{task};
+ghost use Rattle.cache_store.specs.Shelves.{MayAdd};
 ghost use Rattle.caibx_codec.specs.Listing.{count_of};
 ghost use Rattle.chunk_sources.specs.Caches.{Stocked, seen};
 ghost use Rattle.chunk_sources.specs.declared.kit.Kit.{Kit};
 ghost use Rattle.image_workers.specs.Lanes.{IsReadyLane, LaneWorks, kit_of, known_of, tools_of};
 ghost use Rattle.image_workers.specs.Shared.{NamesShelf, door_shelf};
 ghost use Rattle.image_workers.specs.declared.lanes.Lane.{Lane};
-ghost use Rattle.locked_cache.specs.Additions.{MayAdd};
 
 use crate::lanes::{Lane, Tools, go_all};
 use crate::shared::{lock_cache, unlock_cache};
@@ -24,12 +24,12 @@ use dsy_base::look::Look;
 use dsy_base::view::{Part, Target, View};
 use locked_shards::locked::fates_of;
 use named_folders::named_folder::FolderName;
+use owned_shards::lock::ShardLock;
 use owned_shards::shards::{Shards, put_back};
 use range_ledger::ledger::Ledger;
 use range_ledger::run::RunName;
-use range_ledger::shard::Shard;
 use range_survey::fate::Fate;
-use std::sync::{Mutex, Wait};
+use std::sync::Wait;
 use std::thread::Threads;
 
 /// The first pass: each shard stands behind a lock while the workers go their ways, and so does the cache. `room` is
@@ -49,7 +49,7 @@ pub(crate) fn pass_all<
     wants: &Wants<'_>,
     shards: Shards<'a, R, T>,
     lanes: &mut [Lane<S, V>],
-    room: Vec<Mutex<Shard<'a, T::Piece, R>>>,
+    room: Vec<ShardLock<'a, T::Piece, R>>,
     cache: Option<CacheShelf<F>>,
 ) -> (Shards<'a, R, T>, Option<CacheShelf<F>>)
 where

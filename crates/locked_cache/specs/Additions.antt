@@ -1,26 +1,15 @@
 -- What is added to a cache that several workers ask and fill, and what is found in it meanwhile.
-use Rattle.std.specs.Prelude.{◌≡◌, ℕ, ◌⊎◌, List, length, Option, Some, IfErr, IfSome, Result}
-use Rattle.std.specs.List.{Any}
-use Rattle.cache_store.specs.Shelves.{Finds, IsPair, Shelf, Stocks}
+use Rattle.std.specs.Prelude.{◌≡◌, ℕ, ◌⊎◌, List, [], Option, Some, IfErr, IfSome, Result}
+use Rattle.cache_store.specs.Shelves.{AddsWanted, Finds, Shelf, Stocks}
 use Rattle.cache_store.specs.declared.shelf.CacheMiss.{CacheMiss}
 use Rattle.cache_store.specs.declared.shelf.CacheMiss.TheVariants as miss
 use Rattle.chunk_store.specs.Folders.{chunks}
 use Rattle.chunk_store.specs.Gets.{GetGives}
-use Rattle.chunk_store.specs.Names.{name_of}
 use Rattle.chunk_store.specs.declared.id.DigestKind.TheVariants.{Sha512T256}
 use Rattle.chunk_store.specs.declared.store.GetFault.{GetFault}
 use Rattle.dsy_base.specs.Maps.{Map}
 use Rattle.store_chain.specs.Giving.{Gives}
-use Rattle.store_chain.specs.Queries.{IsWanted}
 use Rattle.store_chain.specs.declared.query.Query.{Query}
-
--- the bytes may be added under the id: it is their digest, it is listed with their size, and one of the stores holds
--- them under it. The last two only where the type of the folder names pairs and stores
-pub record MayAdd (pairs : Option (List (List ℕ × ℕ))) (stores : Option (List (Map (List ℕ)))) (id b : List ℕ) : Type 0
-  where
-    pub named : name_of Sha512T256 b ≡ id
-    pub listed : IfSome pairs (IsPair id (length b))
-    pub held : IfSome stores (Any (λ m. m id ≡ Some b))
 
 -- a shelf as it was when its folder held these files and no call on it had failed
 abbrev pub begun_with : Map (List ℕ) → Shelf → Shelf
@@ -55,10 +44,6 @@ pub record FindsSince (Takes : List ℕ → List ℕ → Type 0) (w : Query) (fi
   pub stands : StandsSince Takes w.id.0 first now
   pub finds : Finds w now r out
 
--- all that may be added under the wanted id is what is wanted
-abbrev pub AddsWanted : (List ℕ → List ℕ → Type 0) → Query → Type 0
-AddsWanted Takes w = (b : List ℕ) → Takes w.id.0 b → IsWanted w b
-
 -- the shelf couldn't be looked at: the call failed, or there was no memory
 abbrev pub IsUnlooked : CacheMiss → Type 0
 IsUnlooked m = (m ≡ miss.Failed) ⊎ (m ≡ miss.Memory)
@@ -73,6 +58,16 @@ FindsStocked Takes opening w r out = IfSome opening (λ first. FindsSince Takes 
 abbrev pub KeepsGiving : (List ℕ → List ℕ → Type 0) → Option (Map (List ℕ)) → Query → Result ℕ CacheMiss → Type 0
 KeepsGiving Takes opening w r = IfErr r (λ m. IfSome opening (λ first.
     Gives w (chunks first) → AddsWanted Takes w → IsUnlooked m))
+
+-- a shared shelf that held these files at first, and whose own calls have failed so often
+abbrev pub shared_shelf : Option (Map (List ℕ)) → Option (List (List ℕ × ℕ)) → Option (List (Map (List ℕ))) → ℕ → Shelf
+shared_shelf opening pairs stores faults = record {
+  files = opening;
+  place = [];
+  faults = faults;
+  kind = Sha512T256;
+  others = Some (record { pairs = pairs; stores = stores });
+}
 
 -- what contracts see of a worker's door: how often a call through it has failed
 pub record Doorway : Type 0 where

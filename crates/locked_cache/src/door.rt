@@ -1,13 +1,14 @@
 //! A cache behind a lock, and the door by which a worker reaches it. Sizes are in bytes.
 
 ghost use Rattle.std.specs.Prelude.{◌≡◌, ◌≤◌, Err, IfErr, IfOk, IfSome, IsTrue, Some, length};
-ghost use Rattle.cache_store.specs.Shelves.{shelf_of};
+ghost use Rattle.cache_store.specs.Shelves.{MayAdd, shelf_of};
 ghost use Rattle.chunk_store.specs.declared.id.DigestKind.TheVariants as kinds;
 ghost use Rattle.dsy_base.specs.Counts.{CountsFaults};
-ghost use Rattle.locked_cache.specs.Additions.{FindsStocked, KeepsGiving, MayAdd, ReadsStocked, StocksSince};
+ghost use Rattle.locked_cache.specs.Additions.{FindsStocked, KeepsGiving, ReadsStocked, StocksSince};
 ghost use Rattle.store_chain.specs.Queries.{FillsQuery, query_of};
 
 use crate::stocked::StockedShelf;
+use cache_store::cache::Cache;
 use cache_store::shelf::{CacheMiss, CacheShelf, judge};
 use chunk_store::id::{ChunkId, DigestKind};
 use chunk_store::store::GetFault;
@@ -139,4 +140,34 @@ impl<'a, W: Wait, F: Folder> CacheDoor<'a, W, F> {
         }
         added
     }
+}
+
+impl<'a, W: Wait, F: Folder> Cache for CacheDoor<'a, W, F> {
+    ghost use Rattle.std.specs.Prelude.{◌≤◌, refl};
+    ghost use Rattle.locked_cache.specs.Additions.{shared_shelf};
+
+    ghost shelf = { λ d. shared_shelf F.opening F.pairs F.stores d.faults };
+
+    ghost pairs = { F.pairs };
+
+    ghost stores = { F.stores };
+
+    ghost looks = { λ s t. s.faults ≤ t.faults };
+
+    ghost adds = { λ _ _ _ s t. s.faults ≤ t.faults };
+
+    fn look(
+        &mut self,
+        id: &ChunkId,
+        size: Option<usize>,
+        out: &mut [u8],
+    ) -> Result<usize, CacheMiss> {
+        self.find(id, size, out)
+    }
+
+    fn keep(&mut self, id: &ChunkId, b: &[u8]) -> Result<(), IoFault> {
+        self.add(id, b)
+    }
+
+    ghost digest = { λ _. refl };
 }

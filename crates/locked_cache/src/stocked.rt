@@ -1,11 +1,11 @@
 //! What stands behind a cache's lock: a shelf whose folder has kept what its type names. Sizes are in bytes.
 
 ghost use Rattle.std.specs.Prelude.{◌≡◌, ◌≤◌, length, Some, IfOk, IfSome, OnErr, OnOk};
-ghost use Rattle.cache_store.specs.Shelves.{shelf_of};
+ghost use Rattle.cache_store.specs.Shelves.{MayAdd, shelf_of};
 ghost use Rattle.chunk_store.specs.declared.id.DigestKind.TheVariants as kinds;
 ghost use Rattle.dir_store.specs.Puts.{LeavesTemporary, PutsAtPath};
 ghost use Rattle.dsy_base.specs.Counts.{CountsFaults};
-ghost use Rattle.locked_cache.specs.Additions.{MayAdd, ReadsStocked, StocksSince};
+ghost use Rattle.locked_cache.specs.Additions.{ReadsStocked, StocksSince};
 
 use cache_store::shelf::CacheShelf;
 use chunk_store::id::ChunkId;
@@ -25,9 +25,9 @@ pub struct StockedShelf<F: Folder> {
 
 impl<F: Folder> Model for StockedShelf<F> {
     ghost use Rattle.std.specs.Prelude.{◌≡◌};
-    ghost use Rattle.cache_store.specs.Shelves.{Shelved, shelf_of};
+    ghost use Rattle.cache_store.specs.Shelves.{MayAdd, Shelved, shelf_of};
     ghost use Rattle.chunk_store.specs.declared.id.DigestKind.TheVariants as kinds;
-    ghost use Rattle.locked_cache.specs.Additions.{MayAdd, StocksSince};
+    ghost use Rattle.locked_cache.specs.Additions.{StocksSince};
 
     ghost Value = { Shelved F };
 

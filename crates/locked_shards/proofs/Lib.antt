@@ -1,2 +1,1 @@
-pub mod Missed
 pub mod Knowing

@@ -1,5 +1,4 @@
 //! The entries of a target whose shards stand behind locks, as one of several workers sees them.
 #![tactic(auto)]
 
-mod door;
 pub mod locked;

@@ -4,17 +4,16 @@ ghost use Rattle.std.specs.Prelude.{◌≡◌, ◌<◌, ◌≤◌, [], IsTrue, l
 ghost use Rattle.caibx_codec.specs.Listing.{count_of};
 ghost use Rattle.range_survey.specs.Fates.{FirstFates, SettledRight};
 
-use crate::door::{Hand, put_behind, read_behind};
 use caibx_codec::index::Index;
 use dsy_base::fault::{Failed, raise};
 use dsy_base::view::{Part, View};
+use owned_shards::lock::{Hand, ShardLock};
 use owned_shards::shards::shard_with;
 use range_ledger::ledger::Ledger;
 use range_ledger::run::RunName;
-use range_ledger::shard::Shard;
 use range_survey::fate::Fate;
 use std::marker::Model;
-use std::sync::{Mutex, Wait};
+use std::sync::Wait;
 
 /// The locks of a target's shards, and what one worker knows of each entry: what the survey found, and what the worker
 /// itself has put since. What others have put it doesn't know. It holds one lock at a time, for one read or write.
@@ -22,7 +21,7 @@ use std::sync::{Mutex, Wait};
 pub struct Locked<'l, 'i, W: Wait, P: Part, R: RunName> {
     rt: &'l W,
     index: &'i Index,
-    locks: &'l [Mutex<Shard<'i, P, R>>],
+    locks: &'l [ShardLock<'i, P, R>],
     hand: Hand,
     known: Vec<Fate>,
     faults: u64,
@@ -63,7 +62,7 @@ impl<'l, 'i, W: Wait, P: Part, R: RunName> Locked<'l, 'i, W, P, R> {
     pub fn new(
         rt: &'l W,
         index: &'i Index,
-        locks: &'l [Mutex<Shard<'i, P, R>>],
+        locks: &'l [ShardLock<'i, P, R>],
         known: Vec<Fate>,
     ) -> Locked<'l, 'i, W, P, R>
         requires dealt { index.now ≡ R.run.listing }
@@ -127,15 +126,7 @@ impl<'l, 'i, W: Wait, P: Part, R: RunName> Ledger for Locked<'l, 'i, W, P, R> {
         }
         let locks = self.locks;
         let number = shard_with::<R>(self.index, locks.len(), entry);
-        let read = read_behind(
-            self.rt,
-            &mut self.hand,
-            &locks[number],
-            number,
-            entry,
-            known,
-            out,
-        );
+        let read = locks[number].read(self.rt, &mut self.hand, number, entry, known, out);
         if !read {
             self.faults = raise(self.faults, 1);
         }
@@ -148,15 +139,7 @@ impl<'l, 'i, W: Wait, P: Part, R: RunName> Ledger for Locked<'l, 'i, W, P, R> {
         }
         let locks = self.locks;
         let number = shard_with::<R>(self.index, locks.len(), entry);
-        match put_behind(
-            self.rt,
-            &mut self.hand,
-            &locks[number],
-            number,
-            entry,
-            chunk,
-            fate,
-        ) {
+        match locks[number].put(self.rt, &mut self.hand, number, entry, chunk, fate) {
             Ok(()) => {
                 self.known[entry] = fate;
                 Ok(true)

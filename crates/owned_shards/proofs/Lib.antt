@@ -7,3 +7,4 @@ pub mod Begun
 pub mod Dealt
 pub mod Gathered
 pub mod Kept
+pub mod Missed

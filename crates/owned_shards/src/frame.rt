@@ -4,6 +4,7 @@ ghost use Rattle.std.specs.Prelude.{◌≡◌, ◌≤◌, [], IfSome, IsTrue, is
 ghost use Rattle.owned_shards.specs.Wholes.{AreShards, KeptWhole, joined_faults};
 ghost use Rattle.range_ledger.specs.Runs.{IsShard};
 
+use crate::lock::ShardLock;
 use crate::shards::{Shards, put_back};
 use caibx_codec::index::Index;
 use dsy_base::view::{Part, Target, View};
@@ -11,7 +12,7 @@ use range_ledger::ledger::Ledger;
 use range_ledger::run::RunName;
 use range_ledger::shard::Shard;
 use std::marker::Model;
-use std::sync::{Mutex, Wait};
+use std::sync::Wait;
 
 /// What is left of a target in shards while these stand behind locks. It has the room that taking them out and joining
 /// their parts takes.
@@ -41,8 +42,8 @@ impl<'a, R: RunName, T: Target> Model for Frame<'a, R, T> {
 // Each shard behind a lock of its own, in their order, and the room of the shards.
 fn lock_all<'a, P: Part, R: RunName>(
     shards: Vec<Shard<'a, P, R>>,
-    room: Vec<Mutex<Shard<'a, P, R>>>,
-) -> (Vec<Shard<'a, P, R>>, Vec<Mutex<Shard<'a, P, R>>>)
+    room: Vec<ShardLock<'a, P, R>>,
+) -> (Vec<Shard<'a, P, R>>, Vec<ShardLock<'a, P, R>>)
     requires none { room.items ≡ [] }
     requires room { vec_len shards ≤ vec_capacity room }
     ensures none { result.0.items ≡ [] }
@@ -55,7 +56,7 @@ fn lock_all<'a, P: Part, R: RunName>(
     while let Some(shard) = shards.pop() {
         // Only for its contract: a part that never fails counts no fault.
         shard.rules();
-        put_back(&mut locks, Mutex::new(shard));
+        put_back(&mut locks, ShardLock::new(shard));
     }
     locks.reverse();
     (shards, locks)
@@ -64,7 +65,7 @@ fn lock_all<'a, P: Part, R: RunName>(
 // The shard of this number, taken out of its lock.
 fn taken_out<'a, W: Wait, P: Part, R: RunName>(
     rt: &W,
-    lock: Mutex<Shard<'a, P, R>>,
+    lock: ShardLock<'a, P, R>,
     number: usize,
 ) -> Shard<'a, P, R>
     ensures number { result.number ≡ number }
@@ -85,7 +86,7 @@ fn taken_out<'a, W: Wait, P: Part, R: RunName>(
 // The shards behind these locks, in their order. `shards` has the room for them.
 fn unlock_all<'a, W: Wait, P: Part, R: RunName>(
     rt: &W,
-    locks: Vec<Mutex<Shard<'a, P, R>>>,
+    locks: Vec<ShardLock<'a, P, R>>,
     shards: Vec<Shard<'a, P, R>>,
 ) -> Vec<Shard<'a, P, R>>
     requires tells { P.tells ≡ R.run.tells }
@@ -109,8 +110,8 @@ impl<'a, R: RunName, T: Target> Shards<'a, R, T> {
     /// Puts each shard behind a lock of its own, in their order. `room` is for the locks.
     pub fn lock(
         self,
-        room: Vec<Mutex<Shard<'a, T::Piece, R>>>,
-    ) -> (Frame<'a, R, T>, Vec<Mutex<Shard<'a, T::Piece, R>>>)
+        room: Vec<ShardLock<'a, T::Piece, R>>,
+    ) -> (Frame<'a, R, T>, Vec<ShardLock<'a, T::Piece, R>>)
         requires none { room.items ≡ [] }
         requires room { R.run.shards ≤ vec_capacity room }
         ensures count { vec_len result.1 ≡ R.run.shards }
@@ -139,11 +140,7 @@ impl<'a, R: RunName, T: Target> Shards<'a, R, T> {
 impl<'a, R: RunName, T: Target> Frame<'a, R, T> {
     /// The target in shards, once each is taken out of its lock. What workers did is known by what a shard keeps. It
     /// takes no memory.
-    pub fn unlock<W: Wait>(
-        self,
-        rt: &W,
-        locks: Vec<Mutex<Shard<'a, T::Piece, R>>>,
-    ) -> Shards<'a, R, T>
+    pub fn unlock<W: Wait>(self, rt: &W, locks: Vec<ShardLock<'a, T::Piece, R>>) -> Shards<'a, R, T>
         requires count { vec_len locks ≡ R.run.shards }
         ensures size { result.held.size ≡ self.entry.size }
         ensures name { result.held.name ≡ self.entry.name }

@@ -3,6 +3,7 @@
 
 pub mod frame;
 mod lanes;
+pub mod lock;
 pub mod shards;
 mod share;
 pub mod survey;

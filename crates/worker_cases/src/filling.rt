@@ -10,15 +10,15 @@ use dsy_base::fault::Failed;
 use dsy_base::view::{Part, Target, View};
 use extract_plan::plan::Plan;
 use locked_shards::locked::{Locked, fates_of};
+use owned_shards::lock::ShardLock;
 use owned_shards::shards::Shards;
 use owned_shards::survey::survey_shards;
 use range_ledger::ledger::Ledger;
 use range_ledger::run::RunName;
-use range_ledger::shard::Shard;
 use range_survey::fate::Fate;
 use std::alloc::Global;
 use std::process::Abort;
-use std::sync::{Mutex, Wait};
+use std::sync::Wait;
 use std::thread::{Threads, join};
 
 /// What a worker has done: how many chunks it put, found settled, failed to write, and read back.
@@ -90,7 +90,7 @@ fn fill_half<L: Ledger>(
 fn fill_halves<'i, H: Abort + Threads + Wait + Sync, P: Part + Send, R: RunName + Send + Sync>(
     rt: &H,
     index: &'i Index,
-    locks: &[Mutex<Shard<'i, P, R>>],
+    locks: &[ShardLock<'i, P, R>],
     known: (Vec<Fate>, Vec<Fate>),
     pieces: &[&[u8]],
 ) -> (Done, Done)

@@ -19,11 +19,10 @@ use Rattle.chunk_sources.specs.Wants.{Wanted, sought_chunk}
 use Rattle.chunk_sources.specs.declared.obtain.Sought.{Sought}
 use Rattle.chunk_store.specs.declared.id.DigestKind.{DigestKind}
 use Rattle.dsy_base.specs.Bytes.{Held}
-use Rattle.locked_cache.specs.Additions.{MayAdd}
 use Rattle.range_survey.specs.Fates.{settled}
 use Rattle.assembler.proofs.settle.settle_open.Goals as goal
 use Rattle.assembler.proofs.settle.settle_open.Given.{Over}
-use Rattle.cache_store.specs.Shelves.{Shelf}
+use Rattle.cache_store.specs.Shelves.{MayAdd, Shelf}
 
 -- what is seen of a cache
 abbrev see : (g : Over) → Option g.row.C.Denot → Option Shelf

@@ -1,7 +1,7 @@
 use Rattle.std.proofs.Common.{◌≡◌, ℕ, List, length, take, Ok, inr, refl, subst, ap}
 use Rattle.cache_store.proofs.Fetched.{added_from, added_wanted, ok_err, unfound_on}
 use Rattle.cache_store.proofs.Stocked.{stocks_looked, stocks_on, stocks_weaker}
-use Rattle.cache_store.specs.Shelves.{Shelf, shelf_of}
+use Rattle.cache_store.specs.Shelves.{Shelf}
 use Rattle.cache_store.specs.Through.{AddedTo, Unfound}
 use Rattle.chunk_store.specs.Asks.{Get}
 use Rattle.chunk_store.specs.declared.id.DigestKind.{DigestKind}
@@ -20,9 +20,9 @@ returns-in-Some-clause-stores g c = kept_still g.S.Store (λ a. a ≡ Get c.args
 
 pub returns-clause-ends : goal.returns-clause-ends
 returns-clause-ends g c =
-    let old : Shelf = shelf_of g.F.Look.files g.F.Look.place g.F.Look.faults c.args.shelf.now in
-    let mid : Shelf = shelf_of g.F.Look.files g.F.Look.place g.F.Look.faults c.find_first.new.shelf in
-    let new : Shelf = shelf_of g.F.Look.files g.F.Look.place g.F.Look.faults c.keep-kept.new.shelf in
+    let old : Shelf = g.C.Cache.shelf c.args.cache.now in
+    let mid : Shelf = g.C.Cache.shelf c.find_first.new.cache in
+    let new : Shelf = g.C.Cache.shelf c.keep-kept.new.cache in
     let P : DigestKind → Type 0 = λ k. Unfound (query_of k c.args.id.now c.args.size (length c.args.out.now)) old mid in
     let Q : List ℕ → Type 0 = λ b. AddedTo c.args.id.now.0 b c.keep-kept.result old new in
     let b : List ℕ = take c.in_ok-n-2.n c.obtain.new.out in
@@ -30,7 +30,7 @@ returns-clause-ends g c =
     let O : ℕ → List (Map (List ℕ)) → Type 0 = λ n maps. GivesFirst g.S.Store.may_lack_memory (query_of c.args.chain.now.kind c.args.id.now c.args.size n) maps b in
     inr (record {
       unfound = unfound_on _ old mid new c.keep-kept.ensures.stocks.never_falls (subst P c.requires.kind (c.in_ok-n.ensures.absent (ap Ok c.in_default.is)));
-      added = (refl, subst Q c.split_at.ensures.front (added_from c.args.id.now.0 c.split_at.result.0.now c.keep-kept.result old mid new c.find_first.ensures.kept.files c.find_first.ensures.kept.never_falls c.keep-kept.ensures.added));
+      added = (refl, subst Q c.split_at.ensures.front (added_from c.args.id.now.0 c.split_at.result.0.now c.keep-kept.result old mid new c.find_first.ensures.kept c.keep-kept.ensures.added));
       asks = c.obtain.ensures.asks;
       found = subst G c.find_first.auto.out c.in_ok-n-2.ensures.found;
       had = c.in_ok-n-2.ensures.had;
@@ -41,11 +41,16 @@ returns-clause-ends g c =
       cause = λ s is. absurd (ok_err _ _ is);
     })
 
+pub returns-clause-added : goal.returns-clause-added
+returns-clause-added g c = λ upstream.
+    let A : List ℕ → Type 0 = λ b. g.C.Cache.adds c.args.id.now.0 b c.keep-kept.result c.find_first.new.cache c.keep-kept.new.cache in
+    record { between = c.find_first.new.cache; looked = c.find_first.ensures.changed; adds = subst A c.split_at.ensures.front c.keep-kept.ensures.changed }
+
 pub returns-clause-stocks : goal.returns-clause-stocks
 returns-clause-stocks g c =
-    let old : Shelf = shelf_of g.F.Look.files g.F.Look.place g.F.Look.faults c.args.shelf.now in
-    let mid : Shelf = shelf_of g.F.Look.files g.F.Look.place g.F.Look.faults c.find_first.new.shelf in
-    let new : Shelf = shelf_of g.F.Look.files g.F.Look.place g.F.Look.faults c.keep-kept.new.shelf in
+    let old : Shelf = g.C.Cache.shelf c.args.cache.now in
+    let mid : Shelf = g.C.Cache.shelf c.find_first.new.cache in
+    let new : Shelf = g.C.Cache.shelf c.keep-kept.new.cache in
     let b : List ℕ = take c.in_ok-n-2.n c.obtain.new.out in
     let W : ℕ → Type 0 = λ n. IsWanted (query_of c.args.chain.now.kind c.args.id.now c.args.size n) b in
     let given = c.in_ok-n-2.ensures.ok in

@@ -72,9 +72,9 @@ returns-in_default-clause-asks g c = inr (c.in_ok-obtain.ensures.asks, none g c.
 
 pub returns-clause-had : goal.returns-clause-had
 returns-clause-had g c = λ cached maps given told.
-    c.obtain-2.ensures.had cached maps (ap (λ q. given_maps (see g q)) (sym c.in-Some.is) ∙ given) told
+    c.from_cache.ensures.had cached maps (ap (λ q. given_maps (see g q)) (sym c.in-Some.is) ∙ given) told
 
 pub returns-clause-missed : goal.returns-clause-missed
 returns-clause-missed g c =
-    subst (λ (q : Option g.row.C.Denot). IfErr c.obtain-2.result (λ r. r ≢ refused.Memory → IsAlone (see g q)
-    → CacheLacks c.args.chain.now.kind c.args.id.now.0 (length c.args.chunk.now) (see g q) (Some (g.C.Cache.shelf c.obtain-2.new.self)))) (sym c.in-Some.is) c.obtain-2.ensures.missed
+    subst (λ (q : Option g.row.C.Denot). IfErr c.from_cache.result (λ r. r ≢ refused.Memory → IsAlone (see g q)
+    → CacheLacks c.args.chain.now.kind c.args.id.now.0 (length c.args.chunk.now) (see g q) (Some (g.C.Cache.shelf c.from_cache.new.cache)))) (sym c.in-Some.is) c.from_cache.ensures.missed

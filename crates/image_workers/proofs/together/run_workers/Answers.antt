@@ -9,7 +9,7 @@ use Rattle.assembler.specs.declared.fault.ExtractFault.TheVariants as faults
 use Rattle.assembler.specs.declared.fault.ExtractFault.{ExtractFault}
 use Rattle.caibx_codec.specs.Listing.{count_of}
 use Rattle.assembler.proofs.Others.{seen_alone}
-use Rattle.cache_store.specs.Shelves.{Shelf, Shelved}
+use Rattle.cache_store.specs.Shelves.{MayAdd, Shelf, Shelved}
 use Rattle.chunk_sources.proofs.Cached.{stocked_falls, stocked_kind}
 use Rattle.chunk_sources.specs.Caches.{Stocked, TakesListed, given_maps, seen}
 use Rattle.chunk_store.specs.declared.id.DigestKind.TheVariants.{Sha512T256}
@@ -18,7 +18,6 @@ use Rattle.dsy_base.specs.Maps.{Map}
 use Rattle.image_workers.proofs.Doors.{lacks_before, lacks_between, named_kind, named_opens}
 use Rattle.image_workers.proofs.Sharing.{Adds, adds_own, door, door_gave, stocked_alike, stocked_all}
 use Rattle.image_workers.specs.Shared.{GivesNoMore, all_stores, all_told, door_shelf, pairs_of}
-use Rattle.locked_cache.specs.Additions.{MayAdd}
 use Rattle.chunk_sources.specs.Sources.{sources, views_of}
 use Rattle.chunk_sources.specs.declared.kit.Kit.{Kit}
 use Rattle.image_workers.proofs.Exact.{exact_once, exact_twice, lacking_one}

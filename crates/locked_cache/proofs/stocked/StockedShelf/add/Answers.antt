@@ -1,7 +1,6 @@
 use Rattle.std.proofs.Common.{◌∙◌, refl}
-use Rattle.cache_store.specs.Shelves.{shelf_of}
+use Rattle.cache_store.specs.Shelves.{MayAdd, shelf_of}
 use Rattle.locked_cache.proofs.Stocking.{stocks_added}
-use Rattle.locked_cache.specs.Additions.{MayAdd}
 use Rattle.locked_cache.proofs.stocked.StockedShelf.add.Goals as goal
 
 pub invariant_of-self : goal.invariant_of-self

@@ -1,6 +1,5 @@
-use Rattle.cache_store.specs.Shelves.{shelf_of}
+use Rattle.cache_store.specs.Shelves.{MayAdd, shelf_of}
 use Rattle.locked_cache.proofs.Stocking.{stocks_begun}
-use Rattle.locked_cache.specs.Additions.{MayAdd}
 use Rattle.locked_cache.proofs.stocked.StockedShelf.new.Goals as goal
 
 pub invariant_of-result : goal.invariant_of-result

@@ -1,8 +1,7 @@
 use Rattle.std.proofs.Common.{refl, ◌∙◌}
 use Rattle.cache_store.proofs.Stocked.{stocks_looked}
-use Rattle.cache_store.specs.Shelves.{shelf_of}
+use Rattle.cache_store.specs.Shelves.{MayAdd, shelf_of}
 use Rattle.locked_cache.proofs.Stocking.{read_since, stocks_more}
-use Rattle.locked_cache.specs.Additions.{MayAdd}
 use Rattle.locked_cache.proofs.stocked.StockedShelf.read.Goals as goal
 
 pub invariant_of-self : goal.invariant_of-self

@@ -6,14 +6,14 @@ use Rattle.locked_shards.proofs.locked.LockedLedger.read.Goals as goal
 
 pub invariant_of-self : goal.invariant_of-self
 invariant_of-self g c =
-    let failed : c.read_behind-read.result ≡ false = search rules in (
+    let failed : c.read-read.result ≡ false = search rules in (
       c.self.invariant.0,
       c.self.invariant.1,
       c.self.invariant.2,
       λ never.
           let both = both_true g.P.View.never_fails g.R.RunName.run.tells never in
-          absurd (c.read_behind-read.ensures.only failed both.1 both.0),
-      c.read_behind-read.ensures.free,
+          absurd (c.read-read.ensures.only failed both.1 both.0),
+      c.read-read.ensures.free,
     )
 
 pub returns-then-not-read-clause-absent : goal.returns-then-not-read-clause-absent

@@ -1,8 +1,8 @@
 use Rattle.std.proofs.Common.{◌≡◌, false, subst, ◌∙◌, rules}
-use Rattle.locked_shards.proofs.Missed.{missed}
+use Rattle.owned_shards.proofs.Missed.{missed}
 use Rattle.range_ledger.specs.Extents.{IsIn}
 use Rattle.range_ledger.specs.Runs.{Has, Seen, extent_of, has_settled}
-use Rattle.locked_shards.proofs.door.read_behind.Goals as goal
+use Rattle.owned_shards.proofs.lock.ShardLock.read.Goals as goal
 
 pub returns-in-Kept-clause-only : goal.returns-in-Kept-clause-only
 returns-in-Kept-clause-only g c = λ no tells never.
