@@ -49,8 +49,8 @@ impl<F: Folder> Model for CacheShelf<F> {
     ghost view = { λ s. record { folder = s.store; kind = s.kind } };
 }
 
-/// What a look for the chunk has found, by what reading its file has answered and by the bytes that were read, which are
-/// all that was lent. Here the digest is computed.
+/// What a look for the chunk has found, by what reading its file has answered and by the bytes that were read, which
+/// are all that was lent. Here the digest is computed.
 pub fn judge(
     query: &Query,
     answer: Result<usize, GetFault>,
@@ -59,7 +59,8 @@ pub fn judge(
     requires size { query.now.lent ≡ length lent.now }
     requires inside { IfOk answer (λ n. n ≤ length lent.now) }
     ensures ok { IfOk result (λ n. (answer ≡ Ok n) × FillsQuery query.now n lent.now) }
-    ensures found { (m : Map (List ℕ)) → GetGives (m query.now.id.0) answer lent.now → Finds query.now m result lent.now }
+    ensures found { (m : Map (List ℕ)) → GetGives (m query.now.id.0) answer lent.now
+        → Finds query.now m result lent.now }
     ensures only { result ≡ Err CacheMiss.Failed → answer ≡ Err GetFault.Failed }
     ensures memory { result ≡ Err CacheMiss.Memory → answer ≡ Err GetFault.Memory }
 {

@@ -25,8 +25,8 @@ use range_survey::fate::Fate;
 use store_chain::chain::Chain;
 use store_chain::refused::Refused;
 
-// Fills `chunk` with the chunk of this id, which has its size, from the cache or else from a store, and answers which of
-// them gave it. What a store gave is added to the cache. A fault of the cache makes no refusal. Where a look into it
+// Fills `chunk` with the chunk of this id, which has its size, from the cache or else from a store, and answers which
+// of them gave it. What a store gave is added to the cache. A fault of the cache makes no refusal. Where a look into it
 // finds no memory, the stores aren't asked.
 fn from_cache<S: Store, C: Cache>(
     id: &ChunkId,

@@ -54,28 +54,28 @@ use Rattle.store_commands.specs.Serving.{Heard}
 -- ---- numbers over the steps
 
 -- no number falls
-record Climbs (d e : Disk) : Type 0 where
-  files : (q : List ℕ) → count_at d.file_counts q ≤ count_at e.file_counts q
-  folders : (q : List ℕ) → count_at d.folder_counts q ≤ count_at e.folder_counts q
+pub record Climbs (d e : Disk) : Type 0 where
+  pub files : (q : List ℕ) → count_at d.file_counts q ≤ count_at e.file_counts q
+  pub folders : (q : List ℕ) → count_at d.folder_counts q ≤ count_at e.folder_counts q
 
-climbs_on : (d b e : Disk) → Climbs d b → Climbs b e → Climbs d e
+pub climbs_on : (d b e : Disk) → Climbs d b → Climbs b e → Climbs d e
 climbs_on d b e u v = record { files = λ q. omega (arith, u.files q, v.files q); folders = λ q. omega (arith, u.folders q, v.folders q) }
 
-read_climbs : (d e : Disk) → Reads d e → Climbs d e
+pub read_climbs : (d e : Disk) → Reads d e → Climbs d e
 read_climbs d e r = record { files = r.counts; folders = r.folder_counts }
 
-wrote_climbs : (d e : Disk) → Writes d e → Climbs d e
+pub wrote_climbs : (d e : Disk) → Writes d e → Climbs d e
 wrote_climbs d e r = record { files = r.counts; folders = r.folder_counts }
 
-filled_climbs : (stores : List Location) (cache : Option (List ℕ)) (l : Listing) (d e : Disk) → FillsCache stores cache l d e → Climbs d e
+pub filled_climbs : (stores : List Location) (cache : Option (List ℕ)) (l : Listing) (d e : Disk) → FillsCache stores cache l d e → Climbs d e
 filled_climbs stores cache l d e r = record { files = r.counts; folders = r.folder_counts }
 
 -- nothing failed between
-record NoneRose (d e : Disk) : Type 0 where
-  files : (q : List ℕ) → FileRose d e q → ⊥
-  folders : (q : List ℕ) → FolderRose d e q → ⊥
+pub record NoneRose (d e : Disk) : Type 0 where
+  pub files : (q : List ℕ) → FileRose d e q → ⊥
+  pub folders : (q : List ℕ) → FolderRose d e q → ⊥
 
-none_rose : (w d e v : Disk) → DiskQuiet w v → Climbs w d → Climbs e v → NoneRose d e
+pub none_rose : (w d e v : Disk) → DiskQuiet w v → Climbs w d → Climbs e v → NoneRose d e
 none_rose w d e v quiet u x = record {
   files = λ q rose. rose_not_quiet (count_at w.file_counts q) (count_at d.file_counts q) (count_at v.file_counts q) (u.files q) (rose_longer (count_at d.file_counts q) (count_at e.file_counts q) (count_at v.file_counts q) (x.files q) rose) (quiet.files q);
   folders = λ q rose. rose_not_quiet (count_at w.folder_counts q) (count_at d.folder_counts q) (count_at v.folder_counts q) (u.folders q) (rose_longer (count_at d.folder_counts q) (count_at e.folder_counts q) (count_at v.folder_counts q) (x.folders q) rose) (quiet.folders q);
@@ -285,7 +285,7 @@ module _ (w v : Storage) (none : NoneRose w.disk v.disk) (b : Map (List ℕ)) (n
 
 -- ---- OUT
 
-self_climbs : (d : Disk) → Climbs d d
+pub self_climbs : (d : Disk) → Climbs d d
 self_climbs d = record { files = λ q. omega arith; folders = λ q. omega arith }
 
 module _ (sure : NeverFail) (stores : List Location) (cache : Option (List ℕ)) (out : List ℕ) (l : Listing) (x : Seeds) (w : Disk) (v : World) (quiet : DiskQuiet w v.disk) (b : Map (List ℕ)) (n : Map (Map (List ℕ))) (one : IsSome cache → ListsOneSize l)

@@ -60,7 +60,7 @@ module _ (over : Evidence) where
     told_of x None f is same = absurd (true_false (sym (same ∙ ap is_some is)))
     told_of x (Some g) f is same = (g, refl)
 
-    over_all : (cache : List ℕ) (indexes : List (List ℕ)) (x : Option (Map (List ℕ))) (y z : Option (Map (Map (List ℕ)))) (held files : Option (Map (List ℕ))) → d.files ≡ x
+    pub over_all : (cache : List ℕ) (indexes : List (List ℕ)) (x : Option (Map (List ℕ))) (y z : Option (Map (Map (List ℕ)))) (held files : Option (Map (List ℕ))) → d.files ≡ x
         → IfSome y (λ m. (f : Map (List ℕ)) × (m cache ≡ Some f) × (held ≡ Some f)) → z ≡ option_map (λ m. at_name m cache files) y → AllFilled over d e indexes held files
         → IfSome x (λ b. IfSome y (λ n. IfSome z (λ m. IsCached b n m cache indexes)))
     over_all cache indexes None y z held files is taken back h = tt

@@ -11,6 +11,8 @@ ghost use Rattle.desync_cli.specs.Unfailed.{NothingFailed, RepliesTaken};
 ghost use Rattle.desync_cli.specs.Commands.{Achieves, DesyncEnds, CommandEnds, TellsRefusal, command_of, listens};
 ghost use Rattle.desync_cli.specs.Commands.{parts};
 ghost use Rattle.desync_cli.specs.Commands.{LeavesBehind, usage_refusal, spares};
+ghost use Rattle.desync_cli.specs.Contents.{Contents};
+ghost use Rattle.desync_cli.specs.Exact.{IsExact, IsFaultless};
 ghost use Rattle.desync_cli.specs.Lines.{TakesLine};
 ghost use Rattle.store_commands.specs.Serving.{heard};
 ghost use Rattle.dsy_base.specs.Counts.{Quiet};
@@ -275,6 +277,15 @@ where
     // or there was no memory, whatever servers send.
     ensures at_hand { DiskQuiet (F.disk files.old) (F.disk files.new) → IfSome (command_of (map string_bytes words.now))
         (λ c. EndsAtHand c (F.disk files.old) result.outcome) }
+
+    // Where nothing fails, the outcome and what stands afterwards are exactly those of the command, unless there was no
+    // memory.
+    ensures exactly { IfSome (command_of (map string_bytes words.now)) (λ c. (x : Contents) → IsFaultless
+        (parts (heard F.Folder.never_fails (L.state listen.old) (L.state listen.new)) c)
+        (world (F.disk files.old) (D.state dial.old) (O.output out.old))
+        (world (F.disk files.new) (D.state dial.new) (O.output out.new)) x
+        → IsExact (heard F.Folder.never_fails (L.state listen.old) (L.state listen.new)) c x result.outcome
+        (world (F.disk files.new) (D.state dial.new) (O.output out.new))) }
 
     // A fault is named only where its count rose.
     ensures cause { IfSome (command_of (map string_bytes words.now)) (λ c. Blames

@@ -1,6 +1,7 @@
 -- Slices of an image that stand in a room before they are used. l lists the chunks, and `told` are the image's bytes
 -- where they are told.
-use Rattle.std.specs.Prelude.{◌≡◌, ℕ, ◌+◌, ◌/◌, ◌<◌, ◌≤◌, ◌⊎◌, All, List, length, slice_index_or, slice_range, vec_capacity, vec_len, Option, IfSome}
+use Rattle.std.specs.Prelude.{◌≡◌, ℕ, ◌+◌, ◌/◌, ◌<◌, ◌≤◌, ◌⊎◌, All, List, length, slice_index_or, slice_range}
+use Rattle.std.specs.Prelude.{vec_capacity, vec_len, Option, IfSome}
 use Rattle.caibx_codec.specs.Listing.{Listing, count_of, id_of, kind_of, size_of, slice_of}
 use Rattle.chunk_store.specs.Names.{name_of}
 use Rattle.image_slices.specs.declared.ahead.Ahead.{Ahead}
@@ -31,7 +32,8 @@ piece_slice l room p = slice_range room p.at (p.at + size_of l p.entry)
 
 -- entries fall from piece to piece
 abbrev pub EntriesFall : List Piece → Type 0
-EntriesFall ps = (j k : ℕ) (d : Piece) → j < k → k < length ps → (slice_index_or ps k d).entry < (slice_index_or ps j d).entry
+EntriesFall ps = (j k : ℕ) (d : Piece) → j < k → k < length ps
+    → (slice_index_or ps k d).entry < (slice_index_or ps j d).entry
 
 -- what is filled fits the room, and each piece is in it
 pub record FitsItsRoom (l : Listing) (a : Ahead) : Type 0 where

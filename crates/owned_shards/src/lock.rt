@@ -1,5 +1,5 @@
-//! The lock of one shard, which a worker takes for one read or one write, and in this module alone. It holds one lock at
-//! a time. Shards and entries count from 0.
+//! The lock of one shard, which a worker takes for one read or one write, and in this module alone. It holds one lock
+//! at a time. Shards and entries count from 0.
 
 ghost use Rattle.std.specs.Prelude.{◌≡◌, IsTrue, OnErr, length, true, false};
 ghost use Rattle.caibx_codec.specs.Listing.{id_of, kind_of, size_of};
@@ -71,8 +71,8 @@ impl<'i, P: Part, R: RunName> ShardLock<'i, P, R> {
         self.shard.into_inner()
     }
 
-    /// Reads the range of an entry that a worker knows as settled, with this fate, from this shard, which has this number.
-    /// Whether it could be read.
+    /// Reads the range of an entry that a worker knows as settled, with this fate, from this shard, which has this
+    /// number. Whether it could be read.
     pub fn read<W: Wait>(
         &self,
         rt: &W,

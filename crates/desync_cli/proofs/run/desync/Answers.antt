@@ -5,6 +5,7 @@ use Rattle.desync_cli.proofs.Replaced.{left_behind}
 use Rattle.store_commands.specs.Serving.{heard}
 use Rattle.desync_cli.proofs.AtHand.{ends_at_hand}
 use Rattle.desync_cli.proofs.Done.{achieved}
+use Rattle.desync_cli.proofs.Exact.{exact}
 use Rattle.desync_cli.proofs.Fair.{answered, blamed, kept, nothing_failed, tells_refusal}
 use Rattle.desync_cli.proofs.ShortNames.{all_short, short_name}
 use Rattle.desync_cli.proofs.run.desync.Goals as goal
@@ -52,3 +53,7 @@ pub returns-clause-at_hand : goal.returns-clause-at_hand
 returns-clause-at_hand g c =
     rw c.outcome_of-outcome.ensures (λ quiet.
     ends_at_hand g.F.Target.View.never_fails (heard g.F.Folder.Look.never_fails (g.L.Listen.state c.args.listen.now) (g.L.Listen.state c.run-answer.new.listen)) (map string_bytes c.args.words.now) (world (g.F.Files.disk c.args.files.now) (g.D.Dial.state c.args.dial.now) (g.O.Sink.output c.args.out.now)) (world (g.F.Files.disk c.run-answer.new.files) (g.D.Dial.state c.run-answer.new.dial) (g.O.Sink.output c.run-answer.new.out)) c.run-answer.result c.run-answer.ensures.ends quiet)
+
+pub returns-clause-exactly : goal.returns-clause-exactly
+returns-clause-exactly g c =
+    rw c.outcome_of-outcome.ensures (exact g.F.Target.View.never_fails (heard g.F.Folder.Look.never_fails (g.L.Listen.state c.args.listen.now) (g.L.Listen.state c.run-answer.new.listen)) (map string_bytes c.args.words.now) (world (g.F.Files.disk c.args.files.now) (g.D.Dial.state c.args.dial.now) (g.O.Sink.output c.args.out.now)) (world (g.F.Files.disk c.run-answer.new.files) (g.D.Dial.state c.run-answer.new.dial) (g.O.Sink.output c.run-answer.new.out)) c.run-answer.result c.run-answer.ensures.ends)

@@ -1,0 +1,291 @@
+-- What each command answers and leaves where nothing fails, by what stood before it. Want of memory is free.
+use Rattle.std.specs.Prelude.{◌≡◌, ◌==◌, ◌⊎◌, ◌++◌, ℕ, ◌<◌, Bool, true, false, List, [], ◌∷◌, length, map, IsSome}
+use Rattle.std.specs.Prelude.{IsTrue, Option, Some, None, IfSome, MatchOption}
+use Rattle.std.specs.List.{All, Any, Contains}
+use Rattle.assembler.specs.Assemblies.{IsLeast}
+use Rattle.buzhash_cut.specs.Image.{HasTooManyCuts, IsIndexOfImage}
+use Rattle.buzhash_cut.specs.Sizes.{Sizes, size_fault}
+use Rattle.cache_store.specs.Giving.{GiveOneSize}
+use Rattle.caibx_codec.specs.Listing.{Listing, count_of, id_of, image_length, kind_of, size_of}
+use Rattle.caibx_codec.specs.Right.{IsRight}
+use Rattle.caibx_codec.specs.Spelling.{file_of}
+use Rattle.chunk_server.specs.Requests.{AreRequests, Asked, IsOver}
+use Rattle.chunk_server.specs.Turns.{files_left, replies, turns_of}
+use Rattle.chunk_sources.specs.Caches.{IsListedAs}
+use Rattle.chunk_sources.specs.Losses.{chunk_of}
+use Rattle.chunk_store.specs.Folders.{chunks}
+use Rattle.chunk_store.specs.Giving.{IsChunk}
+use Rattle.chunk_store.specs.declared.id.ChunkId.{ChunkId}
+use Rattle.chunk_store.specs.declared.id.DigestKind.TheVariants as kinds
+use Rattle.command_help.specs.Help.{help_text}
+use Rattle.command_help.specs.declared.help.Topic.TheVariants as topics
+use Rattle.command_outcome.specs.declared.outcome.Outcome.{Outcome}
+use Rattle.command_outcome.specs.declared.outcome.Outcome.TheVariants as ends
+use Rattle.command_steps.specs.Blames.{Parts}
+use Rattle.command_steps.specs.InputFiles.{IsListed}
+use Rattle.command_steps.specs.Seeds.{image_name}
+use Rattle.command_steps.specs.Stores.{are_folders, folder_name}
+use Rattle.command_words.specs.declared.command.Command.{Command}
+use Rattle.command_words.specs.declared.command.Command.TheVariants as commands
+use Rattle.command_words.specs.declared.command.Location.TheVariants as locations
+use Rattle.command_worlds.specs.Steps.{answer_of}
+use Rattle.command_worlds.specs.Worlds.{DiskQuiet, World}
+use Rattle.desync_cli.specs.AtHand.{into}
+use Rattle.desync_cli.specs.Contents.{Contents, Ending, HasContents, PrintsText, Unchanged, with_file, with_folder}
+use Rattle.desync_cli.specs.Contents.{◌>>=◌, folder_at, folders_at, image_at, index_at, indexes_at}
+use Rattle.dir_store.specs.Names.{is_stranger}
+use Rattle.dsy_base.specs.Counts.{Quiet}
+use Rattle.dsy_base.specs.Links.{LinkState, Traffic}
+use Rattle.dsy_base.specs.Maps.{Map, at_name}
+use Rattle.extract_command.specs.Extract.{AreFilled, HadFrom, Seeds, base_of, folder_of, temporary_out}
+use Rattle.image_check.specs.Checks.{IsFirstWrong}
+use Rattle.image_commands.specs.Make.{cut_sizes_of}
+use Rattle.image_demo.specs.Figures.{AreFigures, HasTwoPieces, text_of_figures}
+use Rattle.image_demo.specs.declared.figures.Figures.{Figures}
+use Rattle.image_store.specs.PutChunks.{HoldsAll, PutsFiles, Stands}
+use Rattle.locked_shelf.specs.Keepings.{KeepsOpening}
+use Rattle.store_chain.specs.Giving.{LacksAll}
+use Rattle.store_chain.specs.declared.refused.Refused.{Refused}
+use Rattle.store_chain.specs.declared.refused.Refused.TheVariants as refused
+use Rattle.store_commands.specs.Caching.{IsCached}
+use Rattle.store_commands.specs.Serving.{Heard}
+use Rattle.store_commands.specs.Verify.{answer_of_left}
+use Rattle.verify_tool.specs.Counts.{held_count}
+use Rattle.verify_tool.specs.Filling.{IsGivenBy}
+use Rattle.verify_tool.specs.Pruning.{is_listed_in, pruned}
+use Rattle.verify_tool.specs.Texts.{text_of_chunks, text_of_info}
+use Rattle.verify_tool.specs.Verifying.{AreDamaged, damaged_left, left_of, text_of_damaged}
+
+-- nothing fails over a command with these parts: files, folders and the output tell, and hold x; no call on them or on
+-- the listener has failed; and all stores are folders
+pub record IsFaultless (p : Parts) (w v : World) (x : Contents) : Type 0 where
+  pub tells : HasContents w x
+  pub disk : DiskQuiet w.disk v.disk
+  pub out : Quiet w.out.faults v.out.faults
+  pub listener : Quiet p.listener.0 p.listener.1
+  pub folders : IsTrue (are_folders p.stores)
+
+-- ---- images
+
+-- the image t is the one that is listed, or why it isn't
+abbrev pub IsCompared : Listing → List ℕ → Outcome → Type 0
+IsCompared l t ends.Done = IsRight t l
+IsCompared l t (ends.Length n) = (n ≡ length t) × (length t ≡ image_length l → ⊥)
+IsCompared l t (ends.Mismatch k got) = (length t ≡ image_length l) × IsFirstWrong t l k got.0
+IsCompared l t other = ⊥
+
+-- how many of its first entries are right, by that outcome
+abbrev pub right_by : Listing → Outcome → ℕ
+right_by l ends.Done = count_of l
+right_by l (ends.Mismatch k got) = k
+right_by l other = 0
+
+-- a store's files f have become g: the chunks of the first n entries are there, and nothing but these and their
+-- temporary files has changed
+pub record AreStored (l : Listing) (t : List ℕ) (n : ℕ) (f g : Map (List ℕ)) : Type 0 where
+  pub holds : HoldsAll l n (chunks g)
+  pub stands : Stands l t n (chunks f) (chunks g)
+  pub files : PutsFiles l (Some t) (Some (chunks f)) n (Some f) (Some g)
+
+-- the image is held against the index, and its chunks are stored up to the first that is wrong
+abbrev pub Chops : Listing → List ℕ → List ℕ → Map (List ℕ) → Ending
+Chops l t q f x o y = IsCompared l t o × (g : Map (List ℕ)) × (y ≡ with_folder x q g) × AreStored l t (right_by l o) f g
+
+-- the sizes are refused by their first fault
+abbrev pub sizes_at : List ℕ → (Sizes → Ending) → Ending
+sizes_at n next x o y = MatchOption (size_fault (cut_sizes_of n)) (next (cut_sizes_of n) x o y)
+    (λ fault. Unchanged (ends.Sizes fault) x o y)
+
+-- the image's chunks are in the store, and INDEX holds its index; or it has too many
+abbrev pub Makes : Sizes → List ℕ → List ℕ → List ℕ → Map (List ℕ) → Ending
+Makes s t index q f x ends.Done y = (HasTooManyCuts s t → ⊥) × (l : Listing) × IsIndexOfImage s t l
+    × (g : Map (List ℕ)) × (y ≡ with_file (with_folder x q g) index (file_of l)) × AreStored l t (count_of l) f g
+Makes s t index q f x ends.TooManyItems y = HasTooManyCuts s t × (y ≡ x)
+Makes s t index q f x other y = ⊥
+
+-- ---- chunks of an index
+
+-- entry k is the first of which P doesn't hold, and the stores lack its chunk so
+pub record IsFirstLacking (l : Listing) (P : ℕ → Type 0) (stores : List (Map (List ℕ))) (k : ℕ) (id : ChunkId)
+    (r : Refused) : Type 0 where
+  pub listed : k < count_of l
+  pub least : IsLeast P k
+  pub id_is : id.0 ≡ id_of l k
+  pub lacks : LacksAll (chunk_of (kind_of l) id (size_of l k)) stores r
+
+-- the outcome names it
+abbrev pub NamesLacking : Listing → (ℕ → Type 0) → List (Map (List ℕ)) → Outcome → Type 0
+NamesLacking l P stores (ends.Missing k id) = IsFirstLacking l P stores k id refused.Missing
+NamesLacking l P stores (ends.Damaged k id s shows) = IsFirstLacking l P stores k id (refused.Damaged s shows)
+NamesLacking l P stores other = ⊥
+
+-- a folder's files f have become g: under each id stands what stood there, or its chunk, which is listed and which a
+-- store holds; and each file stays that is neither a chunk nor a temporary one
+pub record GainsListed (Listed : List ℕ → ℕ → Type 0) (stores : List (Map (List ℕ))) (f g : Map (List ℕ)) : Type 0 where
+  pub held : (id : List ℕ) → (chunks g id ≡ chunks f id) ⊎ ((b : List ℕ) × (chunks g id ≡ Some b)
+      × ((n : ℕ) × Listed id n × IsChunk kinds.Sha512T256 id n b) × Any (λ m. m id ≡ Some b) stores)
+  pub strangers : (q : List ℕ) → IsTrue (is_stranger q) → g q ≡ f q
+
+-- one of these files is an index that lists the id with this size
+pub record IsListedAmong (files : Map (List ℕ)) (indexes : List (List ℕ)) (id : List ℕ) (n : ℕ) : Type 0 where
+  pub index : List ℕ
+  pub named : Contains indexes index
+  pub listing : Listing
+  pub listed : IsListed files index listing
+  pub lists : IsListedAs listing id n
+
+-- the indexes in order: the cache, which held m, or a store gives each entry's chunk; or the first index that can't be
+-- read is named, or the first entry whose chunk isn't given. What is left isn't told
+abbrev pub FillsInOrder : Map (List ℕ) → List (Map (List ℕ)) → List (List ℕ) → Ending
+FillsInOrder m stores [] = Unchanged ends.Done
+FillsInOrder m stores (q ∷ indexes) = index_at q (λ l x o y. NamesLacking l (IsGivenBy l m stores) stores o
+    ⊎ (((i : ℕ) → i < count_of l → IsGivenBy l m stores i) × FillsInOrder m stores indexes x o y))
+
+-- the cache was filled by the indexes. Cache and stores give each id that these list with several sizes with one
+abbrev pub Caches : List (Map (List ℕ)) → List ℕ → List (List ℕ) → Map (List ℕ) → Ending
+Caches stores q indexes f x o y =
+    GiveOneSize (IsListedAmong x.files indexes) kinds.Sha512T256 (chunks f ∷ stores)
+    → FillsInOrder (chunks f) stores indexes x o x
+    × (o ≡ ends.Done → IsCached x.files x.folders y.folders q indexes)
+    × ((g : Map (List ℕ)) × (y ≡ with_folder x q g) × GainsListed (IsListedAmong x.files indexes) stores f g)
+
+-- ---- OUT
+
+-- it becomes t in its place; or by way of the temporary file, which is gone then, and only if the command is done
+abbrev pub OutBecomes : Bool → List ℕ → List ℕ → Outcome → Map (List ℕ) → Map (List ℕ) → Type 0
+OutBecomes true out t o before after = after ≡ at_name before out (Some t)
+OutBecomes false out t ends.Done before after =
+    after ≡ at_name (at_name before out (Some t)) (temporary_out out) None
+OutBecomes false out t other before after = after ≡ at_name before (temporary_out out) None
+
+-- only the folder of the cache has changed, which has gained listed chunks
+abbrev pub CacheGains : Option (List ℕ) → Listing → List (Map (List ℕ)) → Map (Map (List ℕ)) → Map (Map (List ℕ))
+    → Type 0
+CacheGains None l stores before after = after ≡ before
+CacheGains (Some c) l stores before after = (f : Map (List ℕ)) × (before c ≡ Some f)
+    × (g : Map (List ℕ)) × (after ≡ at_name before c (Some g)) × GainsListed (IsListedAs l) stores f g
+
+-- what an assembly of OUT answers and leaves, where P says of each entry whether it can be had
+pub record IsAssembledAs (l : Listing) (P : ℕ → Type 0) (stores : List (Map (List ℕ))) (cache : Option (List ℕ))
+    (in_place : Bool) (out : List ℕ) (x : Contents) (o : Outcome) (y : Contents) : Type 0 where
+  pub answer : ((o ≡ ends.Done) × ((i : ℕ) → i < count_of l → P i)) ⊎ NamesLacking l P stores o
+  pub image : List ℕ
+  pub size : length image ≡ image_length l
+  pub filled : AreFilled l P (base_of x.files (into in_place out) l) image
+  pub becomes : OutBecomes in_place out image o x.files y.files
+  pub gains : CacheGains cache l stores x.folders y.folders
+  pub printed : y.printed ≡ x.printed
+
+-- so it is. If there is a cache, it and the stores give each id that INDEX lists with several sizes with one
+abbrev pub Extracts : Listing → Seeds → List (Map (List ℕ)) → List (Map (List ℕ)) → Option (List ℕ) → Bool → List ℕ
+    → Ending
+Extracts l z fs cs cache in_place out x o y =
+    (IsSome cache → GiveOneSize (IsListedAs l) (kind_of l) (map chunks cs ++ map chunks fs))
+    → IsAssembledAs l (HadFrom x.files (into in_place out) l z cs fs) (map chunks fs) cache in_place out x o y
+
+-- ---- connections
+
+-- one came as t and ended as u: its requests were answered in order by the files f, which became g
+pub record IsRepliedTo (writable : Bool) (t : Traffic) (u : LinkState) (f g : Map (List ℕ)) : Type 0 where
+  pub asked : List Asked
+  pub left : Option (List ℕ)
+  pub requests : AreRequests writable (Some t.coming) asked left
+  pub over : IsOver writable left
+  pub ended : Traffic
+  pub told : u.traffic ≡ Some ended
+  pub sent : ended.sent ≡ replies (turns_of kinds.Sha512T256 f asked)
+  pub files : g ≡ files_left kinds.Sha512T256 f asked
+
+-- so did these, each answered by the files that the one before it left
+abbrev pub AreRepliedTo : Bool → List Traffic → List LinkState → Map (List ℕ) → Map (List ℕ) → Type 0
+AreRepliedTo writable [] [] f g = g ≡ f
+AreRepliedTo writable (t ∷ came) (u ∷ gone) f g =
+    (next : Map (List ℕ)) × IsRepliedTo writable t u f next × AreRepliedTo writable came gone next g
+AreRepliedTo writable came gone f g = ⊥
+
+-- the files f became g. With one worker, over a listener that tells, connections on which no call failed were answered
+-- so; else each id holds what it held, or a right chunk
+abbrev pub IsServedTo : Bool → Heard → Bool → Map (List ℕ) → Option (Map (List ℕ)) → Type 0
+IsServedTo false h writable f g = KeepsOpening kinds.Sha512T256 f g
+IsServedTo true h writable f g = IfSome h.old.coming (λ came. IfSome h.old.ended (λ done. (gone : List LinkState)
+    × (h.new.ended ≡ Some (done ++ gone)) × (All (λ u. u.faults ≡ 0) gone
+    → (now : Map (List ℕ)) × (g ≡ Some now) × AreRepliedTo writable came gone f now)))
+
+-- all connections that came were served
+abbrev pub Answers : Bool → Heard → Bool → List ℕ → Map (List ℕ) → Ending
+Answers in_turn h writable q f x o y = (o ≡ ends.Done) × (g : Option (Map (List ℕ)))
+    × (y ≡ record x { folders = at_name x.folders q g }) × IsServedTo in_turn h writable f g
+
+-- ---- the commands
+
+-- damaged chunk files are printed, and with `repair` removed
+abbrev pub Verifies : List ℕ → Bool → Map (List ℕ) → Ending
+Verifies q repair f x o y = (damaged : List (List ℕ)) × AreDamaged f damaged
+    × (answer_of o ≡ answer_of_left (damaged_left repair damaged))
+    × (y ≡ record {
+      files = x.files;
+      folders = at_name x.folders q (left_of repair damaged (Some f));
+      printed = x.printed ++ text_of_damaged repair damaged;
+    })
+
+-- how many of the listed ids stores hold, if there are stores
+abbrev pub in_stores : Listing → List (Map (List ℕ)) → Option ℕ
+in_stores l [] = None
+in_stores l (m ∷ stores) = Some (held_count l (m ∷ stores))
+
+-- the figures of an image are printed; or two pieces of bytes have one digest, which is named
+abbrev pub Demonstrates : ℕ → ℕ → Ending
+Demonstrates number size x o y = ((f : Figures) × AreFigures number size f × PrintsText (text_of_figures f) x o y)
+    ⊎ ((k : ℕ) × (id : ChunkId) × HasTwoPieces id.0 × Unchanged (ends.Mismatch k id) x o y)
+
+-- each command, where this was heard
+abbrev pub EndingOf : Heard → Command → Ending
+EndingOf h (commands.Make store sizes workers index image) = do
+  s ← sizes_at sizes
+  t ← image_at image
+  f ← folder_at (folder_name store)
+  Makes s t index (folder_name store) f
+EndingOf h (commands.Chop store workers index image) = do
+  l ← index_at index
+  t ← image_at image
+  f ← folder_at (folder_name store)
+  Chops l t (folder_name store) f
+EndingOf h (commands.VerifyIndex workers index image) = do
+  l ← index_at index
+  t ← image_at image
+  λ x o y. IsCompared l t o × (y ≡ x)
+EndingOf h (commands.Cache stores cache workers indexes) = do
+  fs ← folders_at stores
+  f ← folder_at cache
+  Caches (map chunks fs) cache indexes f
+EndingOf h (commands.Extract stores seeds cache in_place workers index target) = do
+  l ← index_at index
+  ls ← indexes_at 0 seeds
+  fs ← folders_at stores
+  cs ← folders_at (map locations.Folder (folder_of cache))
+  Extracts l (record { images = map image_name seeds; listings = ls }) fs cs cache in_place target
+EndingOf h (commands.ListChunks index) = do
+  l ← index_at index
+  PrintsText (text_of_chunks l)
+EndingOf h (commands.Info stores index) = do
+  l ← index_at index
+  fs ← folders_at stores
+  PrintsText (text_of_info l (in_stores l (map chunks fs)))
+EndingOf h (commands.Verify store repair workers) = do
+  f ← folder_at store
+  Verifies store repair f
+EndingOf h (commands.Prune store indexes) = do
+  ls ← indexes_at 0 indexes
+  f ← folder_at store
+  λ x o y. (o ≡ ends.Done) × (y ≡ with_folder x store (pruned (is_listed_in ls) f))
+EndingOf h (commands.ChunkServer store host port writable workers) = do
+  f ← folder_at store
+  Answers (workers == 1) h writable store f
+EndingOf h (commands.Demo number size workers) = Demonstrates number size
+EndingOf h commands.Help = PrintsText (help_text topics.All)
+EndingOf h commands.Version = PrintsText (help_text topics.Version)
+EndingOf h (commands.HelpOn kind) = PrintsText (help_text (topics.Command kind))
+
+-- the command ended exactly so, and the world tells what it left; or there was no memory
+abbrev pub IsExact : Heard → Command → Contents → Outcome → World → Type 0
+IsExact h c x o v = (o ≡ ends.Memory) ⊎ ((y : Contents) × HasContents v y × EndingOf h c x o y)
