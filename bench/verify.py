@@ -1,6 +1,7 @@
 #!/usr/bin/env python3
-"""`desync verify` over a store of chunks of random bytes, beside one `openssl dgst -sha512-256` over all of its files
-together; and over a store of 100,000 small chunk files, beside `find FOLDER -type f | sort`.
+"""`desync verify -n 1` over a store of chunks of random bytes, beside one `openssl dgst -sha512-256` over all of its
+files together; and over a store of 100,000 small chunk files, beside `find FOLDER -type f | sort`. Over both also with
+two and four workers beside one.
 
 The first store has chunks of 64 KiB. Needs the first store's size under the temporary folder, and 100,000 files.
 """
@@ -9,12 +10,17 @@ import os
 import random
 import shutil
 
+# First, since tests/, which side_by_side looks into, has a module of this name.
+import workers
 import side_by_side
 import formats
 
 CHUNK = 65536
 COUNT = 100_000
 SMALL = 256
+
+# The wanted ratios to one worker: with two, and with four.
+WANTED = (0.6, 0.35)
 
 
 def lay_out(folder, count, size, seed):
@@ -32,7 +38,11 @@ def shell(what, text):
 
 
 def verify(what, store, at_most=None):
-    return side_by_side.Row(what, ['verify', '-s', store], at_most=at_most)
+    return side_by_side.Row(what, ['verify', '-n', '1', '-s', store], at_most=at_most)
+
+
+def crews(what, store, wanted):
+    return workers.job(what, ['-s', store], lambda: None, wanted, ['verify'])
 
 
 def main():
@@ -40,16 +50,20 @@ def main():
     with side_by_side.work_folder() as folder:
         size = lay_out(os.path.join(folder, 'large'), options.size * side_by_side.MIB // CHUNK, CHUNK, 3)
         rows = [shell('openssl dgst of all files', 'find large -type f -print0 | xargs -0 openssl dgst -sha512-256'),
-                verify('verify', 'large', 1.6)]
-        side_by_side.measure(rows, folder, options.runs)
+                verify('verify -n 1', 'large', 1.6)]
+        several = crews('chunks of 64 KiB', 'large', WANTED)
+        side_by_side.measure([*rows, *several], folder, options.runs)
         print(f'{size} bytes in {size // CHUNK} chunks; medians of {options.runs} runs')
         side_by_side.print_table(rows, size)
+        side_by_side.print_table(several, size)
 
         size = lay_out(os.path.join(folder, 'many'), COUNT, SMALL, 4)
-        rows = [shell('find | sort', 'find many -type f | LC_ALL=C sort'), verify('verify', 'many')]
-        side_by_side.measure(rows, folder, options.runs)
+        rows = [shell('find | sort', 'find many -type f | LC_ALL=C sort'), verify('verify -n 1', 'many')]
+        several = crews('100,000 files', 'many', (None, None))
+        side_by_side.measure([*rows, *several], folder, options.runs)
         print(f'{COUNT} chunk files of {SMALL} bytes; medians of {options.runs} runs')
         side_by_side.print_table(rows, size)
+        side_by_side.print_table(several, size)
 
 
 if __name__ == '__main__':

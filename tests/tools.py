@@ -101,6 +101,38 @@ def verified(cases):
         expect_ended(ended, 'damaged chunks left: 1', out=text_of('damaged', [name]))
 
 
+def workers(cases):
+    """verify ends alike with any number of workers, over a store of more files than they read in one round."""
+    for count in ('1', '2', '8', '32'):
+        with cases.case(f'verify with {count} workers') as folder:
+            store = Store(folder, pieces=600)
+            names = [name for name in sorted(store.chunks) if store.chunks[name]]
+            damaged = names[1::7]
+            for place, change in enumerate(DAMAGES.values()):
+                store.damage(damaged[place::len(DAMAGES)], change)
+            os.truncate(formats.chunk_path(store.path('st'), damaged[40]), formats.SIZE_LIMIT + 1)
+            before = snapshot(folder)
+            ended = store.run('verify', '-n', count, '-s', 'st')
+            expect_ended(ended, f'damaged chunks left: {len(damaged)}', out=text_of('damaged', damaged))
+            expect_untouched(before, snapshot(folder))
+            expect_ended(store.run('verify', '-r', '-n', count, '-s', 'st'), out=text_of('removed', damaged))
+            left = {name: piece for name, piece in store.chunks.items() if name not in damaged}
+            expect_files(store.path('st'), store.files(left), 'after verify -r')
+        with cases.case(f'verify of an empty store with {count} workers') as folder:
+            os.mkdir(os.path.join(folder, 'st'))
+            expect_ended(program.run(['verify', '-r', '-n', count, '-s', 'st'], folder))
+        with cases.case(f'a file that can\'t be read ends verify with {count} workers') as folder:
+            store = Store(folder, pieces=300)
+            os.chmod(folder, 0o777)
+            names = [name for name in sorted(store.chunks) if store.chunks[name]]
+            store.damage([names[3], names[250]], DAMAGES['another byte'])
+            os.chmod(formats.chunk_path(store.path('st'), names[200]), 0)
+            ended = program.run_without_rights(['verify', '-n', count, '-s', 'st'], folder)
+            expect_ended(ended, 'store 0 failed', out=text_of('damaged', [names[3]]))
+    with cases.case('verify of a store that isn\'t there, with workers') as folder:
+        expect_ended(program.run(['verify', '-n', '8', '-s', 'far'], folder), 'far: no such folder')
+
+
 def pruned(cases):
     for indexes in (('a.caibx',), ('a.caibx', 'b.caibx'), ('b.caibx', 'b.caibx')):
         with cases.case(f'prune by {indexes}') as folder:
@@ -216,7 +248,7 @@ def mended_and_pruned(cases):
 def main():
     needs_program('tools')
     cases = Cases('tools')
-    for group in (verified, pruned, faults, mended_and_pruned):
+    for group in (verified, workers, pruned, faults, mended_and_pruned):
         group(cases)
     return cases.end()
 

@@ -151,7 +151,8 @@ name says: `damaged` and its id, in the order of the ids.
 
   -s, --store FOLDER            the store
   -r, --repair                  remove such chunks; the line says `removed`
-  -n, --concurrency WORKERS     1 to 32 workers; for now one does all
+  -n, --concurrency WORKERS     1 to 32 workers to read chunks, 10 if not given;
+                                the outcome is the same with any number
 
 example: desync verify -s chunks
 ";

@@ -17,7 +17,7 @@ use Rattle.dsy_base.specs.Maps.{Map, at_name}
 use Rattle.store_commands.specs.Prune.{PruneEnds, StorePruned}
 use Rattle.store_commands.specs.Verify.{StoreVerified, VerifiedBack, VerifyEnds, answer_of_left}
 use Rattle.verify_tool.specs.Pruning.{is_listed_in, pruned}
-use Rattle.verify_tool.specs.Verifying.{IsStoreChecked, left_of, text_of_damaged}
+use Rattle.store_check.specs.Verifying.{IsStoreChecked, left_of, text_of_damaged}
 
 -- the folder of this name isn't there while it is taken
 abbrev pub taken_from : Contents → List ℕ → Contents

@@ -10,7 +10,7 @@ use Rattle.store_commands.specs.Prune.{IsPruned, IsPrunedTo, PruneEnds}
 use Rattle.store_commands.specs.Verify.{IsVerifiedStore, VerifyEnds}
 use Rattle.dsy_base.specs.Maps.{Map, at_name}
 use Rattle.verify_tool.specs.Pruning.{is_listed_in, pruned}
-use Rattle.verify_tool.specs.Verifying.{AreDamaged, IsStoreChecked, left_of}
+use Rattle.store_check.specs.Verifying.{AreDamaged, IsStoreChecked, left_of}
 
 abbrev Taken : List ℕ → Option (Map (Map (List ℕ))) → Option (Map (List ℕ)) → Type 0
 Taken store y held = IfSome y (λ m. (f : Map (List ℕ)) × (m store ≡ Some f) × (held ≡ Some f))

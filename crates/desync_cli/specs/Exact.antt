@@ -54,7 +54,7 @@ use Rattle.verify_tool.specs.Counts.{held_count}
 use Rattle.verify_tool.specs.Filling.{IsGivenBy}
 use Rattle.verify_tool.specs.Pruning.{is_listed_in, pruned}
 use Rattle.verify_tool.specs.Texts.{text_of_chunks, text_of_info}
-use Rattle.verify_tool.specs.Verifying.{AreDamaged, damaged_left, left_of, text_of_damaged}
+use Rattle.store_check.specs.Verifying.{AreDamaged, damaged_left, left_of, text_of_damaged}
 
 -- nothing fails over a command with these parts: files, folders and the output tell, and hold x; no call on them or on
 -- the listener has failed; and all stores are folders

@@ -147,7 +147,11 @@ where
             indexes,
             ..
         } => fill_cache(alloc, files, dial, stores, cache, indexes),
-        Command::Verify { store, repair, .. } => verify(alloc, files, out, store, repair),
+        Command::Verify {
+            store,
+            repair,
+            workers,
+        } => verify(rt, alloc, files, out, store, repair, workers),
         Command::Prune { store, indexes } => prune_folder(alloc, files, store, indexes),
         Command::Demo {
             number,

@@ -39,6 +39,8 @@ mod storing_tests;
 #[cfg(test)]
 mod survey_tests;
 #[cfg(test)]
+mod verifying_tests;
+#[cfg(test)]
 mod view_tests;
 #[cfg(test)]
 mod worker_tests;

@@ -12,8 +12,9 @@ use dsy_forms::mem_sink::MemSink;
 use std::alloc::Global;
 use std::collections::BTreeSet;
 use std::process::Abort;
+use std::thread::Threads;
+use store_check::verify::{StoreCheck, verify_store};
 use verify_tool::prune::prune;
-use verify_tool::verify::{StoreCheck, verify_store};
 
 const ABC_FILE: &str = "5304/53048e2681941ef99b2e29b76b4c7dabe4c2d0c634fc6d46e0e2f13107e7af23";
 
@@ -46,8 +47,8 @@ fn same_names(rt: &impl Abort, store: &mut DirStore<MemFolder>, want: &[&str]) {
 
 // Verifies the store over a sink of which these calls fail, and compares how it ended, what was printed, and which
 // files are left.
-fn verifies(
-    rt: &impl Abort,
+fn verifies<R: Abort + Threads + Sync>(
+    rt: &R,
     alloc: Global,
     mut store: DirStore<MemFolder>,
     repair: bool,
@@ -57,7 +58,9 @@ fn verifies(
     left: &[&str],
 ) {
     let mut out = MemSink::new(alloc, fails);
-    same(rt, verify_store(alloc, &mut store, repair, &mut out), ended);
+    let mut none: Vec<DirStore<MemFolder>> = Vec::new(alloc);
+    let verified = verify_store(rt, alloc, &mut store, &mut none, repair, &mut out);
+    same(rt, verified, ended);
     same(rt, out.taken(), printed.as_bytes());
     same_names(rt, &mut store, left);
 }

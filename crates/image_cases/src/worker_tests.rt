@@ -52,7 +52,8 @@ impl StoreGate {
         self.passed.load(Ordering::SeqCst)
     }
 
-    fn wait(&self) {
+    // Waits for another store to be asked.
+    pub(crate) fn wait(&self) {
         let _ = self.asked.fetch_add(1, Ordering::SeqCst);
         for _ in 0..TURNS {
             if 2 <= self.asked.load(Ordering::SeqCst) {

@@ -1,14 +1,19 @@
 -- A folder that was taken, and given back with what it has counted.
-use Rattle.std.proofs.Common.{◌≡◌, ◌≢◌, ◌==◌, ℕ, List, Bool, true, false, cond, Option, Ok, Err, refl, sym, subst, ◌∙◌, arith, eq-eqb, eqb-true}
+use Rattle.std.proofs.Common.{◌≡◌, ◌≢◌, ◌==◌, ℕ, List, Bool, true, false, cond, Option, Some, None, IfSome, is_some, IfOk, OnErr, Result, Ok, Err, refl, sym, ap, subst, ◌∙◌, arith, eq-eqb, eqb-true, true≢false}
+use Rattle.std.specs.Option.{option_map}
 use Rattle.std.specs.Map.{count_at}
 use Rattle.command_outcome.specs.declared.outcome.Outcome.TheVariants as ends
-use Rattle.command_steps.proofs.Numbers.{given_rose}
-use Rattle.command_worlds.specs.Worlds.{FolderRose, Reads, World}
-use Rattle.store_commands.specs.Verify.{KeepsCounts, StoreVerified, VerifiedBack, answer_of_left}
+use Rattle.command_steps.proofs.Numbers.{given_rose, rose_later}
+use Rattle.command_worlds.specs.Worlds.{Adds, FolderRose, Reads, World}
+use Rattle.store_commands.specs.Verify.{KeepsCounts, StoreVerified, VerifiedBack, answer_of_left, answer_of_verify}
 use Rattle.dsy_base.specs.Counts.{Rose}
 use Rattle.dsy_base.specs.Disk.{Disk, GivesFolder}
-use Rattle.dsy_base.specs.Maps.{Map}
-use Rattle.verify_tool.specs.Verifying.{IsStoreChecked}
+use Rattle.dsy_base.specs.Maps.{Map, at_name}
+use Rattle.dsy_base.specs.declared.look.Look.{Ghosts as LookWords}
+use Rattle.store_check.specs.Verifying.{Change, IsStoreChecked, StopsVerifying}
+use Rattle.store_check.specs.declared.verify.StoreCheck.{StoreCheck}
+use Rattle.store_check.specs.declared.verify.StoreCheck.TheVariants as checks
+use Rattle.told_folders.specs.Telling.{told_if}
 
 -- a fault of a folder that had counted none is one of its name
 pub gives_rose : (d e : Disk) (q : List ℕ) (m n : ℕ) → GivesFolder d e q n → m ≡ 0 → Rose m n → FolderRose d e q
@@ -17,6 +22,51 @@ gives_rose d e q m n given none rose =
 
 pub reads_still : (d : Disk) → Reads d d
 reads_still d = record { files = refl; folders = refl; counts = λ q. omega arith; folder_counts = λ q. omega arith; known = λ q is. is; folder_known = λ q is. is }
+
+-- ---- a folder that tells its files where the disk tells its folders
+
+-- what is told of it where it was taken
+pub taken_told : (folders : Option (Map (Map (List ℕ)))) (tells : Bool) (q : List ℕ) (held : Option (Map (List ℕ))) → is_some folders ≡ tells → IfSome folders (λ m. (f : Map (List ℕ)) × (m q ≡ Some f) × (held ≡ Some f))
+    → IfSome folders (λ m. (f : Map (List ℕ)) × (m q ≡ Some f) × (told_if tells held ≡ Some f))
+taken_told None tells q held told found = tt
+taken_told (Some m) true q held told found = found
+taken_told (Some m) false q held told found = absurd (true≢false told)
+
+-- a look at it tells the same
+pub look_told : (folders : Option (Map (Map (List ℕ)))) (tells : Bool) (q : List ℕ) (held looked : Option (Map (List ℕ))) → is_some folders ≡ tells
+    → IfSome folders (λ m. (f : Map (List ℕ)) × (m q ≡ Some f) × (held ≡ Some f)) → IfSome folders (λ m. (f : Map (List ℕ)) × (m q ≡ Some f) × (looked ≡ Some f)) → IfSome (told_if tells held) (λ m. looked ≡ Some m)
+look_told None true q held looked told found seen = absurd (true≢false (sym told))
+look_told None false q held looked told found seen = tt
+look_told (Some m) false q held looked told found seen = absurd (true≢false told)
+look_told (Some m) true q held looked told (f, there, is) (e, also, sees) = subst (λ (o : Option (Map (List ℕ))). IfSome o (λ n. looked ≡ Some n)) (sym is) (sees ∙ sym also ∙ there)
+
+-- and so it is given back
+pub given_told : (folders : Option (Map (Map (List ℕ)))) (tells : Bool) (q : List ℕ) (held : Option (Map (List ℕ))) → is_some folders ≡ tells → option_map (λ m. at_name m q held) folders ≡ option_map (λ m. at_name m q (told_if tells held)) folders
+given_told None tells q held told = refl
+given_told (Some m) true q held told = refl
+given_told (Some m) false q held told = absurd (true≢false told)
+
+pub folder_back : {F : Type 0} (look : LookWords F) (tells other : Bool) (q name : List ℕ) (d e b : Disk) (folder last : F) → is_some d.folders ≡ tells → other ≡ tells → name ≡ q → folder ≡ last → e.folders ≡ d.folders
+    → b.folders ≡ option_map (λ m. at_name m name (look.files folder)) e.folders → b.folders ≡ option_map (λ m. at_name m q (told_if other (look.files last))) d.folders
+folder_back look tells other q name d e b folder last told telling named same kept given =
+    given ∙ (λ i. option_map (λ m. at_name m (named i) (look.files (same i))) (kept i))
+    ∙ given_told d.folders tells q (look.files last) told
+    ∙ ap (λ (t : Bool). option_map (λ m. at_name m q (told_if t (look.files last))) d.folders) (sym telling)
+
+-- a disk that was read, and to which a folder was given back then
+pub adds_later : (d e b : Disk) → Reads d e → Adds e b → Adds d b
+adds_later d e b read adds = record {
+  files = adds.files ∙ read.files;
+  counts = λ p. omega (arith, read.counts p, adds.counts p);
+  folder_counts = λ p. omega (arith, read.folder_counts p, adds.folder_counts p);
+  known = λ p is. adds.known p (read.known p is);
+  folder_known = λ p is. adds.folder_known p (read.folder_known p is);
+}
+
+-- a fault of the folder is one of its name, whatever was read before it was given back
+pub gives_rose_later : (d e b : Disk) (q : List ℕ) (m n : ℕ) → Reads d e → GivesFolder e b q n → m ≡ 0 → Rose m n → FolderRose d b q
+gives_rose_later d e b q m n read given none rose =
+    rose_later (count_at d.folder_counts q) (count_at e.folder_counts q) (count_at b.folder_counts q) (read.folder_counts q) (gives_rose e b q m n given none rose)
 
 module _ (q : List ℕ) (repair : Bool) (held : Option (Map (List ℕ))) (w v : World) (n : ℕ) (keeps : KeepsCounts w v) (back : VerifiedBack q held (IsStoreChecked repair n) w v) where
   left_by : (b : Bool) → (n == 0) ≡ b → StoreVerified q repair held w (cond b (Ok tt) (Err (ends.DamagedLeft n))) v
@@ -28,3 +78,15 @@ module _ (q : List ℕ) (repair : Bool) (held : Option (Map (List ℕ))) (w v : 
   -- the answer by how many are left
   pub left_ends : StoreVerified q repair held w (answer_of_left n) v
   left_ends = left_by (n == 0) refl
+
+-- the outcome of a check, whose folder was given back
+module _ (q : List ℕ) (repair : Bool) (held new : Option (Map (List ℕ))) (w v : World) (keeps : KeepsCounts w v) (back : v.disk.folders ≡ option_map (λ m. at_name m q new) w.disk.folders) where
+  abbrev change : Change
+  change = record { old = held; new = new; before = w.out.taken; taken = v.out.taken }
+
+  pub outcome_ends : (r : Result ℕ StoreCheck) → IfOk r (λ n. IsStoreChecked repair n change) → OnErr r (StopsVerifying repair change) → (r ≡ Err checks.StoreFault → FolderRose w.disk v.disk q) → (r ≡ Err checks.OutFault → Rose w.out.faults v.out.faults)
+      → StoreVerified q repair held w (answer_of_verify r) v
+  outcome_ends (Ok n) all stops store out = left_ends q repair held w v n keeps (record { files = new; back = back; change = all })
+  outcome_ends (Err checks.StoreFault) all stops store out = ((refl, store refl, record { files = new; back = back; change = stops }), keeps)
+  outcome_ends (Err checks.OutFault) all stops store out = ((out refl, record { files = new; back = back; change = stops }), keeps)
+  outcome_ends (Err checks.Memory) all stops store out = (record { files = new; back = back; change = stops }, keeps)

@@ -2,4 +2,5 @@ pub mod CacheFilled
 pub mod Counting
 pub mod GivenFolders
 pub mod Listened
+pub mod Looking
 pub mod VerifyIndex

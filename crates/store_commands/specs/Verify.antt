@@ -9,12 +9,21 @@ use Rattle.command_steps.specs.Stores.{StoreTaken}
 use Rattle.command_worlds.specs.Worlds.{Adds, FolderRose, OnDisk, Step, World}
 use Rattle.dsy_base.specs.Counts.{Rose}
 use Rattle.dsy_base.specs.Maps.{Map, at_name}
-use Rattle.verify_tool.specs.Verifying.{AreDamaged, Change, IsStoreChecked, StopsVerifying, damaged_left, left_of}
-use Rattle.verify_tool.specs.Verifying.{text_of_damaged}
+use Rattle.store_check.specs.Verifying.{AreDamaged, Change, IsStoreChecked, StopsVerifying, damaged_left, left_of}
+use Rattle.store_check.specs.Verifying.{text_of_damaged}
+use Rattle.store_check.specs.declared.verify.StoreCheck.{StoreCheck}
+use Rattle.store_check.specs.declared.verify.StoreCheck.TheVariants as checks
 
 -- the answer where n damaged chunk files are left
 abbrev pub answer_of_left : ℕ → Result Unit Outcome
 answer_of_left n = if n == 0 then Ok tt else Err (ends.DamagedLeft n)
+
+-- the outcome of the check
+abbrev pub answer_of_verify : Result ℕ StoreCheck → Result Unit Outcome
+answer_of_verify (Ok n) = answer_of_left n
+answer_of_verify (Err checks.StoreFault) = Err (ends.StoreFault 0)
+answer_of_verify (Err checks.OutFault) = Err ends.OutFault
+answer_of_verify (Err checks.Memory) = Err ends.Memory
 
 -- the folder, whose files were `held`, was given back, and its files and what was printed stand as P says
 pub record VerifiedBack (q : List ℕ) (held : Option (Map (List ℕ))) (P : Change → Type 0) (w v : World) : Type 0 where

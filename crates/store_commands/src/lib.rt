@@ -3,6 +3,7 @@
 
 pub mod cache;
 pub mod info;
+mod looks;
 pub mod prune;
 pub mod server;
 pub mod verify;

@@ -8,4 +8,3 @@ pub mod EntryCalls
 pub mod Filled
 pub mod Pruned
 pub mod Kept
-pub mod Verified

@@ -4,4 +4,3 @@ pub mod Blocks
 pub mod Figures
 pub mod Filling
 pub mod Pruning
-pub mod Verifying

@@ -1,4 +1,4 @@
-//! What an index says: told, and kept in a cache. And folder stores, checked and pruned.
+//! What an index says: told, and kept in a cache. And folder stores, pruned.
 #![tactic(auto)]
 
 pub mod count;
@@ -6,4 +6,3 @@ pub mod fill;
 pub mod info;
 pub mod list;
 pub mod prune;
-pub mod verify;

@@ -16,8 +16,8 @@ use std::alloc::{AllocError, Global};
 /// How many bytes are gathered before they are put: 512 lines.
 const BLOCK: usize = 33_280;
 
-// Appends the line of an id.
-pub(crate) fn push_line(block: &mut Vec<u8>, id: &ChunkId) -> Result<(), AllocError>
+/// Appends the line of an id.
+pub fn push_line(block: &mut Vec<u8>, id: &ChunkId) -> Result<(), AllocError>
     ensures ok { OnOk result (block.new.items ≡ block.old.items ++ (encode_lower id.now.0 ++ 10 ∷ [])) }
 {
     block.extend_from_slice(id.to_hex().as_slice())?;

@@ -1,72 +1,49 @@
-use Rattle.std.proofs.Common.{◌≡◌, Err, refl, subst, sym, rules}
-use Rattle.command_worlds.specs.Worlds.{world}
+use Rattle.std.proofs.Common.{◌≡◌, IfOk, IsSome, OnErr, Err, get_or, refl, subst, sym, ◌∙◌}
 use Rattle.command_steps.proofs.Taken.{gives_adds}
-use Rattle.store_commands.proofs.GivenFolders.{gives_rose, left_ends}
-use Rattle.store_commands.specs.Verify.{KeepsCounts, StoreVerified, VerifiedBack}
+use Rattle.command_worlds.specs.Worlds.{world}
+use Rattle.dsy_base.specs.Counts.{Rose}
+use Rattle.dsy_base.specs.Disk.{GivesFolder}
+use Rattle.store_check.specs.Verifying.{IsStoreChecked, StopsVerifying}
+use Rattle.store_commands.proofs.GivenFolders.{adds_later, folder_back, gives_rose_later, outcome_ends}
+use Rattle.store_commands.proofs.Looking.{places_kept}
+use Rattle.store_commands.specs.Verify.{KeepsCounts, StoreVerified}
+use Rattle.told_folders.specs.Telling.{told_if}
 use Rattle.store_commands.proofs.verify.verify_taken.Goals as goal
-use Rattle.verify_tool.specs.declared.verify.StoreCheck.TheVariants as checks
-use Rattle.verify_tool.specs.Verifying.{IsStoreChecked, StopsVerifying}
 
-pub returns-in-Ok : goal.returns-in-Ok
-returns-in-Ok g c = λ k.
+pub end_looks-requires : goal.end_looks-requires
+end_looks-requires g c =
+    let look = g.F.Look.Look in
+    let counts = (g.F.Files.disk c.args.files.now).folder_counts in
+    let new = c.verify_store-verified.new.others.items in
+    let places = places_kept look c.args.store.now c.args.taken.looks.items new c.verify_store-verified.ensures.others c.requires.places in
+    record { known = λ k l lt. subst (λ q. IsSome (counts q)) (sym (places k l lt)) c.requires.folder }
+
+pub returns : goal.returns
+returns g c = λ k.
     let D = g.F.Folder.Look in
     let at = g.F.Files.disk in
     let out = g.O.Sink.output in
     let q = c.args.store.now in
-    let held = D.files c.args.taken in
-    let new = D.files c.verify_store-verified.new.store in
-    let w = world (at c.args.files.now) k (out c.args.out.now) in
-    let v = world (at c.give_folder.new.files) k (out c.verify_store-verified.new.out) in
-    let n = c.in-Ok.count in
-    let all = c.in-Ok.ensures.ok in
-    let keeps : KeepsCounts w v = record { adds = gives_adds w.disk v.disk q (D.faults c.verify_store-verified.new.store) c.give_folder.ensures.counts; dial = refl; out = c.verify_store-verified.ensures.faults.never_falls } in
-    let back : VerifiedBack q held (IsStoreChecked c.args.repair n) w v = record { files = new; back = c.give_folder.ensures.folders; change = all } in
-    subst (λ r. StoreVerified q c.args.repair held w r v) (sym c.none_left.ensures.value) (left_ends q c.args.repair held w v n keeps back)
-
-pub returns-in-Err-StoreFault : goal.returns-in-Err-StoreFault
-returns-in-Err-StoreFault g c = λ k.
-    let D = g.F.Folder.Look in
-    let at = g.F.Files.disk in
-    let out = g.O.Sink.output in
-    let q = c.args.store.now in
-    let held = D.files c.args.taken in
-    let new = D.files c.verify_store-verified.new.store in
-    let w = world (at c.args.files.now) k (out c.args.out.now) in
-    let v = world (at c.give_folder.new.files) k (out c.verify_store-verified.new.out) in
-    let stops = rw c.in-Err-StoreFault.is at c.verify_store-verified.ensures.err in
-    let keeps : KeepsCounts w v = record { adds = gives_adds w.disk v.disk q (D.faults c.verify_store-verified.new.store) c.give_folder.ensures.counts; dial = refl; out = c.verify_store-verified.ensures.faults.never_falls } in
-    let back : VerifiedBack q held (StopsVerifying c.args.repair) w v = record { files = new; back = c.give_folder.ensures.folders; change = stops } in
-    let failed : c.verify_store-verified.result ≡ Err checks.StoreFault = search rules in
-    let rose = gives_rose w.disk v.disk q (D.faults c.args.taken) (D.faults c.verify_store-verified.new.store) c.give_folder.ensures.counts c.requires.fresh (c.verify_store-verified.ensures.store_faults.cause failed) in
-    ((refl, rose, back), keeps)
-
-pub returns-in-Err-OutFault : goal.returns-in-Err-OutFault
-returns-in-Err-OutFault g c = λ k.
-    let D = g.F.Folder.Look in
-    let at = g.F.Files.disk in
-    let out = g.O.Sink.output in
-    let q = c.args.store.now in
-    let held = D.files c.args.taken in
-    let new = D.files c.verify_store-verified.new.store in
-    let w = world (at c.args.files.now) k (out c.args.out.now) in
-    let v = world (at c.give_folder.new.files) k (out c.verify_store-verified.new.out) in
-    let stops = rw c.in-Err-OutFault.is at c.verify_store-verified.ensures.err in
-    let keeps : KeepsCounts w v = record { adds = gives_adds w.disk v.disk q (D.faults c.verify_store-verified.new.store) c.give_folder.ensures.counts; dial = refl; out = c.verify_store-verified.ensures.faults.never_falls } in
-    let back : VerifiedBack q held (StopsVerifying c.args.repair) w v = record { files = new; back = c.give_folder.ensures.folders; change = stops } in
-    let failed : c.verify_store-verified.result ≡ Err checks.OutFault = search rules in
-    ((c.verify_store-verified.ensures.faults.cause failed, back), keeps)
-
-pub returns-in-Err-Memory : goal.returns-in-Err-Memory
-returns-in-Err-Memory g c = λ k.
-    let D = g.F.Folder.Look in
-    let at = g.F.Files.disk in
-    let out = g.O.Sink.output in
-    let q = c.args.store.now in
-    let held = D.files c.args.taken in
-    let new = D.files c.verify_store-verified.new.store in
-    let w = world (at c.args.files.now) k (out c.args.out.now) in
-    let v = world (at c.give_folder.new.files) k (out c.verify_store-verified.new.out) in
-    let stops = rw c.in-Err-Memory.is at c.verify_store-verified.ensures.err in
-    let keeps : KeepsCounts w v = record { adds = gives_adds w.disk v.disk q (D.faults c.verify_store-verified.new.store) c.give_folder.ensures.counts; dial = refl; out = c.verify_store-verified.ensures.faults.never_falls } in
-    let back : VerifiedBack q held (StopsVerifying c.args.repair) w v = record { files = new; back = c.give_folder.ensures.folders; change = stops } in
-    (back, keeps)
+    let d = at c.args.files.now in
+    let e = at c.end_looks.new.files in
+    let b = at c.give_folder.new.files in
+    let first = c.args.taken.store in
+    let last = c.verify_store-verified.new.store in
+    let r = c.verify_store-verified.result in
+    let done = c.verify_store-verified.ensures in
+    let began : c.new-told.result ≡ first = c.new-told.ensures ∙ c.new-folder.ensures ∙ c.into_inner.ensures in
+    let ended : c.new.result ≡ last = c.new.ensures ∙ c.into_inner-folder.ensures ∙ c.into_inner-2.ensures in
+    let held = told_if g.F.Files.tells (D.files first) in
+    let new = told_if g.N.Telling.tells (D.files last) in
+    let held_is : told_if g.N.Telling.tells (D.files c.new-told.result) ≡ held = (λ i. told_if (c.requires.telling i) (D.files (began i))) in
+    let w = world d k (out c.args.out.now) in
+    let v = world b k (out c.verify_store-verified.new.out) in
+    let given = subst (λ f. GivesFolder e b q (D.faults f)) ended (subst (λ p. GivesFolder e b p (D.faults c.new.result)) c.as_str.ensures c.give_folder.ensures.counts) in
+    let keeps : KeepsCounts w v = record { adds = adds_later d e b c.end_looks.ensures.kept (gives_adds e b q (D.faults last) given); dial = refl; out = done.faults.never_falls } in
+    let back = folder_back D g.F.Files.tells g.N.Telling.tells q c.as_str.result.now d e b c.new.result last (g.met.F.Files.told c.args.files.now).1 c.requires.telling c.as_str.ensures ended c.end_looks.ensures.kept.folders c.give_folder.ensures.folders in
+    let ok = subst (λ o. IfOk r (λ n. IsStoreChecked c.args.repair n (record { old = o; new = new; before = w.out.taken; taken = v.out.taken }))) held_is done.ok in
+    let err = subst (λ o. OnErr r (StopsVerifying c.args.repair (record { old = o; new = new; before = w.out.taken; taken = v.out.taken }))) held_is done.err in
+    subst (λ x. StoreVerified q c.args.repair held w x v) (sym c.outcome_of.ensures.value)
+    (outcome_ends q c.args.repair held new w v keeps back r ok err
+    (λ failed. gives_rose_later d e b q (D.faults first) (D.faults last) c.end_looks.ensures.kept given c.requires.fresh (subst (λ f. Rose (D.faults f) (D.faults last)) began (done.store_faults.cause failed)))
+    done.faults.cause)

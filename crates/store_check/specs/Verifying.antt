@@ -15,7 +15,7 @@ use Rattle.dsy_base.specs.Disk.{PutsFront}
 use Rattle.dsy_base.specs.Maps.{Map}
 use Rattle.hex.specs.Hex.{encode_lower}
 use Rattle.verify_tool.specs.Pruning.{without}
-use Rattle.verify_tool.specs.declared.verify.StoreCheck.{StoreCheck}
+use Rattle.store_check.specs.declared.verify.StoreCheck.{StoreCheck}
 
 -- whether there are bytes, and they aren't the chunk of this id: too many, or of another name
 abbrev pub is_wrong : List ℕ → Option (List ℕ) → Bool

@@ -26,8 +26,9 @@ use Rattle.verify_tool.proofs.Distinct.{front_is}
 use Rattle.verify_tool.proofs.Pruned.{without_append}
 use Rattle.verify_tool.proofs.Sending.{put_both, put_nothing}
 use Rattle.verify_tool.specs.Pruning.{without}
-use Rattle.verify_tool.specs.Verifying.{AreDamaged, AreTold, Change, ChecksFile, IsStopped, IsStoreChecked, found_at, is_damaged, is_wrong, left_of, line_of_damaged, text_of_damaged}
-use Rattle.verify_tool.specs.declared.verify.StoreCheck.{StoreCheck}
+use Rattle.store_check.specs.Verifying.{AreDamaged, AreTold, Change, ChecksFile, IsStopped, IsStoreChecked, found_at, is_damaged, is_wrong, left_of, line_of_damaged, text_of_damaged}
+use Rattle.store_check.specs.VerifyProgress.{ToldTo}
+use Rattle.store_check.specs.declared.verify.StoreCheck.{StoreCheck}
 
 -- ---- an id that stands behind others isn't one of them
 
@@ -67,6 +68,13 @@ module _ (one : (a b : List ℕ) → IsId b → path_of a ≡ path_of b → a �
   still_told repair ds b None fresh h = tt
   still_told false ds b (Some m) fresh h = h
   still_told true ds b (Some m) fresh h = h ∙ ap (λ t. is_wrong id (cond t None (m (path_of id)))) (same_member ds ∙ fresh)
+
+  -- and is found so if it would have been
+  still_known : (repair : Bool) (ds : List (List ℕ)) (b : Bool) (o : Option (Map (List ℕ))) → IfSome o (λ m. is_member bytes_eq ds id ≡ false) → IfSome o (λ m. b ≡ is_damaged m id) → IfSome (left_of repair ds o) (λ m. b ≡ is_damaged m id)
+  still_known false ds b None fresh h = tt
+  still_known true ds b None fresh h = tt
+  still_known false ds b (Some m) fresh h = h
+  still_known true ds b (Some m) fresh h = h ∙ sym (ap (λ t. is_wrong id (cond t None (m (path_of id)))) (same_member ds ∙ fresh))
 
 -- ---- one after another
 
@@ -113,17 +121,10 @@ stopped repair c ds rest all files size from to text =
       text = text ∙ ap (λ x. option_map (λ t. t ++ x) c.before) (sym cut);
     }
 
--- the first i of the ids L were looked at, and n of them are damaged
-pub record Walked (repair : Bool) (L : List (List ℕ)) (i n : ℕ) (c : Change) : Type 0 where
-  pub damaged : List (List ℕ)
-  pub all : IfSome c.old (λ m. damaged ≡ filter (is_damaged m) (take i L))
-  pub told : AreTold repair damaged c
-  pub count : n ≡ length damaged
-  pub few : n ≤ i
-
-pub walk_begins : (repair : Bool) (L : List (List ℕ)) (o : Option (Map (List ℕ))) (t : Option (List ℕ)) → Walked repair L 0 0 (record { old = o; new = o; before = t; taken = t })
-walk_begins repair L o t = record { damaged = []; all = none_yet o; told = none_told repair o t; count = refl; few = omega arith } where
-  none_yet : (x : Option (Map (List ℕ))) → IfSome x (λ m. [] ≡ filter (is_damaged m) (take 0 L))
+-- no file was looked at yet
+pub told_begins : (repair : Bool) (ids : List ChunkId) (o : Option (Map (List ℕ))) (t : Option (List ℕ)) → ToldTo repair ids 0 0 (record { old = o; new = o; before = t; taken = t })
+told_begins repair ids o t = record { damaged = []; all = none_yet o; told = none_told repair o t; count = refl; few = omega arith } where
+  none_yet : (x : Option (Map (List ℕ))) → IfSome x (λ m. [] ≡ filter (is_damaged m) (take 0 (map (λ id. id.0) ids)))
   none_yet None = tt
   none_yet (Some m) = refl
 
@@ -132,7 +133,7 @@ module _ (one : (a b : List ℕ) → IsId b → path_of a ≡ path_of b → a �
   L = map (λ id. id.0) ids
 
   module _ (i n : ℕ) (lt : i < length L) (c d : Change) (old : d.old ≡ c.new) (before : d.before ≡ c.taken)
-      (listed : IfSome c.old (λ m. IsIdsOf m ids)) (walked : Walked repair L i n c) (id : List ℕ) (id_is : id ≡ get_or L i []) (is : IsId id) where
+      (listed : IfSome c.old (λ m. IsIdsOf m ids)) (walked : ToldTo repair ids i n c) (id : List ℕ) (id_is : id ≡ get_or L i []) (is : IsId id) where
     abbrev joined : Change
     joined = record { old = c.old; new = d.new; before = c.before; taken = d.taken }
 
@@ -153,6 +154,10 @@ module _ (one : (a b : List ℕ) → IsId b → path_of a ≡ path_of b → a �
     told_first : (b : Bool) → IfSome d.old (λ m. b ≡ is_damaged m id) → IfSome c.old (λ m. b ≡ is_damaged m id)
     told_first b h = still_told one id is repair walked.damaged b c.old (fresh c.old listed walked.all) (subst (λ (x : Option (Map (List ℕ))). IfSome x (λ m. b ≡ is_damaged m id)) (old ∙ walked.told.files) h)
 
+    -- what was known of the file at first holds of it now
+    pub told_now : (b : Bool) → IfSome c.old (λ m. b ≡ is_damaged m id) → IfSome d.old (λ m. b ≡ is_damaged m id)
+    told_now b h = subst (λ (x : Option (Map (List ℕ))). IfSome x (λ m. b ≡ is_damaged m id)) (sym (old ∙ walked.told.files)) (still_known one id is repair walked.damaged b c.old (fresh c.old listed walked.all) h)
+
     more_of : (b : Bool) (o : Option (Map (List ℕ))) → IfSome o (λ m. walked.damaged ≡ filter (is_damaged m) (take i L)) → IfSome o (λ m. b ≡ is_damaged m id) → IfSome o (λ m. walked.damaged ++ found_at id b ≡ filter (is_damaged m) (take (i + 1) L))
     more_of b None are value = tt
     more_of b (Some m) are value =
@@ -160,8 +165,8 @@ module _ (one : (a b : List ℕ) → IsId b → path_of a ≡ path_of b → a �
         ∙ ap (filter (is_damaged m)) (ap (λ x. take i L ++ x ∷ []) id_is ∙ sym (front_is L i lt))
 
     -- this one was looked at too
-    pub walk_more : (b : Bool) (more : ℕ) → more ≡ cond b 1 0 → ChecksFile repair id d (Ok b) → Walked repair L (i + 1) (n + more) joined
-    walk_more b more more_is checked = record {
+    pub told_next : (b : Bool) (more : ℕ) → more ≡ cond b 1 0 → ChecksFile repair id d (Ok b) → ToldTo repair ids (i + 1) (n + more) joined
+    told_next b more more_is checked = record {
       damaged = walked.damaged ++ found_at id b;
       all = more_of b c.old walked.all (told_first b checked.0);
       told = told_more repair walked.damaged (found_at id b) c d old before walked.told checked.1;
@@ -189,8 +194,8 @@ module _ (one : (a b : List ℕ) → IsId b → path_of a ≡ path_of b → a �
     }
 
     -- a refusal at this one
-    pub walk_stops : (fault : StoreCheck) → ChecksFile repair id d (Err fault) → IsStopped repair joined
-    walk_stops fault (inl same) =
+    pub told_stops : (fault : StoreCheck) → ChecksFile repair id d (Err fault) → IsStopped repair joined
+    told_stops fault (inl same) =
         let ds = walked.damaged in
         stopped repair joined ds (rest_of c.old (drop i L)) (whole_damaged i ds c.old listed walked.all)
         (same.files ∙ old ∙ walked.told.files)
@@ -198,7 +203,7 @@ module _ (one : (a b : List ℕ) → IsId b → path_of a ≡ path_of b → a �
         (front_shorter repair (length ds - 1) ds)
         (omega arith)
         (same.text ∙ before ∙ walked.told.text ∙ ap (λ x. option_map (λ t. t ++ x) c.before) (sym (take_all (length (text_of_damaged repair ds)) (text_of_damaged repair ds) (omega arith))))
-    walk_stops fault (inr cut) =
+    told_stops fault (inr cut) =
         let ds = walked.damaged in
         let es : List (List ℕ) = ds ++ id ∷ [] in
         let first : List ℕ = text_of_damaged repair ds in
@@ -221,8 +226,8 @@ module _ (one : (a b : List ℕ) → IsId b → path_of a ≡ path_of b → a �
         turned (Some m) h = sym h
 
   -- all were looked at
-  pub walk_ends : (i n left : ℕ) (c : Change) → length L ≤ i → IfSome c.old (λ m. IsIdsOf m ids) → Walked repair L i n c → left ≡ cond repair 0 n → IsStoreChecked repair left c
-  walk_ends i n left c all listed walked is = record {
+  pub told_all : (i n left : ℕ) (c : Change) → length L ≤ i → IfSome c.old (λ m. IsIdsOf m ids) → ToldTo repair ids i n c → left ≡ cond repair 0 n → IsStoreChecked repair left c
+  told_all i n left c all listed walked is = record {
     damaged = walked.damaged;
     all = whole c.old listed walked.all;
     told = walked.told;

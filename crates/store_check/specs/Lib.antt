@@ -1,0 +1,4 @@
+pub mod Verifying
+pub mod Verdicts
+pub mod Reading
+pub mod VerifyProgress
