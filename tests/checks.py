@@ -1,6 +1,8 @@
 """Cases, each in a folder of its own, counted as passed, failed or skipped; and what a folder holds."""
 
+import concurrent.futures
 import contextlib
+import multiprocessing
 import os
 import shutil
 import stat
@@ -93,11 +95,31 @@ class Cases:
         self.skipped += 1
         print(f'SKIPPED {what}: {why}', flush=True)
 
+    def side_by_side(self, parts):
+        """Runs parts, each a function and its arguments, in processes of their own, as many at once as there are
+        processors. Each is called with cases of its own, which are counted here. Answers what they answer, in order."""
+        fork = multiprocessing.get_context('fork')
+        with concurrent.futures.ProcessPoolExecutor(len(os.sched_getaffinity(0)), fork) as pool:
+            ended = [run.result() for run in [pool.submit(_part, self.name, *part) for part in parts]]
+        for cases, _ in ended:
+            self.passed += cases.passed
+            self.failed += cases.failed
+            self.skipped += cases.skipped
+        return [answer for _, answer in ended]
+
     def end(self):
         remove(self.top)
         more = f', {self.skipped} skipped' if self.skipped else ''
         print(f'{self.name}: {self.passed} passed, {self.failed} failed{more}', flush=True)
         return 1 if self.failed else 0
+
+
+def _part(name, part, *given):
+    cases = Cases(name)
+    try:
+        return cases, part(cases, *given)
+    finally:
+        remove(cases.top)
 
 
 def needs_program(name):

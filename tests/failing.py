@@ -289,12 +289,9 @@ def errors_of(call, at, each):
     return hard if each else [hard[at % len(hard)]]
 
 
-def one_call_fails(cases, shim, each):
-    for what in SCENES:
-        for call in HARD:
-            if call not in NETWORK:
-                with cases.case(f'{what}: each {call} fails once') as folder:
-                    fail_each(shim, scene_of(folder, what), call, each)
+def one_call_fails(cases, shim, each, what, call):
+    with cases.case(f'{what}: each {call} fails once') as folder:
+        fail_each(shim, scene_of(folder, what), call, each)
 
 
 def fail_each(shim, scene, call, each):
@@ -316,37 +313,39 @@ def fail_each(shim, scene, call, each):
     raise AssertionError(f'each of {MOST} runs has failed')
 
 
-def disk_is_full(cases, shim):
+def disk_is_full(cases, shim, what):
     """From one call on nothing more is written, and then there is room again."""
-    for what in ('extract', 'extract -k', 'extract -c', 'make -n 1', 'chop', 'cache'):
-        for call in ('pwrite', 'mkdir', 'truncate', 'rename'):
-            with cases.case(f'{what}: each {call} from one on finds no room') as folder:
-                scene = scene_of(folder, what)
-                for at in range(MOST):
-                    scene.anew()
-                    ended, paths = shim.run(scene, call, at, errno.ENOSPC, more=True)
-                    scene.judge(call, ended, paths)
-                    if not paths:
-                        break
+    for call in ('pwrite', 'mkdir', 'truncate', 'rename'):
+        with cases.case(f'{what}: each {call} from one on finds no room') as folder:
+            scene = scene_of(folder, what)
+            for at in range(MOST):
+                scene.anew()
+                ended, paths = shim.run(scene, call, at, errno.ENOSPC, more=True)
+                scene.judge(call, ended, paths)
+                if not paths:
+                    break
 
 
-def no_threads(cases, shim):
+MANY_WORKERS = {
+    'make -n 3': ['make', '-n', '10', '-m', '1:2:4', '-s', 'to', 'new.caibx', 'cut'],
+    'extract': ['extract', '-n', '10', '-s', 'st', 'a.caibx', 'o'],
+    'extract -k': ['extract', '-k', '-n', '10', '-s', 'st', 'a.caibx', 'o'],
+    'demo': ['demo', '-n', '10', '7', '300000'],
+}
+
+
+def no_threads(cases, shim, what):
     """Where no thread, or only some can be started the work is done all the same. Else each further worker has one."""
-    scenes = {'make -n 3': ['make', '-n', '10', '-m', '1:2:4', '-s', 'to', 'new.caibx', 'cut'],
-              'extract': ['extract', '-n', '10', '-s', 'st', 'a.caibx', 'o'],
-              'extract -k': ['extract', '-k', '-n', '10', '-s', 'st', 'a.caibx', 'o'],
-              'demo': ['demo', '-n', '10', '7', '300000']}
-    for what, words in scenes.items():
-        for more in (False, True):
-            with cases.case(f'{what}: a thread can\'t be started{", nor later ones" * more}') as folder:
-                scene = scene_of(folder, what, words)
-                for at in range(MOST):
-                    scene.anew()
-                    ended, paths = shim.run(scene, 'thread', at, errno.EAGAIN, more)
-                    scene.judge_whole(ended)
-                    if not paths:
-                        break
-                expect(9 <= at, f'{at} threads are started for ten workers')
+    for more in (False, True):
+        with cases.case(f'{what}: a thread can\'t be started{", nor later ones" * more}') as folder:
+            scene = scene_of(folder, what, MANY_WORKERS[what])
+            for at in range(MOST):
+                scene.anew()
+                ended, paths = shim.run(scene, 'thread', at, errno.EAGAIN, more)
+                scene.judge_whole(ended)
+                if not paths:
+                    break
+            expect(9 <= at, f'{at} threads are started for ten workers')
 
 
 # Servers
@@ -371,18 +370,22 @@ class FromServer(Scene):
         expect(files_of(self.served) == self.held, 'the server holds other files after the second run')
 
 
-def server_is_asked(cases, shim, each):
-    for what, words, changes in (('extract', ['extract', 'a.caibx', 'o', '-s'], replaced),
-                                 ('extract -k', ['extract', '-k', 'a.caibx', 'o', '-s'], in_place),
-                                 ('cache', ['cache', '-c', 'near', 'a.caibx', '-s'], fills('near')),
-                                 ('make', ['make', '-n', '3', '-m', '1:2:4', 'new.caibx', 'cut', '-s'], made),
-                                 ('chop', ['chop', 'a.caibx', 'image', '-s'], no_change)):
-        for call in NETWORK:
-            with cases.case(f'{what} with a server: each {call} fails once') as folder:
-                os.mkdir(os.path.join(folder, 'served'))
-                with ChunkServer(folder, '-w', store='served') as server:
-                    scene = FromServer(folder, [*words, server.url()], changes)
-                    fail_each(shim, scene, call, each)
+ASKING = {
+    'extract': (['extract', 'a.caibx', 'o', '-s'], replaced),
+    'extract -k': (['extract', '-k', 'a.caibx', 'o', '-s'], in_place),
+    'cache': (['cache', '-c', 'near', 'a.caibx', '-s'], fills('near')),
+    'make': (['make', '-n', '3', '-m', '1:2:4', 'new.caibx', 'cut', '-s'], made),
+    'chop': (['chop', 'a.caibx', 'image', '-s'], no_change),
+}
+
+
+def server_is_asked(cases, shim, each, what, call):
+    words, changes = ASKING[what]
+    with cases.case(f'{what} with a server: each {call} fails once') as folder:
+        os.mkdir(os.path.join(folder, 'served'))
+        with ChunkServer(folder, '-w', store='served') as server:
+            scene = FromServer(folder, [*words, server.url()], changes)
+            fail_each(shim, scene, call, each)
 
 
 ABC = b'abc'
@@ -410,15 +413,15 @@ def could_be(got):
     return any(front.startswith(got) for front in fronts)
 
 
-def server_fails(cases, shim):
-    for workers in ('1', '8'):
-        for call in ('recv', 'send', 'pread', 'pwrite', 'open', 'stat', 'mkdir', 'rename', 'thread'):
-            what = f'chunk-server -n {workers}: each {call} fails once, and the next peer is served'
-            with cases.case(what) as folder:
-                # The first look is at the folder itself, before it is served.
-                for at in range(1 if call == 'stat' else 0, 12):
-                    if not served(folder, shim, workers, call, at):
-                        break
+SERVING = ('recv', 'send', 'pread', 'pwrite', 'open', 'stat', 'mkdir', 'rename', 'thread')
+
+
+def server_fails(cases, shim, workers, call):
+    with cases.case(f'chunk-server -n {workers}: each {call} fails once, and the next peer is served') as folder:
+        # The first look is at the folder itself, before it is served.
+        for at in range(1 if call == 'stat' else 0, 12):
+            if not served(folder, shim, workers, call, at):
+                break
 
 
 def served(folder, shim, workers, call, at):
@@ -441,13 +444,12 @@ def served(folder, shim, workers, call, at):
     return file_bytes(told)
 
 
-def server_without_memory(cases, shim):
+def server_without_memory(cases, shim, workers, turn):
     """A server that gets no memory once answers rightly as far as it does; it ends and says why, or serves on."""
-    for workers in ('1', '8'):
-        with cases.case(f'chunk-server -n {workers}: memory is refused each time once') as folder:
-            for at in range(MOST):
-                if not served_without_memory(folder, shim, workers, at):
-                    break
+    with cases.case(f'chunk-server -n {workers}: memory is refused each time once, turn {turn} of {TURNS}') as folder:
+        for at in range(turn, MOST, TURNS):
+            if not served_without_memory(folder, shim, workers, at):
+                break
 
 
 def served_without_memory(folder, shim, workers, at):
@@ -553,21 +555,19 @@ def said_while_stopped(server, sent):
 
 # Want of memory
 
-def refused_memory(cases, shim):
+def refused_memory(cases, shim, what, more):
     """Each time that memory is taken it is refused once; and from every third time on."""
-    for what in SCENES:
-        for more in (False, True):
-            with cases.case(f'{what}: memory is refused {"from a time on" if more else "each time once"}') as folder:
-                scene = scene_of(folder, what)
-                for at in range(0, MOST, 3 if more else 1):
-                    scene.anew()
-                    ended, paths = shim.run(scene, 'memory', at, errno.ENOMEM, more)
-                    try:
-                        scene.judge_memory(ended)
-                    except AssertionError as why:
-                        raise AssertionError(f'{at}: {why}') from why
-                    if not paths:
-                        break
+    with cases.case(f'{what}: memory is refused {"from a time on" if more else "each time once"}') as folder:
+        scene = scene_of(folder, what)
+        for at in range(0, MOST, 3 if more else 1):
+            scene.anew()
+            ended, paths = shim.run(scene, 'memory', at, errno.ENOMEM, more)
+            try:
+                scene.judge_memory(ended)
+            except AssertionError as why:
+                raise AssertionError(f'{at}: {why}') from why
+            if not paths:
+                break
 
 
 def least_space(folder):
@@ -585,111 +585,113 @@ def run_in(space, words, folder):
     return program.run(words, folder, lower=lower)
 
 
-def little_space(cases):
-    for what, words in (('make -n 1', None), ('make -n 3', ['make', '-n', '10', *SCENES['make -n 3'][0][3:]]),
-                        ('extract', None), ('extract -k', None), ('chop', None), ('cache', None), ('prune', None)):
-        with cases.case(f'{what} in little address space') as folder:
-            scene = scene_of(folder, what, words)
-            least = least_space(folder)
-            for space in range(least, least + 24):
-                scene.anew()
-                ended = run_in(space << 20, scene.words, scene.folder)
-                try:
-                    scene.judge_memory(ended)
-                except AssertionError as why:
-                    raise AssertionError(f'in {space} MiB: {why}') from why
+IN_LITTLE_SPACE = {
+    'make -n 1': None, 'make -n 3': ['make', '-n', '10', *SCENES['make -n 3'][0][3:]], 'extract': None,
+    'extract -k': None, 'chop': None, 'cache': None, 'prune': None,
+}
 
 
-# A thread takes 8 MiB of address space, so in the spaces up to SPACES KiB above the least there is room for no thread,
-# and for one, two and three.
-SPACES = 26 << 10
-# In the least space itself, workers may lack a few KiB of their own.
-OWN_SPACE = 512
+def little_space(cases, what):
+    with cases.case(f'{what} in little address space') as folder:
+        scene = scene_of(folder, what, IN_LITTLE_SPACE[what])
+        least = least_space(folder)
+        for space in range(least, least + 24):
+            scene.anew()
+            ended = run_in(space << 20, scene.words, scene.folder)
+            try:
+                scene.judge_memory(ended)
+            except AssertionError as why:
+                raise AssertionError(f'in {space} MiB: {why}') from why
 
 
-def make_in(folder, count, space):
-    """How `make` ends, with some number of workers and this much address space, in KiB, over a store without chunks."""
-    store, index = (os.path.join(folder, name) for name in ('st', 'a.caibx'))
-    shutil.rmtree(store, ignore_errors=True)
-    os.mkdir(store)
-    with contextlib.suppress(FileNotFoundError):
-        os.remove(index)
-    return run_in(space << 10, ['make', '-n', str(count), '-s', 'st', 'a.caibx', 'image'], folder)
-
-
-def workers_in_little_space(cases, each):
-    """Where one worker makes an index, several do in as much address space, and in more."""
-    with cases.case('make with several workers in little address space') as folder:
-        put_file(os.path.join(folder, 'image'), random.Random(5).randbytes(2 << 20))
-        least = 1_000
-        while make_in(folder, 1, least).status != 0:
-            least += 250
-            if least > 200_000:
-                raise Skip('one worker makes no index in 200 MB of address space')
-        for space in range(least + OWN_SPACE, least + SPACES, 25 if each else 250):
-            for count in (1, 2, 10):
-                ended = make_in(folder, count, space)
-                expect_equal((ended.status, ended.err), (0, b''), f'how -n {count} ends in {space} KiB')
-
-
-def extract_in(folder, count, space):
-    """How `extract` ends, with some number of workers and this much address space, in KiB, and what OUT holds then."""
-    out = os.path.join(folder, 'o')
-    with contextlib.suppress(FileNotFoundError):
-        os.remove(out)
-    words = ['extract', '-n', str(count), '-s', 'st', '--seed', 's.caibx', 'a.caibx', 'o']
-    return run_in(space << 10, words, folder), file_bytes(out)
-
-
-# The greatest address space, in KiB, in which several workers are compared with one.
+# From how many KiB of address space on the commands are done with any number of workers, and up to how many they are
+# tried. A thread takes 8 MiB of it, so there is room for no thread, for one, and so on.
+AMPLE = 5_000
 MOST_SPACE = 100_000
 
 
-def extract_in_little_space(cases, each):
-    """Where one worker extracts an image, several do in as much address space."""
-    with cases.case('extract with several workers in little address space') as folder:
-        image = random.Random(6).randbytes(2 << 20)
-        index = formats.index_of(image)
-        formats.write_index(os.path.join(folder, 'a.caibx'), index)
-        formats.write_chunks(os.path.join(folder, 'st'), index, image)
-        seed = image[:1 << 20]
+class SmallRuns:
+    """A command over an image, with some number of workers, in little address space. What is there afterwards is
+    compared."""
+
+    def __init__(self, folder, what):
+        self.folder = folder
+        self.what = what
+        self.image = random.Random(5).randbytes(2 << 20)
+        seed = self.image[:1 << 20]
+        index = formats.index_of(self.image)
+        put_file(os.path.join(folder, 'image'), self.image)
         put_file(os.path.join(folder, 's'), seed)
         formats.write_index(os.path.join(folder, 's.caibx'), formats.index_of(seed))
-        compared = 0
-        for space in range(1_000, MOST_SPACE, 25 if each else 250):
-            ended, made = extract_in(folder, 1, space)
-            if ended.status != 0:
-                continue
-            expect(made == image, f'-n 1 makes another image in {space} KiB')
-            compared += 1
-            for count in (10, 32):
-                ended, made = extract_in(folder, count, space)
-                expect_equal((ended.status, ended.err), (0, b''), f'how -n {count} ends in {space} KiB')
-                expect(made == image, f'-n {count} makes another image in {space} KiB')
-        expect(compared > 0, f'one worker extracts no image in {MOST_SPACE} KiB of address space')
+        formats.write_index(os.path.join(folder, 'a.caibx'), index)
+        formats.write_chunks(os.path.join(folder, 'st'), index, self.image)
+        chunks = files_of(os.path.join(folder, 'st'))
+        self.words, self.wanted = {
+            'make': (['-s', 'to/st', 'to/a.caibx', 'image'], ['a.caibx']),
+            'extract': (['-s', 'st', '--seed', 's.caibx', 'a.caibx', 'to/o'], ['o']),
+            'chop': (['-s', 'to/st', 'a.caibx', 'image'], []),
+        }[what]
+        self.wanted = {name: {'a.caibx': formats.spell_index(index), 'o': self.image}[name] for name in self.wanted}
+        if what != 'extract':
+            self.wanted |= {os.path.join('st', path): data for path, data in chunks.items()}
+
+    def run(self, count, space):
+        shutil.rmtree(os.path.join(self.folder, 'to'), ignore_errors=True)
+        os.makedirs(os.path.join(self.folder, 'to', 'st'))
+        return run_in(space << 10, [self.what, '-n', str(count), *self.words], self.folder)
+
+    def is_done(self, count, space):
+        ended = self.run(count, space)
+        expect_equal((ended.status, ended.err), (0, b''), f'how -n {count} ends in {space} KiB')
+        expect(files_of(os.path.join(self.folder, 'to')) == self.wanted, f'-n {count} leaves others in {space} KiB')
+
+
+def workers_in_little_space(cases, each, what, own, turn):
+    """Where one worker is done, several are in as much address space, and `own` KiB that they may lack; and from 5 MB
+    on each run ends as with ample memory."""
+    step = 25 if each else 250
+    with cases.case(f'{what} with 1 to 32 workers in little address space, turn {turn} of {TURNS}') as folder:
+        runs = SmallRuns(folder, what)
+        least = next((space for space in range(1_000, AMPLE, 250) if runs.run(1, space).status == 0), AMPLE)
+        for space in range(min(least + own, AMPLE) + turn * step, MOST_SPACE, TURNS * step):
+            for count in (1, 2, 10, 32):
+                runs.is_done(count, space)
+
+
+# In so many processes what takes long goes on side by side.
+TURNS = 4
+
+
+def parts(shim, each):
+    """What goes on side by side; those that take longest come first. Without the shim, those that need none."""
+    small = [(workers_in_little_space, each, what, own, turn)
+             for what, own in (('make', 512), ('extract', 0), ('chop', 512)) for turn in range(TURNS)]
+    small += [(little_space, what) for what in IN_LITTLE_SPACE] + [(is_stopped,)]
+    if shim is None:
+        return small
+    of_files = [call for call in HARD if call not in NETWORK]
+    return [
+        *((server_without_memory, shim, workers, turn) for workers in ('1', '8') for turn in range(TURNS)),
+        *((refused_memory, shim, what, more) for what in SCENES for more in (False, True)),
+        *((server_is_asked, shim, each, what, call) for what in ASKING for call in NETWORK),
+        *((server_fails, shim, workers, call) for workers in ('1', '8') for call in SERVING),
+        *small,
+        *((one_call_fails, shim, each, what, call) for what in SCENES for call in of_files),
+        *((disk_is_full, shim, what) for what in ('extract', 'extract -k', 'extract -c', 'make -n 1', 'chop', 'cache')),
+        *((no_threads, shim, what) for what in MANY_WORKERS),
+        (accepting_fails, shim),
+    ]
 
 
 def main():
     needs_program('failing')
     cases = Cases('failing')
-    each = sys.argv[1:] == ['--all']
-    little_space(cases)
-    workers_in_little_space(cases, each)
-    extract_in_little_space(cases, each)
-    is_stopped(cases)
     try:
         shim = Shim(cases.top)
     except Skip as why:
         cases.skip('all cases but those of little address space and of signals', why)
-        return cases.end()
-    one_call_fails(cases, shim, each)
-    disk_is_full(cases, shim)
-    no_threads(cases, shim)
-    server_is_asked(cases, shim, each)
-    server_fails(cases, shim)
-    server_without_memory(cases, shim)
-    accepting_fails(cases, shim)
-    refused_memory(cases, shim)
+        shim = None
+    cases.side_by_side(parts(shim, sys.argv[1:] == ['--all']))
     return cases.end()
 
 

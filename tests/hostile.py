@@ -1,7 +1,7 @@
 #!/usr/bin/env python3
 """Random bytes at the program: indexes, requests, replies, words and locations that were right and then changed.
 
-    tests/hostile.py                        as many rounds as take a minute or two
+    tests/hostile.py                        as many rounds as take half a minute
     tests/hostile.py --rounds N [--seed S]  N rounds of each kind, from a seed
 
 Each answer is compared with tests/formats.py and tests/replies.py. The seed is printed, so that a round that has failed
@@ -32,6 +32,9 @@ from replies import (LIMIT, RandomRequest, expect_serves, lay_out, path_of, put,
 from servers import ChunkServer, in_chunks, reply, to_the_end
 
 ROUNDS = {'indexes': 1_000, 'requests': 3_000, 'replies': 800, 'words': 600, 'locations': 200}
+# Rounds of a case, and of a process that does some of a kind.
+CASE = 50
+PART = 200
 MIB = 1 << 20
 SPACE = 64 * MIB
 # The most peak memory in KiB of a run whose index lists little.
@@ -50,25 +53,20 @@ def run_small(given, folder, more=0):
 
 
 class Rounds:
-    """So many rounds of a kind, in cases of fifty. A round that fails tells its number. `told` counts what the answers
-    were."""
+    """Rounds of a kind, in cases of fifty, from the numbers `firsts` on and below `count`. A round that fails tells its
+    number. `told` counts what the answers were."""
 
-    def __init__(self, cases, seed, count):
+    def __init__(self, cases, seed, firsts, count):
         self.cases = cases
         self.seed = seed
+        self.firsts = firsts
         self.count = count
         self.told = Counter()
 
-    def expect_told(self, kind, wanted):
-        with self.cases.case(f'the random {kind} had each of these answers: {" ".join(map(str, wanted))}'):
-            few = {what: self.told[what] for what in wanted if self.told[what] < 3}
-            expect(not few, f'how often these came: {few}')
-
-    def run(self, kind, one, count=None):
-        count = self.count or count or ROUNDS[kind]
-        for first in range(0, count, 50):
+    def run(self, kind, one):
+        for first in self.firsts:
             with self.cases.case(f'random {kind}, from round {first} on, seed {self.seed}') as folder:
-                for number in range(first, min(first + 50, count)):
+                for number in range(first, min(first + CASE, self.count)):
                     chance = random.Random(f'{self.seed} {kind} {number}')
                     try:
                         one(chance, folder)
@@ -132,7 +130,6 @@ def indexes(rounds):
             raise AssertionError(f'of the index {data.hex()}: {why}') from why
 
     rounds.run('indexes', one)
-    rounds.expect_told('indexes', [fault for fault in formats.FAULT_TEXTS if fault != 'Items'] + ['right'])
 
 
 def read_index(chance, folder, data, image, pieces):
@@ -200,26 +197,24 @@ def expect_said(server, sent):
     return re.findall(rb'^HTTP/1.1 ([0-9]+) ', wanted, re.MULTILINE) or [b'none']
 
 
-def requests(cases, rounds):
+def requests(rounds, workers, at_once):
     """The store has all chunks that requests are about, so what is put changes nothing."""
-    for workers, at_once in (('1', 1), ('8', 8)):
-        folder = os.path.join(cases.top, f'requests {workers}')
-        os.mkdir(folder)
-        store = lay_out(folder, *HELD)
-        before = files_of(store)
-        with ChunkServer(folder, '-w', '-n', workers) as server, \
-                concurrent.futures.ThreadPoolExecutor(at_once) as threads:
-            def talk(chance, _, server=server, threads=threads, at_once=at_once):
-                talks = [random_talk(chance) for _ in range(at_once)]
-                for statuses in threads.map(lambda sent: expect_said(server, sent), talks):
-                    rounds.told.update(statuses)
+    cases = rounds.cases
+    folder = os.path.join(cases.top, 'requests')
+    os.mkdir(folder)
+    store = lay_out(folder, *HELD)
+    before = files_of(store)
+    with ChunkServer(folder, '-w', '-n', workers) as server, concurrent.futures.ThreadPoolExecutor(at_once) as threads:
+        def talk(chance, _):
+            talks = [random_talk(chance) for _ in range(at_once)]
+            for statuses in threads.map(lambda sent: expect_said(server, sent), talks):
+                rounds.told.update(statuses)
 
-            rounds.run('requests', talk, ROUNDS['requests'] // at_once // 2)
-            with cases.case(f'the store and the memory of a server with -n {workers} after random requests'):
-                expect_serves(server)
-                expect(files_of(store) == before, 'the store has changed')
-                expect_small(server)
-    rounds.expect_told('requests', [b'200', b'400', b'404', b'405', b'411', b'413', b'431', b'none'])
+        rounds.run('requests', talk)
+        with cases.case(f'the store and the memory of a server with -n {workers} after random requests'):
+            expect_serves(server)
+            expect(files_of(store) == before, 'the store has changed')
+            expect_small(server)
 
 
 # Replies
@@ -272,7 +267,6 @@ def replies(rounds):
                 raise AssertionError(f'{command}, to which is said {scripted.said}: {why}') from why
 
         rounds.run('replies', one)
-    rounds.expect_told('replies', ['a body', 'failed', 'longer', 'missing', 'taken'])
 
 
 def answered(command, folder, url, given):
@@ -306,6 +300,10 @@ def answered(command, folder, url, given):
 
 
 # Words
+
+def random_words(rounds):
+    rounds.run('words', said_words)
+
 
 CHARACTERS = ['-', '--', 'x', '0', '9', ':', '|', ' ', '\t', '\n', '=', '*', '"', '\\', 'é', '٣', '\u2028', '𝛑']
 
@@ -511,22 +509,51 @@ def options(given):
     return int(told.get('--rounds', 0)) or None, told.get('--seed', 'hostile')
 
 
+def part(cases, seed, firsts, count, function, *given):
+    """Some rounds of a kind. Answers how often each of their answers came."""
+    rounds = Rounds(cases, seed, firsts, count)
+    function(rounds, *given)
+    return rounds.told
+
+
+def parts_of(seed, count):
+    """Each kind with what one process does of it. A server of requests has all rounds to itself."""
+    parts = []
+    for workers, at_once in (('1', 1), ('8', 8)):
+        upto = count or ROUNDS['requests'] // at_once // 2
+        parts.append(('requests', (part, seed, range(0, upto, CASE), upto, requests, workers, at_once)))
+    for kind, function in (('indexes', indexes), ('replies', replies), ('words', random_words),
+                           ('locations', locations)):
+        upto = count or ROUNDS[kind]
+        for first in range(0, upto, PART):
+            parts.append((kind, (part, seed, range(first, min(first + PART, upto), CASE), upto, function)))
+    return parts
+
+
+# Answers of which each is to come some times.
+TOLD = {
+    'indexes': [fault for fault in formats.FAULT_TEXTS if fault != 'Items'] + ['right'],
+    'requests': [b'200', b'400', b'404', b'405', b'411', b'413', b'431', b'none'],
+    'replies': ['a body', 'failed', 'longer', 'missing', 'taken'],
+}
+
+
+def expect_told(cases, kind, told):
+    with cases.case(f'the random {kind} had each of these answers: {" ".join(map(str, TOLD[kind]))}'):
+        few = {what: told[what] for what in TOLD[kind] if told[what] < 3}
+        expect(not few, f'how often these came: {few}')
+
+
 def main():
     needs_program('hostile')
     count, seed = options(sys.argv[1:])
     print(f'hostile: seed {seed}, {count or ROUNDS} rounds', flush=True)
     cases = Cases('hostile')
-    rounds = Rounds(cases, seed, count)
-    indexes(rounds)
-    requests(cases, rounds)
-    replies(rounds)
-    rounds.run('words', said_words)
-    locations(rounds)
-    sizes(cases)
-    endless_replies(cases)
-    endless_requests(cases)
-    claims(cases)
-    slow_peer(cases)
+    parts = parts_of(seed, count)
+    others = [(slow_peer,), (endless_replies,), (endless_requests,), (sizes,), (claims,)]
+    answers = cases.side_by_side([given for _, given in parts] + others)
+    for kind in TOLD:
+        expect_told(cases, kind, sum((told for (of, _), told in zip(parts, answers) if of == kind), Counter()))
     return cases.end()
 
 

@@ -6,6 +6,7 @@ of the request's bytes; `static` and `nginx` serve a folder as files; `chunk_ser
 
 import contextlib
 import os
+import random
 import re
 import resource
 import shutil
@@ -198,8 +199,12 @@ def nginx_program():
 
 
 def free_port():
-    with socket.create_server(('127.0.0.1', 0)) as free:
-        return free.getsockname()[1]
+    """A port that is free, below those that the system gives to connections, which come and go at any time."""
+    for _ in range(1_000):
+        with contextlib.suppress(OSError), \
+                socket.create_server(('127.0.0.1', random.SystemRandom().randint(10_000, 32_000))) as free:
+            return free.getsockname()[1]
+    raise AssertionError('no port is free')
 
 
 @contextlib.contextmanager
