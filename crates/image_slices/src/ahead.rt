@@ -1,7 +1,8 @@
 //! Slices of an image that are read and checked before they are used. Entries are numbered from 0, sizes are in bytes.
 
 ghost use Rattle.std.specs.Prelude.{◌≡◌, ℕ, ◌+◌, ◌<◌, ◌≤◌, ◌++◌, ◌∷◌, [], All, Contains, IsTrue, List, Option};
-ghost use Rattle.std.specs.Prelude.{IfOk, IfSome, length, None, nat_lt, slice_index_or, slice_range, take, vec_capacity, vec_len};
+ghost use Rattle.std.specs.Prelude.{IfOk, IfSome, length, None, nat_lt, slice_index_or, slice_range, take};
+ghost use Rattle.std.specs.Prelude.{vec_capacity, vec_len};
 ghost use Rattle.caibx_codec.specs.Listing.{Listing, count_of, image_length, size_of};
 ghost use Rattle.chunk_store.specs.Names.{name_of};
 ghost use Rattle.image_slices.specs.Ahead.{AddsSlice, EntriesFall, FitsItsRoom, HasBytes, HasSlice, HasSpace, IsAhead};

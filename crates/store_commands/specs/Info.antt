@@ -47,8 +47,7 @@ CountedInStores w v stores l (Ok None) = length stores ≡ 0
 CountedInStores w v stores l (Ok (Some n)) = (0 < length stores) × IsCount w v stores l n
 CountedInStores w v stores l (Err o) = NotCounted w v stores l o
 
--- servers are asked for no chunk, and whether they have one at most once for each listed id, and nothing else is sent
--- to them but fronts of such requests
+-- servers are asked only whether they have a chunk, at most once for each listed id, and sent fronts of such requests
 abbrev pub IdsCounted : List Location → Listing → Step Storage (Option ℕ)
 IdsCounted stores l w r v = CountedInStores w v stores l r × ConsultsStores stores w v
     × EachDialed (AsksOnly (λ id. 0) (asks_once l) (IsListedHas l)) stores w.dial.ended v.dial.ended

@@ -141,8 +141,7 @@ pub fn fill_cache<F: Files, D: Dial>(
 ) -> Result<(), Outcome>
     requires { (1 ≤ length stores) × (length stores ≤ 16) }
     ensures ends { (p : Output) → CacheEnds stores cache indexes
-        (world (F.disk files.old) (D.state dial.old) p) result
-        (world (F.disk files.new) (D.state dial.new) p) }
+        (world (F.disk files.old) (D.state dial.old) p) result (world (F.disk files.new) (D.state dial.new) p) }
 {
     let opened = open_sources(alloc, files, dial, stores.as_slice())?;
     let shelf = match take_shelf(alloc, files, cache.as_str()) {

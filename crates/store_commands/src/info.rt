@@ -65,8 +65,7 @@ fn print<O: Sink>(
     held: Option<u64>,
     out: &mut O,
 ) -> Result<(), Outcome>
-    ensures printed { Printed (text_of_info index.now held) (O.output out.old)
-        result (O.output out.new) }
+    ensures printed { Printed (text_of_info index.now held) (O.output out.old) result (O.output out.new) }
 {
     printed(info(alloc, index, held, out))
 }
@@ -81,8 +80,7 @@ pub fn print_info<F: Files, D: Dial, O: Sink>(
     index: Name,
 ) -> Result<(), Outcome>
     requires { length stores ≤ 16 }
-    ensures ends { InfoEnds stores index
-        (world (F.disk files.old) (D.state dial.old) (O.output out.old)) result
+    ensures ends { InfoEnds stores index (world (F.disk files.old) (D.state dial.old) (O.output out.old)) result
         (world (F.disk files.new) (D.state dial.new) (O.output out.new)) }
 {
     let listed = load_index(alloc, files, index)?;

@@ -63,8 +63,7 @@ pub fn prune_folder<F: Files>(
     store: Name,
     indexes: Names,
 ) -> Result<(), Outcome>
-    ensures ends { (k : DialState) (p : Output) → PruneEnds store indexes
-        (world (F.disk files.old) k p) result
+    ensures ends { (k : DialState) (p : Output) → PruneEnds store indexes (world (F.disk files.old) k p) result
         (world (F.disk files.new) k p) }
 {
     let listed = read_indexes(alloc, files, indexes.as_slice())?;

@@ -114,8 +114,7 @@ fn ended(served: Result<(), IoFault>) -> Result<(), Outcome>
     }
 }
 
-// Serves the store whose folder was taken, one connection after the other. The folder is given back, whatever the
-// answer is.
+// Serves the store whose folder was taken, one connection after the other. The folder is always given back.
 fn serve_taken<F: Files, L: Listen>(
     alloc: Global,
     files: &mut F,
@@ -153,8 +152,7 @@ fn all_ended(served: AllServed) -> Result<(), Outcome>
     }
 }
 
-// Serves the store whose folder was taken, each connection in a thread of its own. The folder is given back, whatever
-// the answer is.
+// Serves the store whose folder was taken, each connection in a thread of its own. The folder is always given back.
 fn share_taken<R: Threads + Wait + Sync, F: Files, L: Listen>(
     rt: &R,
     alloc: Global,

@@ -100,8 +100,7 @@ where
     requires alike { All (λ l. IfSome (told_if F.tells (F.Folder.files taken.store))
         (λ m. F.Look.files l ≡ Some m)) taken.looks.items }
     ensures { (k : DialState) → StoreVerified store.now repair (told_if F.tells (F.Folder.files taken.store))
-        (world (F.disk files.old) k (O.output out.old)) result
-        (world (F.disk files.new) k (O.output out.new)) }
+        (world (F.disk files.old) k (O.output out.old)) result (world (F.disk files.new) k (O.output out.new)) }
 {
     let TakenStore {
         store: folder,
@@ -129,8 +128,7 @@ pub fn verify<R: Threads + Sync, F: Files, O: Sink>(
 ) -> Result<(), Outcome>
 where
     F::Look: Send,
-    ensures ends { (k : DialState) → VerifyEnds store repair
-        (world (F.disk files.old) k (O.output out.old)) result
+    ensures ends { (k : DialState) → VerifyEnds store repair (world (F.disk files.old) k (O.output out.old)) result
         (world (F.disk files.new) k (O.output out.new)) }
 {
     let taken = take_store(alloc, files, &store, workers)?;

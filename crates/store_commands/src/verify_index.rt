@@ -47,11 +47,9 @@ where
     requires sized { IfSome (F.View.held image.first).bytes (λ t. length t ≡ (F.View.held image.first).size) }
     requires named { All (λ h. h.name ≡ (F.View.held image.first).name) (map F.View.held image.others.items) }
     requires alike { All (IsAlike (F.View.held image.first)) (map F.View.held image.others.items) }
-    ensures checked { Checked (F.disk files.old)
-        (F.disk files.new) (F.View.held image.first).name index.now
+    ensures checked { Checked (F.disk files.old) (F.disk files.new) (F.View.held image.first).name index.now
         (F.View.held image.first).bytes result }
-    ensures kept { Reads (F.disk files.old)
-        (F.disk files.new) }
+    ensures kept { Reads (F.disk files.old) (F.disk files.new) }
 {
     let OpenImage { first, mut others } = image;
     let (first, checked) = verify_index(rt, alloc, index, first, &mut others);
@@ -70,8 +68,7 @@ pub fn check_image<R: Threads + Sync, F: ImageFiles>(
 ) -> Result<(), Outcome>
 where
     F::View: Send,
-    ensures ends { (k : DialState) (p : Output) → VerifyIndexEnds index image
-        (world (F.disk files.old) k p) result
+    ensures ends { (k : DialState) (p : Output) → VerifyIndexEnds index image (world (F.disk files.old) k p) result
         (world (F.disk files.new) k p) }
 {
     let listed = load_index(alloc, files, index)?;
