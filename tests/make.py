@@ -189,8 +189,8 @@ def changed_while_it_runs(cases):
         image = random.Random(8).randbytes(24 << 20)
         lay_out(folder, image, OLD_INDEX)
         process = program.start(['make', '-s', STORE, '-n', '1', INDEX, IMAGE], folder)
-        # Cutting reads each byte, and naming a chunk reads it again. Storing reads it for the third time.
-        wait_until_read(process, 2 * len(image))
+        # Cutting reads each byte, and keeps those of the chunk that it names. Storing reads it again.
+        wait_until_read(process, len(image) + (1 << 20))
         with open(os.path.join(folder, IMAGE), 'r+b') as file:
             file.seek(-1, os.SEEK_END)
             file.write(bytes([image[-1] ^ 255]))

@@ -3,8 +3,8 @@
 ghost use Rattle.std.specs.Prelude.{◌≡◌};
 ghost use Rattle.assembler.specs.Permits.{deals_to};
 
-use caibx_codec::index::Index;
 use cache_store::cache::Cache;
+use caibx_codec::index::Index;
 use chunk_sources::kit::Kit;
 use chunk_store::store::Store;
 use dsy_base::view::View;

@@ -17,10 +17,10 @@ ghost use Rattle.extract_plan.specs.Places.{PlacesFit};
 ghost use Rattle.range_survey.specs.Fates.{is_made, is_settled, settled};
 ghost use Rattle.store_chain.specs.Chains.{KeepsStores};
 
-use cache_store::cache::Cache;
 use crate::copy::copy;
 use crate::seeding::from_seeds;
 use crate::upstream::from_upstream;
+use cache_store::cache::Cache;
 use chunk_store::id::ChunkId;
 use chunk_store::store::Store;
 use dsy_base::view::View;

@@ -8,7 +8,6 @@ mod ahead_tests;
 #[cfg(test)]
 mod assembly_tests;
 #[cfg(test)]
-#[cfg(test)]
 mod calls;
 #[cfg(test)]
 mod check_tests;

@@ -25,6 +25,7 @@ struct GatedFolder {
 
 impl Look for GatedFolder {
     ghost use Rattle.std.specs.Prelude.{None, false, refl};
+    ghost use Rattle.std.proofs.Common.{rules};
 
     ghost files = { λ _. None };
 
@@ -53,7 +54,7 @@ impl Look for GatedFolder {
 
     ghost told = { λ _. refl };
 
-    ghost sure = { ⟦<MemFolder as Look>⟧.sure };
+    ghost sure = { Prim.search rules };
 }
 
 impl Folder for GatedFolder {

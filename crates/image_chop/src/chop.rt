@@ -19,9 +19,9 @@ use caibx_codec::index::Index;
 use chunk_store::id::ChunkId;
 use chunk_store::store::{Store, StoreWrite};
 use dsy_base::view::View;
-use image_store::storing::Rooms;
 use image_slices::consumer::take_slices;
 use image_slices::subfolders::NoSubfolders;
+use image_store::storing::Rooms;
 use std::alloc::Global;
 use std::thread::Threads;
 

@@ -16,10 +16,10 @@ use caibx_codec::index::Index;
 use chunk_store::id::ChunkId;
 use chunk_store::store::{Store, StoreWrite};
 use dsy_base::view::View;
-use image_store::put_chunks::{MakeFault, put_entry};
-use image_store::storing::Rooms;
 use image_slices::ahead::{Ahead, slice_among};
 use image_slices::consumer::EntryConsumer;
+use image_store::put_chunks::{MakeFault, put_entry};
+use image_store::storing::Rooms;
 use std::snapshot::Snapshot;
 
 // Stores entry i. Its slice may have been read.

@@ -9,7 +9,7 @@ ghost use Rattle.image_slices.specs.Consumers.{IsAlike, NoFaultCountFalls};
 
 use crate::ahead::Ahead;
 use crate::entries::take_entries;
-use crate::plan::{round_end, room_size, spare_size};
+use crate::plan::{room_size, round_end, spare_size};
 use caibx_codec::index::Index;
 use dsy_base::inner_folders::InnerFolders;
 use dsy_base::view::View;

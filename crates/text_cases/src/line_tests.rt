@@ -220,11 +220,13 @@ fn words_of_extract_are_read(rt: HostRuntime) {
 fn words_of_verify_are_read(rt: HostRuntime) {
     let words = words_of(&rt, rt.alloc(), "verify -s st -r -n 3");
     match read_words(rt.alloc(), &words) {
-        Ok(Command::Verify {
-            store,
-            repair,
-            workers,
-        }) => {
+        Ok(
+            Command::Verify {
+                store,
+                repair,
+                workers,
+            },
+        ) => {
             same(&rt, store.as_str(), "st");
             same(&rt, repair, true);
             same(&rt, workers, 3);
