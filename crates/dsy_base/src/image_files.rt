@@ -5,7 +5,8 @@ ghost use Rattle.std.specs.Prelude.{◌≡◌, IsTrue, IfSome};
 use crate::files::Files;
 use crate::inner_folders::InnerFolders;
 
-/// Files whose views tell their bytes only where the files are told, so that two views of one file tell alike.
+/// Files whose views, looks and folders tell what they hold only where the files are told, so that two views of one
+/// file, or two looks at one folder, tell alike.
 pub trait ImageFiles: Files {
     type Inner: InnerFolders;
 
@@ -14,4 +15,6 @@ pub trait ImageFiles: Files {
         ensures { IfSome result (λ inner. Self.Inner.place inner ≡ folder.now) };
 
     ghost untold: { IsTrue Self.View.tells → IsTrue Self.tells };
+
+    ghost unseen: { (IsTrue Self.Look.tells → IsTrue Self.tells) × (IsTrue Self.Folder.tells → IsTrue Self.tells) };
 }

@@ -40,4 +40,6 @@ impl ImageFiles for MemFiles {
     }
 
     ghost untold = { λ t. t };
+
+    ghost unseen = { (λ t. t, λ t. t) };
 }

@@ -332,4 +332,6 @@ impl<'a, R: System<File = File> + AllocGlobal + Clone + Drop> ImageFiles for Rea
     }
 
     ghost untold = { λ t. t };
+
+    ghost unseen = { (λ t. t, λ t. t) };
 }

@@ -210,6 +210,8 @@ impl ImageFiles for SureFiles {
     }
 
     ghost untold = { λ t. t };
+
+    ghost unseen = { (λ t. t, λ t. t) };
 }
 
 // A copy of a file's bytes.
