@@ -1,0 +1,10 @@
+//! Tests of an image that is held against an index, and chopped, by several views of it.
+#![tactic(auto)]
+
+#[cfg(test)]
+mod check_tests;
+#[cfg(test)]
+mod chop_tests;
+pub mod gate;
+#[cfg(test)]
+mod images;
