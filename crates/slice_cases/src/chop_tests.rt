@@ -1,7 +1,8 @@
 //! An image chopped by several views.
 
+use crate::compare::{ok, same};
 use crate::gate::Gate;
-use crate::images::{DEX, IMAGE, Others, gated_views, id_of, index, ok, same, views_of};
+use crate::images::{DEX, IMAGE, Others, gated_views, id_of, index, views_of};
 use caibx_codec::index::Index;
 use chunk_store::mem_store::MemStore;
 use chunk_store::store::Store;

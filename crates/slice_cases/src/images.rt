@@ -1,16 +1,16 @@
 //! An image of six chunks, and views of it. The digests are from FIPS 180-4's example and another program
 //! (`openssl dgst -sha512-256`).
 
-ghost use Rattle.std.specs.Prelude.{◌≡◌, All, Ok, map};
+ghost use Rattle.std.specs.Prelude.{◌≡◌, All, map};
 ghost use Rattle.image_slices.specs.Consumers.{IsAlike};
 
+use crate::compare::ok;
 use crate::gate::{Gate, GatedView};
 use byte_forms::mem_view::MemView;
 use caibx_codec::index::{Entry, Index};
 use chunk_store::id::ChunkId;
 use dsy_base::view::View;
 use std::alloc::Global;
-use std::fmt::Debug;
 use std::process::Abort;
 use std::sync::Arc;
 
@@ -29,18 +29,6 @@ const IDS: [&str; 6] = [
 
 /// The digest of `deX`.
 pub const DEX: &str = "99fd98af64dbf7b52833a40d79bb5d8719070460665c2be3a01a01a88c57b2ef";
-
-/// The two are the same.
-pub fn same<R: Abort, T: PartialEq + Debug + Drop>(rt: &R, got: T, want: T) {
-    assert_eq!(rt; got, want);
-}
-
-/// The value that was answered, where no error was.
-pub fn ok<R: Abort, T, E: Debug>(rt: &R, got: Result<T, E>) -> T
-    ensures { got ≡ Ok result }
-{
-    got.expect(rt, "an error was answered")
-}
 
 /// The id in these digits.
 pub fn id_of(rt: &impl Abort, text: &str) -> ChunkId {
