@@ -1,6 +1,7 @@
 #!/usr/bin/env python3
 """`desync chop -n 1` of an image of random bytes into a store that has all of its chunks, beside openssl's digest of
-the image; and with two and four workers beside one.
+the image; and with two and four workers beside one. Their limit is as many openssl digests of the image at once, over
+that many times one digest.
 
 Every byte of the image is read and named, and compared with the store's. Needs twice the image's size under the
 temporary folder.
@@ -26,9 +27,11 @@ def main():
         rows = [side_by_side.openssl(os.path.join(folder, 'image')),
                 side_by_side.Row('chop -n 1, store has all chunks', ['chop', '-n', '1', *listed], at_most=2.0)]
         crews = workers.job('store has all chunks', listed, lambda: None, WANTED, ['chop'])
-        side_by_side.measure([*rows, *crews], folder, options.runs)
+        limits = workers.digests(os.path.join(folder, 'image'))
+        side_by_side.measure([*rows, *limits, *crews], folder, options.runs)
         print(f'an image of {size} bytes, {len(index.entries)} chunks; medians of {options.runs} runs')
         side_by_side.print_table(rows, size)
+        workers.print_limits(limits, size)
         side_by_side.print_table(crews, size)
 
 

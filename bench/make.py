@@ -6,9 +6,9 @@ On one processor the cutting is timed alone too, by a program over the library's
 (minutes; without `rt` that row is left out). The file system image is ext4 by `mke2fs`, of at most 1 GiB, with copies
 of the files under a folder. All runs are timed into an empty store and into one that has all chunks. casync runs where
 it is installed. A store that is to be empty is a new folder each time, and nothing is removed before all is done: a
-file system may take far longer to create files right after it has removed others. Free memory is filled first, so that
-no run has to get pages that were never used. Needs the image's size under the temporary folder for each run into an
-empty store, and four times more for each image.
+file system may take far longer to create files right after it has removed others. Beside several workers `cp -r` of the
+same files alone is timed. Free memory is filled first, so that no run has to get pages that were never used. Needs the
+image's size under the temporary folder for each run into an empty store, and four times more for each image.
 """
 
 import os
@@ -33,6 +33,8 @@ ALONE, BESIDE = ('random', 'text', 'zeros'), ('workers', 'files')
 CREWS = ((2, 2, 0.65), (4, 2, 0.65), (4, 4, 0.4))
 MOST_WORKERS = 32
 WANTED_PACE = 6
+# What a store that is empty may take more than one that has all chunks.
+MOST_FOR_FILES = 1.15
 
 
 def write_random(path, size):
@@ -215,7 +217,15 @@ def crew_rows(folder, there, same):
         empty.append(into_empty(folder, what, what, ours(workers), **more))
         full.append(over_full(folder, what, 'make', ours(workers), **more))
     full.append(over_full(folder, f'make -n {MOST_WORKERS}', 'make', ours(MOST_WORKERS), after=same))
+    empty.append(files_alone(folder))
     return empty, full
+
+
+def files_alone(folder):
+    """The files of the store that has all chunks, copied into a folder that is empty each time."""
+    full = os.path.join(folder, 'make full', '.')
+    return into_empty(folder, 'cp -r of the files alone', 'cp', lambda store: ['-r', full, store],
+                      command=shutil.which('cp'))
 
 
 def measure_beside(kind, folder, runs):
@@ -229,7 +239,7 @@ def measure_beside(kind, folder, runs):
         others = [place(folder, 'casync make', 'casync make', theirs, command=program)
                   for place in (into_empty, over_full)]
     side_by_side.measure(empty + full + others, folder, runs)
-    for row in empty:
+    for row in empty[:len(there)]:
         check(folder, os.path.join(folder, f'{row.what} empty'), size)
     index = check(folder, os.path.join(folder, 'make full'), size)
     print(f'{kind}: {size} bytes, {len(index.entries)} chunks; medians of {runs} runs')
@@ -240,6 +250,9 @@ def measure_beside(kind, folder, runs):
             fastest = rows[len(there) - 1]
             print(f'{fastest.what}: {other.median() / fastest.median():.2f} times the pace of casync; '
                   f'wanted with four at least {WANTED_PACE}')
+    last = len(there) - 1
+    print(f'{empty[last].what}: {empty[last].median() / full[last].median():.2f} of the time over a full store, wanted '
+          f'{MOST_FOR_FILES} where files are created fast')
 
 
 def build_cutter(folder):

@@ -1,6 +1,7 @@
 #!/usr/bin/env python3
 """`desync` reading an index of the greatest number of entries, and holding an image against its index with one worker,
-each beside openssl's digest of the same file; and the latter with two and four workers beside one.
+each beside openssl's digest of the same file; and the latter with two and four workers beside one. Their limit is as
+many openssl digests of the image at once, over that many times one digest.
 
 The long index is read by `verify-index` with an image that isn't there, so that the run ends where the index stands
 in memory. The image is of random bytes, cut every 64 KiB. Needs the image's size and 168 MB under the temporary
@@ -45,7 +46,10 @@ def main():
         index = os.path.getsize(os.path.join(folder, 'image.caibx'))
         print(f'memory: {verifying.peak} KiB, the index has {index // 1024}; at most 16384 beside it\n')
         crews = workers.job('verify-index', ['image.caibx', 'image'], lambda: None, WANTED, ['verify-index'])
-        show('the same', crews, folder, size, options.runs)
+        limits = workers.digests(image)
+        side_by_side.measure([*limits, *crews], folder, options.runs)
+        workers.print_limits(limits, size)
+        side_by_side.print_table(crews, size)
 
 
 if __name__ == '__main__':

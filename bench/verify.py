@@ -20,7 +20,7 @@ COUNT = 100_000
 SMALL = 256
 
 # The wanted ratios to one worker: with two, and with four.
-WANTED = (0.6, 0.35)
+WANTED = (0.65, 0.4)
 
 
 def lay_out(folder, count, size, seed):
