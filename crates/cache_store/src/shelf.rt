@@ -84,9 +84,16 @@ impl<F: Folder> CacheShelf<F> {
     pub fn new(folder: F) -> CacheShelf<F>
         ensures { result ≡ record { folder = folder; kind = kinds.Sha512T256 } }
     {
+        CacheShelf::with_kind(DigestKind::Sha512T256, folder)
+    }
+
+    /// Chunks are named by this digest.
+    pub fn with_kind(kind: DigestKind, folder: F) -> CacheShelf<F>
+        ensures { result ≡ record { folder = folder; kind = kind } }
+    {
         CacheShelf {
             store: DirStore::new(folder),
-            kind: DigestKind::Sha512T256,
+            kind,
         }
     }
 

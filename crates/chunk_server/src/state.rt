@@ -47,12 +47,27 @@ impl<F: Folder> ShelfState<F> {
         ensures ok { IfOk result (λ s. s ≡ record { folder = folder; kind = kinds.Sha512T256; writable = writable }) }
         ensures err { IfErr result (λ e. e.0 ≡ folder) }
     {
+        ShelfState::with_kind(alloc, DigestKind::Sha512T256, folder, writable)
+    }
+
+    /// The chunks of this folder, which are named by this digest. Where nothing may be put, a PUT is refused before its
+    /// body is read.
+    pub fn with_kind(
+        alloc: Global,
+        kind: DigestKind,
+        folder: F,
+        writable: bool,
+    ) -> Result<ShelfState<F>, (F, Memory)>
+        requires opening { IfSome F.opening (λ m. F.files folder ≡ Some m) }
+        ensures ok { IfOk result (λ s. s ≡ record { folder = folder; kind = kind; writable = writable }) }
+        ensures err { IfErr result (λ e. e.0 ≡ folder) }
+    {
         let mut file = ChunkFile::new(alloc);
         match file.make_room() {
             Ok(()) => Ok(ShelfState {
                 alloc,
                 store: DirStore::new(folder),
-                kind: DigestKind::Sha512T256,
+                kind,
                 writable,
                 file,
             }),

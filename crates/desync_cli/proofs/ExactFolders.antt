@@ -3,6 +3,7 @@ use Rattle.std.proofs.Common.{ap, cond, ◌≡◌, ◌≢◌, ◌∙◌, ℕ, Bo
 use Rattle.std.proofs.lemmas.Bool.{ne_eqb}
 use Rattle.std.specs.Option.{option_map}
 use Rattle.caibx_codec.specs.Listing.{Listing}
+use Rattle.chunk_store.specs.declared.id.DigestKind.TheVariants.{Sha512T256}
 use Rattle.command_outcome.specs.declared.outcome.Outcome.{Outcome}
 use Rattle.command_outcome.specs.declared.outcome.Outcome.TheVariants as ends
 use Rattle.command_steps.proofs.Numbers.{rose_not_quiet}
@@ -57,7 +58,7 @@ module _ (x : Contents) (w v : World) (quiet : IsQuiet w v) where
 
   -- ---- `verify`
 
-  verified_as : (q : List ℕ) (repair : Bool) (f : Map (List ℕ)) (n : ℕ) (o : Outcome) (u : World) → IsAt (taken_from x q) w u → answer_of o ≡ answer_of_left n → VerifiedBack q (Some f) (IsStoreChecked repair n) u v → v.disk.files ≡ u.disk.files → EndsSo x v (Verifies q repair f) o
+  verified_as : (q : List ℕ) (repair : Bool) (f : Map (List ℕ)) (n : ℕ) (o : Outcome) (u : World) → IsAt (taken_from x q) w u → answer_of o ≡ answer_of_left n → VerifiedBack q (Some f) (IsStoreChecked Sha512T256 repair n) u v → v.disk.files ≡ u.disk.files → EndsSo x v (Verifies q repair f) o
   verified_as q repair f n o u at is h files =
       let told = h.change in
       let y : Contents = record { files = x.files; folders = at_name x.folders q (left_of repair told.damaged (Some f)); printed = x.printed ++ text_of_damaged repair told.damaged } in

@@ -220,7 +220,7 @@ Answers in_turn h writable q f x o y = (o ≡ ends.Done) × (g : Option (Map (Li
 
 -- damaged chunk files are printed, and with `repair` removed
 abbrev pub Verifies : List ℕ → Bool → Map (List ℕ) → Ending
-Verifies q repair f x o y = (damaged : List (List ℕ)) × AreDamaged f damaged
+Verifies q repair f x o y = (damaged : List (List ℕ)) × AreDamaged kinds.Sha512T256 f damaged
     × (answer_of o ≡ answer_of_left (damaged_left repair damaged))
     × (y ≡ record {
       files = x.files;

@@ -47,10 +47,18 @@ impl<S: Store> Chain<S> {
         requires size { (1 ≤ vec_len stores) × (vec_len stores ≤ 16) }
         ensures value { result ≡ record { stores = stores.items; asks = 0; kind = kinds.Sha512T256 } }
     {
+        Chain::with_kind(DigestKind::Sha512T256, stores)
+    }
+
+    /// Chunks are named by this digest.
+    pub fn with_kind(kind: DigestKind, stores: Vec<S>) -> Chain<S>
+        requires size { (1 ≤ vec_len stores) × (vec_len stores ≤ 16) }
+        ensures value { result ≡ record { stores = stores.items; asks = 0; kind = kind } }
+    {
         Chain {
             stores,
             asks: 0,
-            kind: DigestKind::Sha512T256,
+            kind,
         }
     }
 

@@ -1,8 +1,9 @@
 -- Looks at a folder that become readers, and come back.
-use Rattle.std.proofs.Common.{◌≡◌, ℕ, ◌≤◌, List, [], ◌∷◌, ◌++◌, All, get_or, length, map, reverse, Option, Some, None, IfSome, refl, sym, ap, subst, ◌∙◌, arith}
+use Rattle.std.proofs.Common.{◌≡◌, ℕ, List, [], ◌∷◌, ◌++◌, All, get_or, length, map, reverse, Option, Some, None, IfSome, refl, sym, ap, subst, ◌∙◌, arith}
 use Rattle.std.proofs.lemmas.List.{get_or-map, length-map, reverse-reverse}
 use Rattle.std.specs.List.{AllZip}
 use Rattle.chunk_store.specs.declared.id.ChunkId.{ChunkId}
+use Rattle.chunk_store.specs.declared.id.DigestKind.{DigestKind}
 use Rattle.dsy_base.specs.Maps.{Map}
 use Rattle.dsy_base.specs.declared.look.Look.{Ghosts as LookWords}
 use Rattle.store_check.specs.Reading.{KeepsLook}
@@ -34,10 +35,11 @@ module _ {L : Type 0} (look : LookWords L) where
   looks_back f (r ∷ rs) (s ∷ ss) h = (h.0, looks_back f rs ss h.1)
 
 -- what a reader finds of its look's files is so of the folder's files, which the look tells
-pub reads_trusted : (told looked : Option (Map (List ℕ))) (ids own : List ChunkId) (room : Verdicts) → IfSome told (λ m. looked ≡ Some m) → own ≡ ids → AreVerdicts looked own room → AreVerdicts told ids room
-reads_trusted None looked ids own room alike same are = λ k d lt. tt
-reads_trusted (Some m) looked ids own room alike same are =
-    subst (λ (x : Option (Map (List ℕ))). AreVerdicts x ids room) alike (subst (λ (x : List ChunkId). AreVerdicts looked x room) same are)
+pub reads_trusted : (kind name : DigestKind) (told looked : Option (Map (List ℕ))) (ids own : List ChunkId) (room : Verdicts) → IfSome told (λ m. looked ≡ Some m) → name ≡ kind → own ≡ ids → AreVerdicts name looked own room → AreVerdicts kind told ids room
+reads_trusted kind name None looked ids own room alike named same are = λ k d lt. tt
+reads_trusted kind name (Some m) looked ids own room alike named same are =
+    subst (λ (x : Option (Map (List ℕ))). AreVerdicts kind x ids room) alike
+    (subst (λ (x : List ChunkId). AreVerdicts kind looked x room) same (subst (λ (x : DigestKind). AreVerdicts x looked own room) named are))
 
 -- what holds of the looks holds of those that the readers have
 pub hired_all : {R L : Type 0} (P : L → Type 0) (f : R → L) (ls : List L) (rs : List R) → ls ≡ map f rs → All P ls → All (λ r. P (f r)) rs

@@ -1,5 +1,5 @@
 -- A check of chunk files that goes on: one file more, and the whole way.
-use Rattle.std.proofs.Common.{◌≡◌, ℕ, ◌+◌, ◌<◌, ◌≤◌, Bool, List, [], cond, length, map, Option, Some, None, IfSome, OnErr, OnOk, Result, Ok, Err, inl, inr, refl, sym, ap, subst, ◌∙◌, arith}
+use Rattle.std.proofs.Common.{◌≡◌, ℕ, ◌+◌, ◌<◌, ◌≤◌, Bool, List, [], cond, length, map, Option, Some, None, IfSome, OnErr, Result, Ok, Err, inl, inr, refl, sym, ap, subst, ◌∙◌, arith}
 use Rattle.std.proofs.lemmas.List.{length-map}
 use Rattle.chunk_store.specs.Causes.{CountsCause}
 use Rattle.chunk_store.specs.Names.{IsId}
@@ -13,6 +13,7 @@ use Rattle.store_check.proofs.Verified.{told_all, told_begins, told_next, told_n
 use Rattle.store_check.specs.Verdicts.{IsVerdict, id_at, verdict}
 use Rattle.store_check.specs.Verifying.{Change, ChecksFile, IsStoreChecked, StopsVerifying, is_damaged}
 use Rattle.store_check.specs.VerifyProgress.{IsVerifying, StoreCheckEnds, ToldTo, VerifiesOn, change_of}
+use Rattle.store_check.specs.declared.file.CheckRule.{CheckRule}
 use Rattle.store_check.specs.declared.verify.StoreCheck.{StoreCheck}
 use Rattle.store_check.specs.declared.verify.StoreCheck.TheVariants as checks
 use Rattle.store_check.specs.declared.verifying.Verifying.{Verifying}
@@ -59,7 +60,7 @@ module _ {F S : Type 0} (look : LookWords F) (sink : SinkWords S) where
     store = refl;
     out = refl;
     ids = refl;
-    repair = refl;
+    rule = refl;
     first = refl;
     before = refl;
     place = refl;
@@ -70,11 +71,11 @@ module _ {F S : Type 0} (look : LookWords F) (sink : SinkWords S) where
   pub verifies_on : (a b c : Verifying F S) (r : Result Unit StoreCheck) → VerifiesOn look sink a b (Ok tt) → VerifiesOn look sink b c r → VerifiesOn look sink a c r
   verifies_on a b c r one two = record {
     next = two.next;
-    ends = subst (λ (x : Bool). OnErr r (StopsVerifying x (change_of look sink c))) one.repair two.ends;
+    ends = subst (λ (x : CheckRule). OnErr r (StopsVerifying x.kind x.repair (change_of look sink c))) one.rule two.ends;
     store = two.store ∙ one.store;
     out = two.out ∙ one.out;
     ids = two.ids ∙ one.ids;
-    repair = two.repair ∙ one.repair;
+    rule = two.rule ∙ one.rule;
     first = two.first ∙ one.first;
     before = two.before ∙ one.before;
     place = two.place ∙ one.place;
@@ -86,8 +87,8 @@ module _ {F S : Type 0} (look : LookWords F) (sink : SinkWords S) where
   }
 
   -- it went the whole way
-  pub verified_all : ((a b : List ℕ) → IsId b → path_of a ≡ path_of b → a ≡ b) → (w : Verifying F S) (left : ℕ) → IsVerifying look sink w → length w.ids.now ≤ w.at → left ≡ cond w.repair 0 w.found → IsStoreChecked w.repair left (change_of look sink w)
-  verified_all one w left is past found = told_all one w.repair w.ids.now w.at w.found left (change_of look sink w) (omega (arith, past, length-map w.ids.now (λ (id : ChunkId). id.0))) is.listed is.told found
+  pub verified_all : ((a b : List ℕ) → IsId b → path_of a ≡ path_of b → a ≡ b) → (w : Verifying F S) (left : ℕ) → IsVerifying look sink w → length w.ids.now ≤ w.at → left ≡ cond w.rule.repair 0 w.found → IsStoreChecked w.rule.kind w.rule.repair left (change_of look sink w)
+  verified_all one w left is past found = told_all one w.rule.kind w.rule.repair w.ids.now w.at w.found left (change_of look sink w) (omega (arith, past, length-map w.ids.now (λ (id : ChunkId). id.0))) is.listed is.told found
 
   changed : (w : Verifying F S) (old new : F) (before after : S) → w.first.value ≡ old → w.store.now ≡ new → w.before.value ≡ before → w.out.now ≡ after
       → change_of look sink w ≡ record { old = look.files old; new = look.files new; before = (sink.output before).taken; taken = (sink.output after).taken }
@@ -110,11 +111,11 @@ module _ {F S : Type 0} (look : LookWords F) (sink : SinkWords S) where
         (subst (λ (f : F). CountsCause checks.StoreFault (look.faults f) (look.faults w.store.now) r) v_store on.store_faults)
 
     -- all files were looked at
-    pub ends_all : ((a b : List ℕ) → IsId b → path_of a ≡ path_of b → a ≡ b) → (left : ℕ) → VerifiesOn look sink v w (Ok tt) → length w.ids.now ≤ w.at → left ≡ cond w.repair 0 w.found
-        → StoreCheckEnds look sink v.repair old new before after (Ok left)
+    pub ends_all : ((a b : List ℕ) → IsId b → path_of a ≡ path_of b → a ≡ b) → (left : ℕ) → VerifiesOn look sink v w (Ok tt) → length w.ids.now ≤ w.at → left ≡ cond w.rule.repair 0 w.found
+        → StoreCheckEnds look sink v.rule old new before after (Ok left)
     ends_all one left on past is = record {
-      ok = subst (λ (x : Bool). IsStoreChecked x left (record { old = look.files old; new = look.files new; before = (sink.output before).taken; taken = (sink.output after).taken })) on.repair
-          (subst (IsStoreChecked w.repair left) (whole (Ok tt) on) (verified_all one w left on.next past is));
+      ok = subst (λ (x : CheckRule). IsStoreChecked x.kind x.repair left (record { old = look.files old; new = look.files new; before = (sink.output before).taken; taken = (sink.output after).taken })) on.rule
+          (subst (IsStoreChecked w.rule.kind w.rule.repair left) (whole (Ok tt) on) (verified_all one w left on.next past is));
       err = tt;
       place = place_of (Ok tt) on;
       store_faults = cause_given checks.StoreFault tt left _ _ (store_faults_of (Ok tt) on);
@@ -122,10 +123,10 @@ module _ {F S : Type 0} (look : LookWords F) (sink : SinkWords S) where
     }
 
     -- it ended at one
-    pub ends_early : (fault : StoreCheck) → VerifiesOn look sink v w (Err fault) → StoreCheckEnds look sink v.repair old new before after (Err fault)
+    pub ends_early : (fault : StoreCheck) → VerifiesOn look sink v w (Err fault) → StoreCheckEnds look sink v.rule old new before after (Err fault)
     ends_early fault on = record {
       ok = tt;
-      err = subst (StopsVerifying v.repair) (whole (Err fault) on) on.ends;
+      err = subst (StopsVerifying v.rule.kind v.rule.repair) (whole (Err fault) on) on.ends;
       place = place_of (Err fault) on;
       store_faults = cause_again checks.StoreFault fault _ _ (store_faults_of (Err fault) on);
       faults = faults_again checks.OutFault checks.Memory fault _ _ (faults_of (Err fault) on);
@@ -140,8 +141,8 @@ module _ {F S : Type 0} (look : LookWords F) (sink : SinkWords S) where
     listed = listed;
     at = omega (arith, at);
     room = omega (arith, ap length empty);
-    told = subst (ToldTo w.repair w.ids.now w.at w.found) (λ i. record { old = look.files w.first.value; new = look.files (first i); before = (sink.output w.before.value).taken; taken = (sink.output (before i)).taken })
-        (subst (λ (n : ℕ). ToldTo w.repair w.ids.now w.at n (first_change w)) (sym found) (subst (λ (n : ℕ). ToldTo w.repair w.ids.now n 0 (first_change w)) (sym at) (told_begins w.repair w.ids.now (look.files w.first.value) (sink.output w.before.value).taken)));
+    told = subst (ToldTo w.rule.kind w.rule.repair w.ids.now w.at w.found) (λ i. record { old = look.files w.first.value; new = look.files (first i); before = (sink.output w.before.value).taken; taken = (sink.output (before i)).taken })
+        (subst (λ (n : ℕ). ToldTo w.rule.kind w.rule.repair w.ids.now w.at n (first_change w)) (sym found) (subst (λ (n : ℕ). ToldTo w.rule.kind w.rule.repair w.ids.now n 0 (first_change w)) (sym at) (told_begins w.rule.kind w.rule.repair w.ids.now (look.files w.first.value) (sink.output w.before.value).taken)));
   }
 
   -- one file more, whose id this is
@@ -157,13 +158,13 @@ module _ {F S : Type 0} (look : LookWords F) (sink : SinkWords S) where
     all_to new after = record { old = look.files w.first.value; new = look.files new; before = (sink.output w.before.value).taken; taken = (sink.output after).taken }
 
     -- what is known of it holds of the file as it is now
-    pub known_now : (known : Option Bool) → IfSome known (λ b. IsVerdict (look.files w.first.value) w.ids.now (verdict w.at b)) → IfSome known (λ b. IfSome (look.files w.store.now) (λ m. b ≡ is_damaged m id))
+    pub known_now : (known : Option Bool) → IfSome known (λ b. IsVerdict w.rule.kind (look.files w.first.value) w.ids.now (verdict w.at b)) → IfSome known (λ b. IfSome (look.files w.store.now) (λ m. b ≡ is_damaged w.rule.kind m id))
     known_now None h = tt
-    known_now (Some b) h = told_now one w.repair w.ids.now w.at w.found inside (change_of look sink w) (step_to w.store.now w.out.now) refl refl is.listed is.told id named is_id b
-        (subst (λ (x : List ℕ). IfSome (look.files w.first.value) (λ m. b ≡ is_damaged m x)) (sym named) h)
+    known_now (Some b) h = told_now one w.rule.kind w.rule.repair w.ids.now w.at w.found inside (change_of look sink w) (step_to w.store.now w.out.now) refl refl is.listed is.told id named is_id b
+        (subst (λ (x : List ℕ). IfSome (look.files w.first.value) (λ m. b ≡ is_damaged w.rule.kind m x)) (sym named) h)
 
-    pub stops_at : (new : F) (after : S) (fault : StoreCheck) → ChecksFile w.repair id (step_to new after) (Err fault) → StopsVerifying w.repair (all_to new after)
-    stops_at new after fault ends = inr (told_stops one w.repair w.ids.now w.at w.found inside (change_of look sink w) (step_to new after) refl refl is.listed is.told id named is_id fault ends)
+    pub stops_at : (new : F) (after : S) (fault : StoreCheck) → ChecksFile w.rule.kind w.rule.repair id (step_to new after) (Err fault) → StopsVerifying w.rule.kind w.rule.repair (all_to new after)
+    stops_at new after fault ends = inr (told_stops one w.rule.kind w.rule.repair w.ids.now w.at w.found inside (change_of look sink w) (step_to new after) refl refl is.listed is.told id named is_id fault ends)
 
-    pub goes_past : (new : F) (after : S) (b : Bool) (more : ℕ) → more ≡ cond b 1 0 → ChecksFile w.repair id (step_to new after) (Ok b) → ToldTo w.repair w.ids.now (w.at + 1) (w.found + more) (all_to new after)
-    goes_past new after b more is_more ends = told_next one w.repair w.ids.now w.at w.found inside (change_of look sink w) (step_to new after) refl refl is.listed is.told id named is_id b more is_more ends
+    pub goes_past : (new : F) (after : S) (b : Bool) (more : ℕ) → more ≡ cond b 1 0 → ChecksFile w.rule.kind w.rule.repair id (step_to new after) (Ok b) → ToldTo w.rule.kind w.rule.repair w.ids.now (w.at + 1) (w.found + more) (all_to new after)
+    goes_past new after b more is_more ends = told_next one w.rule.kind w.rule.repair w.ids.now w.at w.found inside (change_of look sink w) (step_to new after) refl refl is.listed is.told id named is_id b more is_more ends

@@ -20,6 +20,7 @@ use Rattle.std.specs.declared.cmp.Ordering.TheVariants.{Less}
 use Rattle.chunk_store.specs.Names.{IsId}
 use Rattle.chunk_store.specs.Paths.{path_of}
 use Rattle.chunk_store.specs.declared.id.ChunkId.{ChunkId}
+use Rattle.chunk_store.specs.declared.id.DigestKind.{DigestKind}
 use Rattle.dir_store.specs.Lists.{IsIdsOf}
 use Rattle.dsy_base.specs.Maps.{Map}
 use Rattle.verify_tool.proofs.Distinct.{front_is}
@@ -64,17 +65,17 @@ module _ (one : (a b : List ℕ) → IsId b → path_of a ≡ path_of b → a �
   same_member (d ∷ ds) = (λ i. same_test d i || same_member ds i)
 
   -- a file that is there still is damaged if it was
-  still_told : (repair : Bool) (ds : List (List ℕ)) (b : Bool) (o : Option (Map (List ℕ))) → IfSome o (λ m. is_member bytes_eq ds id ≡ false) → IfSome (left_of repair ds o) (λ m. b ≡ is_damaged m id) → IfSome o (λ m. b ≡ is_damaged m id)
-  still_told repair ds b None fresh h = tt
-  still_told false ds b (Some m) fresh h = h
-  still_told true ds b (Some m) fresh h = h ∙ ap (λ t. is_wrong id (cond t None (m (path_of id)))) (same_member ds ∙ fresh)
+  still_told : (kind : DigestKind) (repair : Bool) (ds : List (List ℕ)) (b : Bool) (o : Option (Map (List ℕ))) → IfSome o (λ m. is_member bytes_eq ds id ≡ false) → IfSome (left_of repair ds o) (λ m. b ≡ is_damaged kind m id) → IfSome o (λ m. b ≡ is_damaged kind m id)
+  still_told kind repair ds b None fresh h = tt
+  still_told kind false ds b (Some m) fresh h = h
+  still_told kind true ds b (Some m) fresh h = h ∙ ap (λ t. is_wrong kind id (cond t None (m (path_of id)))) (same_member ds ∙ fresh)
 
   -- and is found so if it would have been
-  still_known : (repair : Bool) (ds : List (List ℕ)) (b : Bool) (o : Option (Map (List ℕ))) → IfSome o (λ m. is_member bytes_eq ds id ≡ false) → IfSome o (λ m. b ≡ is_damaged m id) → IfSome (left_of repair ds o) (λ m. b ≡ is_damaged m id)
-  still_known false ds b None fresh h = tt
-  still_known true ds b None fresh h = tt
-  still_known false ds b (Some m) fresh h = h
-  still_known true ds b (Some m) fresh h = h ∙ sym (ap (λ t. is_wrong id (cond t None (m (path_of id)))) (same_member ds ∙ fresh))
+  still_known : (kind : DigestKind) (repair : Bool) (ds : List (List ℕ)) (b : Bool) (o : Option (Map (List ℕ))) → IfSome o (λ m. is_member bytes_eq ds id ≡ false) → IfSome o (λ m. b ≡ is_damaged kind m id) → IfSome (left_of repair ds o) (λ m. b ≡ is_damaged kind m id)
+  still_known kind false ds b None fresh h = tt
+  still_known kind true ds b None fresh h = tt
+  still_known kind false ds b (Some m) fresh h = h
+  still_known kind true ds b (Some m) fresh h = h ∙ sym (ap (λ t. is_wrong kind id (cond t None (m (path_of id)))) (same_member ds ∙ fresh))
 
 -- ---- one after another
 
@@ -103,9 +104,9 @@ front_shorter repair k ds =
     omega (arith, whole, length-append (text_of_damaged repair (take k ds)) (text_of_damaged repair (drop k ds)))
 
 -- ds are the first of the damaged
-stopped : (repair : Bool) (c : Change) (ds rest : List (List ℕ)) → IfSome c.old (λ m. AreDamaged m (ds ++ rest)) → c.new ≡ left_of repair ds c.old → (size : ℕ)
-    → length (text_of_damaged repair (take (length ds - 1) ds)) ≤ size → size ≤ length (text_of_damaged repair ds) → c.taken ≡ option_map (λ t. t ++ take size (text_of_damaged repair ds)) c.before → IsStopped repair c
-stopped repair c ds rest all files size from to text =
+stopped : (kind : DigestKind) (repair : Bool) (c : Change) (ds rest : List (List ℕ)) → IfSome c.old (λ m. AreDamaged kind m (ds ++ rest)) → c.new ≡ left_of repair ds c.old → (size : ℕ)
+    → length (text_of_damaged repair (take (length ds - 1) ds)) ≤ size → size ≤ length (text_of_damaged repair ds) → c.taken ≡ option_map (λ t. t ++ take size (text_of_damaged repair ds)) c.before → IsStopped kind repair c
+stopped kind repair c ds rest all files size from to text =
     let seam : take (length ds) (ds ++ rest) ≡ ds = take-append_seam ds rest in
     let below : take (length ds - 1) (ds ++ rest) ≡ take (length ds - 1) ds = take-append-le (length ds - 1) ds rest (omega arith) in
     let cut : take size (text_of_damaged repair (ds ++ rest)) ≡ take size (text_of_damaged repair ds) = ap (take size) (flat_map-append (line_of_damaged repair) ds rest) ∙ take-append-le size (text_of_damaged repair ds) (text_of_damaged repair rest) to in
@@ -122,50 +123,50 @@ stopped repair c ds rest all files size from to text =
     }
 
 -- no file was looked at yet
-pub told_begins : (repair : Bool) (ids : List ChunkId) (o : Option (Map (List ℕ))) (t : Option (List ℕ)) → ToldTo repair ids 0 0 (record { old = o; new = o; before = t; taken = t })
-told_begins repair ids o t = record { damaged = []; all = none_yet o; told = none_told repair o t; count = refl; few = omega arith } where
-  none_yet : (x : Option (Map (List ℕ))) → IfSome x (λ m. [] ≡ filter (is_damaged m) (take 0 (map (λ id. id.0) ids)))
+pub told_begins : (kind : DigestKind) (repair : Bool) (ids : List ChunkId) (o : Option (Map (List ℕ))) (t : Option (List ℕ)) → ToldTo kind repair ids 0 0 (record { old = o; new = o; before = t; taken = t })
+told_begins kind repair ids o t = record { damaged = []; all = none_yet o; told = none_told repair o t; count = refl; few = omega arith } where
+  none_yet : (x : Option (Map (List ℕ))) → IfSome x (λ m. [] ≡ filter (is_damaged kind m) (take 0 (map (λ id. id.0) ids)))
   none_yet None = tt
   none_yet (Some m) = refl
 
-module _ (one : (a b : List ℕ) → IsId b → path_of a ≡ path_of b → a ≡ b) (repair : Bool) (ids : List ChunkId) where
+module _ (one : (a b : List ℕ) → IsId b → path_of a ≡ path_of b → a ≡ b) (kind : DigestKind) (repair : Bool) (ids : List ChunkId) where
   abbrev L : List (List ℕ)
   L = map (λ id. id.0) ids
 
   module _ (i n : ℕ) (lt : i < length L) (c d : Change) (old : d.old ≡ c.new) (before : d.before ≡ c.taken)
-      (listed : IfSome c.old (λ m. IsIdsOf m ids)) (walked : ToldTo repair ids i n c) (id : List ℕ) (id_is : id ≡ get_or L i []) (is : IsId id) where
+      (listed : IfSome c.old (λ m. IsIdsOf m ids)) (walked : ToldTo kind repair ids i n c) (id : List ℕ) (id_is : id ≡ get_or L i []) (is : IsId id) where
     abbrev joined : Change
     joined = record { old = c.old; new = d.new; before = c.before; taken = d.taken }
 
     whole_is : L ≡ take i L ++ id ∷ drop (i + 1) L
     whole_is = sym (take-append-drop (i + 1) L) ∙ ap (λ xs. xs ++ drop (i + 1) L) (front_is L i lt ∙ ap (λ x. take i L ++ x ∷ []) (sym id_is)) ∙ append_assoc (take i L) (id ∷ []) (drop (i + 1) L)
 
-    fresh_in : (m : Map (List ℕ)) → IsIdsOf m ids → walked.damaged ≡ filter (is_damaged m) (take i L) → is_member bytes_eq walked.damaged id ≡ false
+    fresh_in : (m : Map (List ℕ)) → IsIdsOf m ids → walked.damaged ≡ filter (is_damaged kind m) (take i L) → is_member bytes_eq walked.damaged id ≡ false
     fresh_in m all are =
         let sorted : IsStrictlySortedBy (slice_cmp nat_cmp) (take i L ++ id ∷ drop (i + 1) L) = subst (λ (xs : List (List ℕ)). IsStrictlySortedBy (slice_cmp nat_cmp) xs) whole_is all.sorted in
         ap (λ xs. is_member bytes_eq xs id) are
-        ∙ is_member-filter nat_list_eq_equiv (is_damaged m) id (λ x same. ap (is_damaged m) ((bytes_eq-Decides id x).0 same)) (take i L)
-        ∙ ap (λ b. b && is_damaged m id) (apart (take i L) id (drop (i + 1) L) sorted)
+        ∙ is_member-filter nat_list_eq_equiv (is_damaged kind m) id (λ x same. ap (is_damaged kind m) ((bytes_eq-Decides id x).0 same)) (take i L)
+        ∙ ap (λ b. b && is_damaged kind m id) (apart (take i L) id (drop (i + 1) L) sorted)
 
-    fresh : (o : Option (Map (List ℕ))) → IfSome o (λ m. IsIdsOf m ids) → IfSome o (λ m. walked.damaged ≡ filter (is_damaged m) (take i L)) → IfSome o (λ m. is_member bytes_eq walked.damaged id ≡ false)
+    fresh : (o : Option (Map (List ℕ))) → IfSome o (λ m. IsIdsOf m ids) → IfSome o (λ m. walked.damaged ≡ filter (is_damaged kind m) (take i L)) → IfSome o (λ m. is_member bytes_eq walked.damaged id ≡ false)
     fresh None a b = tt
     fresh (Some m) a b = fresh_in m a b
 
-    told_first : (b : Bool) → IfSome d.old (λ m. b ≡ is_damaged m id) → IfSome c.old (λ m. b ≡ is_damaged m id)
-    told_first b h = still_told one id is repair walked.damaged b c.old (fresh c.old listed walked.all) (subst (λ (x : Option (Map (List ℕ))). IfSome x (λ m. b ≡ is_damaged m id)) (old ∙ walked.told.files) h)
+    told_first : (b : Bool) → IfSome d.old (λ m. b ≡ is_damaged kind m id) → IfSome c.old (λ m. b ≡ is_damaged kind m id)
+    told_first b h = still_told one id is kind repair walked.damaged b c.old (fresh c.old listed walked.all) (subst (λ (x : Option (Map (List ℕ))). IfSome x (λ m. b ≡ is_damaged kind m id)) (old ∙ walked.told.files) h)
 
     -- what was known of the file at first holds of it now
-    pub told_now : (b : Bool) → IfSome c.old (λ m. b ≡ is_damaged m id) → IfSome d.old (λ m. b ≡ is_damaged m id)
-    told_now b h = subst (λ (x : Option (Map (List ℕ))). IfSome x (λ m. b ≡ is_damaged m id)) (sym (old ∙ walked.told.files)) (still_known one id is repair walked.damaged b c.old (fresh c.old listed walked.all) h)
+    pub told_now : (b : Bool) → IfSome c.old (λ m. b ≡ is_damaged kind m id) → IfSome d.old (λ m. b ≡ is_damaged kind m id)
+    told_now b h = subst (λ (x : Option (Map (List ℕ))). IfSome x (λ m. b ≡ is_damaged kind m id)) (sym (old ∙ walked.told.files)) (still_known one id is kind repair walked.damaged b c.old (fresh c.old listed walked.all) h)
 
-    more_of : (b : Bool) (o : Option (Map (List ℕ))) → IfSome o (λ m. walked.damaged ≡ filter (is_damaged m) (take i L)) → IfSome o (λ m. b ≡ is_damaged m id) → IfSome o (λ m. walked.damaged ++ found_at id b ≡ filter (is_damaged m) (take (i + 1) L))
+    more_of : (b : Bool) (o : Option (Map (List ℕ))) → IfSome o (λ m. walked.damaged ≡ filter (is_damaged kind m) (take i L)) → IfSome o (λ m. b ≡ is_damaged kind m id) → IfSome o (λ m. walked.damaged ++ found_at id b ≡ filter (is_damaged kind m) (take (i + 1) L))
     more_of b None are value = tt
     more_of b (Some m) are value =
-        (λ k. are k ++ found_at id (value k)) ∙ sym (filter-append (is_damaged m) (take i L) (id ∷ []))
-        ∙ ap (filter (is_damaged m)) (ap (λ x. take i L ++ x ∷ []) id_is ∙ sym (front_is L i lt))
+        (λ k. are k ++ found_at id (value k)) ∙ sym (filter-append (is_damaged kind m) (take i L) (id ∷ []))
+        ∙ ap (filter (is_damaged kind m)) (ap (λ x. take i L ++ x ∷ []) id_is ∙ sym (front_is L i lt))
 
     -- this one was looked at too
-    pub told_next : (b : Bool) (more : ℕ) → more ≡ cond b 1 0 → ChecksFile repair id d (Ok b) → ToldTo repair ids (i + 1) (n + more) joined
+    pub told_next : (b : Bool) (more : ℕ) → more ≡ cond b 1 0 → ChecksFile kind repair id d (Ok b) → ToldTo kind repair ids (i + 1) (n + more) joined
     told_next b more more_is checked = record {
       damaged = walked.damaged ++ found_at id b;
       all = more_of b c.old walked.all (told_first b checked.0);
@@ -183,21 +184,21 @@ module _ (one : (a b : List ℕ) → IsId b → path_of a ≡ path_of b → a �
 
     abbrev rest_of : Option (Map (List ℕ)) → List (List ℕ) → List (List ℕ)
     rest_of None xs = []
-    rest_of (Some m) xs = filter (is_damaged m) xs
+    rest_of (Some m) xs = filter (is_damaged kind m) xs
 
-    whole_damaged : (k : ℕ) (ds : List (List ℕ)) (o : Option (Map (List ℕ))) → IfSome o (λ m. IsIdsOf m ids) → IfSome o (λ m. ds ≡ filter (is_damaged m) (take k L)) → IfSome o (λ m. AreDamaged m (ds ++ rest_of o (drop k L)))
+    whole_damaged : (k : ℕ) (ds : List (List ℕ)) (o : Option (Map (List ℕ))) → IfSome o (λ m. IsIdsOf m ids) → IfSome o (λ m. ds ≡ filter (is_damaged kind m) (take k L)) → IfSome o (λ m. AreDamaged kind m (ds ++ rest_of o (drop k L)))
     whole_damaged k ds None all are = tt
     whole_damaged k ds (Some m) all are = record {
       ids = ids;
       all = all;
-      only = ap (λ xs. xs ++ filter (is_damaged m) (drop k L)) are ∙ sym (filter-append (is_damaged m) (take k L) (drop k L)) ∙ ap (filter (is_damaged m)) (take-append-drop k L);
+      only = ap (λ xs. xs ++ filter (is_damaged kind m) (drop k L)) are ∙ sym (filter-append (is_damaged kind m) (take k L) (drop k L)) ∙ ap (filter (is_damaged kind m)) (take-append-drop k L);
     }
 
     -- a refusal at this one
-    pub told_stops : (fault : StoreCheck) → ChecksFile repair id d (Err fault) → IsStopped repair joined
+    pub told_stops : (fault : StoreCheck) → ChecksFile kind repair id d (Err fault) → IsStopped kind repair joined
     told_stops fault (inl same) =
         let ds = walked.damaged in
-        stopped repair joined ds (rest_of c.old (drop i L)) (whole_damaged i ds c.old listed walked.all)
+        stopped kind repair joined ds (rest_of c.old (drop i L)) (whole_damaged i ds c.old listed walked.all)
         (same.files ∙ old ∙ walked.told.files)
         (length (text_of_damaged repair ds))
         (front_shorter repair (length ds - 1) ds)
@@ -213,7 +214,7 @@ module _ (one : (a b : List ℕ) → IsId b → path_of a ≡ path_of b → a �
         let long : length (text_of_damaged repair es) ≡ length first + length line = ap length text ∙ length-append first line in
         let one_more : length es - 1 ≡ length ds = omega (arith, length-append ds (id ∷ [])) in
         let front : length (text_of_damaged repair (take (length es - 1) es)) ≡ length first = ap (λ j. length (text_of_damaged repair (take j es))) one_more ∙ ap (λ xs. length (text_of_damaged repair xs)) (take-append_seam ds (id ∷ [])) in
-        stopped repair joined es (rest_of c.old (drop (i + 1) L)) (whole_damaged (i + 1) es c.old listed (more_of true c.old walked.all (told_first true (turned d.old cut.damaged))))
+        stopped kind repair joined es (rest_of c.old (drop (i + 1) L)) (whole_damaged (i + 1) es c.old listed (more_of true c.old walked.all (told_first true (turned d.old cut.damaged))))
         (cut.files ∙ ap (left_of repair (id ∷ [])) (old ∙ walked.told.files) ∙ sym (left_append repair ds (id ∷ []) c.old))
         (length first + k)
         (omega (arith, front))
@@ -221,18 +222,18 @@ module _ (one : (a b : List ℕ) → IsId b → path_of a ≡ path_of b → a �
         (cut.text.2 ∙ ap (option_map (λ t. t ++ take k line)) (before ∙ walked.told.text) ∙ put_both c.before first (take k line)
         ∙ ap (λ x. option_map (λ t. t ++ x) c.before) (sym (ap (take (length first + k)) text ∙ take-append-add first line k)))
       where
-        turned : (o : Option (Map (List ℕ))) → IfSome o (λ m. is_damaged m id ≡ true) → IfSome o (λ m. true ≡ is_damaged m id)
+        turned : (o : Option (Map (List ℕ))) → IfSome o (λ m. is_damaged kind m id ≡ true) → IfSome o (λ m. true ≡ is_damaged kind m id)
         turned None h = tt
         turned (Some m) h = sym h
 
   -- all were looked at
-  pub told_all : (i n left : ℕ) (c : Change) → length L ≤ i → IfSome c.old (λ m. IsIdsOf m ids) → ToldTo repair ids i n c → left ≡ cond repair 0 n → IsStoreChecked repair left c
+  pub told_all : (i n left : ℕ) (c : Change) → length L ≤ i → IfSome c.old (λ m. IsIdsOf m ids) → ToldTo kind repair ids i n c → left ≡ cond repair 0 n → IsStoreChecked kind repair left c
   told_all i n left c all listed walked is = record {
     damaged = walked.damaged;
     all = whole c.old listed walked.all;
     told = walked.told;
     left = is ∙ ap (cond repair 0) walked.count;
   } where
-    whole : (o : Option (Map (List ℕ))) → IfSome o (λ m. IsIdsOf m ids) → IfSome o (λ m. walked.damaged ≡ filter (is_damaged m) (take i L)) → IfSome o (λ m. AreDamaged m walked.damaged)
+    whole : (o : Option (Map (List ℕ))) → IfSome o (λ m. IsIdsOf m ids) → IfSome o (λ m. walked.damaged ≡ filter (is_damaged kind m) (take i L)) → IfSome o (λ m. AreDamaged kind m walked.damaged)
     whole None a b = tt
-    whole (Some m) a b = record { ids = ids; all = a; only = b ∙ ap (filter (is_damaged m)) (take_all i L all) }
+    whole (Some m) a b = record { ids = ids; all = a; only = b ∙ ap (filter (is_damaged kind m)) (take_all i L all) }

@@ -9,7 +9,7 @@ use Rattle.chunk_store.specs.Folders.{chunks}
 use Rattle.chunk_store.specs.Names.{name_of}
 use Rattle.chunk_store.specs.Paths.{path_of}
 use Rattle.chunk_store.specs.declared.id.ChunkId.{ChunkId}
-use Rattle.chunk_store.specs.declared.id.DigestKind.TheVariants.{Sha512T256}
+use Rattle.chunk_store.specs.declared.id.DigestKind.{DigestKind}
 use Rattle.dir_store.specs.Lists.{IsIdsOf}
 use Rattle.dsy_base.specs.Disk.{PutsFront}
 use Rattle.dsy_base.specs.Maps.{Map}
@@ -18,19 +18,19 @@ use Rattle.verify_tool.specs.Pruning.{without}
 use Rattle.store_check.specs.declared.verify.StoreCheck.{StoreCheck}
 
 -- whether there are bytes, and they aren't the chunk of this id: too many, or of another name
-abbrev pub is_wrong : List ℕ → Option (List ℕ) → Bool
-is_wrong id None = false
-is_wrong id (Some b) = nat_lt size_limit (length b) || not (bytes_eq (name_of Sha512T256 b) id)
+abbrev pub is_wrong : DigestKind → List ℕ → Option (List ℕ) → Bool
+is_wrong kind id None = false
+is_wrong kind id (Some b) = nat_lt size_limit (length b) || not (bytes_eq (name_of kind b) id)
 
 -- whether a chunk file lies under the id, and is damaged
-abbrev pub is_damaged : Map (List ℕ) → List ℕ → Bool
-is_damaged m id = is_wrong id (chunks m id)
+abbrev pub is_damaged : DigestKind → Map (List ℕ) → List ℕ → Bool
+is_damaged kind m id = is_wrong kind id (chunks m id)
 
 -- the ids of all damaged chunk files, in the order of their bytes
-pub record AreDamaged (m : Map (List ℕ)) (damaged : List (List ℕ)) : Type 0 where
+pub record AreDamaged (kind : DigestKind) (m : Map (List ℕ)) (damaged : List (List ℕ)) : Type 0 where
   pub ids : List ChunkId
   pub all : IsIdsOf m ids
-  pub only : damaged ≡ filter (is_damaged m) (map (λ id. id.0) ids)
+  pub only : damaged ≡ filter (is_damaged kind m) (map (λ id. id.0) ids)
 
 -- the line of a damaged chunk file, which is removed first with `repair`
 abbrev pub line_of_damaged : Bool → List ℕ → List ℕ
@@ -66,17 +66,17 @@ pub record AreTold (repair : Bool) (ids : List (List ℕ)) (c : Change) : Type 0
   pub text : c.taken ≡ option_map (λ t. t ++ text_of_damaged repair ids) c.before
 
 -- all damaged files were told, and removed with `repair`. n of them are left
-pub record IsStoreChecked (repair : Bool) (n : ℕ) (c : Change) : Type 0 where
+pub record IsStoreChecked (kind : DigestKind) (repair : Bool) (n : ℕ) (c : Change) : Type 0 where
   pub damaged : List (List ℕ)
-  pub all : IfSome c.old (λ m. AreDamaged m damaged)
+  pub all : IfSome c.old (λ m. AreDamaged kind m damaged)
   pub told : AreTold repair damaged c
   pub left : n ≡ damaged_left repair damaged
 
 -- of the damaged files the first `count` were found before a refusal, and the sink has the lines of all of these but
 -- of the last, whose line may be cut short
-pub record IsStopped (repair : Bool) (c : Change) : Type 0 where
+pub record IsStopped (kind : DigestKind) (repair : Bool) (c : Change) : Type 0 where
   pub damaged : List (List ℕ)
-  pub all : IfSome c.old (λ m. AreDamaged m damaged)
+  pub all : IfSome c.old (λ m. AreDamaged kind m damaged)
   pub count : ℕ
   pub inside : count ≤ length damaged
   pub files : c.new ≡ left_of repair (take count damaged) c.old
@@ -86,12 +86,12 @@ pub record IsStopped (repair : Bool) (c : Change) : Type 0 where
   pub text : c.taken ≡ option_map (λ t. t ++ take size (text_of_damaged repair damaged)) c.before
 
 -- what a refusal leaves
-abbrev pub StopsVerifying : Bool → Change → Type 0
-StopsVerifying repair c = IsUntouched c ⊎ IsStopped repair c
+abbrev pub StopsVerifying : DigestKind → Bool → Change → Type 0
+StopsVerifying kind repair c = IsUntouched c ⊎ IsStopped kind repair c
 
 -- of one chunk file: it was damaged, and told but for a part of its line
-pub record IsCutShort (repair : Bool) (id : List ℕ) (c : Change) : Type 0 where
-  pub damaged : IfSome c.old (λ m. is_damaged m id ≡ true)
+pub record IsCutShort (kind : DigestKind) (repair : Bool) (id : List ℕ) (c : Change) : Type 0 where
+  pub damaged : IfSome c.old (λ m. is_damaged kind m id ≡ true)
   pub files : c.new ≡ left_of repair (id ∷ []) c.old
   pub text : PutsFront (line_of_damaged repair id) c.before c.taken
 
@@ -100,6 +100,6 @@ abbrev pub found_at : List ℕ → Bool → List (List ℕ)
 found_at id b = cond b (id ∷ []) []
 
 -- what is answered of one chunk file, and what was done
-abbrev pub ChecksFile : Bool → List ℕ → Change → Result Bool StoreCheck → Type 0
-ChecksFile repair id c (Ok b) = IfSome c.old (λ m. b ≡ is_damaged m id) × AreTold repair (found_at id b) c
-ChecksFile repair id c (Err fault) = IsUntouched c ⊎ IsCutShort repair id c
+abbrev pub ChecksFile : DigestKind → Bool → List ℕ → Change → Result Bool StoreCheck → Type 0
+ChecksFile kind repair id c (Ok b) = IfSome c.old (λ m. b ≡ is_damaged kind m id) × AreTold repair (found_at id b) c
+ChecksFile kind repair id c (Err fault) = IsUntouched c ⊎ IsCutShort kind repair id c

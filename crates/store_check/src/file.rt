@@ -18,14 +18,22 @@ use dsy_base::sink::Sink;
 use std::alloc::{AllocError, Global};
 use verify_tool::list::push_line;
 
+/// Which digest names the chunks, and whether a damaged chunk file is removed.
+#[derive(Clone, Copy)]
+pub(crate) struct CheckRule {
+    pub kind: DigestKind,
+    pub repair: bool,
+}
+
 /// Whether the chunk file of this id is damaged. The buffer becomes as long as is needed.
 pub(crate) fn is_damaged<F: Look>(
     store: &mut DirStore<F>,
+    kind: DigestKind,
     id: &ChunkId,
     buf: &mut Vec<u8>,
 ) -> Result<bool, IoFault>
     requires room { length buf.old.items ≤ size_limit }
-    ensures value { IfOk result (λ b. IfSome (F.files store.old) (λ m. b ≡ is_damaged m id.now.0)) }
+    ensures value { IfOk result (λ b. IfSome (F.files store.old) (λ m. b ≡ is_damaged kind m id.now.0)) }
     ensures room { length buf.new.items ≤ size_limit }
     ensures kept { F.files store.new ≡ F.files store.old }
     ensures place { F.place store.new ≡ F.place store.old }
@@ -34,7 +42,7 @@ pub(crate) fn is_damaged<F: Look>(
     match store.read_whole(id, buf) {
         Ok(n) => {
             let (chunk, _) = buf.as_slice().split_at(n);
-            Ok(!id.is_of(DigestKind::Sha512T256, chunk))
+            Ok(!id.is_of(kind, chunk))
         }
         Err(GetFault::Missing) => Ok(false),
         Err(GetFault::Longer) => Ok(true),
@@ -46,13 +54,14 @@ pub(crate) fn is_damaged<F: Look>(
 // Whether the chunk file of this id is damaged, which may be known.
 fn judge_file<F: Look>(
     store: &mut DirStore<F>,
+    kind: DigestKind,
     id: &ChunkId,
     known: Option<bool>,
     buf: &mut Vec<u8>,
 ) -> Result<bool, IoFault>
-    requires known { IfSome known (λ b. IfSome (F.files store.old) (λ m. b ≡ is_damaged m id.now.0)) }
+    requires known { IfSome known (λ b. IfSome (F.files store.old) (λ m. b ≡ is_damaged kind m id.now.0)) }
     requires room { length buf.old.items ≤ size_limit }
-    ensures value { IfOk result (λ b. IfSome (F.files store.old) (λ m. b ≡ is_damaged m id.now.0)) }
+    ensures value { IfOk result (λ b. IfSome (F.files store.old) (λ m. b ≡ is_damaged kind m id.now.0)) }
     ensures room { length buf.new.items ≤ size_limit }
     ensures kept { F.files store.new ≡ F.files store.old }
     ensures place { F.place store.new ≡ F.place store.old }
@@ -60,7 +69,7 @@ fn judge_file<F: Look>(
 {
     match known {
         Some(damaged) => Ok(damaged),
-        None => is_damaged(store, id, buf),
+        None => is_damaged(store, kind, id, buf),
     }
 }
 
@@ -113,13 +122,13 @@ pub(crate) fn check_file<F: Folder, S: Sink>(
     store: &mut DirStore<F>,
     id: &ChunkId,
     known: Option<bool>,
-    repair: bool,
+    rule: CheckRule,
     buf: &mut Vec<u8>,
     out: &mut S,
 ) -> Result<bool, StoreCheck>
-    requires known { IfSome known (λ b. IfSome (F.files store.old) (λ m. b ≡ is_damaged m id.now.0)) }
+    requires known { IfSome known (λ b. IfSome (F.files store.old) (λ m. b ≡ is_damaged rule.kind m id.now.0)) }
     requires room { length buf.old.items ≤ size_limit }
-    ensures ends { ChecksFile repair id.now.0 (record {
+    ensures ends { ChecksFile rule.kind rule.repair id.now.0 (record {
       old = F.files store.old;
       new = F.files store.new;
       before = (S.output out.old).taken;
@@ -132,18 +141,18 @@ pub(crate) fn check_file<F: Folder, S: Sink>(
         (S.output out.new).faults result }
 {
     let alloc = *buf.allocator();
-    match judge_file(store, id, known, buf) {
+    match judge_file(store, rule.kind, id, known, buf) {
         Ok(true) => {}
         Ok(false) => return Ok(false),
         Err(IoFault::Failed) => return Err(StoreCheck::StoreFault),
         Err(IoFault::Memory) => return Err(StoreCheck::Memory),
     }
-    match repair_file(store, id, repair) {
+    match repair_file(store, id, rule.repair) {
         Ok(()) => {}
         Err(IoFault::Failed) => return Err(StoreCheck::StoreFault),
         Err(IoFault::Memory) => return Err(StoreCheck::Memory),
     }
-    match tell(alloc, id, repair, out) {
+    match tell(alloc, id, rule.repair, out) {
         Ok(()) => Ok(true),
         Err(IoFault::Failed) => Err(StoreCheck::OutFault),
         Err(IoFault::Memory) => Err(StoreCheck::Memory),

@@ -4,19 +4,21 @@ ghost use Rattle.std.specs.Prelude.{◌≡◌, ◌≤◌, ◌++◌, [], map, All
 ghost use Rattle.std.specs.Prelude.{vec_capacity, vec_len};
 
 use crate::reader::FileReader;
-use chunk_store::id::ChunkId;
+use chunk_store::id::{ChunkId, DigestKind};
 use dir_store::store::DirStore;
 use dsy_base::look::Look;
 
-/// Makes a reader of each look.
+/// Makes a reader of each look, which names chunks by this digest.
 pub(crate) fn hire<'a, L: Look>(
     looks: &mut Vec<DirStore<L>>,
+    kind: DigestKind,
     ids: &'a [ChunkId],
     readers: &mut Vec<FileReader<'a, L>>,
 )
     requires none { readers.old.items ≡ [] }
     requires room { vec_len looks.old ≤ vec_capacity readers.old }
     ensures kept { looks.old.items ≡ map (λ r. r.store) readers.new.items }
+    ensures kind { All (λ r. r.kind ≡ kind) readers.new.items }
     ensures listed { All (λ r. r.ids.now ≡ ids.now) readers.new.items }
     ensures empty { All (λ r. r.buf.items ≡ []) readers.new.items }
     ensures none { looks.new.items ≡ [] }
@@ -25,7 +27,7 @@ pub(crate) fn hire<'a, L: Look>(
     let alloc = *readers.allocator();
     looks.reverse();
     while let Some(store) = looks.pop() {
-        let Ok(()) = readers.push(FileReader::new(alloc, store, ids)) else {
+        let Ok(()) = readers.push(FileReader::new(alloc, store, kind, ids)) else {
             unreachable!();
         };
     }

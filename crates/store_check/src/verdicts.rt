@@ -3,6 +3,7 @@
 ghost use Rattle.std.specs.Prelude.{◌≡◌, ◌<◌, ◌++◌, ◌∷◌, [], ℕ, List, Option, All, IfOk, IfSome, false};
 ghost use Rattle.std.specs.Prelude.{vec_capacity, vec_len};
 ghost use Rattle.chunk_store.specs.declared.id.ChunkId.{ChunkId};
+ghost use Rattle.chunk_store.specs.declared.id.DigestKind.{DigestKind};
 ghost use Rattle.dsy_base.specs.Maps.{Map};
 ghost use Rattle.store_check.specs.Verdicts.{AreVerdicts, IsVerdict, verdict};
 
@@ -60,8 +61,8 @@ impl Verdicts {
 
     /// The verdict on this item, where there is one.
     pub fn of(&self, item: usize) -> Option<bool>
-        ensures right { IfSome result (λ b. (told : Option (Map (List ℕ))) (ids : List ChunkId)
-            → AreVerdicts told ids self.now → IsVerdict told ids (verdict item b)) }
+        ensures right { IfSome result (λ b. (kind : DigestKind) (told : Option (Map (List ℕ))) (ids : List ChunkId)
+            → AreVerdicts kind told ids self.now → IsVerdict kind told ids (verdict item b)) }
     {
         let place = self.list.partition_point(|verdict| item < verdict.item);
         if place == self.list.len() || self.list[place].item != item {
@@ -73,8 +74,8 @@ impl Verdicts {
 
 /// The verdict on this item, where one of the rooms has it.
 pub fn verdict_among(rooms: &[Verdicts], item: usize) -> Option<bool>
-    ensures right { IfSome result (λ b. (told : Option (Map (List ℕ))) (ids : List ChunkId)
-        → All (AreVerdicts told ids) rooms.now → IsVerdict told ids (verdict item b)) }
+    ensures right { IfSome result (λ b. (kind : DigestKind) (told : Option (Map (List ℕ))) (ids : List ChunkId)
+        → All (AreVerdicts kind told ids) rooms.now → IsVerdict kind told ids (verdict item b)) }
 {
     for room in rooms {
         if let Some(damaged) = room.of(item) {

@@ -6,7 +6,7 @@ ghost use Rattle.dir_store.specs.Lists.{IsIdsOf};
 ghost use Rattle.store_check.specs.Verdicts.{AreVerdicts};
 ghost use Rattle.store_check.specs.VerifyProgress.{IsVerifying, VerifiesOn};
 
-use crate::file::check_file;
+use crate::file::{CheckRule, check_file};
 use crate::verdicts::{Verdicts, verdict_among};
 use crate::verify::StoreCheck;
 use chunk_store::id::ChunkId;
@@ -31,7 +31,7 @@ pub(crate) struct Verifying<'a, F: Folder, S: Sink> {
     pub store: &'a mut DirStore<F>,
     pub out: &'a mut S,
     pub ids: &'a [ChunkId],
-    pub repair: bool,
+    pub rule: CheckRule,
     pub buf: &'a mut Vec<u8>,
     pub at: usize,
     pub found: u64,
@@ -52,7 +52,7 @@ impl<'a, F: Folder, S: Sink> Verifying<'a, F, S> {
         store: &'a mut DirStore<F>,
         out: &'a mut S,
         ids: &'a [ChunkId],
-        repair: bool,
+        rule: CheckRule,
         buf: &'a mut Vec<u8>,
     ) -> Verifying<'a, F, S>
         requires listed { IfSome (F.files store.old) (λ m. IsIdsOf m ids.now) }
@@ -63,7 +63,7 @@ impl<'a, F: Folder, S: Sink> Verifying<'a, F, S> {
         ensures out { result.out.ghost_name ≡ out.entry.ghost_name }
         ensures before { (result.before.value ≡ out.old) × (result.out.now ≡ out.old) }
         ensures listed { result.ids.now ≡ ids.now }
-        ensures repair { result.repair ≡ repair }
+        ensures repair { result.rule ≡ rule }
     {
         let first = Snapshot::of(&*store);
         let before = Snapshot::of(&*out);
@@ -71,7 +71,7 @@ impl<'a, F: Folder, S: Sink> Verifying<'a, F, S> {
             store,
             out,
             ids,
-            repair,
+            rule,
             buf,
             at: 0,
             found: 0,
@@ -84,7 +84,8 @@ impl<'a, F: Folder, S: Sink> Verifying<'a, F, S> {
     fn check_next(&mut self, ready: &[Verdicts]) -> Result<(), StoreCheck>
         requires more { self.old.at < length self.old.ids.now }
         requires verifying { IsVerifying F.Look S.Sink self.old }
-        requires ready { All (AreVerdicts (F.files self.old.first.value) self.old.ids.now) ready.now }
+        requires ready { All (AreVerdicts self.old.rule.kind (F.files self.old.first.value) self.old.ids.now)
+            ready.now }
         ensures on { VerifiesOn F.Look S.Sink self.old self.new result }
         ensures next { OnOk result (self.new.at ≡ self.old.at + 1) }
     {
@@ -96,7 +97,7 @@ impl<'a, F: Folder, S: Sink> Verifying<'a, F, S> {
         let store = &mut *self.store;
         let buf = &mut *self.buf;
         let out = &mut *self.out;
-        let damaged = check_file(store, id, known, self.repair, buf, out)?;
+        let damaged = check_file(store, id, known, self.rule, buf, out)?;
         self.found += one_if(damaged);
         self.at += 1;
         Ok(())
@@ -104,11 +105,11 @@ impl<'a, F: Folder, S: Sink> Verifying<'a, F, S> {
 
     /// Ends the check, and answers how many damaged files are left.
     pub(crate) fn end(self) -> u64
-        ensures left { result ≡ cond self.entry.repair 0 self.entry.found }
+        ensures left { result ≡ cond self.entry.rule.repair 0 self.entry.found }
         ensures kept { (self.exit.0.now ≡ self.entry.store.now) × (self.exit.1.0.now ≡ self.entry.out.now) }
     {
-        let Verifying { repair, found, .. } = self;
-        if repair { 0 } else { found }
+        let Verifying { rule, found, .. } = self;
+        if rule.repair { 0 } else { found }
     }
 }
 
@@ -125,7 +126,7 @@ impl<'a, F: Folder, S: Sink> Consumer<Verdicts> for Verifying<'a, F, S> {
 
     ghost can_go_on = { λ s. IsVerifying F.Look S.Sink s };
 
-    ghost accepts = { λ s room. AreVerdicts (F.files s.first.value) s.ids.now room };
+    ghost accepts = { λ s room. AreVerdicts s.rule.kind (F.files s.first.value) s.ids.now room };
 
     ghost goes = { λ a b r. VerifiesOn F.Look S.Sink a b r };
 

@@ -2,6 +2,7 @@
 use Rattle.std.proofs.Common.{◌≡◌, ◌≢◌, ◌==◌, ℕ, List, Bool, true, false, cond, Option, Some, None, IfSome, is_some, IfOk, OnErr, Result, Ok, Err, refl, sym, ap, subst, ◌∙◌, arith, eq-eqb, eqb-true, true≢false}
 use Rattle.std.specs.Option.{option_map}
 use Rattle.std.specs.Map.{count_at}
+use Rattle.chunk_store.specs.declared.id.DigestKind.TheVariants.{Sha512T256}
 use Rattle.command_outcome.specs.declared.outcome.Outcome.TheVariants as ends
 use Rattle.command_steps.proofs.Numbers.{given_rose, rose_later}
 use Rattle.command_worlds.specs.Worlds.{Adds, FolderRose, Reads, World}
@@ -68,9 +69,9 @@ pub gives_rose_later : (d e b : Disk) (q : List ℕ) (m n : ℕ) → Reads d e �
 gives_rose_later d e b q m n read given none rose =
     rose_later (count_at d.folder_counts q) (count_at e.folder_counts q) (count_at b.folder_counts q) (read.folder_counts q) (gives_rose e b q m n given none rose)
 
-module _ (q : List ℕ) (repair : Bool) (held : Option (Map (List ℕ))) (w v : World) (n : ℕ) (keeps : KeepsCounts w v) (back : VerifiedBack q held (IsStoreChecked repair n) w v) where
+module _ (q : List ℕ) (repair : Bool) (held : Option (Map (List ℕ))) (w v : World) (n : ℕ) (keeps : KeepsCounts w v) (back : VerifiedBack q held (IsStoreChecked Sha512T256 repair n) w v) where
   left_by : (b : Bool) → (n == 0) ≡ b → StoreVerified q repair held w (cond b (Ok tt) (Err (ends.DamagedLeft n))) v
-  left_by true e = (subst (λ k. VerifiedBack q held (IsStoreChecked repair k) w v) (eqb-true n 0 e) back, keeps)
+  left_by true e = (subst (λ k. VerifiedBack q held (IsStoreChecked Sha512T256 repair k) w v) (eqb-true n 0 e) back, keeps)
   left_by false e =
       let some : n ≢ 0 = λ none. let both : true ≡ false = sym (eq-eqb n 0 none) ∙ e in absurd (cc) in
       ((some, back), keeps)
@@ -84,7 +85,7 @@ module _ (q : List ℕ) (repair : Bool) (held new : Option (Map (List ℕ))) (w 
   abbrev change : Change
   change = record { old = held; new = new; before = w.out.taken; taken = v.out.taken }
 
-  pub outcome_ends : (r : Result ℕ StoreCheck) → IfOk r (λ n. IsStoreChecked repair n change) → OnErr r (StopsVerifying repair change) → (r ≡ Err checks.StoreFault → FolderRose w.disk v.disk q) → (r ≡ Err checks.OutFault → Rose w.out.faults v.out.faults)
+  pub outcome_ends : (r : Result ℕ StoreCheck) → IfOk r (λ n. IsStoreChecked Sha512T256 repair n change) → OnErr r (StopsVerifying Sha512T256 repair change) → (r ≡ Err checks.StoreFault → FolderRose w.disk v.disk q) → (r ≡ Err checks.OutFault → Rose w.out.faults v.out.faults)
       → StoreVerified q repair held w (answer_of_verify r) v
   outcome_ends (Ok n) all stops store out = left_ends q repair held w v n keeps (record { files = new; back = back; change = all })
   outcome_ends (Err checks.StoreFault) all stops store out = ((refl, store refl, record { files = new; back = back; change = stops }), keeps)

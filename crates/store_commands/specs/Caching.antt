@@ -16,10 +16,9 @@ use Rattle.command_outcome.specs.declared.outcome.Outcome.TheVariants as ends
 use Rattle.command_steps.specs.Asking.{AsksOnly, EachDialed}
 use Rattle.command_steps.specs.Cache.{CacheOpened}
 use Rattle.command_steps.specs.InputFiles.{IsListed, Listed, NotRead}
-use Rattle.command_steps.specs.Sources.{DialsStores, OnStorage, Storage, SourcesOpened, location_files}
+use Rattle.command_steps.specs.Sources.{DialsStores, HaveLacked, OnStorage, SourcesOpened, Storage, location_files}
 use Rattle.command_worlds.specs.Steps.{◌>>=◌}
 use Rattle.command_worlds.specs.Worlds.{Adds, DiskQuiet, FolderRose, OnDisk, Step, World}
-use Rattle.command_steps.specs.Sources.{HaveLacked}
 use Rattle.command_words.specs.declared.command.Location.{Location}
 use Rattle.dir_store.specs.Names.{is_stranger}
 use Rattle.dsy_base.specs.Counts.{Quiet, Rose}

@@ -1,7 +1,8 @@
-use Rattle.std.proofs.Common.{◌≡◌, All, get_or, IfSome, Ok, Err, Some, length, ap, refl, rules, subst, sym, ◌∙◌}
+use Rattle.std.proofs.Common.{◌≡◌, get_or, IfSome, Ok, Err, Some, length, ap, subst, sym, ◌∙◌}
 use Rattle.store_check.proofs.Looks.{readers_kept, reads_trusted}
 use Rattle.store_check.proofs.Progress.{ends_all, ends_early, verifies_none}
 use Rattle.store_check.specs.VerifyProgress.{StoreCheckEnds}
+use Rattle.store_check.specs.declared.file.CheckRule.{CheckRule}
 use Rattle.store_check.proofs.verify.check_files.Goals as goal
 
 pub take_all-checked-requires-clause-count : goal.take_all-checked-requires-clause-count
@@ -10,7 +11,7 @@ take_all-checked-requires-clause-count g c κs within = λ k d lt. ap length (c.
 pub take_all-checked-requires-clause-trusted : goal.take_all-checked-requires-clause-trusted
 take_all-checked-requires-clause-trusted g c κs within = λ k d lt room right.
     let made = c.new-verifying.ensures in
-    reads_trusted _ _ _ _ room (subst (λ f. IfSome (g.F.Look.files f) (λ m. g.L.Look.files (get_or c.args.readers.now k d).store ≡ Some m)) (sym made.first.0) (c.requires.alike k d lt)) (c.requires.same k d lt ∙ sym made.listed) right
+    reads_trusted _ _ _ _ _ _ room (subst (λ f. IfSome (g.F.Look.files f) (λ m. g.L.Look.files (get_or c.args.readers.now k d).store ≡ Some m)) (sym made.first.0) (c.requires.alike k d lt)) (c.requires.kind k d lt ∙ sym (ap (λ (x : CheckRule). x.kind) made.repair)) (c.requires.same k d lt ∙ sym made.listed) right
 
 pub returns-in-Ok-clause-ends : goal.returns-in-Ok-clause-ends
 returns-in-Ok-clause-ends g c =

@@ -1,4 +1,5 @@
 use Rattle.std.proofs.Common.{◌≡◌, IfOk, IsSome, OnErr, Err, get_or, refl, subst, sym, ◌∙◌}
+use Rattle.chunk_store.specs.declared.id.DigestKind.TheVariants.{Sha512T256}
 use Rattle.command_steps.proofs.Taken.{gives_adds}
 use Rattle.command_worlds.specs.Worlds.{world}
 use Rattle.dsy_base.specs.Counts.{Rose}
@@ -41,8 +42,8 @@ returns g c = λ k.
     let given = subst (λ f. GivesFolder e b q (D.faults f)) ended (subst (λ p. GivesFolder e b p (D.faults c.new.result)) c.as_str.ensures c.give_folder.ensures.counts) in
     let keeps : KeepsCounts w v = record { adds = adds_later d e b c.end_looks.ensures.kept (gives_adds e b q (D.faults last) given); dial = refl; out = done.faults.never_falls } in
     let back = folder_back D g.F.Files.tells g.N.Telling.tells q c.as_str.result.now d e b c.new.result last (g.met.F.Files.told c.args.files.now).1 c.requires.telling c.as_str.ensures ended c.end_looks.ensures.kept.folders c.give_folder.ensures.folders in
-    let ok = subst (λ o. IfOk r (λ n. IsStoreChecked c.args.repair n (record { old = o; new = new; before = w.out.taken; taken = v.out.taken }))) held_is done.ok in
-    let err = subst (λ o. OnErr r (StopsVerifying c.args.repair (record { old = o; new = new; before = w.out.taken; taken = v.out.taken }))) held_is done.err in
+    let ok = subst (λ o. IfOk r (λ n. IsStoreChecked Sha512T256 c.args.repair n (record { old = o; new = new; before = w.out.taken; taken = v.out.taken }))) held_is done.ok in
+    let err = subst (λ o. OnErr r (StopsVerifying Sha512T256 c.args.repair (record { old = o; new = new; before = w.out.taken; taken = v.out.taken }))) held_is done.err in
     subst (λ x. StoreVerified q c.args.repair held w x v) (sym c.outcome_of.ensures.value)
     (outcome_ends q c.args.repair held new w v keeps back r ok err
     (λ failed. gives_rose_later d e b q (D.faults first) (D.faults last) c.end_looks.ensures.kept given c.requires.fresh (subst (λ f. Rose (D.faults f) (D.faults last)) began (done.store_faults.cause failed)))

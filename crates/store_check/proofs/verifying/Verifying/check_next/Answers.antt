@@ -1,5 +1,5 @@
 use borrow.Rule.Reborrow.{re_v}
-use Rattle.std.proofs.Common.{◌≡◌, ◌+◌, List, [], Result, Err, arith, ap, sym, refl, rules, subst}
+use Rattle.std.proofs.Common.{◌≡◌, [], Result, Err, arith, sym, refl, rules, subst}
 use Rattle.std.proofs.lemmas.List.{get_or-map}
 use Rattle.std.proofs.lemmas.Option.{IfSome_then}
 use Rattle.chunk_store.specs.declared.id.ChunkId.{ChunkId}
@@ -16,7 +16,7 @@ check_file-requires-clause-known g c =
     let none : ChunkId = record { 0 = [] } in
     let named = sym (get_or-map (λ (id : ChunkId). id.0) w.ids.now w.at none [] c.requires.more) in
     known_now g.F.Look g.S.Sink c.path_names_one_id.ensures.named w c.requires.verifying c.requires.more _ c.id_has_32_bytes.ensures.size named c.verdict_among-known.result
-    (IfSome_then c.verdict_among-known.result c.verdict_among-known.ensures.right (λ b is. is _ _ c.requires.ready))
+    (IfSome_then c.verdict_among-known.result c.verdict_among-known.ensures.right (λ b is. is _ _ _ c.requires.ready))
 
 pub returns-in_err-damaged-clause-on : goal.returns-in_err-damaged-clause-on
 returns-in_err-damaged-clause-on g c =
@@ -33,7 +33,7 @@ returns-in_err-damaged-clause-on g c =
       store = refl;
       out = refl;
       ids = refl;
-      repair = refl;
+      rule = refl;
       first = refl;
       before = refl;
       place = done.place;
@@ -58,7 +58,7 @@ returns-clause-on g c =
       store = refl;
       out = refl;
       ids = refl;
-      repair = refl;
+      rule = refl;
       first = refl;
       before = refl;
       place = done.place;
