@@ -14,7 +14,7 @@ use Rattle.assembler.specs.Stages.{Stage, Stretch, from}
 use Rattle.caibx_codec.specs.Listing.{size_of}
 use Rattle.chunk_sources.proofs.Cached.{stocked_falls}
 use Rattle.chunk_sources.proofs.Lacking.{quiet_never}
-use Rattle.chunk_sources.specs.Asks.{AsksAtMost, IsSpared, ShareAsks, asked_at, asks_below, asks_for, calls_below, calls_for, others_spared}
+use Rattle.chunk_sources.specs.Asks.{AsksAtMost, CacheGivesWant, IsSpared, IsSparedBeside, IsSparedIf, ShareAsks, asked_at, asks_below, asks_for, calls_below, calls_for, others_spared}
 use Rattle.chunk_sources.specs.Caches.{AddsSize, IsAlone, TakesWants}
 use Rattle.chunk_sources.specs.Losses.{AskedLast}
 use Rattle.chunk_sources.specs.Sources.{HeldAt, counts_of, views_of}
@@ -151,60 +151,82 @@ module _ {S V : Type 0} (store : StoreWords S) (view : ViewWords V) (t : Task) w
   abbrev Spared : Stage S V → Stage S V → ℕ → Type 0
   Spared a b w = IsSpared store view t (λ j. settled a.fates j ≡ true) (from a) (from b) w
 
+  -- it was spared where others add to the cache
+  abbrev pub SparedAlone : Stage S V → Stage S V → ℕ → Type 0
+  SparedAlone a b w = IsSparedBeside store view t (λ j. settled a.fates j ≡ true) (from a) (from b) w
+
+  -- the cache spares it
+  abbrev Cached : Stage S V → Stage S V → ℕ → Type 0
+  Cached a b w = CacheGivesWant store view t (from a) (from b) w
+
+  -- others add no chunk of another size under its id
+  abbrev Sized : Stage S V → ℕ → Type 0
+  Sized a w = AddsSize (want_id t.listing t.plan w) (size_of t.listing (first_of t.plan w)) a.cache
+
   -- a want that was spared over a stretch was spared over each part of it
-  spared_part : (A B : ℕ → Type 0) (a b c e : Stage S V) (w : ℕ) → AreWants t.listing t.plan.wants t.plan.want_of → ((v : ℕ) → A v → v < t.plan.wants)
-      → Over A a b → Over B c e → Spared a e w → Spared b c w
-  spared_part A B a b c e w wants within before after (inl ((j, among, is), quiet)) =
-      inl ((j, among, settled_on a.fates b.fates before.step.grows j is), quiet_part a.faults b.faults c.faults e.faults before.step.never_falls after.step.never_falls quiet)
-  spared_part A B a b c e w wants within before after (inr (inl (k, p, inside, at, (has, quiet)))) =
-      let counts : Stage S V → ℕ = λ y. slice_index (counts_of view y.kit.seeds.items) p.seed in
-      inr (inl (
-        k,
-        p,
-        inside,
-        at,
-        (
-          subst (λ views. HeldAt views p (want_id t.listing t.plan w)) (sym before.step.seeds.held) has,
-          quiet_part (counts a) (counts b) (counts c) (counts e) (before.step.seeds.never_fall p.seed) (after.step.seeds.never_fall p.seed) quiet,
-        ),
-      ))
-  spared_part A B a b c e w wants within before after (inr (inr gives)) =
-      inr (inr (cache_part store t.listing t.plan A a.kit.chain.stores b.kit.chain.stores a.cache b.cache c.cache e.cache (want_id t.listing t.plan w)
-      (size_of t.listing (first_of t.plan w)) wants within before.stocked
-      (stocked_falls (TakesWants store t.listing t.plan B c.kit.chain.stores) c.cache e.cache after.stocked) before.step.stores.held gives))
+  module _ (A B : ℕ → Type 0) (a b c e : Stage S V) (w : ℕ) (wants : AreWants t.listing t.plan.wants t.plan.want_of) (within : (v : ℕ) → A v → v < t.plan.wants)
+      (before : Over A a b) (after : Over B c e) where
+    part_by : (P Q : Type 0) → (P → Q) → IsSparedIf store view t P (λ j. settled a.fates j ≡ true) (from a) (from e) w → IsSparedIf store view t Q (λ j. settled b.fates j ≡ true) (from b) (from c) w
+    part_by P Q cache (inl ((j, among, is), quiet)) =
+        inl ((j, among, settled_on a.fates b.fates before.step.grows j is), quiet_part a.faults b.faults c.faults e.faults before.step.never_falls after.step.never_falls quiet)
+    part_by P Q cache (inr (inl (k, p, inside, at, (has, quiet)))) =
+        let counts : Stage S V → ℕ = λ y. slice_index (counts_of view y.kit.seeds.items) p.seed in
+        inr (inl (
+          k,
+          p,
+          inside,
+          at,
+          (
+            subst (λ views. HeldAt views p (want_id t.listing t.plan w)) (sym before.step.seeds.held) has,
+            quiet_part (counts a) (counts b) (counts c) (counts e) (before.step.seeds.never_fall p.seed) (after.step.seeds.never_fall p.seed) quiet,
+          ),
+        ))
+    part_by P Q cache (inr (inr gives)) = inr (inr (cache gives))
+
+    cached_part : Cached a e w → Cached b c w
+    cached_part gives = cache_part store t.listing t.plan A a.kit.chain.stores b.kit.chain.stores a.cache b.cache c.cache e.cache (want_id t.listing t.plan w)
+        (size_of t.listing (first_of t.plan w)) wants within before.stocked
+        (stocked_falls (TakesWants store t.listing t.plan B c.kit.chain.stores) c.cache e.cache after.stocked) before.step.stores.held gives
+
+    sized_part : Sized a w → Sized b w
+    sized_part adds = adds_on (TakesWants store t.listing t.plan A a.kit.chain.stores) (want_id t.listing t.plan w) (size_of t.listing (first_of t.plan w)) a.cache b.cache before.stocked adds
+
+    spared_part : Spared a e w → Spared b c w
+    spared_part = part_by (Cached a e w) (Cached b c w) cached_part
+
+    beside_part : SparedAlone a e w → SparedAlone b c w
+    beside_part = part_by (Cached a e w × Sized a w) (Cached b c w × Sized b w) (λ has. (cached_part has.0, sized_part has.1))
 
   -- over the first part of it, and over the rest of it
-  pub spared_first : (B : ℕ → Type 0) (a b c : Stage S V) (w : ℕ) → AreWants t.listing t.plan.wants t.plan.want_of → Over B b c → Spared a c w → Spared a b w
-  spared_first B a b c w wants next = spared_part (λ v. ⊥) B a a b c w wants (λ v none. absurd none) (stretch_none store view t (λ v. ⊥) a) next
+  module _ (B : ℕ → Type 0) (a b c : Stage S V) (w : ℕ) (wants : AreWants t.listing t.plan.wants t.plan.want_of) (next : Over B b c) where
+    pub spared_first : Spared a c w → Spared a b w
+    spared_first = spared_part (λ v. ⊥) B a a b c w wants (λ v none. absurd none) (stretch_none store view t (λ v. ⊥) a) next
 
-  pub spared_rest : (A : ℕ → Type 0) (a b c : Stage S V) (w : ℕ) → AreWants t.listing t.plan.wants t.plan.want_of → ((v : ℕ) → A v → v < t.plan.wants)
-      → Over A a b → Spared a c w → Spared b c w
-  spared_rest A a b c w wants within first = spared_part A (λ v. ⊥) a b c c w wants within first (stretch_none store view t (λ v. ⊥) c)
+    beside_first : SparedAlone a c w → SparedAlone a b w
+    beside_first = beside_part (λ v. ⊥) B a a b c w wants (λ v none. absurd none) (stretch_none store view t (λ v. ⊥) a) next
+
+  module _ (A : ℕ → Type 0) (a b c : Stage S V) (w : ℕ) (wants : AreWants t.listing t.plan.wants t.plan.want_of) (within : (v : ℕ) → A v → v < t.plan.wants) (first : Over A a b) where
+    pub spared_rest : Spared a c w → Spared b c w
+    spared_rest = spared_part A (λ v. ⊥) a b c c w wants within first (stretch_none store view t (λ v. ⊥) c)
+
+    beside_rest : SparedAlone a c w → SparedAlone b c w
+    beside_rest = beside_part A (λ v. ⊥) a b c c w wants within first (stretch_none store view t (λ v. ⊥) c)
 
   -- the chain was asked for want w as a last resort
   abbrev pub Last : Stage S V → Stage S V → ℕ → Type 0
   Last a b w = AskedLast store view (want_chunk t w) a.fates (from a) (from b)
 
-  -- it was spared, and others add no chunk of another size under its id
-  abbrev pub SparedAlone : Stage S V → Stage S V → ℕ → Type 0
-  SparedAlone a b w = Spared a b w × AddsSize (want_id t.listing t.plan w) (size_of t.listing (first_of t.plan w)) a.cache
-
-  adds_since : (A : ℕ → Type 0) (a b : Stage S V) (w : ℕ) → Over A a b → AddsSize (want_id t.listing t.plan w) (size_of t.listing (first_of t.plan w)) a.cache
-      → AddsSize (want_id t.listing t.plan w) (size_of t.listing (first_of t.plan w)) b.cache
-  adds_since A a b w over adds =
-      adds_on (TakesWants store t.listing t.plan A a.kit.chain.stores) (want_id t.listing t.plan w) (size_of t.listing (first_of t.plan w)) a.cache b.cache over.stocked adds
-
   -- the stores weren't asked for it
   spared_never : (a b : Stage S V) (w : ℕ) → SparedAlone a b w → Last a b w → ⊥
-  spared_never a b w (inl ((j, among, is), quiet), adds) last = quiet_never a.faults b.faults quiet (last.copies j among is)
-  spared_never a b w (inr (inl (k, p, inside, at, (has, quiet))), adds) last =
+  spared_never a b w (inl ((j, among, is), quiet)) last = quiet_never a.faults b.faults quiet (last.copies j among is)
+  spared_never a b w (inr (inl (k, p, inside, at, (has, quiet)))) last =
       let counts : List (Seed V) → SeedPlace → ℕ = λ s y. slice_index (counts_of view s) y.seed in
       let s0 = a.kit.seeds.items in
       let s1 = b.kit.seeds.items in
       let failed : HeldAt (views_of view s0) p (want_id t.listing t.plan w) → Rose (counts s0 p) (counts s1 p) =
       subst (λ y. HeldAt (views_of view s0) y (want_id t.listing t.plan w) → Rose (counts s0 y) (counts s1 y)) at (last.seeds k p inside) in
       quiet_never (counts s0 p) (counts s1 p) quiet (failed has)
-  spared_never a b w (inr (inr gives), adds) last =
+  spared_never a b w (inr (inr (gives, adds))) last =
       cache_never store t.listing a.kit.chain.stores (want_id t.listing t.plan w) (size_of t.listing (first_of t.plan w)) a.cache b.cache gives adds last.cache
 
   -- what one want asks
@@ -253,8 +275,8 @@ module _ {S V : Type 0} (store : StoreWords S) (view : ViewWords V) (t : Task) w
       let elsewhere : (v : ℕ) → v ≢ w → g v ≡ f v = λ v apart. ap (λ b. if b then spared v else true) (others v apart) in
       let was : f w ≡ true = undone done spared w wasnt in
       let here : g w ≡ spared w = as_done later spared w is in
-      let so_far = before spared (λ v less so. (spared_first B a b c v wants next (are v less so).0, (are v less so).1)) in
-      let one = asks_want b c g w (λ so. let both = are w below (sym here ∙ so) in (spared_rest (λ v. done v ≡ true) a b c w wants within first both.0, adds_since (λ v. done v ≡ true) a b w first both.1)) asks in
+      let so_far = before spared (λ v less so. beside_first B a b c v wants next (are v less so)) in
+      let one = asks_want b c g w (λ so. beside_rest (λ v. done v ≡ true) a b c w wants within first (are w below (sym here ∙ so))) asks in
       let calls : calls_below f n + calls_for g w ≤ calls_below g n =
       let one = sums_one (calls_for f) (calls_for g) w (λ v apart. ap (λ b. if b then 0 else 1) (elsewhere v apart)) (ap (λ b. if b then 0 else 1) was) n below in
       omega (arith, calls_are f n, calls_are g n, one) in
@@ -276,10 +298,15 @@ module _ {S V : Type 0} (store : StoreWords S) (view : ViewWords V) (t : Task) w
       asks_fewer (others_spared done both) (others_spared these spared) more a b
       (asks both (λ w less so. are w less (both_of (these w) (spared w) so).0 (both_of (these w) (spared w) so).1))
 
+  beside_alone : (a b : Stage S V) → IsAlone a.cache → (w : ℕ) → Spared a b w → SparedAlone a b w
+  beside_alone a b alone w (inl right) = inl right
+  beside_alone a b alone w (inr (inl seed)) = inr (inl seed)
+  beside_alone a b alone w (inr (inr gives)) = inr (inr (gives, alone_adds (want_id t.listing t.plan w) (size_of t.listing (first_of t.plan w)) a.cache alone))
+
   -- these are all wants, and nobody else fills the cache
   pub asks_share_all : (these : ℕ → Bool) → ((v : ℕ) → these v ≡ true) → (a b : Stage S V) → IsAlone a.cache → ShareAsks store view t a.fates (from a) (from b) these → PassAsks store view t one_pass a b
   asks_share_all these all a b alone asks = λ spared are.
-      asks_fewer (others_spared these spared) spared (λ v is. as_done these spared v (all v) ∙ is) a b (asks spared (λ w less is so. (are w less so, alone_adds (want_id t.listing t.plan w) (size_of t.listing (first_of t.plan w)) a.cache alone)))
+      asks_fewer (others_spared these spared) spared (λ v is. as_done these spared v (all v) ∙ is) a b (asks spared (λ w less is so. beside_alone a b alone w (are w less so)))
 
   pub asks_done_all : (done : ℕ → Bool) (a b : Stage S V) → IsAlone a.cache → AsksDone done a b → PassAsks store view t one_pass a b
   asks_done_all done a b alone asks = asks_share_all (λ v. true) (λ v. refl) a b alone (asks_done_share done (λ v. true) (λ v is. refl) a b asks)

@@ -1,12 +1,13 @@
 -- What an assembly cost and reports, over the base. The fates are m after the survey and n at the end, and the counts of
 -- the target's faults a before the survey and b after it.
-use Rattle.std.proofs.Common.{◌≡◌, ℕ, zero, suc, ◌+◌, ◌<◌, ◌≤◌, List, Err, refl, sym, ap, ◌∙◌, inl, inr, arith}
+use Rattle.std.proofs.Common.{◌≡◌, ℕ, zero, suc, ◌+◌, ◌<◌, ◌≤◌, List, Option, Some, None, IfOk, IfSome, Result, Ok, Err, refl, sym, ap, ◌∙◌, inl, inr, arith}
 use Rattle.std.proofs.lemmas.Bool.{cases_Bool}
 use Rattle.std.proofs.lemmas.Slice.Eq.{bytes_eq-Decides}
 use Rattle.assembler.proofs.Based.{Surveyed, stands_surveyed, missed_at}
-use Rattle.assembler.proofs.EconomySums.{sum_same}
-use Rattle.assembler.specs.Economy.{AsksExactly, AssembledBy, ReportsExactly, UnlessMemory}
-use Rattle.chunk_sources.specs.Economy.{all_asks, sum_below}
+use Rattle.assembler.proofs.EconomySums.{sum_both, sum_same}
+use Rattle.assembler.proofs.Tallies.{either_upstream}
+use Rattle.assembler.specs.Economy.{AsksExactly, AssembledBy, ReportsExactly, ReportsTogether, UnlessMemory}
+use Rattle.chunk_sources.specs.Economy.{all_asks, as_upstream, sum_below}
 use Rattle.range_survey.specs.Reports.{one_if, tally}
 use Rattle.assembler.specs.declared.fault.ExtractFault.{ExtractFault}
 use Rattle.assembler.specs.declared.fault.ExtractFault.TheVariants as faults
@@ -73,3 +74,15 @@ assembled_as s t wants count m n old new same by =
         from_stores = by.tallied.from_stores ∙ ap (λ k. tally fate.Fetched m count + k) (sums (one_if fate.Fetched));
       };
     }
+
+-- what is reported exactly is so with cache and stores together
+reports_together : (source : ℕ → Fate) (wants : ℕ) (r : Report) → ReportsExactly source wants r → ReportsTogether source wants r
+reports_together source wants r (seeded, cached, fetched) =
+    let both = sum_both (λ w. one_if fate.Cached (source w)) (λ w. one_if fate.Fetched (source w)) (λ w. one_if fate.Fetched (as_upstream (source w))) wants (λ w less. sym (either_upstream (source w))) in
+    (seeded, omega (arith, cached, fetched, both))
+
+pub together_told : (source : List ℕ → ℕ → Fate) (wants : ℕ) (answer : Result Report ExtractFault) (o : Option (List ℕ))
+    → IfSome o (λ y. IfOk answer (ReportsExactly (source y) wants)) → IfSome o (λ y. IfOk answer (ReportsTogether (source y) wants))
+together_told source wants answer None exact = tt
+together_told source wants (Err e) (Some y) exact = tt
+together_told source wants (Ok r) (Some y) exact = reports_together (source y) wants r exact

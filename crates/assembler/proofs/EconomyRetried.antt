@@ -1,10 +1,10 @@
 -- What the second pass has cost: the wants that it has tried are done, and the others were settled.
-use Rattle.std.proofs.Common.{◌≡◌, ◌≢◌, ◌⊎◌, ℕ, ◌<◌, ◌≤◌, List, length, set, Bool, Result, Ok, Err, true, false, sym, ap, subst, ◌∙◌, inl, inr, arith}
+use Rattle.std.proofs.Common.{◌≡◌, ◌≢◌, ◌⊎◌, ℕ, ◌<◌, ◌≤◌, List, length, set, Bool, Result, Ok, Err, true, false, sym, ap, ◌∙◌, inl, inr, arith}
 use Rattle.std.proofs.lemmas.Bool.{cases_Bool, cases_lt, true≢false}
 use Rattle.std.proofs.lemmas.List.{get_or-set_same, get_or-set_other, get_or_past}
 use Rattle.assembler.proofs.Entries.{among}
 use Rattle.assembler.proofs.Tried.{is_tried}
-use Rattle.assembler.specs.Economy.{HadMemory, SettledBy, UnlessMemory}
+use Rattle.assembler.specs.Economy.{HadMemory, UnlessMemory}
 use Rattle.assembler.specs.Passes.{want_at}
 use Rattle.assembler.specs.declared.fault.ExtractFault.{ExtractFault}
 use Rattle.assembler.specs.declared.fault.ExtractFault.TheVariants as faults

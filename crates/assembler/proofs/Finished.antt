@@ -1,20 +1,19 @@
 -- What the last passes of an assembly leave over the base, whatever was done before them: it stood at a before them and at
 -- b at the end. At first chunks were got from `old`, and the target's bytes were `o`.
-use Rattle.std.proofs.Common.{◌≡◌, ◌⊎◌, ◌++◌, ℕ, ◌<◌, ◌≤◌, Bool, List, length, map, slice_index, Option, Some, None, IfErr, IfSome, Result, OnOk, Ok, Err, is_some, true, false, refl, sym, ap, ◌∙◌, subst, inl, inr, arith}
+use Rattle.std.proofs.Common.{◌≡◌, ◌⊎◌, ◌++◌, ℕ, ◌<◌, ◌≤◌, List, length, map, slice_index, Option, Some, None, IfErr, IfSome, Result, OnOk, Ok, Err, is_some, true, false, refl, sym, ap, ◌∙◌, subst, inl, inr, arith}
 use Rattle.std.proofs.lemmas.Bool.{cases_Bool, true≢false}
 use Rattle.assembler.proofs.Based.{StandsOver, assembles_err, ends_map, leaves, leaves_torn, left_at, missed_at, only_such, right_all, right_at, some_map, told_map}
 use Rattle.assembler.proofs.Counted.{quiet_part}
 use Rattle.assembler.proofs.Entries.{among, among_of, first_among, ids_same, listed_of}
-use Rattle.assembler.proofs.HadOn.{had_entry, had_from}
+use Rattle.assembler.proofs.HadOn.{had_from}
 use Rattle.assembler.proofs.Lost.{lacks_since, refused_since, seeds_since}
 use Rattle.assembler.proofs.Others.{alone_given, given_told}
 use Rattle.assembler.proofs.Stepped.{seeds_none, seeds_on}
-use Rattle.assembler.proofs.Stocking.{gives_on, stocking_on, stocking_wider}
+use Rattle.assembler.proofs.Stocking.{gives_on, stocking_on}
 use Rattle.assembler.specs.Assemblies.{After, Assembles, IsObtainable, IsUnobtained, KeepsBase, RightAlike, Verdict}
 use Rattle.assembler.specs.Faults.{fault_of}
 use Rattle.assembler.specs.Obtainable.{OnlyObtainable}
-use Rattle.assembler.specs.Passes.{Ends, EndsBy, HadAll, HadAt, HasPassed, HasPassedShare, Loses, RefusedOnce, one_pass, want_at}
-use Rattle.assembler.specs.Permits.{MayFillHad}
+use Rattle.assembler.specs.Passes.{Ends, EndsBy, HadAll, HadAt, HasPassed, Loses, RefusedOnce, one_pass, want_at}
 use Rattle.assembler.specs.Stages.{Stage, Stretch, from}
 use Rattle.assembler.specs.declared.fault.ExtractFault.{ExtractFault}
 use Rattle.assembler.specs.declared.fault.ExtractFault.TheVariants as faults
@@ -28,7 +27,7 @@ use Rattle.chunk_sources.proofs.Lacking.{Tells, quiet_never, seeds_never, stores
 use Rattle.chunk_sources.proofs.SeedAnswers.{telling_on}
 use Rattle.chunk_sources.specs.Caches.{HaveOneSize, IsAlone, Stocked, TakesWants, cache_faults, cached_in, given_maps}
 use Rattle.chunk_sources.specs.Losses.{CopiesFailed}
-use Rattle.chunk_sources.specs.Sources.{KeepsSeeds, SeedsGive, Sources, SourcesQuiet, Telling, counts_of, sources, views_of}
+use Rattle.chunk_sources.specs.Sources.{KeepsSeeds, SeedsGive, Sources, SourcesQuiet, Telling, counts_of, views_of}
 use Rattle.chunk_sources.specs.Wants.{IsAmong, Task}
 use Rattle.chunk_store.specs.declared.id.ChunkId.{ChunkId}
 use Rattle.chunk_store.specs.declared.store.Store.{Ghosts as StoreWords}

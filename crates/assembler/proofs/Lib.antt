@@ -21,6 +21,7 @@ pub mod Based
 pub mod Finished
 pub mod Assembled
 pub mod EconomySources
+pub mod Adding
 pub mod EconomyPaid
 pub mod EconomyFilled
 pub mod EconomyRetried

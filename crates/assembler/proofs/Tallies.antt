@@ -1,8 +1,9 @@
 -- Counts of fates, as entries are settled one by one.
-use Rattle.std.proofs.Common.{◌≡◌, ◌⊎◌, ℕ, zero, suc, ◌+◌, ◌<◌, ◌≤◌, List, length, set, slice_index, true, false, refl, sym, ap, ◌∙◌, subst, inl, inr, arith}
+use Rattle.std.proofs.Common.{◌≡◌, ◌⊎◌, ℕ, zero, suc, ◌+◌, ◌<◌, ◌≤◌, List, [], ◌∷◌, length, map, set, slice_index, true, false, refl, sym, ap, ◌∙◌, subst, inl, inr, arith}
 use Rattle.std.proofs.lemmas.Bool.{cases_lt, true≢false}
 use Rattle.assembler.specs.Economy.{Tallied}
 use Rattle.range_survey.specs.Reports.{one_if, tally}
+use Rattle.chunk_sources.specs.Economy.{as_upstream}
 use Rattle.chunk_sources.specs.Wants.{IsAmong}
 use Rattle.range_survey.proofs.Fated.{set_apart, set_here}
 use Rattle.range_survey.specs.Fates.{fate_at, is_settled, settled}
@@ -51,6 +52,57 @@ TalliedAs x n m0 m1 = Tallied (one_if fate.Seeded x) (one_if fate.Cached x) (one
 
 pub tallied_none : (n : ℕ) (m : List Fate) → Tallied 0 0 0 n m m
 tallied_none n m = record { from_seeds = omega arith; from_cache = omega arith; from_stores = omega arith }
+
+-- ---- with cache and stores as one
+
+pub fate_upstream : (m : List Fate) (i : ℕ) → fate_at (map as_upstream m) i ≡ as_upstream (fate_at m i)
+fate_upstream [] i = refl
+fate_upstream (x ∷ m) zero = refl
+fate_upstream (x ∷ m) (suc i) = fate_upstream m i
+
+pub seeded_upstream : (x : Fate) → one_if fate.Seeded (as_upstream x) ≡ one_if fate.Seeded x
+seeded_upstream fate.Open = refl
+seeded_upstream fate.Kept = refl
+seeded_upstream fate.Copied = refl
+seeded_upstream fate.Seeded = refl
+seeded_upstream fate.Cached = refl
+seeded_upstream fate.Fetched = refl
+
+cached_upstream : (x : Fate) → one_if fate.Cached (as_upstream x) ≡ 0
+cached_upstream fate.Open = refl
+cached_upstream fate.Kept = refl
+cached_upstream fate.Copied = refl
+cached_upstream fate.Seeded = refl
+cached_upstream fate.Cached = refl
+cached_upstream fate.Fetched = refl
+
+pub either_upstream : (x : Fate) → one_if fate.Fetched (as_upstream x) ≡ one_if fate.Cached x + one_if fate.Fetched x
+either_upstream fate.Open = refl
+either_upstream fate.Kept = refl
+either_upstream fate.Copied = refl
+either_upstream fate.Seeded = refl
+either_upstream fate.Cached = refl
+either_upstream fate.Fetched = refl
+
+module _ (m : List Fate) where
+  tally_seeded : (n : ℕ) → tally fate.Seeded (map as_upstream m) n ≡ tally fate.Seeded m n
+  tally_seeded zero = refl
+  tally_seeded (suc n) = omega (arith, tally_seeded n, ap (one_if fate.Seeded) (fate_upstream m n), seeded_upstream (fate_at m n))
+
+  tally_cached : (n : ℕ) → tally fate.Cached (map as_upstream m) n ≡ 0
+  tally_cached zero = refl
+  tally_cached (suc n) = omega (arith, tally_cached n, ap (one_if fate.Cached) (fate_upstream m n), cached_upstream (fate_at m n))
+
+  tally_either : (n : ℕ) → tally fate.Fetched (map as_upstream m) n ≡ tally fate.Cached m n + tally fate.Fetched m n
+  tally_either zero = refl
+  tally_either (suc n) = omega (arith, tally_either n, ap (one_if fate.Fetched) (fate_upstream m n), either_upstream (fate_at m n))
+
+pub tallied_upstream : (x : Fate) (n : ℕ) (m0 m1 : List Fate) → TalliedAs x n m0 m1 → TalliedAs (as_upstream x) n (map as_upstream m0) (map as_upstream m1)
+tallied_upstream x n m0 m1 counts = record {
+  from_seeds = omega (arith, counts.from_seeds, tally_seeded m0 n, tally_seeded m1 n, seeded_upstream x);
+  from_cache = omega (arith, tally_cached m0 n, tally_cached m1 n, cached_upstream x);
+  from_stores = omega (arith, counts.from_cache, counts.from_stores, tally_either m0 n, tally_either m1 n, either_upstream x);
+}
 
 -- some more, and then some more
 pub tallied_on : (a b c e f g n : ℕ) (m0 m1 m2 : List Fate) → Tallied a b c n m0 m1 → Tallied e f g n m1 m2 → Tallied (a + e) (b + f) (c + g) n m0 m2

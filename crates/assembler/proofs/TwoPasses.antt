@@ -1,13 +1,11 @@
 -- Two passes as one.
-use Rattle.std.proofs.Common.{◌≡◌, ℕ, List, Result, Ok, Err, IfErr, refl, inl, inr}
+use Rattle.std.proofs.Common.{◌≡◌, ℕ, Result, Ok, Err, IfErr, refl, inl, inr}
 use Rattle.assembler.specs.Faults.{fault_of}
-use Rattle.assembler.specs.Passes.{EndsBy, EndsTorn}
+use Rattle.assembler.specs.Passes.{EndsBy}
 use Rattle.assembler.specs.declared.fault.ExtractFault.{ExtractFault}
 use Rattle.assembler.specs.declared.fault.ExtractFault.TheVariants as faults
 use Rattle.assembler.specs.declared.fault.Lost.{Lost}
-use Rattle.chunk_sources.specs.Wants.{Task}
 use Rattle.chunk_store.specs.declared.id.ChunkId.{ChunkId}
-use Rattle.range_survey.specs.declared.fate.Fate.{Fate}
 use Rattle.store_chain.specs.declared.refused.Refused.{Refused}
 use Rattle.store_chain.specs.declared.refused.Refused.TheVariants as refused
 

@@ -1,14 +1,14 @@
 //! The first pass of an assembly: each want that is dealt to a worker once, in rising order. Workers count from 0.
 
 ghost use Rattle.std.specs.Prelude.{◌≡◌, ℕ, ◌<◌, None, OnOk, IfErr, true, false};
-ghost use Rattle.assembler.specs.Economy.{PassedBy};
+ghost use Rattle.assembler.specs.Economy.{PassedBy, TalliedShared};
 ghost use Rattle.chunk_sources.specs.Economy.{source_if};
 ghost use Rattle.assembler.specs.Passes.{HasPassedShare, WhereQuiet, source_at, want_at};
 ghost use Rattle.assembler.specs.Permits.{MayFillHad, deals_to};
 ghost use Rattle.assembler.specs.Stages.{Ready, from, stage, task};
 ghost use Rattle.caibx_codec.specs.Listing.{count_of};
 ghost use Rattle.chunk_sources.specs.AnyCaches.{Suits, seen_in};
-ghost use Rattle.chunk_sources.specs.Caches.{IsAlone};
+ghost use Rattle.chunk_sources.specs.Caches.{OthersAddListed, IsAlone};
 ghost use Rattle.chunk_sources.specs.Losses.{MayLack};
 ghost use Rattle.range_survey.specs.Fates.{fate_at, settled};
 ghost use Rattle.range_survey.specs.declared.fate.Fate.TheVariants as fate;
@@ -46,7 +46,15 @@ pub fn fill<E: Ledger, S: Store, V: View, C: Cache>(
         (source_at V.View (task E.run.listing wants.now) (stage E.Ledger C.Cache work.old) cached maps))
         wants.now.plan.now.wants (count_of E.run.listing) (E.fates work.old.ledger) (E.fates work.new.ledger)
         work.old.kit.chain work.new.kit.chain)) }
-    ensures left { IsAlone (seen_in C.Cache work.old.cache) → WhereQuiet S.Store V.View E.run.listing
+    // Where nothing fails, and others fill the cache with what the stores give.
+    ensures shared { OthersAddListed S.Store E.run.listing work.old.kit.chain.stores (seen_in C.Cache work.old.cache) →
+        WhereQuiet S.Store V.View E.run.listing
+        (from (stage E.Ledger C.Cache work.old)) (from (stage E.Ledger C.Cache work.new)) (λ cached maps.
+        OnOk result (TalliedShared (deals_to wants.now.plan.now worker)
+        (source_at V.View (task E.run.listing wants.now) (stage E.Ledger C.Cache work.old) cached maps)
+        wants.now.plan.now.wants (count_of E.run.listing) (E.fates work.old.ledger) (E.fates work.new.ledger))) }
+    ensures left { OthersAddListed S.Store E.run.listing work.old.kit.chain.stores (seen_in C.Cache work.old.cache) →
+        WhereQuiet S.Store V.View E.run.listing
         (from (stage E.Ledger C.Cache work.old)) (from (stage E.Ledger C.Cache work.new)) (λ cached maps.
         OnOk result ((i : ℕ) → i < count_of E.run.listing →
         deals_to wants.now.plan.now worker (want_at wants.now.plan.now i) ≡ true →

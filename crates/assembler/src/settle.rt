@@ -2,7 +2,7 @@
 
 ghost use Rattle.std.specs.Prelude.{◌≡◌, ◌≢◌, ◌⊎◌, ◌++◌, ℕ, List, ◌<◌, ◌≤◌, length, map, slice_index, is_some};
 ghost use Rattle.std.specs.Prelude.{true, false, None, Some, IfSome, IsSome, IsTrue, OnOk, MatchOption, Err};
-ghost use Rattle.assembler.specs.Economy.{SettlesBy};
+ghost use Rattle.assembler.specs.Economy.{SettledShared, SettlesBy};
 ghost use Rattle.assembler.specs.Losses.{Where};
 ghost use Rattle.assembler.specs.Passes.{source_at};
 ghost use Rattle.assembler.specs.Permits.{MayFillWant};
@@ -10,9 +10,11 @@ ghost use Rattle.assembler.specs.Settling.{HasEnded, Settles};
 ghost use Rattle.assembler.specs.Stages.{Ready, from, stage, task};
 ghost use Rattle.assembler.specs.declared.fault.Lost.{Lost};
 ghost use Rattle.cache_store.specs.Shelves.{MayAdd};
-ghost use Rattle.caibx_codec.specs.Listing.{count_of, kind_of};
+ghost use Rattle.caibx_codec.specs.Listing.{count_of, kind_of, size_of};
+ghost use Rattle.extract_plan.specs.Deal.{first_of, want_id};
 ghost use Rattle.chunk_sources.specs.AnyCaches.{Suits, seen_in};
-ghost use Rattle.chunk_sources.specs.Caches.{CacheLacks, IfShared, IsAlone, Stocked, TakesChunk, given_maps};
+ghost use Rattle.chunk_sources.specs.Caches.{OthersAddOnly, CacheLacks, IfShared};
+ghost use Rattle.chunk_sources.specs.Caches.{IsAlone, Stocked, TakesChunk, given_maps};
 ghost use Rattle.chunk_sources.specs.Economy.{source_among};
 ghost use Rattle.chunk_sources.specs.Losses.{AskedLast, Had, HadOver, MayLack, RefusedBy, chunk_of};
 ghost use Rattle.chunk_sources.specs.Sources.{KeepsSeeds, SourcesQuiet, Telling, sources, views_of};
@@ -128,6 +130,14 @@ fn settle_open<E: Ledger, S: Store, V: View, C: Cache>(
         SettlesBy (source_among (settled (E.fates ledger.old))
         (sought_chunk (kind_of E.run.listing) opened.now.sought opened.now.size) (views_of V.View seeds.old) cached
         maps) (count_of E.run.listing) (E.fates ledger.old) (E.fates ledger.new) chain.old chain.new result }
+    // Where nothing fails, whoever fills the cache.
+    ensures shared { (cached maps : List (Map (List ℕ))) → OthersAddOnly (kind_of E.run.listing) opened.now.sought.id.0
+        opened.now.size (seen_in C.Cache cache.old) cached maps → SourcesQuiet S.Store V.View
+        (sources (E.faults ledger.old) seeds.old (seen_in C.Cache cache.old) chain.old)
+        (sources (E.faults ledger.new) seeds.new (seen_in C.Cache cache.new) chain.new) cached maps →
+        SettledShared (source_among (settled (E.fates ledger.old))
+        (sought_chunk (kind_of E.run.listing) opened.now.sought opened.now.size) (views_of V.View seeds.old) cached
+        maps) (count_of E.run.listing) (E.fates ledger.old) (E.fates ledger.new) result }
 
     ensures grows { Grows (E.fates ledger.old) (E.fates ledger.new) }
     ensures bytes { WhereTold (E.held ledger.old).bytes (E.held ledger.new).bytes (Fills E.run.listing
@@ -181,6 +191,13 @@ pub(crate) fn settle<E: Ledger, S: Store, V: View, C: Cache>(
         SettlesBy (source_at V.View (task E.run.listing wants.now) (stage E.Ledger C.Cache work.old) cached maps
         want) (count_of E.run.listing) (E.fates work.old.ledger) (E.fates work.new.ledger) work.old.kit.chain
         work.new.kit.chain result }
+    // Where nothing fails, whoever fills the cache.
+    ensures shared { (cached maps : List (Map (List ℕ))) → OthersAddOnly (kind_of E.run.listing)
+        (want_id E.run.listing wants.now.plan.now want) (size_of E.run.listing (first_of wants.now.plan.now want))
+        (seen_in C.Cache work.old.cache) cached maps → SourcesQuiet S.Store V.View
+        (from (stage E.Ledger C.Cache work.old)) (from (stage E.Ledger C.Cache work.new)) cached maps →
+        SettledShared (source_at V.View (task E.run.listing wants.now) (stage E.Ledger C.Cache work.old) cached maps
+        want) (count_of E.run.listing) (E.fates work.old.ledger) (E.fates work.new.ledger) result }
 {
     // Only for its contract: the count of calls fits its type.
     work.kit.chain.asks();

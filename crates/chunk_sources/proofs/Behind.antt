@@ -11,9 +11,9 @@ use Rattle.cache_store.specs.declared.cached.Got.{Got}
 use Rattle.chunk_sources.proofs.Cached.{gives_left, gives_one, gives_right, one_gives, told_at}
 use Rattle.chunk_sources.proofs.Lacking.{quiet_never, lacked_memory}
 use Rattle.chunk_sources.proofs.Obtained.{holds_gives}
-use Rattle.chunk_sources.proofs.Origins.{by_none, by_store, by_want}
-use Rattle.chunk_sources.specs.Caches.{CacheFailed, CacheLacks, TakesChunk, cached_in, given_maps, maps_with, shared_maps}
-use Rattle.chunk_sources.specs.Economy.{ObtainedBy, source_behind}
+use Rattle.chunk_sources.proofs.Origins.{by_either, by_none, by_store, by_want}
+use Rattle.chunk_sources.specs.Caches.{OthersAddOnly, AddsSize, CacheFailed, CacheLacks, TakesChunk, cached_in, given_maps, maps_with, shared_maps}
+use Rattle.chunk_sources.specs.Economy.{AnsweredAs, ObtainedBy, as_upstream, source_behind}
 use Rattle.chunk_sources.specs.Losses.{chunk_of}
 use Rattle.chunk_store.specs.Folders.{chunks}
 use Rattle.chunk_store.specs.Names.{name_of}
@@ -23,6 +23,7 @@ use Rattle.chunk_store.specs.declared.id.DigestKind.TheVariants.{Sha512T256}
 use Rattle.chunk_store.specs.declared.store.Store.{Ghosts as StoreWords}
 use Rattle.dsy_base.specs.Counts.{Quiet, Rose}
 use Rattle.dsy_base.specs.Maps.{Map}
+use Rattle.range_survey.specs.declared.fate.Fate.{Fate}
 use Rattle.range_survey.specs.declared.fate.Fate.TheVariants as fate
 use Rattle.store_chain.specs.Chains.{AsksOnce, Chained}
 use Rattle.store_chain.specs.Faults.{EachQuiet}
@@ -163,6 +164,42 @@ module _ {S : Type 0} (store : StoreWords S) (kind : DigestKind) (id : ChunkId) 
         (lacked_memory kind id size maps r
         (λ s is. quiet_never (slice_index (map store.faults before.stores) s) (slice_index (map store.faults after.stores) s) (quiet s) (from.cause s (ap (λ (q : Refused). Err q) is)))
         (from.first maps held))
+
+  -- ---- where others add to it too
+
+  module _ (cached maps : List (Map (List ℕ))) (only : OthersAddOnly kind id.0 size (Some old) cached maps) (told : cached_in (Some old) ≡ Some cached) (held : map store.holds before.stores ≡ map Some maps) where
+    -- what was had it held at first, or a store holds it
+    pub had_shared : (got : Got) → IsWanted w (take got.size out) → Ends (Ok got) → SomeGives kind id.0 size cached ⊎ SomeGives kind id.0 size maps
+    had_shared got right (inr from) = inr (from_stores maps held got right from)
+    had_shared got right (inl from) =
+        let b = take got.size out in
+        let at = told_at old.files cached told in
+        go b right at.0 at.2 old.others only.held (if_some (held_on old) (λ m. MayHold old.others m id.0 b) (chunks at.0) (ap (option_map chunks) at.1) from.answer.2)
+      where
+        go : (b : List ℕ) → IsWanted w b → (m : Map (List ℕ)) → cached ≡ chunks m ∷ [] → (x : Option Others) → IfSome x (λ o. (c : List ℕ) → MayAdd o.pairs o.stores id.0 c → Any (λ n. n id.0 ≡ Some c) maps)
+            → MayHold x (chunks m) id.0 b → SomeGives kind id.0 size cached ⊎ SomeGives kind id.0 size maps
+        go b right m is None adds has = inl (subst (SomeGives kind id.0 size) (sym is) (map_gives kind id size b right (chunks m) has))
+        go b right m is (Some o) adds (inl has) = inl (subst (SomeGives kind id.0 size) (sym is) (map_gives kind id size b right (chunks m) has))
+        go b right m is (Some o) adds (inr may) = inr (holds_gives kind id size maps b right (adds b may))
+
+    pub ok_shared : (got : Got) (f : Fate) → as_upstream f ≡ fate.Fetched → IsWanted w (take got.size out) → Ends (Ok got) → AnsweredAs as_upstream (source_behind kind id.0 size cached maps) (Ok f)
+    ok_shared got f is right ends = by_either kind id.0 size cached maps f is (had_shared got right ends)
+
+    -- a chunk that it held at first is still found
+    never_shared : old.kind ≡ kind → IfSome old.others (λ o. old.kind ≡ Sha512T256) → Quiet old.faults new.faults → Unfound w old new → SomeGives kind id.0 size cached → ⊥
+    never_shared same digest still unfound gives =
+        quiet_never old.faults new.faults still
+        (if_some (cached_in (Some old)) (λ c. SomeGives kind id.0 size c → AddsSize id.0 size (Some old) → Rose old.faults new.faults) cached told
+        (unfound_failed kind id size old new same digest unfound) gives (only.sized gives))
+
+    pub err_shared : old.kind ≡ kind → IfSome old.others (λ o. old.kind ≡ Sha512T256) → Quiet old.faults new.faults → EachQuiet (map store.faults before.stores) (map store.faults after.stores)
+        → (r : Refused) → Ends (Err r) → AnsweredAs as_upstream (source_behind kind id.0 size cached maps) (Err r)
+    err_shared same digest still quiet r (inl from) = inl from.answer
+    err_shared same digest still quiet r (inr from) =
+        (by_none kind id.0 size cached maps before after (never_shared same digest still from.unfound) from.asks.calls r
+        (lacked_memory kind id size maps r
+        (λ s is. quiet_never (slice_index (map store.faults before.stores) s) (slice_index (map store.faults after.stores) s) (quiet s) (from.cause s (ap (λ (q : Refused). Err q) is)))
+        (from.first maps held))).1
 
 -- what was wanted is the chunk
 pub takes_wanted : {S : Type 0} (store : StoreWords S) (kind : DigestKind) (id : ChunkId) (size : ℕ) (stores : List S) (q b : List ℕ)

@@ -1,5 +1,5 @@
 -- Which source a chunk has: what the tests of specs/Economy tell, and what the answers then are.
-use Rattle.std.proofs.Common.{◌≡◌, ℕ, ◌<◌, ◌^◌, ◌==◌, nat_le, List, length, slice_index_or, Option, Some, None, IsSomeAnd, Bool, Decides, Result, Ok, Err, true, false, refl, sym, ap, ◌∙◌, subst, inl, inr, arith}
+use Rattle.std.proofs.Common.{◌≡◌, ◌⊎◌, ℕ, ◌<◌, ◌^◌, ◌==◌, nat_le, List, length, slice_index_or, Option, Some, None, IsSomeAnd, Bool, Decides, Result, Ok, Err, true, false, if◌then◌else◌, refl, sym, ap, ◌∙◌, subst, inl, inr, arith}
 use Rattle.std.proofs.lemmas.Bool.{cases_Bool, false_from_ne_true, false≢true, le-leb, leb-true}
 use Rattle.std.proofs.lemmas.Bool.Decides.{Decides-and, Decides-eqb}
 use Rattle.std.proofs.lemmas.List.{get_or_default}
@@ -9,7 +9,7 @@ use Rattle.std.proofs.lemmas.Slice.Eq.{bytes_eq-Decides}
 use Rattle.std.specs.List.{Any, list_any}
 use Rattle.std.specs.Str.{bytes_eq}
 use Rattle.cache_store.specs.Giving.{SomeGives}
-use Rattle.chunk_sources.specs.Economy.{ObtainedBy, given_at, source_behind, is_chunk, seeds_give, source_among, stores_give, told_at}
+use Rattle.chunk_sources.specs.Economy.{AnsweredAs, AnsweredBy, ObtainedBy, as_upstream, given_at, source_behind, is_chunk, seeds_give, source_among, stores_give, told_at}
 use Rattle.chunk_sources.specs.Sources.{GivesAt, HeldAt, SeedsGive}
 use Rattle.chunk_sources.specs.Wants.{IsAmong, Wanted}
 use Rattle.chunk_store.specs.Giving.{GivesChunk, IsChunk}
@@ -96,24 +96,40 @@ pub same_raised : (n : ℕ) → n < 2 ^ 64 → n ≡ raised n 0
 same_raised n below = omega (arith, below)
 
 module _ {S : Type 0} (kind : DigestKind) (id : List ℕ) (size : ℕ) (cached maps : List (Map (List ℕ))) (old new : Chained S) where
-  abbrev behind : Fate
-  behind = source_behind kind id size cached maps
+  abbrev upstream : Fate
+  upstream = source_behind kind id size cached maps
 
-  pub by_want : ObtainedBy behind old new (Err refused.Memory)
+  pub by_want : ObtainedBy upstream old new (Err refused.Memory)
   by_want = (λ isnt. absurd (isnt refl), inl refl)
 
   module _ (cacheless : SomeGives kind id size cached → ⊥) (calls : new.asks ≡ raised old.asks 1) where
     not_cached : stores_give kind id size cached ≡ false
     not_cached = false_from_ne_true (stores_give kind id size cached) (λ e. cacheless ((stores_decide kind id size cached).0 e))
 
-    pub by_store : SomeGives kind id size maps → ObtainedBy behind old new (Ok fate.Fetched)
+    pub by_store : SomeGives kind id size maps → ObtainedBy upstream old new (Ok fate.Fetched)
     by_store gives = rw (not_cached, (stores_decide kind id size maps).1 gives) (λ isnt. calls, refl)
 
-    pub by_none : (r : Refused) → (SomeGives kind id size maps → r ≡ refused.Memory) → ObtainedBy behind old new (Err r)
+    pub by_none : (r : Refused) → (SomeGives kind id size maps → r ≡ refused.Memory) → ObtainedBy upstream old new (Err r)
     by_none r unless = elim (cases_Bool (stores_give kind id size maps)) [
       | inl give ↦ rw (not_cached, give) (λ isnt. calls, inl (unless ((stores_decide kind id size maps).0 give)))
       | inr never ↦ rw (not_cached, never) (λ isnt. calls, inr refl)
     ]
+
+-- what is answered exactly is so with cache and stores as one
+pub answered_upstream : (source : Fate) (r : Result Fate Refused) → AnsweredBy source r → AnsweredAs as_upstream source r
+answered_upstream source (Ok f) is = ap as_upstream is
+answered_upstream source (Err r) is = is
+
+-- what either of them gives
+pub by_either : (kind : DigestKind) (id : List ℕ) (size : ℕ) (cached maps : List (Map (List ℕ))) (f : Fate) → as_upstream f ≡ fate.Fetched → SomeGives kind id size cached ⊎ SomeGives kind id size maps
+    → AnsweredAs as_upstream (source_behind kind id size cached maps) (Ok f)
+by_either kind id size cached maps f is some = elim (cases_Bool (stores_give kind id size cached)) [
+  | inl give ↦ rw give is
+  | inr never ↦ elim some [
+    | inl gives ↦ absurd (false≢true (sym never ∙ (stores_decide kind id size cached).1 gives))
+    | inr gives ↦ rw (never, (stores_decide kind id size maps).1 gives) is
+  ]
+]
 
 module _ (is_right : ℕ → Bool) (q : Wanted) (views : List (Option Held)) (cached maps : List (Map (List ℕ))) where
   abbrev source : Fate
@@ -121,6 +137,13 @@ module _ (is_right : ℕ → Bool) (q : Wanted) (views : List (Option Held)) (ca
 
   pub kept_source : (i : ℕ) → IsAmong q.entries i → is_right i ≡ true → source ≡ fate.Kept
   kept_source i among is = rw (some_right is_right q.entries i among is) refl
+
+  pub rest_source : ((i : ℕ) → IsAmong q.entries i → is_right i ≡ true → ⊥) → (SeedsGive views q.places q.id → ⊥) → source ≡ source_behind q.kind q.id q.size cached maps
+  rest_source none seedless =
+      let rest = source_behind q.kind q.id q.size cached maps in
+      let seeded = seeds_give views q.places q.id in
+      ap (λ (b : Bool). if b then fate.Kept else if seeded then fate.Seeded else rest) (none_right is_right q.entries none)
+      ∙ ap (λ (b : Bool). if b then fate.Seeded else rest) (false_from_ne_true seeded (λ e. seedless ((seeds_decide views q.places q.id).0 e)))
 
   module _ {S : Type 0} (old new : Chained S) where
     pub by_copy : old.asks < 2 ^ 64 → new ≡ old → (i : ℕ) → IsAmong q.entries i → is_right i ≡ true → ObtainedBy source old new (Ok fate.Copied)
@@ -137,6 +160,4 @@ module _ (is_right : ℕ → Bool) (q : Wanted) (views : List (Option Held)) (ca
 
       -- where no seed gives it the cache and the stores are what is left
       pub by_rest : (SeedsGive views q.places q.id → ⊥) → (r : Result Fate Refused) → ObtainedBy (source_behind q.kind q.id q.size cached maps) old new r → ObtainedBy source old new r
-      by_rest seedless r got =
-          let not_seeded : seeds_give views q.places q.id ≡ false = false_from_ne_true (seeds_give views q.places q.id) (λ e. seedless ((seeds_decide views q.places q.id).0 e)) in
-          rw (not_kept, not_seeded) got
+      by_rest seedless r got = subst (λ (s : Fate). ObtainedBy s old new r) (sym (rest_source none seedless)) got

@@ -50,25 +50,36 @@ others_spared these spared w = if these w then spared w else true
 
 module _ {S V : Type 0} (store : StoreWords S) (view : ViewWords V) (t : Task) where
   -- want w is got without the stores: an entry of it is such, and the target didn't fail; or a seed gives it that
-  -- didn't fail; or the cache does, which didn't fail
-  abbrev pub IsSpared : (ℕ → Type 0) → Sources S V → Sources S V → ℕ → Type 0
-  IsSpared Is old new w = (((j : ℕ) × IsAmong (of_want t.plan w) j × Is j) × Quiet old.faults new.faults)
+  -- didn't fail; or the cache does, which is so
+  abbrev pub IsSparedIf : Type 0 → (ℕ → Type 0) → Sources S V → Sources S V → ℕ → Type 0
+  IsSparedIf Cached Is old new w = (((j : ℕ) × IsAmong (of_want t.plan w) j × Is j) × Quiet old.faults new.faults)
       ⊎ (Any (λ p. HeldAt (views_of view old.seeds) p (want_id t.listing t.plan w)
       × Quiet (slice_index (counts_of view old.seeds) p.seed) (slice_index (counts_of view new.seeds) p.seed))
-      (places_at t.places w) ⊎ CacheGives store t.listing old.chain.stores (want_id t.listing t.plan w)
-      (size_of t.listing (first_of t.plan w)) old.cache new.cache)
+      (places_at t.places w) ⊎ Cached)
+
+  -- the cache gives want w, and didn't fail
+  abbrev pub CacheGivesWant : Sources S V → Sources S V → ℕ → Type 0
+  CacheGivesWant old new w = CacheGives store t.listing old.chain.stores (want_id t.listing t.plan w)
+      (size_of t.listing (first_of t.plan w)) old.cache new.cache
+
+  -- so it is by an entry, a seed or the cache
+  abbrev pub IsSpared : (ℕ → Type 0) → Sources S V → Sources S V → ℕ → Type 0
+  IsSpared Is old new w = IsSparedIf (CacheGivesWant old new w) Is old new w
+
+  -- the same where others add to the cache: it spares a want to whose id they add no other size
+  abbrev pub IsSparedBeside : (ℕ → Type 0) → Sources S V → Sources S V → ℕ → Type 0
+  IsSparedBeside Is old new w = IsSparedIf (CacheGivesWant old new w × AddsSize (want_id t.listing t.plan w)
+      (size_of t.listing (first_of t.plan w)) old.cache) Is old new w
 
   -- the spared wants are so, over entries that were settled
   abbrev pub AreSpared : List Fate → Sources S V → Sources S V → (ℕ → Bool) → Type 0
   AreSpared m old new spared =
       (w : ℕ) → w < t.plan.wants → spared w ≡ true → IsSpared (λ j. settled m j ≡ true) old new w
 
-  -- one pass over these wants asks at most once for each of them, and for no other. It doesn't ask for a spared one to
-  -- whose id others add no other size
+  -- one pass over these wants asks at most once for each of them that isn't spared, and for no other
   abbrev pub ShareAsks : List Fate → Sources S V → Sources S V → (ℕ → Bool) → Type 0
   ShareAsks m old new these = (spared : ℕ → Bool)
       → ((w : ℕ) → w < t.plan.wants → these w ≡ true → spared w ≡ true
-      → IsSpared (λ j. settled m j ≡ true) old new w × AddsSize (want_id t.listing t.plan w)
-      (size_of t.listing (first_of t.plan w)) old.cache)
+      → IsSparedBeside (λ j. settled m j ≡ true) old new w)
       → AsksAtMost store (calls_below (others_spared these spared) t.plan.wants)
       (λ q. asks_below (want_id t.listing t.plan) (others_spared these spared) t.plan.wants q) old.chain new.chain

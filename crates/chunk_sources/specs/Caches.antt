@@ -1,5 +1,6 @@
 -- The cache among the sources, where there is one.
 use Rattle.std.specs.Prelude.{◌≡◌, ℕ, ◌<◌, List, [], ◌∷◌, ◌++◌, length, Option, Some, None, IsSome, IfSome, IsSomeAnd}
+use Rattle.std.specs.List.{Any}
 use Rattle.std.specs.Option.{option_map}
 use Rattle.cache_store.specs.Giving.{GiveOneSize, SomeGives}
 use Rattle.cache_store.specs.Shelves.{MayAdd, Others, Shelf, Shelved, Stocks, shelf_of}
@@ -53,6 +54,13 @@ abbrev pub AddsSize : List ℕ → ℕ → Option Shelf → Type 0
 AddsSize id size cache =
     IfSome cache (λ s. IfSome s.others (λ o. (b : List ℕ) → MayAdd o.pairs o.stores id b → length b ≡ size))
 
+-- others add to it under the id what one of these maps holds, and nothing of another size where it gave the chunk
+pub record OthersAddOnly (kind : DigestKind) (id : List ℕ) (size : ℕ) (cache : Option Shelf)
+    (cached maps : List (Map (List ℕ))) : Type 0 where
+  pub held : IfSome cache (λ s. IfSome s.others (λ o. (b : List ℕ) → MayAdd o.pairs o.stores id b
+      → Any (λ m. m id ≡ Some b) maps))
+  pub sized : SomeGives kind id size cached → AddsSize id size cache
+
 -- how often it has failed
 abbrev pub cache_faults : Option Shelf → ℕ
 cache_faults None = 0
@@ -88,6 +96,11 @@ TakesWants store l d Among stores q b = (w : ℕ) × Among w
 abbrev pub TakesListed : {S : Type 0} → StoreWords S → Listing → List S → List ℕ → List ℕ → Type 0
 TakesListed store l stores q b = (i : ℕ) × (i < count_of l)
     × TakesChunk store (kind_of l) (id_of l i) (size_of l i) stores q b
+
+-- what others add to the cache is what these stores give for the entries of an index
+abbrev pub OthersAddListed : {S : Type 0} → StoreWords S → Listing → List S → Option Shelf → Type 0
+OthersAddListed store l stores cache = IfSome cache (λ s. IfSome s.others
+    (λ o. (q b : List ℕ) → MayAdd o.pairs o.stores q b → TakesListed store l stores q b))
 
 -- the index lists the id with this size
 abbrev pub IsListedAs : Listing → List ℕ → ℕ → Type 0

@@ -106,10 +106,24 @@ origin_of fate.Seeded = fate.Seeded
 origin_of fate.Cached = fate.Cached
 origin_of fate.Fetched = fate.Fetched
 
--- what is answered for a chunk with this source, where nothing fails. Want of memory is free
+-- cache and stores as one: others may have put a chunk into the cache that a store gave them
+abbrev pub as_upstream : Fate → Fate
+as_upstream fate.Open = fate.Open
+as_upstream fate.Kept = fate.Kept
+as_upstream fate.Copied = fate.Copied
+as_upstream fate.Seeded = fate.Seeded
+as_upstream fate.Cached = fate.Fetched
+as_upstream fate.Fetched = fate.Fetched
+
+-- what is answered for a chunk with this source, where nothing fails, as far as `seen` tells fates apart. Want of
+-- memory is free
+abbrev pub AnsweredAs : (Fate → Fate) → Fate → Result Fate Refused → Type 0
+AnsweredAs seen source (Ok f) = seen f ≡ seen (origin_of source)
+AnsweredAs seen source (Err r) = (r ≡ refused.Memory) ⊎ (source ≡ fate.Open)
+
+-- the same exactly
 abbrev pub AnsweredBy : Fate → Result Fate Refused → Type 0
-AnsweredBy source (Ok f) = f ≡ origin_of source
-AnsweredBy source (Err r) = (r ≡ refused.Memory) ⊎ (source ≡ fate.Open)
+AnsweredBy source r = AnsweredAs (λ f. f) source r
 
 module _ {S : Type 0} where
   -- a chunk with this source was got, and the chain was asked as often as that takes

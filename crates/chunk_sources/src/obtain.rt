@@ -5,8 +5,9 @@ ghost use Rattle.std.specs.Prelude.{IfSome, IfOk, IfErr, IsTrue, Ok, OnOk};
 ghost use Rattle.cache_store.specs.Shelves.{MayAdd};
 ghost use Rattle.caibx_codec.specs.Listing.{kind_of};
 ghost use Rattle.chunk_sources.specs.AnyCaches.{IsAddedOnce, seen_in};
-ghost use Rattle.chunk_sources.specs.Caches.{CacheLacks, IfShared, IsAlone, Stocked, TakesChunk, given_maps};
-ghost use Rattle.chunk_sources.specs.Economy.{ObtainedBy, source_among};
+ghost use Rattle.chunk_sources.specs.Caches.{OthersAddOnly, CacheLacks, IfShared};
+ghost use Rattle.chunk_sources.specs.Caches.{IsAlone, Stocked, TakesChunk, given_maps};
+ghost use Rattle.chunk_sources.specs.Economy.{AnsweredAs, ObtainedBy, as_upstream, source_among};
 ghost use Rattle.chunk_sources.specs.Losses.{AskedLast, Had, MayLack, RefusedBy, chunk_of};
 ghost use Rattle.chunk_sources.specs.Sources.{KeepsSeeds, SourcesQuiet, Telling, sources, views_of};
 ghost use Rattle.chunk_sources.specs.Wants.{AllOf, sought_chunk};
@@ -88,6 +89,14 @@ pub fn obtain<E: Ledger, S: Store, V: View, C: Cache>(
         ObtainedBy (source_among (settled (E.fates ledger.old))
         (sought_chunk (kind_of E.run.listing) sought.now (length chunk.old)) (views_of V.View seeds.old) cached maps)
         chain.old chain.new result }
+    // Where nothing fails, whoever adds to the cache: which of cache and stores gave the chunk isn't said.
+    ensures shared { (cached maps : List (Map (List ℕ))) → OthersAddOnly (kind_of E.run.listing) sought.now.id.0
+        (length chunk.old) (seen_in C.Cache cache.old) cached maps → SourcesQuiet S.Store V.View
+        (sources (E.faults ledger.old) seeds.old (seen_in C.Cache cache.old) chain.old)
+        (sources (E.faults ledger.new) seeds.new (seen_in C.Cache cache.new) chain.new) cached maps →
+        AnsweredAs as_upstream (source_among (settled (E.fates ledger.old))
+        (sought_chunk (kind_of E.run.listing) sought.now (length chunk.old)) (views_of V.View seeds.old) cached maps)
+        result }
 
     ensures kept { E.held ledger.new ≡ E.held ledger.old }
     ensures fates { E.fates ledger.new ≡ E.fates ledger.old }

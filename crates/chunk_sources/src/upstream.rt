@@ -4,10 +4,11 @@ ghost use Rattle.std.specs.Prelude.{◌≡◌, ◌≢◌, ◌⊎◌, ◌++◌, �
 ghost use Rattle.std.specs.Prelude.{IfOk, IfErr, Ok, OnOk};
 ghost use Rattle.cache_store.specs.Giving.{SomeGives};
 ghost use Rattle.cache_store.specs.Shelves.{MayAdd};
-ghost use Rattle.chunk_sources.specs.Caches.{CacheFailed, CacheLacks, IfShared, IsAlone, Stocked, TakesChunk};
+ghost use Rattle.chunk_sources.specs.Caches.{OthersAddOnly, CacheFailed, CacheLacks};
+ghost use Rattle.chunk_sources.specs.Caches.{IfShared, IsAlone, Stocked, TakesChunk};
 ghost use Rattle.chunk_sources.specs.AnyCaches.{IsAddedOnce, seen_in};
 ghost use Rattle.chunk_sources.specs.Caches.{cache_faults, cached_in, given_maps};
-ghost use Rattle.chunk_sources.specs.Economy.{ObtainedBy, source_behind};
+ghost use Rattle.chunk_sources.specs.Economy.{AnsweredAs, ObtainedBy, as_upstream, source_behind};
 ghost use Rattle.chunk_sources.specs.Losses.{MayLack, RefusedBy, chunk_of};
 ghost use Rattle.chunk_store.specs.Asks.{Get};
 ghost use Rattle.chunk_store.specs.Names.{name_of};
@@ -64,6 +65,13 @@ fn from_cache<S: Store, C: Cache>(
         (cache_faults (Some (C.shelf cache.new))) → map S.holds chain.old.stores ≡ map Some maps →
         EachQuiet (map S.faults chain.old.stores) (map S.faults chain.new.stores) → ObtainedBy
         (source_behind chain.old.kind id.now.0 (length chunk.old) cached maps) chain.old chain.new result }
+    // Where nothing fails, whoever adds to it.
+    ensures shared { (cached maps : List (Map (List ℕ))) → OthersAddOnly chain.old.kind id.now.0 (length chunk.old)
+        (Some (C.shelf cache.old)) cached maps → cached_in (Some (C.shelf cache.old)) ≡ Some cached →
+        Quiet (cache_faults (Some (C.shelf cache.old))) (cache_faults (Some (C.shelf cache.new))) →
+        map S.holds chain.old.stores ≡ map Some maps →
+        EachQuiet (map S.faults chain.old.stores) (map S.faults chain.new.stores) → AnsweredAs as_upstream
+        (source_behind chain.old.kind id.now.0 (length chunk.old) cached maps) result }
 
     ensures added { result ≡ Ok Fate.Fetched → IsAddedOnce C.Cache id.now.0 chunk.new (Some cache.old)
         (Some cache.new) }
@@ -119,6 +127,13 @@ pub(crate) fn from_upstream<S: Store, C: Cache>(
         (cache_faults (seen_in C.Cache cache.new)) → map S.holds chain.old.stores ≡ map Some maps →
         EachQuiet (map S.faults chain.old.stores) (map S.faults chain.new.stores) →
         ObtainedBy (source_behind chain.old.kind id.now.0 (length chunk.old) cached maps) chain.old chain.new result }
+    // Where nothing fails, whoever adds to the cache.
+    ensures shared { (cached maps : List (Map (List ℕ))) → OthersAddOnly chain.old.kind id.now.0 (length chunk.old)
+        (seen_in C.Cache cache.old) cached maps → cached_in (seen_in C.Cache cache.old) ≡ Some cached →
+        Quiet (cache_faults (seen_in C.Cache cache.old)) (cache_faults (seen_in C.Cache cache.new)) →
+        map S.holds chain.old.stores ≡ map Some maps →
+        EachQuiet (map S.faults chain.old.stores) (map S.faults chain.new.stores) → AnsweredAs as_upstream
+        (source_behind chain.old.kind id.now.0 (length chunk.old) cached maps) result }
 
     ensures added { result ≡ Ok Fate.Fetched → IsAddedOnce C.Cache id.now.0 chunk.new cache.old cache.new }
     ensures stocked { Stocked (TakesChunk S.Store chain.old.kind id.now.0 (length chunk.old) chain.old.stores)

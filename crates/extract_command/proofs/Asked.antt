@@ -1,5 +1,5 @@
 -- How often the stores of one of several kits were asked, over files that were taken.
-use Rattle.std.proofs.Common.{◌≡◌, ◌⊎◌, ◌∙◌, ℕ, ◌<◌, List, map, All, Bool, true, Option, None, Some, IfSome, IsSomeAnd, Result, length, slice_index_or, sym, subst, inl, inr}
+use Rattle.std.proofs.Common.{◌≡◌, ◌∙◌, ℕ, ◌<◌, List, map, All, Bool, true, Option, Some, IfSome, IsSomeAnd, Result, length, slice_index_or, sym, subst, inl, inr}
 use Rattle.std.specs.List.{fold}
 use Rattle.assembler.specs.OneKit.{Lent}
 use Rattle.assembler.specs.declared.fault.ExtractFault.{ExtractFault}
@@ -31,13 +31,13 @@ use Rattle.extract_command.proofs.AnyWords.{any_words}
 use Rattle.extract_command.proofs.LentKits.{IsKitAdded}
 use Rattle.extract_command.proofs.Seeded.{label_of, labels_are, same_known, same_labels, zeros}
 use Rattle.extract_command.proofs.Spared.{of_told, spared_over}
-use Rattle.extract_command.specs.Extract.{CacheSpares, Into, IsOwnOrOneSize, IsSparedOnDisk, NeverFail, Seeds, never_fail, old_of}
+use Rattle.extract_command.specs.Extract.{CacheSpares, Into, IsSparedOnDisk, NeverFail, Seeds, never_fail, old_of}
 use Rattle.extract_command.specs.Kits.{CanGiveKit, IsKitOpened, UsesNames}
 use Rattle.extract_plan.specs.Deal.{IsPlan, first_of, want_id}
 use Rattle.extract_plan.specs.Places.{IsSeedIndex}
 use Rattle.extract_plan.specs.Seeds.{faults_in}
 use Rattle.http_wire.specs.declared.reply.Method.TheVariants as method
-use Rattle.image_workers.specs.Kits.{IsSparedFor, IsUnshared, KitUsed, NoOtherSize, at_kit, uncached, worker_asks}
+use Rattle.image_workers.specs.Kits.{IsSparedFor, KitUsed, at_kit, uncached, worker_asks}
 use Rattle.image_workers.specs.Shared.{all_stores}
 use Rattle.range_survey.specs.declared.report.Report.{Report}
 
@@ -78,18 +78,13 @@ module _ {L V D K : Type 0} (look : LookWords L) (view : ViewWords V) (state : D
 
   module _ (z : Seeds) (is : IsKitOpened look view state d b names z.images before) {answer : Result Report ExtractFault} (used : KitUsed (any_words look state) view t never cache_never t0 old i (at_kit old i q) (at_kit new i j) answer) (added : IsKitAdded look view state d e after)
       (count : ℕ) (plan : IsPlan t.listing count t.plan) (o : Into) (index : IsSeedIndex t.listing t.plan z.listings t.places) (later : (q : List ℕ) → FileRose d b q → FileRose d e q)
-      (took : IfSome d.files (λ m. t0 ≡ Some (old_of m o))) (rose : Rose old.faults new.faults → FileRose d e o.name) (cache : Option (List ℕ)) (uncached_both : cache ≡ None → old.cache ≡ None)
+      (took : IfSome d.files (λ m. t0 ≡ Some (old_of m o))) (rose : Rose old.faults new.faults → FileRose d e o.name) (cache : Option (List ℕ))
       (gives : (w : ℕ) → IsSomeAnd cache (λ c. CacheSpares d e c t.listing (want_id t.listing t.plan w) (size_of t.listing (first_of t.plan w)))
       → CacheGives (any_words look state) t.listing (all_stores old.kits) (want_id t.listing t.plan w) (size_of t.listing (first_of t.plan w)) old.cache new.cache) where
     abbrev labels : List (List ℕ)
     labels = map label_of (views_of view before.seeds.items)
 
-    own_or_one : (w : ℕ) → IsOwnOrOneSize many cache t.listing t.plan w → IsUnshared old ⊎ NoOtherSize (any_words look state) view t old w
-    own_or_one w (inl (inl one)) = inl (inl one)
-    own_or_one w (inl (inr none)) = inl (inr (uncached_both none))
-    own_or_one w (inr one) = inr (λ n b listed chunk held. one n listed)
-
-    pub kit_gets : (spared : ℕ → Bool) → ((w : ℕ) → w < t.plan.wants → spared w ≡ true → IsSomeAnd d.files (λ m. IsSparedOnDisk sure many d e m cache o t.listing z t.plan w) × IsOwnOrOneSize many cache t.listing t.plan w)
+    pub kit_gets : (spared : ℕ → Bool) → ((w : ℕ) → w < t.plan.wants → spared w ≡ true → IsSomeAnd d.files (λ m. IsSparedOnDisk sure many d e m cache o t.listing z t.plan w))
         → (a c : Option (List Traffic)) → c ≡ fold (with_those state) a after.chain.stores → EachDialed (AsksFew method.Get (worker_asks t.listing t.plan spared i)) names a c
     kit_gets spared are a c ended =
         let xs = before.seeds.items in
@@ -97,14 +92,12 @@ module _ {L V D K : Type 0} (look : LookWords L) (view : ViewWords V) (state : D
         let fresh : map (faults_in view.faults) xs ≡ map {B = ℕ} (λ s. 0) labels = is.unfailed ∙ sym (zeros view.held xs) in
         let labelled : map (label_in view.held) ys ≡ labels = same_labels view.held xs ys used.seeds.held ∙ labels_are view.held xs in
         let rises = store_rose (faults_in view.faults) (label_in view.held) d.file_counts added.counts e.file_counts added.le xs ys labels fresh labelled added.added in
-        let asked = used.asks spared (λ w below yes. (
-          of_told d.files (λ m. IsSparedOnDisk sure many d e m cache o t.listing z t.plan w) (IsSparedFor (any_words look state) view t never cache_never t0 old (at_kit old i q) (at_kit new i j) w)
-              (λ m told so. elim (spared_over (any_words look state) view t (uncached (at_kit old i q)) (at_kit new i j) d b e m told count plan sure many o z is.viewed index later rises t0 (subst (λ f. IfSome f (λ m. t0 ≡ Some (old_of m o))) told took) rose cache w below so) [
-                | inl spared ↦ inl spared
-                | inr cached ↦ inr (gives w cached.0, cached.1)
-              ]) (are w below yes).0,
-          own_or_one w (are w below yes).1,
-        )) in
+        let asked = used.asks spared (λ w below yes.
+        of_told d.files (λ m. IsSparedOnDisk sure many d e m cache o t.listing z t.plan w) (IsSparedFor (any_words look state) view t never cache_never t0 old (at_kit old i q) (at_kit new i j) w)
+        (λ m told so. elim (spared_over (any_words look state) view t (uncached (at_kit old i q)) (at_kit new i j) d b e m told count plan sure many o z is.viewed index later rises t0 (subst (λ f. IfSome f (λ m. t0 ≡ Some (old_of m o))) told took) rose cache w below so) [
+          | inl spared ↦ inl spared
+          | inr cached ↦ inr (gives w cached.0, cached.1)
+        ]) (are w below yes)) in
         let asks = worker_asks t.listing t.plan spared i in
         let few = few_each (asked_in method.Get state) asks before.chain.stores after.chain.stores (same_length (place_in look.place) before.chain.stores after.chain.stores (sym used.stores.places)) (λ q n. asked.most q n) in
         each_got look.place state asks before.chain.stores after.chain.stores names a c is.unused few (kit_still z.images is used) ended

@@ -49,7 +49,7 @@ use Rattle.extract_command.proofs.LentKits.{IsKitAdded, all_given_back, given_no
 use Rattle.extract_command.proofs.Lost.{lacks_told, others_at, store_told, target_as}
 use Rattle.extract_command.proofs.Plans.{seed_index_by}
 use Rattle.extract_command.proofs.Seeded.{label_of, labels_are, same_labels, zeros}
-use Rattle.extract_command.proofs.Shelved.{IsTold, cache_lacking, cache_quiet, cache_rose, cached_there, name_after, name_in, none_seen, one_size}
+use Rattle.extract_command.proofs.Shelved.{IsTold, cache_lacking, cache_quiet, cache_rose, cached_there, name_after, name_in, one_size}
 use Rattle.extract_command.proofs.Spared.{cache_gives}
 use Rattle.extract_command.proofs.Unused.{none_reached}
 use Rattle.extract_command.proofs.Wrote.{wrote_back, wrote_on}
@@ -263,7 +263,7 @@ module _ {L V D K : Type 0} (look : LookWords L) (view : ViewWords V) (state : D
       plan = x.deal;
       planned = x.planned;
       gets = λ spared are. all_dialed (λ i. AsksFew method.Get (worker_asks l x.deal spared i)) (λ i q lt.
-          kit_gets look view state t d x.b e names never cache_never x.t0 i x.k q before after z (x.all i x.k (each_there i lt)) (x.made.each i x.k q (each_there i lt)) (added_all i q lt) (length (x.k ∷ x.more)) x.planned out is_here later took_bytes rose cache (none_seen e0 cache x.named) gives spared are);
+          kit_gets look view state t d x.b e names never cache_never x.t0 i x.k q before after z (x.all i x.k (each_there i lt)) (x.made.each i x.k q (each_there i lt)) (added_all i q lt) (length (x.k ∷ x.more)) x.planned out is_here later took_bytes rose cache gives spared are);
       sends = all_dialed (λ i. SendsFronts (IsListedGet l)) (λ i q lt. kit_sends look view state t d x.b e names never cache_never x.t0 i x.k q before after images (x.all i x.k (each_there i lt)) (x.made.each i x.k q (each_there i lt)));
     }
 

@@ -136,11 +136,6 @@ pub gone_seen : (o : Option Shelf) (cache : Option (List ℕ)) (folders : Option
 gone_seen None cache folders is gone = tt
 gone_seen (Some s) cache folders is gone = subst (λ (c : Option (List ℕ)). IfSome c (λ q. IfSome folders (λ m. m q ≡ None))) (sym is) gone
 
--- it has no name where there is none
-pub none_seen : (o : Option Shelf) (cache : Option (List ℕ)) → name_in o ≡ cache → cache ≡ None → o ≡ None
-none_seen None cache is none = refl
-none_seen (Some s) cache is none = let no : Some s.place ≡ None = is ∙ none in absurd (cc)
-
 -- the name of a cache to which chunks were added
 pub name_after : (Takes : List ℕ → List ℕ → Type 0) (e0 e1 : Option Shelf) (cache : Option (List ℕ)) → Stocked Takes e0 e1 → name_in e0 ≡ cache → name_in e1 ≡ cache
 name_after Takes None None cache stocked is = is

@@ -318,11 +318,6 @@ IsSparedOnDisk sure workers d e before cache out l x p w =
     ⊎ (IsSomeAnd cache (λ c. CacheSpares d e c l (want_id l p w) (size_of l (first_of p w)))
     × AllKnow workers sure.cache))
 
--- there is one worker, or no cache; or the index lists the want's id with no other size
-abbrev pub IsOwnOrOneSize : ℕ → Option (List ℕ) → Listing → Deal → ℕ → Type 0
-IsOwnOrOneSize workers cache l p w =
-    ((workers ≡ 1) ⊎ (cache ≡ None)) ⊎ IsOnlySize l (want_id l p w) (size_of l (first_of p w))
-
 -- the connections of the workers' stores have ended one worker's after the other, those of the last first: P k holds
 -- for those of worker k
 abbrev pub WorkersDialed : (ℕ → Server → List Traffic → Type 0) → ℕ → List Location → Option (List Traffic)
@@ -334,16 +329,14 @@ WorkersDialed P (suc k) stores old new = (ended : Option (List Traffic)) × Each
 -- each worker asks each server for the chunk of an id at most once for each want of that id that it is dealt and that
 -- isn't spared, and the first worker once more for each want of that id that isn't spared; and each sends nothing but
 -- fronts of requests for chunks that the index lists. All workers know of a fault of OUT, or of the cache, where there
--- is one worker, or where no call on it ever fails, as `sure` says. Where several workers share the cache a want is
--- spared only if the index lists its id with one size
+-- is one worker, or where no call on it ever fails, as `sure` says
 pub record GetsWants (sure : NeverFail) (w v : Storage) (stores : List Location) (cache : Option (List ℕ)) (out : Into)
     (l : Listing) (x : Seeds) : Type 0 where
   pub workers : ℕ
   pub plan : Deal
   pub planned : IsPlan l workers plan
   pub gets : (spared : ℕ → Bool) → ((i : ℕ) → i < plan.wants → spared i ≡ true → IsSomeAnd w.disk.files
-      (λ b. IsSparedOnDisk sure workers w.disk v.disk b cache out l x plan i)
-      × IsOwnOrOneSize workers cache l plan i) →
+      (λ b. IsSparedOnDisk sure workers w.disk v.disk b cache out l x plan i)) →
       WorkersDialed (λ k. AsksFew method.Get (worker_asks l plan spared k)) workers stores w.dial.ended v.dial.ended
   pub sends : WorkersDialed (λ k. SendsFronts (IsListedGet l)) workers stores w.dial.ended v.dial.ended
 

@@ -7,10 +7,11 @@ use Rattle.std.specs.Str.{bytes_eq}
 use Rattle.assembler.proofs.Asked.{asks_none}
 use Rattle.assembler.proofs.Assembled.{assembled_none, assembles_none, told_as}
 use Rattle.assembler.proofs.Based.{only_first}
+use Rattle.assembler.proofs.EconomyReported.{together_told}
 use Rattle.assembler.proofs.EconomyRetried.{unless_any}
 use Rattle.assembler.proofs.Stepped.{seeds_none}
 use Rattle.assembler.specs.Assemblies.{After, Assembles, IsAssembled, IsObtainable, IsUnobtained, SparedOver, Verdict}
-use Rattle.assembler.specs.Economy.{ReportsExactly, AsksExactly, UnlessMemory}
+use Rattle.assembler.specs.Economy.{AsksExactly, ReportsExactly, ReportsTogether, UnlessMemory}
 use Rattle.assembler.specs.Obtainable.{OnlyObtainable}
 use Rattle.assembler.specs.OneKit.{Lent, lent}
 use Rattle.assembler.specs.Passes.{EndsBy, WhereQuiet}
@@ -36,7 +37,7 @@ use Rattle.dsy_base.specs.declared.view.View.{Ghosts as ViewWords}
 use Rattle.extract_plan.specs.Deal.{Deal, first_of, want_id}
 use Rattle.extract_plan.specs.declared.seed.Seed.{Seed}
 use Rattle.image_workers.specs.Beside.{PermitsWith}
-use Rattle.image_workers.specs.Kits.{AreKitsAlike, AsksDealt, NoOtherSize, IsAssembledBy, IsSparedFor, IsUnshared, KitUsed, KnowsFaults, NoneUsed, SomeKitHas, at_kit, dealt_asks, worker_asks, worker_calls}
+use Rattle.image_workers.specs.Kits.{AreKitsAlike, AsksDealt, IsAssembledBy, IsSparedFor, IsUnshared, KitUsed, KnowsFaults, NoneUsed, SomeKitHas, at_kit, dealt_asks, worker_asks, worker_calls}
 use Rattle.image_workers.specs.Shared.{all_stores, all_told, door_shelf}
 use Rattle.image_assembly.specs.Readied.{Permits}
 use Rattle.owned_shards.specs.Wholes.{base_told}
@@ -48,7 +49,6 @@ use Rattle.range_survey.specs.declared.fate.Fate.TheVariants as fate
 use Rattle.range_survey.specs.declared.report.Report.{Report}
 use Rattle.store_chain.proofs.Kept.{kept_still}
 use Rattle.store_chain.specs.Chains.{Chained}
-use Rattle.store_chain.specs.Giving.{SomeHolds}
 
 -- ---- what can be had in other words
 
@@ -173,6 +173,8 @@ module _ {S V : Type 0} (store : StoreWords S) (view : ViewWords V) (t : Task) (
     exactly = λ alike q r. is.exactly;
     after = λ alike q r. is.after;
     reported = λ unshared sure alike q r cached maps quiet one_size. is.reported cached maps (quiet 0 (omega arith)) one_size;
+    shared = λ sure calm alike q r cached maps quiet one_size. together_told (λ y. source_of t (resized y (image_length t.listing)) (views_of view k.seeds.items) cached maps) t.plan.wants answer o
+        (is.reported cached maps (quiet 0 (omega arith)) one_size);
     kept = kept;
     stocked = subst (λ (xs : List S). Stocked (TakesListed store t.listing xs) e c) (sym (append-nil k.chain.stores)) is.stocked;
     first = λ why q. is.stocked;
@@ -181,7 +183,7 @@ module _ {S V : Type 0} (store : StoreWords S) (view : ViewWords V) (t : Task) (
   } where
     used : (i : ℕ) (q r : Kit S V) → i < 1 → KitUsed store view t never cache_never o (lent f (k ∷ []) e) i (at_kit (lent f (k ∷ []) e) i q) (at_kit (lent n (j ∷ []) c) i r) answer
     used zero q r less = record {
-      asks = λ spared are. asks_of_one one spared k.chain j.chain (is.asks spared (λ w below so. spares w (are w below so).0));
+      asks = λ spared are. asks_of_one one spared k.chain j.chain (is.asks spared (λ w below so. spares w (are w below so)));
       exactly = λ unshared sure. dealt_enough store view t o (sources f k.seeds.items e k.chain) (sources n j.seeds.items c j.chain) answer is.economy;
       stores = is.stores;
       seeds = is.seeds;
@@ -230,6 +232,8 @@ module _ {S V : Type 0} (store : StoreWords S) (view : ViewWords V) (t : Task) (
         exactly = λ alike q r. is.exactly;
         after = λ alike q r. is.after;
         reported = λ unshared sure alike q r cached maps quiet one. is.reported cached maps (quiet 0 (omega arith)) one;
+        shared = λ sure calm alike q r cached maps quiet one. together_told (λ y. source_of t (resized y (image_length t.listing)) (views_of view k.seeds.items) cached maps) t.plan.wants (Err fault) old.bytes
+            (is.reported cached maps (quiet 0 (omega arith)) one);
         kept = λ sure. tt;
         stocked = stocked_none (TakesListed store t.listing (all_stores (k ∷ ks))) e;
         first = λ why q. is.stocked;
@@ -332,6 +336,10 @@ module _ {S V : Type 0} (store : StoreWords S) (view : ViewWords V) (ms xs : Lis
           (source_of t (resized y (image_length t.listing)) (views_of view s.seeds) cached maps) t.plan.wants))) (sources_at ms xs chains seeds f e 0 q)
           (is.reported (unshared_too unshared) sure (alike_too alike) q j cached maps
           (λ k less. subst (λ (s : Sources S V). SourcesQuiet store view s (at_kit new k j) cached maps) (sym (sources_at ms xs chains seeds f e k q)) (quiet k (omega (arith, less, long)))) one);
+      shared = λ sure calm alike q j cached maps quiet one. subst (λ (s : Sources S V). IfSome o (λ y. IfOk answer (ReportsTogether
+          (source_of t (resized y (image_length t.listing)) (views_of view s.seeds) cached maps) t.plan.wants))) (sources_at ms xs chains seeds f e 0 q)
+          (is.shared sure calm (alike_too alike) q j cached maps
+          (λ k less. subst (λ (s : Sources S V). SourcesQuiet store view s (at_kit new k j) cached maps) (sym (sources_at ms xs chains seeds f e k q)) (quiet k (omega (arith, less, long)))) one);
       kept = is.kept;
       stocked = subst (λ (ys : List S). Stocked (TakesListed store t.listing ys) e new.cache) same_stores is.stocked;
       first = λ why q. subst (λ (s : Sources S V). Stocked (TakesListed store t.listing s.chain.stores) e new.cache) (sources_at ms xs chains seeds f e 0 q) (is.first (elim why [
@@ -356,13 +364,9 @@ module _ {S V : Type 0} (store : StoreWords S) (view : ViewWords V) (ms xs : Lis
       spared_too s n w (inr (gives, known)) =
           inr (subst (λ (ys : List S). CacheGives store t.listing ys (want_id t.listing t.plan w) (size_of t.listing (first_of t.plan w)) s.cache n.cache) (sym same_stores) gives, knows_too cache_never known)
 
-      size_too : (w : ℕ) → IsUnshared (lent f xs e) ⊎ NoOtherSize store view t (lent f xs e) w → IsUnshared (lent f ms e) ⊎ NoOtherSize store view t (lent f ms e) w
-      size_too w (inl unshared) = inl (unshared_too unshared)
-      size_too w (inr one) = inr (λ n b listed chunk held. one n b listed chunk (subst (λ (ys : List S). SomeHolds store.holds ys (want_id t.listing t.plan w) b) same_stores held))
-
       used_too : (k : ℕ) (s n : Sources S V) → KitUsed store view t never cache_never o (lent f ms e) k s n answer → KitUsed store view t never cache_never o (lent f xs e) k s n answer
       used_too k s n used = record {
-        asks = λ spared are. used.asks spared (λ w below so. let both = are w below so in (spared_too s n w both.0, size_too w both.1));
+        asks = λ spared are. used.asks spared (λ w below so. spared_too s n w (are w below so));
         exactly = λ unshared. used.exactly (unshared_too unshared);
         stores = used.stores;
         seeds = used.seeds;

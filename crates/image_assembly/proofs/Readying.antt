@@ -1,5 +1,5 @@
 -- What a prepared assembly is ready for.
-use Rattle.std.proofs.Common.{◌≡◌, ◌<◌, ◌≤◌, ◌++◌, ℕ, List, [], Any, Bool, true, Option, Some, None, IfSome, IsSome, IsTrue, is_some, length, map, refl, slice_index_or, sym, ap, subst, ◌∙◌, inl}
+use Rattle.std.proofs.Common.{◌≡◌, ◌<◌, ◌≤◌, ◌++◌, ℕ, List, Any, Bool, true, Option, Some, None, IfSome, IsTrue, is_some, length, map, refl, slice_index_or, sym, ap, subst, ◌∙◌, inl}
 use Rattle.std.specs.Option.{option_map}
 use Rattle.assembler.specs.Assemblies.{IsObtainable}
 use Rattle.assembler.specs.Stages.{Ready}

@@ -4,7 +4,7 @@ use Rattle.assembler.proofs.Based.{StandsOver, ends_map, only_such, some_map, to
 use Rattle.assembler.proofs.Finished.{Finished, Since, after_fault, after_ok, bytes_err, bytes_ok, exactly_err, exactly_ok, finished_retry, lost_err, some_between, stands_joined, told_between}
 use Rattle.assembler.specs.Assemblies.{IsUnobtained}
 use Rattle.assembler.specs.Obtainable.{OnlyObtainable}
-use Rattle.assembler.specs.Passes.{Ends, EndsBy, HasPassed, one_pass}
+use Rattle.assembler.specs.Passes.{Ends, HasPassed, one_pass}
 use Rattle.assembler.specs.Stages.{Stage, from}
 use Rattle.assembler.specs.declared.fault.ExtractFault.{ExtractFault}
 use Rattle.assembler.specs.declared.fault.Lost.{Lost}

@@ -1,5 +1,5 @@
 -- Sums over what is dealt to several workers. Workers, wants and entries count from 0.
-use Rattle.std.proofs.Common.{◌≡◌, ◌≢◌, ◌+◌, ◌%◌, ◌∙◌, ◌<◌, ◌≤◌, ℕ, zero, suc, Bool, List, true, false, if◌then◌else◌, refl, sym, ap, inl, inr, arith}
+use Rattle.std.proofs.Common.{◌≡◌, ◌≢◌, ◌+◌, ◌%◌, ◌∙◌, ◌<◌, ℕ, zero, suc, List, true, false, if◌then◌else◌, refl, sym, ap, inl, inr, arith}
 use Rattle.std.proofs.lemmas.Bool.{cases_eq, eq-eqb, ne_eqb}
 use Rattle.std.proofs.lemmas.Nat.{mod_below}
 use Rattle.assembler.proofs.EconomySums.{sum_both, sum_none, sum_same}

@@ -1,11 +1,10 @@
 -- What holds for all kits, from what holds for the first one and for each worker.
-use Rattle.std.proofs.Common.{◌≡◌, ◌⊎◌, ◌∙◌, ◌++◌, ◌∷◌, ◌<◌, ℕ, List, [], Bool, Option, Some, None, IfOk, IfSome, IsTrue, Result, Ok, Err, length, map, slice_index_or, true, refl, sym, ap, subst, inl, inr, arith}
+use Rattle.std.proofs.Common.{◌≡◌, ◌⊎◌, ◌∙◌, ◌++◌, ◌∷◌, ◌<◌, ℕ, List, [], Bool, Option, Some, None, IfOk, IfSome, IsTrue, Result, Ok, Err, length, map, slice_index_or, true, refl, sym, ap, subst, inl, inr}
 use Rattle.std.proofs.lemmas.List.{get_or_default}
-use Rattle.std.proofs.lemmas.Option.{same_Some}
 use Rattle.assembler.proofs.Based.{some_map, told_map}
 use Rattle.assembler.specs.Assemblies.{Assembles, IsObtainable, Verdict}
-use Rattle.assembler.specs.Economy.{ReportsExactly}
-use Rattle.assembler.specs.Obtainable.{IsObtainableOrBase, OnlyObtainable}
+use Rattle.assembler.specs.Economy.{ReportsExactly, ReportsTogether}
+use Rattle.assembler.specs.Obtainable.{OnlyObtainable}
 use Rattle.assembler.specs.OneKit.{lent}
 use Rattle.assembler.specs.declared.fault.ExtractFault.{ExtractFault}
 use Rattle.assembler.specs.declared.fault.ExtractFault.TheVariants as faults
@@ -26,6 +25,7 @@ use Rattle.image_workers.specs.Shared.{all_stores}
 use Rattle.range_ledger.specs.Fills.{WhereTold}
 use Rattle.range_ledger.specs.Runs.{Run}
 use Rattle.range_survey.specs.Reports.{right_below}
+use Rattle.range_survey.specs.declared.fate.Fate.{Fate}
 use Rattle.range_survey.specs.declared.report.Report.{Report}
 
 -- ---- values that are told
@@ -111,11 +111,11 @@ module _ {S V : Type 0} (store : StoreWords S) (view : ViewWords V) (r : Run) (t
 
   module _ (never cache_never : Bool) (o p : Option (List ℕ)) (f g : ℕ) (outs : List (Kit S V)) (e : Option Shelf) (res : Result Report ExtractFault) where
     -- that each want is counted by its source, where nothing fails and the cache was this
-    abbrev pub ReportedOver : Option Shelf → Type 0
-    ReportedOver c = IsTrue never → AreKitsAlike store view t kits → (q j : Kit S V) (cached maps : List (Map (List ℕ)))
+    abbrev pub ReportedOver : ((ℕ → Fate) → ℕ → Report → Type 0) → Option Shelf → Type 0
+    ReportedOver Reports c = IsTrue never → AreKitsAlike store view t kits → (q j : Kit S V) (cached maps : List (Map (List ℕ)))
         → ((k : ℕ) → k < length kits → SourcesQuiet store view (at_kit (lent f kits c) k q) (at_kit (lent g outs e) k j) cached maps) → HaveOneSize t.listing c cached maps
         → IfSome o (λ y. Verdict t.listing (IsObtainable t (resized y (image_length t.listing)) (views_of view (slice_index_or kits 0 q).seeds.items) (cached ++ maps)) res)
-        → IfSome o (λ y. IfOk res (ReportsExactly (source_of t (resized y (image_length t.listing)) (views_of view (slice_index_or kits 0 q).seeds.items) cached maps) t.plan.wants))
+        → IfSome o (λ y. IfOk res (Reports (source_of t (resized y (image_length t.listing)) (views_of view (slice_index_or kits 0 q).seeds.items) cached maps) t.plan.wants))
 
     -- what an assembly has done, by what its first worker did and what became of each kit. It had this cache, which was
     -- that between the passes
@@ -127,10 +127,10 @@ module _ {S V : Type 0} (store : StoreWords S) (view : ViewWords V) (r : Run) (t
         → length outs ≡ length kits
         → ((k : ℕ) (q j : Kit S V) → k < length kits → KitUsed store view t never cache_never o (lent f kits c0) k (at_kit (lent f kits c0) k q) (at_kit (lent g outs e) k j) res)
         → 0 < length kits
-        → (IsUnshared (lent f kits c0) → ReportedOver c0)
+        → (IsUnshared (lent f kits c0) → ReportedOver ReportsExactly c0) → (IsTrue cache_never → ReportedOver ReportsTogether c0)
         → (IsTrue never → IfOk res (λ rep. IfSome o (λ y. rep.kept ≡ right_below t.listing (resized y (image_length t.listing)) (count_of t.listing))))
         → IsAssembledBy store view t never cache_never o p (lent f kits c0) (lent g outs e) res
-    assembled_by c0 c1 fill did some own stocked first_stocked long each any report kept =
+    assembled_by c0 c1 fill did some own stocked first_stocked long each any report together kept =
         let old = lent f kits c0 in
         let new = lent g outs e in
         let May : ℕ → Type 0 = λ i. r.may i ≡ true in
@@ -146,6 +146,9 @@ module _ {S V : Type 0} (store : StoreWords S) (view : ViewWords V) (r : Run) (t
           after = λ alike q j cached maps nothing one. (did q j).after (own alike q) cached maps nothing one
               (fills_first q maps alike nothing.telling nothing.told o c0 fill (at_kit old 0 q) refl cached nothing.told_cache);
           reported = λ unshared sure alike q j cached maps quiet one. report unshared sure alike q j cached maps quiet one
+              ((did q j).exactly (own alike q) cached maps (quiet 0 any) one
+              (fills_first q maps alike (quiet 0 any).telling (quiet 0 any).told o c0 fill (at_kit old 0 q) refl cached (quiet 0 any).told_cache));
+          shared = λ sure calm alike q j cached maps quiet one. together calm sure alike q j cached maps quiet one
               ((did q j).exactly (own alike q) cached maps (quiet 0 any) one
               (fills_first q maps alike (quiet 0 any).telling (quiet 0 any).told o c0 fill (at_kit old 0 q) refl cached (quiet 0 any).told_cache));
           kept = kept;

@@ -1,39 +1,31 @@
 -- What several workers report, by what each of them knows. The survey left the fates m, and the lists are those of the
 -- workers in their order.
-use Rattle.std.proofs.Common.{◌≡◌, ◌≢◌, ◌⊎◌, ◌+◌, ◌++◌, ◌∙◌, ◌%◌, ◌<◌, ◌≤◌, ℕ, zero, suc, Bool, List, [], length, map, Option, Some, None, IfSome, IsTrue, is_some, slice_index_or, true, false, if◌then◌else◌, refl, sym, ap, subst, inl, inr, arith, zero-add}
+use Rattle.std.proofs.Common.{◌≡◌, ◌⊎◌, ◌+◌, ◌++◌, ◌∙◌, ◌%◌, ◌<◌, ◌≤◌, ℕ, zero, suc, Bool, List, [], ◌∷◌, length, map, Option, slice_index_or, true, false, if◌then◌else◌, refl, sym, ap, subst, inl, inr, arith, zero-add}
 use Rattle.std.proofs.lemmas.Bool.{cases_Bool, true≢false}
 use Rattle.std.proofs.lemmas.Slice.Eq.{bytes_eq-Decides}
 use Rattle.assembler.proofs.EconomySources.{had_source, source_same}
-use Rattle.assembler.proofs.EconomySums.{sum_same}
+use Rattle.assembler.proofs.EconomySums.{sum_both, sum_same}
 use Rattle.assembler.proofs.Entries.{among, first_among, ids_same, listed_of}
+use Rattle.assembler.proofs.Tallies.{either_upstream, fate_upstream, seeded_upstream}
 use Rattle.assembler.specs.Assemblies.{IsObtainable}
-use Rattle.assembler.specs.Economy.{ReportsExactly, Tallied}
+use Rattle.assembler.specs.Economy.{ReportsExactly, ReportsTogether, Tallied, TalliedShared}
 use Rattle.assembler.specs.Passes.{want_at}
 use Rattle.assembler.specs.Permits.{deals_to}
-use Rattle.assembler.specs.Stages.{from}
 use Rattle.cache_store.specs.Giving.{SomeGives}
-use Rattle.cache_store.specs.Shelves.{Shelf}
 use Rattle.caibx_codec.specs.Listing.{Listing, count_of, id_of, kind_of, size_of, slice_of}
-use Rattle.caibx_codec.specs.Right.{IsRightAt}
-use Rattle.chunk_sources.specs.Caches.{HaveOneSize}
-use Rattle.chunk_sources.specs.Economy.{origin_of, source_if, source_of, source_over, sum_below}
+use Rattle.chunk_sources.specs.Economy.{as_upstream, origin_of, source_if, source_of, source_over, sum_below}
 use Rattle.chunk_sources.specs.Losses.{Had}
-use Rattle.chunk_sources.specs.Sources.{SeedsGive, SourcesQuiet, sources, views_of}
-use Rattle.chunk_sources.specs.Wants.{IsAmong, Task, want_chunk}
-use Rattle.chunk_sources.specs.declared.kit.Kit.{Kit}
+use Rattle.chunk_sources.specs.Sources.{SeedsGive}
+use Rattle.chunk_sources.specs.Wants.{Task, want_chunk}
 use Rattle.chunk_store.specs.Names.{name_of}
-use Rattle.chunk_store.specs.declared.store.Store.{Ghosts as StoreWords}
 use Rattle.dsy_base.specs.Bytes.{Held}
 use Rattle.dsy_base.specs.Maps.{Map}
-use Rattle.dsy_base.specs.declared.view.View.{Ghosts as ViewWords}
-use Rattle.extract_plan.specs.Deal.{AreWants, Deal, first_of, of_want, want_id}
-use Rattle.extract_plan.specs.Places.{Placed, places_at}
-use Rattle.image_workers.proofs.Dealt.{dealt_entries, dealt_wants, deals_owner, none_first, owner, owner_below, tally_is}
+use Rattle.extract_plan.specs.Deal.{AreWants, Deal, first_of, want_id}
+use Rattle.extract_plan.specs.Places.{places_at}
+use Rattle.image_workers.proofs.Dealt.{dealt_entries, dealt_wants, none_first, owner, owner_below, tally_is}
 use Rattle.image_workers.proofs.Tallying.{with_fate}
-use Rattle.image_workers.specs.Lanes.{HasWorked, worker_stage}
 use Rattle.image_workers.specs.Reporting.{CountsFates, fate_told, known_at, reported_at}
 use Rattle.range_ledger.specs.Fills.{Grows}
-use Rattle.range_ledger.specs.Runs.{Run}
 use Rattle.range_survey.specs.Fates.{FirstFates, fate_at, is_made, is_right_at, is_settled, settled}
 use Rattle.range_survey.specs.Reports.{one_if, right_below, tally}
 use Rattle.range_survey.specs.declared.fate.Fate.{Fate}
@@ -152,3 +144,77 @@ module _ (d : Deal) (any : 0 < d.workers) (count wants : ℕ) (m : List Fate) (f
     counts.cached ∙ got_so fate.Cached refl refl (λ k less. (each k less).from_cache),
     counts.fetched ∙ got_so fate.Fetched refl refl (λ k less. (each k less).from_stores),
   )
+
+-- ---- with cache and stores as one
+
+map_nth : (lists : List (List Fate)) (k : ℕ) → slice_index_or (map (map as_upstream) lists) k [] ≡ map as_upstream (slice_index_or lists k [])
+map_nth [] k = refl
+map_nth (m ∷ ms) zero = refl
+map_nth (m ∷ ms) (suc k) = map_nth ms k
+
+settled_upstream : (x : Fate) → is_settled (as_upstream x) ≡ is_settled x
+settled_upstream fate.Open = refl
+settled_upstream fate.Kept = refl
+settled_upstream fate.Copied = refl
+settled_upstream fate.Seeded = refl
+settled_upstream fate.Cached = refl
+settled_upstream fate.Fetched = refl
+
+origin_upstream : (x : Fate) → origin_of (as_upstream x) ≡ as_upstream (origin_of x)
+origin_upstream fate.Open = refl
+origin_upstream fate.Kept = refl
+origin_upstream fate.Copied = refl
+origin_upstream fate.Seeded = refl
+origin_upstream fate.Cached = refl
+origin_upstream fate.Fetched = refl
+
+told_upstream : (x last : Fate) → fate_told (as_upstream x) (as_upstream last) ≡ as_upstream (fate_told x last)
+told_upstream fate.Open last = origin_upstream last
+told_upstream fate.Kept last = refl
+told_upstream fate.Copied last = refl
+told_upstream fate.Seeded last = refl
+told_upstream fate.Cached last = refl
+told_upstream fate.Fetched last = refl
+
+module _ (d : Deal) (lists : List (List Fate)) (last : List Fate) where
+  known_upstream : (k i : ℕ) → known_at (map (map as_upstream) lists) k i ≡ as_upstream (known_at lists k i)
+  known_upstream k i = ap (λ (m : List Fate). fate_at m i) (map_nth lists k) ∙ fate_upstream (slice_index_or lists k []) i
+
+  reported_upstream : (i : ℕ) → reported_at d (map (map as_upstream) lists) (map as_upstream last) i ≡ as_upstream (reported_at d lists last i)
+  reported_upstream i =
+      let k = want_at d i % d.workers in
+      ap (λ x. fate_told x (fate_at (map as_upstream last) i)) (known_upstream k i)
+      ∙ ap (fate_told (as_upstream (known_at lists k i))) (fate_upstream last i)
+      ∙ told_upstream (known_at lists k i) (fate_at last i)
+
+  module _ (any : 0 < d.workers) (count wants : ℕ) (m : List Fate) (firsts : FirstFates m count) (source : ℕ → Fate)
+      (others : (k i : ℕ) → k < d.workers → deals_to d k (want_at d i) ≡ false → known_at lists k i ≡ fate_at m i)
+      (made : (i : ℕ) → i < count → is_settled (known_at lists (owner d any (want_at d i)) i) ≡ true)
+      (each : (k : ℕ) → k < d.workers → TalliedShared (deals_to d k) source wants count m (slice_index_or lists k [])) where
+    got_upstream : (f : Fate) → one_if f fate.Open ≡ 0 → one_if f fate.Kept ≡ 0
+        → ((k : ℕ) → k < d.workers → tally f (map as_upstream (slice_index_or lists k [])) count ≡ tally f (map as_upstream m) count + sum_below (λ w. one_if f (source_if (deals_to d k) (λ v. as_upstream (source v)) w)) wants)
+        → sum_below (λ i. one_if f (as_upstream (reported_at d lists last i))) count ≡ sum_below (λ w. one_if f (as_upstream (source w))) wants
+    got_upstream f no_open no_kept by =
+        sum_same (λ i. one_if f (as_upstream (reported_at d lists last i))) (λ i. one_if f (reported_at d (map (map as_upstream) lists) (map as_upstream last) i)) count
+        (λ i inside. ap (one_if f) (sym (reported_upstream i)))
+        ∙ got_so d any count wants (map as_upstream m)
+        (λ i inside. elim (firsts i inside) [
+          | inl is ↦ inl (fate_upstream m i ∙ ap as_upstream is)
+          | inr is ↦ inr (fate_upstream m i ∙ ap as_upstream is)
+        ])
+        (λ w. as_upstream (source w)) (map (map as_upstream) lists) (map as_upstream last)
+        (λ k i less isnt. known_upstream k i ∙ ap as_upstream (others k i less isnt) ∙ sym (fate_upstream m i))
+        (λ i inside. ap is_settled (known_upstream (owner d any (want_at d i)) i) ∙ settled_upstream (known_at lists (owner d any (want_at d i)) i) ∙ made i inside)
+        f no_open no_kept
+        (λ k less. ap (λ (n : List Fate). tally f n count) (map_nth lists k) ∙ by k less)
+
+    pub got_together : (r : Report) → CountsFates (reported_at d lists last) count r → ReportsTogether source wants r
+    got_together r counts =
+        let at = reported_at d lists last in
+        let both = sum_both (λ i. one_if fate.Cached (at i)) (λ i. one_if fate.Fetched (at i)) (λ i. one_if fate.Fetched (as_upstream (at i))) count (λ i inside. sym (either_upstream (at i))) in (
+          counts.seeded
+              ∙ sum_same (λ i. one_if fate.Seeded (at i)) (λ i. one_if fate.Seeded (as_upstream (at i))) count (λ i inside. sym (seeded_upstream (at i)))
+              ∙ got_upstream fate.Seeded refl refl (λ k less. (each k less).from_seeds)
+              ∙ sum_same (λ w. one_if fate.Seeded (as_upstream (source w))) (λ w. one_if fate.Seeded (source w)) wants (λ w less. seeded_upstream (source w)),
+          omega (arith, counts.cached, counts.fetched, both, got_upstream fate.Fetched refl refl (λ k less. (each k less).from_stores)),
+        )

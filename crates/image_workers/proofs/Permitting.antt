@@ -1,5 +1,5 @@
 -- Which entries a pass may fill, by what the run's name permits with a kit.
-use Rattle.std.proofs.Common.{◌≡◌, ◌⊎◌, ◌++◌, ℕ, ◌<◌, List, Option, IsTrue, map, true, sym, ap, ◌∙◌, subst, inl, inr}
+use Rattle.std.proofs.Common.{◌≡◌, ◌⊎◌, ◌++◌, ℕ, ◌<◌, List, Option, IsTrue, map, true, sym, ◌∙◌, subst, inl, inr}
 use Rattle.assembler.proofs.Entries.{among_of, first_among, ids_same, listed_of}
 use Rattle.assembler.proofs.Finished.{here}
 use Rattle.assembler.proofs.HadOn.{had_entry}

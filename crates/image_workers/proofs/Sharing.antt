@@ -1,35 +1,30 @@
 -- What several workers may add to a cache that they share, and what it gives then. Kits count from 0.
-use Rattle.std.proofs.Common.{◌≡◌, ◌⊎◌, ◌++◌, ◌∷◌, ◌<◌, ℕ, zero, suc, Bool, List, [], All, Option, Some, None, IfSome, IsSome, IsSomeAnd, is_some, length, map, slice_index_or, true, refl, sym, ap, subst, ◌∙◌, inl, inr, arith}
-use Rattle.std.proofs.lemmas.List.{append-nil, get_or_default, map-append}
+use Rattle.std.proofs.Common.{◌≡◌, ◌⊎◌, ◌++◌, ◌∷◌, ◌<◌, ℕ, zero, suc, List, [], All, Option, Some, None, IfSome, IsSome, IsSomeAnd, length, map, slice_index_or, refl, sym, ap, subst, ◌∙◌, inl, inr, arith}
+use Rattle.std.proofs.lemmas.List.{get_or_default, map-append}
 use Rattle.std.proofs.lemmas.Option.{none-some, same_Some}
 use Rattle.std.specs.List.{Any}
 use Rattle.std.specs.Option.{option_map}
 use Rattle.assembler.proofs.Counted.{quiet_part}
 use Rattle.assembler.proofs.Entries.{first_among, ids_same, listed_of}
 use Rattle.assembler.proofs.Finished.{here}
-use Rattle.assembler.specs.OneKit.{Lent}
 use Rattle.assembler.specs.Passes.{want_at}
 use Rattle.cache_store.specs.Giving.{SomeGives}
 use Rattle.cache_store.specs.Shelves.{IsPair, MayAdd, Shelf}
-use Rattle.caibx_codec.specs.Listing.{Listing, count_of, id_of, image_length, kind_of, size_of}
-use Rattle.caibx_codec.specs.Right.{IsRightAt}
+use Rattle.caibx_codec.specs.Listing.{Listing, count_of, id_of, kind_of, size_of}
 use Rattle.chunk_sources.proofs.Cached.{gives_left, gives_right, stocked_falls, stocked_gave, stocked_gives, stocked_on, stocked_told, stocked_wider}
-use Rattle.chunk_sources.specs.Caches.{AddsSize, CacheGives, IsListedAs, Stocked, TakesListed, TakesWants, cache_faults, cached_in, given_maps, shared_maps}
-use Rattle.chunk_sources.specs.Asks.{IsSpared}
-use Rattle.chunk_sources.specs.Sources.{Sources}
+use Rattle.chunk_sources.specs.Caches.{OthersAddListed, AddsSize, CacheGives, IsListedAs, Stocked, TakesListed, TakesWants, cache_faults, cached_in, given_maps, shared_maps}
 use Rattle.chunk_sources.specs.Wants.{Task}
 use Rattle.chunk_sources.specs.declared.kit.Kit.{Kit}
 use Rattle.chunk_store.specs.Folders.{chunks}
-use Rattle.chunk_store.specs.Giving.{GivesChunk, IsChunk}
+use Rattle.chunk_store.specs.Giving.{IsChunk}
 use Rattle.chunk_store.specs.declared.id.DigestKind.TheVariants.{Sha512T256}
 use Rattle.chunk_store.specs.declared.store.Store.{Ghosts as StoreWords}
-use Rattle.dsy_base.specs.Bytes.{resized}
 use Rattle.dsy_base.specs.Maps.{Map}
 use Rattle.dsy_base.specs.declared.view.View.{Ghosts as ViewWords}
 use Rattle.extract_plan.specs.Deal.{AreWants, Deal, first_of, want_id}
 use Rattle.extract_plan.specs.Places.{Placed}
 use Rattle.image_workers.proofs.Telling.{all_are, told_all}
-use Rattle.image_workers.specs.Kits.{AreKitsAlike, IsSparedFor, IsUnshared, KnowsFaults, at_kit}
+use Rattle.image_workers.specs.Kits.{AreKitsAlike}
 use Rattle.image_workers.specs.Shared.{GivesNoMore, MayAddFrom, all_stores, all_told, door_shelf, pairs_below}
 use Rattle.store_chain.specs.Giving.{SomeHolds}
 
@@ -283,6 +278,12 @@ module _ {S V : Type 0} (store : StoreWords S) (l : Listing) (kits : List (Kit S
       go None opens = refl
       go (Some s) opens = ap (option_map (λ m. chunks m ∷ [])) opens
 
+    pub door_some : IsSome door → IsSome c0
+    door_some = go c0 where
+      go : (c : Option Shelf) → IsSome (door_shelf first (Some (pairs_below l (count_of l))) (all_told (map store.holds (all_stores kits))) 0 c) → IsSome c
+      go None some = some
+      go (Some s) some = refl
+
     pub door_kind : IfSome door (λ s. s.kind ≡ Sha512T256)
     door_kind = go c0 where
       go : (c : Option Shelf) → IfSome (door_shelf first (Some (pairs_below l (count_of l))) (all_told (map store.holds (all_stores kits))) 0 c) (λ s. s.kind ≡ Sha512T256)
@@ -375,6 +376,18 @@ module _ {S V : Type 0} (store : StoreWords S) (view : ViewWords V) (l : Listing
 
   same_holds : (a b : Kit S V) → map store.holds b.chain.stores ≡ map store.holds a.chain.stores → (id c : List ℕ) → SomeHolds store.holds b.chain.stores id c → SomeHolds store.holds a.chain.stores id c
   same_holds a b same id c held = λ maps told. held maps (same ∙ told)
+
+  -- where all kits are alike others add through their doors what the stores of this one give too
+  pub door_lists : AreKitsAlike store view t kits → (first : Option (Map (List ℕ))) (c0 : Option Shelf) (q : Kit S V) (k : ℕ) → k < length kits
+      → OthersAddListed store l (slice_index_or kits k q).chain.stores (door store l kits first c0)
+  door_lists alike first c0 q k less = go c0 where
+    own : Kit S V
+    own = slice_index_or kits k q
+
+    go : (c : Option Shelf) → OthersAddListed store l own.chain.stores (door store l kits first c)
+    go None = tt
+    go (Some s) = λ p b may. listed_wider (all_stores kits) own.chain.stores
+        (λ id c held. same_holds own (slice_index_or kits 0 q) (sym (alike k q less).1) id c (holds_alike store view t kits q alike id c held)) p b (adds_listed store l kits p b may)
 
   abbrev Wants : List S → List ℕ → List ℕ → Type 0
   Wants stores = TakesWants store l d (λ w. w < d.wants) stores

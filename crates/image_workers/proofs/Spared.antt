@@ -18,7 +18,7 @@ use Rattle.caibx_codec.specs.Asks.{IsListedGet}
 use Rattle.caibx_codec.specs.Listing.{count_of, image_length, kind_of, size_of}
 use Rattle.caibx_codec.specs.Right.{IsRightAt}
 use Rattle.chunk_sources.proofs.Lacking.{quiet_never}
-use Rattle.chunk_sources.specs.Asks.{IsSpared, asks_below, calls_below, others_spared}
+use Rattle.chunk_sources.specs.Asks.{CacheGivesWant, IsSpared, IsSparedBeside, IsSparedIf, asks_below, calls_below, others_spared}
 use Rattle.chunk_sources.specs.Caches.{AddsSize, CacheGives, Stocked}
 use Rattle.chunk_sources.specs.Sources.{HeldAt, Sources, counts_of, sources, views_of}
 use Rattle.chunk_sources.specs.Wants.{IsAmong, Task}
@@ -31,8 +31,8 @@ use Rattle.dsy_base.specs.declared.view.View.{Ghosts as ViewWords}
 use Rattle.extract_plan.specs.Deal.{AreWants, Deal, first_of, of_want, want_id}
 use Rattle.extract_plan.specs.Places.{Placed}
 use Rattle.image_workers.specs.Beside.{joined_stage}
-use Rattle.image_workers.proofs.Sharing.{Adds, door, door_none, door_size, gives_between, gives_first}
-use Rattle.image_workers.specs.Kits.{AsksDealt, NoOtherSize, IsSparedFor, IsUnshared, KitUsed, KnowsFaults, dealt_asks, once_more}
+use Rattle.image_workers.proofs.Sharing.{Adds, door, door_size, gives_between, gives_first}
+use Rattle.image_workers.specs.Kits.{AsksDealt, IsSparedFor, IsUnshared, KitUsed, KnowsFaults, dealt_asks, once_more}
 use Rattle.image_workers.specs.Shared.{all_stores}
 use Rattle.image_workers.specs.Lanes.{HasWorked, worker_stage}
 use Rattle.owned_shards.specs.Wholes.{KeptWhole, Whole}
@@ -81,11 +81,10 @@ module _ {S V : Type 0} (store : StoreWords S) (view : ViewWords V) (t : Task) w
   spared_as : (never cache_never : Bool) (o : Option (List ℕ)) (all : Lent S V) (Now : ℕ → Type 0) (s0 s1 a0 a1 : Sources S V) (w : ℕ)
       → ((j : ℕ) → IsAmong (of_want t.plan w) j → RightFor never o all j → Quiet s0.faults s1.faults → Now j × Quiet a0.faults a1.faults)
       → views_of view a0.seeds ≡ views_of view s0.seeds → NoneFalls (counts_of view s0.seeds) (counts_of view a0.seeds) → NoneFalls (counts_of view a1.seeds) (counts_of view s1.seeds)
-      → (CacheGives store t.listing (all_stores all.kits) (want_id t.listing t.plan w) (size_of t.listing (first_of t.plan w)) s0.cache s1.cache → KnowsFaults cache_never all.kits
-      → CacheGives store t.listing a0.chain.stores (want_id t.listing t.plan w) (size_of t.listing (first_of t.plan w)) a0.cache a1.cache)
-      → IsSparedFor store view t never cache_never o all s0 s1 w → IsSpared store view t Now a0 a1 w
-  spared_as never cache_never o all Now s0 s1 a0 a1 w so held before after given (inl (inl ((j, among, is), quiet))) = let now = so j among is quiet in inl ((j, among, now.0), now.1)
-  spared_as never cache_never o all Now s0 s1 a0 a1 w so held before after given (inl (inr (inl (k, p, inside, at, (has, quiet))))) =
+      → (Cached : Type 0) → (CacheGives store t.listing (all_stores all.kits) (want_id t.listing t.plan w) (size_of t.listing (first_of t.plan w)) s0.cache s1.cache → KnowsFaults cache_never all.kits → Cached)
+      → IsSparedFor store view t never cache_never o all s0 s1 w → IsSparedIf store view t Cached Now a0 a1 w
+  spared_as never cache_never o all Now s0 s1 a0 a1 w so held before after Cached given (inl (inl ((j, among, is), quiet))) = let now = so j among is quiet in inl ((j, among, now.0), now.1)
+  spared_as never cache_never o all Now s0 s1 a0 a1 w so held before after Cached given (inl (inr (inl (k, p, inside, at, (has, quiet))))) =
       let count : Sources S V → ℕ = λ y. slice_index (counts_of view y.seeds) p.seed in
       inr (inl (
         k,
@@ -94,9 +93,9 @@ module _ {S V : Type 0} (store : StoreWords S) (view : ViewWords V) (t : Task) w
         at,
         (subst (λ views. HeldAt views p (want_id t.listing t.plan w)) (sym held) has, quiet_part (count s0) (count a0) (count a1) (count s1) (before p.seed) (after p.seed) quiet),
       ))
-  spared_as never cache_never o all Now s0 s1 a0 a1 w so held before after given (inl (inr (inr gives))) =
+  spared_as never cache_never o all Now s0 s1 a0 a1 w so held before after Cached given (inl (inr (inr gives))) =
       absurd (no_cache s0.chain.stores s1.cache (want_id t.listing t.plan w) (size_of t.listing (first_of t.plan w)) gives)
-  spared_as never cache_never o all Now s0 s1 a0 a1 w so held before after given (inr (gives, known)) = inr (inr (given gives known))
+  spared_as never cache_never o all Now s0 s1 a0 a1 w so held before after Cached given (inr (gives, known)) = inr (inr (given gives known))
 
 -- ---- the workers
 
@@ -140,13 +139,6 @@ module _ {S V : Type 0} (store : StoreWords S) (view : ViewWords V) (r : Run) (d
     is_never never (inl one) = absurd (omega (arith, one, some))
     is_never never (inr so) = so
 
-    -- nobody adds another chunk under its id
-    adds_one : (w : ℕ) → IsUnshared all ⊎ NoOtherSize store view t all w → AddsSize (want_id r.listing d w) (size_of r.listing (first_of d w)) e0
-    adds_one w (inl (inl one)) = absurd (omega (arith, one, some))
-    adds_one w (inl (inr none)) =
-        subst (λ (e : Option Shelf). AddsSize (want_id r.listing d w) (size_of r.listing (first_of d w)) e) (sym (door_none store r.listing kits first c0 none)) tt
-    adds_one w (inr one) = door_size store r.listing kits first c0 (want_id r.listing d w) (size_of r.listing (first_of d w)) one
-
     -- then the survey has settled it
     settled_first : (j : ℕ) → j < count_of r.listing → Is j → Quiet f g → settled w0.fates j ≡ true
     settled_first j inside is quiet =
@@ -176,7 +168,7 @@ module _ {S V : Type 0} (store : StoreWords S) (view : ViewWords V) (r : Run) (d
       -- a want that is spared over the whole is spared over its way
       spared_first : (s1 : Sources S V) → s1.faults ≡ g → NoneFalls (counts_of view b.seeds.items) (counts_of view s1.seeds) → (w : ℕ)
           → IsSparedFor store view t never cache_never o all (sources f a.seeds.items c0 a.chain) s1 w
-          → IsSpared store view t (λ j. settled w0.fates j ≡ true) (from (worker_stage r w0.fates 0 e0 a)) (from (worker_stage r n by.faults by.door b)) w
+          → IsSparedBeside store view t (λ j. settled w0.fates j ≡ true) (from (worker_stage r w0.fates 0 e0 a)) (from (worker_stage r n by.faults by.door b)) w
       spared_first s1 count after w is = spared_as store view t never cache_never o all (λ j. settled w0.fates j ≡ true) (sources f a.seeds.items c0 a.chain) s1 (from (worker_stage r w0.fates 0 e0 a))
           (from (worker_stage r n by.faults by.door b)) w
           (λ j among right quiet. (
@@ -184,7 +176,11 @@ module _ {S V : Type 0} (store : StoreWords S) (view : ViewWords V) (r : Run) (d
             none_quiet by.faults (by.sure (both_so never r.tells (is_never never right.1) (right_in_base r o was.base was.told j right.0).0)),
           ))
           refl (λ s. omega arith) after
-          (λ gives known. gives_first store view r.listing d x wants kits first c0 s1.cache by.door opens (by.calm (is_never cache_never known)) k z less (want_id r.listing d w) (size_of r.listing (first_of d w)) gives)
+          (CacheGivesWant store view t (from (worker_stage r w0.fates 0 e0 a)) (from (worker_stage r n by.faults by.door b)) w × AddsSize (want_id r.listing d w) (size_of r.listing (first_of d w)) e0)
+          (λ gives known. (
+            gives_first store view r.listing d x wants kits first c0 s1.cache by.door opens (by.calm (is_never cache_never known)) k z less (want_id r.listing d w) (size_of r.listing (first_of d w)) gives,
+            door_size store r.listing kits first c0 (want_id r.listing d w) (size_of r.listing (first_of d w)) gives.one_size,
+          ))
           is
 
       -- what became of the kit of another worker than the first
@@ -196,9 +192,7 @@ module _ {S V : Type 0} (store : StoreWords S) (view : ViewWords V) (r : Run) (d
             let ids = want_id r.listing d in
             asks_up store (calls_below f0 d.wants) (calls_below f0 d.wants + once_more k (calls_below spared d.wants)) (λ q. asks_below ids f0 d.wants q)
             (λ q. asks_below ids f0 d.wants q + once_more k (asks_below ids spared d.wants q)) a.chain b.chain (omega arith) (λ q. omega arith)
-            (by.passed.asks spared (λ w below these is.
-            let so = are w below is in
-            (spared_first (sources g b.seeds.items e b.chain) refl (λ s. omega arith) w so.0, adds_one w so.1)));
+            (by.passed.asks spared (λ w below these is. spared_first (sources g b.seeds.items e b.chain) refl (λ s. omega arith) w (are w below is)));
         exactly = exactly;
         stores = by.passed.stretch.step.stores;
         seeds = by.passed.stretch.step.seeds;
@@ -223,7 +217,7 @@ module _ {S V : Type 0} (store : StoreWords S) (view : ViewWords V) (r : Run) (d
             settled_then j (listed_of r.listing d w j wants among) right (subst (Quiet f) count quiet),
             quiet_part f w1.faults end.faults end.faults (omega (arith, was.before, was.same, was.rises)) (omega arith) quiet,
           ))
-          step.seeds.held step.seeds.never_fall (λ s. omega arith)
+          step.seeds.held step.seeds.never_fall (λ s. omega arith) (CacheGivesWant store view t (from (joined_stage w1 c1 b)) (from end) w)
           (λ gives known. gives_between store view r.listing d x wants kits c0 c1 stocked z b any_kit step.stores.held end.cache passed.stretch.stocked (want_id r.listing d w) (size_of r.listing (first_of d w)) gives)
           is
 
@@ -237,10 +231,8 @@ module _ {S V : Type 0} (store : StoreWords S) (view : ViewWords V) (r : Run) (d
                 let f0 = others_spared (deals_to d 0) spared in
                 let ids = want_id r.listing d in
                 asks_on store (calls_below f0 d.wants) (calls_below spared d.wants) (λ q. asks_below ids f0 d.wants q) (λ q. asks_below ids spared d.wants q) was_first.chain b.chain end.kit.chain
-                (by.passed.asks spared (λ w below these is.
-                let so = are w below is in
-                (spared_first 0 z b any_kit n lacked by (from end) count next.seeds.never_fall w so.0, adds_one w so.1)))
-                (passed.asks spared (λ w below is. spared_second count w (are w below is).0));
+                (by.passed.asks spared (λ w below these is. spared_first 0 z b any_kit n lacked by (from end) count next.seeds.never_fall w (are w below is)))
+                (passed.asks spared (λ w below is. spared_second count w (are w below is)));
             exactly = exactly;
             stores = kept_on store (IsListedGet r.listing) was_first.chain.stores b.chain.stores end.kit.chain.stores step.stores next.stores;
             seeds = seeds_on view was_first.seeds.items b.seeds.items end.kit.seeds.items step.seeds next.seeds;

@@ -1,6 +1,6 @@
 -- An assembly by several workers, of which the first makes the second pass. `o` are the target's bytes before it, p
 -- those after it.
-use Rattle.std.specs.Prelude.{◌≡◌, ◌⊎◌, ℕ, ◌<◌, ◌≤◌, List, ◌++◌, map, Bool, true, None, Option, Some, IfSome, IsTrue}
+use Rattle.std.specs.Prelude.{◌≡◌, ◌⊎◌, ℕ, ◌<◌, ◌≤◌, List, ◌++◌, map, Bool, true, Option, Some, IfSome, IsTrue}
 use Rattle.std.specs.Prelude.{is_some, Result}
 use Rattle.assembler.specs.Assemblies.{After, Assembles, IsObtainable, IsUnobtained, Verdict}
 use Rattle.assembler.specs.Obtainable.{OnlyObtainable}

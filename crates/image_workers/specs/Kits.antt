@@ -1,10 +1,10 @@
 -- What an assembly has done with any number of kits. Kits and wants count from 0, and kit k is that of worker k. `o`
 -- are the target's bytes before it, p those after it.
-use Rattle.std.specs.Prelude.{◌≡◌, ◌⊎◌, ◌++◌, ℕ, zero, suc, ◌+◌, ◌<◌, ◌≤◌, List, [], length, map, slice_index_or, Bool}
+use Rattle.std.specs.Prelude.{◌≡◌, ◌⊎◌, ◌++◌, ℕ, zero, suc, ◌+◌, ◌<◌, ◌≤◌, List, length, map, slice_index_or, Bool}
 use Rattle.std.specs.Prelude.{true, None, Option, Some, IfOk, IfSome, IsSomeAnd, IsTrue, Result}
 use Rattle.std.specs.List.{All, Any}
 use Rattle.assembler.specs.Assemblies.{After, Assembles, IsObtainable, IsUnobtained, Verdict}
-use Rattle.assembler.specs.Economy.{ReportsExactly, UnlessMemory}
+use Rattle.assembler.specs.Economy.{ReportsExactly, ReportsTogether, UnlessMemory}
 use Rattle.assembler.specs.Obtainable.{OnlyObtainable}
 use Rattle.assembler.specs.OneKit.{Lent, with_kit}
 use Rattle.assembler.specs.Passes.{EndsBy, WhereQuiet}
@@ -12,15 +12,14 @@ use Rattle.assembler.specs.Permits.{deals_to}
 use Rattle.assembler.specs.declared.fault.ExtractFault.{ExtractFault}
 use Rattle.cache_store.specs.Shelves.{Shelf}
 use Rattle.caibx_codec.specs.Asks.{IsListedGet}
-use Rattle.caibx_codec.specs.Listing.{Listing, count_of, image_length, kind_of, size_of}
+use Rattle.caibx_codec.specs.Listing.{Listing, count_of, image_length, size_of}
 use Rattle.caibx_codec.specs.Right.{IsRightAt}
 use Rattle.chunk_sources.specs.Asks.{AsksAtMost, IsSpared, asks_below, calls_below, others_spared}
-use Rattle.chunk_sources.specs.Caches.{CacheGives, HaveOneSize, IsListedAs, Stocked, TakesListed, cached_in}
+use Rattle.chunk_sources.specs.Caches.{CacheGives, HaveOneSize, Stocked, TakesListed, cached_in}
 use Rattle.chunk_sources.specs.Economy.{source_of, pass_asks, source_if, sum_below}
 use Rattle.chunk_sources.specs.Sources.{KeepsSeeds, Sources, SourcesQuiet, Telling, sources, views_of}
 use Rattle.chunk_sources.specs.Wants.{Task}
 use Rattle.chunk_sources.specs.declared.kit.Kit.{Kit}
-use Rattle.chunk_store.specs.Giving.{IsChunk}
 use Rattle.chunk_store.specs.declared.store.Store.{Ghosts as StoreWords}
 use Rattle.dsy_base.specs.Bytes.{Held, resized}
 use Rattle.dsy_base.specs.Counts.{Rose, raised}
@@ -32,7 +31,6 @@ use Rattle.range_ledger.specs.Fills.{WhereTold}
 use Rattle.range_survey.specs.Reports.{right_below}
 use Rattle.range_survey.specs.declared.report.Report.{Report}
 use Rattle.store_chain.specs.Chains.{KeepsStores}
-use Rattle.store_chain.specs.Giving.{SomeHolds}
 
 -- no kit was used, nor the cache
 abbrev pub NoneUsed : {S V : Type 0} → Lent S V → Lent S V → Type 0
@@ -92,13 +90,6 @@ module _ {S V : Type 0} (store : StoreWords S) (view : ViewWords V) (t : Task) w
       (uncached old) new w ⊎ (CacheGives store t.listing (all_stores all.kits) (want_id t.listing t.plan w)
       (size_of t.listing (first_of t.plan w)) old.cache new.cache × KnowsFaults cache_never_fails all.kits)
 
-  -- the index lists no other size of the want's id, or the stores of no kit give such a chunk
-  abbrev pub NoOtherSize : Lent S V → ℕ → Type 0
-  NoOtherSize all w = (n : ℕ) (b : List ℕ) → IsListedAs t.listing (want_id t.listing t.plan w) n
-      → IsChunk (kind_of t.listing) (want_id t.listing t.plan w) n b
-      → SomeHolds store.holds (all_stores all.kits) (want_id t.listing t.plan w) b
-      → n ≡ size_of t.listing (first_of t.plan w)
-
   -- what became of the kit of worker k, of what is lent. Only listed chunks were asked for. Where nothing fails, of a
   -- target whose type never does, and the cache isn't shared, the worker has asked for the chunk of each want that it
   -- is dealt and that is had in no other way
@@ -106,7 +97,7 @@ module _ {S V : Type 0} (store : StoreWords S) (view : ViewWords V) (t : Task) w
       (old new : Sources S V) (answer : Result Report ExtractFault) : Type 0 where
     pub asks : (spared : ℕ → Bool)
         → ((w : ℕ) → w < t.plan.wants → spared w ≡ true
-        → IsSparedFor never_fails cache_never_fails o all old new w × (IsUnshared all ⊎ NoOtherSize all w))
+        → IsSparedFor never_fails cache_never_fails o all old new w)
         → AsksAtMost store (worker_calls t.plan spared k) (worker_asks t.listing t.plan spared k) old.chain
         new.chain
     pub exactly : IsUnshared all → IsTrue never_fails → UnlessMemory (WhereQuiet store view t.listing old new
@@ -150,7 +141,8 @@ module _ {S V : Type 0} (store : StoreWords S) (view : ViewWords V) (t : Task) w
   -- what an assembly has done, from these bytes and this loan to those. A lost entry is one that the first kit didn't
   -- get. What stands where nothing fails is over the first kit, where all kits are alike. Where the target's type never
   -- fails each right entry is counted as kept, and, where the cache isn't shared, each other want once by the source
-  -- that gave it. What was added to the cache a store of some kit holds
+  -- that gave it. So it is where the cache is shared and its type never fails, but for which of cache and stores gave a
+  -- want. What was added to the cache a store of some kit holds
   pub record IsAssembledBy (never_fails cache_never_fails : Bool) (o p : Option (List ℕ)) (old new : Lent S V)
       (answer : Result Report ExtractFault) : Type 0 where
     pub bytes : WhereTold o p (Assembles t.listing (NoneUsed old new) old.faults new.faults answer)
@@ -168,6 +160,9 @@ module _ {S V : Type 0} (store : StoreWords S) (view : ViewWords V) (t : Task) w
         answer))
     pub reported : IsUnshared old → IsTrue never_fails → AreKitsAlike old.kits → WhereAllQuiet old new
         (λ s cached maps. IfSome o (λ y. IfOk answer (ReportsExactly (source_of t
+        (resized y (image_length t.listing)) (views_of view s.seeds) cached maps) t.plan.wants)))
+    pub shared : IsTrue never_fails → IsTrue cache_never_fails → AreKitsAlike old.kits → WhereAllQuiet old new
+        (λ s cached maps. IfSome o (λ y. IfOk answer (ReportsTogether (source_of t
         (resized y (image_length t.listing)) (views_of view s.seeds) cached maps) t.plan.wants)))
     pub kept : IsTrue never_fails → IfOk answer (λ r. IfSome o (λ y. r.kept
         ≡ right_below t.listing (resized y (image_length t.listing)) (count_of t.listing)))

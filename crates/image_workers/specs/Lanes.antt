@@ -2,13 +2,13 @@
 use Rattle.std.specs.Prelude.{◌≡◌, ℕ, ◌<◌, ◌≤◌, ◌&&◌, List, [], length, Bool, true, false, None, Option}
 use Rattle.std.specs.Prelude.{IsSomeAnd, IsTrue}
 use Rattle.std.specs.Option.{option_map}
-use Rattle.assembler.specs.Economy.{PassedBy}
+use Rattle.assembler.specs.Economy.{PassedBy, TalliedShared}
 use Rattle.assembler.specs.Passes.{HasPassedShare, WhereQuiet, source_at, want_at}
 use Rattle.assembler.specs.Permits.{MayFillHad, deals_to}
 use Rattle.assembler.specs.Stages.{Ready, Stage, from}
 use Rattle.cache_store.specs.Shelves.{Shelf}
 use Rattle.caibx_codec.specs.Listing.{Listing, count_of, image_length}
-use Rattle.chunk_sources.specs.Caches.{cache_faults}
+use Rattle.chunk_sources.specs.Caches.{OthersAddListed, cache_faults}
 use Rattle.chunk_sources.specs.Economy.{source_if}
 use Rattle.chunk_sources.specs.Losses.{MayLack}
 use Rattle.chunk_sources.specs.Wants.{Task}
@@ -78,7 +78,8 @@ module _ {S V : Type 0} (store : StoreWords S) (view : ViewWords V) (r : Run) (t
 
     -- worker k has settled what it was dealt: it had the kit a and knew m, and has the kit b and knows n. Of all else
     -- it knows what it knew. It lacked memory only where the stores may, or where there is a cache. Where nothing
-    -- fails, and there is no cache, it left open what no source has
+    -- fails, and others add to the cache only what the stores give, it left open what no source has, and it has settled
+    -- each other want by its source, exactly so where there is no cache, and else with cache and stores as one
     pub record HasWorked (never_fails cache_never_fails : Bool) (k : ℕ) (a : Kit S V) (m : List Fate) (b : Kit S V)
         (n : List Fate) (lacked : Bool) : Type 0 where
       pub faults : ℕ
@@ -92,10 +93,14 @@ module _ {S V : Type 0} (store : StoreWords S) (view : ViewWords V) (r : Run) (t
           (from (worker_stage r n faults None b)) (λ cached maps. PassedBy (source_if (deals_to t.plan k)
           (source_at view t (worker_stage r m 0 None a) cached maps)) t.plan.wants (count_of r.listing) m n a.chain
           b.chain)
-      pub left : e ≡ None → lacked ≡ false → WhereQuiet store view r.listing (from (worker_stage r m 0 None a))
-          (from (worker_stage r n faults None b)) (λ cached maps. (i : ℕ) → i < count_of r.listing
-          → deals_to t.plan k (want_at t.plan i) ≡ true → settled n i ≡ false
-          → source_at view t (worker_stage r m 0 None a) cached maps (want_at t.plan i) ≡ fate.Open)
+      pub shared : OthersAddListed store r.listing a.chain.stores e → lacked ≡ false → WhereQuiet store view r.listing
+          (from (worker_stage r m 0 e a)) (from (worker_stage r n faults door b)) (λ cached maps. TalliedShared
+          (deals_to t.plan k) (source_at view t (worker_stage r m 0 e a) cached maps) t.plan.wants (count_of r.listing)
+          m n)
+      pub left : OthersAddListed store r.listing a.chain.stores e → lacked ≡ false → WhereQuiet store view r.listing
+          (from (worker_stage r m 0 e a)) (from (worker_stage r n faults door b)) (λ cached maps. (i : ℕ)
+          → i < count_of r.listing → deals_to t.plan k (want_at t.plan i) ≡ true → settled n i ≡ false
+          → source_at view t (worker_stage r m 0 e a) cached maps (want_at t.plan i) ≡ fate.Open)
       pub others : (i : ℕ) → deals_to t.plan k (want_at t.plan i) ≡ false → fate_at n i ≡ fate_at m i
 
     -- so it is of a worker that was there and is there again

@@ -1,6 +1,6 @@
 use Rattle.std.proofs.Common.{◌≡◌, ◌+◌, ℕ, Bool, refl, sym, ◌∙◌, subst, arith, true}
 use Rattle.assembler.proofs.EconomyFilled.{share_all_below, share_before, share_below, share_none, share_not_itself, share_now, share_of, share_others, share_past}
-use Rattle.assembler.proofs.EconomyPaid.{Paid, paid_more, paid_none, paid_share, untouched_more}
+use Rattle.assembler.proofs.EconomyPaid.{Paid, paid_more, paid_none, paid_share, shared_share, untouched_more}
 use Rattle.assembler.proofs.Filled.{fate_stays}
 use Rattle.assembler.proofs.HadOn.{permits_on}
 use Rattle.assembler.proofs.Lost.{lost_of}
@@ -89,7 +89,7 @@ loop-want-preserved g c =
       done = more g at;
       paid = paid_more g.S.Store g.V.View (task g.E.Ledger.run.listing c.args.wants.now) (stage g.E.Ledger g.C.Cache c.args.work.now) (stage g.E.Ledger g.C.Cache c.loop-want.work)
           (stage g.E.Ledger g.C.Cache c.settle-ended.new.work) c.requires.ready.wants c.loop-want.want (share_below these c.loop-want.want) (share_below these (c.loop-want.want + 1)) (one_more g at)
-          c.loop-want.invariant.done.stretch ended.settles c.loop-want.invariant.paid c.settle-ended.result (c.lacked_memory.ensures.no c.if-lacked_memory.false) ended.ends.ok ended.exactly;
+          c.loop-want.invariant.done.stretch ended.settles c.loop-want.invariant.paid c.settle-ended.result (c.lacked_memory.ensures.no c.if-lacked_memory.false) ended.ends.ok ended.exactly ended.shared;
     }
 
 -- the stores had no memory: the want is passed too
@@ -144,10 +144,18 @@ returns-clause-exactly g c =
     (λ w below. share_all_below these c.loop-want.want c.args.wants.now.plan.now.wants w (omega (arith, c.loop-want-test.false, c.wants-want-end.ensures)) below)
     c.loop-want.invariant.paid
 
-pub returns-clause-left : goal.returns-clause-left
-returns-clause-left g c = λ alone cached maps nothing one i inside dealt isnt.
+pub returns-clause-shared : goal.returns-clause-shared
+returns-clause-shared g c =
     let these = deals_to c.args.wants.now.plan.now c.args.worker in
-    c.loop-want.invariant.paid.left alone cached maps nothing one i inside
+    shared_share g.S.Store g.V.View (task g.E.Ledger.run.listing c.args.wants.now) (share_below these c.loop-want.want) these (stage g.E.Ledger g.C.Cache c.args.work.now)
+    (stage g.E.Ledger g.C.Cache c.loop-want.work)
+    (λ w below. share_all_below these c.loop-want.want c.args.wants.now.plan.now.wants w (omega (arith, c.loop-want-test.false, c.wants-want-end.ensures)) below)
+    c.loop-want.invariant.paid
+
+pub returns-clause-left : goal.returns-clause-left
+returns-clause-left g c = λ adds cached maps nothing one i inside dealt isnt.
+    let these = deals_to c.args.wants.now.plan.now c.args.worker in
+    c.loop-want.invariant.paid.left adds cached maps nothing one i inside
     (share_all_below these c.loop-want.want c.args.wants.now.plan.now.wants (want_at c.args.wants.now.plan.now i) (omega (arith, c.loop-want-test.false, c.wants-want-end.ensures))
     (c.requires.ready.wants.within i inside) ∙ dealt)
     isnt

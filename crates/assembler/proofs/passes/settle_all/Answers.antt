@@ -1,4 +1,5 @@
 use Rattle.std.proofs.Common.{◌<◌, refl, inl, inr}
+use Rattle.assembler.proofs.Adding.{alone_lists}
 use Rattle.assembler.proofs.HadOn.{permits_on}
 use Rattle.assembler.proofs.OneWorker.{exactly_alone, left_alone, passed_alone}
 use Rattle.assembler.proofs.Stepped.{alone_since, ready_on, suits_since}
@@ -6,6 +7,7 @@ use Rattle.assembler.proofs.TwoPasses.{memory_apart}
 use Rattle.assembler.proofs.WholePasses.{ends_both, exactly_both, passed_both, passed_once}
 use Rattle.assembler.specs.Passes.{HasPassed, one_pass}
 use Rattle.assembler.specs.Stages.{stage, task}
+use Rattle.chunk_sources.specs.AnyCaches.{seen_in}
 use Rattle.assembler.proofs.passes.settle_all.Given.{Over}
 use Rattle.assembler.proofs.passes.settle_all.Goals.{After-fill}
 use Rattle.assembler.proofs.passes.settle_all.Goals as goal
@@ -57,7 +59,7 @@ returns-in-Ok-clause-exactly g c =
     (exactly_alone g.S.Store g.V.View (task g.E.Ledger.run.listing c.args.wants.now) c.requires.workers (stage g.E.Ledger g.C.Cache c.args.work.now)
     (stage g.E.Ledger g.C.Cache c.fill.new.work) (c.in-Ok.ensures.exactly c.requires.alone))
     (left_alone g.S.Store g.V.View (task g.E.Ledger.run.listing c.args.wants.now) c.requires.workers (stage g.E.Ledger g.C.Cache c.args.work.now)
-    (stage g.E.Ledger g.C.Cache c.fill.new.work) (c.in-Ok.ensures.left c.requires.alone))
+    (stage g.E.Ledger g.C.Cache c.fill.new.work) (c.in-Ok.ensures.left (alone_lists g.S.Store g.E.Ledger.run.listing c.args.work.now.kit.chain.stores (seen_in g.C.Cache c.args.work.now.cache) c.requires.alone)))
     c.retry.ensures.exactly
 
 pub returns-in-Err-clause-passes : goal.returns-in-Err-clause-passes

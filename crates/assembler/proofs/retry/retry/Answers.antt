@@ -267,7 +267,7 @@ loop-entry-preserved g c =
             | in-Err-Lost+else-lacked_memory e ↦ memory_lost c.settle.result e.in-Err-Lost.field-0 e.in-Err-Lost.lost e.in-Err-Lost.is e.in-Err-Lost.field-0-is
                 (e.lacked_memory.ensures.no e.if-lacked_memory.false)
           ])
-          ended.ends.ok ended.exactly;
+          ended.ends.ok ended.exactly ended.shared;
     }
 
 -- at the end

@@ -1,16 +1,16 @@
 use Rattle.std.proofs.Common.{◌≡◌, ◌∙◌, ◌<◌, ◌++◌, ℕ, List, length, Option, Result, OnOk, Ok, Err, refl, inl, ap, sym, subst, arith}
 use Rattle.std.proofs.lemmas.Bool.{true≢false}
 use Rattle.std.proofs.lemmas.List.{with_items_is}
-use Rattle.assembler.proofs.EconomySettled.{settles_kept}
+use Rattle.assembler.proofs.EconomySettled.{settles_kept, shared_kept}
 use Rattle.assembler.proofs.Others.{takes_entry}
 use Rattle.assembler.proofs.Settled.{all_as, all_kept, asks_as, first_open, fit, inside, keeps_as, last_as, listed, refused_as, same_chunk, takes_as, where_both, where_map}
 use Rattle.assembler.proofs.Stepped.{stretch_none}
-use Rattle.assembler.specs.Economy.{SettlesBy}
+use Rattle.assembler.specs.Economy.{SettledShared, SettlesBy}
 use Rattle.assembler.specs.Stages.{stage, task}
 use Rattle.caibx_codec.specs.Listing.{Listing, count_of, id_of, kind_of, size_of}
 use Rattle.chunk_sources.proofs.Cached.{stocked_wider}
 use Rattle.chunk_sources.specs.AnyCaches.{seen_in}
-use Rattle.chunk_sources.specs.Caches.{CacheLacks, TakesChunk, TakesWants}
+use Rattle.chunk_sources.specs.Caches.{OthersAddOnly, CacheLacks, TakesChunk, TakesWants}
 use Rattle.chunk_sources.specs.Economy.{source_among, source_over}
 use Rattle.chunk_sources.specs.Losses.{Had}
 use Rattle.chunk_sources.specs.Sources.{KeepsSeeds, SourcesQuiet, Telling, sources, views_of}
@@ -57,6 +57,14 @@ returns-in_default-clause-exactly g c = λ alone cached maps quiet.
     settles_kept (source_over t (settled m) views cached maps c.args.want) (count_of t.listing) m c.args.work.now.kit.chain
     (all_kept t c.args.want c.requires.ready.wants c.requires.want c.entries-entries.result.now c.entries-entries.ensures m views cached maps c.in_default.ensures)
     c.asks.ensures.below
+
+pub returns-in_default-clause-shared : goal.returns-in_default-clause-shared
+returns-in_default-clause-shared g c = λ cached maps only quiet.
+    let t = task g.E.Ledger.run.listing c.args.wants.now in
+    let m = g.E.Ledger.fates c.args.work.now.ledger in
+    let views = views_of g.V.View c.args.work.now.kit.seeds.items in
+    shared_kept (source_over t (settled m) views cached maps c.args.want) (count_of t.listing) m
+    (all_kept t c.args.want c.requires.ready.wants c.requires.want c.entries-entries.result.now c.entries-entries.ensures m views cached maps c.in_default.ensures)
 
 -- the entry is one of the want
 among : (g : Over) (c : In-Some g) → IsAmong c.entries-entries.result.now c.in-Some.entry
@@ -237,5 +245,30 @@ returns-clause-exactly g c = λ alone cached maps quiet.
     (subst (λ (xs : List (Seed g.row.V.Denot)). SettlesBy (source_among (settled old) (record { kind = kind_of t.listing; id = c.id-id.result.0; size = c.entry.result.size; entries = c.entries-entries.result.now; places = c.places-places.result.now })
     (views_of g.V.View xs) cached maps) (count_of t.listing) old (g.E.Ledger.fates c.settle_open.new.ledger) c0 c1 c.settle_open.result) first
     (c.settle_open.ensures.exactly alone cached maps
+    (subst (λ (xs : List (Seed g.row.V.Denot)). SourcesQuiet g.S.Store g.V.View (sources f0 xs e0 c0) (sources f1 c.settle_open.new.seeds e1 c1) cached maps) (sym first)
+    (subst (λ (xs : List (Seed g.row.V.Denot)). SourcesQuiet g.S.Store g.V.View (sources f0 seeds.items e0 c0) (sources f1 xs e1 c1) cached maps) kept quiet))))
+
+pub returns-clause-shared : goal.returns-clause-shared
+returns-clause-shared g c = λ cached maps only quiet.
+    let at = goal.at.returns-clause-shared g c in
+    let t = task g.E.Ledger.run.listing c.args.wants.now in
+    let w = c.args.want in
+    let seeds = c.args.work.now.kit.seeds in
+    let old = g.E.Ledger.fates c.args.work.now.ledger in
+    let first = c.deref_mut.ensures.value in
+    let kept = with_items_is seeds c.settle_open.new.seeds (omega (arith, c.settle_open.auto.seeds, c.deref_mut.ensures.len)) in
+    let same = same_chunk t w c.requires.ready.wants c.requires.want c.entries-entries.result.now c.entries-entries.ensures c.in-Some.entry (among g at.In-Some) c.id-id.result.0
+    (named g at.After-entry) c.entry.result.size (sized g at.After-entry) c.places-places.result.now c.places-places.ensures in
+    let f0 = g.E.Ledger.faults c.args.work.now.ledger in
+    let f1 = g.E.Ledger.faults c.settle_open.new.ledger in
+    let e0 = see g c.args.work.now.cache in
+    let e1 = see g c.settle_open.new.cache in
+    let c0 = c.args.work.now.kit.chain in
+    let c1 = c.settle_open.new.chain in
+    subst (λ (q : Wanted). SettledShared (source_among (settled old) q (views_of g.V.View seeds.items) cached maps) (count_of t.listing) old (g.E.Ledger.fates c.settle_open.new.ledger) c.settle_open.result) same
+    (subst (λ (xs : List (Seed g.row.V.Denot)). SettledShared (source_among (settled old) (record { kind = kind_of t.listing; id = c.id-id.result.0; size = c.entry.result.size; entries = c.entries-entries.result.now; places = c.places-places.result.now })
+    (views_of g.V.View xs) cached maps) (count_of t.listing) old (g.E.Ledger.fates c.settle_open.new.ledger) c.settle_open.result) first
+    (c.settle_open.ensures.shared cached maps
+    (subst (λ (q : Wanted). OthersAddOnly q.kind q.id q.size e0 cached maps) (sym same) only)
     (subst (λ (xs : List (Seed g.row.V.Denot)). SourcesQuiet g.S.Store g.V.View (sources f0 xs e0 c0) (sources f1 c.settle_open.new.seeds e1 c1) cached maps) (sym first)
     (subst (λ (xs : List (Seed g.row.V.Denot)). SourcesQuiet g.S.Store g.V.View (sources f0 seeds.items e0 c0) (sources f1 xs e1 c1) cached maps) kept quiet))))

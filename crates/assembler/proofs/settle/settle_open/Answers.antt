@@ -3,16 +3,16 @@ use Rattle.assembler.proofs.EconomyQuiet.{quiet_before}
 use Rattle.assembler.proofs.Filled.{told_none, told_since, torn_since}
 use Rattle.assembler.proofs.Settled.{asks_still}
 use Rattle.assembler.proofs.Tallies.{TalliedAs}
-use Rattle.assembler.specs.Economy.{SettlesBy}
+use Rattle.assembler.specs.Economy.{SettledShared, SettlesBy}
 use Rattle.assembler.specs.declared.fault.Lost.{Lost}
 use Rattle.assembler.specs.declared.fault.Unsettled.TheVariants as unsettled
 use Rattle.range_ledger.specs.Fills.{Fills, FillsTorn, WhereTold}
 use Rattle.range_survey.specs.declared.fate.Fate.{Fate}
-use Rattle.assembler.proofs.EconomySettled.{settles_got, settles_lost}
+use Rattle.assembler.proofs.EconomySettled.{settles_got, settles_lost, shared_got, shared_lost}
 use Rattle.caibx_codec.specs.Listing.{kind_of, count_of}
 use Rattle.chunk_sources.specs.AnyCaches.{seen_in}
-use Rattle.chunk_sources.specs.Caches.{CacheLacks, IfShared, TakesChunk}
-use Rattle.chunk_sources.specs.Economy.{ObtainedBy, source_among}
+use Rattle.chunk_sources.specs.Caches.{OthersAddOnly, CacheLacks, IfShared, TakesChunk}
+use Rattle.chunk_sources.specs.Economy.{AnsweredAs, ObtainedBy, as_upstream, source_among}
 use Rattle.chunk_sources.specs.Losses.{AskedLast, Had}
 use Rattle.chunk_sources.specs.Sources.{sources, views_of}
 use Rattle.chunk_sources.specs.Wants.{Wanted, sought_chunk}
@@ -70,6 +70,25 @@ returns-in-Ok-put-clause-exactly g c = λ alone cached maps quiet.
     c.in-Ok.origin (as_sought (kind_of e.run.listing) c.args.opened.now.sought (length c.split_at_mut-chunk.result.0.now) c.args.opened.now.size c.split_at_mut-chunk.ensures.front_len
     (λ q. ObtainedBy (source_among (settled m) q (views_of g.V.View c.args.seeds.now) cached maps) c.args.chain.now c.obtain.new.chain (Ok c.in-Ok.origin))
     (c.in-Ok.ensures.exactly alone cached maps sooner))
+    (subst (λ (n : List Fate). TalliedAs c.in-Ok.origin (count_of e.run.listing) n (e.fates c.put.new.ledger)) c.in-Ok.ensures.fates
+    (c.in-Ok-put.ensures.tallied c.args.opened.now.entry c.requires.among (ap (λ (n : List Fate). settled n c.args.opened.now.entry) c.in-Ok.ensures.fates ∙ c.requires.is_open)))
+
+-- where others fill the cache too
+pub returns-in-Ok-put-clause-shared : goal.returns-in-Ok-put-clause-shared
+returns-in-Ok-put-clause-shared g c = λ cached maps only quiet.
+    let e = g.E.Ledger in
+    let m = e.fates c.args.ledger.now in
+    let kind = kind_of e.run.listing in
+    let q = sought_chunk kind c.args.opened.now.sought c.args.opened.now.size in
+    let n : ℕ = length c.split_at_mut-chunk.result.0.now in
+    let sized = c.split_at_mut-chunk.ensures.front_len in
+    let sooner = quiet_before g.S.Store g.V.View (e.faults c.args.ledger.now) (e.faults c.obtain.new.ledger) (e.faults c.put.new.ledger)
+    c.args.seeds.now c.obtain.new.seeds (see g c.args.cache.now) (see g c.obtain.new.cache) c.args.chain.now c.obtain.new.chain cached maps
+    c.in-Ok.ensures.faults c.in-Ok-put.ensures.faults quiet in
+    shared_got (source_among (settled m) q (views_of g.V.View c.args.seeds.now) cached maps) (count_of e.run.listing) m (e.fates c.put.new.ledger) c.args.chain.now c.obtain.new.chain
+    c.in-Ok.origin (as_sought kind c.args.opened.now.sought n c.args.opened.now.size sized
+    (λ q. AnsweredAs as_upstream (source_among (settled m) q (views_of g.V.View c.args.seeds.now) cached maps) (Ok c.in-Ok.origin))
+    (c.in-Ok.ensures.shared cached maps (subst (λ (k : ℕ). OthersAddOnly kind c.args.opened.now.sought.id.0 k (see g c.args.cache.now) cached maps) (sym sized) only) sooner))
     (subst (λ (n : List Fate). TalliedAs c.in-Ok.origin (count_of e.run.listing) n (e.fates c.put.new.ledger)) c.in-Ok.ensures.fates
     (c.in-Ok-put.ensures.tallied c.args.opened.now.entry c.requires.among (ap (λ (n : List Fate). settled n c.args.opened.now.entry) c.in-Ok.ensures.fates ∙ c.requires.is_open)))
 
@@ -150,6 +169,22 @@ returns-in-Err-clause-exactly g c = λ alone cached maps quiet.
     (as_sought (kind_of e.run.listing) c.args.opened.now.sought (length c.split_at_mut-chunk.result.0.now) c.args.opened.now.size c.split_at_mut-chunk.ensures.front_len
     (λ q. ObtainedBy (source_among (settled m) q (views_of g.V.View c.args.seeds.now) cached maps) c.args.chain.now c.obtain.new.chain (Err c.in-Err.refused))
     (c.in-Err.ensures.exactly alone cached maps quiet)))
+
+pub returns-in-Err-clause-shared : goal.returns-in-Err-clause-shared
+returns-in-Err-clause-shared g c = λ cached maps only quiet.
+    let e = g.E.Ledger in
+    let m = e.fates c.args.ledger.now in
+    let kind = kind_of e.run.listing in
+    let q = sought_chunk kind c.args.opened.now.sought c.args.opened.now.size in
+    let n : ℕ = length c.split_at_mut-chunk.result.0.now in
+    let sized = c.split_at_mut-chunk.ensures.front_len in
+    let source = source_among (settled m) q (views_of g.V.View c.args.seeds.now) cached maps in
+    let lost : Lost = record { entry = c.args.opened.now.entry; id = c.args.opened.now.sought.id; refused = c.in-Err.refused } in
+    subst (λ (n : List Fate). SettledShared source (count_of e.run.listing) m n (Err (unsettled.Lost lost))) (sym c.in-Err.ensures.fates)
+    (shared_lost source (count_of e.run.listing) m lost
+    (as_sought kind c.args.opened.now.sought n c.args.opened.now.size sized
+    (λ q. AnsweredAs as_upstream (source_among (settled m) q (views_of g.V.View c.args.seeds.now) cached maps) (Err c.in-Err.refused))
+    (c.in-Err.ensures.shared cached maps (subst (λ (k : ℕ). OthersAddOnly kind c.args.opened.now.sought.id.0 k (see g c.args.cache.now) cached maps) (sym sized) only) quiet)))
 
 pub returns-in-Err-clause-asks : goal.returns-in-Err-clause-asks
 returns-in-Err-clause-asks g c =

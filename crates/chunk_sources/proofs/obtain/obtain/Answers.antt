@@ -1,21 +1,24 @@
-use Rattle.std.proofs.Common.{◌≡◌, ◌++◌, ℕ, length, inl, inr, refl, ⊎_elim, arith, Option}
+use Rattle.std.proofs.Common.{◌≡◌, ◌++◌, ℕ, length, Ok, inl, inr, refl, subst, sym, ⊎_elim, arith, Option}
 use Rattle.cache_store.specs.Giving.{SomeGives}
 use Rattle.cache_store.specs.Shelves.{Shelf}
 use Rattle.caibx_codec.specs.Listing.{kind_of}
 use Rattle.chunk_sources.proofs.Cached.{stocked_none}
 use Rattle.chunk_sources.proofs.Lacking.{quiet_never, seeds_never}
 use Rattle.chunk_sources.proofs.Obtained.{among_named, err_more, ok_more, sized_as}
-use Rattle.chunk_sources.proofs.Origins.{by_copy, by_rest, by_seed}
-use Rattle.chunk_sources.specs.Caches.{CacheFailed, CacheLacks, Stocked, TakesChunk}
+use Rattle.chunk_sources.proofs.Origins.{answered_upstream, by_copy, by_rest, by_seed, rest_source}
+use Rattle.chunk_sources.specs.Caches.{OthersAddOnly, CacheFailed, CacheLacks, Stocked, TakesChunk}
 use Rattle.chunk_sources.specs.AnyCaches.{seen_in}
-use Rattle.chunk_sources.specs.Economy.{ObtainedBy, source_behind}
+use Rattle.chunk_sources.specs.Economy.{AnsweredAs, ObtainedBy, as_upstream, source_among, source_behind}
 use Rattle.chunk_sources.specs.Losses.{RefusedBy, chunk_of}
 use Rattle.chunk_sources.specs.Sources.{counts_of, views_of}
-use Rattle.chunk_sources.specs.Wants.{sought_chunk}
+use Rattle.chunk_sources.specs.Wants.{Wanted, sought_chunk}
+use Rattle.chunk_sources.specs.declared.obtain.Sought.{Sought}
 use Rattle.chunk_store.specs.Asks.{Get}
 use Rattle.chunk_store.specs.Names.{name_of}
 use Rattle.chunk_store.specs.declared.id.DigestKind.{DigestKind}
 use Rattle.range_survey.specs.Fates.{settled}
+use Rattle.range_survey.specs.declared.fate.Fate.{Fate}
+use Rattle.range_survey.specs.declared.fate.Fate.TheVariants as fate
 use Rattle.store_chain.proofs.Kept.{kept_still}
 use Rattle.chunk_sources.proofs.obtain.obtain.Given.{Over}
 use Rattle.chunk_sources.proofs.obtain.obtain.Goals.{After-slice_known-4-1}
@@ -119,3 +122,45 @@ pub returns-clause-stocked : goal.returns-clause-stocked
 returns-clause-stocked g c =
     as_sought g c (λ k n. Stocked (TakesChunk g.S.Store k c.args.sought.now.id.0 n c.args.chain.now.stores) (see g c.args.cache.now) (see g c.from_upstream.new.cache))
     c.from_upstream.ensures.stocked
+
+-- ---- where others add to the cache too
+
+-- what is sought
+abbrev chunk : (g : Over) → Sought → ℕ → Wanted
+chunk g q size = sought_chunk (kind_of g.E.Ledger.run.listing) q size
+
+pub returns-then-copy-clause-shared : goal.returns-then-copy-clause-shared
+returns-then-copy-clause-shared g c = λ cached maps only quiet.
+    let found = c.copy.ensures.found c.if-copy.true in
+    let q = chunk g c.args.sought.now (length c.args.chunk.now) in
+    let views = views_of g.V.View c.args.seeds.now in
+    answered_upstream (source_among (settled (g.E.Ledger.fates c.args.ledger.now)) q views cached maps) (Ok fate.Copied)
+    (by_copy (settled (g.E.Ledger.fates c.args.ledger.now)) q views cached maps c.args.chain.now c.args.chain.now c.asks.ensures.below refl found.0 found.1 found.2).1
+
+pub returns-then-from_seeds-clause-shared : goal.returns-then-from_seeds-clause-shared
+returns-then-from_seeds-clause-shared g c = λ cached maps only quiet.
+    let faults = g.E.Ledger.faults in
+    let q = chunk g c.args.sought.now (length c.args.chunk.now) in
+    let views = views_of g.V.View c.args.seeds.now in
+    answered_upstream (source_among (settled (g.E.Ledger.fates c.args.ledger.now)) q views cached maps) (Ok fate.Seeded)
+    (by_seed (settled (g.E.Ledger.fates c.args.ledger.now)) q views cached maps c.args.chain.now c.args.chain.now
+    (λ i among is. quiet_never (faults c.args.ledger.now) (faults c.copy.new.ledger) quiet.target (c.copy.ensures.absent c.if-copy.false i among is))
+    c.asks.ensures.below refl (c.from_seeds.ensures.found c.if-from_seeds.true quiet.telling)).1
+
+pub returns-clause-shared : goal.returns-clause-shared
+returns-clause-shared g c = λ cached maps only quiet.
+    let q = c.args.sought.now in
+    let views = views_of g.V.View c.args.seeds.now in
+    let faults = g.E.Ledger.faults in
+    let was : DigestKind = c.args.chain.now.kind in
+    let same : was ≡ kind_of g.E.Ledger.run.listing = c.requires.kind in
+    let sized : length c.args.chunk.now ≡ length c.from_seeds.new.chunk = omega (arith, c.from_seeds.auto.chunk, c.copy.auto.chunk) in
+    subst (λ (s : Fate). AnsweredAs as_upstream s c.from_upstream.result)
+    (sym (rest_source (settled (g.E.Ledger.fates c.args.ledger.now)) (chunk g q (length c.args.chunk.now)) views cached maps
+    (λ i among is. quiet_never (faults c.args.ledger.now) (faults c.copy.new.ledger) quiet.target (c.copy.ensures.absent c.if-copy.false i among is))
+    (seeds_never views q.places.now q.id.0 (counts_of g.V.View c.args.seeds.now) (counts_of g.V.View c.from_seeds.new.seeds) quiet.seeds
+    (c.from_seeds.ensures.absent c.if-from_seeds.false))))
+    (as_sought g c (λ k n. AnsweredAs as_upstream (source_behind k q.id.0 n cached maps) c.from_upstream.result)
+    (c.from_upstream.ensures.shared cached maps
+    (sized_as (λ k n. OthersAddOnly k q.id.0 n (see g c.args.cache.now) cached maps) (kind_of g.E.Ledger.run.listing) was (length c.args.chunk.now) (length c.from_seeds.new.chunk) (sym same) sized only)
+    quiet.told_cache quiet.cache quiet.told quiet.stores))

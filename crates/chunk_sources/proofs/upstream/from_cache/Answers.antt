@@ -1,9 +1,10 @@
-use Rattle.std.proofs.Common.{◌≡◌, ℕ, length, Some, Ok, Err}
+use Rattle.std.proofs.Common.{◌≡◌, ℕ, length, Some, Ok, Err, refl}
 use Rattle.std.proofs.lemmas.Result.{err_from_is_err_and}
-use Rattle.chunk_sources.proofs.Behind.{asked_through, asks_through, fetched_through, had_through, lacks_through, refused_through, takes_wanted}
+use Rattle.chunk_sources.proofs.Behind.{asked_through, asks_through, err_shared, fetched_through, had_through, lacks_through, ok_shared, refused_through, takes_wanted}
 use Rattle.chunk_sources.proofs.Cached.{stocked_wider}
 use Rattle.chunk_sources.specs.Caches.{TakesChunk}
 use Rattle.chunk_sources.specs.Losses.{chunk_of}
+use Rattle.range_survey.specs.declared.fate.Fate.TheVariants as fate
 use Rattle.store_chain.specs.Giving.{SomeHolds}
 use Rattle.store_chain.specs.Queries.{IsWanted}
 use Rattle.chunk_sources.proofs.upstream.from_cache.Goals as goal
@@ -66,3 +67,24 @@ returns-in_err-got-clause-missed g c =
     rw (p.1, p.2) (λ isnt alone. lacks_through g.S.Store c.args.chain.now.kind c.args.id.now (length c.args.chunk.now)
     (g.C.Cache.shelf c.args.cache.now) (g.C.Cache.shelf c.obtain_through.new.cache) c.args.chain.now c.obtain_through.new.chain c.obtain_through.new.out
     alone c.in_err-got.field-0.0 c.in_err-got.ensures.ends isnt)
+
+-- ---- where others add to it too
+
+pub returns-then-got-clause-shared : goal.returns-then-got-clause-shared
+returns-then-got-clause-shared g c = λ cached maps only told quiet held still.
+    ok_shared g.S.Store c.args.chain.now.kind c.args.id.now (length c.args.chunk.now)
+    (g.C.Cache.shelf c.args.cache.now) (g.C.Cache.shelf c.obtain_through.new.cache) c.args.chain.now c.obtain_through.new.chain c.obtain_through.new.out
+    cached maps only told held c.in_ok-got.got fate.Fetched refl c.in_ok-got.ensures.ok.wanted c.in_ok-got.ensures.ends
+
+pub returns-else-got-clause-shared : goal.returns-else-got-clause-shared
+returns-else-got-clause-shared g c = λ cached maps only told quiet held still.
+    ok_shared g.S.Store c.args.chain.now.kind c.args.id.now (length c.args.chunk.now)
+    (g.C.Cache.shelf c.args.cache.now) (g.C.Cache.shelf c.obtain_through.new.cache) c.args.chain.now c.obtain_through.new.chain c.obtain_through.new.out
+    cached maps only told held c.in_ok-got.got fate.Cached refl c.in_ok-got.ensures.ok.wanted c.in_ok-got.ensures.ends
+
+pub returns-in_err-got-clause-shared : goal.returns-in_err-got-clause-shared
+returns-in_err-got-clause-shared g c = λ cached maps only told quiet held still.
+    let p = err_from_is_err_and c.from_residual.result c.from_residual.ensures.1 in
+    rw (p.1, p.2) (err_shared g.S.Store c.args.chain.now.kind c.args.id.now (length c.args.chunk.now)
+    (g.C.Cache.shelf c.args.cache.now) (g.C.Cache.shelf c.obtain_through.new.cache) c.args.chain.now c.obtain_through.new.chain c.obtain_through.new.out
+    cached maps only told held c.requires.kind (g.met.C.Cache.digest c.args.cache.now) quiet still c.in_err-got.field-0.0 c.in_err-got.ensures.ends)

@@ -1,4 +1,4 @@
-use Rattle.std.proofs.Common.{◌≡◌, ◌∙◌, ◌≤◌, ℕ, List, Bool, true, Option, Some, None, IfSome, is_some, length, map, refl, subst, sym, ap, vec_len, arith}
+use Rattle.std.proofs.Common.{◌≡◌, ◌∙◌, ℕ, List, Bool, true, Option, Some, None, IfSome, is_some, length, map, refl, subst, sym, ap, vec_len, arith}
 use Rattle.assembler.proofs.Others.{seen_alone}
 use Rattle.cache_store.specs.Shelves.{Shelf}
 use Rattle.chunk_sources.specs.Caches.{cache_faults, cached_in, seen}

@@ -1,4 +1,4 @@
-use Rattle.std.proofs.Common.{◌≡◌, ◌%◌, ◌∙◌, ℕ, List, length, map, ap, arith}
+use Rattle.std.proofs.Common.{◌≡◌, ◌%◌, ◌∙◌, ℕ, List, map, ap, arith}
 use Rattle.std.specs.Global.{Vec}
 use Rattle.assembler.specs.Passes.{want_at}
 use Rattle.caibx_codec.specs.Listing.{count_of}

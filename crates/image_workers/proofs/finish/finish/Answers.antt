@@ -1,10 +1,9 @@
-use Rattle.std.proofs.Common.{◌≡◌, ◌∙◌, ℕ, Result, Ok, Err, OnOk, length, sym, ap, subst, arith}
+use Rattle.std.proofs.Common.{◌≡◌, ◌∙◌, ℕ, Result, Ok, Err, OnOk, sym, ap, subst}
 use Rattle.assembler.proofs.Others.{seen_alone}
 use Rattle.assembler.specs.Passes.{HasPassed, one_pass}
 use Rattle.assembler.specs.Stages.{Stage, task}
 use Rattle.assembler.specs.declared.fault.ExtractFault.{ExtractFault}
 use Rattle.assembler.specs.declared.fault.ExtractFault.TheVariants as faults
-use Rattle.caibx_codec.specs.Listing.{count_of}
 use Rattle.chunk_sources.specs.Caches.{seen}
 use Rattle.chunk_sources.specs.Sources.{sources}
 use Rattle.chunk_sources.specs.Wants.{Task}

@@ -73,5 +73,5 @@ returns g c =
           (seen_door n.opening n.pairs n.stores (λ d. d.faults) w.cache)
           c.is_err-lane.result c.fill.result c.is_err-lane.ensures.value c.new.ensures.faults c.rules.ensures.sure
           (door_calm n.opening n.pairs n.stores (λ d. d.faults) sure w.cache c.door_keeps.ensures.sure)
-          c.fill.ensures.passes c.fill.ensures.memory c.fill.ensures.exactly c.fill.ensures.left c.fill.ensures.others))));
+          c.fill.ensures.passes c.fill.ensures.memory c.fill.ensures.exactly c.fill.ensures.shared c.fill.ensures.left c.fill.ensures.others))));
     }

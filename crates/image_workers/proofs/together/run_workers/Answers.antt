@@ -1,31 +1,30 @@
-use Rattle.std.proofs.Common.{◌≡◌, ◌∙◌, inl, inr, ◌<◌, ◌∷◌, ◌≤◌, ℕ, suc, zero, Bool, List, [], true, false, All, IfOk, IfSome, IsSome, IsTrue, None, Option, Result, Some, length, map, refl, reverse, slice_index_or, sym, ap, subst, arith, rules, Err}
-use Rattle.std.proofs.lemmas.Bool.{cases_Bool, true≢false}
+use Rattle.std.proofs.Common.{◌≡◌, ◌∙◌, inl, inr, ◌<◌, ◌∷◌, ◌≤◌, ℕ, suc, zero, Bool, List, [], true, false, All, IfOk, IfSome, IsSome, IsTrue, None, Option, Some, length, map, refl, reverse, slice_index_or, sym, ap, subst, arith, rules, Err}
+use Rattle.std.proofs.lemmas.Bool.{true≢false}
 use Rattle.std.proofs.lemmas.List.{get_or-map, length-map, length-reverse, reverse-append, with_items_is}
 use Rattle.std.specs.Global.{Vec}
 use Rattle.std.specs.Vec.{with_items}
 use Rattle.assembler.specs.OneKit.{lent}
-use Rattle.assembler.specs.Stages.{Stretch, task, Stage}
+use Rattle.assembler.specs.Stages.{task, Stage}
 use Rattle.assembler.specs.declared.fault.ExtractFault.TheVariants as faults
-use Rattle.assembler.specs.declared.fault.ExtractFault.{ExtractFault}
 use Rattle.caibx_codec.specs.Listing.{count_of}
 use Rattle.assembler.proofs.Others.{seen_alone}
 use Rattle.cache_store.specs.Shelves.{MayAdd, Shelf, Shelved}
 use Rattle.chunk_sources.proofs.Cached.{stocked_falls, stocked_kind}
-use Rattle.chunk_sources.specs.Caches.{Stocked, TakesListed, given_maps, seen}
+use Rattle.chunk_sources.specs.Caches.{OthersAddListed, Stocked, TakesListed, cache_faults, cached_in, given_maps, seen}
 use Rattle.chunk_store.specs.declared.id.DigestKind.TheVariants.{Sha512T256}
 use Rattle.dsy_base.specs.Bytes.{Held}
 use Rattle.dsy_base.specs.Maps.{Map}
 use Rattle.image_workers.proofs.Doors.{lacks_before, lacks_between, named_kind, named_opens}
-use Rattle.image_workers.proofs.Sharing.{Adds, adds_own, door, door_gave, stocked_alike, stocked_all}
+use Rattle.image_workers.proofs.Sharing.{Adds, adds_own, door, door_fresh, door_gave, door_lists, door_some, door_told, stocked_alike, stocked_all}
 use Rattle.image_workers.specs.Shared.{GivesNoMore, all_stores, all_told, door_shelf, pairs_of}
-use Rattle.chunk_sources.specs.Sources.{sources, views_of}
+use Rattle.chunk_sources.specs.Sources.{SourcesQuiet, sources, views_of}
 use Rattle.chunk_sources.specs.declared.kit.Kit.{Kit}
 use Rattle.image_workers.proofs.Exact.{exact_once, exact_twice, lacking_one}
 use Rattle.image_workers.proofs.Going.{a_kit, all_there, as_many, filled_of, knew_at, ready_again, ready_at, worked_at}
-use Rattle.image_workers.proofs.Kits.{ReportedOver, assembled_by}
+use Rattle.image_workers.proofs.Kits.{assembled_by}
 use Rattle.image_workers.proofs.Moving.{map_twice}
 use Rattle.image_workers.proofs.Permitting.{permits}
-use Rattle.image_workers.proofs.Reports.{kept_so, quiet_ways, reported_so}
+use Rattle.image_workers.proofs.Reports.{kept_so, none_adds, none_faults, quiet_ways, reported_so, reported_together}
 use Rattle.image_workers.proofs.Spared.{ExactlyDealt, WasInShards, used_once, used_twice}
 use Rattle.image_workers.proofs.Working.{stays_none}
 use Rattle.image_workers.specs.Beside.{AssembledBeside, BegunBeside, ComesFrom, joined_stage}
@@ -34,7 +33,6 @@ use Rattle.image_workers.specs.Lanes.{HasWorked, IsReadyFor, kit_of, known_of, t
 use Rattle.image_workers.specs.Reporting.{CountsFates, reported_at}
 use Rattle.image_workers.specs.declared.lanes.Lane.{Lane}
 use Rattle.range_survey.specs.declared.fate.Fate.{Fate}
-use Rattle.range_survey.specs.declared.report.Report.{Report}
 use Rattle.image_workers.proofs.together.run_workers.Given.{Over}
 use Rattle.image_workers.proofs.together.run_workers.Goals.{After-deref_mut, After-reverse, After-some_lacked-lacked, In-Some}
 use Rattle.image_workers.proofs.together.run_workers.Goals as goal
@@ -358,7 +356,15 @@ returns-clause-kits g c = λ old f begun fill.
       | inr none ↦ none
     ] in
     let no_door : c0 ≡ None → e0 ≡ None = λ none. ap (λ (x : Option Shelf). door_shelf g.N.FolderName.opening g.N.FolderName.pairs g.N.FolderName.stores 0 x) none in
-    let none_between : c0 ≡ None → c1 ≡ None = λ none. stays_none room c1 (subst (λ (x : Option Shelf). Stocked room x c1) none (added g here)) in
+    let told_door : cached_in e0 ≡ cached_in c0 = ap cached_in (door_is g here) ∙ door_told g.S.Store l kits g.N.FolderName.opening c0 (opens g here) in
+    let fresh_door : cache_faults e0 ≡ 0 = ap cache_faults (door_is g here) ∙ door_fresh g.S.Store l kits g.N.FolderName.opening c0 in
+    let door_there : IsSome e0 → IsSome c0 = λ some. door_some g.S.Store l kits g.N.FolderName.opening c0 (subst (λ (y : Option Shelf). IsSome y) (door_is g here) some) in
+    let ways = λ (q j : Kit g.row.S.Denot g.row.V.Denot) (cached maps : List (Map (List ℕ)))
+    (quiet : (k : ℕ) → k < length kits → SourcesQuiet g.S.Store g.V.View (at_kit (lent f kits c0) k q) (at_kit (lent count outs e) k j) cached maps).
+    quiet_ways g.S.Store g.V.View r d x wants kits worked outs q j f count c0 c1 e e0 w0.fates lists cached maps (λ v. v < d.wants) w1 c.in-Some.kit end.kit (g.T.View.held end.target) c.finish-target.ensures.passed.0
+    (ap (λ (zs : List (Kit g.row.S.Denot g.row.V.Denot)). slice_index_or zs 0 j) (outs_are g here)) (back j)
+    (λ k later. same_later worked outs (reverse c.pop.new.self.items) c.in-Some.kit end.kit (outs_are g here) (kits_back g last) k j later)
+    passed.stretch quiet told_door fresh_door in
     let counts = told lists (ap (map (λ (w : Vec Fate). w.items)) c.deref-2.ensures.value) in
     assembled_by g.S.Store g.V.View r t kits never sure old.bytes (g.T.View.held end.target).bytes f count outs e end.answer c0 c1 fill
     (λ q j.
@@ -399,17 +405,18 @@ returns-clause-kits g c = λ old f begun fill.
     (exact_once g.S.Store g.V.View r d x wants never old.bytes f count w0 w1 was known e0 sure (no_door none) n (slice_index_or kits n q) (slice_index_or worked n j) h.0 (lacked n) h.1 e end.answer (lacks n less)))))
     k)
     (some_one g here)
-    (λ unshared. let none = no_cache unshared in
-    subst (λ (y : Option Shelf). ReportedOver g.S.Store g.V.View r t kits never sure old.bytes (g.T.View.held end.target).bytes f count outs e end.answer y) (sym none)
-    (λ sure_target alike q j cached maps quiet one verdict.
-    reported_so g.S.Store g.V.View r d x wants kits worked never f count w0 w1 known lists lacked workers (many_there g here) zero_is e0 sure (knew g here) (no_door none) alike q j cached maps one
-    (quiet_ways g.S.Store g.V.View r d x wants kits worked outs q j f count e w0.fates lists cached maps (λ v. v < d.wants) w1 c.in-Some.kit end.kit (g.T.View.held end.target) c.finish-target.ensures.passed.0
-    (ap (λ (zs : List (Kit g.row.S.Denot g.row.V.Denot)). slice_index_or zs 0 j) (outs_are g here)) (back j)
-    (λ k later. same_later worked outs (reverse c.pop.new.self.items) c.in-Some.kit end.kit (outs_are g here) (kits_back g last) k j later)
-    (subst (λ (y : Option Shelf). Stretch g.S.Store g.V.View t (λ v. v < d.wants) (joined_stage w1 y c.in-Some.kit) stood) (none_between none) passed.stretch) quiet)
-    sure_target old.bytes was c.finish-target.ensures.counts.0 end.answer counts
-    lacks
-    verdict))
+    (λ unshared sure_target alike q j cached maps quiet one verdict.
+    let none = no_door (no_cache unshared) in
+    reported_so g.S.Store g.V.View r d x wants kits worked never f count w0 w1 known lists lacked workers (many_there g here) zero_is e0 sure (knew g here) alike q j cached maps (λ some. one (door_there some))
+    (λ k less. none_adds g.S.Store g.V.View r d x wants kits worked never f count w0 w1 known lists lacked workers (many_there g here) zero_is e0 sure (knew g here) none (slice_index_or kits k q).chain.stores)
+    (λ k less. none_faults g.S.Store g.V.View r d x wants kits worked never f count w0 w1 known lists lacked workers (many_there g here) zero_is e0 sure (knew g here) none k q j less)
+    (ways q j cached maps quiet) sure_target none old.bytes was c.finish-target.ensures.counts.0 end.answer counts lacks verdict)
+    (λ calm sure_target alike q j cached maps quiet one verdict.
+    reported_together g.S.Store g.V.View r d x wants kits worked never f count w0 w1 known lists lacked workers (many_there g here) zero_is e0 sure (knew g here) alike q j cached maps (λ some. one (door_there some))
+    (λ k less. subst (λ (y : Option Shelf). OthersAddListed g.S.Store l (slice_index_or kits k q).chain.stores y) (sym (door_is g here))
+    (door_lists g.S.Store g.V.View l d x wants kits alike g.N.FolderName.opening c0 q k less))
+    (λ k less. (knew g here k q j less).calm calm)
+    (ways q j cached maps quiet) sure_target old.bytes was c.finish-target.ensures.counts.0 end.answer counts lacks verdict)
     (kept_so g.S.Store g.V.View r d x wants kits worked never f count w0 w1 known lists lacked workers (many_there g here) zero_is e0 sure (knew g here) old.bytes was c.finish-target.ensures.counts.0 end.answer counts)
 
 pub unreachable-requires : goal.unreachable-requires
