@@ -46,8 +46,8 @@ class Image:
     def words(self, *more, store='all', cache='near', out='out'):
         return ['extract', '-s', store, '-c', cache, *more, 'new.caibx', out]
 
-    def fill(self, store='all', cache='near', indexes=('new.caibx',)):
-        return ['cache', '-s', store, '-c', cache, *indexes]
+    def fill(self, *more, store='all', cache='near', indexes=('new.caibx',)):
+        return ['cache', '-s', store, '-c', cache, *more, *indexes]
 
     def run(self, words):
         return program.run(words, self.folder)
@@ -254,6 +254,27 @@ def filled(cases):
         read = updating.opened(folder, image.fill(), 'all')
         expect_equal(read, sorted(set(image.chunks) - half), 'what was read from the store')
         image.expect_kept(image.chunks)
+    for workers in ('1', '2', '8', '32'):
+        with cases.case(f'cache fills an empty one from a folder, by {workers} of -n') as folder:
+            image = Image(folder)
+            expect_ended(image.run(image.fill('-n', workers)))
+            image.expect_kept(image.chunks)
+        with cases.case(f'cache ends at a chunk that isn\'t there, by {workers} of -n') as folder:
+            image = Image(folder)
+            lost = formats.name_of(image.pieces[30])
+            os.remove(formats.chunk_path(image.path('all'), lost))
+            ended = image.run(image.fill('-n', workers))
+            expect_ended(ended, f'chunk {lost.hex()} of entry 30 is missing')
+            image.expect_kept({formats.name_of(piece) for piece in image.pieces[:30]})
+        with cases.case(f'cache asks a server once for each chunk that it lacks, by {workers} of -n') as folder:
+            image = Image(folder)
+            half = set(sorted(image.chunks)[::2])
+            image.keep(half)
+            with servers.store(image.path('all')) as server:
+                expect_ended(image.run(image.fill('-n', workers, store=server.url())))
+            lacked = [('GET', f'/{name.hex()[:4]}/{name.hex()}') for name in set(image.chunks) - half]
+            expect_equal(sorted(server.asked), sorted(lacked), 'what the server was asked for')
+            image.expect_kept(image.chunks)
     with cases.case('cache with two indexes, the second of which lists a chunk that isn\'t there') as folder:
         image = Image(folder)
         other = formats.Index([])

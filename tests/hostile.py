@@ -289,7 +289,7 @@ def answered(command, folder, url, given):
         os.makedirs(near, exist_ok=True)
         with contextlib.suppress(FileNotFoundError):
             os.remove(formats.chunk_path(near, formats.name_of(PIECE)))
-        expect_ended(run_small(['cache', '-s', url, '-c', 'near', 'a.caibx'], folder), got)
+        expect_ended(run_small(['cache', '-n', '1', '-s', url, '-c', 'near', 'a.caibx'], folder), got)
         held = {formats.path_in_store(formats.name_of(PIECE)): PIECE} if got == '' else {}
         expect_equal(files_of(near), held, 'the cache')
     else:
@@ -418,7 +418,7 @@ ENDLESS = {
 
 def endless_replies(cases):
     for what, (front, piece, why) in ENDLESS.items():
-        for command in (['extract', '-k', '-n', '1'], ['cache', '-c', '.']):
+        for command in (['extract', '-k', '-n', '1'], ['cache', '-n', '1', '-c', '.']):
             with cases.case(f'a reply has {what}: {command[0]}') as folder:
                 formats.write_index(os.path.join(folder, 'a.caibx'), formats.index_of_pieces([PIECE]))
                 with servers.Server(lambda peer, *_: endless(peer, front, piece)) as server:

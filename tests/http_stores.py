@@ -174,13 +174,21 @@ def nginx(image, lines=''):
 
 
 def cached(cases):
-    with cases.case('cache fills a cache from a server') as folder:
+    with cases.case('cache fills a cache from a server, in the order of the entries') as folder:
         image = Image(folder)
         with servers.store(image.path('all')) as server:
             for _ in range(2):
-                expect_ended(image.run('cache', '-s', server.url(), '-c', 'near', 'new.caibx'))
+                expect_ended(image.run('cache', '-n', '1', '-s', server.url(), '-c', 'near', 'new.caibx'))
                 image.expect_store('near')
                 expect_equal(server.asked, image.asks(), 'what was asked')
+    for workers in ('2', '8'):
+        with cases.case(f'cache fills a cache from a server, by {workers} of -n') as folder:
+            image = Image(folder)
+            with servers.store(image.path('all')) as server:
+                for _ in range(2):
+                    expect_ended(image.run('cache', '-n', workers, '-s', server.url(), '-c', 'near', 'new.caibx'))
+                    image.expect_store('near')
+                    expect_equal(sorted(server.asked), sorted(image.asks()), 'what was asked')
     with cases.case('cache asks a server for what a folder before it lacks') as folder:
         image = Image(folder)
         for name, piece in list(zip(image.names, image.pieces))[:5]:
@@ -189,7 +197,7 @@ def cached(cases):
         with servers.store(image.path('none')) as server:
             expect_ended(image.run('cache', '-s', 'all', '-s', server.url(), '-c', 'near', 'new.caibx'))
             image.expect_store('near')
-            expect_equal(server.asked, image.asks()[:5], 'what was asked')
+            expect_equal(sorted(server.asked), sorted(image.asks()[:5]), 'what was asked')
     for what, spell, why in (('lacks it', lambda b: reply(404), 'missing'), ('fails', lambda b: reply(500), FAILED),
                              ('has other bytes', lambda b: reply(200, b'x'), 'damaged'),
                              ('sends more', lambda b: reply(200, b + b'x'), 'damaged'),
@@ -198,10 +206,17 @@ def cached(cases):
             image = Image(folder)
             fifth = image.pieces[5]
             with servers.store(image.path('all'), spell=lambda b: spell(b) if b == fifth else reply(200, b)) as server:
-                ended = image.run('cache', '-s', server.url(), '-c', 'near', 'new.caibx')
+                ended = image.run('cache', '-n', '1', '-s', server.url(), '-c', 'near', 'new.caibx')
                 expect_ended(ended, image.refusal(why, 5))
                 image.expect_store('near', 5)
                 expect_equal(server.asked, image.asks()[:6], 'what was asked')
+        with cases.case(f'cache by 8 of -n ends at the first chunk where the server {what}') as folder:
+            image = Image(folder)
+            fifth = image.pieces[5]
+            with servers.store(image.path('all'), spell=lambda b: spell(b) if b == fifth else reply(200, b)) as server:
+                ended = image.run('cache', '-n', '8', '-s', server.url(), '-c', 'near', 'new.caibx')
+                expect_ended(ended, image.refusal(why, 5))
+                image.expect_store('near', 5)
 
 
 def written(cases):
@@ -571,10 +586,11 @@ def silent(waiting, deaf):
     waiting.begin('the server takes no connection', info, port=deaf, seconds=(8, 60))
     waiting.begin('the server never answers, and a folder stands behind it',
                   ['extract', '-s', 'URL', '-s', 'all', 'new.caibx', 'out'], text='', out='out')
-    waiting.begin('the server stops in a body', ['cache', '-s', 'URL', '-c', 'near', 'new.caibx'],
+    fill = ['cache', '-n', '1', '-s', 'URL', '-c', 'near', 'new.caibx']
+    waiting.begin('the server stops in a body', fill,
                   lambda _, piece: reply(200, piece)[:-1])
     waiting.begin('the server sends a byte of a head a second', info, lambda *_: b'HTTP/1.1 200 OK\r\nA:', b'x')
-    waiting.begin('the server sends a byte of a body a second', ['cache', '-s', 'URL', '-c', 'near', 'new.caibx'],
+    waiting.begin('the server sends a byte of a body a second', fill,
                   lambda _, piece: reply(200, piece)[:-len(piece)], b'x')
     waiting.begin('the server never answers a PUT', ['make', '-s', 'URL', 'made.caibx', 'image'],
                   lambda method, _: reply(404) if method == 'GET' else b'')

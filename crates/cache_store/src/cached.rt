@@ -1,6 +1,7 @@
 //! A cache before a chain of stores. Sizes are in bytes.
 
-ghost use Rattle.std.specs.Prelude.{◌≡◌, ◌⊎◌, ℕ, List, ◌≤◌, length, None, take, true, Some, IfSome, IfOk, IfErr};
+ghost use Rattle.std.specs.Prelude.{◌≡◌, ◌≢◌, ◌⊎◌, ℕ, List, ◌≤◌, length, None, take, true, Some, IfSome, IfOk};
+ghost use Rattle.std.specs.Prelude.{IfErr};
 ghost use Rattle.std.specs.List.{Any};
 ghost use Rattle.store_chain.specs.Giving.{SomeHolds};
 ghost use Rattle.cache_store.specs.Shelves.{IsPair, KeepsShelf, MayHold, Stocks, held_on, shelf_of};
@@ -161,6 +162,42 @@ impl<F: Folder, S: Store> Cached<F, S> {
     {
         let Cached { shelf, chain } = self;
         (shelf, chain)
+    }
+
+    /// Fills the front of `out` with what the shelf alone gives. The stores aren't asked.
+    pub fn look(
+        &mut self,
+        id: &ChunkId,
+        size: Option<usize>,
+        out: &mut [u8],
+    ) -> Result<usize, CacheMiss>
+        requires inside { IfSome size (λ n. n ≤ length out.old) }
+        ensures ok { IfOk result (λ n. FillsQuery (query_of self.old.shelf.kind id.now size (length out.old)) n
+            out.new) }
+        ensures found { IfOk result (λ n. IfSome (held_on (shelf_of F.files F.place F.faults self.old.shelf))
+            (λ m. m id.now.0 ≡ Some (take n out.new))) }
+        ensures absent { IfErr result (λ m. m ≢ CacheMiss.Memory →
+            Unfound (query_of self.old.shelf.kind id.now size (length out.old))
+            (shelf_of F.files F.place F.faults self.old.shelf) (shelf_of F.files F.place F.faults self.new.shelf)) }
+        ensures kept { KeepsShelf (shelf_of F.files F.place F.faults self.old.shelf)
+            (shelf_of F.files F.place F.faults self.new.shelf) }
+        ensures kind { self.old.shelf.kind ≡ self.old.chain.kind }
+        ensures chain { self.new.chain ≡ self.old.chain }
+    {
+        self.shelf.look(id, size, out)
+    }
+
+    /// Adds the chunk of this id to the shelf, in the place of what stood there. The stores aren't asked.
+    pub fn keep(&mut self, id: &ChunkId, b: &[u8]) -> Kept
+        requires named { name_of self.old.shelf.kind b.now ≡ id.now.0 }
+        requires unnamed { (F.pairs ≡ None) × (F.stores ≡ None) }
+        ensures stocks { Stocks (λ q x. (q ≡ id.now.0) × (x ≡ b.now))
+            (shelf_of F.files F.place F.faults self.old.shelf) (shelf_of F.files F.place F.faults self.new.shelf) }
+        ensures added { AddedTo id.now.0 b.now result (shelf_of F.files F.place F.faults self.old.shelf)
+            (shelf_of F.files F.place F.faults self.new.shelf) }
+        ensures chain { self.new.chain ≡ self.old.chain }
+    {
+        keep(&mut self.shelf, id, b)
     }
 
     /// Fills the front of `out` as `obtain_through` does.

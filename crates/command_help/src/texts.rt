@@ -113,7 +113,8 @@ where it is right.
   -s, --store STORE             a folder of chunks, or an http URL where they
                                 lie; 1 to 16, asked in order
   -c, --cache CACHE             the folder that takes the chunks
-  -n, --concurrency WORKERS     1 to 32 workers; for now one does all
+  -n, --concurrency WORKERS     1 to 32 workers to read stores, 10 if not given;
+                                the outcome is the same with any number
 
 example: desync cache -s chunks -c near disk.caibx
 ";

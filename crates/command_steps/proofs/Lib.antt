@@ -18,3 +18,4 @@ pub mod IndexFiles
 pub mod Lacked
 pub mod Asking
 pub mod AskedOnly
+pub mod InTurn

@@ -1,5 +1,5 @@
 -- How servers are asked over a command: by which methods, for which ids, and how often.
-use Rattle.std.specs.Prelude.{◌≡◌, ℕ, ◌≤◌, List, [], ◌∷◌, Option, Some, IfSome}
+use Rattle.std.specs.Prelude.{◌≡◌, ℕ, zero, suc, ◌≤◌, List, [], ◌∷◌, Option, Some, IfSome}
 use Rattle.std.specs.List.{All}
 use Rattle.chunk_store.specs.Asks.{Ask, IsFrontOf}
 use Rattle.command_steps.specs.Sources.{server_at}
@@ -34,3 +34,11 @@ EachDialed P [] old new = new ≡ old
 EachDialed P (locations.Folder q ∷ stores) old new = EachDialed P stores old new
 EachDialed P (locations.Http host port prefix ∷ stores) old new = (ended : Option (List Traffic))
     × IfSome ended (P (server_at host port prefix)) × EachDialed P stores (with_all old ended) new
+
+-- the connections of the workers' stores have ended one worker's after the other, those of the last first: P k holds
+-- for those of worker k
+abbrev pub WorkersDialed : (ℕ → Server → List Traffic → Type 0) → ℕ → List Location → Option (List Traffic)
+    → Option (List Traffic) → Type 0
+WorkersDialed P zero stores old new = new ≡ old
+WorkersDialed P (suc k) stores old new = (ended : Option (List Traffic)) × EachDialed (P k) stores old ended
+    × WorkersDialed P k stores ended new

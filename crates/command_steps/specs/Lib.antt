@@ -9,3 +9,4 @@ pub mod Blames
 pub mod Cache
 pub mod Seeds
 pub mod Asking
+pub mod Turns

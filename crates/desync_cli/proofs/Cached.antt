@@ -9,11 +9,11 @@ use Rattle.command_steps.specs.InputFiles.{IsListed}
 use Rattle.command_steps.specs.Sources.{storage, storage_of}
 use Rattle.command_worlds.specs.Worlds.{World}
 use Rattle.command_words.specs.declared.command.Location.{Location}
-use Rattle.store_commands.specs.Caching.{AddsListed, AllFilled, CacheEnds, Evidence, IsCached, IsHeldListed, of_command}
+use Rattle.cache_command.specs.Caching.{AddsListed, AllFilled, CacheEnds, Evidence, IsCached, IsHeldListed, of_command}
 use Rattle.dsy_base.specs.Disk.{Disk}
 use Rattle.dsy_base.specs.Maps.{Map, at_name}
 use Rattle.image_store.specs.PutChunks.{HoldsAll, HoldsNamed}
-use Rattle.verify_tool.specs.Filling.{HoldsEntry}
+use Rattle.cache_fill.specs.Filling.{HoldsEntry}
 
 true_false : true ≡ false → ⊥
 true_false e = cc
@@ -87,9 +87,9 @@ was_there (Some m) cache held there was = go (m cache) refl there where
   go None is some = absurd (true_false (sym some))
   go (Some f) is some = (f, is, sym was ∙ is)
 
-pub cached : (stores : List Location) (cache : List ℕ) (indexes : List (List ℕ)) (w v : World) → CacheEnds stores cache indexes w (Ok tt) v
+pub cached : (stores : List Location) (cache : List ℕ) (most : ℕ) (indexes : List (List ℕ)) (w v : World) → CacheEnds stores cache most indexes w (Ok tt) v
     → IfSome w.disk.files (λ b. IfSome w.disk.folders (λ f. IfSome v.disk.folders (λ g. IsCached b f g cache indexes)))
-cached stores cache indexes w v h =
+cached stores cache most indexes w v h =
     let reached = h.then in
     let filled = reached.then.0 in
     let opened = h.did.0.1 in

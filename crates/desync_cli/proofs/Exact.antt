@@ -34,7 +34,7 @@ module _ (sure : Bool) (k : Heard) (x : Contents) (w v : World) where
   command_exact (commands.Make store sizes workers index image) f = makes_so x w v (quiet f) store sizes index image f.folders f.tells
   command_exact (commands.VerifyIndex workers index image) f = verifies_index_so x w v (quiet f) index image f.tells
   command_exact (commands.Chop store workers index image) f = chops_so x w v (quiet f) store index image f.folders f.tells
-  command_exact (commands.Cache stores cache workers indexes) f = caches_so x w v (quiet f) stores cache indexes f.folders f.tells
+  command_exact (commands.Cache stores cache workers indexes) f = caches_so x w v (quiet f) stores cache workers indexes f.folders f.tells
   command_exact (commands.ListChunks index) f = lists_so x w v (quiet f) index f.tells
   command_exact (commands.Extract stores seeds cache in_place workers index target) f = extracts_so x w v (quiet f) (never_fail sure k.never_fails) stores f.folders cache seeds in_place index target f.tells
   command_exact (commands.Info stores index) f = tells_so x w v (quiet f) stores index f.folders f.tells

@@ -26,10 +26,10 @@ use Rattle.desync_cli.specs.Exact.{Caches, FillsInOrder, GainsListed, IsFirstLac
 use Rattle.dsy_base.specs.Maps.{Map, at_name}
 use Rattle.store_chain.specs.declared.refused.Refused.{Refused}
 use Rattle.store_chain.specs.declared.refused.Refused.TheVariants as refused
-use Rattle.store_commands.specs.Caching.{AddsListed, AllFilled, CacheEnds, EndsFilling, Evidence, FilledBetween, FillsEach, IndexFilled, IndexesFilled, IsCached, IsNotHad, NotFilled, of_command, outcome_of_fill}
-use Rattle.verify_tool.specs.Filling.{FillsBy, IsFirstLost, IsGivenBy, ListsSize}
-use Rattle.verify_tool.specs.declared.fill.FillFault.{FillFault}
-use Rattle.verify_tool.specs.declared.fill.FillFault.TheVariants as fills
+use Rattle.cache_command.specs.Caching.{AddsListed, AllFilled, CacheEnds, EndsFilling, Evidence, FilledBetween, FillsEach, IndexFilled, IndexesFilled, IsCached, IsNotHad, NotFilled, of_command, outcome_of_fill}
+use Rattle.cache_fill.specs.Filling.{FillsBy, IsFirstLost, IsGivenBy, ListsSize}
+use Rattle.cache_fill.specs.declared.fill.FillFault.{FillFault}
+use Rattle.cache_fill.specs.declared.fill.FillFault.TheVariants as fills
 
 -- where no count has risen between two worlds, none has from one between to the last
 pub still_quiet : (x : Contents) (w u v : World) → IsAt x w u → IsQuiet w v → DiskQuiet u.disk v.disk
@@ -231,13 +231,13 @@ module _ (x : Contents) (w u v : World) (at : IsAt x w u) (quiet : IsQuiet w v) 
           | inr so ↦ inr (index_there x q l (Rest indexes) o x is (inr (all_given q indexes l some is z before c filled, so)))
         ]
 
-  module _ (there : x.folders cache ≡ Some f) where
+  module _ (there : x.folders cache ≡ Some f) (most : ℕ) where
     held_is : (o : Option (Map (List ℕ))) → IfSome u.disk.folders (λ m. m cache ≡ o) → o ≡ Some f
     held_is o was = let h : x.folders cache ≡ o = subst (λ y. IfSome y (λ m. m cache ≡ o)) at.has.folders was in sym h ∙ there
 
-    filled_so : (r : Result Unit Outcome) → OnStorage (IndexesFilled stores cache indexes_all) u r v → EndsSo x v (Caches (map chunks fs) cache indexes_all f) (outcome_of r)
+    filled_so : (r : Result Unit Outcome) → OnStorage (IndexesFilled stores cache most indexes_all) u r v → EndsSo x v (Caches (map chunks fs) cache indexes_all f) (outcome_of r)
     filled_so r h = go r h.0.filled where
-      b : FilledBetween stores cache indexes_all (storage_of u) (storage_of v) r
+      b : FilledBetween stores cache most indexes_all (storage_of u) (storage_of v) r
       b = h.0
 
       was : b.held ≡ Some f
@@ -286,10 +286,10 @@ module _ (x : Contents) (w u v : World) (at : IsAt x w u) (quiet : IsQuiet w v) 
       ]
 
 module _ (x : Contents) (w v : World) (quiet : IsQuiet w v) where
-  pub caches_so : (stores : List Location) (cache : List ℕ) (indexes : List (List ℕ)) → IsTrue (are_folders stores) → HasContents w x → (r : Result Unit Outcome) → CacheEnds stores cache indexes w r v
+  pub caches_so : (stores : List Location) (cache : List ℕ) (most : ℕ) (indexes : List (List ℕ)) → IsTrue (are_folders stores) → HasContents w x → (r : Result Unit Outcome) → CacheEnds stores cache most indexes w r v
       → EndsSo x v (folders_at stores (λ fs. folder_at cache (Caches (map chunks fs) cache indexes))) (outcome_of r)
-  caches_so stores cache indexes all has = stores_so x w v quiet stores all (λ fs. folder_at cache (Caches (map chunks fs) cache indexes))
-      (λ _. OnDisk (CacheOpened stores (Some cache)) >>= (λ _. OnStorage (IndexesFilled stores cache indexes)))
-      (λ fs e at are. cache_so x w v quiet stores cache (Caches (map chunks fs) cache indexes) (λ _. OnStorage (IndexesFilled stores cache indexes))
-      (λ f u after there. filled_so x w u v after quiet stores fs are cache indexes f there) e at)
+  caches_so stores cache most indexes all has = stores_so x w v quiet stores all (λ fs. folder_at cache (Caches (map chunks fs) cache indexes))
+      (λ _. OnDisk (CacheOpened stores (Some cache)) >>= (λ _. OnStorage (IndexesFilled stores cache most indexes)))
+      (λ fs e at are. cache_so x w v quiet stores cache (Caches (map chunks fs) cache indexes) (λ _. OnStorage (IndexesFilled stores cache most indexes))
+      (λ f u after there. filled_so x w u v after quiet stores fs are cache indexes f there most) e at)
       w (at_first x w has)

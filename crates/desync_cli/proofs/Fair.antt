@@ -22,7 +22,7 @@ use Rattle.command_worlds.specs.Worlds.{FileRose, FolderRose, NoFault, Step, Wor
 use Rattle.command_steps.proofs.Dialed.{dials_same}
 use Rattle.command_steps.proofs.Fair.{IsFair, IsLeft, IsRefusal, IsStep, Unread, adds, behind, between, bound, consults, cache_step, fair_longer, image_step, index_step, indexes_step, left_twice, on_disk, on_out, on_sources, printed_step, pure_step, reads, round, source_failed, source_taken_step, sources_fair, sources_step, taken_step, whole, writes, unread_fair}
 use Rattle.command_steps.proofs.Numbers.{rose_not_quiet}
-use Rattle.store_commands.specs.Caching.{EndsFilling, FillTells, IndexesFilled, NotFilled, of_command, outcome_of_fill}
+use Rattle.cache_command.specs.Caching.{EndsFilling, FillTells, IndexesFilled, NotFilled, of_command, outcome_of_fill}
 use Rattle.image_commands.specs.Chop.{ImageChopped}
 use Rattle.desync_cli.specs.Commands.{DesyncEnds, CommandEnds, NoCommand, TellsRefusal, WordsRead, command_of, parts, refusal_in, usage_refusal, command_said, spares}
 use Rattle.print_commands.specs.Demo.{Rehearsed}
@@ -45,11 +45,11 @@ use Rattle.dsy_base.specs.Links.{Traffic}
 use Rattle.dsy_base.specs.Maps.{Map}
 use Rattle.http_read.specs.Refusals.{IsUnacceptable}
 use Rattle.store_chain.specs.Refusals.{Lacks}
-use Rattle.verify_tool.specs.Filling.{entry_want}
+use Rattle.cache_fill.specs.Filling.{entry_want}
 use Rattle.image_demo.specs.Figures.{text_of_figures}
 use Rattle.verify_tool.specs.Texts.{text_of_chunks, text_of_info}
-use Rattle.verify_tool.specs.declared.fill.FillFault.{FillFault}
-use Rattle.verify_tool.specs.declared.fill.FillFault.TheVariants as fills
+use Rattle.cache_fill.specs.declared.fill.FillFault.{FillFault}
+use Rattle.cache_fill.specs.declared.fill.FillFault.TheVariants as fills
 
 -- ---- the steps of one command
 
@@ -127,8 +127,8 @@ module _ (x : Parts) (p : Output) (w v : Storage) where
   each_fair (q ∷ indexes) held files o (inr (l, listed, inl (fault, is, filled))) = subst (λ r. IsFair x r (behind p w) (behind p v)) (sym is) (ends_fair l held files fault filled.order)
   each_fair (q ∷ indexes) held files o (inr (l, listed, inr (z, filled, rest))) = each_fair indexes z files o rest
 
-filled_step : (f o : Bool) (x : Parts) (p : Output) (indexes : List (List ℕ)) → IsStep (behind p) (record { files = f; folders = false; dial = are_folders x.stores; out = o }) x (IndexesFilled x.stores x.cache indexes)
-filled_step f o x p indexes = record {
+filled_step : (f o : Bool) (x : Parts) (p : Output) (most : ℕ) (indexes : List (List ℕ)) → IsStep (behind p) (record { files = f; folders = false; dial = are_folders x.stores; out = o }) x (IndexesFilled x.stores x.cache most indexes)
+filled_step f o x p most indexes = record {
   fair = λ w v r h. each_fair x p w v indexes h.held h.now r h.filled;
   leaves = λ w v r h. record {
     keeps = record { files = λ t. h.adds.files; folders = λ t. absurd (cc); dial = h.dials.1; out = λ t. refl };
@@ -297,7 +297,7 @@ command_step : (sure : Bool) (h : Heard) (c : Command) → IsStep whole (spares 
 command_step sure h (commands.Make store sizes workers index image) = bound (pure_step (SizesJudged sizes) (judged_fair (parts h (commands.Make store sizes workers index image)) sizes)) (λ z. bound (on_disk (λ p. image_step _ _ p)) (λ told. bound (on_disk (λ p. source_taken_step _ _ _ _ p _ store)) (λ held. bound (on_sources (λ p. stored_step _ p store refl _ _ z told held)) (λ bytes. on_disk (λ p. written_step _ _ _ _ p index bytes)))))
 command_step sure h (commands.VerifyIndex workers index image) = bound (on_disk (λ p. index_step _ _ p index)) (λ l. bound (on_disk (λ p. image_step _ _ p)) (λ told. on_disk (λ p. checked_step _ _ p l told)))
 command_step sure h (commands.Chop store workers index image) = bound (on_disk (λ p. index_step _ _ p index)) (λ l. bound (on_disk (λ p. image_step _ _ p)) (λ told. bound (on_disk (λ p. source_taken_step _ _ _ _ p _ store)) (λ held. on_sources (λ p. chopped_step _ p store refl _ _ l told held))))
-command_step sure h (commands.Cache stores cache workers indexes) = bound (on_disk (λ p. sources_step _ _ p stores)) (λ u. bound (on_disk (λ p. cache_step _ _ p stores (Some cache))) (λ u. on_sources (λ p. filled_step _ _ (parts h (commands.Cache stores cache workers indexes)) p indexes)))
+command_step sure h (commands.Cache stores cache workers indexes) = bound (on_disk (λ p. sources_step _ _ p stores)) (λ u. bound (on_disk (λ p. cache_step _ _ p stores (Some cache))) (λ u. on_sources (λ p. filled_step _ _ (parts h (commands.Cache stores cache workers indexes)) p workers indexes)))
 command_step sure h (commands.ListChunks index) = bound (on_disk (λ p. index_step _ _ p index)) (λ l. on_out (λ d. printed_step _ _ _ _ d (text_of_chunks l)))
 command_step sure h (commands.Extract stores seeds cache in_place workers index target) = bound (on_disk (λ p. index_step _ _ p index)) (λ l. bound (on_disk (λ p. indexes_step _ _ p seeds)) (λ ls. bound (on_disk (λ p. sources_step _ _ p stores)) (λ u. bound (on_disk (λ p. cache_step _ _ p stores cache)) (λ u. out_step (never_fail sure h.never_fails) _ (parts h (commands.Extract stores seeds cache in_place workers index target)) cache l (record { images = map image_name seeds; listings = ls }) in_place target refl))))
 command_step sure h (commands.Info stores index) = bound (on_disk (λ p. index_step _ _ p index)) (λ l. bound (on_sources (λ p. counted_step _ _ p (λ t. t) l)) (λ n. on_out (λ d. printed_step _ _ _ _ d (text_of_info l n))))

@@ -24,13 +24,13 @@ use Rattle.print_commands.specs.Demo.{Rehearsed}
 use Rattle.extract_command.specs.Extract.{Clearing, ImageMade, Into, NeverFail, NotRenamed, OutMade, Renamed, Seeds, beside, in_place, temporary_out}
 use Rattle.image_commands.specs.Make.{ImageStored, IndexWritten, NotWritten, SizesJudged}
 use Rattle.store_commands.specs.VerifyIndex.{ImageChecked}
-use Rattle.store_commands.specs.Caching.{IndexesFilled, NotFilled, Evidence, outcome_of_fill}
+use Rattle.cache_command.specs.Caching.{IndexesFilled, NotFilled, Evidence, outcome_of_fill}
 use Rattle.store_commands.specs.Info.{IdsCounted, NotAsked}
 use Rattle.store_commands.specs.Prune.{StorePruned}
 use Rattle.store_commands.specs.Serving.{FolderServed, Heard, TakenUnheard}
 use Rattle.store_commands.specs.Verify.{StoreVerified}
-use Rattle.verify_tool.specs.declared.fill.FillFault.{FillFault}
-use Rattle.verify_tool.specs.declared.fill.FillFault.TheVariants as fills
+use Rattle.cache_fill.specs.declared.fill.FillFault.{FillFault}
+use Rattle.cache_fill.specs.declared.fill.FillFault.TheVariants as fills
 
 -- each of the names is no longer than this
 abbrev pub AllShort : ℕ → List (List ℕ) → Type 0
@@ -253,11 +253,11 @@ module _ (n : ℕ) where
   not_filled over d e (q ∷ indexes) all x y o (inr (l, listed, inl (fault, is, filled))) = omega (arith, ap (λ r. length (name_in r)) is, filled_by fault)
   not_filled over d e (q ∷ indexes) all x y o (inr (l, listed, inr (z, filled, rest))) = not_filled over d e indexes all.1 z y o rest
 
-  filled_tells : (stores : List Location) (cache : List ℕ) (indexes : List (List ℕ)) → AllShort n indexes → Tells n (IndexesFilled stores cache indexes)
-  filled_tells stores cache indexes all w v o h = not_filled _ w.disk v.disk indexes all h.held h.now o h.filled
+  filled_tells : (stores : List Location) (cache : List ℕ) (most : ℕ) (indexes : List (List ℕ)) → AllShort n indexes → Tells n (IndexesFilled stores cache most indexes)
+  filled_tells stores cache most indexes all w v o h = not_filled _ w.disk v.disk indexes all h.held h.now o h.filled
 
-  pub filled : (stores : List Location) (cache : List ℕ) (indexes : List (List ℕ)) → AllShort n indexes → Shorts n (IndexesFilled stores cache indexes)
-  filled stores cache indexes all = record { short = filled_tells stores cache indexes all }
+  pub filled : (stores : List Location) (cache : List ℕ) (most : ℕ) (indexes : List (List ℕ)) → AllShort n indexes → Shorts n (IndexesFilled stores cache most indexes)
+  filled stores cache most indexes all = record { short = filled_tells stores cache most indexes all }
 
   made_tells : (sure : NeverFail) (stores : List Location) (cache : Option (List ℕ)) (i : Into) (l : Listing) (x : Seeds) → Tells n (ImageMade sure stores cache i l x)
   made_tells sure stores cache i l x w v (ends.Missing k id) h = omega arith

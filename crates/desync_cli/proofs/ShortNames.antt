@@ -57,7 +57,7 @@ command_short : (n : ℕ) (sure : Bool) (h : Heard) (c : Command) → HasShort n
 command_short n sure h (commands.Make store sizes workers index image) f = bound (sizes_judged n sizes) (λ z. bound (on_disk (image_opened n image f.2)) (λ told. bound (on_disk (source_taken n _ store f.0)) (λ held. bound (on_sources (stored n z image told store held)) (λ bytes. on_disk (written n index bytes f.1)))))
 command_short n sure h (commands.VerifyIndex workers index image) f = bound (on_disk (index_read n index f.0)) (λ l. bound (on_disk (image_opened n image f.1)) (λ told. on_disk (checked n image l told)))
 command_short n sure h (commands.Chop store workers index image) f = bound (on_disk (index_read n index f.1)) (λ l. bound (on_disk (image_opened n image f.2)) (λ told. bound (on_disk (source_taken n _ store f.0)) (λ held. on_sources (chopped n l image told store held))))
-command_short n sure h (commands.Cache stores cache workers indexes) f = bound (on_disk (opened n stores f.0)) (λ u. bound (on_disk (cache_opened n stores (Some cache) (f.1, tt))) (λ u. on_sources (filled n stores cache indexes f.2)))
+command_short n sure h (commands.Cache stores cache workers indexes) f = bound (on_disk (opened n stores f.0)) (λ u. bound (on_disk (cache_opened n stores (Some cache) (f.1, tt))) (λ u. on_sources (filled n stores cache workers indexes f.2)))
 command_short n sure h (commands.ListChunks index) f = bound (on_disk (index_read n index f)) (λ l. on_out (printed n _))
 command_short n sure h (commands.Extract stores seeds cache in_place workers index target) f = bound (on_disk (index_read n index f.3)) (λ l. bound (on_disk (indexes_read n seeds f.1)) (λ ls. bound (on_disk (opened n stores f.0)) (λ u. bound (on_disk (cache_opened n stores cache (cached cache f.2))) (λ u. out_made n (never_fail sure h.never_fails) in_place stores cache target l _ f.4 f.5)))) where
   cached : (cache : Option (List ℕ)) → AllShort n (named cache) → AllShort n (elim cache [ None ↦ [] | Some q ↦ q ∷ [] ])

@@ -18,7 +18,7 @@ use Rattle.print_commands.specs.Demo.{DemoEnds}
 use Rattle.extract_command.specs.Extract.{ExtractEnds, IsExtracted, never_fail, temporary_out}
 use Rattle.image_commands.specs.Make.{IsMade, MakeEnds, StoreHas}
 use Rattle.store_commands.specs.VerifyIndex.{IsVerified, VerifyIndexEnds}
-use Rattle.store_commands.specs.Caching.{CacheEnds, IsCached}
+use Rattle.cache_command.specs.Caching.{CacheEnds, IsCached}
 use Rattle.store_commands.specs.Info.{InfoEnds}
 use Rattle.print_commands.specs.ListChunks.{ListChunksEnds}
 use Rattle.store_commands.specs.Prune.{IsPruned, PruneEnds}
@@ -43,7 +43,7 @@ abbrev pub CommandEnds : Bool → Heard → Command → Step World Unit
 CommandEnds sure h (commands.Make store sizes workers index image) = MakeEnds store sizes index image
 CommandEnds sure h (commands.VerifyIndex workers index image) = VerifyIndexEnds index image
 CommandEnds sure h (commands.Chop store workers index image) = ChopEnds store index image
-CommandEnds sure h (commands.Cache stores cache workers indexes) = CacheEnds stores cache indexes
+CommandEnds sure h (commands.Cache stores cache workers indexes) = CacheEnds stores cache workers indexes
 CommandEnds sure h (commands.ListChunks index) = ListChunksEnds index
 CommandEnds sure h (commands.Extract stores seeds cache in_place workers index target) =
     ExtractEnds (never_fail sure h.never_fails) stores cache seeds in_place index target

@@ -47,11 +47,11 @@ use Rattle.locked_shelf.specs.Keepings.{KeepsOpening}
 use Rattle.store_chain.specs.Giving.{LacksAll}
 use Rattle.store_chain.specs.declared.refused.Refused.{Refused}
 use Rattle.store_chain.specs.declared.refused.Refused.TheVariants as refused
-use Rattle.store_commands.specs.Caching.{IsCached}
+use Rattle.cache_command.specs.Caching.{IsCached}
 use Rattle.store_commands.specs.Serving.{Heard}
 use Rattle.store_commands.specs.Verify.{answer_of_left}
 use Rattle.verify_tool.specs.Counts.{held_count}
-use Rattle.verify_tool.specs.Filling.{IsGivenBy}
+use Rattle.cache_fill.specs.Filling.{IsGivenBy}
 use Rattle.verify_tool.specs.Pruning.{is_listed_in, pruned}
 use Rattle.verify_tool.specs.Texts.{text_of_chunks, text_of_info}
 use Rattle.store_check.specs.Verifying.{AreDamaged, damaged_left, left_of, text_of_damaged}

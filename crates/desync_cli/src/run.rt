@@ -21,6 +21,7 @@ ghost use Rattle.command_worlds.specs.Worlds.{DiskQuiet, NoFault, world};
 
 use crate::telling::{longest, take_line, tell, tell_no_room};
 use crate::words::read_command;
+use cache_command::cache::{CacheWords, fill_cache};
 use command_help::help::Topic;
 use command_outcome::outcome::{Ended, Outcome};
 use command_words::command::Command;
@@ -39,7 +40,6 @@ use print_commands::list_chunks::print_chunks;
 use std::alloc::Global;
 use std::sync::Wait;
 use std::thread::Threads;
-use store_commands::cache::fill_cache;
 use store_commands::info::print_info;
 use store_commands::prune::prune_folder;
 use store_commands::server::{Service, chunk_server};
@@ -144,9 +144,20 @@ where
         Command::Cache {
             stores,
             cache,
+            workers,
             indexes,
-            ..
-        } => fill_cache(alloc, files, dial, stores, cache, indexes),
+        } => fill_cache(
+            rt,
+            alloc,
+            files,
+            dial,
+            CacheWords {
+                stores,
+                cache,
+                workers,
+                indexes,
+            },
+        ),
         Command::Verify {
             store,
             repair,

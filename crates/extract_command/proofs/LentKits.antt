@@ -13,12 +13,13 @@ use Rattle.chunk_store.specs.declared.id.DigestKind.TheVariants as kinds
 use Rattle.command_steps.proofs.Consulted.{consults_none, consults_twice, reads_none}
 use Rattle.command_steps.proofs.Dialed.{dials_none}
 use Rattle.command_steps.proofs.Given.{all_later}
+use Rattle.command_steps.proofs.InTurn.{all_last, turn_consults, turn_dialed}
 use Rattle.command_steps.proofs.Numbers.{rose_later, rose_longer}
 use Rattle.command_steps.proofs.SeedsOpened.{all_known_later}
 use Rattle.command_steps.proofs.SeedsUsed.{viewed_names}
 use Rattle.command_steps.proofs.Used.{uses_none, uses_twice, uses_within}
 use Rattle.command_steps.specs.AnyStores.{IsKnown, IsUnused, location_in, source_faults, source_files, with_those}
-use Rattle.command_steps.specs.Asking.{EachDialed}
+use Rattle.command_steps.specs.Asking.{EachDialed, WorkersDialed}
 use Rattle.command_steps.specs.Cache.{folders_with, with_cache}
 use Rattle.command_steps.specs.Seeds.{IsViewed, SeedsKnown, label_in}
 use Rattle.command_steps.specs.Sources.{Consults, Storage, location_files, storage}
@@ -37,34 +38,10 @@ use Rattle.dsy_base.specs.Links.{DialState, Traffic, with_all}
 use Rattle.dsy_base.specs.Maps.{Map, at_name}
 use Rattle.dsy_base.specs.declared.look.Look.{Ghosts as LookWords}
 use Rattle.dsy_base.specs.declared.view.View.{Ghosts as ViewWords}
-use Rattle.extract_command.specs.Extract.{WorkersDialed}
 use Rattle.extract_command.specs.Kits.{AreGivenBack, AreOpened, CanGiveKit, IsKitGiven, IsKitOpened, UsesNames, kit_names, kit_stores}
 use Rattle.extract_plan.specs.Seeds.{faults_in, seed_held}
 use Rattle.extract_plan.specs.declared.seed.Seed.{Seed}
 use Rattle.http_read.specs.Asks.{Server}
-
--- ---- the first and the last of a list
-
-module _ {X : Type 0} where
-  -- one was put before all
-  pub put_first : {U E : Type 0} (old new : List X) (x : X) (r : Result U E) (u : U) → r ≡ Ok u → new ≡ (if is_ok r then insert old 0 x else old) → new ≡ x ∷ old
-  put_first old new x r u done is = is ∙ ap (λ (q : Result _ _). if is_ok q then insert old 0 x else old) done
-
-  -- or behind all
-  pub put_last : {U E : Type 0} (old new : List X) (x : X) (r : Result U E) (u : U) → r ≡ Ok u → new ≡ (if is_ok r then old ++ x ∷ [] else old) → new ≡ old ++ x ∷ []
-  put_last old new x r u done is = is ∙ ap (λ (q : Result _ _). if is_ok q then old ++ x ∷ [] else old) done
-
-  -- the first was taken out
-  pub first_out : (xs ys : List X) (x : X) → 1 ≤ length xs → x ≡ slice_index_or xs 0 x → ys ≡ remove xs 0 → xs ≡ x ∷ ys
-  first_out [] ys x some is rest = absurd (omega (arith, some))
-  first_out (y ∷ xs) ys x some is rest = cc (is, rest)
-
-  -- what holds for all holds for those before the last, and for the last
-  pub all_last : (P : X → Type 0) (xs rest : List X) (x : X) → xs ≡ rest ++ x ∷ [] → All P xs → All P rest × P x
-  all_last P xs rest x is all =
-      let h : All P (rest ++ x ∷ []) = subst (λ (l : List X). All P l) is all in
-      let many : length (rest ++ x ∷ []) ≡ length rest + 1 = length-append rest (x ∷ []) in
-      (λ k d lt. subst P (get_or_append_left rest (x ∷ []) d k lt) (h k d (omega (arith, lt, many))), subst P (get_or-append_seam rest x [] x) (h (length rest) x (omega (arith, many))))
 
 -- ---- what was opened earlier, and before more was read
 
@@ -273,16 +250,7 @@ module _ {L V D K : Type 0} (look : LookWords L) (view : ViewWords V) where
 
     -- they were consulted
     pub all_given_back : (kits : List (Kit (AnyStore L D K) V)) (w v : Storage) → AreGivenBack look view state kits w v → Consults w v
-    all_given_back [] w v same = subst (Consults w) (sym same) (consults_none w)
-    all_given_back (k ∷ kits) w v are = consults_twice w are.0 v (all_given_back kits w are.0 are.1) (given_back k are.0 v are.2)
-
-    given_behind : (k : Kit (AnyStore L D K) V) (rest : List (Kit (AnyStore L D K) V)) (w u v : Storage) → IsKitGiven look view state k w u → AreGivenBack look view state rest u v → AreGivenBack look view state (rest ++ k ∷ []) w v
-    given_behind k [] w u v first same = (w, refl, subst (IsKitGiven look view state k w) (sym same) first)
-    given_behind k (r ∷ rest) w u v first are = (are.0, given_behind k rest w u are.0 first are.1, are.2)
-
-    -- the last was given back, and then those before it
-    pub given_last : (kits rest : List (Kit (AnyStore L D K) V)) (k : Kit (AnyStore L D K) V) (w u v : Storage) → kits ≡ rest ++ k ∷ [] → IsKitGiven look view state k w u → AreGivenBack look view state rest u v → AreGivenBack look view state kits w v
-    given_last kits rest k w u v is first are = subst (λ (l : List (Kit (AnyStore L D K) V)). AreGivenBack look view state l w v) (sym is) (given_behind k rest w u v first are)
+    all_given_back kits w v are = turn_consults (IsKitGiven look view state) given_back kits w v are
 
     -- no server was asked where their stores are folders
     pub given_folders : (stores : List Location) (kits : List (Kit (AnyStore L D K) V)) (w v : Storage) → All (λ k. kit_stores look view k ≡ stores) kits → AreGivenBack look view state kits w v → IsTrue (are_folders stores) → v.dial ≡ w.dial
@@ -322,18 +290,7 @@ module _ {L V D K : Type 0} (look : LookWords L) (view : ViewWords V) where
     pub workers_dialed : (P : ℕ → Server → List Traffic → Type 0) (names : List Location) (m : ℕ) (kits : List (Kit (AnyStore L D K) V)) (w u : Storage) (new : Option (List Traffic)) → AreGivenBack look view state kits w u
         → ((i : ℕ) (k : Kit (AnyStore L D K) V) → i < length kits → (a b : Option (List Traffic)) → b ≡ fold (with_those state) a (slice_index_or kits i k).chain.stores → EachDialed (P (m + i)) names a b)
         → WorkersDialed P m names u.dial.ended new → WorkersDialed P (m + length kits) names w.dial.ended new
-    workers_dialed P names m [] w u new same each last =
-        let from : WorkersDialed P m names w.dial.ended new = subst (λ (s : Storage). WorkersDialed P m names s.dial.ended new) same last in
-        let none : m ≡ m + 0 = omega arith in
-        subst (λ (n : ℕ). WorkersDialed P n names w.dial.ended new) none from
-    workers_dialed P names m (k ∷ kits) w u new are each last =
-        let first : m + 0 ≡ m = omega arith in
-        let one : EachDialed (P m) names are.0.dial.ended u.dial.ended = subst (λ (n : ℕ). EachDialed (P n) names are.0.dial.ended u.dial.ended) first (each 0 k (omega arith) are.0.dial.ended u.dial.ended are.2.ended) in
-        let more = workers_dialed P names (suc m) kits w are.0 new are.1
-        (λ i j lt a b is. let next : m + suc i ≡ suc m + i = omega arith in subst (λ (n : ℕ). EachDialed (P n) names a b) next (each (suc i) j (omega (arith, lt)) a b is))
-        (u.dial.ended, one, last) in
-        let many : suc m + length kits ≡ m + suc (length kits) = omega arith in
-        subst (λ (n : ℕ). WorkersDialed P n names w.dial.ended new) many more
+    workers_dialed P names m kits w u new are each last = turn_dialed (IsKitGiven look view state) P names m kits w u new are (λ i k lt a b is. each i k lt a.dial.ended b.dial.ended is.ended) last
 
     -- nothing was asked
     pub given_nothing : (names : List Location) (kits : List (Kit (AnyStore L D K) V)) (w v : Storage) → All (λ k. (a b : Option (List Traffic)) → b ≡ fold (with_those state) a k.chain.stores → EachDialed Nothing names a b) kits → AreGivenBack look view state kits w v

@@ -25,7 +25,7 @@ use Rattle.command_steps.proofs.Given.{Stands, all_stand, folders_quiet, given_e
 use Rattle.command_steps.proofs.Lent.{each_quiet, store_rose}
 use Rattle.command_steps.proofs.Numbers.{given_quiet, given_rose, rose_longer, rose_not_quiet}
 use Rattle.command_steps.specs.AnyStores.{IsGiven, location_in, place_in, said_in, source_faults, source_files, with_those}
-use Rattle.command_steps.specs.Asking.{AsksFew, EachDialed, SendsFronts}
+use Rattle.command_steps.specs.Asking.{AsksFew, EachDialed, SendsFronts, WorkersDialed}
 use Rattle.command_steps.specs.Blames.{name_at}
 use Rattle.command_steps.specs.Cache.{CacheGiven, folders_with, with_cache}
 use Rattle.command_steps.specs.Seeds.{label_in}
@@ -53,7 +53,7 @@ use Rattle.extract_command.proofs.Shelved.{IsTold, cache_lacking, cache_quiet, c
 use Rattle.extract_command.proofs.Spared.{cache_gives}
 use Rattle.extract_command.proofs.Unused.{none_reached}
 use Rattle.extract_command.proofs.Wrote.{wrote_back, wrote_on}
-use Rattle.extract_command.specs.Extract.{Assembled, CacheSpares, CanBeHad, GetsWants, Into, Seeds, Undisturbed, WorkersDialed, answer_of_assembly, folder_of, never_fail, old_of}
+use Rattle.extract_command.specs.Extract.{Assembled, CacheSpares, CanBeHad, GetsWants, Into, Seeds, Undisturbed, answer_of_assembly, folder_of, never_fail, old_of}
 use Rattle.extract_command.specs.Kits.{AreGivenBack, AreOpened, IsKitOpened}
 use Rattle.extract_plan.specs.Deal.{Deal, IsPlan, first_of, want_id}
 use Rattle.extract_plan.specs.Places.{IsSeedIndex, Placed}

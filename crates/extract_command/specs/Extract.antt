@@ -1,5 +1,5 @@
 -- `extract [-k] -s STORE.. -c FOLDER --seed INDEX.. INDEX OUT`. A name is its bytes.
-use Rattle.std.specs.Prelude.{◌≡◌, ◌⊎◌, ◌++◌, codes, Bool, true, false, if◌then◌else◌, is_some, ℕ, zero, suc}
+use Rattle.std.specs.Prelude.{◌≡◌, ◌⊎◌, ◌++◌, codes, Bool, true, false, if◌then◌else◌, is_some, ℕ}
 use Rattle.std.specs.Prelude.{◌+◌, ◌<◌, ◌≤◌}
 use Rattle.std.specs.Prelude.{length, List, [], ◌∷◌, map, Option, Some, None, IfSome, IsSome, IsSomeAnd, IsTrue}
 use Rattle.std.specs.Prelude.{Result, Ok, Err}
@@ -27,11 +27,10 @@ use Rattle.command_words.specs.declared.command.Location.{Location}
 use Rattle.dir_store.specs.Names.{is_stranger}
 use Rattle.dsy_base.specs.Bytes.{resized}
 use Rattle.dsy_base.specs.Counts.{Quiet}
-use Rattle.dsy_base.specs.Links.{Traffic}
 use Rattle.dsy_base.specs.Maps.{Map, at_name}
 use Rattle.dsy_base.specs.declared.fault.IoFault.{IoFault}
 use Rattle.dsy_base.specs.declared.fault.IoFault.TheVariants as io
-use Rattle.command_steps.specs.Asking.{AsksFew, EachDialed, SendsFronts}
+use Rattle.command_steps.specs.Asking.{AsksFew, EachDialed, SendsFronts, WorkersDialed}
 use Rattle.command_steps.specs.Cache.{CacheOpened}
 use Rattle.command_steps.specs.InputFiles.{IndexRead, IsListed}
 use Rattle.command_steps.specs.Seeds.{IndexesRead, image_name}
@@ -42,7 +41,6 @@ use Rattle.command_steps.specs.Uses.{Uses, folders_among}
 use Rattle.command_worlds.specs.Worlds.{DiskQuiet, FileRose, FolderRose, OnDisk, Step, World}
 use Rattle.dsy_base.specs.Disk.{Disk, OnFile}
 use Rattle.extract_plan.specs.Deal.{Deal, IsPlan, first_of, of_want, want_id}
-use Rattle.http_read.specs.Asks.{Server}
 use Rattle.http_wire.specs.declared.reply.Method.TheVariants as method
 use Rattle.image_workers.specs.Kits.{worker_asks}
 use Rattle.store_chain.specs.Giving.{LacksAll}
@@ -318,13 +316,6 @@ IsSparedOnDisk sure workers d e before cache out l x p w =
     ⊎ (IsSomeAnd cache (λ c. CacheSpares d e c l (want_id l p w) (size_of l (first_of p w)))
     × AllKnow workers sure.cache))
 
--- the connections of the workers' stores have ended one worker's after the other, those of the last first: P k holds
--- for those of worker k
-abbrev pub WorkersDialed : (ℕ → Server → List Traffic → Type 0) → ℕ → List Location → Option (List Traffic)
-    → Option (List Traffic) → Type 0
-WorkersDialed P zero stores old new = new ≡ old
-WorkersDialed P (suc k) stores old new = (ended : Option (List Traffic)) × EachDialed (P k) stores old ended
-    × WorkersDialed P k stores ended new
 
 -- each worker asks each server for the chunk of an id at most once for each want of that id that it is dealt and that
 -- isn't spared, and the first worker once more for each want of that id that isn't spared; and each sends nothing but

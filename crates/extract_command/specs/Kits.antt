@@ -1,5 +1,5 @@
 -- The kits of the further workers of an extraction: how they are opened, and given back.
-use Rattle.std.specs.Prelude.{◌≡◌, ℕ, ◌≤◌, List, [], ◌∷◌, All, IfSome, map}
+use Rattle.std.specs.Prelude.{◌≡◌, ℕ, ◌≤◌, List, ◌∷◌, All, IfSome, map}
 use Rattle.std.specs.List.{AllZip, fold}
 use Rattle.std.specs.Map.{count_at}
 use Rattle.chunk_sources.specs.declared.kit.Kit.{Kit}
@@ -8,6 +8,7 @@ use Rattle.command_steps.specs.AnyStores.{IsGiven, IsKnown, IsUnused, location_i
 use Rattle.command_steps.specs.AnyStores.{with_those}
 use Rattle.command_steps.specs.Seeds.{IsViewed, SeedsKnown, label_in}
 use Rattle.command_steps.specs.Sources.{ConsultsStores, Storage, location_files, storage}
+use Rattle.command_steps.specs.Turns.{GivenInTurn}
 use Rattle.command_steps.specs.Uses.{IsNoneOf, Uses, folders_among, names_among}
 use Rattle.command_steps.specs.declared.any_store.AnyStore.{AnyStore}
 use Rattle.command_words.specs.declared.command.Location.{Location}
@@ -75,8 +76,7 @@ module _ {L V D K : Type 0} (look : LookWords L) (view : ViewWords V) where
 
     -- all of them were, the last first
     abbrev pub AreGivenBack : List (Kit (AnyStore L D K) V) → Storage → Storage → Type 0
-    AreGivenBack [] w v = v ≡ w
-    AreGivenBack (k ∷ kits) w v = (u : Storage) × AreGivenBack kits w u × IsKitGiven k u v
+    AreGivenBack kits w v = GivenInTurn IsKitGiven kits w v
 
 -- a kit of these stores and seeds stands before the others
 pub record StandsFirst {S V : Type 0} (stores : List S) (seeds : List (Seed V)) (kits others : List (Kit S V))

@@ -1,6 +1,6 @@
 //! The tests of images: where their chunks end, their indexes by any number of views, and how they are stored, chopped
-//! and made; and of what is done by an index: targets that are surveyed and assembled, images that are checked, stores
-//! that are checked, pruned and counted in, and caches that are filled.
+//! and made; and of what is done by an index: targets that are surveyed and assembled, images that are checked, and
+//! stores that are checked, pruned and counted in.
 #![tactic(auto)]
 
 #[cfg(test)]
@@ -17,8 +17,6 @@ mod compare;
 mod demo_tests;
 #[cfg(test)]
 mod end_tests;
-#[cfg(test)]
-mod fill_tests;
 #[cfg(test)]
 mod images;
 #[cfg(test)]

@@ -1,5 +1,5 @@
 -- A folder that was taken, and given back with what it has counted.
-use Rattle.std.proofs.Common.{◌≡◌, ◌≢◌, ◌==◌, ℕ, List, Bool, true, false, cond, Option, Some, None, IfSome, is_some, IfOk, OnErr, Result, Ok, Err, refl, sym, ap, subst, ◌∙◌, arith, eq-eqb, eqb-true, true≢false}
+use Rattle.std.proofs.Common.{◌≡◌, ◌≢◌, ◌==◌, ℕ, List, Bool, true, false, cond, Option, Some, None, IfSome, is_some, IfOk, OnErr, IsTrue, Result, Ok, Err, refl, sym, ap, subst, ◌∙◌, arith, eq-eqb, eqb-true, true≢false}
 use Rattle.std.specs.Option.{option_map}
 use Rattle.std.specs.Map.{count_at}
 use Rattle.chunk_store.specs.declared.id.DigestKind.TheVariants.{Sha512T256}
@@ -14,7 +14,6 @@ use Rattle.dsy_base.specs.declared.look.Look.{Ghosts as LookWords}
 use Rattle.store_check.specs.Verifying.{Change, IsStoreChecked, StopsVerifying}
 use Rattle.store_check.specs.declared.verify.StoreCheck.{StoreCheck}
 use Rattle.store_check.specs.declared.verify.StoreCheck.TheVariants as checks
-use Rattle.told_folders.specs.Telling.{told_if}
 
 -- a fault of a folder that had counted none is one of its name
 pub gives_rose : (d e : Disk) (q : List ℕ) (m n : ℕ) → GivesFolder d e q n → m ≡ 0 → Rose m n → FolderRose d e q
@@ -24,35 +23,19 @@ gives_rose d e q m n given none rose =
 pub reads_still : (d : Disk) → Reads d d
 reads_still d = record { files = refl; folders = refl; counts = λ q. omega arith; folder_counts = λ q. omega arith; known = λ q is. is; folder_known = λ q is. is }
 
--- ---- a folder that tells its files where the disk tells its folders
+-- a look tells what the folder told where it was taken: neither tells where the disk doesn't
+pub look_told : (folders : Option (Map (Map (List ℕ)))) (tells taken : Bool) (q : List ℕ) (held looked : Option (Map (List ℕ))) → is_some folders ≡ tells → is_some held ≡ taken → (IsTrue taken → IsTrue tells)
+    → IfSome folders (λ m. (f : Map (List ℕ)) × (m q ≡ Some f) × (held ≡ Some f)) → IfSome folders (λ m. (f : Map (List ℕ)) × (m q ≡ Some f) × (looked ≡ Some f)) → IfSome held (λ m. looked ≡ Some m)
+look_told None tells taken q None looked told is seen found sees = tt
+look_told None tells taken q (Some f) looked told is seen found sees =
+    let no : IsTrue tells = seen (sym is) in
+    absurd (true≢false (sym (told ∙ no)))
+look_told (Some m) tells taken q held looked told is seen (f, there, holds) (e, also, sees) = subst (λ (o : Option (Map (List ℕ))). IfSome o (λ n. looked ≡ Some n)) (sym holds) (sees ∙ sym also ∙ there)
 
--- what is told of it where it was taken
-pub taken_told : (folders : Option (Map (Map (List ℕ)))) (tells : Bool) (q : List ℕ) (held : Option (Map (List ℕ))) → is_some folders ≡ tells → IfSome folders (λ m. (f : Map (List ℕ)) × (m q ≡ Some f) × (held ≡ Some f))
-    → IfSome folders (λ m. (f : Map (List ℕ)) × (m q ≡ Some f) × (told_if tells held ≡ Some f))
-taken_told None tells q held told found = tt
-taken_told (Some m) true q held told found = found
-taken_told (Some m) false q held told found = absurd (true≢false told)
-
--- a look at it tells the same
-pub look_told : (folders : Option (Map (Map (List ℕ)))) (tells : Bool) (q : List ℕ) (held looked : Option (Map (List ℕ))) → is_some folders ≡ tells
-    → IfSome folders (λ m. (f : Map (List ℕ)) × (m q ≡ Some f) × (held ≡ Some f)) → IfSome folders (λ m. (f : Map (List ℕ)) × (m q ≡ Some f) × (looked ≡ Some f)) → IfSome (told_if tells held) (λ m. looked ≡ Some m)
-look_told None true q held looked told found seen = absurd (true≢false (sym told))
-look_told None false q held looked told found seen = tt
-look_told (Some m) false q held looked told found seen = absurd (true≢false told)
-look_told (Some m) true q held looked told (f, there, is) (e, also, sees) = subst (λ (o : Option (Map (List ℕ))). IfSome o (λ n. looked ≡ Some n)) (sym is) (sees ∙ sym also ∙ there)
-
--- and so it is given back
-pub given_told : (folders : Option (Map (Map (List ℕ)))) (tells : Bool) (q : List ℕ) (held : Option (Map (List ℕ))) → is_some folders ≡ tells → option_map (λ m. at_name m q held) folders ≡ option_map (λ m. at_name m q (told_if tells held)) folders
-given_told None tells q held told = refl
-given_told (Some m) true q held told = refl
-given_told (Some m) false q held told = absurd (true≢false told)
-
-pub folder_back : {F : Type 0} (look : LookWords F) (tells other : Bool) (q name : List ℕ) (d e b : Disk) (folder last : F) → is_some d.folders ≡ tells → other ≡ tells → name ≡ q → folder ≡ last → e.folders ≡ d.folders
-    → b.folders ≡ option_map (λ m. at_name m name (look.files folder)) e.folders → b.folders ≡ option_map (λ m. at_name m q (told_if other (look.files last))) d.folders
-folder_back look tells other q name d e b folder last told telling named same kept given =
-    given ∙ (λ i. option_map (λ m. at_name m (named i) (look.files (same i))) (kept i))
-    ∙ given_told d.folders tells q (look.files last) told
-    ∙ ap (λ (t : Bool). option_map (λ m. at_name m q (told_if t (look.files last))) d.folders) (sym telling)
+-- the folder was given back over what was only read
+pub folder_back : {F : Type 0} (look : LookWords F) (q name : List ℕ) (d e b : Disk) (folder : F) → name ≡ q → e.folders ≡ d.folders → b.folders ≡ option_map (λ m. at_name m name (look.files folder)) e.folders
+    → b.folders ≡ option_map (λ m. at_name m q (look.files folder)) d.folders
+folder_back look q name d e b folder named same given = given ∙ (λ i. option_map (λ m. at_name m (named i) (look.files folder)) (same i))
 
 -- a disk that was read, and to which a folder was given back then
 pub adds_later : (d e b : Disk) → Reads d e → Adds e b → Adds d b

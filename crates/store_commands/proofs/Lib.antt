@@ -1,4 +1,3 @@
-pub mod CacheFilled
 pub mod Counting
 pub mod GivenFolders
 pub mod Listened

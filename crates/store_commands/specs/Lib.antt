@@ -1,4 +1,3 @@
-pub mod Caching
 pub mod Info
 pub mod Prune
 pub mod Serving

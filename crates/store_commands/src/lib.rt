@@ -1,7 +1,6 @@
-//! The commands that fill, check, prune and serve stores, and that check an image, a file each.
+//! The commands that check, prune and serve stores, and that check an image, a file each.
 #![tactic(auto)]
 
-pub mod cache;
 pub mod info;
 mod looks;
 pub mod prune;

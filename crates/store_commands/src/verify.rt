@@ -5,7 +5,6 @@ ghost use Rattle.command_steps.specs.Stores.{StoreTaken};
 ghost use Rattle.command_worlds.specs.Worlds.{world};
 ghost use Rattle.dsy_base.specs.Links.{DialState};
 ghost use Rattle.store_commands.specs.Verify.{StoreVerified, VerifyEnds, answer_of_left, answer_of_verify};
-ghost use Rattle.told_folders.specs.Telling.{told_if};
 
 use crate::looks::{end_looks, open_looks};
 use command_outcome::outcome::Outcome;
@@ -13,14 +12,13 @@ use command_steps::taken_stores::{give_folder, take_folder};
 use dir_store::store::DirStore;
 use dsy_base::files::Files;
 use dsy_base::folder::Folder;
+use dsy_base::image_files::ImageFiles;
 use dsy_base::look::Look;
 use dsy_base::name::Name;
 use dsy_base::sink::Sink;
 use std::alloc::Global;
-use std::marker::Brand;
 use std::thread::Threads;
 use store_check::verify::{StoreCheck, verify_store};
-use told_folders::told_folder::{Telling, ToldFolder};
 
 // The answer where this many damaged chunk files are left.
 fn none_left(count: u64) -> Result<(), Outcome>
@@ -53,21 +51,21 @@ pub(crate) struct TakenStore<F: Folder, L: Look> {
 }
 
 // Takes the folder of STORE, for so many workers.
-fn take_store<F: Files>(
+fn take_store<F: ImageFiles>(
     alloc: Global,
     files: &mut F,
     store: &Name,
     workers: u32,
 ) -> Result<TakenStore<F::Folder, F::Look>, Outcome>
     ensures ok { IfOk result (λ t. StoreTaken [] store.now (F.disk files.old)
-        (Ok (told_if F.tells (F.Folder.files t.store))) (F.disk files.new)) }
+        (Ok (F.Folder.files t.store)) (F.disk files.new)) }
     ensures err { IfErr result (λ o. StoreTaken [] store.now (F.disk files.old) (Err o) (F.disk files.new)) }
     ensures folder { OnOk result (IsSome ((F.disk files.new).folder_counts store.now)) }
     ensures named { IfOk result (λ t. F.Folder.place t.store ≡ store.now) }
     ensures fresh { IfOk result (λ t. F.Folder.faults t.store ≡ 0) }
     ensures places { IfOk result (λ t. All (λ l. F.Look.place l ≡ store.now) t.looks.items) }
-    ensures alike { IfOk result (λ t. All (λ l. IfSome (told_if F.tells (F.Folder.files t.store))
-        (λ m. F.Look.files l ≡ Some m)) t.looks.items) }
+    ensures alike { IfOk result (λ t. All (λ l. IfSome (F.Folder.files t.store) (λ m. F.Look.files l ≡ Some m))
+        t.looks.items) }
 {
     let looks = open_looks(alloc, files, store.as_str(), workers);
     match take_folder(alloc, files, store.as_str()) {
@@ -79,9 +77,8 @@ fn take_store<F: Files>(
     }
 }
 
-// Verifies the store that was taken. The folder and the looks are given back, whatever the answer is. N tells as the
-// files do, so that the folder tells no more than the looks.
-fn verify_taken<N: Telling, R: Threads + Sync, F: Files, O: Sink>(
+// Verifies the store that was taken. The folder and the looks are given back, whatever the answer is.
+fn verify_taken<R: Threads + Sync, F: Files, O: Sink>(
     rt: &R,
     alloc: Global,
     files: &mut F,
@@ -92,32 +89,27 @@ fn verify_taken<N: Telling, R: Threads + Sync, F: Files, O: Sink>(
 ) -> Result<(), Outcome>
 where
     F::Look: Send,
-    requires telling { N.tells ≡ F.tells }
     requires folder { IsSome ((F.disk files.old).folder_counts store.now) }
     requires named { F.Folder.place taken.store ≡ store.now }
     requires fresh { F.Folder.faults taken.store ≡ 0 }
     requires places { All (λ l. F.Look.place l ≡ store.now) taken.looks.items }
-    requires alike { All (λ l. IfSome (told_if F.tells (F.Folder.files taken.store))
-        (λ m. F.Look.files l ≡ Some m)) taken.looks.items }
-    ensures { (k : DialState) → StoreVerified store.now repair (told_if F.tells (F.Folder.files taken.store))
+    requires alike { All (λ l. IfSome (F.Folder.files taken.store) (λ m. F.Look.files l ≡ Some m)) taken.looks.items }
+    ensures { (k : DialState) → StoreVerified store.now repair (F.Folder.files taken.store)
         (world (F.disk files.old) k (O.output out.old)) result (world (F.disk files.new) k (O.output out.new)) }
 {
     let TakenStore {
-        store: folder,
+        store: mut folder,
         mut looks,
     } = taken;
-    let folder: ToldFolder<F::Folder, N> = ToldFolder::new(folder.into_inner());
-    let mut told = DirStore::new(folder);
-    let verified = verify_store(rt, alloc, &mut told, &mut looks, repair, out);
+    let verified = verify_store(rt, alloc, &mut folder, &mut looks, repair, out);
     end_looks(files, looks);
-    let folder = told.into_inner().into_inner();
-    give_folder(files, store.as_str(), DirStore::new(folder));
+    give_folder(files, store.as_str(), folder);
     outcome_of(verified)
 }
 
 /// Prints a line for each chunk file of STORE that is damaged, in the order of the ids, and removes it before with
 /// `repair`. So many workers read the files.
-pub fn verify<R: Threads + Sync, F: Files, O: Sink>(
+pub fn verify<R: Threads + Sync, F: ImageFiles, O: Sink>(
     rt: &R,
     alloc: Global,
     files: &mut F,
@@ -132,6 +124,6 @@ where
         (world (F.disk files.new) k (O.output out.new)) }
 {
     let taken = take_store(alloc, files, &store, workers)?;
-    verify_taken::<Brand, R, F, O>(rt, alloc, files, out, &store, taken, repair)?;
+    verify_taken(rt, alloc, files, out, &store, taken, repair)?;
     Ok(())
 }

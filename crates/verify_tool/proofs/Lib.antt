@@ -3,8 +3,5 @@ pub mod Distinct
 pub mod Counted
 pub mod Asked
 pub mod InfoText
-pub mod Holding
-pub mod EntryCalls
-pub mod Filled
 pub mod Pruned
 pub mod Kept

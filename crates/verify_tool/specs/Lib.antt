@@ -2,5 +2,4 @@ pub mod Texts
 pub mod Counts
 pub mod Blocks
 pub mod Figures
-pub mod Filling
 pub mod Pruning

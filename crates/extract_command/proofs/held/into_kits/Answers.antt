@@ -1,5 +1,5 @@
 use Rattle.std.proofs.Common.{◌∙◌, ap}
-use Rattle.extract_command.proofs.LentKits.{put_first}
+use Rattle.command_steps.proofs.InTurn.{put_first}
 use Rattle.extract_command.proofs.held.into_kits.Goals as goal
 
 pub returns-clause-kits : goal.returns-clause-kits

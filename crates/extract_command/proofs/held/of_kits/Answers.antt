@@ -1,5 +1,5 @@
 use Rattle.std.proofs.Common.{arith, refl, sym}
-use Rattle.extract_command.proofs.LentKits.{first_out}
+use Rattle.command_steps.proofs.InTurn.{first_out}
 use Rattle.extract_command.proofs.held.of_kits.Goals as goal
 
 pub returns-clause-kits : goal.returns-clause-kits

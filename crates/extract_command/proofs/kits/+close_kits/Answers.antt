@@ -1,7 +1,8 @@
 use Rattle.std.proofs.Common.{rules}
 use Rattle.command_steps.specs.Sources.{storage}
-use Rattle.extract_command.proofs.LentKits.{all_last, given_last, rest_can}
-use Rattle.extract_command.specs.Kits.{CanGiveKit}
+use Rattle.command_steps.proofs.InTurn.{all_last, turn_last}
+use Rattle.extract_command.proofs.LentKits.{rest_can}
+use Rattle.extract_command.specs.Kits.{CanGiveKit, IsKitGiven}
 use Rattle.extract_command.proofs.kits.+close_kits.Goals as goal
 
 pub close_kit-requires : goal.close_kit-requires
@@ -17,4 +18,4 @@ pub returns-in-Some : goal.returns-in-Some
 returns-in-Some g t c =
     let at = g.F.Files.disk in
     let state = g.D.Dial.state in
-    record { given = given_last g.F.Look.Look g.F.View.View state c.args.kits.items c.pop.new.self.items c.in-Some.kit (storage (at c.args.files.now) (state c.args.dial.now)) (storage (at c.close_kit.new.files) (state c.close_kit.new.dial)) (storage (at c.close_kits.new.files) (state c.close_kits.new.dial)) c.in-Some.ensures.items c.close_kit.ensures.given c.close_kits.ensures.given }
+    record { given = turn_last (IsKitGiven g.F.Look.Look g.F.View.View state) c.args.kits.items c.pop.new.self.items c.in-Some.kit (storage (at c.args.files.now) (state c.args.dial.now)) (storage (at c.close_kit.new.files) (state c.close_kit.new.dial)) (storage (at c.close_kits.new.files) (state c.close_kits.new.dial)) c.in-Some.ensures.items c.close_kit.ensures.given c.close_kits.ensures.given }

@@ -1,6 +1,7 @@
 use Rattle.std.proofs.Common.{rules}
 use Rattle.command_steps.proofs.Consulted.{reads_twice}
-use Rattle.extract_command.proofs.LentKits.{all_last, dropped_first, rest_can}
+use Rattle.command_steps.proofs.InTurn.{all_last}
+use Rattle.extract_command.proofs.LentKits.{dropped_first, rest_can}
 use Rattle.extract_command.specs.Kits.{CanGiveKit}
 use Rattle.extract_command.proofs.kits.+drop_kits.Goals as goal
 

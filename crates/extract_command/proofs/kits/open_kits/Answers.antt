@@ -3,7 +3,8 @@ use Rattle.command_steps.proofs.Consulted.{reads_none, reads_twice}
 use Rattle.command_steps.proofs.Used.{all_more, uses_none, uses_twice}
 use Rattle.command_steps.specs.Seeds.{image_name}
 use Rattle.command_steps.specs.Uses.{folders_among}
-use Rattle.extract_command.proofs.LentKits.{all_opened_over, opened_over, put_last}
+use Rattle.command_steps.proofs.InTurn.{put_last}
+use Rattle.extract_command.proofs.LentKits.{all_opened_over, opened_over}
 use Rattle.extract_command.proofs.kits.open_kits.Goals as goal
 use Rattle.extract_command.specs.Kits.{IsKitOpened}
 

@@ -1,0 +1,36 @@
+//! Indexes of small images, and the names of their chunks. Sizes are in bytes.
+
+use crate::compare::ok;
+use caibx_codec::index::{Entry, Index};
+use chunk_store::id::ChunkId;
+use std::alloc::Global;
+use std::process::Abort;
+
+/// SHA-512/256 of `abc`, from FIPS 180-4's examples. The two others are from another program.
+pub const ABC: &str = "53048e2681941ef99b2e29b76b4c7dabe4c2d0c634fc6d46e0e2f13107e7af23";
+
+/// SHA-512/256 of `abX`.
+pub const ABX: &str = "69b9fe464181451d00de83054c5fd4017d2537e0c35399e228a72f14ec546a03";
+
+/// SHA-512/256 of `def`.
+pub const DEF: &str = "f391834ba55302124fbcfc8df6831a666e468b310e99295e1fce0abf8ef9ec3f";
+
+/// The id that has this name, in digits.
+pub fn id_of(rt: &impl Abort, text: &str) -> ChunkId {
+    ok(rt, ChunkId::from_hex(text))
+}
+
+/// The index of chunks of three bytes with these names.
+pub fn index_of(rt: &impl Abort, alloc: Global, names: &[&str]) -> Index {
+    let mut entries = Vec::new(alloc);
+    let mut end = 0u64;
+    for name in names {
+        end = end.saturating_add(3);
+        let id = id_of(rt, name);
+        ok(rt, entries.push(Entry { end, id }));
+    }
+    ok(
+        rt,
+        Index::new(0xa000_0000_0000_0000, 16_384, 65_536, 262_144, entries),
+    )
+}

@@ -1,0 +1,110 @@
+-- How the stores of all workers are asked while a cache is filled by indexes in order.
+use Rattle.std.proofs.Common.{◌≡◌, ℕ, ◌+◌, ◌≤◌, List, [], ◌∷◌, All, map, max, IfSome, inl, inr, refl, sym, subst, ◌∙◌, arith}
+use Rattle.std.proofs.lemmas.List.Elements.{All-cons, All-head, All-nil, All-tail}
+use Rattle.std.specs.List.{AllZip}
+use Rattle.cache_command.specs.Caching.{FilledBetween, FrontListed, IsGetAmong, listed_times}
+use Rattle.cache_command.specs.Filling.{AsksListings, HoldAlike}
+use Rattle.cache_fill.specs.Filling.{AsksEntries, FetchesAhead}
+use Rattle.caibx_codec.specs.Asks.{IsListedGet}
+use Rattle.caibx_codec.specs.Listing.{Listing, count_of}
+use Rattle.chunk_store.specs.declared.id.DigestKind.TheVariants as digests
+use Rattle.chunk_store.specs.declared.store.Store.{Ghosts as StoreWords}
+use Rattle.command_outcome.specs.declared.outcome.Outcome.{Outcome}
+use Rattle.command_steps.proofs.Asking.{none_more}
+use Rattle.command_steps.specs.InputFiles.{IsListed, Listed}
+use Rattle.command_steps.specs.Sources.{Storage}
+use Rattle.command_words.specs.declared.command.Location.{Location}
+use Rattle.command_worlds.specs.Worlds.{Reads}
+use Rattle.dsy_base.specs.Disk.{Disk}
+use Rattle.image_chop.specs.Chopping.{AsksListed}
+use Rattle.std.specs.Prelude.{Result}
+use Rattle.store_chain.proofs.Kept.{kept_on, kept_still, kept_weaker}
+use Rattle.store_chain.proofs.Pairs.{all_zip_same}
+use Rattle.store_chain.specs.Chains.{Chained, KeepsStores}
+use Rattle.verify_tool.proofs.Asked.{each_then, each_weaker}
+
+-- what was read of the first indexes, over a disk that held the same
+front_later : (d e : Disk) → e.files ≡ d.files → (indexes : List (List ℕ)) (ls : List Listing) → FrontListed e indexes ls → FrontListed d indexes ls
+front_later d e same indexes [] h = tt
+front_later d e same [] (l ∷ ls) h = absurd h
+front_later d e same (q ∷ indexes) (l ∷ ls) h = (subst (λ f. IfSome f (λ m. IsListed m q l)) same h.0, front_later d e same indexes ls h.1)
+
+pub front_more : (d e : Disk) (q : List ℕ) (indexes : List (List ℕ)) (l : Listing) (ls : List Listing) → Reads d e → Listed d q l → FrontListed e indexes ls → FrontListed d (q ∷ indexes) (l ∷ ls)
+front_more d e q indexes l ls read listed front = (listed, front_later d e read.files indexes ls front)
+
+-- what holds of the one list holds of the other, where their elements agree
+all_through : {X : Type 0} (P Q : X → Type 0) (R : X → X → Type 0) → ((a b : X) → R a b → P a → Q b) → (xs ys : List X) → AllZip R xs ys → All P xs → All Q ys
+all_through P Q R on [] [] zip h = All-nil Q
+all_through P Q R on [] (y ∷ ys) zip h = absurd zip
+all_through P Q R on (x ∷ xs) [] zip h = absurd zip
+all_through P Q R on (x ∷ xs) (y ∷ ys) zip h = All-cons Q y ys (on x y zip.0 (All-head P x xs h)) (all_through P Q R on xs ys zip.1 (All-tail P x xs h))
+
+module _ {S : Type 0} (store : StoreWords S) where
+  abbrev Few : List Listing → S → S → Type 0
+  Few ls a b = (id : List ℕ) → store.asked b id ≤ store.asked a id + listed_times ls id
+
+  abbrev Once : Listing → S → S → Type 0
+  Once l a b = AsksListed l (count_of l) (store.asked a) (store.asked b)
+
+  -- ---- by one index
+
+  listed_by : (l : Listing) (c d : Chained S) → AsksEntries store.asked store.queried l (count_of l) c d → KeepsStores store (IsListedGet l) c.stores d.stores → AsksListings store (l ∷ []) c d
+  listed_by l c d asks keeps = record {
+    gets = each_weaker (Once l) (Few (l ∷ [])) (λ a b h id. let most = h.most id in omega (arith, most)) c.stores d.stores asks.stores;
+    heads = asks.queries;
+    keeps = kept_weaker store (IsListedGet l) (IsGetAmong (l ∷ [])) (λ a h. inl h) c.stores d.stores keeps;
+  }
+
+  -- the first worker's stores, and the further workers'
+  pub all_listed : (l : Listing) (c d : Chained S) (cs ds : List (Chained S)) → AsksEntries store.asked store.queried l (count_of l) c d → KeepsStores store (IsListedGet l) c.stores d.stores → AllZip (FetchesAhead store l) cs ds
+      → AllZip (AsksListings store (l ∷ [])) (c ∷ cs) (d ∷ ds)
+  all_listed l c d cs ds asks keeps ahead = (listed_by l c d asks keeps, each_weaker (FetchesAhead store l) (AsksListings store (l ∷ [])) (λ a b h. listed_by l a b h.asks h.stores) cs ds ahead)
+
+  -- what they hold they hold still
+  pub alike_on : (l : Listing) (c d : Chained S) (cs ds : List (Chained S)) → d.kind ≡ c.kind → map store.holds d.stores ≡ map store.holds c.stores → AllZip (FetchesAhead store l) cs ds → HoldAlike store c cs → HoldAlike store d ds
+  alike_on l c d cs ds kind held ahead alike = record {
+    kind = kind ∙ alike.kind;
+    kinds = all_through (λ a. a.kind ≡ digests.Sha512T256) (λ b. b.kind ≡ digests.Sha512T256) (FetchesAhead store l) (λ a b h is. h.asks.kind ∙ is) cs ds ahead alike.kinds;
+    held = all_through (λ a. map store.holds a.stores ≡ map store.holds c.stores) (λ b. map store.holds b.stores ≡ map store.holds d.stores) (FetchesAhead store l) (λ a b h is. h.stores.held ∙ is ∙ sym held) cs ds ahead alike.held;
+  }
+
+  -- ---- by one after the other
+
+  none_listed : (c : Chained S) → AsksListings store [] c c
+  none_listed c = record { gets = none_more store.asked c.stores c.stores refl; heads = refl; keeps = kept_still store (IsGetAmong []) c.stores }
+
+  pub listed_none : (cs : List (Chained S)) → AllZip (AsksListings store []) cs cs
+  listed_none cs = all_zip_same (AsksListings store []) none_listed cs
+
+  listed_on : (l : Listing) (ls : List Listing) (a b c : Chained S) → AsksListings store (l ∷ []) a b → AsksListings store ls b c → AsksListings store (l ∷ ls) a c
+  listed_on l ls a b c h k = record {
+    gets = each_then (Few (l ∷ [])) (Few ls) (Few (l ∷ ls)) (λ x y z p q id. let first = p id in let next = q id in omega (arith, first, next)) a.stores b.stores c.stores h.gets k.gets;
+    heads = k.heads ∙ h.heads;
+    keeps = kept_on store (IsGetAmong (l ∷ ls)) a.stores b.stores c.stores
+        (kept_weaker store (IsGetAmong (l ∷ [])) (IsGetAmong (l ∷ ls)) (λ x is. elim is [ inl here ↦ inl here | inr none ↦ absurd none ]) a.stores b.stores h.keeps)
+        (kept_weaker store (IsGetAmong ls) (IsGetAmong (l ∷ ls)) (λ x is. inr is) b.stores c.stores k.keeps);
+  }
+
+  pub listed_then : (l : Listing) (ls : List Listing) (xs ys zs : List (Chained S)) → AllZip (AsksListings store (l ∷ [])) xs ys → AllZip (AsksListings store ls) ys zs → AllZip (AsksListings store (l ∷ ls)) xs zs
+  listed_then l ls xs ys zs h k = each_then (AsksListings store (l ∷ [])) (AsksListings store ls) (AsksListings store (l ∷ ls)) (listed_on l ls) xs ys zs h k
+
+-- ---- by fewer workers than there may be
+
+pub more_workers : (stores : List Location) (cache : List ℕ) (few most : ℕ) (indexes : List (List ℕ)) (w v : Storage) (r : Result Unit Outcome) → max 1 few ≤ max 1 most → FilledBetween stores cache few indexes w v r → FilledBetween stores cache most indexes w v r
+more_workers stores cache few most indexes w v r less h = record {
+  held = h.held;
+  was = h.was;
+  now = h.now;
+  filled = h.filled;
+  back = h.back;
+  adds = h.adds;
+  dials = h.dials;
+  asks = record {
+    listings = h.asks.listings;
+    read = h.asks.read;
+    workers = h.asks.workers;
+    some = h.asks.some;
+    few = omega (arith, h.asks.few, less);
+    gets = h.asks.gets;
+  };
+}

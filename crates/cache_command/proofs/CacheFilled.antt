@@ -1,0 +1,342 @@
+-- Filling a cache by indexes in order: what one of them comes to, from one to the next, and what stands when all is given
+-- back.
+use Rattle.std.proofs.Common.{◌≡◌, ◌⊎◌, ℕ, ◌≤◌, List, [], ◌∷◌, All, map, Option, Some, None, IfSome, IsSomeAnd, Result, Ok, Err, IfErr, refl, sym, subst, ap, ◌∙◌, inl, inr, arith, slice_index_or, true}
+use Rattle.std.specs.Map.{count_at}
+use Rattle.std.specs.Option.{option_map}
+use Rattle.cache_store.proofs.Stocked.{stocks_weaker}
+use Rattle.cache_store.specs.Shelves.{Shelf, Stocks, held_on}
+use Rattle.caibx_codec.specs.Asks.{IsListedGet}
+use Rattle.caibx_codec.specs.Listing.{Listing}
+use Rattle.chunk_store.specs.Folders.{chunks}
+use Rattle.chunk_store.specs.Said.{Said}
+use Rattle.chunk_store.specs.declared.id.ChunkId.{ChunkId}
+use Rattle.chunk_store.specs.declared.store.Store.{Ghosts as StoreWords}
+use Rattle.command_outcome.specs.declared.outcome.Outcome.{Outcome}
+use Rattle.command_outcome.specs.declared.outcome.Outcome.TheVariants as ends
+use Rattle.command_words.specs.declared.command.Location.{Location}
+use Rattle.command_steps.proofs.Cached.{given_adds}
+use Rattle.command_steps.proofs.Dialed.{dials_none}
+use Rattle.command_steps.proofs.Given.{Stands, all_stand, folders_quiet, given_earlier}
+use Rattle.command_steps.proofs.Numbers.{given_quiet, given_rose, rose_later, rose_longer}
+use Rattle.command_steps.specs.AnyStores.{IsGiven, source_faults, source_files, location_in, said_in}
+use Rattle.command_steps.specs.Cache.{CacheGiven, CacheOpened, with_cache}
+use Rattle.command_steps.specs.InputFiles.{IsBad, IsListed, Listed, NotRead}
+use Rattle.command_steps.specs.Sources.{ConsultsStores, Storage, SourcesOpened, storage, location_files}
+use Rattle.command_worlds.specs.Steps.{outcome_of}
+use Rattle.command_worlds.specs.Worlds.{Adds, DiskQuiet, FileRose, FolderRose, Reads, world}
+use Rattle.command_steps.specs.declared.any_store.AnyStore.{AnyStore}
+use Rattle.command_steps.proofs.Taken.{at_name_twice}
+use Rattle.command_steps.proofs.Found.{held_after}
+use Rattle.command_steps.proofs.Lacked.{have_lacked, same_length}
+use Rattle.cache_command.specs.Caching.{AddsListed, AllFilled, CacheEnds, EndsFilling, Evidence, FillExactly, FillTells, FilledBetween, FillsEach, IndexFilled, IsHeldListed, IsNotHad, NotFilled, StopsFilling, answer_of_fill, of_calls, of_command, outcome_of_fill, GetsListed}
+use Rattle.dsy_base.proofs.Counts.{at_same}
+use Rattle.dsy_base.specs.Counts.{Quiet, Rose}
+use Rattle.dsy_base.specs.Disk.{Disk, Output}
+use Rattle.dsy_base.specs.Links.{DialState}
+use Rattle.dsy_base.specs.Maps.{Map, at_name}
+use Rattle.image_store.specs.PutChunks.{IsListedId as IsAmong}
+use Rattle.store_chain.specs.Chains.{Chained, KeepsStores}
+use Rattle.store_chain.specs.Faults.{EachQuiet, NoneFalls}
+use Rattle.store_chain.specs.Refusals.{Refuses}
+use Rattle.store_chain.specs.declared.refused.Refused.{Refused}
+use Rattle.store_chain.specs.declared.refused.Refused.TheVariants as refused
+use Rattle.store_chain.specs.declared.query.Query.{Query}
+use Rattle.cache_fill.proofs.Holding.{each_within, quiet_within}
+use Rattle.cache_fill.specs.Filling.{EntryFails, FillEnds, FillStops, FillsBy, GivesEntry, HoldsTo, FillUnfailed, RefusesEntry, MayFillCache, entry_want, filled_to}
+use Rattle.cache_fill.specs.declared.fill.FillFault.{FillFault}
+use Rattle.cache_fill.specs.declared.fill.FillFault.TheVariants as faults
+
+if_told : {X : Type 0} (o : Option X) (P : X → Type 0) → ((x : X) → o ≡ Some x → P x) → IfSome o P
+if_told None P f = tt
+if_told (Some x) P f = f x refl
+
+of_told : {X : Type 0} (o : Option X) (P : X → Type 0) (x : X) → o ≡ Some x → IfSome o P → P x
+of_told o P x is h = subst (λ r. IfSome r P) is h
+
+-- ---- by one index
+
+module _ {S : Type 0} (store : StoreWords S) (files : S → Option (Map (List ℕ))) (l : Listing) (s0 s1 : Shelf) (c0 c1 : Chained S)
+    (kept : KeepsStores store (IsListedGet l) c0.stores c1.stores) (maps_of : (fs : List (Map (List ℕ))) → map files c0.stores ≡ map Some fs → map store.holds c0.stores ≡ map Some (map chunks fs)) (lacks : store.may_lack_memory ≡ true) where
+  abbrev Calls : Evidence
+  Calls = of_calls files store.said store.faults c0.stores c1.stores s0.faults s1.faults
+
+  held_listed : (q b : List ℕ) → MayFillCache store.holds l c0.stores q b → IsHeldListed Calls l q b
+  held_listed q b (listed, some) = (listed, λ fs told. some (map chunks fs) (maps_of fs told))
+
+  added : Stocks (MayFillCache store.holds l c0.stores) s0 s1 → AddsListed Calls l s0.files s1.files
+  added h =
+      let weaker = stocks_weaker (MayFillCache store.holds l c0.stores) (IsHeldListed Calls l) held_listed s0 s1 h in
+      record { tells = weaker.told; chunks_are = weaker.chunks; strangers = weaker.strangers }
+
+  exact : (r : Result Unit FillFault) → ((m : Map (List ℕ)) (maps : List (Map (List ℕ))) → FillUnfailed store.holds store.faults l m maps s0 s1 c0.stores c1.stores → FillsBy l m maps r) → FillExactly Calls l s0.files r
+  exact r h = λ fs told unfailed. if_told (option_map chunks s0.files) _ (λ m held_is sizes.
+      h m (map chunks fs) (record { held = held_is; told = maps_of fs told; shelf = unfailed.0; stores = unfailed.1; sizes = sizes }))
+
+  -- where it ended early
+  module _ (fault : FillFault) (h : FillStops store l fault s0 s1 c0 c1) where
+    lost : (id : ChunkId) (r : Refused) → RefusesEntry store l h.entry id r h.shelf s1 h.chain c1 → IsNotHad Calls l s1.files h.entry id r
+    lost id r e = record {
+      id_is = e.id_is;
+      cache = if_told (option_map chunks s1.files) (λ m. GivesEntry l h.entry m → Rose s0.faults s1.faults)
+          (λ m is gives. rose_later s0.faults h.shelf.faults s1.faults h.before.stocks.never_falls (of_told (held_on h.shelf) (λ m. GivesEntry l h.entry m → Rose h.shelf.faults s1.faults) m (ap (option_map chunks) (sym e.kept) ∙ is) e.unfound gives));
+      said = (h.chain.stores, same_length store.place h.chain.stores c1.stores (h.before.stores.places ∙ sym kept.places), subst (λ b. Refuses store.said store.faults b (entry_want l h.entry id) h.chain.stores c1.stores r) lacks e.refused);
+      lacks = λ fs told. e.lacks (map chunks fs) (h.before.stores.held ∙ maps_of fs told);
+    }
+
+    tells : (f : FillFault) → EntryFails store l h.entry h.shelf s1 h.chain c1 f → FillTells Calls l s1.files h.entry f
+    tells (faults.Missing k id) e = (e.0, lost id refused.Missing e.1)
+    tells (faults.Damaged k id s x) e = (e.0, lost id (refused.Damaged s x) e.1)
+    tells (faults.StoreFault s) e = (e.0, lost e.0 (refused.StoreFault s) e.1)
+    tells faults.CacheFault e = (rose_later s0.faults h.shelf.faults s1.faults h.before.stocks.never_falls e.1, λ fs told. e.0.gives (map chunks fs) (h.before.stores.held ∙ maps_of fs told))
+    tells faults.Memory e = tt
+
+    others : (x y : Option (Map (List ℕ))) → IfSome x (λ m. IfSome y (λ n. (q : List ℕ) → (chunks n q ≡ chunks m q) ⊎ ((b : List ℕ) × (chunks n q ≡ Some b) × IsAmong l h.entry q)))
+        → IfSome x (λ f. IfSome y (λ g. (q : List ℕ) → (chunks g q ≡ chunks f q) ⊎ IsAmong l h.entry q))
+    others None y h = tt
+    others (Some f) None h = tt
+    others (Some f) (Some g) h = λ q. elim (h q) [
+      | inl same ↦ inl same
+      | inr new ↦ inr new.2
+    ]
+
+    stops : StopsFilling Calls l fault s0.files s1.files
+    stops = record {
+      entry = h.entry;
+      listed = h.listed;
+      holds = h.holds;
+      others = others s0.files s1.files h.stocks.chunks;
+      tells = tells fault h.fails;
+    }
+
+  ended : (r : Result Unit FillFault) → FillEnds store l s0 s1 c0 c1 r → IfErr r (λ fault. EndsFilling Calls l fault s0.files s1.files)
+  ended (Ok u) h = tt
+  ended (Err fault) (inl none) = inl (none.0, ap (λ (s : Shelf). s.files) none.1)
+  ended (Err fault) (inr h) = inr (stops fault h)
+
+  pub index_filled : (r : Result Unit FillFault) → FillEnds store l s0 s1 c0 c1 r → Stocks (MayFillCache store.holds l c0.stores) s0 s1 → HoldsTo l (filled_to l r) s1
+      → ((m : Map (List ℕ)) (maps : List (Map (List ℕ))) → FillUnfailed store.holds store.faults l m maps s0 s1 c0.stores c1.stores → FillsBy l m maps r) → IndexFilled Calls l s0.files s1.files r
+  index_filled r ends stocks all exactly = record { added = added stocks; holds = all; exactly = exact r exactly; order = ended r ends }
+
+-- ---- seen over more calls
+
+module _ (a b : Evidence) (held : (fs : List (Map (List ℕ))) → b.holds fs → a.holds fs) (quiet : (fs : List (Map (List ℕ))) → b.holds fs → b.unfailed → a.unfailed) where
+  one_wider : (l : Listing) (q : List ℕ) (u v : Option (List ℕ)) → (v ≡ u) ⊎ ((t : List ℕ) × (v ≡ Some t) × IsHeldListed a l q t) → (v ≡ u) ⊎ ((t : List ℕ) × (v ≡ Some t) × IsHeldListed b l q t)
+  one_wider l q u v (inl same) = inl same
+  one_wider l q u v (inr (t, is, (listed, some))) = inr (t, is, (listed, λ fs told. some fs (held fs told)))
+
+  added_wider : (l : Listing) (x y : Option (Map (List ℕ))) → AddsListed a l x y → AddsListed b l x y
+  added_wider l x y h = record { tells = h.tells; chunks_are = go x y h.chunks_are; strangers = h.strangers } where
+    go : (x y : Option (Map (List ℕ))) → IfSome x (λ f. IfSome y (λ g. (q : List ℕ) → (chunks g q ≡ chunks f q) ⊎ ((t : List ℕ) × (chunks g q ≡ Some t) × IsHeldListed a l q t)))
+        → IfSome x (λ f. IfSome y (λ g. (q : List ℕ) → (chunks g q ≡ chunks f q) ⊎ ((t : List ℕ) × (chunks g q ≡ Some t) × IsHeldListed b l q t)))
+    go None y h = tt
+    go (Some f) None h = tt
+    go (Some f) (Some g) h = λ q. one_wider l q (chunks f q) (chunks g q) (h q)
+
+  exactly_wider : (l : Listing) (x : Option (Map (List ℕ))) (r : Result Unit FillFault) → FillExactly a l x r → FillExactly b l x r
+  exactly_wider l x r h = λ fs told still. h fs (held fs told) (quiet fs told still)
+
+  pub done_wider : (l : Listing) (x y : Option (Map (List ℕ))) → IndexFilled a l x y (Ok tt) → IndexFilled b l x y (Ok tt)
+  done_wider l x y h = record { added = added_wider l x y h.added; holds = h.holds; exactly = exactly_wider l x (Ok tt) h.exactly; order = tt }
+
+  module _ (refuse : (c : Query) (r : Refused) → a.refused c r → b.refused c r) (cache : a.cache_failed → b.cache_failed) where
+    lost_wider : (l : Listing) (y : Option (Map (List ℕ))) (k : ℕ) (id : ChunkId) (r : Refused) → IsNotHad a l y k id r → IsNotHad b l y k id r
+    lost_wider l y k id r h = record {
+      id_is = h.id_is;
+      cache = if_told (option_map chunks y) (λ m. GivesEntry l k m → b.cache_failed) (λ m is gives. cache (of_told (option_map chunks y) (λ m. GivesEntry l k m → a.cache_failed) m is h.cache gives));
+      said = refuse _ r h.said;
+      lacks = λ fs told. h.lacks fs (held fs told);
+    }
+
+    tells_wider : (l : Listing) (y : Option (Map (List ℕ))) (k : ℕ) (fault : FillFault) → FillTells a l y k fault → FillTells b l y k fault
+    tells_wider l y k (faults.Missing e id) h = (h.0, lost_wider l y k id refused.Missing h.1)
+    tells_wider l y k (faults.Damaged e id s x) h = (h.0, lost_wider l y k id (refused.Damaged s x) h.1)
+    tells_wider l y k (faults.StoreFault s) h = (h.0, lost_wider l y k h.0 (refused.StoreFault s) h.1)
+    tells_wider l y k faults.CacheFault h = (cache h.0, λ fs told. h.1 fs (held fs told))
+    tells_wider l y k faults.Memory h = tt
+
+    order_wider : (l : Listing) (x y : Option (Map (List ℕ))) (r : Result Unit FillFault) → IfErr r (λ fault. EndsFilling a l fault x y) → IfErr r (λ fault. EndsFilling b l fault x y)
+    order_wider l x y (Ok u) h = tt
+    order_wider l x y (Err fault) (inl none) = inl none
+    order_wider l x y (Err fault) (inr h) = inr (record { entry = h.entry; listed = h.listed; holds = h.holds; others = h.others; tells = tells_wider l y h.entry fault h.tells })
+
+    index_wider : (l : Listing) (x y : Option (Map (List ℕ))) (r : Result Unit FillFault) → IndexFilled a l x y r → IndexFilled b l x y r
+    index_wider l x y r h = record { added = added_wider l x y h.added; holds = h.holds; exactly = exactly_wider l x r h.exactly; order = order_wider l x y r h.order }
+
+    -- between disks that lie within others
+    module _ (d0 e0 d e : Disk) (same : d0.files ≡ d.files) (file : (q : List ℕ) → FileRose d0 e0 q → FileRose d e q) where
+      listed_wider : (q : List ℕ) (l : Listing) → Listed d0 q l → Listed d q l
+      listed_wider q l h = subst (λ (o : Option (Map (List ℕ))). IfSome o (λ m. IsListed m q l)) same h
+
+      read_wider : (q : List ℕ) (o : Outcome) → NotRead d0 e0 q o → NotRead d e q o
+      read_wider q (ends.NoFile name) h = (h.0, subst (λ (o : Option (Map (List ℕ))). IfSome o (λ m. m q ≡ None)) same h.1)
+      read_wider q (ends.BadIndex name fault) h = (h.0, subst (λ (o : Option (Map (List ℕ))). IfSome o (λ m. (t : List ℕ) × (m q ≡ Some t) × IsBad t fault)) same h.1)
+      read_wider q (ends.FileFault name) h = (h.0, file q h.1)
+      read_wider q ends.Memory h = tt
+      read_wider q other h = absurd h
+
+      all_wider : (indexes : List (List ℕ)) (x y : Option (Map (List ℕ))) → AllFilled a d0 e0 indexes x y → AllFilled b d e indexes x y
+      all_wider [] x y h = h
+      all_wider (q ∷ indexes) x y (l, listed, z, filled, rest) = (l, listed_wider q l listed, z, done_wider l x z filled, all_wider indexes z y rest)
+
+      none_wider : (indexes : List (List ℕ)) (x y : Option (Map (List ℕ))) (o : Outcome) → NotFilled a d0 e0 indexes x y o → NotFilled b d e indexes x y o
+      none_wider [] x y o h = absurd h
+      none_wider (q ∷ indexes) x y o (inl h) = inl (read_wider q o h.0, h.1)
+      none_wider (q ∷ indexes) x y o (inr (l, listed, inl (fault, is, filled))) = inr (l, listed_wider q l listed, inl (fault, is, index_wider l x y (Err fault) filled))
+      none_wider (q ∷ indexes) x y o (inr (l, listed, inr (z, filled, rest))) = inr (l, listed_wider q l listed, inr (z, done_wider l x z filled, none_wider indexes z y o rest))
+
+      pub fills_wider : (indexes : List (List ℕ)) (x y : Option (Map (List ℕ))) (r : Result Unit Outcome) → FillsEach a d0 e0 indexes x y r → FillsEach b d e indexes x y r
+      fills_wider indexes x y (Ok u) h = all_wider indexes x y h
+      fills_wider indexes x y (Err o) h = none_wider indexes x y o h
+
+-- the first index filled, and then the rest
+fills_next : (over : Evidence) (d e : Disk) (q : List ℕ) (indexes : List (List ℕ)) (l : Listing) (x z y : Option (Map (List ℕ))) (r : Result Unit Outcome)
+    → Listed d q l → IndexFilled over l x z (Ok tt) → FillsEach over d e indexes z y r → FillsEach over d e (q ∷ indexes) x y r
+fills_next over d e q indexes l x z y (Ok u) listed filled rest = (l, listed, z, filled, rest)
+fills_next over d e q indexes l x z y (Err o) listed filled rest = inr (l, listed, inr (z, filled, rest))
+
+-- the call for the first index, and the calls for the rest. The cache's count of faults goes from m0 to m1 to m2, and the
+-- stores from c0 to c1 to c2
+module _ {S : Type 0} (files : S → Option (Map (List ℕ))) (said : S → Said) (counted : S → ℕ) (m0 m1 m2 : ℕ) (c0 c1 c2 : List S) (below : m0 ≤ m1) (above : m1 ≤ m2) (same : map files c1 ≡ map files c0)
+    (fell : NoneFalls (map counted c0) (map counted c1)) (falls : NoneFalls (map counted c1) (map counted c2)) (d b e : Disk) (reads : Reads d b) where
+  abbrev Still : ℕ → ℕ → List S → List S → Type 0
+  Still m n old new = Quiet m n × EachQuiet (map counted old) (map counted new)
+
+  still_first : Still m0 m2 c0 c2 → Still m0 m1 c0 c1
+  still_first quiet = (quiet_within m0 m0 m1 m2 (omega arith) above quiet.0, each_within (map counted c0) (map counted c0) (map counted c1) (map counted c2) (λ k. omega arith) falls quiet.1)
+
+  still_next : Still m0 m2 c0 c2 → Still m1 m2 c1 c2
+  still_next quiet = (quiet_within m0 m1 m2 m2 below (omega arith) quiet.0, each_within (map counted c0) (map counted c1) (map counted c2) (map counted c2) fell (λ k. omega arith) quiet.1)
+
+  abbrev first : Evidence
+  first = of_calls files said counted c0 c1 m0 m1
+
+  abbrev next : Evidence
+  next = of_calls files said counted c1 c2 m1 m2
+
+  abbrev all : Evidence
+  all = of_calls files said counted c0 c2 m0 m2
+
+  pub fills_on : (q : List ℕ) (indexes : List (List ℕ)) (l : Listing) (x z y : Option (Map (List ℕ))) (r : Result Unit Outcome) → Listed d q l → IndexFilled first l x z (Ok tt) → FillsEach next b e indexes z y r → FillsEach all d e (q ∷ indexes) x y r
+  fills_on q indexes l x z y r listed filled rest =
+      fills_next all d e q indexes l x z y r listed
+      (done_wider first all (λ fs told. told) (λ fs told quiet. still_first quiet) l x z filled)
+      (fills_wider next all (λ fs told. same ∙ told) (λ fs told quiet. still_next quiet) (λ c r h. h) (rose_later m0 m1 m2 below) b e d e reads.files
+      (λ n. rose_later (count_at d.file_counts n) (count_at b.file_counts n) (count_at e.file_counts n) (reads.counts n)) indexes z y r rest)
+
+-- how filling by an index was answered
+pub fill_stopped : (over : Evidence) (l : Listing) (x y : Option (Map (List ℕ))) (r : Result Unit FillFault) (o : Outcome) → answer_of_fill r ≡ Err o → IndexFilled over l x y r
+    → (fault : FillFault) × (o ≡ outcome_of_fill fault) × IndexFilled over l x y (Err fault)
+fill_stopped over l x y (Ok u) o is filled = absurd (cc)
+fill_stopped over l x y (Err fault) o is filled = (fault, sym (ap outcome_of is), filled)
+
+pub fill_passed : (over : Evidence) (l : Listing) (x y : Option (Map (List ℕ))) (r : Result Unit FillFault) (u : Unit {0}) → answer_of_fill r ≡ Ok u → IndexFilled over l x y r → IndexFilled over l x y (Ok tt)
+fill_passed over l x y (Ok t) u is filled = filled
+fill_passed over l x y (Err fault) u is filled = absurd (cc)
+
+-- ---- the command
+
+pub cache_ends : (stores : List Location) (cache : List ℕ) (most : ℕ) (indexes : List (List ℕ)) (k j : DialState) (p : Output) (b c d e : Disk) (r : Result Unit Outcome)
+    → SourcesOpened stores b (Ok tt) c → CacheOpened stores (Some cache) c (Ok tt) d → FilledBetween stores cache most indexes (storage d k) (storage e j) r → CacheEnds stores cache most indexes (world b k p) r (world e j p)
+cache_ends stores cache most indexes k j p b c d e (Ok u) opened taken filled =
+    record { disk = c; dial = k; out = p; gave = tt; did = (opened, refl, refl); then = record { disk = d; dial = k; out = p; gave = tt; did = (taken, refl, refl); then = (filled, refl) } }
+cache_ends stores cache most indexes k j p b c d e (Err o) opened taken filled =
+    inr (record { disk = c; dial = k; out = p; gave = tt; did = (opened, refl, refl); then = inr (record { disk = d; dial = k; out = p; gave = tt; did = (taken, refl, refl); then = (filled, refl) }) })
+
+-- the stores weren't opened, or then the folder of the cache wasn't reached
+pub not_reached : (stores : List Location) (cache : List ℕ) (most : ℕ) (indexes : List (List ℕ)) (k : DialState) (p : Output) (b e : Disk) (o : Outcome) → SourcesOpened stores b (Err o) e ⊎ ((m : Disk) × SourcesOpened stores b (Ok tt) m × CacheOpened stores (Some cache) m (Err o) e)
+    → CacheEnds stores cache most indexes (world b k p) (Err o) (world e k p)
+not_reached stores cache most indexes k p b e o (inl none) = inl (none, refl, refl)
+not_reached stores cache most indexes k p b e o (inr (m, opened, none)) = inr (record { disk = m; dial = k; out = p; gave = tt; did = (opened, refl, refl); then = inl (none, refl, refl) })
+
+-- ---- when all is given back
+
+-- a name that is put twice
+put_twice : (o : Option (Map (Map (List ℕ)))) (q : List ℕ) (x y : Option (Map (List ℕ))) → option_map (λ (m : Map (Map (List ℕ))). at_name m q y) o ≡ option_map (λ (m : Map (Map (List ℕ))). at_name m q y) (option_map (λ (m : Map (Map (List ℕ))). at_name m q x) o)
+put_twice None q x y = refl
+put_twice (Some m) q x y = ap Some (sym (at_name_twice m q x y))
+
+was_put : (o : Option (Map (Map (List ℕ)))) (q : List ℕ) (x : Option (Map (List ℕ))) → IfSome (option_map (λ (m : Map (Map (List ℕ))). at_name m q x) o) (λ m. m q ≡ x)
+was_put None q x = tt
+was_put (Some m) q x = at_same m q x
+
+held_so : (o : Option (Map (Map (List ℕ)))) (names : List Location) (xs : List (Option (Map (List ℕ)))) (fs : List (Map (List ℕ))) → IfSome o (λ n. xs ≡ map (location_files n) names) → IsSomeAnd o (λ n. map (location_files n) names ≡ map Some fs) → xs ≡ map Some fs
+held_so None names xs fs found told = absurd told
+held_so (Some n) names xs fs found told = found ∙ told
+
+-- the disk was read while the cache was filled, which was s and became t; then its folder was given back, and the stores
+module _ {L D K : Type 0} (files : L → Option (Map (List ℕ))) (place : L → List ℕ) (faults : L → ℕ) (state : D → DialState) (cache : List ℕ) (s t : Shelf)
+    (d0 b c e : Disk) (k j : DialState) (names : List Location) (before after : List (AnyStore L D K))
+    (s_is : s.place ≡ cache) (t_is : t.place ≡ cache) (reads : Reads d0 b) (gives : CacheGiven (Some t) b c) (closes : ConsultsStores names (storage c k) (storage e j))
+    (fresh : map (source_faults faults state) before ≡ map (λ q. 0) names) (located : map (location_in place) after ≡ names) (same : map (source_files files) after ≡ map (source_files files) before)
+    (found : IfSome (with_cache (Some s) d0).folders (λ m. map (source_files files) before ≡ map (location_files m) names))
+    (gained : All (IsGiven place faults state (storage c k) (storage e j)) after) where
+  abbrev d : Disk
+  d = with_cache (Some s) d0
+
+  abbrev w : Storage
+  w = storage d k
+
+  abbrev v : Storage
+  v = storage e j
+
+  gave : Adds b c
+  gave = given_adds (Some t) b c gives
+
+  opened : (q : List ℕ) → count_at d.folder_counts q ≤ count_at c.folder_counts q
+  opened q = omega (arith, reads.folder_counts q, gave.folder_counts q)
+
+  all_adds : Adds d e
+  all_adds = record {
+    files = closes.0.disk.files ∙ gave.files ∙ reads.files;
+    counts = λ q. omega (arith, reads.counts q, gave.counts q, closes.0.disk.counts q);
+    folder_counts = λ q. omega (arith, opened q, closes.0.disk.folder_counts q);
+    known = λ q is. closes.0.disk.known q (gave.known q (reads.known q is));
+    folder_known = λ q is. closes.0.disk.folder_known q (gave.folder_known q (reads.folder_known q is));
+  }
+
+  given_all : All (IsGiven place faults state w v) after
+  given_all = λ n q lt. given_earlier place faults state w (storage c k) v opened (dials_none k) closes.0.dial (slice_index_or after n q) (gained n q lt)
+
+  stand : All (Stands (location_in place) (said_in files state) (source_faults faults state) w v) after
+  stand = all_stand files place faults state w v after names located (held_after d.folders names (source_files files) before after found same) given_all
+
+  cache_at : Rose 0 t.faults → FolderRose d e t.place
+  cache_at rose =
+      rose_longer (count_at d.folder_counts t.place) (count_at c.folder_counts t.place) (count_at e.folder_counts t.place) (closes.0.disk.folder_counts t.place)
+      (given_rose (count_at d.folder_counts t.place) (count_at b.folder_counts t.place) (count_at c.folder_counts t.place) t.faults (reads.folder_counts t.place) gives.1.folder_counts.added rose)
+
+  cache_failed : Rose 0 t.faults → FolderRose d e cache
+  cache_failed rose = subst (λ (q : List ℕ). FolderRose d e q) t_is (cache_at rose)
+
+  none_failed : (fs : List (Map (List ℕ))) → (of_command w v names cache).holds fs → DiskQuiet d e → Quiet 0 t.faults × EachQuiet (map (source_faults faults state) before) (map (source_faults faults state) after)
+  none_failed fs told quiet =
+      let here = quiet.folders t.place in
+      let between : Quiet (count_at d.folder_counts t.place) (count_at c.folder_counts t.place) = record { same = omega (arith, here.same, closes.0.disk.folder_counts t.place); below = omega (arith, here.below, closes.0.disk.folder_counts t.place) } in (
+        given_quiet (count_at d.folder_counts t.place) (count_at b.folder_counts t.place) (count_at c.folder_counts t.place) t.faults (reads.folder_counts t.place) gives.1.folder_counts.added between,
+        folders_quiet files place faults state w v names fs before after fresh (same ∙ held_so d.folders names (map (source_files files) before) fs found told) given_all quiet.folders,
+      )
+
+  file_failed : (q : List ℕ) → FileRose d0 b q → FileRose d e q
+  file_failed q rose =
+      let le : count_at b.file_counts q ≤ count_at e.file_counts q = omega (arith, gave.counts q, closes.0.disk.counts q) in
+      rose_longer (count_at d.file_counts q) (count_at b.file_counts q) (count_at e.file_counts q) le rose
+
+  back : e.folders ≡ option_map (λ (m : Map (Map (List ℕ))). at_name m cache t.files) d.folders
+  back = closes.0.disk.folders ∙ gives.0 ∙ ap (option_map (λ (m : Map (Map (List ℕ))). at_name m t.place t.files)) reads.folders
+      ∙ ap (λ (q : List ℕ). option_map (λ (m : Map (Map (List ℕ))). at_name m q t.files) d0.folders) (t_is ∙ sym s_is) ∙ put_twice d0.folders s.place s.files t.files
+      ∙ ap (λ (q : List ℕ). option_map (λ (m : Map (Map (List ℕ))). at_name m q t.files) d.folders) s_is
+
+  pub filled_between : (most : ℕ) (indexes : List (List ℕ)) (r : Result Unit Outcome) → FillsEach (of_calls (source_files files) (said_in files state) (source_faults faults state) before after 0 t.faults) d0 b indexes s.files t.files r → GetsListed w.disk most indexes names w.dial v.dial → FilledBetween names cache most indexes w v r
+  filled_between most indexes r h gets = record {
+    held = s.files;
+    was = subst (λ (q : List ℕ). IfSome d.folders (λ m. m q ≡ s.files)) s_is (was_put d0.folders s.place s.files);
+    now = t.files;
+    filled = fills_wider (of_calls (source_files files) (said_in files state) (source_faults faults state) before after 0 t.faults) (of_command w v names cache)
+        (λ fs told. held_so d.folders names (map (source_files files) before) fs found told) none_failed
+        (λ c r h. have_lacked (location_in place) (said_in files state) (source_faults faults state) true w v names c r h.0 after h.1 located stand h.2) cache_failed
+        d0 b d e refl file_failed indexes s.files t.files r h;
+    back = back;
+    adds = all_adds;
+    dials = (closes.0.dial, closes.1);
+    asks = gets;
+  }

@@ -1,0 +1,5 @@
+pub mod CacheFilled
+pub mod AskedListings
+pub mod LentChains
+pub mod GivenChains
+pub mod AlikeChains

@@ -1,0 +1,115 @@
+use Rattle.std.proofs.Common.{◌≡◌, ◌∙◌, ◌+◌, ℕ, All, List, Some, arith, length, map, ap, refl, subst, sym}
+use Rattle.std.proofs.lemmas.List.Elements.{All-head, length_all_zip}
+use Rattle.std.specs.List.{fold}
+use Rattle.cache_command.proofs.CacheFilled.{filled_between}
+use Rattle.cache_command.proofs.GivenChains.{all_consulted, all_dialed, all_given, chain_stands, chains_stand}
+use Rattle.cache_command.proofs.cache.fill_between.Goals as goal
+use Rattle.cache_command.specs.Caching.{FillsEach, of_calls}
+use Rattle.cache_command.specs.Filling.{AsksListings}
+use Rattle.cache_store.specs.Shelves.{shelf_of}
+use Rattle.command_steps.proofs.Cached.{given_adds}
+use Rattle.command_steps.proofs.Given.{all_later}
+use Rattle.cache_command.proofs.LentChains.{chains_consult}
+use Rattle.command_steps.specs.AnyStores.{IsGiven, IsKnown, location_in, said_in, source_faults, source_files, with_those}
+use Rattle.command_steps.specs.Cache.{CacheGiven}
+use Rattle.cache_command.specs.Chains.{CanGiveChain, chain_stores}
+use Rattle.command_steps.specs.Sources.{ConsultsStores, storage}
+use Rattle.command_words.specs.declared.command.Location.{Location}
+
+pub give_shelf-requires : goal.give_shelf-requires
+give_shelf-requires g c =
+    let D = g.F.Folder.Look in
+    let over = c.fill_each-filled.ensures in
+    let given : c.into_parts-shelf.result.0.folder ≡ c.fill_each-filled.new.filling.cached.shelf.folder = ap (λ p. p.0.folder) c.into_parts-shelf.ensures in
+    record {
+      named = ap D.place given ∙ over.place ∙ c.requires.reached.cache_named;
+      known = over.kept.folder_known _ c.requires.reached.cache_known;
+    }
+
+pub close_chains-requires : goal.close_chains-requires
+close_chains-requires g c =
+    let at = g.F.Files.disk in
+    let D = g.F.Folder.Look in
+    let look = g.F.Look.Look in
+    let state = g.D.Dial.state in
+    let first = c.args.filling.cached.chain in
+    let names = chain_stores look first in
+    let more = c.args.filling.further.items in
+    let further = c.fill_each-filled.new.filling.further.items in
+    let asked = c.fill_each-filled.ensures.asks in
+    let gave = given_adds (Some (shelf_of D.files D.place D.faults c.into_parts-shelf.result.0)) (at c.fill_each-filled.new.files) (at c.give_shelf.new.files) c.give_shelf.ensures.given in
+    let stand = chains_stand look state _ refl refl refl refl asked.0 names more further asked.2.1 c.requires.reached.located in
+    let known = all_later (at c.args.files.now).folder_counts (at c.give_shelf.new.files).folder_counts (λ q is. gave.folder_known q (c.fill_each-filled.ensures.kept.folder_known q is)) names (All-head (CanGiveChain look (at c.args.files.now)) first more c.requires.reached.given) in
+    record { given = λ n x lt. subst (λ (l : List Location). All (IsKnown (at c.give_shelf.new.files).folder_counts) l) (sym (stand n x lt)) known }
+
+pub close_sources-requires : goal.close_sources-requires
+close_sources-requires g c =
+    let at = g.F.Files.disk in
+    let D = g.F.Folder.Look in
+    let look = g.F.Look.Look in
+    let state = g.D.Dial.state in
+    let over = c.fill_each-filled.ensures in
+    let first = c.args.filling.cached.chain in
+    let names = chain_stores look first in
+    let more = c.args.filling.further.items in
+    let further = c.fill_each-filled.new.filling.further.items in
+    let after = c.fill_each-filled.new.filling.cached.chain.stores in
+    let last : c.into_stores.result.items ≡ after = c.into_stores.ensures.value ∙ ap (λ p. p.1.stores) c.into_parts-shelf.ensures in
+    let located = ap (map (location_in look.place)) last ∙ chain_stands look state _ refl refl refl refl over.asks.0 first c.fill_each-filled.new.filling.cached.chain over.asks.2.0 in
+    let gave = given_adds (Some (shelf_of D.files D.place D.faults c.into_parts-shelf.result.0)) (at c.fill_each-filled.new.files) (at c.give_shelf.new.files) c.give_shelf.ensures.given in
+    let stand = chains_stand look state _ refl refl refl refl over.asks.0 names more further over.asks.2.1 c.requires.reached.located in
+    let closed = chains_consult look state names further (storage (at c.give_shelf.new.files) (state c.args.dial.now)) (storage (at c.close_chains.new.files) (state c.close_chains.new.dial)) stand c.close_chains.ensures.given in
+    let known = all_later (at c.args.files.now).folder_counts (at c.close_chains.new.files).folder_counts (λ q is. closed.0.disk.folder_known q (gave.folder_known q (over.kept.folder_known q is))) names (All-head (CanGiveChain look (at c.args.files.now)) first more c.requires.reached.given) in
+    record { known = subst (λ (l : List Location). All (IsKnown (at c.close_chains.new.files).folder_counts) l) (sym located) known }
+
+pub returns : goal.returns
+returns g c =
+    let at = g.F.Files.disk in
+    let D = g.F.Folder.Look in
+    let look = g.F.Look.Look in
+    let files = look.files in
+    let place = look.place in
+    let faults = look.faults in
+    let state = g.D.Dial.state in
+    let told = source_files files in
+    let said = said_in files state in
+    let counted = source_faults faults state in
+    let cache = c.args.cache.now in
+    let indexes = c.args.indexes.now in
+    let first = c.args.filling.cached.chain in
+    let more = c.args.filling.further.items in
+    let names = chain_stores look first in
+    let over = c.fill_each-filled.ensures in
+    let chain = c.fill_each-filled.new.filling.cached.chain in
+    let after = chain.stores in
+    let further = c.fill_each-filled.new.filling.further.items in
+    let s = shelf_of D.files D.place D.faults c.args.filling.cached.shelf in
+    let t = shelf_of D.files D.place D.faults c.fill_each-filled.new.filling.cached.shelf in
+    let d0 = at c.args.files.now in
+    let b = at c.fill_each-filled.new.files in
+    let m = at c.give_shelf.new.files in
+    let f = at c.close_chains.new.files in
+    let e = at c.close_sources.new.files in
+    let k = state c.args.dial.now in
+    let i = state c.close_chains.new.dial in
+    let j = state c.close_sources.new.dial in
+    let asked = over.asks in
+    let last : c.into_stores.result.items ≡ after = c.into_stores.ensures.value ∙ ap (λ p. p.1.stores) c.into_parts-shelf.ensures in
+    let given : c.into_parts-shelf.result.0 ≡ c.fill_each-filled.new.filling.cached.shelf = ap (λ p. p.0) c.into_parts-shelf.ensures in
+    let located : map (location_in place) after ≡ names = chain_stands look state _ refl refl refl refl asked.0 first chain asked.2.0 in
+    let stand = chains_stand look state _ refl refl refl refl asked.0 names more further asked.2.1 c.requires.reached.located in
+    let turn = c.close_chains.ensures.given in
+    let gives = subst (λ x. CacheGiven (Some (shelf_of D.files D.place D.faults x)) b m) given c.give_shelf.ensures.given in
+    let closes = subst (λ ys. ConsultsStores (map (location_in place) ys) (storage f i) (storage e j)) last c.close_sources.ensures.kept in
+    let closed = subst (λ ns. ConsultsStores ns (storage f i) (storage e j)) located closes in
+    let gained = subst (λ ys. All (IsGiven place faults state (storage f i) (storage e j)) ys) last c.close_sources.ensures.given in
+    let all_closed = all_consulted look state names further (storage m k) (storage f i) (storage e j) stand turn closed in
+    let all_gained = all_given look state faults names further after (storage m k) (storage f i) (storage e j) stand turn closed gained in
+    let at_zero = subst (λ (n : ℕ). FillsEach (of_calls told said counted first.stores after n t.faults) d0 b indexes s.files t.files c.fill_each-filled.result) c.requires.reached.cache_fresh over.filled in
+    let ended = subst (λ ys. j.ended ≡ fold (with_those state) i.ended ys) last c.close_sources.ensures.ended in
+    let gets = all_dialed look state _ refl refl refl refl asked.0 names first chain more further (storage m k) (storage f i) j.ended asked.2.0 asked.2.1 c.requires.reached.unused refl c.requires.reached.located turn ended in
+    let many : length more ≡ length further = length_all_zip (AsksListings _ asked.0) more further asked.2.1 in
+    record {
+      filled = filled_between files place faults state cache s t d0 b m e k j names first.stores after c.requires.reached.cache_named (over.place ∙ c.requires.reached.cache_named) over.kept gives all_closed c.requires.reached.fresh located asked.2.0.keeps.files c.requires.reached.found all_gained (1 + length more) indexes c.fill_each-filled.result at_zero
+          (record { listings = asked.0; read = asked.1; workers = 1 + length further; some = omega arith; few = omega (arith, many); gets = gets });
+    }

@@ -1,0 +1,228 @@
+-- `cache -s STORE.. -c CACHE INDEX..`. A name is its bytes; files are a folder's, where they are told.
+use Rattle.std.specs.Prelude.{◌≡◌, ◌⊎◌, ℕ, ◌+◌, ◌<◌, ◌≤◌, List, [], ◌∷◌, length, map, max}
+use Rattle.std.specs.Prelude.{Option, Some, IfSome, IfErr, IsSomeAnd, IsTrue, true, is_some, Result, Ok, Err}
+use Rattle.std.specs.List.{All, AllZip, Any}
+use Rattle.std.specs.Option.{option_map}
+use Rattle.cache_store.specs.Giving.{GiveOneSize, SomeGives}
+use Rattle.caibx_codec.specs.Asks.{IsListedGet}
+use Rattle.caibx_codec.specs.Listing.{Listing, count_of, id_of, kind_of, size_of}
+use Rattle.chunk_store.specs.Asks.{Ask}
+use Rattle.chunk_store.specs.Folders.{chunks}
+use Rattle.chunk_store.specs.Giving.{IsChunk}
+use Rattle.chunk_store.specs.Said.{Said}
+use Rattle.chunk_store.specs.declared.id.ChunkId.{ChunkId}
+use Rattle.command_outcome.specs.declared.outcome.Outcome.{Outcome}
+use Rattle.command_outcome.specs.declared.outcome.Outcome.TheVariants as ends
+use Rattle.command_steps.specs.Asking.{AsksOnly, WorkersDialed}
+use Rattle.command_steps.specs.Cache.{CacheOpened}
+use Rattle.command_steps.specs.InputFiles.{IsListed, Listed, NotRead}
+use Rattle.command_steps.specs.Sources.{DialsStores, HaveLacked, OnStorage, SourcesOpened, Storage, location_files}
+use Rattle.command_worlds.specs.Steps.{◌>>=◌}
+use Rattle.command_worlds.specs.Worlds.{Adds, DiskQuiet, FolderRose, OnDisk, Step, World}
+use Rattle.command_words.specs.declared.command.Location.{Location}
+use Rattle.dir_store.specs.Names.{is_stranger}
+use Rattle.dsy_base.specs.Counts.{Quiet, Rose}
+use Rattle.dsy_base.specs.Disk.{Disk}
+use Rattle.dsy_base.specs.Links.{DialState}
+use Rattle.dsy_base.specs.Maps.{Map, at_name}
+use Rattle.image_store.specs.PutChunks.{HoldsAll, IsListedId as IsAmong}
+use Rattle.image_chop.specs.Chopping.{times_listed}
+use Rattle.store_chain.specs.Faults.{EachQuiet}
+use Rattle.store_chain.specs.Giving.{LacksAll}
+use Rattle.store_chain.specs.Refusals.{Refuses}
+use Rattle.store_chain.specs.declared.refused.Refused.{Refused}
+use Rattle.store_chain.specs.declared.refused.Refused.TheVariants as refused
+use Rattle.store_chain.specs.declared.query.Query.{Query}
+use Rattle.cache_fill.specs.Filling.{FillsBy, GivesEntry, HoldsEntry, ListsSize, entry_want, filled_to}
+use Rattle.cache_fill.specs.declared.fill.FillFault.{FillFault}
+use Rattle.cache_fill.specs.declared.fill.FillFault.TheVariants as faults
+
+-- ---- what is known of the stores and of the cache
+
+pub record Evidence : Type 1 where
+  -- all stores are folders, which hold these files
+  pub holds : List (Map (List ℕ)) → Type 0
+  -- the stores have refused what is wanted, for this reason
+  pub refused : Query → Refused → Type 0
+  -- calls on the cache have failed; no call has
+  pub cache_failed : Type 0
+  pub unfailed : Type 0
+
+-- over a command, from w to v, whose stores and cache these are
+abbrev pub of_command : Storage → Storage → List Location → List ℕ → Evidence
+of_command w v stores cache = record {
+  holds = λ fs. IsSomeAnd w.disk.folders (λ n. map (location_files n) stores ≡ map Some fs);
+  refused = λ c r. HaveLacked c w v stores r;
+  cache_failed = FolderRose w.disk v.disk cache;
+  unfailed = DiskQuiet w.disk v.disk;
+}
+
+-- over calls that led from the stores `before` to those `after`, and the count of the cache's faults from m to n
+abbrev pub of_calls : {S : Type 0} → (S → Option (Map (List ℕ))) → (S → Said) → (S → ℕ)
+    → List S → List S → ℕ → ℕ → Evidence
+of_calls {S} files said counted before after m n = record {
+  holds = λ fs. map files before ≡ map Some fs;
+  refused = λ c r. (asked : List S) × (length asked ≡ length after) × Refuses said counted true c asked after r;
+  cache_failed = Rose m n;
+  unfailed = Quiet m n × EachQuiet (map counted before) (map counted after);
+}
+
+-- the first k listed chunks are among the files
+abbrev pub HoldsFirst : Listing → ℕ → Option (Map (List ℕ)) → Type 0
+HoldsFirst l k y = IfSome (option_map chunks y) (λ m. (i : ℕ) → i < k → HoldsEntry l i (m (id_of l i)))
+
+-- the outcome where filling ended early
+abbrev pub outcome_of_fill : FillFault → Outcome
+outcome_of_fill (faults.Missing k id) = ends.Missing k id
+outcome_of_fill (faults.Damaged k id s x) = ends.Damaged k id s x
+outcome_of_fill (faults.StoreFault s) = ends.StoreFault s
+outcome_of_fill faults.CacheFault = ends.CacheFault
+outcome_of_fill faults.Memory = ends.Memory
+
+-- the answer if filling by one index ended so
+abbrev pub answer_of_fill : Result Unit FillFault → Result Unit Outcome
+answer_of_fill (Ok u) = Ok u
+answer_of_fill (Err fault) = Err (outcome_of_fill fault)
+
+module _ (over : Evidence) where
+  -- ---- filling the cache by one index, from files x to files y
+
+  -- the bytes are listed under the id with their size; and where all stores are folders that tell,
+  -- some store holds them
+  abbrev pub IsHeldListed : Listing → List ℕ → List ℕ → Type 0
+  IsHeldListed l q b = ((n : ℕ) × ListsSize l q n × IsChunk (kind_of l) q n b)
+      × ((fs : List (Map (List ℕ))) → over.holds fs → Any (λ m. m q ≡ Some b) (map chunks fs))
+
+  -- under each id stands what stood there, or such bytes; and each file that is neither a chunk's nor a temporary one
+  -- stands as before
+  pub record AddsListed (l : Listing) (x y : Option (Map (List ℕ))) : Type 0 where
+    pub tells : is_some y ≡ is_some x
+    pub chunks_are : IfSome x (λ f. IfSome y (λ g. (q : List ℕ) → (chunks g q ≡ chunks f q)
+        ⊎ ((b : List ℕ) × (chunks g q ≡ Some b) × IsHeldListed l q b)))
+    pub strangers : IfSome x (λ f. IfSome y (λ g. (q : List ℕ) → IsTrue (is_stranger q) → g q ≡ f q))
+
+  -- the stores refused the chunk of entry k for this reason, and the cache doesn't give it, or failed
+  pub record IsNotHad (l : Listing) (y : Option (Map (List ℕ))) (k : ℕ) (id : ChunkId) (r : Refused) : Type 0 where
+    pub id_is : id.0 ≡ id_of l k
+    pub cache : IfSome (option_map chunks y) (λ m. GivesEntry l k m → over.cache_failed)
+    pub said : over.refused (entry_want l k id) r
+    pub lacks : (fs : List (Map (List ℕ))) → over.holds fs → LacksAll (entry_want l k id) (map chunks fs) r
+
+  -- what the answer says of the entry at which filling ended. Where the cache failed, the stores gave the chunk
+  abbrev pub FillTells : Listing → Option (Map (List ℕ)) → ℕ → FillFault → Type 0
+  FillTells l y k (faults.Missing e id) = (e ≡ k) × IsNotHad l y k id refused.Missing
+  FillTells l y k (faults.Damaged e id s x) = (e ≡ k) × IsNotHad l y k id (refused.Damaged s x)
+  FillTells l y k (faults.StoreFault s) = (id : ChunkId) × IsNotHad l y k id (refused.StoreFault s)
+  FillTells l y k faults.CacheFault = over.cache_failed
+      × ((fs : List (Map (List ℕ))) → over.holds fs → SomeGives (kind_of l) (id_of l k) (size_of l k) (map chunks fs))
+  FillTells l y k faults.Memory = Unit {0}
+
+  -- filling ended early at one of the entries, of which the answer tells: each before it is among the files then, and
+  -- each id that none of those lists holds what it held
+  pub record StopsFilling (l : Listing) (fault : FillFault) (x y : Option (Map (List ℕ))) : Type 0 where
+    pub entry : ℕ
+    pub listed : entry < count_of l
+    pub holds : HoldsFirst l entry y
+    pub others : IfSome x (λ f. IfSome y (λ g. (q : List ℕ) → (chunks g q ≡ chunks f q) ⊎ IsAmong l entry q))
+    pub tells : FillTells l y entry fault
+
+  -- so it is, or there was no memory to begin
+  abbrev pub EndsFilling : Listing → FillFault → Option (Map (List ℕ)) → Option (Map (List ℕ)) → Type 0
+  EndsFilling l fault x y = ((fault ≡ faults.Memory) × (y ≡ x)) ⊎ StopsFilling l fault x y
+
+  -- what is answered where all stores are folders that tell, nothing has failed, and cache and stores give one size for
+  -- each listed id
+  abbrev pub FillExactly : Listing → Option (Map (List ℕ)) → Result Unit FillFault → Type 0
+  FillExactly l x r = (fs : List (Map (List ℕ))) → over.holds fs → over.unfailed → IfSome (option_map chunks x) (λ m.
+      GiveOneSize (ListsSize l) (kind_of l) (m ∷ map chunks fs) → FillsBy l m (map chunks fs) r)
+
+  pub record IndexFilled (l : Listing) (x y : Option (Map (List ℕ))) (r : Result Unit FillFault) : Type 0 where
+    pub added : AddsListed l x y
+    pub holds : HoldsFirst l (filled_to l r) y
+    pub exactly : FillExactly l x r
+    pub order : IfErr r (λ fault. EndsFilling l fault x y)
+
+  -- ---- and by each in order, between these disks
+
+  module _ (d e : Disk) where
+    abbrev pub AllFilled : List (List ℕ) → Option (Map (List ℕ)) → Option (Map (List ℕ)) → Type 0
+    AllFilled [] x y = y ≡ x
+    AllFilled (q ∷ indexes) x y = (l : Listing) × Listed d q l × (z : Option (Map (List ℕ))) × IndexFilled l x z (Ok tt)
+        × AllFilled indexes z y
+
+    -- the first index that couldn't be read, or by which the cache couldn't be filled
+    abbrev pub NotFilled : List (List ℕ) → Option (Map (List ℕ)) → Option (Map (List ℕ)) → Outcome → Type 0
+    NotFilled [] x y o = ⊥
+    NotFilled (q ∷ indexes) x y o = (NotRead d e q o × (y ≡ x)) ⊎ ((l : Listing) × Listed d q l
+        × (((fault : FillFault) × (o ≡ outcome_of_fill fault) × IndexFilled l x y (Err fault))
+        ⊎ ((z : Option (Map (List ℕ))) × IndexFilled l x z (Ok tt) × NotFilled indexes z y o)))
+
+    abbrev pub FillsEach : List (List ℕ) → Option (Map (List ℕ)) → Option (Map (List ℕ)) → Result Unit Outcome → Type 0
+    FillsEach indexes x y (Ok u) = AllFilled indexes x y
+    FillsEach indexes x y (Err o) = NotFilled indexes x y o
+
+-- ---- how often servers are asked
+
+-- what the first of these names list, as far as they were read
+abbrev pub FrontListed : Disk → List (List ℕ) → List Listing → Type 0
+FrontListed d indexes [] = Unit {0}
+FrontListed d [] (l ∷ ls) = ⊥
+FrontListed d (q ∷ indexes) (l ∷ ls) = Listed d q l × FrontListed d indexes ls
+
+-- how many entries list the id
+abbrev pub listed_times : List Listing → List ℕ → ℕ
+listed_times [] id = 0
+listed_times (l ∷ ls) id = times_listed l (count_of l) id + listed_times ls id
+
+-- the chunk of one of their entries is asked for
+abbrev pub IsGetAmong : List Listing → Ask → Type 0
+IsGetAmong [] a = ⊥
+IsGetAmong (l ∷ ls) a = IsListedGet l a ⊎ IsGetAmong ls a
+
+-- up to `most` workers, or one, asked the servers. Each asked each server for the chunk of an id at most once for each
+-- entry that lists it, and never whether it has one, and nothing else was sent but fronts of such requests
+pub record GetsListed (d : Disk) (most : ℕ) (indexes : List (List ℕ)) (stores : List Location) (k j : DialState)
+    : Type 0 where
+  pub listings : List Listing
+  pub read : FrontListed d indexes listings
+  pub workers : ℕ
+  pub some : 1 ≤ workers
+  pub few : workers ≤ max 1 most
+  pub gets : WorkersDialed (λ n. AsksOnly (listed_times listings) (λ id. 0) (IsGetAmong listings)) workers stores
+      k.ended j.ended
+
+-- ---- the command
+
+-- the cache's folder was filled by each index, and given back with other files; no other folder has changed
+pub record FilledBetween (stores : List Location) (cache : List ℕ) (most : ℕ) (indexes : List (List ℕ)) (w v : Storage)
+    (r : Result Unit Outcome) : Type 0 where
+  pub held : Option (Map (List ℕ))
+  pub was : IfSome w.disk.folders (λ m. m cache ≡ held)
+  pub now : Option (Map (List ℕ))
+  pub filled : FillsEach (of_command w v stores cache) w.disk v.disk indexes held now r
+  pub back : v.disk.folders ≡ option_map (λ m. at_name m cache now) w.disk.folders
+  pub adds : Adds w.disk v.disk
+  pub dials : DialsStores stores w.dial v.dial
+  pub asks : GetsListed w.disk most indexes stores w.dial v.dial
+
+abbrev pub IndexesFilled : List Location → List ℕ → ℕ → List (List ℕ) → Step Storage Unit
+IndexesFilled stores cache most indexes w r v = FilledBetween stores cache most indexes w v r
+
+-- while the cache is used its folder counts as there. Up to `most` workers ask the stores
+abbrev pub CacheEnds : List Location → List ℕ → ℕ → List (List ℕ) → Step World Unit
+CacheEnds stores cache most indexes = do
+  _ ← OnDisk (SourcesOpened stores)
+  _ ← OnDisk (CacheOpened stores (Some cache))
+  OnStorage (IndexesFilled stores cache most indexes)
+
+-- each INDEX is an index file, and the cache's folder, which was there, holds bytes with the name of each chunk that it
+-- lists. No other folder has changed
+pub record IsCached (files : Map (List ℕ)) (folders folders_after : Map (Map (List ℕ))) (cache : List ℕ)
+    (indexes : List (List ℕ)) : Type 0 where
+  pub listings : List Listing
+  pub listed : AllZip (IsListed files) indexes listings
+  pub held : Map (List ℕ)
+  pub folder_was : folders cache ≡ Some held
+  pub now : Map (List ℕ)
+  pub folder_is : folders_after ≡ at_name folders cache (Some now)
+  pub holds : All (λ l. HoldsAll l (count_of l) (chunks now)) listings

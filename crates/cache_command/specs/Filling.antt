@@ -1,0 +1,48 @@
+-- A cache that is filled, and the chains of stores of its workers: when they may be asked, and for what they were.
+use Rattle.std.specs.Prelude.{◌≡◌, ℕ, ◌+◌, ◌≤◌, List, ◌∷◌, map, Some, IfSome, IsSome}
+use Rattle.std.specs.List.{All, AllZip}
+use Rattle.cache_command.specs.Caching.{IsGetAmong, listed_times}
+use Rattle.cache_store.specs.Shelves.{Shelf}
+use Rattle.caibx_codec.specs.Listing.{Listing}
+use Rattle.chunk_store.specs.declared.id.DigestKind.TheVariants as digests
+use Rattle.chunk_store.specs.declared.store.Store.{Ghosts as StoreWords}
+use Rattle.command_steps.specs.AnyStores.{IsUnused, source_faults, source_files}
+use Rattle.command_steps.specs.Cache.{with_cache}
+use Rattle.cache_command.specs.Chains.{CanGiveChain, chain_stores}
+use Rattle.command_steps.specs.Sources.{location_files}
+use Rattle.command_steps.specs.declared.any_store.AnyStore.{AnyStore}
+use Rattle.dsy_base.specs.Disk.{Disk}
+use Rattle.dsy_base.specs.Links.{DialState}
+use Rattle.dsy_base.specs.declared.look.Look.{Ghosts as LookWords}
+use Rattle.store_chain.specs.Chains.{Chained, KeepsStores}
+
+module _ {S : Type 0} (store : StoreWords S) where
+  -- the further workers' stores hold what the first worker's hold, and their chunks are named by one digest
+  pub record HoldAlike (first : Chained S) (further : List (Chained S)) : Type 0 where
+    pub kind : first.kind ≡ digests.Sha512T256
+    pub kinds : All (λ c. c.kind ≡ digests.Sha512T256) further
+    pub held : All (λ c. map store.holds c.stores ≡ map store.holds first.stores) further
+
+  -- each store of a chain was asked for the chunk of an id at most once for each entry that lists it, and never whether
+  -- it has one, and nothing else was sent to it but fronts of such requests
+  pub record AsksListings (ls : List Listing) (c d : Chained S) : Type 0 where
+    pub gets : AllZip (λ a b. (id : List ℕ) → store.asked b id ≤ store.asked a id + listed_times ls id)
+        c.stores d.stores
+    pub heads : map store.queried d.stores ≡ map store.queried c.stores
+    pub keeps : KeepsStores store (IsGetAmong ls) c.stores d.stores
+
+-- a cache's folder was taken, and the stores were opened for the first worker and the further ones: nothing was asked
+-- and nothing has failed yet, and all of it can be given back
+pub record JustOpened {L D K : Type 0} (look : LookWords L) (state : D → DialState)
+    (store : StoreWords (AnyStore L D K)) (d : Disk) (cache : List ℕ) (s : Shelf) (first : Chained (AnyStore L D K))
+    (further : List (Chained (AnyStore L D K))) : Type 0 where
+  pub unused : All (λ c. All (IsUnused state) c.stores) (first ∷ further)
+  pub given : All (CanGiveChain look d) (first ∷ further)
+  pub located : All (λ c. chain_stores look c ≡ chain_stores look first) further
+  pub alike : HoldAlike store first further
+  pub fresh : map (source_faults look.faults state) first.stores ≡ map (λ q. 0) (chain_stores look first)
+  pub found : IfSome (with_cache (Some s) d).folders (λ m.
+      map (source_files look.files) first.stores ≡ map (location_files m) (chain_stores look first))
+  pub cache_named : s.place ≡ cache
+  pub cache_known : IsSome (d.folder_counts cache)
+  pub cache_fresh : s.faults ≡ 0

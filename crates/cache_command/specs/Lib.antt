@@ -1,0 +1,3 @@
+pub mod Caching
+pub mod Chains
+pub mod Filling

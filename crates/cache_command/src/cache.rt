@@ -1,0 +1,177 @@
+//! `cache -s STORE.. -c CACHE -n WORKERS INDEX..`: CACHE holds each chunk that the indexes list, with chunks from 1 to
+//! 16 stores.
+
+ghost use Rattle.std.specs.Prelude.{◌≡◌, ◌⊎◌, ℕ, List, ◌+◌, ◌-◌, ◌≤◌, ◌∷◌, length, IfOk, IfErr, Ok, Err, Some};
+ghost use Rattle.std.specs.List.{AllZip};
+ghost use Rattle.cache_command.specs.Caching.{CacheEnds, FillsEach, FrontListed, IndexesFilled, of_calls};
+ghost use Rattle.cache_command.specs.Filling.{AsksListings, HoldAlike, JustOpened};
+ghost use Rattle.cache_store.specs.Shelves.{shelf_of};
+ghost use Rattle.caibx_codec.specs.Listing.{Listing};
+ghost use Rattle.command_steps.specs.AnyStores.{said_in, source_faults, source_files};
+ghost use Rattle.command_steps.specs.Cache.{CacheOpened, with_cache};
+ghost use Rattle.cache_command.specs.Chains.{chain_stores};
+ghost use Rattle.command_steps.specs.Sources.{SourcesOpened, storage};
+ghost use Rattle.command_worlds.specs.Worlds.{Reads, world};
+ghost use Rattle.dsy_base.specs.Disk.{Disk, Output};
+
+use crate::chains::{close_chains, drop_chains, open_chains};
+use crate::filling::{Filling, fill_by, filling_of};
+use chunk_store::store::Store;
+use command_outcome::outcome::Outcome;
+use command_steps::any_store::AnyStore;
+use command_steps::cache::{give_shelf, take_shelf};
+use command_steps::input_files::load_index;
+use command_steps::sources::{close_sources, drop_sources, open_sources};
+use command_words::command::{Location, Locations, Names};
+use dsy_base::dial::Dial;
+use dsy_base::files::Files;
+use dsy_base::folder::Folder;
+use dsy_base::image_files::ImageFiles;
+use dsy_base::look::Look;
+use dsy_base::name::Name;
+use std::alloc::Global;
+use std::thread::Threads;
+
+// Reads the rest of the indexes in their order, and fills the cache by each.
+fn fill_each<R: Threads + Sync, F: Files, D: Dial + Send>(
+    rt: &R,
+    alloc: Global,
+    files: &mut F,
+    indexes: &[Name],
+    filling: &mut Filling<F::Folder, AnyStore<F::Look, D>>,
+) -> Result<(), Outcome>
+where
+    F::Look: Send,
+    D::Link: Send,
+    requires alike { HoldAlike ⟦<AnyStore<F::Look, D> as Store>⟧ filling.old.cached.chain filling.old.further.items }
+    ensures filled { FillsEach (of_calls (source_files F.Look.files) (said_in F.Look.files D.state)
+        (source_faults F.Look.faults D.state) filling.old.cached.chain.stores filling.new.cached.chain.stores
+        (F.Folder.faults filling.old.cached.shelf.folder) (F.Folder.faults filling.new.cached.shelf.folder))
+        (F.disk files.old) (F.disk files.new) indexes.now
+        (F.Folder.files filling.old.cached.shelf.folder) (F.Folder.files filling.new.cached.shelf.folder) result }
+    ensures kept { Reads (F.disk files.old) (F.disk files.new) }
+    ensures asks { (ls : List Listing) × FrontListed (F.disk files.old) indexes.now ls
+        × AllZip (AsksListings ⟦<AnyStore<F::Look, D> as Store>⟧ ls)
+        (filling.old.cached.chain ∷ filling.old.further.items) (filling.new.cached.chain ∷ filling.new.further.items) }
+    ensures place { F.Folder.place filling.new.cached.shelf.folder ≡ F.Folder.place filling.old.cached.shelf.folder }
+    ensures never_falls { F.Folder.faults filling.old.cached.shelf.folder
+        ≤ F.Folder.faults filling.new.cached.shelf.folder }
+{
+    let Some((first, rest)) = indexes.split_first() else {
+        return Ok(());
+    };
+    let Ok(name) = Name::of(alloc, first.as_str()) else {
+        return Err(Outcome::Memory);
+    };
+    let index = load_index(alloc, files, name)?;
+    fill_by(rt, alloc, &index, filling)?;
+    fill_each(rt, alloc, files, rest, filling)
+}
+
+// Opens the stores in their order, for the first worker and then for the others, and takes the folder of the cache.
+fn reach<F: ImageFiles, D: Dial>(
+    alloc: Global,
+    files: &mut F,
+    dial: &D,
+    stores: &[Location],
+    cache: &str,
+    workers: u32,
+) -> Result<Filling<F::Folder, AnyStore<F::Look, D>>, Outcome>
+    requires size { (1 ≤ length stores.now) × (length stores.now ≤ 16) }
+    ensures ok { IfOk result (λ f. (m : Disk) × SourcesOpened stores.now (F.disk files.old) (Ok tt) m
+        × CacheOpened stores.now (Some cache.now) m (Ok tt) (with_cache
+        (Some (shelf_of F.Folder.files F.Folder.place F.Folder.faults f.cached.shelf)) (F.disk files.new))) }
+    ensures fresh { IfOk result (λ f. JustOpened F.Look.Look D.state ⟦<AnyStore<F::Look, D> as Store>⟧
+        (F.disk files.new) cache.now (shelf_of F.Folder.files F.Folder.place F.Folder.faults f.cached.shelf)
+        f.cached.chain f.further.items) }
+    ensures located { IfOk result (λ f. chain_stores F.Look.Look f.cached.chain ≡ stores.now) }
+    ensures few { IfOk result (λ f. length f.further.items ≤ workers - 1) }
+    ensures err { IfErr result (λ o. SourcesOpened stores.now (F.disk files.old) (Err o) (F.disk files.new)
+        ⊎ ((m : Disk) × SourcesOpened stores.now (F.disk files.old) (Ok tt) m
+        × CacheOpened stores.now (Some cache.now) m (Err o) (F.disk files.new))) }
+{
+    let opened = match open_sources(alloc, files, dial, stores) {
+        Ok(opened) => opened,
+        Err(outcome) => return Err(outcome),
+    };
+    let further = open_chains(alloc, files, dial, stores, workers as usize);
+    match take_shelf(alloc, files, cache) {
+        Ok(shelf) => Ok(filling_of(shelf, opened, further)),
+        Err(outcome) => {
+            drop_chains(files, further);
+            drop_sources(files, opened);
+            Err(outcome)
+        }
+    }
+}
+
+// Fills the cache whose folder was taken. Folder and stores are given back, whatever the answer is.
+fn fill_between<R: Threads + Sync, F: Files, D: Dial + Send>(
+    rt: &R,
+    alloc: Global,
+    files: &mut F,
+    dial: &mut D,
+    cache: &str,
+    mut filling: Filling<F::Folder, AnyStore<F::Look, D>>,
+    indexes: &[Name],
+) -> Result<(), Outcome>
+where
+    F::Look: Send,
+    D::Link: Send,
+    requires reached { JustOpened F.Look.Look D.state ⟦<AnyStore<F::Look, D> as Store>⟧ (F.disk files.old) cache.now
+        (shelf_of F.Folder.files F.Folder.place F.Folder.faults filling.cached.shelf)
+        filling.cached.chain filling.further.items }
+    ensures filled { IndexesFilled (chain_stores F.Look.Look filling.cached.chain) cache.now
+        (1 + length filling.further.items) indexes.now (storage (with_cache
+        (Some (shelf_of F.Folder.files F.Folder.place F.Folder.faults filling.cached.shelf)) (F.disk files.old))
+        (D.state dial.old)) result (storage (F.disk files.new) (D.state dial.new)) }
+{
+    let filled = fill_each(rt, alloc, files, indexes, &mut filling);
+    let Filling { cached, further } = filling;
+    let (shelf, chain) = cached.into_parts();
+    give_shelf(files, cache, shelf);
+    close_chains(files, dial, further);
+    close_sources(files, dial, chain.into_stores());
+    filled
+}
+
+/// The words of a `cache`.
+#[derive(Drop)]
+pub struct CacheWords {
+    pub stores: Locations,
+    pub cache: Name,
+    /// How many workers ask the stores, at most.
+    pub workers: u32,
+    pub indexes: Names,
+}
+
+/// Puts the chunks that the indexes list into CACHE, index by index, up to the first chunk that isn't had. What CACHE
+/// holds already is left where it is right; what it lacks comes from the stores, which are asked in order. Each worker
+/// has stores of its own; where they can't be opened again there are fewer.
+pub fn fill_cache<R: Threads + Sync, F: ImageFiles, D: Dial + Send>(
+    rt: &R,
+    alloc: Global,
+    files: &mut F,
+    dial: &mut D,
+    words: CacheWords,
+) -> Result<(), Outcome>
+where
+    F::Look: Send,
+    D::Link: Send,
+    requires { (1 ≤ length words.stores) × (length words.stores ≤ 16) }
+    ensures ends { (p : Output) → CacheEnds words.stores words.cache words.workers words.indexes
+        (world (F.disk files.old) (D.state dial.old) p) result (world (F.disk files.new) (D.state dial.new) p) }
+{
+    let CacheWords {
+        stores,
+        cache,
+        workers,
+        indexes,
+    } = words;
+    let folder = cache.as_str();
+    let filling = match reach(alloc, files, dial, stores.as_slice(), folder, workers) {
+        Ok(filling) => filling,
+        Err(outcome) => return Err(outcome),
+    };
+    fill_between(rt, alloc, files, dial, folder, filling, indexes.as_slice())
+}

@@ -1,0 +1,6 @@
+//! The command that fills a cache.
+#![tactic(auto)]
+
+pub mod cache;
+mod chains;
+mod filling;

@@ -1,0 +1,6 @@
+pub mod Holding
+pub mod EntryCalls
+pub mod Filled
+pub mod Fetched
+pub mod Ahead
+pub mod Progress

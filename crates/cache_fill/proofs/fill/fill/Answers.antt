@@ -1,0 +1,26 @@
+use Rattle.std.proofs.Common.{subst, arith}
+use Rattle.caibx_codec.specs.Asks.{IsListedGet}
+use Rattle.cache_fill.proofs.Filled.{asked_all, fetched_none, none_asked}
+use Rattle.cache_fill.specs.FillProgress.{FillAnswers, shelf_at}
+use Rattle.cache_store.specs.Through.{Behind}
+use Rattle.store_chain.proofs.Kept.{kept_still}
+use Rattle.cache_fill.proofs.fill.fill.Goals as goal
+
+pub returns-in_default-clause-asks : goal.returns-in_default-clause-asks
+returns-in_default-clause-asks g c =
+    let S = g.S.Store in
+    let chain = c.args.cached.now.chain in
+    asked_all S.asked S.queried c.args.index.now 0 (omega arith) chain chain (none_asked S.asked S.queried c.args.index.now chain)
+
+pub returns-in_default-clause-stores : goal.returns-in_default-clause-stores
+returns-in_default-clause-stores g c = kept_still g.S.Store (IsListedGet c.args.index.now) c.args.cached.now.chain.stores
+
+pub returns-in_default-clause-further : goal.returns-in_default-clause-further
+returns-in_default-clause-further g c = fetched_none g.S.Store c.args.index.now c.args.further.now.items
+
+pub returns-clause-exactly : goal.returns-clause-exactly
+returns-clause-exactly g c = λ m maps nothing.
+    let S = g.S.Store in
+    let A : Behind g.row.F.Denot g.row.S.Denot → Type 0 = λ b.
+    FillAnswers S c.args.index.now (shelf_at g.F.Look S b) (shelf_at g.F.Look S c.fill_beside.new.cached) b.chain c.fill_beside.new.cached.chain c.fill_beside.result in
+    (subst A c.of-first.ensures c.fill_beside.ensures.answers).exactly m maps nothing

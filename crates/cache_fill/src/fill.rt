@@ -1,0 +1,178 @@
+//! Filling a cache: each chunk that an index lists is got through it, and stands in it then.
+//! Entries are numbered from 0.
+
+ghost use Rattle.std.specs.Prelude.{◌≡◌, ℕ, List, ◌<◌, ◌≤◌, All, IsTrue, Some, None, length, map, vec_capacity};
+ghost use Rattle.std.specs.List.{AllZip};
+ghost use Rattle.cache_fill.specs.Filling.{AsksEntries, FetchesAhead, FillEnds, FillUnfailed, FillsBy, HoldsTo};
+ghost use Rattle.cache_fill.specs.Filling.{MayFillCache, SparesStores, filled_to};
+ghost use Rattle.cache_fill.specs.FillProgress.{FillAnswers, shelf_at};
+ghost use Rattle.cache_store.specs.Shelves.{KeepsShelf, Stocks, shelf_of};
+ghost use Rattle.caibx_codec.specs.Asks.{IsListedGet};
+ghost use Rattle.caibx_codec.specs.Listing.{count_of, kind_of, size_of};
+ghost use Rattle.dsy_base.specs.Maps.{Map};
+ghost use Rattle.store_chain.specs.Chains.{KeepsStores};
+
+use crate::filling::Filling;
+use crate::hiring::{buffers, dismiss, hire};
+use crate::lacking::list_ahead;
+use crate::want_reader::WantReader;
+use cache_store::cached::Cached;
+use caibx_codec::index::Index;
+use chunk_store::id::ChunkId;
+use chunk_store::shows::Shows;
+use chunk_store::store::Store;
+use dsy_base::folder::Folder;
+use read_ahead::rounds::take_all;
+use std::alloc::Global;
+use std::snapshot::Snapshot;
+use std::thread::Threads;
+use store_chain::chain::Chain;
+
+/// Why a cache doesn't hold each chunk that an index lists. Stores are numbered from 0.
+#[derive(Clone, Copy, Debug, PartialEq, Eq)]
+pub enum FillFault {
+    /// The cache doesn't give the chunk of this entry, and no store has something under its id.
+    Missing {
+        entry: u64,
+        id: ChunkId,
+    },
+    /// The cache doesn't give the chunk of this entry, the first store that has something under its id has something
+    /// else, and what that shows.
+    Damaged {
+        entry: u64,
+        id: ChunkId,
+        store: u32,
+        shows: Shows,
+    },
+    /// The first store that failed.
+    StoreFault {
+        store: u32,
+    },
+    /// A chunk couldn't be put into the cache.
+    CacheFault,
+    Memory,
+}
+
+// Fills all entries, while the readers get chunks ahead. The cache was only looked at since `first`.
+fn fill_entries<R: Threads + Sync, F: Folder, S: Store + Send>(
+    rt: &R,
+    index: &Index,
+    cached: &mut Cached<F, S>,
+    first: Snapshot<Cached<F, S>>,
+    room: &mut Vec<u8>,
+    lacking: &[bool],
+    readers: &mut [WantReader<S>],
+) -> Result<(), FillFault>
+    requires kind { cached.old.chain.kind ≡ kind_of index.now }
+    requires unnamed { (F.pairs ≡ None) × (F.stores ≡ None) }
+    requires inside { (i : ℕ) → i < count_of index.now → size_of index.now i ≤ length room.old.items }
+    requires looked { KeepsShelf (shelf_at F.Look S.Store first.value) (shelf_at F.Look S.Store cached.old) }
+    requires chain { cached.old.chain ≡ first.value.chain }
+    requires same { All (λ r. r.index.now ≡ index.now) readers.old }
+    requires unasked { All (λ r. r.asked ≡ record { floor = 0; low = 0; high = 0 }) readers.old }
+    requires kinds { All (λ r. r.chain.kind ≡ kind_of index.now) readers.old }
+    requires alike { All (λ r. map S.holds r.chain.stores ≡ map S.holds cached.old.chain.stores) readers.old }
+    ensures answers { FillAnswers S.Store index.now (shelf_at F.Look S.Store first.value)
+        (shelf_at F.Look S.Store cached.new) first.value.chain cached.new.chain result }
+    ensures further { AllZip (λ r s. FetchesAhead S.Store index.now r.chain s.chain) readers.old readers.new }
+{
+    let alloc = *room.allocator();
+    let chunk = room.as_mut_slice();
+    let mut filling = Filling::new(cached, index, chunk, lacking, first);
+    let filled = take_all(rt, alloc, &mut filling, readers);
+    filling.end();
+    filled
+}
+
+// Whether the cache lacks a chunk, and there is memory for readers of so many chains.
+fn may_hire<S: Store>(
+    readers: &Vec<WantReader<S>>,
+    buffers: &Vec<Vec<u8>>,
+    chains: usize,
+    lacking: &[bool],
+) -> bool
+    ensures { IsTrue result → chains ≤ vec_capacity readers.now }
+{
+    chains <= readers.capacity() && chains <= buffers.len() && lacking.contains(&true)
+}
+
+// Fills all entries, while readers with the further chains get chunks ahead, if there is memory for them.
+fn fill_beside<'a, R: Threads + Sync, F: Folder, S: Store + Send>(
+    rt: &R,
+    index: &'a Index,
+    cached: &mut Cached<F, S>,
+    first: Snapshot<Cached<F, S>>,
+    room: &mut Vec<u8>,
+    lacking: &'a [bool],
+    further: &mut Vec<Chain<S>>,
+) -> Result<(), FillFault>
+    requires kind { cached.old.chain.kind ≡ kind_of index.now }
+    requires unnamed { (F.pairs ≡ None) × (F.stores ≡ None) }
+    requires inside { (i : ℕ) → i < count_of index.now → size_of index.now i ≤ length room.old.items }
+    requires looked { KeepsShelf (shelf_at F.Look S.Store first.value) (shelf_at F.Look S.Store cached.old) }
+    requires chain { cached.old.chain ≡ first.value.chain }
+    requires kinds { All (λ c. c.kind ≡ kind_of index.now) further.old.items }
+    requires alike { All (λ c. map S.holds c.stores ≡ map S.holds cached.old.chain.stores) further.old.items }
+    ensures answers { FillAnswers S.Store index.now (shelf_at F.Look S.Store first.value)
+        (shelf_at F.Look S.Store cached.new) first.value.chain cached.new.chain result }
+    ensures further { AllZip (FetchesAhead S.Store index.now) further.old.items further.new.items }
+{
+    let alloc = *room.allocator();
+    let mut readers: Vec<WantReader<'a, S>> = match Vec::with_capacity(alloc, further.len()) {
+        Ok(readers) => readers,
+        Err(_) => Vec::new(alloc),
+    };
+    let mut buffers = match buffers(alloc, further.len(), room.len()) {
+        Ok(buffers) => buffers,
+        Err(_) => Vec::new(alloc),
+    };
+    if !may_hire(&readers, &buffers, further.len(), lacking) {
+        return fill_entries(rt, index, cached, first, room, lacking, &mut readers);
+    }
+    hire(further, index, lacking, &mut buffers, &mut readers);
+    let filled = fill_entries(rt, index, cached, first, room, lacking, &mut readers);
+    dismiss(&mut readers, further);
+    filled
+}
+
+/// Sees to it that the cache holds each chunk that the index lists, entry by entry up to the first refusal: one that it
+/// doesn't give is got from the stores and put into it. An id that is listed twice is filled twice. Each further chain
+/// gets chunks that the cache lacks ahead of their turns, in a thread of its own where there is memory for its rooms.
+pub fn fill<R: Threads + Sync, F: Folder, S: Store + Send>(
+    rt: &R,
+    alloc: Global,
+    index: &Index,
+    cached: &mut Cached<F, S>,
+    further: &mut Vec<Chain<S>>,
+) -> Result<(), FillFault>
+    requires kind { cached.old.chain.kind ≡ kind_of index.now }
+    requires unnamed { (F.pairs ≡ None) × (F.stores ≡ None) }
+    // Further workers name chunks by the same digest, and their stores hold the same.
+    requires kinds { All (λ c. c.kind ≡ kind_of index.now) further.old.items }
+    requires alike { All (λ c. map S.holds c.stores ≡ map S.holds cached.old.chain.stores) further.old.items }
+    ensures holds { HoldsTo index.now (filled_to index.now result)
+        (shelf_of F.files F.place F.faults cached.new.shelf) }
+    ensures order { FillEnds S.Store index.now
+        (shelf_of F.files F.place F.faults cached.old.shelf) (shelf_of F.files F.place F.faults cached.new.shelf)
+        cached.old.chain cached.new.chain result }
+    // Where nothing fails.
+    ensures exactly { (m : Map (List ℕ)) → (maps : List (Map (List ℕ))) → FillUnfailed S.holds S.faults index.now m maps
+        (shelf_of F.files F.place F.faults cached.old.shelf) (shelf_of F.files F.place F.faults cached.new.shelf)
+        cached.old.chain.stores cached.new.chain.stores → FillsBy index.now m maps result }
+
+    // How often the stores are asked, what the cache holds then, and what the stores keep.
+    ensures asks { AsksEntries S.asked S.queried index.now (count_of index.now) cached.old.chain cached.new.chain }
+    ensures spared { SparesStores index.now (shelf_of F.files F.place F.faults cached.old.shelf)
+        (shelf_of F.files F.place F.faults cached.new.shelf) cached.old.chain cached.new.chain }
+    ensures stocks { Stocks (MayFillCache S.holds index.now cached.old.chain.stores)
+        (shelf_of F.files F.place F.faults cached.old.shelf) (shelf_of F.files F.place F.faults cached.new.shelf) }
+    ensures stores { KeepsStores S.Store (IsListedGet index.now) cached.old.chain.stores cached.new.chain.stores }
+    ensures further { AllZip (FetchesAhead S.Store index.now) further.old.items further.new.items }
+{
+    let Ok(mut room) = index.room(alloc) else {
+        return Err(FillFault::Memory);
+    };
+    let first = Snapshot::of(&*cached);
+    let lacking = list_ahead(alloc, index, cached, further.len());
+    fill_beside(rt, index, cached, first, &mut room, &lacking, further)
+}

@@ -1,0 +1,159 @@
+//! The filling of a cache, entry by entry. Entries are numbered from 0.
+
+ghost use Rattle.std.specs.Prelude.{◌≡◌, ◌+◌, ◌<◌, ◌≤◌, ℕ, All, IsTrue, None, OnOk, false, length};
+ghost use Rattle.cache_fill.specs.Fetching.{SomeHoldsEntry};
+ghost use Rattle.cache_fill.specs.FillProgress.{FillsOn, IsFilling, shelf_at};
+ghost use Rattle.cache_store.specs.Shelves.{KeepsShelf};
+ghost use Rattle.caibx_codec.specs.Listing.{count_of, kind_of, size_of};
+ghost use Rattle.image_slices.specs.Ahead.{IsAhead};
+
+use crate::entry::{add_ahead, fill_entry};
+use crate::fill::FillFault;
+use crate::lacking::{room_size, round_end};
+use cache_store::cached::Cached;
+use caibx_codec::index::Index;
+use chunk_store::store::Store;
+use dsy_base::folder::Folder;
+use image_slices::ahead::{Ahead, slice_among};
+use read_ahead::consumer::Consumer;
+use std::alloc::{AllocError, Global};
+use std::snapshot::Snapshot;
+
+/// How many bytes readers leave free for what the cache's folder takes.
+const SPARE: usize = 262_144;
+
+/// The cache with its stores, the index, a buffer of the size of the largest chunk, and which chunks the cache lacked:
+/// the entries before `at` are filled. `first` is the cache as it was.
+#[derive(Drop)]
+pub(crate) struct Filling<'a, F: Folder, S: Store> {
+    pub cached: &'a mut Cached<F, S>,
+    pub index: &'a Index,
+    pub chunk: &'a mut [u8],
+    pub lacking: &'a [bool],
+    pub at: usize,
+    pub first: Snapshot<Cached<F, S>>,
+}
+
+impl<'a, F: Folder, S: Store> Filling<'a, F, S> {
+    /// No entry is filled yet. The cache was only looked at.
+    pub(crate) fn new(
+        cached: &'a mut Cached<F, S>,
+        index: &'a Index,
+        chunk: &'a mut [u8],
+        lacking: &'a [bool],
+        first: Snapshot<Cached<F, S>>,
+    ) -> Filling<'a, F, S>
+        requires kind { cached.old.chain.kind ≡ kind_of index.now }
+        requires unnamed { (F.pairs ≡ None) × (F.stores ≡ None) }
+        requires inside { (i : ℕ) → i < count_of index.now → size_of index.now i ≤ length chunk.old }
+        requires looked { KeepsShelf (shelf_at F.Look S.Store first.value) (shelf_at F.Look S.Store cached.old) }
+        requires chain { cached.old.chain ≡ first.value.chain }
+        ensures filling { IsFilling F.Look S.Store F.pairs F.stores result }
+        ensures same { result.cached.ghost_name ≡ cached.entry.ghost_name }
+        ensures cached { result.cached.now ≡ cached.old }
+        ensures index { result.index.now ≡ index.now }
+        ensures first { result.first.value ≡ first.value }
+    {
+        Filling {
+            cached,
+            index,
+            chunk,
+            lacking,
+            at: 0,
+            first,
+        }
+    }
+
+    // Fills the next entry with what was read ahead, if it was. Answers whether it is filled.
+    fn take_ahead(&mut self, ready: &[Ahead]) -> bool
+        requires more { self.old.at < count_of self.old.index.now }
+        requires filling { IsFilling F.Look S.Store F.pairs F.stores self.old }
+        requires ready { All (IsAhead self.old.index.now (SomeHoldsEntry S.holds self.old.index.now
+            self.old.first.value.chain.stores)) ready.now }
+        ensures on { FillsOn F.Look S.Store F.pairs F.stores self.old self.new (Ok tt) }
+        ensures yes { IsTrue result → self.new.at ≡ self.old.at + 1 }
+        ensures no { result ≡ false → self.new.at ≡ self.old.at }
+    {
+        let index = self.index;
+        index.rules();
+        let Some(bytes) = slice_among(ready, index, self.at) else {
+            return false;
+        };
+        let cached = &mut *self.cached;
+        let chunk = &mut *self.chunk;
+        if !add_ahead(index, self.at, bytes, cached, chunk) {
+            return false;
+        }
+        self.at += 1;
+        true
+    }
+
+    // Fills the next entry through the cache.
+    fn take_through(&mut self) -> Result<(), FillFault>
+        requires more { self.old.at < count_of self.old.index.now }
+        requires filling { IsFilling F.Look S.Store F.pairs F.stores self.old }
+        ensures on { FillsOn F.Look S.Store F.pairs F.stores self.old self.new result }
+        ensures next { OnOk result (self.new.at ≡ self.old.at + 1) }
+    {
+        let index = self.index;
+        index.rules();
+        let cached = &mut *self.cached;
+        let chunk = &mut *self.chunk;
+        fill_entry(index, self.at, cached, chunk)?;
+        self.at += 1;
+        Ok(())
+    }
+
+    /// Ends the filling.
+    pub(crate) fn end(self)
+        ensures kept { self.exit.0.now ≡ self.entry.cached.now }
+    {
+        let Filling { .. } = self;
+    }
+}
+
+impl<'a, F: Folder, S: Store> Consumer<Ahead> for Filling<'a, F, S> {
+    ghost use Rattle.cache_fill.specs.Fetching.{SomeHoldsEntry};
+    ghost use Rattle.cache_fill.specs.FillProgress.{FillsOn, IsFilling};
+    ghost use Rattle.caibx_codec.specs.Listing.{count_of};
+    ghost use Rattle.image_slices.specs.Ahead.{IsAhead};
+
+    type Fault = FillFault;
+
+    ghost count = { λ s. count_of s.index.now };
+
+    ghost taken = { λ s. s.at };
+
+    ghost can_go_on = { λ s. IsFilling F.Look S.Store F.pairs F.stores s };
+
+    ghost accepts = { λ s a. IsAhead s.index.now (SomeHoldsEntry S.holds s.index.now s.first.value.chain.stores) a };
+
+    ghost goes = { λ a b r. FillsOn F.Look S.Store F.pairs F.stores a b r };
+
+    fn count(&self) -> usize {
+        self.index.count()
+    }
+
+    fn at(&self) -> usize {
+        self.at
+    }
+
+    fn spare(&self) -> usize {
+        SPARE
+    }
+
+    fn room(&self, alloc: Global) -> Result<Ahead, AllocError> {
+        Ahead::new(alloc, room_size(self.chunk.len()))
+    }
+
+    fn round_end(&self, from: usize, readers: usize) -> usize {
+        round_end(self.index, self.lacking, from, readers, self.chunk.len())
+    }
+
+    fn take_next(&mut self, ready: &[Ahead]) -> Result<(), FillFault> {
+        if self.take_ahead(ready) {
+            return Ok(());
+        }
+        self.take_through()
+    }
+}

@@ -1,0 +1,10 @@
+//! Caches that are filled by an index, with chunks that further workers get ahead.
+#![tactic(auto)]
+
+mod asked;
+mod entry;
+pub mod fill;
+mod filling;
+mod hiring;
+mod lacking;
+mod want_reader;

@@ -1,5 +1,0 @@
-use Rattle.std.proofs.Common.{length}
-use Rattle.store_commands.proofs.cache.+fill_each.Given as goal
-
-abbrev pub decreases-fill_each : goal.decreases-fill_each
-decreases-fill_each g l = length l.indexes.now
