@@ -6,7 +6,7 @@ use chunk_store::id::ChunkId;
 use std::alloc::Global;
 use std::process::Abort;
 
-/// SHA-512/256 of `abc`, from FIPS 180-4's examples. The two others are from another program.
+/// SHA-512/256 of `abc`, from FIPS 180-4's examples. The others are from another program.
 pub const ABC: &str = "53048e2681941ef99b2e29b76b4c7dabe4c2d0c634fc6d46e0e2f13107e7af23";
 
 /// SHA-512/256 of `abX`.
@@ -14,6 +14,18 @@ pub const ABX: &str = "69b9fe464181451d00de83054c5fd4017d2537e0c35399e228a72f14e
 
 /// SHA-512/256 of `def`.
 pub const DEF: &str = "f391834ba55302124fbcfc8df6831a666e468b310e99295e1fce0abf8ef9ec3f";
+
+/// SHA-512/256 of `ghi`.
+pub const GHI: &str = "63123fe62044f1e4dbbf64b82b92ab2eac598efe9171126ddf9faa8865267d99";
+
+/// SHA-512/256 of `jkl`.
+pub const JKL: &str = "7f5adb26c3f53b3fed0d67b85b129fc19ee8df23dffdcc40167b3d9833fa3fb0";
+
+/// SHA-512/256 of `mno`.
+pub const MNO: &str = "6b3443850ca9b33d2f554e50266c9316740a1488d1a8b2bc9c99f5a0e56da303";
+
+/// SHA-512/256 of `pqr`.
+pub const PQR: &str = "5edab707759604f989d55b6fb4aaac8de1192b30b7f07d1a6afa442d2e058c8f";
 
 /// The id that has this name, in digits.
 pub fn id_of(rt: &impl Abort, text: &str) -> ChunkId {

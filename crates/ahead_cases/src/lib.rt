@@ -6,4 +6,8 @@ mod compare;
 #[cfg(test)]
 mod fill_tests;
 #[cfg(test)]
+mod further_tests;
+#[cfg(test)]
+mod gated_folder;
+#[cfg(test)]
 mod indexes;

@@ -38,7 +38,7 @@ origin_fetched fate.Seeded = refl
 origin_fetched fate.Cached = refl
 origin_fetched fate.Fetched = refl
 
-origin_upstream : (x : Fate) → as_upstream (origin_of x) ≡ origin_of (as_upstream x)
+pub origin_upstream : (x : Fate) → as_upstream (origin_of x) ≡ origin_of (as_upstream x)
 origin_upstream fate.Open = refl
 origin_upstream fate.Kept = refl
 origin_upstream fate.Copied = refl

@@ -1,7 +1,7 @@
 //! One entry of an index, whose chunk a cache is to hold. Entries are numbered from 0.
 
-ghost use Rattle.std.specs.Prelude.{◌≡◌, ◌≢◌, ℕ, List, ◌<◌, ◌≤◌, Some, None, IfSome, IfErr, IsTrue, OnOk, false, length};
-ghost use Rattle.std.specs.Prelude.{map};
+ghost use Rattle.std.specs.Prelude.{◌≡◌, ◌≢◌, ℕ, List, ◌<◌, ◌≤◌, Some, None, IfSome, IfErr, IsTrue, OnOk, false};
+ghost use Rattle.std.specs.Prelude.{length, map};
 ghost use Rattle.cache_fill.specs.Fetching.{SomeHoldsEntry};
 ghost use Rattle.cache_fill.specs.Filling.{AsksEntry, EntryFails, GivesEntry, IsGivenBy, MayFillCache, fill_fault_of};
 ghost use Rattle.cache_fill.specs.FillProgress.{IsAside};

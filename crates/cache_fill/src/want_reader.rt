@@ -1,4 +1,5 @@
-//! A further worker, which gets chunks from stores of its own ahead of their entries' turns. Entries are numbered from 0.
+//! A further worker, which gets chunks from stores of its own ahead of their entries' turns. Entries are numbered from
+//! 0.
 
 ghost use Rattle.std.specs.Prelude.{◌≡◌, ◌<◌, map};
 ghost use Rattle.cache_fill.specs.Fetching.{AreInOrder, Fetches, SomeHoldsEntry};

@@ -3,8 +3,8 @@
 ghost use Rattle.std.specs.Prelude.{◌≤◌, IfSome};
 
 use crate::compare::{ok, same};
-use crate::digests::{ABC, NOTHING};
-use chunk_store::id::ChunkId;
+use crate::digests::{ABC, ABC_256, NOTHING};
+use chunk_store::id::{ChunkId, DigestKind};
 use chunk_store::shows::Shows;
 use dsy_base::fault::IoFault;
 use std::alloc::Global;
@@ -125,6 +125,24 @@ fn the_first_damaged_chunk_is_told_where_none_gives(rt: HostRuntime) {
         Some(3),
         damaged(0, Shows::Longer),
     );
+}
+
+// What a chain by SHA-256 answers whose store holds `abc` under the id of these digits.
+fn obtains_by_sha256(rt: &impl Abort, alloc: Global, digits: &str, wanted: Result<usize, Refused>) {
+    let id = ok(rt, ChunkId::from_hex(digits));
+    let mut store = ScriptedStore::new(alloc, Refuses::Nothing);
+    ok(rt, store.set_chunk(&id, b"abc"));
+    let mut chain = Chain::with_kind(DigestKind::Sha256, ok(rt, vec![in alloc; store]));
+    same(rt, chain.kind(), DigestKind::Sha256);
+    same(rt, chain.obtain(&id, Some(3), &mut [0u8; 8]), wanted);
+}
+
+#[test]
+fn a_chain_names_chunks_by_its_kind(rt: HostRuntime) {
+    let alloc = rt.alloc();
+    obtains_by_sha256(&rt, alloc, ABC_256, Ok(3));
+    let named = ok(&rt, ChunkId::from_hex(ABC_256));
+    obtains_by_sha256(&rt, alloc, ABC, damaged(0, Shows::Digest(named)));
 }
 
 // How often each of two such stores is asked.

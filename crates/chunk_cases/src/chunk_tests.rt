@@ -3,7 +3,7 @@
 ghost use Rattle.std.specs.Prelude.{◌≤◌};
 
 use crate::compare::{ok, same};
-use crate::digests::{ABC, ABC_PATH, NOTHING};
+use crate::digests::{ABC, ABC_256, ABC_PATH, NOTHING};
 use chunk_store::id::{ChunkId, DigestKind, NotHex};
 use chunk_store::mem_store::MemStore;
 use chunk_store::range::name_range;
@@ -11,9 +11,6 @@ use chunk_store::store::{GetFault, Store, StoreWrite};
 use dsy_base::fault::{Failed, raise};
 use dsy_base::view::View;
 use std::process::Abort;
-
-// SHA-256 of `abc`, from FIPS 180-4's examples.
-const ABC_256: &str = "ba7816bf8f01cfea414140de5dae2223b00361a396177a9cb410ff61f20015ad";
 
 // The digest of these bytes has these digits.
 fn is_named(rt: &impl Abort, kind: DigestKind, bytes: &[u8], digits: &str) {

@@ -4,7 +4,7 @@ ghost use Rattle.std.specs.Prelude.{◌≡◌, ◌≤◌};
 ghost use Rattle.chunk_store.specs.declared.id.DigestKind.TheVariants as kinds;
 
 use crate::compare::{ok, same};
-use crate::digests::{ABC, ABC_PATH, NOTHING};
+use crate::digests::{ABC, ABC_256, ABC_PATH, NOTHING};
 use cache_store::cached::{Cached, Got, Kept, obtain_through};
 use cache_store::shelf::{CacheMiss, CacheShelf};
 use chunk_store::id::{ChunkId, DigestKind};
@@ -82,6 +82,22 @@ fn only_the_chunk_of_the_name_and_the_size_is_found(rt: HostRuntime) {
     finds(&rt, alloc, Some(b""), 3, wrong(Shows::Digest(other)));
     finds(&rt, alloc, Some(b"abc"), 4, wrong(Shows::Length(3)));
     finds(&rt, alloc, Some(b"abc"), 2, wrong(Shows::Longer));
+}
+
+#[test]
+fn a_shelf_names_chunks_by_its_kind(rt: HostRuntime) {
+    let alloc = rt.alloc();
+    let id = ChunkId::of(DigestKind::Sha256, b"abc");
+    same(&rt, id, id_of(&rt, ABC_256));
+    let mut out = [0u8; 8];
+    let folder = folder_of(&rt, alloc, Some(b"abc"));
+    let mut shelf = CacheShelf::with_kind(DigestKind::Sha256, folder);
+    same(&rt, shelf.kind(), DigestKind::Sha256);
+    let found = shelf.find(&id_of(&rt, ABC), Some(3), &mut out);
+    same(&rt, found, wrong(Shows::Digest(id)));
+    ok(&rt, shelf.add(&id, b"abc"));
+    same(&rt, shelf.find(&id, Some(3), &mut out), Ok(3));
+    holds_abc(&rt, &out);
 }
 
 #[test]

@@ -4,21 +4,12 @@ use Rattle.std.proofs.Math.Seq.{get_or-append_seam}
 use Rattle.std.proofs.lemmas.List.{get_or_append_left, length-append}
 use Rattle.std.specs.List.{insert, remove}
 use Rattle.command_steps.proofs.Consulted.{consults_none, consults_twice}
-use Rattle.command_steps.proofs.Given.{all_later}
-use Rattle.command_steps.specs.AnyStores.{source_files}
 use Rattle.command_steps.specs.Asking.{EachDialed, WorkersDialed}
 use Rattle.command_steps.specs.Turns.{GivenInTurn}
-use Rattle.command_steps.specs.Sources.{Consults, ConsultsStores, Storage, location_files}
-use Rattle.command_steps.specs.Stores.{are_folders}
-use Rattle.command_steps.specs.declared.any_store.AnyStore.{AnyStore}
+use Rattle.command_steps.specs.Sources.{Consults, Storage}
 use Rattle.command_words.specs.declared.command.Location.{Location}
-use Rattle.command_worlds.specs.Worlds.{Reads}
-use Rattle.dsy_base.specs.Disk.{Disk}
-use Rattle.dsy_base.specs.Links.{DialState, Traffic}
-use Rattle.dsy_base.specs.declared.look.Look.{Ghosts as LookWords}
+use Rattle.dsy_base.specs.Links.{Traffic}
 use Rattle.http_read.specs.Asks.{Server}
-use Rattle.std.specs.Prelude.{IfSome, IsTrue, map}
-use Rattle.store_chain.specs.Chains.{Chained}
 
 -- ---- the first and the last of a list
 

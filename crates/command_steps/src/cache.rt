@@ -1,6 +1,6 @@
 //! The cache of a command: its folder is taken to be written, and given back.
 
-ghost use Rattle.std.specs.Prelude.{◌≡◌, [], Ok, Err, None, Some, IfSome, IfOk, IfErr, OnOk, IsSome};
+ghost use Rattle.std.specs.Prelude.{◌≡◌, [], Ok, Err, None, Some, IfOk, IfErr, OnOk, IsSome};
 ghost use Rattle.std.specs.Option.{option_map};
 ghost use Rattle.cache_store.specs.Shelves.{shelf_of};
 ghost use Rattle.chunk_store.specs.declared.id.DigestKind.TheVariants as kinds;
@@ -44,46 +44,4 @@ pub fn give_shelf<F: Files>(files: &mut F, name: &str, shelf: CacheShelf<F::Fold
         (F.disk files.old) (F.disk files.new) }
 {
     files.give_folder(name, shelf.into_inner())
-}
-
-/// Takes the folder of a cache, where there is one.
-pub fn take_cache<F: Files>(
-    alloc: Global,
-    files: &mut F,
-    cache: &Option<Name>,
-) -> Result<Option<CacheShelf<F::Folder>>, Outcome>
-    ensures ok { IfOk result (λ o. CacheOpened [] cache.now (F.disk files.old) (Ok tt) (with_cache
-        (option_map (shelf_of F.Folder.files F.Folder.place F.Folder.faults) o) (F.disk files.new))) }
-    ensures named { IfOk result (λ o. option_map (λ s. F.Folder.place s.folder) o ≡ cache.now) }
-    ensures fresh { IfOk result (λ o. IfSome o (λ s. (F.Folder.faults s.folder ≡ 0) × (s.kind ≡ kinds.Sha512T256))) }
-    ensures known { OnOk result (IfSome cache.now (λ q. IsSome ((F.disk files.new).folder_counts q))) }
-    ensures gone { OnOk result (IfSome cache.now (λ q. (F.disk files.new).folders
-        ≡ option_map (λ m. at_name m q None) (F.disk files.old).folders)) }
-    ensures err { IfErr result (λ o. CacheOpened [] cache.now (F.disk files.old) (Err o) (F.disk files.new)) }
-{
-    let Some(name) = cache else {
-        return Ok(None);
-    };
-    let shelf = take_shelf(alloc, files, name.as_str())?;
-    Ok(Some(shelf))
-}
-
-/// Gives the folder of a cache back, where there is one.
-pub fn give_cache<F: Files>(
-    files: &mut F,
-    cache: &Option<Name>,
-    taken: Option<CacheShelf<F::Folder>>,
-)
-    requires named { option_map (λ s. F.Folder.place s.folder) taken ≡ cache.now }
-    requires known { IfSome cache.now (λ q. IsSome ((F.disk files.old).folder_counts q)) }
-    ensures given { CacheGiven (option_map (shelf_of F.Folder.files F.Folder.place F.Folder.faults) taken)
-        (F.disk files.old) (F.disk files.new) }
-{
-    let Some(shelf) = taken else {
-        return;
-    };
-    let Some(name) = cache else {
-        return;
-    };
-    give_shelf(files, name.as_str(), shelf)
 }

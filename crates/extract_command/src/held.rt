@@ -11,12 +11,12 @@ ghost use Rattle.extract_command.specs.Held.{AllReached, CanBeGiven, HasNames, I
 ghost use Rattle.extract_command.specs.Held.{stores_of};
 ghost use Rattle.extract_command.specs.Kits.{StandsFirst};
 
+use crate::cache::{give_cache, take_cache};
 use crate::kits::{close_kits, drop_kits};
 use cache_store::shelf::CacheShelf;
 use chunk_sources::kit::Kit;
 use command_outcome::outcome::Outcome;
 use command_steps::any_store::AnyStore;
-use command_steps::cache::{give_cache, take_cache};
 use command_steps::seeds::close_seeds;
 use command_steps::sources::{close_sources, drop_sources, open_sources};
 use command_words::command::Location;

@@ -3,6 +3,7 @@
 use crate::calls::fails;
 use crate::compare::{ok, same};
 use crate::indexes::{ABC, id_of};
+use chunk_store::id::DigestKind;
 use dir_store::store::DirStore;
 use dsy_base::fault::IoFault;
 use dsy_base::folder::Folder;
@@ -13,13 +14,16 @@ use std::alloc::Global;
 use std::collections::BTreeSet;
 use std::process::Abort;
 use std::thread::Threads;
-use store_check::verify::{StoreCheck, verify_store};
+use store_check::verify::{StoreCheck, verify_store, verify_store_as};
 use verify_tool::prune::prune;
 
 const ABC_FILE: &str = "5304/53048e2681941ef99b2e29b76b4c7dabe4c2d0c634fc6d46e0e2f13107e7af23";
 
 const ABC_STRANGER: &str =
     "5304/53048e2681941ef99b2e29b76b4c7dabe4c2d0c634fc6d46e0e2f13107e7af23.cacnk";
+
+// By SHA-256.
+const ABC_256_FILE: &str = "ba78/ba7816bf8f01cfea414140de5dae2223b00361a396177a9cb410ff61f20015ad";
 
 const DEF_FILE: &str = "f391/f391834ba55302124fbcfc8df6831a666e468b310e99295e1fce0abf8ef9ec3f";
 
@@ -107,6 +111,20 @@ fn a_damaged_file_is_removed_with_repair(rt: HostRuntime) {
         ABC_REMOVED,
         &[DEF_FILE],
     );
+}
+
+#[test]
+fn the_chunk_of_another_kind_is_damaged(rt: HostRuntime) {
+    let alloc = rt.alloc();
+    let files: [(&str, &[u8]); 2] = [(ABC_FILE, b"abc"), (ABC_256_FILE, b"abc")];
+    let mut store = store_of(&rt, alloc, Vec::new(alloc), &files);
+    let mut none: Vec<DirStore<MemFolder>> = Vec::new(alloc);
+    let mut out = MemSink::new(alloc, Vec::new(alloc));
+    let kind = DigestKind::Sha256;
+    let verified = verify_store_as(&rt, alloc, &mut store, kind, &mut none, true, &mut out);
+    same(&rt, verified, Ok(0));
+    same(&rt, out.taken(), ABC_REMOVED.as_bytes());
+    same_names(&rt, &mut store, &[ABC_256_FILE]);
 }
 
 #[test]

@@ -4,6 +4,7 @@ use Rattle.std.proofs.Common.{◌≡◌, ◌⊎◌, ◌+◌, ◌++◌, ◌∙◌
 use Rattle.std.proofs.lemmas.Bool.{cases_Bool, true≢false}
 use Rattle.std.proofs.lemmas.Slice.Eq.{bytes_eq-Decides}
 use Rattle.assembler.proofs.EconomySources.{had_source, source_same}
+use Rattle.assembler.proofs.EconomySettled.{origin_upstream}
 use Rattle.assembler.proofs.EconomySums.{sum_both, sum_same}
 use Rattle.assembler.proofs.Entries.{among, first_among, ids_same, listed_of}
 use Rattle.assembler.proofs.Tallies.{either_upstream, fate_upstream, seeded_upstream}
@@ -160,16 +161,8 @@ settled_upstream fate.Seeded = refl
 settled_upstream fate.Cached = refl
 settled_upstream fate.Fetched = refl
 
-origin_upstream : (x : Fate) → origin_of (as_upstream x) ≡ as_upstream (origin_of x)
-origin_upstream fate.Open = refl
-origin_upstream fate.Kept = refl
-origin_upstream fate.Copied = refl
-origin_upstream fate.Seeded = refl
-origin_upstream fate.Cached = refl
-origin_upstream fate.Fetched = refl
-
 told_upstream : (x last : Fate) → fate_told (as_upstream x) (as_upstream last) ≡ as_upstream (fate_told x last)
-told_upstream fate.Open last = origin_upstream last
+told_upstream fate.Open last = sym (origin_upstream last)
 told_upstream fate.Kept last = refl
 told_upstream fate.Copied last = refl
 told_upstream fate.Seeded last = refl

@@ -57,7 +57,7 @@ pub struct GatedView {
 impl GatedView {
     /// A view that passes the gate first.
     pub fn new(view: MemView, gate: Option<Arc<Gate, Global>>) -> GatedView
-        ensures view { result.view ≡ view }
+        ensures kept { result.view ≡ view }
     {
         GatedView { view, gate }
     }

@@ -187,6 +187,43 @@ fn one_connection(rt: &impl Abort, alloc: Global, size: usize)
     holds_abc_alone(rt, &mut shelf.into_inner());
 }
 
+// The path of `abc` by SHA-256 (FIPS 180-4's example).
+const ABC_256: &str = "ba78/ba7816bf8f01cfea414140de5dae2223b00361a396177a9cb410ff61f20015ad";
+
+// A shelf by SHA-256 over a folder that has `abc` by SHA-512/256.
+fn shelf_by_sha256(rt: &impl Abort, alloc: Global) -> ShelfState<MemFolder> {
+    let mut folder = MemFolder::new(alloc, Vec::new(alloc));
+    ok(rt, folder.put(ABC, b"abc"));
+    match ShelfState::with_kind(alloc, DigestKind::Sha256, folder, true) {
+        Ok(shelf) => shelf,
+        Err(_) => rt.panic("no memory"),
+    }
+}
+
+#[test]
+fn chunks_of_another_kind_are_refused(rt: HostRuntime) {
+    let alloc = rt.alloc();
+    let asked = text_of(
+        &rt,
+        alloc,
+        &[
+            "GET /", ABC, END, "PUT /", ABC, LENGTH_3, "abc", "PUT /", ABC_256, LENGTH_3, "abc",
+            "GET /", ABC_256, END,
+        ],
+    );
+    let sent = text_of(&rt, alloc, &[MISSING, BAD, OK_0, OK_3, "abc"]);
+    let mut shelf = shelf_by_sha256(&rt, alloc);
+    same(&rt, shelf.kind(), DigestKind::Sha256);
+    is_sent(
+        &rt,
+        alloc,
+        &mut shelf,
+        64,
+        asked.as_bytes(),
+        sent.as_bytes(),
+    );
+}
+
 #[test]
 fn one_connection_in_any_pieces(rt: HostRuntime) {
     one_connection(&rt, rt.alloc(), 1);

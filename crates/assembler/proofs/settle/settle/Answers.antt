@@ -14,16 +14,18 @@ use Rattle.chunk_sources.specs.Caches.{OthersAddOnly, CacheLacks, TakesChunk, Ta
 use Rattle.chunk_sources.specs.Economy.{source_among, source_over}
 use Rattle.chunk_sources.specs.Losses.{Had}
 use Rattle.chunk_sources.specs.Sources.{KeepsSeeds, SourcesQuiet, Telling, sources, views_of}
-use Rattle.chunk_sources.specs.Wants.{IsAmong, Wanted}
+use Rattle.chunk_sources.specs.Wants.{IsAmong, Wanted, want_chunk}
 use Rattle.chunk_store.specs.declared.id.ChunkId.{ChunkId}
 use Rattle.assembler.specs.declared.fault.Unsettled.{Unsettled}
 use Rattle.std.specs.Vec.{with_items}
 use Rattle.extract_plan.specs.Places.{PlacesFit}
 use Rattle.extract_plan.specs.declared.seed.Seed.{Seed}
+use Rattle.dsy_base.specs.Maps.{Map}
 use Rattle.range_survey.specs.Fates.{settled}
+use Rattle.range_survey.specs.declared.fate.Fate.{Fate}
 use Rattle.assembler.proofs.settle.settle.Given.{Over}
 use Rattle.assembler.proofs.settle.settle.Goals as goal
-use Rattle.assembler.proofs.settle.settle.Goals.{In-Some, After-entry}
+use Rattle.assembler.proofs.settle.settle.Goals.{In-Some, After-entry, After-settle_open}
 use Rattle.cache_store.specs.Shelves.{Shelf}
 
 on_ok : {P Q : Type 0} (r : Result Unit Unsettled) → (P → Q) → OnOk r P → OnOk r Q
@@ -224,51 +226,46 @@ returns-clause-ends g c =
       memory = e.memory;
     }
 
+-- ---- where nothing fails
+
+-- what holds for the seeds as they were lent, and for what was sought, holds for the kit's and for the want
+module _ (g : Over) (c : After-settle_open g) (cached maps : List (Map (List ℕ))) where
+  abbrev Quietly : List (Seed g.row.V.Denot) → List (Seed g.row.V.Denot) → Type 0
+  Quietly xs ys = SourcesQuiet g.S.Store g.V.View (sources (g.E.Ledger.faults c.args.work.now.ledger) xs (see g c.args.work.now.cache) c.args.work.now.kit.chain)
+      (sources (g.E.Ledger.faults c.settle_open.new.ledger) ys (see g c.settle_open.new.cache) c.settle_open.new.chain) cached maps
+
+  quiet_lent : Quietly c.args.work.now.kit.seeds.items (with_items c.args.work.now.kit.seeds c.settle_open.new.seeds).items → Quietly c.deref_mut.result.now c.settle_open.new.seeds
+  quiet_lent quiet =
+      let kept = with_items_is c.args.work.now.kit.seeds c.settle_open.new.seeds (omega (arith, c.settle_open.auto.seeds, c.deref_mut.ensures.len)) in
+      subst (λ (xs : List (Seed g.row.V.Denot)). Quietly xs c.settle_open.new.seeds) (sym c.deref_mut.ensures.value)
+      (subst (λ (ys : List (Seed g.row.V.Denot)). Quietly c.args.work.now.kit.seeds.items ys) kept quiet)
+
+  abbrev Source : Wanted → List (Seed g.row.V.Denot) → Fate
+  Source q xs = source_among (settled (g.E.Ledger.fates c.args.work.now.ledger)) q (views_of g.V.View xs) cached maps
+
+  for_want : (P : Fate → Type 0) (q now : Wanted) → q ≡ now → P (Source q c.deref_mut.result.now) → P (Source now c.args.work.now.kit.seeds.items)
+  for_want P q now same has =
+      subst (λ (p : Wanted). P (Source p c.args.work.now.kit.seeds.items)) same (subst (λ (xs : List (Seed g.row.V.Denot)). P (Source q xs)) c.deref_mut.ensures.value has)
+
 pub returns-clause-exactly : goal.returns-clause-exactly
 returns-clause-exactly g c = λ alone cached maps quiet.
     let at = goal.at.returns-clause-exactly g c in
     let t = task g.E.Ledger.run.listing c.args.wants.now in
-    let w = c.args.want in
-    let seeds = c.args.work.now.kit.seeds in
-    let old = g.E.Ledger.fates c.args.work.now.ledger in
-    let first = c.deref_mut.ensures.value in
-    let kept = with_items_is seeds c.settle_open.new.seeds (omega (arith, c.settle_open.auto.seeds, c.deref_mut.ensures.len)) in
-    let same = same_chunk t w c.requires.ready.wants c.requires.want c.entries-entries.result.now c.entries-entries.ensures c.in-Some.entry (among g at.In-Some) c.id-id.result.0
+    let same = same_chunk t c.args.want c.requires.ready.wants c.requires.want c.entries-entries.result.now c.entries-entries.ensures c.in-Some.entry (among g at.In-Some) c.id-id.result.0
     (named g at.After-entry) c.entry.result.size (sized g at.After-entry) c.places-places.result.now c.places-places.ensures in
-    let f0 = g.E.Ledger.faults c.args.work.now.ledger in
-    let f1 = g.E.Ledger.faults c.settle_open.new.ledger in
-    let e0 = see g c.args.work.now.cache in
-    let e1 = see g c.settle_open.new.cache in
-    let c0 = c.args.work.now.kit.chain in
-    let c1 = c.settle_open.new.chain in
-    subst (λ (q : Wanted). SettlesBy (source_among (settled old) q (views_of g.V.View seeds.items) cached maps) (count_of t.listing) old (g.E.Ledger.fates c.settle_open.new.ledger) c0 c1 c.settle_open.result) same
-    (subst (λ (xs : List (Seed g.row.V.Denot)). SettlesBy (source_among (settled old) (record { kind = kind_of t.listing; id = c.id-id.result.0; size = c.entry.result.size; entries = c.entries-entries.result.now; places = c.places-places.result.now })
-    (views_of g.V.View xs) cached maps) (count_of t.listing) old (g.E.Ledger.fates c.settle_open.new.ledger) c0 c1 c.settle_open.result) first
-    (c.settle_open.ensures.exactly alone cached maps
-    (subst (λ (xs : List (Seed g.row.V.Denot)). SourcesQuiet g.S.Store g.V.View (sources f0 xs e0 c0) (sources f1 c.settle_open.new.seeds e1 c1) cached maps) (sym first)
-    (subst (λ (xs : List (Seed g.row.V.Denot)). SourcesQuiet g.S.Store g.V.View (sources f0 seeds.items e0 c0) (sources f1 xs e1 c1) cached maps) kept quiet))))
+    for_want g at.After-settle_open cached maps
+    (λ s. SettlesBy s (count_of t.listing) (g.E.Ledger.fates c.args.work.now.ledger) (g.E.Ledger.fates c.settle_open.new.ledger) c.args.work.now.kit.chain c.settle_open.new.chain c.settle_open.result)
+    _ (want_chunk t c.args.want) same (c.settle_open.ensures.exactly alone cached maps (quiet_lent g at.After-settle_open cached maps quiet))
 
 pub returns-clause-shared : goal.returns-clause-shared
 returns-clause-shared g c = λ cached maps only quiet.
     let at = goal.at.returns-clause-shared g c in
     let t = task g.E.Ledger.run.listing c.args.wants.now in
-    let w = c.args.want in
-    let seeds = c.args.work.now.kit.seeds in
-    let old = g.E.Ledger.fates c.args.work.now.ledger in
-    let first = c.deref_mut.ensures.value in
-    let kept = with_items_is seeds c.settle_open.new.seeds (omega (arith, c.settle_open.auto.seeds, c.deref_mut.ensures.len)) in
-    let same = same_chunk t w c.requires.ready.wants c.requires.want c.entries-entries.result.now c.entries-entries.ensures c.in-Some.entry (among g at.In-Some) c.id-id.result.0
+    let same = same_chunk t c.args.want c.requires.ready.wants c.requires.want c.entries-entries.result.now c.entries-entries.ensures c.in-Some.entry (among g at.In-Some) c.id-id.result.0
     (named g at.After-entry) c.entry.result.size (sized g at.After-entry) c.places-places.result.now c.places-places.ensures in
-    let f0 = g.E.Ledger.faults c.args.work.now.ledger in
-    let f1 = g.E.Ledger.faults c.settle_open.new.ledger in
-    let e0 = see g c.args.work.now.cache in
-    let e1 = see g c.settle_open.new.cache in
-    let c0 = c.args.work.now.kit.chain in
-    let c1 = c.settle_open.new.chain in
-    subst (λ (q : Wanted). SettledShared (source_among (settled old) q (views_of g.V.View seeds.items) cached maps) (count_of t.listing) old (g.E.Ledger.fates c.settle_open.new.ledger) c.settle_open.result) same
-    (subst (λ (xs : List (Seed g.row.V.Denot)). SettledShared (source_among (settled old) (record { kind = kind_of t.listing; id = c.id-id.result.0; size = c.entry.result.size; entries = c.entries-entries.result.now; places = c.places-places.result.now })
-    (views_of g.V.View xs) cached maps) (count_of t.listing) old (g.E.Ledger.fates c.settle_open.new.ledger) c.settle_open.result) first
+    for_want g at.After-settle_open cached maps
+    (λ s. SettledShared s (count_of t.listing) (g.E.Ledger.fates c.args.work.now.ledger) (g.E.Ledger.fates c.settle_open.new.ledger) c.settle_open.result)
+    _ (want_chunk t c.args.want) same
     (c.settle_open.ensures.shared cached maps
-    (subst (λ (q : Wanted). OthersAddOnly q.kind q.id q.size e0 cached maps) (sym same) only)
-    (subst (λ (xs : List (Seed g.row.V.Denot)). SourcesQuiet g.S.Store g.V.View (sources f0 xs e0 c0) (sources f1 c.settle_open.new.seeds e1 c1) cached maps) (sym first)
-    (subst (λ (xs : List (Seed g.row.V.Denot)). SourcesQuiet g.S.Store g.V.View (sources f0 seeds.items e0 c0) (sources f1 xs e1 c1) cached maps) kept quiet))))
+    (subst (λ (q : Wanted). OthersAddOnly q.kind q.id q.size (see g c.args.work.now.cache) cached maps) (sym same) only)
+    (quiet_lent g at.After-settle_open cached maps quiet))
