@@ -18,20 +18,20 @@ module _ {S : Type 0} (store : StoreWords S) (l : Listing) (stores : List S) whe
   -- nobody else adds anything
   pub alone_lists : (cache : Option Shelf) → IsAlone cache → OthersAddListed store l stores cache
   alone_lists None alone = tt
-  alone_lists (Some s) alone = subst (λ (x : Option Others). IfSome x (λ o. (q b : List ℕ) → MayAdd o.pairs o.stores q b → TakesListed store l stores q b)) (sym alone) tt
+  alone_lists (Some s) alone = subst (λ (x : Option Others). IfSome x (λ o. (q b : List ℕ) → MayAdd o.kind o.pairs o.stores q b → TakesListed store l stores q b)) (sym alone) tt
 
   abbrev Listed : Others → Type 0
-  Listed o = (q b : List ℕ) → MayAdd o.pairs o.stores q b → TakesListed store l stores q b
+  Listed o = (q b : List ℕ) → MayAdd o.kind o.pairs o.stores q b → TakesListed store l stores q b
 
   -- of a chunk that the index lists they add nothing else, once the cache was filled too: what it gives now of it it
   -- gave at first
   module _ (maps : List (Map (List ℕ))) (told : map store.holds stores ≡ map Some maps) (id : List ℕ) (size : ℕ) (listed : IsListedAs l id size) where
-    held_one : (o : Others) → Listed o → (b : List ℕ) → MayAdd o.pairs o.stores id b → Any (λ m. m id ≡ Some b) maps
+    held_one : (o : Others) → Listed o → (b : List ℕ) → MayAdd o.kind o.pairs o.stores id b → Any (λ m. m id ≡ Some b) maps
     held_one o adds b may =
         let x = adds id b may in
         subst (λ (q : List ℕ). Any (λ m. m q ≡ Some b) maps) (sym x.2.0) (x.2.2 maps told)
 
-    gives_added : (o : Others) → Listed o → (b : List ℕ) → MayAdd o.pairs o.stores id b → SomeGives (kind_of l) id (length b) maps
+    gives_added : (o : Others) → Listed o → (b : List ℕ) → MayAdd o.kind o.pairs o.stores id b → SomeGives (kind_of l) id (length b) maps
     gives_added o adds b may =
         let x = adds id b may in
         let held = held_one o adds b may in
@@ -39,7 +39,7 @@ module _ {S : Type 0} (store : StoreWords S) (l : Listing) (stores : List S) whe
         (held.0, held.1, held.2, held.3, (b, held.4, record { named = named.named; sized = refl }))
 
     sized_one : (was : List (Map (List ℕ))) → ((n m : ℕ) → IsListedAs l id n → IsListedAs l id m → SomeGives (kind_of l) id n (was ++ maps) → SomeGives (kind_of l) id m (was ++ maps) → n ≡ m)
-        → SomeGives (kind_of l) id size was → (o : Others) → Listed o → (b : List ℕ) → MayAdd o.pairs o.stores id b → length b ≡ size
+        → SomeGives (kind_of l) id size was → (o : Others) → Listed o → (b : List ℕ) → MayAdd o.kind o.pairs o.stores id b → length b ≡ size
     sized_one was one gave o adds b may =
         let x = adds id b may in
         one (length b) size (x.0, x.1, sym x.2.0, sym x.2.1.sized) listed
@@ -53,6 +53,6 @@ module _ {S : Type 0} (store : StoreWords S) (l : Listing) (stores : List S) whe
     adds_only T (Some s) (Some t) stocked adds was now one back =
         let then : IfSome t.others Listed = subst (λ (x : Option Others). IfSome x Listed) (sym stocked.others) adds in
         record {
-          held = if_map Listed (λ o. (b : List ℕ) → MayAdd o.pairs o.stores id b → Any (λ m. m id ≡ Some b) maps) t.others held_one then;
-          sized = λ gives. if_map Listed (λ o. (b : List ℕ) → MayAdd o.pairs o.stores id b → length b ≡ size) t.others (sized_one was (one refl id) (back gives)) then;
+          held = if_map Listed (λ o. (b : List ℕ) → MayAdd o.kind o.pairs o.stores id b → Any (λ m. m id ≡ Some b) maps) t.others held_one then;
+          sized = λ gives. if_map Listed (λ o. (b : List ℕ) → MayAdd o.kind o.pairs o.stores id b → length b ≡ size) t.others (sized_one was (one refl id) (back gives)) then;
         }

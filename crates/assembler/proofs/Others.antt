@@ -32,7 +32,7 @@ adds_by x P none = subst (λ (y : Option Others). IfSome y P) (sym none) tt
 
 pub alone_adds : (id : List ℕ) (size : ℕ) (e : Option Shelf) → IsAlone e → AddsSize id size e
 alone_adds id size None alone = tt
-alone_adds id size (Some s) alone = adds_by s.others (λ o. (b : List ℕ) → MayAdd o.pairs o.stores id b → length b ≡ size) alone
+alone_adds id size (Some s) alone = adds_by s.others (λ o. (b : List ℕ) → MayAdd o.kind o.pairs o.stores id b → length b ≡ size) alone
 
 pub alone_shared : (P : Type 0) (e : Option Shelf) → IsAlone e → IfShared e P
 alone_shared P None alone = tt
@@ -62,7 +62,7 @@ module _ (Takes : List ℕ → List ℕ → Type 0) where
   adds_on id size None (Some t) stocked adds = absurd stocked
   adds_on id size (Some s) None stocked adds = absurd stocked
   adds_on id size (Some s) (Some t) stocked adds =
-      subst (λ (x : Option Others). IfSome x (λ o. (b : List ℕ) → MayAdd o.pairs o.stores id b → length b ≡ size)) (sym stocked.others) adds
+      subst (λ (x : Option Others). IfSome x (λ o. (b : List ℕ) → MayAdd o.kind o.pairs o.stores id b → length b ≡ size)) (sym stocked.others) adds
 
   shared_on : (P : Type 0) (e f : Option Shelf) → Stocked Takes e f → IfShared e P → IfShared f P
   shared_on P None None stocked p = tt
@@ -82,7 +82,7 @@ module _ (Takes : List ℕ → List ℕ → Type 0) where
 pub suits_alone : {C S : Type 0} (words : CacheWords C) (store : StoreWords S) (l : Listing) (stores : List S) (e : Option Shelf)
     → (words.pairs ≡ None) × (words.stores ≡ None) → IsAlone e → Suits words store l stores e
 suits_alone words store l stores e unnamed alone = record {
-  takes = alone_shared ((q b : List ℕ) → TakesListed store l stores q b → MayAdd words.pairs words.stores q b) e alone;
+  takes = alone_shared ((q b : List ℕ) → TakesListed store l stores q b → MayAdd (kind_of l) words.pairs words.stores q b) e alone;
   own = named e;
 } where
   named : (x : Option Shelf) → IfSome x (λ s. s.others ≡ None → (words.pairs ≡ None) × (words.stores ≡ None))
@@ -93,7 +93,7 @@ module _ {C S : Type 0} (words : CacheWords C) (store : StoreWords S) (l : Listi
   pub suits_on : (Takes : List ℕ → List ℕ → Type 0) (s0 s1 : List S) (e f : Option Shelf) → map store.holds s1 ≡ map store.holds s0 → Stocked Takes e f
       → Suits words store l s0 e → Suits words store l s1 f
   suits_on Takes s0 s1 e f same stocked suits =
-      let All : List S → Type 0 = λ s. (q b : List ℕ) → TakesListed store l s q b → MayAdd words.pairs words.stores q b in
+      let All : List S → Type 0 = λ s. (q b : List ℕ) → TakesListed store l s q b → MayAdd (kind_of l) words.pairs words.stores q b in
       record {
         takes = shared_map (All s0) (All s1)
             (λ may q b takes. may q b (takes.0, takes.1, (takes.2.0, takes.2.1, λ maps told. takes.2.2 maps (same ∙ told))))
@@ -104,16 +104,16 @@ module _ {C S : Type 0} (words : CacheWords C) (store : StoreWords S) (l : Listi
   -- what is added for one entry
   pub takes_entry : (stores : List S) (e : Option Shelf) → Suits words store l stores e → (i : ℕ) → i < count_of l → (kind : DigestKind) → kind ≡ kind_of l
       → (id : List ℕ) → id ≡ id_of l i → (size : ℕ) → size ≡ size_of l i
-      → IfShared e ((b : List ℕ) → TakesChunk store kind id size stores id b → MayAdd words.pairs words.stores id b)
+      → IfShared e ((b : List ℕ) → TakesChunk store kind id size stores id b → MayAdd kind words.pairs words.stores id b)
   takes_entry stores e suits i inside kind named id is size sized =
-      shared_map ((q b : List ℕ) → TakesListed store l stores q b → MayAdd words.pairs words.stores q b)
-      ((b : List ℕ) → TakesChunk store kind id size stores id b → MayAdd words.pairs words.stores id b)
-      (λ may b takes. may id b (
+      shared_map ((q b : List ℕ) → TakesListed store l stores q b → MayAdd (kind_of l) words.pairs words.stores q b)
+      ((b : List ℕ) → TakesChunk store kind id size stores id b → MayAdd kind words.pairs words.stores id b)
+      (λ may b takes. subst (λ (k : DigestKind). MayAdd k words.pairs words.stores id b) (sym named) (may id b (
         i,
         inside,
         subst (λ (k : DigestKind). TakesChunk store k (id_of l i) (size_of l i) stores id b) named
             (subst (λ (n : ℕ). TakesChunk store kind (id_of l i) n stores id b) sized (subst (λ (x : List ℕ). TakesChunk store kind x size stores id b) is takes)),
-      ))
+      )))
       e suits.takes
 
 -- ---- what it gives

@@ -67,10 +67,10 @@ module _ (t : Task) (w : ℕ) (wants : AreWants t.listing t.plan.wants t.plan.wa
     named_first : id ≡ want_id t.listing t.plan w
     named_first = named ∙ (ids_same t.listing t.plan w one (first_of t.plan w) wants (there one among) (first_among t.listing t.plan w wants below)).0
 
-    pub fit : (seeds : ℕ) (ps : List SeedPlace) → PlacesKnown t.listing t.plan t.places seeds → ps ≡ places_at t.places w → PlacesFit seeds n ps
+    pub fit : (seeds : ℕ) (ps : List SeedPlace) → PlacesKnown t.listing t.plan t.places seeds → ps ≡ places_at t.places w → PlacesFit (kind_of t.listing) seeds n ps
     fit seeds ps known at =
-        let here = subst (λ (m : ℕ). PlacesFit seeds m (places_at t.places w)) as_first (known.fit w below) in
-        subst (λ (qs : List SeedPlace). PlacesFit seeds n qs) (sym at) here
+        let here = subst (λ (m : ℕ). PlacesFit (kind_of t.listing) seeds m (places_at t.places w)) as_first (known.fit w below) in
+        subst (λ (qs : List SeedPlace). PlacesFit (kind_of t.listing) seeds n qs) (sym at) here
 
     -- what is sought is the chunk of the want
     pub same_chunk : (ps : List SeedPlace) → ps ≡ places_at t.places w

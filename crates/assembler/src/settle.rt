@@ -78,14 +78,15 @@ fn settle_open<E: Ledger, S: Store, V: View, C: Cache>(
     requires entries { AllOf E.run.listing opened.now.sought.id.0 opened.now.size opened.now.sought.entries.now }
     requires among { IsAmong opened.now.sought.entries.now opened.now.entry }
     requires is_open { settled (E.fates ledger.old) opened.now.entry ≡ false }
-    requires places { PlacesFit (length seeds.old) opened.now.size opened.now.sought.places.now }
+    requires places { PlacesFit (kind_of E.run.listing) (length seeds.old) opened.now.size
+        opened.now.sought.places.now }
     requires room { opened.now.size ≤ length buf.old }
     requires kind { chain.old.kind ≡ kind_of E.run.listing }
     requires own { IfSome (seen_in C.Cache cache.old)
         (λ s. s.others ≡ None → (C.pairs ≡ None) × (C.stores ≡ None)) }
     requires takes { IfShared (seen_in C.Cache cache.old) ((b : List ℕ) → TakesChunk S.Store chain.old.kind
-        opened.now.sought.id.0 opened.now.size chain.old.stores opened.now.sought.id.0 b → MayAdd C.pairs C.stores
-        opened.now.sought.id.0 b) }
+        opened.now.sought.id.0 opened.now.size chain.old.stores opened.now.sought.id.0 b →
+        MayAdd chain.old.kind C.pairs C.stores opened.now.sought.id.0 b) }
     requires cache { IfSome (seen_in C.Cache cache.old) (λ s. s.kind ≡ chain.old.kind) }
     requires may { HadOver S.Store V.View (E.fates ledger.old)
         (sought_chunk (kind_of E.run.listing) opened.now.sought opened.now.size)

@@ -8,7 +8,6 @@ use Rattle.cache_store.specs.declared.shelf.CacheMiss.TheVariants as miss
 use Rattle.chunk_store.specs.Folders.{chunks}
 use Rattle.chunk_store.specs.Names.{name_of}
 use Rattle.chunk_store.specs.declared.id.DigestKind.{DigestKind}
-use Rattle.chunk_store.specs.declared.id.DigestKind.TheVariants.{Sha512T256}
 use Rattle.dir_store.specs.Names.{is_stranger}
 use Rattle.dsy_base.specs.Maps.{Map}
 use Rattle.store_chain.specs.Giving.{Gives, HoldsElse, HoldsNone}
@@ -20,9 +19,10 @@ pub record Shelved (F : Type 0) : Type 0 where
   pub folder : F
   pub kind : DigestKind
 
--- what others may add to a shelf that is shared: chunks of these ids and sizes, which these stores hold, where that is
--- known
+-- what others may add to a shelf that is shared: chunks named by this kind of digest, of these ids and sizes, which
+-- these stores hold, where that is known
 pub record Others : Type 0 where
+  pub kind : DigestKind
   pub pairs : Option (List (List ℕ × ℕ))
   pub stores : Option (List (Map (List ℕ)))
 
@@ -54,11 +54,11 @@ held_on s = option_map chunks s.files
 abbrev pub IsPair : List ℕ → ℕ → List (List ℕ × ℕ) → Type 0
 IsPair id size pairs = Any (λ (p : List ℕ × ℕ). (p.0 ≡ id) × (p.1 ≡ size)) pairs
 
--- the bytes may be added under the id: it is their digest, it is listed with their size, and one of the stores holds
--- them under it. The last two only where the type of the folder names pairs and stores
-pub record MayAdd (pairs : Option (List (List ℕ × ℕ))) (stores : Option (List (Map (List ℕ)))) (id b : List ℕ) : Type 0
-  where
-    pub named : name_of Sha512T256 b ≡ id
+-- the bytes may be added under the id: it is their digest of this kind, it is listed with their size, and one of the
+-- stores holds them under it. The last two only where the type of the folder names pairs and stores
+pub record MayAdd (kind : DigestKind) (pairs : Option (List (List ℕ × ℕ))) (stores : Option (List (Map (List ℕ))))
+  (id b : List ℕ) : Type 0 where
+    pub named : name_of kind b ≡ id
     pub listed : IfSome pairs (IsPair id (length b))
     pub held : IfSome stores (Any (λ m. m id ≡ Some b))
 
@@ -69,12 +69,12 @@ AddsWanted Takes w = (b : List ℕ) → Takes w.id.0 b → IsWanted w b
 -- a shelf that held these chunks at first may hold the bytes under the id: it held them, or others have added them
 abbrev pub MayHold : Option Others → Map (List ℕ) → List ℕ → List ℕ → Type 0
 MayHold None m id b = m id ≡ Some b
-MayHold (Some o) m id b = (m id ≡ Some b) ⊎ MayAdd o.pairs o.stores id b
+MayHold (Some o) m id b = (m id ≡ Some b) ⊎ MayAdd o.kind o.pairs o.stores id b
 
 -- a shelf that held these chunks at first gives what is wanted, whatever others add
 abbrev pub GivesStill : Option Others → Query → Map (List ℕ) → Type 0
 GivesStill None w m = Gives w m
-GivesStill (Some o) w m = Gives w m × AddsWanted (MayAdd o.pairs o.stores) w
+GivesStill (Some o) w m = Gives w m × AddsWanted (MayAdd o.kind o.pairs o.stores) w
 
 -- what a look for a chunk answers, where the shelf holds these, and the front of the buffer afterwards
 abbrev pub Finds : Query → Map (List ℕ) → Result ℕ CacheMiss → List ℕ → Type 0

@@ -6,7 +6,6 @@ ghost use Rattle.cache_store.specs.Shelves.{IsPair, KeepsShelf, MayHold, Shelf, 
 ghost use Rattle.cache_store.specs.Through.{AddedTo, Unfound, kept_by};
 ghost use Rattle.cache_store.specs.declared.cached.Kept.{Kept};
 ghost use Rattle.chunk_store.specs.Names.{name_of};
-ghost use Rattle.chunk_store.specs.declared.id.DigestKind.TheVariants as kinds;
 ghost use Rattle.dsy_base.specs.Maps.{Map};
 ghost use Rattle.store_chain.specs.Queries.{FillsQuery, query_of};
 
@@ -61,8 +60,8 @@ pub trait Cache: Drop {
         ensures added { AddedTo id.now.0 b.now (kept_by result) (shelf self.old) (shelf self.new) }
         ensures changed { adds id.now.0 b.now (kept_by result) self.old self.new };
 
-    /// A shared shelf names its chunks by SHA-512/256.
-    ghost digest: { (s : Self) → IfSome (shelf s).others (λ _. (shelf s).kind ≡ kinds.Sha512T256) };
+    /// A shared shelf names its chunks as others do who add to it.
+    ghost digest: { (s : Self) → IfSome (shelf s).others (λ o. (shelf s).kind ≡ o.kind) };
 }
 
 impl<F: Folder> Cache for CacheShelf<F> {

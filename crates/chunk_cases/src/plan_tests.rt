@@ -67,7 +67,12 @@ fn nothing_is_wanted_for_an_empty_image(rt: HostRuntime) {
 }
 
 fn place(seed: u32, start: u64, size: u32) -> SeedPlace {
-    SeedPlace { seed, start, size }
+    SeedPlace {
+        seed,
+        start,
+        size,
+        kind: DigestKind::Sha512T256,
+    }
 }
 
 // Four seeds, of which one is empty.
@@ -94,19 +99,41 @@ fn places_of_wants_are_listed_by_seed(rt: HostRuntime) {
     same(&rt, placed.places(2), [place(0, 0, 1)].as_slice());
 }
 
-// What a seed answers for "def" at this place.
-fn gives(rt: &impl Abort, seed: &mut Seed<MemView>, start: u64, want: SeedAnswer) {
-    let id = ChunkId::of(DigestKind::Sha512T256, b"def");
+// What a seed answers for "def", named by this kind, at this place.
+fn gives_by(
+    rt: &impl Abort,
+    kind: DigestKind,
+    seed: &mut Seed<MemView>,
+    start: u64,
+    want: SeedAnswer,
+) {
+    let id = ChunkId::of(kind, b"def");
     let place = SeedPlace {
         seed: 0,
         start,
         size: 3,
+        kind,
     };
     let mut out = [0; 3];
     same(rt, seed_gives(seed, &place, &id, &mut out), want);
     if want == SeedAnswer::Given {
         same(rt, out, *b"def");
     }
+}
+
+// What it answers for "def" named by SHA-512/256.
+fn gives(rt: &impl Abort, seed: &mut Seed<MemView>, start: u64, want: SeedAnswer) {
+    gives_by(rt, DigestKind::Sha512T256, seed, start, want);
+}
+
+#[test]
+fn a_seed_names_bytes_by_the_kind_of_the_place(rt: HostRuntime) {
+    let alloc = rt.alloc();
+    let bytes = ok(&rt, Vec::from_slice(alloc, b"abcdef"));
+    let view = MemView::new(alloc, bytes, Vec::new(alloc));
+    let mut seed = Seed { view: Some(view) };
+    gives_by(&rt, DigestKind::Sha256, &mut seed, 3, SeedAnswer::Given);
+    gives_by(&rt, DigestKind::Sha256, &mut seed, 2, SeedAnswer::Wrong);
 }
 
 #[test]

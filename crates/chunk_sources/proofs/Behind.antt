@@ -19,7 +19,6 @@ use Rattle.chunk_store.specs.Folders.{chunks}
 use Rattle.chunk_store.specs.Names.{name_of}
 use Rattle.chunk_store.specs.declared.id.ChunkId.{ChunkId}
 use Rattle.chunk_store.specs.declared.id.DigestKind.{DigestKind}
-use Rattle.chunk_store.specs.declared.id.DigestKind.TheVariants.{Sha512T256}
 use Rattle.chunk_store.specs.declared.store.Store.{Ghosts as StoreWords}
 use Rattle.dsy_base.specs.Counts.{Quiet, Rose}
 use Rattle.dsy_base.specs.Maps.{Map}
@@ -44,7 +43,7 @@ none_given kind id size cached told gives =
     omega (arith, less)
 
 -- a cache that had the chunk, and didn't give it, failed
-unfound_failed : (kind : DigestKind) (id : ChunkId) (size : ℕ) (old new : Shelf) → old.kind ≡ kind → IfSome old.others (λ o. old.kind ≡ Sha512T256) → Unfound (chunk_of kind id size) old new
+unfound_failed : (kind : DigestKind) (id : ChunkId) (size : ℕ) (old new : Shelf) → old.kind ≡ kind → IfSome old.others (λ o. old.kind ≡ o.kind) → Unfound (chunk_of kind id size) old new
     → CacheFailed kind id.0 size (Some old) (Some new)
 unfound_failed kind id size old new same digest unfound = go old.others old.files digest unfound where
   gives_query : (m : Map (List ℕ)) → SomeGives kind id.0 size (chunks m ∷ []) → Gives (chunk_of kind id size) (chunks m)
@@ -52,16 +51,16 @@ unfound_failed kind id size old new same digest unfound = go old.others old.file
       let chunk = gives_one kind id.0 size (chunks m) gives in
       (chunk.0, chunk.1, record { named = chunk.2.named; sized = chunk.2.sized; fits = omega (arith, chunk.2.sized) })
 
-  adds_wanted : (o : Others) → old.kind ≡ Sha512T256 → ((b : List ℕ) → MayAdd o.pairs o.stores id.0 b → length b ≡ size) → AddsWanted (MayAdd o.pairs o.stores) (chunk_of kind id size)
+  adds_wanted : (o : Others) → old.kind ≡ o.kind → ((b : List ℕ) → MayAdd o.kind o.pairs o.stores id.0 b → length b ≡ size) → AddsWanted (MayAdd o.kind o.pairs o.stores) (chunk_of kind id size)
   adds_wanted o digest sized b adds =
       let size_is : length b ≡ size = sized b adds in
-      let kind_is : Sha512T256 ≡ kind = sym digest ∙ same in
+      let kind_is : o.kind ≡ kind = sym digest ∙ same in
       record { named = subst (λ (k : DigestKind). name_of k b ≡ id.0) kind_is adds.named; sized = size_is; fits = omega (arith, size_is) }
 
-  go : (x : Option Others) (o : Option (Map (List ℕ))) → IfSome x (λ o. old.kind ≡ Sha512T256)
+  go : (x : Option Others) (o : Option (Map (List ℕ))) → IfSome x (λ o. old.kind ≡ o.kind)
       → IfSome (option_map chunks o) (λ m. GivesStill x (chunk_of kind id size) m → Rose old.faults new.faults)
       → IfSome (option_map (λ m. chunks m ∷ []) o) (λ cached. SomeGives kind id.0 size cached
-      → IfSome x (λ o. (b : List ℕ) → MayAdd o.pairs o.stores id.0 b → length b ≡ size) → Rose old.faults new.faults)
+      → IfSome x (λ o. (b : List ℕ) → MayAdd o.kind o.pairs o.stores id.0 b → length b ≡ size) → Rose old.faults new.faults)
   go None None digest h = tt
   go (Some x) None digest h = tt
   go None (Some m) digest h = λ gives adds. h (gives_query m gives)
@@ -119,13 +118,13 @@ module _ {S : Type 0} (store : StoreWords S) (kind : DigestKind) (id : ChunkId) 
   Ends r = CacheGave w old new before after r out ⊎ StoresGave store.holds store.said store.faults store.may_lack_memory store.asked store.queried w old new before after r out
 
   -- the stores were asked only where the cache failed or lacks the chunk
-  pub asks_through : old.kind ≡ kind → IfSome old.others (λ o. old.kind ≡ Sha512T256) → (r : Result Got Refused) → Ends r
+  pub asks_through : old.kind ≡ kind → IfSome old.others (λ o. old.kind ≡ o.kind) → (r : Result Got Refused) → Ends r
       → (after ≡ before) ⊎ (AsksOnce store.asked store.queried id.0 before after × CacheFailed kind id.0 size (Some old) (Some new))
   asks_through same digest r (inl from) = inl from.chain
   asks_through same digest r (inr from) = inr (from.asks, unfound_failed kind id size old new same digest from.unfound)
 
   -- and before a refusal
-  pub asked_through : old.kind ≡ kind → IfSome old.others (λ o. old.kind ≡ Sha512T256) → (r : Refused) → Ends (Err r) → r ≢ refused.Memory
+  pub asked_through : old.kind ≡ kind → IfSome old.others (λ o. old.kind ≡ o.kind) → (r : Refused) → Ends (Err r) → r ≢ refused.Memory
       → AsksOnce store.asked store.queried id.0 before after × CacheFailed kind id.0 size (Some old) (Some new)
   asked_through same digest r (inl from) isnt = absurd (isnt from.answer)
   asked_through same digest r (inr from) isnt = (from.asks, unfound_failed kind id size old new same digest from.unfound)
@@ -176,7 +175,7 @@ module _ {S : Type 0} (store : StoreWords S) (kind : DigestKind) (id : ChunkId) 
         let at = told_at old.files cached told in
         go b right at.0 at.2 old.others only.held (if_some (held_on old) (λ m. MayHold old.others m id.0 b) (chunks at.0) (ap (option_map chunks) at.1) from.answer.2)
       where
-        go : (b : List ℕ) → IsWanted w b → (m : Map (List ℕ)) → cached ≡ chunks m ∷ [] → (x : Option Others) → IfSome x (λ o. (c : List ℕ) → MayAdd o.pairs o.stores id.0 c → Any (λ n. n id.0 ≡ Some c) maps)
+        go : (b : List ℕ) → IsWanted w b → (m : Map (List ℕ)) → cached ≡ chunks m ∷ [] → (x : Option Others) → IfSome x (λ o. (c : List ℕ) → MayAdd o.kind o.pairs o.stores id.0 c → Any (λ n. n id.0 ≡ Some c) maps)
             → MayHold x (chunks m) id.0 b → SomeGives kind id.0 size cached ⊎ SomeGives kind id.0 size maps
         go b right m is None adds has = inl (subst (SomeGives kind id.0 size) (sym is) (map_gives kind id size b right (chunks m) has))
         go b right m is (Some o) adds (inl has) = inl (subst (SomeGives kind id.0 size) (sym is) (map_gives kind id size b right (chunks m) has))
@@ -186,13 +185,13 @@ module _ {S : Type 0} (store : StoreWords S) (kind : DigestKind) (id : ChunkId) 
     ok_shared got f is right ends = by_either kind id.0 size cached maps f is (had_shared got right ends)
 
     -- a chunk that it held at first is still found
-    never_shared : old.kind ≡ kind → IfSome old.others (λ o. old.kind ≡ Sha512T256) → Quiet old.faults new.faults → Unfound w old new → SomeGives kind id.0 size cached → ⊥
+    never_shared : old.kind ≡ kind → IfSome old.others (λ o. old.kind ≡ o.kind) → Quiet old.faults new.faults → Unfound w old new → SomeGives kind id.0 size cached → ⊥
     never_shared same digest still unfound gives =
         quiet_never old.faults new.faults still
         (if_some (cached_in (Some old)) (λ c. SomeGives kind id.0 size c → AddsSize id.0 size (Some old) → Rose old.faults new.faults) cached told
         (unfound_failed kind id size old new same digest unfound) gives (only.sized gives))
 
-    pub err_shared : old.kind ≡ kind → IfSome old.others (λ o. old.kind ≡ Sha512T256) → Quiet old.faults new.faults → EachQuiet (map store.faults before.stores) (map store.faults after.stores)
+    pub err_shared : old.kind ≡ kind → IfSome old.others (λ o. old.kind ≡ o.kind) → Quiet old.faults new.faults → EachQuiet (map store.faults before.stores) (map store.faults after.stores)
         → (r : Refused) → Ends (Err r) → AnsweredAs as_upstream (source_behind kind id.0 size cached maps) (Err r)
     err_shared same digest still quiet r (inl from) = inl from.answer
     err_shared same digest still quiet r (inr from) =

@@ -15,7 +15,6 @@ use Rattle.chunk_sources.specs.Wants.{IsAmong, Wanted}
 use Rattle.chunk_store.specs.Giving.{GivesChunk, IsChunk}
 use Rattle.chunk_store.specs.Names.{name_of}
 use Rattle.chunk_store.specs.declared.id.DigestKind.{DigestKind}
-use Rattle.chunk_store.specs.declared.id.DigestKind.TheVariants.{Sha512T256}
 use Rattle.dsy_base.specs.Bytes.{Held}
 use Rattle.dsy_base.specs.Counts.{raised}
 use Rattle.dsy_base.specs.Maps.{Map}
@@ -58,9 +57,9 @@ right_same f g es same = elim (cases_Bool (list_any f es)) [
 
 -- ---- seeds
 
-told_decides : (o : Option (List ℕ)) (p : SeedPlace) (id : List ℕ) → Decides (told_at o p id) (IsSomeAnd o (λ t. name_of Sha512T256 (bytes_at p t) ≡ id))
+told_decides : (o : Option (List ℕ)) (p : SeedPlace) (id : List ℕ) → Decides (told_at o p id) (IsSomeAnd o (λ t. name_of p.kind (bytes_at p t) ≡ id))
 told_decides None p id = (λ e. absurd (false≢true e), λ never. absurd never)
-told_decides (Some t) p id = bytes_eq-Decides (name_of Sha512T256 (bytes_at p t)) id
+told_decides (Some t) p id = bytes_eq-Decides (name_of p.kind (bytes_at p t)) id
 
 given_decides : (o : Option Held) (p : SeedPlace) (id : List ℕ) → Decides (given_at o p id) (GivesAt o p id)
 given_decides None p id = (λ e. absurd (false≢true e), λ never. absurd never)

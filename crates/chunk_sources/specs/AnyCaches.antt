@@ -5,7 +5,7 @@ use Rattle.cache_store.specs.Shelves.{MayAdd, Shelf}
 use Rattle.cache_store.specs.Through.{AddedOnce}
 use Rattle.cache_store.specs.declared.cache.Cache.{Ghosts as CacheWords}
 use Rattle.cache_store.specs.declared.cached.Kept.{Kept}
-use Rattle.caibx_codec.specs.Listing.{Listing}
+use Rattle.caibx_codec.specs.Listing.{Listing, kind_of}
 use Rattle.chunk_sources.specs.Caches.{IfShared, TakesListed}
 use Rattle.chunk_store.specs.declared.store.Store.{Ghosts as StoreWords}
 
@@ -17,7 +17,8 @@ seen_in words cache = option_map words.shelf cache
 -- One that nobody else fills names nothing in its type
 pub record Suits {C S : Type 0} (words : CacheWords C) (store : StoreWords S) (l : Listing) (stores : List S)
     (cache : Option Shelf) : Type 0 where
-  pub takes : IfShared cache ((q b : List ℕ) → TakesListed store l stores q b → MayAdd words.pairs words.stores q b)
+  pub takes : IfShared cache ((q b : List ℕ) → TakesListed store l stores q b
+      → MayAdd (kind_of l) words.pairs words.stores q b)
   pub own : IfSome cache (λ s. s.others ≡ None → (words.pairs ≡ None) × (words.stores ≡ None))
 
 -- where there is a cache, the bytes were added to it under the id, by one call after one look

@@ -52,12 +52,13 @@ IfShared cache P = IfSome cache (λ s. IfSome s.others (λ _. P))
 -- what others add to it under the id has this size
 abbrev pub AddsSize : List ℕ → ℕ → Option Shelf → Type 0
 AddsSize id size cache =
-    IfSome cache (λ s. IfSome s.others (λ o. (b : List ℕ) → MayAdd o.pairs o.stores id b → length b ≡ size))
+    IfSome cache (λ s. IfSome s.others (λ o.
+    (b : List ℕ) → MayAdd o.kind o.pairs o.stores id b → length b ≡ size))
 
 -- others add to it under the id what one of these maps holds, and nothing of another size where it gave the chunk
 pub record OthersAddOnly (kind : DigestKind) (id : List ℕ) (size : ℕ) (cache : Option Shelf)
     (cached maps : List (Map (List ℕ))) : Type 0 where
-  pub held : IfSome cache (λ s. IfSome s.others (λ o. (b : List ℕ) → MayAdd o.pairs o.stores id b
+  pub held : IfSome cache (λ s. IfSome s.others (λ o. (b : List ℕ) → MayAdd o.kind o.pairs o.stores id b
       → Any (λ m. m id ≡ Some b) maps))
   pub sized : SomeGives kind id size cached → AddsSize id size cache
 
@@ -100,7 +101,7 @@ TakesListed store l stores q b = (i : ℕ) × (i < count_of l)
 -- what others add to the cache is what these stores give for the entries of an index
 abbrev pub OthersAddListed : {S : Type 0} → StoreWords S → Listing → List S → Option Shelf → Type 0
 OthersAddListed store l stores cache = IfSome cache (λ s. IfSome s.others
-    (λ o. (q b : List ℕ) → MayAdd o.pairs o.stores q b → TakesListed store l stores q b))
+    (λ o. (q b : List ℕ) → MayAdd o.kind o.pairs o.stores q b → TakesListed store l stores q b))
 
 -- the index lists the id with this size
 abbrev pub IsListedAs : Listing → List ℕ → ℕ → Type 0

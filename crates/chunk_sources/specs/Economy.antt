@@ -7,7 +7,6 @@ use Rattle.std.specs.Str.{bytes_eq}
 use Rattle.chunk_sources.specs.Wants.{Task, Wanted, want_chunk}
 use Rattle.chunk_store.specs.Names.{name_of}
 use Rattle.chunk_store.specs.declared.id.DigestKind.{DigestKind}
-use Rattle.chunk_store.specs.declared.id.DigestKind.TheVariants.{Sha512T256}
 use Rattle.dsy_base.specs.Bytes.{Held}
 use Rattle.dsy_base.specs.Counts.{raised}
 use Rattle.dsy_base.specs.Maps.{Map}
@@ -22,10 +21,10 @@ use Rattle.store_chain.specs.declared.refused.Refused.TheVariants as refused
 
 -- ---- which source gives a chunk
 
--- whether these bytes have the id at the place
+-- whether these bytes have the id at the place, by the place's kind
 abbrev pub told_at : Option (List ℕ) → SeedPlace → List ℕ → Bool
 told_at None p id = false
-told_at (Some t) p id = bytes_eq (name_of Sha512T256 (bytes_at p t)) id
+told_at (Some t) p id = bytes_eq (name_of p.kind (bytes_at p t)) id
 
 -- whether a view that holds this gives the id from the place
 abbrev pub given_at : Option Held → SeedPlace → List ℕ → Bool

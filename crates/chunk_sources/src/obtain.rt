@@ -50,13 +50,13 @@ pub fn obtain<E: Ledger, S: Store, V: View, C: Cache>(
     chunk: &mut [u8],
 ) -> Result<Fate, Refused>
     requires entries { AllOf E.run.listing sought.now.id.0 (length chunk.old) sought.now.entries.now }
-    requires places { PlacesFit (length seeds.old) (length chunk.old) sought.now.places.now }
+    requires places { PlacesFit (kind_of E.run.listing) (length seeds.old) (length chunk.old) sought.now.places.now }
     requires kind { chain.old.kind ≡ kind_of E.run.listing }
     requires own { IfSome (seen_in C.Cache cache.old)
         (λ s. s.others ≡ None → (C.pairs ≡ None) × (C.stores ≡ None)) }
     requires takes { IfShared (seen_in C.Cache cache.old) ((b : List ℕ) → TakesChunk S.Store chain.old.kind
-        sought.now.id.0 (length chunk.old) chain.old.stores sought.now.id.0 b → MayAdd C.pairs C.stores
-        sought.now.id.0 b) }
+        sought.now.id.0 (length chunk.old) chain.old.stores sought.now.id.0 b → MayAdd chain.old.kind C.pairs
+        C.stores sought.now.id.0 b) }
     requires cache { IfSome (seen_in C.Cache cache.old) (λ s. s.kind ≡ chain.old.kind) }
     ensures ok { OnOk result (IsTrue E.tells → name_of (kind_of E.run.listing) chunk.new ≡ sought.now.id.0) }
     ensures origin { IfOk result (λ f. is_settled f ≡ true) }

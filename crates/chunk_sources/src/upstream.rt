@@ -40,7 +40,7 @@ fn from_cache<S: Store, C: Cache>(
     // One that nobody else fills names nothing in its type.
     requires own { (C.shelf cache.old).others ≡ None → (C.pairs ≡ None) × (C.stores ≡ None) }
     requires takes { IfShared (Some (C.shelf cache.old)) ((b : List ℕ) → TakesChunk S.Store chain.old.kind id.now.0
-        (length chunk.old) chain.old.stores id.now.0 b → MayAdd C.pairs C.stores id.now.0 b) }
+        (length chunk.old) chain.old.stores id.now.0 b → MayAdd chain.old.kind C.pairs C.stores id.now.0 b) }
     ensures ok { OnOk result (name_of chain.old.kind chunk.new ≡ id.now.0) }
     ensures origin { IfOk result (λ f. is_settled f ≡ true) }
     ensures made { IfOk result (λ f. is_made f ≡ true) }
@@ -99,7 +99,7 @@ pub(crate) fn from_upstream<S: Store, C: Cache>(
     requires own { IfSome (seen_in C.Cache cache.old)
         (λ s. s.others ≡ None → (C.pairs ≡ None) × (C.stores ≡ None)) }
     requires takes { IfShared (seen_in C.Cache cache.old) ((b : List ℕ) → TakesChunk S.Store chain.old.kind id.now.0
-        (length chunk.old) chain.old.stores id.now.0 b → MayAdd C.pairs C.stores id.now.0 b) }
+        (length chunk.old) chain.old.stores id.now.0 b → MayAdd chain.old.kind C.pairs C.stores id.now.0 b) }
     requires kind { IfSome (seen_in C.Cache cache.old) (λ s. s.kind ≡ chain.old.kind) }
     requires asks { chain.old.asks < 2 ^ 64 }
     ensures ok { OnOk result (name_of chain.old.kind chunk.new ≡ id.now.0) }

@@ -1,4 +1,5 @@
 pub mod Causes
+pub mod Kinds
 pub mod Names
 pub mod Paths
 pub mod Said

@@ -7,7 +7,8 @@ use Rattle.std.specs.Option.{option_map}
 use Rattle.caibx_codec.specs.Listing.{Listing, end_of, size_of, slice_of, start_of}
 use Rattle.chunk_sources.specs.Sources.{GivesAt, HeldAt, SeedsFailed, SeedsGive}
 use Rattle.chunk_store.specs.Names.{name_of}
-use Rattle.chunk_store.specs.declared.id.DigestKind.TheVariants.{Sha512T256}
+use Rattle.chunk_store.specs.declared.id.DigestKind.{DigestKind}
+use Rattle.chunk_store.specs.declared.id.DigestKind.TheVariants as kinds
 use Rattle.command_steps.specs.Blames.{name_at}
 use Rattle.command_steps.specs.InputFiles.{Holds}
 use Rattle.command_steps.specs.Seeds.{IsViewed, SeedsKnown, label_in}
@@ -98,7 +99,7 @@ slice_by_size l t i p start size =
     ap (λ (n : ℕ). take n (drop p.start t)) many ∙ ap (λ (n : ℕ). take (end_of l i - start_of l i) (drop n t)) start
 
 module _ (d b : Disk) (m : Map (List ℕ)) (told : d.files ≡ Some m) (x : Seeds) (views : List (Option Held)) (zip : AllZip (IsViewed d b) x.images views)
-    (id : List ℕ) (n : ℕ) (ps : List SeedPlace) (are : ArePlaces x.listings id n ps) where
+    (id : List ℕ) (n : ℕ) (ps : List SeedPlace) (are : ArePlaces kinds.Sha512T256 x.listings id n ps) where
   there : (q : List ℕ) (o : Option (List ℕ)) → Holds d q o → (t : List ℕ) × (m q ≡ Some t) × (o ≡ Some t)
   there q o holds = subst (λ f. IfSome f (λ m. (t : List ℕ) × (m q ≡ Some t) × (o ≡ Some t))) told holds
 
@@ -106,10 +107,10 @@ module _ (d b : Disk) (m : Map (List ℕ)) (told : d.files ≡ Some m) (x : Seed
   pub given_had : SeedsGive views ps id → (s : ℕ) × SeedHas m x id n s
   given_had (k, p, lt, at, gives) = (p.seed, go (slice_index_or views p.seed None) refl gives) where
     nth : nth_place ps k ≡ p
-    nth = get_or_default ps k (place 0 0 0) p lt ∙ at
+    nth = get_or_default ps k (place kinds.Sha512T256 0 0 0) p lt ∙ at
 
-    is_place : IsPlace x.listings id n p
-    is_place = subst (λ (r : SeedPlace). IsPlace x.listings id n r) nth (are.sound k lt)
+    is_place : IsPlace kinds.Sha512T256 x.listings id n p
+    is_place = subst (λ (r : SeedPlace). IsPlace kinds.Sha512T256 x.listings id n r) nth (are.sound k lt)
 
     go : (o : Option Held) → slice_index_or views p.seed None ≡ o → GivesAt o p id → SeedHas m x id n p.seed
     go None is_none h = absurd h
@@ -118,7 +119,8 @@ module _ (d b : Disk) (m : Map (List ℕ)) (told : d.files ≡ Some m) (x : Seed
         let seed = named_at d b x.images views p.seed h zip is_some in
         let holds = there seed.0 h.bytes seed.2.0 in
         let t = holds.0 in
-        let named : name_of Sha512T256 (bytes_at p t) ≡ id = subst (λ o. IsSomeAnd o (λ u. name_of Sha512T256 (bytes_at p u) ≡ id)) holds.2 gives.1 in
+        let named : name_of p.kind (bytes_at p t) ≡ id = subst (λ o. IsSomeAnd o (λ u. name_of p.kind (bytes_at p u) ≡ id)) holds.2 gives.1 in
+        let wanted : name_of kinds.Sha512T256 (bytes_at p t) ≡ id = subst (λ (k : DigestKind). name_of k (bytes_at p t) ≡ id) is.kind_is named in
         let long : length t ≡ h.size = subst (λ o. IfSome o (λ u. length u ≡ h.size)) holds.2 seed.2.2 in
         let size : p.size ≡ size_of is.listing is.entry = is.size ∙ sym is.size_is in
         record {
@@ -133,14 +135,14 @@ module _ (d b : Disk) (m : Map (List ℕ)) (told : d.files ≡ Some m) (x : Seed
           id_is = is.id_is;
           size_is = is.size_is;
           fits = omega (arith, gives.0, long, is.start, is.size);
-          right = ap (λ (u : List ℕ). name_of Sha512T256 u) (sym (slice_by_size is.listing t is.entry p is.start size)) ∙ named ∙ sym is.id_is;
+          right = ap (λ (u : List ℕ). name_of kinds.Sha512T256 u) (sym (slice_by_size is.listing t is.entry p is.start size)) ∙ wanted ∙ sym is.id_is;
         }
 
   -- a seed that has it was opened, or opening it failed
   pub had_at : (s : ℕ) (h : SeedHas m x id n s) → FileRose d b h.image
       ⊎ ((k : ℕ) × (k < length ps) × ((nth_place ps k).seed ≡ s) × HeldAt views (nth_place ps k) id × (v : Held) × (slice_index_or views s None ≡ Some v) × (v.name ≡ h.image))
   had_at s h = go (slice_index_or views s None) refl (viewed_at d b x.images views s h.image zip h.named) where
-    listed : (k : ℕ) × (k < length ps) × (nth_place ps k ≡ place s (start_of h.listing h.entry) n)
+    listed : (k : ℕ) × (k < length ps) × (nth_place ps k ≡ place kinds.Sha512T256 s (start_of h.listing h.entry) n)
     listed = are.complete s h.entry h.listing h.listed h.inside h.id_is h.size_is
 
     go : (o : Option Held) → slice_index_or views s None ≡ o → IsViewed d b h.image o → FileRose d b h.image
@@ -152,15 +154,15 @@ module _ (d b : Disk) (m : Map (List ℕ)) (told : d.files ≡ Some m) (x : Seed
     go None is (inr rose) = inl rose
     go (Some v) is viewed =
         let k = listed.0 in
-        let p = place s (start_of h.listing h.entry) n in
+        let p = place kinds.Sha512T256 s (start_of h.listing h.entry) n in
         let at : nth_place ps k ≡ p = listed.2 in
         let holds = there h.image v.bytes viewed.0 in
         let same : Some holds.0 ≡ Some h.bytes = sym holds.1 ∙ h.there in
         let bytes : v.bytes ≡ Some h.bytes = holds.2 ∙ same in
         let long : length h.bytes ≡ v.size = subst (λ o. IfSome o (λ u. length u ≡ v.size)) bytes viewed.2 in
-        let right : name_of Sha512T256 (bytes_at p h.bytes) ≡ id = ap (λ (u : List ℕ). name_of Sha512T256 u) (slice_by_size h.listing h.bytes h.entry p refl (sym h.size_is)) ∙ h.right ∙ h.id_is in
+        let right : name_of kinds.Sha512T256 (bytes_at p h.bytes) ≡ id = ap (λ (u : List ℕ). name_of kinds.Sha512T256 u) (slice_by_size h.listing h.bytes h.entry p refl (sym h.size_is)) ∙ h.right ∙ h.id_is in
         let inside : p.start + p.size ≤ v.size = omega (arith, h.fits, long) in
-        let gives : GivesAt (Some v) p id = (inside, subst (λ o. IsSomeAnd o (λ u. name_of Sha512T256 (bytes_at p u) ≡ id)) (sym bytes) right) in
+        let gives : GivesAt (Some v) p id = (inside, subst (λ o. IsSomeAnd o (λ u. name_of p.kind (bytes_at p u) ≡ id)) (sym bytes) right) in
         let held : HeldAt views p id = subst (λ o. GivesAt o p id) (sym is) gives in
         inr (k, listed.1, ap (λ (r : SeedPlace). r.seed) at, subst (λ (r : SeedPlace). HeldAt views r id) (sym at) held, v, is, viewed.1)
 
@@ -168,7 +170,7 @@ module _ (d b : Disk) (m : Map (List ℕ)) (told : d.files ≡ Some m) (x : Seed
   pub had_given : ((q : List ℕ) → FileRose d b q → ⊥) → (s : ℕ) → SeedHas m x id n s → SeedsGive views ps id
   had_given none s h = elim (had_at s h) [
     | inl rose ↦ absurd (none h.image rose)
-    | inr h ↦ (h.0, nth_place ps h.0, h.1, get_or_default ps h.0 (nth_place ps h.0) (place 0 0 0) h.1, h.3)
+    | inr h ↦ (h.0, nth_place ps h.0, h.1, get_or_default ps h.0 (nth_place ps h.0) (place kinds.Sha512T256 0 0 0) h.1, h.3)
   ]
 
   -- where it didn't give it, it has failed
@@ -177,7 +179,7 @@ module _ (d b : Disk) (m : Map (List ℕ)) (told : d.files ≡ Some m) (x : Seed
   had_failed e later old new rises failed s h = elim (had_at s h) [
     | inl rose ↦ later h.image rose
     | inr u ↦
-        let rose = failed u.0 (place 0 0 0) u.1 u.3 in
+        let rose = failed u.0 (place kinds.Sha512T256 0 0 0) u.1 u.3 in
         let here : FileRose d e (name_at (map label_of views) s) = subst (λ (j : ℕ). FileRose d e (name_at (map label_of views) j)) u.2 (rises (nth_place ps u.0).seed rose) in
         subst (λ (q : List ℕ). FileRose d e q) (label_at views s u.4 u.5 ∙ u.6) here
   ]

@@ -8,6 +8,7 @@ use Rattle.assembler.proofs.Entries.{among_of, first_among, listed_of}
 use Rattle.cache_store.specs.Giving.{SomeGives}
 use Rattle.cache_store.specs.Shelves.{Shelf}
 use Rattle.caibx_codec.specs.Listing.{Listing, image_length, kind_of, size_of}
+use Rattle.chunk_store.specs.declared.id.DigestKind.TheVariants as kinds
 use Rattle.caibx_codec.specs.Right.{IsRightAt}
 use Rattle.chunk_sources.specs.Asks.{IsSpared}
 use Rattle.chunk_sources.specs.Caches.{CacheGives, cache_faults, cached_in}
@@ -66,7 +67,7 @@ module _ {S V : Type 0} (store : StoreWords S) (view : ViewWords V) (t : Task) (
       let among = first_among l p w plan.wants below in
       let inside = listed_of l p w i plan.wants among in
       let at : slice_index p.want_of i ≡ w = (among_of p w i among).1 in
-      let are : ArePlaces z.listings (want_id l p w) (size_of l i) (places_at t.places w) = subst (λ n. ArePlaces z.listings (want_id l p w) (size_of l i) (places_at t.places n)) at (is.places i inside) in
+      let are : ArePlaces (kind_of l) z.listings (want_id l p w) (size_of l i) (places_at t.places w) = subst (λ n. ArePlaces (kind_of l) z.listings (want_id l p w) (size_of l i) (places_at t.places n)) at (is.places i inside) in
       elim (had_at d b m told z views zip (want_id l p w) (size_of l i) (places_at t.places w) are s h) [
         | inl rise ↦ absurd (quiet_file h.image quiet (later h.image rise))
         | inr u ↦
@@ -75,7 +76,7 @@ module _ {S V : Type 0} (store : StoreWords S) (view : ViewWords V) (t : Task) (
               u.0,
               here,
               u.1,
-              get_or_default (places_at t.places w) u.0 here (place 0 0 0) u.1,
+              get_or_default (places_at t.places w) u.0 here (place kinds.Sha512T256 0 0 0) u.1,
               (
                 u.3,
                 quiet_unless (slice_index (counts_of view from.seeds) here.seed) (slice_index (counts_of view to.seeds) here.seed)

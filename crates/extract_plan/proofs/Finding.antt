@@ -7,6 +7,8 @@ use Rattle.std.proofs.lemmas.List.{get_or_append_left, get_or_push, take_more}
 use Rattle.std.proofs.lemmas.List.Sums.{fold_push}
 use Rattle.std.proofs.lemmas.Option.{get_or_from_slice_get, slice_get_within}
 use Rattle.caibx_codec.specs.Listing.{Listing, count_of, id_of, size_of, start_of}
+use Rattle.chunk_store.specs.declared.id.DigestKind.{DigestKind}
+use Rattle.chunk_store.specs.declared.id.DigestKind.TheVariants as kinds
 use Rattle.extract_plan.specs.Found.{AreFound, IsDone, IsFoundPlace}
 use Rattle.extract_plan.specs.Places.{ComesBefore, items_of, place, nth_place}
 use Rattle.extract_plan.specs.declared.seed.SeedPlace.{SeedPlace}
@@ -41,8 +43,8 @@ was_done s n t j done = ⊎_elim
     (cases_eq j n))
     done
 
-pub found_none : (number : List ℕ → ℕ → Option ℕ) (seeds : List Listing) → AreFound number seeds 0 0 [] []
-found_none number seeds = record {
+pub found_none : (kind : DigestKind) (number : List ℕ → ℕ → Option ℕ) (seeds : List Listing) → AreFound kind number seeds 0 0 [] []
+found_none kind number seeds = record {
   size = refl;
   few = omega arith;
   sound = λ k h. absurd (omega arith);
@@ -50,9 +52,9 @@ found_none number seeds = record {
   ordered = λ j k a h. absurd (omega arith);
 }
 
-found_later : (number : List ℕ → ℕ → Option ℕ) (seeds : List Listing) (s n r o w : ℕ) (p : SeedPlace) →
-    ((t j : ℕ) → IsDone s n t j → IsDone r o t j) → IsFoundPlace number seeds s n w p → IsFoundPlace number seeds r o w p
-found_later number seeds s n r o w p later x = record {
+found_later : (kind : DigestKind) (number : List ℕ → ℕ → Option ℕ) (seeds : List Listing) (s n r o w : ℕ) (p : SeedPlace) →
+    ((t j : ℕ) → IsDone s n t j → IsDone r o t j) → IsFoundPlace kind number seeds s n w p → IsFoundPlace kind number seeds r o w p
+found_later kind number seeds s n r o w p later x = record {
   listing = x.listing;
   seed = x.seed;
   entry = x.entry;
@@ -61,19 +63,20 @@ found_later number seeds s n r o w p later x = record {
   named = x.named;
   start = x.start;
   size = x.size;
+  kind_is = x.kind_is;
 }
 
-module _ (number : List ℕ → ℕ → Option ℕ) (seeds : List Listing) (s n : ℕ) (m : Listing) (ws : List ℕ) (ps : List SeedPlace)
-    (is : slice_get seeds s ≡ Some m) (h : AreFound number seeds s n ws ps) where
+module _ (kind : DigestKind) (number : List ℕ → ℕ → Option ℕ) (seeds : List Listing) (s n : ℕ) (m : Listing) (ws : List ℕ) (ps : List SeedPlace)
+    (is : slice_get seeds s ≡ Some m) (h : AreFound kind number seeds s n ws ps) where
   listing_is : (t : ℕ) (l : Listing) → t ≡ s → slice_get seeds t ≡ Some l → l ≡ m
   listing_is t l e here = some_same l m (slice_get seeds s) (ap (slice_get seeds) (sym e) ∙ here) is
 
   -- seed s has no more entries
-  pub found_seed : n ≡ count_of m → AreFound number seeds (s + 1) 0 ws ps
+  pub found_seed : n ≡ count_of m → AreFound kind number seeds (s + 1) 0 ws ps
   found_seed all = record {
     size = h.size;
     few = let few : length ps ≤ items_of (take s seeds) + n = h.few in let more = items_more seeds s m is in omega arith;
-    sound = λ k a. found_later number seeds s n (s + 1) 0 _ _ (done_seed s n) (h.sound k a);
+    sound = λ k a. found_later kind number seeds s n (s + 1) 0 _ _ (done_seed s n) (h.sound k a);
     complete = λ t j w l here done below named. ⊎_elim
         (λ (e : t ≡ s).
         let inside : j < n = omega (arith, ap count_of (listing_is t l e here)) in
@@ -84,11 +87,11 @@ module _ (number : List ℕ → ℕ → Option ℕ) (seeds : List Listing) (s n 
   }
 
   -- entry n of seed s has no number
-  pub found_skipped : number (id_of m n) (size_of m n) ≡ None → AreFound number seeds s (n + 1) ws ps
+  pub found_skipped : number (id_of m n) (size_of m n) ≡ None → AreFound kind number seeds s (n + 1) ws ps
   found_skipped none = record {
     size = h.size;
     few = let few : length ps ≤ items_of (take s seeds) + n = h.few in omega arith;
-    sound = λ k a. found_later number seeds s n s (n + 1) _ _ (done_more s n) (h.sound k a);
+    sound = λ k a. found_later kind number seeds s n s (n + 1) _ _ (done_more s n) (h.sound k a);
     complete = λ t j w l here done below named. ⊎_elim
         (λ (was : IsDone s n t j). h.complete t j w l here was below named)
         (λ (e : (t ≡ s) × (j ≡ n)).
@@ -108,17 +111,17 @@ num_last : (xs : List ℕ) (y i : ℕ) → i ≡ length xs → slice_index (xs +
 num_last xs y i h = grind (arith, common_steps)
 
 pub place_at : (ps : List SeedPlace) (p : SeedPlace) (i : ℕ) → i < length ps → nth_place (ps ++ p ∷ []) i ≡ nth_place ps i
-place_at ps p i h = get_or_append_left ps (p ∷ []) (place 0 0 0) i h
+place_at ps p i h = get_or_append_left ps (p ∷ []) (place kinds.Sha512T256 0 0 0) i h
 
 pub place_last : (ps : List SeedPlace) (p : SeedPlace) (i : ℕ) → i ≡ length ps → nth_place (ps ++ p ∷ []) i ≡ p
-place_last ps p i h = get_or_push ps p (place 0 0 0) i (sym h)
+place_last ps p i h = get_or_push ps p (place kinds.Sha512T256 0 0 0) i (sym h)
 
 -- entry n of seed s has number w
-module _ (number : List ℕ → ℕ → Option ℕ) (seeds : List Listing) (s n w : ℕ) (m : Listing) (ws : List ℕ) (ps : List SeedPlace)
+module _ (kind : DigestKind) (number : List ℕ → ℕ → Option ℕ) (seeds : List Listing) (s n w : ℕ) (m : Listing) (ws : List ℕ) (ps : List SeedPlace)
     (is : slice_get seeds s ≡ Some m) (inside : n < count_of m) (named : number (id_of m n) (size_of m n) ≡ Some w)
-    (rises : (j : ℕ) → j < n → start_of m j < start_of m n) (h : AreFound number seeds s n ws ps) where
+    (rises : (j : ℕ) → j < n → start_of m j < start_of m n) (h : AreFound kind number seeds s n ws ps) where
   abbrev new : SeedPlace
-  new = place s (start_of m n) (size_of m n)
+  new = place kind s (start_of m n) (size_of m n)
 
   abbrev more_ws : List ℕ
   more_ws = ws ++ w ∷ []
@@ -129,7 +132,7 @@ module _ (number : List ℕ → ℕ → Option ℕ) (seeds : List Listing) (s n 
   size_more : length more_ps ≡ length ps + 1
   size_more = length-append ps (new ∷ [])
 
-  new_found : IsFoundPlace number seeds s (n + 1) w new
+  new_found : IsFoundPlace kind number seeds s (n + 1) w new
   new_found = record {
     listing = m;
     seed = is;
@@ -139,20 +142,21 @@ module _ (number : List ℕ → ℕ → Option ℕ) (seeds : List Listing) (s n 
     named = named;
     start = refl;
     size = refl;
+    kind_is = refl;
   }
 
-  sound_more : (k : ℕ) → k < length more_ps → IsFoundPlace number seeds s (n + 1) (slice_index more_ws k) (nth_place more_ps k)
+  sound_more : (k : ℕ) → k < length more_ps → IsFoundPlace kind number seeds s (n + 1) (slice_index more_ws k) (nth_place more_ps k)
   sound_more k a =
       let size : length ws ≡ length ps = h.size in
       ⊎_elim
       (λ (e : k ≡ length ps).
-      subst (λ (p : SeedPlace). IsFoundPlace number seeds s (n + 1) (slice_index more_ws k) p) (sym (place_last ps new k e))
-      (subst (λ (v : ℕ). IsFoundPlace number seeds s (n + 1) v new) (sym (num_last ws w k (omega arith))) new_found))
+      subst (λ (p : SeedPlace). IsFoundPlace kind number seeds s (n + 1) (slice_index more_ws k) p) (sym (place_last ps new k e))
+      (subst (λ (v : ℕ). IsFoundPlace kind number seeds s (n + 1) v new) (sym (num_last ws w k (omega arith))) new_found))
       (λ (ne : k ≢ length ps).
       let low : k < length ps = omega (arith, size_more) in
-      subst (λ (p : SeedPlace). IsFoundPlace number seeds s (n + 1) (slice_index more_ws k) p) (sym (place_at ps new k low))
-      (subst (λ (v : ℕ). IsFoundPlace number seeds s (n + 1) v (nth_place ps k)) (sym (num_at ws w k (omega arith)))
-      (found_later number seeds s n s (n + 1) _ _ (done_more s n) (h.sound k low))))
+      subst (λ (p : SeedPlace). IsFoundPlace kind number seeds s (n + 1) (slice_index more_ws k) p) (sym (place_at ps new k low))
+      (subst (λ (v : ℕ). IsFoundPlace kind number seeds s (n + 1) v (nth_place ps k)) (sym (num_at ws w k (omega arith)))
+      (found_later kind number seeds s n s (n + 1) _ _ (done_more s n) (h.sound k low))))
       (cases_eq k (length ps))
 
   -- a place of this number stands in the longer lists
@@ -169,7 +173,7 @@ module _ (number : List ℕ → ℕ → Option ℕ) (seeds : List Listing) (s n 
   has_new = (length ps, omega (arith, size_more), num_last ws w (length ps) (sym h.size), place_last ps new (length ps) refl)
 
   complete_more : (t j v : ℕ) (l : Listing) → slice_get seeds t ≡ Some l → IsDone s (n + 1) t j → j < count_of l →
-      number (id_of l j) (size_of l j) ≡ Some v → HasMore v (place t (start_of l j) (size_of l j))
+      number (id_of l j) (size_of l j) ≡ Some v → HasMore v (place kind t (start_of l j) (size_of l j))
   complete_more t j v l here done below is_v = ⊎_elim
       (λ (was : IsDone s n t j). has_more v _ (h.complete t j v l here was below is_v))
       (λ (e : (t ≡ s) × (j ≡ n)).
@@ -177,14 +181,14 @@ module _ (number : List ℕ → ℕ → Option ℕ) (seeds : List Listing) (s n 
       let one : number (id_of l j) (size_of l j) ≡ number (id_of m n) (size_of m n) =
       ap (λ x. number (id_of x j) (size_of x j)) same ∙ ap (λ x. number (id_of m x) (size_of m x)) e.1 in
       let v_is : w ≡ v = some_same w v (number (id_of l j) (size_of l j)) (one ∙ named) is_v in
-      let place_is : new ≡ place t (start_of l j) (size_of l j) =
-      ap (λ x. place x (start_of m n) (size_of m n)) (sym e.0)
-      ∙ ap (λ x. place t (start_of m x) (size_of m x)) (sym e.1)
-      ∙ ap (λ x. place t (start_of x j) (size_of x j)) (sym same) in
-      subst (λ (x : ℕ). HasMore x (place t (start_of l j) (size_of l j))) v_is (subst (HasMore w) place_is has_new))
+      let place_is : new ≡ place kind t (start_of l j) (size_of l j) =
+      ap (λ x. place kind x (start_of m n) (size_of m n)) (sym e.0)
+      ∙ ap (λ x. place kind t (start_of m x) (size_of m x)) (sym e.1)
+      ∙ ap (λ x. place kind t (start_of x j) (size_of x j)) (sym same) in
+      subst (λ (x : ℕ). HasMore x (place kind t (start_of l j) (size_of l j))) v_is (subst (HasMore w) place_is has_new))
       (was_done s n t j done)
 
-  comes_before : (p : SeedPlace) (v : ℕ) → IsFoundPlace number seeds s n v p → ComesBefore p new
+  comes_before : (p : SeedPlace) (v : ℕ) → IsFoundPlace kind number seeds s n v p → ComesBefore p new
   comes_before p v x = ⊎_elim
       (λ (a : p.seed < s). inl a)
       (λ (e : (p.seed ≡ s) × (x.entry < n)).
@@ -204,7 +208,7 @@ module _ (number : List ℕ → ℕ → Option ℕ) (seeds : List Listing) (s n 
       subst (ComesBefore (nth_place ps j)) (sym (place_at ps new k last)) (h.ordered j k a last))
       (cases_eq k (length ps)))
 
-  pub found_more : AreFound number seeds s (n + 1) more_ws more_ps
+  pub found_more : AreFound kind number seeds s (n + 1) more_ws more_ps
   found_more = record {
     size = length-append ws (w ∷ []) ∙ ap (λ k. k + 1) h.size ∙ sym size_more;
     few = let few : length ps ≤ items_of (take s seeds) + n = h.few in omega (arith, size_more);

@@ -2,17 +2,19 @@
 use Rattle.std.proofs.Common.{◌≡◌, ℕ, ◌<◌, List, length, slice_index, subst, arith}
 use Rattle.std.proofs.lemmas.List.{get_or_default}
 use Rattle.std.proofs.lemmas.Option.{slice_get_within}
-use Rattle.caibx_codec.specs.Listing.{Listing, count_of, id_of, size_of}
+use Rattle.caibx_codec.specs.Listing.{Listing, count_of, id_of, kind_of, size_of}
+use Rattle.chunk_store.specs.declared.id.DigestKind.{DigestKind}
+use Rattle.chunk_store.specs.declared.id.DigestKind.TheVariants as kinds
 use Rattle.extract_plan.specs.Deal.{AreWants, Deal, entries_of, first_of}
 use Rattle.extract_plan.specs.Places.{ArePlaces, IsSeedIndex, Placed, PlacesFit, PlacesKnown, nth_place, place, places_at}
 use Rattle.extract_plan.specs.declared.seed.SeedPlace.{SeedPlace}
 use Rattle.extract_plan.proofs.Entries.{entry_inside, entry_of, entry_stands}
 
-fit_of : (seeds : List Listing) (id : List ℕ) (n : ℕ) (ps : List SeedPlace) → ArePlaces seeds id n ps → PlacesFit (length seeds) n ps
-fit_of seeds id n ps are k d inside =
+fit_of : (kind : DigestKind) (seeds : List Listing) (id : List ℕ) (n : ℕ) (ps : List SeedPlace) → ArePlaces kind seeds id n ps → PlacesFit kind (length seeds) n ps
+fit_of kind seeds id n ps are k d inside =
     let is = are.sound k inside in
     let here : (nth_place ps k).seed < length seeds = slice_get_within seeds (nth_place ps k).seed is.listing is.seed in
-    subst (λ (p : SeedPlace). (p.seed < length seeds) × (p.size ≡ n)) (get_or_default ps k (place 0 0 0) d inside) (here, is.size)
+    subst (λ (p : SeedPlace). (p.seed < length seeds) × (p.size ≡ n) × (p.kind ≡ kind)) (get_or_default ps k (place kinds.Sha512T256 0 0 0) d inside) (here, is.size, is.kind_is)
 
 -- each want has a first entry
 pub has_first : (l : Listing) (wants : ℕ) (want_of : List ℕ) (w : ℕ) → AreWants l wants want_of → w < wants →
@@ -31,6 +33,6 @@ known_of l d seeds x wants is = record {
   fit = λ w below.
       let i = first_of d w in
       let first = has_first l d.wants d.want_of w wants below in
-      let here = fit_of seeds (id_of l i) (size_of l i) _ (is.places i first.0) in
-      subst (λ (v : ℕ). PlacesFit (length seeds) (size_of l i) (places_at x v)) first.1 here;
+      let here = fit_of (kind_of l) seeds (id_of l i) (size_of l i) _ (is.places i first.0) in
+      subst (λ (v : ℕ). PlacesFit (kind_of l) (length seeds) (size_of l i) (places_at x v)) first.1 here;
 }

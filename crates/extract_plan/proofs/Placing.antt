@@ -4,6 +4,8 @@ use Rattle.std.specs.List.{slice_get}
 use Rattle.std.proofs.lemmas.List.{get_or-drop, get_or-take, length-drop, length-take}
 use Rattle.std.proofs.lemmas.Option.{slice_get_within}
 use Rattle.caibx_codec.specs.Listing.{Listing, count_of, id_of, size_of, start_of}
+use Rattle.chunk_store.specs.declared.id.DigestKind.{DigestKind}
+use Rattle.chunk_store.specs.declared.id.DigestKind.TheVariants as kinds
 use Rattle.extract_plan.specs.Deal.{AreWants, entries_of}
 use Rattle.extract_plan.specs.Found.{AreFound, AreNumbered}
 use Rattle.extract_plan.specs.Links.{AreSorted}
@@ -34,18 +36,18 @@ has_entry l number want_of h q s w is =
     let one : number (id_of l x.0) (size_of l x.0) ≡ Some w = ap (λ y. number y (size_of l x.0)) x.2 ∙ ap (number q) x.3 ∙ is in
     (x.0, x.1, x.2, x.3, some_same _ _ _ (h.known x.0 x.1) one)
 
-pub found_below : (l : Listing) (wants : ℕ) (number : List ℕ → ℕ → Option ℕ) (want_of : List ℕ) (seeds : List Listing) (s n : ℕ) (ws : List ℕ)
-    (ps : List SeedPlace) → AreWants l wants want_of → AreNumbered l (count_of l) number want_of → AreFound number seeds s n ws ps →
+pub found_below : (l : Listing) (wants : ℕ) (kind : DigestKind) (number : List ℕ → ℕ → Option ℕ) (want_of : List ℕ) (seeds : List Listing) (s n : ℕ) (ws : List ℕ)
+    (ps : List SeedPlace) → AreWants l wants want_of → AreNumbered l (count_of l) number want_of → AreFound kind number seeds s n ws ps →
     (i : ℕ) → i < length ws → slice_index ws i < wants
-found_below l wants number want_of seeds s n ws ps are numbered found i h =
+found_below l wants kind number want_of seeds s n ws ps are numbered found i h =
     let size : length ws ≡ length ps = found.size in
     let x = found.sound i (omega arith) in
     let e = has_entry l number want_of numbered _ _ _ x.named in
     subst (λ (w : ℕ). w < wants) e.4 (are.within e.0 e.1)
 
-module _ (l : Listing) (wants : ℕ) (number : List ℕ → ℕ → Option ℕ) (want_of : List ℕ) (seeds : List Listing) (ws : List ℕ) (ps : List SeedPlace)
+module _ (l : Listing) (wants : ℕ) (kind : DigestKind) (number : List ℕ → ℕ → Option ℕ) (want_of : List ℕ) (seeds : List Listing) (ws : List ℕ) (ps : List SeedPlace)
     (starts order : List ℕ) (items : List SeedPlace)
-    (are : AreWants l wants want_of) (numbered : AreNumbered l (count_of l) number want_of) (found : AreFound number seeds (length seeds) 0 ws ps)
+    (are : AreWants l wants want_of) (numbered : AreNumbered l (count_of l) number want_of) (found : AreFound kind number seeds (length seeds) 0 ws ps)
     (sorted : AreSorted ws starts order wants) (size : length items ≡ length order)
     (value : (k : ℕ) → k < length order → nth_place items k ≡ nth_place ps (slice_index order k)) where
   abbrev part : ℕ → List SeedPlace
@@ -69,7 +71,7 @@ module _ (l : Listing) (wants : ℕ) (number : List ℕ → ℕ → Option ℕ) 
       let long : length (part w) ≡ b - a = range_length items a b low (omega arith) in
       let k_in : k < b - a = omega arith in
       let entry : slice_index order (a + k) ≡ slice_index (entries_of ws w) k = sym (range_at order a b k 0 k_in) ∙ ap (λ xs. slice_index xs k) (sorted.entries w h) in
-      range_at items a b k (place 0 0 0) k_in ∙ value (a + k) (omega arith) ∙ ap (nth_place ps) entry
+      range_at items a b k (place kinds.Sha512T256 0 0 0) k_in ∙ value (a + k) (omega arith) ∙ ap (nth_place ps) entry
 
   part_is : (w k i : ℕ) (p : SeedPlace) → w < wants → k < length (part w) → slice_index (entries_of ws w) k ≡ i → nth_place ps i ≡ p →
       nth_place (part w) k ≡ p
@@ -79,7 +81,7 @@ module _ (l : Listing) (wants : ℕ) (number : List ℕ → ℕ → Option ℕ) 
   entry_in w k h = let long : length ws ≡ length ps = found.size in omega (arith, entry_inside ws w k h)
 
   sound_at : (i k : ℕ) → i < count_of l → k < length (part (slice_index want_of i)) →
-      IsPlace seeds (id_of l i) (size_of l i) (nth_place (part (slice_index want_of i)) k)
+      IsPlace kind seeds (id_of l i) (size_of l i) (nth_place (part (slice_index want_of i)) k)
   sound_at i k a h =
       let w = slice_index want_of i in
       let below : w < wants = are.within i a in
@@ -90,7 +92,7 @@ module _ (l : Listing) (wants : ℕ) (number : List ℕ → ℕ → Option ℕ) 
       let same : slice_index want_of y.0 ≡ slice_index want_of i = y.4 ∙ entry_of ws w k inside in
       let alike = (are.alike y.0 i y.1 a).0 same in
       let size_is : size_of x.listing x.entry ≡ size_of l i = sym y.3 ∙ alike.1 in
-      let here : IsPlace seeds (id_of l i) (size_of l i) (nth_place ps e) = record {
+      let here : IsPlace kind seeds (id_of l i) (size_of l i) (nth_place ps e) = record {
         listing = x.listing;
         seed = x.seed;
         entry = x.entry;
@@ -99,11 +101,12 @@ module _ (l : Listing) (wants : ℕ) (number : List ℕ → ℕ → Option ℕ) 
         size_is = size_is;
         start = x.start;
         size = x.size ∙ size_is;
+        kind_is = x.kind_is;
       } in
-      subst (λ (p : SeedPlace). IsPlace seeds (id_of l i) (size_of l i) p) (sym (part_at w k below h)) here
+      subst (λ (p : SeedPlace). IsPlace kind seeds (id_of l i) (size_of l i) p) (sym (part_at w k below h)) here
 
   complete_at : (i s j : ℕ) (m : Listing) → i < count_of l → slice_get seeds s ≡ Some m → j < count_of m → id_of m j ≡ id_of l i → size_of m j ≡ size_of l i →
-      (k : ℕ) × (k < length (part (slice_index want_of i))) × (nth_place (part (slice_index want_of i)) k ≡ place s (start_of m j) (size_of l i))
+      (k : ℕ) × (k < length (part (slice_index want_of i))) × (nth_place (part (slice_index want_of i)) k ≡ place kind s (start_of m j) (size_of l i))
   complete_at i s j m a here below id_is size_is =
       let w = slice_index want_of i in
       let under : w < wants = are.within i a in
@@ -112,7 +115,7 @@ module _ (l : Listing) (wants : ℕ) (number : List ℕ → ℕ → Option ℕ) 
       let x = found.complete s j w m here (inl (slice_get_within seeds s m here)) below named in
       let y = entry_stands ws w x.0 (omega (arith, x.1)) x.2 in
       let inside : y.0 < length (part w) = omega (arith, y.1, part_length w under) in
-      (y.0, inside, part_is w y.0 x.0 (place s (start_of m j) (size_of l i)) under inside y.2 (x.3 ∙ ap (place s (start_of m j)) size_is))
+      (y.0, inside, part_is w y.0 x.0 (place kind s (start_of m j) (size_of l i)) under inside y.2 (x.3 ∙ ap (place kind s (start_of m j)) size_is))
 
   ordered_at : (w j k : ℕ) → w < wants → j < k → k < length (part w) → ComesBefore (nth_place (part w) j) (nth_place (part w) k)
   ordered_at w j k under a h =
@@ -121,7 +124,7 @@ module _ (l : Listing) (wants : ℕ) (number : List ℕ → ℕ → Option ℕ) 
       subst (λ (p : SeedPlace). ComesBefore p (nth_place (part w) k)) (sym (part_at w j under (omega arith)))
       (subst (ComesBefore (nth_place ps (slice_index (entries_of ws w) j))) (sym (part_at w k under h)) before)
 
-  pub places_are : (i : ℕ) → i < count_of l → ArePlaces seeds (id_of l i) (size_of l i) (part (slice_index want_of i))
+  pub places_are : (i : ℕ) → i < count_of l → ArePlaces kind seeds (id_of l i) (size_of l i) (part (slice_index want_of i))
   places_are i a = record {
     sound = λ k h. sound_at i k a h;
     complete = λ s j m here below id_is size_is. complete_at i s j m a here below id_is size_is;

@@ -2,6 +2,7 @@
 use Rattle.std.specs.Prelude.{◌≡◌, ℕ, ◌+◌, ◌<◌, ◌≤◌, ◌⊎◌, List, Option, Some, length, take, slice_index}
 use Rattle.std.specs.List.{slice_get}
 use Rattle.caibx_codec.specs.Listing.{Listing, count_of, id_of, size_of, start_of}
+use Rattle.chunk_store.specs.declared.id.DigestKind.{DigestKind}
 use Rattle.extract_plan.specs.Places.{ComesBefore, items_of, place, nth_place}
 use Rattle.extract_plan.specs.declared.seed.SeedPlace.{SeedPlace}
 
@@ -14,8 +15,9 @@ pub record AreNumbered (l : Listing) (n : ℕ) (number : List ℕ → ℕ → Op
 abbrev pub IsDone : ℕ → ℕ → ℕ → ℕ → Type 0
 IsDone s n t j = (t < s) ⊎ ((t ≡ s) × (j < n))
 
--- the place is that of an entry before entry n of seed s, and this is the number of its id and size
-pub record IsFoundPlace (number : List ℕ → ℕ → Option ℕ) (seeds : List Listing) (s n w : ℕ)
+-- the place is that of an entry before entry n of seed s, this is the number of its id and size, and its kind is this
+-- one
+pub record IsFoundPlace (kind : DigestKind) (number : List ℕ → ℕ → Option ℕ) (seeds : List Listing) (s n w : ℕ)
     (p : SeedPlace) : Type 0 where
   pub listing : Listing
   pub seed : slice_get seeds p.seed ≡ Some listing
@@ -25,14 +27,15 @@ pub record IsFoundPlace (number : List ℕ → ℕ → Option ℕ) (seeds : List
   pub named : number (id_of listing entry) (size_of listing entry) ≡ Some w
   pub start : p.start ≡ start_of listing entry
   pub size : p.size ≡ size_of listing entry
+  pub kind_is : p.kind ≡ kind
 
 -- the places of all entries before entry n of seed s that have a number, in their order, and these numbers
-pub record AreFound (number : List ℕ → ℕ → Option ℕ) (seeds : List Listing) (s n : ℕ) (ws : List ℕ)
-    (ps : List SeedPlace) : Type 0 where
+pub record AreFound (kind : DigestKind) (number : List ℕ → ℕ → Option ℕ) (seeds : List Listing) (s n : ℕ)
+    (ws : List ℕ) (ps : List SeedPlace) : Type 0 where
   pub size : length ws ≡ length ps
   pub few : length ps ≤ items_of (take s seeds) + n
-  pub sound : (k : ℕ) → k < length ps → IsFoundPlace number seeds s n (slice_index ws k) (nth_place ps k)
+  pub sound : (k : ℕ) → k < length ps → IsFoundPlace kind number seeds s n (slice_index ws k) (nth_place ps k)
   pub complete : (t j w : ℕ) (m : Listing) → slice_get seeds t ≡ Some m → IsDone s n t j → j < count_of m →
       number (id_of m j) (size_of m j) ≡ Some w →
-      (k : ℕ) × (k < length ps) × (slice_index ws k ≡ w) × (nth_place ps k ≡ place t (start_of m j) (size_of m j))
+      (k : ℕ) × (k < length ps) × (slice_index ws k ≡ w) × (nth_place ps k ≡ place kind t (start_of m j) (size_of m j))
   pub ordered : (j k : ℕ) → j < k → k < length ps → ComesBefore (nth_place ps j) (nth_place ps k)

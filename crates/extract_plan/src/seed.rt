@@ -9,13 +9,14 @@ use chunk_store::range::name_range;
 use dsy_base::fault::Failed;
 use dsy_base::view::View;
 
-/// Where a seed lists a chunk: the number of the seed, and the offset and the size in its image.
+/// Where a seed lists a chunk: the number of the seed, the offset and the size in its image, and the kind of digest
+/// that names the chunk.
 #[derive(Clone, Copy, Debug, PartialEq, Eq)]
 pub struct SeedPlace {
-    // First, so that a place takes 16 bytes.
-    pub start: u64,
     pub seed: u32,
+    pub start: u64,
     pub size: u32,
+    pub kind: DigestKind,
 }
 
 /// The image of a seed, where it could be opened.
@@ -46,7 +47,7 @@ fn view_gives<V: View>(view: &mut V, place: &SeedPlace, id: &ChunkId, out: &mut 
     if size < place.start || size - place.start < place.size as u64 {
         return SeedAnswer::Wrong;
     }
-    match name_range(view, DigestKind::Sha512T256, place.start, out) {
+    match name_range(view, place.kind, place.start, out) {
         Ok(name) => {
             if name.is(id) {
                 SeedAnswer::Given

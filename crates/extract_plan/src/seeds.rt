@@ -16,6 +16,7 @@ use crate::link::{Sorted, sort};
 use crate::plan::Plan;
 use crate::seed::SeedPlace;
 use caibx_codec::index::Index;
+use chunk_store::id::DigestKind;
 use std::alloc::{AllocError, Global};
 use std::marker::Model;
 
@@ -83,8 +84,9 @@ fn numbers(alloc: Global, plan: &Plan, index: &Index) -> Result<Vec<Keyed>, Allo
     Ok(numbers)
 }
 
-// Entry i of seed s: its place is added where it has a number.
+// Entry i of seed s: its place, of this kind, is added where it has a number.
 fn add_entry(
+    kind: DigestKind,
     numbers: &[Keyed],
     seeds: &[Index],
     s: usize,
@@ -95,8 +97,8 @@ fn add_entry(
     requires few { length seeds.now < 2 ^ 32 }
     requires seed { s < length seeds.now }
     requires entry { (l : Listing) → slice_get seeds.now s ≡ Some l → i < count_of l }
-    requires before { AreFound (number_of numbers.now) seeds.now s i found.old.wants.items found.old.places.items }
-    ensures { OnOk result (AreFound (number_of numbers.now) seeds.now s (i + 1)
+    requires before { AreFound kind (number_of numbers.now) seeds.now s i found.old.wants.items found.old.places.items }
+    ensures { OnOk result (AreFound kind (number_of numbers.now) seeds.now s (i + 1)
         found.new.wants.items found.new.places.items) }
 {
     let seed = &seeds[s];
@@ -108,6 +110,7 @@ fn add_entry(
             seed: s as u32,
             start: listed.start,
             size: listed.size as u32,
+            kind,
         })?;
     }
     Ok(())
@@ -115,6 +118,7 @@ fn add_entry(
 
 // The entries of seed s.
 fn add_seed(
+    kind: DigestKind,
     numbers: &[Keyed],
     seeds: &[Index],
     s: usize,
@@ -123,27 +127,32 @@ fn add_seed(
     requires sorted { IsSorted keyed_cmp numbers.now }
     requires few { length seeds.now < 2 ^ 32 }
     requires seed { s < length seeds.now }
-    requires before { AreFound (number_of numbers.now) seeds.now s 0 found.old.wants.items found.old.places.items }
-    ensures { OnOk result (AreFound (number_of numbers.now) seeds.now (s + 1) 0
+    requires before { AreFound kind (number_of numbers.now) seeds.now s 0 found.old.wants.items found.old.places.items }
+    ensures { OnOk result (AreFound kind (number_of numbers.now) seeds.now (s + 1) 0
         found.new.wants.items found.new.places.items) }
 {
     for i in 0..seeds[s].count() {
-        add_entry(numbers, seeds, s, i, found)?;
+        add_entry(kind, numbers, seeds, s, i, found)?;
     }
     Ok(())
 }
 
 // The places of all seeds.
-fn find(numbers: &[Keyed], seeds: &[Index], found: &mut Found) -> Result<(), AllocError>
+fn find(
+    kind: DigestKind,
+    numbers: &[Keyed],
+    seeds: &[Index],
+    found: &mut Found,
+) -> Result<(), AllocError>
     requires sorted { IsSorted keyed_cmp numbers.now }
     requires few { length seeds.now < 2 ^ 32 }
     requires wants { found.old.wants.items ≡ [] }
     requires places { found.old.places.items ≡ [] }
-    ensures { OnOk result (AreFound (number_of numbers.now) seeds.now (length seeds.now) 0
+    ensures { OnOk result (AreFound kind (number_of numbers.now) seeds.now (length seeds.now) 0
         found.new.wants.items found.new.places.items) }
 {
     for s in 0..seeds.len() {
-        add_seed(numbers, seeds, s, found)?;
+        add_seed(kind, numbers, seeds, s, found)?;
     }
     Ok(())
 }
@@ -178,7 +187,7 @@ fn place(
     let mut found = Found::with_room(alloc, items(seeds))?;
     {
         let numbers = numbers(alloc, plan, index)?;
-        find(&numbers, seeds, &mut found)?;
+        find(index.kind(), &numbers, seeds, &mut found)?;
     }
     let Found { wants, places } = found;
     let Sorted { starts, order } = sort(alloc, &wants, plan.wants())?;

@@ -29,6 +29,7 @@ use Rattle.chunk_sources.specs.Economy.{source_of, all_asks, pass_asks, source_i
 use Rattle.chunk_sources.specs.Sources.{Sources, SourcesQuiet, Telling, sources, views_of}
 use Rattle.chunk_sources.specs.Wants.{Task}
 use Rattle.chunk_sources.specs.declared.kit.Kit.{Kit}
+use Rattle.chunk_store.specs.declared.id.DigestKind.{DigestKind}
 use Rattle.chunk_store.specs.declared.store.Store.{Ghosts as StoreWords}
 use Rattle.dsy_base.specs.Bytes.{Held, held_resized, resized}
 use Rattle.dsy_base.specs.Counts.{Quiet, Rose, raised}
@@ -307,13 +308,14 @@ module _ {S V : Type 0} (store : StoreWords S) (view : ViewWords V) (ms xs : Lis
   same_stores = stores_are ms ∙ ap stores_in chains ∙ sym (stores_are xs)
 
   -- the run permits with them as with those
-  pub permits_same : (r : Run) (t : Task) (first : Option (Map (List ℕ))) (taken : List ℕ) (failed : ℕ) (pairs : Option (List (List ℕ × ℕ))) (maps : Option (List (Map (List ℕ)))) (cache : Option Shelf)
-      → Permits store view r t xs first taken failed pairs maps cache → Permits store view r t ms first taken failed pairs maps cache
-  permits_same r t first taken failed pairs maps cache is = record {
+  pub permits_same : (r : Run) (t : Task) (kind : DigestKind) (first : Option (Map (List ℕ))) (taken : List ℕ) (failed : ℕ) (pairs : Option (List (List ℕ × ℕ))) (maps : Option (List (Map (List ℕ)))) (cache : Option Shelf)
+      → Permits store view r t xs kind first taken failed pairs maps cache → Permits store view r t ms kind first taken failed pairs maps cache
+  permits_same r t kind first taken failed pairs maps cache is = record {
+    digest = is.digest;
     shelf = is.shelf;
     listed = is.listed;
     stores = is.stores ∙ ap (λ (ys : List S). all_told (map store.holds ys)) (sym same_stores);
-    each = all_same ms xs chains seeds (λ c s. PermitsWith view.tells r t (views_of view s) (given_maps (door_shelf first pairs maps 0 cache)) (map store.holds c.stores)) is.each;
+    each = all_same ms xs chains seeds (λ c s. PermitsWith view.tells r t (views_of view s) (given_maps (door_shelf kind first pairs maps 0 cache)) (map store.holds c.stores)) is.each;
     had = λ all cached told. some_more (base_told r) (λ y has i inside may. any_same ms xs chains seeds (Has t cached y i) (has i inside may))
         (is.had (all_same xs ms (sym chains) (sym seeds) Tells all) cached told);
   }

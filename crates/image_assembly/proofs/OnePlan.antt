@@ -7,7 +7,7 @@ use Rattle.chunk_sources.specs.Sources.{Sources, sources}
 use Rattle.chunk_sources.specs.Wants.{Task}
 use Rattle.chunk_sources.specs.declared.kit.Kit.{Kit}
 use Rattle.extract_plan.specs.Places.{Placed, PlacesFit, PlacesKnown, places_at}
-use Rattle.caibx_codec.specs.Listing.{Listing, count_of, size_of}
+use Rattle.caibx_codec.specs.Listing.{Listing, count_of, kind_of, size_of}
 use Rattle.extract_plan.specs.Deal.{AreShardEnds, AreWants, Deal, IsPlan, deal_shards, entries_of, shards_of}
 
 -- ---- the plan
@@ -72,7 +72,7 @@ module _ (l : Listing) where
       let wants : d.wants ≡ e.wants = omega (arith, less, more) in
       record {
         size = is.size ∙ ap (λ (k : ℕ). k + 1) wants;
-        fit = λ w inside. subst (λ (xs : List ℕ). PlacesFit seeds (size_of l (slice_index (entries_of xs w) 0)) (places_at x w)) want_of (is.fit w (omega (arith, inside, wants)));
+        fit = λ w inside. subst (λ (xs : List ℕ). PlacesFit (kind_of l) seeds (size_of l (slice_index (entries_of xs w) 0)) (places_at x w)) want_of (is.fit w (omega (arith, inside, wants)));
       }
 
 -- the plans for one worker and for several have the same wants

@@ -25,6 +25,7 @@ use Rattle.chunk_sources.specs.declared.kit.Kit.{Kit}
 use Rattle.chunk_store.specs.Folders.{chunks}
 use Rattle.chunk_store.specs.Giving.{GivesChunk}
 use Rattle.chunk_store.specs.Names.{name_of}
+use Rattle.chunk_store.specs.declared.id.DigestKind.{DigestKind}
 use Rattle.chunk_store.specs.declared.store.Store.{Ghosts as StoreWords}
 use Rattle.dsy_base.specs.Bytes.{Held, resized}
 use Rattle.dsy_base.specs.Maps.{Map}
@@ -246,19 +247,19 @@ module _ (t : Task) (base : List ℕ) (wants : AreWants t.listing t.plan.wants t
         gave i gives = (had_decides (views_at kit_here) all (want_at t.plan i)).1 (inr (inr (subst (Fits (want_at t.plan i)) (sym whole) gives)))
 
     -- what the door to the cache gives, where all stores tell
-    door_gives : (first : Option (Map (List ℕ))) (pairs : Option (List (List ℕ × ℕ))) (maps : Option (List (Map (List ℕ)))) (c : Option Shelf) → IfSome c (λ s. first ≡ s.files) → (held ms : List (Map (List ℕ)))
-        → cached_in c ≡ Some held → maps ≡ Some ms → (given : List (Map (List ℕ))) × (given_maps (door_shelf first pairs maps 0 c) ≡ Some given) × ((more : List (Map (List ℕ))) → (given ≡ held ++ ms) ⊎ (given ≡ held))
-    door_gives first pairs maps None opens held ms cache told = ([], refl, λ more. inr (same_Some [] held cache))
-    door_gives first pairs maps (Some s) opens held ms cache told =
+    door_gives : (kind : DigestKind) (first : Option (Map (List ℕ))) (pairs : Option (List (List ℕ × ℕ))) (maps : Option (List (Map (List ℕ)))) (c : Option Shelf) → IfSome c (λ s. first ≡ s.files) → (held ms : List (Map (List ℕ)))
+        → cached_in c ≡ Some held → maps ≡ Some ms → (given : List (Map (List ℕ))) × (given_maps (door_shelf kind first pairs maps 0 c) ≡ Some given) × ((more : List (Map (List ℕ))) → (given ≡ held ++ ms) ⊎ (given ≡ held))
+    door_gives kind first pairs maps None opens held ms cache told = ([], refl, λ more. inr (same_Some [] held cache))
+    door_gives kind first pairs maps (Some s) opens held ms cache told =
         let at = told_at s.files held cache in (
           chunks at.0 ∷ ms,
           ap (λ (f : Option (Map (List ℕ))). shared_maps f maps) (opens ∙ at.1) ∙ ap (λ (o : Option (List (Map (List ℕ)))). shared_maps (Some at.0) o) told,
           λ more. inl (ap (λ zs. zs ++ ms) (sym at.2)),
         )
 
-    pub permits_each : (first : Option (Map (List ℕ))) (pairs : Option (List (List ℕ × ℕ))) (maps : Option (List (Map (List ℕ)))) → IfSome c0 (λ s. first ≡ s.files) → maps ≡ all_told (map store.holds (all_stores kits))
-        → All (PermitsKit store view (picked store view tells t base cached_now kits) t (door_shelf first pairs maps 0 c0)) kits
-    permits_each first pairs maps opens stores n q less = λ i inside so.
+    pub permits_each : (kind : DigestKind) (first : Option (Map (List ℕ))) (pairs : Option (List (List ℕ × ℕ))) (maps : Option (List (Map (List ℕ)))) → IfSome c0 (λ s. first ≡ s.files) → maps ≡ all_told (map store.holds (all_stores kits))
+        → All (PermitsKit store view (picked store view tells t base cached_now kits) t (door_shelf kind first pairs maps 0 c0)) kits
+    permits_each kind first pairs maps opens stores n q less = λ i inside so.
         let w = want_at t.plan i in
         let k = slice_index_or kits n q in
         elim (cases_Bool (may_fill store view tells t base cached_now kits w)) [
@@ -267,7 +268,7 @@ module _ (t : Task) (base : List ℕ) (wants : AreWants t.listing t.plan.wants t
         ]
       where
         some_told : (i : ℕ) → i < count_of t.listing → may_fill store view tells t base cached_now kits (want_at t.plan i) ≡ false → tells ≡ true
-            → (IsTrue tells → Telling view.tells (views_at (slice_index_or kits n q)) → (given own : List (Map (List ℕ))) → given_maps (door_shelf first pairs maps 0 c0) ≡ Some given
+            → (IsTrue tells → Telling view.tells (views_at (slice_index_or kits n q)) → (given own : List (Map (List ℕ))) → given_maps (door_shelf kind first pairs maps 0 c0) ≡ Some given
             → map store.holds (slice_index_or kits n q).chain.stores ≡ map Some own
             → IsObtainable t base (views_at (slice_index_or kits n q)) (given ++ own) i ⊎ MayFillAlike (picked store view tells t base cached_now kits) t i)
             → (o : Option (List (Map (List ℕ)))) → all_told (map store.holds (all_stores kits)) ≡ o → some_may_have store view t base cached_now kits (want_at t.plan i) ≡ true
@@ -280,7 +281,7 @@ module _ (t : Task) (base : List ℕ) (wants : AreWants t.listing t.plan.wants t
             let b = tell.1 in
             let own_told : map store.holds (slice_index_or kits n q).chain.stores ≡ map Some b.given = all_are (map store.holds (slice_index_or kits n q).chain.stores) b.given b.stores in
             let all_stores_told : map store.holds (all_stores kits) ≡ map Some ms = all_are (map store.holds (all_stores kits)) ms is in
-            let door = door_gives first pairs maps c0 opens b.held ms b.cache (stores ∙ is) in
+            let door = door_gives kind first pairs maps c0 opens b.held ms b.cache (stores ∙ is) in
             elim (so told tell.0 door.0 b.given door.1 own_told) [
               | inl can ↦ elim (had_by_some n q less i inside b.held ms b.given all b.whole all_stores_told (elim (door.2 ms) [
                 | inl both ↦ subst (λ (g : List (Map (List ℕ))). IsObtainable t base (views_at (slice_index_or kits n q)) (g ++ b.given) i) both can
@@ -333,14 +334,15 @@ module _ (t : Task) (base : List ℕ) (wants : AreWants t.listing t.plan.wants t
           | inr isnt ↦ isnt
         ]
 
-    pub picked_permits : (tells ≡ true → length base ≡ image_length t.listing) → 2 ≤ length kits → (first : Option (Map (List ℕ))) (taken : List ℕ) (failed : ℕ) (pairs : Option (List (List ℕ × ℕ)))
-        (maps : Option (List (Map (List ℕ)))) → IfSome c0 (NamesShelf first taken failed) → pairs ≡ Some (pairs_of t.listing) → maps ≡ all_told (map store.holds (all_stores kits))
-        → Permits store view (picked store view tells t base cached_now kits) t kits first taken failed pairs maps c0
-    picked_permits sized many first taken failed pairs maps names listed stores = record {
+    pub picked_permits : (tells ≡ true → length base ≡ image_length t.listing) → 2 ≤ length kits → (kind : DigestKind) → kind ≡ kind_of t.listing → (first : Option (Map (List ℕ))) (taken : List ℕ) (failed : ℕ) (pairs : Option (List (List ℕ × ℕ)))
+        (maps : Option (List (Map (List ℕ)))) → IfSome c0 (NamesShelf kind first taken failed) → pairs ≡ Some (pairs_of t.listing) → maps ≡ all_told (map store.holds (all_stores kits))
+        → Permits store view (picked store view tells t base cached_now kits) t kits kind first taken failed pairs maps c0
+    picked_permits sized many kind digest first taken failed pairs maps names listed stores = record {
+      digest = digest;
       shelf = names;
       listed = listed;
       stores = stores;
-      each = permits_each first pairs maps (named_opens first taken failed c0 names) stores;
+      each = permits_each kind first pairs maps (named_opens kind first taken failed c0 names) stores;
       had = fills_had sized many;
     }
 

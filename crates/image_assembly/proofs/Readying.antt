@@ -10,7 +10,6 @@ use Rattle.chunk_sources.specs.Sources.{views_of}
 use Rattle.chunk_sources.specs.Wants.{Task}
 use Rattle.chunk_sources.specs.declared.kit.Kit.{Kit}
 use Rattle.chunk_store.specs.declared.id.DigestKind.{DigestKind}
-use Rattle.chunk_store.specs.declared.id.DigestKind.TheVariants.{Sha512T256}
 use Rattle.chunk_store.specs.declared.store.Store.{Ghosts as StoreWords}
 use Rattle.dsy_base.specs.Bytes.{Held, held_resized, resized}
 use Rattle.dsy_base.specs.Maps.{Map}
@@ -75,17 +74,21 @@ module _ {S V : Type 0} (store : StoreWords S) (view : ViewWords V) (r : Run) (t
 
   -- ---- several workers, with a cache of which a type names this
 
-  module _ (first : Option (Map (List ℕ))) (taken : List ℕ) (failed : ℕ) (pairs : Option (List (List ℕ × ℕ))) (maps : Option (List (Map (List ℕ)))) (cache : Option Shelf)
-      (permit : Permits store view r x.task x.kits first taken failed pairs maps cache) where
+  module _ (kind : DigestKind) (first : Option (Map (List ℕ))) (taken : List ℕ) (failed : ℕ) (pairs : Option (List (List ℕ × ℕ))) (maps : Option (List (Map (List ℕ)))) (cache : Option Shelf)
+      (permit : Permits store view r x.task x.kits kind first taken failed pairs maps cache) where
     -- the door of each worker
     abbrev e0 : Option Shelf
-    e0 = door_shelf first pairs maps 0 cache
+    e0 = door_shelf kind first pairs maps 0 cache
 
     pub pairs_so : pairs ≡ Some (pairs_of r.listing)
     pairs_so = permit.listed ∙ ap (λ (l : Listing). Some (pairs_of l)) is.listing
 
+    pub digest_so : kind ≡ kind_of r.listing
+    digest_so = permit.digest ∙ ap (λ (l : Listing). kind_of l) is.listing
+
     door_is : e0 ≡ door store r.listing x.kits first cache
-    door_is = ap (λ (p : Option (List (List ℕ × ℕ))). door_shelf first p maps 0 cache) pairs_so ∙ ap (λ (m : Option (List (Map (List ℕ)))). door_shelf first (Some (pairs_of r.listing)) m 0 cache) permit.stores
+    door_is = ap (λ (k : DigestKind). door_shelf k first pairs maps 0 cache) digest_so ∙ ap (λ (p : Option (List (List ℕ × ℕ))). door_shelf (kind_of r.listing) first p maps 0 cache) pairs_so
+        ∙ ap (λ (m : Option (List (Map (List ℕ)))). door_shelf (kind_of r.listing) first (Some (pairs_of r.listing)) m 0 cache) permit.stores
 
     pub permits_at : (k : ℕ) (q : Kit S V) → k < length x.kits → PermitsKit store view r t e0 (slice_index_or x.kits k q)
     permits_at k q less =
@@ -97,7 +100,8 @@ module _ {S V : Type 0} (store : StoreWords S) (view : ViewWords V) (r : Run) (t
         let kit = slice_index_or x.kits k q in
         record {
           known = is.first;
-          ready = ready_kit k q less (worker_stage r x.whole.fates 0 e0 kit).held 0 x.whole.fates e0 (subst (λ (e : Option Shelf). IfSome e (λ s. s.kind ≡ Sha512T256)) (sym door_is) (door_kind store r.listing x.kits first cache));
+          ready = ready_kit k q less (worker_stage r x.whole.fates 0 e0 kit).held 0 x.whole.fates e0 (subst (λ (e : Option Shelf). IfSome e (λ s. s.kind ≡ kind_of x.task.listing)) (sym door_is)
+              (subst (λ (l : Listing). IfSome (door store r.listing x.kits first cache) (λ s. s.kind ≡ kind_of l)) (sym is.listing) (door_kind store r.listing x.kits first cache)));
           adds = subst (λ (e : Option Shelf). MayAddFrom store r.listing kit.chain.stores e) (sym door_is) (door_adds store r.listing x.kits first cache k q less);
           may = permits r x.task.plan x.task.places wants_so store view (views_of view kit.seeds.items) (given_maps e0) (map store.holds kit.chain.stores) (permits_at k q less) (worker_stage r x.whole.fates 0 e0 kit)
               (λ given told. (given, told, λ id n gives. gives)) refl refl

@@ -12,6 +12,7 @@ use Rattle.image_assembly.specs.declared.fault.PrepareFault.TheVariants as refus
 use Rattle.caibx_codec.specs.Listing.{IsListedSize, Listing, count_of, image_length, kind_of, size_of}
 use Rattle.chunk_sources.specs.Wants.{Task}
 use Rattle.chunk_sources.specs.declared.kit.Kit.{Kit}
+use Rattle.chunk_store.specs.declared.id.DigestKind.{DigestKind}
 use Rattle.chunk_store.specs.declared.store.Store.{Ghosts as StoreWords}
 use Rattle.dsy_base.specs.Bytes.{Held, resized}
 use Rattle.dsy_base.specs.Maps.{Map}
@@ -33,15 +34,16 @@ pub record IsRunFor (r : Run) (l : Listing) (workers : ℕ) (told : Bool) (old :
   pub base : IfSome old.bytes (λ o. r.base ≡ resized o (image_length l))
   pub tells : r.tells ≡ told
 
--- what the run permits with several kits and this cache, of which a type names what its folder held, and what may be
--- added: an entry may be filled that can be had with one of them, and no other where all of them tell
+-- what the run permits with several kits and this cache, of which a type names the kind, what its folder held, and what
+-- may be added: an entry may be filled that can be had with one of them, and no other where all of them tell
 pub record Permits {S V : Type 0} (store : StoreWords S) (view : ViewWords V) (r : Run) (t : Task)
-    (kits : List (Kit S V)) (first : Option (Map (List ℕ))) (taken : List ℕ) (failed : ℕ)
+    (kits : List (Kit S V)) (kind : DigestKind) (first : Option (Map (List ℕ))) (taken : List ℕ) (failed : ℕ)
     (pairs : Option (List (List ℕ × ℕ))) (maps : Option (List (Map (List ℕ)))) (cache : Option Shelf) : Type 0 where
-  pub shelf : IfSome cache (NamesShelf first taken failed)
+  pub digest : kind ≡ kind_of t.listing
+  pub shelf : IfSome cache (NamesShelf kind first taken failed)
   pub listed : pairs ≡ Some (pairs_of t.listing)
   pub stores : maps ≡ all_told (map store.holds (all_stores kits))
-  pub each : All (PermitsKit store view r t (door_shelf first pairs maps 0 cache)) kits
+  pub each : All (PermitsKit store view r t (door_shelf kind first pairs maps 0 cache)) kits
   pub had : MayFillFrom store view t r.may (base_told r) cache kits
 
 -- this much room is that of the largest chunk of an index

@@ -6,6 +6,7 @@ ghost use Rattle.assembler.specs.Assemblies.{Assembles, IsAssembled};
 ghost use Rattle.assembler.specs.OneKit.{ByPlan, lent};
 ghost use Rattle.caibx_codec.specs.Listing.{count_of, image_length, kind_of};
 ghost use Rattle.chunk_sources.specs.Caches.{seen};
+ghost use Rattle.chunk_store.specs.Kinds.{kind_named};
 ghost use Rattle.dsy_base.specs.Bytes.{resized};
 ghost use Rattle.dsy_base.specs.Counts.{Quiet};
 ghost use Rattle.extract_plan.specs.Deal.{Deal, IsPlan};
@@ -58,8 +59,8 @@ where
     requires over { IsRunFor R.run index.now (vec_len kits) T.tells (T.held target) }
     requires one { vec_len kits ≡ 1 → MayFillAll R.run }
     requires may { 2 ≤ vec_len kits → (d : Deal) → IsPlan index.now (vec_len kits) d → Permits S.Store V.View R.run
-        (record { listing = index.now; plan = d; places = places.now }) kits.items N.opening N.place N.faults N.pairs
-        N.stores (seen F.Look cache) }
+        (record { listing = index.now; plan = d; places = places.now }) kits.items (kind_named N.kind) N.opening N.place
+        N.faults N.pairs N.stores (seen F.Look cache) }
     requires places { (d : Deal) × IsPlan index.now 1 d
         × All (λ k. PlacesKnown index.now d places.now (length k.seeds.items)) kits.items }
     requires kind { All (λ k. k.chain.kind ≡ kind_of index.now) kits.items }

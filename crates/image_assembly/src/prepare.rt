@@ -7,6 +7,7 @@ ghost use Rattle.std.specs.List.{All};
 ghost use Rattle.assembler.specs.Assemblies.{Assembles, IsAssembled};
 ghost use Rattle.assembler.specs.Begun.{HasBegun};
 ghost use Rattle.assembler.specs.OneKit.{OfKit, lent};
+ghost use Rattle.chunk_store.specs.Kinds.{kind_named};
 ghost use Rattle.image_workers.specs.Kits.{IsAssembledBy};
 ghost use Rattle.image_assembly.specs.Readied.{AreRoomsFor, IsRoomOf, IsRunFor, OfTarget, OfTargetWith, Permits};
 ghost use Rattle.caibx_codec.specs.Listing.{Listing, count_of, image_length, kind_of};
@@ -255,8 +256,8 @@ impl<'a, R: RunName + Send + Sync, T: Target, S: Store + Send, V: View + Send> P
     ) -> Assembled<T, S, V, F>
     where
         T::Piece: Send,
-        requires permits { 2 ≤ length self.kits → Permits S.Store V.View R.run self.task self.kits N.opening N.place
-            N.faults N.pairs N.stores (seen F.Look cache) }
+        requires permits { 2 ≤ length self.kits → Permits S.Store V.View R.run self.task self.kits (kind_named N.kind)
+            N.opening N.place N.faults N.pairs N.stores (seen F.Look cache) }
         requires cache { IfSome (seen F.Look cache) (λ s. s.kind ≡ kind_of self.task.listing) }
         requires unnamed { (F.pairs ≡ None) × (F.stores ≡ None) }
         ensures bytes { OfTargetWith (length self.entry.kits) self.entry.task.listing self.entry.whole

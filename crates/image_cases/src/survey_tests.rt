@@ -110,7 +110,7 @@ fn names(rt: &impl Abort, alloc: Global, old: u64, size: usize, digits: Option<&
         Some(digits) => Some(id_of(rt, digits)),
         None => None,
     };
-    same(rt, zeros.name(size), name);
+    same(rt, zeros.name(index.kind(), size), name);
 }
 
 // The digests are those that OpenSSL tells of zeros.

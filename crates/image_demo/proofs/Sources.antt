@@ -85,7 +85,7 @@ module _ (l m : Listing) (d : Deal) (x : Placed) (wants : AreWants l d.wants d.w
     views = Some held ∷ []
 
     -- what stands at the place of an entry of the seed
-    gives : (i j : ℕ) → j < count_of m → id_of m j ≡ id_of l i → size_of m j ≡ size_of l i → given_at (Some held) (place 0 (start_of m j) (size_of l i)) (id_of l i) ≡ true
+    gives : (i j : ℕ) → j < count_of m → id_of m j ≡ id_of l i → size_of m j ≡ size_of l i → given_at (Some held) (place (kind_of l) 0 (start_of m j) (size_of l i)) (id_of l i) ≡ true
     gives i j inside named sized =
         let rises : start_of m j < end_of m j = rules.rises j inside in
         let within : end_of m j ≤ image_length m = rules.inside j inside in

@@ -22,7 +22,6 @@ use Rattle.extract_plan.specs.Deal.{AreWants, Deal, first_of}
 use Rattle.extract_plan.specs.Places.{Placed, places_at}
 use Rattle.image_workers.specs.Beside.{MayFillAlike, PermitsWith}
 use Rattle.image_workers.specs.Shared.{GivesNoMore}
-use Rattle.chunk_store.specs.declared.id.DigestKind.TheVariants.{Sha512T256}
 use Rattle.range_ledger.specs.Runs.{Run}
 use Rattle.range_survey.specs.Fates.{settled}
 use Rattle.range_survey.specs.declared.fate.Fate.{Fate}
@@ -52,7 +51,7 @@ module _ (r : Run) (d : Deal) (x : Placed) (wants : AreWants r.listing d.wants d
       (subst (λ q. SeedsGive views (places_at x w) q ⊎ SomeGives (kind_of l) q (size_of l (first_of d w)) maps) like.0 source)))
 
   -- what the cache gives was given
-  given_before : (views : List (Option Held)) (m : List Fate) (w : ℕ) (now cached maps : List (Map (List ℕ))) → ((id : List ℕ) (n : ℕ) → SomeGives Sha512T256 id n now → SomeGives Sha512T256 id n cached)
+  given_before : (views : List (Option Held)) (m : List Fate) (w : ℕ) (now cached maps : List (Map (List ℕ))) → ((id : List ℕ) (n : ℕ) → SomeGives (kind_of r.listing) id n now → SomeGives (kind_of r.listing) id n cached)
       → Had m (want_chunk t w) views (now ++ maps) → Had m (want_chunk t w) views (cached ++ maps)
   given_before views m w now cached maps gave (inl settled_then) = inl settled_then
   given_before views m w now cached maps gave (inr (inl seed)) = inr (inl seed)
@@ -66,7 +65,7 @@ module _ (r : Run) (d : Deal) (x : Placed) (wants : AreWants r.listing d.wants d
   -- what the run permits with a kit may be filled over a stage, where its kit holds the same and the cache gives no more
   pub permits : {S V : Type 0} (store : StoreWords S) (view : ViewWords V) (views : List (Option Held)) (given : Option (List (Map (List ℕ)))) (told : List (Option (Map (List ℕ))))
       → PermitsWith view.tells r t views given told → (a : Stage S V)
-      → GivesNoMore given a.cache → views_of view a.kit.seeds.items ≡ views → map store.holds a.kit.chain.stores ≡ told → FilledBy a.fates → (Among : ℕ → Type 0) → MayFillHad store view t r.may a Among
+      → GivesNoMore (kind_of r.listing) given a.cache → views_of view a.kit.seeds.items ≡ views → map store.holds a.kit.chain.stores ≡ told → FilledBy a.fates → (Among : ℕ → Type 0) → MayFillHad store view t r.may a Among
   permits store view views given told permit a gives seen holds filled Among w less any has i among =
       let inside = listed_of r.listing d w i wants among in
       permit i inside (λ tells telling cached maps before is.
@@ -78,7 +77,7 @@ module _ (r : Run) (d : Deal) (x : Placed) (wants : AreWants r.listing d.wants d
   -- what a pass has settled may be filled, if the run permits so with the kit that it began with
   pub settled_may : {S V : Type 0} (store : StoreWords S) (view : ViewWords V) (views : List (Option Held)) (given : Option (List (Map (List ℕ)))) (told : List (Option (Map (List ℕ))))
       → PermitsWith view.tells r t views given told
-      → (a : Stage S V) (now : List Fate) → GivesNoMore given a.cache → views_of view a.kit.seeds.items ≡ views → map store.holds a.kit.chain.stores ≡ told → FilledBy a.fates → HadAll store view t a now
+      → (a : Stage S V) (now : List Fate) → GivesNoMore (kind_of r.listing) given a.cache → views_of view a.kit.seeds.items ≡ views → map store.holds a.kit.chain.stores ≡ told → FilledBy a.fates → HadAll store view t a now
       → (i : ℕ) → i < count_of r.listing → settled now i ≡ true → r.may i ≡ true
   settled_may store view views given told permit a now gives seen holds filled had i inside is =
       permit i inside (λ tells telling cached maps before are.

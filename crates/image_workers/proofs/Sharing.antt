@@ -16,8 +16,7 @@ use Rattle.chunk_sources.specs.Caches.{OthersAddListed, AddsSize, CacheGives, Is
 use Rattle.chunk_sources.specs.Wants.{Task}
 use Rattle.chunk_sources.specs.declared.kit.Kit.{Kit}
 use Rattle.chunk_store.specs.Folders.{chunks}
-use Rattle.chunk_store.specs.Giving.{IsChunk}
-use Rattle.chunk_store.specs.declared.id.DigestKind.TheVariants.{Sha512T256}
+use Rattle.chunk_store.specs.Giving.{GivesChunk, IsChunk}
 use Rattle.chunk_store.specs.declared.store.Store.{Ghosts as StoreWords}
 use Rattle.dsy_base.specs.Maps.{Map}
 use Rattle.dsy_base.specs.declared.view.View.{Ghosts as ViewWords}
@@ -223,7 +222,7 @@ by_held store stores id b held = go (all_told (map store.holds stores)) refl whe
 
 module _ {S V : Type 0} (store : StoreWords S) (l : Listing) (kits : List (Kit S V)) where
   abbrev pub Adds : List ℕ → List ℕ → Type 0
-  Adds = MayAdd (Some (pairs_below l (count_of l))) (all_told (map store.holds (all_stores kits)))
+  Adds = MayAdd (kind_of l) (Some (pairs_below l (count_of l))) (all_told (map store.holds (all_stores kits)))
 
   -- what is added an index lists, and some kit's store holds it
   pub adds_listed : (q b : List ℕ) → Adds q b → TakesListed store l (all_stores kits) q b
@@ -260,68 +259,68 @@ module _ {S V : Type 0} (store : StoreWords S) (l : Listing) (kits : List (Kit S
   module _ (first : Option (Map (List ℕ))) (c0 : Option Shelf) where
     -- the door of a worker, before it is used
     abbrev pub door : Option Shelf
-    door = door_shelf first (Some (pairs_below l (count_of l))) (all_told (map store.holds (all_stores kits))) 0 c0
+    door = door_shelf (kind_of l) first (Some (pairs_below l (count_of l))) (all_told (map store.holds (all_stores kits))) 0 c0
 
     pub door_fresh : cache_faults door ≡ 0
     door_fresh = go c0 where
-      go : (c : Option Shelf) → cache_faults (door_shelf first (Some (pairs_below l (count_of l))) (all_told (map store.holds (all_stores kits))) 0 c) ≡ 0
+      go : (c : Option Shelf) → cache_faults (door_shelf (kind_of l) first (Some (pairs_below l (count_of l))) (all_told (map store.holds (all_stores kits))) 0 c) ≡ 0
       go None = refl
       go (Some s) = refl
 
     pub door_none : c0 ≡ None → door ≡ None
-    door_none none = ap (door_shelf first (Some (pairs_below l (count_of l))) (all_told (map store.holds (all_stores kits))) 0) none
+    door_none none = ap (door_shelf (kind_of l) first (Some (pairs_below l (count_of l))) (all_told (map store.holds (all_stores kits))) 0) none
 
     -- it shows what the cache held at first
     pub door_told : IfSome c0 (λ s. first ≡ s.files) → cached_in door ≡ cached_in c0
     door_told opens = go c0 opens where
-      go : (c : Option Shelf) → IfSome c (λ s. first ≡ s.files) → cached_in (door_shelf first (Some (pairs_below l (count_of l))) (all_told (map store.holds (all_stores kits))) 0 c) ≡ cached_in c
+      go : (c : Option Shelf) → IfSome c (λ s. first ≡ s.files) → cached_in (door_shelf (kind_of l) first (Some (pairs_below l (count_of l))) (all_told (map store.holds (all_stores kits))) 0 c) ≡ cached_in c
       go None opens = refl
       go (Some s) opens = ap (option_map (λ m. chunks m ∷ [])) opens
 
     pub door_some : IsSome door → IsSome c0
     door_some = go c0 where
-      go : (c : Option Shelf) → IsSome (door_shelf first (Some (pairs_below l (count_of l))) (all_told (map store.holds (all_stores kits))) 0 c) → IsSome c
+      go : (c : Option Shelf) → IsSome (door_shelf (kind_of l) first (Some (pairs_below l (count_of l))) (all_told (map store.holds (all_stores kits))) 0 c) → IsSome c
       go None some = some
       go (Some s) some = refl
 
-    pub door_kind : IfSome door (λ s. s.kind ≡ Sha512T256)
+    pub door_kind : IfSome door (λ s. s.kind ≡ (kind_of l))
     door_kind = go c0 where
-      go : (c : Option Shelf) → IfSome (door_shelf first (Some (pairs_below l (count_of l))) (all_told (map store.holds (all_stores kits))) 0 c) (λ s. s.kind ≡ Sha512T256)
+      go : (c : Option Shelf) → IfSome (door_shelf (kind_of l) first (Some (pairs_below l (count_of l))) (all_told (map store.holds (all_stores kits))) 0 c) (λ s. s.kind ≡ (kind_of l))
       go None = tt
       go (Some s) = refl
 
     pub door_adds : (k : ℕ) (z : Kit S V) → k < length kits → MayAddFrom store l (slice_index_or kits k z).chain.stores door
     door_adds k z less = go c0 where
-      go : (c : Option Shelf) → MayAddFrom store l (slice_index_or kits k z).chain.stores (door_shelf first (Some (pairs_below l (count_of l))) (all_told (map store.holds (all_stores kits))) 0 c)
+      go : (c : Option Shelf) → MayAddFrom store l (slice_index_or kits k z).chain.stores (door_shelf (kind_of l) first (Some (pairs_below l (count_of l))) (all_told (map store.holds (all_stores kits))) 0 c)
       go None = tt
       go (Some s) = λ q b takes. listed_adds k z less q b takes
 
     -- nobody adds another chunk where no store gives one
     pub door_size : (id : List ℕ) (size : ℕ) → ((n : ℕ) (b : List ℕ) → IsListedAs l id n → IsChunk (kind_of l) id n b → SomeHolds store.holds (all_stores kits) id b → n ≡ size) → AddsSize id size door
     door_size id size one = go c0 where
-      go : (c : Option Shelf) → AddsSize id size (door_shelf first (Some (pairs_below l (count_of l))) (all_told (map store.holds (all_stores kits))) 0 c)
+      go : (c : Option Shelf) → AddsSize id size (door_shelf (kind_of l) first (Some (pairs_below l (count_of l))) (all_told (map store.holds (all_stores kits))) 0 c)
       go None = tt
       go (Some s) = λ b may. (adds_chunk id size one b may).sized
 
     -- what the cache gives after the workers a worker may have found
-    pub door_gave : IfSome c0 (λ s. first ≡ s.files) → (c1 : Option Shelf) → IfSome c1 (λ s. s.others ≡ None) → Stocked Adds c0 c1 → GivesNoMore (given_maps door) c1
+    pub door_gave : IfSome c0 (λ s. first ≡ s.files) → (c1 : Option Shelf) → IfSome c1 (λ s. s.others ≡ None) → Stocked Adds c0 c1 → GivesNoMore (kind_of l) (given_maps door) c1
     door_gave opens c1 alone stocked = go c0 c1 opens alone stocked where
-      added : (id : List ℕ) (n : ℕ) (ms : List (Map (List ℕ))) → all_told (map store.holds (all_stores kits)) ≡ Some ms → (b : List ℕ) → Adds id b → IsChunk Sha512T256 id n b → SomeGives Sha512T256 id n ms
+      added : (id : List ℕ) (n : ℕ) (ms : List (Map (List ℕ))) → all_told (map store.holds (all_stores kits)) ≡ Some ms → (b : List ℕ) → Adds id b → IsChunk (kind_of l) id n b → SomeGives (kind_of l) id n ms
       added id n ms told b may chunk =
           let held = subst (λ o. IfSome o (Any (λ m. m id ≡ Some b))) told may.held in
           (held.0, held.1, held.2, held.3, (b, held.4, chunk))
 
       shared : (s t : Shelf) → first ≡ s.files → t.others ≡ None → Stocked Adds (Some s) (Some t) → (m : Map (List ℕ)) (ms maps : List (Map (List ℕ))) → first ≡ Some m
           → all_told (map store.holds (all_stores kits)) ≡ Some ms → maps ≡ chunks m ∷ ms → (now : List (Map (List ℕ))) × (given_maps (Some t) ≡ Some now)
-          × ((id : List ℕ) (n : ℕ) → SomeGives Sha512T256 id n now → SomeGives Sha512T256 id n maps)
+          × ((id : List ℕ) (n : ℕ) → SomeGives (kind_of l) id n now → SomeGives (kind_of l) id n maps)
       shared s t opens alone stocked m ms maps is told whole =
           let was : cached_in (Some s) ≡ Some (chunks m ∷ []) = ap (option_map (λ m. chunks m ∷ [])) (sym opens ∙ is) in
           let later = stocked_told Adds (Some s) (Some t) (chunks m ∷ []) stocked was in (
             later.0,
             alone_gives t alone ∙ later.1,
-            λ id n gives. subst (SomeGives Sha512T256 id n) (sym whole) (elim (stocked_gave Adds Sha512T256 id n (Some s) (Some t) (chunks m ∷ []) later.0 stocked was later.1 gives) [
-              | inl before ↦ gives_left Sha512T256 id n (chunks m ∷ []) ms before
-              | inr (b, may, chunk) ↦ gives_right Sha512T256 id n (chunks m ∷ []) ms (added id n ms told b may chunk)
+            λ id n gives. subst (SomeGives (kind_of l) id n) (sym whole) (elim (stocked_gave Adds (kind_of l) id n (Some s) (Some t) (chunks m ∷ []) later.0 stocked was later.1 gives) [
+              | inl before ↦ gives_left (kind_of l) id n (chunks m ∷ []) ms before
+              | inr (b, may, chunk) ↦ gives_right (kind_of l) id n (chunks m ∷ []) ms (added id n ms told b may chunk)
             ]),
           )
         where
@@ -335,8 +334,8 @@ module _ {S V : Type 0} (store : StoreWords S) (l : Listing) (kits : List (Kit S
       parts (Some m) (Some ms) maps told = (m, ms, refl, refl, sym (same_Some (chunks m ∷ ms) maps told))
 
       go : (a b : Option Shelf) → IfSome a (λ s. first ≡ s.files) → IfSome b (λ s. s.others ≡ None) → Stocked Adds a b
-          → GivesNoMore (given_maps (door_shelf first (Some (pairs_below l (count_of l))) (all_told (map store.holds (all_stores kits))) 0 a)) b
-      go None None opens alone stocked maps told = ([], refl, λ id n gives. subst (SomeGives Sha512T256 id n) (same_Some [] maps told) gives)
+          → GivesNoMore (kind_of l) (given_maps (door_shelf (kind_of l) first (Some (pairs_below l (count_of l))) (all_told (map store.holds (all_stores kits))) 0 a)) b
+      go None None opens alone stocked maps told = ([], refl, λ id n gives. subst (SomeGives (kind_of l) id n) (same_Some [] maps told) gives)
       go None (Some t) opens alone stocked maps told = absurd stocked
       go (Some s) None opens alone stocked maps told = absurd stocked
       go (Some s) (Some t) opens alone stocked maps told =

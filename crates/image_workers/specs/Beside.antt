@@ -9,7 +9,7 @@ use Rattle.assembler.specs.Stages.{Stage}
 use Rattle.assembler.specs.declared.fault.ExtractFault.{ExtractFault}
 use Rattle.cache_store.specs.Shelves.{Shelf}
 use Rattle.caibx_codec.specs.Asks.{IsListedGet}
-use Rattle.caibx_codec.specs.Listing.{count_of, image_length}
+use Rattle.caibx_codec.specs.Listing.{count_of, image_length, kind_of}
 use Rattle.chunk_sources.specs.Caches.{Stocked, TakesWants, cache_faults, given_maps}
 use Rattle.chunk_sources.specs.Sources.{KeepsSeeds, Sources, Telling, views_of}
 use Rattle.chunk_sources.specs.Wants.{Task}
@@ -64,7 +64,7 @@ module _ {S V : Type 0} (store : StoreWords S) (view : ViewWords V) (r : Run) (t
     pub told : is_some o ≡ r.tells
     pub tells : is_some w.held.bytes ≡ r.tells
     pub permits : PermitsWith view.tells r t (views_of view old.seeds) given (map store.holds old.chain.stores)
-    pub gives : GivesNoMore given cache
+    pub gives : GivesNoMore (kind_of t.listing) given cache
     pub falls : cache_faults old.cache ≤ cache_faults cache
     pub seeds : KeepsSeeds view old.seeds kit.seeds.items
     pub stores : KeepsStores store (IsListedGet t.listing) old.chain.stores kit.chain.stores

@@ -2,6 +2,7 @@
 
 ghost use Rattle.std.specs.Prelude.{◌≡◌, ◌<◌, ◌≤◌, ℕ, IsSome, length, slice_index_or, true, false};
 ghost use Rattle.assembler.specs.Stages.{task};
+ghost use Rattle.chunk_store.specs.Kinds.{kind_named};
 ghost use Rattle.image_workers.specs.Lanes.{IsReadyLane, IsSurveyedFor, LaneWorks};
 ghost use Rattle.image_workers.specs.Shared.{door_shelf};
 ghost use Rattle.image_workers.specs.declared.lanes.Lane.{Lane};
@@ -55,9 +56,10 @@ fn go<'i, W: Wait, P: Part, R: RunName, N: FolderName, S: Store, V: View, F: Fol
     requires surveyed { IsSurveyedFor R.run index.now P.tells (length locks.now) }
     requires listing { wants.now.index.now ≡ R.run.listing }
     requires ready { IsReadyLane S.Store V.View R.run (task R.run.listing wants.now)
-        (door_shelf N.opening N.pairs N.stores 0 cache.now) worker lane.old }
+        (door_shelf (kind_named N.kind) N.opening N.pairs N.stores 0 cache.now) worker lane.old }
     ensures worked { LaneWorks S.Store V.View R.run (task R.run.listing wants.now)
-        (door_shelf N.opening N.pairs N.stores 0 cache.now) P.never_fails F.never_fails worker lane.old lane.new }
+        (door_shelf (kind_named N.kind) N.opening N.pairs N.stores 0 cache.now) P.never_fails F.never_fails
+        worker lane.old lane.new }
 {
     let Some(Tools { kit, known }) = lane.tools.take() else {
         unreachable!();
@@ -100,11 +102,11 @@ pub(crate) fn go_all<
     requires listing { wants.now.index.now ≡ R.run.listing }
     requires some { 0 < length lanes.old }
     requires ready { (k : ℕ) (a : Lane S V) → k < length lanes.old → IsReadyLane S.Store V.View R.run
-        (task R.run.listing wants.now) (door_shelf N.opening N.pairs N.stores 0 cache.now) k
+        (task R.run.listing wants.now) (door_shelf (kind_named N.kind) N.opening N.pairs N.stores 0 cache.now) k
         (slice_index_or lanes.old k a) }
     ensures each { (k : ℕ) (a : Lane S V) → k < length lanes.old → LaneWorks S.Store V.View R.run
-        (task R.run.listing wants.now) (door_shelf N.opening N.pairs N.stores 0 cache.now) P.never_fails F.never_fails k
-        (slice_index_or lanes.old k a) (slice_index_or lanes.new k a) }
+        (task R.run.listing wants.now) (door_shelf (kind_named N.kind) N.opening N.pairs N.stores 0 cache.now)
+        P.never_fails F.never_fails k (slice_index_or lanes.old k a) (slice_index_or lanes.new k a) }
 {
     let count = lanes.len();
     thread::for_each_mut(
@@ -115,10 +117,10 @@ pub(crate) fn go_all<
             requires surveyed { IsSurveyedFor R.run index.now P.tells (length locks.now) }
             requires listing { wants.now.index.now ≡ R.run.listing }
             requires ready { IsReadyLane S.Store V.View R.run (task R.run.listing wants.now)
-                (door_shelf N.opening N.pairs N.stores 0 cache.now) worker lane.old }
+                (door_shelf (kind_named N.kind) N.opening N.pairs N.stores 0 cache.now) worker lane.old }
             ensures worked { LaneWorks S.Store V.View R.run (task R.run.listing wants.entry.now)
-                (door_shelf N.opening N.pairs N.stores 0 cache.entry.now) P.never_fails F.never_fails worker lane.old
-                lane.new }
+                (door_shelf (kind_named N.kind) N.opening N.pairs N.stores 0 cache.entry.now) P.never_fails
+                F.never_fails worker lane.old lane.new }
         {
             go::<W, P, R, N, S, V, F>(rt, index, wants, locks, cache, worker, lane);
         },

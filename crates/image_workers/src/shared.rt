@@ -3,6 +3,7 @@
 ghost use Rattle.std.specs.Prelude.{◌≡◌, Bool, IfSome, IsTrue, None, Option, is_some};
 ghost use Rattle.cache_store.specs.Shelves.{MayAdd, Shelf};
 ghost use Rattle.chunk_sources.specs.Caches.{Stocked, seen};
+ghost use Rattle.chunk_store.specs.Kinds.{kind_named};
 ghost use Rattle.image_workers.specs.Shared.{NamesShelf, door_shelf};
 ghost use Rattle.std.specs.Option.{option_map};
 ghost use Rattle.locked_cache.specs.Additions.{shared_shelf};
@@ -14,17 +15,18 @@ use locked_cache::door::{CacheDoor, LockedCache};
 use named_folders::named_folder::{FolderName, NamedFolder};
 use std::sync::Wait;
 
-/// The cache behind a lock, where there is one. The type of its folder names what it held.
+/// The cache behind a lock, where there is one. The type of its folder names its kind and what it held.
 pub(crate) fn lock_cache<F: Folder, N: FolderName>(
     cache: Option<CacheShelf<F>>,
 ) -> Option<LockedCache<NamedFolder<F, N>>>
-    requires named { IfSome (seen F.Look cache) (NamesShelf N.opening N.place N.faults) }
+    requires named { IfSome (seen F.Look cache) (NamesShelf (kind_named N.kind) N.opening N.place N.faults) }
     ensures there { is_some result ≡ is_some cache }
 {
     match cache {
         Some(shelf) => {
+            let kind = shelf.kind();
             let named: NamedFolder<F, N> = NamedFolder::new(shelf.into_inner());
-            Some(LockedCache::new(CacheShelf::new(named)))
+            Some(LockedCache::new(CacheShelf::with_kind(kind, named)))
         }
         None => None,
     }
@@ -35,13 +37,16 @@ pub(crate) fn unlock_cache<F: Folder, N: FolderName>(
     cache: Option<LockedCache<NamedFolder<F, N>>>,
 ) -> Option<CacheShelf<F>>
     ensures stocked { (old : Option Shelf) → is_some old ≡ is_some cache →
-        IfSome old (NamesShelf N.opening N.place N.faults) → IfSome old (λ s. is_some s.files ≡ F.tells) →
-        Stocked (MayAdd N.pairs N.stores) old (seen F.Look result) }
+        IfSome old (NamesShelf (kind_named N.kind) N.opening N.place N.faults) →
+        IfSome old (λ s. is_some s.files ≡ F.tells) →
+        Stocked (MayAdd (kind_named N.kind) N.pairs N.stores) old (seen F.Look result) }
 {
     match cache {
         Some(cache) => {
-            let folder = cache.into_inner().into_inner().into_inner();
-            Some(CacheShelf::new(folder))
+            let shelf = cache.into_inner();
+            let kind = shelf.kind();
+            let folder = shelf.into_inner().into_inner();
+            Some(CacheShelf::with_kind(kind, folder))
         }
         None => None,
     }
@@ -52,8 +57,8 @@ pub(crate) fn door_of<'a, W: Wait, F: Folder>(
     rt: &'a W,
     cache: &'a Option<LockedCache<F>>,
 ) -> Option<CacheDoor<'a, W, F>>
-    ensures fresh { option_map (λ d. shared_shelf F.opening F.pairs F.stores d.faults) result
-        ≡ door_shelf F.opening F.pairs F.stores 0 cache.now }
+    ensures fresh { option_map (λ d. shared_shelf (kind_named F.kind) F.opening F.pairs F.stores d.faults) result
+        ≡ door_shelf (kind_named F.kind) F.opening F.pairs F.stores 0 cache.now }
 {
     match cache {
         Some(cache) => Some(cache.door(rt)),

@@ -7,10 +7,11 @@ ghost use Rattle.std.specs.List.{All};
 ghost use Rattle.assembler.specs.Assemblies.{Assembles};
 ghost use Rattle.assembler.specs.OneKit.{lent};
 ghost use Rattle.assembler.specs.Stages.{task};
-ghost use Rattle.caibx_codec.specs.Listing.{count_of, image_length};
+ghost use Rattle.caibx_codec.specs.Listing.{count_of, image_length, kind_of};
 ghost use Rattle.chunk_sources.specs.Caches.{seen};
 ghost use Rattle.chunk_sources.specs.Losses.{MayLack};
 ghost use Rattle.chunk_sources.specs.declared.kit.Kit.{Kit};
+ghost use Rattle.chunk_store.specs.Kinds.{kind_named};
 ghost use Rattle.dsy_base.specs.Bytes.{Held};
 ghost use Rattle.image_workers.specs.Beside.{BegunBeside, PermitsKit};
 ghost use Rattle.image_workers.specs.Kits.{IsAssembledBy, MayFillFrom};
@@ -79,7 +80,7 @@ impl<'a, P: Part, R: RunName, S: Store, V: View> Rooms<'a, P, R, S, V> {
 }
 
 /// Both passes: all workers, each with its kit, and then the first one. The kits come back in their order. The cache is
-/// behind a lock during the first pass; `N` names what its folder held before, and what may be added.
+/// behind a lock during the first pass; `N` names its kind, what its folder held before, and what may be added.
 pub fn run_workers<
     'a,
     W: Threads + Wait + Sync,
@@ -108,16 +109,18 @@ where
     requires few { R.run.shards ≤ count_of R.run.listing }
     requires any { 0 < count_of R.run.listing → 0 < R.run.shards }
     requires unnamed { (F.pairs ≡ None) × (F.stores ≡ None) }
-    requires named { IfSome (seen F.Look cache) (NamesShelf N.opening N.place N.faults) }
+    requires named { IfSome (seen F.Look cache) (NamesShelf (kind_named N.kind) N.opening N.place N.faults) }
+    requires kind { kind_named N.kind ≡ kind_of R.run.listing }
     requires pairs { N.pairs ≡ Some (pairs_of R.run.listing) }
     requires stores { N.stores ≡ all_told (map S.holds (all_stores kits.items)) }
     requires many { 2 ≤ vec_len kits }
     requires workers { wants.now.plan.now.workers ≡ vec_len kits }
     requires ready { (k : ℕ) (q : Kit S V) → k < length kits.items → IsReadyFor S.Store V.View R.run
-        (task R.run.listing wants.now) (door_shelf N.opening N.pairs N.stores 0 (seen F.Look cache)) k
-        (slice_index_or kits.items k q) shards.fates }
+        (task R.run.listing wants.now) (door_shelf (kind_named N.kind) N.opening N.pairs N.stores 0 (seen F.Look cache))
+        k (slice_index_or kits.items k q) shards.fates }
     requires permits { (q : Kit S V) → PermitsKit S.Store V.View R.run (task R.run.listing wants.now)
-        (door_shelf N.opening N.pairs N.stores 0 (seen F.Look cache)) (slice_index_or kits.items 0 q) }
+        (door_shelf (kind_named N.kind) N.opening N.pairs N.stores 0 (seen F.Look cache))
+        (slice_index_or kits.items 0 q) }
     requires none { (rooms.locks.items ≡ []) × (rooms.lanes.items ≡ []) }
     requires locks { R.run.shards ≤ vec_capacity rooms.locks }
     requires lanes { vec_len kits ≤ vec_capacity rooms.lanes }

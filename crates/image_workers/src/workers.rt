@@ -8,6 +8,7 @@ ghost use Rattle.cache_store.specs.Shelves.{MayAdd};
 ghost use Rattle.caibx_codec.specs.Listing.{count_of};
 ghost use Rattle.chunk_sources.specs.Caches.{Stocked, seen};
 ghost use Rattle.chunk_sources.specs.declared.kit.Kit.{Kit};
+ghost use Rattle.chunk_store.specs.Kinds.{kind_named};
 ghost use Rattle.image_workers.specs.Lanes.{IsReadyLane, LaneWorks, kit_of, known_of, tools_of};
 ghost use Rattle.image_workers.specs.Shared.{NamesShelf, door_shelf};
 ghost use Rattle.image_workers.specs.declared.lanes.Lane.{Lane};
@@ -59,17 +60,17 @@ where
     requires tells { T.tells ≡ R.run.tells }
     requires few { R.run.shards ≤ count_of R.run.listing }
     requires any { 0 < count_of R.run.listing → 0 < R.run.shards }
-    requires named { IfSome (seen F.Look cache) (NamesShelf N.opening N.place N.faults) }
+    requires named { IfSome (seen F.Look cache) (NamesShelf (kind_named N.kind) N.opening N.place N.faults) }
     requires some { 0 < length lanes.old }
     requires ready { (k : ℕ) (a : Lane S V) → k < length lanes.old → IsReadyLane S.Store V.View R.run
-        (task R.run.listing wants.now) (door_shelf N.opening N.pairs N.stores 0 (seen F.Look cache)) k
-        (slice_index_or lanes.old k a) }
+        (task R.run.listing wants.now) (door_shelf (kind_named N.kind) N.opening N.pairs N.stores 0 (seen F.Look cache))
+        k (slice_index_or lanes.old k a) }
     requires none { room.items ≡ [] }
     requires room { R.run.shards ≤ vec_capacity room }
     ensures each { (k : ℕ) (a : Lane S V) → k < length lanes.old → LaneWorks S.Store V.View R.run
-        (task R.run.listing wants.now) (door_shelf N.opening N.pairs N.stores 0 (seen F.Look cache)) T.never_fails
-        F.never_fails k (slice_index_or lanes.old k a) (slice_index_or lanes.new k a) }
-    ensures stocked { Stocked (MayAdd N.pairs N.stores) (seen F.Look cache) (seen F.Look result.1) }
+        (task R.run.listing wants.now) (door_shelf (kind_named N.kind) N.opening N.pairs N.stores 0 (seen F.Look cache))
+        T.never_fails F.never_fails k (slice_index_or lanes.old k a) (slice_index_or lanes.new k a) }
+    ensures stocked { Stocked (MayAdd (kind_named N.kind) N.pairs N.stores) (seen F.Look cache) (seen F.Look result.1) }
     ensures size { result.0.held.size ≡ shards.entry.held.size }
     ensures name { result.0.held.name ≡ shards.entry.held.name }
     ensures before { result.0.faults_before ≡ shards.entry.faults_before }

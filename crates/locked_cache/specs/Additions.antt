@@ -5,7 +5,7 @@ use Rattle.cache_store.specs.declared.shelf.CacheMiss.{CacheMiss}
 use Rattle.cache_store.specs.declared.shelf.CacheMiss.TheVariants as miss
 use Rattle.chunk_store.specs.Folders.{chunks}
 use Rattle.chunk_store.specs.Gets.{GetGives}
-use Rattle.chunk_store.specs.declared.id.DigestKind.TheVariants.{Sha512T256}
+use Rattle.chunk_store.specs.declared.id.DigestKind.{DigestKind}
 use Rattle.chunk_store.specs.declared.store.GetFault.{GetFault}
 use Rattle.dsy_base.specs.Maps.{Map}
 use Rattle.store_chain.specs.Giving.{Gives}
@@ -59,15 +59,20 @@ abbrev pub KeepsGiving : (List ℕ → List ℕ → Type 0) → Option (Map (Lis
 KeepsGiving Takes opening w r = IfErr r (λ m. IfSome opening (λ first.
     Gives w (chunks first) → AddsWanted Takes w → IsUnlooked m))
 
--- a shared shelf that held these files at first, and whose own calls have failed so often
-abbrev pub shared_shelf : Option (Map (List ℕ)) → Option (List (List ℕ × ℕ)) → Option (List (Map (List ℕ))) → ℕ → Shelf
-shared_shelf opening pairs stores faults = record {
+-- a shared shelf of this kind that held these files at first, and whose own calls have failed so often
+abbrev pub shared_shelf : DigestKind → Option (Map (List ℕ)) → Option (List (List ℕ × ℕ))
+    → Option (List (Map (List ℕ))) → ℕ → Shelf
+shared_shelf kind opening pairs stores faults = record {
   files = opening;
   place = [];
   faults = faults;
-  kind = Sha512T256;
-  others = Some (record { pairs = pairs; stores = stores });
+  kind = kind;
+  others = Some (record { kind = kind; pairs = pairs; stores = stores });
 }
+
+-- what contracts see of a cache behind a lock: the kind of its shelf
+pub record LockedKind : Type 0 where
+  pub kind : DigestKind
 
 -- what contracts see of a worker's door: how often a call through it has failed
 pub record Doorway : Type 0 where

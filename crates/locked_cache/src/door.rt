@@ -2,7 +2,7 @@
 
 ghost use Rattle.std.specs.Prelude.{◌≡◌, ◌≤◌, Err, IfErr, IfOk, IfSome, IsTrue, Some, length};
 ghost use Rattle.cache_store.specs.Shelves.{MayAdd, shelf_of};
-ghost use Rattle.chunk_store.specs.declared.id.DigestKind.TheVariants as kinds;
+ghost use Rattle.chunk_store.specs.Kinds.{kind_named};
 ghost use Rattle.dsy_base.specs.Counts.{CountsFaults};
 ghost use Rattle.locked_cache.specs.Additions.{FindsStocked, KeepsGiving, ReadsStocked, StocksSince};
 ghost use Rattle.store_chain.specs.Queries.{FillsQuery, query_of};
@@ -21,7 +21,20 @@ use store_chain::query::Query;
 /// A cache that threads share. Its lock is held while a chunk's file is read or written, and no longer.
 #[derive(Drop)]
 pub struct LockedCache<F: Folder> {
+    kind: DigestKind,
     shelf: Mutex<StockedShelf<F>>,
+}
+
+impl<F: Folder> Model for LockedCache<F> {
+    ghost use Rattle.std.specs.Prelude.{◌≡◌};
+    ghost use Rattle.chunk_store.specs.Kinds.{kind_named};
+    ghost use Rattle.locked_cache.specs.Additions.{LockedKind};
+
+    ghost Value = { LockedKind };
+
+    ghost view = { λ c. record { kind = c.kind } };
+
+    ghost invariant = { λ c. c.kind ≡ kind_named F.kind };
 }
 
 /// The cache as one worker sees it, who may find what others have added. Only failed calls of its own are counted.
@@ -44,12 +57,14 @@ impl<'a, W: Wait, F: Folder> Model for CacheDoor<'a, W, F> {
 }
 
 impl<F: Folder> LockedCache<F> {
-    /// The folder of the shelf holds what its type names, where that names something.
+    /// The shelf is of the kind that its folder's type names, and the folder holds what the type names, where that
+    /// names something.
     pub fn new(shelf: CacheShelf<F>) -> LockedCache<F>
-        requires kind { shelf.kind ≡ kinds.Sha512T256 }
+        requires kind { shelf.kind ≡ kind_named F.kind }
         requires opening { IfSome F.opening (λ first. F.files shelf.folder ≡ Some first) }
     {
         LockedCache {
+            kind: shelf.kind(),
             shelf: Mutex::new(StockedShelf::new(shelf)),
         }
     }
@@ -65,15 +80,23 @@ impl<F: Folder> LockedCache<F> {
     }
 
     pub fn into_inner(self) -> CacheShelf<F>
-        ensures kind { result.kind ≡ kinds.Sha512T256 }
-        ensures stocked { StocksSince (MayAdd F.pairs F.stores) F.opening (shelf_of F.files F.place F.faults result) }
+        ensures kind { result.kind ≡ kind_named F.kind }
+        ensures stocked { StocksSince (MayAdd (kind_named F.kind) F.pairs F.stores) F.opening
+            (shelf_of F.files F.place F.faults result) }
     {
         self.shelf.into_inner().into_inner()
     }
 
+    // The kind that the folder's type names.
+    fn kind(&self) -> DigestKind
+        ensures value { result ≡ kind_named F.kind }
+    {
+        self.kind
+    }
+
     // Reads a chunk's file under the lock.
     fn read_behind<W: Wait>(&self, rt: &W, id: &ChunkId, lent: &mut [u8]) -> Result<usize, GetFault>
-        ensures bytes { ReadsStocked (MayAdd F.pairs F.stores) F.opening id.now.0 result lent.new }
+        ensures bytes { ReadsStocked (MayAdd (kind_named F.kind) F.pairs F.stores) F.opening id.now.0 result lent.new }
         ensures inside { IfOk result (λ n. n ≤ length lent.new) }
         ensures only { result ≡ Err GetFault.Failed → IsTrue F.never_fails → ⊥ }
     {
@@ -84,7 +107,7 @@ impl<F: Folder> LockedCache<F> {
 
     // Adds a chunk under the lock.
     fn add_behind<W: Wait>(&self, rt: &W, id: &ChunkId, b: &[u8]) -> Result<(), IoFault>
-        requires may { MayAdd F.pairs F.stores id.now.0 b.now }
+        requires may { MayAdd (kind_named F.kind) F.pairs F.stores id.now.0 b.now }
         ensures only { result ≡ Err IoFault.Failed → IsTrue F.never_fails → ⊥ }
     {
         let mut guard = self.shelf.lock(rt);
@@ -111,15 +134,16 @@ impl<'a, W: Wait, F: Folder> CacheDoor<'a, W, F> {
         out: &mut [u8],
     ) -> Result<usize, CacheMiss>
         requires inside { IfSome size (λ n. n ≤ length out.old) }
-        ensures ok { IfOk result (λ n. FillsQuery (query_of kinds.Sha512T256 id.now size (length out.old)) n out.new) }
-        ensures found { FindsStocked (MayAdd F.pairs F.stores) F.opening
-            (query_of kinds.Sha512T256 id.now size (length out.old)) result out.new }
-        ensures absent { KeepsGiving (MayAdd F.pairs F.stores) F.opening
-            (query_of kinds.Sha512T256 id.now size (length out.old)) result }
+        ensures ok { IfOk result
+            (λ n. FillsQuery (query_of (kind_named F.kind) id.now size (length out.old)) n out.new) }
+        ensures found { FindsStocked (MayAdd (kind_named F.kind) F.pairs F.stores) F.opening
+            (query_of (kind_named F.kind) id.now size (length out.old)) result out.new }
+        ensures absent { KeepsGiving (MayAdd (kind_named F.kind) F.pairs F.stores) F.opening
+            (query_of (kind_named F.kind) id.now size (length out.old)) result }
         ensures sure { IsTrue F.never_fails → self.new.faults ≡ 0 }
         ensures faults { CountsFaults CacheMiss.Failed CacheMiss.Memory self.old.faults self.new.faults result }
     {
-        let query = Query::of(DigestKind::Sha512T256, id, size, out.len());
+        let query = Query::of(self.cache.kind(), id, size, out.len());
         let (lent, _) = out.split_at_mut(query.lent);
         let answer = self.cache.read_behind(self.rt, id, lent);
         if let Err(GetFault::Failed) = answer {
@@ -130,7 +154,7 @@ impl<'a, W: Wait, F: Folder> CacheDoor<'a, W, F> {
 
     /// Adds the chunk of this id, in the place of what stood there. That other workers find it is only tested.
     pub fn add(&mut self, id: &ChunkId, b: &[u8]) -> Result<(), IoFault>
-        requires may { MayAdd F.pairs F.stores id.now.0 b.now }
+        requires may { MayAdd (kind_named F.kind) F.pairs F.stores id.now.0 b.now }
         ensures sure { IsTrue F.never_fails → self.new.faults ≡ 0 }
         ensures faults { CountsFaults IoFault.Failed IoFault.Memory self.old.faults self.new.faults result }
     {
@@ -144,9 +168,10 @@ impl<'a, W: Wait, F: Folder> CacheDoor<'a, W, F> {
 
 impl<'a, W: Wait, F: Folder> Cache for CacheDoor<'a, W, F> {
     ghost use Rattle.std.specs.Prelude.{◌≤◌, refl};
+    ghost use Rattle.chunk_store.specs.Kinds.{kind_named};
     ghost use Rattle.locked_cache.specs.Additions.{shared_shelf};
 
-    ghost shelf = { λ d. shared_shelf F.opening F.pairs F.stores d.faults };
+    ghost shelf = { λ d. shared_shelf (kind_named F.kind) F.opening F.pairs F.stores d.faults };
 
     ghost pairs = { F.pairs };
 

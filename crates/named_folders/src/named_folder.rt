@@ -1,5 +1,5 @@
 //! Folders whose type names the files that they began with, the name that they were taken under, how often they had
-//! failed, and what may be put into them. Sizes are in bytes.
+//! failed, which digest names their chunks, and what may be put into them. Sizes are in bytes.
 
 ghost use Rattle.std.specs.Prelude.{◌≡◌, ◌≤◌, ℕ, List, [], Option, None};
 ghost use Rattle.dsy_base.specs.Maps.{Map};
@@ -21,6 +21,9 @@ pub trait FolderName {
     /// How often a call on it had failed.
     ghost faults: { ℕ };
 
+    /// The kind of its chunks' digests, as a number.
+    ghost kind: { ℕ };
+
     /// The ids of the chunks that may be put, each with its size.
     ghost pairs: { Option (List (List ℕ × ℕ)) };
 
@@ -34,6 +37,8 @@ impl FolderName for Brand {
     ghost place = { [] };
 
     ghost faults = { 0 };
+
+    ghost kind = { 0 };
 
     ghost pairs = { None };
 
@@ -108,6 +113,8 @@ impl<F: Folder, N: FolderName> Look for NamedFolder<F, N> {
 
 impl<F: Folder, N: FolderName> Folder for NamedFolder<F, N> {
     ghost opening = { N.opening };
+
+    ghost kind = { N.kind };
 
     ghost pairs = { N.pairs };
 

@@ -1,4 +1,5 @@
 pub mod Excuses
 pub mod Fates
+pub mod Hashers
 pub mod Reports
 pub mod Zeros

@@ -2,49 +2,53 @@
 
 ghost use Rattle.std.specs.Prelude.{◌≡◌, ◌≤◌, length, replicate, IfOk};
 ghost use Rattle.chunk_store.specs.Names.{name_of};
-ghost use Rattle.chunk_store.specs.declared.id.DigestKind.TheVariants as kinds;
 
-use chunk_store::id::ChunkId;
-use sha2::{Digest, Sha512_256};
+use crate::kind_hasher::KindHasher;
+use chunk_store::id::{ChunkId, DigestKind};
 use std::alloc::AllocError;
 use std::marker::Model;
 
-/// A hasher that was fed zeros, and their number. Contracts see it as that number.
+/// A hasher that was fed zeros, its kind, and their number. Contracts see it as its kind and that number.
 #[derive(Drop)]
 pub(crate) struct FedZeros {
-    hasher: Sha512_256,
+    kind: DigestKind,
+    hasher: KindHasher,
     fed: usize,
 }
 
 impl Model for FedZeros {
-    ghost use Rattle.std.specs.Prelude.{ℕ, replicate};
-    ghost use Rattle.sha2.specs.Hashers.{Holds512_256};
+    ghost use Rattle.std.specs.Prelude.{replicate};
+    ghost use Rattle.range_survey.specs.Hashers.{HoldsBytes};
+    ghost use Rattle.range_survey.specs.Zeros.{ZerosFed};
 
-    ghost Value = { ℕ };
+    ghost Value = { ZerosFed };
 
-    ghost view = { λ f. f.fed };
+    ghost view = { λ f. record { kind = f.kind; count = f.fed } };
 
-    ghost invariant = { λ f. Holds512_256 f.hasher (replicate f.fed 0) };
+    ghost invariant = { λ f. HoldsBytes f.kind f.hasher (replicate f.fed 0) };
 }
 
 impl FedZeros {
-    /// A hasher that was fed nothing.
-    pub(crate) fn new() -> FedZeros
-        ensures fed { result ≡ 0 }
+    /// A hasher of this kind that was fed nothing.
+    pub(crate) fn new(kind: DigestKind) -> FedZeros
+        ensures kind { result.kind ≡ kind }
+        ensures fed { result.count ≡ 0 }
     {
         FedZeros {
-            hasher: Sha512_256::new(),
+            kind,
+            hasher: KindHasher::new(kind),
             fed: 0,
         }
     }
 
     // Begins anew where it was fed more.
     fn back_to(&mut self, size: usize)
-        ensures fed { self.new ≤ size }
-        ensures kept { self.old ≤ size → self.new ≡ self.old }
+        ensures kind { self.new.kind ≡ self.old.kind }
+        ensures fed { self.new.count ≤ size }
+        ensures kept { self.old.count ≤ size → self.new ≡ self.old }
     {
         if size < self.fed {
-            *self = FedZeros::new();
+            *self = FedZeros::new(self.kind);
         }
     }
 
@@ -52,11 +56,12 @@ impl FedZeros {
     fn feed_to(&mut self, zeros: &[u8], size: usize)
         requires zeros { zeros.now ≡ replicate (length zeros.now) 0 }
         requires room { size ≤ length zeros.now }
-        requires inside { self.old ≤ size }
-        ensures fed { self.new ≡ size }
+        requires inside { self.old.count ≤ size }
+        ensures kind { self.new.kind ≡ self.old.kind }
+        ensures fed { self.new.count ≡ size }
     {
         let (more, _) = zeros.split_at(size - self.fed);
-        self.hasher.update(more);
+        self.hasher.feed(self.kind, more);
         self.fed = size;
     }
 
@@ -64,11 +69,11 @@ impl FedZeros {
     pub(crate) fn name(&mut self, zeros: &[u8], size: usize) -> Result<ChunkId, AllocError>
         requires zeros { zeros.now ≡ replicate (length zeros.now) 0 }
         requires room { size ≤ length zeros.now }
-        ensures value { IfOk result (λ id. id.0 ≡ name_of kinds.Sha512T256 (replicate size 0)) }
+        ensures value { IfOk result (λ id. id.0 ≡ name_of self.old.kind (replicate size 0)) }
+        ensures kind { self.new.kind ≡ self.old.kind }
     {
         self.back_to(size);
         self.feed_to(zeros, size);
-        let hasher = self.hasher.clone()?;
-        Ok(ChunkId(hasher.finalize()))
+        self.hasher.digest(self.kind)
     }
 }

@@ -3,6 +3,7 @@
 
 pub mod fate;
 mod fed_zeros;
+mod kind_hasher;
 pub mod look;
 pub mod report;
 pub mod zeros;

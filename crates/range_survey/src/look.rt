@@ -5,7 +5,6 @@ ghost use Rattle.std.specs.Prelude.{◌≡◌, ◌+◌, ◌<◌, ◌≤◌, leng
 ghost use Rattle.std.specs.Prelude.{Ok, OnSome, true, false};
 ghost use Rattle.caibx_codec.specs.Listing.{count_of, id_of, kind_of, size_of, start_of};
 ghost use Rattle.chunk_store.specs.Names.{name_of};
-ghost use Rattle.chunk_store.specs.declared.id.DigestKind.TheVariants as kinds;
 ghost use Rattle.dsy_base.specs.Counts.{CountsRefusals};
 ghost use Rattle.range_survey.specs.Zeros.{IsTabled};
 
@@ -16,18 +15,19 @@ use chunk_store::range::name_range;
 use dsy_base::fault::Failed;
 use dsy_base::view::View;
 
-// The digest of an all-zero entry, where it begins at or past `old` and the table has its size.
+// The digest of an all-zero entry, where it begins at or past `old` and the table, of the index's kind, has its size.
 fn tabled_name(zeros: &ZeroNames, index: &Index, old: u64, i: usize) -> Option<ChunkId>
     requires listed { i < count_of index.now }
     ensures found { OnSome result (IsTabled zeros.now index.now old i) }
     ensures known { IsTabled zeros.now index.now old i → IsSome result }
-    ensures value { IfSome result (λ id. id.0 ≡ name_of kinds.Sha512T256 (replicate (size_of index.now i) 0)) }
+    ensures value { IfSome result (λ id. id.0 ≡ name_of (kind_of index.now)
+        (replicate (size_of index.now i) 0)) }
 {
     let listed = index.entry(i);
     if listed.start < old {
         return None;
     }
-    zeros.name(listed.size)
+    zeros.name(index.kind(), listed.size)
 }
 
 /// Whether the bytes from `at` on have the digest that is listed for entry i. Where that entry begins at or past `old`

@@ -1,37 +1,36 @@
 //! The names of runs of zeros, by their sizes in bytes. Offsets are bytes from 0.
 
 ghost use Rattle.std.specs.Prelude.{◌≡◌, ◌⊎◌, ℕ, ◌+◌, ◌<◌, ◌≤◌, length, replicate, IfSome, IfOk, IsSome};
-ghost use Rattle.std.specs.Prelude.{OnOk, IsTrue};
+ghost use Rattle.std.specs.Prelude.{OnOk, OnSome, IsTrue};
 ghost use Rattle.std.specs.BTreeSet.{contains, btree_set_len};
 ghost use Rattle.std.specs.Ordering.{nat_cmp};
 ghost use Rattle.caibx_codec.specs.Listing.{count_of, start_of, size_of};
 ghost use Rattle.chunk_store.specs.Names.{name_of};
-ghost use Rattle.chunk_store.specs.declared.id.DigestKind.TheVariants as kinds;
 ghost use Rattle.range_survey.specs.Zeros.{Covers, AllNamed, IsPastSize, zeros_at};
 
 use crate::fed_zeros::FedZeros;
 use caibx_codec::index::Index;
-use chunk_store::id::ChunkId;
+use chunk_store::id::{ChunkId, DigestKind};
 use std::alloc::{AllocError, Global};
 use std::collections::{BTreeMap, BTreeSet};
 use std::marker::Model;
 
-/// The names of runs of zeros, by their sizes. Contracts see it as a table of sizes and names.
+/// The digests of one kind of runs of zeros, by their sizes. Contracts see it as that kind, and a table of sizes and
+/// digests.
 #[derive(Drop)]
 pub struct ZeroNames {
+    kind: DigestKind,
     names: BTreeMap<usize, ChunkId>,
 }
 
 impl Model for ZeroNames {
-    ghost use Rattle.std.specs.Prelude.{ℕ, List};
-    ghost use Rattle.chunk_store.specs.declared.id.ChunkId.{ChunkId};
-    ghost use Rattle.range_survey.specs.Zeros.{AllNamed};
+    ghost use Rattle.range_survey.specs.Zeros.{AllNamed, ZeroTable};
 
-    ghost Value = { List (ℕ × ChunkId) };
+    ghost Value = { ZeroTable };
 
-    ghost view = { λ z. z.names.entries };
+    ghost view = { λ z. record { kind = z.kind; names = z.names.entries } };
 
-    ghost invariant = { λ z. AllNamed z.names.entries };
+    ghost invariant = { λ z. AllNamed z.kind z.names.entries };
 }
 
 // Adds the size of the entry where that begins at or past `old`.
@@ -85,7 +84,9 @@ fn add_name(
         IsSome (zeros_at names.new.entries n)) }
     ensures only { OnOk result ((n : ℕ) → IsSome (zeros_at names.new.entries n) →
         IsSome (zeros_at names.old.entries n) ⊎ (n ≡ size)) }
-    ensures named { OnOk result (AllNamed names.old.entries → AllNamed names.new.entries) }
+    ensures named { OnOk result (AllNamed fed.old.kind names.old.entries →
+        AllNamed fed.old.kind names.new.entries) }
+    ensures kind { fed.new.kind ≡ fed.old.kind }
     ensures size { OnOk result (length names.new.entries ≤ length names.old.entries + 1) }
 {
     let name = fed.name(zeros, size)?;
@@ -93,9 +94,10 @@ fn add_name(
     Ok(())
 }
 
-// The digests of as many zeros as each of the sizes says, the least first.
+// The digests of this kind of as many zeros as each of the sizes says, the least first.
 fn names_of(
     alloc: Global,
+    kind: DigestKind,
     mut sizes: BTreeSet<usize>,
     zeros: &[u8],
 ) -> Result<BTreeMap<usize, ChunkId>, AllocError>
@@ -103,10 +105,10 @@ fn names_of(
     requires room { (n : ℕ) → IsTrue (contains nat_cmp sizes n) → n ≤ length zeros.now }
     ensures known { IfOk result (λ m. (n : ℕ) → IsTrue (contains nat_cmp sizes n) → IsSome (zeros_at m.entries n)) }
     ensures only { IfOk result (λ m. (n : ℕ) → IsSome (zeros_at m.entries n) → IsTrue (contains nat_cmp sizes n)) }
-    ensures named { IfOk result (λ m. AllNamed m.entries) }
+    ensures named { IfOk result (λ m. AllNamed kind m.entries) }
     ensures size { IfOk result (λ m. length m.entries ≤ btree_set_len sizes) }
 {
-    let mut fed = FedZeros::new();
+    let mut fed = FedZeros::new(kind);
     let mut names = BTreeMap::new(alloc);
     while let Some(size) = sizes.pop_first() {
         add_name(&mut names, &mut fed, zeros, size)?;
@@ -115,8 +117,8 @@ fn names_of(
 }
 
 impl ZeroNames {
-    /// The names for the sizes of the entries that begin at or past `old`, so that each zero is hashed once. `buf` has
-    /// room for the largest entry, and is left with zeros.
+    /// The digests of the index's kind for the sizes of the entries that begin at or past `old`, so that each zero is
+    /// hashed once. `buf` has room for the largest entry, and is left with zeros.
     pub fn of(
         alloc: Global,
         index: &Index,
@@ -125,20 +127,26 @@ impl ZeroNames {
     ) -> Result<ZeroNames, AllocError>
         requires room { (i : ℕ) → i < count_of index.now → size_of index.now i ≤ length buf.old }
         ensures ok { IfOk result (λ z. Covers z index.now old) }
-        ensures only { IfOk result (λ z. (n : ℕ) → IsSome (zeros_at z n) → IsPastSize index.now old n) }
-        ensures size { IfOk result (λ z. length z ≤ count_of index.now) }
+        ensures only { IfOk result (λ z. (n : ℕ) → IsSome (zeros_at z.names n) → IsPastSize index.now old n) }
+        ensures size { IfOk result (λ z. length z.names ≤ count_of index.now) }
     {
+        let kind = index.kind();
         let sizes = sizes_past(alloc, index, old)?;
         buf.fill(0);
-        let names = names_of(alloc, sizes, buf)?;
-        Ok(ZeroNames { names })
+        let names = names_of(alloc, kind, sizes, buf)?;
+        Ok(ZeroNames { kind, names })
     }
 
-    /// The digest of this many zeros, if the table has it.
-    pub fn name(&self, size: usize) -> Option<ChunkId>
-        ensures value { result ≡ zeros_at self.now size }
-        ensures named { IfSome result (λ id. id.0 ≡ name_of kinds.Sha512T256 (replicate size 0)) }
+    /// The digest of this kind of this many zeros, if the table has it.
+    pub fn name(&self, kind: DigestKind, size: usize) -> Option<ChunkId>
+        ensures value { self.now.kind ≡ kind → result ≡ zeros_at self.now.names size }
+        ensures only { OnSome result ((self.now.kind ≡ kind) × IsSome (zeros_at self.now.names size)) }
+        ensures named { IfSome result (λ id. id.0 ≡ name_of kind (replicate size 0)) }
     {
-        self.names.get(&size).copied()
+        match (self.kind, kind) {
+            (DigestKind::Sha512T256, DigestKind::Sha512T256)
+            | (DigestKind::Sha256, DigestKind::Sha256) => self.names.get(&size).copied(),
+            _ => None,
+        }
     }
 }

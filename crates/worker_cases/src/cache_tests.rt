@@ -1,6 +1,8 @@
 //! Tests of a cache behind a lock, which several workers ask and fill.
 
 ghost use Rattle.std.specs.Prelude.{◌≡◌, ◌≤◌, IfSome, None, Some};
+ghost use Rattle.chunk_store.specs.Kinds.{kind_named};
+ghost use Rattle.chunk_store.specs.declared.id.DigestKind.TheVariants as kinds;
 
 use cache_store::shelf::{CacheMiss, CacheShelf};
 use chunk_store::id::{ChunkId, DigestKind};
@@ -39,6 +41,7 @@ fn folder_of(rt: &impl Abort, alloc: Global, held: &[u8]) -> MemFolder {
 }
 
 fn add<W: Abort + Wait, F: Folder>(rt: &W, door: &mut CacheDoor<'_, W, F>, chunk: &[u8])
+    requires kind { kind_named F.kind ≡ kinds.Sha512T256 }
     requires unnamed { (F.pairs ≡ None) × (F.stores ≡ None) }
 {
     let id = ChunkId::of(DigestKind::Sha512T256, chunk);
@@ -66,6 +69,7 @@ fn fill_half<W: Abort + Wait, F: Folder>(
     half: usize,
     pieces: &[&[u8]],
 )
+    requires kind { kind_named F.kind ≡ kinds.Sha512T256 }
     requires unnamed { (F.pairs ≡ None) × (F.stores ≡ None) }
 {
     let mut door = door;
@@ -93,6 +97,7 @@ fn filled<H: Abort + Threads + Wait + Sync, F: Folder + Send, N: FolderName + Se
     requires opening { IfSome N.opening (λ first. F.files folder ≡ Some first) }
     requires place { F.place folder ≡ N.place }
     requires faults { N.faults ≤ F.faults folder }
+    requires kind { kind_named N.kind ≡ kinds.Sha512T256 }
     requires unnamed { (N.pairs ≡ None) × (N.stores ≡ None) }
 {
     let named: NamedFolder<F, N> = NamedFolder::new(folder);

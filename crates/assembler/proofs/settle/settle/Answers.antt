@@ -96,7 +96,7 @@ settle_open-requires-clause-entries g c =
 pub settle_open-requires-clause-places : goal.settle_open-requires-clause-places
 settle_open-requires-clause-places g c =
     let at = goal.at.settle_open-requires-clause-places g c in
-    subst (λ (xs : List (Seed g.row.V.Denot)). PlacesFit (length xs) c.entry.result.size c.places-places.result.now) (sym c.deref_mut.ensures.value)
+    subst (λ (xs : List (Seed g.row.V.Denot)). PlacesFit (kind_of g.E.Ledger.run.listing) (length xs) c.entry.result.size c.places-places.result.now) (sym c.deref_mut.ensures.value)
     (fit (task g.E.Ledger.run.listing c.args.wants.now) c.args.want c.requires.ready.wants c.requires.want c.entries-entries.result.now c.entries-entries.ensures
     c.in-Some.entry (among g at.In-Some) c.id-id.result.0 (named g at.After-entry) c.entry.result.size (sized g at.After-entry)
     (length c.args.work.now.kit.seeds.items) c.places-places.result.now c.requires.ready.places c.places-places.ensures)

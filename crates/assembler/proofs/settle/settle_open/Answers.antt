@@ -36,7 +36,7 @@ module _ (kind : DigestKind) (q : Sought) (n size : ℕ) (same : n ≡ size) (P 
 pub obtain-requires-clause-takes : goal.obtain-requires-clause-takes
 obtain-requires-clause-takes g c =
     subst (λ (n : ℕ). IfShared (see g c.args.cache.now) ((b : List ℕ) → TakesChunk g.S.Store c.args.chain.now.kind c.args.opened.now.sought.id.0 n c.args.chain.now.stores
-    c.args.opened.now.sought.id.0 b → MayAdd g.C.Cache.pairs g.C.Cache.stores c.args.opened.now.sought.id.0 b)) (sym c.split_at_mut-chunk.ensures.front_len) c.requires.takes
+    c.args.opened.now.sought.id.0 b → MayAdd c.args.chain.now.kind g.C.Cache.pairs g.C.Cache.stores c.args.opened.now.sought.id.0 b)) (sym c.split_at_mut-chunk.ensures.front_len) c.requires.takes
 
 pub put-requires-clause-chunk : goal.put-requires-clause-chunk
 put-requires-clause-chunk g c = λ k less. omega (arith, (c.requires.entries k less).size_is, c.split_at_mut-chunk.ensures.front_len, c.obtain.auto.chunk)

@@ -56,6 +56,12 @@ returns-then-from_seeds-clause-exactly g c = λ alone cached maps quiet.
     (λ i among is. quiet_never (faults c.args.ledger.now) (faults c.copy.new.ledger) quiet.target (c.copy.ensures.absent c.if-copy.false i among is))
     c.asks.ensures.below refl (c.from_seeds.ensures.found c.if-from_seeds.true quiet.telling)
 
+pub from_seeds-requires : goal.from_seeds-requires
+from_seeds-requires g c = λ k d lt. let p = c.requires.places k d lt in (p.0, omega (arith, p.1, c.copy.auto.chunk))
+
+pub returns-then-from_seeds-clause-ok : goal.returns-then-from_seeds-clause-ok
+returns-then-from_seeds-clause-ok g c = λ told. c.from_seeds.ensures.ok c.if-from_seeds.true (kind_of g.E.Ledger.run.listing) (λ k d lt. (c.requires.places k d lt).2)
+
 pub returns-then-copy-clause-ok : goal.returns-then-copy-clause-ok
 returns-then-copy-clause-ok g c = λ told.
     let found = c.copy.ensures.named c.if-copy.true told in

@@ -9,5 +9,5 @@ pub loop-s-init : goal.loop-s-init
 loop-s-init c =
     let number = number_of c.args.numbers.now in
     let seeds = c.args.seeds.now in
-    subst (λ (x : List ℕ). AreFound number seeds 0 0 x c.args.found.now.places.items) (sym c.requires.wants)
-    (subst (λ (x : List SeedPlace). AreFound number seeds 0 0 [] x) (sym c.requires.places) (found_none number seeds))
+    subst (λ (x : List ℕ). AreFound c.args.kind number seeds 0 0 x c.args.found.now.places.items) (sym c.requires.wants)
+    (subst (λ (x : List SeedPlace). AreFound c.args.kind number seeds 0 0 [] x) (sym c.requires.places) (found_none c.args.kind number seeds))

@@ -2,14 +2,16 @@ use Rattle.std.proofs.Common.{◌≡◌, ◌∙◌, ℕ, List, Bool, true, Optio
 use Rattle.assembler.proofs.Others.{seen_alone}
 use Rattle.cache_store.specs.Shelves.{Shelf}
 use Rattle.chunk_sources.specs.Caches.{cache_faults, cached_in, seen}
-use Rattle.chunk_store.specs.declared.id.DigestKind.TheVariants.{Sha512T256}
+use Rattle.chunk_store.specs.Kinds.{kind_named, kind_number}
+use Rattle.chunk_store.specs.declared.id.DigestKind.{DigestKind}
+use Rattle.chunk_store.specs.declared.id.DigestKind.TheVariants as kinds
 use Rattle.image_workers.specs.Shared.{NamesShelf, all_stores, all_told, pairs_of}
 use Rattle.image_assembly.proofs.OnePlan.{same_plan}
 use Rattle.image_assembly.proofs.Picking.{picked}
 use Rattle.image_assembly.proofs.Picks.{length_resized, picked_one, picked_permits}
 use Rattle.image_assembly.proofs.Planned.{is_plan, plan_of}
 use Rattle.image_assembly.proofs.assemble.assemble.Invariants.{base_of, files_of, place_of}
-use Rattle.caibx_codec.specs.Listing.{count_of, image_length}
+use Rattle.caibx_codec.specs.Listing.{count_of, image_length, kind_of}
 use Rattle.chunk_sources.specs.Wants.{Task}
 use Rattle.dsy_base.specs.Bytes.{resized}
 use Rattle.extract_plan.specs.Deal.{Deal, shards_of}
@@ -44,9 +46,14 @@ assemble_named-requires-clause-one g c κs within = λ one.
     picked_one t (base_of (g.T.View.held c.args.target).bytes (image_length l)) plan.wants g.S.Store g.V.View g.T.View.tells c.args.kits.items (seen g.F.Look c.args.cache) (sym c.args.kits.ok.0 ∙ one)
 
 -- the cache as it is named
-named : (c : Option Shelf) → IfSome c (λ s. s.kind ≡ Sha512T256) → IfSome c (λ s. s.others ≡ None) → IfSome c (NamesShelf (files_of c) (place_of c) (cache_faults c))
-named None kind alone = tt
-named (Some s) kind alone = record { opening = refl; place = refl; faults = refl; kind = kind; others = alone }
+named : (k n : DigestKind) → n ≡ k → (c : Option Shelf) → IfSome c (λ s. s.kind ≡ k) → IfSome c (λ s. s.others ≡ None) → IfSome c (NamesShelf n (files_of c) (place_of c) (cache_faults c))
+named k n same None kind alone = tt
+named k n same (Some s) kind alone = record { opening = refl; place = refl; faults = refl; kind_is = kind ∙ sym same; others = alone }
+
+-- the number of a kind names it
+numbered : (k : DigestKind) → kind_named (kind_number k) ≡ k
+numbered kinds.Sha512T256 = refl
+numbered kinds.Sha256 = refl
 
 pub assemble_named-requires-clause-may : goal.assemble_named-requires-clause-may
 assemble_named-requires-clause-may g c κs within = λ many d is.
@@ -61,11 +68,12 @@ assemble_named-requires-clause-may g c κs within = λ many d is.
     let cache = seen g.F.Look c.args.cache in
     let pairs = Some (pairs_of l) in
     let maps = all_told (map g.S.Store.holds (all_stores kits)) in
-    subst (λ (e : Deal). Permits g.S.Store g.V.View (picked g.S.Store g.V.View g.T.View.tells t base (cached_in cache) kits) (record { listing = l; plan = e; places = x }) kits (files_of cache) (place_of cache)
+    let kind = kind_named (kind_number (kind_of l)) in
+    subst (λ (e : Deal). Permits g.S.Store g.V.View (picked g.S.Store g.V.View g.T.View.tells t base (cached_in cache) kits) (record { listing = l; plan = e; places = x }) kits kind (files_of cache) (place_of cache)
     (cache_faults cache) pairs maps cache) (same_plan l n (plan_of l n) d plan is)
     (picked_permits t base plan.wants g.S.Store g.V.View g.T.View.tells kits cache (long o (image_length l) g.T.View.tells (g.met.T.View.told c.args.target)) (omega (arith, many, c.args.kits.ok.0))
-    (files_of cache) (place_of cache) (cache_faults cache) pairs maps
-    (named cache c.requires.cache (seen_alone g.F.Look c.args.cache)) refl refl)
+    kind (numbered (kind_of l)) (files_of cache) (place_of cache) (cache_faults cache) pairs maps
+    (named (kind_of l) kind (numbered (kind_of l)) cache c.requires.cache (seen_alone g.F.Look c.args.cache)) refl refl)
 
 pub returns-clause-bytes : goal.returns-clause-bytes
 returns-clause-bytes g c = c.assemble_named.ensures.bytes

@@ -3,7 +3,8 @@ use Rattle.cache_store.specs.Shelves.{Shelf}
 use Rattle.chunk_sources.specs.Caches.{cache_faults, cached_in, seen}
 use Rattle.dsy_base.specs.Maps.{Map}
 use Rattle.image_workers.specs.Shared.{all_stores, all_told, pairs_of}
-use Rattle.caibx_codec.specs.Listing.{image_length}
+use Rattle.caibx_codec.specs.Listing.{image_length, kind_of}
+use Rattle.chunk_store.specs.Kinds.{kind_number}
 use Rattle.dsy_base.specs.Bytes.{resized}
 use Rattle.image_assembly.proofs.Picking.{picked}
 use Rattle.image_assembly.proofs.Planned.{plan_of}
@@ -35,6 +36,7 @@ ghosts-assemble_named-N-FolderName g a = record {
   opening = files_of (seen g.F.Look a.cache);
   place = place_of (seen g.F.Look a.cache);
   faults = cache_faults (seen g.F.Look a.cache);
+  kind = kind_number (kind_of a.index.now);
   pairs = Some (pairs_of a.index.now);
   stores = all_told (map g.S.Store.holds (all_stores a.kits.items));
 }

@@ -9,6 +9,7 @@ use Rattle.caibx_codec.specs.Listing.{Listing, count_of, image_length}
 use Rattle.chunk_sources.specs.Caches.{seen}
 use Rattle.chunk_sources.specs.Wants.{Task}
 use Rattle.chunk_sources.specs.declared.kit.Kit.{Kit}
+use Rattle.chunk_store.specs.Kinds.{kind_named}
 use Rattle.dsy_base.specs.Bytes.{Held, resized}
 use Rattle.dsy_base.specs.Counts.{Quiet, Rose}
 use Rattle.extract_plan.specs.Deal.{IsPlan}
@@ -40,8 +41,8 @@ run-requires-clause-permits g c κs within = λ many.
     ap (λ (m : Listing). record { listing = m; plan = p.task.plan; places = p.task.places }) e.dealt.0
     ∙ ap (λ (y : Placed). record { listing = l; plan = p.task.plan; places = y }) e.dealt.2 in
     let long = as_long p.kits kits e.chain e.seeds in
-    subst (λ (s : Task). Permits g.S.Store g.V.View g.R.RunName.run s p.kits n.opening n.place n.faults n.pairs n.stores cache) (sym task_is)
-    (permits_same g.S.Store g.V.View p.kits kits e.chain e.seeds g.R.RunName.run t n.opening n.place n.faults n.pairs n.stores cache
+    subst (λ (s : Task). Permits g.S.Store g.V.View g.R.RunName.run s p.kits (kind_named n.kind) n.opening n.place n.faults n.pairs n.stores cache) (sym task_is)
+    (permits_same g.S.Store g.V.View p.kits kits e.chain e.seeds g.R.RunName.run t (kind_named n.kind) n.opening n.place n.faults n.pairs n.stores cache
     (c.requires.may (omega (arith, many, long, c.args.kits.ok.0)) p.task.plan e.dealt.1))
 
 pub returns-in-Ok : goal.returns-in-Ok

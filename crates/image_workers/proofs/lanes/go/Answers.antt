@@ -2,6 +2,7 @@ use Rattle.std.proofs.Common.{◌≡◌, ◌∙◌, ℕ, List, Option, None, Som
 use Rattle.assembler.specs.Permits.{MayFillHad, deals_to}
 use Rattle.assembler.specs.Stages.{Ready, task}
 use Rattle.cache_store.specs.Shelves.{Shelf}
+use Rattle.chunk_store.specs.Kinds.{kind_named}
 use Rattle.image_workers.proofs.Doors.{door_calm, door_own, door_takes, seen_door}
 use Rattle.image_workers.proofs.Working.{worked}
 use Rattle.image_workers.specs.Lanes.{HasWorked, IsReadyFor, worker_stage}
@@ -14,7 +15,7 @@ use Rattle.image_workers.proofs.lanes.go.Goals as goal
 
 -- the door as it is named
 abbrev named : (g : Over) (c : In-Some g) → Option Shelf
-named g c = door_shelf g.N.FolderName.opening g.N.FolderName.pairs g.N.FolderName.stores 0 c.args.cache.now
+named g c = door_shelf (kind_named g.N.FolderName.kind) g.N.FolderName.opening g.N.FolderName.pairs g.N.FolderName.stores 0 c.args.cache.now
 
 -- the tools were there
 there : (g : Over) (c : In-Some g) → c.args.lane.now.tools ≡ Some c.in-Some.field-0
@@ -39,8 +40,8 @@ fill-requires-clause-suits g c =
     let here = (goal.at.fill-requires-clause-suits g c).In-Some in
     let n = g.N.FolderName in
     record {
-      takes = door_takes n.opening n.pairs n.stores (λ d. d.faults) g.S.Store g.R.RunName.run.listing c.in-Some.field-0.kit.chain.stores c.door_of.result c.args.cache.now c.door_of.ensures.fresh (ready g here).adds;
-      own = door_own n.opening n.pairs n.stores (λ d. d.faults) ((n.pairs ≡ None) × (n.stores ≡ None)) c.door_of.result;
+      takes = door_takes (kind_named n.kind) n.opening n.pairs n.stores (λ d. d.faults) g.S.Store g.R.RunName.run.listing c.in-Some.field-0.kit.chain.stores c.door_of.result c.args.cache.now c.door_of.ensures.fresh (ready g here).adds;
+      own = door_own (kind_named n.kind) n.opening n.pairs n.stores (λ d. d.faults) ((n.pairs ≡ None) × (n.stores ≡ None)) c.door_of.result;
     }
 
 pub fill-requires-clause-may : goal.fill-requires-clause-may
@@ -69,9 +70,9 @@ returns g c =
           (subst (λ (m : List Fate). HasWorked g.S.Store g.V.View r t e never sure c.args.worker x.kit x.known.items w.kit m c.is_err-lane.result) (sym c.into_known.ensures.fates)
           (subst (λ (m : List Fate). HasWorked g.S.Store g.V.View r t e never sure c.args.worker x.kit m w.kit w.ledger.fates c.is_err-lane.result) c.new.ensures.fates
           (subst (λ (y : Option Shelf). HasWorked g.S.Store g.V.View r t y never sure c.args.worker x.kit c.new.result.fates w.kit w.ledger.fates c.is_err-lane.result) c.door_of.ensures.fresh
-          (worked g.S.Store g.V.View r t (seen_door n.opening n.pairs n.stores (λ d. d.faults) c.door_of.result) never sure c.args.worker x.kit w.kit c.new.result.fates w.ledger.fates c.new.result.faults w.ledger.faults
-          (seen_door n.opening n.pairs n.stores (λ d. d.faults) w.cache)
+          (worked g.S.Store g.V.View r t (seen_door (kind_named n.kind) n.opening n.pairs n.stores (λ d. d.faults) c.door_of.result) never sure c.args.worker x.kit w.kit c.new.result.fates w.ledger.fates c.new.result.faults w.ledger.faults
+          (seen_door (kind_named n.kind) n.opening n.pairs n.stores (λ d. d.faults) w.cache)
           c.is_err-lane.result c.fill.result c.is_err-lane.ensures.value c.new.ensures.faults c.rules.ensures.sure
-          (door_calm n.opening n.pairs n.stores (λ d. d.faults) sure w.cache c.door_keeps.ensures.sure)
+          (door_calm (kind_named n.kind) n.opening n.pairs n.stores (λ d. d.faults) sure w.cache c.door_keeps.ensures.sure)
           c.fill.ensures.passes c.fill.ensures.memory c.fill.ensures.exactly c.fill.ensures.shared c.fill.ensures.left c.fill.ensures.others))));
     }

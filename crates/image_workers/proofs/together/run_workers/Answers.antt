@@ -6,12 +6,14 @@ use Rattle.std.specs.Vec.{with_items}
 use Rattle.assembler.specs.OneKit.{lent}
 use Rattle.assembler.specs.Stages.{task, Stage}
 use Rattle.assembler.specs.declared.fault.ExtractFault.TheVariants as faults
-use Rattle.caibx_codec.specs.Listing.{count_of}
+use Rattle.assembler.specs.declared.fault.ExtractFault.{ExtractFault}
+use Rattle.caibx_codec.specs.Listing.{count_of, kind_of}
 use Rattle.assembler.proofs.Others.{seen_alone}
 use Rattle.cache_store.specs.Shelves.{MayAdd, Shelf, Shelved}
 use Rattle.chunk_sources.proofs.Cached.{stocked_falls, stocked_kind}
 use Rattle.chunk_sources.specs.Caches.{OthersAddListed, Stocked, TakesListed, cache_faults, cached_in, given_maps, seen}
-use Rattle.chunk_store.specs.declared.id.DigestKind.TheVariants.{Sha512T256}
+use Rattle.chunk_store.specs.Kinds.{kind_named}
+use Rattle.chunk_store.specs.declared.id.DigestKind.{DigestKind}
 use Rattle.dsy_base.specs.Bytes.{Held}
 use Rattle.dsy_base.specs.Maps.{Map}
 use Rattle.image_workers.proofs.Doors.{lacks_before, lacks_between, named_kind, named_opens}
@@ -39,7 +41,7 @@ use Rattle.image_workers.proofs.together.run_workers.Goals as goal
 
 -- the door of each worker to the cache
 abbrev door_seen : (g : Over) → Option (Shelved g.row.F.Denot) → Option Shelf
-door_seen g cache = door_shelf g.N.FolderName.opening g.N.FolderName.pairs g.N.FolderName.stores 0 (seen g.F.Look cache)
+door_seen g cache = door_shelf (kind_named g.N.FolderName.kind) g.N.FolderName.opening g.N.FolderName.pairs g.N.FolderName.stores 0 (seen g.F.Look cache)
 
 lanes_are : (g : Over) (c : After-deref_mut g) → map tools_of c.deref_mut.result.now ≡ map (λ (q : Kit g.row.S.Denot g.row.V.Denot). Some (q, c.args.shards.fates)) c.args.kits.items
 lanes_are g c = ap (map tools_of) c.deref_mut.ensures.value ∙ c.lanes_of-room.ensures.lanes
@@ -156,19 +158,21 @@ between g c = seen g.F.Look c.pass_all-shards.result.1
 
 door_is : (g : Over) (c : In-Some g) → door_seen g c.args.cache ≡ door g.S.Store g.R.RunName.run.listing c.args.kits.items g.N.FolderName.opening (at_first g c)
 door_is g c =
-    ap (λ (p : Option (List (List ℕ × ℕ))). door_shelf g.N.FolderName.opening p g.N.FolderName.stores 0 (at_first g c)) c.requires.pairs
-    ∙ ap (λ (m : Option (List (Map (List ℕ)))). door_shelf g.N.FolderName.opening (Some (pairs_of g.R.RunName.run.listing)) m 0 (at_first g c)) c.requires.stores
+    ap (λ (k : DigestKind). door_shelf k g.N.FolderName.opening g.N.FolderName.pairs g.N.FolderName.stores 0 (at_first g c)) c.requires.kind
+    ∙ ap (λ (p : Option (List (List ℕ × ℕ))). door_shelf (kind_of g.R.RunName.run.listing) g.N.FolderName.opening p g.N.FolderName.stores 0 (at_first g c)) c.requires.pairs
+    ∙ ap (λ (m : Option (List (Map (List ℕ)))). door_shelf (kind_of g.R.RunName.run.listing) g.N.FolderName.opening (Some (pairs_of g.R.RunName.run.listing)) m 0 (at_first g c)) c.requires.stores
 
 added : (g : Over) (c : In-Some g) → Stocked (Adds g.S.Store g.R.RunName.run.listing c.args.kits.items) (at_first g c) (between g c)
 added g c =
-    subst (λ (p : Option (List (List ℕ × ℕ))). Stocked (MayAdd p (all_told (map g.S.Store.holds (all_stores c.args.kits.items)))) (at_first g c) (between g c)) c.requires.pairs
-    (subst (λ (m : Option (List (Map (List ℕ)))). Stocked (MayAdd g.N.FolderName.pairs m) (at_first g c) (between g c)) c.requires.stores c.pass_all-shards.ensures.stocked)
+    subst (λ (p : Option (List (List ℕ × ℕ))). Stocked (MayAdd (kind_of g.R.RunName.run.listing) p (all_told (map g.S.Store.holds (all_stores c.args.kits.items)))) (at_first g c) (between g c)) c.requires.pairs
+    (subst (λ (m : Option (List (Map (List ℕ)))). Stocked (MayAdd (kind_of g.R.RunName.run.listing) g.N.FolderName.pairs m) (at_first g c) (between g c)) c.requires.stores
+    (subst (λ (k : DigestKind). Stocked (MayAdd k g.N.FolderName.pairs g.N.FolderName.stores) (at_first g c) (between g c)) c.requires.kind c.pass_all-shards.ensures.stocked))
 
 opens : (g : Over) (c : In-Some g) → IfSome (at_first g c) (λ s. g.N.FolderName.opening ≡ s.files)
-opens g c = named_opens g.N.FolderName.opening g.N.FolderName.place g.N.FolderName.faults (at_first g c) c.requires.named
+opens g c = named_opens (kind_named g.N.FolderName.kind) g.N.FolderName.opening g.N.FolderName.place g.N.FolderName.faults (at_first g c) c.requires.named
 
-gave : (g : Over) (c : In-Some g) → GivesNoMore (given_maps (door_seen g c.args.cache)) (between g c)
-gave g c = subst (λ (e : Option Shelf). GivesNoMore (given_maps e) (between g c)) (sym (door_is g c))
+gave : (g : Over) (c : In-Some g) → GivesNoMore (kind_of g.R.RunName.run.listing) (given_maps (door_seen g c.args.cache)) (between g c)
+gave g c = subst (λ (e : Option Shelf). GivesNoMore (kind_of g.R.RunName.run.listing) (given_maps e) (between g c)) (sym (door_is g c))
     (door_gave g.S.Store g.R.RunName.run.listing c.args.kits.items g.N.FolderName.opening (at_first g c) (opens g c) (between g c) (seen_alone g.F.Look c.pass_all-shards.result.1) (added g c))
 
 -- ---- the second pass
@@ -198,8 +202,9 @@ finish-target-requires-clause-ready g c =
     ready_again g.S.Store g.V.View g.R.RunName.run c.args.wants.now.plan.now c.args.wants.now.places.now (door_seen g c.args.cache) g.T.View.never_fails g.F.Look.never_fails (slice_index_or c.args.kits.items 0 q)
     c.in-Some.kit c.args.shards.fates h.0
     (slice_index_or c.pass_all-shards.new.lanes 0 (none_there g)).lacked c.pass_all-shards.result.0 (between g here)
-    (stocked_kind (Adds g.S.Store g.R.RunName.run.listing c.args.kits.items) (at_first g here) (between g here) Sha512T256 (added g here)
-    (named_kind g.N.FolderName.opening g.N.FolderName.place g.N.FolderName.faults (at_first g here) c.requires.named))
+    (stocked_kind (Adds g.S.Store g.R.RunName.run.listing c.args.kits.items) (at_first g here) (between g here) (kind_of g.R.RunName.run.listing) (added g here)
+    (subst (λ (k : DigestKind). IfSome (at_first g here) (λ s. s.kind ≡ k)) c.requires.kind
+    (named_kind (kind_named g.N.FolderName.kind) g.N.FolderName.opening g.N.FolderName.place g.N.FolderName.faults (at_first g here) c.requires.named)))
     (c.requires.ready 0 q (some_one g here)) h.1
 
 pub finish-target-requires-clause-may : goal.finish-target-requires-clause-may
@@ -249,7 +254,7 @@ finish-target-requires-clause-lacked g c = λ is.
     let at = c.some_lacked-lacked.ensures.yes is in
     let q = first_kit g here in
     let less : at.0 < length c.args.kits.items = omega (arith, at.1, ap (λ (zs : List (Lane g.row.S.Denot g.row.V.Denot)). length zs) (lanes_seen g before), c.pass_all-shards.ensures.lanes, many g early) in
-    lacks_between g.S.Store (Adds g.S.Store g.R.RunName.run.listing c.args.kits.items) g.N.FolderName.opening g.N.FolderName.pairs g.N.FolderName.stores (at_first g here) (between g here) (added g here)
+    lacks_between g.S.Store (Adds g.S.Store g.R.RunName.run.listing c.args.kits.items) (kind_named g.N.FolderName.kind) g.N.FolderName.opening g.N.FolderName.pairs g.N.FolderName.stores (at_first g here) (between g here) (added g here)
     ((went g here at.0 q q less).1.memory (subst (λ (zs : List (Lane g.row.S.Denot g.row.V.Denot)). (slice_index_or zs at.0 (none_there g)).lacked ≡ true) (lanes_seen g before) (at.2 (none_there g))))
 
 -- ---- the kits in the end
@@ -355,7 +360,7 @@ returns-clause-kits g c = λ old f begun fill.
       | inl one ↦ absurd (omega (arith, one, many_there g here))
       | inr none ↦ none
     ] in
-    let no_door : c0 ≡ None → e0 ≡ None = λ none. ap (λ (x : Option Shelf). door_shelf g.N.FolderName.opening g.N.FolderName.pairs g.N.FolderName.stores 0 x) none in
+    let no_door : c0 ≡ None → e0 ≡ None = λ none. ap (λ (x : Option Shelf). door_shelf (kind_named g.N.FolderName.kind) g.N.FolderName.opening g.N.FolderName.pairs g.N.FolderName.stores 0 x) none in
     let told_door : cached_in e0 ≡ cached_in c0 = ap cached_in (door_is g here) ∙ door_told g.S.Store l kits g.N.FolderName.opening c0 (opens g here) in
     let fresh_door : cache_faults e0 ≡ 0 = ap cache_faults (door_is g here) ∙ door_fresh g.S.Store l kits g.N.FolderName.opening c0 in
     let door_there : IsSome e0 → IsSome c0 = λ some. door_some g.S.Store l kits g.N.FolderName.opening c0 (subst (λ (y : Option Shelf). IsSome y) (door_is g here) some) in

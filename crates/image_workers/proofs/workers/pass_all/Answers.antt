@@ -2,6 +2,7 @@ use Rattle.std.proofs.Common.{◌≡◌, ◌∙◌, Bool, IfSome, Option, None, 
 use Rattle.assembler.specs.Stages.{task}
 use Rattle.cache_store.specs.Shelves.{Shelf, Shelved}
 use Rattle.chunk_sources.specs.Caches.{seen}
+use Rattle.chunk_store.specs.Kinds.{kind_named}
 use Rattle.dsy_base.specs.declared.look.Look.{Ghosts as LookWords}
 use Rattle.image_workers.proofs.Doors.{same_door}
 use Rattle.image_workers.specs.Lanes.{LaneWorks}
@@ -22,8 +23,8 @@ returns-clause-each g c = λ k a less.
     let t = task g.R.RunName.run.listing c.args.wants.now in
     let cache = seen g.F.Look c.args.cache in
     subst (λ (e : Option Shelf). LaneWorks g.S.Store g.V.View g.R.RunName.run t e g.T.View.never_fails g.F.Look.never_fails k (slice_index_or c.args.lanes.now k a) (slice_index_or c.go_all.new.lanes k a))
-    (same_door n.opening n.pairs n.stores c.lock_cache-cache.result cache (c.lock_cache-cache.ensures.there ∙ sym (seen_some g.F.Look c.args.cache)))
-    (subst (λ (never : Bool). LaneWorks g.S.Store g.V.View g.R.RunName.run t (door_shelf n.opening n.pairs n.stores 0 c.lock_cache-cache.result) never g.F.Look.never_fails k (slice_index_or c.args.lanes.now k a)
+    (same_door (kind_named n.kind) n.opening n.pairs n.stores c.lock_cache-cache.result cache (c.lock_cache-cache.ensures.there ∙ sym (seen_some g.F.Look c.args.cache)))
+    (subst (λ (never : Bool). LaneWorks g.S.Store g.V.View g.R.RunName.run t (door_shelf (kind_named n.kind) n.opening n.pairs n.stores 0 c.lock_cache-cache.result) never g.F.Look.never_fails k (slice_index_or c.args.lanes.now k a)
     (slice_index_or c.go_all.new.lanes k a))
     g.met.T.Target.parts_fail (c.go_all.ensures.each k a less))
 

@@ -7,6 +7,7 @@ ghosts-serve_named g a = record {
   opening = g.F.Look.files a.folder;
   place = g.F.Look.place a.folder;
   faults = g.F.Look.faults a.folder;
+  kind = 0;
   pairs = None;
   stores = None;
 }

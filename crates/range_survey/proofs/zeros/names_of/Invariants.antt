@@ -1,4 +1,4 @@
-use Rattle.std.proofs.Common.{◌⊎◌, ℕ, ◌+◌, ◌≤◌, length, IsTrue, IsSome}
+use Rattle.std.proofs.Common.{◌≡◌, ◌⊎◌, ℕ, ◌+◌, ◌≤◌, length, IsTrue, IsSome}
 use Rattle.std.specs.BTreeSet.{contains, btree_set_len}
 use Rattle.std.specs.Ordering.{nat_cmp}
 use Rattle.range_survey.specs.Zeros.{AllNamed, zeros_at}
@@ -10,7 +10,8 @@ invariant-loop-size l = record {
   listed : (n : ℕ) → IsTrue (contains nat_cmp l.sizes n) → IsTrue (contains nat_cmp l.fn.sizes n);
   only : (n : ℕ) → IsSome (zeros_at l.names.entries n) → IsTrue (contains nat_cmp l.fn.sizes n);
   room : (n : ℕ) → IsTrue (contains nat_cmp l.sizes n) → n ≤ length l.zeros;
-  named : AllNamed l.names.entries;
+  named : AllNamed l.fn.kind l.names.entries;
+  kind : l.fed.kind ≡ l.fn.kind;
   size : length l.names.entries + btree_set_len l.sizes ≤ btree_set_len l.fn.sizes;
 }
 

@@ -10,11 +10,12 @@ use Rattle.chunk_sources.specs.Caches.{seen}
 use Rattle.chunk_sources.specs.Sources.{sources}
 use Rattle.chunk_sources.specs.Wants.{Task}
 use Rattle.chunk_sources.specs.declared.kit.Kit.{Kit}
+use Rattle.chunk_store.specs.Kinds.{kind_named}
 use Rattle.dsy_base.specs.Bytes.{Held, resized}
 use Rattle.dsy_base.specs.Counts.{Quiet}
 use Rattle.image_assembly.proofs.Lending.{by_one, kept_sure}
 use Rattle.image_assembly.proofs.OnePlan.{last_alone, none_left, of_only}
-use Rattle.image_assembly.proofs.Readying.{begun_beside, fills_from, pairs_so, permits_at, ready_for, ready_kit}
+use Rattle.image_assembly.proofs.Readying.{digest_so, begun_beside, fills_from, pairs_so, permits_at, ready_for, ready_kit}
 use Rattle.image_workers.specs.Beside.{BegunBeside}
 use Rattle.image_workers.specs.Kits.{IsAssembledBy}
 use Rattle.image_assembly.specs.Readied.{AreRoomsFor, OfTarget, OfTargetWith, Permits, Readied, readied}
@@ -164,19 +165,25 @@ abbrev prepared : (g : Over) (c : In-Some g) → All g
 prepared g c = readied (record { listing = c.self.inside.index.now; plan = c.self.inside.plan; places = c.self.inside.places.now }) c.self.inside.shards c.self.inside.kits.items
 
 -- what the run permits with this cache
-permitted : (g : Over) (c : In-Some g) → Permits g.S.Store g.V.View g.R.RunName.run (prepared g c).task c.self.inside.kits.items g.N.FolderName.opening g.N.FolderName.place g.N.FolderName.faults g.N.FolderName.pairs
+permitted : (g : Over) (c : In-Some g) → Permits g.S.Store g.V.View g.R.RunName.run (prepared g c).task c.self.inside.kits.items (kind_named g.N.FolderName.kind) g.N.FolderName.opening g.N.FolderName.place g.N.FolderName.faults g.N.FolderName.pairs
     g.N.FolderName.stores (seen g.F.Look c.args.cache)
-permitted g c = subst (λ (x : All g). 2 ≤ length x.kits → Permits g.S.Store g.V.View g.R.RunName.run x.task x.kits g.N.FolderName.opening g.N.FolderName.place g.N.FolderName.faults g.N.FolderName.pairs g.N.FolderName.stores
+permitted g c = subst (λ (x : All g). 2 ≤ length x.kits → Permits g.S.Store g.V.View g.R.RunName.run x.task x.kits (kind_named g.N.FolderName.kind) g.N.FolderName.opening g.N.FolderName.place g.N.FolderName.faults g.N.FolderName.pairs g.N.FolderName.stores
     (seen g.F.Look c.args.cache)) (sym c.self.view_is) c.requires.permits (many g c)
 
 pub run_workers-requires-clause-named : goal.run_workers-requires-clause-named
 run_workers-requires-clause-named g c κs within = (permitted g (goal.at.run_workers-requires-clause-named g c).In-Some).shelf
 
+pub run_workers-requires-clause-kind : goal.run_workers-requires-clause-kind
+run_workers-requires-clause-kind g c κs within =
+    let here = (goal.at.run_workers-requires-clause-kind g c).In-Some in
+    let n = g.N.FolderName in
+    digest_so g.S.Store g.V.View g.R.RunName.run g.T.View.tells c.self.inside.tried.items (prepared g here) c.self.invariant.0 (kind_named n.kind) n.opening n.place n.faults n.pairs n.stores (seen g.F.Look c.args.cache) (permitted g here)
+
 pub run_workers-requires-clause-pairs : goal.run_workers-requires-clause-pairs
 run_workers-requires-clause-pairs g c κs within =
     let here = (goal.at.run_workers-requires-clause-pairs g c).In-Some in
     let n = g.N.FolderName in
-    pairs_so g.S.Store g.V.View g.R.RunName.run g.T.View.tells c.self.inside.tried.items (prepared g here) c.self.invariant.0 n.opening n.place n.faults n.pairs n.stores (seen g.F.Look c.args.cache) (permitted g here)
+    pairs_so g.S.Store g.V.View g.R.RunName.run g.T.View.tells c.self.inside.tried.items (prepared g here) c.self.invariant.0 (kind_named n.kind) n.opening n.place n.faults n.pairs n.stores (seen g.F.Look c.args.cache) (permitted g here)
 
 pub run_workers-requires-clause-stores : goal.run_workers-requires-clause-stores
 run_workers-requires-clause-stores g c κs within = (permitted g (goal.at.run_workers-requires-clause-stores g c).In-Some).stores
@@ -194,13 +201,13 @@ pub run_workers-requires-clause-ready : goal.run_workers-requires-clause-ready
 run_workers-requires-clause-ready g c κs within =
     let here = (goal.at.run_workers-requires-clause-ready g c).In-Some in
     let n = g.N.FolderName in
-    ready_for g.S.Store g.V.View g.R.RunName.run g.T.View.tells c.self.inside.tried.items (prepared g here) c.self.invariant.0 n.opening n.place n.faults n.pairs n.stores (seen g.F.Look c.args.cache) (permitted g here)
+    ready_for g.S.Store g.V.View g.R.RunName.run g.T.View.tells c.self.inside.tried.items (prepared g here) c.self.invariant.0 (kind_named n.kind) n.opening n.place n.faults n.pairs n.stores (seen g.F.Look c.args.cache) (permitted g here)
 
 pub run_workers-requires-clause-permits : goal.run_workers-requires-clause-permits
 run_workers-requires-clause-permits g c κs within = λ q.
     let here = (goal.at.run_workers-requires-clause-permits g c).In-Some in
     let n = g.N.FolderName in
-    permits_at g.S.Store g.V.View g.R.RunName.run g.T.View.tells c.self.inside.tried.items (prepared g here) c.self.invariant.0 n.opening n.place n.faults n.pairs n.stores (seen g.F.Look c.args.cache) (permitted g here) 0 q
+    permits_at g.S.Store g.V.View g.R.RunName.run g.T.View.tells c.self.inside.tried.items (prepared g here) c.self.invariant.0 (kind_named n.kind) n.opening n.place n.faults n.pairs n.stores (seen g.F.Look c.args.cache) (permitted g here) 0 q
     c.self.invariant.0.some
 
 pub run_workers-requires-clause-none : goal.run_workers-requires-clause-none
