@@ -4,12 +4,12 @@
 and four workers beside one.
 
 The image is of random bytes, cut every 64 KiB; the output is absent before each run. Needs four times the image's size
-under the temporary folder.
+under the temporary folder, and once more for each cache that is filled: six a round.
 """
 
 import contextlib
 import os
-import shutil
+import tempfile
 
 # First, since tests/, which side_by_side looks into, has a module of this name.
 import workers
@@ -18,10 +18,16 @@ import side_by_side
 import sliced
 
 
+# The wanted ratios of a filled cache to one worker, from a folder and from nginx: with two, and with four.
+FROM_FOLDER, FROM_NGINX = (0.75, 0.55), (0.75, 0.5)
+
+
 def emptied(path):
-    """Returns a function that leaves an empty folder there."""
+    """Returns a function that moves the folder aside and makes an empty one in its place. Nothing is removed before all
+    is done: files may be created far slower right after others were removed."""
     def empty():
-        shutil.rmtree(path, ignore_errors=True)
+        if os.path.isdir(path):
+            os.rename(path, tempfile.mkdtemp(dir=os.path.dirname(path)))
         os.mkdir(path)
     return empty
 
@@ -30,7 +36,7 @@ def cache_jobs(folder, serving):
     """A job for each place that the chunks come from."""
     listed = ['-c', 'near', 'image.caibx']
     anew = emptied(os.path.join(folder, 'near'))
-    jobs = [workers.job('cache from a folder', ['-s', 'last', *listed], anew, (None, None), ['cache'])]
+    jobs = [workers.job('cache from a folder', ['-s', 'last', *listed], anew, FROM_FOLDER, ['cache'])]
     if servers.nginx_program() is None:
         print('nginx isn\'t installed, so it isn\'t measured')
         return jobs
@@ -38,7 +44,7 @@ def cache_jobs(folder, serving):
     os.chmod(folder, 0o755)
     port = serving.enter_context(servers.nginx(folder, os.path.join(folder, 'nginx'), workers=4))
     url = f'http://localhost:{port}/last'
-    return [*jobs, workers.job('cache from nginx', ['-s', url, *listed], anew, (None, None), ['cache'])]
+    return [*jobs, workers.job('cache from nginx', ['-s', url, *listed], anew, FROM_NGINX, ['cache'])]
 
 
 def main():
