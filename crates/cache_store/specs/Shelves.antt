@@ -57,10 +57,10 @@ IsPair id size pairs = Any (λ (p : List ℕ × ℕ). (p.0 ≡ id) × (p.1 ≡ s
 -- the bytes may be added under the id: it is their digest of this kind, it is listed with their size, and one of the
 -- stores holds them under it. The last two only where the type of the folder names pairs and stores
 pub record MayAdd (kind : DigestKind) (pairs : Option (List (List ℕ × ℕ))) (stores : Option (List (Map (List ℕ))))
-  (id b : List ℕ) : Type 0 where
-    pub named : name_of kind b ≡ id
-    pub listed : IfSome pairs (IsPair id (length b))
-    pub held : IfSome stores (Any (λ m. m id ≡ Some b))
+    (id b : List ℕ) : Type 0 where
+  pub named : name_of kind b ≡ id
+  pub listed : IfSome pairs (IsPair id (length b))
+  pub held : IfSome stores (Any (λ m. m id ≡ Some b))
 
 -- all that may be added under the wanted id is what is wanted
 abbrev pub AddsWanted : (List ℕ → List ℕ → Type 0) → Query → Type 0

@@ -316,7 +316,6 @@ IsSparedOnDisk sure workers d e before cache out l x p w =
     ⊎ (IsSomeAnd cache (λ c. CacheSpares d e c l (want_id l p w) (size_of l (first_of p w)))
     × AllKnow workers sure.cache))
 
-
 -- each worker asks each server for the chunk of an id at most once for each want of that id that it is dealt and that
 -- isn't spared, and the first worker once more for each want of that id that isn't spared; and each sends nothing but
 -- fronts of requests for chunks that the index lists. All workers know of a fault of OUT, or of the cache, where there
