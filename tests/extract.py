@@ -132,7 +132,6 @@ def bad_indexes(cases):
         'a random file': (random.Random(1).randbytes(5000), 'no index head'),
         'a byte after the tail': (ABC_INDEX + b'\0', 'bytes after the tail'),
         'a second index after the tail': (ABC_INDEX + ABC_INDEX, 'bytes after the tail'),
-        'flags without the digest': (items((3, abc), flags=1 << 63), 'digest flag missing in flags 8000000000000000'),
         'a greatest size over the limit': (items((3, abc), sizes=(1, 1, most + 1)),
                                            'greatest size 67108865 is over the limit'),
         'an entry over the greatest size': (items((3, abc), sizes=(1, 1, 2)), 'entry 0 has 3 bytes'),

@@ -25,6 +25,7 @@ TABLE_TYPE = 0xE75B9E112F17417D
 TAIL_MARKER = 0x4B4F050E5549ECD1
 SHA512_256_FLAG = 0x2000000000000000
 WRITTEN_FLAGS = 0xA000000000000000
+SHA256_FLAGS = 0x8000000000000000
 TABLE_START = 64
 ITEM_SIZE = 40
 ITEM_LIMIT = 1 << 22
@@ -59,6 +60,16 @@ name_of = _find_digest()
 """The 32 bytes of SHA-512/256 of a byte string."""
 
 
+def sha256_of(data):
+    """The 32 bytes of SHA-256 of a byte string."""
+    return hashlib.sha256(data).digest()
+
+
+def namer(flags):
+    """What names the chunks of an index with these flags."""
+    return name_of if flags & SHA512_256_FLAG else sha256_of
+
+
 # Index files
 
 class Index:
@@ -84,13 +95,13 @@ class Index:
 
     def add(self, piece):
         """Lists one more chunk. Answers its name."""
-        name = name_of(piece)
+        name = namer(self.flags)(piece)
         self.entries.append((self.length() + len(piece), name))
         return name
 
 
 FAULT_TEXTS = {
-    'Truncated': 'truncated at byte {}', 'Head': 'no index head', 'Digest': 'digest flag missing in flags {:016x}',
+    'Truncated': 'truncated at byte {}', 'Head': 'no index head',
     'MaxSize': 'greatest size {} is over the limit', 'Table': 'no table head', 'Order': 'entry {} ends out of order',
     'TooLarge': 'entry {} has {} bytes', 'Items': 'too many entries', 'Tail': 'bad table tail',
     'Trailing': 'bytes after the tail',
@@ -166,8 +177,6 @@ def read_index(data):
     if fields.word() != INDEX_TYPE:
         raise BadIndex('Head')
     flags = fields.word()
-    if not flags & SHA512_256_FLAG:
-        raise BadIndex('Digest', flags)
     least, average, greatest = fields.word(), fields.word(), fields.word()
     if greatest > SIZE_LIMIT:
         raise BadIndex('MaxSize', greatest)
@@ -307,19 +316,19 @@ def cut_points(data, sizes=DEFAULT_SIZES):
     return ends
 
 
-def index_of(data, sizes=DEFAULT_SIZES):
+def index_of(data, sizes=DEFAULT_SIZES, flags=WRITTEN_FLAGS):
     """The index of an image, cut by its bytes."""
     start = 0
-    index = Index([], sizes=sizes)
+    index = Index([], flags, sizes)
     for end in cut_points(data, sizes):
         index.add(data[start:end])
         start = end
     return index
 
 
-def index_of_pieces(pieces):
+def index_of_pieces(pieces, flags=WRITTEN_FLAGS):
     """The index of the image that these pieces are in a row, a chunk each."""
-    index = Index([])
+    index = Index([], flags)
     for piece in pieces:
         index.add(piece)
     return index
@@ -351,7 +360,7 @@ def write_chunks(store, index, data):
         write_chunk(store, name, data[start:end])
 
 
-def answer_of(store, name, size):
+def answer_of(store, name, size, name_of=name_of):
     """What a store says of a chunk: its bytes, or 'missing', 'damaged' or 'failed'."""
     try:
         with open(chunk_path(store, name), 'rb') as file:
@@ -363,9 +372,9 @@ def answer_of(store, name, size):
     return data if len(data) == size and name_of(data) == name else 'damaged'
 
 
-def obtained(stores, name, size):
+def obtained(stores, name, size, name_of=name_of):
     """The chunk from the first store that gives it; or why none does, and the store that is named."""
-    answers = [answer_of(store, name, size) for store in stores]
+    answers = [answer_of(store, name, size, name_of) for store in stores]
     for answer in answers:
         if isinstance(answer, bytes):
             return answer
@@ -393,14 +402,15 @@ def extracted(index_bytes, index_name, stores, old):
         index = read_index(index_bytes)
     except BadIndex as bad:
         return bad.text(index_name), old
+    named = namer(index.flags)
     base = bytes(resized(old or b'', index.length()))
     entries = list(index.slices())
-    right = {(name, end - start): base[start:end] for start, end, name in entries if name_of(base[start:end]) == name}
+    right = {(name, end - start): base[start:end] for start, end, name in entries if named(base[start:end]) == name}
     out, text = bytearray(base), ''
     for entry, (start, end, name) in enumerate(entries):
         chunk = right.get((name, end - start))
         if chunk is None:
-            chunk = obtained(stores, name, end - start)
+            chunk = obtained(stores, name, end - start, named)
         if isinstance(chunk, bytes):
             out[start:end] = chunk
         else:
@@ -453,7 +463,7 @@ def checked(index, image):
     if len(image) != index.length():
         return f'the file has {len(image)} bytes'
     for entry, (start, end, name) in enumerate(index.slices()):
-        got = name_of(image[start:end])
+        got = namer(index.flags)(image[start:end])
         if got != name:
             return f'entry {entry} has the name {got.hex()}'
     return ''

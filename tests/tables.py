@@ -18,8 +18,7 @@ from replies import ABC, FAILED, LONGER, MISSING, PATH, replies_to, reply_given
 
 FOLDER = os.path.join(program.TOP, 'crates', 'format_cases')
 # The numbers that the faults of an index carry.
-NUMBERS = {'Truncated': ['at'], 'Digest': ['flags'], 'MaxSize': ['max'], 'Order': ['entry'],
-           'TooLarge': ['entry', 'size']}
+NUMBERS = {'Truncated': ['at'], 'MaxSize': ['max'], 'Order': ['entry'], 'TooLarge': ['entry', 'size']}
 # Why the reply of a case is refused.
 WHY = {
     'no reply': 'Wire(CutShort)',

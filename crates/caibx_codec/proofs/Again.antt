@@ -1,5 +1,5 @@
 -- What is spelled so is read: the bytes of an index file are read without a fault, to the end.
-use Rattle.std.proofs.Common.{◌≡◌, ℕ, ◌+◌, ◌-◌, ◌*◌, ◌^◌, ◌<◌, ◌≤◌, true, false, cond, eqb, nat_lt, nat_le, bit_and, List, [], ◌∷◌, ◌++◌, length, Ok, Err, refl, sym, ap, ◌∙◌, arith, append_assoc, lit<}
+use Rattle.std.proofs.Common.{◌≡◌, ℕ, ◌+◌, ◌-◌, ◌*◌, ◌^◌, ◌<◌, ◌≤◌, true, false, cond, eqb, nat_lt, nat_le, List, [], ◌∷◌, ◌++◌, length, Ok, Err, refl, sym, ap, ◌∙◌, arith, append_assoc, lit<}
 use Rattle.std.specs.Int.{w64, from_le_bytes}
 use Rattle.std.specs.List.{AllByRecursion}
 use Rattle.std.proofs.lemmas.Bool.Decides.{nat_tests}
@@ -107,12 +107,6 @@ head f flags min avg max = record { next = f; flags = flags; min = min; avg = av
 abbrev tail : Field → Listing → ℕ → ℕ → Fields
 tail f l offset size = record { next = f; flags = l.flags; min = l.least; avg = l.average; max = l.greatest; end = last_end 0 l.entries; offset = offset; size = size }
 
-flags_right : (w : ℕ) → 0 < bit_and w 0x2000000000000000 → word_at field.Flags (head field.Flags 0x2000000000000000 0 0 0) 0 w ≡ Ok (head field.Min w 0 0 0)
-unfolding word_at
-flags_right w set =
-    let test : nat_le (bit_and w 0x2000000000000000) 0 ≡ false = grind (arith, nat_tests) in
-    rw test refl
-
 max_right : (flags min avg w : ℕ) → w ≤ 67108864 → word_at field.Max (head field.Max flags min avg 0) 0 w ≡ Ok (head field.TableSize flags min avg w)
 unfolding word_at
 max_right flags min avg w small =
@@ -122,10 +116,9 @@ max_right flags min avg w small =
 reads_front : (l : Listing) → IsValid l → (rest : List ℕ) → reads_index index_start (words (front_words l) ++ rest) ≡ reads_index (at (head field.End l.flags l.least l.average l.greatest) []) rest
 unfolding index_start word_at
 reads_front l valid rest =
-    let dig : ℕ = 0x2000000000000000 in
-    reads_word (head field.HeadSize dig 0 0 0) (head field.HeadType dig 0 0 0) [] 48 _ refl (lit< tt) refl
-    ∙ reads_word (head field.HeadType dig 0 0 0) (head field.Flags dig 0 0 0) [] 0x96824d9c7b129ff9 _ refl (lit< tt) refl
-    ∙ reads_word (head field.Flags dig 0 0 0) (head field.Min l.flags 0 0 0) [] l.flags _ refl valid.flags (flags_right l.flags valid.digest)
+    reads_word (head field.HeadSize 0 0 0 0) (head field.HeadType 0 0 0 0) [] 48 _ refl (lit< tt) refl
+    ∙ reads_word (head field.HeadType 0 0 0 0) (head field.Flags 0 0 0 0) [] 0x96824d9c7b129ff9 _ refl (lit< tt) refl
+    ∙ reads_word (head field.Flags 0 0 0 0) (head field.Min l.flags 0 0 0) [] l.flags _ refl valid.flags refl
     ∙ reads_word (head field.Min l.flags 0 0 0) (head field.Avg l.flags l.least 0 0) [] l.least _ refl valid.least refl
     ∙ reads_word (head field.Avg l.flags l.least 0 0) (head field.Max l.flags l.least l.average 0) [] l.average _ refl valid.average refl
     ∙ reads_word (head field.Max l.flags l.least l.average 0) (head field.TableSize l.flags l.least l.average l.greatest) [] l.greatest _ refl (omega (arith, valid.size)) (max_right l.flags l.least l.average l.greatest valid.size)

@@ -1,5 +1,5 @@
 -- Reading on finds no bytes cut short: only the end does.
-use Rattle.std.proofs.Common.{◌≡◌, ℕ, ◌+◌, ◌-◌, Bool, true, false, cond, eqb, nat_lt, nat_le, bit_and, List, [], ◌∷◌, ◌++◌, length, Result, Ok, Err, Some, refl, sym, ap, subst, ◌∙◌}
+use Rattle.std.proofs.Common.{◌≡◌, ℕ, ◌+◌, ◌-◌, Bool, true, false, cond, eqb, nat_lt, nat_le, List, [], ◌∷◌, ◌++◌, length, Result, Ok, Err, Some, refl, sym, ap, subst, ◌∙◌}
 use Rattle.caibx_fields.specs.declared.fault.IndexFault.{IndexFault}
 use Rattle.caibx_fields.specs.declared.fault.IndexFault.TheVariants as faults
 use Rattle.caibx_fields.specs.declared.field.Field.{Field}
@@ -44,7 +44,7 @@ word_not_cut : (f : Field) (s : Fields) (k w : ℕ) (g : IndexFault) → word_at
 unfolding word_at
 word_not_cut field.HeadSize s k w g h = wanted_err (eqb w 48) _ faults.Head g refl h
 word_not_cut field.HeadType s k w g h = wanted_err (eqb w 0x96824d9c7b129ff9) _ faults.Head g refl h
-word_not_cut field.Flags s k w g h = guard_err (nat_le (bit_and w 0x2000000000000000) 0) (faults.Digest w) g _ refl (λ ok. absurd (cc)) h
+word_not_cut field.Flags s k w g h = absurd (cc)
 word_not_cut field.Min s k w g h = absurd (cc)
 word_not_cut field.Avg s k w g h = absurd (cc)
 word_not_cut field.Max s k w g h = guard_err (nat_lt 67108864 w) (faults.MaxSize w) g _ refl (λ ok. absurd (cc)) h

@@ -1,5 +1,5 @@
 -- What is known after one field more: the bytes that were read, and that they are valid.
-use Rattle.std.proofs.Common.{◌≡◌, ℕ, ◌+◌, ◌-◌, ◌^◌, ◌<◌, ◌≤◌, Bool, true, false, cond, eqb, nat_lt, nat_le, bit_and, List, [], ◌∷◌, ◌++◌, length, Result, Ok, Err, refl, sym, ap, subst, ◌∙◌, arith, append_assoc, get_or}
+use Rattle.std.proofs.Common.{◌≡◌, ℕ, ◌+◌, ◌-◌, ◌^◌, ◌<◌, ◌≤◌, Bool, true, false, cond, eqb, nat_lt, nat_le, List, [], ◌∷◌, ◌++◌, length, Result, Ok, Err, refl, sym, ap, subst, ◌∙◌, arith, append_assoc, get_or}
 use Rattle.std.specs.Int.{w64, from_le_bytes}
 use Rattle.std.specs.List.{AllByRecursion, flat_map}
 use Rattle.std.proofs.lemmas.Bool.{eqb-true}
@@ -71,9 +71,6 @@ moved f g s es sound fits = record { valid = sound.valid; end = fits; offset = s
 no_chunks : (g : ℕ) (es : List (ℕ × List ℕ)) → es ≡ [] → AreChunks g 0 es
 no_chunks g es h = subst (λ x. AreChunks g 0 x) (sym h) tt
 
-flag_set : (x : ℕ) → nat_le x 0 ≡ false → 0 < x
-flag_set x h = grind (arith, nat_tests)
-
 no_more : (m w : ℕ) → nat_lt m w ≡ false → w ≤ m
 no_more m w h = grind (arith, nat_tests)
 
@@ -109,19 +106,18 @@ word_step field.HeadSize s es w t small sound h =
 word_step field.HeadType s es w t small sound h =
     fixed field.HeadType s es 0x96824d9c7b129ff9 w faults.Head (to s field.Flags) t (refl, moved field.HeadType field.Flags s es sound sound.end) h
 word_step field.Flags s es w t small sound h =
-    let g = guard_ok (nat_le (bit_and w 0x2000000000000000) 0) (faults.Digest w) _ t h in
     let v = sound.valid in
-    free field.Flags s es w (record s { next = field.Min; flags = w }) t (refl, record { valid = record { digest = flag_set (bit_and w 0x2000000000000000) g.0; size = v.size; few = v.few; chunks = v.chunks; ids = v.ids; flags = small; least = v.least; average = v.average }; end = sound.end; offset = sound.offset; size = sound.size }) g.1
+    free field.Flags s es w (record s { next = field.Min; flags = w }) t (refl, record { valid = record { size = v.size; few = v.few; chunks = v.chunks; ids = v.ids; flags = small; least = v.least; average = v.average }; end = sound.end; offset = sound.offset; size = sound.size }) h
 word_step field.Min s es w t small sound h =
     let v = sound.valid in
-    free field.Min s es w (record s { next = field.Avg; min = w }) t (refl, record { valid = record { digest = v.digest; size = v.size; few = v.few; chunks = v.chunks; ids = v.ids; flags = v.flags; least = small; average = v.average }; end = sound.end; offset = sound.offset; size = sound.size }) h
+    free field.Min s es w (record s { next = field.Avg; min = w }) t (refl, record { valid = record { size = v.size; few = v.few; chunks = v.chunks; ids = v.ids; flags = v.flags; least = small; average = v.average }; end = sound.end; offset = sound.offset; size = sound.size }) h
 word_step field.Avg s es w t small sound h =
     let v = sound.valid in
-    free field.Avg s es w (record s { next = field.Max; avg = w }) t (refl, record { valid = record { digest = v.digest; size = v.size; few = v.few; chunks = v.chunks; ids = v.ids; flags = v.flags; least = v.least; average = small }; end = sound.end; offset = sound.offset; size = sound.size }) h
+    free field.Avg s es w (record s { next = field.Max; avg = w }) t (refl, record { valid = record { size = v.size; few = v.few; chunks = v.chunks; ids = v.ids; flags = v.flags; least = v.least; average = small }; end = sound.end; offset = sound.offset; size = sound.size }) h
 word_step field.Max s es w t small sound h =
     let g = guard_ok (nat_lt 67108864 w) (faults.MaxSize w) _ t h in
     let v = sound.valid in
-    free field.Max s es w (record s { next = field.TableSize; max = w }) t (refl, record { valid = record { digest = v.digest; size = no_more 67108864 w g.0; few = v.few; chunks = no_chunks w es sound.end.0; ids = v.ids; flags = v.flags; least = v.least; average = v.average }; end = sound.end; offset = sound.offset; size = sound.size }) g.1
+    free field.Max s es w (record s { next = field.TableSize; max = w }) t (refl, record { valid = record { size = no_more 67108864 w g.0; few = v.few; chunks = no_chunks w es sound.end.0; ids = v.ids; flags = v.flags; least = v.least; average = v.average }; end = sound.end; offset = sound.offset; size = sound.size }) g.1
 word_step field.TableSize s es w t small sound h =
     fixed field.TableSize s es 0xffffffffffffffff w faults.Table (to s field.TableType) t (refl, moved field.TableSize field.TableType s es sound sound.end) h
 word_step field.TableType s es w t small sound h =
@@ -172,7 +168,6 @@ id_step s es id is sound =
       bytes,
       record {
         valid = record {
-          digest = v.digest;
           size = v.size;
           few = few;
           chunks = chunks_more s.max 0 es (s.end, id) v.chunks sound.end.0 sound.end.1;

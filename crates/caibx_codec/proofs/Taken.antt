@@ -75,7 +75,7 @@ start_stands = record {
   reads = refl;
   good = record {
     sound = record {
-      valid = record { digest = lit< tt; size = lit≤ tt; few = lit≤ tt; chunks = tt; ids = tt; flags = lit< tt; least = lit< tt; average = lit< tt };
+      valid = record { size = lit≤ tt; few = lit≤ tt; chunks = tt; ids = tt; flags = lit< tt; least = lit< tt; average = lit< tt };
       end = (refl, refl);
       offset = lit< tt;
       size = lit< tt;

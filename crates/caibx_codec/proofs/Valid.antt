@@ -25,4 +25,4 @@ no_entry_fault greatest k start (e ∷ es) h = first_passes greatest k start e e
 pub no_fault : (l : Listing) → IsValid l → index_fault l ≡ None
 no_fault l valid =
     let entries = no_entry_fault l.greatest 0 0 l.entries valid.chunks in
-    grind (arith, nat_tests, valid.digest, valid.size, valid.few, entries)
+    grind (arith, nat_tests, valid.size, valid.few, entries)

@@ -1,9 +1,9 @@
 -- The first fault of an index.
 use Rattle.std.specs.Prelude.{◌≡◌, ℕ, ◌+◌, ◌-◌, List, [], ◌∷◌, length, nat_lt, nat_le, if◌then◌else◌, Option, Some}
-use Rattle.std.specs.Prelude.{None, Result, Ok, Err, bit_and}
+use Rattle.std.specs.Prelude.{None, Result, Ok, Err}
 use Rattle.caibx_fields.specs.declared.fault.IndexFault.{IndexFault}
 use Rattle.caibx_fields.specs.declared.fault.IndexFault.TheVariants as faults
-use Rattle.caibx_fields.specs.Limits.{digest_flag, size_limit, item_limit}
+use Rattle.caibx_fields.specs.Limits.{size_limit, item_limit}
 use Rattle.caibx_codec.specs.Listing.{Listing}
 
 -- of the entries from number k on, after one that ends at `start`
@@ -17,8 +17,7 @@ entry_fault greatest k start (e ∷ es) =
 -- of a whole index, in the order in which its fields are judged
 abbrev pub index_fault : Listing → Option IndexFault
 index_fault l =
-    if nat_le (bit_and l.flags digest_flag) 0 then Some (faults.Digest l.flags)
-    else if nat_lt size_limit l.greatest then Some (faults.MaxSize l.greatest)
+    if nat_lt size_limit l.greatest then Some (faults.MaxSize l.greatest)
     else if nat_lt item_limit (length l.entries) then Some faults.Items
     else entry_fault l.greatest 0 0 l.entries
 

@@ -1,6 +1,6 @@
 -- What an index lists.
 use Rattle.std.specs.Prelude.{◌≡◌, ℕ, ◌+◌, ◌^◌, ◌<◌, ◌≤◌, List, [], ◌∷◌, ◌⊎◌, length, slice_index_or, slice_range, ◌-◌}
-use Rattle.std.specs.Prelude.{◌==◌, if◌then◌else◌, bit_and}
+use Rattle.std.specs.Prelude.{◌==◌, if◌then◌else◌, nat_le, bit_and}
 use Rattle.std.specs.List.{AllByRecursion}
 use Rattle.chunk_store.specs.Names.{IsId}
 use Rattle.chunk_store.specs.declared.id.DigestKind.{DigestKind}
@@ -36,9 +36,9 @@ size_of l i = end_of l i - start_of l i
 abbrev pub IsListedSize : Listing → ℕ → Type 0
 IsListedSize l n = ((i : ℕ) × (i < count_of l) × (size_of l i ≡ n)) ⊎ ((count_of l ≡ 0) × (n ≡ 0))
 
--- which digest names its chunks
-abbrev pub kind_of : Listing → DigestKind
-kind_of l = kinds.Sha512T256
+-- which digest names its chunks: what its flags say
+unfoldable pub kind_of : Listing → DigestKind
+kind_of l = if nat_le (bit_and l.flags digest_flag) 0 then kinds.Sha256 else kinds.Sha512T256
 
 -- the bytes of t that chunk i covers
 abbrev pub slice_of : Listing → List ℕ → ℕ → List ℕ
@@ -54,7 +54,6 @@ AreChunks greatest start (e ∷ es) = (start < e.0) × (e.0 ≤ start + greatest
 
 -- an index that can be used
 pub record IsValid (l : Listing) : Type 0 where
-  pub digest : 0 < bit_and l.flags digest_flag
   pub size : l.greatest ≤ size_limit
   pub few : length l.entries ≤ item_limit
   pub chunks : AreChunks l.greatest 0 l.entries

@@ -8,7 +8,6 @@ use Rattle.caibx_fields.specs.declared.fault.IndexFault.TheVariants as faults
 use Rattle.caibx_fields.specs.declared.field.Field.{Field}
 use Rattle.caibx_fields.specs.declared.field.Field.TheVariants as field
 use Rattle.caibx_fields.specs.declared.field.Fields.{Fields}
-use Rattle.caibx_fields.specs.Limits.{digest_flag}
 use Rattle.caibx_fields.specs.Fields.{need, to, word_at}
 use Rattle.caibx_codec.specs.Listing.{Listing}
 
@@ -46,12 +45,12 @@ unfoldable pub reads_index : Read → List ℕ → Result Read IndexFault
 reads_index r [] = Ok r
 reads_index r (b ∷ bs) = push_to_index r b >>= λ s. reads_index s bs
 
--- before the first byte, with the flag set that each index has
+-- before the first byte
 unfoldable pub index_start : Read
 index_start = record {
   fields = record {
     next = field.HeadSize;
-    flags = digest_flag;
+    flags = 0;
     min = 0;
     avg = 0;
     max = 0;

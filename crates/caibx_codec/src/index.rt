@@ -76,8 +76,8 @@ fn fault_in(max: u64, entries: &[Entry]) -> Option<IndexFault>
 }
 
 impl Index {
-    /// The index of these entries, or the first fault of all that is given. Answers `Digest`,
-    /// `MaxSize`, `Items`, `Order` or `TooLarge`.
+    /// The index of these entries, or the first fault of all that is given. Answers `MaxSize`,
+    /// `Items`, `Order` or `TooLarge`.
     pub fn new(
         flags: u64,
         min: u64,
@@ -94,9 +94,6 @@ impl Index {
               entries.items;
         }) result }
     {
-        if flags & DIGEST_FLAG == 0 {
-            return Err(IndexFault::Digest { flags });
-        }
         if SIZE_LIMIT < max {
             return Err(IndexFault::MaxSize { max });
         }
@@ -136,11 +133,16 @@ impl Index {
         let _ = &self.entries;
     }
 
-    /// Which digest names its chunks.
+    /// Which digest names its chunks: SHA-512/256 where its flags have `DIGEST_FLAG`, else SHA-256.
+    #[tactic(auto, unfolding(crate::specs::Listing::kind_of))]
     pub fn kind(&self) -> DigestKind
         ensures { result ≡ kind_of self.now }
     {
-        DigestKind::Sha512T256
+        if self.flags & DIGEST_FLAG == 0 {
+            DigestKind::Sha256
+        } else {
+            DigestKind::Sha512T256
+        }
     }
 
     /// The flags of its head.

@@ -11,7 +11,6 @@ use crate::index::{Entry, Index};
 use crate::reading::ReadFault;
 use caibx_fields::fault::IndexFault;
 use caibx_fields::field::{Field, Fields, judge_word, place, width};
-use caibx_fields::format::DIGEST_FLAG;
 use caibx_fields::word::number;
 use chunk_store::id::ChunkId;
 use std::alloc::Global;
@@ -48,7 +47,7 @@ impl Partial {
         Partial {
             fields: Fields {
                 next: Field::HeadSize,
-                flags: DIGEST_FLAG,
+                flags: 0,
                 min: 0,
                 avg: 0,
                 max: 0,

@@ -1,11 +1,11 @@
 -- The fields of an index file: how many bytes each has, where it begins, and how its word is judged.
-use Rattle.std.specs.Prelude.{ℕ, ◌+◌, ◌-◌, ◌*◌, Result, Ok, Err, nat_lt, nat_le, ◌==◌, if◌then◌else◌, bit_and}
+use Rattle.std.specs.Prelude.{ℕ, ◌+◌, ◌-◌, ◌*◌, Result, Ok, Err, nat_lt, nat_le, ◌==◌, if◌then◌else◌}
 use Rattle.caibx_fields.specs.declared.fault.IndexFault.{IndexFault}
 use Rattle.caibx_fields.specs.declared.fault.IndexFault.TheVariants as faults
 use Rattle.caibx_fields.specs.declared.field.Field.{Field}
 use Rattle.caibx_fields.specs.declared.field.Field.TheVariants as field
 use Rattle.caibx_fields.specs.declared.field.Fields.{Fields}
-use Rattle.caibx_fields.specs.Limits.{digest_flag, size_limit, item_limit}
+use Rattle.caibx_fields.specs.Limits.{size_limit, item_limit}
 
 -- the number of bytes of a field
 abbrev pub need : Field → ℕ
@@ -48,9 +48,7 @@ end_judged s k w =
 unfoldable pub word_at : Field → Fields → ℕ → ℕ → Result Fields IndexFault
 word_at field.HeadSize s k w = if w == 48 then Ok (to s field.HeadType) else Err faults.Head
 word_at field.HeadType s k w = if w == 0x96824d9c7b129ff9 then Ok (to s field.Flags) else Err faults.Head
-word_at field.Flags s k w =
-    if nat_le (bit_and w digest_flag) 0 then Err (faults.Digest w)
-    else Ok (record s { next = field.Min; flags = w })
+word_at field.Flags s k w = Ok (record s { next = field.Min; flags = w })
 word_at field.Min s k w = Ok (record s { next = field.Avg; min = w })
 word_at field.Avg s k w = Ok (record s { next = field.Max; avg = w })
 word_at field.Max s k w =

@@ -1,7 +1,7 @@
 -- The limits of an index file, and the flag of its digest.
 use Rattle.std.specs.Prelude.{ℕ, ◌+◌, ◌*◌}
 
--- the flag of indexes whose ids are SHA-512/256
+-- the flag of indexes whose ids are SHA-512/256; without it they are SHA-256
 abbrev pub digest_flag : ℕ
 digest_flag = 0x2000000000000000
 

@@ -13,8 +13,6 @@ pub enum IndexFault {
     Tail,
     /// There are bytes after the marker.
     Trailing,
-    /// The flags don't say that ids are SHA-512/256.
-    Digest { flags: u64 },
     /// The greatest size is above the limit.
     MaxSize { max: u64 },
     /// There are too many items.

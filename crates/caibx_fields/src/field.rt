@@ -1,13 +1,11 @@
 //! The fields of an index file in their order, and how each of its words is judged.
 
-ghost use Rattle.std.specs.Prelude.{◌≡◌, ◌≤◌, ◌==◌, nat_le, nat_lt, bit_and, if◌then◌else◌};
+ghost use Rattle.std.specs.Prelude.{◌≡◌, ◌≤◌, ◌==◌, nat_le, nat_lt, if◌then◌else◌};
 ghost use Rattle.caibx_fields.specs.Fields.{need, place_of, word_at, end_judged};
-ghost use Rattle.caibx_fields.specs.Limits.{digest_flag, size_limit, item_limit};
+ghost use Rattle.caibx_fields.specs.Limits.{size_limit, item_limit};
 
 use crate::fault::IndexFault;
-use crate::format::{
-    DIGEST_FLAG, HEAD_SIZE, HEAD_TYPE, ITEM_LIMIT, MARKER, SIZE_LIMIT, TABLE_OPEN, TABLE_TYPE,
-};
+use crate::format::{HEAD_SIZE, HEAD_TYPE, ITEM_LIMIT, MARKER, SIZE_LIMIT, TABLE_OPEN, TABLE_TYPE};
 
 /// A field of an index file.
 #[derive(Clone, Copy, Debug, PartialEq, Eq)]
@@ -127,21 +125,6 @@ fn expect(
     }
 }
 
-// The flags must say which digest names the chunks.
-fn judge_flags(fields: Fields, word: u64) -> Result<Fields, IndexFault>
-    ensures { result ≡ (if nat_le (bit_and word digest_flag) 0 then Err (IndexFault.Digest word)
-        else Ok (record fields { next = Field.Min; flags = word })) }
-{
-    if word & DIGEST_FLAG == 0 {
-        return Err(IndexFault::Digest { flags: word });
-    }
-    Ok(Fields {
-        next: Field::Min,
-        flags: word,
-        ..fields
-    })
-}
-
 // The greatest size must be within the limit.
 fn judge_max(fields: Fields, word: u64) -> Result<Fields, IndexFault>
     ensures { result ≡ (if nat_lt size_limit word then Err (IndexFault.MaxSize word)
@@ -165,7 +148,11 @@ pub fn judge_word(fields: Fields, count: usize, word: u64) -> Result<Fields, Ind
     match fields.next {
         Field::HeadSize => expect(fields, word, HEAD_SIZE, Field::HeadType, IndexFault::Head),
         Field::HeadType => expect(fields, word, HEAD_TYPE, Field::Flags, IndexFault::Head),
-        Field::Flags => judge_flags(fields, word),
+        Field::Flags => Ok(Fields {
+            next: Field::Min,
+            flags: word,
+            ..fields
+        }),
         Field::Min => Ok(Fields {
             next: Field::Avg,
             min: word,

@@ -146,11 +146,9 @@ fn refused(rt: &impl Abort, alloc: Global, changes: &[(usize, u8)], fault: Index
 #[test]
 fn each_wrong_field_has_its_fault(rt: HostRuntime) {
     let alloc = rt.alloc();
-    let flags = 0x8000_0000_0000_0000;
     let max = 0x0504_0000;
     refused(&rt, alloc, &[(0, 49)], IndexFault::Head);
     refused(&rt, alloc, &[(8, 0)], IndexFault::Head);
-    refused(&rt, alloc, &[(23, 0x80)], IndexFault::Digest { flags });
     refused(&rt, alloc, &[(43, 5)], IndexFault::MaxSize { max });
     refused(&rt, alloc, &[(48, 0)], IndexFault::Table);
     refused(&rt, alloc, &[(56, 0)], IndexFault::Table);
@@ -166,8 +164,27 @@ fn what_no_rule_speaks_of_is_taken(rt: HostRuntime) {
     let alloc = rt.alloc();
     counts(&rt, alloc, &[(120, 0), (128, 0)], Ok(1));
     counts(&rt, alloc, &[(16, 0xff), (23, 0x20)], Ok(1));
+    counts(&rt, alloc, &[(23, 0x80)], Ok(1));
+    counts(&rt, alloc, &[(23, 0)], Ok(1));
     counts(&rt, alloc, &[(42, 0), (40, 3)], Ok(1));
     counts(&rt, alloc, &[(24, 0xff), (32, 0)], Ok(1));
+}
+
+// What names the chunks of the one-chunk file whose flags end with this byte.
+fn kind_by(rt: &impl Abort, alloc: Global, last: u8, want: DigestKind) {
+    let bytes = changed(rt, alloc, &[(23, last)]);
+    let mut view = MemView::new(alloc, bytes, Vec::new(alloc));
+    let index = ok(rt, read_index(alloc, &mut view));
+    same(rt, index.kind(), want);
+}
+
+#[test]
+fn flags_say_which_digest_names_chunks(rt: HostRuntime) {
+    let alloc = rt.alloc();
+    kind_by(&rt, alloc, 0xa0, DigestKind::Sha512T256);
+    kind_by(&rt, alloc, 0x20, DigestKind::Sha512T256);
+    kind_by(&rt, alloc, 0x80, DigestKind::Sha256);
+    kind_by(&rt, alloc, 0xdf, DigestKind::Sha256);
 }
 
 #[test]
@@ -195,32 +212,17 @@ fn judged(rt: &impl Abort, alloc: Global, flags: u64, max: u64, ends: [u64; 2], 
 fn what_is_no_index_has_its_first_fault(rt: HostRuntime) {
     let alloc = rt.alloc();
     let over = 67_108_865;
-    let digest = 0x2000_0000_0000_0000;
-    judged(&rt, alloc, 0, over, [0, 0], IndexFault::Digest { flags: 0 });
+    let flags = 0x8000_0000_0000_0000;
     judged(
         &rt,
         alloc,
-        digest,
+        flags,
         over,
         [0, 0],
         IndexFault::MaxSize { max: over },
     );
-    judged(
-        &rt,
-        alloc,
-        digest,
-        8,
-        [0, 0],
-        IndexFault::Order { entry: 0 },
-    );
+    judged(&rt, alloc, flags, 8, [0, 0], IndexFault::Order { entry: 0 });
     let too_large = IndexFault::TooLarge { entry: 0, size: 9 };
-    judged(&rt, alloc, digest, 8, [9, 9], too_large);
-    judged(
-        &rt,
-        alloc,
-        digest,
-        8,
-        [8, 8],
-        IndexFault::Order { entry: 1 },
-    );
+    judged(&rt, alloc, flags, 8, [9, 9], too_large);
+    judged(&rt, alloc, flags, 8, [8, 8], IndexFault::Order { entry: 1 });
 }

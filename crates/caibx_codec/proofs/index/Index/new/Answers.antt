@@ -10,7 +10,6 @@ use Rattle.caibx_codec.proofs.index.Index.new.Goals as goal
 -- no test found a fault
 pub invariant_of-result : goal.invariant_of-result
 invariant_of-result c = record {
-  digest = omega arith;
   size = omega arith;
   few = rw length-map (omega arith);
   chunks = chunks_of c.args.max 0 0 (pairs c.args.entries.items) (ap (λ es. entry_fault c.args.max 0 0 (pairs es)) (sym c.deref.ensures.value) ∙ sym c.fault_in.ensures.value ∙ c.in-None.is);
