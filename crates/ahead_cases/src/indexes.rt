@@ -1,8 +1,12 @@
 //! Indexes of small images, and the names of their chunks. Sizes are in bytes.
 
+ghost use Rattle.std.specs.Prelude.{◌≡◌};
+ghost use Rattle.caibx_codec.specs.Listing.{kind_of};
+ghost use Rattle.chunk_store.specs.declared.id.DigestKind.TheVariants as kinds;
+
 use crate::compare::ok;
 use caibx_codec::index::{Entry, Index};
-use chunk_store::id::ChunkId;
+use chunk_store::id::{ChunkId, DigestKind};
 use std::alloc::Global;
 use std::process::Abort;
 
@@ -32,8 +36,21 @@ pub fn id_of(rt: &impl Abort, text: &str) -> ChunkId {
     ok(rt, ChunkId::from_hex(text))
 }
 
+// The same index, whose chunks are named by SHA-512/256.
+fn by_sha512(rt: &impl Abort, index: Index) -> Index
+    ensures { kind_of result ≡ kinds.Sha512T256 }
+{
+    let by = match index.kind() {
+        DigestKind::Sha512T256 => Some(index),
+        DigestKind::Sha256 => None,
+    };
+    by.expect(rt, "an index by SHA-512/256")
+}
+
 /// The index of chunks of three bytes with these names.
-pub fn index_of(rt: &impl Abort, alloc: Global, names: &[&str]) -> Index {
+pub fn index_of(rt: &impl Abort, alloc: Global, names: &[&str]) -> Index
+    ensures { kind_of result ≡ kinds.Sha512T256 }
+{
     let mut entries = Vec::new(alloc);
     let mut end = 0u64;
     for name in names {
@@ -41,8 +58,9 @@ pub fn index_of(rt: &impl Abort, alloc: Global, names: &[&str]) -> Index {
         let id = id_of(rt, name);
         ok(rt, entries.push(Entry { end, id }));
     }
-    ok(
+    let index = ok(
         rt,
         Index::new(0xa000_0000_0000_0000, 16_384, 65_536, 262_144, entries),
-    )
+    );
+    by_sha512(rt, index)
 }

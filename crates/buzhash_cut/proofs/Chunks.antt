@@ -4,13 +4,13 @@ use Rattle.std.proofs.lemmas.Bool.Decides.{nat_tests}
 use Rattle.buzhash_cut.proofs.Cutting.{length-named_from}
 use Rattle.buzhash_cut.proofs.Joins.{ends_in, cuts_of, names_of}
 use Rattle.chunk_ends.specs.Cuts.{AreCuts}
-use Rattle.buzhash_cut.specs.Image.{named_from, listing_of, IsIndexOfImage, IndexGiven, HasTooManyCuts}
+use Rattle.buzhash_cut.specs.Image.{flags_of, named_from, listing_of, IsIndexOfImage, IndexGiven, HasTooManyCuts}
 use Rattle.buzhash_cut.specs.declared.image.CutFault.{CutFault}
 use Rattle.buzhash_cut.specs.declared.image.CutFault.TheVariants as faults
 use Rattle.buzhash_cut.specs.Entries.{IsCutEntry, IsStep, AreLinked, AreAll}
 use Rattle.caibx_codec.specs.Right.{IsRight}
 use Rattle.chunk_ends.specs.Sizes.{Sizes}
-use Rattle.caibx_codec.specs.Listing.{Listing, count_of, start_of, end_of, id_of, slice_of, image_length}
+use Rattle.caibx_codec.specs.Listing.{Listing, count_of, start_of, end_of, id_of, kind_of, slice_of, image_length}
 use Rattle.chunk_store.specs.Names.{name_of}
 use Rattle.chunk_store.specs.declared.id.DigestKind.{DigestKind}
 use Rattle.chunk_store.specs.declared.id.DigestKind.TheVariants as kinds
@@ -63,29 +63,44 @@ module _ (s : Sizes) (kind : DigestKind) (image : List ℕ) where
   last_end start (end ∷ []) cuts = cuts.3
   last_end start (end ∷ next ∷ ends) cuts = later start end (next ∷ ends) (length ends) ∙ last_end end (next ∷ ends) cuts.3
 
+abbrev pub made_of : DigestKind → ℕ → ℕ → ℕ → List (ℕ × List ℕ) → Listing
+made_of kind least average greatest es = record { flags = flags_of kind; least = least; average = average; greatest = greatest; entries = es }
+
 -- what is said of each chunk of the index of an image by its number
-pub record AreNamed (image : List ℕ) (l : Listing) : Type 0 where
+pub record AreNamed (kind : DigestKind) (image : List ℕ) (l : Listing) : Type 0 where
   pub rises : (i : ℕ) → i < count_of l → start_of l i ≤ end_of l i
-  pub named : (i : ℕ) → i < count_of l → name_of kinds.Sha512T256 (slice_of l image i) ≡ id_of l i
+  pub named : (i : ℕ) → i < count_of l → name_of kind (slice_of l image i) ≡ id_of l i
   pub whole : image_length l ≡ length image
 
-listed_named : (s : Sizes) (image ends : List ℕ) → AreCuts s image 0 ends → AreNamed image (listing_of s image ends)
-listed_named s image ends cuts =
-    let count = length-named_from kinds.Sha512T256 image 0 ends in
+listed_named : (kind : DigestKind) (s : Sizes) (image ends : List ℕ) → AreCuts s image 0 ends → AreNamed kind image (listing_of kind s image ends)
+listed_named kind s image ends cuts =
+    let count = length-named_from kind image 0 ends in
     record {
-      rises = λ i lt. ends_rise s kinds.Sha512T256 image 0 ends cuts i (omega (arith, lt, count));
-      named = λ i lt. sym (id_named s kinds.Sha512T256 image 0 ends i (omega (arith, lt, count)));
-      whole = ap (start_of (listing_of s image ends)) count ∙ last_end s kinds.Sha512T256 image 0 ends cuts;
+      rises = λ i lt. ends_rise s kind image 0 ends cuts i (omega (arith, lt, count));
+      named = λ i lt. sym (id_named s kind image 0 ends i (omega (arith, lt, count)));
+      whole = ap (start_of (listing_of kind s image ends)) count ∙ last_end s kind image 0 ends cuts;
     }
 
-pub index_named : (s : Sizes) (image : List ℕ) (l : Listing) → IsIndexOfImage s image l → AreNamed image l
-index_named s image l is = subst (AreNamed image) (sym is.lists) (listed_named s image is.ends is.cuts)
+pub index_named : (kind : DigestKind) (s : Sizes) (image : List ℕ) (l : Listing) → IsIndexOfImage kind s image l → AreNamed kind image l
+index_named kind s image l is = subst (AreNamed kind image) (sym is.lists) (listed_named kind s image is.ends is.cuts)
+
+-- the flags say by which digest its chunks are named
+made_kind : (kind : DigestKind) (least average greatest : ℕ) (es : List (ℕ × List ℕ)) → kind_of (made_of kind least average greatest es) ≡ kind
+unfolding kind_of
+made_kind kinds.Sha512T256 least average greatest es = refl
+made_kind kinds.Sha256 least average greatest es = refl
+
+index_kind : (kind : DigestKind) (s : Sizes) (image : List ℕ) (l : Listing) → IsIndexOfImage kind s image l → kind_of l ≡ kind
+index_kind kind s image l is = ap kind_of is.lists ∙ made_kind kind s.least s.average s.greatest (named_from kind image 0 is.ends)
 
 -- an image is what its index lists
-pub image_right : (s : Sizes) (image : List ℕ) (l : Listing) → IsIndexOfImage s image l → IsRight image l
-image_right s image l is =
-    let named = index_named s image l is in
-    record { size = sym named.whole; entries = named.named }
+pub image_right : (kind : DigestKind) (s : Sizes) (image : List ℕ) (l : Listing) → IsIndexOfImage kind s image l → IsRight image l
+image_right kind s image l is =
+    let named = index_named kind s image l is in
+    record {
+      size = sym named.whole;
+      entries = λ i lt. subst (λ (k : DigestKind). name_of k (slice_of l image i) ≡ id_of l i) (sym (index_kind kind s image l is)) (named.named i lt);
+    }
 
 -- the last of all entries ends with the image
 entries_end : (greatest start end : ℕ) (es : List (ℕ × List ℕ)) → AreLinked (IsStep greatest) start es end → start_at start es (length es) ≡ end
@@ -96,27 +111,30 @@ entries_end greatest start end (e ∷ next ∷ es) steps =
     let there : start_at e.0 (next ∷ es) (suc (length es)) ≡ end_at (next ∷ es) (length es) = start_at-suc e.0 (next ∷ es) (length es) in
     here ∙ sym there ∙ entries_end greatest e.0 end (next ∷ es) steps.1
 
-abbrev made_of : ℕ → ℕ → ℕ → List (ℕ × List ℕ) → Listing
-made_of least average greatest es = record { flags = 0xa000000000000000; least = least; average = average; greatest = greatest; entries = es }
+module _ (kind : DigestKind) (s : Sizes) (h : Held) (es : List (ℕ × List ℕ)) (flags least average greatest : ℕ) (l : Listing)
+    (is : l ≡ record { flags = flags; least = least; average = average; greatest = greatest; entries = es }) (said : flags ≡ flags_of kind) (all : AreAll kind s h es) where
+  is_made : l ≡ made_of kind least average greatest es
+  is_made = is ∙ ap (λ (f : ℕ). record { flags = f; least = least; average = average; greatest = greatest; entries = es }) said
 
-module _ (s : Sizes) (h : Held) (es : List (ℕ × List ℕ)) (least average greatest : ℕ) (l : Listing)
-    (is : l ≡ record { flags = 0xa000000000000000; least = least; average = average; greatest = greatest; entries = es }) (all : AreAll s h es) where
-  -- so the index has the image's length
+  -- so the index has that kind, and the image's length
+  pub listed_kind : kind_of l ≡ kind
+  listed_kind = ap kind_of is_made ∙ made_kind kind least average greatest es
+
   pub listed_length : image_length l ≡ h.size
   listed_length = ap image_length is ∙ entries_end s.greatest 0 h.size es all.entries.steps
 
   -- what lists all chunks with their names is the index
-  pub listed_index : (t : List ℕ) → length t ≡ h.size → AreLinked (IsCutEntry s t) 0 es h.size → least ≡ s.least → average ≡ s.average → greatest ≡ s.greatest → IsIndexOfImage s t l
+  pub listed_index : (t : List ℕ) → length t ≡ h.size → AreLinked (IsCutEntry kind s t) 0 es h.size → least ≡ s.least → average ≡ s.average → greatest ≡ s.greatest → IsIndexOfImage kind s t l
   listed_index t long chunks a b c = record {
     ends = ends_in es;
-    cuts = subst (AreCuts s t 0) (append-nil (ends_in es)) (cuts_of s t 0 h.size es [] chunks (sym long));
-    lists = is ∙ ap (λ (n : ℕ). made_of n average greatest es) a ∙ ap (λ (n : ℕ). made_of s.least n greatest es) b
-        ∙ ap (λ (n : ℕ). made_of s.least s.average n es) c ∙ ap (made_of s.least s.average s.greatest) (names_of s t 0 h.size es chunks);
+    cuts = subst (AreCuts s t 0) (append-nil (ends_in es)) (cuts_of kind s t 0 h.size es [] chunks (sym long));
+    lists = is_made ∙ ap (λ (n : ℕ). made_of kind n average greatest es) a ∙ ap (λ (n : ℕ). made_of kind s.least n greatest es) b
+        ∙ ap (λ (n : ℕ). made_of kind s.least s.average n es) c ∙ ap (made_of kind s.least s.average s.greatest) (names_of kind s t 0 h.size es chunks);
   }
 
 -- what a fault says
-pub given_err : (o : Option (List ℕ)) (s : Sizes) (f : CutFault) → (f ≡ faults.TooManyItems → IfSome o (λ t. HasTooManyCuts s t)) → IfSome o (λ t. IndexGiven s t (Err f))
-given_err None s f many = tt
-given_err (Some t) s faults.TooManyItems many = many refl
-given_err (Some t) s faults.ImageFault many = tt
-given_err (Some t) s faults.Memory many = tt
+pub given_err : (o : Option (List ℕ)) (kind : DigestKind) (s : Sizes) (f : CutFault) → (f ≡ faults.TooManyItems → IfSome o (λ t. HasTooManyCuts s t)) → IfSome o (λ t. IndexGiven kind s t (Err f))
+given_err None kind s f many = tt
+given_err (Some t) kind s faults.TooManyItems many = many refl
+given_err (Some t) kind s faults.ImageFault many = tt
+given_err (Some t) kind s faults.Memory many = tt

@@ -6,6 +6,7 @@ use Rattle.buzhash_cut.specs.Entries.{AreAll, AreEntries, AreTooMany, IsEntryRun
 use Rattle.buzhash_cut.specs.Image.{AreOfOneImage, CountsViews, HasTooManyCuts}
 use Rattle.buzhash_cut.specs.Runs.{AreRuns, HasCut, HasCutFirst, Slices}
 use Rattle.chunk_ends.specs.Sizes.{Sizes}
+use Rattle.chunk_store.specs.declared.id.DigestKind.{DigestKind}
 use Rattle.buzhash_cut.specs.declared.image.CutFault.{CutFault}
 use Rattle.buzhash_cut.specs.declared.image.CutFault.TheVariants as faults
 use Rattle.buzhash_cut.specs.declared.run.Run.{Run}
@@ -23,20 +24,20 @@ if_err (Ok x) P Q f h = tt
 if_err (Err e) P Q f h = f e h
 
 -- what is said of one view of an image holds of another
-module _ (s : Sizes) (h k : Held) (size : k.size ≡ h.size) (bytes : k.bytes ≡ h.bytes) where
-  entries_alike : (a b : ℕ) (es : List (ℕ × List ℕ)) → AreEntries s h.bytes a es b → AreEntries s k.bytes a es b
-  entries_alike a b es p = subst (λ (o : Option (List ℕ)). AreEntries s o a es b) (sym bytes) p
+module _ (kind : DigestKind) (s : Sizes) (h k : Held) (size : k.size ≡ h.size) (bytes : k.bytes ≡ h.bytes) where
+  entries_alike : (a b : ℕ) (es : List (ℕ × List ℕ)) → AreEntries kind s h.bytes a es b → AreEntries kind s k.bytes a es b
+  entries_alike a b es p = subst (λ (o : Option (List ℕ)). AreEntries kind s o a es b) (sym bytes) p
 
-  run_alike : (a : ℕ) (es : List (ℕ × List ℕ)) → IsEntryRun s h a es → IsEntryRun s k a es
+  run_alike : (a : ℕ) (es : List (ℕ × List ℕ)) → IsEntryRun kind s h a es → IsEntryRun kind s k a es
   run_alike a es run = record { end = run.end; inside = omega (arith, run.inside, size); entries = entries_alike a run.end es run.entries }
 
-  pub runs_alike : (rs : List Run) → AreRuns s h rs → AreRuns s k rs
+  pub runs_alike : (rs : List Run) → AreRuns kind s h rs → AreRuns kind s k rs
   runs_alike rs runs i d lt = run_alike (slice_index_or rs i d).start (pairs (slice_index_or rs i d).entries.items) (runs i d lt)
 
-  all_alike : (es : List (ℕ × List ℕ)) → AreAll s h es → AreAll s k es
+  all_alike : (es : List (ℕ × List ℕ)) → AreAll kind s h es → AreAll kind s k es
   all_alike es all = record {
     few = all.few;
-    entries = subst (λ (n : ℕ). AreEntries s k.bytes 0 es n) (sym size) (entries_alike 0 h.size es all.entries);
+    entries = subst (λ (n : ℕ). AreEntries kind s k.bytes 0 es n) (sym size) (entries_alike 0 h.size es all.entries);
     sized = subst (λ (o : Option (List ℕ)). IfSome o (λ t. length t ≡ k.size)) (sym bytes) (subst (λ (n : ℕ). IfSome h.bytes (λ t. length t ≡ n)) (sym size) all.sized);
   }
 
@@ -49,7 +50,7 @@ last_at {W = W} rest m d =
     ap (λ (k : ℕ). slice_index_or (rest ++ m ∷ []) k d) is ∙ get_or-append-add rest (m ∷ []) 0 d
 
 -- the workers before and after they have cut. The first of them, which comes last, is taken out
-module _ {V : Type 0} (held : V → Held) (failed : V → ℕ) (s : Sizes) (olds lent mids more rest : List (Worker V)) (m : Worker V) (n : ℕ) (lent_is : lent ≡ olds) (size : length lent ≡ n)
+module _ {V : Type 0} (held : V → Held) (failed : V → ℕ) (kind : DigestKind) (s : Sizes) (olds lent mids more rest : List (Worker V)) (m : Worker V) (n : ℕ) (lent_is : lent ≡ olds) (size : length lent ≡ n)
     (popped : take n (mids ++ more) ≡ rest ++ m ∷ []) (same : map (λ w. held w.view) mids ≡ map (λ w. held w.view) lent) (alike : AreOfOneImage (map (λ w. held w.view) olds)) where
   abbrev W : Type 0
   W = Worker V
@@ -95,55 +96,55 @@ module _ {V : Type 0} (held : V → Held) (failed : V → ℕ) (s : Sizes) (olds
       let there : slice_index_or (map H olds) (length olds - 1) e ≡ H m = get_or-map H olds (length olds - 1) m e (omega (arith, long, longer)) ∙ held_first in
       subst (λ (h : Held). ((slice_index_or (map H olds) k e).size ≡ h.size) × ((slice_index_or (map H olds) k e).bytes ≡ h.bytes)) there (alike (length olds - 1) e many k e lt)
 
-  pub all_of : (es : List (ℕ × List ℕ)) → AreAll s (H m) es → All (λ h. AreAll s h es) (map H olds)
-  all_of es all k e lt = let same = alike_first k e lt in all_alike s (H m) (slice_index_or (map H olds) k e) same.0 same.1 es all
+  pub all_of : (es : List (ℕ × List ℕ)) → AreAll kind s (H m) es → All (λ h. AreAll kind s h es) (map H olds)
+  all_of es all k e lt = let same = alike_first k e lt in all_alike kind s (H m) (slice_index_or (map H olds) k e) same.0 same.1 es all
 
   pub many_of : AreTooMany s (H m) → All (AreTooMany s) (map H olds)
-  many_of many k e lt = let same = alike_first k e lt in many_alike s (H m) (slice_index_or (map H olds) k e) same.0 same.1 many
+  many_of many k e lt = let same = alike_first k e lt in many_alike kind s (H m) (slice_index_or (map H olds) k e) same.0 same.1 many
 
   -- what the first has cut
-  pub first_cut : ((d : W) → HasCutFirst held failed s (slice_index_or lent (length lent - 1) d) (slice_index_or mids (length lent - 1) d))
-      → HasCutFirst held failed s (slice_index_or olds (length olds - 1) m) m
+  pub first_cut : ((d : W) → HasCutFirst held failed kind s (slice_index_or lent (length lent - 1) d) (slice_index_or mids (length lent - 1) d))
+      → HasCutFirst held failed kind s (slice_index_or olds (length olds - 1) m) m
   first_cut cut =
       let at : slice_index_or mids (length olds - 1) m ≡ m = ap (λ (k : ℕ). slice_index_or mids k m) place ∙ last_is in
-      let here = subst (λ (xs : List W). HasCutFirst held failed s (slice_index_or xs (length xs - 1) m) (slice_index_or mids (length xs - 1) m)) lent_is (cut m) in
-      subst (λ (w : W). HasCutFirst held failed s (slice_index_or olds (length olds - 1) m) w) at here
+      let here = subst (λ (xs : List W). HasCutFirst held failed kind s (slice_index_or xs (length xs - 1) m) (slice_index_or mids (length xs - 1) m)) lent_is (cut m) in
+      subst (λ (w : W). HasCutFirst held failed kind s (slice_index_or olds (length olds - 1) m) w) at here
 
-  pub first_end : ((d : W) → HasCutFirst held failed s (slice_index_or lent (length lent - 1) d) (slice_index_or mids (length lent - 1) d))
-      → IfOk m.end (λ e. (e ≤ (H m).size) × AreEntries s (H m).bytes 0 (pairs m.entries.items) e)
-  first_end cut = subst (λ (h : Held). IfOk m.end (λ e. (e ≤ h.size) × AreEntries s h.bytes 0 (pairs m.entries.items) e)) held_first (first_cut cut).end
+  pub first_end : ((d : W) → HasCutFirst held failed kind s (slice_index_or lent (length lent - 1) d) (slice_index_or mids (length lent - 1) d))
+      → IfOk m.end (λ e. (e ≤ (H m).size) × AreEntries kind s (H m).bytes 0 (pairs m.entries.items) e)
+  first_end cut = subst (λ (h : Held). IfOk m.end (λ e. (e ≤ h.size) × AreEntries kind s h.bytes 0 (pairs m.entries.items) e)) held_first (first_cut cut).end
 
-  pub first_many : ((d : W) → HasCutFirst held failed s (slice_index_or lent (length lent - 1) d) (slice_index_or mids (length lent - 1) d))
+  pub first_many : ((d : W) → HasCutFirst held failed kind s (slice_index_or lent (length lent - 1) d) (slice_index_or mids (length lent - 1) d))
       → IfErr m.end (λ f. f ≡ faults.TooManyItems → AreTooMany s (H m))
   first_many cut = subst (λ (h : Held). IfErr m.end (λ f. f ≡ faults.TooManyItems → AreTooMany s h)) held_first (first_cut cut).many
 
-  pub first_slices : ((d : W) → HasCutFirst held failed s (slice_index_or lent (length lent - 1) d) (slice_index_or mids (length lent - 1) d))
-      → OnOk m.end (Slices s (H m).size m.slicer)
-  first_slices cut = subst (λ (h : Held). OnOk m.end (Slices s h.size m.slicer)) held_first (first_cut cut).slices
+  pub first_slices : ((d : W) → HasCutFirst held failed kind s (slice_index_or lent (length lent - 1) d) (slice_index_or mids (length lent - 1) d))
+      → OnOk m.end (Slices kind s (H m).size m.slicer)
+  first_slices cut = subst (λ (h : Held). OnOk m.end (Slices kind s h.size m.slicer)) held_first (first_cut cut).slices
 
   -- and the others
-  pub others_cut : ((k : ℕ) (d : W) → k < length lent → HasCut held failed s (slice_index_or lent k d) (slice_index_or mids k d)) → All (λ w. AreRuns s (H m) w.runs.items) rest
+  pub others_cut : ((k : ℕ) (d : W) → k < length lent → HasCut held failed kind s (slice_index_or lent k d) (slice_index_or mids k d)) → All (λ w. AreRuns kind s (H m) w.runs.items) rest
   others_cut cut k d lt =
       let inside : k < length olds = omega (arith, lt, long, longer) in
       let o : W = slice_index_or olds k d in
       let at : slice_index_or mids k d ≡ slice_index_or rest k d = ap (λ (xs : List W). slice_index_or xs k d) is ∙ get_or_append_left rest (m ∷ []) d k lt in
-      let here : HasCut held failed s o (slice_index_or rest k d) =
-      subst (λ (w : W). HasCut held failed s o w) at (subst (λ (xs : List W). HasCut held failed s (slice_index_or xs k d) (slice_index_or mids k d)) lent_is (cut k d (omega (arith, inside, count, size)))) in
+      let here : HasCut held failed kind s o (slice_index_or rest k d) =
+      subst (λ (w : W). HasCut held failed kind s o w) at (subst (λ (xs : List W). HasCut held failed kind s (slice_index_or xs k d) (slice_index_or mids k d)) lent_is (cut k d (omega (arith, inside, count, size)))) in
       let own : H o ≡ slice_index_or (map H olds) k (H m) = sym (get_or-map H olds k d (H m) inside) in
       let same = alike_first k (H m) (omega (arith, inside, length-map olds H)) in
       let size : (H m).size ≡ (H o).size = sym (ap (λ (h : Held). h.size) own ∙ same.0) in
       let bytes : (H m).bytes ≡ (H o).bytes = sym (ap (λ (h : Held). h.bytes) own ∙ same.1) in
-      runs_alike s (H o) (H m) size bytes (slice_index_or rest k d).runs.items here.runs
+      runs_alike kind s (H o) (H m) size bytes (slice_index_or rest k d).runs.items here.runs
 
   -- and how the counts went, when the first has gone on to the view of `next`
-  module _ (cut : (k : ℕ) (d : W) → k < length lent → HasCut held failed s (slice_index_or lent k d) (slice_index_or mids k d)) {A : Type 0} (next : W) (result : Result A CutFault) (counts : CountsFaults faults.ImageFault faults.Memory (F (slice_index_or olds (length olds - 1) m)) (F next) result) where
+  module _ (cut : (k : ℕ) (d : W) → k < length lent → HasCut held failed kind s (slice_index_or lent k d) (slice_index_or mids k d)) {A : Type 0} (next : W) (result : Result A CutFault) (counts : CountsFaults faults.ImageFault faults.Memory (F (slice_index_or olds (length olds - 1) m)) (F next) result) where
     count_at : (k : ℕ) → k < length olds → F (slice_index_or olds k m) ≤ F (slice_index_or (rest ++ next ∷ []) k m)
     count_at k lt = elim (cases_lt k (length rest)) [
       | inl inside ↦
           let at : slice_index_or mids k m ≡ slice_index_or (rest ++ next ∷ []) k m =
           ap (λ (xs : List W). slice_index_or xs k m) is ∙ get_or_append_left rest (m ∷ []) m k inside ∙ sym (get_or_append_left rest (next ∷ []) m k inside) in
           let rose : F (slice_index_or olds k m) ≤ F (slice_index_or mids k m) =
-          (subst (λ (xs : List W). HasCut held failed s (slice_index_or xs k m) (slice_index_or mids k m)) lent_is (cut k m (omega (arith, lt, count, size)))).never_falls in
+          (subst (λ (xs : List W). HasCut held failed kind s (slice_index_or xs k m) (slice_index_or mids k m)) lent_is (cut k m (omega (arith, lt, count, size)))).never_falls in
           subst (λ (w : W). F (slice_index_or olds k m) ≤ F w) at rose
       | inr past ↦
           let place_is : k ≡ length rest = omega (arith, long, longer) in

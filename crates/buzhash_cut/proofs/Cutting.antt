@@ -1,7 +1,7 @@
 -- An image's index breaks no rule.
 use Rattle.std.proofs.Common.{◌≡◌, ℕ, ◌+◌, ◌-◌, List, [], ◌∷◌, length, false, nat_lt, nat_le, Some, None, refl, sym, ap, ◌∙◌, arith}
 use Rattle.std.proofs.lemmas.Bool.Decides.{nat_tests}
-use Rattle.buzhash_cut.specs.Image.{named_from}
+use Rattle.buzhash_cut.specs.Image.{flags_of, named_from}
 use Rattle.buzhash_cut.specs.Entries.{IsStep, AreLinked, AreAll}
 use Rattle.chunk_ends.specs.Sizes.{Sizes, AreSizes}
 use Rattle.caibx_codec.specs.Judge.{entry_fault, index_fault}
@@ -23,21 +23,21 @@ length-named_from kind image start [] = refl
 length-named_from kind image start (end ∷ ends) = let e = length-named_from kind image end ends in omega (arith, e)
 
 -- entries of all chunks break no rule of an index
-index_fine : (s : Sizes) (h : Held) (es : List (ℕ × List ℕ)) → AreSizes s → AreAll s h es
-    → index_fault (record { flags = 0xa000000000000000; least = s.least; average = s.average; greatest = s.greatest; entries = es }) ≡ None
-index_fine s h es sizes all =
+index_fine : (kind : DigestKind) (s : Sizes) (h : Held) (es : List (ℕ × List ℕ)) → AreSizes s → AreAll kind s h es
+    → index_fault (record { flags = flags_of kind; least = s.least; average = s.average; greatest = s.greatest; entries = es }) ≡ None
+index_fine kind s h es sizes all =
     let none = entries_fine s.greatest 0 0 h.size es all.entries.steps in
     let small : nat_lt 67108864 s.greatest ≡ false = grind (arith, nat_tests, sizes.greatest) in
     let fits : nat_lt 4194304 (length es) ≡ false = grind (arith, nat_tests, all.few) in
     rw (small, fits) none
 
 -- so it isn't refused
-pub index_taken : (s : Sizes) (h : Held) (es : List (ℕ × List ℕ)) (least average greatest : ℕ) (f : IndexFault) → AreSizes s → AreAll s h es
+pub index_taken : (kind : DigestKind) (s : Sizes) (h : Held) (es : List (ℕ × List ℕ)) (least average greatest : ℕ) (f : IndexFault) → AreSizes s → AreAll kind s h es
     → least ≡ s.least → average ≡ s.average → greatest ≡ s.greatest
-    → index_fault (record { flags = 0xa000000000000000; least = least; average = average; greatest = greatest; entries = es }) ≡ Some f → ⊥
-index_taken s h es least average greatest f sizes all a b c fault =
-    let fine = index_fine s h es sizes all in
-    let listed = λ (l m g : ℕ). index_fault (record { flags = 0xa000000000000000; least = l; average = m; greatest = g; entries = es }) in
+    → index_fault (record { flags = flags_of kind; least = least; average = average; greatest = greatest; entries = es }) ≡ Some f → ⊥
+index_taken kind s h es least average greatest f sizes all a b c fault =
+    let fine = index_fine kind s h es sizes all in
+    let listed = λ (l m g : ℕ). index_fault (record { flags = flags_of kind; least = l; average = m; greatest = g; entries = es }) in
     let same : listed least average greatest ≡ listed s.least s.average s.greatest =
     ap (λ x. listed x average greatest) a ∙ (ap (λ x. listed s.least x greatest) b ∙ ap (listed s.least s.average) c) in
     let both : None ≡ Some f = sym fine ∙ (sym same ∙ fault) in

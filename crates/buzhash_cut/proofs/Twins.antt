@@ -10,6 +10,7 @@ use Rattle.buzhash_cut.specs.Image.{IsIndexOfImage}
 use Rattle.caibx_codec.specs.Right.{IsRight}
 use Rattle.buzhash_cut.specs.Right.{HasTwins}
 use Rattle.chunk_ends.specs.Sizes.{Sizes}
+use Rattle.chunk_store.specs.declared.id.DigestKind.{DigestKind}
 use Rattle.caibx_codec.specs.Listing.{Listing, count_of, start_of, end_of, slice_of, image_length}
 
 same_or_apart : (a b : List ℕ) (t : Bool) → bytes_eq a b ≡ t → (a ≡ b) ⊎ (a ≢ b)
@@ -44,5 +45,5 @@ module _ (l : Listing) (a b : List ℕ) (rises : (i : ℕ) → i < count_of l �
   ]
 
 -- the law of cutting
-pub image_or_twins : (s : Sizes) (image t : List ℕ) (l : Listing) → IsIndexOfImage s image l → IsRight t l → (t ≡ image) ⊎ HasTwins t image l
-image_or_twins s image t l is right = same_or_twins l t image (index_named s image l is).rises right (image_right s image l is)
+pub image_or_twins : (kind : DigestKind) (s : Sizes) (image t : List ℕ) (l : Listing) → IsIndexOfImage kind s image l → IsRight t l → (t ≡ image) ⊎ HasTwins t image l
+image_or_twins kind s image t l is right = same_or_twins l t image (index_named kind s image l is).rises right (image_right kind s image l is)

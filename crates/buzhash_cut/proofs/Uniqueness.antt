@@ -7,7 +7,7 @@ use Rattle.chunk_ends.specs.Cuts.{IsCut, AreCuts}
 use Rattle.buzhash_cut.specs.Image.{HasTooManyCuts, IsIndexOfImage, listing_of}
 use Rattle.chunk_ends.specs.Sizes.{Sizes}
 use Rattle.caibx_codec.specs.Listing.{Listing, count_of}
-use Rattle.chunk_store.specs.declared.id.DigestKind.TheVariants as kinds
+use Rattle.chunk_store.specs.declared.id.DigestKind.{DigestKind}
 
 -- no cut comes after another
 not_before : (s : Sizes) (rest : List ℕ) (n m : ℕ) → IsCut s rest n → IsCut s rest m → n < m → ⊥
@@ -42,12 +42,12 @@ cuts_one s image start (a ∷ es) (b ∷ bs) h k =
     let rest : es ≡ bs = cuts_one s image a es bs h.3 (subst (λ e. AreCuts s image e bs) (sym first) k.3) in
     cc
 
-pub index_one : (s : Sizes) (image : List ℕ) (l m : Listing) → IsIndexOfImage s image l → IsIndexOfImage s image m → l ≡ m
-index_one s image l m a b = a.lists ∙ (ap (listing_of s image) (cuts_one s image 0 a.ends b.ends a.cuts b.cuts) ∙ sym b.lists)
+pub index_one : (kind : DigestKind) (s : Sizes) (image : List ℕ) (l m : Listing) → IsIndexOfImage kind s image l → IsIndexOfImage kind s image m → l ≡ m
+index_one kind s image l m a b = a.lists ∙ (ap (listing_of kind s image) (cuts_one s image 0 a.ends b.ends a.cuts b.cuts) ∙ sym b.lists)
 
 -- so an image with too many cuts has no index that may be written
-pub index_many : (s : Sizes) (image : List ℕ) (l : Listing) → HasTooManyCuts s image → IsIndexOfImage s image l → 4194304 < count_of l
-index_many s image l many is =
+pub index_many : (kind : DigestKind) (s : Sizes) (image : List ℕ) (l : Listing) → HasTooManyCuts s image → IsIndexOfImage kind s image l → 4194304 < count_of l
+index_many kind s image l many is =
     let same : length many.ends ≡ length is.ends = ap length (cuts_one s image 0 many.ends is.ends many.cuts is.cuts) in
-    let count : count_of l ≡ length is.ends = ap count_of is.lists ∙ length-named_from kinds.Sha512T256 image 0 is.ends in
+    let count : count_of l ≡ length is.ends = ap count_of is.lists ∙ length-named_from kind image 0 is.ends in
     omega (arith, many.many)

@@ -6,14 +6,14 @@ use Rattle.chunk_ends.specs.Cuts.{IsCut}
 use Rattle.buzhash_cut.specs.Image.{HasTooManyCuts}
 use Rattle.chunk_ends.specs.Sizes.{Sizes}
 use Rattle.chunk_store.specs.Names.{name_of}
-use Rattle.chunk_store.specs.declared.id.DigestKind.TheVariants as kinds
+use Rattle.chunk_store.specs.declared.id.DigestKind.{DigestKind}
 use Rattle.dsy_base.specs.Bytes.{Held}
 
 -- the entry is that of the image's chunk that begins at `start`
-pub record IsCutEntry (s : Sizes) (image : List ℕ) (start : ℕ) (e : ℕ × List ℕ) : Type 0 where
+pub record IsCutEntry (kind : DigestKind) (s : Sizes) (image : List ℕ) (start : ℕ) (e : ℕ × List ℕ) : Type 0 where
   pub after : start < e.0
   pub cut : IsCut s (drop start image) (e.0 - start)
-  pub named : e.1 ≡ name_of kinds.Sha512T256 (slice_range image start e.0)
+  pub named : e.1 ≡ name_of kind (slice_range image start e.0)
 
 -- an entry's end is after `start`, by no more than the greatest size of a chunk
 abbrev pub IsStep : ℕ → ℕ → ℕ × List ℕ → Type 0
@@ -25,22 +25,22 @@ AreLinked P start [] end = start ≡ end
 AreLinked P start (e ∷ es) end = P start e × AreLinked P e.0 es end
 
 -- what cutting from `start` to `end` gives: the entries of the chunks of the bytes, where these are told
-pub record AreEntries (s : Sizes) (bytes : Option (List ℕ)) (start : ℕ) (es : List (ℕ × List ℕ)) (end : ℕ) :
-    Type 0
+pub record AreEntries (kind : DigestKind) (s : Sizes) (bytes : Option (List ℕ)) (start : ℕ) (es : List (ℕ × List ℕ))
+    (end : ℕ) : Type 0
   where
     pub steps : AreLinked (IsStep s.greatest) start es end
-    pub chunks : IfSome bytes (λ t. AreLinked (IsCutEntry s t) start es end)
+    pub chunks : IfSome bytes (λ t. AreLinked (IsCutEntry kind s t) start es end)
 
 -- what a worker leaves that cut from `start` on, however far it came
-pub record IsEntryRun (s : Sizes) (h : Held) (start : ℕ) (es : List (ℕ × List ℕ)) : Type 0 where
+pub record IsEntryRun (kind : DigestKind) (s : Sizes) (h : Held) (start : ℕ) (es : List (ℕ × List ℕ)) : Type 0 where
   pub end : ℕ
   pub inside : end ≤ h.size
-  pub entries : AreEntries s h.bytes start es end
+  pub entries : AreEntries kind s h.bytes start es end
 
 -- the entries of all chunks of the image
-pub record AreAll (s : Sizes) (h : Held) (es : List (ℕ × List ℕ)) : Type 0 where
+pub record AreAll (kind : DigestKind) (s : Sizes) (h : Held) (es : List (ℕ × List ℕ)) : Type 0 where
   pub few : length es ≤ item_limit
-  pub entries : AreEntries s h.bytes 0 es h.size
+  pub entries : AreEntries kind s h.bytes 0 es h.size
   pub sized : IfSome h.bytes (λ t. length t ≡ h.size)
 
 -- the bytes are told, and are cut into more chunks than an index may list; or they aren't told

@@ -18,21 +18,26 @@ named_from kind image start [] = []
 named_from kind image start (end ∷ ends) =
     (end, name_of kind (slice_range image start end)) ∷ named_from kind image end ends
 
+-- what the head of an index says that is made: casync's flag 0x8000000000000000, and that for SHA-512/256
+abbrev pub flags_of : DigestKind → ℕ
+flags_of kinds.Sha512T256 = 0xa000000000000000
+flags_of kinds.Sha256 = 0x8000000000000000
+
 -- the index that lists these ends
-abbrev pub listing_of : Sizes → List ℕ → List ℕ → Listing
-listing_of s image ends = record {
-  flags = 0xa000000000000000;
+abbrev pub listing_of : DigestKind → Sizes → List ℕ → List ℕ → Listing
+listing_of kind s image ends = record {
+  flags = flags_of kind;
   least = s.least;
   average = s.average;
   greatest = s.greatest;
-  entries = named_from kinds.Sha512T256 image 0 ends;
+  entries = named_from kind image 0 ends;
 }
 
--- l is the index of the image cut by these sizes
-pub record IsIndexOfImage (s : Sizes) (image : List ℕ) (l : Listing) : Type 0 where
+-- l is the index of the image cut by these sizes, its chunks named by this digest
+pub record IsIndexOfImage (kind : DigestKind) (s : Sizes) (image : List ℕ) (l : Listing) : Type 0 where
   pub ends : List ℕ
   pub cuts : AreCuts s image 0 ends
-  pub lists : l ≡ listing_of s image ends
+  pub lists : l ≡ listing_of kind s image ends
 
 -- the image is cut into more chunks than an index may list
 pub record HasTooManyCuts (s : Sizes) (image : List ℕ) : Type 0 where
@@ -41,11 +46,11 @@ pub record HasTooManyCuts (s : Sizes) (image : List ℕ) : Type 0 where
   pub many : item_limit < length ends
 
 -- what making the index of an image may answer
-abbrev pub IndexGiven : Sizes → List ℕ → Result Listing CutFault → Type 0
-IndexGiven s image (Ok l) = IsIndexOfImage s image l
-IndexGiven s image (Err faults.TooManyItems) = HasTooManyCuts s image
-IndexGiven s image (Err faults.ImageFault) = Unit {0}
-IndexGiven s image (Err faults.Memory) = Unit {0}
+abbrev pub IndexGiven : DigestKind → Sizes → List ℕ → Result Listing CutFault → Type 0
+IndexGiven kind s image (Ok l) = IsIndexOfImage kind s image l
+IndexGiven kind s image (Err faults.TooManyItems) = HasTooManyCuts s image
+IndexGiven kind s image (Err faults.ImageFault) = Unit {0}
+IndexGiven kind s image (Err faults.Memory) = Unit {0}
 
 -- what views hold is one image: they are of one size and, where they tell, of the same bytes
 abbrev pub AreOfOneImage : List Held → Type 0

@@ -11,6 +11,10 @@ piece_size = 65536
 abbrev pub begun_by : Slicer → ℕ
 begun_by c = c.start + c.cutter.begun
 
+-- they cut by the same sizes, and name by the same digest
+abbrev pub CutsAlike : Slicer → Slicer → Type 0
+CutsAlike old new = (new.kind ≡ old.kind) × (new.cutter.sizes ≡ old.cutter.sizes)
+
 -- the cutter was given as many bytes as lie between `start` and `at`, as many as are kept of the open chunk lie between
 -- where it begins and `at`, and there is room for what follows
 pub record IsWithin (c : Slicer) (size : ℕ) : Type 0 where

@@ -2,8 +2,9 @@
 
 ghost use Rattle.std.specs.Prelude.{◌≡◌, ◌≢◌, ℕ, ◌+◌, ◌<◌, ◌≤◌, [], ◌∷◌, ◌++◌, length, IfOk, IfErr, IfSome, OnOk};
 ghost use Rattle.std.specs.Prelude.{OnErr};
-ghost use Rattle.buzhash_cut.specs.Entries.{AreEntries, AreLinked, AreTooMany, IsEntryRun, IsStep};
-ghost use Rattle.buzhash_cut.specs.Slicing.{IsWithin, HasRead, begun_by};
+ghost use Rattle.buzhash_cut.specs.Entries.{AreLinked, AreTooMany, IsEntryRun, IsStep};
+ghost use Rattle.buzhash_cut.specs.Runs.{EntriesBy};
+ghost use Rattle.buzhash_cut.specs.Slicing.{CutsAlike, HasRead, IsWithin, begun_by};
 ghost use Rattle.caibx_codec.specs.Seen.{pair, pairs};
 ghost use Rattle.caibx_fields.specs.Limits.{item_limit};
 ghost use Rattle.dsy_base.specs.Counts.{CountsFaults};
@@ -66,23 +67,21 @@ pub(crate) fn cut_on<V: View>(
     requires read { IfSome (V.held view.old).bytes (HasRead slicer.old) }
     requires stop { stop ≤ (V.held view.old).size }
     requires few { length (pairs entries.old.items) ≤ item_limit }
-
     ensures end { IfOk result (λ e. (begun ≤ e) × (stop ≤ e) × (e ≤ (V.held view.old).size)) }
     ensures chunks { IfOk result (λ e. (base : ℕ) →
-        AreEntries slicer.old.cutter.sizes (V.held view.old).bytes base (pairs entries.old.items) begun
-        → AreEntries slicer.old.cutter.sizes (V.held view.old).bytes base (pairs entries.new.items) e) }
+        EntriesBy slicer.old (V.held view.old) base (pairs entries.old.items) begun →
+        EntriesBy slicer.old (V.held view.old) base (pairs entries.new.items) e) }
     ensures before { OnErr result ((base : ℕ) →
-        AreEntries slicer.old.cutter.sizes (V.held view.old).bytes base (pairs entries.old.items) begun
-        → IsEntryRun slicer.old.cutter.sizes (V.held view.old) base (pairs entries.new.items)) }
+        EntriesBy slicer.old (V.held view.old) base (pairs entries.old.items) begun
+        → IsEntryRun slicer.old.kind slicer.old.cutter.sizes (V.held view.old) base (pairs entries.new.items)) }
     ensures few { length (pairs entries.new.items) ≤ item_limit }
     ensures many { IfErr result (λ f. f ≡ CutFault.TooManyItems →
-        AreEntries slicer.old.cutter.sizes (V.held view.old).bytes 0 (pairs entries.old.items) begun
+        EntriesBy slicer.old (V.held view.old) 0 (pairs entries.old.items) begun
         → AreTooMany slicer.old.cutter.sizes (V.held view.old)) }
-
     ensures within { OnOk result (IsWithin slicer.new (V.held view.old).size) }
     ensures on { IfOk result (λ e. e < (V.held view.old).size → begun_by slicer.new ≡ e) }
     ensures read { OnOk result (IfSome (V.held view.old).bytes (HasRead slicer.new)) }
-    ensures sizes { slicer.new.cutter.sizes ≡ slicer.old.cutter.sizes }
+    ensures way { CutsAlike slicer.old slicer.new }
     ensures kept { V.held view.new ≡ V.held view.old }
     ensures faults { CountsFaults CutFault.ImageFault CutFault.Memory (V.faults view.old) (V.faults view.new) result }
 {

@@ -3,6 +3,7 @@
 ghost use Rattle.std.specs.Prelude.{◌≡◌, ◌<◌, [], length};
 ghost use Rattle.buzhash_cut.specs.Entries.{IsEntryRun};
 ghost use Rattle.chunk_ends.specs.Sizes.{Sizes};
+ghost use Rattle.chunk_store.specs.declared.id.DigestKind.{DigestKind};
 ghost use Rattle.caibx_codec.specs.Seen.{pairs};
 ghost use Rattle.dsy_base.specs.Bytes.{Held};
 
@@ -28,8 +29,9 @@ impl Run {
 
     /// The entries of the chunks from `at` on, where one of them begins there.
     pub(crate) fn from(&self, at: u64) -> &[Entry]
-        ensures chunks { 0 < length result.now → (s : Sizes) (h : Held) →
-            IsEntryRun s h self.now.start (pairs self.now.entries.items) → IsEntryRun s h at (pairs result.now) }
+        ensures chunks { 0 < length result.now → (kind : DigestKind) (s : Sizes) (h : Held) →
+            IsEntryRun kind s h self.now.start (pairs self.now.entries.items)
+            → IsEntryRun kind s h at (pairs result.now) }
     {
         if at == self.start {
             return &self.entries;
@@ -48,10 +50,6 @@ impl Run {
             return Some(self.start);
         }
         let i = self.entries.partition_point(|entry| entry.end <= at);
-        if i < self.entries.len() {
-            Some(self.entries[i].end)
-        } else {
-            None
-        }
+        self.entries.get(i).map(|entry| entry.end)
     }
 }

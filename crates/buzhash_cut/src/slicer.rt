@@ -5,7 +5,7 @@ ghost use Rattle.std.specs.Prelude.{◌≡◌, ℕ, ◌+◌, ◌-◌, ◌^◌, �
 ghost use Rattle.std.specs.Prelude.{IfSome, OnOk, MatchOption, List, drop, vec_len};
 ghost use Rattle.chunk_ends.specs.Cuts.{IsCut};
 ghost use Rattle.buzhash_cut.specs.Entries.{IsCutEntry};
-ghost use Rattle.buzhash_cut.specs.Slicing.{IsWithin, HasChunkOf, HasRead, begun_by, piece_size};
+ghost use Rattle.buzhash_cut.specs.Slicing.{CutsAlike, HasChunkOf, HasRead, IsWithin, begun_by, piece_size};
 ghost use Rattle.caibx_codec.specs.Seen.{pair};
 ghost use Rattle.dsy_base.specs.Counts.{CountsRefusals};
 
@@ -24,6 +24,7 @@ const PIECE: usize = 65_536;
 /// follow lie in the piece, between two places. The `kept` bytes of the open chunk stand at the front of `chunk`.
 #[derive(Drop)]
 pub(crate) struct Slicer {
+    kind: DigestKind,
     cutter: Cutter,
     start: u64,
     at: u64,
@@ -58,15 +59,16 @@ fn fill<V: View>(view: &mut V, piece: &mut [u8], at: u64) -> Result<usize, Faile
 }
 
 impl Slicer {
-    /// To cut an image of `size` bytes from `start` on.
+    /// To cut an image of `size` bytes from `start` on, and to name its chunks by this digest.
     pub(crate) fn new(
         alloc: Global,
+        kind: DigestKind,
         sizes: &CutSizes,
         size: u64,
         start: u64,
     ) -> Result<Slicer, AllocError>
         requires inside { start ≤ size }
-        ensures sizes { IfOk result (λ c. c.cutter.sizes ≡ sizes.now) }
+        ensures way { IfOk result (λ c. (c.kind ≡ kind) × (c.cutter.sizes ≡ sizes.now)) }
         ensures within { IfOk result (λ c. IsWithin c size) }
         ensures begun { IfOk result (λ c. begun_by c ≡ start) }
         ensures read { IfOk result (λ c. (t : List ℕ) → HasRead c t) }
@@ -77,6 +79,7 @@ impl Slicer {
         let piece = vec![in alloc; 0u8; PIECE]?;
         let chunk = vec![in alloc; 0u8; size.min(sizes.max()) as usize]?;
         Ok(Slicer {
+            kind,
             cutter,
             start,
             at: start,
@@ -90,7 +93,7 @@ impl Slicer {
 
     /// Begins anew, as if a chunk began at `start`.
     pub(crate) fn restart(&mut self, start: u64)
-        ensures sizes { self.new.cutter.sizes ≡ self.old.cutter.sizes }
+        ensures way { CutsAlike self.old self.new }
         ensures within { (size : ℕ) → IsWithin self.old size → start ≤ size → IsWithin self.new size }
         ensures begun { begun_by self.new ≡ start }
         ensures read { (t : List ℕ) → HasRead self.new t }
@@ -110,7 +113,7 @@ impl Slicer {
         ensures within { OnOk result (IsWithin self.new (V.held view.old).size) }
         ensures some { OnOk result (self.new.from < self.new.upto) }
         ensures same { (self.new.cutter ≡ self.old.cutter) × (self.new.start ≡ self.old.start)
-            × (self.new.at ≡ self.old.at) }
+            × (self.new.at ≡ self.old.at) × (self.new.kind ≡ self.old.kind) }
         ensures read { OnOk result (IfSome (V.held view.old).bytes (λ t. HasRead self.old t → HasRead self.new t)) }
         ensures kept { V.held view.new ≡ V.held view.old }
         ensures faults { CountsRefusals (V.faults view.old) (V.faults view.new) result }
@@ -130,6 +133,7 @@ impl Slicer {
         requires within { IsWithin self.old (V.held view.old).size }
         requires more { self.old.at < (V.held view.old).size }
         ensures within { OnOk result (IsWithin self.new (V.held view.old).size) }
+        ensures kind { self.new.kind ≡ self.old.kind }
         ensures same { (self.new.cutter.sizes ≡ self.old.cutter.sizes) × (self.new.start ≡ self.old.start) }
         ensures on { OnOk result (self.old.at < self.new.at) }
         ensures end { IfOk result (λ o. MatchOption o (begun_by self.new ≡ begun_by self.old)
@@ -164,7 +168,7 @@ impl Slicer {
         requires within { IsWithin self.old (V.held view.old).size }
         requires more { begun_by self.old < (V.held view.old).size }
         ensures within { OnOk result (IsWithin self.new (V.held view.old).size) }
-        ensures sizes { self.new.cutter.sizes ≡ self.old.cutter.sizes }
+        ensures way { CutsAlike self.old self.new }
         ensures end { IfOk result (λ e. (begun_by self.old < e) × (e ≤ (V.held view.old).size)
             × (e ≤ begun_by self.old + self.old.cutter.sizes.greatest)) }
         ensures on { IfOk result (λ e. e < (V.held view.old).size → begun_by self.new ≡ e) }
@@ -194,21 +198,18 @@ impl Slicer {
         requires within { IsWithin self.old (V.held view.old).size }
         requires more { begun < (V.held view.old).size }
         ensures within { OnOk result (IsWithin self.new (V.held view.old).size) }
-        ensures sizes { self.new.cutter.sizes ≡ self.old.cutter.sizes }
+        ensures way { CutsAlike self.old self.new }
         ensures end { IfOk result (λ e. (begun < e.end) × (e.end ≤ (V.held view.old).size)
             × (e.end ≤ begun + self.old.cutter.sizes.greatest)) }
         ensures on { IfOk result (λ e. e.end < (V.held view.old).size → begun_by self.new ≡ e.end) }
         ensures read { OnOk result (IfSome (V.held view.old).bytes (λ t. HasRead self.old t → HasRead self.new t)) }
         ensures chunk { IfOk result (λ e. IfSome (V.held view.old).bytes (λ t. HasRead self.old t
-            → IsCutEntry self.old.cutter.sizes t begun (pair e))) }
+            → IsCutEntry self.old.kind self.old.cutter.sizes t begun (pair e))) }
         ensures kept { V.held view.new ≡ V.held view.old }
         ensures faults { CountsRefusals (V.faults view.old) (V.faults view.new) result }
     {
         let end = self.next_end(view)?;
-        let id = ChunkId::of(
-            DigestKind::Sha512T256,
-            &self.chunk[..(end - begun) as usize],
-        );
+        let id = ChunkId::of(self.kind, &self.chunk[..(end - begun) as usize]);
         Ok(Entry { end, id })
     }
 }

@@ -2,10 +2,10 @@
 
 ghost use Rattle.std.specs.Prelude.{◌≡◌, ℕ, ◌<◌, ◌≤◌, length, All, IfOk, IfErr, IfSome, OnOk};
 ghost use Rattle.buzhash_cut.specs.Entries.{AreAll, AreEntries, AreTooMany, IsEntryRun};
-ghost use Rattle.buzhash_cut.specs.Runs.{AreRuns, Slices};
+ghost use Rattle.buzhash_cut.specs.Runs.{AreRuns, EntriesBy, Slices};
 ghost use Rattle.caibx_fields.specs.Limits.{item_limit};
 ghost use Rattle.chunk_ends.specs.Sizes.{Sizes};
-ghost use Rattle.buzhash_cut.specs.Slicing.{IsWithin};
+ghost use Rattle.buzhash_cut.specs.Slicing.{CutsAlike, IsWithin};
 ghost use Rattle.caibx_codec.specs.Seen.{pairs};
 ghost use Rattle.dsy_base.specs.Bytes.{Held};
 ghost use Rattle.dsy_base.specs.Counts.{CountsFaults};
@@ -17,6 +17,7 @@ use crate::slicer::Slicer;
 use crate::worker::Worker;
 use caibx_codec::index::Entry;
 use chunk_ends::sizes::CutSizes;
+use chunk_store::id::DigestKind;
 use dsy_base::view::View;
 use std::alloc::Global;
 use std::mem;
@@ -24,8 +25,8 @@ use std::mem;
 // The entries of the chunks from `at` on, where one of these runs has such.
 fn run_among(runs: &[Run], at: u64) -> Option<&[Entry]>
     ensures some { IfSome result (λ r. 0 < length r.now) }
-    ensures chunks { IfSome result (λ r. (s : Sizes) (h : Held) → AreRuns s h runs.now
-        → IsEntryRun s h at (pairs r.now)) }
+    ensures chunks { IfSome result (λ r. (kind : DigestKind) (s : Sizes) (h : Held) → AreRuns kind s h runs.now
+        → IsEntryRun kind s h at (pairs r.now)) }
 {
     for run in runs {
         let entries = run.from(at);
@@ -39,8 +40,8 @@ fn run_among(runs: &[Run], at: u64) -> Option<&[Entry]>
 // The entries of the chunks from `at` on, where some worker cut such.
 fn run_from<V: View>(others: &[Worker<V>], at: u64) -> Option<&[Entry]>
     ensures some { IfSome result (λ r. 0 < length r.now) }
-    ensures chunks { IfSome result (λ r. (s : Sizes) (h : Held) →
-        All (λ w. AreRuns s h w.runs.items) others.now → IsEntryRun s h at (pairs r.now)) }
+    ensures chunks { IfSome result (λ r. (kind : DigestKind) (s : Sizes) (h : Held) →
+        All (λ w. AreRuns kind s h w.runs.items) others.now → IsEntryRun kind s h at (pairs r.now)) }
 {
     for worker in others {
         if let Some(entries) = run_among(&worker.runs, at) {
@@ -88,19 +89,17 @@ fn walk_on<V: View>(
 ) -> Result<u64, CutFault>
     requires within { IsWithin slicer.old (V.held view.old).size }
     requires more { at < (V.held view.old).size }
-    requires runs { All (λ w. AreRuns slicer.old.cutter.sizes (V.held view.old) w.runs.items) others.now }
+    requires runs { All (λ w. AreRuns slicer.old.kind slicer.old.cutter.sizes (V.held view.old) w.runs.items)
+        others.now }
     requires few { length (pairs entries.old.items) ≤ item_limit }
-    requires chunks { AreEntries slicer.old.cutter.sizes (V.held view.old).bytes 0 (pairs entries.old.items) at }
-
+    requires chunks { EntriesBy slicer.old (V.held view.old) 0 (pairs entries.old.items) at }
     ensures end { IfOk result (λ e. (at < e) × (e ≤ (V.held view.old).size)) }
-    ensures chunks { IfOk result (λ e.
-        AreEntries slicer.old.cutter.sizes (V.held view.old).bytes 0 (pairs entries.new.items) e) }
+    ensures chunks { IfOk result (λ e. EntriesBy slicer.old (V.held view.old) 0 (pairs entries.new.items) e) }
     ensures few { OnOk result (length (pairs entries.new.items) ≤ item_limit) }
     ensures many { IfErr result (λ f. f ≡ CutFault.TooManyItems →
         AreTooMany slicer.old.cutter.sizes (V.held view.old)) }
-
     ensures within { OnOk result (IsWithin slicer.new (V.held view.old).size) }
-    ensures sizes { slicer.new.cutter.sizes ≡ slicer.old.cutter.sizes }
+    ensures way { CutsAlike slicer.old slicer.new }
     ensures kept { V.held view.new ≡ V.held view.old }
     ensures faults { CountsFaults CutFault.ImageFault CutFault.Memory (V.faults view.old) (V.faults view.new) result }
 {
@@ -122,10 +121,12 @@ fn walk<V: View>(
 ) -> Result<(), CutFault>
     requires within { IsWithin slicer.old (V.held view.old).size }
     requires inside { begun ≤ (V.held view.old).size }
-    requires runs { All (λ w. AreRuns slicer.old.cutter.sizes (V.held view.old) w.runs.items) others.now }
+    requires runs { All (λ w. AreRuns slicer.old.kind slicer.old.cutter.sizes (V.held view.old) w.runs.items)
+        others.now }
     requires few { length (pairs entries.old.items) ≤ item_limit }
-    requires chunks { AreEntries slicer.old.cutter.sizes (V.held view.old).bytes 0 (pairs entries.old.items) begun }
-    ensures all { OnOk result (AreAll slicer.old.cutter.sizes (V.held view.old) (pairs entries.new.items)) }
+    requires chunks { EntriesBy slicer.old (V.held view.old) 0 (pairs entries.old.items) begun }
+    ensures all { OnOk result
+        (AreAll slicer.old.kind slicer.old.cutter.sizes (V.held view.old) (pairs entries.new.items)) }
     ensures many { IfErr result (λ f. f ≡ CutFault.TooManyItems →
         AreTooMany slicer.old.cutter.sizes (V.held view.old)) }
     ensures kept { V.held view.new ≡ V.held view.old }
@@ -147,16 +148,17 @@ pub(crate) fn joined<V: View>(
     alloc: Global,
     first: &mut Worker<V>,
     others: &[Worker<V>],
+    kind: DigestKind,
     sizes: &CutSizes,
 ) -> Result<Vec<Entry>, CutFault>
-    requires runs { All (λ w. AreRuns sizes.now (V.held first.old.view) w.runs.items) others.now }
+    requires runs { All (λ w. AreRuns kind sizes.now (V.held first.old.view) w.runs.items) others.now }
     requires few { length (pairs first.old.entries.items) ≤ item_limit }
-    requires slices { OnOk first.old.end (Slices sizes.now (V.held first.old.view).size first.old.slicer) }
+    requires slices { OnOk first.old.end (Slices kind sizes.now (V.held first.old.view).size first.old.slicer) }
     requires end { IfOk first.old.end (λ e. (e ≤ (V.held first.old.view).size)
-        × AreEntries sizes.now (V.held first.old.view).bytes 0 (pairs first.old.entries.items) e) }
+        × AreEntries kind sizes.now (V.held first.old.view).bytes 0 (pairs first.old.entries.items) e) }
     requires many { IfErr first.old.end (λ f. f ≡ CutFault.TooManyItems
         → AreTooMany sizes.now (V.held first.old.view)) }
-    ensures all { IfOk result (λ v. AreAll sizes.now (V.held first.old.view) (pairs v.items)) }
+    ensures all { IfOk result (λ v. AreAll kind sizes.now (V.held first.old.view) (pairs v.items)) }
     ensures many { IfErr result (λ f. f ≡ CutFault.TooManyItems → AreTooMany sizes.now (V.held first.old.view)) }
     ensures kept { V.held first.new.view ≡ V.held first.old.view }
     // Over cutting the first part and this call.
@@ -168,7 +170,7 @@ pub(crate) fn joined<V: View>(
         Ok(begun) => begun,
         Err(fault) => return Err(fault),
     };
-    let Ok(mut slicer) = first.take_slicer(alloc, sizes) else {
+    let Ok(mut slicer) = first.take_slicer(alloc, kind, sizes) else {
         return Err(CutFault::Memory);
     };
     let mut entries = mem::replace(&mut first.entries, Vec::new(alloc));

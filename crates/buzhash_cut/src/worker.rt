@@ -1,9 +1,9 @@
 //! A worker that cuts an image beside others. Offsets are in bytes.
 
 ghost use Rattle.std.specs.Prelude.{◌≡◌, ◌<◌, ◌≤◌, [], length, IfOk, IfErr, IfSome, OnOk};
-ghost use Rattle.buzhash_cut.specs.Entries.{AreEntries, AreTooMany, IsEntryRun};
-ghost use Rattle.buzhash_cut.specs.Runs.{AreRuns, HasCut, HasCutFirst, IsReady, Slices};
-ghost use Rattle.buzhash_cut.specs.Slicing.{IsWithin, HasRead, begun_by};
+ghost use Rattle.buzhash_cut.specs.Entries.{AreTooMany, IsEntryRun};
+ghost use Rattle.buzhash_cut.specs.Runs.{AreRuns, EntriesBy, HasCut, HasCutFirst, IsReady, Slices};
+ghost use Rattle.buzhash_cut.specs.Slicing.{CutsAlike, HasRead, IsWithin, begun_by};
 ghost use Rattle.caibx_codec.specs.Seen.{pairs};
 ghost use Rattle.caibx_fields.specs.Limits.{item_limit};
 ghost use Rattle.chunk_ends.specs.Sizes.{Sizes};
@@ -16,6 +16,7 @@ use crate::run::Run;
 use crate::slicer::Slicer;
 use caibx_codec::index::Entry;
 use chunk_ends::sizes::CutSizes;
+use chunk_store::id::DigestKind;
 use dsy_base::view::View;
 use std::alloc::{AllocError, Global};
 
@@ -56,17 +57,15 @@ fn cut_past<V: View>(
     requires inside { begun ≤ (V.held view.old).size }
     requires read { IfSome (V.held view.old).bytes (HasRead slicer.old) }
     requires few { length (pairs entries.old.items) ≤ item_limit }
-    requires chunks { AreEntries slicer.old.cutter.sizes (V.held view.old).bytes start (pairs entries.old.items) begun }
-
+    requires chunks { EntriesBy slicer.old (V.held view.old) start (pairs entries.old.items) begun }
     ensures end { IfOk result (λ e. (e ≤ (V.held view.old).size)
-        × AreEntries slicer.old.cutter.sizes (V.held view.old).bytes start (pairs entries.new.items) e) }
-    ensures run { IsEntryRun slicer.old.cutter.sizes (V.held view.old) start (pairs entries.new.items) }
+        × EntriesBy slicer.old (V.held view.old) start (pairs entries.new.items) e) }
+    ensures run { IsEntryRun slicer.old.kind slicer.old.cutter.sizes (V.held view.old) start (pairs entries.new.items) }
     ensures few { length (pairs entries.new.items) ≤ item_limit }
     ensures many { IfErr result (λ f. f ≡ CutFault.TooManyItems → start ≡ 0
         → AreTooMany slicer.old.cutter.sizes (V.held view.old)) }
-
     ensures within { OnOk result (IsWithin slicer.new (V.held view.old).size) }
-    ensures sizes { slicer.new.cutter.sizes ≡ slicer.old.cutter.sizes }
+    ensures way { CutsAlike slicer.old slicer.new }
     ensures kept { V.held view.new ≡ V.held view.old }
     ensures faults { CountsFaults CutFault.ImageFault CutFault.Memory (V.faults view.old) (V.faults view.new) result }
 {
@@ -94,9 +93,10 @@ fn cut_run<V: View>(
     requires inside { (run.old.start ≤ (V.held view.old).size) × (stop ≤ (V.held view.old).size) }
     requires none { run.old.entries.items ≡ [] }
     ensures start { run.new.start ≡ run.old.start }
-    ensures run { IsEntryRun slicer.old.cutter.sizes (V.held view.old) run.old.start (pairs run.new.entries.items) }
+    ensures run { IsEntryRun slicer.old.kind slicer.old.cutter.sizes (V.held view.old) run.old.start
+        (pairs run.new.entries.items) }
     ensures within { OnOk result (IsWithin slicer.new (V.held view.old).size) }
-    ensures sizes { slicer.new.cutter.sizes ≡ slicer.old.cutter.sizes }
+    ensures way { CutsAlike slicer.old slicer.new }
     ensures kept { V.held view.new ≡ V.held view.old }
     ensures faults { V.faults view.old ≤ V.faults view.new }
 {
@@ -117,15 +117,13 @@ fn cut_steps<V: View>(
     requires alike { blocks.now.size ≡ (V.held view.old).size }
     requires within { IsWithin slicer.old (V.held view.old).size }
     requires none { pairs entries.old.items ≡ [] }
-
     ensures end { IfOk result (λ e. (e ≤ (V.held view.old).size)
-        × AreEntries slicer.old.cutter.sizes (V.held view.old).bytes 0 (pairs entries.new.items) e) }
+        × EntriesBy slicer.old (V.held view.old) 0 (pairs entries.new.items) e) }
     ensures few { length (pairs entries.new.items) ≤ item_limit }
     ensures many { IfErr result (λ f. f ≡ CutFault.TooManyItems
         → AreTooMany slicer.old.cutter.sizes (V.held view.old)) }
-
     ensures within { OnOk result (IsWithin slicer.new (V.held view.old).size) }
-    ensures sizes { slicer.new.cutter.sizes ≡ slicer.old.cutter.sizes }
+    ensures way { CutsAlike slicer.old slicer.new }
     ensures kept { V.held view.new ≡ V.held view.old }
     ensures faults { CountsFaults CutFault.ImageFault CutFault.Memory (V.faults view.old) (V.faults view.new) result }
 {
@@ -133,10 +131,7 @@ fn cut_steps<V: View>(
     let mut at = 0;
     let mut stop = blocks.reach(at);
     while at < stop {
-        at = match cut_on(view, slicer, at, stop, entries) {
-            Ok(end) => end,
-            Err(fault) => return Err(fault),
-        };
+        at = cut_on(view, slicer, at, stop, entries)?;
         stop = blocks.reach(at);
     }
     cut_past(view, slicer, blocks, 0, at, entries)
@@ -152,7 +147,8 @@ impl<V: View> Worker<V> {
     ) -> Worker<V>
         requires none { entries.items ≡ [] }
         ensures view { result.view ≡ view }
-        ensures none { (s : Sizes) → Slices s (V.held view).size slicer → IsReady V.held s result }
+        ensures none { (kind : DigestKind) (s : Sizes) → Slices kind s (V.held view).size slicer
+            → IsReady V.held kind s result }
     {
         Worker {
             view,
@@ -167,27 +163,35 @@ impl<V: View> Worker<V> {
     pub(crate) fn take_slicer(
         &mut self,
         alloc: Global,
+        kind: DigestKind,
         sizes: &CutSizes,
     ) -> Result<Slicer, AllocError>
-        requires slices { Slices sizes.now (V.held self.old.view).size self.old.slicer }
-        ensures ok { IfOk result (λ c. (c.cutter.sizes ≡ sizes.now) × IsWithin c (V.held self.old.view).size) }
+        requires slices { Slices kind sizes.now (V.held self.old.view).size self.old.slicer }
+        ensures ok { IfOk result (λ c. (c.kind ≡ kind) × (c.cutter.sizes ≡ sizes.now)
+            × IsWithin c (V.held self.old.view).size) }
         ensures kept { (self.new.view ≡ self.old.view) × (self.new.entries ≡ self.old.entries)
             × (self.new.end ≡ self.old.end) × (self.new.runs ≡ self.old.runs) }
     {
         match self.slicer.take() {
             Some(slicer) => Ok(slicer),
-            None => Slicer::new(alloc, sizes, self.view.size(), 0),
+            None => Slicer::new(alloc, kind, sizes, self.view.size(), 0),
         }
     }
 
     /// Cuts as the first worker does, and keeps its slicer.
-    pub(crate) fn cut_first(&mut self, alloc: Global, sizes: &CutSizes, blocks: &Blocks)
+    pub(crate) fn cut_first(
+        &mut self,
+        alloc: Global,
+        kind: DigestKind,
+        sizes: &CutSizes,
+        blocks: &Blocks,
+    )
         requires alike { blocks.now.size ≡ (V.held self.old.view).size }
-        requires none { IsReady V.held sizes.now self.old }
-        ensures cut { HasCut V.held V.faults sizes.now self.old self.new }
-        ensures first { HasCutFirst V.held V.faults sizes.now self.old self.new }
+        requires none { IsReady V.held kind sizes.now self.old }
+        ensures cut { HasCut V.held V.faults kind sizes.now self.old self.new }
+        ensures first { HasCutFirst V.held V.faults kind sizes.now self.old self.new }
     {
-        let Ok(mut slicer) = self.take_slicer(alloc, sizes) else {
+        let Ok(mut slicer) = self.take_slicer(alloc, kind, sizes) else {
             self.end = Err(CutFault::Memory);
             blocks.close();
             return;
@@ -211,10 +215,10 @@ impl<V: View> Worker<V> {
         requires alike { blocks.now.size ≡ (V.held self.old.view).size }
         requires within { IsWithin slicer.old (V.held self.old.view).size }
         requires inside { (start ≤ (V.held self.old.view).size) × (stop ≤ (V.held self.old.view).size) }
-        requires runs { AreRuns slicer.old.cutter.sizes (V.held self.old.view) self.old.runs.items }
-        ensures runs { AreRuns slicer.old.cutter.sizes (V.held self.old.view) self.new.runs.items }
+        requires runs { AreRuns slicer.old.kind slicer.old.cutter.sizes (V.held self.old.view) self.old.runs.items }
+        ensures runs { AreRuns slicer.old.kind slicer.old.cutter.sizes (V.held self.old.view) self.new.runs.items }
         ensures within { OnOk result (IsWithin slicer.new (V.held self.old.view).size) }
-        ensures sizes { slicer.new.cutter.sizes ≡ slicer.old.cutter.sizes }
+        ensures way { CutsAlike slicer.old slicer.new }
         ensures kept { V.held self.new.view ≡ V.held self.old.view }
         ensures faults { V.faults self.old.view ≤ V.faults self.new.view }
     {
@@ -227,12 +231,18 @@ impl<V: View> Worker<V> {
     }
 
     /// Cuts blocks as long as there are any, each to its end and past it.
-    pub(crate) fn cut_blocks(&mut self, alloc: Global, sizes: &CutSizes, blocks: &Blocks)
+    pub(crate) fn cut_blocks(
+        &mut self,
+        alloc: Global,
+        kind: DigestKind,
+        sizes: &CutSizes,
+        blocks: &Blocks,
+    )
         requires alike { blocks.now.size ≡ (V.held self.old.view).size }
-        requires none { IsReady V.held sizes.now self.old }
-        ensures cut { HasCut V.held V.faults sizes.now self.old self.new }
+        requires none { IsReady V.held kind sizes.now self.old }
+        ensures cut { HasCut V.held V.faults kind sizes.now self.old self.new }
     {
-        let Ok(mut slicer) = self.take_slicer(alloc, sizes) else {
+        let Ok(mut slicer) = self.take_slicer(alloc, kind, sizes) else {
             return;
         };
         // There are no more blocks than bytes.

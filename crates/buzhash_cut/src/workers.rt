@@ -14,6 +14,7 @@ use crate::walk::joined;
 use crate::worker::Worker;
 use caibx_codec::index::Entry;
 use chunk_ends::sizes::CutSizes;
+use chunk_store::id::DigestKind;
 use dsy_base::view::View;
 use std::alloc::Global;
 use std::thread;
@@ -56,13 +57,19 @@ fn thread_count(workers: usize, spare: &Option<Vec<u8>>) -> usize
 }
 
 // The slicer of the first worker, if there is room for it; another worker gets none yet.
-fn slicer_ahead(alloc: Global, sizes: &CutSizes, size: u64, is_first: bool) -> Option<Slicer>
-    ensures { Slices sizes.now size result }
+fn slicer_ahead(
+    alloc: Global,
+    kind: DigestKind,
+    sizes: &CutSizes,
+    size: u64,
+    is_first: bool,
+) -> Option<Slicer>
+    ensures { Slices kind sizes.now size result }
 {
     if !is_first {
         return None;
     }
-    Slicer::new(alloc, sizes, size, 0).ok()
+    Slicer::new(alloc, kind, sizes, size, 0).ok()
 }
 
 // The list of entries of the first worker, with room for those of the image, if there is as much; another worker's has
@@ -82,6 +89,7 @@ fn entries_ahead(alloc: Global, sizes: &CutSizes, size: u64, is_first: bool) -> 
 /// Gives each view to a worker. The first one comes last.
 pub(crate) fn hire<V: View>(
     alloc: Global,
+    kind: DigestKind,
     sizes: &CutSizes,
     views: &mut Vec<V>,
     workers: &mut Vec<Worker<V>>,
@@ -89,13 +97,13 @@ pub(crate) fn hire<V: View>(
     requires none { workers.old.items ≡ [] }
     requires room { vec_len views.old ≤ vec_capacity workers.old }
     ensures views { views.old.items ≡ reverse (map (λ w. w.view) workers.new.items) }
-    ensures ready { All (IsReady V.held sizes.now) workers.new.items }
+    ensures ready { All (IsReady V.held kind sizes.now) workers.new.items }
     ensures none { views.new.items ≡ [] }
     ensures room { vec_len workers.new ≤ vec_capacity views.new }
 {
     while let Some(view) = views.pop() {
         let is_first = views.is_empty();
-        let slicer = slicer_ahead(alloc, sizes, view.size(), is_first);
+        let slicer = slicer_ahead(alloc, kind, sizes, view.size(), is_first);
         let entries = entries_ahead(alloc, sizes, view.size(), is_first);
         let Ok(()) = workers.push(Worker::new(alloc, view, slicer, entries)) else {
             unreachable!();
@@ -121,14 +129,15 @@ fn cut_all<R: Threads + Sync, V: View + Send>(
     rt: &R,
     alloc: Global,
     workers: &mut [Worker<V>],
+    kind: DigestKind,
     sizes: &CutSizes,
 )
     requires some { 0 < length workers.old }
     requires alike { AreOfOneImage (map (λ w. V.held w.view) workers.old) }
-    requires none { All (IsReady V.held sizes.now) workers.old }
+    requires none { All (IsReady V.held kind sizes.now) workers.old }
     ensures cut { (k : ℕ) (d : Worker V) → k < length workers.old →
-        HasCut V.held V.faults sizes.now (slice_index_or workers.old k d) (slice_index_or workers.new k d) }
-    ensures first { (d : Worker V) → HasCutFirst V.held V.faults sizes.now
+        HasCut V.held V.faults kind sizes.now (slice_index_or workers.old k d) (slice_index_or workers.new k d) }
+    ensures first { (d : Worker V) → HasCutFirst V.held V.faults kind sizes.now
         (slice_index_or workers.old (length workers.old - 1) d)
         (slice_index_or workers.new (length workers.old - 1) d) }
     ensures kept { map (λ w. V.held w.view) workers.new ≡ map (λ w. V.held w.view) workers.old }
@@ -146,14 +155,14 @@ fn cut_all<R: Threads + Sync, V: View + Send>(
         threads,
         &|number, worker: &mut Worker<V>|
             requires alike { shared.now.size ≡ (V.held worker.old.view).size }
-            requires none { IsReady V.held sizes.now worker.old }
-            ensures cut { HasCut V.held V.faults sizes.entry.now worker.old worker.new }
-            ensures first { number ≡ last → HasCutFirst V.held V.faults sizes.entry.now worker.old worker.new }
+            requires none { IsReady V.held kind sizes.now worker.old }
+            ensures cut { HasCut V.held V.faults kind sizes.entry.now worker.old worker.new }
+            ensures first { number ≡ last → HasCutFirst V.held V.faults kind sizes.entry.now worker.old worker.new }
         {
             if number == last {
-                worker.cut_first(alloc, sizes, shared);
+                worker.cut_first(alloc, kind, sizes, shared);
             } else {
-                worker.cut_blocks(alloc, sizes, shared);
+                worker.cut_blocks(alloc, kind, sizes, shared);
             }
         },
     );
@@ -164,12 +173,13 @@ pub(crate) fn entries_by<R: Threads + Sync, V: View + Send>(
     rt: &R,
     alloc: Global,
     workers: &mut Vec<Worker<V>>,
+    kind: DigestKind,
     sizes: &CutSizes,
 ) -> Result<Vec<Entry>, CutFault>
     requires some { 0 < vec_len workers.old }
     requires alike { AreOfOneImage (map (λ w. V.held w.view) workers.old.items) }
-    requires none { All (IsReady V.held sizes.now) workers.old.items }
-    ensures all { IfOk result (λ v. All (λ h. AreAll sizes.now h (pairs v.items))
+    requires none { All (IsReady V.held kind sizes.now) workers.old.items }
+    ensures all { IfOk result (λ v. All (λ h. AreAll kind sizes.now h (pairs v.items))
         (map (λ w. V.held w.view) workers.old.items)) }
     ensures many { IfErr result (λ f. f ≡ CutFault.TooManyItems →
         All (AreTooMany sizes.now) (map (λ w. V.held w.view) workers.old.items)) }
@@ -179,11 +189,11 @@ pub(crate) fn entries_by<R: Threads + Sync, V: View + Send>(
         (reverse (map (λ w. V.faults w.view) workers.old.items))
         (reverse (map (λ w. V.faults w.view) workers.new.items)) result }
 {
-    cut_all(rt, alloc, workers, sizes);
+    cut_all(rt, alloc, workers, kind, sizes);
     let Some(mut first) = workers.pop() else {
         unreachable!();
     };
-    let made = joined(alloc, &mut first, workers, sizes);
+    let made = joined(alloc, &mut first, workers, kind, sizes);
     let Ok(()) = workers.push(first) else {
         unreachable!();
     };

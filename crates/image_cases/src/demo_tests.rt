@@ -1,6 +1,7 @@
 //! Images by the worked examples.
 
 use crate::compare::{ok, same};
+use chunk_store::id::DigestKind;
 use image_demo::bytes;
 use image_demo::demo::demo_figures;
 use image_demo::figures::Figures;
@@ -24,7 +25,7 @@ fn one_byte_is_fetched(rt: HostRuntime) {
     same(&rt, image.as_slice(), b"\x7e".as_slice());
     same(
         &rt,
-        demo_figures(&rt, rt.alloc(), 7, 1, 1),
+        demo_figures(&rt, rt.alloc(), 7, 1, 1, DigestKind::Sha512T256),
         Ok(fetched(1, 1)),
     );
 }
@@ -33,12 +34,21 @@ fn one_byte_is_fetched(rt: HostRuntime) {
 fn numbers_of_workers_beyond_the_bounds_count_as_the_bounds(rt: HostRuntime) {
     same(
         &rt,
-        demo_figures(&rt, rt.alloc(), 7, 1, 0),
+        demo_figures(&rt, rt.alloc(), 7, 1, 0, DigestKind::Sha512T256),
         Ok(fetched(1, 1)),
     );
     same(
         &rt,
-        demo_figures(&rt, rt.alloc(), 7, 1, 33),
+        demo_figures(&rt, rt.alloc(), 7, 1, 33, DigestKind::Sha512T256),
+        Ok(fetched(1, 1)),
+    );
+}
+
+#[test]
+fn one_byte_is_fetched_by_either_digest(rt: HostRuntime) {
+    same(
+        &rt,
+        demo_figures(&rt, rt.alloc(), 7, 1, 1, DigestKind::Sha256),
         Ok(fetched(1, 1)),
     );
 }
@@ -47,7 +57,7 @@ fn numbers_of_workers_beyond_the_bounds_count_as_the_bounds(rt: HostRuntime) {
 fn no_bytes_take_nothing(rt: HostRuntime) {
     same(
         &rt,
-        demo_figures(&rt, rt.alloc(), 7, 0, 10),
+        demo_figures(&rt, rt.alloc(), 7, 0, 10, DigestKind::Sha512T256),
         Ok(fetched(0, 0)),
     );
 }

@@ -1,5 +1,9 @@
 //! Indexes of small images, and the names of their chunks. Sizes are in bytes.
 
+ghost use Rattle.std.specs.Prelude.{◌≡◌};
+ghost use Rattle.caibx_codec.specs.Listing.{kind_of};
+ghost use Rattle.chunk_store.specs.declared.id.DigestKind.TheVariants as kinds;
+
 use crate::compare::ok;
 use caibx_codec::index::{Entry, Index};
 use chunk_store::id::{ChunkId, DigestKind};
@@ -38,13 +42,26 @@ pub fn index_of(rt: &impl Abort, alloc: Global, names: &[&str]) -> Index {
     )
 }
 
+/// The same index, whose chunks are named by SHA-512/256.
+pub fn by_sha512(rt: &impl Abort, index: Index) -> Index
+    ensures { kind_of result ≡ kinds.Sha512T256 }
+{
+    let by = match index.kind() {
+        DigestKind::Sha512T256 => Some(index),
+        DigestKind::Sha256 => None,
+    };
+    by.expect(rt, "an index by SHA-512/256")
+}
+
 /// The id of these bytes.
 pub fn id_of_piece(piece: &[u8]) -> ChunkId {
     ChunkId::of(DigestKind::Sha512T256, piece)
 }
 
 /// The index of an image in these pieces.
-pub fn index_of_pieces(rt: &impl Abort, alloc: Global, pieces: &[&[u8]]) -> Index {
+pub fn index_of_pieces(rt: &impl Abort, alloc: Global, pieces: &[&[u8]]) -> Index
+    ensures { kind_of result ≡ kinds.Sha512T256 }
+{
     let mut entries = Vec::new(alloc);
     let mut end = 0u64;
     for piece in pieces {
@@ -52,5 +69,6 @@ pub fn index_of_pieces(rt: &impl Abort, alloc: Global, pieces: &[&[u8]]) -> Inde
         let id = id_of_piece(piece);
         ok(rt, entries.push(Entry { end, id }));
     }
-    ok(rt, Index::new(0xa000_0000_0000_0000, 1, 2, 64, entries))
+    let index = ok(rt, Index::new(0xa000_0000_0000_0000, 1, 2, 64, entries));
+    by_sha512(rt, index)
 }

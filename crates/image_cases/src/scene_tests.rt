@@ -2,11 +2,12 @@
 
 ghost use Rattle.std.specs.Prelude.{◌≡◌, ◌≤◌, length, vec_len};
 ghost use Rattle.std.specs.List.{All};
+ghost use Rattle.caibx_codec.specs.Listing.{kind_of};
 ghost use Rattle.chunk_store.specs.declared.id.DigestKind.TheVariants as kinds;
 
 use crate::assembly_tests::target_of;
 use crate::compare::{ok, same};
-use crate::indexes::id_of_piece;
+use crate::indexes::{by_sha512, id_of_piece};
 use assembler::fault::ExtractFault;
 use byte_forms::mem_view::MemView;
 use byte_forms::ranges::RangeFails;
@@ -62,7 +63,9 @@ fn numbers(rt: &impl Abort, alloc: Global, chance: &mut Chance, count: u64, most
 }
 
 // The index of an image of the chunks with these numbers.
-fn index_of(rt: &impl Abort, alloc: Global, image: &[u64]) -> Index {
+fn index_of(rt: &impl Abort, alloc: Global, image: &[u64]) -> Index
+    ensures { kind_of result ≡ kinds.Sha512T256 }
+{
     let mut entries = Vec::new(alloc);
     let mut end = 0u64;
     for number in image {
@@ -70,7 +73,8 @@ fn index_of(rt: &impl Abort, alloc: Global, image: &[u64]) -> Index {
         let id = id_of_piece(&chunk(*number));
         ok(rt, entries.push(Entry { end, id }));
     }
-    ok(rt, Index::new(0xa000_0000_0000_0000, 1, 2, 64, entries))
+    let index = ok(rt, Index::new(0xa000_0000_0000_0000, 1, 2, 64, entries));
+    by_sha512(rt, index)
 }
 
 // The bytes of such an image, in which each chunk is another one where its mark is 0.

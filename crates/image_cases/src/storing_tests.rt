@@ -43,13 +43,14 @@ fn one_view<V: View>(rt: &impl Abort, alloc: Global, view: V) -> Vec<V>
 fn stores<R: Abort + Threads + Sync>(
     rt: &R,
     alloc: Global,
+    kind: DigestKind,
     image: &[u8],
     store: ScriptedStore,
 ) -> (ScriptedStore, Result<usize, MakeFault>) {
     let views = one_view(rt, alloc, view_of(rt, alloc, image));
     let sizes = sizes_of(rt, 48, 48, 48);
     let inner = NoFolders::of(alloc, "");
-    let (_views, store, made) = store_image(rt, alloc, &sizes, views, store, &inner);
+    let (_views, store, made) = store_image(rt, alloc, &sizes, kind, views, store, &inner);
     match made {
         Ok(bytes) => (store, Ok(bytes.len())),
         Err(fault) => (store, Err(fault)),
@@ -75,7 +76,13 @@ fn abc_is_stored<R: Abort + Threads + Sync>(
     given: Result<&[u8], GetFault>,
 ) {
     let id = ChunkId::of(DigestKind::Sha512T256, b"abc");
-    let (mut store, made) = stores(rt, alloc, b"abc", ScriptedStore::new(alloc, refuses));
+    let (mut store, made) = stores(
+        rt,
+        alloc,
+        DigestKind::Sha512T256,
+        b"abc",
+        ScriptedStore::new(alloc, refuses),
+    );
     same(rt, made, want);
     gives(rt, &mut store, &id, given);
 }
@@ -89,6 +96,28 @@ fn an_image_is_stored_or_its_store_is_at_fault(rt: HostRuntime) {
     abc_is_stored(&rt, alloc, Refuses::Nothing, Ok(144), Ok(b"abc"));
     abc_is_stored(&rt, alloc, Refuses::Call(0), fault, missing);
     abc_is_stored(&rt, alloc, Refuses::Call(1), fault, missing);
+}
+
+// Stores "abc" by this digest, and by no other.
+fn abc_is_stored_by<R: Abort + Threads + Sync>(
+    rt: &R,
+    alloc: Global,
+    kind: DigestKind,
+    other: DigestKind,
+) {
+    let store = ScriptedStore::new(alloc, Refuses::Nothing);
+    let (mut store, made) = stores(rt, alloc, kind, b"abc", store);
+    same(rt, made, Ok(144));
+    gives(rt, &mut store, &ChunkId::of(kind, b"abc"), Ok(b"abc"));
+    let missing = Err(GetFault::Missing);
+    gives(rt, &mut store, &ChunkId::of(other, b"abc"), missing);
+}
+
+#[test]
+fn an_image_is_stored_by_the_digest_that_is_said(rt: HostRuntime) {
+    let alloc = rt.alloc();
+    abc_is_stored_by(&rt, alloc, DigestKind::Sha512T256, DigestKind::Sha256);
+    abc_is_stored_by(&rt, alloc, DigestKind::Sha256, DigestKind::Sha512T256);
 }
 
 // Stores an image of three chunks, of which two are alike, by this many calls and puts.
@@ -105,7 +134,7 @@ fn store_three<R: Abort + Threads + Sync>(
     image[98] = b'c';
     let calls = store.calls().saturating_add(calls);
     let puts = store.puts().saturating_add(puts);
-    let (store, made) = stores(rt, alloc, &image, store);
+    let (store, made) = stores(rt, alloc, DigestKind::Sha512T256, &image, store);
     same(rt, made.is_ok(), true);
     same(rt, store.calls(), calls);
     same(rt, store.puts(), puts);
@@ -257,7 +286,15 @@ fn stored_twice<R: Abort + Threads + Sync>(
     let store = ScriptedStore::new(alloc, Refuses::Nothing);
     let sizes = sizes_of(rt, 48, 48, 48);
     let inner = NoFolders::of(alloc, "");
-    let (views, store, stored) = store_image(rt, alloc, &sizes, views, store, &inner);
+    let (views, store, stored) = store_image(
+        rt,
+        alloc,
+        &sizes,
+        DigestKind::Sha512T256,
+        views,
+        store,
+        &inner,
+    );
     let (calls, reads, want) = told;
     same(rt, store.calls(), calls);
     assert!(rt; 0 < views.len());
@@ -304,7 +341,15 @@ fn stored_by<R: Abort + Threads + Sync>(
     let views = views_of(rt, alloc, image, count);
     let store = ScriptedStore::new(alloc, Refuses::Nothing);
     let inner = NoFolders::of(alloc, "");
-    let (_views, store, stored) = store_image(rt, alloc, &sizes, views, store, &inner);
+    let (_views, store, stored) = store_image(
+        rt,
+        alloc,
+        &sizes,
+        DigestKind::Sha512T256,
+        views,
+        store,
+        &inner,
+    );
     (ok(rt, stored), store)
 }
 

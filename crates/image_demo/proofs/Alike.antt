@@ -10,7 +10,7 @@ use Rattle.chunk_sources.specs.Caches.{TakesListed}
 use Rattle.chunk_sources.specs.Economy.{source_of}
 use Rattle.chunk_sources.specs.Sources.{SourcesQuiet, views_of}
 use Rattle.chunk_sources.specs.declared.kit.Kit.{Kit}
-use Rattle.chunk_store.specs.declared.id.DigestKind.TheVariants as kinds
+use Rattle.chunk_store.specs.declared.id.DigestKind.{DigestKind}
 use Rattle.chunk_store.specs.declared.store.Store.{Ghosts as StoreWords}
 use Rattle.dsy_base.specs.Bytes.{Held, resized}
 use Rattle.dsy_base.specs.Maps.{Map}
@@ -26,17 +26,21 @@ use Rattle.image_workers.specs.Kits.{AreKitsAlike, IsAssembledBy, at_kit}
 use Rattle.range_survey.specs.declared.report.Report.{Report}
 use Rattle.store_chain.specs.Chains.{Chained}
 
+-- kits that name chunks by one digest do by what equals it
+pub kits_as : {S V : Type 0} (a b : DigestKind) → a ≡ b → (s : S) (v : V) (kits : List (Kit S V)) → All (IsKitOf a s v) kits → All (IsKitOf b s v) kits
+kits_as a b is s v kits all = subst (λ k. All (IsKitOf k s v) kits) is all
+
 -- the first of some
 pub first_of : {X : Type 0} (xs : List X) → 1 ≤ length xs → X
 first_of [] some = absurd (omega (arith, some))
 first_of (x ∷ xs) some = x
 
-module _ {S V : Type 0} (s : S) (v : V) (kits : List (Kit S V)) (all : All (IsKitOf s v) kits) where
-  -- each of them takes places in one seed, and names chunks as indexes do
+module _ {S V : Type 0} (kind : DigestKind) (s : S) (v : V) (kits : List (Kit S V)) (all : All (IsKitOf kind s v) kits) where
+  -- each of them takes places in one seed, and names chunks by this digest
   pub places_known : (l : Listing) (d : Deal) (x : Placed) → PlacesKnown l d x 1 → All (λ k. PlacesKnown l d x (length k.seeds.items)) kits
   places_known l d x known = λ n k lt. subst (λ (z : List (Seed V)). PlacesKnown l d x (length z)) (sym (all n k lt).seeds) known
 
-  pub kinds_are : All (λ k. k.chain.kind ≡ kinds.Sha512T256) kits
+  pub kinds_are : All (λ k. k.chain.kind ≡ kind) kits
   kinds_are = λ n k lt. ap (λ (c : Chained S). c.kind) (all n k lt).chain
 
   module _ (store : StoreWords S) (view : ViewWords V) where

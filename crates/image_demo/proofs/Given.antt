@@ -1,6 +1,6 @@
 -- What making an image gives, where nothing fails: its figures, or two unequal pieces of bytes of one name.
 use Rattle.std.proofs.Common.{◌≡◌, ◌≢◌, ◌⊎◌, ℕ, zero, suc, ◌+◌, ◌-◌, ◌<◌, ◌≤◌, ◌&&◌, not, List, [], ◌∷◌, true, length, drop, replicate, Option, Some, None, Result, Ok, Err, refl, sym, ap, subst, ◌∙◌, inl, inr, arith, IfSome, IfOk, is_some}
-use Rattle.std.proofs.lemmas.List.{length-take-le, length-drop}
+use Rattle.std.proofs.lemmas.List.{length-take, length-take-le, length-drop}
 use Rattle.assembler.specs.Assemblies.{IsObtainable, Verdict}
 use Rattle.assembler.specs.Economy.{ReportsExactly}
 use Rattle.range_survey.specs.Reports.{right_below}
@@ -9,10 +9,11 @@ use Rattle.assembler.specs.declared.fault.ExtractFault.TheVariants as faults
 use Rattle.range_survey.specs.declared.report.Report.{Report}
 use Rattle.buzhash_cut.specs.Image.{IsIndexOfImage}
 use Rattle.buzhash_cut.specs.Sizes.{Sizes}
-use Rattle.caibx_codec.specs.Listing.{Listing, Rules, count_of, end_of, id_of, image_length, size_of, slice_of, start_of}
+use Rattle.caibx_codec.specs.Listing.{Listing, Rules, count_of, end_of, id_of, image_length, kind_of, size_of, slice_of, start_of}
 use Rattle.caibx_codec.specs.Right.{IsRight, IsRightAt}
 use Rattle.chunk_sources.specs.Economy.{source_of, sum_below}
 use Rattle.chunk_store.specs.declared.id.ChunkId.{ChunkId}
+use Rattle.chunk_store.specs.declared.id.DigestKind.{DigestKind}
 use Rattle.dsy_base.specs.Bytes.{Held, resized}
 use Rattle.dsy_base.specs.Maps.{Map}
 use Rattle.extract_plan.specs.Deal.{AreWants, Deal}
@@ -38,7 +39,7 @@ base_of l = resized [] (image_length l)
 zeros_of : (l : Listing) → base_of l ≡ replicate (image_length l) 0
 zeros_of l = zeros_filled (image_length l)
 
-module _ (l m : Listing) (d : Deal) (x : Placed) (wants : AreWants l d.wants d.want_of) (index : IsSeedIndex l d (m ∷ []) x) (held : Held) (t : List ℕ) (told : held.bytes ≡ Some t) (right : IsRight t m) (rules : Rules m) (size : image_length m ≡ held.size) (chunks : Map (List ℕ)) where
+module _ (l m : Listing) (d : Deal) (x : Placed) (wants : AreWants l d.wants d.want_of) (index : IsSeedIndex l d (m ∷ []) x) (held : Held) (t : List ℕ) (told : held.bytes ≡ Some t) (right : IsRight t m) (same_kind : kind_of m ≡ kind_of l) (rules : Rules m) (size : image_length m ≡ held.size) (chunks : Map (List ℕ)) where
   pub made_figures : (n : ℕ) (r : Report) → ((i : ℕ) → i < count_of l → IsObtainable (task_of l d x) (base_of l) (Some held ∷ []) (chunks ∷ []) i)
       → ReportsExactly (source_of (task_of l d x) (base_of l) (Some held ∷ []) [] (chunks ∷ [])) d.wants r → r.kept + r.copied + r.seeded + r.cached + r.fetched ≡ count_of l → r.kept ≡ right_below l (base_of l) (count_of l)
       → (f : Figures) → f ≡ record { bytes = n; chunks = count_of l; distinct = d.wants; kept = r.kept; copied = r.copied; seeded = r.seeded; fetched = r.fetched } → f ≡ figures_of l m n
@@ -50,16 +51,23 @@ module _ (l m : Listing) (d : Deal) (x : Placed) (wants : AreWants l d.wants d.w
     kept = right_ones ∙ ap (λ b. right_below l b (count_of l)) (zeros_of l)
 
     seeded : r.seeded ≡ seeded_of l m
-    seeded = reported.0 ∙ sum_counted l d wants _ (λ i. not (is_in_zeros l i) && is_in_seed l m i) (seeded_each l m d x wants index held t told right rules size (base_of l) (zeros_of l) chunks obtainable)
+    seeded = reported.0 ∙ sum_counted l d wants _ (λ i. not (is_in_zeros l i) && is_in_seed l m i) (seeded_each l m d x wants index held t told right same_kind rules size (base_of l) (zeros_of l) chunks obtainable)
 
     fetched : r.fetched ≡ fetched_of l m
-    fetched = reported.2 ∙ sum_counted l d wants _ (λ i. not (is_in_zeros l i) && not (is_in_seed l m i)) (fetched_each l m d x wants index held t told right rules size (base_of l) (zeros_of l) chunks obtainable)
+    fetched = reported.2 ∙ sum_counted l d wants _ (λ i. not (is_in_zeros l i) && not (is_in_seed l m i)) (fetched_each l m d x wants index held t told right same_kind rules size (base_of l) (zeros_of l) chunks obtainable)
 
     cached : r.cached ≡ 0
-    cached = reported.1 ∙ no_sum _ d.wants (cached_none l m d x wants index held t told right rules size (base_of l) (zeros_of l) chunks)
+    cached = reported.1 ∙ no_sum _ d.wants (cached_none l m d x wants index held t told right same_kind rules size (base_of l) (zeros_of l) chunks)
 
     copied : r.copied ≡ copied_of l m
     copied = omega (arith, kept, seeded, fetched, cached, all)
+
+-- no slice of an entry is larger than a chunk
+slice_small : (l : Listing) → Rules l → (t : List ℕ) (k : ℕ) → k < count_of l → length (slice_of l t k) ≤ l.greatest
+slice_small l rules t k inside =
+    let most : size_of l k ≤ l.greatest = rules.at_most k inside in
+    let taken = length-take (end_of l k - start_of l k) (drop (start_of l k) t) in
+    omega (arith, taken, most)
 
 module _ (l : Listing) (d : Deal) (x : Placed) (base : List ℕ) (views : List (Option Held)) (rules : Rules l) (t : List ℕ) (right : IsRight t l) where
   slice_size : (k : ℕ) → k < count_of l → length (slice_of l t k) ≡ size_of l k
@@ -71,7 +79,7 @@ module _ (l : Listing) (d : Deal) (x : Placed) (base : List ℕ) (views : List (
       length-take-le (end_of l k - start_of l k) (drop (start_of l k) t) (omega (arith, left, all, within, rises))
 
   -- where the store holds bytes of each name, what can't be had shows two unequal pieces of one name
-  pub two_pieces : (held : Option (Map (List ℕ))) (stocked : IsStocked l t held) (k : ℕ) → k < count_of l → (IsObtainable (task_of l d x) base views (stocked.map ∷ []) k → ⊥) → (id : ChunkId) → id.0 ≡ id_of l k → HasTwoPieces id.0
+  pub two_pieces : (held : Option (Map (List ℕ))) (stocked : IsStocked l t held) (k : ℕ) → k < count_of l → (IsObtainable (task_of l d x) base views (stocked.map ∷ []) k → ⊥) → (id : ChunkId) → id.0 ≡ id_of l k → HasTwoPieces (kind_of l) l.greatest id.0
   two_pieces held stocked k inside lacked id is = elim (stocked.each (id_of l k)) [
     | inl none ↦ absurd (clash (stocked.all k inside).0 (sym none ∙ (stocked.all k inside).1))
     | inr s ↦ record {
@@ -88,6 +96,7 @@ module _ (l : Listing) (d : Deal) (x : Placed) (base : List ℕ) (views : List (
           record { named = s.right ∙ sym s.id; sized = ap length (sym same) ∙ slice_size k inside },
         ),
       )));
+      small = (slice_small l rules t k inside, slice_small l rules t s.entry s.below);
       one_named = right.entries k inside ∙ sym is;
       other_named = s.right ∙ sym s.id ∙ sym is;
     }
@@ -96,7 +105,7 @@ module _ (l : Listing) (d : Deal) (x : Placed) (base : List ℕ) (views : List (
     clash b e = cc
 
   -- so a refusal names them
-  pub refusal : (held : Option (Map (List ℕ))) (stocked : IsStocked l t held) (fault : ExtractFault) → Verdict l (IsObtainable (task_of l d x) base views (stocked.map ∷ [])) (Err fault) → IsNamed {A = Report} l (Err fault) → IsDemoRefused (demo_fault fault)
+  pub refusal : (held : Option (Map (List ℕ))) (stocked : IsStocked l t held) (fault : ExtractFault) → Verdict l (IsObtainable (task_of l d x) base views (stocked.map ∷ [])) (Err fault) → IsNamed {A = Report} l (Err fault) → IsDemoRefused (kind_of l) l.greatest (demo_fault fault)
   refusal held stocked (faults.Missing k id) verdict named = two_pieces held stocked k named.0 verdict.1 id named.1
   refusal held stocked (faults.Damaged k id store shows) verdict named = two_pieces held stocked k named.0 verdict.1 id named.1
   refusal held stocked (faults.StoreFault store) verdict named = tt
@@ -131,16 +140,16 @@ stocked l (Some t) (Some o) (Some n) empty tells all stands =
     record { map = n; told = refl; all = all; each = λ q. subst (λ f. (n q ≡ f q) ⊎ IsStored l t (count_of l) q (n q)) none (stands q) }
 
 -- two slices of one entry that are unequal
-pub two_slices : (l : Listing) (t u : List ℕ) (i : ℕ) (id : ChunkId) → IsRightAt t l i → IsRightAt u l i → slice_of l t i ≢ slice_of l u i → id.0 ≡ id_of l i → HasTwoPieces id.0
-two_slices l t u i id one other differ is = record { one = slice_of l t i; other = slice_of l u i; differ = differ; one_named = one ∙ sym is; other_named = other ∙ sym is }
+pub two_slices : (l : Listing) (t u : List ℕ) (i : ℕ) (id : ChunkId) → Rules l → i < count_of l → IsRightAt t l i → IsRightAt u l i → slice_of l t i ≢ slice_of l u i → id.0 ≡ id_of l i → HasTwoPieces (kind_of l) l.greatest id.0
+two_slices l t u i id rules inside one other differ is = record { one = slice_of l t i; other = slice_of l u i; differ = differ; small = (slice_small l rules t i inside, slice_small l rules u i inside); one_named = one ∙ sym is; other_named = other ∙ sym is }
 
 -- the figures of the image and its seed, by their indexes
-pub are_figures : (number size : ℕ) (l m : Listing) (f : Figures) (t u : List ℕ) → t ≡ image_of number size → u ≡ seed_of (image_of number size) → IsIndexOfImage usual_sizes t l → IsIndexOfImage usual_sizes u m
-    → ((s : Sizes) (image : List ℕ) (l : Listing) → IsIndexOfImage s image l → IsRight image l) → f ≡ figures_of l m (image_length l) → AreFigures number size f
-are_figures number size l m f t u image seed of_image of_seed right is = record {
+pub are_figures : (kind : DigestKind) (number size : ℕ) (l m : Listing) (f : Figures) (t u : List ℕ) → t ≡ image_of number size → u ≡ seed_of (image_of number size) → IsIndexOfImage kind usual_sizes t l → IsIndexOfImage kind usual_sizes u m
+    → ((kind : DigestKind) (s : Sizes) (image : List ℕ) (l : Listing) → IsIndexOfImage kind s image l → IsRight image l) → f ≡ figures_of l m (image_length l) → AreFigures kind number size f
+are_figures kind number size l m f t u image seed of_image of_seed right is = record {
   listing = l;
-  of_image = subst (λ b. IsIndexOfImage usual_sizes b l) image of_image;
+  of_image = subst (λ b. IsIndexOfImage kind usual_sizes b l) image of_image;
   seed = m;
-  of_seed = subst (λ b. IsIndexOfImage usual_sizes b m) seed of_seed;
-  are = is ∙ ap (figures_of l m) (sym (right usual_sizes t l of_image).size ∙ ap length image ∙ length-bytes_after number size);
+  of_seed = subst (λ b. IsIndexOfImage kind usual_sizes b m) seed of_seed;
+  are = is ∙ ap (figures_of l m) (sym (right kind usual_sizes t l of_image).size ∙ ap length image ∙ length-bytes_after number size);
 }

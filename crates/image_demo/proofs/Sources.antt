@@ -15,7 +15,6 @@ use Rattle.caibx_codec.specs.Right.{IsRight, IsRightAt}
 use Rattle.chunk_sources.specs.Economy.{given_at, seeds_give, source_of, stores_give}
 use Rattle.chunk_store.specs.Names.{name_of}
 use Rattle.chunk_store.specs.declared.id.DigestKind.{DigestKind}
-use Rattle.chunk_store.specs.declared.id.DigestKind.TheVariants as kinds
 use Rattle.dsy_base.specs.Bytes.{Held, resized}
 use Rattle.dsy_base.specs.Maps.{Map}
 use Rattle.extract_plan.specs.Deal.{AreWants, Deal, first_of, of_want, want_id}
@@ -80,7 +79,7 @@ module _ (l m : Listing) (d : Deal) (x : Placed) (wants : AreWants l d.wants d.w
       any_of_range (is_alike l i m) 0 (count_of m) p.entry (omega arith) (omega (arith, inside))
       ((alike_decides l i m p.entry).1 (subst (λ q. id_of q p.entry ≡ id_of l i) e p.id_is, subst (λ q. size_of q p.entry ≡ size_of l i) e p.size_is))
 
-  module _ (held : Held) (t : List ℕ) (told : held.bytes ≡ Some t) (right : IsRight t m) (rules : Rules m) (size : image_length m ≡ held.size) where
+  module _ (held : Held) (t : List ℕ) (told : held.bytes ≡ Some t) (right : IsRight t m) (same_kind : kind_of m ≡ kind_of l) (rules : Rules m) (size : image_length m ≡ held.size) where
     abbrev views : List (Option Held)
     views = Some held ∷ []
 
@@ -91,8 +90,8 @@ module _ (l m : Listing) (d : Deal) (x : Placed) (wants : AreWants l d.wants d.w
         let within : end_of m j ≤ image_length m = rules.inside j inside in
         let end : start_of m j + size_of l i ≡ end_of m j = omega (arith, sized, rises) in
         let fits : nat_le (start_of m j + size_of l i) held.size ≡ true = le-leb _ _ (omega (arith, end, within, size)) in
-        let name : bytes_eq (name_of kinds.Sha512T256 (slice_range t (start_of m j) (start_of m j + size_of l i))) (id_of l i) ≡ true =
-        (bytes_eq-Decides _ _).1 (ap (λ e. name_of kinds.Sha512T256 (slice_range t (start_of m j) e)) end ∙ right.entries j inside ∙ named) in
+        let name : bytes_eq (name_of (kind_of l) (slice_range t (start_of m j) (start_of m j + size_of l i))) (id_of l i) ≡ true =
+        (bytes_eq-Decides _ _).1 (ap (λ e. name_of (kind_of l) (slice_range t (start_of m j) e)) end ∙ ap (λ k. name_of k (slice_range t (start_of m j) (end_of m j))) (sym same_kind) ∙ right.entries j inside ∙ named) in
         rw told (rw fits name)
 
     -- the seed gives what its index lists

@@ -1,14 +1,14 @@
 -- What making an image takes from zeros, from a seed and from a store that has each chunk. l is the index of the image,
 -- m that of the seed. Entries count from 0.
 use Rattle.std.specs.Prelude.{◌≡◌, ◌≢◌, ◌&&◌, ◌==◌, ℕ, zero, suc, ◌+◌, ◌-◌, Bool, true, not, if◌then◌else◌, List, ◌++◌}
-use Rattle.std.specs.Prelude.{replicate, codes, decimal, Result, Ok, Err}
+use Rattle.std.specs.Prelude.{length, replicate, codes, decimal, ◌≤◌, Result, Ok, Err}
 use Rattle.std.specs.List.{filter, list_any, range_with_len}
 use Rattle.std.specs.Str.{bytes_eq}
 use Rattle.range_survey.specs.Reports.{right_below}
 use Rattle.buzhash_cut.specs.Image.{IsIndexOfImage}
 use Rattle.caibx_codec.specs.Listing.{Listing, count_of, id_of, image_length, size_of}
 use Rattle.chunk_store.specs.Names.{name_of}
-use Rattle.chunk_store.specs.declared.id.DigestKind.TheVariants as kinds
+use Rattle.chunk_store.specs.declared.id.DigestKind.{DigestKind}
 use Rattle.image_demo.specs.Images.{image_of, seed_of, usual_sizes}
 use Rattle.image_demo.specs.declared.fault.DemoFault.{DemoFault}
 use Rattle.image_demo.specs.declared.fault.DemoFault.TheVariants as faults
@@ -71,12 +71,12 @@ figures_of l m size = record {
   fetched = fetched_of l m;
 }
 
--- the figures of NUMBER and SIZE: an image has one index, so they are one
-pub record AreFigures (number size : ℕ) (f : Figures) : Type 0 where
+-- the figures of NUMBER and SIZE, by indexes of this kind: an image has one such index, so they are one
+pub record AreFigures (kind : DigestKind) (number size : ℕ) (f : Figures) : Type 0 where
   pub listing : Listing
-  pub of_image : IsIndexOfImage usual_sizes (image_of number size) listing
+  pub of_image : IsIndexOfImage kind usual_sizes (image_of number size) listing
   pub seed : Listing
-  pub of_seed : IsIndexOfImage usual_sizes (seed_of (image_of number size)) seed
+  pub of_seed : IsIndexOfImage kind usual_sizes (seed_of (image_of number size)) seed
   pub are : f ≡ figures_of listing seed size
 
 -- a line of a figure
@@ -92,20 +92,21 @@ text_of_figures f = figure_line (codes "bytes ") f.bytes ++ figure_line (codes "
 
 -- ---- why there are none
 
--- two unequal pieces of bytes have this name
-pub record HasTwoPieces (name : List ℕ) : Type 0 where
+-- two unequal pieces of at most `most` bytes have this name
+pub record HasTwoPieces (kind : DigestKind) (most : ℕ) (name : List ℕ) : Type 0 where
   pub one : List ℕ
   pub other : List ℕ
   pub differ : one ≢ other
-  pub one_named : name_of kinds.Sha512T256 one ≡ name
-  pub other_named : name_of kinds.Sha512T256 other ≡ name
+  pub small : (length one ≤ most) × (length other ≤ most)
+  pub one_named : name_of kind one ≡ name
+  pub other_named : name_of kind other ≡ name
 
--- a refusal names two unequal pieces of bytes. Want of memory is free
-abbrev pub IsDemoRefused : DemoFault → Type 0
-IsDemoRefused (faults.Mismatch entry id) = HasTwoPieces id.0
-IsDemoRefused faults.Memory = Unit {0}
+-- a refusal names two unequal pieces of bytes, none larger than a chunk. Want of memory is free
+abbrev pub IsDemoRefused : DigestKind → ℕ → DemoFault → Type 0
+IsDemoRefused kind most (faults.Mismatch entry id) = HasTwoPieces kind most id.0
+IsDemoRefused kind most faults.Memory = Unit {0}
 
 -- what `demo` may answer
-abbrev pub Rehearses : ℕ → ℕ → Result Figures DemoFault → Type 0
-Rehearses number size (Ok f) = AreFigures number size f
-Rehearses number size (Err fault) = IsDemoRefused fault
+abbrev pub Rehearses : DigestKind → ℕ → ℕ → Result Figures DemoFault → Type 0
+Rehearses kind number size (Ok f) = AreFigures kind number size f
+Rehearses kind number size (Err fault) = IsDemoRefused kind usual_sizes.greatest fault

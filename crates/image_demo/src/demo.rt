@@ -13,6 +13,7 @@ use crate::make::make;
 use crate::shared_bytes::SharedBytes;
 use crate::stock::stock;
 use buzhash_cut::laws::image_is_right;
+use chunk_store::id::DigestKind;
 use dsy_sure::sure_bytes::SureBytes;
 use std::alloc::Global;
 use std::sync::Wait;
@@ -21,18 +22,19 @@ use std::thread::Threads;
 // The greatest number of workers that an index is dealt to.
 const MOST_WORKERS: usize = 32;
 
-/// The figures of the image that the number makes, of this many bytes. The seed is the same but for up to 2^20 bytes
-/// from the middle on, of which all bits are turned round. There are 1 to 32 workers: what is beyond that counts as the
-/// nearer of the two, and those for which there is no memory are left out.
+/// The figures of the image that the number makes, of this many bytes. Its chunks are named by this digest. The seed is
+/// the same but for up to 2^20 bytes from the middle on, of which all bits are turned round. There are 1 to 32 workers:
+/// what is beyond that counts as the nearer of the two, and those for which there is no memory are left out.
 pub fn demo_figures<R: Threads + Wait + Sync>(
     rt: &R,
     alloc: Global,
     number: u64,
     size: u64,
     workers: usize,
+    kind: DigestKind,
 ) -> Result<Figures, DemoFault>
     requires { size ≤ 2 ^ 29 }
-    ensures { Rehearses number size result }
+    ensures { Rehearses kind number size result }
 {
     image_is_right();
     let Ok(image) = bytes::image(alloc, number, size as usize) else {
@@ -41,9 +43,9 @@ pub fn demo_figures<R: Threads + Wait + Sync>(
     let Ok(turned) = bytes::seed(alloc, &image) else {
         return Err(DemoFault::Memory);
     };
-    let indexed = cut(rt, alloc, SharedBytes::new(&image))?;
+    let indexed = cut(rt, alloc, SharedBytes::new(&image), kind)?;
     let Indexed { mut view, index } = indexed;
-    let seed = cut(rt, alloc, SharedBytes::new(&turned))?;
+    let seed = cut(rt, alloc, SharedBytes::new(&turned), kind)?;
     let mut chunks = ChunkMap::new(alloc);
     stock(alloc, &index, &mut view, &mut chunks)?;
     let target = SureBytes::new(alloc, Vec::new(alloc));

@@ -6,26 +6,33 @@ ghost use Rattle.image_demo.specs.SharedKits.{IsKitOf};
 
 use crate::fault::DemoFault;
 use chunk_sources::kit::Kit;
+use chunk_store::id::DigestKind;
 use chunk_store::store::Store;
 use dsy_base::view::View;
 use extract_plan::seed::Seed;
 use std::alloc::{AllocError, Global};
 use store_chain::chain::Chain;
 
-// A kit of one store and one seed.
-fn kit_of<S: Store, V: View>(alloc: Global, store: S, seed: V) -> Result<Kit<S, V>, AllocError>
-    ensures { IfOk result (IsKitOf store seed) }
+// A kit of one store and one seed, which names chunks by this digest.
+fn kit_of<S: Store, V: View>(
+    alloc: Global,
+    kind: DigestKind,
+    store: S,
+    seed: V,
+) -> Result<Kit<S, V>, AllocError>
+    ensures { IfOk result (IsKitOf kind store seed) }
 {
     let mut stores = Vec::new(alloc);
     stores.push(store)?;
     let mut seeds = Vec::new(alloc);
     seeds.push(Seed { view: Some(seed) })?;
-    Ok(Kit::new(alloc, Chain::new(stores), seeds))
+    Ok(Kit::new(alloc, Chain::with_kind(kind, stores), seeds))
 }
 
 // Adds kits of one store and one seed, up to as many as there are workers, while there is memory.
 fn add_kits<S: Store + Copy, V: View + Copy>(
     alloc: Global,
+    kind: DigestKind,
     store: S,
     seed: V,
     workers: usize,
@@ -33,28 +40,29 @@ fn add_kits<S: Store + Copy, V: View + Copy>(
 ) -> Result<(), AllocError>
     requires none { vec_len kits.old ≡ 0 }
     ensures few { vec_len kits.new ≤ workers }
-    ensures alike { All (IsKitOf store seed) kits.new.items }
+    ensures alike { All (IsKitOf kind store seed) kits.new.items }
 {
     while kits.len() < workers {
-        kits.push(kit_of(alloc, store, seed)?)?;
+        kits.push(kit_of(alloc, kind, store, seed)?)?;
     }
     Ok(())
 }
 
-/// A kit for each of these workers, all of one store and one seed. A further kit that can't be had for want of memory
-/// is a worker fewer.
+/// A kit for each of these workers, all of one store and one seed, which name chunks by this digest. A further kit
+/// that can't be had for want of memory is a worker fewer.
 pub fn kits_of<S: Store + Copy, V: View + Copy>(
     alloc: Global,
+    kind: DigestKind,
     store: S,
     seed: V,
     workers: usize,
 ) -> Result<Vec<Kit<S, V>>, DemoFault>
     ensures size { IfOk result (λ v. (1 ≤ vec_len v) × (vec_len v ≤ workers)) }
-    ensures alike { IfOk result (λ v. All (IsKitOf store seed) v.items) }
+    ensures alike { IfOk result (λ v. All (IsKitOf kind store seed) v.items) }
     ensures err { IfErr result (λ e. e ≡ DemoFault.Memory) }
 {
     let mut kits = Vec::new(alloc);
-    match add_kits(alloc, store, seed, workers, &mut kits) {
+    match add_kits(alloc, kind, store, seed, workers, &mut kits) {
         Ok(()) | Err(AllocError) => {}
     }
     if kits.is_empty() {

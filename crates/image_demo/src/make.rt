@@ -7,7 +7,7 @@ ghost use Rattle.assembler.specs.Assemblies.{IsObtainable, Verdict};
 ghost use Rattle.assembler.specs.Economy.{ReportsExactly};
 ghost use Rattle.caibx_fields.specs.Limits.{item_limit};
 ghost use Rattle.range_survey.specs.Reports.{right_below};
-ghost use Rattle.caibx_codec.specs.Listing.{count_of, image_length};
+ghost use Rattle.caibx_codec.specs.Listing.{count_of, image_length, kind_of};
 ghost use Rattle.caibx_codec.specs.Right.{IsRight};
 ghost use Rattle.chunk_sources.specs.Economy.{source_of};
 ghost use Rattle.dsy_base.specs.Bytes.{resized};
@@ -57,16 +57,18 @@ fn assemble_quietly<W: Threads + Wait + Sync, T: Target, S: Store + Send, V: Vie
 where
     T::Piece: Send,
     requires size { (1 ≤ vec_len kits) × (vec_len kits ≤ 32) }
-    requires alike { (store : S) × (seed : V) × All (IsKitOf store seed) kits.items }
+    requires alike { (store : S) × (seed : V) × All (IsKitOf (kind_of index.now) store seed) kits.items }
     requires plan { IsPlan index.now 1 planned.now.plan }
     requires places { PlacesKnown index.now planned.now.plan planned.now.places 1 }
     requires tells { IsTrue V.tells }
     requires sure { (IsTrue T.never_fails) × (IsTrue S.never_fails) × (IsTrue V.never_fails) }
-    ensures verdict { (store : S) (seed : V) (chunks : Map (List ℕ)) → All (IsKitOf store seed) kits.items →
+    ensures verdict { (store : S) (seed : V) (chunks : Map (List ℕ)) →
+        All (IsKitOf (kind_of index.now) store seed) kits.items →
         S.holds store ≡ Some chunks → IfSome (T.held target).bytes (λ o. Verdict index.now (IsObtainable
         (task_of index.now planned.now.plan planned.now.places) (resized o (image_length index.now))
         (Some (V.held seed) ∷ []) (chunks ∷ [])) result.answer) }
-    ensures reported { (store : S) (seed : V) (chunks : Map (List ℕ)) → All (IsKitOf store seed) kits.items →
+    ensures reported { (store : S) (seed : V) (chunks : Map (List ℕ)) →
+        All (IsKitOf (kind_of index.now) store seed) kits.items →
         S.holds store ≡ Some chunks → IfSome (T.held target).bytes (λ o. IfOk result.answer (ReportsExactly (source_of
         (task_of index.now planned.now.plan planned.now.places) (resized o (image_length index.now))
         (Some (V.held seed) ∷ []) [] (chunks ∷ [])) planned.now.plan.wants)) }
@@ -146,6 +148,7 @@ where
     requires workers { (1 ≤ workers) × (workers ≤ 32) }
     requires none { (T.held target).bytes ≡ Some [] }
     requires stocked { (t : List ℕ) × IsRight t index.now × IsStocked index.now t (S.holds store) }
+    requires kind { kind_of seed.index ≡ kind_of index.now }
     requires seeds { IfSome (V.held seed.view).bytes (λ t. IsRight t seed.index) }
     requires size { image_length seed.index ≡ (V.held seed.view).size }
     requires few { count_of seed.index ≤ item_limit }
@@ -153,7 +156,7 @@ where
     requires sure { (IsTrue T.never_fails) × (IsTrue S.never_fails) × (IsTrue V.never_fails) }
     ensures value { IfOk result (λ m. m.figures ≡ figures_of index.now seed.index (image_length index.now)) }
     ensures right { IfOk result (λ m. IfSome (T.held m.target).bytes (λ t. IsRight t index.now)) }
-    ensures err { IfErr result IsDemoRefused }
+    ensures err { IfErr result (IsDemoRefused (kind_of index.now) index.now.greatest) }
 {
     index.rules();
     seed.index.rules();
@@ -163,7 +166,7 @@ where
     } = seed;
     let planned = Planned::of(alloc, index, listed)?;
     let workers = workers_with_room(alloc, index, workers);
-    let kits = kits_of(alloc, store, view, workers)?;
+    let kits = kits_of(alloc, index.kind(), store, view, workers)?;
     let Ended { target, answer } = assemble_quietly(rt, alloc, index, &planned, target, kits);
     match answer {
         Ok(report) => Ok(Made {

@@ -20,6 +20,10 @@ module _ {X : Type 0} (H : X → Held) where
   pub all_kept : (P : Held → Type 0) (vs ws : List X) → map H ws ≡ map H vs → All (λ v. P (H v)) vs → All (λ v. P (H v)) ws
   all_kept P vs ws kept all = all_unmapped P ws (subst (All P) (sym kept) (All-map P H vs all))
 
+  -- the same with something else that is equal
+  pub all_kept_as : {K : Type 0} (a b : K) → a ≡ b → (P : K → Held → Type 0) (vs ws : List X) → map H ws ≡ map H vs → All (λ v. P a (H v)) vs → All (λ v. P b (H v)) ws
+  all_kept_as a b is P vs ws kept all = subst (λ k. All (λ v. P k (H v)) ws) is (all_kept (P a) vs ws kept all)
+
   -- what holds for the first view's image holds for each
   pub all_of_first : (vs : List X) (w : X) → 0 < length vs → w ≡ slice_index_or vs 0 w → AreOfOneImage (map H vs) → (P : Option (List ℕ) → Type 0) → P (H w).bytes → All (λ v. P (H v).bytes) vs
   all_of_first vs w some first alike P here k d lt =

@@ -9,11 +9,12 @@ abbrev pub invariant-loop-at : goal.invariant-loop-at
 invariant-loop-at g l = record {
   inside : l.at ≤ l.size;
   within : IsWithin l.slicer l.size;
+  kind : l.slicer.kind ≡ l.fn.slicer.kind;
   sizes : l.slicer.cutter.sizes ≡ l.fn.slicer.cutter.sizes;
   held : g.V.View.held l.view ≡ g.V.View.held l.fn.view;
   faults : g.V.View.faults l.view ≡ g.V.View.faults l.fn.view;
   few : length (pairs l.entries.items) ≤ 4194304;
-  chunks : AreEntries l.fn.slicer.cutter.sizes (g.V.View.held l.fn.view).bytes 0 (pairs l.entries.items) l.at;
+  chunks : AreEntries l.fn.slicer.kind l.fn.slicer.cutter.sizes (g.V.View.held l.fn.view).bytes 0 (pairs l.entries.items) l.at;
 }
 
 abbrev pub decreases-loop-at : goal.decreases-loop-at

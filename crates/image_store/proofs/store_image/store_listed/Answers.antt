@@ -1,4 +1,5 @@
 use Rattle.std.proofs.Common.{inr}
+use Rattle.caibx_codec.specs.Listing.{kind_of}
 use Rattle.image_store.proofs.Answered.{stored_early, stored_whole, few_end, storing_end, counts_same, counts_else}
 use Rattle.image_store.proofs.store_image.store_listed.Goals as goal
 
@@ -6,7 +7,7 @@ use Rattle.image_store.proofs.store_image.store_listed.Goals as goal
 pub returns-in-Err-clause-exactly : goal.returns-in-Err-clause-exactly
 returns-in-Err-clause-exactly g c = λ k d lt.
     let done = c.store_entries-views.ensures.stored k d lt in
-    stored_early c.args.sizes.now c.args.index.now _ _ _ c.in-Err.fault (λ t. c.image_is_right.ensures.value c.args.sizes.now t _) (c.requires.index k d lt) (rw c.in-Err.is at done.err) done.touched.stands
+    stored_early (kind_of c.args.index.now) c.args.sizes.now c.args.index.now _ _ _ c.in-Err.fault (λ t. c.image_is_right.ensures.value (kind_of c.args.index.now) c.args.sizes.now t _) (c.requires.index k d lt) (rw c.in-Err.is at done.err) done.touched.stands
 
 pub returns-in-Err-clause-files : goal.returns-in-Err-clause-files
 returns-in-Err-clause-files g c = λ k d lt. inr (c.args.index.now, c.requires.index k d lt, (c.store_entries-views.ensures.stored k d lt).touched.files)
@@ -39,7 +40,7 @@ returns-in-Err-clause-store_faults g c = counts_same c.in-Err.fault _ _ (rw c.in
 pub returns-in-Ok-clause-exactly : goal.returns-in-Ok-clause-exactly
 returns-in-Ok-clause-exactly g c = λ k d lt.
     let done = c.store_entries-views.ensures.stored k d lt in
-    stored_whole c.args.sizes.now c.args.index.now _ _ _ c.in-Ok.bytes.items (c.requires.index k d lt) (rw c.in_default.is at done.holds) done.touched.stands c.in-Ok.ensures.ok c.in-Ok.ensures.bytes
+    stored_whole (kind_of c.args.index.now) c.args.sizes.now c.args.index.now _ _ _ c.in-Ok.bytes.items (c.requires.index k d lt) (rw c.in_default.is at done.holds) done.touched.stands c.in-Ok.ensures.ok c.in-Ok.ensures.bytes
 
 pub returns-in-Ok-clause-files : goal.returns-in-Ok-clause-files
 returns-in-Ok-clause-files g c = λ k d lt. inr (c.args.index.now, c.requires.index k d lt, (c.store_entries-views.ensures.stored k d lt).touched.files)

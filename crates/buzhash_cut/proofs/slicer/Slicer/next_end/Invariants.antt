@@ -6,6 +6,7 @@ use Rattle.buzhash_cut.proofs.slicer.Slicer.next_end.Given as goal
 abbrev pub invariant-loop-self : goal.invariant-loop-self
 invariant-loop-self g l = record {
   within : IsWithin l.self l.size;
+  kind : l.self.kind ≡ l.fn.self.kind;
   sizes : l.self.cutter.sizes ≡ l.fn.self.cutter.sizes;
   begun : begun_by l.self ≡ begun_by l.fn.self;
   held : g.V.View.held l.view ≡ g.V.View.held l.fn.view;

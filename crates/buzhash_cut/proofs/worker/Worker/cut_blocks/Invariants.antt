@@ -7,8 +7,9 @@ use Rattle.buzhash_cut.proofs.worker.Worker.cut_blocks.Given as goal
 abbrev pub invariant-loop : goal.invariant-loop
 invariant-loop g l = record {
   within : IsWithin l.slicer (g.V.View.held l.fn.self.view).size;
+  kind : l.slicer.kind ≡ l.fn.kind;
   sizes : l.slicer.cutter.sizes ≡ l.sizes;
   held : g.V.View.held l.self.view ≡ g.V.View.held l.fn.self.view;
   faults : g.V.View.faults l.fn.self.view ≤ g.V.View.faults l.self.view;
-  runs : AreRuns l.sizes (g.V.View.held l.fn.self.view) l.self.runs.items;
+  runs : AreRuns l.fn.kind l.sizes (g.V.View.held l.fn.self.view) l.self.runs.items;
 }

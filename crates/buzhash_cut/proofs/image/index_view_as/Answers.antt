@@ -4,14 +4,14 @@ use Rattle.buzhash_cut.proofs.Views.{all_views, alike_by, seen_by}
 use Rattle.buzhash_cut.specs.declared.image.CutFault.TheVariants as faults
 use Rattle.buzhash_cut.specs.Image.{CountsViews, IndexGiven}
 use Rattle.caibx_codec.specs.Listing.{image_length}
-use Rattle.buzhash_cut.proofs.image.index_view.Goals as goal
+use Rattle.buzhash_cut.proofs.image.index_view_as.Goals as goal
 
 pub index_by-made-requires-clause-alike : goal.index_by-made-requires-clause-alike
 index_by-made-requires-clause-alike g c κs lives = alike_by (λ v. g.V.View.held v) (λ w. w.view) c.args.views.items c.hire.new.workers.items c.hire.ensures.views c.requires.alike
 
 pub returns-clause-exactly : goal.returns-clause-exactly
 returns-clause-exactly g c =
-    all_views (λ v. g.V.View.held v) (λ w. w.view) c.args.views.items c.hire.new.workers.items (λ h. IfSome h.bytes (λ t. IndexGiven c.args.sizes.now t c.index_by-made.result)) c.hire.ensures.views c.index_by-made.ensures.exactly
+    all_views (λ v. g.V.View.held v) (λ w. w.view) c.args.views.items c.hire.new.workers.items (λ h. IfSome h.bytes (λ t. IndexGiven c.args.kind c.args.sizes.now t c.index_by-made.result)) c.hire.ensures.views c.index_by-made.ensures.exactly
 
 pub returns-clause-size : goal.returns-clause-size
 returns-clause-size g c = if_ok c.index_by-made.result _ _
