@@ -21,7 +21,8 @@ OPTIONS = [('store', ['-s', '--store'], 'location'), ('sizes', ['-m', '--chunk-s
            ('workers', ['-n', '--concurrency'], 'workers'), ('cache', ['-c', '--cache'], 'folder'),
            ('in place', ['-k', '--in-place'], None), ('seed', ['--seed'], 'seed'),
            ('repair', ['-r', '--repair'], None), ('yes', ['-y', '--yes'], None),
-           ('listen', ['-l', '--listen'], 'address'), ('writable', ['-w', '--writeable'], None)]
+           ('listen', ['-l', '--listen'], 'address'), ('writable', ['-w', '--writeable'], None),
+           ('digest', ['--digest'], 'digest')]
 NAMED = {spelling: option for option, spellings, _ in OPTIONS for spelling in spellings}
 SPELLED = {option: spellings for option, spellings, _ in OPTIONS}
 VALUES = {option: value for option, _, value in OPTIONS if value}
@@ -31,18 +32,19 @@ LARGE = '536870912'
 
 # A command's options with the least and the greatest number of times, and its operands alike.
 N = {'workers': (0, 1)}
+D = {'digest': (0, 1)}
 COMMANDS = {
-    'make': ({'store': (1, 1), 'sizes': (0, 1), **N}, (2, 2)),
+    'make': ({'store': (1, 1), 'sizes': (0, 1), **N, **D}, (2, 2)),
     'extract': ({'store': (1, 16), 'seed': (0, 64), 'cache': (0, 1), 'in place': (0, 1), **N}, (2, 2)),
     'verify-index': (N, (2, 2)),
     'chop': ({'store': (1, 1), **N}, (2, 2)),
     'cache': ({'store': (1, 16), 'cache': (1, 1), **N}, (1, 64)),
     'list-chunks': ({}, (1, 1)),
     'info': ({'store': (0, 16)}, (1, 1)),
-    'verify': ({'store': (1, 1), 'repair': (0, 1), **N}, (0, 0)),
+    'verify': ({'store': (1, 1), 'repair': (0, 1), **N, **D}, (0, 0)),
     'prune': ({'store': (1, 1), 'yes': (1, 1)}, (1, 64)),
-    'chunk-server': ({'store': (1, 1), 'listen': (1, 1), 'writable': (0, 1), **N}, (0, 0)),
-    'demo': (N, (2, 2)),
+    'chunk-server': ({'store': (1, 1), 'listen': (1, 1), 'writable': (0, 1), **N, **D}, (0, 0)),
+    'demo': ({**N, **D}, (2, 2)),
 }
 FOLDERS_ALONE = ('verify', 'prune', 'chunk-server')
 
@@ -86,6 +88,8 @@ def why_not_value(command, option, word):
     if kind == 'address':
         host, colon, port = word.rpartition(':')
         return None if colon and number(port, 1, 65535) else 'BadListen'
+    if kind == 'digest':
+        return None if word in ('sha512-256', 'sha256') else 'BadDigest'
     return None
 
 
@@ -213,7 +217,7 @@ def agrees(words, folder):
 
 
 GOOD = {'location': 'st', 'sizes': '16:64:256', 'workers': '4', 'folder': 'near', 'seed': 'old.caibx',
-        'address': 'localhost:8080'}
+        'address': 'localhost:8080', 'digest': 'sha256'}
 
 
 def fewest(command, but=()):
@@ -265,6 +269,8 @@ def random_value(chance, option):
         return chance.choice(['a.caibx', 'x/y.caibx', '-.caibx', '.caibx', '', 'a.caibx ', 'a.CAIBX', 'a'])
     if kind == 'address':
         return chance.choice(['h:1', ':65535', '::1:80', 'h:0', 'h:65536', 'h', '', ':', 'h:080', 'h:1x', '-l:5'])
+    if kind == 'digest':
+        return chance.choice(['sha512-256', 'sha512/256', 'sha512', 'SHA256', 'sha-256', 'sha256 ', 'md5', '', '--'])
     return chance.choice(['near', '', '--', '-c', '/a'])
 
 
@@ -305,7 +311,7 @@ def at_random(cases):
                 told[agrees(random_words(chance), folder)] += 1
     with cases.case('the random words had each fault, and some were taken'):
         for why in ('taken', 'UnknownOption', 'TooMany', 'NoValue', 'Empty', 'BadNumber', 'BadSizes', 'BadLocation',
-                    'NeedsFolder', 'BadSeed', 'BadListen', 'MissingOption', 'NeedsYes', 'Operands'):
+                    'NeedsFolder', 'BadSeed', 'BadListen', 'BadDigest', 'MissingOption', 'NeedsYes', 'Operands'):
             expect(told[why] > 4, f'{why} came {told[why]} times')
 
 

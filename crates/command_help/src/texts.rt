@@ -7,7 +7,8 @@ pub const VERSION: &str = "desync 0.1.0 (rattle-kit-13)\n";
 pub const HELP: &str = "\
 desync keeps images as chunks in a store, and an index of each image.
 
-  desync make -s STORE [-m MIN:AVG:MAX] [-n WORKERS] INDEX IMAGE
+  desync make -s STORE [-m MIN:AVG:MAX] [-n WORKERS] [--digest KIND]
+      INDEX IMAGE
       cut an image into chunks, store them and write its index
   desync extract [-k] -s STORE.. [-c CACHE] [--seed INDEX..] [-n WORKERS]
       INDEX OUT
@@ -22,24 +23,25 @@ desync keeps images as chunks in a store, and an index of each image.
       print the id of each chunk that an index lists
   desync info [-s STORE..] INDEX
       print how many chunks an index lists, their sizes, and how many are there
-  desync verify -s FOLDER [-r] [-n WORKERS]
+  desync verify -s FOLDER [-r] [-n WORKERS] [--digest KIND]
       print which chunks of a store are damaged, or remove them
   desync prune -s FOLDER -y INDEX..
       remove the chunks of a store that no index lists
-  desync chunk-server -s FOLDER -l HOST:PORT [-w] [-n WORKERS]
+  desync chunk-server -s FOLDER -l HOST:PORT [-w] [-n WORKERS] [--digest KIND]
       serve the chunks of a store over HTTP
-  desync demo [-n WORKERS] NUMBER SIZE
+  desync demo [-n WORKERS] [--digest KIND] NUMBER SIZE
       make, store and extract an image in memory, and print what that took
 
 Options and names may be mixed; `--` ends options. STORE is a folder or an http
-URL; MIN, AVG and MAX are sizes in KiB.
+URL; MIN, AVG and MAX are sizes in KiB; KIND is sha512-256 or sha256.
 
 `desync COMMAND --help` tells more of a command, `desync --version` the version.
 ";
 
 /// The text of `make --help`.
 pub const MAKE: &str = "\
-usage: desync make -s STORE [-m MIN:AVG:MAX] [-n WORKERS] INDEX IMAGE
+usage: desync make -s STORE [-m MIN:AVG:MAX] [-n WORKERS] [--digest KIND]
+                   INDEX IMAGE
 
 Cuts IMAGE into chunks, puts each into the store and writes the file INDEX,
 which lists them. What the store holds already is left where it is right.
@@ -49,6 +51,11 @@ which lists them. What the store holds already is left where it is right.
                                 the last chunk may be smaller than MIN
   -n, --concurrency WORKERS     1 to 32 workers that cut IMAGE, 10 if not given;
                                 the index is the same with any number
+      --digest KIND             the digest that names the chunks, sha512-256 if
+                                not given, or sha256: sha512-256 is the default
+                                of casync and desync and is faster on 64-bit
+                                processors, sha256 is for stores and clients
+                                that know only SHA-256
 
 example: desync make -s chunks disk.caibx disk.img
 ";
@@ -145,7 +152,7 @@ example: desync info -s chunks disk.caibx
 
 /// The text of `verify --help`.
 pub const VERIFY: &str = "\
-usage: desync verify -s FOLDER [-r] [-n WORKERS]
+usage: desync verify -s FOLDER [-r] [-n WORKERS] [--digest KIND]
 
 Reads each chunk of the store and prints a line for each that isn't what its
 name says: `damaged` and its id, in the order of the ids.
@@ -154,6 +161,8 @@ name says: `damaged` and its id, in the order of the ids.
   -r, --repair                  remove such chunks; the line says `removed`
   -n, --concurrency WORKERS     1 to 32 workers to read chunks, 10 if not given;
                                 the outcome is the same with any number
+      --digest KIND             the digest that names the chunks, sha512-256 if
+                                not given, or sha256, as `make` was told
 
 example: desync verify -s chunks
 ";
@@ -174,6 +183,7 @@ example: desync prune -s chunks -y disk.caibx
 /// The text of `chunk-server --help`.
 pub const CHUNK_SERVER: &str = "\
 usage: desync chunk-server -s FOLDER -l HOST:PORT [-w] [-n WORKERS]
+                           [--digest KIND]
 
 Serves the chunks of the store over HTTP, many connections at once, until it is
 killed. What doesn't have a chunk's digest is neither given nor taken.
@@ -183,13 +193,15 @@ Nobody is asked who they are: listen at localhost, or put a proxy in front.
   -l, --listen HOST:PORT        the address; no HOST means all addresses
   -w, --writeable               take chunks too
   -n, --concurrency WORKERS     1: in turn; 2 to 32: a thread a connection
+      --digest KIND             the digest that names the chunks, sha512-256 if
+                                not given, or sha256, as `make` was told
 
 example: desync chunk-server -s chunks -l localhost:8080
 ";
 
 /// The text of `demo --help`.
 pub const DEMO: &str = "\
-usage: desync demo [-n WORKERS] NUMBER SIZE
+usage: desync demo [-n WORKERS] [--digest KIND] NUMBER SIZE
 
 Makes SIZE bytes, up to 2^29, which NUMBER determines, and cuts, stores and
 extracts them in memory, with a seed that differs in the middle. Prints what the
@@ -197,6 +209,8 @@ extraction took: bytes, chunks, different chunks, and how many chunks were kept,
 copied, and given by the seed and by the store. No file is touched.
 
   -n, --concurrency WORKERS     1 to 32 workers that extract, 10 if not given
+      --digest KIND             the digest that names the chunks, sha512-256 if
+                                not given, or sha256
 
 example: desync demo 7 1048576
 ";

@@ -33,7 +33,8 @@ option_at n =
     else (if n == 6 then option.Repair
     else (if n == 7 then option.Yes
     else (if n == 8 then option.Listen
-    else option.Writable))))))))
+    else (if n == 9 then option.Writable
+    else option.Digest)))))))))
 
 at_number : (o : OptionKind) → option_at (option_number o) ≡ o
 unfolding option_at
@@ -47,6 +48,7 @@ at_number option.Repair = refl
 at_number option.Yes = refl
 at_number option.Listen = refl
 at_number option.Writable = refl
+at_number option.Digest = refl
 
 same_option : (p o : OptionKind) → option_number p ≡ option_number o → p ≡ o
 same_option p o e = sym (at_number p) ∙ ap option_at e ∙ at_number o

@@ -2,6 +2,8 @@
 use Rattle.std.specs.Prelude.{ℕ, ◌+◌, ◌==◌, ◌&&◌, Bool, List, [], ◌∷◌, length, map, codes, Option, Some, None}
 use Rattle.std.specs.Prelude.{unwrap_or, Result, Ok, Err, IfOk, ◌≡◌, if◌then◌else◌, nat_lt, slice_index_or}
 use Rattle.std.specs.Str.{bytes_eq}
+use Rattle.chunk_store.specs.declared.id.DigestKind.{DigestKind}
+use Rattle.chunk_store.specs.declared.id.DigestKind.TheVariants as kinds
 use Rattle.command_line.specs.Judging.{judged, missing_words, AnswersBy}
 use Rattle.command_words.specs.declared.command.Command.{Command}
 use Rattle.command_words.specs.declared.command.Command.TheVariants as said
@@ -21,7 +23,7 @@ use Rattle.command_words.specs.declared.usage.WordsFault.TheVariants as fault
 use Rattle.command_words.specs.Locations.{location_of}
 use Rattle.command_words.specs.OptionTable.{command_named}
 use Rattle.command_words.specs.Roles.{WordsByRole, by_role, times_of_role, words_as, word_as}
-use Rattle.command_words.specs.Values.{number_in_word, workers_of, sizes_of, listen_of}
+use Rattle.command_words.specs.Values.{number_in_word, workers_of, sizes_of, listen_of, digest_of}
 
 -- ---- what words that have passed say, by their roles
 
@@ -55,6 +57,10 @@ workers p = unwrap_or (workers_of (value option.Concurrency p)) 10
 abbrev pub sizes : WordsByRole → List ℕ
 sizes p = unwrap_or (sizes_of (value option.ChunkSize p)) (16384 ∷ 65536 ∷ 262144 ∷ [])
 
+-- SHA-512/256 where none is named
+abbrev pub digest : WordsByRole → DigestKind
+digest p = unwrap_or (digest_of (value option.Digest p)) kinds.Sha512T256
+
 abbrev pub address : WordsByRole → List ℕ × ℕ
 address p = unwrap_or (listen_of (value option.Listen p)) ([], 0)
 
@@ -62,7 +68,7 @@ abbrev pub number : ℕ → List ℕ → ℕ
 number most w = unwrap_or (number_in_word 0 most w) 0
 
 abbrev pub command_by_roles : CommandKind → WordsByRole → Command
-command_by_roles command.Make p = said.Make (store p) (sizes p) (workers p) (operand 0 p) (operand 1 p)
+command_by_roles command.Make p = said.Make (store p) (sizes p) (workers p) (digest p) (operand 0 p) (operand 1 p)
 command_by_roles command.Extract p =
     said.Extract (stores p) (words_as (role.Value option.Seed) p.roles p.words) (cache p) (is_given option.InPlace p)
     (workers p) (operand 0 p) (operand 1 p)
@@ -72,12 +78,14 @@ command_by_roles command.Cache p =
     said.Cache (stores p) (value option.Cache p) (workers p) (words_as role.Operand p.roles p.words)
 command_by_roles command.ListChunks p = said.ListChunks (operand 0 p)
 command_by_roles command.Info p = said.Info (stores p) (operand 0 p)
-command_by_roles command.Verify p = said.Verify (value option.Store p) (is_given option.Repair p) (workers p)
+command_by_roles command.Verify p =
+    said.Verify (value option.Store p) (is_given option.Repair p) (workers p) (digest p)
 command_by_roles command.Prune p = said.Prune (value option.Store p) (words_as role.Operand p.roles p.words)
 command_by_roles command.ChunkServer p =
     said.ChunkServer (value option.Store p) (address p).0 (address p).1 (is_given option.Writable p) (workers p)
+    (digest p)
 command_by_roles command.Demo p =
-    said.Demo (number 18446744073709551615 (operand 0 p)) (number 536870912 (operand 1 p)) (workers p)
+    said.Demo (number 18446744073709551615 (operand 0 p)) (number 536870912 (operand 1 p)) (workers p) (digest p)
 
 -- that command, unless there was no memory
 abbrev pub Says : {E : Type 0} → CommandKind → WordsByRole → Result Command E → Type 0

@@ -1,5 +1,5 @@
 -- How the words of a command are judged. The words are those after the command; places count the command too.
-use Rattle.std.specs.Prelude.{◌≡◌, ℕ, ◌+◌, ◌==◌, ◌||◌, Bool, false, not, List, [], length, find, take, slice_index_or}
+use Rattle.std.specs.Prelude.{◌≡◌, ℕ, ◌+◌, ◌==◌, ◌||◌, Bool, not, List, [], length, find, take, slice_index_or}
 use Rattle.std.specs.Prelude.{Option, Some, None, is_some, option_map, Result, Ok, Err, if◌then◌else◌, nat_lt}
 use Rattle.std.specs.List.{range_with_len}
 use Rattle.command_line.specs.declared.judge.Refusal.{Refusal}
@@ -20,7 +20,7 @@ use Rattle.command_words.specs.declared.usage.WordsFault.TheVariants as fault
 use Rattle.command_words.specs.Locations.{location_of}
 use Rattle.command_words.specs.OptionTable.{takes_of, times_of}
 use Rattle.command_words.specs.Roles.{awaited, role_of, roles_of, times_of_role}
-use Rattle.command_words.specs.Values.{number_in_word, workers_of, sizes_of, listen_of, is_seed}
+use Rattle.command_words.specs.Values.{number_in_word, workers_of, sizes_of, listen_of, is_seed, digest_of}
 
 -- ---- one word
 
@@ -50,6 +50,7 @@ value_refusal k option.Concurrency w = unless (is_some (workers_of w)) why.BadNu
 value_refusal k option.Cache w = unless (not (is_empty w)) why.Empty
 value_refusal k option.Seed w = name_refusal (is_empty w) (is_seed w) why.BadSeed
 value_refusal k option.Listen w = unless (is_some (listen_of w)) why.BadListen
+value_refusal k option.Digest w = unless (is_some (digest_of w)) why.BadDigest
 value_refusal k without w = None
 
 -- the operand that has n before it

@@ -14,7 +14,7 @@ use command_words::location::{NoLocation, read_location};
 use command_words::option_table::{CommandKind, OptionKind};
 use command_words::roles::{Role, awaited, count_of, role_of, word};
 use command_words::usage::{UsageWhy, WordsFault};
-use command_words::values::{is_seed, listen, number, sizes, workers};
+use command_words::values::{digest, is_seed, listen, number, sizes, workers};
 use std::alloc::Global;
 
 /// Why a word is refused.
@@ -84,6 +84,7 @@ fn judge_value(
         OptionKind::Cache => unless(!word.is_empty(), UsageWhy::Empty),
         OptionKind::Seed => judge_name(word.is_empty(), is_seed(bytes), UsageWhy::BadSeed),
         OptionKind::Listen => unless(listen(word).is_some(), UsageWhy::BadListen),
+        OptionKind::Digest => unless(digest(word).is_some(), UsageWhy::BadDigest),
         OptionKind::InPlace | OptionKind::Repair | OptionKind::Yes | OptionKind::Writable => Ok(()),
     }
 }

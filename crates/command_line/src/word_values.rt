@@ -7,6 +7,7 @@ ghost use Rattle.command_words.specs.Locations.{location_of};
 
 use crate::checked_words::CheckedWords;
 use crate::judge::GREATEST_DEMO;
+use chunk_store::id::DigestKind;
 use command_words::command::{Command, Location, Locations};
 use command_words::location::read_location;
 use command_words::option_table::{CommandKind, OptionKind};
@@ -20,6 +21,9 @@ pub const USUAL_WORKERS: u32 = 10;
 
 /// The chunk sizes in bytes where none are given.
 pub const USUAL_SIZES: [u64; 3] = [16384, 65536, 262144];
+
+/// The kind of digest where none is named: that of casync and desync.
+pub const USUAL_DIGEST: DigestKind = DigestKind::Sha512T256;
 
 // The location of a checked word. What refuses it now is want of memory.
 fn checked_location(alloc: Global, word: &str) -> Result<Location, AllocError>
@@ -109,6 +113,12 @@ impl<'a> CheckedWords<'a> {
         values::sizes(word.as_bytes()).unwrap_or(USUAL_SIZES)
     }
 
+    fn digest(&self) -> DigestKind
+        ensures { result ≡ line.digest self.now }
+    {
+        values::digest(self.value(OptionKind::Digest)).unwrap_or(USUAL_DIGEST)
+    }
+
     // The host and the port to listen at.
     fn address(&self) -> (&'a str, u16)
         ensures host { result.0.now ≡ (line.address self.now).0 }
@@ -124,6 +134,7 @@ impl<'a> CheckedWords<'a> {
             store: self.store(alloc)?,
             sizes: self.sizes(),
             workers: self.workers(),
+            digest: self.digest(),
             index: self.operand(alloc, 0)?,
             image: self.operand(alloc, 1)?,
         })
@@ -175,6 +186,7 @@ impl<'a> CheckedWords<'a> {
             port,
             writable: self.is_given(OptionKind::Writable),
             workers: self.workers(),
+            digest: self.digest(),
         })
     }
 
@@ -185,6 +197,7 @@ impl<'a> CheckedWords<'a> {
             number: self.number(u64::MAX, 0),
             size: self.number(GREATEST_DEMO, 1),
             workers: self.workers(),
+            digest: self.digest(),
         }
     }
 
@@ -213,6 +226,7 @@ impl<'a> CheckedWords<'a> {
                 store: self.named(alloc, OptionKind::Store)?,
                 repair: self.is_given(OptionKind::Repair),
                 workers: self.workers(),
+                digest: self.digest(),
             }),
             CommandKind::Prune => Ok(Command::Prune {
                 store: self.named(alloc, OptionKind::Store)?,

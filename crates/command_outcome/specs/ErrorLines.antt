@@ -2,7 +2,6 @@
 -- its 64 digits in lower case, and a name stands as it is.
 use Rattle.std.specs.Prelude.{ℕ, List, [], ◌∷◌, ◌++◌, codes}
 use Rattle.std.specs.Fmt.{decimal}
-use Rattle.std.specs.Int.{w64, to_be_bytes}
 use Rattle.hex.specs.Hex.{encode_lower}
 use Rattle.chunk_ends.specs.declared.sizes.SizeFault.{SizeFault}
 use Rattle.chunk_ends.specs.declared.sizes.SizeFault.TheVariants as sizes
@@ -12,10 +11,6 @@ use Rattle.command_outcome.specs.declared.outcome.Outcome.{Outcome}
 use Rattle.command_outcome.specs.declared.outcome.Outcome.TheVariants as ends
 use Rattle.command_words.specs.declared.usage.UsageWhy.{UsageWhy}
 use Rattle.command_words.specs.declared.usage.UsageWhy.TheVariants as usage
-
--- flags as 16 hexadecimal digits, the highest first
-abbrev pub flag_digits : ℕ → List ℕ
-flag_digits flags = encode_lower (to_be_bytes w64 flags)
 
 -- why words are no command: the variant's name
 abbrev pub why_text : UsageWhy → List ℕ
@@ -31,6 +26,7 @@ why_text usage.BadLocation = codes "BadLocation"
 why_text usage.NeedsFolder = codes "NeedsFolder"
 why_text usage.BadSeed = codes "BadSeed"
 why_text usage.BadListen = codes "BadListen"
+why_text usage.BadDigest = codes "BadDigest"
 why_text usage.MissingOption = codes "MissingOption"
 why_text usage.NeedsYes = codes "NeedsYes"
 why_text usage.Operands = codes "Operands"
@@ -49,7 +45,6 @@ fault_text bad.Head = codes "no index head"
 fault_text bad.Table = codes "no table head"
 fault_text bad.Tail = codes "bad table tail"
 fault_text bad.Trailing = codes "bytes after the tail"
-fault_text (bad.Digest flags) = codes "digest flag missing in flags " ++ flag_digits flags
 fault_text (bad.MaxSize max) = codes "greatest size " ++ (decimal max ++ codes " is over the limit")
 fault_text bad.Items = codes "too many entries"
 fault_text (bad.Order entry) = codes "entry " ++ (decimal entry ++ codes " ends out of order")

@@ -7,7 +7,7 @@ ghost use Rattle.std.specs.Option.{option_map};
 ghost use Rattle.hex.specs.Hex.{encode_lower};
 ghost use Rattle.dsy_base.specs.Disk.{PutsFront};
 ghost use Rattle.dsy_base.specs.Counts.{CountsFaults};
-ghost use Rattle.command_outcome.specs.ErrorLines.{error_line_of, line_of, name_in, text_of, fault_text, flag_digits};
+ghost use Rattle.command_outcome.specs.ErrorLines.{error_line_of, line_of, name_in, text_of, fault_text};
 ghost use Rattle.command_outcome.specs.ErrorLines.{size_text, why_text};
 ghost use Rattle.command_outcome.specs.Lines.{AddsToLine, FitsIn};
 
@@ -38,6 +38,7 @@ fn why_text(why: UsageWhy) -> &'static str
         UsageWhy::NeedsFolder => "NeedsFolder",
         UsageWhy::BadSeed => "BadSeed",
         UsageWhy::BadListen => "BadListen",
+        UsageWhy::BadDigest => "BadDigest",
         UsageWhy::MissingOption => "MissingOption",
         UsageWhy::NeedsYes => "NeedsYes",
         UsageWhy::Operands => "Operands",
@@ -79,14 +80,6 @@ fn add_both(line: &mut Line, front: &str, rest: &str) -> Result<(), Memory>
     line.add(rest)
 }
 
-// Flags that lack the digest's.
-fn add_flags(line: &mut Line, flags: u64) -> Result<(), Memory>
-    ensures { AddsToLine (codes "digest flag missing in flags " ++ flag_digits flags) 45 line.old line.new result }
-{
-    line.add("digest flag missing in flags ")?;
-    line.add_flags(flags)
-}
-
 // An entry and its size.
 fn add_large(line: &mut Line, entry: u64, size: u64) -> Result<(), Memory>
     ensures { AddsToLine (codes "entry " ++ (decimal entry ++ (codes " has " ++ (decimal size ++ codes " bytes")))) 97
@@ -106,7 +99,6 @@ fn add_fault(line: &mut Line, fault: IndexFault) -> Result<(), Memory>
         IndexFault::Table => line.add("no table head"),
         IndexFault::Tail => line.add("bad table tail"),
         IndexFault::Trailing => line.add("bytes after the tail"),
-        IndexFault::Digest { flags } => add_flags(line, flags),
         IndexFault::MaxSize { max } => add_counted(
             line,
             "greatest size ",

@@ -3,7 +3,6 @@
 ghost use Rattle.std.specs.Prelude.{◌≡◌, [], ◌≤◌, IfOk, codes, length};
 ghost use Rattle.std.specs.Fmt.{decimal};
 ghost use Rattle.hex.specs.Hex.{encode_lower};
-ghost use Rattle.command_outcome.specs.ErrorLines.{flag_digits};
 ghost use Rattle.command_outcome.specs.Lines.{AddsToLine};
 
 use dsy_base::fault::Memory;
@@ -68,18 +67,6 @@ impl Line {
     {
         let mut digits = Buffer::new();
         self.add(digits.format(n))
-    }
-
-    /// Adds flags as 16 hexadecimal digits, the highest first.
-    pub fn add_flags(&mut self, flags: u64) -> Result<(), Memory>
-        ensures adds { AddsToLine (flag_digits flags) 16 self.old self.new result }
-    {
-        let bytes = flags.to_be_bytes();
-        let mut digits = [0u8; 16];
-        match hex::encode_to_slice(bytes.as_slice(), &mut digits) {
-            Ok(()) => self.add_bytes(&digits),
-            Err(_) => Err(Memory),
-        }
     }
 
     /// Adds 32 bytes as 64 digits.

@@ -11,5 +11,5 @@ Fits (said.Cache stores cache workers indexes) =
     (1 ≤ length stores) × (length stores ≤ 16) × (1 ≤ length indexes) × (length indexes ≤ 64)
 Fits (said.Info stores index) = length stores ≤ 16
 Fits (said.Prune store indexes) = (1 ≤ length indexes) × (length indexes ≤ 64)
-Fits (said.Demo number size workers) = size ≤ 536870912
+Fits (said.Demo number size workers digest) = size ≤ 536870912
 Fits other = Unit {0}

@@ -29,6 +29,7 @@ option_rows =
     ∷ (option.Yes, codes "-y", codes "--yes", false)
     ∷ (option.Listen, codes "-l", codes "--listen", true)
     ∷ (option.Writable, codes "-w", codes "--writeable", false)
+    ∷ (option.Digest, codes "--digest", codes "--digest", true)
     ∷ []
 
 -- `least` to `greatest` times
@@ -56,7 +57,8 @@ at_most_once = times 0 1
 -- the options that a command takes, and how often
 abbrev pub options_of : CommandKind → List (OptionKind × Times)
 options_of command.Make =
-    (option.Store, once) ∷ (option.ChunkSize, at_most_once) ∷ (option.Concurrency, at_most_once) ∷ []
+    (option.Store, once) ∷ (option.ChunkSize, at_most_once) ∷ (option.Concurrency, at_most_once)
+    ∷ (option.Digest, at_most_once) ∷ []
 options_of command.Extract =
     (option.Store, times 1 16) ∷ (option.Seed, times 0 64) ∷ (option.Cache, at_most_once)
     ∷ (option.InPlace, at_most_once) ∷ (option.Concurrency, at_most_once) ∷ []
@@ -67,12 +69,13 @@ options_of command.Cache =
 options_of command.ListChunks = []
 options_of command.Info = (option.Store, times 0 16) ∷ []
 options_of command.Verify =
-    (option.Store, once) ∷ (option.Repair, at_most_once) ∷ (option.Concurrency, at_most_once) ∷ []
+    (option.Store, once) ∷ (option.Repair, at_most_once) ∷ (option.Concurrency, at_most_once)
+    ∷ (option.Digest, at_most_once) ∷ []
 options_of command.Prune = (option.Store, once) ∷ (option.Yes, once) ∷ []
 options_of command.ChunkServer =
     (option.Store, once) ∷ (option.Listen, once) ∷ (option.Writable, at_most_once)
-    ∷ (option.Concurrency, at_most_once) ∷ []
-options_of command.Demo = (option.Concurrency, at_most_once) ∷ []
+    ∷ (option.Concurrency, at_most_once) ∷ (option.Digest, at_most_once) ∷ []
+options_of command.Demo = (option.Concurrency, at_most_once) ∷ (option.Digest, at_most_once) ∷ []
 
 -- a command, the word that it is called by, the options that it takes and how often, and what else it takes
 abbrev pub row : CommandKind → List ℕ → Takes → CommandKind × List ℕ × List (OptionKind × Times) × Takes

@@ -4,6 +4,9 @@ use Rattle.std.specs.Prelude.{codes, position, Option, Some, None, option_map, i
 use Rattle.std.specs.List.{ends_with}
 use Rattle.std.specs.Char.{is_ascii_digit}
 use Rattle.std.specs.Path.{rfind_below}
+use Rattle.std.specs.Str.{bytes_eq}
+use Rattle.chunk_store.specs.declared.id.DigestKind.{DigestKind}
+use Rattle.chunk_store.specs.declared.id.DigestKind.TheVariants as kinds
 
 -- the number that the digit makes of the digits n before it, unless it is above `most`
 abbrev pub with_digit : ℕ → ℕ → ℕ → Option ℕ
@@ -65,3 +68,9 @@ listen_of w = elim (split_at_last 58 w) [
 -- the name of a seed's index ends in `.caibx` and has more before it
 abbrev pub is_seed : List ℕ → Bool
 is_seed w = nat_lt 6 (length w) && ends_with nat_eq w (codes ".caibx")
+
+-- the kind of digest, by --digest: SHA-512/256 or SHA-256 (FIPS 180-4)
+abbrev pub digest_of : List ℕ → Option DigestKind
+digest_of w =
+    if bytes_eq w (codes "sha512-256") then Some kinds.Sha512T256
+    else (if bytes_eq w (codes "sha256") then Some kinds.Sha256 else None)

@@ -3,6 +3,7 @@
 ghost use Rattle.std.specs.Prelude.{◌≡◌};
 
 use crate::option_table::CommandKind;
+use chunk_store::id::DigestKind;
 use dsy_base::name::Name;
 use std::marker::Model;
 
@@ -92,6 +93,7 @@ pub enum Command {
         store: Location,
         sizes: [u64; 3],
         workers: u32,
+        digest: DigestKind,
         index: Name,
         image: Name,
     },
@@ -132,6 +134,7 @@ pub enum Command {
         store: Name,
         repair: bool,
         workers: u32,
+        digest: DigestKind,
     },
     Prune {
         store: Name,
@@ -143,11 +146,13 @@ pub enum Command {
         port: u16,
         writable: bool,
         workers: u32,
+        digest: DigestKind,
     },
     Demo {
         number: u64,
         size: u64,
         workers: u32,
+        digest: DigestKind,
     },
     Help,
     Version,

@@ -22,6 +22,7 @@ pub enum OptionKind {
     Yes,
     Listen,
     Writable,
+    Digest,
 }
 
 /// A command.
@@ -97,7 +98,7 @@ const NOTHING: Takes = Takes {
 
 /// The options.
 #[rattlefmt::skip]
-static OPTIONS: [OptionRow; 10] = [
+static OPTIONS: [OptionRow; 11] = [
     (OptionKind::Store, "-s", "--store", true),
     (OptionKind::ChunkSize, "-m", "--chunk-size", true),
     (OptionKind::Concurrency, "-n", "--concurrency", true),
@@ -108,13 +109,15 @@ static OPTIONS: [OptionRow; 10] = [
     (OptionKind::Yes, "-y", "--yes", false),
     (OptionKind::Listen, "-l", "--listen", true),
     (OptionKind::Writable, "-w", "--writeable", false),
+    (OptionKind::Digest, "--digest", "--digest", true),
 ];
 
 /// The commands.
 #[rattlefmt::skip]
 static COMMANDS: [CommandRow; 11] = [
     (CommandKind::Make, "make",
-        &[(OptionKind::Store, ONCE), (OptionKind::ChunkSize, AT_MOST_ONCE), (OptionKind::Concurrency, AT_MOST_ONCE)],
+        &[(OptionKind::Store, ONCE), (OptionKind::ChunkSize, AT_MOST_ONCE), (OptionKind::Concurrency, AT_MOST_ONCE),
+            (OptionKind::Digest, AT_MOST_ONCE)],
         Takes { operands: TWICE, ..NOTHING }),
     (CommandKind::Extract, "extract",
         &[(OptionKind::Store, Times { least: 1, greatest: 16 }), (OptionKind::Seed, Times { least: 0, greatest: 64 }),
@@ -138,17 +141,18 @@ static COMMANDS: [CommandRow; 11] = [
         &[(OptionKind::Store, Times { least: 0, greatest: 16 })],
         Takes { operands: ONCE, ..NOTHING }),
     (CommandKind::Verify, "verify",
-        &[(OptionKind::Store, ONCE), (OptionKind::Repair, AT_MOST_ONCE), (OptionKind::Concurrency, AT_MOST_ONCE)],
+        &[(OptionKind::Store, ONCE), (OptionKind::Repair, AT_MOST_ONCE), (OptionKind::Concurrency, AT_MOST_ONCE),
+            (OptionKind::Digest, AT_MOST_ONCE)],
         Takes { needs_folder: true, ..NOTHING }),
     (CommandKind::Prune, "prune",
         &[(OptionKind::Store, ONCE), (OptionKind::Yes, ONCE)],
         Takes { operands: Times { least: 1, greatest: 64 }, needs_folder: true, ..NOTHING }),
     (CommandKind::ChunkServer, "chunk-server",
         &[(OptionKind::Store, ONCE), (OptionKind::Listen, ONCE), (OptionKind::Writable, AT_MOST_ONCE),
-            (OptionKind::Concurrency, AT_MOST_ONCE)],
+            (OptionKind::Concurrency, AT_MOST_ONCE), (OptionKind::Digest, AT_MOST_ONCE)],
         Takes { needs_folder: true, ..NOTHING }),
     (CommandKind::Demo, "demo",
-        &[(OptionKind::Concurrency, AT_MOST_ONCE)],
+        &[(OptionKind::Concurrency, AT_MOST_ONCE), (OptionKind::Digest, AT_MOST_ONCE)],
         Takes { operands: TWICE, takes_numbers: true, ..NOTHING }),
 ];
 
@@ -228,7 +232,7 @@ impl OptionKind {
     /// A number of its own, from 0, by which options are told apart.
     pub fn number(self) -> u8
         ensures value { result ≡ option_number self }
-        ensures size { result < 10 }
+        ensures size { result < 11 }
     {
         self as u8
     }

@@ -28,6 +28,8 @@ pub enum UsageWhy {
     BadSeed,
     /// Not `HOST:PORT`.
     BadListen,
+    /// No kind of digest.
+    BadDigest,
     /// A store, a cache or an address is needed.
     MissingOption,
     /// What `prune` removes is gone, so it asks for `-y`.

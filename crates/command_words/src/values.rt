@@ -6,7 +6,9 @@ ghost use Rattle.std.specs.Path.{rfind_below};
 ghost use Rattle.std.specs.Str.{IsCharBoundary};
 ghost use Rattle.command_words.specs.Values.{with_digit, with_digits, number_up_to, number_in_word, workers_of};
 ghost use Rattle.command_words.specs.Values.{split_at};
-ghost use Rattle.command_words.specs.Values.{kib_of, sizes_of, listen_of, is_seed};
+ghost use Rattle.command_words.specs.Values.{kib_of, sizes_of, listen_of, is_seed, digest_of};
+
+use chunk_store::id::DigestKind;
 
 // The number that a digit makes of the digits before it.
 fn with_digit(most: u64, n: u64, digit: u8) -> Option<u64>
@@ -125,4 +127,15 @@ pub fn is_seed(word: &[u8]) -> bool
     ensures { result ≡ is_seed word.now }
 {
     word.len() > 6 && word.ends_with(b".caibx")
+}
+
+/// The kind of digest that the word names.
+pub fn digest(word: &str) -> Option<DigestKind>
+    ensures { result ≡ digest_of word.now }
+{
+    match word {
+        "sha512-256" => Some(DigestKind::Sha512T256),
+        "sha256" => Some(DigestKind::Sha256),
+        _ => None,
+    }
 }
