@@ -5,6 +5,9 @@
 
 pub mod ask;
 mod framing;
+pub mod index_request;
+pub mod index_target;
+mod judging;
 pub mod reply;
 pub mod reply_text;
 pub mod request;

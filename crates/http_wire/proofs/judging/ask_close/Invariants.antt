@@ -1,8 +1,8 @@
 use Rattle.std.proofs.Common.{◌≡◌, map, drop}
 use Rattle.std.specs.List.{list_any}
 use Rattle.httparse.specs.Spans.{header_bytes}
-use Rattle.http_wire.specs.Request.{asks_close}
-use Rattle.http_wire.proofs.request.ask_close.Given as goal
+use Rattle.http_wire.specs.Judging.{asks_close}
+use Rattle.http_wire.proofs.judging.ask_close.Given as goal
 
 -- no line so far asks for it
 abbrev pub invariant-loop-line : goal.invariant-loop-line

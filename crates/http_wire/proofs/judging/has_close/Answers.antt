@@ -3,8 +3,8 @@ use Rattle.std.specs.Str.{str_eq_ignore_ascii_case}
 use Rattle.std.proofs.lemmas.Iterator.Search.{any_from_yields_List}
 use Rattle.std.proofs.lemmas.Iterator.Splits.{YieldsList-from_slice_split}
 use Rattle.httparse.specs.Grammar.{trim_ows}
-use Rattle.http_wire.specs.Request.{has_close}
-use Rattle.http_wire.proofs.request.has_close.Goals as goal
+use Rattle.http_wire.specs.Judging.{has_close}
+use Rattle.http_wire.proofs.judging.has_close.Goals as goal
 
 pub returns : goal.returns
 unfolding has_close

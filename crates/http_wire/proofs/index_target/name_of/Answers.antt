@@ -1,0 +1,6 @@
+use Rattle.std.proofs.lemmas.Str.{IsUtf8-from_ascii}
+use Rattle.http_wire.proofs.IndexTargets.{name_ascii}
+use Rattle.http_wire.proofs.index_target.name_of.Goals as goal
+
+pub unreachable-requires : goal.unreachable-requires
+unreachable-requires c = c.in_default.ensures.cases.0 (IsUtf8-from_ascii c.args.name.now (name_ascii c.args.name.now c.requires.named))
